@@ -47,6 +47,10 @@ module _ (x c : List ℕ) (keeps : KeepsJournal x c) where
     same_length = keeps.same_length;
   }
 
+  -- what the unit was issued with
+  issued_noted : bytes_at c 0 LAST_KEPT.place ≡ bytes_at x 0 LAST_KEPT.place
+  issued_noted = front_part 0 LAST_KEPT.place (omega arith)
+
   rows_noted : rows_in c ≡ rows_in x
   rows_noted = rest_part (OWED.place - SPARE_COUNTS.place) OWED.size (omega arith)
 
@@ -59,7 +63,7 @@ module _ (x c : List ℕ) (keeps : KeepsJournal x c) where
       ∙ ap (λ (rows : List ℕ). record { days = recorded x; last = last_kept x; row_a = seen_row (option_map (row_in rows) (row_index a rows)); row_b = seen_row (option_map (row_in rows) (row_index b rows)) }) rows_noted
 
 pub noted-holds : (s : Started) {U V : State} (due : ℕ) (b : Book) (marks : List Mark) → IsCoherent U → LeavesOnly U V LeavesJournal → Holds s due b marks U → Holds s due b marks V
-noted-holds s {U} {V} due b marks whole run h = holds-elsewhere s due b marks h whole LeavesJournal run (λ x c is. (same_journal x c is.keeps, is.decodes))
+noted-holds s {U} {V} due b marks whole run h = holds-elsewhere s due b marks h whole LeavesJournal run (λ x c is. (same_journal x c is.keeps, issued_noted x c is.keeps, is.decodes))
 
 module _ (r : Both) (c : Card) (s : Started) (due : ℕ) (b : Book) (marks : List Mark) (z : Standing) {U V : State} (X : State) (whole : IsCoherent U) (h : Holds s due b marks U) (run : LeavesOnly U V LeavesJournal) where
   abbrev Same : UnitView → UnitView → Type 0

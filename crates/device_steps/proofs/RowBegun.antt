@@ -23,12 +23,12 @@ use Rattle.joint_rule.proofs.EnterLaws.{begin-other, begin-other_dark}
 use Rattle.joint_steps.proofs.Beginning.{first_beginning, second_beginning}
 use Rattle.unit_rule.specs.Rule.{Started}
 use Rattle.unit_rule.specs.Marks.{Holds}
-use Rattle.unit_rule.proofs.Elsewhere.{rows-elsewhere, holds-elsewhere}
+use Rattle.unit_rule.proofs.Elsewhere.{rows-elsewhere, rows-issued, holds-elsewhere}
 use Rattle.device_steps.specs.Rule.{Both, opened, number_of, unit_seen, AnyString, CardHolds, IsKeptUp}
 
 -- the unit's rule, whatever the cards
 pub begun-holds : (s : Started) {U V : State} (due : ℕ) (b : Book) (marks : List Mark) (number : List ℕ) (session : ℕ) (spared : Option (List ℕ)) → IsCoherent U → LeavesOnly U V (IsRowBeginning number session spared) → Holds s due b marks U → Holds s due b marks V
-begun-holds s {U} {V} due b marks number session spared whole run h = holds-elsewhere s due b marks h whole (IsRowBeginning number session spared) run (λ x c is. (rows-elsewhere x c is.outside, is.decodes))
+begun-holds s {U} {V} due b marks number session spared whole run h = holds-elsewhere s due b marks h whole (IsRowBeginning number session spared) run (λ x c is. (rows-elsewhere x c is.outside, rows-issued x c is.outside, is.decodes))
 
 -- a row that another image has too
 same-row : (n x y : List ℕ) → row_of n y ≡ row_of n x → HasRow n x → HasRow n y

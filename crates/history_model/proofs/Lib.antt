@@ -8,3 +8,4 @@ pub mod Following
 pub mod BySeconds
 pub mod Rising
 pub mod Told
+pub mod Decided

@@ -1,5 +1,5 @@
--- What is acknowledged: each decided minute, and each entry of a card, but where a break came in between (profile).
-use Rattle.std.specs.Prelude.{◌≡◌, ◌⊎◌, ℕ, ◌+◌, ◌*◌, ◌-◌, ◌≤◌, true, List, Contains, nat_eq, if◌then◌else◌}
+-- What is acknowledged: each decided minute, and each entry of a card, but where a call failed or a card was torn out (profile).
+use Rattle.std.specs.Prelude.{◌≡◌, ◌⊎◌, ℕ, ◌+◌, ◌*◌, ◌-◌, ◌≤◌, true, List, Contains, map, nat_eq, if◌then◌else◌}
 use Rattle.activity_codec.specs.declared.entries.Entry.{Entry}
 use Rattle.trace_model.specs.declared.Card.{Card}
 use Rattle.run_model.specs.declared.Device.{Device}
@@ -11,7 +11,7 @@ use Rattle.log_model.specs.declared.lines.Mark.{Mark}
 use Rattle.log_model.specs.Log.{RunLog}
 use Rattle.log_model.specs.Course.{Told, Visit}
 use Rattle.log_model.specs.Spans.{spans_of}
-use Rattle.log_model.specs.Causes.{device_of}
+use Rattle.log_model.specs.Causes.{device_of, cuts, second_of}
 use Rattle.history_model.specs.Minutes.{HistoryMinute, on_card}
 use Rattle.history_model.specs.Presence.{Start}
 use Rattle.history_model.specs.History.{settlings_of, decided_of, unit_history}
@@ -26,25 +26,29 @@ deciding_of rule settlings m =
 abbrev pub IsMarked : List Mark → Device → ℕ → Type 0
 IsMarked marks device minute = (mark : Mark) × Contains marks mark × (mark.device ≡ device) × (mark.minute ≡ minute)
 
--- a cut in this second
-abbrev pub CutIn : List Told → ℕ → Type 0
-CutIn told u = (t : Told) × Contains told t × (t.second.number ≡ u) × (t.cut ≡ true)
+-- a failed call made a cut in this second
+abbrev pub FailedCutIn : RunLog → ℕ → Type 0
+FailedCutIn log u = Contains (map second_of (cuts true log)) u
 
 -- the card is torn out or pulled out in a second
 abbrev pub TornIn : Card → Told → Type 0
 TornIn card t = (v : Visit) × (v.card ≡ card) × (Contains t.course.torn v ⊎ Contains t.course.pulled v)
 
--- a cut, or a tear of the card, in a second from one on and up to another
-abbrev pub BrokenIn : List Told → Card → ℕ → ℕ → Type 0
-BrokenIn told card from to =
-    (t : Told) × Contains told t × (from ≤ t.second.number) × (t.second.number ≤ to) × ((t.cut ≡ true) ⊎ TornIn card t)
+-- or in one from this second on and up to another
+abbrev pub TornBetween : List Told → Card → (from to : ℕ) → Type 0
+TornBetween told card from to = (t : Told) × Contains told t × (from ≤ t.second.number) × (t.second.number ≤ to) × TornIn card t
 
--- a decided minute is acknowledged by the unit, and its entries by the cards
+-- a failed call made a cut in the last of these seconds, or the card was torn out or pulled out in one of them
+abbrev pub BrokenIn : RunLog → List Told → Card → (from to : ℕ) → Type 0
+BrokenIn log told card from to = FailedCutIn log to ⊎ TornBetween told card from to
+
+-- A decided minute is acknowledged by the unit, and its entries by the cards: but where a call failed in the second that decided it, or
+-- the card was torn out or pulled out since the minute's end. An `off` line excuses nothing.
 pub record IsComplete (rule : Rule) (start : Start) (log : RunLog) (told : List Told) (marks : List Mark) : Type 0 where
   pub unit : (span : List Told) (d : Minute) → Contains (spans_of told) span → Contains (decided_of rule span) d →
-      IsMarked marks Recorder d.minute ⊎ CutIn told (deciding_of rule (settlings_of span) d.minute)
+      IsMarked marks Recorder d.minute ⊎ FailedCutIn log (deciding_of rule (settlings_of span) d.minute)
   pub card : (span : List Told) (d : Minute) (i : HistoryMinute) (card : Card) (e : Entry) → Contains (spans_of told) span →
       Contains (decided_of rule span) d →
       Contains (unit_history rule start log told) i → i.minute ≡ d.minute → Contains (on_card card i) e →
       IsMarked marks (device_of card) i.minute
-      ⊎ BrokenIn told card (60 * (i.minute + 1)) (deciding_of rule (settlings_of span) i.minute)
+      ⊎ BrokenIn log told card (60 * (i.minute + 1)) (deciding_of rule (settlings_of span) i.minute)

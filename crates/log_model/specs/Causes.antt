@@ -1,6 +1,6 @@
 -- Each line of a run log has its cause in the run, and what happened has its line (profile).
-use Rattle.std.specs.Prelude.{◌≡◌, ◌⊎◌, ℕ, ◌+◌, ◌-◌, ◌^◌, ◌≤◌, Bool, true, false, not, ◌&&◌, Option, Some, None, List, [], ◌∷◌, ◌++◌, Contains, map, filter, flat_map, length, nat_eq, if◌then◌else◌}
-use Rattle.std.specs.List.{list_any}
+use Rattle.std.specs.Prelude.{◌≡◌, ◌⊎◌, ℕ, ◌+◌, ◌-◌, ◌^◌, ◌<◌, ◌≤◌, Bool, true, false, not, ◌&&◌, Option, Some, None, List, [], ◌∷◌, ◌++◌, Contains, map, filter, flat_map, length, nat_eq, if◌then◌else◌}
+use Rattle.std.specs.List.{AllByRecursion, list_any}
 use Rattle.activity_codec.specs.declared.values.Slot.{Slot}
 use Rattle.activity_codec.specs.Activity.{same_slot}
 use Rattle.trace_model.specs.declared.Card.{Card}
@@ -43,6 +43,20 @@ cuts failed log = filter (λ b. is_cut b && (if failed then has_failed b else no
 -- the tears likewise
 abbrev pub tears : Bool → RunLog → List Break
 tears failed log = filter (λ b. not (is_cut b) && (if failed then has_failed b else not (has_failed b))) log.breaks
+
+-- a second in which a failed call took the power: how many of its actions had begun
+abbrev pub failed_cut_in : RunLog → ℕ → Option ℕ
+failed_cut_in log u = cut_in (record log { breaks = cuts true log }) u
+
+-- a break comes behind another one: no earlier, and behind a cut in a later second
+abbrev pub ComesBehind : Break → Break → Type 0
+ComesBehind (Cut second kept failed begun) next = second < second_of next
+ComesBehind (Tear second slot failed begun late) next = second ≤ second_of next
+
+-- breaks in order of time
+abbrev pub AreInTime : List Break → Type 0
+AreInTime [] = Unit {0}
+AreInTime (b ∷ breaks) = AllByRecursion (ComesBehind b) breaks × AreInTime breaks
 
 -- where a tear stands: its second, its moment and its slot
 abbrev pub places : Break → List (ℕ × Phase × Slot)
@@ -96,6 +110,15 @@ IsBegun ss (Cut second kept failed begun) =
 IsBegun ss (Tear second slot failed begun late) =
     (s : TraceSecond) → Contains ss s → s.number ≡ second → (begun ≤ length s.actions) × (late ≡ true → begun ≡ length s.actions)
 
+-- a tear before any action, and not in the keeping, is one of the power-on
+abbrev pub IsAtPowerOn : (starts : Bool) → Break → Type 0
+IsAtPowerOn starts (Cut second kept failed begun) = Unit {0}
+IsAtPowerOn starts (Tear second slot failed begun late) = begun ≡ 0 → late ≡ false → starts ≡ true
+
+-- of a break in one of these seconds
+abbrev pub HasMoment : List Told → Break → Type 0
+HasMoment told b = (t : Told) → Contains told t → t.second.number ≡ second_of b → IsAtPowerOn t.starts b
+
 -- what was found of a card that entered
 abbrev pub found_of : Told → Visit → List Verdict
 found_of t e = map (λ f. f.1) (filter (λ f. same_phase f.0.phase e.phase && same_slot f.0.slot e.slot) t.course.found)
@@ -106,11 +129,11 @@ CutBy None p = ⊥
 CutBy (Some begun) (In n) = begun ≤ n
 CutBy (Some begun) Keeping = Unit {0}
 
--- a card that entered was judged once, but where it was torn out at that moment, or a cut came by then
+-- a card that entered was judged once, but where it was torn out at that moment, or a failed call had taken the power by then
 pub record IsJudged (log : RunLog) (t : Told) (e : Visit) : Type 0 where
   pub once : length (found_of t e) ≤ 1
   pub missing : found_of t e ≡ [] → (is_torn_in log t.second.number e.phase e.slot ≡ true)
-      ⊎ CutBy (cut_in log t.second.number) e.phase
+      ⊎ CutBy (failed_cut_in log t.second.number) e.phase
 
 -- the causes of a run log: `before` and `now` count the breakdowns of the devices, `IsVerdict` says what may be found of a card
 -- in a second
@@ -132,6 +155,9 @@ pub record HasCauses (IsVerdict : Card → ℕ → Verdict → Type 0) (before n
   pub torn_cards : (card : Card) →
       RoseBy (length (filter (same_card card) (cards_torn (went log ss).told))) (before (device_of card)) (now (device_of card))
   pub begun : (b : Break) → Contains log.breaks b → IsBegun ss b
+  pub moments : (b : Break) → Contains log.breaks b → HasMoment (went log ss).told b
+  -- breaks are in order of time, and a cut is the last of its second
+  pub order : AreInTime log.breaks
   -- finds are exactly those of the cards that entered
   pub finds : map (λ f. (f.second, In f.begun, f.slot, f.verdict)) log.finds ≡ finds_of (went log ss).told
   pub judged : (t : Told) (e : Visit) → Contains (went log ss).told t → Contains t.course.entered e → IsJudged log t e

@@ -11,7 +11,7 @@ use Rattle.minute_model.specs.Span.{fed_many, decided_in}
 use Rattle.log_model.specs.declared.lines.Break.{Break}
 use Rattle.log_model.specs.declared.lines.Refused.{Refused}
 use Rattle.log_model.specs.declared.lines.Find.{Find}
-use Rattle.log_model.specs.Course.{Told, went}
+use Rattle.log_model.specs.Course.{Told, Went, went}
 use Rattle.log_model.specs.Log.{RunLog}
 use Rattle.log_model.specs.Spans.{spans_of}
 use Rattle.log_model.specs.Causes.{cuts, device_of, RoseBy, HasCauses}
@@ -22,6 +22,7 @@ use Rattle.run_model.specs.declared.Device.TheVariants.{Unit as Recorder}
 use Rattle.history_model.specs.Book.{Book, all, found, not_begun, IsMark, Follows}
 use Rattle.history_model.specs.History.{unit_history, with_lost, limit_of}
 use Rattle.history_model.specs.Presence.{Start}
+use Rattle.history_model.specs.Completeness.{IsMarked, FailedCutIn}
 use Rattle.history_model.specs.Growth.{picking}
 use Rattle.unit_course.specs.Lines.{log_of, cut_at, found_from}
 use Rattle.unit_course.specs.Keeping.{plain, kept_all, broken_at}
@@ -38,7 +39,8 @@ use Rattle.unit_course.specs.Travelled.{MayShow, HasLegs}
 use Rattle.unit_course.specs.Caused.{cuts_by, IsOver, Caused, WellCaused}
 use Rattle.log_model.specs.declared.lines.SlotFault.{SlotFault}
 use Rattle.log_model.specs.declared.lines.SlotFault.TheVariants.{NoPower}
-use Rattle.unit_course.specs.Complete.{AreMarked}
+use Rattle.unit_course.specs.Complete.{OfDecided, AreMarked}
+use Rattle.unit_course.proofs.Steps.{went-refusing}
 use Rattle.log_model.specs.declared.lines.Mark.{Mark}
 use Rattle.recorder.specs.Keeping.{MarksStay, AreAllMarked}
 use Rattle.recorder.specs.Recorded.{progress}
@@ -108,17 +110,17 @@ module _ (rule : Rule) (start : Start) (from first : ℕ) (done : List TraceSeco
   rules_see_the_turn span is (suc n) speed actions some = steps.rules_see_the_turn rule start from first done (progress breaks unfound next begun supply b) f span is n speed (picks_of actions)
 
 -- WHICH MINUTES ARE ACKNOWLEDGED
-pub begins_done : (rule : Rule) (marks : List Mark) → AreMarked rule (went (log_of []) []).told marks
+pub begins_done : (rule : Rule) (marks : List Mark) → AreMarked rule (log_of []) [] marks
 begins_done rule marks = marked.begins_marked rule marks
 
 module _ (rule : Rule) (start : Start) (from first : ℕ) (done : List TraceSecond) (breaks : List Break) (unfound next begun : ℕ) (supply : Supply) (b : Book) (f : Followed rule start from first done (progress breaks unfound next begun supply b))
-    (marks : List Mark) (old : AreMarked rule (went (log_of breaks) done).told marks) where
-  pub powered_done : MayPower supply next → (k : ℕ) → AreMarked rule (went (log_of (found_from unfound k breaks)) done).told marks
+    (marks : List Mark) (old : AreMarked rule (log_of breaks) done marks) where
+  pub powered_done : MayPower supply next → (k : ℕ) → AreMarked rule (log_of (found_from unfound k breaks)) done marks
   powered_done may k = marked.powered_marked rule start from first done (progress breaks unfound next begun supply b) f marks old may k
 
   pub turned_done : (span : List Told) → supply ≡ On span → (n speed : ℕ) (actions : List Action) → 0 < n → AllByRecursion IsSelection actions → next % 60 + n ≤ 60 → (new : List Minute) →
       decided_in (fed_many (picking (picks_of actions) (span_at rule next span)) speed n) ≡ decided_in (span_at rule next span) ++ new → (later : List Mark) → MarksStay marks later → AreAllMarked new later →
-      AreMarked rule (went (log_of breaks) (done ++ driven n next speed actions)).told later
+      AreMarked rule (log_of breaks) (done ++ driven n next speed actions) later
   turned_done span is zero speed actions some each fits new given later stay all = absurd (omega (arith, some))
   turned_done span is (suc n) speed actions some each fits new given later stay all =
       marked.turned_marked rule start from first done (progress breaks unfound next begun supply b) f marks old span is refl n speed actions each fits new given later stay.stay all.each
@@ -126,27 +128,33 @@ module _ (rule : Rule) (start : Start) (from first : ℕ) (done : List TraceSeco
   pub broken_done : (span : List Told) → supply ≡ On span → (n speed : ℕ) (actions : List Action) (told : ℕ) → 0 < n → AllByRecursion IsSelection actions → next % 60 + n ≤ 60 →
       length (actions_of_last n actions) ≡ told → (new : List Minute) →
       decided_in (fed_many (picking (picks_of actions) (span_at rule next span)) speed n) ≡ decided_in (span_at rule next span) ++ new → (later : List Mark) → MarksStay marks later →
-      AreMarked rule (went (log_of (breaks ++ cut_at (next + n - 1) true told ∷ [])) (done ++ driven n next speed actions)).told later
+      AreMarked rule (log_of (breaks ++ cut_at (next + n - 1) true told ∷ [])) (done ++ driven n next speed actions) later
   broken_done span is zero speed actions told some each fits had new given later stay = absurd (omega (arith, some))
   broken_done span is (suc n) speed actions told some each fits had new given later stay =
-      subst (λ (m : ℕ). AreMarked rule (went (log_of (breaks ++ cut_at (next + suc n - 1) true m ∷ [])) (done ++ driven (suc n) next speed actions)).told later) had
-      (marked.broken_marked rule start from first done (progress breaks unfound next begun supply b) f marks old span is refl n speed actions each fits new given true later stay.stay)
+      subst (λ (m : ℕ). AreMarked rule (log_of (breaks ++ cut_at (next + suc n - 1) true m ∷ [])) (done ++ driven (suc n) next speed actions) later) had
+      (marked.broken_marked rule start from first done (progress breaks unfound next begun supply b) f marks old span is refl n speed actions each fits new given later stay.stay)
 
   pub failed_done : MayFail supply next → (n speed : ℕ) (actions : List Action) → 0 < n → next % 60 + n ≤ 60 → AllByRecursion IsSelection actions →
-      AreMarked rule (went (log_of (breaks ++ cut_at next true 0 ∷ [])) (done ++ driven n next speed actions)).told marks
+      AreMarked rule (log_of (breaks ++ cut_at next true 0 ∷ [])) (done ++ driven n next speed actions) marks
   failed_done may zero speed actions some fits each = absurd (omega (arith, some))
   failed_done may (suc n) speed actions some fits each = marked.failed_marked rule start from first done (progress breaks unfound next begun supply b) f marks old may n speed actions fits each
 
-  pub dark_done : supply ≡ Gone → (n speed : ℕ) (actions : List Action) → 0 < next % 60 → next % 60 + n ≤ 60 → AreMarked rule (went (log_of breaks) (done ++ driven n next speed actions)).told marks
+  pub dark_done : supply ≡ Gone → (n speed : ℕ) (actions : List Action) → 0 < next % 60 → next % 60 + n ≤ 60 → AreMarked rule (log_of breaks) (done ++ driven n next speed actions) marks
   dark_done is n speed actions late fits = marked.dark_marked rule start from first done (progress breaks unfound next begun supply b) f marks old is n speed actions late fits
 
-  pub off_done : IsDark supply → (n : ℕ) → 0 < n → AreMarked rule (went (log_of breaks) (done ++ dark n next)).told marks
+  pub off_done : IsDark supply → (n : ℕ) → 0 < n → AreMarked rule (log_of breaks) (done ++ dark n next) marks
   off_done is zero some = absurd (omega (arith, some))
   off_done is (suc n) some = marked.off_marked rule start from first done (progress breaks unfound next begun supply b) f marks old is n
 
-  pub cut_off_done : (t : Told) (span : List Told) → supply ≡ On (t ∷ span) → (n : ℕ) → 0 < n → AreMarked rule (went (log_of (breaks ++ cut_at (next - 1) false begun ∷ [])) (done ++ dark n next)).told marks
+  pub cut_off_done : (t : Told) (span : List Told) → supply ≡ On (t ∷ span) → (n : ℕ) → 0 < n → AreMarked rule (log_of (breaks ++ cut_at (next - 1) false begun ∷ [])) (done ++ dark n next) marks
   cut_off_done t span is zero some = absurd (omega (arith, some))
   cut_off_done t span is (suc n) some = marked.cut_off_marked rule start from first done (progress breaks unfound next begun supply b) f marks old t span is refl n
+
+-- by the whole log: refused actions are nothing to it
+pub logged_done : (rule : Rule) (log : RunLog) (done : List TraceSecond) (marks : List Mark) → log.finds ≡ [] → AreMarked rule (log_of log.breaks) done marks → AreMarked rule log done marks
+logged_done rule log done marks none old =
+    subst (λ (l : RunLog). AreMarked rule l done marks) (ap (λ (fs : List Find). record { breaks = log.breaks; refused = log.refused; finds = fs }) (sym none))
+    (subst (λ (w : Went). OfDecided rule w.told (λ m. IsMarked marks Recorder m) (λ u. FailedCutIn (log_of log.breaks) u)) (sym (went-refusing log.breaks log.refused done)) old)
 
 -- WHAT WAS TRAVELLED, by the spans
 pub begins_leg : (rule : Rule) (first from : ℕ) → HasLegs rule first [] (progress [] 0 from 0 Awaited not_begun) not_travelled

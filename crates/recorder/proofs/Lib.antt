@@ -16,3 +16,4 @@ pub mod Courses
 pub mod Turning
 pub mod Waiting
 pub mod Watching
+pub mod Whole

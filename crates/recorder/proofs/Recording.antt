@@ -13,7 +13,7 @@ use Rattle.run_model.specs.Span.{picks_of}
 use Rattle.minute_model.specs.declared.Rule.TheVariants.{Original}
 use Rattle.minute_model.specs.Span.{Span, begin, fed_many, decided_in}
 use Rattle.minute_rules.specs.Kept.{Kept, StandsFor}
-use Rattle.log_model.specs.Course.{Told, went}
+use Rattle.log_model.specs.Course.{Told}
 use Rattle.unit_course.specs.Complete.{AreMarked}
 use Rattle.unit_course.specs.Caused.{WellCaused}
 use Rattle.unit_course.specs.Travelled.{HasLegs}
@@ -139,12 +139,12 @@ told-dark second (a ∷ actions) = ap (λ (l : List (ℕ × SlotFault)). (second
 module _ (start : Start) (s : Began) (from : ℕ) (done : List TraceSecond) (n speed : ℕ) (actions : List Action) (begun : ℕ) (some : 0 < n)
     (each : AllByRecursion IsSelection actions) where
   -- what is acknowledged, by equal breaks
-  marked-as : (ss : List TraceSecond) (marks : List Mark) {a c : List Break} → a ≡ c → AreMarked Original (went (log_of a) ss).told marks → AreMarked Original (went (log_of c) ss).told marks
-  marked-as ss marks is m = subst (λ (bs : List Break). AreMarked Original (went (log_of bs) ss).told marks) is m
+  marked-as : (ss : List TraceSecond) (marks : List Mark) {a c : List Break} → a ≡ c → AreMarked Original (log_of a) ss marks → AreMarked Original (log_of c) ss marks
+  marked-as ss marks is m = subst (λ (bs : List Break). AreMarked Original (log_of bs) ss marks) is m
 
   -- with power, from a run whose span is this
   lit-stepped : (act new : Run) (mids after : List Break) (prior marks : List Mark) (was unit : State) (b : Book) (t : Travel) (span : List Told) → length (actions_of_last n actions) ≡ begun → act.next % 60 + n ≤ 60 →
-      Followed Original start from s.opened.first done (progress mids act.unfound act.next act.begun (On span) b) → HasLegs Original s.opened.first done (progress mids act.unfound act.next act.begun (On span) b) t → AreMarked Original (went (log_of mids) done).told prior →
+      Followed Original start from s.opened.first done (progress mids act.unfound act.next act.begun (On span) b) → HasLegs Original s.opened.first done (progress mids act.unfound act.next act.begun (On span) b) t → AreMarked Original (log_of mids) done prior →
       (refused : List Refused) → WellCaused done (progress mids act.unfound act.next act.begun (On span) b) refused →
       StandsFor act.minutes (picking (picks_of actions) (span_at Original act.next span)) →
       HasGaps done (progress mids act.unfound act.next act.begun (On span) b) → HasEvents s done (progress mids act.unfound act.next act.begun (On span) b) was → act.memory.limit ≡ limit_in s → IsWatched act (limit_in s) span →
@@ -219,7 +219,7 @@ module _ (start : Start) (s : Began) (from : ℕ) (done : List TraceSecond) (n s
 
   -- without power behind a failed power-on
   failed-stepped : (old act new : Run) (mids after : List Break) (marks : List Mark) (unit : State) (b : Book) (t : Travel) (before : List Break) (unfound : ℕ) (supply : Supply) →
-      Followed Original start from s.opened.first done (progress before unfound old.next old.begun supply b) → HasLegs Original s.opened.first done (progress before unfound old.next old.begun supply b) t → AreMarked Original (went (log_of before) done).told marks →
+      Followed Original start from s.opened.first done (progress before unfound old.next old.begun supply b) → HasLegs Original s.opened.first done (progress before unfound old.next old.begun supply b) t → AreMarked Original (log_of before) done marks →
       (refused : List Refused) → WellCaused done (progress before unfound old.next old.begun supply b) refused → MayFail supply old.next → old.next % 60 + n ≤ 60 →
       act.power ≡ Lost → act.next ≡ old.next → act.unfound ≡ unfound → mids ≡ before ++ cut_at old.next true 0 ∷ [] →
       (new ≡ record act { next = act.next + n; begun = begun }) → after ≡ mids → Booked s new b t marks unit →
@@ -288,7 +288,7 @@ module _ (start : Start) (s : Began) (from : ℕ) (done : List TraceSecond) (n s
 
       -- with power, where the span so far is this
       lit : (span : List Told) (b : Book) (t : Travel) → has_power old.power old.next ≡ true → mid.power ≡ Lit → mid.next ≡ old.next →
-          Followed Original start from s.opened.first done (progress mids mid.unfound mid.next mid.begun (On span) b) → HasLegs Original s.opened.first done (progress mids mid.unfound mid.next mid.begun (On span) b) t → AreMarked Original (went (log_of mids) done).told marks →
+          Followed Original start from s.opened.first done (progress mids mid.unfound mid.next mid.begun (On span) b) → HasLegs Original s.opened.first done (progress mids mid.unfound mid.next mid.begun (On span) b) t → AreMarked Original (log_of mids) done marks →
           WellCaused done (progress mids mid.unfound mid.next mid.begun (On span) b) told → StandsFor mid.minutes (span_at Original old.next span) → Booked s mid b t marks unit1 →
           HasGaps done (progress mids mid.unfound mid.next mid.begun (On span) b) → HasEvents s done (progress mids mid.unfound mid.next mid.begun (On span) b) unit1 → mid.memory.limit ≡ limit_in s → IsWatched mid (limit_in s) span →
           Recorded start s from (done ++ driven n old.next speed actions) new after later told unit2
@@ -310,13 +310,13 @@ module _ (start : Start) (s : Began) (from : ℕ) (done : List TraceSecond) (n s
           (turn b t booked)
 
       -- without power, behind a failed power-on
-      failed : (b : Book) (t : Travel) (breaks : List Break) (from_ : ℕ) (supply : Supply) → Followed Original start from s.opened.first done (progress breaks from_ old.next old.begun supply b) → HasLegs Original s.opened.first done (progress breaks from_ old.next old.begun supply b) t → AreMarked Original (went (log_of breaks) done).told marks →
+      failed : (b : Book) (t : Travel) (breaks : List Break) (from_ : ℕ) (supply : Supply) → Followed Original start from s.opened.first done (progress breaks from_ old.next old.begun supply b) → HasLegs Original s.opened.first done (progress breaks from_ old.next old.begun supply b) t → AreMarked Original (log_of breaks) done marks →
           WellCaused done (progress breaks from_ old.next old.begun supply b) told → MayFail supply old.next →
           mid.power ≡ Lost → mid.next ≡ old.next → mid.unfound ≡ from_ → mids ≡ breaks ++ cut_at old.next true 0 ∷ [] → Booked s mid b t marks unit1 →
           HasGaps (done ++ driven n old.next speed actions) (progress (breaks ++ cut_at old.next true 0 ∷ []) from_ (old.next + n) begun Gone b) →
           HasEvents s (done ++ driven n old.next speed actions) (progress (breaks ++ cut_at old.next true 0 ∷ []) from_ (old.next + n) begun Gone b) unit1 → mid.memory.limit ≡ limit_in s → Recorded start s from (done ++ driven n old.next speed actions) new after later told unit2
       failed b t breaks from_ supply f l old_marks well may lost same foundat cut booked gaps events vehicle = ⊎_elim
-          (λ passed. failed-stepped old act new mids after later unit2 b t breaks from_ supply f l (subst (λ (ms : List Mark). AreMarked Original (went (log_of breaks) done).told ms) (sym passed.same) old_marks) told well may fits (power ∙ lost) (next ∙ same) (unfound ∙ foundat) cut passed.run passed.breaks passed.booked gaps
+          (λ passed. failed-stepped old act new mids after later unit2 b t breaks from_ supply f l (subst (λ (ms : List Mark). AreMarked Original (log_of breaks) done ms) (sym passed.same) old_marks) told well may fits (power ∙ lost) (next ∙ same) (unfound ∙ foundat) cut passed.run passed.breaks passed.booked gaps
           (passed.noted s.image (log_of (breaks ++ cut_at old.next true 0 ∷ [])) (lists_at (limit_in s) (done ++ driven n old.next speed actions) (progress (breaks ++ cut_at old.next true 0 ∷ []) from_ (old.next + n) begun Gone b)) events)
           (ap (λ (i : Identity). i.limit) memory ∙ vehicle))
           (λ turn. absurd (let no = ap is_lit (power ∙ lost) in let yes : is_lit act.power ≡ true = ⊎_elim (λ all. all.lit) (λ off. off.lit) turn in cc))
@@ -349,7 +349,7 @@ module _ (start : Start) (s : Began) (from : ℕ) (done : List TraceSecond) (n s
                     (sym (ap (λ (m : Run). m.next) passed.run ∙ ap (λ (x : ℕ). x + n) (next ∙ ap (λ (m : Run). m.next) h.run))) (sym (ap (λ (m : Run). m.begun) passed.run))
                     (stays_dark_leg Original start from s.opened.first done before old.unfound old.next old.begun r.supply r.book r.followed r.travel r.legs gone.0 n speed actions gone.1 fits begun);
                 complete = marked-as (done ++ driven n old.next speed actions) later (sym (passed.breaks ∙ h.breaks))
-                    (dark_done Original start from s.opened.first done before old.unfound old.next old.begun r.supply r.book r.followed later (subst (λ (ms : List Mark). AreMarked Original (went (log_of before) done).told ms) (sym passed.same) r.complete) gone.0 n speed actions gone.1 fits);
+                    (dark_done Original start from s.opened.first done before old.unfound old.next old.begun r.supply r.book r.followed later (subst (λ (ms : List Mark). AreMarked Original (log_of before) done ms) (sym passed.same) r.complete) gone.0 n speed actions gone.1 fits);
                 caused = stays_dark_why Original start from s.opened.first done before old.unfound old.next old.begun r.supply r.book r.followed refused r.caused gone.0 n speed actions some gone.1 fits told (all-refused without)
                     (progress after new.unfound new.next new.begun r.supply r.book) (passed.breaks ∙ h.breaks);
                 minutes = λ is. absurd (let no : Lost ≡ Lit = sym p ∙ is in cc);
@@ -442,16 +442,16 @@ module _ (start : Start) (s : Began) (from : ℕ) (done : List TraceSecond) wher
       followed-as start from s.opened.first (done ++ dark n next) Awaited b (sym (append-nil before)) refl refl refl (goes_off Original start from s.opened.first done before unfound next begun Gone b f tt n some)
 
   off-marked : (before : List Break) (unfound next begun : ℕ) (b : Book) (n : ℕ) → 0 < n → (supply : Supply) → HasSecond supply → Followed Original start from s.opened.first done (progress before unfound next begun supply b) →
-      (marks : List Mark) → AreMarked Original (went (log_of before) done).told marks →
-      AreMarked Original (went (log_of (before ++ off_cut (is_lit (power_of supply)) (next - 1) begun)) (done ++ dark n next)).told marks
+      (marks : List Mark) → AreMarked Original (log_of before) done marks →
+      AreMarked Original (log_of (before ++ off_cut (is_lit (power_of supply)) (next - 1) begun)) (done ++ dark n next) marks
   off-marked before unfound next begun b n some (On []) second f marks old = absurd second
   off-marked before unfound next begun b n some (On (t ∷ span)) second f marks old =
       cut_off_done Original start from s.opened.first done before unfound next begun (On (t ∷ span)) b f marks old t span refl n some
   off-marked before unfound next begun b n some Awaited second f marks old =
-      subst (λ (bs : List Break). AreMarked Original (went (log_of bs) (done ++ dark n next)).told marks) (sym (append-nil before))
+      subst (λ (bs : List Break). AreMarked Original (log_of bs) (done ++ dark n next) marks) (sym (append-nil before))
       (off_done Original start from s.opened.first done before unfound next begun Awaited b f marks old tt n some)
   off-marked before unfound next begun b n some Gone second f marks old =
-      subst (λ (bs : List Break). AreMarked Original (went (log_of bs) (done ++ dark n next)).told marks) (sym (append-nil before))
+      subst (λ (bs : List Break). AreMarked Original (log_of bs) (done ++ dark n next) marks) (sym (append-nil before))
       (off_done Original start from s.opened.first done before unfound next begun Gone b f marks old tt n some)
 
   off-why : (before : List Break) (unfound next begun : ℕ) (b : Book) (n : ℕ) → 0 < n → (supply : Supply) → HasSecond supply → Followed Original start from s.opened.first done (progress before unfound next begun supply b) →
@@ -509,7 +509,7 @@ module _ (start : Start) (s : Began) (from : ℕ) (done : List TraceSecond) wher
     legs = legs-as s.opened.first (done ++ dark n old.next) Awaited r.book r.travel
         (ap (λ (p : Power). before ++ off_cut (is_lit p) (old.next - 1) old.begun) r.power ∙ sym breaks) (sym (ap (λ (m : Run). m.unfound) is)) (sym (ap (λ (m : Run). m.next) is)) (sym (ap (λ (m : Run). m.begun) is))
         (off-legs before old.unfound old.next old.begun r.book n some r.supply r.second r.followed r.travel r.legs);
-    complete = subst (λ (bs : List Break). AreMarked Original (went (log_of bs) (done ++ dark n old.next)).told marks) (ap (λ (p : Power). before ++ off_cut (is_lit p) (old.next - 1) old.begun) r.power ∙ sym breaks)
+    complete = subst (λ (bs : List Break). AreMarked Original (log_of bs) (done ++ dark n old.next) marks) (ap (λ (p : Power). before ++ off_cut (is_lit p) (old.next - 1) old.begun) r.power ∙ sym breaks)
         (off-marked before old.unfound old.next old.begun r.book n some r.supply r.second r.followed marks r.complete);
     caused = off-why before old.unfound old.next old.begun r.book n some r.supply r.second r.followed refused r.caused (progress after new.unfound new.next new.begun Awaited r.book)
         (breaks ∙ sym (ap (λ (p : Power). before ++ off_cut (is_lit p) (old.next - 1) old.begun) r.power));

@@ -1,5 +1,5 @@
 -- What a run has recorded, by the history of its trace (profile).
-use Rattle.std.specs.Prelude.{ℕ, List}
+use Rattle.std.specs.Prelude.{◌≡◌, ℕ, true, List, []}
 use Rattle.tach_media.specs.Medium.{State}
 use Rattle.trace_model.specs.declared.Card.{Card}
 use Rattle.trace_model.specs.declared.Item.{Item}
@@ -10,12 +10,13 @@ use Rattle.run_model.specs.declared.Device.TheVariants.{Unit as Recorder, CardA,
 use Rattle.log_model.specs.declared.lines.Verdict.{Verdict}
 use Rattle.log_model.specs.Log.{RunLog}
 use Rattle.log_model.specs.Course.{Told, Visit, went}
+use Rattle.log_model.specs.Causes.{cuts}
 use Rattle.event_model.specs.Events.{Tearing}
 use Rattle.history_model.specs.Book.{Book, Follows}
 use Rattle.history_model.specs.Minutes.{HistoryMinute}
 use Rattle.history_model.specs.Presence.{Start}
 use Rattle.history_model.specs.History.{unit_history, with_lost}
-use Rattle.safety_model.specs.Unit.{UnitSafe}
+use Rattle.safety_model.specs.Unit.{UnitSafe, HasEachDecided, IsFilled}
 use Rattle.unit_course.specs.Lines.{log_of}
 use Rattle.unit_course.specs.Complete.{AreMarked}
 use Rattle.unit_course.specs.Followed.{Supply, Followed}
@@ -70,5 +71,8 @@ pub record IsFollowed (start : Start) (x : List ℕ) (origin : ℕ) (items : Lis
   pub next : ℕ
   pub begun : ℕ
   pub course : Followed Original start origin (started x clock).first (seconds_of origin items) (progress o.breaks.items unfound next begun supply book)
-  -- each decided minute is acknowledged, but where a cut came in the second that decided it
-  pub complete : AreMarked Original (went (log_of o.breaks.items) (seconds_of origin items)).told o.marks.items
+  -- each decided minute is acknowledged, but where a call failed in the second that decided it
+  pub complete : AreMarked Original (log_of o.breaks.items) (seconds_of origin items) o.marks.items
+  -- where no call on the unit failed, each decided minute stands in the history, and each image that a stop may leave has all of it
+  pub whole : cuts true (run_log o) ≡ [] → HasEachDecided Original (told_of o origin items) (history_of start o origin items)
+      × ((y : List ℕ) → unit.may_leave y → IsFilled (started x clock).days (history_of start o origin items) y)

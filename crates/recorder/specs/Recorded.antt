@@ -4,7 +4,7 @@ use Rattle.tach_media.specs.Medium.{State}
 use Rattle.trace_model.specs.Trace.{TraceSecond}
 use Rattle.minute_model.specs.declared.Rule.TheVariants.{Original}
 use Rattle.minute_rules.specs.Kept.{StandsFor}
-use Rattle.log_model.specs.Course.{Told, went}
+use Rattle.log_model.specs.Course.{Told}
 use Rattle.unit_course.specs.Lines.{log_of}
 use Rattle.unit_course.specs.Complete.{AreMarked}
 use Rattle.unit_course.specs.Caused.{WellCaused}
@@ -65,8 +65,8 @@ pub record Recorded (start : Start) (s : Began) (from : ℕ) (done : List TraceS
   pub followed : Followed Original start from s.opened.first done (progress breaks run.unfound run.next run.begun supply book)
   -- what was travelled is that of the spans
   pub legs : HasLegs Original s.opened.first done (progress breaks run.unfound run.next run.begun supply book) travel
-  -- each decided minute is acknowledged, but where a cut came in the second that decided it
-  pub complete : AreMarked Original (went (log_of breaks) done).told marks
+  -- each decided minute is acknowledged, but where a call failed in the second that decided it
+  pub complete : AreMarked Original (log_of breaks) done marks
   -- refusals, cuts and the `off` lines that are cuts are those of the seconds
   pub caused : WellCaused done (progress breaks run.unfound run.next run.begun supply book) refused
   pub minutes : run.power ≡ Lit → StandsFor run.minutes (span_at Original run.next (going_on supply))

@@ -97,7 +97,7 @@ module _ (slot : Slot) (card : Card) (at : Moment) (speed : ℕ) (old : Run) (be
 
     module _ (e : Devices) (records : RecordsSettling decided at failed (put_run slot card old) mid before told d e) (time : HaveTime e) where
       kept : SettlesTo failed o done s (In (suc n)) waits waiting.within.b waiting.within.from (waiting.within.from + length decided) (put_run slot card old) mid before told e
-      kept = records o done s (suc n) waits at-is waiting time
+      kept = records o done s (suc n) waits (omega arith) at-is waiting time
 
       -- the unit failed as they were kept
       pub unsettled : failed ≡ true → RunFails o done s (In at.begun) mid told e

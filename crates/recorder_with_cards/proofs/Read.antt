@@ -23,7 +23,7 @@ use Rattle.run_recorded.specs.Origin.{Origin}
 use Rattle.run_recorded.specs.Beside.{TellsMore, cards_of}
 use Rattle.run_recorded.specs.Ends.{AreVerdicts, AreSpared}
 use Rattle.run_recorded.proofs.Seconds.{more-recorded}
-use Rattle.run_recorded.proofs.Beside.{found-tells, idle-verdicts, idle-spared}
+use Rattle.run_recorded.proofs.Beside.{found-tells, idle-verdicts, idle-spared, kept-later}
 use Rattle.run_within.specs.Recorded.{Values, progress, carried, IsOff, IsHeldBy, Recorded}
 use Rattle.run_within.specs.Powering.{GoOn, read_values}
 use Rattle.run_within.proofs.Powering.{off-of}
@@ -119,8 +119,9 @@ module _ (o : Origin) (done : List TraceSecond) (supply : Supply) (v : Values) (
       behind = tt;
     }
 
-    verdicts : AreVerdicts o done v.log e
-    verdicts = idle-verdicts o done done v.log v.log d e [] v.next r.beside.verdicts goes.left same tt
+    verdicts : AreVerdicts o done v.log v.unfound e
+    verdicts = idle-verdicts o done done v.log v.log v.unfound v.unfound d e [] v.next r.beside.verdicts goes.left same tt
+        (kept-later (d.unit.left_since o.found.unit.began) (e.unit.left_since o.found.unit.began) goes.left.unit v.unfound v.log.breaks r.beside.verdicts.kept)
 
     spared : AreSpared o done v.log e
     spared = idle-spared o done done v.log v.log d e [] v.next r.beside.spared same tt (λ c whole. inl (goes.untouched c whole))

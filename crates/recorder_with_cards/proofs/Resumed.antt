@@ -18,7 +18,7 @@ use Rattle.log_model.specs.declared.lines.Mark.{Mark}
 use Rattle.log_model.specs.declared.lines.Verdict.TheVariants as verdict
 use Rattle.log_model.specs.Log.{RunLog, In, found_in}
 use Rattle.log_model.specs.Slots.{Slots, Sitting}
-use Rattle.log_model.specs.Course.{Visit, fresh, visits, card_in as card_of_sitting}
+use Rattle.log_model.specs.Course.{Visit, Went, went, fresh, visits, card_in as card_of_sitting}
 use Rattle.history_model.specs.Minutes.{HistoryMinute}
 use Rattle.history_model.specs.Presence.{Start}
 use Rattle.history_model.specs.Book.{Book, found}
@@ -61,7 +61,8 @@ use Rattle.run_within.proofs.Waking.{but-first, next-waking, find-other}
 use Rattle.run_acts.specs.declared.run.Run.{Run}
 use Rattle.run_acts.specs.declared.run.Power.TheVariants.{Lit}
 use Rattle.run_acts.specs.Power.{IsSpanBegun}
-use Rattle.run_acts.specs.Recording.{IsOrigin, log_of, values_of, RunWithin, GoesOnOrCut}
+use Rattle.run_acts.specs.Recording.{IsOrigin, log_of, values_of, RunWithin, ComesPower, GoesOnOrCut}
+use Rattle.run_acts.proofs.NoteRecorded.{same-course}
 use Rattle.recorder_with_cards.specs.Accepting.{IsBare, IsAccepted, IsAnew}
 use Rattle.recorder_with_cards.specs.Judged.{moment_in, RunNext, RunBehind, JudgedTo, JudgesSo, JudgesAnew}
 use Rattle.recorder_with_cards.proofs.Read.{unit-tells, image-of, at-image}
@@ -325,6 +326,15 @@ driver-judged o done s b (Some card) rest old before d w once is bare at now spe
     )
 
 -- the co-driver's
+codriver-next : (o : Origin) (done : List TraceSecond) (s : TraceSecond) (b : Beginning) (card : Card) (old : Run) (before : Outcome) (d : Devices) → RunWaking o done s b (waiting_in CoDriver (Some card)) (CoDriver ∷ []) old before d →
+    card_in old.keeper.cabin.slots.seats.codriver ≡ Some card → IsBare old.keeper.cabin.slots.seats.codriver → RunNext o done s 0 (waiting_in CoDriver (Some card)) [] old before d CoDriver card
+codriver-next o done s b card old before d w is bare = record {
+  goes = within-of o done s b (waiting_in CoDriver (Some card)) (CoDriver ∷ []) old before d w;
+  next = next-waking o done s b (values_of old before) d (waiting_in CoDriver (Some card)) (CoDriver ∷ []) w.waking CoDriver card [] (bare-is old.keeper.cabin.slots.seats.codriver card is bare) (but-first (In 0) CoDriver card []) tt;
+  none = w.waking.none CoDriver (Contains-push [] CoDriver);
+  order = λ is_driver. absurd (let bad : CoDriver ≡ Driver = is_driver in cc);
+}
+
 pub codriver-judged : (o : Origin) (done : List TraceSecond) (s : TraceSecond) (b : Beginning) (card : Option Card) (old : Run) (before : Outcome) (d : Devices) → RunWaking o done s b (waiting_in CoDriver card) (CoDriver ∷ []) old before d →
     card_in old.keeper.cabin.slots.seats.codriver ≡ card → IsBare old.keeper.cabin.slots.seats.codriver → (at : Moment) → at ≡ moment_in s 0 → (speed : ℕ) (failed : Bool) (new : Run) (after : Outcome) →
     IsAnew card CoDriver at speed old new before after → (e : Devices) → (card ≡ None → (P : Devices → Type 0) → P d → P e) → HaveTime e →
@@ -336,10 +346,23 @@ codriver-judged o done s b None old before d w is bare at now speed failed new a
     (subst (λ (q : Outcome). RunWithin o done s (In 0) [] [] old q d) (sym anew.1) (within-of o done s b [] (CoDriver ∷ []) old before d w))))
 codriver-judged o done s b (Some card) old before d w is bare at now speed failed new after anew e still time judges =
     let waits : List Visit = waiting_in CoDriver (Some card) in
-    let next : RunNext o done s 0 waits [] old before d CoDriver card = record {
-      goes = within-of o done s b waits (CoDriver ∷ []) old before d w;
-      next = next-waking o done s b (values_of old before) d waits (CoDriver ∷ []) w.waking CoDriver card [] (bare-is old.keeper.cabin.slots.seats.codriver card is bare) (but-first (In 0) CoDriver card []) tt;
-      none = w.waking.none CoDriver (Contains-push [] CoDriver);
-      order = λ is_driver. absurd (let bad : CoDriver ≡ Driver = is_driver in cc);
-    } in
+    let next : RunNext o done s 0 waits [] old before d CoDriver card = codriver-next o done s b card old before d w is bare in
     judged-goes failed o done s 0 waits old new before after d e next.goes (judges o done s 0 waits [] now next time)
+
+-- power comes with the second still
+comes-waking : (o : Origin) (done : List TraceSecond) (s : TraceSecond) (b : Beginning) (waits : List Visit) (untold : List Slot) (run : Run) (out : Outcome) (d : Devices) → RunWaking o done s b waits untold run out d → ComesPower done out
+comes-waking o done s b waits untold run out d w =
+    ap (λ (x : Went). x.before.running) (same-course o done s (In 0) waits [] run out d (within-of o done s b waits untold run out d w))
+    ∙ subst (λ (x : Beginning). (went x.run.log done).before.running ≡ false) (sym w.waking.began) w.waking.starts
+
+pub codriver-power : (o : Origin) (done : List TraceSecond) (s : TraceSecond) (b : Beginning) (card : Option Card) (old : Run) (before : Outcome) (d : Devices) → RunWaking o done s b (waiting_in CoDriver card) (CoDriver ∷ []) old before d →
+    card_in old.keeper.cabin.slots.seats.codriver ≡ card → IsBare old.keeper.cabin.slots.seats.codriver → (at : Moment) → at ≡ moment_in s 0 → (speed : ℕ) (failed : Bool) (new : Run) (after : Outcome) →
+    IsAnew card CoDriver at speed old new before after → (e : Devices) → HaveTime e → JudgesAnew card CoDriver at failed old new before after d e → failed ≡ false → ComesPower done after
+codriver-power o done s b None old before d w is bare at now speed failed new after anew e time judges well =
+    subst (λ (q : Outcome). ComesPower done q) (sym anew.1) (comes-waking o done s b [] (CoDriver ∷ []) old before d w)
+codriver-power o done s b (Some card) old before d w is bare at now speed failed new after anew e time judges well =
+    let waits : List Visit = waiting_in CoDriver (Some card) in
+    let next : RunNext o done s 0 waits [] old before d CoDriver card = codriver-next o done s b card old before d w is bare in
+    comes-waking o done s b [] [] new after e
+    (behind-on o done s b waits (CoDriver ∷ []) old before d w new after e [] [] (subst (λ (f : Bool). JudgedTo f o done s 0 waits [] old new before after d e next.goes) well (judges o done s 0 waits [] now next time))
+    (λ slot there. absurd (omega (arith, there.1))))

@@ -1,6 +1,7 @@
 -- A note at a moment of a second: what is recorded behind it.
-use Rattle.std.proofs.Common.{◌≡◌, ◌∙◌, ◌⊎◌, inl, inr, ⊎_elim, ℕ, suc, ◌+◌, ◌/◌, ◌<◌, ◌≤◌, Bool, true, false, not, Option, Some, None, List, [], ◌∷◌, ◌++◌, is_some, length, refl, ap, sym, subst, arith}
+use Rattle.std.proofs.Common.{◌≡◌, ◌∙◌, ◌⊎◌, inl, inr, ⊎_elim, ℕ, suc, ◌+◌, ◌/◌, ◌<◌, ◌≤◌, Bool, true, false, not, Option, Some, None, List, [], ◌∷◌, ◌++◌, is_some, length, refl, ap, sym, subst, arith, append-nil}
 use Rattle.std.specs.Prelude.{min, IfSome}
+use Rattle.std.specs.List.{AllByRecursion}
 use Rattle.std.proofs.lemmas.Bool.{cases_lt}
 use Rattle.trace_model.specs.declared.Card.{Card}
 use Rattle.trace_model.specs.declared.Card.TheVariants.{A, B}
@@ -22,8 +23,8 @@ use Rattle.minute_rules.specs.Kept.{Kept, StandsFor}
 use Rattle.log_model.specs.declared.lines.Break.{Break}
 use Rattle.log_model.specs.declared.lines.Break.TheVariants.{Tear}
 use Rattle.log_model.specs.Log.{Phase, In, Keeping, phase_of}
-use Rattle.log_model.specs.Causes.{RoseBy, device_of}
-use Rattle.log_model.specs.Course.{Visit}
+use Rattle.log_model.specs.Causes.{RoseBy, device_of, second_of}
+use Rattle.log_model.specs.Course.{Visit, Went, went}
 use Rattle.unit_notes.specs.Journal.{LeavesJournal}
 use Rattle.unit_model.specs.Image.{odometer_at}
 use Rattle.unit_rule.specs.Odometer.{odometer_after, HasTravelled}
@@ -39,14 +40,18 @@ use Rattle.run_crew.specs.Cabin.{Stands, torn_out}
 use Rattle.run_rule.specs.Found.{found_of}
 use Rattle.run_rule.specs.Cards.{IsUntouched}
 use Rattle.run_rule.specs.Between.{Carried, devices}
+use Rattle.run_course.specs.Followed.{Followed}
 use Rattle.run_course.specs.Seconds.{kept_all}
+use Rattle.run_course.proofs.Logs.{went-later}
+use Rattle.run_course.proofs.Steps.{went-same_}
+use Rattle.run_moments.specs.Moment.{goes_on}
 use Rattle.run_told.specs.Told.{arranged, with_standing}
 use Rattle.run_told.proofs.Parts.{parts-of}
 use Rattle.run_told.proofs.Noted.{noted-powered, noted-powerless}
 use Rattle.run_told.proofs.Travelled.{travelled-noted}
 use Rattle.run_outcome.specs.Lines.{Listed}
 use Rattle.run_outcome.specs.declared.outcome.Outcome.{Outcome}
-use Rattle.run_recorded.specs.Origin.{Origin}
+use Rattle.run_recorded.specs.Origin.{Origin, rule_of, start_at, first_of}
 use Rattle.run_keeping.specs.declared.keeper.Moment.{Moment}
 use Rattle.run_keeping.specs.Keeping.{tear_of, with_lines}
 use Rattle.run_keeping.proofs.Fates.{no-lines}
@@ -59,9 +64,9 @@ use Rattle.run_within.proofs.Acting.{place-recorded}
 use Rattle.run_within.proofs.Seated.{seated-torn, seated-tear_fails}
 use Rattle.run_acts.specs.declared.run.Run.{Run}
 use Rattle.run_acts.specs.Power.{with_cabin}
-use Rattle.run_acts.specs.Acting.{IsNotedOn, falls_by}
+use Rattle.run_acts.specs.Acting.{IsNotedOn, IsNotedIn, now_moment, falls_by}
 use Rattle.run_acts.specs.Behind.{IsPoweredOrOff}
-use Rattle.run_acts.specs.Recording.{values_of, RunWithin, RunFails, GoesOnOrCut, IsNow}
+use Rattle.run_acts.specs.Recording.{log_of, values_of, RunWithin, ComesPower, RunFails, GoesOnOrCut, IsNow}
 use Rattle.run_acts.specs.Noting.{carried_noted, IsNoteRecorded}
 use Rattle.run_acts.proofs.Cabins.{noted_cabin}
 use Rattle.run_acts.proofs.Apart.{some-one}
@@ -192,6 +197,20 @@ run-on o done s at next waits fewer rest more run new out after d e first w powe
   odometer = odometer ∙ w.odometer ∙ ap (λ (b : Beginning). odometer_after (odometer_at o.recording.unit) b.travel.before) (sym g.began);
 }
 
+-- THE SECONDS BEFORE went the same by the log of a second that is going on, also with more lines of that second
+module _ (o : Origin) (done : List TraceSecond) (s : TraceSecond) (at : Phase) (waits : List Visit) (rest : List Minute) (run : Run) (out : Outcome) (d : Devices) (w : RunWithin o done s at waits rest run out d) where
+  abbrev f : Followed (rule_of o) (start_at o) o.from (first_of o) done w.within.b.run
+  f = w.within.began.followed
+
+  pub same-course : went (log_of out) done ≡ went w.within.b.run.log done
+  same-course = went-same_ (rule_of o) (start_at o) o.from (first_of o) done w.within.b.run f.order f.next f.unfound s (log_of out) (goes_on w.within.moment)
+
+  pub power-still : (more : List Break) → AllByRecursion (λ (b : Break). second_of b ≡ s.number) more → ComesPower done out → ComesPower done (record out { breaks = with_lines more out.breaks })
+  power-still more each comes =
+      let next = f.next in
+      let number = w.within.moment.number in
+      ap (λ (x : Went). x.before.running) (went-later (log_of out) (log_of (record out { breaks = with_lines more out.breaks })) s.number more refl each [] (sym (append-nil out.finds.items)) tt o.from done f.order (omega (arith, next, number))) ∙ comes
+
 -- The first minute that is still to be kept is no later than this one, and one of the last five.
 module _ (o : Origin) (done : List TraceSecond) (s : TraceSecond) (at : Phase) (waits : List Visit) (run : Run) (out : Outcome) (d : Devices) (w : Within o done s at waits None [] (values_of run out) d) (span : Span) (stands : StandsFor run.minutes span) (ends : end_of span ≡ run.next) where
   pub number : s.number ≡ run.next
@@ -275,7 +294,7 @@ module _ (c : Card) (slot : Slot) (at : Moment) (run : Run) (breaks : Listed Bre
   abbrev e : Devices
   e = arranged c V Y Z
 
-  module _ (o : Origin) (done : List TraceSecond) (s : TraceSecond) (out : Outcome) (w : RunWithin o done s (In at.begun) [] [] run (record out { breaks = breaks }) d) where
+  module _ (o : Origin) (done : List TraceSecond) (s : TraceSecond) (out : Outcome) (w : RunWithin o done s (In at.begun) [] [] run (record out { breaks = breaks }) d) (first : In at.begun ≡ In 0 → ComesPower done (record out { breaks = breaks })) where
     abbrev v : Values
     v = values_of run (record out { breaks = breaks })
 
@@ -342,6 +361,7 @@ module _ (c : Card) (slot : Slot) (at : Moment) (run : Run) (breaks : Listed Bre
       low = ungiven_of span;
       stands = cabin;
       here = (at.begun, at.late, ap (λ (n : ℕ). Tear n slot true at.begun at.late) here, ap (λ (l : Bool). phase_of at.begun l) late, w.within.moment.is, λ yes. absurd (cc));
+      power = λ now. sym (ap (λ (x : Went). x.before.running) (same-course o done s (In at.begun) [] [] run (record out { breaks = breaks }) d w)) ∙ first now;
       broke = record { more = (goes on_card.breakdowns).breakdowns; broke = card-rose c U V X Y Z (rose-by X.breakdowns Y.breakdowns broken.breakdowns) };
       goes = goes on_card.breakdowns;
       travels = travels;
@@ -372,7 +392,22 @@ module _ (c : Card) (slot : Slot) (at : Moment) (run : Run) (breaks : Listed Bre
         (fell on_card broken failed refl (books true on_card w.within.from)))
 
   pub note-recorded : (new : Run) (after : Listed Break) (fell : Bool) → IsNotedOn c slot at run new breaks after fell → HasBroken X Y (falls_by fell) → HasCause X Y fell → IsNoteRecorded (In at.begun) failed run new breaks after (arranged c U X Z) (arranged c V Y Z)
-  note-recorded new after fell is broken on_card = λ o done s out w. noted o done s out w fell new after is broken on_card
+  note-recorded new after fell is broken on_card = λ o done s out w first. noted o done s out w first fell new after is broken on_card
+
+-- what is noted on the card of a slot leaves power coming with the second
+noted-lines : (who : Option Card) (slot : Slot) (at : Moment) (old new : Run) (breaks after : Listed Break) (fell : Bool) → IsNotedIn who slot at old new breaks after fell →
+    (more : List Break) × (after ≡ with_lines more breaks) × AllByRecursion (λ (b : Break). second_of b ≡ at.second) more
+noted-lines None slot at old new breaks after fell is = ([], is.1 ∙ no-lines breaks, tt)
+noted-lines (Some card) slot at old new breaks after false is = ([], is.told, tt)
+noted-lines (Some card) slot at old new breaks after true is = (tear_of slot at ∷ [], is.told, (refl, tt))
+
+pub power-noted : (o : Origin) (done : List TraceSecond) (s : TraceSecond) (run new : Run) (out : Outcome) (breaks after : Listed Break) (d : Devices) (w : RunWithin o done s (In 0) [] [] run (record out { breaks = breaks }) d) (who : Option Card) (slot : Slot) (fell : Bool) →
+    IsNotedIn who slot (now_moment run) run new breaks after fell → ComesPower done (record out { breaks = breaks }) → ComesPower done (record out { breaks = after })
+power-noted o done s run new out breaks after d w who slot fell noted comes =
+    let lines = noted-lines who slot (now_moment run) run new breaks after fell noted in
+    let here : s.number ≡ run.next = w.within.moment.number ∙ sym w.within.next in
+    subst (λ (l : Listed Break). ComesPower done (record out { breaks = l })) (sym lines.1)
+    (power-still o done s (In 0) [] [] run (record out { breaks = breaks }) d w lines.0 (subst (λ (n : ℕ). AllByRecursion (λ (b : Break). second_of b ≡ n) lines.0) (sym here) lines.2) comes)
 
 -- the same of a card of which only that it has a session is known
 pub noted-some : (c : Card) (slot : Slot) (at : Moment) (run : Run) (breaks : Listed Break) (U V X Y Z : State) → IsCoherent U → IsCoherent X → IsCoherent Y → LARGEST_IMAGE ≤ X.size → is_some (session_of run.keeper.cabin.cards c) ≡ true →

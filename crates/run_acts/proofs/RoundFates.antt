@@ -329,7 +329,7 @@ module _ (o : Origin) (done : List TraceSecond) (s : TraceSecond) (q : Point) (b
     -- behind it
     module _ (g : IsOut) where
       told-now : Moment b.run bef s q.at later q.waits b.broken (fallen card h.now last) × IsTornAt s.number slot (visit ∷ []) c d_
-      told-now = card-torn b.run bef s q.at log q.waits b.broken h.now (fallen card h.now last) h.moment slot (tear_of slot (moment_of s q)) tear-at g.untorn card g.out broke
+      told-now = card-torn b.run bef s q.at log q.waits b.broken h.now (fallen card h.now last) h.moment slot (tear_of slot (moment_of s q)) tear-at (λ first. absurd (h.point.acted first)) g.untorn card g.out broke
 
       torn-now : IsTornAt s.number slot (visit ∷ []) c d_
       torn-now = told-now.1

@@ -26,6 +26,7 @@ use Rattle.run_moments.proofs.Telling.{breakdowns-only}
 use Rattle.run_told.specs.Told.{IsPowered}
 use Rattle.run_recorded.specs.Origin.{Origin, first_of}
 use Rattle.run_recorded.specs.Ends.{AreVerdicts}
+use Rattle.run_recorded.proofs.Beside.{kept-later}
 use Rattle.run_keeping.specs.Minutes.{Told, Done, AreRounds, told_by}
 use Rattle.run_keeping.specs.Books.{AreBooked}
 use Rattle.run_keeping.specs.Decided.{carried_by}
@@ -57,8 +58,9 @@ module _ (o : Origin) (done : List TraceSecond) (s : TraceSecond) (q : Point) (a
   c = course_in w.b done s q.at (told_values t v).log
 
   -- what was found, and which cards may be written, stays so where the course has only tears more
-  pub verdicts-so : AreVerdicts o done w.b.run.log e
+  pub verdicts-so : AreVerdicts o done w.b.run.log w.b.run.unfound e
   verdicts-so = record {
+    kept = kept-later (d.unit.left_since o.found.unit.began) (e.unit.left_since o.found.unit.began) k.goes.left.unit w.b.run.unfound w.b.run.log.breaks w.verdicts.kept;
     each = λ x f verdict among seen.
         seen-left o done w.b.run.log (d.unit.left_since o.found.unit.began) ((card_of d f.card).left_since (found_of o.found f.card).began) (e.unit.left_since o.found.unit.began) ((card_of e f.card).left_since (found_of o.found f.card).began)
         k.goes.left.unit (k.goes.left.card f.card) f.card x.second.number verdict (w.verdicts.each x f verdict among seen);

@@ -69,8 +69,8 @@ two-in from before cabin (e ∷ past) m all = by (two-in from before cabin past 
 pub two-present : (from : ℕ) (leaving : Option Card) (cabin : Cabin) → Stands from leaving cabin → (m : ℕ) → AreTwo (present_at cabin m).driver (present_at cabin m).codriver
 two-present from leaving cabin h m = two-in from cabin.slots.minute cabin cabin.slots.past m h.past
 
-in-point : (s : TraceSecond) (n : ℕ) (waits : List Visit) → n ≤ length s.actions → IsPoint s (settling_at n waits)
-in-point s n waits few = record { phase = refl; few = few; all = λ is. absurd (cc); unfed = λ no. refl; feeds = λ is. absurd (cc) }
+in-point : (s : TraceSecond) (n : ℕ) (waits : List Visit) → 0 < n → n ≤ length s.actions → IsPoint s (settling_at n waits)
+in-point s n waits some few = record { phase = refl; acted = λ is. (let none : n ≡ 0 = cc in omega (arith, none, some)); few = few; all = λ is. absurd (cc); unfed = λ no. refl; feeds = λ is. absurd (cc) }
 
 -- ---- A SETTLING
 module _ {U A0 B0 : State} {chip_a chip_b : CardState} (old : Run) (before : Outcome) (minutes : Kept) (keeper : Keeper) (marks : Listed Mark) (breaks : Listed Break) (at : Moment) (failed : Bool) (decided : List Minute) (d e : Devices)
@@ -83,7 +83,7 @@ module _ {U A0 B0 : State} {chip_a chip_b : CardState} (old : Run) (before : Out
   after = record before { marks = marks; breaks = breaks }
 
   module _ (is : IsReach decided at failed (told_of old before) (told_of new after) reach) (books : BooksAll decided failed reach (told_of old before) (told_of new after) d e) (devices : DevicesGoOn failed old.keeper.cabin.cards keeper.cabin.cards d e)
-      (o : Origin) (done : List TraceSecond) (s : TraceSecond) (n : ℕ) (waits : List Visit) (here : at ≡ record { second = s.number; begun = n; late = false }) (r : RunWithin o done s (In n) waits decided (settled_run minutes old) before d)
+      (o : Origin) (done : List TraceSecond) (s : TraceSecond) (n : ℕ) (waits : List Visit) (some : 0 < n) (here : at ≡ record { second = s.number; begun = n; late = false }) (r : RunWithin o done s (In n) waits decided (settled_run minutes old) before d)
       (time : HaveTime e) where
     abbrev q : Point
     q = settling_at n waits
@@ -123,7 +123,7 @@ module _ {U A0 B0 : State} {chip_a chip_b : CardState} (old : Run) (before : Out
 
     pub keeps : KeepsSo o done s q decided (told_of old before) v d e w
     keeps = record {
-      point = in-point s n waits w.moment.is;
+      point = in-point s n waits some w.moment.is;
       few = few;
       over = over;
       two = two-present (ungiven_of g.span) leaving old.keeper.cabin g.cabin;

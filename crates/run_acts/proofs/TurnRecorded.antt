@@ -67,7 +67,7 @@ pushed [] x = record { first = x; rest = []; is = refl }
 pushed (y ∷ xs) x = record { first = y; rest = xs ++ x ∷ []; is = refl }
 
 last-point : (s : TraceSecond) → IsPoint s (keeping_of s)
-last-point s = record { phase = refl; few = omega arith; all = λ is. refl; unfed = λ no. absurd (no refl); feeds = λ is. refl }
+last-point s = record { phase = refl; acted = λ is. absurd (cc); few = omega arith; all = λ is. refl; unfed = λ no. absurd (no refl); feeds = λ is. refl }
 
 -- IN THE KEEPING of the last second
 module _ (old : Run) (before : Outcome) (minutes : Kept) (keeper : Keeper) (watch : Watch) (marks : Listed Mark) (breaks : Listed Break) (n begun : ℕ) (failed : Bool) (decided : List Minute) (reach : Reach) (d e : Devices) where

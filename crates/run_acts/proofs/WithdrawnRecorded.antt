@@ -74,7 +74,7 @@ module _ (o : Origin) (done : List TraceSecond) (s : TraceSecond) (front rest : 
 
   -- the unit failed in the keeping
   pub settling-cut : (e : Devices) → RecordsSettling decided (acting_at s.number (suc (length front))) true (left_run slot s.number run) between before told d e → HaveTime e → RunFails o done s (In (suc (length front))) between told e
-  settling-cut e records time = record { waits = []; cabin = between.keeper.cabin; same = refl; within = records o done s (suc (length front)) [] refl gone time }
+  settling-cut e records time = record { waits = []; cabin = between.keeper.cabin; same = refl; within = records o done s (suc (length front)) [] (omega arith) refl gone time }
 
   -- or they are kept, and its session is closed
   pub closing-recorded : {C : Type 0} (state : C → State) (U V Z : State) (x y : C) → IsCoherent U → IsCoherent (state x) → LARGEST_IMAGE ≤ (state x).size →
@@ -86,7 +86,7 @@ module _ (o : Origin) (done : List TraceSecond) (s : TraceSecond) (front rest : 
       GoesOnOrCut failed o done s (In (suc (length front))) [] new (record told { breaks = after }) (arranged c V (state y) Z)
   closing-recorded state U V Z x y unit_whole whole size closes still unit failed cause rise span stands_ ends records time at ms t kept same new after closing is broken =
       let kept_all : IsSettledIn o done s (In (suc (length front))) [] gone.within.b gone.within.from (gone.within.from + length decided) (left_run slot s.number run) between before told (arranged c U (state x) Z) =
-      records o done s (suc (length front)) [] refl gone time in
+      records o done s (suc (length front)) [] (omega arith) refl gone time in
       closed-recorded state c slot (acting_at s.number (suc (length front))) between told U V Z x y unit_whole whole size closes still unit failed cause rise span stands_ ends o done s (suc (length front)) refl kept_all.goes kept_all.from
       (λ some. subst (λ (b : Beginning). IsLeaving (log_of told) (went b.run.log done).before s (In (suc (length front))) (s.number / 60) (s.number / 60) between.keeper.cabin slot c) (sym kept_all.began)
       (kept_all.leave slot c (left.leaving (had (session_of run.keeper.cabin.cards c) refl some)) some)) new after closing is broken

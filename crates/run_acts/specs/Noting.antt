@@ -27,7 +27,7 @@ use Rattle.run_within.specs.Taking.{fallen}
 use Rattle.run_acts.specs.declared.run.Run.{Run}
 use Rattle.run_acts.specs.Acting.{IsNotedIn}
 use Rattle.run_acts.specs.Behind.{IsPoweredOrOff}
-use Rattle.run_acts.specs.Recording.{RunWithin, GoesOnOrCut, RecordsAction}
+use Rattle.run_acts.specs.Recording.{RunWithin, ComesPower, GoesOnOrCut, RecordsAction}
 
 -- ---- by value
 
@@ -103,9 +103,10 @@ BooksNotedIn (Some card) failed fell cards after d e = BooksNoted card failed fe
 
 -- ---- of the record
 
--- A NOTE IS RECORDED at a moment of a second at which no card waits: the second goes on at that moment, or power is about to be cut.
+-- A NOTE IS RECORDED at a moment of a second at which no card waits, before any action only where power comes with the second: the second goes
+-- on at that moment, or power is about to be cut.
 abbrev pub IsNoteRecorded : Phase → (failed : Bool) → (old new : Run) → (breaks after : Listed Break) → (d e : Devices) → Type 0
-IsNoteRecorded at failed old new breaks after d e = (o : Origin) (done : List TraceSecond) (s : TraceSecond) (out : Outcome) → RunWithin o done s at [] [] old (record out { breaks = breaks }) d →
+IsNoteRecorded at failed old new breaks after d e = (o : Origin) (done : List TraceSecond) (s : TraceSecond) (out : Outcome) → RunWithin o done s at [] [] old (record out { breaks = breaks }) d → (at ≡ In 0 → ComesPower done (record out { breaks = breaks })) →
     GoesOnOrCut failed o done s at [] new (record out { breaks = after }) e
 
 -- A PLACE IS NOTED, an action of that second: it is told of before.

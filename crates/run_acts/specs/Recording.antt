@@ -6,7 +6,7 @@ use Rattle.trace_model.specs.Trace.{TraceSecond, driven}
 use Rattle.minute_model.specs.declared.Minute.{Minute}
 use Rattle.minute_model.specs.declared.Rule.TheVariants.{Original}
 use Rattle.log_model.specs.Log.{RunLog, Phase, In}
-use Rattle.log_model.specs.Course.{Visit}
+use Rattle.log_model.specs.Course.{Visit, went}
 use Rattle.log_model.specs.Slots.{refusal}
 use Rattle.slot_machine.specs.Calls.{logged}
 use Rattle.unit_course.specs.Followed.{Supply}
@@ -75,6 +75,10 @@ pub record RunWithin (o : Origin) (done : List TraceSecond) (s : TraceSecond) (a
   pub lit : run.power ≡ Lit
   pub within : Within o done s at waits None rest (values_of run out) d
   pub odometer : run.keeper.odometer ≡ odometer_after (odometer_at o.recording.unit) within.b.travel.before
+
+-- POWER COMES with the second behind these: by the log it was not on as they ended
+abbrev pub ComesPower : List TraceSecond → Outcome → Type 0
+ComesPower done out = (went (log_of out) done).before.running ≡ false
 
 -- WHERE POWER WAS CUT in a second: it is recorded as that second will be, once it has gone.
 pub record RunCut (o : Origin) (done : List TraceSecond) (s : TraceSecond) (run : Run) (out : Outcome) (d : Devices) : Type 0 where

@@ -51,9 +51,10 @@ pub record Point : Type 0 where
 abbrev pub moment_of : TraceSecond → Point → KeepingAt
 moment_of s q = record { second = s.number; begun = q.begun; late = q.late }
 
--- Tears are told of that moment, and a second is fed in its keeping alone.
+-- Tears are told of that moment, with an action or in the keeping, and a second is fed in its keeping alone.
 pub record IsPoint (s : TraceSecond) (q : Point) : Type 0 where
   pub phase : phase_of q.begun q.late ≡ q.at
+  pub acted : q.at ≡ In 0 → ⊥
   pub few : q.begun ≤ length s.actions
   pub all : q.late ≡ true → q.begun ≡ length s.actions
   pub unfed : (q.at ≡ Keeping → ⊥) → q.speed ≡ None

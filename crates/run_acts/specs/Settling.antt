@@ -35,8 +35,8 @@ abbrev pub SettlesTo : (failed : Bool) → Origin → List TraceSecond → Trace
 SettlesTo false o done s at waits b low high old new before after d = IsSettledIn o done s at waits b low high old new before after d
 SettlesTo true o done s at waits b low high old new before after d = CutWithin o done s at waits None (values_of new after) d
 
--- THE MINUTES THAT A SETTLING DECIDES were to be kept, with these cards waiting to be judged, and so it is recorded behind it.
+-- THE MINUTES THAT A SETTLING DECIDES were to be kept with an action, with these cards waiting to be judged, and so it is recorded behind it.
 abbrev pub RecordsSettling : (decided : List Minute) → Moment → (failed : Bool) → (old new : Run) → (before after : Outcome) → (d e : Devices) → Type 0
-RecordsSettling decided at failed old new before after d e = (o : Origin) (done : List TraceSecond) (s : TraceSecond) (n : ℕ) (waits : List Visit) → at ≡ record { second = s.number; begun = n; late = false } →
+RecordsSettling decided at failed old new before after d e = (o : Origin) (done : List TraceSecond) (s : TraceSecond) (n : ℕ) (waits : List Visit) → 0 < n → at ≡ record { second = s.number; begun = n; late = false } →
     (w : RunWithin o done s (In n) waits decided (settled_run new.minutes old) before d) → HaveTime e →
     SettlesTo failed o done s (In n) waits w.within.b w.within.from (w.within.from + length decided) old new before after e

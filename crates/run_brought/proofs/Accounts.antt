@@ -63,6 +63,7 @@ module _ (r : Recording) (c : Card) (from : ℕ) (b : Book) (order : AreInOrder 
               let one = said-by r c b.sure e at in
               let le : one.0.minute ≤ k = All-contains (λ (i : HistoryMinute). was_kept r c u i.minute ≡ true → i.minute ≤ k) (history_of r) one.0 a.2.kept (in-history one.0 one.1) (subst (λ (m : ℕ). was_kept r c u m ≡ true) one.2.0 kept) in
               omega (arith, le, one.2.0))),
+          above k a.2.mark,
         ),
         λ rest goes. all-by (λ (e : Entry). was_kept r c u e.minute ≡ false) (card_history c rest) (λ e at. is-false (was_kept r c u e.minute) (λ kept.
             let one = said-by r c rest e at in

@@ -1,5 +1,5 @@
 -- The causes of a run with cards, over its steps.
-use Rattle.std.proofs.Common.{◌≡◌, ◌⊎◌, inl, inr, ⊎_elim, ℕ, zero, suc, ◌+◌, ◌-◌, ◌^◌, ◌<◌, ◌≤◌, Bool, true, false, cond, not, ◌&&◌, ◌||◌, nat_eq, Option, None, List, [], ◌∷◌, ◌++◌, Contains, length, map, filter, refl, ap, sym, subst, ◌∙◌, arith, append_assoc, append-nil, length-append}
+use Rattle.std.proofs.Common.{◌≡◌, ◌⊎◌, inl, inr, ⊎_elim, ℕ, zero, suc, ◌+◌, ◌-◌, ◌^◌, ◌<◌, ◌≤◌, Bool, true, false, cond, not, ◌&&◌, ◌||◌, nat_eq, is_some, Option, List, [], ◌∷◌, ◌++◌, Contains, length, map, filter, refl, ap, sym, subst, ◌∙◌, arith, append_assoc, append-nil, length-append}
 use Rattle.std.specs.Prelude.{flat_map}
 use Rattle.std.specs.List.{AllByRecursion, list_any}
 use Rattle.std.proofs.lemmas.List.{map-append}
@@ -13,17 +13,18 @@ use Rattle.run_model.specs.declared.Device.{Device}
 use Rattle.run_model.specs.declared.Device.TheVariants.{Unit as Recorder}
 use Rattle.minute_model.specs.declared.Rule.{Rule}
 use Rattle.minute_model.specs.Span.{AreNumbered}
+use Rattle.minute_model.proofs.Ranges.{each-more}
 use Rattle.log_model.specs.declared.lines.Break.{Break}
 use Rattle.log_model.specs.declared.lines.Break.TheVariants.{Cut, Tear}
 use Rattle.log_model.specs.declared.lines.Find.{Find}
 use Rattle.log_model.specs.declared.lines.Refused.{Refused}
 use Rattle.log_model.specs.declared.lines.SlotFault.{SlotFault}
 use Rattle.log_model.specs.declared.lines.Verdict.{Verdict}
-use Rattle.log_model.specs.Log.{RunLog, Phase, In, cut_in, tears_here, is_torn_in}
+use Rattle.log_model.specs.Log.{RunLog, Phase, In, cut_of, cut_in, tears_here, is_torn_in}
 use Rattle.log_model.specs.Same.{SameAt}
 use Rattle.log_model.specs.Slots.{same_card}
 use Rattle.log_model.specs.Course.{Told, Visit, Went, Before, has_power, second_told, went}
-use Rattle.log_model.specs.Causes.{device_of, is_cut, has_failed, second_of, cuts, tears, places, visit_places, in_the_slot, refusals_of, pulled_of, torn_of, cards_torn, finds_of, off_cuts, RoseBy, IsBegun, CutBy, IsJudged}
+use Rattle.log_model.specs.Causes.{device_of, is_cut, has_failed, second_of, cuts, failed_cut_in, ComesBehind, AreInTime, tears, places, visit_places, in_the_slot, refusals_of, pulled_of, torn_of, cards_torn, finds_of, off_cuts, RoseBy, IsBegun, IsAtPowerOn, HasMoment, CutBy, IsJudged}
 use Rattle.log_model.specs.Spans.{seconds_in, AreInOrder}
 use Rattle.log_model.proofs.Spanning.{spanned, order-parts}
 use Rattle.history_model.specs.Presence.{Start}
@@ -36,11 +37,11 @@ use Rattle.unit_course.proofs.Causing.{told-found, told-added}
 use Rattle.unit_course.proofs.Offs.{pair, off-given, off-later, off-same, over-failed, any-last, by-same, by-other, by-found}
 use Rattle.unit_course.proofs.Spans.{cuts_of, cuts-append, cut-push}
 use Rattle.run_course.specs.Moments.{and_break}
-use Rattle.run_course.specs.Followed.{Progress, Followed, HadActions}
+use Rattle.run_course.specs.Followed.{Progress, IsBreakBefore, Followed, HadActions}
 use Rattle.run_course.specs.Seconds.{next_told}
 use Rattle.run_course.specs.Caused.{failures, AreCaused, WellCaused, ASecondIsCaused, FoundStaysCaused, AnOffLineIsCaused, AnOffCutIsCaused, ARunIsCaused}
-use Rattle.run_course.proofs.Lookups.{break-more}
-use Rattle.run_course.proofs.Logs.{BreaksBefore, same-at, other-number, breaks-later, breaks-push, found_log, went-found, same-found}
+use Rattle.run_course.proofs.Lookups.{cut-by, cut-first, break-more}
+use Rattle.run_course.proofs.Logs.{BreaksBefore, cut-rest, same-at, other-number, breaks-later, breaks-push, found_log, went-found, same-found}
 use Rattle.run_course.proofs.Steps.{now-told, lit-parts, cut-parts, cuts-bound}
 
 -- WHAT SECONDS TELL, one after another
@@ -147,16 +148,124 @@ begun-new next done more (Tear second slot failed begun late ∷ bs) earlier eac
   begun-new next done more bs earlier each.1 h.1,
 )
 
-begun-append : (ss : List TraceSecond) (xs ys : List Break) → AllByRecursion (IsBegun ss) xs → AllByRecursion (IsBegun ss) ys → AllByRecursion (IsBegun ss) (xs ++ ys)
-begun-append ss [] ys h k = k
-begun-append ss (x ∷ xs) ys h k = (h.0, begun-append ss xs ys h.1 k)
+-- what was found kept after cuts changes nothing that does not speak of that
+each-found : (P : Break → Type 0) → ((second old k begun : ℕ) (failed : Bool) → P (Cut second old failed begun) → P (Cut second k failed begun)) → (i k : ℕ) (bs : List Break) → AllByRecursion P bs → AllByRecursion P (found_from i k bs)
+each-found P same zero k [] h = tt
+each-found P same zero k (Cut s old f n ∷ bs) h = (same s old k n f h.0, each-found P same zero k bs h.1)
+each-found P same zero k (Tear s slot f n late ∷ bs) h = (h.0, each-found P same zero k bs h.1)
+each-found P same (suc i) k [] h = tt
+each-found P same (suc i) k (b ∷ bs) h = (h.0, each-found P same i k bs h.1)
 
-begun-found : (ss : List TraceSecond) (i k : ℕ) (bs : List Break) → AllByRecursion (IsBegun ss) bs → AllByRecursion (IsBegun ss) (found_from i k bs)
-begun-found ss zero k [] h = tt
-begun-found ss zero k (Cut s old f n ∷ bs) h = (h.0, begun-found ss zero k bs h.1)
-begun-found ss zero k (Tear s slot f n late ∷ bs) h = (h.0, begun-found ss zero k bs h.1)
-begun-found ss (suc i) k [] h = tt
-begun-found ss (suc i) k (b ∷ bs) h = (h.0, begun-found ss i k bs h.1)
+-- IN WHICH MOMENT
+second-before : (next : ℕ) (b : Break) → IsBreakBefore next next b → second_of b < next
+second-before next (Cut s k f n) is = is
+second-before next (Tear s slot f n late) is = is
+
+-- of an earlier second, and seconds behind it
+pub moments-old : (next : ℕ) (told more : List Told) (bs : List Break) → ((t : Told) → Contains more t → next ≤ t.second.number) → BreaksBefore next next bs → AllByRecursion (HasMoment told) bs → AllByRecursion (HasMoment (told ++ more)) bs
+moments-old next told more [] later before h = tt
+moments-old next told more (b ∷ bs) later before h = (
+  λ t at is. ⊎_elim (λ old. h.0 t old is)
+      (λ new. absurd (let ge = later t new in let lt = second-before next b before.0 in omega (arith, lt, ge, is)))
+      (Contains-append_cases told more t at),
+  moments-old next told more bs later before.1 h.1,
+)
+
+-- of the newest second
+moments-new : (next : ℕ) (told : List Told) (t : Told) (bs : List Break) → ((x : Told) → Contains told x → x.second.number < next) → AllByRecursion (λ (b : Break). second_of b ≡ next) bs → AllByRecursion (IsAtPowerOn t.starts) bs → AllByRecursion (HasMoment (told ++ t ∷ [])) bs
+moments-new next told t [] earlier each h = tt
+moments-new next told t (b ∷ bs) earlier each h = (
+  λ x at is. ⊎_elim
+      (λ old. absurd (let lt = earlier x old in let e : second_of b ≡ next = each.0 in omega (arith, lt, e, is)))
+      (λ (here : t ≡ x). subst (λ (y : Told). IsAtPowerOn y.starts b) here h.0)
+      (Contains-push_cases told t x at),
+  moments-new next told t bs earlier each.1 h.1,
+)
+
+-- where the last second turns out to be a cut's
+moments-cut : (front : List Told) (x : Told) (bs : List Break) → AllByRecursion (HasMoment (front ++ x ∷ [])) bs → AllByRecursion (HasMoment (front ++ cut_at_end x ∷ [])) bs
+moments-cut front x [] h = tt
+moments-cut front x (b ∷ bs) h = (
+  λ t at is. ⊎_elim
+      (λ old. h.0 t (Contains-append_left front (x ∷ []) t old) is)
+      (λ (here : cut_at_end x ≡ t). subst (λ (y : Told). IsAtPowerOn y.starts b) here (h.0 x (Contains-push front x) (ap (λ (y : Told). y.second.number) here ∙ is)))
+      (Contains-push_cases front (cut_at_end x) t at),
+  moments-cut front x bs h.1,
+)
+
+-- IN ORDER OF TIME
+behind-by : (cuts_ next n : ℕ) (b c : Break) → IsBreakBefore cuts_ next b → cuts_ ≤ n → next ≤ suc n → n ≤ second_of c → ComesBehind b c
+behind-by cuts_ next n (Cut s k f i) c is le few low = omega (arith, is, le, low)
+behind-by cuts_ next n (Tear s slot f i late) c is le few low = omega (arith, is, few, low)
+
+each-behind : (cuts_ next n : ℕ) (b : Break) (bs : List Break) → IsBreakBefore cuts_ next b → cuts_ ≤ n → next ≤ suc n → AllByRecursion (λ (c : Break). n ≤ second_of c) bs → AllByRecursion (ComesBehind b) bs
+each-behind cuts_ next n b [] is le few low = tt
+each-behind cuts_ next n b (c ∷ bs) is le few low = (behind-by cuts_ next n b c is le few low.0, each-behind cuts_ next n b bs is le few low.1)
+
+in_time-more : (cuts_ next n : ℕ) (xs ys : List Break) → BreaksBefore cuts_ next xs → cuts_ ≤ n → next ≤ suc n → AllByRecursion (λ (c : Break). n ≤ second_of c) ys → AreInTime xs → AreInTime ys → AreInTime (xs ++ ys)
+in_time-more cuts_ next n [] ys before le few low xs_are ys_are = ys_are
+in_time-more cuts_ next n (x ∷ xs) ys before le few low xs_are ys_are =
+    (each-more (ComesBehind x) xs ys xs_are.0 (each-behind cuts_ next n x ys before.0 le few low), in_time-more cuts_ next n xs ys before.1 le few low xs_are.1 ys_are)
+
+at-least : (n : ℕ) (bs : List Break) → AllByRecursion (λ (b : Break). second_of b ≡ n) bs → AllByRecursion (λ (b : Break). n ≤ second_of b) bs
+at-least n [] h = tt
+at-least n (b ∷ bs) h = let is : second_of b ≡ n = h.0 in (omega (arith, is), at-least n bs h.1)
+
+behind-same : (b x y : Break) → second_of x ≡ second_of y → ComesBehind b x → ComesBehind b y
+behind-same (Cut s k f i) x y is h = omega (arith, is, h)
+behind-same (Tear s slot f i late) x y is h = omega (arith, is, h)
+
+in_time-found : (i k : ℕ) (bs : List Break) → AreInTime bs → AreInTime (found_from i k bs)
+in_time-found zero k [] h = tt
+in_time-found zero k (Cut s old f n ∷ bs) h = (each-found (ComesBehind (Cut s k f n)) (λ u j k m g is. is) zero k bs h.0, in_time-found zero k bs h.1)
+in_time-found zero k (Tear s slot f n late ∷ bs) h = (each-found (ComesBehind (Tear s slot f n late)) (λ u j k m g is. is) zero k bs h.0, in_time-found zero k bs h.1)
+in_time-found (suc i) k [] h = tt
+in_time-found (suc i) k (b ∷ bs) h = (each-found (ComesBehind b) (λ u j k m g is. behind-same b (Cut u j g m) (Cut u k g m) refl is) i k bs h.0, in_time-found i k bs h.1)
+
+-- WHERE A FAILED CALL TOOK THE POWER
+one-filtered : (P : Break → Type 0) (b : Break) (bs : List Break) → P b → (t : Bool) → AllByRecursion P bs → AllByRecursion P (cond t (b ∷ bs) bs)
+one-filtered P b bs here true rest = (here, rest)
+one-filtered P b bs here false rest = rest
+
+each-filtered : (P : Break → Type 0) (p : Break → Bool) (bs : List Break) → AllByRecursion P bs → AllByRecursion P (filter p bs)
+each-filtered P p [] h = tt
+each-filtered P p (b ∷ bs) h = one-filtered P b (filter p bs) h.0 (p b) (each-filtered P p bs h.1)
+
+abbrev of_failures : List Break → RunLog
+of_failures bs = log_of (cuts true (log_of bs))
+
+failed-by : (log : RunLog) (u : ℕ) → failed_cut_in log u ≡ cut_in (of_failures log.breaks) u
+failed-by log u = cut-by (record log { breaks = cuts true log }) u
+
+-- two logs with the same failures
+pub failed-same : (log later : RunLog) (u : ℕ) → cuts true later ≡ cuts true log → failed_cut_in later u ≡ failed_cut_in log u
+failed-same log later u same = failed-by later u ∙ ap (λ (bs : List Break). cut_in (log_of bs) u) same ∙ sym (failed-by log u)
+
+-- lines of another second
+failed-rest : (log later : RunLog) (rest : List Break) (n u : ℕ) → later.breaks ≡ log.breaks ++ rest → nat_eq n u ≡ false → AllByRecursion (λ (b : Break). second_of b ≡ n) rest → failed_cut_in later u ≡ failed_cut_in log u
+failed-rest log later rest n u more other each =
+    failed-by later u
+    ∙ ap (λ (bs : List Break). cut_in (log_of bs) u) (ap (filter (by_cut true)) more ∙ filter-append (by_cut true) log.breaks rest)
+    ∙ cut-rest (cuts true log) (cuts true (log_of rest)) n u other (each-filtered (λ (b : Break). second_of b ≡ n) (by_cut true) rest each)
+    ∙ sym (failed-by log u)
+
+-- what was found kept after them
+failed-head : (b c : Break) (xs ys : List Break) (u : ℕ) → cut_of u b ≡ cut_of u c → cut_in (log_of xs) u ≡ cut_in (log_of ys) u → cut_in (log_of (b ∷ xs)) u ≡ cut_in (log_of (c ∷ ys)) u
+failed-head b c xs ys u head tail =
+    cut-first b xs u ∙ ap (λ (o : Option ℕ). cond (is_some o) o (cut_in (log_of xs) u)) head ∙ ap (λ (o : Option ℕ). cond (is_some (cut_of u c)) (cut_of u c) o) tail ∙ sym (cut-first c ys u)
+
+failures-found : (i k : ℕ) (bs : List Break) (u : ℕ) → cut_in (of_failures (found_from i k bs)) u ≡ cut_in (of_failures bs) u
+failures-found zero k [] u = refl
+failures-found zero k (Cut s old true n ∷ bs) u = failed-head (Cut s k true n) (Cut s old true n) (cuts true (log_of (found_from zero k bs))) (cuts true (log_of bs)) u refl (failures-found zero k bs u)
+failures-found zero k (Cut s old false n ∷ bs) u = failures-found zero k bs u
+failures-found zero k (Tear s slot f n late ∷ bs) u = failures-found zero k bs u
+failures-found (suc i) k [] u = refl
+failures-found (suc i) k (Cut s old true n ∷ bs) u = failed-head (Cut s old true n) (Cut s old true n) (cuts true (log_of (found_from i k bs))) (cuts true (log_of bs)) u refl (failures-found i k bs u)
+failures-found (suc i) k (Cut s old false n ∷ bs) u = failures-found i k bs u
+failures-found (suc i) k (Tear s slot f n late ∷ bs) u = failures-found i k bs u
+
+failed-found : (log : RunLog) (i k u : ℕ) → failed_cut_in (found_log i k log) u ≡ failed_cut_in log u
+failed-found log i k u = failed-by (found_log i k log) u ∙ failures-found i k log.breaks u ∙ sym (failed-by log u)
 
 -- SECONDS THAT ARE OVER
 pub over-last : (failed : List ℕ) (told : List Told) (t : Told) → (t.lit && not (list_any (nat_eq t.second.number) failed)) ≡ false → IsOver failed (told ++ t ∷ [])
@@ -218,10 +327,10 @@ number-of n (x ∷ told) t h at =
     (λ rest. let lt = number-of (n + 1) told t h.1 rest in omega (arith, lt))
     (Contains-append_cases (x ∷ []) told t at)
 
-pub judged-same : (log later : RunLog) (t : Told) (e : Visit) → SameAt log later t.second.number → IsJudged log t e → IsJudged later t e
-judged-same log later t e same j = record {
+pub judged-same : (log later : RunLog) (t : Told) (e : Visit) → SameAt log later t.second.number → failed_cut_in later t.second.number ≡ failed_cut_in log t.second.number → IsJudged log t e → IsJudged later t e
+judged-same log later t e same fails j = record {
   once = j.once;
-  missing = λ none. ⊎_elim (λ torn. inl (same.torn e.phase e.slot ∙ torn)) (λ cut. inr (subst (λ (o : Option ℕ). CutBy o e.phase) (sym same.cut) cut)) (j.missing none);
+  missing = λ none. ⊎_elim (λ torn. inl (same.torn e.phase e.slot ∙ torn)) (λ cut. inr (subst (λ (o : Option ℕ). CutBy o e.phase) (sym fails) cut)) (j.missing none);
 }
 
 -- breaks so far
@@ -245,6 +354,10 @@ second-caused rule start from first done p f s later g refused more_refused befo
     let done_before : (x : TraceSecond) → Contains done x → x.number < p.next = λ x at. (let w = numbers-from from done x f.order at in let to = w.1 in omega (arith, to, next)) in
     let same_at : (x : Told) → Contains told x → SameAt p.log later x.second.number = λ x at.
     same-at p.log later p.next g.breaks.0 g.breaks.1 g.breaks.2 g.finds.0 g.finds.1 g.finds.2 x.second.number (other-number p.next x.second.number (let lt = number-of from told x whole.seconds at in omega (arith, lt, count, next))) in
+    let fails_at : (x : Told) → Contains told x → failed_cut_in later x.second.number ≡ failed_cut_in p.log x.second.number = λ x at.
+    failed-rest p.log later g.breaks.0 p.next x.second.number g.breaks.1 (other-number p.next x.second.number (let lt = number-of from told x whole.seconds at in omega (arith, lt, count, next))) g.breaks.2 in
+    let number : t.second.number ≡ p.next = told-number later (went later done).before s ∙ g.number in
+    let so_far = breaks-next rule start from first done p f in
     let all_ : AreCaused before now (done ++ s ∷ []) later = record {
       refused =
           ap (map refused_as) more_refused ∙ map-append refused_as p.log.refused refused
@@ -279,15 +392,20 @@ second-caused rule start from first done p f s later g refused more_refused befo
           ∙ length-append (filter (same_card card) (cards_torn told)) (filter (same_card card) (cards_torn (t ∷ [])))))
           (rose-sum (length (filter (same_card card) (cards_torn told))) (length (filter (same_card card) (cards_torn (t ∷ [])))) (before (device_of card)) (mid (device_of card)) (now (device_of card)) (c.torn_cards card) (a.torn_cards card));
       begun = subst (AllByRecursion (IsBegun (done ++ s ∷ []))) (sym g.breaks.1)
-          (begun-append (done ++ s ∷ []) p.log.breaks g.breaks.0
+          (each-more (IsBegun (done ++ s ∷ [])) p.log.breaks g.breaks.0
           (begun-old p.next done (s ∷ []) p.log.breaks (λ x at. one-number s x p.next g.number at) (breaks-next rule start from first done p f) c.begun)
           (begun-new p.next done (s ∷ []) g.breaks.0 done_before g.breaks.2 a.begun));
+      moments = subst (λ (ts : List Told). AllByRecursion (HasMoment ts) later.breaks) (sym now_) (subst (AllByRecursion (HasMoment (told ++ t ∷ []))) (sym g.breaks.1)
+          (each-more (HasMoment (told ++ t ∷ [])) p.log.breaks g.breaks.0
+          (moments-old p.next told (t ∷ []) p.log.breaks (λ x at. one-told t x p.next number at) so_far c.moments)
+          (moments-new p.next told t g.breaks.0 (λ x at. let lt = number-of from told x whole.seconds at in omega (arith, lt, count, next)) g.breaks.2 a.moments)));
+      order = subst AreInTime (sym g.breaks.1) (in_time-more p.next p.next p.next p.log.breaks g.breaks.0 so_far (omega arith) (omega arith) (at-least p.next g.breaks.0 g.breaks.2) c.order a.order);
       finds =
           ap (map find_as) g.finds.1 ∙ map-append find_as p.log.finds g.finds.0
           ∙ ap (λ (xs : List (ℕ × Phase × Slot × Verdict)). xs ++ map find_as g.finds.0) c.finds ∙ ap (λ (xs : List (ℕ × Phase × Slot × Verdict)). finds_of told ++ xs) a.told_finds
           ∙ sym (ap finds_of now_ ∙ finds-more told (t ∷ []));
       judged = λ x e at entered. ⊎_elim
-          (λ old. judged-same p.log later x e (same_at x old) (c.judged x e old entered))
+          (λ old. judged-same p.log later x e (same_at x old) (fails_at x old) (c.judged x e old entered))
           (λ (here : t ≡ x). subst (λ (y : Told). IsJudged later y e) here (a.judged e (subst (λ (y : Told). Contains y.course.entered e) (sym here) entered)))
           (Contains-push_cases told t x (subst (λ (ts : List Told). Contains ts x) now_ at));
     } in
@@ -309,6 +427,16 @@ second-caused rule start from first done p f s later g refused more_refused befo
         go true is = rw is refl
         go false is = rw is refl
 
+    told-number : (log : RunLog) (before : Before) (s : TraceSecond) → (second_told log before s).second.number ≡ s.number
+    told-number log before s = go (has_power before s) refl
+      where
+        go : (b : Bool) → has_power before s ≡ b → (second_told log before s).second.number ≡ s.number
+        go true is = rw is refl
+        go false is = rw is refl
+
+    one-told : (t x : Told) (next : ℕ) → t.second.number ≡ next → Contains (t ∷ []) x → next ≤ x.second.number
+    one-told t x next is at = ⊎_elim (λ none. absurd (omega (arith, none.1))) (λ (same : t ≡ x). let e : x.second.number ≡ next = ap (λ (y : Told). y.second.number) (sym same) ∙ is in omega (arith, e)) (Contains-push_cases [] t x at)
+
     slot-more : (slot : Slot) (xs ys : List (ℕ × Phase × Slot)) → in_the_slot slot (xs ++ ys) ≡ in_the_slot slot xs ++ in_the_slot slot ys
     slot-more slot xs ys = filter-append (λ (p : ℕ × Phase × Slot). same_slot p.2 slot) xs ys
 
@@ -328,6 +456,8 @@ run-caused now p is = record {
     failed_tears = λ slot. refl;
     torn_cards = λ card. inl (omega arith);
     begun = tt;
+    moments = tt;
+    order = tt;
     finds = refl;
     judged = λ t e at entered. absurd (omega (arith, at.1));
   });
@@ -361,9 +491,11 @@ found-caused rule start from first done p f k before now w q is darker =
       tear_lines = ap (flat_map places) (tears-found false p.unfound k p.log.breaks) ∙ c.tear_lines ∙ ap pulled_of (sym told_);
       failed_tears = λ slot. ap (λ (bs : List Break). in_the_slot slot (flat_map places bs)) (tears-found true p.unfound k p.log.breaks) ∙ c.failed_tears slot ∙ ap (λ (ts : List Told). in_the_slot slot (torn_of ts)) (sym told_);
       torn_cards = λ card. subst (λ (ts : List Told). RoseBy (length (filter (same_card card) (cards_torn ts))) (before (device_of card)) (now (device_of card))) (sym told_) (c.torn_cards card);
-      begun = begun-found done p.unfound k p.log.breaks c.begun;
+      begun = each-found (IsBegun done) (λ second old k begun failed h. h) p.unfound k p.log.breaks c.begun;
+      moments = subst (λ (ts : List Told). AllByRecursion (HasMoment ts) later.breaks) (sym told_) (each-found (HasMoment (went p.log done).told) (λ second old k begun failed h. h) p.unfound k p.log.breaks c.moments);
+      order = in_time-found p.unfound k p.log.breaks c.order;
       finds = c.finds ∙ ap finds_of (sym told_);
-      judged = λ t e at entered. judged-same p.log later t e (same-found p.log p.unfound k t.second.number) (c.judged t e (subst (λ (ts : List Told). Contains ts t) told_ at) entered);
+      judged = λ t e at entered. judged-same p.log later t e (same-found p.log p.unfound k t.second.number) (failed-found p.log p.unfound k t.second.number) (c.judged t e (subst (λ (ts : List Told). Contains ts t) told_ at) entered);
     } in
     record {
       caused = subst (λ (l : RunLog). AreCaused before now done l) (sym is) all_;
@@ -392,6 +524,9 @@ off-one from before now log done next lines c over =
             (sym (ap cards_torn now_ ∙ cards-more told (t ∷ []) ∙ append-nil (cards_torn told))) (c.torn_cards card);
         begun = begun-old next done (off_second next ∷ []) log.breaks
             (λ x at. ⊎_elim (λ none. absurd (omega (arith, none.1))) (λ (same : off_second next ≡ x). let e : next ≡ x.number = ap (λ (y : TraceSecond). y.number) same in omega (arith, e)) (Contains-push_cases [] (off_second next) x at)) lines c.begun;
+        moments = subst (λ (ts : List Told). AllByRecursion (HasMoment ts) log.breaks) (sym now_)
+            (moments-old next told (t ∷ []) log.breaks (λ x at. ⊎_elim (λ none. absurd (omega (arith, none.1))) (λ (same : t ≡ x). let e : next ≡ x.second.number = ap (λ (y : Told). y.second.number) same in omega (arith, e)) (Contains-push_cases [] t x at)) lines c.moments);
+        order = c.order;
         finds = c.finds ∙ sym (ap finds_of now_ ∙ finds-more told (t ∷ []) ∙ append-nil (finds_of told));
         judged = λ x e at entered. ⊎_elim
             (λ old. c.judged x e old entered)
@@ -426,14 +561,14 @@ numbered-front n [] x h = tt
 numbered-front n (y ∷ xs) x h = (h.0, numbered-front (n + 1) xs x h.1)
 
 -- what the last second's judgements were stays where it turns out to be a cut's
-judged-cut : (log : RunLog) (cut : Break) (x : Told) (e : Visit) → cut_in log x.second.number ≡ None →
+judged-cut : (log : RunLog) (cut : Break) (x : Told) (e : Visit) → failed_cut_in (and_break log cut) x.second.number ≡ failed_cut_in log x.second.number →
     ((p : Phase) (slot : Slot) → is_torn_in (and_break log cut) x.second.number p slot ≡ (is_torn_in log x.second.number p slot || tears_here x.second.number p slot cut)) →
     IsJudged log x e → IsJudged (and_break log cut) (cut_at_end x) e
-judged-cut log cut x e none torn j = record {
+judged-cut log cut x e fails torn j = record {
   once = j.once;
   missing = λ nothing. ⊎_elim
       (λ is. inl (torn e.phase e.slot ∙ ap (λ (b : Bool). b || tears_here x.second.number e.phase e.slot cut) is))
-      (λ by. absurd (subst (λ (o : Option ℕ). CutBy o e.phase) none by))
+      (λ by. inr (subst (λ (o : Option ℕ). CutBy o e.phase) (sym fails) by))
       (j.missing nothing);
 }
 
@@ -478,6 +613,7 @@ off-cut-caused rule start from first done p g t span is none n before now w q lo
     let numbered : AreNumbered from (seconds_in front) = numbered-front from front x (subst (λ (ts : List Told). AreNumbered from (seconds_in ts)) parts.2 whole.seconds) in
     let no_failure : list_any (nat_eq y.second.number) (failures p.log) ≡ false = ap (λ (v : ℕ). list_any (nat_eq v) (failures p.log)) number ∙ failures-before (p.next - 1) p.next (p.next - 1) p.log.breaks lines (omega arith) in
     let fails : failures later ≡ failures p.log = by-other p.log.breaks (p.next - 1) false p.begun in
+    let no_more : cuts true later ≡ cuts true p.log = filter-append (by_cut true) p.log.breaks (cut ∷ []) ∙ append-nil (cuts true p.log) in
     let one : AreCaused before now (done ++ off_second p.next ∷ []) later = record {
       refused = c.refused ∙ ap refusals_of parts.2 ∙ refusals-more front (x ∷ []) ∙ sym (ap refusals_of now_ ∙ refusals-more (front ++ y ∷ []) (t0 ∷ []) ∙ append-nil (refusals_of (front ++ y ∷ [])) ∙ refusals-more front (y ∷ []));
       cut_seconds =
@@ -490,7 +626,7 @@ off-cut-caused rule start from first done p g t span is none n before now w q lo
           ∙ ap (λ (us : List ℕ). us ++ (p.next - 1) ∷ []) (c.off_lines ∙ ap (off_cuts (failures p.log)) parts.2 ∙ sym (off-same (failures p.log) (front ++ x ∷ [])) ∙ ap (off_cuts (failures p.log)) (cut-push front x))
           ∙ ap (λ (v : ℕ). off_cuts (failures p.log) (front ++ y ∷ []) ++ v ∷ []) (sym number)
           ∙ sym (ap (λ (us : List ℕ). off_cuts us (went later (done ++ off_second p.next ∷ [])).told) fails ∙ ap (off_cuts (failures p.log)) now_ ∙ off-lit (failures p.log) front y t0 parts.4 refl no_failure);
-      failed_cuts = subst (λ (bs : List Break). RoseBy (length bs) (before Recorder) (now Recorder)) (sym (filter-append (by_cut true) p.log.breaks (cut ∷ []) ∙ append-nil (cuts true p.log))) c.failed_cuts;
+      failed_cuts = subst (λ (bs : List Break). RoseBy (length bs) (before Recorder) (now Recorder)) (sym no_more) c.failed_cuts;
       tear_lines =
           ap (flat_map places) (filter-append (by_tear false) p.log.breaks (cut ∷ []) ∙ append-nil (tears false p.log)) ∙ c.tear_lines ∙ ap pulled_of parts.2 ∙ pulled-more front (x ∷ [])
           ∙ sym (ap pulled_of now_ ∙ pulled-more (front ++ y ∷ []) (t0 ∷ []) ∙ append-nil (pulled_of (front ++ y ∷ [])) ∙ pulled-more front (y ∷ []));
@@ -500,19 +636,27 @@ off-cut-caused rule start from first done p g t span is none n before now w q lo
           (ap torn_of parts.2 ∙ torn-more front (x ∷ []) ∙ sym (ap torn_of now_ ∙ torn-more (front ++ y ∷ []) (t0 ∷ []) ∙ append-nil (torn_of (front ++ y ∷ [])) ∙ torn-more front (y ∷ [])));
       torn_cards = λ card. subst (λ (cs : List Card). RoseBy (length (filter (same_card card) cs)) (before (device_of card)) (now (device_of card)))
           (ap cards_torn parts.2 ∙ cards-more front (x ∷ []) ∙ sym (ap cards_torn now_ ∙ cards-more (front ++ y ∷ []) (t0 ∷ []) ∙ append-nil (cards_torn (front ++ y ∷ [])) ∙ cards-more front (y ∷ []))) (c.torn_cards card);
-      begun = begun-append (done ++ off_second p.next ∷ []) p.log.breaks (cut ∷ [])
+      begun = each-more (IsBegun (done ++ off_second p.next ∷ [])) p.log.breaks (cut ∷ [])
           (begun-old p.next done (off_second p.next ∷ []) p.log.breaks
           (λ z at. ⊎_elim (λ none. absurd (omega (arith, none.1))) (λ (same : off_second p.next ≡ z). let e : p.next ≡ z.number = ap (λ (z : TraceSecond). z.number) same in omega (arith, e)) (Contains-push_cases [] (off_second p.next) z at))
           all_lines c.begun)
           (begun-last rule start from first done p f.last f.order f.next, tt);
+      moments = subst (λ (ts : List Told). AllByRecursion (HasMoment ts) later.breaks) (sym now_)
+          (each-more (HasMoment ((front ++ y ∷ []) ++ t0 ∷ [])) p.log.breaks (cut ∷ [])
+          (moments-old p.next (front ++ y ∷ []) (t0 ∷ []) p.log.breaks
+          (λ z at. ⊎_elim (λ none. absurd (omega (arith, none.1))) (λ (same : t0 ≡ z). let e : p.next ≡ z.second.number = ap (λ (v : Told). v.second.number) same in omega (arith, e)) (Contains-push_cases [] t0 z at))
+          all_lines (moments-cut front x p.log.breaks (subst (λ (ts : List Told). AllByRecursion (HasMoment ts) p.log.breaks) parts.2 c.moments)))
+          (λ z at same. tt, tt));
+      order = in_time-more (p.next - 1) p.next (p.next - 1) p.log.breaks (cut ∷ []) lines (omega arith) (omega arith) (omega arith, tt) c.order (tt, tt);
       finds = c.finds ∙ ap finds_of parts.2 ∙ finds-more front (x ∷ []) ∙ sym (ap finds_of now_ ∙ finds-more (front ++ y ∷ []) (t0 ∷ []) ∙ append-nil (finds_of (front ++ y ∷ [])) ∙ finds-more front (y ∷ []));
       judged = λ z e at entered. ⊎_elim
           (λ old. ⊎_elim
           (λ earlier. judged-same p.log later z e
           (same-at p.log later (p.next - 1) (cut ∷ []) refl (refl, tt) [] (sym (append-nil p.log.finds)) tt z.second.number (other-number (p.next - 1) z.second.number (let lt = number-of from front z numbered earlier in omega (arith, lt, total, count, size, next))))
+          (failed-same p.log later z.second.number no_more)
           (c.judged z e (subst (λ (ts : List Told). Contains ts z) (sym parts.2) (Contains-append_left front (x ∷ []) z earlier)) entered))
           (λ (here : y ≡ z). subst (λ (v : Told). IsJudged later v e) here
-          (judged-cut p.log cut x e parts.7 (λ phase slot. (break-more p.log cut x.second.number).torn phase slot)
+          (judged-cut p.log cut x e (failed-same p.log later x.second.number no_more) (λ phase slot. (break-more p.log cut x.second.number).torn phase slot)
           (c.judged x e (subst (λ (ts : List Told). Contains ts x) (sym parts.2) (Contains-push front x)) (subst (λ (v : Told). Contains v.course.entered e) (sym here) entered))))
           (Contains-push_cases front y z old))
           (λ (here : t0 ≡ z). absurd (let nobody = subst (λ (v : Told). Contains v.course.entered e) (sym here) entered in omega (arith, nobody.1)))

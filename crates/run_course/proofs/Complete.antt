@@ -1,5 +1,5 @@
 -- What is acknowledged, over the steps of a run with cards.
-use Rattle.std.proofs.Common.{◌≡◌, ◌⊎◌, inl, inr, ⊎_elim, ℕ, zero, suc, ◌+◌, ◌-◌, ◌*◌, ◌/◌, ◌<◌, ◌≤◌, Bool, true, false, cond, nat_le, Option, Some, None, List, [], ◌∷◌, ◌++◌, Contains, length, map, filter, refl, ap, sym, subst, ◌∙◌, arith, append-nil}
+use Rattle.std.proofs.Common.{◌≡◌, ◌⊎◌, inl, inr, ⊎_elim, ℕ, zero, suc, ◌+◌, ◌-◌, ◌*◌, ◌/◌, ◌<◌, ◌≤◌, Bool, true, false, cond, ◌&&◌, List, [], ◌∷◌, ◌++◌, Contains, length, map, filter, refl, ap, sym, subst, ◌∙◌, arith, append-nil}
 use Rattle.std.specs.List.{AllByRecursion}
 use Rattle.std.proofs.lemmas.List.{map-append}
 use Rattle.std.proofs.lemmas.List.Elements.{filter-append, Contains-append_left, Contains-append_right, Contains-append_cases, Contains-push, Contains-push_cases}
@@ -12,22 +12,25 @@ use Rattle.minute_model.specs.declared.Minute.{Minute}
 use Rattle.minute_model.specs.Minute.{minutes_ahead}
 use Rattle.minute_model.specs.Span.{count_from, ungiven_of, latest, AreNumbered}
 use Rattle.minute_model.proofs.Counted.{decided-minutes}
+use Rattle.log_model.specs.declared.lines.Break.{Break}
 use Rattle.log_model.specs.declared.lines.Mark.{Mark}
 use Rattle.log_model.specs.Log.{RunLog}
-use Rattle.log_model.specs.Causes.{device_of}
+use Rattle.log_model.specs.Causes.{device_of, is_cut, has_failed, second_of, cuts}
 use Rattle.log_model.specs.Course.{Told, went, second_told}
 use Rattle.log_model.specs.Spans.{spans_of, seconds_in, first_in, end_in, AreApart}
 use Rattle.log_model.proofs.Spanning.{spanned, spans-more, spans-new, spans-dark, end-on}
 use Rattle.history_model.specs.Minutes.{HistoryMinute, on_card}
 use Rattle.history_model.specs.Presence.{Start}
-use Rattle.history_model.specs.History.{seated, minutes_after, settlings_of, decided_of, span_minutes, limited_to, limit_of, history_by, unit_history}
+use Rattle.history_model.specs.History.{settlings_of, decided_of, unit_history}
 use Rattle.history_model.specs.Growth.{as_span}
 use Rattle.history_model.specs.Book.{all}
-use Rattle.history_model.specs.Completeness.{deciding_of, IsMarked, CutIn, BrokenIn, IsComplete}
+use Rattle.history_model.specs.Completeness.{deciding_of, IsMarked, FailedCutIn, TornBetween, BrokenIn, IsComplete}
 use Rattle.history_model.proofs.Deciding.{counted, span-settled, short-none, apart-ended}
+use Rattle.history_model.proofs.Decided.{after-decided, unit-decided}
 use Rattle.history_model.proofs.Growing.{apart-last, dark-history, begun-history}
 use Rattle.history_model.proofs.Told.{more-told, spanned-so_far, told-next}
 use Rattle.unit_course.specs.Followed.{Lit, as_spans}
+use Rattle.unit_course.specs.Lines.{log_of}
 use Rattle.unit_course.specs.Turn.{span_at}
 use Rattle.unit_course.proofs.Alike.{decided-empty}
 use Rattle.run_course.specs.Followed.{Progress, Followed, IsGoing, IsSupplied}
@@ -39,74 +42,21 @@ use Rattle.run_course.proofs.New.{are-new}
 use Rattle.run_course.proofs.Steps.{core-of, lit-parts, lit, spans-now, now-told, order-now, feeds, fed-short, which, apart-front, span-end}
 use Rattle.run_course.proofs.Told.{solid-push}
 
--- SECONDS MORE: what was broken is so still
-pub cut-stays : (told more : List Told) (u : ℕ) → CutIn told u → CutIn (told ++ more) u
-cut-stays told more u c = (c.0, Contains-append_left told more c.0 c.1, c.2, c.3)
-
-pub broken-stays : (told more : List Told) (card : Card) (from to : ℕ) → BrokenIn told card from to → BrokenIn (told ++ more) card from to
-broken-stays told more card from to b = (b.0, Contains-append_left told more b.0 b.1, b.2, b.3, b.4)
-
--- WHERE A MINUTE OF THE HISTORY COMES FROM: it is decided in one of the spans
-pub record IsDecidedIn (rule : Rule) (spans : List (List Told)) (m : ℕ) : Type 0 where
-  pub span : List Told
-  pub decided : Minute
-  pub among : Contains spans span
-  pub within : Contains (decided_of rule span) decided
-  pub same : decided.minute ≡ m
-
-after-decided : (start : Start) (told : List Told) (past : List HistoryMinute) (ds : List Minute) (i : HistoryMinute) → Contains (minutes_after start told past ds) i → (d : Minute) × Contains ds d × (d.minute ≡ i.minute)
-after-decided start told past [] i at = absurd (omega (arith, at.1))
-after-decided start told past (d ∷ ds) i at =
-    ⊎_elim
-    (λ here. ⊎_elim (λ none. absurd (omega (arith, none.1))) (λ is. (d, Contains-append_left (d ∷ []) ds d (Contains-push [] d), ap (λ (j : HistoryMinute). j.minute) is)) (Contains-push_cases [] (seated start told past d) i here))
-    (λ there. let rest = after-decided start told (past ++ seated start told past d ∷ []) ds i there in (rest.0, Contains-append_right (d ∷ []) ds rest.0 rest.1, rest.2))
-    (Contains-append_cases (seated start told past d ∷ []) (minutes_after start told (past ++ seated start told past d ∷ []) ds) i at)
-
--- and each decided one is among them
-decided-after : (start : Start) (told : List Told) (past : List HistoryMinute) (ds : List Minute) (d : Minute) → Contains ds d → (i : HistoryMinute) × Contains (minutes_after start told past ds) i × (i.minute ≡ d.minute)
-decided-after start told past [] d at = absurd (omega (arith, at.1))
-decided-after start told past (x ∷ ds) d at =
-    ⊎_elim
-    (λ here. ⊎_elim
-    (λ none. absurd (omega (arith, none.1)))
-    (λ is. (seated start told past x, Contains-append_left (seated start told past x ∷ []) (minutes_after start told (past ++ seated start told past x ∷ []) ds) (seated start told past x) (Contains-push [] (seated start told past x)), ap (λ (y : Minute). y.minute) is))
-    (Contains-push_cases [] x d here))
-    (λ there. let rest = decided-after start told (past ++ seated start told past x ∷ []) ds d there in
-    (rest.0, Contains-append_right (seated start told past x ∷ []) (minutes_after start told (past ++ seated start told past x ∷ []) ds) rest.0 rest.1, rest.2))
-    (Contains-append_cases (x ∷ []) ds d at)
-
-filter-among : (p : HistoryMinute → Bool) (xs : List HistoryMinute) (x : HistoryMinute) → Contains (filter p xs) x → Contains xs x
-filter-among p [] x at = at
-filter-among p (y ∷ xs) x at = go (p y) (λ rest. filter-among p xs x rest) at
+-- LINES AND SECONDS MORE: what failed has failed still, and who was torn out was
+pub fails-still : (log later : RunLog) (more : List Break) → later.breaks ≡ log.breaks ++ more → (u : ℕ) → FailedCutIn log u → FailedCutIn later u
+fails-still log later more are u c =
+    subst (λ (us : List ℕ). Contains us u) (sym failures_are) (Contains-append_left (map second_of (cuts true log)) (map second_of (cuts true (log_of more))) u c)
   where
-    go : (b : Bool) → (Contains (filter p xs) x → Contains xs x) → Contains (cond b (y ∷ filter p xs) (filter p xs)) x → Contains (y ∷ xs) x
-    go false on at = Contains-append_right (y ∷ []) xs x (on at)
-    go true on at = ⊎_elim
-        (λ here. Contains-append_left (y ∷ []) xs x here)
-        (λ there. Contains-append_right (y ∷ []) xs x (on there))
-        (Contains-append_cases (y ∷ []) (filter p xs) x at)
+    failures_are : map second_of (cuts true later) ≡ map second_of (cuts true log) ++ map second_of (cuts true (log_of more))
+    failures_are =
+        ap (map second_of) (ap (filter (λ (b : Break). is_cut b && has_failed b)) are ∙ filter-append (λ (b : Break). is_cut b && has_failed b) log.breaks more)
+        ∙ map-append second_of (cuts true log) (cuts true (log_of more))
 
-limited-among : (o : Option ℕ) (xs : List HistoryMinute) (x : HistoryMinute) → Contains (limited_to o xs) x → Contains xs x
-limited-among None xs x at = at
-limited-among (Some k) xs x at = filter-among (λ i. nat_le i.minute k) xs x at
+pub torn-stays : (told more : List Told) (card : Card) (from to : ℕ) → TornBetween told card from to → TornBetween (told ++ more) card from to
+torn-stays told more card from to b = (b.0, Contains-append_left told more b.0 b.1, b.2, b.3, b.4)
 
-history-decided : (rule : Rule) (start : Start) (told : List Told) (limit : List Told → List (List Told) → Option ℕ) (past : List HistoryMinute) (spans : List (List Told)) (i : HistoryMinute) →
-    Contains (history_by rule start limit told past spans) i → IsDecidedIn rule spans i.minute
-history-decided rule start told limit past [] i at = absurd (omega (arith, at.1))
-history-decided rule start told limit past (span ∷ later) i at =
-    let more : List HistoryMinute = limited_to (limit span later) (span_minutes rule start told past span) in
-    ⊎_elim
-    (λ here.
-    let d = after-decided start told past (decided_of rule span) i (limited-among (limit span later) (span_minutes rule start told past span) i here) in
-    record { span = span; decided = d.0; among = Contains-append_left (span ∷ []) later span (Contains-push [] span); within = d.1; same = d.2 })
-    (λ there.
-    let rest = history-decided rule start told limit (past ++ more) later i there in
-    record { span = rest.span; decided = rest.decided; among = Contains-append_right (span ∷ []) later rest.span rest.among; within = rest.within; same = rest.same })
-    (Contains-append_cases more (history_by rule start limit told (past ++ more) later) i at)
-
-unit-decided : (rule : Rule) (start : Start) (log : RunLog) (told : List Told) (i : HistoryMinute) → Contains (unit_history rule start log told) i → IsDecidedIn rule (spans_of told) i.minute
-unfolding unit_history
-unit-decided rule start log told i at = history-decided rule start told (limit_of log) [] (spans_of told) i at
+pub broken-stays : (log later : RunLog) (told more : List Told) (card : Card) (from to : ℕ) → ((u : ℕ) → FailedCutIn log u → FailedCutIn later u) → BrokenIn log told card from to → BrokenIn later (told ++ more) card from to
+broken-stays log later told more card from to still b = ⊎_elim (λ failed. inl (still to failed)) (λ torn. inr (torn-stays told more card from to torn)) b
 
 -- MORE MARKS
 pub more-marks : MoreMarksStay
@@ -140,11 +90,11 @@ power-alone rule start from log done s marks order which_ c =
         unit_history rule start log now ≡ unit_history rule start log (went log done).told → IsComplete rule start log now marks
     carried now t behind spans none is history = record {
       unit = λ span d at in_decided. ⊎_elim
-          (λ old. ⊎_elim (λ m. inl m) (λ cut. inr (subst (λ (ts : List Told). CutIn ts (deciding_of rule (settlings_of span) d.minute)) (sym is) (cut-stays (went log done).told (t ∷ []) (deciding_of rule (settlings_of span) d.minute) cut))) (c.unit span d old in_decided))
+          (λ old. c.unit span d old in_decided)
           (λ new. absurd (let at_none = subst (λ (ds : List Minute). Contains ds d) (none span new) in_decided in omega (arith, at_none.1)))
           (Contains-append_cases (spans_of (went log done).told) behind span (subst (λ (ss : List (List Told)). Contains ss span) spans at));
       card = λ span d i card e at in_decided there same on. ⊎_elim
-          (λ old. ⊎_elim (λ m. inl m) (λ broken. inr (subst (λ (ts : List Told). BrokenIn ts card (60 * (i.minute + 1)) (deciding_of rule (settlings_of span) i.minute)) (sym is) (broken-stays (went log done).told (t ∷ []) card (60 * (i.minute + 1)) (deciding_of rule (settlings_of span) i.minute) broken)))
+          (λ old. ⊎_elim (λ m. inl m) (λ broken. inr (subst (λ (ts : List Told). BrokenIn log ts card (60 * (i.minute + 1)) (deciding_of rule (settlings_of span) i.minute)) (sym is) (broken-stays log log (went log done).told (t ∷ []) card (60 * (i.minute + 1)) (deciding_of rule (settlings_of span) i.minute) (λ u failed. failed) broken)))
           (c.card span d i card e old in_decided (subst (λ (is_ : List HistoryMinute). Contains is_ i) history there) same on))
           (λ new. absurd (let at_none = subst (λ (ds : List Minute). Contains ds d) (none span new) in_decided in omega (arith, at_none.1)))
           (Contains-append_cases (spans_of (went log done).told) behind span (subst (λ (ss : List (List Told)). Contains ss span) spans at));
@@ -373,15 +323,12 @@ module _ (rule : Rule) (start : Start) (from first : ℕ) (done : List TraceSeco
       (λ short. inl (subst (λ (is : List HistoryMinute). Contains is i) (fed-short rule start from first done p f.order f.next f.unfound s later g span c f.power new decides short) at))
       (which rule start from first done p f.order f.next f.unfound s later g span c f.power new decides)
 
-  module _ (marks more : List Mark) (all_ : AllMarked marks more) (old : IsComplete rule start p.log told marks) (ack : AreAcknowledged more now p.next t new) where
-    cut-on : (u : ℕ) → CutIn told u → CutIn now u
-    cut-on u cut = subst (λ (ts : List Told). CutIn ts u) (sym now_) (cut-stays told (t ∷ []) u cut)
+  module _ (marks more : List Mark) (all_ : AllMarked marks more) (old : IsComplete rule start p.log told marks) (ack : AreAcknowledged more now p.next t new) (cut-here : t.cut ≡ true → FailedCutIn later p.next) where
+    cut-on : (u : ℕ) → FailedCutIn p.log u → FailedCutIn later u
+    cut-on u cut = fails-still p.log later g.breaks.0 g.breaks.1 u cut
 
-    broken-on : (card : Card) (a b : ℕ) → BrokenIn told card a b → BrokenIn now card a b
-    broken-on card a b broken = subst (λ (ts : List Told). BrokenIn ts card a b) (sym now_) (broken-stays told (t ∷ []) card a b broken)
-
-    cut-here : t.cut ≡ true → CutIn now p.next
-    cut-here cut = (t, subst (λ (ts : List Told). Contains ts t) (sym now_) (Contains-push told t), here, cut)
+    broken-on : (card : Card) (a b : ℕ) → BrokenIn p.log told card a b → BrokenIn later now card a b
+    broken-on card a b broken = subst (λ (ts : List Told). BrokenIn later ts card a b) (sym now_) (broken-stays p.log later told (t ∷ []) card a b cut-on broken)
 
     -- a span now
     span-cases : (sp : List Told) → Contains (spans_of now) sp → Contains f.ended sp ⊎ (span ++ t ∷ [] ≡ sp)
@@ -390,34 +337,34 @@ module _ (rule : Rule) (start : Start) (from first : ℕ) (done : List TraceSeco
     in-told : (sp : List Told) → Contains f.ended sp → Contains (spans_of told) sp
     in-told sp at = subst (λ (ss : List (List Told)). Contains ss sp) (sym f.spans) (Contains-append_left f.ended (as_spans span) sp at)
 
-    unit-now : (sp : List Told) (d : Minute) → Contains (spans_of now) sp → Contains (decided_of rule sp) d → IsMarked more Recorder d.minute ⊎ CutIn now (deciding_of rule (settlings_of sp) d.minute)
+    unit-now : (sp : List Told) (d : Minute) → Contains (spans_of now) sp → Contains (decided_of rule sp) d → IsMarked more Recorder d.minute ⊎ FailedCutIn later (deciding_of rule (settlings_of sp) d.minute)
     unit-now sp d at in_decided = ⊎_elim
         (λ ended. ⊎_elim (λ m. inl (all_ Recorder d.minute m)) (λ cut. inr (cut-on (deciding_of rule (settlings_of sp) d.minute) cut)) (old.unit sp d (in-told sp ended) in_decided))
-        (λ is. subst (λ (y : List Told). IsMarked more Recorder d.minute ⊎ CutIn now (deciding_of rule (settlings_of y) d.minute)) is
+        (λ is. subst (λ (y : List Told). IsMarked more Recorder d.minute ⊎ FailedCutIn later (deciding_of rule (settlings_of y) d.minute)) is
         (newest (subst (λ (y : List Told). Contains (decided_of rule y) d) (sym is) in_decided)))
         (span-cases sp at)
       where
-        newest : Contains (decided_of rule (span ++ t ∷ [])) d → IsMarked more Recorder d.minute ⊎ CutIn now (deciding_of rule (settlings_of (span ++ t ∷ [])) d.minute)
+        newest : Contains (decided_of rule (span ++ t ∷ [])) d → IsMarked more Recorder d.minute ⊎ FailedCutIn later (deciding_of rule (settlings_of (span ++ t ∷ [])) d.minute)
         newest at = ⊎_elim
             (λ before.
             let w = was d before in
-            ⊎_elim (λ m. inl (all_ Recorder d.minute m)) (λ cut. inr (subst (CutIn now) (sym w.deciding) (cut-on (deciding_of rule (settlings_of span) d.minute) cut))) (old.unit span d w.among before))
+            ⊎_elim (λ m. inl (all_ Recorder d.minute m)) (λ cut. inr (subst (FailedCutIn later) (sym w.deciding) (cut-on (deciding_of rule (settlings_of span) d.minute) cut))) (old.unit span d w.among before))
             (λ fresh.
             let i = decided-after start ((went later done).told ++ t ∷ []) p.book.sure ds d fresh in
             ⊎_elim
             (λ m. inl (subst (λ (n : ℕ). IsMarked more Recorder n) i.2 m))
-            (λ cut. inr (subst (CutIn now) (sym (deciding_new d fresh)) (cut-here cut)))
+            (λ cut. inr (subst (FailedCutIn later) (sym (deciding_new d fresh)) (cut-here cut)))
             (ack.unit i.0 (subst (λ (is : List HistoryMinute). Contains is i.0) (sym decides.2) i.1)))
             (Contains-append_cases (decided_of rule span) ds d (subst (λ (xs : List Minute). Contains xs d) decides.1 at))
 
     card-now : (sp : List Told) (d : Minute) (i : HistoryMinute) (card : Card) (e : Entry) → Contains (spans_of now) sp → Contains (decided_of rule sp) d → Contains (unit_history rule start later now) i → i.minute ≡ d.minute → Contains (on_card card i) e →
-        IsMarked more (device_of card) i.minute ⊎ BrokenIn now card (60 * (i.minute + 1)) (deciding_of rule (settlings_of sp) i.minute)
+        IsMarked more (device_of card) i.minute ⊎ BrokenIn later now card (60 * (i.minute + 1)) (deciding_of rule (settlings_of sp) i.minute)
     card-now sp d i card e at in_decided there same on = ⊎_elim
         (λ ended. ⊎_elim
         (λ before. ⊎_elim (λ m. inl (all_ (device_of card) i.minute m)) (λ broken. inr (broken-on card (60 * (i.minute + 1)) (deciding_of rule (settlings_of sp) i.minute) broken)) (old.card sp d i card e (in-told sp ended) in_decided before same on))
         (λ fresh. absurd (let lt = in-ended sp d ended in_decided in let w = fresh-minute fresh in omega (arith, lt, w, same)))
         (history-cases i there))
-        (λ is. subst (λ (y : List Told). IsMarked more (device_of card) i.minute ⊎ BrokenIn now card (60 * (i.minute + 1)) (deciding_of rule (settlings_of y) i.minute)) is
+        (λ is. subst (λ (y : List Told). IsMarked more (device_of card) i.minute ⊎ BrokenIn later now card (60 * (i.minute + 1)) (deciding_of rule (settlings_of y) i.minute)) is
         (newest (subst (λ (y : List Told). Contains (decided_of rule y) d) (sym is) in_decided)))
         (span-cases sp at)
       where
@@ -429,7 +376,7 @@ module _ (rule : Rule) (start : Start) (from first : ℕ) (done : List TraceSeco
             let is = d0.2 in
             omega (arith, low, is)
 
-        newest : Contains (decided_of rule (span ++ t ∷ [])) d → IsMarked more (device_of card) i.minute ⊎ BrokenIn now card (60 * (i.minute + 1)) (deciding_of rule (settlings_of (span ++ t ∷ [])) i.minute)
+        newest : Contains (decided_of rule (span ++ t ∷ [])) d → IsMarked more (device_of card) i.minute ⊎ BrokenIn later now card (60 * (i.minute + 1)) (deciding_of rule (settlings_of (span ++ t ∷ [])) i.minute)
         newest at = ⊎_elim
             (λ before.
             let w = was d before in
@@ -437,7 +384,7 @@ module _ (rule : Rule) (start : Start) (from first : ℕ) (done : List TraceSeco
             ⊎_elim
             (λ kept. ⊎_elim
             (λ m. inl (all_ (device_of card) i.minute m))
-            (λ broken. inr (subst (λ (n : ℕ). BrokenIn now card (60 * (i.minute + 1)) n) (ap (deciding_of rule (settlings_of span)) same ∙ sym w.deciding ∙ ap (deciding_of rule (settlings_of (span ++ t ∷ []))) (sym same))
+            (λ broken. inr (subst (λ (n : ℕ). BrokenIn later now card (60 * (i.minute + 1)) n) (ap (deciding_of rule (settlings_of span)) same ∙ sym w.deciding ∙ ap (deciding_of rule (settlings_of (span ++ t ∷ []))) (sym same))
             (broken-on card (60 * (i.minute + 1)) (deciding_of rule (settlings_of span) i.minute) broken)))
             (old.card span d i card e w.among before kept same on))
             (λ fresh. absurd (let low = fresh-minute fresh in omega (arith, lt, low, same)))
@@ -448,7 +395,7 @@ module _ (rule : Rule) (start : Start) (from first : ℕ) (done : List TraceSeco
             (λ kept. absurd (let lt = history-earlier i kept in omega (arith, lt, low, same)))
             (λ fresh. ⊎_elim
             (λ m. inl m)
-            (λ broken. inr (subst (λ (n : ℕ). BrokenIn now card (60 * (i.minute + 1)) n) (sym (ap (deciding_of rule (settlings_of (span ++ t ∷ []))) same ∙ deciding_new d now_decided)) broken))
+            (λ broken. inr (subst (λ (n : ℕ). BrokenIn later now card (60 * (i.minute + 1)) n) (sym (ap (deciding_of rule (settlings_of (span ++ t ∷ []))) same ∙ deciding_new d now_decided)) (⊎_elim (λ cut. inl (cut-here cut)) (λ torn. inr torn) broken)))
             (ack.card i card e fresh on))
             (history-cases i there))
             (Contains-append_cases (decided_of rule span) ds d (subst (λ (xs : List Minute). Contains xs d) decides.1 at))
@@ -457,5 +404,5 @@ module _ (rule : Rule) (start : Start) (from first : ℕ) (done : List TraceSeco
     complete-now = record { unit = unit-now; card = card-now }
 
 pub acknowledged : ASecondIsAcknowledged
-acknowledged rule start from first done p g span is none s later by new decides marks more all_ old ack =
-    complete-now rule start from first done p span (lit-parts rule start from first done p g span is none) s later by new decides marks more all_ old ack
+acknowledged rule start from first done p g span is none s later by new decides marks more all_ old ack cut =
+    complete-now rule start from first done p span (lit-parts rule start from first done p g span is none) s later by new decides marks more all_ old ack cut

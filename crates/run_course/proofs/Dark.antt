@@ -1,5 +1,6 @@
 -- Seconds of a run without power, at once.
 use Rattle.std.proofs.Common.{◌≡◌, inl, ⊎_elim, ℕ, zero, suc, ◌+◌, ◌%◌, ◌<◌, ◌≤◌, Bool, true, false, ◌&&◌, List, [], ◌∷◌, ◌++◌, Contains, length, map, filter, refl, ap, sym, subst, ◌∙◌, arith, append_assoc, append-nil, length-append}
+use Rattle.std.specs.List.{AllByRecursion}
 use Rattle.std.proofs.lemmas.List.{map-append}
 use Rattle.std.proofs.lemmas.List.Elements.{Contains-push_cases}
 use Rattle.activity_codec.specs.declared.values.Slot.{Slot}
@@ -15,7 +16,7 @@ use Rattle.log_model.specs.declared.lines.SlotFault.TheVariants.{NoPower}
 use Rattle.log_model.specs.Log.{RunLog, Phase}
 use Rattle.log_model.specs.Slots.{same_card}
 use Rattle.log_model.specs.Course.{Told, Before, Went, went, has_power, second_told, before_next}
-use Rattle.log_model.specs.Causes.{device_of, in_the_slot, refusals_of, pulled_of, torn_of, cards_torn, finds_of, off_cuts, RoseBy}
+use Rattle.log_model.specs.Causes.{device_of, HasMoment, in_the_slot, refusals_of, pulled_of, torn_of, cards_torn, finds_of, off_cuts, RoseBy}
 use Rattle.log_model.specs.Spans.{AreInOrder}
 use Rattle.log_model.proofs.Growth.{went-more}
 use Rattle.history_model.specs.Presence.{Start}
@@ -32,7 +33,7 @@ use Rattle.run_course.proofs.Logs.{BreaksBefore, breaks-later, went-refused, ref
 use Rattle.run_course.proofs.Presence.{time-passes, second-gone}
 use Rattle.run_course.proofs.Complete.{power-alone}
 use Rattle.run_course.proofs.Staying.{refused-stays}
-use Rattle.run_course.proofs.Caused.{refused_as, refusals-more, pulled-more, torn-more, cards-more, finds-more, begun-old, over-last, off-behind, judged-same, breaks-next}
+use Rattle.run_course.proofs.Caused.{refused_as, refusals-more, pulled-more, torn-more, cards-more, finds-more, begun-old, moments-old, over-last, off-behind, failed-same, judged-same, breaks-next}
 use Rattle.run_course.proofs.Steps.{with-supply}
 use Rattle.run_course.proofs.Told.{lost-dark, told-lit}
 
@@ -135,9 +136,12 @@ dark-one before now log xs done s lost some given lines are c over =
             (sym (ap cards_torn now_ ∙ cards-more told (t ∷ []) ∙ append-nil (cards_torn told))) (c.torn_cards card);
         begun = begun-old s.number done (s ∷ []) log.breaks
             (λ x at. ⊎_elim (λ none. absurd (omega (arith, none.1))) (λ (same : s ≡ x). let e : s.number ≡ x.number = ap (λ (y : TraceSecond). y.number) same in omega (arith, e)) (Contains-push_cases [] s x at)) lines c.begun;
+        moments = subst (λ (ts : List Told). AllByRecursion (HasMoment ts) log.breaks) (sym now_)
+            (moments-old s.number told (t ∷ []) log.breaks (λ x at. ⊎_elim (λ none. absurd (omega (arith, none.1))) (λ (same : t ≡ x). let e : s.number ≡ x.second.number = ap (λ (y : Told). y.second.number) same in omega (arith, e)) (Contains-push_cases [] t x at)) lines c.moments);
+        order = c.order;
         finds = c.finds ∙ sym (ap finds_of now_ ∙ finds-more told (t ∷ []) ∙ append-nil (finds_of told));
         judged = λ x e at entered. ⊎_elim
-            (λ old. judged-same log later x e (refused-at log later refl refl x.second.number) (c.judged x e old entered))
+            (λ old. judged-same log later x e (refused-at log later refl refl x.second.number) (failed-same log later x.second.number refl) (c.judged x e old entered))
             (λ (here : t ≡ x). absurd (let nobody = subst (λ (y : Told). Contains y.course.entered e) (sym here) entered in omega (arith, nobody.1)))
             (Contains-push_cases told t x (subst (λ (ts : List Told). Contains ts x) now_ at));
       },

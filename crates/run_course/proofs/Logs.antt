@@ -45,7 +45,7 @@ cut-first : (b : Break) (bs : List Break) (u : ℕ) → cut_in (log_of (b ∷ bs
 unfolding cut_in
 cut-first b bs u = refl
 
-cut-rest : (bs rest : List Break) (n u : ℕ) → nat_eq n u ≡ false → AllByRecursion (λ (b : Break). second_of b ≡ n) rest → cut_in (log_of (bs ++ rest)) u ≡ cut_in (log_of bs) u
+pub cut-rest : (bs rest : List Break) (n u : ℕ) → nat_eq n u ≡ false → AllByRecursion (λ (b : Break). second_of b ≡ n) rest → cut_in (log_of (bs ++ rest)) u ≡ cut_in (log_of bs) u
 cut-rest [] [] n u other each = refl
 cut-rest [] (b ∷ rest) n u other each =
     cut-first b rest u ∙ ap (λ (o : Option ℕ). cond (is_some o) o (cut_in (log_of rest) u)) (cut-of_other n u b other each.0) ∙ cut-rest [] rest n u other each.1

@@ -324,6 +324,8 @@ caused-one rule start from first speed before now done p f t span is none within
       failed_tears = λ slot. refl;
       torn_cards = λ card. rose-none (now (device_of card));
       begun = tt;
+      moments = tt;
+      order = tt;
       told_finds = refl;
       judged = λ e at. absurd (omega (arith, at.1));
     }
@@ -341,6 +343,7 @@ complete-one rule start from first speed marks done p f t span is none within h 
     let step = quiet-step rule start from first done p f t span is speed within in
     acknowledged rule start from first done p f (t ∷ span) is none (plain_second p.next speed) p.log (quiet-goes p speed) [] ([], step.decides, refl) marks marks (λ device m at. at) h
     (record { unit = λ i at. absurd (omega (arith, at.1)); card = λ i card e at. absurd (omega (arith, at.1)) })
+    (λ cut. absurd (let clash : false ≡ true = sym (ap (λ (t : Told). t.cut) step.is_quiet) ∙ cut in cc))
 
 pub quiet-complete : QuietSecondsStayComplete
 quiet-complete rule start from first done p f t span is none n speed within marks h =

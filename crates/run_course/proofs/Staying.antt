@@ -1,5 +1,5 @@
 -- What is acknowledged stays so where nothing is decided: power-ons, refusals, and the cut of an `off` line.
-use Rattle.std.proofs.Common.{◌≡◌, ◌⊎◌, inl, inr, ⊎_elim, ℕ, ◌+◌, ◌-◌, ◌*◌, ◌≤◌, false, Option, Some, None, List, [], ◌∷◌, ◌++◌, Contains, length, refl, ap, sym, subst, ◌∙◌, arith}
+use Rattle.std.proofs.Common.{◌≡◌, ◌⊎◌, inl, inr, ⊎_elim, ℕ, ◌+◌, ◌-◌, ◌*◌, ◌≤◌, true, false, Option, Some, None, List, [], ◌∷◌, ◌++◌, Contains, length, refl, ap, sym, subst, ◌∙◌, arith}
 use Rattle.std.proofs.lemmas.List.Elements.{Contains-append_left, Contains-push, Contains-push_cases}
 use Rattle.trace_model.specs.declared.Card.{Card}
 use Rattle.minute_model.specs.declared.Rule.{Rule}
@@ -14,12 +14,13 @@ use Rattle.history_model.specs.Minutes.{HistoryMinute}
 use Rattle.history_model.specs.Presence.{Start}
 use Rattle.history_model.specs.History.{settlings_of, decided_of, limit_by, cut_second, unit_history}
 use Rattle.history_model.specs.Growth.{SameLimits}
-use Rattle.history_model.specs.Completeness.{deciding_of, CutIn, BrokenIn, IsComplete}
+use Rattle.history_model.specs.Completeness.{deciding_of, FailedCutIn, TornIn, TornBetween, BrokenIn, IsComplete}
 use Rattle.history_model.proofs.BySeconds.{same-history}
 use Rattle.history_model.proofs.Deciding.{short-none}
 use Rattle.unit_course.specs.Turn.{cut_at_end, cut_last}
 use Rattle.unit_course.specs.Lines.{log_of, cut_at}
 use Rattle.unit_course.specs.Followed.{Supply, Lit, Due, Lost, MayPower, MayFail}
+use Rattle.unit_course.proofs.Offs.{by-other, by-found}
 use Rattle.unit_course.proofs.Spans.{decided-cut, settlings-cut}
 use Rattle.run_course.specs.Moments.{and_break}
 use Rattle.run_course.specs.Followed.{Followed, Comes}
@@ -28,7 +29,7 @@ use Rattle.run_course.specs.Complete.{FoundStaysComplete, AFailureStaysComplete,
 use Rattle.run_course.proofs.Lookups.{kept-by}
 use Rattle.run_course.proofs.Logs.{went-refused, found_log}
 use Rattle.run_course.proofs.Core.{Core, lit-due, found-told, found-minutes}
-use Rattle.run_course.proofs.Complete.{cut-stays, broken-stays}
+use Rattle.run_course.proofs.Complete.{fails-still, broken-stays}
 use Rattle.run_course.proofs.Steps.{core-of, with-waiting, due-core, lost-core, lit-parts, now-told, comes-adds, spans-cut, cut-history, cut-parts}
 use Rattle.run_course.proofs.Told.{lost-comes}
 
@@ -40,29 +41,30 @@ record IsAs (rule : Rule) (told : List Told) (sp : List Told) : Type 0 where
   settles : settlings_of sp ≡ settlings_of old
 
 carried : (rule : Rule) (start : Start) (log later : RunLog) (told now : List Told) (marks : List Mark) → ((sp : List Told) → Contains (spans_of now) sp → IsAs rule told sp ⊎ (decided_of rule sp ≡ [])) →
-    unit_history rule start later now ≡ unit_history rule start log told → ((u : ℕ) → CutIn told u → CutIn now u) → ((card : Card) (a b : ℕ) → BrokenIn told card a b → BrokenIn now card a b) →
+    unit_history rule start later now ≡ unit_history rule start log told → ((u : ℕ) → FailedCutIn log u → FailedCutIn later u) → ((card : Card) (a b : ℕ) → BrokenIn log told card a b → BrokenIn later now card a b) →
     IsComplete rule start log told marks → IsComplete rule start later now marks
 carried rule start log later told now marks spans history cuts breaks c = record {
   unit = λ sp d at in_decided. ⊎_elim
       (λ (as_ : IsAs rule told sp).
-      ⊎_elim (λ m. inl m) (λ cut. inr (cuts (deciding_of rule (settlings_of sp) d.minute) (subst (λ (us : List ℕ). CutIn told (deciding_of rule us d.minute)) (sym as_.settles) cut)))
+      ⊎_elim (λ m. inl m) (λ cut. inr (cuts (deciding_of rule (settlings_of sp) d.minute) (subst (λ (us : List ℕ). FailedCutIn log (deciding_of rule us d.minute)) (sym as_.settles) cut)))
       (c.unit as_.old d as_.among (subst (λ (ds : List Minute). Contains ds d) as_.decides in_decided)))
       (λ none. absurd (let at_none = subst (λ (ds : List Minute). Contains ds d) none in_decided in omega (arith, at_none.1)))
       (spans sp at);
   card = λ sp d i card e at in_decided there same on. ⊎_elim
       (λ (as_ : IsAs rule told sp).
-      ⊎_elim (λ m. inl m) (λ broken. inr (breaks card (60 * (i.minute + 1)) (deciding_of rule (settlings_of sp) i.minute) (subst (λ (us : List ℕ). BrokenIn told card (60 * (i.minute + 1)) (deciding_of rule us i.minute)) (sym as_.settles) broken)))
+      ⊎_elim (λ m. inl m) (λ broken. inr (breaks card (60 * (i.minute + 1)) (deciding_of rule (settlings_of sp) i.minute) (subst (λ (us : List ℕ). BrokenIn log told card (60 * (i.minute + 1)) (deciding_of rule us i.minute)) (sym as_.settles) broken)))
       (c.card as_.old d i card e as_.among (subst (λ (ds : List Minute). Contains ds d) as_.decides in_decided) (subst (λ (is : List HistoryMinute). Contains is i) history there) same on))
       (λ none. absurd (let at_none = subst (λ (ds : List Minute). Contains ds d) none in_decided in omega (arith, at_none.1)))
       (spans sp at);
 }
 
 -- the same seconds
-same-seconds : (rule : Rule) (start : Start) (log later : RunLog) (told now : List Told) (marks : List Mark) → now ≡ told → unit_history rule start later now ≡ unit_history rule start log told → IsComplete rule start log told marks → IsComplete rule start later now marks
-same-seconds rule start log later told now marks is history c =
+same-seconds : (rule : Rule) (start : Start) (log later : RunLog) (told now : List Told) (marks : List Mark) → now ≡ told → unit_history rule start later now ≡ unit_history rule start log told → ((u : ℕ) → FailedCutIn log u → FailedCutIn later u) →
+    IsComplete rule start log told marks → IsComplete rule start later now marks
+same-seconds rule start log later told now marks is history still c =
     carried rule start log later told now marks
     (λ sp at. inl (record { old = sp; among = subst (λ (ts : List Told). Contains (spans_of ts) sp) is at; decides = refl; settles = refl })) history
-    (λ u cut. subst (λ (ts : List Told). CutIn ts u) (sym is) cut) (λ card a b broken. subst (λ (ts : List Told). BrokenIn ts card a b) (sym is) broken) c
+    still (λ card a b broken. subst (λ (ts : List Told). BrokenIn later ts card a b) (sym is) (⊎_elim (λ failed. inl (still b failed)) (λ torn. inr torn) broken)) c
 
 -- REFUSALS
 kept-same : (log later : RunLog) (u : ℕ) → later.breaks ≡ log.breaks → kept_after later u ≡ kept_after log u
@@ -81,7 +83,7 @@ refused-stays rule start log refused done marks c =
     let later : RunLog = record log { refused = refused } in
     let is = ap (λ (w : Went). w.told) (went-refused log later refl refl done) in
     same-seconds rule start log later (went log done).told (went later done).told marks is
-    (ap (unit_history rule start later) is ∙ same-history rule start log later (went log done).told (same-limits log later (spans_of (went log done).told) refl)) c
+    (ap (unit_history rule start later) is ∙ same-history rule start log later (went log done).told (same-limits log later (spans_of (went log done).told) refl)) (λ u failed. failed) c
 
 -- POWER IS BACK
 pub found-stays : FoundStaysComplete
@@ -91,7 +93,8 @@ found-stays rule start from first done p g may k mark low marks c = by p.supply 
     at core =
         same-seconds rule start p.log (found_log p.unfound k p.log) (went p.log done).told (went (found_log p.unfound k p.log) done).told marks
         (ap (λ (w : Went). w.told) (found-told rule start from first done p.log p.unfound p.next p.book p.waiting core k mark low))
-        (found-minutes rule start from first done p.log p.unfound p.next p.book p.waiting core k mark low) c
+        (found-minutes rule start from first done p.log p.unfound p.next p.book p.waiting core k mark low)
+        (λ u failed. subst (λ (us : List ℕ). Contains us u) (sym (by-found true p.unfound k p.log.breaks)) failed) c
 
     by : (s : Supply) → MayPower s p.next → Followed rule start from first done (record p { supply = s }) → IsComplete rule start (found_log p.unfound k p.log) (went (found_log p.unfound k p.log) done).told marks
     by (Lit span) may f = absurd may
@@ -102,6 +105,9 @@ found-stays rule start from first done p g may k mark low marks c = by p.supply 
 pub failure-stays : AFailureStaysComplete
 failure-stays rule start from first done p g may none s later by marks c = at_supply p.supply may (with-waiting rule start from first done p [] none g)
   where
+    still : (u : ℕ) → FailedCutIn p.log u → FailedCutIn later u
+    still = fails-still p.log later by.breaks.0 by.breaks.1
+
     at : AreInOrder from done → p.next ≡ from + length done → p.unfound ≤ length p.log.breaks → Core rule start from first done p.log p.unfound p.next Due p.book [] → Comes (went p.log done).before p.next →
         IsComplete rule start later (went later (done ++ s ∷ [])).told marks
     at order next within core comes =
@@ -114,8 +120,8 @@ failure-stays rule start from first done p g may none s later by marks c = at_su
         (λ (here : t ∷ [] ≡ sp). inr (ap (decided_of rule) (sym here) ∙ short-none rule t))
         (Contains-push_cases (spans_of (went p.log done).told) (t ∷ []) sp (subst (λ (ss : List (List Told)). Contains ss sp) adds.0 at_)))
         adds.1
-        (λ u cut. subst (λ (ts : List Told). CutIn ts u) (sym is) (cut-stays (went p.log done).told (t ∷ []) u cut))
-        (λ card a b broken. subst (λ (ts : List Told). BrokenIn ts card a b) (sym is) (broken-stays (went p.log done).told (t ∷ []) card a b broken)) c
+        still
+        (λ card a b broken. subst (λ (ts : List Told). BrokenIn later ts card a b) (sym is) (broken-stays p.log later (went p.log done).told (t ∷ []) card a b still broken)) c
 
     at_supply : (sp : Supply) → MayFail sp p.next → Followed rule start from first done (record p { supply = sp; waiting = [] }) → IsComplete rule start later (went later (done ++ s ∷ [])).told marks
     at_supply (Lit []) may f =
@@ -147,23 +153,22 @@ cut-stays_ rule start from first done p g t span is none marks c =
     })
     (Contains-push_cases f.ended (cut_last (t ∷ span)) sp (subst (λ (ss : List (List Told)). Contains ss sp) spans at))))
     (cut-history rule start from first done p t span f)
-    (λ u cut. subst (λ (ts : List Told). CutIn ts u) (sym parts.3) (cut-instead parts.0 parts.1 u (subst (λ (ts : List Told). CutIn ts u) parts.2 cut)))
-    (λ card a b broken. subst (λ (ts : List Told). BrokenIn ts card a b) (sym parts.3) (broken-instead parts.0 parts.1 card a b (subst (λ (ts : List Told). BrokenIn ts card a b) parts.2 broken))) c
+    (λ u failed. still u failed)
+    (λ card a b broken. ⊎_elim (λ failed. inl (still b failed))
+    (λ torn. inr (subst (λ (ts : List Told). TornBetween ts card a b) (sym parts.3) (torn-instead parts.0 parts.1 card a b (subst (λ (ts : List Told). TornBetween ts card a b) parts.2 torn))))
+    broken) c
   where
-    cut-instead : (front : List Told) (x : Told) (u : ℕ) → CutIn (front ++ x ∷ []) u → CutIn (front ++ cut_at_end x ∷ []) u
-    cut-instead front x u cut = ⊎_elim
-        (λ old. (cut.0, Contains-append_left front (cut_at_end x ∷ []) cut.0 old, cut.2, cut.3))
-        (λ (here : x ≡ cut.0). (cut_at_end x, Contains-push front (cut_at_end x), ap (λ (y : Told). y.second.number) here ∙ cut.2, refl))
-        (Contains-push_cases front x cut.0 cut.1)
+    still : (u : ℕ) → FailedCutIn p.log u → FailedCutIn (and_break p.log (cut_at (p.next - 1) false p.begun)) u
+    still u failed = subst (λ (us : List ℕ). Contains us u) (sym (by-other p.log.breaks (p.next - 1) false p.begun)) failed
 
-    broken-instead : (front : List Told) (x : Told) (card : Card) (a b : ℕ) → BrokenIn (front ++ x ∷ []) card a b → BrokenIn (front ++ cut_at_end x ∷ []) card a b
-    broken-instead front x card a b broken = ⊎_elim
-        (λ old. (broken.0, Contains-append_left front (cut_at_end x ∷ []) broken.0 old, broken.2, broken.3, broken.4))
-        (λ (here : x ≡ broken.0). (
+    torn-instead : (front : List Told) (x : Told) (card : Card) (a b : ℕ) → TornBetween (front ++ x ∷ []) card a b → TornBetween (front ++ cut_at_end x ∷ []) card a b
+    torn-instead front x card a b torn = ⊎_elim
+        (λ old. (torn.0, Contains-append_left front (cut_at_end x ∷ []) torn.0 old, torn.2, torn.3, torn.4))
+        (λ (here : x ≡ torn.0). (
           cut_at_end x,
           Contains-push front (cut_at_end x),
-          subst (λ (y : Told). a ≤ y.second.number) (sym here) broken.2,
-          subst (λ (y : Told). y.second.number ≤ b) (sym here) broken.3,
-          inl refl,
+          subst (λ (y : Told). a ≤ y.second.number) (sym here) torn.2,
+          subst (λ (y : Told). y.second.number ≤ b) (sym here) torn.3,
+          subst (λ (y : Told). TornIn card y) (sym here) torn.4,
         ))
-        (Contains-push_cases front x broken.0 broken.1)
+        (Contains-push_cases front x torn.0 torn.1)

@@ -13,7 +13,7 @@ use Rattle.log_model.specs.declared.lines.Refused.{Refused}
 use Rattle.log_model.specs.Log.{RunLog, In}
 use Rattle.log_model.specs.Slots.{same_card}
 use Rattle.log_model.specs.Course.{Told, Visit, went}
-use Rattle.log_model.specs.Causes.{device_of, is_cut, second_of, cuts, tears, places, in_the_slot, refusals_of, pulled_of, torn_of, cards_torn, finds_of, off_cuts, RoseBy, IsBegun, IsJudged}
+use Rattle.log_model.specs.Causes.{device_of, is_cut, second_of, cuts, AreInTime, tears, places, in_the_slot, refusals_of, pulled_of, torn_of, cards_torn, finds_of, off_cuts, RoseBy, IsBegun, IsAtPowerOn, HasMoment, IsJudged}
 use Rattle.history_model.specs.Presence.{Start}
 use Rattle.unit_course.specs.Caused.{IsOver}
 use Rattle.unit_course.specs.Lines.{log_of, cut_at, found_from}
@@ -36,6 +36,8 @@ pub record AreCaused (before now : Device → ℕ) (ss : List TraceSecond) (log 
   pub failed_tears : (slot : Slot) → in_the_slot slot (flat_map places (tears true log)) ≡ in_the_slot slot (torn_of (went log ss).told)
   pub torn_cards : (card : Card) → RoseBy (length (filter (same_card card) (cards_torn (went log ss).told))) (before (device_of card)) (now (device_of card))
   pub begun : AllByRecursion (IsBegun ss) log.breaks
+  pub moments : AllByRecursion (HasMoment (went log ss).told) log.breaks
+  pub order : AreInTime log.breaks
   pub finds : map (λ f. (f.second, In f.begun, f.slot, f.verdict)) log.finds ≡ finds_of (went log ss).told
   pub judged : (t : Told) (e : Visit) → Contains (went log ss).told t → Contains t.course.entered e → IsJudged log t e
 
@@ -49,6 +51,8 @@ pub record AreNewCauses (mid now : Device → ℕ) (breaks : List Break) (finds 
   pub failed_tears : (slot : Slot) → in_the_slot slot (flat_map places (tears true (log_of breaks))) ≡ in_the_slot slot (torn_of (t ∷ []))
   pub torn_cards : (card : Card) → RoseBy (length (filter (same_card card) (cards_torn (t ∷ [])))) (mid (device_of card)) (now (device_of card))
   pub begun : AllByRecursion (IsBegun (s ∷ [])) breaks
+  pub moments : AllByRecursion (IsAtPowerOn t.starts) breaks
+  pub order : AreInTime breaks
   pub told_finds : map (λ f. (f.second, In f.begun, f.slot, f.verdict)) finds ≡ finds_of (t ∷ [])
   pub judged : (e : Visit) → Contains t.course.entered e → IsJudged later t e
 

@@ -14,7 +14,7 @@ use Rattle.log_model.specs.Course.{Told, went, second_told}
 use Rattle.log_model.specs.Spans.{AreInOrder}
 use Rattle.history_model.specs.Minutes.{HistoryMinute, on_card}
 use Rattle.history_model.specs.Presence.{Start}
-use Rattle.history_model.specs.Completeness.{IsMarked, BrokenIn, IsComplete}
+use Rattle.history_model.specs.Completeness.{IsMarked, FailedCutIn, TornBetween, IsComplete}
 use Rattle.history_model.specs.Book.{all, IsMark}
 use Rattle.unit_course.specs.Lines.{cut_at, found_from}
 use Rattle.unit_course.specs.Followed.{Lit, MayPower, MayFail}
@@ -27,23 +27,24 @@ abbrev pub AllMarked : (marks later : List Mark) → Type 0
 AllMarked marks later = (device : Device) (m : ℕ) → IsMarked marks device m → IsMarked later device m
 
 -- The minutes that a second decides: each is acknowledged by the unit, and what it says on a card by that card, but where the second is
--- a cut's, or the card was torn out since the minute's end.
+-- a cut's, or the card was torn out or pulled out since the minute's end.
 pub record AreAcknowledged (marks : List Mark) (now : List Told) (number : ℕ) (t : Told) (new : List HistoryMinute) : Type 0 where
   pub unit : (i : HistoryMinute) → Contains new i → IsMarked marks Recorder i.minute ⊎ (t.cut ≡ true)
   pub card : (i : HistoryMinute) (card : Card) (e : Entry) → Contains new i → Contains (on_card card i) e →
-      IsMarked marks (device_of card) i.minute ⊎ BrokenIn now card (60 * (i.minute + 1)) number
+      IsMarked marks (device_of card) i.minute ⊎ ((t.cut ≡ true) ⊎ TornBetween now card (60 * (i.minute + 1)) number)
 
 -- nothing is decided before the first second
 abbrev pub NothingIsDecidedYet : Type 0
 NothingIsDecidedYet = (rule : Rule) (start : Start) (log : RunLog) (marks : List Mark) → IsComplete rule start log (went log []).told marks
 
--- ONE SECOND MORE with power
+-- ONE SECOND MORE with power: while it is the last, only a failed call makes it a cut's
 abbrev pub ASecondIsAcknowledged : Type 0
 ASecondIsAcknowledged = (rule : Rule) (start : Start) (from first : ℕ) (done : List TraceSecond) (p : Progress) → Followed rule start from first done p →
     (span : List Told) → p.supply ≡ Lit span → p.waiting ≡ [] → (s : TraceSecond) (later : RunLog) → GoesOnBy p later s →
     (new : List HistoryMinute) → DecidedBy rule start later done s span p.book new →
     (marks more : List Mark) → AllMarked marks more → IsComplete rule start p.log (went p.log done).told marks →
     AreAcknowledged more (went later (done ++ s ∷ [])).told p.next (next_told later done s) new →
+    ((next_told later done s).cut ≡ true → FailedCutIn later p.next) →
     IsComplete rule start later (went later (done ++ s ∷ [])).told more
 
 -- A SECOND WITHOUT POWER, or with which power begins, by the same log
@@ -72,7 +73,7 @@ RefusalsStayComplete = (rule : Rule) (start : Start) (log : RunLog) (refused : L
     IsComplete rule start log (went log done).told marks →
     (let later : RunLog = record log { refused = refused } in IsComplete rule start later (went later done).told marks)
 
--- THE LAST SECOND turns out to be a cut's.
+-- THE LAST SECOND turns out to be a cut's, of an `off` line: it excuses nothing.
 abbrev pub ACutStaysComplete : Type 0
 ACutStaysComplete = (rule : Rule) (start : Start) (from first : ℕ) (done : List TraceSecond) (p : Progress) → Followed rule start from first done p →
     (t : Told) (span : List Told) → p.supply ≡ Lit (t ∷ span) → p.waiting ≡ [] → (marks : List Mark) →

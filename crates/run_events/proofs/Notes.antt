@@ -23,15 +23,15 @@ use Rattle.run_events.specs.Running.{judged_notes, second_notes}
 use Rattle.run_events.proofs.Shows.{kind-or}
 
 -- EVENTS OF ONE TYPE
-abbrev OfKind : ℕ → List Event → Type 0
+abbrev pub OfKind : ℕ → List Event → Type 0
 OfKind known es = AllByRecursion (λ (e : Event). e.kind ≡ known) es
 
-of-itself : (known : ℕ) (es : List Event) → OfKind known es → by_kind es known ≡ es
+pub of-itself : (known : ℕ) (es : List Event) → OfKind known es → by_kind es known ≡ es
 of-itself known [] all = refl
 of-itself known (e ∷ es) all =
     ap (λ (b : Bool). cond b (e ∷ by_kind es known) (by_kind es known)) (eq-eqb e.kind known all.0) ∙ ap (λ (l : List Event). e ∷ l) (of-itself known es all.1)
 
-of-other : (known kind : ℕ) (es : List Event) → known ≢ kind → OfKind known es → by_kind es kind ≡ []
+pub of-other : (known kind : ℕ) (es : List Event) → known ≢ kind → OfKind known es → by_kind es kind ≡ []
 of-other known kind [] ne all = refl
 of-other known kind (e ∷ es) ne all =
     ap (λ (b : Bool). cond b (e ∷ by_kind es kind) (by_kind es kind)) (ne_eqb e.kind kind (λ is. ne (sym all.0 ∙ is))) ∙ of-other known kind es ne all.1
@@ -70,10 +70,10 @@ module _ (limit : ℕ) (sessions : ℕ → Visit → ℕ) (t : Tearing) (log : R
   lit-kind known true es all = all
   lit-kind known false es all = tt
 
-  abbrev bares : List Event
+  abbrev pub bares : List Event
   bares = cond x.told.lit (bares_by (span_before spans x) (x ∷ [])) []
 
-  abbrev overs : List Event
+  abbrev pub overs : List Event
   overs = cond x.told.lit (overs_by limit (span_before spans x) (x ∷ [])) []
 
   abbrev gaps : List Event
@@ -85,12 +85,12 @@ module _ (limit : ℕ) (sessions : ℕ → Visit → ℕ) (t : Tearing) (log : R
   abbrev judged : List Event
   judged = flat_map (λ (f : Visit × Verdict). judged_notes (sessions (number_of x) f.0) t x f.0 f.1) x.told.course.found
 
-  bares-kind : OfKind DRIVING_WITHOUT_CARD bares
+  pub bares-kind : OfKind DRIVING_WITHOUT_CARD bares
   bares-kind =
       lit-kind DRIVING_WITHOUT_CARD x.told.lit (bares_by (span_before spans x) (x ∷ []))
       (kind-runs DRIVING_WITHOUT_CARD bare_event bare-kind (runs_behind is_bare (last_run is_bare (span_before spans x)) (x ∷ [])))
 
-  overs-kind : OfKind OVER_SPEEDING overs
+  pub overs-kind : OfKind OVER_SPEEDING overs
   overs-kind =
       lit-kind OVER_SPEEDING x.told.lit (overs_by limit (span_before spans x) (x ∷ []))
       (kind-runs OVER_SPEEDING over_event over-kind (runs_behind (is_fast limit) (last_run (is_fast limit) (span_before spans x)) (x ∷ [])))
@@ -121,7 +121,7 @@ module _ (limit : ℕ) (sessions : ℕ → Visit → ℕ) (t : Tearing) (log : R
       by false starts = tt
 
   -- WHAT A JUDGED CARD BRINGS, by type
-  one-judged : (kind session : ℕ) (v : Visit) (verdict : Verdict) → by_kind (judged_notes session t x v verdict) kind ≡ found_events kind session t x v verdict
+  pub one-judged : (kind session : ℕ) (v : Visit) (verdict : Verdict) → by_kind (judged_notes session t x v verdict) kind ≡ found_events kind session t x v verdict
   one-judged kind session v (NotValid fid place) =
       ⊎_elim (λ is. subst (λ (k : ℕ). by_kind (judged_notes session t x v (NotValid fid place)) k ≡ found_events k session t x v (NotValid fid place)) (sym is) refl)
       (λ ne. ap (λ (b : Bool). cond b (noted_with CARD_NOT_VALID (number_of x) (number_of x) (crew_judged t x v None) ∷ []) []) (ne_eqb CARD_NOT_VALID kind (λ is. ne (sym is)))

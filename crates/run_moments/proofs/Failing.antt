@@ -56,7 +56,7 @@ power-on_cut rule start from first done p f may s number given mid later more br
     ∙ ap (λ (b : Bool). told_with b (is_some (cut_in log s.number)) s (second_told log before s).course) starts
     ∙ ap (λ (o : Option ℕ). told_with true (is_some o) s (second_told log before s).course) (cut-now p.log s 0 none.cut)
     ∙ ap (told_with true true s) (cut-course p.log before s (In 0) s.actions power up ([], refl, refl) ∙ ap (λ (d : Course). cut_told true (not_begun s.actions d)) course) in
-    let parts : HasCourse p s (In 0) p.log c.entered mid mid c = record {
+    let parts : HasCourse true p s (In 0) p.log c.entered mid mid c = record {
       number = number;
       given = given;
       breaks = [];
@@ -74,6 +74,7 @@ power-on_cut rule start from first done p f may s number given mid later more br
       failed_tears = λ slot. refl;
       torn_cards = λ card. inl (omega arith);
       begun = tt;
+      moments = tt;
       told_finds = refl;
       judged = λ e at. inl (record { among = at; none = refl });
       counted = λ card. omega arith;

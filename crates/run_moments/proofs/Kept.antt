@@ -24,7 +24,7 @@ use Rattle.history_model.specs.Minutes.{HistoryMinute, on_card}
 use Rattle.history_model.specs.Presence.{Start}
 use Rattle.history_model.specs.History.{seated, minutes_after, decided_of}
 use Rattle.history_model.specs.Growth.{picking, settled_where}
-use Rattle.history_model.specs.Completeness.{IsMarked, BrokenIn}
+use Rattle.history_model.specs.Completeness.{IsMarked}
 use Rattle.history_model.proofs.Closing.{minutes-parts}
 use Rattle.unit_course.specs.Followed.{Lit}
 use Rattle.unit_course.specs.Legs.{Travel, travelled, all_travelled}
@@ -32,7 +32,7 @@ use Rattle.unit_course.specs.Turn.{span_at}
 use Rattle.run_course.specs.Followed.{Progress, Followed}
 use Rattle.run_course.specs.Seconds.{GoesOnBy, next_told}
 use Rattle.run_course.specs.Complete.{AreAcknowledged}
-use Rattle.run_course.proofs.Complete.{broken-stays}
+use Rattle.run_course.proofs.Complete.{torn-stays}
 use Rattle.run_course.proofs.Steps.{rules_see}
 use Rattle.run_moments.specs.Kept.{settled_times, fed_where, HasDecided, NothingIsDecidedYet, ASelectionIsHeard, ASettlingDecides, NothingElseDecides, AMinuteIsKept, TheSecondIsFed, TheSecondHasDecided, OneMoreIsTravelled, BrokenSince, AreMarkedSoFar, StaysOut, NothingIsMarkedYet, MarksStay, OneMoreIsMarked, AllAreAcknowledged}
 
@@ -223,8 +223,8 @@ all-acknowledged marks told t number new is h = record {
   card = λ i card e at on. ⊎_elim
       (λ k. inl k)
       (λ broken. ⊎_elim
-      (λ before. inr (broken-stays told (t ∷ []) card (60 * (i.minute + 1)) number before))
-      (λ now. inr (t, Contains-push told t, (let le = now.0 in omega (arith, le, is)), omega (arith, is), inr now.1))
+      (λ before. inr (inr (torn-stays told (t ∷ []) card (60 * (i.minute + 1)) number before)))
+      (λ now. inr (inr (t, Contains-push told t, (let le = now.0 in omega (arith, le, is)), omega (arith, is), now.1)))
       broken)
       (h.card i card e at on);
 }

@@ -24,7 +24,7 @@ use Rattle.log_model.specs.declared.lines.SlotFault.TheVariants.{Empty}
 use Rattle.log_model.specs.declared.lines.Verdict.{Verdict}
 use Rattle.log_model.specs.Log.{RunLog, Phase, In, Keeping, same_phase, tears_here, is_torn_in, found_in}
 use Rattle.log_model.specs.Slots.{Slots, Sitting, in_slot, other_slot, refusal}
-use Rattle.log_model.specs.Causes.{device_of, is_cut, second_of, tears, places, visit_places, in_the_slot, has_failed, RoseBy, IsBegun}
+use Rattle.log_model.specs.Causes.{device_of, is_cut, second_of, tears, places, visit_places, in_the_slot, has_failed, RoseBy, IsBegun, IsAtPowerOn}
 use Rattle.log_model.specs.Course.{Told, Course, Visit, Before, Moved, visits, card_in, with_slot, slot_told, both_told, moved_by, unmoved, answered, carried_out, fresh, went}
 use Rattle.history_model.specs.Presence.{Start}
 use Rattle.unit_course.specs.Lines.{log_of}
@@ -45,8 +45,8 @@ use Rattle.run_moments.proofs.Lines.{times-append, tear-begun, tear-other, tear-
 pub reaches-of : (p : Progress) (before : Before) (s : TraceSecond) (at : Phase) (log : RunLog) (waits : List Visit) (mid now : Device → ℕ) → Moment p before s at log waits mid now → Reaches p s at log
 reaches-of p before s at log waits mid now m = record { goes = goes_on m; up_to = m.up_to; is = m.is }
 
--- THE COURSE OF A MOMENT by its parts: it is this one
-pub record HasCourse (p : Progress) (s : TraceSecond) (at : Phase) (log : RunLog) (waits : List Visit) (mid now : Device → ℕ) (c : Course) : Type 0 where
+-- THE COURSE OF A MOMENT by its parts, in a second with which power comes or not: it is this one
+pub record HasCourse (starts : Bool) (p : Progress) (s : TraceSecond) (at : Phase) (log : RunLog) (waits : List Visit) (mid now : Device → ℕ) (c : Course) : Type 0 where
   pub number : s.number ≡ p.next
   pub given : s.has_power ≡ true
   pub breaks : List Break
@@ -64,13 +64,14 @@ pub record HasCourse (p : Progress) (s : TraceSecond) (at : Phase) (log : RunLog
   pub failed_tears : (slot : Slot) → in_the_slot slot (flat_map places (tears true (log_of breaks))) ≡ in_the_slot slot (visit_places s.number c.torn)
   pub torn_cards : (card : Card) → RoseBy (times_of card c.torn) (mid (device_of card)) (now (device_of card))
   pub begun : AllByRecursion (IsBegun (s ∷ [])) breaks
+  pub moments : AllByRecursion (IsAtPowerOn starts) breaks
   pub told_finds : map find_as finds ≡ map (found_at s.number) c.found
   pub judged : (e : Visit) → Contains c.entered e → IsWaiting waits c e ⊎ IsJudgedBy log s.number c e
   pub counted : (card : Card) → times_of card waits + finds_by card c.found ≤ times_of card c.entered
   pub found_now : AllByRecursion (λ (f : Visit × Verdict). IsBehind at f.0.phase → ⊥) c.found
 
 abbrev pub parts-of : (p : Progress) (before : Before) (s : TraceSecond) (at : Phase) (log : RunLog) (waits : List Visit) (mid now : Device → ℕ) → Moment p before s at log waits mid now →
-    HasCourse p s at log waits mid now (course_at log before s at)
+    HasCourse (not before.running) p s at log waits mid now (course_at log before s at)
 parts-of p before s at log waits mid now m = record {
   number = m.number;
   given = m.given;
@@ -89,6 +90,7 @@ parts-of p before s at log waits mid now m = record {
   failed_tears = m.failed_tears;
   torn_cards = m.torn_cards;
   begun = m.begun;
+  moments = m.moments;
   told_finds = m.told_finds;
   judged = m.judged;
   counted = m.counted;
@@ -96,7 +98,7 @@ parts-of p before s at log waits mid now m = record {
 }
 
 moment-itself : (p : Progress) (before : Before) (s : TraceSecond) (at : Phase) (log : RunLog) (waits : List Visit) (mid now : Device → ℕ) → Reaches p s at log → AllByRecursion (λ (e : Visit). e.phase ≡ at) waits →
-    HasCourse p s at log waits mid now (course_at log before s at) → Moment p before s at log waits mid now
+    HasCourse (not before.running) p s at log waits mid now (course_at log before s at) → Moment p before s at log waits mid now
 moment-itself p before s at log waits mid now r here h = record {
   number = h.number;
   given = h.given;
@@ -117,6 +119,7 @@ moment-itself p before s at log waits mid now r here h = record {
   failed_tears = h.failed_tears;
   torn_cards = h.torn_cards;
   begun = h.begun;
+  moments = h.moments;
   told_finds = h.told_finds;
   judged = h.judged;
   counted = h.counted;
@@ -125,8 +128,8 @@ moment-itself p before s at log waits mid now r here h = record {
 }
 
 pub moment-by : (p : Progress) (before : Before) (s : TraceSecond) (at : Phase) (log : RunLog) (waits : List Visit) (mid now : Device → ℕ) (c : Course) → course_at log before s at ≡ c → Reaches p s at log →
-    AllByRecursion (λ (e : Visit). e.phase ≡ at) waits → HasCourse p s at log waits mid now c → Moment p before s at log waits mid now
-moment-by p before s at log waits mid now c is r here h = moment-itself p before s at log waits mid now r here (subst (HasCourse p s at log waits mid now) (sym is) h)
+    AllByRecursion (λ (e : Visit). e.phase ≡ at) waits → HasCourse (not before.running) p s at log waits mid now c → Moment p before s at log waits mid now
+moment-by p before s at log waits mid now c is r here h = moment-itself p before s at log waits mid now r here (subst (HasCourse (not before.running) p s at log waits mid now) (sym is) h)
 
 -- THE SECOND BEGINS
 pub entered-here : (starts : Bool) (slots : Slots) → AllByRecursion (λ (e : Visit). e.phase ≡ In 0) (fresh starts slots).entered
@@ -167,6 +170,7 @@ moment-begins rule start from first done p f span is s number power mid =
             failed_tears = λ slot. refl;
             torn_cards = λ card. inl (omega arith);
             begun = tt;
+            moments = tt;
             told_finds = refl;
             judged = λ e at. inl (record { among = at; none = refl });
             counted = λ card. omega arith;
@@ -188,8 +192,8 @@ found-later n [] h = tt
 found-later n (f ∷ fs) h = ((λ behind. h.0 (behind-more n f.0.phase behind)), found-later n fs h.1)
 
 -- it adds a refusal
-refused-more : (p : Progress) (s : TraceSecond) (n : ℕ) (log : RunLog) (mid now : Device → ℕ) (c : Course) (fault : SlotFault) → HasCourse p s (In n) log [] mid now c →
-    HasCourse p s (In (suc n)) (and_refused log (record { second = s.number; fault = fault })) [] mid now (record c { refused = c.refused ++ fault ∷ [] })
+refused-more : {starts : Bool} (p : Progress) (s : TraceSecond) (n : ℕ) (log : RunLog) (mid now : Device → ℕ) (c : Course) (fault : SlotFault) → HasCourse starts p s (In n) log [] mid now c →
+    HasCourse starts p s (In (suc n)) (and_refused log (record { second = s.number; fault = fault })) [] mid now (record c { refused = c.refused ++ fault ∷ [] })
 unfolding is_torn_in
 refused-more p s n log mid now c fault h =
     let r : Refused = record { second = s.number; fault = fault } in
@@ -212,6 +216,7 @@ refused-more p s n log mid now c fault h =
       failed_tears = h.failed_tears;
       torn_cards = h.torn_cards;
       begun = h.begun;
+      moments = h.moments;
       told_finds = h.told_finds;
       judged = λ e at. inr (let j = nobody log s.number c e (h.judged e at) in record { once = j.once; missing = j.missing });
       counted = h.counted;
@@ -254,8 +259,8 @@ record SameTold (c d : Course) : Type 0 where
   torn : d.torn ≡ c.torn
   found : d.found ≡ c.found
 
-done-more : (p : Progress) (s : TraceSecond) (n : ℕ) (log : RunLog) (waits : List Visit) (mid now : Device → ℕ) (c d : Course) → HasCourse p s (In n) log [] mid now c → SameTold c d →
-    ((card : Card) → times_of card waits + times_of card c.entered ≤ times_of card d.entered) → ((e : Visit) → Contains d.entered e → Contains c.entered e ⊎ (Contains waits e × (e.phase ≡ In (suc n)))) → HasCourse p s (In (suc n)) log waits mid now d
+done-more : {starts : Bool} (p : Progress) (s : TraceSecond) (n : ℕ) (log : RunLog) (waits : List Visit) (mid now : Device → ℕ) (c d : Course) → HasCourse starts p s (In n) log [] mid now c → SameTold c d →
+    ((card : Card) → times_of card waits + times_of card c.entered ≤ times_of card d.entered) → ((e : Visit) → Contains d.entered e → Contains c.entered e ⊎ (Contains waits e × (e.phase ≡ In (suc n)))) → HasCourse starts p s (In (suc n)) log waits mid now d
 done-more p s n log waits mid now c d h same more enters = record {
   number = h.number;
   given = h.given;
@@ -274,6 +279,7 @@ done-more p s n log waits mid now c d h same more enters = record {
   failed_tears = λ slot. h.failed_tears slot ∙ ap (λ (vs : List Visit). in_the_slot slot (visit_places s.number vs)) (sym same.torn);
   torn_cards = λ card. subst (λ (vs : List Visit). RoseBy (times_of card vs) (mid (device_of card)) (now (device_of card))) (sym same.torn) (h.torn_cards card);
   begun = h.begun;
+  moments = h.moments;
   told_finds = h.told_finds ∙ ap (λ (fs : List (Visit × Verdict)). map (found_at s.number) fs) (sym same.found);
   judged = λ e at. ⊎_elim
       (λ old. inr (let j = nobody log s.number c e (h.judged e old) in record {
@@ -294,8 +300,8 @@ done-more p s n log waits mid now c d h same more enters = record {
 plain-told : (c d : Course) → d.refused ≡ c.refused → d.pulled ≡ c.pulled → d.torn ≡ c.torn → d.found ≡ c.found → SameTold c d
 plain-told c d a b e f = record { refused = a; pulled = b; torn = e; found = f }
 
-done-by : (p : Progress) (s : TraceSecond) (log : RunLog) (mid now : Device → ℕ) (n : ℕ) (a : Action) (c : Course) → pulls a ≡ None → HasCourse p s (In n) log [] mid now c →
-    HasCourse p s (In (suc n)) log (entering_by n a) mid now (answered n None a c)
+done-by : {starts : Bool} (p : Progress) (s : TraceSecond) (log : RunLog) (mid now : Device → ℕ) (n : ℕ) (a : Action) (c : Course) → pulls a ≡ None → HasCourse starts p s (In n) log [] mid now c →
+    HasCourse starts p s (In (suc n)) log (entering_by n a) mid now (answered n None a c)
 done-by p s log mid now n (Select slot pick) c none h = done-more p s n log [] mid now c (carried_out n (Select slot pick) c) h (plain-told c (carried_out n (Select slot pick) c) refl refl refl refl) (λ card. omega arith) (λ e at. inl at)
 done-by p s log mid now n (Insert slot card) c none h =
     let more : n + 1 ≡ suc n = omega arith in
@@ -337,9 +343,9 @@ places-more failed bs b = ap (flat_map places) (tears-more failed bs b) ∙ flat
 torn-more : (log : RunLog) (b : Break) (u : ℕ) (p : Phase) (slot : Slot) → is_torn_in log u p slot ≡ true → is_torn_in (and_break log b) u p slot ≡ true
 torn-more log b u p slot is = (break-more log b u).torn p slot ∙ ap (λ (t : Bool). t || tears_here u p slot b) is
 
-pulled-parts : (p : Progress) (s : TraceSecond) (n : ℕ) (log : RunLog) (mid now : Device → ℕ) (c : Course) (slot : Slot) (x : Sitting) → in_slot c.slots slot ≡ Some x → suc n ≤ length s.actions → HasCourse p s (In n) log [] mid now c →
-    HasCourse p s (In (suc n)) (and_break log (Tear s.number slot false (suc n) false)) [] mid now (carried_out n (Pull slot) c)
-pulled-parts p s n log mid now c slot x sits few h =
+pulled-parts : {starts : Bool} (p : Progress) (s : TraceSecond) (n : ℕ) (log : RunLog) (mid now : Device → ℕ) (c : Course) (slot : Slot) (x : Sitting) → in_slot c.slots slot ≡ Some x → suc n ≤ length s.actions → HasCourse starts p s (In n) log [] mid now c →
+    HasCourse starts p s (In (suc n)) (and_break log (Tear s.number slot false (suc n) false)) [] mid now (carried_out n (Pull slot) c)
+pulled-parts {starts = starts} p s n log mid now c slot x sits few h =
     let b : Break = Tear s.number slot false (suc n) false in
     let more : n + 1 ≡ suc n = omega arith in
     record {
@@ -363,6 +369,7 @@ pulled-parts p s n log mid now c slot x sits few h =
       failed_tears = λ at. ap (in_the_slot at) (places-more true h.breaks b ∙ append-nil (flat_map places (tears true (log_of h.breaks)))) ∙ h.failed_tears at;
       torn_cards = h.torn_cards;
       begun = push-each (IsBegun (s ∷ [])) h.breaks b h.begun (λ y at same. (only s y at (suc n) few, λ late. absurd (cc)));
+      moments = push-each (IsAtPowerOn starts) h.breaks b h.moments (λ none early. absurd (omega (arith, none)));
       told_finds = h.told_finds;
       judged = λ e at. inr (let j = nobody log s.number c e (h.judged e at) in record { once = j.once; missing = λ none. torn-more log b s.number e.phase e.slot (j.missing none) });
       counted = h.counted;

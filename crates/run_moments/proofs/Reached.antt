@@ -15,7 +15,7 @@ use Rattle.log_model.specs.declared.lines.Refused.{Refused}
 use Rattle.log_model.specs.Log.{RunLog, Phase, In, Keeping, same_phase, phase_of, cut_of, cut_in, tears_here, is_torn_in, found_in}
 use Rattle.log_model.specs.Slots.{refusal}
 use Rattle.log_model.specs.Causes.{second_of}
-use Rattle.log_model.specs.Course.{Told, Course, Before, Moved, both_told, unmoved, moved_by, answered, fresh, went}
+use Rattle.log_model.specs.Course.{Told, Course, Visit, Before, Moved, both_told, unmoved, moved_by, answered, fresh, went}
 use Rattle.event_model.specs.Events.{course_by}
 use Rattle.history_model.specs.Presence.{Start}
 use Rattle.unit_course.specs.Lines.{log_of}
@@ -256,3 +256,14 @@ lines-reached p s at log r = (
     is = r.is;
   }),
 )
+
+-- BEFORE ANY ACTION a card enters only where power comes with the second, and none leaves
+not-true : (b : Bool) → not b ≡ true → b ≡ false
+not-true true h = absurd (cc)
+not-true false h = refl
+
+pub enters-first : (log : RunLog) (before : Before) (s : TraceSecond) (at : Phase) (slot : Slot) → (moved_at log before s at).enters slot ≡ true → at ≡ In 0 → before.running ≡ false
+enters-first log before s at slot enters first = not-true before.running (ap (λ (q : Phase). (moved_at log before s q).enters slot) (sym first) ∙ enters)
+
+pub leaves-first : (log : RunLog) (before : Before) (s : TraceSecond) (at : Phase) (slot : Slot) (v : Visit) (vs : List Visit) → (moved_at log before s at).leaving slot ≡ v ∷ vs → at ≡ In 0 → before.running ≡ false
+leaves-first log before s at slot v vs leaves first = absurd (let some : [] ≡ v ∷ vs = ap (λ (q : Phase). (moved_at log before s q).leaving slot) (sym first) ∙ leaves in cc)

@@ -21,9 +21,9 @@ use Rattle.log_model.specs.declared.lines.Break.TheVariants.{Cut, Tear}
 use Rattle.log_model.specs.declared.lines.Find.{Find}
 use Rattle.log_model.specs.declared.lines.SlotFault.{SlotFault}
 use Rattle.log_model.specs.declared.lines.Verdict.{Verdict}
-use Rattle.log_model.specs.Log.{RunLog, Phase, In, Keeping, same_phase, phase_of, cut_in, tears_here, is_torn_in, found_in}
+use Rattle.log_model.specs.Log.{RunLog, Phase, In, Keeping, same_phase, phase_of, cut_of, cut_in, tears_here, is_torn_in, found_in}
 use Rattle.log_model.specs.Slots.{Slots, Sitting, same_card, in_slot}
-use Rattle.log_model.specs.Causes.{device_of, is_cut, has_failed, second_of, cuts, tears, places, visit_places, in_the_slot, refusals_of, pulled_of, torn_of, cards_torn, finds_of, RoseBy, IsBegun, CutBy, IsJudged}
+use Rattle.log_model.specs.Causes.{device_of, is_cut, has_failed, second_of, cuts, failed_cut_in, ComesBehind, AreInTime, tears, places, visit_places, in_the_slot, refusals_of, pulled_of, torn_of, cards_torn, finds_of, RoseBy, IsBegun, IsAtPowerOn, CutBy, IsJudged}
 use Rattle.log_model.specs.Course.{Told, Went, Course, Visit, Before, Moved, visits, card_in, slot_told, both_told, unmoved, cut_told, lit_course, has_power, second_told, went}
 use Rattle.event_model.specs.Events.{course_by}
 use Rattle.history_model.specs.Presence.{Start}
@@ -35,7 +35,7 @@ use Rattle.run_course.specs.Followed.{Progress, Followed}
 use Rattle.run_course.specs.Seconds.{GoesOnBy, next_told}
 use Rattle.run_course.specs.Within.{IsFoundOf, not_begun}
 use Rattle.run_course.specs.Caused.{AreNewCauses}
-use Rattle.run_course.proofs.Lookups.{found-by, break-more, find-more}
+use Rattle.run_course.proofs.Lookups.{cut-by, cut-first, found-by, break-more, find-more}
 use Rattle.run_course.proofs.Moments.{both-still}
 use Rattle.run_course.proofs.Steps.{with-supply, went-same_}
 use Rattle.run_course.proofs.Told.{lit-power, lit-starts}
@@ -95,6 +95,7 @@ breakdowns-only p before s at log waits mid now later m more =
       failed_tears = h.failed_tears;
       torn_cards = λ card. rose-more (times_of card (course_at log before s at).torn) (mid (device_of card)) (now (device_of card)) (later (device_of card)) (h.torn_cards card) (more (device_of card));
       begun = h.begun;
+      moments = h.moments;
       told_finds = h.told_finds;
       judged = h.judged;
       counted = h.counted;
@@ -119,6 +120,9 @@ tear-begun_by : (s : TraceSecond) (at : Phase) (slot : Slot) (failed : Bool) (b 
 tear-begun_by s at slot failed b is = subst (IsBegun (s ∷ [])) (sym is.2)
     (λ y among same. (only-one s y (λ (z : TraceSecond). is.0 ≤ length z.actions) among is.4, λ late. only-one s y (λ (z : TraceSecond). is.0 ≡ length z.actions) among (is.5 late)))
 
+tear-power : (starts : Bool) (s : TraceSecond) (at : Phase) (slot : Slot) (failed : Bool) (b : Break) → IsTearAt s at slot failed b → (at ≡ In 0 → starts ≡ true) → IsAtPowerOn starts b
+tear-power starts s at slot failed b is power = subst (IsAtPowerOn starts) (sym is.2) (λ none early. power (sym is.3 ∙ ap (phase_of is.0) early ∙ ap In none))
+
 tear-places : (s : TraceSecond) (at : Phase) (slot : Slot) (b : Break) → IsTearAt s at slot true b →
     (flat_map places (tears true (log_of (b ∷ []))) ≡ (s.number, at, slot) ∷ []) × (flat_map places (tears false (log_of (b ∷ []))) ≡ [])
 tear-places s at slot b is = (
@@ -126,9 +130,9 @@ tear-places s at slot b is = (
   ap (λ (x : Break). flat_map places (tears false (log_of (x ∷ [])))) is.2,
 )
 
-torn-parts : (p : Progress) (s : TraceSecond) (at : Phase) (log : RunLog) (waits : List Visit) (mid now later : Device → ℕ) (c d : Course) (slot : Slot) (b : Break) (card : Card) → IsTearAt s at slot true b →
-    BrokeDown card now later → IsTornAt s.number slot (record { phase = at; slot = slot; card = card } ∷ []) c d → HasCourse p s at log waits mid now c → HasCourse p s at (and_break log b) waits mid later d
-torn-parts p s at log waits mid now later c d slot b card is broke t h =
+torn-parts : {starts : Bool} (p : Progress) (s : TraceSecond) (at : Phase) (log : RunLog) (waits : List Visit) (mid now later : Device → ℕ) (c d : Course) (slot : Slot) (b : Break) (card : Card) → IsTearAt s at slot true b → (at ≡ In 0 → starts ≡ true) →
+    BrokeDown card now later → IsTornAt s.number slot (record { phase = at; slot = slot; card = card } ∷ []) c d → HasCourse starts p s at log waits mid now c → HasCourse starts p s at (and_break log b) waits mid later d
+torn-parts {starts = starts} p s at log waits mid now later c d slot b card is power broke t h =
     let one : List Visit = record { phase = at; slot = slot; card = card } ∷ [] in
     let mine = tear-places s at slot b is in
     record {
@@ -154,6 +158,7 @@ torn-parts p s at log waits mid now later c d slot b card is broke t h =
       torn_cards = λ other. subst (λ (n : ℕ). RoseBy n (mid (device_of other)) (later (device_of other))) (sym (t.times other))
           (rose-sum (times_of other c.torn) (times_of other one) (mid (device_of other)) (now (device_of other)) (later (device_of other)) (h.torn_cards other) (one-time card other at slot now later broke));
       begun = push-each (IsBegun (s ∷ [])) h.breaks b h.begun (tear-begun_by s at slot true b is);
+      moments = push-each (IsAtPowerOn starts) h.breaks b h.moments (tear-power starts s at slot true b is power);
       told_finds = h.told_finds ∙ ap (map (found_at s.number)) (sym t.is.found);
       judged = λ e among. ⊎_elim
           (λ w. inl (record { among = w.among; none = found-same e ∙ w.none }))
@@ -170,12 +175,12 @@ torn-parts p s at log waits mid now later c d slot b card is broke t h =
     found-same e = ap (λ (fs : List (Visit × Verdict)). map (λ (f : Visit × Verdict). f.1) (filter (λ (f : Visit × Verdict). same_phase f.0.phase e.phase && same_slot f.0.slot e.slot) fs)) t.is.found
 
 pub card-torn : ACardIsTorn
-card-torn p before s at log waits mid now later m slot b is old card out broke =
+card-torn p before s at log waits mid now later m slot b is power old card out broke =
     let c : Course = course_at log before s at in
     let d : Course = course_at (and_break log b) before s at in
     let t : IsTornAt s.number slot (record { phase = at; slot = slot; card = card } ∷ []) c d = subst (λ (vs : List Visit). IsTornAt s.number slot vs c d) out (tear-seen log before s at slot true b is m.up_to old) in (
       moment-by p before s at (and_break log b) waits mid later d refl ((lines-reached p s at log (reaches-of p before s at log waits mid now m)).0 slot true b is) m.waits_here
-          (torn-parts p s at log waits mid now later c d slot b card is broke t (parts-of p before s at log waits mid now m)),
+          (torn-parts p s at log waits mid now later c d slot b card is (λ first. ap not (power first)) broke t (parts-of p before s at log waits mid now m)),
       t,
     )
 
@@ -203,6 +208,7 @@ waits-no_more p before s at log waits fewer mid now m slot card torn but here =
       failed_tears = h.failed_tears;
       torn_cards = h.torn_cards;
       begun = h.begun;
+      moments = h.moments;
       told_finds = h.told_finds;
       judged = λ e among. ⊎_elim
           (λ w. ⊎_elim
@@ -324,7 +330,7 @@ no-found u at slot [] (g ∷ found) same none = absurd (cc)
 no-found u at slot (f ∷ finds) [] same none = absurd (cc)
 no-found u at slot (f ∷ finds) (g ∷ found) same none = one-found u at slot f g finds found (let head : find_as f ≡ found_at u g = cc in head) none (λ rest. no-found u at slot finds found (let tail : map find_as finds ≡ map (found_at u) found = cc in tail) rest)
 
-untold : (p : Progress) (s : TraceSecond) (at : Phase) (log : RunLog) (waits : List Visit) (mid now : Device → ℕ) (c : Course) (slot : Slot) → HasCourse p s at log waits mid now c → found_in log s.number at slot ≡ [] →
+untold : {starts : Bool} (p : Progress) (s : TraceSecond) (at : Phase) (log : RunLog) (waits : List Visit) (mid now : Device → ℕ) (c : Course) (slot : Slot) → HasCourse starts p s at log waits mid now c → found_in log s.number at slot ≡ [] →
     filter (λ (g : Visit × Verdict). same_phase g.0.phase at && same_slot g.0.slot slot) c.found ≡ []
 untold p s at log waits mid now c slot h none =
     no-found s.number at slot h.finds c.found h.told_finds
@@ -368,7 +374,7 @@ module _ (p : Progress) (s : TraceSecond) (at : Phase) (log : RunLog) (waits few
           }))
           h
 
-  judged-parts : HasCourse p s at log waits mid now c → HasCourse p s at (and_find log f) fewer mid now d
+  judged-parts : {starts : Bool} → HasCourse starts p s at log waits mid now c → HasCourse starts p s at (and_find log f) fewer mid now d
   judged-parts h = record {
     number = h.number;
     given = h.given;
@@ -387,6 +393,7 @@ module _ (p : Progress) (s : TraceSecond) (at : Phase) (log : RunLog) (waits few
     failed_tears = λ other. h.failed_tears other ∙ ap (λ (vs : List Visit). in_the_slot other (visit_places s.number vs)) (sym torn);
     torn_cards = λ card. subst (λ (vs : List Visit). RoseBy (times_of card vs) (mid (device_of card)) (now (device_of card))) (sym torn) (h.torn_cards card);
     begun = h.begun;
+    moments = h.moments;
     told_finds = map-append find_as h.finds (f ∷ []) ∙ ap (λ (xs : List (ℕ × Phase × Slot × Verdict)). xs ++ find_as f ∷ []) h.told_finds
         ∙ ap (λ (x : ℕ × Phase × Slot × Verdict). map (found_at s.number) c.found ++ x ∷ []) one-as
         ∙ sym (map-append (found_at s.number) c.found ((v, f.verdict) ∷ []))
@@ -436,7 +443,7 @@ keeping-comes p before s log mid now m =
     let c : Course = course_at log before s (In (length s.actions)) in
     (moment-by p before s Keeping log [] mid now c next.1 next.0 tt (on (parts-of p before s (In (length s.actions)) log [] mid now m)), next.1)
   where
-    on : HasCourse p s (In (length s.actions)) log [] mid now (course_at log before s (In (length s.actions))) → HasCourse p s Keeping log [] mid now (course_at log before s (In (length s.actions)))
+    on : HasCourse (not before.running) p s (In (length s.actions)) log [] mid now (course_at log before s (In (length s.actions))) → HasCourse (not before.running) p s Keeping log [] mid now (course_at log before s (In (length s.actions)))
     on h = record {
       number = h.number;
       given = h.given;
@@ -455,6 +462,7 @@ keeping-comes p before s log mid now m =
       failed_tears = h.failed_tears;
       torn_cards = h.torn_cards;
       begun = h.begun;
+      moments = h.moments;
       told_finds = h.told_finds;
       judged = h.judged;
       counted = h.counted;
@@ -492,8 +500,22 @@ no-cuts_by failed [] h = refl
 no-cuts_by failed (b ∷ bs) h =
     ap (λ (t : Bool). cond (t && cond failed (has_failed b) (not (has_failed b))) (b ∷ cuts failed (log_of bs)) (cuts failed (log_of bs))) h.0 ∙ no-cuts_by failed bs h.1
 
+-- tears of one second are in order, and a cut behind them is
+same-second : (n : ℕ) (b : Break) (bs : List Break) → is_cut b ≡ false → second_of b ≡ n → AllByRecursion (λ (c : Break). second_of c ≡ n) bs → AllByRecursion (ComesBehind b) bs
+same-second n (Cut s k f i) bs uncut is h = absurd (cc)
+same-second n (Tear s slot f i late) [] uncut is h = tt
+same-second n (Tear s slot f i late) (c ∷ bs) uncut is h = let here : second_of c ≡ n = h.0 in (omega (arith, is, here), same-second n (Tear s slot f i late) bs uncut is h.1)
+
+tears-in_time : (n : ℕ) (bs : List Break) → AllByRecursion (λ (b : Break). is_cut b ≡ false) bs → AllByRecursion (λ (b : Break). second_of b ≡ n) bs → AreInTime bs
+tears-in_time n [] uncut h = tt
+tears-in_time n (b ∷ bs) uncut h = (same-second n b bs uncut.0 h.0 h.1, tears-in_time n bs uncut.1 h.1)
+
+cut-in_time : (n : ℕ) (bs : List Break) (b : Break) → AllByRecursion (λ (b : Break). is_cut b ≡ false) bs → AllByRecursion (λ (b : Break). second_of b ≡ n) bs → second_of b ≡ n → AreInTime (bs ++ b ∷ [])
+cut-in_time n [] b uncut h is = (tt, tt)
+cut-in_time n (x ∷ bs) b uncut h is = (same-second n x (bs ++ b ∷ []) uncut.0 h.0 (push-each (λ (c : Break). second_of c ≡ n) bs b h.1 is), cut-in_time n bs b uncut.1 h.1 is)
+
 -- what a second tells where it went so, by its new lines
-told-causes : (p : Progress) (s : TraceSecond) (at : Phase) (log : RunLog) (mid now : Device → ℕ) (c : Course) (starts : Bool) (h : HasCourse p s at log [] mid now c) → AreNewCauses mid now h.breaks h.finds h.refused log s (told_with starts false s c)
+told-causes : (p : Progress) (s : TraceSecond) (at : Phase) (log : RunLog) (mid now : Device → ℕ) (c : Course) (starts : Bool) (h : HasCourse starts p s at log [] mid now c) → AreNewCauses mid now h.breaks h.finds h.refused log s (told_with starts false s c)
 told-causes p s at log mid now c starts h = record {
   refusals = h.refusals ∙ sym (append-nil (map (refused_at s.number) c.refused));
   cut_seconds = ap (map second_of) (no-cuts h.breaks h.uncut);
@@ -503,6 +525,8 @@ told-causes p s at log mid now c starts h = record {
   failed_tears = λ slot. h.failed_tears slot ∙ ap (in_the_slot slot) (sym (append-nil (visit_places s.number c.torn)));
   torn_cards = λ card. subst (λ (cs : List Card). RoseBy (length (filter (same_card card) cs)) (mid (device_of card)) (now (device_of card))) (sym (append-nil (map (λ (v : Visit). v.card) c.torn))) (h.torn_cards card);
   begun = h.begun;
+  moments = h.moments;
+  order = tears-in_time p.next h.breaks h.uncut h.breaks_here;
   told_finds = h.told_finds ∙ sym (append-nil (map (found_at s.number) c.found));
   judged = λ e among. ⊎_elim
       (λ w. absurd (let none = w.among in omega (arith, none.1)))
@@ -517,6 +541,33 @@ power-of rule start from first done p f span is s number given = lit-power span 
 starts-of : (rule : Rule) (start : Start) (from first : ℕ) (done : List TraceSecond) (p : Progress) → Followed rule start from first done p → (span : List Told) → p.supply ≡ Lit span → not (went p.log done).before.running ≡ begins_with span
 starts-of rule start from first done p f span is = lit-starts span (went p.log done).before p.next (with-supply rule start from first done p (Lit span) is f).power
 
+-- the parts of a course, where power comes with the second just so
+abbrev starting : {p : Progress} {s : TraceSecond} {at : Phase} {log : RunLog} {waits : List Visit} {mid now : Device → ℕ} {c : Course} {a b : Bool} → a ≡ b → HasCourse a p s at log waits mid now c → HasCourse b p s at log waits mid now c
+starting same h = record {
+  number = h.number;
+  given = h.given;
+  breaks = h.breaks;
+  breaks_are = h.breaks_are;
+  breaks_here = h.breaks_here;
+  finds = h.finds;
+  finds_are = h.finds_are;
+  finds_here = h.finds_here;
+  refused = h.refused;
+  refused_are = h.refused_are;
+  refusals = h.refusals;
+  uncut = h.uncut;
+  unit = h.unit;
+  tear_lines = h.tear_lines;
+  failed_tears = h.failed_tears;
+  torn_cards = h.torn_cards;
+  begun = h.begun;
+  moments = subst (λ (t : Bool). AllByRecursion (IsAtPowerOn t) h.breaks) same h.moments;
+  told_finds = h.told_finds;
+  judged = h.judged;
+  counted = h.counted;
+  found_now = h.found_now;
+}
+
 pub second-ends_told : TheSecondEnds
 second-ends_told rule start from first done p f span is s log mid now m =
     let before : Before = (went p.log done).before in
@@ -527,7 +578,7 @@ second-ends_told rule start from first done p f span is s log mid now m =
     ∙ ap (λ (b : Bool). told_with b (is_some (cut_in log s.number)) s (second_told log before s).course) (starts-of rule start from first done p f span is)
     ∙ ap (λ (o : Option ℕ). told_with (begins_with span) (is_some o) s (second_told log before s).course) m.up_to.uncut
     ∙ ap (told_with (begins_with span) false s) (second-ends log before s power m.up_to.uncut) in
-    (told, subst (AreNewCauses mid now m.breaks m.finds m.refused log s) (sym told) (told-causes p s Keeping log mid now (course_at log before s Keeping) (begins_with span) (parts-of p before s Keeping log [] mid now m)))
+    (told, subst (AreNewCauses mid now m.breaks m.finds m.refused log s) (sym told) (told-causes p s Keeping log mid now (course_at log before s Keeping) (begins_with span) (starting (starts-of rule start from first done p f span is) (parts-of p before s Keeping log [] mid now m))))
 
 -- A CUT
 slot-same : (log later : RunLog) (u : ℕ) (q : Phase) → ((slot : Slot) → is_torn_in later u q slot ≡ is_torn_in log u q slot) → ((slot : Slot) → found_in later u q slot ≡ found_in log u q slot) → (e : Moved) (slot : Slot) (c : Course) →
@@ -541,6 +592,22 @@ both-same log later u q torn found e c = slot-same log later u q torn found e Co
 or-false : (b : Bool) → (b || false) ≡ b
 or-false true = refl
 or-false false = refl
+
+-- where no cut is told no failed one is
+head-none : (o rest : Option ℕ) → cond (is_some o) o rest ≡ None → (o ≡ None) × (rest ≡ None)
+head-none None rest is = (refl, is)
+head-none (Some n) rest is = absurd (cc)
+
+uncut-failed : (bs : List Break) (u : ℕ) → cut_in (log_of bs) u ≡ None → cut_in (log_of (cuts true (log_of bs))) u ≡ None
+uncut-failed [] u none = none
+uncut-failed (Cut s k true n ∷ bs) u none =
+    let b : Break = Cut s k true n in
+    let both = head-none (cut_of u b) (cut_in (log_of bs) u) (sym (cut-first b bs u) ∙ none) in
+    cut-first b (cuts true (log_of bs)) u ∙ ap (λ (o : Option ℕ). cond (is_some o) o (cut_in (log_of (cuts true (log_of bs))) u)) both.0 ∙ uncut-failed bs u both.1
+uncut-failed (Cut s k false n ∷ bs) u none =
+    let b : Break = Cut s k false n in
+    uncut-failed bs u (head-none (cut_of u b) (cut_in (log_of bs) u) (sym (cut-first b bs u) ∙ none)).1
+uncut-failed (Tear s slot f n late ∷ bs) u none = uncut-failed bs u (sym (cut-first (Tear s slot f n late) bs u) ∙ none)
 
 -- a cut tells of no tear and no find
 module _ (log : RunLog) (s : TraceSecond) (k : ℕ) where
@@ -556,6 +623,15 @@ module _ (log : RunLog) (s : TraceSecond) (k : ℕ) where
   pub cut-now : cut_in log s.number ≡ None → cut_in cut_log s.number ≡ Some k
   cut-now none =
       (break-more log (cut_at s.number true k) s.number).cut ∙ ap (λ (o : Option ℕ). cond (is_some o) o (cond (nat_eq s.number s.number) (Some k) None)) none
+      ∙ ap (λ (t : Bool). cond t (Some k) None) (same-number s.number)
+
+  -- and it is a failed call's
+  pub failed-now : cut_in log s.number ≡ None → failed_cut_in cut_log s.number ≡ Some k
+  failed-now none =
+      cut-by (record cut_log { breaks = cuts true cut_log }) s.number
+      ∙ ap (λ (bs : List Break). cut_in (log_of bs) s.number) (filter-append (λ (b : Break). is_cut b && has_failed b) log.breaks (cut_at s.number true k ∷ []))
+      ∙ (break-more (log_of (cuts true log)) (cut_at s.number true k) s.number).cut
+      ∙ ap (λ (o : Option ℕ). cond (is_some o) o (cond (nat_eq s.number s.number) (Some k) None)) (uncut-failed log.breaks s.number (sym (cut-by log s.number) ∙ none))
       ∙ ap (λ (t : Bool). cond t (Some k) None) (same-number s.number)
 
   cut-upto : cut_in log s.number ≡ None → (n : ℕ) → n ≤ k → SameUpTo log cut_log s.number n
@@ -601,7 +677,7 @@ cut-by_then s (In n) = omega arith
 cut-by_then s Keeping = tt
 
 pub cut-causes : (p : Progress) (s : TraceSecond) (at : Phase) (log : RunLog) (waits : List Visit) (mid now later : Device → ℕ) (c : Course) (starts : Bool) (rest : List Action) → IsUpTo log s.number at → IsLeft s at rest →
-    AllByRecursion (λ (e : Visit). e.phase ≡ at) waits → IsMore now later → RoseBy 1 (mid Recorder) (later Recorder) → (h : HasCourse p s at log waits mid now c) →
+    AllByRecursion (λ (e : Visit). e.phase ≡ at) waits → IsMore now later → RoseBy 1 (mid Recorder) (later Recorder) → (h : HasCourse starts p s at log waits mid now c) →
     AreNewCauses mid later (h.breaks ++ cut_at s.number true (begun_by s at) ∷ []) h.finds h.refused (and_break log (cut_at s.number true (begun_by s at))) s (told_with starts true s (cut_told true (not_begun rest c)))
 cut-causes p s at log waits mid now later c starts rest up left here more broke h =
     let cut : Break = cut_at s.number true (begun_by s at) in
@@ -617,11 +693,13 @@ cut-causes p s at log waits mid now later c starts rest up left here more broke 
       torn_cards = λ card. subst (λ (cs : List Card). RoseBy (length (filter (same_card card) cs)) (mid (device_of card)) (later (device_of card))) (sym (append-nil (map (λ (v : Visit). v.card) c.torn)))
           (rose-more (times_of card c.torn) (mid (device_of card)) (now (device_of card)) (later (device_of card)) (h.torn_cards card) (more (device_of card)));
       begun = push-each (IsBegun (s ∷ [])) h.breaks cut h.begun (λ y among same. (only-one s y (λ (z : TraceSecond). begun_by s at ≤ length z.actions) among (begun-few s at rest left), λ failed. absurd (cc)));
+      moments = push-each (IsAtPowerOn starts) h.breaks cut h.moments tt;
+      order = cut-in_time p.next h.breaks cut h.uncut h.breaks_here h.number;
       told_finds = h.told_finds ∙ sym (append-nil (map (found_at s.number) c.found));
       judged = λ e among. ⊎_elim
           (λ w. record {
             once = subst (λ (vs : List Verdict). length vs ≤ 1) (sym w.none) (omega arith);
-            missing = λ gone. inr (subst (λ (o : Option ℕ). CutBy o e.phase) (sym (cut-now log s (begun_by s at) up.uncut))
+            missing = λ gone. inr (subst (λ (o : Option ℕ). CutBy o e.phase) (sym (failed-now log s (begun_by s at) up.uncut))
                 (subst (CutBy (Some (begun_by s at))) (sym (each-of (λ (e : Visit). e.phase ≡ at) waits e here w.among)) (cut-by_then s at)));
           })
           (λ j. record { once = j.once; missing = λ gone. inl (torn-still log cut s.number e.phase e.slot (j.missing gone)) })
@@ -648,5 +726,5 @@ cut-ends_told rule start from first done p f span is s at log waits mid now late
     ∙ ap (told_with (begins_with span) true s) (cut-course log before s at rest power m.up_to left) in (
       told,
       subst (AreNewCauses mid later (m.breaks ++ cut ∷ []) m.finds m.refused later_log s) (sym told)
-          (cut-causes p s at log waits mid now later (course_at log before s at) (begins_with span) rest m.up_to left m.waits_here more broke (parts-of p before s at log waits mid now m)),
+          (cut-causes p s at log waits mid now later (course_at log before s at) (begins_with span) rest m.up_to left m.waits_here more broke (starting (starts-of rule start from first done p f span is) (parts-of p before s at log waits mid now m))),
     )

@@ -17,7 +17,7 @@ use Rattle.history_model.specs.Minutes.{HistoryMinute, on_card}
 use Rattle.history_model.specs.Presence.{Start}
 use Rattle.history_model.specs.History.{seated, minutes_after, decided_of}
 use Rattle.history_model.specs.Growth.{picking}
-use Rattle.history_model.specs.Completeness.{IsMarked, BrokenIn}
+use Rattle.history_model.specs.Completeness.{IsMarked, TornBetween}
 use Rattle.unit_course.specs.Followed.{Lit}
 use Rattle.unit_course.specs.Legs.{Travel, travelled, all_travelled}
 use Rattle.unit_course.specs.Turn.{span_at}
@@ -101,9 +101,9 @@ OneMoreIsTravelled = (ds : List Minute) (d : Minute) (g : Travel) → all_travel
 
 -- ---- what is acknowledged
 
--- A card was torn out or pulled out since a second, or power was lost: before this second, or in it.
+-- A card was torn out or pulled out since a second: before this second, or in it.
 abbrev pub BrokenSince : List Told → Course → (card : Card) → (from number : ℕ) → Type 0
-BrokenSince told c card from number = BrokenIn told card from number
+BrokenSince told c card from number = TornBetween told card from number
     ⊎ ((from ≤ number) × ((v : Visit) × (v.card ≡ card) × (Contains c.torn v ⊎ Contains c.pulled v)))
 
 -- Of the minutes that were kept so far each is acknowledged by the unit, and each entry by its card, but where that was torn out since.

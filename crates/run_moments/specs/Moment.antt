@@ -1,5 +1,5 @@
 -- The moment that a second has reached, with all lines that tell of it so far: each tells what happened, and no more (profile).
-use Rattle.std.specs.Prelude.{◌≡◌, ◌⊎◌, ◌&&◌, ℕ, zero, suc, ◌+◌, ◌≤◌, Bool, true, false, Option, Some, None, List, [], ◌∷◌, ◌++◌, Contains, length, map, filter, flat_map}
+use Rattle.std.specs.Prelude.{◌≡◌, ◌⊎◌, ◌&&◌, ℕ, zero, suc, ◌+◌, ◌≤◌, Bool, true, false, not, Option, Some, None, List, [], ◌∷◌, ◌++◌, Contains, length, map, filter, flat_map}
 use Rattle.std.specs.List.{AllByRecursion}
 use Rattle.activity_codec.specs.declared.values.Slot.{Slot}
 use Rattle.activity_codec.specs.declared.values.Slot.TheVariants.{Driver, CoDriver}
@@ -19,7 +19,7 @@ use Rattle.log_model.specs.declared.lines.SlotFault.{SlotFault}
 use Rattle.log_model.specs.declared.lines.Verdict.{Verdict}
 use Rattle.log_model.specs.Log.{RunLog, Phase, In, Keeping, same_phase, is_torn_in, found_in}
 use Rattle.log_model.specs.Slots.{Sitting, same_card, in_slot, refusal}
-use Rattle.log_model.specs.Causes.{device_of, is_cut, second_of, tears, places, visit_places, in_the_slot, RoseBy, IsBegun}
+use Rattle.log_model.specs.Causes.{device_of, is_cut, second_of, tears, places, visit_places, in_the_slot, RoseBy, IsBegun, IsAtPowerOn}
 use Rattle.log_model.specs.Course.{Told, Course, Visit, Before, visits, answered, fresh, is_settling, cut_told, went}
 use Rattle.history_model.specs.Presence.{Start}
 use Rattle.unit_course.specs.Lines.{log_of, cut_at}
@@ -86,6 +86,7 @@ pub record Moment (p : Progress) (before : Before) (s : TraceSecond) (at : Phase
   pub failed_tears : (slot : Slot) → in_the_slot slot (flat_map places (tears true (log_of breaks))) ≡ in_the_slot slot (visit_places s.number (course_at log before s at).torn)
   pub torn_cards : (card : Card) → RoseBy (times_of card (course_at log before s at).torn) (mid (device_of card)) (now (device_of card))
   pub begun : AllByRecursion (IsBegun (s ∷ [])) breaks
+  pub moments : AllByRecursion (IsAtPowerOn (not before.running)) breaks
   pub told_finds : map find_as finds ≡ map (found_at s.number) (course_at log before s at).found
   pub judged : (e : Visit) → Contains (course_at log before s at).entered e → IsWaiting waits (course_at log before s at) e ⊎ IsJudgedBy log s.number (course_at log before s at) e
   -- of a card no more was found than it entered, those aside that wait

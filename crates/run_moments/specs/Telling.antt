@@ -46,10 +46,11 @@ pub record BrokeDown (card : Card) (now later : Device → ℕ) : Type 0 where
 abbrev pub IsOneOut : Phase → Slot → Card → List Visit → Type 0
 IsOneOut at slot card out = out ≡ record { phase = at; slot = slot; card = card } ∷ []
 
--- A CARD IS TORN OUT of a slot, since a call on it failed: it sat there, or leaves it at this moment.
+-- A CARD IS TORN OUT of a slot, since a call on it failed: it sat there, or leaves it at this moment, before any action only where power
+-- comes with the second.
 abbrev pub ACardIsTorn : Type 0
 ACardIsTorn = (p : Progress) (before : Before) (s : TraceSecond) (at : Phase) (log : RunLog) (waits : List Visit) (mid now later : Device → ℕ) →
-    Moment p before s at log waits mid now → (slot : Slot) (b : Break) → IsTearAt s at slot true b → is_torn_in log s.number at slot ≡ false →
+    Moment p before s at log waits mid now → (slot : Slot) (b : Break) → IsTearAt s at slot true b → (at ≡ In 0 → before.running ≡ false) → is_torn_in log s.number at slot ≡ false →
     (card : Card) → IsOneOut at slot card ((moved_at log before s at).leaving slot ++ visits at slot (course_at log before s at).slots) → BrokeDown card now later →
     Moment p before s at (and_break log b) waits mid later
     × IsTornAt s.number slot (record { phase = at; slot = slot; card = card } ∷ []) (course_at log before s at) (course_at (and_break log b) before s at)

@@ -11,7 +11,6 @@ use Rattle.log_model.specs.Slots.{Slots, Sitting, same_card, in_slot}
 use Rattle.log_model.specs.Course.{Told, Course, Visit, fresh}
 use Rattle.history_model.specs.Minutes.{HistoryMinute, Seat as HistorySeat, is_crew, entry_in, on_card}
 use Rattle.history_model.specs.Presence.{Start, CardStart, card_start}
-use Rattle.history_model.specs.Completeness.{BrokenIn}
 use Rattle.card_image.specs.Own.{IsOwnValid}
 use Rattle.joint_rule.specs.Rules.{Standing, Out, In, Torn, IsPresent}
 use Rattle.slot_machine.specs.declared.seats.Seat.{Seat}
@@ -261,7 +260,7 @@ next-begins f standing told t number later from cabin is le h = record {
         session = ⊎_elim (λ s. inl s)
             (λ b. inr (inl (⊎_elim
             (λ old. (old.0, Contains-append_left told (t ∷ []) old.0 old.1, old.2, (let high = old.3 in omega (arith, high, le)), old.4))
-            (λ now. (t, Contains-push told t, (let first = now.0 in omega (arith, first, is)), omega (arith, is, le), inr now.1))
+            (λ now. (t, Contains-push told t, (let first = now.0 in omega (arith, first, is)), omega (arith, is, le), now.1))
             b)))
             was.session;
       };

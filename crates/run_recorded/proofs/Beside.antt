@@ -1,5 +1,5 @@
 -- What was found of cards, and which cards may be written, as the seconds of a run go on.
-use Rattle.std.proofs.Common.{◌≡◌, ◌⊎◌, inl, inr, ⊎_elim, ℕ, zero, suc, ◌+◌, ◌-◌, ◌*◌, ◌%◌, ◌/◌, ◌<◌, ◌≤◌, Bool, true, false, cond, nat_eq, nat_le, ◌&&◌, List, [], ◌∷◌, ◌++◌, Contains, length, map, filter, refl, ap, sym, subst, ◌∙◌, arith, append-nil, append_assoc, length-append}
+use Rattle.std.proofs.Common.{◌≡◌, ◌⊎◌, inl, inr, ⊎_elim, ℕ, zero, suc, ◌+◌, ◌-◌, ◌*◌, ◌%◌, ◌/◌, ◌<◌, ◌≤◌, Bool, true, false, cond, nat_eq, nat_le, ◌&&◌, List, [], ◌∷◌, ◌++◌, Contains, length, map, filter, drop, refl, ap, sym, subst, ◌∙◌, arith, append-nil, append_assoc, length-append}
 use Rattle.std.specs.Prelude.{flat_map}
 use Rattle.std.specs.List.{AllByRecursion}
 use Rattle.std.proofs.lemmas.Bool.Decides.{nat_tests}
@@ -11,21 +11,24 @@ use Rattle.trace_model.specs.declared.Action.{Action}
 use Rattle.trace_model.specs.Trace.{TraceSecond, driven, dark}
 use Rattle.minute_model.specs.Span.{AreNumbered}
 use Rattle.log_model.specs.declared.lines.Break.{Break}
+use Rattle.log_model.specs.declared.lines.Break.TheVariants.{Cut, Tear}
 use Rattle.log_model.specs.declared.lines.Refused.{Refused}
 use Rattle.log_model.specs.declared.lines.Verdict.{Verdict}
 use Rattle.log_model.specs.declared.lines.Verdict.TheVariants.{Accepted, NotValid, TimeOverlap}
 use Rattle.log_model.specs.Log.{RunLog}
 use Rattle.log_model.specs.Slots.{Slots, same_card}
 use Rattle.log_model.specs.Course.{Told, Went, Visit, went}
+use Rattle.log_model.specs.Causes.{is_cut}
 use Rattle.log_model.specs.Spans.{seconds_in, AreInOrder}
 use Rattle.log_model.proofs.Spanning.{spanned}
-use Rattle.unit_course.specs.Lines.{cut_at, found_from}
+use Rattle.unit_model.specs.Image.{last_kept}
+use Rattle.unit_course.specs.Lines.{cut_at, with_kept, found_from}
 use Rattle.unit_course.specs.Followed.{Lit, Lost}
 use Rattle.unit_course.specs.Turn.{cut_at_end}
 use Rattle.card_image.specs.Own.{IsOwnValid}
 use Rattle.safety_model.specs.Recording.{Recording, told_of}
 use Rattle.safety_model.specs.Cards.{is_overlap, entered, overlaps}
-use Rattle.safety_model.specs.Safe.{Devices, card_of, entered_by, IsVerdict}
+use Rattle.safety_model.specs.Safe.{Devices, card_of, WasFound, IsUnfound, entered_by, IsVerdict}
 use Rattle.run_rule.specs.Found.{found_of}
 use Rattle.run_rule.specs.Cards.{IsUntouched}
 use Rattle.run_course.specs.Moments.{and_break}
@@ -41,7 +44,7 @@ use Rattle.run_moments.specs.Lines.{times_of}
 use Rattle.run_moments.specs.Moment.{finds_by}
 use Rattle.run_moments.proofs.Telling.{each-of}
 use Rattle.run_recorded.specs.Origin.{Origin, rule_of, start_at, first_of}
-use Rattle.run_recorded.specs.Ends.{recording_by, AreVerdicts, MayBeWritten, AreSpared}
+use Rattle.run_recorded.specs.Ends.{recording_by, AreFound, AreVerdicts, MayBeWritten, AreSpared}
 use Rattle.run_recorded.specs.Beside.{CardsTold, cards_of, TellsMore, HaveLeftMore, MayBeFound, entered_in, overlaps_in, AreFewer, AreIdle, ASecondTellsMore, FoundTellsNoMore, QuietSecondsTellMore, DarkSecondsTellMore, AnOffLineTellsMore, AnOffCutTellsMore, FewerAreFound, AreFewFound, FewAreFoundOn}
 
 -- NUMBERS of the seconds so far
@@ -215,9 +218,11 @@ verdict-on o done now log later unit card unit_now card_now c u (NotValid fid pl
 verdict-on o done now log later unit card unit_now card_now c u (TimeOverlap stored at) left_unit left_card same h =
     (h.0, h.1, (h.2.0, ⊎_elim (λ first. inl first) (λ again. inr (again.0, subst (λ (n : ℕ). 1 < n) (sym same) again.1, again.2, (again.3.0, left_card again.3.0 again.3.1, again.3.2))) h.2.1))
 
-pub verdicts-on : (o : Origin) (done now : List TraceSecond) (log later : RunLog) (d e : Devices) (more : List Told) (from : ℕ) → AreVerdicts o done log d → HaveLeftMore o d e → TellsMore (went log done).told (went later now).told more from →
-    ((t : Told) (x : Visit) (v : Verdict) → Contains more t → Contains t.course.found (x, v) → MayBeFound o now later e t x v) → AreVerdicts o now later e
-verdicts-on o done now log later d e more from old left tells fresh = record {
+pub verdicts-on : (o : Origin) (done now : List TraceSecond) (log later : RunLog) (unfound found : ℕ) (d e : Devices) (more : List Told) (from : ℕ) → AreVerdicts o done log unfound d → HaveLeftMore o d e → TellsMore (went log done).told (went later now).told more from →
+    ((t : Told) (x : Visit) (v : Verdict) → Contains more t → Contains t.course.found (x, v) → MayBeFound o now later e t x v) →
+    AreFound (e.unit.left_since o.found.unit.began) found later.breaks → AreVerdicts o now later found e
+verdicts-on o done now log later unfound found d e more from old left tells fresh kept = record {
+  kept = kept;
   each = λ t x v at seen.
       let there = subst (λ (xs : List CardsTold). Contains xs (cards_of t)) tells.same (map-contains (went later now).told t at) in
       ⊎_elim
@@ -307,8 +312,8 @@ nothing-found more idle t x v at seen =
     let gone : Contains {X = Visit × Verdict} [] (x, v) = subst (λ (fs : List (Visit × Verdict)). Contains fs (x, v)) none seen in
     omega (arith, gone.1)
 
-pub idle-verdicts : (o : Origin) (done now : List TraceSecond) (log later : RunLog) (d e : Devices) (more : List Told) (from : ℕ) → AreVerdicts o done log d → HaveLeftMore o d e → TellsMore (went log done).told (went later now).told more from → AreIdle more → AreVerdicts o now later e
-idle-verdicts o done now log later d e more from old left tells idle = verdicts-on o done now log later d e more from old left tells (λ t x v at seen. absurd (nothing-found more idle t x v at seen))
+pub idle-verdicts : (o : Origin) (done now : List TraceSecond) (log later : RunLog) (unfound found : ℕ) (d e : Devices) (more : List Told) (from : ℕ) → AreVerdicts o done log unfound d → HaveLeftMore o d e → TellsMore (went log done).told (went later now).told more from → AreIdle more → AreFound (e.unit.left_since o.found.unit.began) found later.breaks → AreVerdicts o now later found e
+idle-verdicts o done now log later unfound found d e more from old left tells idle kept = verdicts-on o done now log later unfound found d e more from old left tells (λ t x v at seen. absurd (nothing-found more idle t x v at seen)) kept
 
 pub idle-spared : (o : Origin) (done now : List TraceSecond) (log later : RunLog) (d e : Devices) (more : List Told) (from : ℕ) → AreSpared o done log d → TellsMore (went log done).told (went later now).told more from → AreIdle more →
     ((c : Card) → IsUntouched (found_of o.found c) (card_of d c) → IsUntouched (found_of o.found c) (card_of e c) ⊎ MayBeWritten (recording_by o now later) c) → AreSpared o now later e
@@ -338,3 +343,62 @@ visits-as c (v ∷ vs) = by (same_card c v.card) (visits-as c vs)
 
 pub fewer-are_found : FewerAreFound
 fewer-are_found r t few = ((λ c. let le = few c in let low = fewer-found r c t.course.found in let as_ = visits-as c t.course.entered in omega (arith, le, low, as_)), tt)
+
+-- WHAT WAS FOUND KEPT after cuts stays so as more is left;
+found-left : (unit now : List ℕ → Type 0) → ((x : List ℕ) → unit x → now x) → (b : Break) → WasFound unit b → WasFound now b
+found-left unit now more (Cut second kept failed begun) h = (h.0, more h.0 h.1, h.2)
+found-left unit now more (Tear second slot failed begun late) h = tt
+
+pub kept-later : (unit now : List ℕ → Type 0) → ((x : List ℕ) → unit x → now x) → (n : ℕ) (bs : List Break) → AreFound unit n bs → AreFound now n bs
+kept-later unit now more n [] h = tt
+kept-later unit now more zero (b ∷ bs) h = (h.0, kept-later unit now more zero bs h.1)
+kept-later unit now more (suc n) (b ∷ bs) h = (found-left unit now more b h.0, kept-later unit now more n bs h.1)
+
+-- a tear is no cut, and after a new one nothing was found yet;
+kept-more : (unit : List ℕ → Type 0) (n : ℕ) (bs more : List Break) → n ≤ length bs → AreFound unit n bs → AllByRecursion IsUnfound more → AreFound unit n (bs ++ more)
+kept-more unit zero [] [] le h none = tt
+kept-more unit zero [] (b ∷ more) le h none = (none.0, kept-more unit zero [] more (omega arith) tt none.1)
+kept-more unit (suc n) [] more le h none = absurd (omega (arith, le))
+kept-more unit zero (b ∷ bs) more le h none = (h.0, kept-more unit zero bs more (omega arith) h.1 none)
+kept-more unit (suc n) (b ∷ bs) more le h none = (h.0, kept-more unit n bs more (omega (arith, le)) h.1 none)
+
+uncut-unfound : (b : Break) → is_cut b ≡ false → IsUnfound b
+uncut-unfound (Cut second kept failed begun) h = absurd (cc)
+uncut-unfound (Tear second slot failed begun late) h = tt
+
+all-unfound : (bs : List Break) → AllByRecursion (λ (b : Break). is_cut b ≡ false) bs → AllByRecursion IsUnfound bs
+all-unfound [] h = tt
+all-unfound (b ∷ bs) h = (uncut-unfound b h.0, all-unfound bs h.1)
+
+pub kept-on : (unit : List ℕ → Type 0) (n : ℕ) (bs more : List Break) → n ≤ length bs → AreFound unit n bs → AllByRecursion (λ (b : Break). is_cut b ≡ false) more → AreFound unit n (bs ++ more)
+kept-on unit n bs more le h uncut = kept-more unit n bs more le h (all-unfound more uncut)
+
+pub kept-cut : (unit : List ℕ → Type 0) (n : ℕ) (bs : List Break) (second : ℕ) (failed : Bool) (begun : ℕ) → n ≤ length bs → AreFound unit n bs → AreFound unit n (bs ++ cut_at second failed begun ∷ [])
+kept-cut unit n bs second failed begun le h = kept-more unit n bs (cut_at second failed begun ∷ []) le h (refl, tt)
+
+pub kept-on_cut : (unit : List ℕ → Type 0) (n : ℕ) (bs more : List Break) (second : ℕ) (failed : Bool) (begun : ℕ) → n ≤ length bs → AreFound unit n bs → AllByRecursion (λ (b : Break). is_cut b ≡ false) more →
+    AreFound unit n ((bs ++ more) ++ cut_at second failed begun ∷ [])
+kept-on_cut unit n bs more second failed begun le h uncut = kept-cut unit n (bs ++ more) second failed begun (let total = length-append bs more in omega (arith, le, total)) (kept-on unit n bs more le h uncut)
+
+-- and a power-on finds what an image shows
+found-so : (unit : List ℕ → Type 0) (k : ℕ) → ((x : List ℕ) × unit x × (last_kept x ≡ k)) → (b : Break) → WasFound unit (with_kept k b)
+found-so unit k read (Cut second kept failed begun) = read
+found-so unit k read (Tear second slot failed begun late) = tt
+
+pub kept-found : (unit : List ℕ → Type 0) (k : ℕ) → ((x : List ℕ) × unit x × (last_kept x ≡ k)) → (n : ℕ) (bs : List Break) → AreFound unit n bs → AreFound unit (length (found_from n k bs)) (found_from n k bs)
+kept-found unit k read zero [] h = tt
+kept-found unit k read zero (b ∷ bs) h = (found-so unit k read b, kept-found unit k read zero bs h.1)
+kept-found unit k read (suc n) [] h = tt
+kept-found unit k read (suc n) (b ∷ bs) h = (h.0, kept-found unit k read n bs h.1)
+
+-- so of each break it was found, or it is one of the others
+pub found-or : (unit : List ℕ → Type 0) (n : ℕ) (bs : List Break) (b : Break) → AreFound unit n bs → Contains bs b → WasFound unit b ⊎ (IsUnfound b × Contains (drop n bs) b)
+found-or unit n [] b h at = absurd (omega (arith, at.1))
+found-or unit zero (x ∷ bs) b h at = ⊎_elim
+    (λ here. ⊎_elim (λ none. absurd (omega (arith, none.1))) (λ (is : x ≡ b). inr (subst IsUnfound is h.0, at)) (Contains-push_cases [] x b here))
+    (λ rest. ⊎_elim (λ found. inl found) (λ other. inr (other.0, at)) (found-or unit zero bs b h.1 rest))
+    (Contains-append_cases (x ∷ []) bs b at)
+found-or unit (suc n) (x ∷ bs) b h at = ⊎_elim
+    (λ here. ⊎_elim (λ none. absurd (omega (arith, none.1))) (λ (is : x ≡ b). inl (subst (WasFound unit) is h.0)) (Contains-push_cases [] x b here))
+    (λ rest. found-or unit n bs b h.1 rest)
+    (Contains-append_cases (x ∷ []) bs b at)

@@ -1,16 +1,17 @@
 -- What a run promises at its end, of what was carried to it.
-use Rattle.std.proofs.Common.{◌≡◌, ◌⊎◌, inl, inr, ⊎_elim, ℕ, ◌<◌, ◌≤◌, List, [], ◌∷◌, ◌++◌, All, Contains, refl, ap, sym, subst, ◌∙◌, arith}
+use Rattle.std.proofs.Common.{◌≡◌, ◌⊎◌, inl, inr, ⊎_elim, ℕ, ◌<◌, ◌≤◌, List, [], ◌∷◌, ◌++◌, All, Contains, drop, refl, ap, sym, subst, ◌∙◌, arith}
 use Rattle.std.specs.List.{AllByRecursion}
 use Rattle.trace_model.specs.declared.Card.{Card}
 use Rattle.trace_model.specs.Trace.{TraceSecond}
 use Rattle.run_model.specs.declared.Device.{Device}
 use Rattle.tach_media.specs.Medium.{IsCoherent}
 use Rattle.log_model.specs.declared.lines.Break.{Break}
+use Rattle.log_model.specs.declared.lines.Break.TheVariants.{Cut, Tear}
 use Rattle.log_model.specs.declared.lines.Mark.{Mark}
 use Rattle.log_model.specs.declared.lines.Verdict.{Verdict}
 use Rattle.log_model.specs.Log.{RunLog}
 use Rattle.log_model.specs.Course.{Told, Visit, went}
-use Rattle.log_model.specs.Causes.{HasCauses, IsBegun}
+use Rattle.log_model.specs.Causes.{second_of, HasCauses, IsBegun, HasMoment}
 use Rattle.unit_model.specs.Image.{last_kept, odometer_at}
 use Rattle.unit_model.specs.Decoding.{Decodes}
 use Rattle.history_model.specs.Minutes.{HistoryMinute}
@@ -23,8 +24,8 @@ use Rattle.unit_rule.proofs.Travelling.{odometer-safe}
 use Rattle.joint_rule.specs.Views.{UnitView, unit_view}
 use Rattle.card_image.specs.Own.{IsOwnValid}
 use Rattle.safety_model.specs.Recording.{Recording, card_image, start_of, told_of}
-use Rattle.safety_model.specs.Cards.{entered, overlaps, MayNotWrite}
-use Rattle.safety_model.specs.Safe.{Devices, card_of, breakdowns_of, IsVerdict, IsSafe, IsCaused}
+use Rattle.safety_model.specs.Cards.{acceptances, entered, overlaps, MayNotWrite}
+use Rattle.safety_model.specs.Safe.{Devices, card_of, breakdowns_of, WasFound, IsUnfound, IsVerdict, IsSafe, IsCaused}
 use Rattle.run_rule.specs.Found.{found_of}
 use Rattle.run_rule.specs.Cards.{IsUntouched}
 use Rattle.run_rule.specs.Between.{Carried, IsCarried, IsFound, AreBrought, AreUntouched}
@@ -33,11 +34,13 @@ use Rattle.run_course.specs.Followed.{Progress, Followed}
 use Rattle.run_course.specs.Caused.{AreCaused}
 use Rattle.run_course.proofs.Travelled.{legs-shown}
 use Rattle.run_brought.specs.Accounts.{so_far}
-use Rattle.run_brought.specs.Going.{StandsFor, AreAccounted}
+use Rattle.run_brought.specs.Going.{IsCutFrom, StandsFor, AreAccounted}
 use Rattle.run_brought.proofs.Accounts.{last-of}
 use Rattle.run_brought.proofs.Ends.{ends-follow, ends-brought}
 use Rattle.run_moments.proofs.Telling.{each-of}
 use Rattle.run_recorded.specs.Origin.{Origin, rule_of, start_at, first_of, HasRecorded}
+use Rattle.run_recorded.proofs.Whole.{is-whole}
+use Rattle.run_recorded.proofs.Beside.{found-or}
 use Rattle.run_recorded.specs.Ends.{recording_by, AreVerdicts, MayBeWritten, AreSpared, IsBeside, EndsRun}
 
 -- accounts are of the recording so far
@@ -81,12 +84,22 @@ module _ (o : Origin) (done : List TraceSecond) (p : Progress) (g : Travel) (mar
           failed_tears = c.failed_tears;
           torn_cards = c.torn_cards;
           begun = λ b at. each-of (IsBegun done) p.log.breaks b c.begun at;
+          moments = λ b at. each-of (HasMoment (went p.log done).told) p.log.breaks b c.moments at;
+          order = c.order;
           finds = c.finds;
           judged = c.judged;
           verdicts = λ t e v at seen.
               subst (λ (n : ℕ). IsVerdict r (now.unit.left_since n) ((card_of now e.card).left_since (card_of began e.card).clock) e.card t.second.number v) unit-began
               (subst (λ (n : ℕ). IsVerdict r (now.unit.left_since o.found.unit.began) ((card_of now e.card).left_since n) e.card t.second.number v) (found.clock e.card) (beside.verdicts.each t e v at seen));
         }
+
+    kept : (b : Break) → Contains p.log.breaks b → WasFound (now.unit.left_since began.unit.clock) b
+        ⊎ (IsUnfound b × ((c : Card) (u : ℕ) → IsOwnValid (card_image r c) → Contains (acceptances r c) u → u ≤ second_of b))
+    kept (Cut second k failed begun) at = ⊎_elim
+        (λ found_. inl (subst (λ (n : ℕ). WasFound (now.unit.left_since n) (Cut second k failed begun)) unit-began found_))
+        (λ none. inr (none.0, λ c u valid accepted. each-of (IsCutFrom u) (drop p.unfound p.log.breaks) (Cut second k failed begun) ((h.accounts c valid).each u accepted).2.cuts none.1 refl))
+        (found-or (now.unit.left_since o.found.unit.began) p.unfound p.log.breaks (Cut second k failed begun) beside.verdicts.kept at)
+    kept (Tear second slot failed begun late) at = inl tt
 
     may-show : (x : List ℕ) → now.unit.may_leave x → (shown : ShowsOdometer (odometer_at o.recording.unit) p.book g x) → MayShow (first_of o) p.book g (last_kept x) shown.leg
     may-show x on shown =
@@ -106,9 +119,16 @@ module _ (o : Origin) (done : List TraceSecond) (p : Progress) (g : Travel) (mar
         odometer-safe (rule_of o) p.log (went p.log done).told (odometer_at o.recording.unit) p.book g now.unit beside.travels
         (λ y left shown. legs-shown (rule_of o) (start_at o) o.from (first_of o) done p h.followed h.waiting g h.legs (last_kept y) shown.leg (may-show y left shown)) x on
 
+    unit-later : began.unit.clock ≤ now.unit.clock
+    unit-later = subst (λ (n : ℕ). n ≤ now.unit.clock) unit-began (carried.unit.unit_holds [] []).later
+
     pub ends-run : IsCoherent now.unit → ((c : Card) → IsCoherent (card_of now c)) → Decodes o.recording.unit → o.breakdowns ≡ breakdowns_of began → EndsRun r marks began now
-    ends-run unit_whole card_whole decodes same = record {
-      safe = subst (λ (ms : List Mark). IsSafe r ms began now) told (safe unit_whole card_whole decodes);
-      caused = record { causes = causes same; complete = h.complete };
-      odometer = odometer;
-    }
+    ends-run unit_whole card_whole decodes same =
+        let all_safe : IsSafe r marks began now = subst (λ (ms : List Mark). IsSafe r ms began now) told (safe unit_whole card_whole decodes) in
+        let all_caused : IsCaused r marks began now = record { causes = causes same; kept = kept; complete = h.complete } in
+        record {
+          safe = all_safe;
+          caused = all_caused;
+          odometer = odometer;
+          whole = λ nothing. is-whole r marks began now o.from h.followed.order nothing all_safe all_caused unit_whole unit-later;
+        }

@@ -1,3 +1,4 @@
 pub mod Seconds
 pub mod Ends
 pub mod Beside
+pub mod Whole

@@ -2,7 +2,7 @@
 use Rattle.std.proofs.Common.{◌≡◌, ◌⊎◌, inl, inr, ⊎_elim, ℕ, zero, suc, ◌+◌, ◌-◌, ◌*◌, ◌%◌, ◌/◌, ◌^◌, ◌<◌, ◌≤◌, true, false, Option, Some, None, List, [], ◌∷◌, ◌++◌, All, Contains, length, map, filter, take, refl, ap, sym, subst, ◌∙◌, arith, append-nil, append_assoc}
 use Rattle.std.specs.Prelude.{option_map, option_to_list}
 use Rattle.std.specs.List.{AllByRecursion}
-use Rattle.std.proofs.lemmas.List.Elements.{All-nil, All-cons, All-head, All-tail, All-contains, Contains-push}
+use Rattle.std.proofs.lemmas.List.Elements.{Contains-push}
 use Rattle.activity_codec.specs.declared.entries.Entry.{Entry}
 use Rattle.trace_model.specs.declared.Card.{Card}
 use Rattle.trace_model.specs.declared.Action.{Action}
@@ -22,14 +22,16 @@ use Rattle.log_model.specs.Course.{Told, Course, Visit, Went, fresh, went}
 use Rattle.history_model.specs.Minutes.{HistoryMinute, on_card}
 use Rattle.history_model.specs.Presence.{Start}
 use Rattle.history_model.specs.History.{seated, minutes_after, decided_of}
-use Rattle.history_model.specs.Completeness.{IsMarked, BrokenIn, IsComplete}
+use Rattle.history_model.specs.Completeness.{IsMarked, FailedCutIn, IsComplete}
 use Rattle.history_model.specs.Book.{Book, all, found, IsMark}
 use Rattle.history_model.proofs.Closing.{minutes-parts}
+use Rattle.unit_course.specs.Caused.{cuts_by}
 use Rattle.unit_course.specs.Lines.{cut_at, found_from}
 use Rattle.unit_course.specs.Followed.{Supply, Lit, Due, Lost, MayPower, MayFail, IsDark}
 use Rattle.unit_course.specs.Legs.{Travel, stranded_at, resumed, all_travelled}
 use Rattle.unit_course.specs.Travelled.{MayShow}
 use Rattle.unit_course.specs.Turn.{begins_with}
+use Rattle.unit_course.proofs.Offs.{by-same}
 use Rattle.card_image.specs.Own.{IsOwnValid}
 use Rattle.safety_model.specs.Recording.{Recording, card_image, start_of}
 use Rattle.run_course.specs.Moments.{and_break}
@@ -42,7 +44,6 @@ use Rattle.run_course.specs.Quiet.{quiet_second, quiet_seconds, quiet_on, begun_
 use Rattle.run_course.proofs.Caused.{second-caused, run-caused, found-caused, off-caused, off-cut-caused}
 use Rattle.run_course.proofs.Complete.{more-marks, nothing-yet, acknowledged}
 use Rattle.run_course.proofs.Dark.{dark-caused, dark-complete, off-complete}
-use Rattle.run_course.proofs.New.{are-new}
 use Rattle.run_course.proofs.Quiet.{quiet-are-told, quiet-go-on, quiet-travelled, quiet-caused, quiet-complete}
 use Rattle.run_course.proofs.Staying.{failure-stays, found-stays, cut-stays_}
 use Rattle.run_course.proofs.Steps.{went-same_, now-told, goes_on, breaks_off, power_finds, power_fails, stays_dark, off_dark, off_cuts, begins_run}
@@ -109,6 +110,8 @@ more-recorded o done p g marks more now later brought h stay rise =
           failed_tears = c.failed_tears;
           torn_cards = λ card. rose-more (length (filter (same_card card) (cards_torn (went p.log done).told))) (o.breakdowns (device_of card)) (now (device_of card)) (later (device_of card)) (c.torn_cards card) (rise (device_of card));
           begun = c.begun;
+          moments = c.moments;
+          order = c.order;
           finds = c.finds;
           judged = c.judged;
         };
@@ -147,7 +150,8 @@ module _ (o : Origin) (done : List TraceSecond) (p : Progress) (g : Travel) (mar
         legs = subst (λ (ts : List Told). HasLegs (rule_of o) (first_of o) (done ++ s ∷ []) (went_on log done s span (minutes_after (start_at o) (ts ++ t ∷ []) p.book.sure ds) p) (all_travelled ds g)) (same-told s log by)
             (legs.second-travelled (rule_of o) (start_at o) o.from (first_of o) done p h.followed g h.legs span is h.waiting s log by ds decides);
         complete = acknowledged (rule_of o) (start_at o) o.from (first_of o) done p h.followed span is h.waiting s log by new decided marks more stay h.complete
-            (subst (λ (ts : List Told). AreAcknowledged more ts p.next t new) (sym (told-now s log by)) acks);
+            (subst (λ (ts : List Told). AreAcknowledged more ts p.next t new) (sym (told-now s log by)) acks)
+            (λ cut. absurd (let clash : false ≡ true = sym (ap (λ (x : Told). x.cut) ends.0) ∙ cut in cc));
         caused = second-caused (rule_of o) (start_at o) o.from (first_of o) done p h.followed s log by m.refused m.refused_are o.breakdowns mid now ends.1 h.caused q refl (λ dark. absurd (lit-dark q.supply (span ++ t ∷ []) refl dark));
         accounts = λ c valid. second-accounted o.recording c o.from (first_of o) done p h.followed span is h.waiting s log by new decided q
             (record { log = refl; unfound = refl; next = refl; supply = inl (refl, m.up_to.uncut); sure = (new, sure-kept new None p.book) })
@@ -158,12 +162,6 @@ module _ (o : Origin) (done : List TraceSecond) (p : Progress) (g : Travel) (mar
       lit-dark sp span is dark = subst IsDark is dark
 
   -- a cut's second
-  minutes-over : (start : Start) (told : List Told) (n : ℕ) (past : List HistoryMinute) (ds : List Minute) → All (λ (d : Minute). d.minute < n) ds → All (λ (i : HistoryMinute). i.minute < n) (minutes_after start told past ds)
-  minutes-over start told n past [] lt = All-nil (λ (i : HistoryMinute). i.minute < n)
-  minutes-over start told n past (d ∷ ds) lt =
-      All-cons (λ (i : HistoryMinute). i.minute < n) (seated start told past d) (minutes_after start told (past ++ seated start told past d ∷ []) ds) (All-head (λ (d : Minute). d.minute < n) d ds lt)
-      (minutes-over start told n (past ++ seated start told past d ∷ []) ds (All-tail (λ (d : Minute). d.minute < n) d ds lt))
-
   module _ (s : TraceSecond) (log : RunLog) (by : GoesOnBy p log s) (begun : ℕ) (cut : cut_in log s.number ≡ Some begun) (span : List Told) (is : p.supply ≡ Lit span) where
     abbrev t : Told
     t = next_told log done s
@@ -171,16 +169,9 @@ module _ (o : Origin) (done : List TraceSecond) (p : Progress) (g : Travel) (mar
     abbrev told : List Told
     told = (went p.log done).told ++ t ∷ []
 
-    -- each minute of a cut's second is acknowledged, or a break came
-    cut-acks : (more : List Mark) (ds : List Minute) → decided_of (rule_of o) (span ++ t ∷ []) ≡ decided_of (rule_of o) span ++ ds → t.cut ≡ true → t.second.number ≡ p.next → AreAcknowledged more told p.next t (seated_now o log done s p ds)
-    cut-acks more ds decides cut_ number =
-        let over = (are-new (rule_of o) (start_at o) o.from (first_of o) done p h.followed span is h.waiting s log by ds decides).over in
-        let each = minutes-over (start_at o) told (p.next / 60) p.book.sure ds over in
-        record {
-          unit = λ i at. inr cut_;
-          card = λ i card e at on. inr (let low = All-contains (λ (j : HistoryMinute). j.minute < p.next / 60) (seated_now o log done s p ds) i each at in
-              (t, Contains-push (went p.log done).told t, omega (arith, low, number), omega (arith, number), inl cut_));
-        }
+    -- each minute of a cut's second is acknowledged, or the cut excuses it
+    cut-acks : (more : List Mark) (new : List HistoryMinute) → t.cut ≡ true → AreAcknowledged more told p.next t new
+    cut-acks more new cut_ = record { unit = λ i at. inr cut_; card = λ i card e at on. inr (inl cut_) }
 
     -- what was kept of it, and what may be
     parts : (front : List Minute) (d : Option Minute) (ds : List Minute) →
@@ -192,10 +183,10 @@ module _ (o : Origin) (done : List TraceSecond) (p : Progress) (g : Travel) (mar
         (minutes_after (start_at o) told (past ++ seated (start_at o) told past d ∷ []) ds, minutes-parts (rule_of o) (start_at o) told p.book.sure front (d ∷ ds))
 
     pub broken-recorded : (more : List Mark) (later : Device → ℕ) (taken : Card → List ℕ) (refused : List Refused) → log.refused ≡ p.log.refused ++ refused → AreNewCauses mid later by.breaks.0 by.finds.0 refused log s t →
-        t.cut ≡ true → t.second.number ≡ p.next → (front : List Minute) (d : Option Minute) (ds : List Minute) → decided_of (rule_of o) (span ++ t ∷ []) ≡ decided_of (rule_of o) span ++ (front ++ (option_to_list d ++ ds)) → AllMarked marks more →
+        t.cut ≡ true → FailedCutIn log p.next → (front : List Minute) (d : Option Minute) (ds : List Minute) → decided_of (rule_of o) (span ++ t ∷ []) ≡ decided_of (rule_of o) span ++ (front ++ (option_to_list d ++ ds)) → AllMarked marks more →
         AreTaken o p.book (broken_at (seated_next o log done s p front d) (kept_all (seated_now o log done s p front) p.book)) t (seated_now o log done s p (front ++ (option_to_list d ++ ds))) brought taken →
         HasRecorded o (done ++ s ∷ []) (broke_off log s (seated_now o log done s p front) (seated_next o log done s p front d) p) (stranded_at d (all_travelled front g)) more later taken
-    broken-recorded more later taken refused refused_are causes cut_ number front d ds decides stay takes =
+    broken-recorded more later taken refused refused_are causes cut_ fails front d ds decides stay takes =
         let all_ : List Minute = front ++ (option_to_list d ++ ds) in
         let kept : List HistoryMinute = seated_now o log done s p front in
         let i : Option HistoryMinute = seated_next o log done s p front d in
@@ -213,7 +204,7 @@ module _ (o : Origin) (done : List TraceSecond) (p : Progress) (g : Travel) (mar
               (same-told s log by)
               (legs.broken-travelled (rule_of o) (start_at o) o.from (first_of o) done p h.followed g h.legs span is h.waiting s log by begun cut front d ds decides);
           complete = acknowledged (rule_of o) (start_at o) o.from (first_of o) done p h.followed span is h.waiting s log by new decided marks more stay h.complete
-              (subst (λ (ts : List Told). AreAcknowledged more ts p.next t new) (sym (told-now s log by)) (cut-acks more all_ decides cut_ number));
+              (subst (λ (ts : List Told). AreAcknowledged more ts p.next t new) (sym (told-now s log by)) (cut-acks more new cut_)) (λ cut. fails);
           caused = second-caused (rule_of o) (start_at o) o.from (first_of o) done p h.followed s log by refused refused_are o.breakdowns mid later causes h.caused q refl (λ dark. inr cut_);
           accounts = λ c valid. second-accounted o.recording c o.from (first_of o) done p h.followed span is h.waiting s log by new decided q
               (record { log = refl; unfound = refl; next = refl; supply = inr refl; sure = (kept, sure-kept kept i p.book) })
@@ -227,6 +218,9 @@ pub second-is_broken : ASecondIsBroken
 second-is_broken o done p g marks more mid now later brought taken h span is s at log waits m rise broke rest left front d ds decides stay takes =
     let cut : Break = cut_at s.number true (begun_by s at) in
     let ends = cut-ends_told (rule_of o) (start_at o) o.from (first_of o) done p h.followed span is s at log waits mid now later m rise broke rest left in
+    let fails : FailedCutIn (and_break log cut) p.next =
+    subst (λ (us : List ℕ). Contains us p.next) (sym (by-same log.breaks s.number true (begun_by s at)))
+    (subst (λ (n : ℕ). Contains (cuts_by true log.breaks ++ n ∷ []) p.next) (sym m.number) (Contains-push (cuts_by true log.breaks) p.next)) in
     let by : GoesOnBy p (and_break log cut) s = record {
       number = m.number;
       given = m.given;
@@ -234,7 +228,7 @@ second-is_broken o done p g marks more mid now later brought taken h span is s a
       finds = (m.finds, m.finds_are, m.finds_here);
     } in
     broken-recorded o done p g marks mid brought h s (and_break log cut) by (begun_by s at) (cut-now log s (begun_by s at) m.up_to.uncut) span is more later taken m.refused m.refused_are ends.1
-    (ap (λ (t : Told). t.cut) ends.0) (ap (λ (t : Told). t.second.number) ends.0 ∙ m.number) front d ds decides stay takes
+    (ap (λ (t : Told). t.cut) ends.0) fails front d ds decides stay takes
 
 -- A POWER-ON FAILS
 pub failed-recorded : AFailedPowerOnIsRecorded

@@ -24,7 +24,7 @@ use Rattle.run_course.specs.Dark.{all_dark}
 use Rattle.run_moments.specs.Lines.{times_of}
 use Rattle.run_moments.specs.Moment.{finds_by}
 use Rattle.run_recorded.specs.Origin.{Origin, rule_of, start_at, first_of}
-use Rattle.run_recorded.specs.Ends.{recording_by, AreVerdicts, MayBeWritten, AreSpared}
+use Rattle.run_recorded.specs.Ends.{recording_by, AreFound, AreVerdicts, MayBeWritten, AreSpared}
 
 -- what a second tells of cards: who entered, and what was found
 pub record CardsTold : Type 0 where
@@ -97,15 +97,16 @@ AnOffCutTellsMore = (o : Origin) (done : List TraceSecond) (p : Progress) → Fo
 
 -- ---- over seconds
 
--- WHAT WAS FOUND stays found, and further finds may be made as they were;
+-- WHAT WAS FOUND stays found, and further finds may be made as they were, where what was found kept after cuts was so;
 abbrev pub FindsGoOn : (d e : Devices) → Type 0
-FindsGoOn d e = (o : Origin) (done now : List TraceSecond) (log later : RunLog) (more : List Told) (from : ℕ) → AreVerdicts o done log d → HaveLeftMore o d e → TellsMore (went log done).told (went later now).told more from →
-    ((t : Told) (x : Visit) (v : Verdict) → Contains more t → Contains t.course.found (x, v) → MayBeFound o now later e t x v) → AreVerdicts o now later e
+FindsGoOn d e = (o : Origin) (done now : List TraceSecond) (log later : RunLog) (unfound found : ℕ) (more : List Told) (from : ℕ) → AreVerdicts o done log unfound d → HaveLeftMore o d e → TellsMore (went log done).told (went later now).told more from →
+    ((t : Told) (x : Visit) (v : Verdict) → Contains more t → Contains t.course.found (x, v) → MayBeFound o now later e t x v) →
+    AreFound (e.unit.left_since o.found.unit.began) found later.breaks → AreVerdicts o now later found e
 
 -- and where no card enters nothing is found.
 abbrev pub NothingIsFound : (d e : Devices) → Type 0
-NothingIsFound d e = (o : Origin) (done now : List TraceSecond) (log later : RunLog) (more : List Told) (from : ℕ) → AreVerdicts o done log d → HaveLeftMore o d e → TellsMore (went log done).told (went later now).told more from →
-    AreIdle more → AreVerdicts o now later e
+NothingIsFound d e = (o : Origin) (done now : List TraceSecond) (log later : RunLog) (unfound found : ℕ) (more : List Told) (from : ℕ) → AreVerdicts o done log unfound d → HaveLeftMore o d e → TellsMore (went log done).told (went later now).told more from →
+    AreIdle more → AreFound (e.unit.left_since o.found.unit.began) found later.breaks → AreVerdicts o now later found e
 
 -- a card that is as it was stays so, or may be written by then
 abbrev pub IsSparedOn : Origin → List TraceSecond → RunLog → (d e : Devices) → Type 0

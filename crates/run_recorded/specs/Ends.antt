@@ -1,7 +1,8 @@
 -- What is carried beside the rules of unit and cards from second to second, and what a run promises at its end (profile).
-use Rattle.std.specs.Prelude.{◌≡◌, ◌⊎◌, ℕ, ◌<◌, List, Contains}
+use Rattle.std.specs.Prelude.{◌≡◌, ◌⊎◌, ℕ, zero, suc, ◌<◌, List, [], ◌∷◌, Contains}
 use Rattle.trace_model.specs.declared.Card.{Card}
 use Rattle.trace_model.specs.Trace.{TraceSecond}
+use Rattle.log_model.specs.declared.lines.Break.{Break}
 use Rattle.log_model.specs.declared.lines.Mark.{Mark}
 use Rattle.log_model.specs.declared.lines.Verdict.{Verdict}
 use Rattle.log_model.specs.Log.{RunLog}
@@ -12,22 +13,31 @@ use Rattle.unit_rule.specs.Odometer.{OdometerSafe, HasTravelled}
 use Rattle.card_image.specs.Own.{IsOwnValid}
 use Rattle.safety_model.specs.Recording.{Recording, card_image, told_of}
 use Rattle.safety_model.specs.Cards.{entered, overlaps}
-use Rattle.safety_model.specs.Safe.{Devices, card_of, breakdowns_of, IsVerdict, IsSafe, IsCaused}
+use Rattle.safety_model.specs.Safe.{Devices, card_of, breakdowns_of, WasFound, IsUnfound, IsVerdict, IsSafe, IsCaused}
 use Rattle.run_rule.specs.Found.{found_of}
 use Rattle.run_rule.specs.Cards.{IsUntouched}
 use Rattle.run_rule.specs.Between.{Carried, IsCarried}
 use Rattle.run_course.specs.Followed.{Progress}
 use Rattle.run_brought.specs.Accounts.{so_far}
 use Rattle.run_recorded.specs.Origin.{Origin, HasRecorded}
+use Rattle.run_recorded.specs.Whole.{NothingFailed, IsWhole}
 
 -- the recording of a run so far
 abbrev pub recording_by : Origin → List TraceSecond → RunLog → Recording
 recording_by o done log = so_far o.recording done log
 
--- WHAT WAS FOUND OF CARDS so far may be found of them, by the images that the devices have left since the start.
-pub record AreVerdicts (o : Origin) (done : List TraceSecond) (log : RunLog) (d : Devices) : Type 0 where
+-- of breaks it was found what was kept after the first so many of them, and after no other
+abbrev pub AreFound : (unit : List ℕ → Type 0) → ℕ → List Break → Type 0
+AreFound unit n [] = Unit {0}
+AreFound unit zero (b ∷ breaks) = IsUnfound b × AreFound unit zero breaks
+AreFound unit (suc n) (b ∷ breaks) = WasFound unit b × AreFound unit n breaks
+
+-- WHAT WAS FOUND OF CARDS so far may be found of them, and what was found kept after the first so many breaks was kept, by the images that the
+-- devices have left since the start.
+pub record AreVerdicts (o : Origin) (done : List TraceSecond) (log : RunLog) (unfound : ℕ) (d : Devices) : Type 0 where
   pub each : (t : Told) (e : Visit) (v : Verdict) → Contains (told_of (recording_by o done log)) t → Contains t.course.found (e, v) →
       IsVerdict (recording_by o done log) (d.unit.left_since o.found.unit.began) ((card_of d e.card).left_since (found_of o.found e.card).began) e.card t.second.number v
+  pub kept : AreFound (d.unit.left_since o.found.unit.began) unfound log.breaks
 
 -- a card may be written: it was valid, and it entered more often than it was found to tell of a later time
 abbrev pub MayBeWritten : Recording → Card → Type 0
@@ -39,7 +49,7 @@ AreSpared o done log d = (c : Card) → IsUntouched (found_of o.found c) (card_o
 
 -- BESIDE WHAT IS RECORDED: what was found of cards, which cards may be written, and the odometer of the unit's images
 pub record IsBeside (o : Origin) (done : List TraceSecond) (p : Progress) (g : Travel) (d : Devices) : Type 0 where
-  pub verdicts : AreVerdicts o done p.log d
+  pub verdicts : AreVerdicts o done p.log p.unfound d
   pub spared : AreSpared o done p.log d
   pub travels : HasTravelled (odometer_at o.recording.unit) p.book g d.unit
 
@@ -48,9 +58,12 @@ pub record EndsRun (r : Recording) (marks : List Mark) (began now : Devices) : T
   -- The crash-safety theorem: every image that a stop may leave of unit or card shows what it held at the start followed by a part of the
   -- run's history from its front, with every acknowledged minute; and what a card lacks is owed to it.
   pub safe : IsSafe r marks began now
-  -- Each line of the log has its cause, and what happened has its line; each decided minute is acknowledged, and each entry of a card, but
-  -- where a break came in between.
+  -- Each line of the log has its cause, and what happened has its line; each decided minute is acknowledged but where a call failed in the
+  -- second that decided it, and each entry of a card but there or where it was torn out or pulled out.
   pub caused : IsCaused r marks began now
   -- The odometer of each image that a stop may leave is the start's and the whole kilometres of each span, up to its last-kept minute or one
   -- of which the keeping was broken off.
   pub odometer : (x : List ℕ) → now.unit.may_leave x → OdometerSafe r.rule r.log (told_of r) (odometer_at r.unit) x
+  -- Where no call failed every minute is there: each decided one stands in the history, the unit has all of it, and a card that was accepted all
+  -- of its entries.
+  pub whole : NothingFailed r.log → IsWhole r now

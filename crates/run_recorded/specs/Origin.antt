@@ -36,8 +36,8 @@ abbrev pub first_of : Origin → ℕ
 first_of o = last_kept o.recording.unit
 
 -- BETWEEN TWO SECONDS, behind these: the book follows the history of the seconds by the log; what was travelled is that of the spans; each
--- line of the log has its cause, and what happened has its line; each decided minute is acknowledged, and each entry of a card, but where
--- a break came in between; and each acceptance of a card that was valid is accounted for. No decided minute waits.
+-- line of the log has its cause, and what happened has its line; each decided minute is acknowledged but where a call failed, and each entry
+-- of a card but there or where it was torn out; and each acceptance of a card that was valid is accounted for. No decided minute waits.
 pub record HasRecorded (o : Origin) (done : List TraceSecond) (p : Progress) (g : Travel) (marks : List Mark) (now : Device → ℕ) (brought : Card → List ℕ) : Type 0 where
   pub followed : Followed (rule_of o) (start_at o) o.from (first_of o) done p
   pub waiting : p.waiting ≡ []

@@ -1,3 +1,7 @@
 pub mod Carried
 pub mod Standing
 pub mod Indices
+pub mod Same
+pub mod Notes
+pub mod Actions
+pub mod Spans

@@ -1,1 +1,4 @@
 pub mod Carried
+pub mod Same
+pub mod Notes
+pub mod Spans

@@ -6,6 +6,8 @@ ghost use Rattle.gated_ring.specs.Change.{IsAdding, IsAdded};
 ghost use Rattle.log_model.specs.Slots.{same_card};
 ghost use Rattle.side_model.specs.Noted.{InsertionNote, Withdrawal, with_withdrawal};
 ghost use Rattle.run_rings.specs.Carried.{Carries};
+ghost use Rattle.run_rings.specs.Spans.{TheyAreTheSpans, EarlierOdometersStay, AlikeSecondsCountAlike, TheOdometerOfNow};
+ghost use Rattle.run_rings.specs.Notes.{LaterLinesChangeNoNote, AnActionNotes, ASecondHasNoted, ACutNotesNoMore, SelectionsNoteNothing, PullsNoteNothing, RefusalsNoteNothing, PlacesAreNoted, WithdrawalsAreNoted, InsertionsAreNoted, PowerOnsAreNoted};
 
 /// A ring that was dense at the start carries what it showed and the entries that were added since, over each step: an entry is added, or a
 /// stop comes at a moment of that; bytes outside the ring are written; one of the run's entries gets other bytes where it stands, or would
@@ -38,4 +40,33 @@ pub fn an_index_stays()
         ((before : List ℕ) × (indices r y ≡ before ++ i ∷ (back ++ taken r x ∷ []))) ⊎ ((front ≡ []) × (indices r y ≡ back ++ taken r x ∷ [])) }
     ensures alone { (r : Shape) (x front : List ℕ) (i : ℕ) (back : List ℕ) → indices r x ≡ front ++ i ∷ back → AllByRecursion (λ (j : ℕ). (j == i) ≡ false) (front ++ back) }
     ensures itself { (i : ℕ) → (i == i) ≡ true }
+{}
+
+/// What a second notes up to some of its actions: later lines of the log change nothing of it, one action more adds its own notes, and at the end it is
+/// what the second notes, up to its cut if it has one.
+pub fn a_second_notes_action_by_action()
+    ensures stays { LaterLinesChangeNoNote }
+    ensures action { AnActionNotes }
+    ensures ends { ASecondHasNoted }
+    ensures cut { ACutNotesNoMore }
+{}
+
+/// What each action of a second notes, and its power-on.
+pub fn what_an_action_notes()
+    ensures selection { SelectionsNoteNothing }
+    ensures pull { PullsNoteNothing }
+    ensures refusal { RefusalsNoteNothing }
+    ensures place { PlacesAreNoted }
+    ensures withdrawal { WithdrawalsAreNoted }
+    ensures insertion { InsertionsAreNoted }
+    ensures power_on { PowerOnsAreNoted }
+{}
+
+/// The power spans of a run with their odometers, as one second more comes: they are its spans; the odometers before a later second stay, and what else
+/// is told of a second counts nothing; in a second with power it is that of its span, and what was travelled in it.
+pub fn odometers_go_on_with_their_spans()
+    ensures spans { TheyAreTheSpans }
+    ensures earlier { EarlierOdometersStay }
+    ensures alike { AlikeSecondsCountAlike }
+    ensures now { TheOdometerOfNow }
 {}

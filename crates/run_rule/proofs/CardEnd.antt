@@ -9,6 +9,8 @@ use Rattle.trace_model.specs.declared.Card.{Card}
 use Rattle.trace_model.specs.declared.Card.TheVariants.{A, B}
 use Rattle.tach_media.specs.Medium.{State, IsCoherent}
 use Rattle.log_model.specs.declared.lines.Mark.{Mark}
+use Rattle.log_model.specs.Causes.{device_of}
+use Rattle.unit_model.specs.Image.{last_kept}
 use Rattle.card_model.specs.Days.{AreDays}
 use Rattle.card_retention.specs.Retains.{Rise}
 use Rattle.card_image.specs.Fields.{card_days}
@@ -27,11 +29,13 @@ use Rattle.joint_rule.proofs.Holding.{rise-back}
 use Rattle.joint_rule.proofs.Repairing.{repaired-holds}
 use Rattle.joint_rule.proofs.Overwriting.{owed-entries_count}
 use Rattle.safety_model.specs.Recording.{Recording, card_image, brought, start_of, history_of, expected_of, told_of, unit_seen}
+use Rattle.safety_model.specs.Unit.{marks_of}
 use Rattle.safety_model.specs.Cards.{CardShows, CardMarkHolds, acceptances, was_kept, IsRepaired, expected_to}
 use Rattle.run_rule.specs.Found.{CardFound, AnyKept}
 use Rattle.run_rule.specs.Cards.{brought_by, counted_to, StringHolds, StringGoesOn, IsCardHeld}
 use Rattle.run_rule.specs.Between.{AreBrought}
 use Rattle.run_rule.proofs.Entries.{all-by, rise-front, counted-front, counted-split, contains-counted}
+use Rattle.run_rule.proofs.Behind.{said-by}
 use Rattle.run_rule.proofs.Present.{bound, history-later, owed-beyond}
 
 -- what the opening of a run finds of a card
@@ -65,11 +69,12 @@ module _ (r : Recording) (c : Card) (clock : ℕ) (b : Book) (card : State) (res
   parts : lies ≡ (owes ++ card_history c b.sure) ++ card_history c maybe
   parts = ap (λ (es : List Entry). owes ++ es) (history-append c b.sure maybe) ∙ sym (append_assoc owes (card_history c b.sure) (card_history c maybe))
 
+  -- what it is to have beside the entries at the start
+  further : owes ++ card_history c (history_of r) ≡ lies ++ card_history c rest
+  further = ap (λ (is : List HistoryMinute). owes ++ card_history c is) whole ∙ ap (λ (es : List Entry). owes ++ es) (history-append c (all b) rest) ∙ sym (append_assoc owes (card_history c (all b)) (card_history c rest))
+
   expected : expected_of r c ≡ entries ++ (lies ++ card_history c rest)
-  expected =
-      ap (λ (start : CardStart). start.entries ++ (start.owed ++ card_history c (history_of r))) (started r c)
-      ∙ ap (λ (es : List Entry). entries ++ es) (ap (λ (is : List HistoryMinute). owes ++ card_history c is) whole ∙ ap (λ (es : List Entry). owes ++ es) (history-append c (all b) rest)
-      ∙ sym (append_assoc owes (card_history c (all b)) (card_history c rest)))
+  expected = ap (λ (start : CardStart). start.entries ++ (start.owed ++ card_history c (history_of r))) (started r c) ∙ ap (λ (es : List Entry). entries ++ es) further
 
   sure-lies : (e : Entry) → Contains (owes ++ card_history c b.sure) e → Contains lies e
   sure-lies e at = subst (λ (zs : List Entry). Contains zs e) (sym parts) (Contains-append_left (owes ++ card_history c b.sure) (card_history c maybe) e at)
@@ -94,7 +99,7 @@ module _ (r : Recording) (c : Card) (clock : ℕ) (b : Book) (card : State) (res
   marked coherent m held = record {
     e = held.sure.0;
     minute = held.sure.2;
-    stands = subst (λ (zs : List Entry). Contains zs held.sure.0) (sym expected) (Contains-append_right entries (lies ++ card_history c rest) held.sure.0 (Contains-append_left lies (card_history c rest) held.sure.0 (sure-lies held.sure.0 held.sure.1)));
+    stands = subst (λ (zs : List Entry). Contains zs held.sure.0) (sym further) (Contains-append_left lies (card_history c rest) held.sure.0 (sure-lies held.sure.0 held.sure.1));
     clock = held.holds.0;
     shown = λ x left.
         let s = shows x (coherent.earlier clock m.clock x held.began held.holds.0 left) in
@@ -133,12 +138,67 @@ module _ (r : Recording) (c : Card) (clock : ℕ) (b : Book) (card : State) (res
         (λ one. not-sure at accepted e (subst (λ (zs : List Entry). Contains zs e) (sym (history-append c maybe rest)) (Contains-append_left (card_history c maybe) (card_history c rest) e one)))
         (Contains-append_cases (owes ++ card_history c b.sure) (card_history c maybe) e (subst (λ (zs : List Entry). Contains zs e) parts in_))
 
-    pub repaired : IsCoherent card → IsRepaired r c x
-    repaired coherent =
+    module _ (above : (i : HistoryMinute) → Contains (history_of r) i → last_kept r.unit < i.minute) (until : All (λ e. e.minute ≤ last_kept r.unit) (brought r c).owed) where
+      of-history : (is : List HistoryMinute) → ((i : HistoryMinute) → Contains is i → Contains (history_of r) i) → (e : Entry) → Contains (card_history c is) e → last_kept r.unit < e.minute
+      of-history is within e in_ = let one = said-by r c is e in_ in let lt = above one.0 (within one.0 one.1) in omega (arith, lt, one.2.0)
+
+      -- what was owed at the start was brought by the first acceptance
+      beyond-start : (at : ℕ) → Contains (acceptances r c) at → (e : Entry) → (own_view x).mark < e.minute → Contains lies e → last_kept r.unit < e.minute
+      beyond-start at accepted e late in_ = ⊎_elim
+          (λ owed_one. absurd (
+          let kept = (each at accepted).0 in
+          let low : e.minute ≤ last_kept r.unit = All-contains (λ (d : Entry). d.minute ≤ last_kept r.unit) owes e until owed_one in
+          let first = kept.3 in
+          let le = on-card kept.0 kept.1 e (Contains-append_left owes (card_history c b.sure) e owed_one) (omega (arith, low, first)) in
+          omega (arith, late, le)))
+          (λ said. of-history (all b) (λ i at_. subst (λ (is : List HistoryMinute). Contains is i) (sym whole) (Contains-append_left (all b) rest i at_)) e said)
+          (Contains-append_cases owes (card_history c (all b)) e in_)
+
+      beyond-book : (e : Entry) → Contains (card_history c rest) e → last_kept r.unit < e.minute
+      beyond-book e said = of-history rest (λ i at_. subst (λ (is : List HistoryMinute). Contains is i) (sym whole) (Contains-append_right (all b) rest i at_)) e said
+
+    -- what was acknowledged is on the card, and behind it comes nothing earlier
+    module _ (first : last_kept r.unit ≤ u.last) (until : All (λ e. e.minute ≤ last_kept r.unit) (brought r c).owed) (later : All (λ i. u.last < i.minute) rest) (coherent : IsCoherent card) (m : Mark)
+        (held : IsCardHeld (at_start r c clock) c b card m) where
+      counted-low : m.minute ≤ (own_view x).mark
+      counted-low = held.holds.1 (own_view x) (x, coherent.counts_now m.clock x held.holds.0 there, refl)
+
+      kept-low : m.minute ≤ u.last
+      kept-low =
+          let same = held.sure.2 in
+          ⊎_elim
+          (λ owed_one. let le : held.sure.0.minute ≤ last_kept r.unit = All-contains (λ (d : Entry). d.minute ≤ last_kept r.unit) owes held.sure.0 until owed_one in omega (arith, le, first, same))
+          (λ said.
+          let one = said-by r c b.sure held.sure.0 said in
+          let le : one.0.minute ≤ u.last = All-contains (λ (i : HistoryMinute). i.minute ≤ u.last) b.sure one.0 sure one.1 in
+          omega (arith, le, one.2.0, same))
+          (Contains-append_cases owes (card_history c b.sure) held.sure.0 held.sure.1)
+
+      beyond-mark : (e : Entry) → Contains (card_history c rest) e → m.minute < e.minute
+      beyond-mark e said =
+          let one = said-by r c rest e said in
+          let lt : u.last < one.0.minute = All-contains (λ (i : HistoryMinute). u.last < i.minute) rest one.0 later one.1 in
+          let le = kept-low in omega (arith, lt, le, one.2.0)
+
+    pub repaired : (marks : List Mark) → All (IsCardHeld (at_start r c clock) c b card) (marks_of (device_of c) marks) → ((i : HistoryMinute) → Contains (history_of r) i → last_kept r.unit < i.minute) →
+        All (λ e. e.minute ≤ last_kept r.unit) (brought r c).owed → last_kept r.unit ≤ u.last → All (λ i. u.last < i.minute) rest → IsCoherent card → IsRepaired r c marks x
+    repaired marks held above until first later coherent =
         let s = shows x (coherent.counts_now clock x rests.later there) in
         let tail : List Entry = s.2.0 in
         record {
           shows = s.0;
+          owes_none = λ at accepted. all-by (λ (e : Entry). last_kept r.unit < e.minute) s.0.rest (λ e in_. ⊎_elim
+              (λ one. beyond-start above until at accepted e (All-contains (λ (d : Entry). (own_view x).mark < d.minute) tail e s.2.3 one)
+              (subst (λ (zs : List Entry). Contains zs e) (sym s.2.2) (Contains-append_right (counted_to (own_view x).mark lies) tail e one)))
+              (λ two. beyond-book above until e two)
+              (Contains-append_cases tail (card_history c rest) e (subst (λ (zs : List Entry). Contains zs e) s.2.1 in_)));
+          acknowledged = λ m at. let k = All-contains (IsCardHeld (at_start r c clock) c b card) (marks_of (device_of c) marks) m held at in
+              all-by (λ (e : Entry). m.minute < e.minute) s.0.rest (λ e in_. ⊎_elim
+              (λ one.
+              let low = counted-low first until later coherent m k in
+              let lt : (own_view x).mark < e.minute = All-contains (λ (d : Entry). (own_view x).mark < d.minute) tail e s.2.3 one in omega (arith, low, lt))
+              (λ two. beyond-mark first until later coherent m k e two)
+              (Contains-append_cases tail (card_history c rest) e (subst (λ (zs : List Entry). Contains zs e) s.2.1 in_)));
           brought = λ at accepted. all-by (λ (e : Entry). was_kept r c at e.minute ≡ false) s.0.rest (λ e in_. ⊎_elim
               (λ first. later-false at accepted e (All-contains (λ (d : Entry). (own_view x).mark < d.minute) tail e s.2.3 first)
               (subst (λ (zs : List Entry). Contains zs e) (sym s.2.2) (Contains-append_right (counted_to (own_view x).mark lies) tail e first)))

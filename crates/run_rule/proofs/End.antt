@@ -23,7 +23,7 @@ use Rattle.joint_rule.specs.Filling.{FillsDays}
 use Rattle.joint_rule.specs.Rules.{CardDark, Meets, Had, Shows}
 use Rattle.joint_rule.specs.Marked.{of_card}
 use Rattle.safety_model.specs.Recording.{Recording, card_image, brought, start_of, history_of, lost_of, told_of, unit_seen as seen_in}
-use Rattle.safety_model.specs.Unit.{UnitSafe, marks_of}
+use Rattle.safety_model.specs.Unit.{UnitSafe, marks_of, issued_bytes}
 use Rattle.safety_model.specs.Cards.{CardSafe, IsRepaired, Agree, StandsInUnit, HasDay, expected_to}
 use Rattle.safety_model.specs.Safe.{Devices, card_of, IsSafe}
 use Rattle.unit_rule.specs.Rule.{Started}
@@ -76,6 +76,9 @@ module _ (r : Recording) (f : Found) (w : Carried) (began now : Devices) (found 
   unit-part = subst (λ (s : Started). UnitSafe s.days (history_of r) (lost_of r) w.marks s.began now.unit) found.unit
       (unit-safe f.unit (history_of r) (lost_of r) w.due w.book w.marks now.unit unit_whole followed.follows carried.unit)
 
+  issued-part : (x : List ℕ) → now.unit.left_since began.unit.clock x → issued_bytes x ≡ issued_bytes r.unit
+  issued-part = subst (λ (s : Started). (x : List ℕ) → now.unit.left_since s.began x → issued_bytes x ≡ s.issued) found.unit carried.unit.issued
+
   abbrev rest : List HistoryMinute
   rest = followed.follows.front.0
 
@@ -113,10 +116,6 @@ module _ (r : Recording) (f : Found) (w : Carried) (began now : Devices) (found 
 
     held : All (IsCardHeld (at_start r c clock) c w.book card) (marks_of (device_of c) w.marks)
     held = subst (λ (g : CardFound). All (IsCardHeld g c w.book card) (marks_of (device_of c) w.marks)) same (carried.marks c).held
-
-    pub card-repaired : AreBrought r c w.book (w.brought c) → (x : List ℕ) → card.may_leave x → IsRepaired r c x
-    card-repaired each x there =
-        repaired r c clock w.book card rest whole string (w.standing c) (w.brought c) (unit_seen f now.unit) rests waits.brought (view some-unit.0) (some-unit.0, some-unit.1, refl) (unit-shows some-unit.0 some-unit.1).sure each x there (card_whole c)
 
     same-owed : (u : List ℕ) (y : CardView) → owed c (view u) y ≡ owed c (seen_in r u) y
     same-owed u y = go c (found.number c valid)
@@ -194,20 +193,34 @@ module _ (r : Recording) (f : Found) (w : Carried) (began now : Devices) (found 
       pub card-agrees : Decodes r.unit → Agree r c u x
       card-agrees decodes = record { behind = behind-part decodes; rest = rest-part }
 
+    pub card-repaired : AreBrought r c w.book (w.brought c) → (x : List ℕ) → card.may_leave x → IsRepaired r c w.marks x
+    card-repaired each x there =
+        repaired r c clock w.book card rest whole string (w.standing c) (w.brought c) (unit_seen f now.unit) rests waits.brought (view some-unit.0) (some-unit.0, some-unit.1, refl) (unit-shows some-unit.0 some-unit.1).sure each x there
+        w.marks held (history-above some-unit.0 x some-unit.1 there) owed-low (first-low some-unit.0 x some-unit.1 there) (rest-later some-unit.0 x some-unit.1 there) (card_whole c)
+      where
+        owed-low : All (λ e. e.minute ≤ last_kept r.unit) (brought r c).owed
+        owed-low = subst (λ (k : ℕ). All (λ (e : Entry). e.minute ≤ k) (brought r c).owed) (last-of (own_number r.card_a) (own_number r.card_b) r.unit) (owed-until c (seen_in r r.unit) (own_view (card_image r c)))
+
   -- each card
   none-in : (m : Mark) (marks : List Mark) → marks ≡ [] → Contains marks m → ⊥
   none-in m marks is at = let none : Contains {X = Mark} [] m = subst (λ (ms : List Mark). Contains ms m) is at in omega (arith, none.1)
+
+  -- a card that is not valid has none
+  unmarked : (c : Card) → (IsOwnValid (card_image r c) → ⊥) → marks_of (device_of c) w.marks ≡ []
+  unmarked c bad = (carried.marks c).none (λ valid. bad (subst IsOwnValid (found.image c) valid))
 
   card-part : ((c : Card) → IsOwnValid (card_image r c) → AreBrought r c w.book (w.brought c)) → AreUntouched r f now → (c : Card) → CardSafe r c w.marks (card_of began c).clock (card_of now c)
   card-part each untouched c = record {
     entries = λ valid x at. (shows r c (card_of began c).clock w.book (card_of now c) rest whole (string c valid) x at).0;
     valid = λ valid x at. (string c valid).valid x at;
+    number = λ valid x at. (string c valid).number x at;
     untouched = λ never x at. untouched c never x (subst (λ (n : ℕ). (card_of now c).left_since n x) (sym (found.clock c)) at) ∙ found.image c;
     in_order = (carried.marks c).rise;
     marked = λ m at. ⊎_elim
         (λ valid. marked r c (card_of began c).clock w.book (card_of now c) rest whole (string c valid) (card_whole c) m (All-contains (IsCardHeld (at_start r c (card_of began c).clock) c w.book (card_of now c)) (marks_of (device_of c) w.marks) m (held c valid) at))
-        (λ bad. absurd (none-in m (marks_of (device_of c) w.marks) ((carried.marks c).none (λ valid. bad (subst IsOwnValid (found.image c) valid))) at))
+        (λ bad. absurd (none-in m (marks_of (device_of c) w.marks) (unmarked c bad) at))
         (valid-or (card_image r c));
+    unmarked = unmarked c;
     repaired = λ valid x there. card-repaired c valid (each c valid) x there;
   }
 
@@ -215,6 +228,7 @@ module _ (r : Recording) (f : Found) (w : Carried) (began now : Devices) (found 
   pub safe-end : Decodes r.unit → ((c : Card) → IsOwnValid (card_image r c) → AreBrought r c w.book (w.brought c)) → AreUntouched r f now → IsSafe r w.marks began now
   safe-end decodes each untouched = record {
     unit = unit-part;
+    issued = issued-part;
     card = card-part each untouched;
     both = λ c u x valid on there. card-agrees c valid u x on there decodes;
   }

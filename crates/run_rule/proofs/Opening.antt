@@ -13,7 +13,7 @@ use Rattle.card_retention.specs.Shown.{Covers, InDays, AllFrom}
 use Rattle.card_retention.specs.Retains.{Rise, entries_from}
 use Rattle.card_image.specs.Fields.{card_days}
 use Rattle.card_image.specs.View.{card_view}
-use Rattle.card_image.specs.Own.{own_view, own_sizes, own_covered, counted_view, expected_with, KeepsFrom, KeepsOf, IsOwnValid}
+use Rattle.card_image.specs.Own.{own_view, own_sizes, own_number, own_covered, counted_view, expected_with, KeepsFrom, KeepsOf, IsOwnValid}
 use Rattle.history_model.specs.Presence.{CardStart, trimmed_by}
 use Rattle.history_model.specs.Book.{not_begun}
 use Rattle.history_model.proofs.Books.{history-none}
@@ -168,6 +168,7 @@ module _ (f : Found) (c : Card) (u x : List ℕ) (unit card : State) (unit_whole
     kept = λ y left. subst (λ (z : List ℕ). KeepsOf g.image (g.start.entries ++ counted_to (own_view z).mark (brought_by c g.start not_begun)) (own_view z).held) (sym (since y left)) (0, keeps);
     valid = λ y left. subst IsOwnValid (sym (since y left)) valid;
     sizes = λ y left. ap own_sizes (since y left ∙ sym looked.image);
+    number = λ y left. ap own_number (since y left ∙ sym looked.image);
     rises = subst Rise (sym (none-said ∙ owes)) (owed-rises c f.card_a.number f.card_b.number u (own_view x));
   }
     where

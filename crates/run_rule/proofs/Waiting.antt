@@ -103,6 +103,7 @@ module _ (f : Found) (c : Card) where
     kept = λ x left. subst (λ (es : List Entry). KeepsOf g.image (g.start.entries ++ es) (own_view x).held) (sym (same x left)) (s.kept x left);
     valid = s.valid;
     sizes = s.sizes;
+    number = s.number;
     rises = rises;
   }
 

@@ -59,11 +59,11 @@ pub record IsFollowed (r : Recording) (b : Book) (unit : State) : Type 0 where
   pub follows : Follows (history_of r) (lost_of r) b
   pub later : (u : List ℕ) → unit.may_leave u → All (λ i. last_kept u < i.minute) follows.front.0
 
--- Each acceptance of a card has its last-kept minute among these: of the entries that the book is sure of, those that the unit had kept
--- by then are not later; and it had kept no others.
+-- Each acceptance of a card has its last-kept minute among these: it is no earlier than the start's; of the entries that the book is sure
+-- of, those that the unit had kept by then are not later; and it had kept no others.
 abbrev pub AreBrought : Recording → Card → Book → List ℕ → Type 0
 AreBrought r c b ks = (u : ℕ) → Contains (acceptances r c) u →
-    ((k : ℕ) × Contains ks k × All (λ e. was_kept r c u e.minute ≡ true → e.minute ≤ k) ((brought r c).owed ++ card_history c b.sure))
+    ((k : ℕ) × Contains ks k × All (λ e. was_kept r c u e.minute ≡ true → e.minute ≤ k) ((brought r c).owed ++ card_history c b.sure) × (last_kept r.unit ≤ k))
     × ((rest : List HistoryMinute) → history_of r ≡ b.sure ++ rest → All (λ e. was_kept r c u e.minute ≡ false) (card_history c rest))
 
 -- a card that the run may not write is as it was

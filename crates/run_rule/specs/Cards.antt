@@ -6,7 +6,7 @@ use Rattle.tach_media.specs.Medium.{State}
 use Rattle.log_model.specs.declared.lines.Mark.{Mark}
 use Rattle.log_model.specs.Causes.{device_of}
 use Rattle.card_retention.specs.Retains.{Rise}
-use Rattle.card_image.specs.Own.{own_view, own_sizes, IsOwnValid, KeepsFrom, KeepsOf}
+use Rattle.card_image.specs.Own.{own_view, own_sizes, own_number, IsOwnValid, KeepsFrom, KeepsOf}
 use Rattle.history_model.specs.Minutes.{HistoryMinute, card_history, on_card}
 use Rattle.history_model.specs.Presence.{CardStart}
 use Rattle.history_model.specs.Book.{Book, all}
@@ -25,12 +25,13 @@ abbrev pub counted_to : ℕ → List Entry → List Entry
 counted_to mark es = filter (λ e. nat_le e.minute mark) es
 
 -- THE STRING. Each image since the start keeps the card's entries and those of the run up to its end mark, but for the days that the
--- stated overwriting took; each is valid; and these entries rise.
+-- stated overwriting took; each is valid, and has the card's number; and these entries rise.
 pub record StringHolds (f : CardFound) (c : Card) (b : Book) (card : State) : Type 0 where
   pub kept : (x : List ℕ) → card.left_since f.began x →
       KeepsOf f.image (f.start.entries ++ counted_to (own_view x).mark (brought_by c f.start b)) (own_view x).held
   pub valid : (x : List ℕ) → card.left_since f.began x → IsOwnValid x
   pub sizes : (x : List ℕ) → card.left_since f.began x → own_sizes x ≡ own_sizes f.image
+  pub number : (x : List ℕ) → card.left_since f.began x → own_number x ≡ own_number f.image
   pub rises : Rise (brought_by c f.start b)
 
 -- The string of an image goes on where the joint rule lets the next entry come: with the first that is owed, or else behind the newest

@@ -81,6 +81,7 @@ module _ (f : Found) (c : Card) (b : Book) (z : Standing) (unit card : State) (s
       kept = λ x left. subst (λ (es : List Entry). KeepsOf g.image (es ++ counted_to (own_view x).mark lies) (own_view x).held) (sym s.entries) (s.held.since x left).1;
       valid = s.valid;
       sizes = λ x left. (s.held.since x left).0;
+      number = s.held.still;
       rises = s.rises;
     };
     comes = goes;
@@ -111,4 +112,4 @@ module _ (f : Found) (c : Card) (b : Book) (z : Standing) (unit card : State) (s
     out-image x there (e ∷ rest) some = out-lacking e rest x (held u x on there) some
 
     pub held-out : IsHeld g c b Out card
-    held-out = record { tells = s.held.tells; now = λ x there. ((s.held.now x there).0, out-image x there (held u x on there).rest refl); since = s.held.since; number = s.held.number }
+    held-out = record { tells = s.held.tells; now = λ x there. ((s.held.now x there).0, out-image x there (held u x on there).rest refl); since = s.held.since; number = s.held.number; still = s.held.still }

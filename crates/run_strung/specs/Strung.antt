@@ -22,6 +22,7 @@ pub record IsHeld (f : CardFound) (c : Card) (b : Book) (z : Standing) (card : S
       (own_sizes x ≡ own_sizes f.image) × HoldsSince (own_sizes f.image) f.image (brought_by c f.start b) (suc (max f.start.word (since z (own_view x).newest))) x
   pub since : (x : List ℕ) → card.left_since f.began x → (own_sizes x ≡ own_sizes f.image) × KeepsSince f.image (brought_by c f.start b) x
   pub number : (x : List ℕ) → card.may_leave x → own_number x ≡ f.number
+  pub still : (x : List ℕ) → card.left_since f.began x → own_number x ≡ own_number f.image
 
 -- So its string is held; each image since the start is valid; the entries rise. Nothing of a minute is half kept, and the rule that joins
 -- unit and card holds.

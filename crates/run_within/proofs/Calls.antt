@@ -38,7 +38,7 @@ use Rattle.run_told.proofs.Power.{found-powerless, unread-powerless, mended-powe
 use Rattle.run_told.proofs.Travelled.{travelled-mended}
 use Rattle.run_recorded.specs.Origin.{Origin, rule_of, first_of}
 use Rattle.run_within.specs.Recorded.{Values, carried, AreThere, IsOff, Recorded}
-use Rattle.run_within.specs.Powering.{GoOn, IsBack, IsOnlyRead, IsNotRead}
+use Rattle.run_within.specs.Powering.{GoOn, WasRead, IsBack, IsOnlyRead, IsNotRead}
 use Rattle.run_within.proofs.Powering.{off-of}
 
 -- a device that broke down did so once more
@@ -135,10 +135,14 @@ module _ (o : Origin) (done : List TraceSecond) (supply : Supply) (v : Values) (
       travels : HasTravelled (odometer_at o.recording.unit) (found k r.book) (resumed odometers.0.leg r.travel) W
       travels = travelled-mended (odometer_at o.recording.unit) (found k r.book) (resumed odometers.0.leg r.travel) odometers.1 after j mends
 
+      was-read : WasRead o k (devices W d.card_a d.card_b)
+      was-read = (x, goes.left.unit x (whole.counts_now o.found.unit.began x began before), refl)
+
       pub is-back : failed ≡ false → (minutes : Kept) → StandsFor minutes (span_at (rule_of o) v.next []) → IsBack o done supply v d r k minutes (devices W d.card_a d.card_b)
       is-back well minutes stands = record {
         leg = odometers.0.leg;
         shows = shows;
+        read = was-read;
         stands = stands;
         powered = mended-powered o.found (carried_found k w) v.cabin.cards V W d.card_a d.card_b r.found after refl read failed holds taken_a taken_b tells well (cause.works ∙ ap not well) off.bare;
         goes = goes;
@@ -149,6 +153,7 @@ module _ (o : Origin) (done : List TraceSecond) (supply : Supply) (v : Values) (
       only-read fails = record {
         leg = odometers.0.leg;
         shows = shows;
+        read = was-read;
         powerless = mended-powerless o.found (carried_found k w) v.cabin.cards V W d.card_a d.card_b r.found after refl read failed holds taken_a taken_b tells;
         broke = rose-by d.unit.breakdowns W.breakdowns (subst (λ (n : ℕ). Rose n W.breakdowns) same (cause.breaks works fails));
         goes = goes;

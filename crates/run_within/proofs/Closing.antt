@@ -23,6 +23,7 @@ use Rattle.run_moments.specs.Lines.{times_of, IsTornAt}
 use Rattle.run_moments.specs.Moment.{Moment}
 use Rattle.run_moments.specs.Telling.{IsOneOut, BrokeDown}
 use Rattle.run_moments.specs.Kept.{StaysOut}
+use Rattle.run_moments.proofs.Reached.{leaves-first}
 use Rattle.run_moments.proofs.Telling.{card-torn, breakdowns-only}
 use Rattle.run_moments.proofs.Kept.{nothing-else}
 use Rattle.run_told.specs.Told.{IsPowered, for_card}
@@ -120,7 +121,7 @@ module _ (o : Origin) (done : List TraceSecond) (s : TraceSecond) (at : Phase) (
         ∙ ap (λ (q : Option Sitting). visit ∷ map {B = Visit} (λ (y : Card). record { phase = at; slot = slot; card = y }) (card_of_sitting q)) empty
 
     torn : Moment p was s at later.log [] w.b.broken (breakdowns_of e) × IsTornAt s.number slot (visit ∷ []) c now
-    torn = card-torn p was s at v.log [] w.b.broken (breakdowns_of d) (breakdowns_of e) w.moment slot b here k.leaving.untorn card out broke
+    torn = card-torn p was s at v.log [] w.b.broken (breakdowns_of d) (breakdowns_of e) w.moment slot b here (leaves-first v.log was s at slot visit [] k.leaving.leaves) k.leaving.untorn card out broke
 
     is : IsTornAt s.number slot (visit ∷ []) c now
     is = torn.1

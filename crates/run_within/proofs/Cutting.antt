@@ -59,10 +59,10 @@ use Rattle.run_moments.proofs.Cutting.{cut-decided}
 use Rattle.run_told.specs.Told.{AreFoundCards}
 use Rattle.run_recorded.specs.Origin.{Origin, rule_of, start_at, first_of, HasRecorded}
 use Rattle.run_recorded.specs.Seconds.{broke_off, seated_now, seated_next, AreTaken}
-use Rattle.run_recorded.specs.Ends.{recording_by, AreVerdicts, AreSpared}
+use Rattle.run_recorded.specs.Ends.{recording_by, AreFound, AreVerdicts, AreSpared}
 use Rattle.run_recorded.specs.Beside.{AreFewFound}
 use Rattle.run_recorded.proofs.Seconds.{second-is_broken}
-use Rattle.run_recorded.proofs.Beside.{second-tells, verdicts-on}
+use Rattle.run_recorded.proofs.Beside.{second-tells, verdicts-on, kept-on_cut}
 use Rattle.run_within.specs.Recorded.{Values, progress, carried, IsWritten, Recorded}
 use Rattle.run_within.specs.Within.{Beginning, told_before, course_in, lost_minute, overlaps_by, MayBeWrittenSo, CutWithin, cut_values}
 use Rattle.run_within.proofs.Left.{counted-part}
@@ -265,8 +265,8 @@ module _ (o : Origin) (done : List TraceSecond) (s : TraceSecond) (at : Phase) (
       (subst (λ (n : ℕ). R (record (progress (cut_values s at v) Lost book) { unfound = p.unfound; next = suc n })) (sym w.next)
       (subst (λ (i : Option HistoryMinute). R (broke_off log s w.new i p)) lost-is (subst (λ (is : List HistoryMinute). R (broke_off log s is (seated_next o log done s p w.ds w.lost) p)) new-is recorded-so)))
 
-  verdicts : AreVerdicts o (done ++ s ∷ []) log d
-  verdicts = verdicts-on o done (done ++ s ∷ []) p.log log d d (t ∷ []) p.next w.verdicts (record { unit = λ x h. h; card = λ c x h. h }) (second-tells o done p f s log goes number)
+  verdicts : AreVerdicts o (done ++ s ∷ []) log v.unfound d
+  verdicts = verdicts-on o done (done ++ s ∷ []) p.log log p.unfound v.unfound d d (t ∷ []) p.next w.verdicts (record { unit = λ x h. h; card = λ c x h. h }) (second-tells o done p f s log goes number)
       (λ x e verdict among seen.
       let same : t ≡ x = ⊎_elim (λ none. absurd (omega (arith, none.1))) (λ here. here) (Contains-push_cases [] t x among) in
       subst (λ (y : Told). IsVerdict (recording_by o (done ++ s ∷ []) log) (d.unit.left_since o.found.unit.began) ((card_of d e.card).left_since (found_of o.found e.card).began) e.card y.second.number verdict) same
@@ -278,6 +278,9 @@ module _ (o : Origin) (done : List TraceSecond) (s : TraceSecond) (at : Phase) (
       subst (λ (n : ℕ). IsVerdict (recording_by o (done ++ s ∷ []) log) (d.unit.left_since o.found.unit.began) ((card_of d e.card).left_since (found_of o.found e.card).began) e.card n verdict) (sym is)
       (verdict-by o (done ++ s ∷ []) log may.0 (d.unit.left_since o.found.unit.began) ((card_of d e.card).left_since (found_of o.found e.card).began) e.card s.number verdict
       (let low = may.1 in let same_times = ap (times_of e.card) entered_ in omega (arith, low, count, same_times)) may.2)))
+      (subst (λ (n : ℕ). AreFound (d.unit.left_since o.found.unit.began) n log.breaks) (sym w.unfound)
+      (subst (λ (bs : List Break). AreFound (d.unit.left_since o.found.unit.began) p.unfound (bs ++ cut_at s.number true (begun_by s at) ∷ [])) (sym w.moment.breaks_are)
+      (kept-on_cut (d.unit.left_since o.found.unit.began) p.unfound p.log.breaks w.moment.breaks s.number true (begun_by s at) f.unfound w.verdicts.kept w.moment.uncut)))
 
   written : (card : Card) → MayBeWrittenSo o w.b done c waits s.number v.cabin.slots card → IsWritten o (done ++ s ∷ []) (cut_values s at v) card
   written card h = record {

@@ -60,10 +60,10 @@ use Rattle.run_present.proofs.Presence.{next-begins}
 use Rattle.run_told.specs.Told.{AreFoundCards}
 use Rattle.run_recorded.specs.Origin.{Origin, rule_of, start_at, first_of, HasRecorded}
 use Rattle.run_recorded.specs.Seconds.{went_on, seated_now, AreTaken}
-use Rattle.run_recorded.specs.Ends.{recording_by, AreVerdicts, AreSpared}
+use Rattle.run_recorded.specs.Ends.{recording_by, AreFound, AreVerdicts, AreSpared}
 use Rattle.run_recorded.specs.Beside.{AreFewFound}
 use Rattle.run_recorded.proofs.Seconds.{second-is_recorded}
-use Rattle.run_recorded.proofs.Beside.{second-tells, verdicts-on}
+use Rattle.run_recorded.proofs.Beside.{second-tells, verdicts-on, kept-on}
 use Rattle.run_within.specs.Recorded.{Values, progress, carried, AreBack, IsWritten, Recorded}
 use Rattle.run_within.specs.Within.{Beginning, told_before, course_in, overlaps_by, IsFoundSo, MayBeWrittenSo, Within, passed_values, RecordedFrom}
 use Rattle.run_within.proofs.Cutting.{rec-front, marks-all}
@@ -169,8 +169,8 @@ module _ (o : Origin) (done : List TraceSecond) (s : TraceSecond) (v : Values) (
   slots-now : (went log (done ++ s ∷ [])).before.slots ≡ t.course.slots
   slots-now = ap (λ (x : Went). x.before.slots) (now-is (rule_of o) (start_at o) o.from (first_of o) done p f.order f.next f.unfound s log goes)
 
-  verdicts : AreVerdicts o (done ++ s ∷ []) log d
-  verdicts = verdicts-on o done (done ++ s ∷ []) p.log log d d (t ∷ []) p.next w.verdicts (record { unit = λ x h. h; card = λ c x h. h }) (second-tells o done p f s log goes number)
+  verdicts : AreVerdicts o (done ++ s ∷ []) log v.unfound d
+  verdicts = verdicts-on o done (done ++ s ∷ []) p.log log p.unfound v.unfound d d (t ∷ []) p.next w.verdicts (record { unit = λ x h. h; card = λ c x h. h }) (second-tells o done p f s log goes number)
       (λ x e verdict among seen.
       let same : t ≡ x = ⊎_elim (λ none. absurd (omega (arith, none.1))) (λ here. here) (Contains-push_cases [] t x among) in
       subst (λ (y : Told). IsVerdict (recording_by o (done ++ s ∷ []) log) (d.unit.left_since o.found.unit.began) ((card_of d e.card).left_since (found_of o.found e.card).began) e.card y.second.number verdict) same
@@ -181,6 +181,8 @@ module _ (o : Origin) (done : List TraceSecond) (s : TraceSecond) (v : Values) (
       subst (λ (n : ℕ). IsVerdict (recording_by o (done ++ s ∷ []) log) (d.unit.left_since o.found.unit.began) ((card_of d e.card).left_since (found_of o.found e.card).began) e.card n verdict) (sym is)
       (verdict-by o (done ++ s ∷ []) log may.0 (d.unit.left_since o.found.unit.began) ((card_of d e.card).left_since (found_of o.found e.card).began) e.card s.number verdict
       (let low = may.1 in let same_times = ap (λ (y : Course). times_of e.card y.entered) course-is in omega (arith, low, count, same_times)) may.2)))
+      (subst (λ (n : ℕ). AreFound (d.unit.left_since o.found.unit.began) n log.breaks) (sym w.unfound)
+      (subst (AreFound (d.unit.left_since o.found.unit.began) p.unfound) (sym w.moment.breaks_are) (kept-on (d.unit.left_since o.found.unit.began) p.unfound p.log.breaks w.moment.breaks f.unfound w.verdicts.kept w.moment.uncut)))
 
   written : (card : Card) → MayBeWrittenSo o w.b done c [] s.number v.cabin.slots card → IsWritten o (done ++ s ∷ []) (passed_values s v) card
   written card h = record {

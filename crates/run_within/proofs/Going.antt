@@ -57,10 +57,10 @@ use Rattle.run_present.proofs.Presence.{next-begins}
 use Rattle.run_told.specs.Told.{AreFoundCards, IsHeldDark, IsPowered, IsPowerless}
 use Rattle.run_told.proofs.Parts.{held-dark}
 use Rattle.run_recorded.specs.Origin.{Origin, rule_of, start_at, first_of}
-use Rattle.run_recorded.specs.Ends.{recording_by, AreVerdicts, AreSpared, MayBeWritten}
+use Rattle.run_recorded.specs.Ends.{recording_by, AreFound, AreVerdicts, AreSpared, MayBeWritten}
 use Rattle.run_recorded.specs.Beside.{TellsMore, AreIdle, AreFewFound}
 use Rattle.run_recorded.specs.Seconds.{empty_log, at_start, fault_of, refused_for}
-use Rattle.run_recorded.proofs.Beside.{dark-tells, off-tells, off-cut-tells, quiet-tells, idle-verdicts, idle-spared, idle-few, few-on, written-on, entered-same}
+use Rattle.run_recorded.proofs.Beside.{dark-tells, off-tells, off-cut-tells, quiet-tells, idle-verdicts, idle-spared, idle-few, few-on, written-on, entered-same, kept-cut}
 use Rattle.run_recorded.proofs.Seconds as seconds
 use Rattle.run_within.specs.Recorded.{Values, progress, carried, slots_of, AreBack, IsWrittenSince, IsWritten, IsOn, IsOff, Recorded}
 use Rattle.run_within.specs.Within.{RecordedFrom}
@@ -72,8 +72,8 @@ use Rattle.run_within.proofs.Stays.{since-later, since-cut}
 -- ---- no card enters in some seconds more
 
 module _ (o : Origin) (done now : List TraceSecond) (log later : RunLog) (d : Devices) (more : List Told) (from : ℕ) (tells : TellsMore (went log done).told (went later now).told more from) (idle : AreIdle more) where
-  verdicts-go : AreVerdicts o done log d → AreVerdicts o now later d
-  verdicts-go old = idle-verdicts o done now log later d d more from old (record { unit = λ x h. h; card = λ c x h. h }) tells idle
+  verdicts-go : (unfound : ℕ) → AreVerdicts o done log unfound d → AreFound (d.unit.left_since o.found.unit.began) unfound later.breaks → AreVerdicts o now later unfound d
+  verdicts-go unfound old kept = idle-verdicts o done now log later unfound unfound d d more from old (record { unit = λ x h. h; card = λ c x h. h }) tells idle kept
 
   spared-go : AreSpared o done log d → AreSpared o now later d
   spared-go old = idle-spared o done now log later d d more from old tells idle (λ c whole. inl whole)
@@ -153,7 +153,7 @@ module _ (o : Origin) (done : List TraceSecond) (v : Values) (d : Devices) (r : 
     brought = r.brought;
     recorded = seconds.dark-recorded o done p r.travel v.marks (breakdowns_of d) r.brought r.recorded refl n speed actions refused begun low high told;
     beside = record {
-      verdicts = verdicts-go o done now v.log w.log d further.0 v.next further.1 further.2 r.beside.verdicts;
+      verdicts = verdicts-go o done now v.log w.log d further.0 v.next further.1 further.2 v.unfound r.beside.verdicts r.beside.verdicts.kept;
       spared = spared-go o done now v.log w.log d further.0 v.next further.1 further.2 r.beside.spared;
       travels = r.beside.travels;
     };
@@ -215,7 +215,7 @@ off-recorded d o done supply v r dark_ n =
       brought = r.brought;
       recorded = seconds.off-recorded o done p r.travel v.marks (breakdowns_of d) r.brought r.recorded dark_ n;
       beside = record {
-        verdicts = verdicts-go o done now v.log v.log d further.0 v.next further.1 further.2 r.beside.verdicts;
+        verdicts = verdicts-go o done now v.log v.log d further.0 v.next further.1 further.2 v.unfound r.beside.verdicts r.beside.verdicts.kept;
         spared = spared-go o done now v.log v.log d further.0 v.next further.1 further.2 r.beside.spared;
         travels = r.beside.travels;
       };
@@ -339,7 +339,7 @@ module _ (o : Origin) (done : List TraceSecond) (t : Told) (span : List Told) (v
           brought = r.brought;
           recorded = seconds.off-cut-recorded o done lit-progress r.travel v.marks (breakdowns_of d) r.brought r.recorded t span refl n;
           beside = record {
-            verdicts = verdicts-go o done now-off v.log cut-log d further-off.0 v.next further-off.1 further-off.2 r.beside.verdicts;
+            verdicts = verdicts-go o done now-off v.log cut-log d further-off.0 v.next further-off.1 further-off.2 v.unfound r.beside.verdicts (kept-cut (d.unit.left_since o.found.unit.began) v.unfound v.log.breaks (v.next - 1) false v.begun r.recorded.followed.unfound r.beside.verdicts.kept);
             spared = spared-go o done now-off v.log cut-log d further-off.0 v.next further-off.1 further-off.2 r.beside.spared;
             travels = r.beside.travels;
           };
@@ -446,7 +446,7 @@ module _ (o : Origin) (done : List TraceSecond) (t : Told) (span : List Told) (v
       brought = r.brought;
       recorded = seconds.quiet-recorded o done quiet-p r.travel v.marks (breakdowns_of d) r.brought r.recorded t span refl (suc n) speed high;
       beside = record {
-        verdicts = verdicts-go o done quiet-now v.log v.log d quiet-further.0 v.next quiet-further.1 quiet-further.2 r.beside.verdicts;
+        verdicts = verdicts-go o done quiet-now v.log v.log d quiet-further.0 v.next quiet-further.1 quiet-further.2 v.unfound r.beside.verdicts r.beside.verdicts.kept;
         spared = spared-go o done quiet-now v.log v.log d quiet-further.0 v.next quiet-further.1 quiet-further.2 r.beside.spared;
         travels = r.beside.travels;
       };
@@ -510,7 +510,7 @@ module _ (o : Origin) (v : Values) (d : Devices) (h : MayStart o v d) where
     brought = λ c. [];
     recorded = seconds.more-recorded o [] (at_start o) not_travelled [] [] o.breakdowns (breakdowns_of d) (λ c. []) (seconds.nothing-recorded o h.early) (λ device m at. at) h.breakdowns;
     beside = record {
-      verdicts = record { each = λ t e verdict at seen. absurd (nowhere o t at) };
+      verdicts = record { each = λ t e verdict at seen. absurd (nowhere o t at); kept = tt };
       spared = λ c. inl (h.untouched c);
       travels = h.travels;
     };

@@ -30,6 +30,7 @@ use Rattle.run_moments.specs.Lines.{IsTornAt}
 use Rattle.run_moments.specs.Moment.{Moment}
 use Rattle.run_moments.specs.Telling.{IsOneOut}
 use Rattle.run_moments.specs.Kept.{HasDecided, AreMarkedSoFar}
+use Rattle.run_moments.proofs.Reached.{enters-first}
 use Rattle.run_moments.proofs.Lines.{who-sits}
 use Rattle.run_moments.proofs.Telling.{card-torn}
 use Rattle.run_moments.proofs.Kept.{nothing-else, marks-stay}
@@ -113,7 +114,7 @@ module _ (o : Origin) (done : List TraceSecond) (s : TraceSecond) (at : Phase) (
       ∙ ap (λ (x : Option Sitting). map (λ (k : Card). record { phase = at; slot = f.slot; card = k }) (card_in x)) sits-mid
 
   moments : Moment p (went p.log done).before s at (and_break log1 b) fewer w.b.broken (breakdowns_of e) × IsTornAt s.number f.slot (record { phase = at; slot = f.slot; card = card } ∷ []) mid now
-  moments = card-torn p (went p.log done).before s at log1 fewer w.b.broken (breakdowns_of d) (breakdowns_of e) moments1 f.slot b l.torn_here untorn card out l.broke
+  moments = card-torn p (went p.log done).before s at log1 fewer w.b.broken (breakdowns_of d) (breakdowns_of e) moments1 f.slot b l.torn_here (enters-first v.log (went p.log done).before s at f.slot j.next.enters) untorn card out l.broke
 
   is : IsTornAt s.number f.slot (record { phase = at; slot = f.slot; card = card } ∷ []) mid now
   is = moments.1

@@ -37,13 +37,13 @@ use Rattle.run_recorded.specs.Seconds.{found_again}
 use Rattle.run_recorded.specs.Ends.{recording_by, AreVerdicts}
 use Rattle.run_recorded.proofs.Seconds.{found-recorded, more-recorded}
 use Rattle.run_recorded.specs.Beside.{AreFewFound}
-use Rattle.run_recorded.proofs.Beside.{found-tells, few-on, written-on, idle-verdicts}
+use Rattle.run_recorded.proofs.Beside.{found-tells, few-on, written-on, idle-verdicts, kept-later, kept-found}
 use Rattle.run_present.specs.Presence.{PresentStand, sits}
 use Rattle.run_present.proofs.Presence.{none-to_keep}
 use Rattle.run_within.specs.Recorded.{Values, progress, carried, IsWritten, IsOff, IsHeldBy, Recorded}
 use Rattle.run_within.specs.Within.{Beginning, course_in, overlaps_by, IsFoundSo, IsSparedSo, CutWithin}
 use Rattle.run_within.specs.Waking.{IsWaking, both_slots, PowerWakes}
-use Rattle.run_within.specs.Powering.{read_values, begun_values, begun_again, GoOn, PowerIsBack, AMendingFails}
+use Rattle.run_within.specs.Powering.{WasRead, read_values, begun_values, begun_again, GoOn, PowerIsBack, AMendingFails}
 use Rattle.run_within.proofs.Parts.{entered-told}
 use Rattle.run_within.proofs.Stays.{since-later}
 use Rattle.run_within.proofs.Written.{written-begins}
@@ -160,8 +160,9 @@ module _ (o : Origin) (done : List TraceSecond) (s : TraceSecond) (supply : Supp
   nobody : (card : Card) → is_some (session_of v.cabin.cards card) ≡ true → ⊥
   nobody card some = let none : is_some (session_of v.cabin.cards card) ≡ false = ap is_some (off.bare card) in let clash : true ≡ false = sym some ∙ none in cc
 
-  verdicts : AreVerdicts o done run.log e
-  verdicts = idle-verdicts o done done v.log run.log d e [] v.next r.beside.verdicts goes.left (found-tells o done p r.recorded.followed k) tt
+  verdicts : WasRead o k e → AreVerdicts o done run.log run.unfound e
+  verdicts read = idle-verdicts o done done v.log run.log v.unfound run.unfound d e [] v.next r.beside.verdicts goes.left (found-tells o done p r.recorded.followed k) tt
+      (kept-found (e.unit.left_since o.found.unit.began) k read v.unfound v.log.breaks (kept-later (d.unit.left_since o.found.unit.began) (e.unit.left_since o.found.unit.began) goes.left.unit v.unfound v.log.breaks r.beside.verdicts.kept))
 
 pub power-wakes : (d e : Devices) → PowerWakes d e
 power-wakes d e o done s supply v r may number given k minutes back =
@@ -199,7 +200,7 @@ power-wakes d e o done s supply v r may number given k minutes back =
         tells = tells o done s supply v d e r may number given k back.leg back.shows back.goes (breakdowns_of e);
         present = present o done s supply v d e r may number given k back.leg back.shows back.goes (breakdowns_of e) (λ card. Out);
         back = λ card some. absurd (nobody o done s supply v d e r may number given k back.leg back.shows back.goes card some);
-        verdicts = verdicts o done s supply v d e r may number given k back.leg back.shows back.goes;
+        verdicts = verdicts o done s supply v d e r may number given k back.leg back.shows back.goes back.read;
         finds = finds o done s supply v d e r may number given k back.leg back.shows back.goes (breakdowns_of e);
         there = back.goes.there r.there;
         few = few o done s supply v d e r may number given k back.leg back.shows back.goes;
@@ -248,7 +249,7 @@ mending-fails d e o done s supply v r may number given k read =
       low = let here = from-is o done s supply v d e r may number given k read.leg read.shows read.goes in omega (arith, here);
       more = λ card n h. h;
       tells = tells o done s supply v d e r may number given k read.leg read.shows read.goes (breakdowns_of d);
-      verdicts = verdicts o done s supply v d e r may number given k read.leg read.shows read.goes;
+      verdicts = verdicts o done s supply v d e r may number given k read.leg read.shows read.goes read.read;
       finds = finds o done s supply v d e r may number given k read.leg read.shows read.goes (breakdowns_of d);
       there = read.goes.there r.there;
       few = few o done s supply v d e r may number given k read.leg read.shows read.goes;

@@ -29,7 +29,7 @@ use Rattle.run_recorded.specs.Origin.{Origin, rule_of, start_at, first_of}
 use Rattle.run_recorded.specs.Ends.{recording_by, AreVerdicts, AreSpared}
 use Rattle.run_recorded.specs.Beside.{TellsMore, entered_in, AreFewer, AreFewFound}
 use Rattle.run_recorded.proofs.Seconds.{failed-recorded}
-use Rattle.run_recorded.proofs.Beside.{second-tells, few-on, written-on, verdicts-on, spared-on}
+use Rattle.run_recorded.proofs.Beside.{second-tells, few-on, written-on, verdicts-on, spared-on, kept-later, kept-cut}
 use Rattle.run_rule.specs.Found.{found_of}
 use Rattle.run_rule.specs.Cards.{IsUntouched}
 use Rattle.run_within.specs.Recorded.{Values, progress, carried, IsWritten, IsOff, Recorded}
@@ -93,12 +93,13 @@ module _ (o : Origin) (done : List TraceSecond) (s : TraceSecond) (supply : Supp
   further : TellsMore was.told (went log (done ++ s ∷ [])).told (t ∷ []) v.next
   further = second-tells o done p f s log goes_by is-next
 
-  verdicts : AreVerdicts o (done ++ s ∷ []) log e
-  verdicts = verdicts-on o done (done ++ s ∷ []) v.log log d e (t ∷ []) v.next r.beside.verdicts failed.goes.left further
+  verdicts : AreVerdicts o (done ++ s ∷ []) log v.unfound e
+  verdicts = verdicts-on o done (done ++ s ∷ []) v.log log v.unfound v.unfound d e (t ∷ []) v.next r.beside.verdicts failed.goes.left further
       (λ x visit verdict among seen.
       let same : t ≡ x = ⊎_elim (λ nowhere. absurd (omega (arith, nowhere.1))) (λ here. here) (Contains-push_cases [] t x among) in
       let gone : Contains {X = Visit × Verdict} [] (visit, verdict) = subst (λ (fs : List (Visit × Verdict)). Contains fs (visit, verdict)) (ap (λ (y : Told). y.course.found) (sym same) ∙ none) seen in
       absurd (omega (arith, gone.1)))
+      (kept-cut (e.unit.left_since o.found.unit.began) v.unfound v.log.breaks s.number true 0 f.unfound (kept-later (d.unit.left_since o.found.unit.began) (e.unit.left_since o.found.unit.began) failed.goes.left.unit v.unfound v.log.breaks r.beside.verdicts.kept))
 
   fewer : AreFewer o.recording (t ∷ [])
   fewer = ((λ c. subst (λ (fs : List (Visit × Verdict)). length (filter (λ (x : Visit × Verdict). same_card c x.0.card && is_overlap o.recording c x.1) fs) ≤ length (entered_in c t)) (sym none) (omega arith)), tt)

@@ -73,7 +73,7 @@ module _ (o : Origin) (done : List TraceSecond) (s : TraceSecond) (at : Phase) (
       ∙ ap (λ (q : Option Sitting). map {B = Visit} (λ (y : Card). record { phase = at; slot = slot; card = y }) (card_of_sitting q)) sitting.1
 
   torn : Moment p was s at later.log [] w.b.broken (breakdowns_of e) × IsTornAt s.number slot (visit ∷ []) c now
-  torn = card-torn p was s at v.log [] w.b.broken (breakdowns_of d) (breakdowns_of e) w.moment slot b k.here untorn card out k.broke
+  torn = card-torn p was s at v.log [] w.b.broken (breakdowns_of d) (breakdowns_of e) w.moment slot b k.here k.power untorn card out k.broke
 
   is : IsTornAt s.number slot (visit ∷ []) c now
   is = torn.1

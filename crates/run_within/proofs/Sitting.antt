@@ -20,6 +20,7 @@ use Rattle.run_present.specs.Presence.{IsSeated, sits}
 use Rattle.run_recorded.specs.Origin.{Origin}
 use Rattle.run_recorded.specs.Ends.{AreVerdicts}
 use Rattle.run_recorded.specs.Beside.{HaveLeftMore}
+use Rattle.run_recorded.proofs.Beside.{kept-later}
 use Rattle.run_within.specs.Within.{Beginning}
 use Rattle.run_within.proofs.Left.{seen-left}
 
@@ -84,8 +85,9 @@ pub seated-still : (f : Found) (old new : Card → Standing) (x : Card) (u : ℕ
 seated-still f old new x u same h = (h.0, (h.1.0, same ∙ h.1.1))
 
 -- and what was found so far may be found as more was left
-pub verdicts-later : (o : Origin) (done : List TraceSecond) (b : Beginning) (d e : Devices) → HaveLeftMore o d e → AreVerdicts o done b.run.log d → AreVerdicts o done b.run.log e
+pub verdicts-later : (o : Origin) (done : List TraceSecond) (b : Beginning) (d e : Devices) → HaveLeftMore o d e → AreVerdicts o done b.run.log b.run.unfound d → AreVerdicts o done b.run.log b.run.unfound e
 verdicts-later o done b d e left h = record {
+  kept = kept-later (d.unit.left_since o.found.unit.began) (e.unit.left_since o.found.unit.began) left.unit b.run.unfound b.run.log.breaks h.kept;
   each = λ t x verdict among seen.
       seen-left o done b.run.log (d.unit.left_since o.found.unit.began) ((card_of d x.card).left_since (found_of o.found x.card).began) (e.unit.left_since o.found.unit.began) ((card_of e x.card).left_since (found_of o.found x.card).began)
       left.unit (left.card x.card) x.card t.second.number verdict (h.each t x verdict among seen);

@@ -22,13 +22,15 @@ use Rattle.run_moments.proofs.Telling.{breakdowns-only}
 use Rattle.run_recorded.specs.Origin.{Origin, rule_of, start_at}
 use Rattle.run_recorded.specs.Ends.{AreVerdicts}
 use Rattle.run_recorded.specs.Beside.{HaveLeftMore}
+use Rattle.run_recorded.proofs.Beside.{kept-later}
 use Rattle.run_within.specs.Recorded.{Values, carried}
 use Rattle.run_within.specs.Within.{Beginning, told_before, course_in, IsFoundSo, Within, CutWithin, ACallIsRecorded, AFailureIsRecorded}
 use Rattle.run_within.proofs.Left.{verdict-left, seen-left}
 use Rattle.run_within.proofs.Written.{spared-called}
 
-verdicts-left : (o : Origin) (done : List TraceSecond) (b : Beginning) (d e : Devices) → HaveLeftMore o d e → AreVerdicts o done b.run.log d → AreVerdicts o done b.run.log e
+verdicts-left : (o : Origin) (done : List TraceSecond) (b : Beginning) (d e : Devices) → HaveLeftMore o d e → AreVerdicts o done b.run.log b.run.unfound d → AreVerdicts o done b.run.log b.run.unfound e
 verdicts-left o done b d e left h = record {
+  kept = kept-later (d.unit.left_since o.found.unit.began) (e.unit.left_since o.found.unit.began) left.unit b.run.unfound b.run.log.breaks h.kept;
   each = λ t x verdict among seen.
       seen-left o done b.run.log (d.unit.left_since o.found.unit.began) ((card_of d x.card).left_since (found_of o.found x.card).began) (e.unit.left_since o.found.unit.began) ((card_of e x.card).left_since (found_of o.found x.card).began)
       left.unit (left.card x.card) x.card t.second.number verdict (h.each t x verdict among seen);

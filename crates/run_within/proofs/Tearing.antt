@@ -27,6 +27,7 @@ use Rattle.run_moments.specs.Lines.{IsTornAt}
 use Rattle.run_moments.specs.Moment.{Moment}
 use Rattle.run_moments.specs.Telling.{IsOneOut}
 use Rattle.run_moments.specs.Kept.{HasDecided, AreMarkedSoFar}
+use Rattle.run_moments.proofs.Reached.{enters-first}
 use Rattle.run_moments.proofs.Lines.{who-sits}
 use Rattle.run_moments.proofs.Telling.{card-torn, waits-no_more}
 use Rattle.run_moments.proofs.Kept.{nothing-else, marks-stay}
@@ -93,7 +94,7 @@ module _ (o : Origin) (done : List TraceSecond) (s : TraceSecond) (at : Phase) (
   out = ap (λ (vs : List Visit). vs ++ visits at slot c.slots) j.next.stays_in ∙ ap (λ (x : Option Sitting). map (λ (k : Card). record { phase = at; slot = slot; card = k }) (card_in x)) j.next.sits_
 
   moments : Moment p (went p.log done).before s at (and_break v.log b) waits w.b.broken (breakdowns_of e) × IsTornAt s.number slot (record { phase = at; slot = slot; card = card } ∷ []) c now
-  moments = card-torn p (went p.log done).before s at v.log waits w.b.broken (breakdowns_of d) (breakdowns_of e) w.moment slot b j.here untorn card out j.broke
+  moments = card-torn p (went p.log done).before s at v.log waits w.b.broken (breakdowns_of d) (breakdowns_of e) w.moment slot b j.here (enters-first v.log (went p.log done).before s at slot j.next.enters) untorn card out j.broke
 
   is : IsTornAt s.number slot (record { phase = at; slot = slot; card = card } ∷ []) c now
   is = moments.1

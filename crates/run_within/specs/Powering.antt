@@ -13,7 +13,7 @@ use Rattle.unit_course.specs.Followed.{Supply, Lost, MayPower}
 use Rattle.unit_course.specs.Legs.{resumed}
 use Rattle.unit_course.specs.Travelled.{MayShow}
 use Rattle.unit_course.specs.Turn.{span_at}
-use Rattle.unit_model.specs.Image.{odometer_at}
+use Rattle.unit_model.specs.Image.{last_kept, odometer_at}
 use Rattle.unit_rule.specs.Odometer.{HasTravelled}
 use Rattle.safety_model.specs.Safe.{Devices, card_of, breakdowns_of}
 use Rattle.run_rule.specs.Found.{found_of}
@@ -42,10 +42,15 @@ pub record GoOn (o : Origin) (d e : Devices) : Type 0 where
   pub there : AreThere o.found d → AreThere o.found e
   pub untouched : (c : Card) → IsUntouched (found_of o.found c) (card_of d c) → IsUntouched (found_of o.found c) (card_of e c)
 
+-- what was read as the last-kept minute stands in an image that the unit might have left
+abbrev pub WasRead : Origin → ℕ → Devices → Type 0
+WasRead o k e = (x : List ℕ) × e.unit.left_since o.found.unit.began x × (last_kept x ≡ k)
+
 -- THE UNIT WAS READ AND MENDED: it showed this last-kept minute, and an odometer of this leg; no card is accepted.
 pub record IsBack (o : Origin) (done : List TraceSecond) (supply : Supply) (v : Values) (d : Devices) (r : Recorded o done supply v d) (k : ℕ) (minutes : Kept) (e : Devices) : Type 0 where
   pub leg : ℕ
   pub shows : MayShow (first_of o) r.book r.travel k leg
+  pub read : WasRead o k e
   pub stands : StandsFor minutes (span_at (rule_of o) v.next [])
   pub powered : IsPowered o.found (all_out (carried (begun_values k minutes v) r.due (found k r.book) r.standing r.brought)) v.cabin.cards e
   pub goes : GoOn o d e
@@ -65,6 +70,7 @@ PowerIsBack d e = (o : Origin) (done : List TraceSecond) (s : TraceSecond) (supp
 pub record IsOnlyRead (o : Origin) (done : List TraceSecond) (supply : Supply) (v : Values) (d : Devices) (r : Recorded o done supply v d) (k : ℕ) (e : Devices) : Type 0 where
   pub leg : ℕ
   pub shows : MayShow (first_of o) r.book r.travel k leg
+  pub read : WasRead o k e
   pub powerless : IsPowerless o.found (carried (read_values k v) r.due (found k r.book) r.standing r.brought) e
   pub broke : RoseBy 1 (breakdowns_of d Recorder) (breakdowns_of e Recorder)
   pub goes : GoOn o d e

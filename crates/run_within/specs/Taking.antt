@@ -157,13 +157,14 @@ fallen floor Out = Out
 fallen floor (IsIn session newest) = Torn session newest floor
 fallen floor (Torn session newest low) = Torn session newest low
 
--- AN ACCEPTED CARD FAILED in its slot, as something was to be noted on it.
+-- AN ACCEPTED CARD FAILED in its slot, as something was to be noted on it: with an action, in the keeping, or as power comes with the second.
 pub record IsCalledSeated (o : Origin) (done : List TraceSecond) (s : TraceSecond) (at : Phase) (v : Values) (d e : Devices) (w : Within o done s at [] None [] v d) (slot : Slot) (card : Card) (b : Break) : Type 0 where
   pub sits_ : card_in (seat_in v.cabin.slots.seats slot) ≡ Some card
   pub session : is_some (session_of v.cabin.cards card) ≡ true
   pub low : ℕ
   pub stands : Stands low None v.cabin
   pub here : IsTearAt s at slot true b
+  pub power : at ≡ In 0 → (went w.b.run.log done).before.running ≡ false
   pub broke : BrokeDown card (breakdowns_of d) (breakdowns_of e)
   pub goes : GoesOnSo o v.cabin.cards d e
   pub travels : HasTravelled (odometer_at o.recording.unit) (kept_all w.new w.b.run.book) (all_travelled w.ds w.b.travel) e.unit

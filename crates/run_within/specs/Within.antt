@@ -174,7 +174,7 @@ pub record Within (o : Origin) (done : List TraceSecond) (s : TraceSecond) (at :
   pub present : PresentStand o.found standing (told_before b done) (course_in b done s at v.log) s.number from v.cabin
   pub back : AreBackAt v.log (went b.run.log done).before s at from (from + length rest) v.cabin
   -- what was found of cards, which may be written, and the odometer
-  pub verdicts : AreVerdicts o done b.run.log d
+  pub verdicts : AreVerdicts o done b.run.log b.run.unfound d
   pub finds : IsFoundSo o b done (course_in b done s at v.log) s.number from new brought d
   pub there : AreThere o.found d
   pub few : AreFewFound (recording_by o done b.run.log)
@@ -225,7 +225,7 @@ pub record CutWithin (o : Origin) (done : List TraceSecond) (s : TraceSecond) (a
   pub low : from ≤ s.number / 60
   pub more : (c : Card) (k : ℕ) → Contains (b.brought c) k → Contains (brought c) k
   pub tells : SlotsTell (start_at o) (told_before b done) (b.run.book.sure ++ new) (course_in b done s at v.log).left s.number from (course_in b done s at v.log).slots v.cabin.slots
-  pub verdicts : AreVerdicts o done b.run.log d
+  pub verdicts : AreVerdicts o done b.run.log b.run.unfound d
   pub finds : IsFoundSo o b done (course_in b done s at v.log) s.number from new brought d
   pub there : AreThere o.found d
   pub few : AreFewFound (recording_by o done b.run.log)

@@ -1,5 +1,5 @@
 -- What a run promises of its cards, and of a unit and a card together (profile).
-use Rattle.std.specs.Prelude.{◌≡◌, ◌⊎◌, ℕ, ◌/◌, ◌≤◌, Bool, true, false, ◌&&◌, List, ◌++◌, All, Contains, length, filter, map, flat_map, nat_lt, nat_le, not}
+use Rattle.std.specs.Prelude.{◌≡◌, ◌⊎◌, ℕ, ◌/◌, ◌<◌, ◌≤◌, Bool, true, false, ◌&&◌, List, [], ◌++◌, All, Contains, length, filter, map, flat_map, nat_lt, nat_le, not}
 use Rattle.std.specs.List.{list_any}
 use Rattle.activity_codec.specs.declared.entries.Entry.{Entry}
 use Rattle.activity_codec.specs.declared.values.Slot.{Slot}
@@ -18,7 +18,7 @@ use Rattle.log_model.specs.Log.{is_accepting}
 use Rattle.log_model.specs.Slots.{same_card}
 use Rattle.log_model.specs.Causes.{device_of}
 use Rattle.history_model.specs.Minutes.{card_history, up_to}
-use Rattle.card_image.specs.Own.{own_view, IsOwnValid, KeepsOf}
+use Rattle.card_image.specs.Own.{own_view, own_number, IsOwnValid, KeepsOf}
 use Rattle.joint_rule.specs.Views.{owed}
 use Rattle.safety_model.specs.Recording.{Recording, card_image, told_of, brought, history_of, expected_of, unit_seen}
 use Rattle.safety_model.specs.Unit.{marks_of, Increase}
@@ -55,11 +55,12 @@ module _ (r : Recording) (c : Card) where
   abbrev pub MayNotWrite : Type 0
   MayNotWrite = (IsOwnValid (card_image r c) → ⊥) ⊎ (entered ≡ overlaps)
 
-  -- an acknowledged minute is that of an expected entry, and every image since shows that very one, unless overwriting took its day
+  -- an acknowledged minute is that of an entry that the card is to have beside those at the start, and every image since shows that
+  -- very one, unless overwriting took its day
   pub record CardMarkHolds (card : State) (m : Mark) : Type 0 where
     pub e : Entry
     pub minute : e.minute ≡ m.minute
-    pub stands : Contains (expected_of r c) e
+    pub stands : Contains ((brought r c).owed ++ card_history c (history_of r)) e
     pub clock : m.clock ≤ card.clock
     pub shown : (x : List ℕ) → card.left_since m.clock x → (s : CardShows x) × Contains ((brought r c).entries ++ s.more) e
 
@@ -73,20 +74,25 @@ module _ (r : Recording) (c : Card) where
   was_kept u minute = nat_lt minute (u / 60) && not (list_any (shows_lost u minute) r.log.breaks)
 
   -- after each acceptance every image at the end shows the expected entries up to the minute that the unit had kept last at
-  -- that time
-  pub record IsRepaired (x : List ℕ) : Type 0 where
+  -- that time, and all that was owed at the start; with them it shows all that was acknowledged
+  pub record IsRepaired (marks : List Mark) (x : List ℕ) : Type 0 where
     pub shows : CardShows x
     pub brought : (u : ℕ) → Contains acceptances u → All (λ e. was_kept u e.minute ≡ false) shows.rest
+    pub owes_none : (u : ℕ) → Contains acceptances u → All (λ e. last_kept r.unit < e.minute) shows.rest
+    pub acknowledged : (m : Mark) → Contains (marks_of (device_of c) marks) m → All (λ e. m.minute < e.minute) shows.rest
 
-  -- A CARD: what every image that a stop might have left since a clock shows, where it was valid; one that may not be written
-  -- is as it was; the acknowledged minutes increase, and hold; and at the end it is repaired
+  -- A CARD: what every image that a stop might have left since a clock shows, where it was valid: it is valid, and has its number
+  -- still; one that may not be written is as it was; the acknowledged minutes increase, and hold, and one that was not valid has
+  -- none; and at the end it is repaired
   pub record CardSafe (marks : List Mark) (since : ℕ) (card : State) : Type 0 where
     pub entries : IsOwnValid (card_image r c) → (x : List ℕ) → card.left_since since x → CardShows x
     pub valid : IsOwnValid (card_image r c) → (x : List ℕ) → card.left_since since x → IsOwnValid x
+    pub number : IsOwnValid (card_image r c) → (x : List ℕ) → card.left_since since x → own_number x ≡ own_number (card_image r c)
     pub untouched : MayNotWrite → (x : List ℕ) → card.left_since since x → x ≡ card_image r c
     pub in_order : Increase (marks_of (device_of c) marks)
     pub marked : (m : Mark) → Contains (marks_of (device_of c) marks) m → CardMarkHolds card m
-    pub repaired : IsOwnValid (card_image r c) → (x : List ℕ) → card.may_leave x → IsRepaired x
+    pub unmarked : (IsOwnValid (card_image r c) → ⊥) → marks_of (device_of c) marks ≡ []
+    pub repaired : IsOwnValid (card_image r c) → (x : List ℕ) → card.may_leave x → IsRepaired marks x
 
   -- a slot in a minute of the unit
   abbrev pub slot_state : Slot → UnitMinute → SlotState

@@ -1,5 +1,5 @@
 -- The crash-safety theorem (profile): what a run promises of its unit, of each card, and of both together.
-use Rattle.std.specs.Prelude.{◌≡◌, ◌≢◌, ◌⊎◌, ℕ, suc, ◌*◌, ◌/◌, ◌<◌, ◌≤◌, ◌&&◌, Option, Some, None, List, [], ◌∷◌, length, filter, flat_map, nat_eq, nat_le, if◌then◌else◌}
+use Rattle.std.specs.Prelude.{◌≡◌, ◌≢◌, ◌⊎◌, ℕ, suc, ◌*◌, ◌/◌, ◌<◌, ◌≤◌, ◌&&◌, Option, Some, None, List, [], ◌∷◌, Contains, length, filter, flat_map, nat_eq, nat_le, if◌then◌else◌}
 use Rattle.trace_model.specs.declared.Card.{Card}
 use Rattle.trace_model.specs.declared.Card.TheVariants.{A, B}
 use Rattle.trace_model.specs.Trace.{TraceSecond}
@@ -8,17 +8,19 @@ use Rattle.run_model.specs.declared.Device.TheVariants.{Unit as Recorder, CardA,
 use Rattle.tach_media.specs.Medium.{State}
 use Rattle.unit_model.specs.Image.{recorded, last_kept}
 use Rattle.unit_model.specs.Decoding.{Decodes, first_bad_place}
+use Rattle.log_model.specs.declared.lines.Break.{Break}
+use Rattle.log_model.specs.declared.lines.Break.TheVariants.{Cut, Tear}
 use Rattle.log_model.specs.declared.lines.Mark.{Mark}
 use Rattle.log_model.specs.declared.lines.Verdict.{Verdict}
 use Rattle.log_model.specs.declared.lines.Verdict.TheVariants.{Accepted, NotValid, TimeOverlap}
 use Rattle.log_model.specs.Slots.{same_card}
-use Rattle.log_model.specs.Causes.{HasCauses}
+use Rattle.log_model.specs.Causes.{second_of, HasCauses}
 use Rattle.history_model.specs.Completeness.{IsComplete}
 use Rattle.card_image.specs.Own.{own_view, own_number, own_bad_file, IsOwnValid}
 use Rattle.joint_rule.specs.Views.{owed}
 use Rattle.safety_model.specs.Recording.{Recording, card_image, told_of, start_of, history_of, lost_of, unit_seen}
-use Rattle.safety_model.specs.Unit.{UnitSafe}
-use Rattle.safety_model.specs.Cards.{CardSafe, Agree}
+use Rattle.safety_model.specs.Unit.{UnitSafe, issued_bytes}
+use Rattle.safety_model.specs.Cards.{acceptances, CardSafe, Agree}
 
 -- the three devices of a run at one moment
 pub record Devices : Type 1 where
@@ -36,6 +38,16 @@ abbrev pub breakdowns_of : Devices → Device → ℕ
 breakdowns_of d Recorder = d.unit.breakdowns
 breakdowns_of d CardA = d.card_a.breakdowns
 breakdowns_of d CardB = d.card_b.breakdowns
+
+-- what was found kept after a cut is the last-kept minute of an image of the unit
+abbrev pub WasFound : (unit : List ℕ → Type 0) → Break → Type 0
+WasFound unit (Cut second kept failed begun) = (x : List ℕ) × unit x × (last_kept x ≡ kept)
+WasFound unit (Tear second slot failed begun late) = Unit {0}
+
+-- or nothing was found
+abbrev pub IsUnfound : Break → Type 0
+IsUnfound (Cut second kept failed begun) = kept ≡ 0
+IsUnfound (Tear second slot failed begun late) = Unit {0}
 
 -- the first of a list
 abbrev pub first_of : {X : Type 0} → List X → Option X
@@ -70,6 +82,8 @@ module _ (r : Recording) where
   -- THE CRASH-SAFETY THEOREM: `began` are the devices at the end of the opening, `now` those at the end of the run
   pub record IsSafe (marks : List Mark) (began now : Devices) : Type 0 where
     pub unit : UnitSafe (recorded r.unit) (history_of r) (lost_of r) marks began.unit.clock now.unit
+    -- what the unit was issued with stays, in every image that a stop might have left since
+    pub issued : (x : List ℕ) → now.unit.left_since began.unit.clock x → issued_bytes x ≡ issued_bytes r.unit
     pub card : (c : Card) → CardSafe r c marks (card_of began c).clock (card_of now c)
     pub both : (c : Card) (u x : List ℕ) → IsOwnValid (card_image r c) → now.unit.may_leave u →
         (card_of now c).may_leave x → Agree r c u x
@@ -79,6 +93,9 @@ module _ (r : Recording) where
     pub causes : HasCauses
         (λ c u v. IsVerdict (now.unit.left_since began.unit.clock) ((card_of now c).left_since (card_of began c).clock) c u v)
         (breakdowns_of began) (breakdowns_of now) r.trace r.log
+    -- it was found what was kept after a cut, but where no card was accepted behind it
+    pub kept : (b : Break) → Contains r.log.breaks b → WasFound (now.unit.left_since began.unit.clock) b
+        ⊎ (IsUnfound b × ((c : Card) (u : ℕ) → IsOwnValid (card_image r c) → Contains (acceptances r c) u → u ≤ second_of b))
     pub complete : IsComplete r.rule (start_of r) r.log (told_of r) marks
 
   -- a run begins where the unit's image decodes, the trace's first second lies in a later minute than the last-kept one, and

@@ -1,15 +1,26 @@
 -- What a run promises of its unit (profile).
 use Rattle.std.specs.Prelude.{◌≡◌, ℕ, ◌<◌, ◌≤◌, Option, List, [], ◌∷◌, Contains, filter, Bool, true, false}
+use Rattle.minute_model.specs.declared.Rule.{Rule}
+use Rattle.minute_model.specs.declared.Minute.{Minute}
 use Rattle.run_model.specs.declared.Device.{Device}
 use Rattle.run_model.specs.declared.Device.TheVariants.{Unit as Recorder, CardA, CardB}
-use Rattle.tach_media.specs.Medium.{State}
-use Rattle.unit_model.specs.Days.{ShownDay}
+use Rattle.tach_media.specs.Medium.{State, bytes_at}
+use Rattle.unit_model.specs.declared.layout.TheConstants.{DAY_SLOTS, LAST_KEPT}
+use Rattle.unit_model.specs.Days.{ShownDay, newest_days}
 use Rattle.unit_model.specs.Image.{recorded}
 use Rattle.unit_model.specs.Decoding.{Decodes}
 use Rattle.log_model.specs.declared.lines.Mark.{Mark}
+use Rattle.log_model.specs.Course.{Told}
+use Rattle.log_model.specs.Spans.{spans_of}
 use Rattle.history_model.specs.Minutes.{HistoryMinute}
-use Rattle.joint_rule.specs.Filling.{FillsDays}
+use Rattle.history_model.specs.History.{decided_of}
+use Rattle.joint_rule.specs.Filling.{FillsDays, filled_with}
 use Rattle.safety_model.specs.Recording.{IsPassed, MayCome}
+
+-- What a unit was issued with, in the bytes before the last-kept minute: version, vehicle, speed limit, identification, sensor and
+-- certificates.
+abbrev pub issued_bytes : List ℕ → List ℕ
+issued_bytes x = bytes_at x 0 LAST_KEPT.place
 
 -- An image shows the start's days filled with these minutes, of which only the oldest days may be gone: the newest 366 are
 -- there, or one fewer where the minute that may come next begins a further day.
@@ -59,3 +70,12 @@ pub record UnitSafe (start : List ShownDay)
   pub decodes : (x : List ℕ) → unit.left_since since x → Decodes x
   pub in_order : Increase (marks_of Recorder marks)
   pub marked : (m : Mark) → Contains (marks_of Recorder marks) m → UnitMarkHolds start past lost unit m
+
+-- WHERE NO CALL ON IT FAILED: each decided minute of these seconds stands in the history,
+abbrev pub HasEachDecided : Rule → List Told → (past : List HistoryMinute) → Type 0
+HasEachDecided rule told past = (span : List Told) (d : Minute) → Contains (spans_of told) span → Contains (decided_of rule span) d →
+    (i : HistoryMinute) × Contains past i × (i.minute ≡ d.minute)
+
+-- and an image's days are the start's with all of these minutes, of which the newest 366 are retained.
+abbrev pub IsFilled : (start : List ShownDay) → (past : List HistoryMinute) → List ℕ → Type 0
+IsFilled start past x = recorded x ≡ newest_days DAY_SLOTS (filled_with start past)

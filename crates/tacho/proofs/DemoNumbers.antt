@@ -35,5 +35,6 @@ module _ (x a b : List ℕ) (start : ℕ) (items : List Item) (out : Outcome) (p
         complete = h.ends.caused.complete;
       };
       odometer = h.ends.odometer;
+      whole = h.ends.whole;
     };
   }

@@ -18,6 +18,7 @@ use Rattle.safety_model.specs.Unit.{UnitSafe, UnitMarkHolds}
 use Rattle.safety_model.specs.Cards.{CardSafe, Agree}
 use Rattle.safety_model.specs.Safe.{Devices, card_of, breakdowns_of, IsVerdict}
 use Rattle.run_rule.specs.Between.{devices}
+use Rattle.run_recorded.specs.Whole.{IsFull}
 use Rattle.run_outcome.specs.declared.outcome.Outcome.{Outcome}
 use Rattle.recorder_with_cards.specs.Ends.{recording_of, EndsTrace}
 use Rattle.tacho.specs.Anew.{EndsAnew, began_at}
@@ -69,6 +70,10 @@ module _ (U V : State) (is : IsRead U V) where
     both-read A u y h unit card = h (now-back u unit) card
     both-read B u y h unit card = h (now-back u unit) card
 
+    full-read : (c : Card) (y : List ℕ) → ((card_of (devices U Y Z) c).may_leave y → IsFull r c y) → (card_of (devices V Y Z) c).may_leave y → IsFull r c y
+    full-read A y h left = h left
+    full-read B y h left = h left
+
     rose-read : (n : ℕ) → RoseBy n (breakdowns_of p Recorder) U.breakdowns → RoseBy n (breakdowns_of p Recorder) V.breakdowns
     rose-read n h = ⊎_elim (λ low. inl (omega (arith, low, is.breakdowns))) (λ top. inr (omega (arith, top, is.breakdowns))) h
 
@@ -112,6 +117,8 @@ module _ (U V : State) (is : IsRead U V) where
               complete = h.ends.caused.complete;
             };
             odometer = λ y left. h.ends.odometer y (now-back y left);
+            whole = λ nothing. let w = h.ends.whole nothing in
+                record { decided = w.decided; unit = λ y left. w.unit y (now-back y left); card = λ c u valid accepted y left. full-read c y (λ on. w.card c u valid accepted y on) left };
           };
         }
 

@@ -2,7 +2,7 @@
 use Rattle.std.proofs.Common.{◌≡◌, ◌⊎◌, inl, inr, ⊎_elim, ℕ, zero, suc, ◌+◌, ◌-◌, ◌*◌, ◌/◌, ◌<◌, ◌≤◌, true, cond, nat_eq, List, [], ◌∷◌, ◌++◌, Contains, map, refl, ap, sym, subst, ◌∙◌, arith}
 use Rattle.std.proofs.lemmas.Bool.Decides.{nat_tests}
 use Rattle.std.proofs.lemmas.List.{append_cancel_left}
-use Rattle.std.proofs.lemmas.List.Elements.{Contains-append_left, Contains-append_right, Contains-append_cases, Contains-push, Contains-push_cases}
+use Rattle.std.proofs.lemmas.List.Elements.{Contains-append_left, Contains-append_cases, Contains-push, Contains-push_cases}
 use Rattle.minute_model.specs.declared.Rule.{Rule}
 use Rattle.minute_model.specs.declared.Minute.{Minute}
 use Rattle.minute_model.specs.Minute.{minutes_ahead, horizon_of, class_of}
@@ -11,9 +11,8 @@ use Rattle.minute_model.proofs.Counted.{horizon-ahead}
 use Rattle.minute_model.proofs.Spans.{decided-fed_many, fed_many-end, fed_many-rule, fed_many-first_number, fed_many-settlings}
 use Rattle.log_model.specs.Course.{Told}
 use Rattle.log_model.specs.Spans.{spans_of}
-use Rattle.history_model.specs.Completeness.{deciding_of, CutIn}
+use Rattle.history_model.specs.Completeness.{deciding_of}
 use Rattle.history_model.specs.History.{settlings_of, decided_of}
-use Rattle.unit_course.specs.Turn.{cut_last, cut_at_end}
 use Rattle.unit_course.specs.Followed.{as_spans}
 use Rattle.unit_course.specs.Complete.{OfDecided}
 use Rattle.unit_course.proofs.Alike.{decided-empty}
@@ -73,17 +72,3 @@ goes-on rule told more minute more_minute second more_second ended span longer n
 pub stays : (rule : Rule) (told more : List Told) (minute second more_second : ℕ → Type 0) → spans_of more ≡ spans_of told → ((u : ℕ) → second u → more_second u) → OfDecided rule told minute second → OfDecided rule more minute more_second
 stays rule told more minute second more_second same cuts old s d in_spans in_decided =
     ⊎_elim (λ m. inl m) (λ c. inr (cuts (deciding_of rule (settlings_of s) d.minute) c)) (old s d (subst (λ (ss : List (List Told)). Contains ss s) same in_spans) in_decided)
-
--- CUTS stay
-pub cuts-stay : (told more : List Told) (u : ℕ) → CutIn told u → CutIn (told ++ more) u
-cuts-stay told more u c = (c.0, Contains-append_left told more c.0 c.1, c.2, c.3)
-
-pub cuts-cut : (told : List Told) (u : ℕ) → CutIn told u → CutIn (cut_last told) u
-cuts-cut [] u c = absurd (let at = c.1 in omega (arith, at.1))
-cuts-cut (t ∷ []) u c =
-    ⊎_elim (λ none. absurd (omega (arith, none.1))) (λ same. (cut_at_end t, Contains-push [] (cut_at_end t), ap (λ (x : Told). x.second.number) same ∙ c.2, refl))
-    (Contains-push_cases [] t c.0 c.1)
-cuts-cut (t ∷ next ∷ told) u c =
-    ⊎_elim (λ first. (c.0, Contains-append_left (t ∷ []) (cut_last (next ∷ told)) c.0 first, c.2, c.3))
-    (λ rest. let later = cuts-cut (next ∷ told) u (c.0, rest, c.2, c.3) in (later.0, Contains-append_right (t ∷ []) (cut_last (next ∷ told)) later.0 later.1, later.2, later.3))
-    (Contains-append_cases (t ∷ []) (next ∷ told) c.0 c.1)

@@ -1,9 +1,7 @@
 -- The span that goes on ends with a cut in its last second.
-use Rattle.std.proofs.Common.{◌≡◌, ◌⊎◌, inl, inr, ⊎_elim, ℕ, suc, ◌+◌, ◌-◌, Bool, true, false, not, ◌||◌, nat_lt, Option, Some, None, List, [], ◌∷◌, ◌++◌, Contains, length, map, take, refl, ap, sym, subst, ◌∙◌, arith, append_assoc, append-nil, length-append}
+use Rattle.std.proofs.Common.{◌≡◌, ◌⊎◌, inl, inr, ⊎_elim, ℕ, suc, ◌+◌, ◌-◌, Bool, true, false, not, ◌||◌, nat_lt, Option, Some, None, List, [], ◌∷◌, ◌++◌, length, map, take, refl, ap, sym, subst, ◌∙◌, arith, append_assoc, append-nil, length-append}
 use Rattle.std.specs.Prelude.{option_to_list}
 use Rattle.std.specs.List.{AllByRecursion}
-use Rattle.std.proofs.lemmas.List.Elements.{Contains-push}
-use Rattle.history_model.specs.Completeness.{CutIn}
 use Rattle.std.proofs.lemmas.Bool.Decides.{nat_tests}
 use Rattle.trace_model.specs.Trace.{TraceSecond}
 use Rattle.minute_model.specs.declared.Rule.{Rule}
@@ -113,9 +111,6 @@ module _ (rule : Rule) (start : Start) (from first : ℕ) (done : List TraceSeco
   -- its last second
   pub last-second : (front : List Told) × (x : Told) × (now ≡ front ++ x ∷ []) × (x.lit ≡ true) × (x.second.number ≡ p.next - 1)
   last-second = (before.told, t-as true, ap (λ (w : Went). w.told) told-cut, refl, number)
-
-  pub cut-in : CutIn now (p.next - 1)
-  cut-in = (t-as true, subst (λ (ts : List Told). Contains ts (t-as true)) (sym (ap (λ (w : Went). w.told) told-cut)) (Contains-push before.told (t-as true)), number, refl)
 
   pub cuts-now : cuts_of now ≡ cuts_of told ++ (p.next - 1) ∷ []
   cuts-now =

@@ -1,12 +1,14 @@
 -- Writes elsewhere: in the owed rows, and of insertions, places and events.
-use Rattle.std.proofs.Common.{inl, inr, ⊎_elim, ℕ, List, arith}
+use Rattle.std.proofs.Common.{◌≡◌, inl, inr, ⊎_elim, ℕ, List, arith}
 use Rattle.tach_media.specs.Medium.{State, IsCoherent, LeavesOnly, SameOutside}
+use Rattle.tach_media.proofs.Images.{part_before}
 use Rattle.unit_model.specs.Decoding.{Decodes}
 use Rattle.unit_model.proofs.WholeDays.{decoded_of}
 use Rattle.unit_journal.specs.Beside.{SameJournal}
 use Rattle.unit_journal.proofs.Beside.{beside, last_beside, odometer_beside, recorded_beside}
 use Rattle.log_model.specs.declared.lines.Mark.{Mark}
 use Rattle.history_model.specs.Book.{Book}
+use Rattle.safety_model.specs.Unit.{issued_bytes}
 use Rattle.unit_rule.specs.Rule.{Started}
 use Rattle.unit_rule.specs.Marks.{Holds}
 use Rattle.unit_course.specs.Legs.{Travel}
@@ -19,9 +21,13 @@ use Rattle.unit_rule.proofs.Travelling.{travelled-aside}
 pub rows-elsewhere : (x c : List ℕ) → SameOutside 624 384 x c → SameJournal x c
 rows-elsewhere x c same = beside 624 384 x c (inr (inl (omega arith, omega arith))) same
 
+-- nor is it in what the unit was issued with
+pub rows-issued : (x c : List ℕ) → SameOutside 624 384 x c → issued_bytes c ≡ issued_bytes x
+rows-issued x c same = part_before 624 384 0 564 x c same (omega arith)
+
 -- the unit's rule and its marks
 pub holds-elsewhere : (s : Started) {U V : State} (due : ℕ) (b : Book) (marks : List Mark) → Holds s due b marks U → IsCoherent U → (R : List ℕ → List ℕ → Type 0) → LeavesOnly U V R →
-    ((x c : List ℕ) → R x c → SameJournal x c × (Decodes x → Decodes c)) → Holds s due b marks V
+    ((x c : List ℕ) → R x c → SameJournal x c × (issued_bytes c ≡ issued_bytes x) × (Decodes x → Decodes c)) → Holds s due b marks V
 holds-elsewhere s {U} {V} due b marks h before R run same = holds-aside s due b marks h before (λ x c. Decodes x × R x c)
     (record {
       size = run.size;
@@ -36,7 +42,7 @@ holds-elsewhere s {U} {V} due b marks h before R run same = holds-aside s due b 
     })
     (λ x c both.
     let is = same x c both.1 in
-    (recorded_beside x c is.0 (decoded_of x both.0).known, last_beside x c is.0, is.1))
+    (recorded_beside x c is.0 (decoded_of x both.0).known, last_beside x c is.0, is.1, is.2))
 
 -- and the odometer
 pub travelled-elsewhere : (start : ℕ) (b : Book) (g : Travel) {U V : State} → HasTravelled start b g U → IsCoherent U → (R : List ℕ → List ℕ → Type 0) → LeavesOnly U V R → ((x c : List ℕ) → R x c → SameJournal x c) → HasTravelled start b g V

@@ -27,11 +27,11 @@ use Rattle.joint_rule.proofs.UnitLaws.{unit-aside, keep-unit, keep-unit_dark, la
 use Rattle.joint_rule.proofs.Opening.{opened-unit}
 use Rattle.joint_rule.proofs.Holding.{acknowledges-on}
 use Rattle.joint_rule.proofs.Viewed.{seen-coherent, seen-run}
-use Rattle.safety_model.specs.Unit.{marks_of, is_of, Increase}
+use Rattle.safety_model.specs.Unit.{marks_of, is_of, Increase, issued_bytes}
 use Rattle.unit_rule.specs.Rule.{Started, started, seen_unit, IsRuled}
 use Rattle.unit_rule.specs.Marks.{IsHeld, Holds}
 use Rattle.joint_steps.proofs.Keeping.{keeping_view, kept_view}
-use Rattle.unit_rule.proofs.Moves.{shown-last, shown-days}
+use Rattle.unit_rule.proofs.Moves.{shown-last, shown-days, issued-front}
 
 -- the rule does not ask whether the unit works
 abbrev working : Seen UnitView → Seen UnitView
@@ -50,12 +50,13 @@ rise-push [] m rise each = tt
 rise-push (n ∷ []) m rise each = (All-head (λ (k : Mark). k.minute < m.minute) n [] each, tt)
 rise-push (n ∷ k ∷ marks) m rise each = (rise.0, rise-push (k ∷ marks) m rise.1 (All-tail (λ (l : Mark). l.minute < m.minute) n (k ∷ marks) each))
 
--- THE OPENING: a unit that leaves one image only, with these days and this last-kept minute
-pub holds-opened : (s : Started) (unit : State) (x : List ℕ) (due : ℕ) → s.days ≡ recorded x → s.first ≡ last_kept x → s.began ≤ unit.clock → ((c : List ℕ) → unit.may_leave c → c ≡ x) → ((c : List ℕ) → unit.left_since s.began c → c ≡ x) →
+-- THE OPENING: a unit that leaves one image only, with these days, this last-kept minute, and issued so
+pub holds-opened : (s : Started) (unit : State) (x : List ℕ) (due : ℕ) → s.days ≡ recorded x → s.first ≡ last_kept x → s.issued ≡ issued_bytes x → s.began ≤ unit.clock → ((c : List ℕ) → unit.may_leave c → c ≡ x) → ((c : List ℕ) → unit.left_since s.began c → c ≡ x) →
     FillsDays s.days None [] (recorded x) → Decodes x → last_kept x < due → Holds s due not_begun [] unit
-holds-opened s unit x due days first later now since fills decodes late = record {
+holds-opened s unit x due days first issued later now since fills decodes late = record {
   unit_holds = λ number_a number_b. opened number_a number_b;
   decodes = λ c on. subst Decodes (sym (since c on)) decodes;
+  issued = λ c on. ap issued_bytes (since c on) ∙ sym issued;
   marks_hold = All-nil (IsHeld s not_begun unit);
   marks_rise = tt;
   marks_until = All-nil (λ (m : Mark). m.minute < due);
@@ -75,7 +76,7 @@ holds-opened s unit x due days first later now since fills decodes late = record
 -- a unit that has this image alone, which decodes, is a start: so is each image that a run leaves
 pub holds-started : (unit : State) (x : List ℕ) (due : ℕ) → IsCoherent unit → ((c : List ℕ) → unit.left_since unit.clock c → c ≡ x) → Decodes x → last_kept x < due → Holds (started x unit.clock) due not_begun [] unit
 holds-started unit x due whole since decodes late =
-    holds-opened (started x unit.clock) unit x due refl refl (omega arith) (λ c on. since c (whole.counts_now unit.clock c (omega arith) on)) since
+    holds-opened (started x unit.clock) unit x due refl refl refl (omega arith) (λ c on. since c (whole.counts_now unit.clock c (omega arith) on)) since
     (inl (retained-whole (recorded x) (few_days x (decoded_of x decodes).known))) decodes late
   where
     retained-whole : (days : List ShownDay) → length days ≤ 366 → days ≡ newest_days 366 days
@@ -86,6 +87,7 @@ pub holds-beside : (s : Started) (due : ℕ) (b : Book) (marks more : List Mark)
 holds-beside s due b marks more unit none h = record {
   unit_holds = h.unit_holds;
   decodes = h.decodes;
+  issued = h.issued;
   marks_hold = subst (All (IsHeld s b unit)) (sym same) h.marks_hold;
   marks_rise = subst Increase (sym same) h.marks_rise;
   marks_until = subst (All (λ (m : Mark). m.minute < due)) (sym same) h.marks_until;
@@ -101,6 +103,12 @@ module _ (s : Started) {U V : State} (due : ℕ) (b : Book) (marks : List Mark) 
       let later : s.began ≤ U.clock = (h.unit_holds [] []).later in
       ⊎_elim (λ was. h.decodes c was) (λ here. goes here.0 c here.2 (h.decodes here.0 (before.counts_now s.began here.0 later (before.is_left here.0 here.1)))) (run.since s.began c later on)
 
+  -- and stays as the unit was issued
+  issued-on : (R : List ℕ → List ℕ → Type 0) → LeavesOnly U V R → ((x c : List ℕ) → R x c → issued_bytes c ≡ issued_bytes x) → (c : List ℕ) → V.left_since s.began c → issued_bytes c ≡ s.issued
+  issued-on R run goes c on =
+      let later : s.began ≤ U.clock = (h.unit_holds [] []).later in
+      ⊎_elim (λ was. h.issued c was) (λ here. goes here.0 c here.2 ∙ h.issued here.0 (before.counts_now s.began here.0 later (before.is_left here.0 here.1))) (run.since s.began c later on)
+
   -- marks go on to hold where no step falls behind
   held-all : (S : UnitView → UnitView → Type 0) (d : Book) → ((number_a number_b : List ℕ) → LeavesViews (seen_unit number_a number_b U) (seen_unit number_a number_b V) S) →
       ((number_a number_b : List ℕ) (u v : UnitView) → (seen_unit number_a number_b U).may_leave u → S u v → u.last ≤ v.last) → ((i : HistoryMinute) → Contains b.sure i → Contains d.sure i) → All (IsHeld s d V) (marks_of Recorder marks)
@@ -113,10 +121,11 @@ module _ (s : Started) {U V : State} (due : ℕ) (b : Book) (marks : List Mark) 
       }) (marks_of Recorder marks) h.marks_hold
 
   -- a step beside the minutes
-  pub holds-aside : (R : List ℕ → List ℕ → Type 0) → LeavesOnly U V R → ((x c : List ℕ) → R x c → (recorded c ≡ recorded x) × (last_kept c ≡ last_kept x) × (Decodes x → Decodes c)) → Holds s due b marks V
+  pub holds-aside : (R : List ℕ → List ℕ → Type 0) → LeavesOnly U V R → ((x c : List ℕ) → R x c → (recorded c ≡ recorded x) × (last_kept c ≡ last_kept x) × (issued_bytes c ≡ issued_bytes x) × (Decodes x → Decodes c)) → Holds s due b marks V
   holds-aside R run aside = record {
     unit_holds = λ number_a number_b. unit-aside (FillsDays s.days) s.first IsAside s.began due b (h.unit_holds number_a number_b) (goes number_a number_b) (λ u v is. is);
-    decodes = decodes-on R run (λ x c here. (aside x c here).2);
+    decodes = decodes-on R run (λ x c here. (aside x c here).3);
+    issued = issued-on R run (λ x c here. (aside x c here).2);
     marks_hold = held-all IsAside b goes (λ number_a number_b u v on is. omega (arith, is.1)) (λ i at. at);
     marks_rise = h.marks_rise;
     marks_until = h.marks_until;
@@ -165,6 +174,7 @@ module _ (s : Started) {U V : State} (due : ℕ) (b : Book) (marks : List Mark) 
           })).holds in
           record { later = rule.later; order = rule.order; now = rule.now; since = rule.since };
       decodes = decodes-on (journal.IsKeeping (seen_by_unit i) odometer) run (λ x c here. here.decodes);
+      issued = issued-on (journal.IsKeeping (seen_by_unit i) odometer) run (λ x c here. issued-front 564 (omega arith) x c here.outside.before);
       marks_hold = subst (All (IsHeld s (kept i b) V)) (sym (marks-more marks m device))
           (All-append (IsHeld s (kept i b) V) (marks_of Recorder marks) (m ∷ [])
           (held-all (IsKeeping KeepsMinute GivesUpDay i) (kept i b) keeps keeps-up (λ j at. Contains-append_left b.sure (i ∷ []) j at))
@@ -193,6 +203,7 @@ module _ (s : Started) {U V : State} (due : ℕ) (b : Book) (marks : List Mark) 
           let rule = keep-unit_dark (FillsDays s.days) s.first KeepsMinute GivesUpDay (days-go-on s.days) s.began due b i (ruled number_a number_b) late (lit number_a number_b) in
           record { later = rule.later; order = rule.order; now = rule.now; since = rule.since };
       decodes = decodes-on (journal.IsKeeping (seen_by_unit i) odometer) run (λ x c here. here.decodes);
+      issued = issued-on (journal.IsKeeping (seen_by_unit i) odometer) run (λ x c here. issued-front 564 (omega arith) x c here.outside.before);
       marks_hold = held-all (IsKeeping KeepsMinute GivesUpDay i) (broken i b) keeps keeps-up (λ j at. at);
       marks_rise = h.marks_rise;
       marks_until = until-more;
@@ -209,6 +220,7 @@ module _ (s : Started) {U V : State} (due : ℕ) (b : Book) (marks : List Mark) 
         (λ v on. ap (λ (u : UnitView). u.last) (sym on.2) ∙ shown-last number_a number_b on.0 ∙ is on.0 on.1) sure).holds in
         record { later = rule.later; order = rule.order; now = rule.now; since = rule.since };
     decodes = decodes-on Unchanged run (λ x c never. absurd never);
+    issued = issued-on Unchanged run (λ x c never. absurd never);
     marks_hold = held-all Nothing (found k b) rests (λ number_a number_b u v on never. absurd never)
         (λ i at. contains-up_to k (all b) i (All-contains (λ (j : HistoryMinute). j.minute ≤ k) b.sure i sure at) (Contains-append_left b.sure (option_to_list b.maybe) i at));
     marks_rise = h.marks_rise;

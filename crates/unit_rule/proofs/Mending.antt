@@ -7,6 +7,8 @@ use Rattle.unit_model.specs.Decoding.{Decodes}
 use Rattle.unit_model.proofs.Numbers.{number_same}
 use Rattle.unit_journal.specs.declared.notes.Notes.{Notes}
 use Rattle.unit_journal.specs.Mends.{IsMending}
+use Rattle.safety_model.specs.Unit.{issued_bytes}
+use Rattle.unit_rule.proofs.Moves.{issued-front}
 
 -- a number among the first 624 bytes, as the last-kept minute and the odometer are
 number-kept : (p : ℕ) → p + 4 ≤ 624 → (x c : List ℕ) → take 624 c ≡ take 624 x → number_at c p 4 ≡ number_at x p 4
@@ -23,8 +25,8 @@ odometer-kept : (x c : List ℕ) → take 624 c ≡ take 624 x → odometer_at c
 unfolding odometer_at
 odometer-kept x c before = number-kept 568 (omega arith) x c before
 
-pub mending-aside : (j : Notes) (x c : List ℕ) → IsMending j x c → (recorded c ≡ recorded x) × (last_kept c ≡ last_kept x) × (Decodes x → Decodes c)
-mending-aside j x c is = (is.minutes, mark-kept x c is.outside.before, is.decodes)
+pub mending-aside : (j : Notes) (x c : List ℕ) → IsMending j x c → (recorded c ≡ recorded x) × (last_kept c ≡ last_kept x) × (issued_bytes c ≡ issued_bytes x) × (Decodes x → Decodes c)
+mending-aside j x c is = (is.minutes, mark-kept x c is.outside.before, issued-front 624 (omega arith) x c is.outside.before, is.decodes)
 
 -- and beside the odometer
 pub mending-odometer : (j : Notes) (x c : List ℕ) → IsMending j x c → (odometer_at c ≡ odometer_at x) × (last_kept c ≡ last_kept x)

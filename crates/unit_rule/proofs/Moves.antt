@@ -1,8 +1,10 @@
--- What a call of the unit leaves at its end, and what an image of it shows.
-use Rattle.std.proofs.Common.{◌≡◌, ℕ, true, Option, Some, None, List, IfSome, is_some, refl, ap, sym, subst, arith}
+-- What a call of the unit leaves at its end, and what an image of it shows, and was issued with.
+use Rattle.std.proofs.Common.{◌≡◌, ℕ, ◌+◌, ◌≤◌, true, Option, Some, None, List, IfSome, is_some, take, drop, refl, ap, sym, subst, ◌∙◌, arith}
+use Rattle.std.proofs.lemmas.List.{take-take, drop-take}
 use Rattle.tach_media.specs.Medium.{State, IsCoherent, LeavesOnly}
 use Rattle.unit_model.specs.Image.{last_kept, recorded}
 use Rattle.joint_rule.specs.Views.{unit_view}
+use Rattle.safety_model.specs.Unit.{issued_bytes}
 
 -- after a run that ended well a stop leaves the image alone, and what is said of it holds
 pub ended : {old new : State} {Q : List ℕ → List ℕ → Type 0} (R : List ℕ → List ℕ → Type 0) → IsCoherent old → IsCoherent new → new.works ≡ true → LeavesOnly old new Q → IfSome old.image (λ x. IfSome new.image (R x)) → (c : List ℕ) → new.may_leave c → (x : List ℕ) × old.may_leave x × R x c
@@ -22,3 +24,7 @@ shown-last number_a number_b x = refl
 pub shown-days : (number_a number_b x : List ℕ) → (unit_view number_a number_b x).days ≡ recorded x
 unfolding unit_view
 shown-days number_a number_b x = refl
+
+-- images with the same first bytes, up to the last-kept minute or further, were issued with the same
+pub issued-front : (n : ℕ) → 0 + 564 ≤ n → (x c : List ℕ) → take n c ≡ take n x → issued_bytes c ≡ issued_bytes x
+issued-front n le x c same = sym (drop-take 0 564 c) ∙ ap (λ (l : List ℕ). drop 0 l) (sym (take-take (0 + 564) n c le) ∙ ap (λ (l : List ℕ). take (0 + 564) l) same ∙ take-take (0 + 564) n x le) ∙ drop-take 0 564 x

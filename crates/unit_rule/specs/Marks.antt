@@ -7,7 +7,7 @@ use Rattle.log_model.specs.declared.lines.Mark.{Mark}
 use Rattle.history_model.specs.Minutes.{HistoryMinute}
 use Rattle.history_model.specs.Book.{Book}
 use Rattle.joint_rule.specs.Rules.{Acknowledges}
-use Rattle.safety_model.specs.Unit.{marks_of, Increase}
+use Rattle.safety_model.specs.Unit.{marks_of, Increase, issued_bytes}
 use Rattle.unit_rule.specs.Rule.{Started, seen_unit, IsRuled}
 
 -- a mark's minute is a sure one, and every image since its clock is not behind it
@@ -17,10 +17,12 @@ pub record IsHeld (s : Started) (b : Book) (unit : State) (m : Mark) : Type 0 wh
   pub sure : (i : HistoryMinute) × Contains b.sure i × (i.minute ≡ m.minute)
 
 -- Between two calls: the unit's rule, whatever numbers the cards have; every image that a stop might have left since the start
--- decodes; and of the marks those of the unit are held, increase, and are earlier than what is decided next.
+-- decodes, and has what the unit was issued with; and of the marks those of the unit are held, increase, and are earlier than what
+-- is decided next.
 pub record Holds (s : Started) (due : ℕ) (b : Book) (marks : List Mark) (unit : State) : Type 0 where
   pub unit_holds : (number_a number_b : List ℕ) → IsRuled s due b (seen_unit number_a number_b unit)
   pub decodes : (x : List ℕ) → unit.left_since s.began x → Decodes x
+  pub issued : (x : List ℕ) → unit.left_since s.began x → issued_bytes x ≡ s.issued
   pub marks_hold : All (IsHeld s b unit) (marks_of Recorder marks)
   pub marks_rise : Increase (marks_of Recorder marks)
   pub marks_until : All (λ m. m.minute < due) (marks_of Recorder marks)

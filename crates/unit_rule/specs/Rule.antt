@@ -8,16 +8,18 @@ use Rattle.joint_rule.specs.Views.{UnitView, unit_view}
 use Rattle.joint_rule.specs.Device.{Seen, seen}
 use Rattle.joint_rule.specs.Filling.{FillsDays}
 use Rattle.joint_rule.specs.Rules.{UnitHolds}
+use Rattle.safety_model.specs.Unit.{issued_bytes}
 
--- what the opening found: the recorded days, the last-kept minute, and the clock
+-- what the opening found: the recorded days, the last-kept minute, what the unit was issued with, and the clock
 pub record Started : Type 0 where
   pub days : List ShownDay
   pub first : ℕ
+  pub issued : List ℕ
   pub began : ℕ
 
 -- the same of a run that begins with this image, at this clock
 abbrev pub started : List ℕ → (clock : ℕ) → Started
-started x clock = record { days = recorded x; first = last_kept x; began = clock }
+started x clock = record { days = recorded x; first = last_kept x; issued = issued_bytes x; began = clock }
 
 -- a unit as it is seen where the cards have these numbers
 abbrev pub seen_unit : (number_a number_b : List ℕ) → State → Seen UnitView

@@ -6,7 +6,6 @@ use Rattle.trace_model.specs.declared.Item.{Item}
 use Rattle.trace_model.specs.Trace.{TraceSecond, item_seconds, total_seconds, seconds_of}
 use Rattle.minute_model.specs.declared.Rule.TheVariants.{Original}
 use Rattle.log_model.specs.declared.lines.Find.{Find}
-use Rattle.log_model.specs.Course.{went}
 use Rattle.unit_course.specs.Lines.{log_of}
 use Rattle.unit_course.specs.Complete.{AreMarked}
 use Rattle.unit_course.specs.Caused.{WellCaused}
@@ -21,6 +20,7 @@ use Rattle.event_course.proofs.Steps.{begins_gaps, begins_lists}
 use Rattle.recorder.proofs.Showing.{gaps-as, noted-as}
 use Rattle.recorder.proofs.Events.{events-shown}
 use Rattle.unit_rule.proofs.Travelling.{odometer-safe}
+use Rattle.safety_model.specs.Unit.{UnitSafe}
 use Rattle.recorder.specs.Followed.{NoVerdict, run_log, told_of, history_of, lost_of, breakdowns_of}
 use Rattle.trace_model.specs.declared.Card.{Card}
 use Rattle.trace_model.specs.declared.Card.TheVariants.{A, B}
@@ -29,6 +29,7 @@ use Rattle.history_model.specs.Presence.{Start, CardStart}
 use Rattle.recorder.specs.Recorded.{progress, Recorded}
 use Rattle.recorder.proofs.Waiting.{Waits, waits-none, waits-more, seconds-none, seconds-more}
 use Rattle.recorder.proofs.Recording.{followed-as, legs-as}
+use Rattle.recorder.proofs.Whole.{all-there}
 use Rattle.recorder.proofs.Courses.{begins, begins_done, begins_leg, is_followed, shown_leg, begins_why, why-by, has_causes}
 use Rattle.log_model.specs.declared.lines.Mark.{Mark}
 use Rattle.log_model.specs.declared.lines.Break.{Break}
@@ -130,8 +131,8 @@ loop-i-init g c =
             legs = subst (λ (ss : List TraceSecond). HasLegs Original (started x U.clock).first ss (progress c.args.outcome.now.breaks.items c.new-run.result.unfound c.new-run.result.next c.new-run.result.begun Awaited not_begun) not_travelled) (sym (seconds-none c.args.trace.now.start))
                 (legs-as (started x U.clock).first [] Awaited not_begun not_travelled (sym none) (sym c.new-run.ensures.unfound) (sym next) (sym c.new-run.ensures.begun)
                 (begins_leg Original (started x U.clock).first c.args.trace.now.start));
-            complete = subst (λ (ss : List TraceSecond). AreMarked Original (went (log_of c.args.outcome.now.breaks.items) ss).told c.args.outcome.now.marks.items) (sym (seconds-none c.args.trace.now.start))
-                (subst (λ (bs : List Break). AreMarked Original (went (log_of bs) []).told c.args.outcome.now.marks.items) (sym none) (begins_done Original c.args.outcome.now.marks.items));
+            complete = subst (λ (ss : List TraceSecond). AreMarked Original (log_of c.args.outcome.now.breaks.items) ss c.args.outcome.now.marks.items) (sym (seconds-none c.args.trace.now.start))
+                (subst (λ (bs : List Break). AreMarked Original (log_of bs) [] c.args.outcome.now.marks.items) (sym none) (begins_done Original c.args.outcome.now.marks.items));
             caused = subst (λ (ss : List TraceSecond). WellCaused ss (progress c.args.outcome.now.breaks.items c.new-run.result.unfound c.new-run.result.next c.new-run.result.begun Awaited not_begun) c.args.outcome.now.refused.items) (sym (seconds-none c.args.trace.now.start))
                 (subst (WellCaused [] (progress c.args.outcome.now.breaks.items c.new-run.result.unfound c.new-run.result.next c.new-run.result.begun Awaited not_begun)) (sym (ap (λ (l : Listed Refused). l.items) q.reserved.refused))
                 (why-by [] (progress [] 0 c.args.trace.now.start 0 Awaited not_begun) (progress c.args.outcome.now.breaks.items c.new-run.result.unfound c.new-run.result.next c.new-run.result.begun Awaited not_begun) [] none refl (begins_why c.args.trace.now.start)));
@@ -244,8 +245,11 @@ returns-clause-followed g c = λ start x starts below few.
     let f = subst (λ (is : List Item). Followed Original start c.args.trace.now.start (started x (g.U.Medium.state c.args.unit.now).clock).first (seconds_of c.args.trace.now.start is) (progress c.loop-i.outcome.breaks.items c.loop-i.run.unfound c.loop-i.run.next c.loop-i.run.begun r.supply r.book)) whole r.followed in
     let l = subst (λ (is : List Item). HasLegs Original (started x (g.U.Medium.state c.args.unit.now).clock).first (seconds_of c.args.trace.now.start is) (progress c.loop-i.outcome.breaks.items c.loop-i.run.unfound c.loop-i.run.next c.loop-i.run.begun r.supply r.book) r.travel) whole r.legs in
     let follows = is_followed Original start c.args.trace.now.start (started x (g.U.Medium.state c.args.unit.now).clock).first (seconds_of c.args.trace.now.start items) c.loop-i.outcome.breaks.items c.loop-i.run.unfound c.loop-i.run.next c.loop-i.run.begun r.supply r.book f (run_log c.loop-i.outcome) refl finds in
+    let all_safe : UnitSafe (started x (g.U.Medium.state c.args.unit.now).clock).days (history_of start c.loop-i.outcome c.args.trace.now.start items) (lost_of start c.loop-i.outcome c.args.trace.now.start items) c.loop-i.outcome.marks.items (started x (g.U.Medium.state c.args.unit.now).clock).began (g.U.Medium.state c.loop-i.unit) =
+    unit-safe (started x (g.U.Medium.state c.args.unit.now).clock) (history_of start c.loop-i.outcome c.args.trace.now.start items) (lost_of start c.loop-i.outcome c.args.trace.now.start items) (due_of c.loop-i.run) r.book c.loop-i.outcome.marks.items (g.U.Medium.state c.loop-i.unit) (g.met.U.Medium.coherent c.loop-i.unit) follows r.booked.stands.holds in
+    let all_marked = subst (λ (is : List Item). AreMarked Original (log_of c.loop-i.outcome.breaks.items) (seconds_of c.args.trace.now.start is) c.loop-i.outcome.marks.items) whole r.complete in
     record {
-      safe = unit-safe (started x (g.U.Medium.state c.args.unit.now).clock) (history_of start c.loop-i.outcome c.args.trace.now.start items) (lost_of start c.loop-i.outcome c.args.trace.now.start items) (due_of c.loop-i.run) r.book c.loop-i.outcome.marks.items (g.U.Medium.state c.loop-i.unit) (g.met.U.Medium.coherent c.loop-i.unit) follows r.booked.stands.holds;
+      safe = all_safe;
       due = due_of c.loop-i.run;
       book = r.book;
       holds = r.booked.stands.holds;
@@ -264,7 +268,9 @@ returns-clause-followed g c = λ start x starts below few.
       next = c.loop-i.run.next;
       begun = c.loop-i.run.begun;
       course = f;
-      complete = subst (λ (is : List Item). AreMarked Original (went (log_of c.loop-i.outcome.breaks.items) (seconds_of c.args.trace.now.start is)).told c.loop-i.outcome.marks.items) whole r.complete;
+      complete = all_marked;
+      whole = all-there start (run_log c.loop-i.outcome) c.args.trace.now.start (seconds_of c.args.trace.now.start items) f.order finds (started x (g.U.Medium.state c.args.unit.now).clock).days c.loop-i.outcome.marks.items
+          (started x (g.U.Medium.state c.args.unit.now).clock).began (g.U.Medium.state c.loop-i.unit) (g.met.U.Medium.coherent c.loop-i.unit) v.goes_on.clock all_marked all_safe;
     }
 
 pub returns-clause-causes : goal.returns-clause-causes

@@ -30,7 +30,7 @@ use Rattle.run_acts.specs.declared.run.Power.{Power}
 use Rattle.run_acts.specs.Room.{waiting}
 use Rattle.run_acts.specs.Recording.{GoesOnOrCut}
 use Rattle.recorder_with_cards.specs.Judged.{moment_in}
-use Rattle.recorder_with_cards.proofs.Resumed.{RunWaking, waiting_in, at-once, wholes-of, kept-of, same-devices, awake, unmended, driver-judged, codriver-judged}
+use Rattle.recorder_with_cards.proofs.Resumed.{RunWaking, waiting_in, at-once, wholes-of, kept-of, same-devices, awake, unmended, driver-judged, codriver-judged, codriver-power}
 use Rattle.event_model.specs.Spans.{gap_of}
 use Rattle.run_acts.specs.NotedEvents.{NotesEvents}
 use Rattle.run_acts.proofs.NotedEvents.{then-noted}
@@ -424,7 +424,12 @@ returns-clause-recorded g c = λ room o origin done s supply v r may number give
     (λ none P. same-devices P g.M.Medium.state g.C.Chip.state g.D.Chip.state c.accept_anew.new.unit c.accept_anew-2.new.unit c.accept_anew.new.card_a c.accept_anew-2.new.card_a c.accept_anew.new.card_b c.accept_anew-2.new.card_b (c.accept_anew-2.ensures.still none)) time_two
     (c.accept_anew-2.ensures.recorded (omega (arith, room, few, few_too, none_waits, waits_none, t, same_room))) in
     let fine : is_err c.accept_anew-2.result ≡ false = search rules in
-    c.note_gap.ensures.recorded o done s c.accept_anew-2.new.outcome (subst (λ (f : Bool). GoesOnOrCut f o done s (In 0) [] two c.accept_anew-2.new.outcome (devices V2 X2 Y2)) fine second)
+    let comes = codriver-power o done s woke.0 (card_in one.keeper.cabin.slots.seats.codriver) one c.accept_anew.new.outcome (devices V1 X1 Y1)
+    (subst (λ (seat : Option Seat). RunWaking o done s woke.0 (waiting_in CoDriver (card_in seat)) (CoDriver ∷ []) one c.accept_anew.new.outcome (devices V1 X1 Y1)) (sym beside) (first.0 well))
+    refl bare_too c.moment-at.result now c.args.speed (is_err c.accept_anew-2.result) two c.accept_anew-2.new.outcome c.accept_anew-2.ensures.accepted (devices V2 X2 Y2)
+    time_two
+    (c.accept_anew-2.ensures.recorded (omega (arith, room, few, few_too, none_waits, waits_none, t, same_room))) fine in
+    c.note_gap.ensures.recorded o done s c.accept_anew-2.new.outcome (subst (λ (f : Bool). GoesOnOrCut f o done s (In 0) [] two c.accept_anew-2.new.outcome (devices V2 X2 Y2)) fine second) (λ first. comes)
 
 -- ---- WHAT IS NOTED
 

@@ -25,7 +25,7 @@ use Rattle.run_acts.proofs.NotedEvents.{one-noted, same-noted, then-noted}
 use Rattle.log_model.specs.Log.{In}
 use Rattle.run_rule.specs.Between.{devices}
 use Rattle.run_acts.specs.Recording.{GoesOnOrCut}
-use Rattle.run_acts.proofs.NoteRecorded.{unit-recorded}
+use Rattle.run_acts.proofs.NoteRecorded.{unit-recorded, power-noted}
 use Rattle.run_acts.proofs.Kept.{moved-going}
 use Rattle.run_acts.proofs.Noted.{noted-ready, noted-row}
 use Rattle.run_acts.proofs.gap.note_gap.Goals as goal
@@ -124,7 +124,7 @@ returns-clause-noted g c =
 -- ---- what is recorded
 
 pub returns-in_err-note_event-clause-recorded : goal.returns-in_err-note_event-clause-recorded
-returns-in_err-note_event-clause-recorded g c = λ o done s out w.
+returns-in_err-note_event-clause-recorded g c = λ o done s out w power.
     let run = c.args.run.now in
     let lit = c.requires.going in
     let V = g.M.Medium.state c.note_event.new.unit in
@@ -135,7 +135,7 @@ returns-in_err-note_event-clause-recorded g c = λ o done s out w.
     (unit-recorded o done s 0 run (record out { breaks = c.args.breaks.now }) (g.M.Medium.state c.args.unit.now) V X Y (g.met.M.Medium.coherent c.args.unit.now) c.note_event.ensures.journal lit.span lit.stands lit.next w true c.in_err-note_event.ensures.cause)
 
 pub returns-in_err-note_in-clause-recorded : goal.returns-in_err-note_in-clause-recorded
-returns-in_err-note_in-clause-recorded g c = λ o done s out w.
+returns-in_err-note_in-clause-recorded g c = λ o done s out w power.
     let run = c.args.run.now in
     let lit = c.requires.going in
     let V = g.M.Medium.state c.note_event.new.unit in
@@ -144,17 +144,19 @@ returns-in_err-note_in-clause-recorded g c = λ o done s out w.
     let E = devices (g.M.Medium.state c.note_in.new.unit) (g.C.Chip.state c.note_in.new.card_a) (g.D.Chip.state c.note_in.new.card_b) in
     let failed : true ≡ is_err c.from_residual-in_err-note_in.result = search rules in
     let w1 = unit-recorded o done s 0 run (record out { breaks = c.args.breaks.now }) (g.M.Medium.state c.args.unit.now) V X Y (g.met.M.Medium.coherent c.args.unit.now) c.note_event.ensures.journal lit.span lit.stands lit.next w false c.in_ok-note_event.ensures.cause in
-    subst (λ (q : Bool). GoesOnOrCut q o done s (In 0) [] c.note_in.new.run (record out { breaks = c.note_in.new.breaks }) E) failed (c.in_err-note_in.ensures.recorded o done s out w1)
+    subst (λ (q : Bool). GoesOnOrCut q o done s (In 0) [] c.note_in.new.run (record out { breaks = c.note_in.new.breaks }) E) failed (c.in_err-note_in.ensures.recorded o done s out w1 power)
 
 pub returns-clause-recorded : goal.returns-clause-recorded
-returns-clause-recorded g c = λ o done s out w.
+returns-clause-recorded g c = λ o done s out w power.
     let run = c.args.run.now in
     let lit = c.requires.going in
     let V = g.M.Medium.state c.note_event.new.unit in
     let X = g.C.Chip.state c.args.card_a.now in
     let Y = g.D.Chip.state c.args.card_b.now in
     let w1 = unit-recorded o done s 0 run (record out { breaks = c.args.breaks.now }) (g.M.Medium.state c.args.unit.now) V X Y (g.met.M.Medium.coherent c.args.unit.now) c.note_event.ensures.journal lit.span lit.stands lit.next w false c.in_ok-note_event.ensures.cause in
-    c.note_in-2.ensures.recorded o done s out (c.in_ok-note_in.ensures.recorded o done s out w1)
+    let one = c.in_ok-note_in.ensures.noted in
+    c.note_in-2.ensures.recorded o done s out (c.in_ok-note_in.ensures.recorded o done s out w1 power)
+    (λ first. power-noted o done s run c.note_in.new.run out c.args.breaks.now c.note_in.new.breaks (devices V X Y) w1 (card_in (seat_in run.keeper.cabin.slots.seats Driver)) Driver one.0 one.1 (power first))
 
 -- ---- what is noted on the unit
 

@@ -153,7 +153,7 @@ returns-clause-recorded g c =
     let b = rw c.as_slice.ensures.value at k.booked in (
       items,
       c.settle-decided.ensures.given,
-      λ o done s n waits here r time. settling-so old c.args.outcome.now c.settle-decided.new.self c.keep_all.new.self c.keep_all.new.marks c.keep_all.new.breaks c.args.at (is_err c.keep_all.result) items
+      λ o done s n waits some here r time. settling-so old c.args.outcome.now c.settle-decided.new.self c.keep_all.new.self c.keep_all.new.marks c.keep_all.new.breaks c.args.at (is_err c.keep_all.result) items
           (devices (g.M.Medium.state c.args.unit.now) (g.C.Chip.state c.args.card_a.now) (g.D.Chip.state c.args.card_b.now)) (devices (g.M.Medium.state c.keep_all.new.unit) (g.C.Chip.state c.keep_all.new.card_a) (g.D.Chip.state c.keep_all.new.card_b))
           h.0 h.1 c.requires.small (c.settle-decided.ensures.settled h.1.span h.1.stands) (c.settle-decided.ensures.given h.1.span h.1.stands) k.same.1 b.0 b.1 b.2
           (record {
@@ -164,7 +164,7 @@ returns-clause-recorded g c =
             card_a = record { keeps = k.a_keeps; clock = k.clock_a; tells = k.tells_a; more = k.more_a; broken = k.a_broken; bare = λ none. same-left (g.C.Chip.state c.args.card_a.now) (g.C.Chip.state c.keep_all.new.card_a) (ap g.C.Chip.state (k.a_bare none)) };
             card_b = record { keeps = k.b_keeps; clock = k.clock_b; tells = k.tells_b; more = k.more_b; broken = k.b_broken; bare = λ none. same-left (g.D.Chip.state c.args.card_b.now) (g.D.Chip.state c.keep_all.new.card_b) (ap g.D.Chip.state (k.b_bare none)) };
           })
-          o done s n waits here r time,
+          o done s n waits some here r time,
     )
 
 -- ---- which faults are noted

@@ -1,0 +1,43 @@
+-- What is there after a run in which no call failed: every minute (profile).
+use Rattle.std.specs.Prelude.{◌≡◌, ℕ, ◌+◌, ◌*◌, ◌≤◌, true, false, List, [], All, Contains}
+use Rattle.trace_model.specs.declared.Card.{Card}
+use Rattle.log_model.specs.Log.{RunLog}
+use Rattle.log_model.specs.Course.{Told, Visit}
+use Rattle.log_model.specs.Spans.{spans_of}
+use Rattle.log_model.specs.Causes.{cuts, tears}
+use Rattle.history_model.specs.History.{settlings_of}
+use Rattle.history_model.specs.Completeness.{deciding_of}
+use Rattle.unit_model.specs.Image.{recorded}
+use Rattle.card_image.specs.Own.{IsOwnValid}
+use Rattle.safety_model.specs.Recording.{Recording, card_image, told_of, history_of}
+use Rattle.safety_model.specs.Unit.{HasEachDecided, IsFilled}
+use Rattle.safety_model.specs.Cards.{CardShows, acceptances, was_kept}
+use Rattle.safety_model.specs.Safe.{Devices, card_of}
+
+-- no call failed, by the log: each cut is that of an `off` line, each tear that of a `tear` line
+abbrev pub NothingFailed : RunLog → Type 0
+NothingFailed log = (cuts true log ≡ []) × (tears true log ≡ [])
+
+-- a `tear` line pulled the card out behind a minute's end, and no later than in the second that decided the minute
+pub record IsPulledBehind (r : Recording) (c : Card) (m : ℕ) : Type 0 where
+  pub span : List Told
+  pub among : Contains (spans_of (told_of r)) span
+  pub t : Told
+  pub there : Contains (told_of r) t
+  pub behind : 60 * (m + 1) ≤ t.second.number
+  pub before : t.second.number ≤ deciding_of r.rule (settlings_of span) m
+  pub pulled : (v : Visit) × (v.card ≡ c) × Contains t.course.pulled v
+
+-- An image shows all expected entries of a card but such ones, retained; and of those that are missing the unit had kept none when the card
+-- was accepted.
+pub record IsFull (r : Recording) (c : Card) (x : List ℕ) : Type 0 where
+  pub shows : CardShows r c x
+  pub missing : All (λ e. IsPulledBehind r c e.minute) shows.rest
+  pub brought : (u : ℕ) → Contains (acceptances r c) u → All (λ e. was_kept r c u e.minute ≡ false) shows.rest
+
+-- EVERY MINUTE IS THERE: each decided minute stands in the history; each image of the unit at the end has the whole history; and each image
+-- of a card that was valid, and was accepted, all of its entries.
+pub record IsWhole (r : Recording) (now : Devices) : Type 0 where
+  pub decided : HasEachDecided r.rule (told_of r) (history_of r)
+  pub unit : (x : List ℕ) → now.unit.may_leave x → IsFilled (recorded r.unit) (history_of r) x
+  pub card : (c : Card) (u : ℕ) → IsOwnValid (card_image r c) → Contains (acceptances r c) u → (x : List ℕ) → (card_of now c).may_leave x → IsFull r c x
