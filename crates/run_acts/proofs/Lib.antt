@@ -51,4 +51,5 @@ pub mod SettledRecorded
 pub mod SettledEvented
 pub mod SeenSpan
 pub mod TurnEvented
+pub mod TurnSeconds
 pub mod TurnRecorded
