@@ -298,6 +298,7 @@ turn-is_fed d o done s v w (suc n) within minutes stands rest decides =
         values = record v { minutes = often s.speed 1 v.minutes; next = one.next; begun = one.begun };
         recorded = one.behind.recorded;
         log = refl;
+        cabin = refl;
         unfound = refl;
         next = let next = one.next_is in omega (arith, next);
       };

@@ -33,6 +33,7 @@ pub record BehindFirst (o : Origin) (done : List TraceSecond) (s : TraceSecond) 
   pub values : Values
   pub recorded : Recorded o (done ++ s ∷ []) (Lit (told ∷ span)) values d
   pub log : values.log ≡ v.log
+  pub cabin : values.cabin ≡ v.cabin
   pub unfound : values.unfound ≡ v.unfound
   pub next : values.next ≡ suc v.next
 
