@@ -261,7 +261,7 @@ module _ {U A0 B0 : State} {chip_a chip_b : CardState} (n speed begun : ℕ) (ol
   abbrev later : RunLog
   later = log_of told
 
-  well : AllSitWell old.keeper.cabin
+  pub well : AllSitWell old.keeper.cabin
   well = all-well (ungiven_of g.span) None old.keeper.cabin g.cabin
 
   two : (m : ℕ) → AreTwo (present_at old.keeper.cabin m).driver (present_at old.keeper.cabin m).codriver
@@ -273,7 +273,7 @@ module _ {U A0 B0 : State} {chip_a chip_b : CardState} (n speed begun : ℕ) (ol
       let most = turn-most old g speed n minute in
       omega (arith, count, most)
 
-  one-most : length decided ≤ 1
+  pub one-most : length decided ≤ 1
   one-most =
       let count = (turn-decides old g speed n decided small (given g.span g.stands)).count in
       let most = turn-one old g speed n minute in
