@@ -190,9 +190,9 @@ module _ (old : Run) (before : Outcome) (minutes : Kept) (keeper : Keeper) (watc
         told_ = told-named o (faults_to old.keeper (late_moment old.next n begun) r t) (a r h).events (a r h).valid (subst (λ (ws : List UnitEvent). AreTold (number_in o) ws (a r h).events) (sym (same-vs r)) (a r h).told)
 
         by : (f : Bool) → NotesEnded n speed (late_moment old.next n begun) f r fed between before d.unit e.unit → NotesSo f (named_as o) ((a r h).events ++ brought) d e
-        by false g = turn-noted (faults_to old.keeper (late_moment old.next n begun) r t) g.ended d.unit e.unit d.card_a d.card_b e.card_a e.card_b whole unit (faults-are old.keeper (late_moment old.next n begun) r t) (named_as o) (all-long o origin.numbers) (a r h).events told_
+        by false g = turn-noted (faults_to old.keeper (late_moment old.next n begun) r t) g.ended d.unit e.unit d.card_a d.card_b e.card_a e.card_b whole unit (faults-are old.keeper (late_moment old.next n begun) r t) (named_as o) (all-long o origin.long) (a r h).events told_
             (watched_as o) (are-numbered o origin) (limit_in o) span new (ends g.ended g.fed) low lows g.noted
-        by true g = turn-cut (faults_to old.keeper (late_moment old.next n begun) r t) g.ended d.unit e.unit d.card_a d.card_b e.card_a e.card_b whole unit (faults-are old.keeper (late_moment old.next n begun) r t) (named_as o) (all-long o origin.numbers) (a r h).events told_
+        by true g = turn-cut (faults_to old.keeper (late_moment old.next n begun) r t) g.ended d.unit e.unit d.card_a d.card_b e.card_a e.card_b whole unit (faults-are old.keeper (late_moment old.next n begun) r t) (named_as o) (all-long o origin.long) (a r h).events told_
             (watched_as o) (are-numbered o origin) (limit_in o) span new (ends g.ended g.fed) low lows g.noted
 
     -- THE SECONDS ARE OVER, and all that they bring is noted
