@@ -34,9 +34,9 @@ use Rattle.run_acts.specs.declared.run.Run.{Run}
 use Rattle.run_acts.specs.declared.run.Power.{Power}
 use Rattle.run_acts.specs.declared.run.Power.TheVariants.{Lit, Lost}
 use Rattle.run_acts.specs.Power.{is_lit, cut_run}
-use Rattle.run_acts.specs.Recording.{values_of, IsOrigin, RunWithin, RunCut, InSecondBy, InSecond, RunFails, GoesOnOrCut, IsNow, RecordsAction}
+use Rattle.run_acts.specs.Recording.{values_of, IsOrigin, RunWithin, RunCut, InSecondBy, InSecond, RunFails, RunGoesOn, IsNow, RecordsAction}
 use Rattle.recorder_with_cards.specs.Acting.{IsSelected}
-use Rattle.recorder_with_cards.specs.Recorded.{RecordsActions}
+use Rattle.recorder_with_cards.specs.Recorded.{Inside, ActsBy}
 
 -- ---- with power, or cut
 
@@ -75,23 +75,23 @@ module _ (o : Origin) (done : List TraceSecond) (s : TraceSecond) (speed : ℕ) 
 
   -- it is refused
   pub refused : (fault : SlotFault) → refusal (logged run.keeper.cabin.slots.seats) speed a ≡ Some fault → (after : Outcome) → after ≡ record before { refused = with_lines (record { second = run.next; fault = fault } ∷ []) before.refused }
-      → RunWithin o done s (In (suc (length front))) [] [] run after d
+      → RunGoesOn o done s (In (suc (length front))) [] run after d h.within.b
   refused fault is after told =
       let g = refusal-recorded d o done s (values_of run before) front a rest are h.within fault (refuses (Some fault) is) in
-      subst (λ (x : Outcome). RunWithin o done s (In (suc (length front))) [] [] run x d) (sym told)
-      (subst (λ (u : ℕ). RunWithin o done s (In (suc (length front))) [] [] run (record before { refused = with_lines (record { second = u; fault = fault } ∷ []) before.refused }) d) now.number
-      (record { origin = h.origin; lit = h.lit; within = g.within; odometer = same-odometer g.within.b g.began }))
+      subst (λ (x : Outcome). RunGoesOn o done s (In (suc (length front))) [] run x d h.within.b) (sym told)
+      (subst (λ (u : ℕ). RunGoesOn o done s (In (suc (length front))) [] run (record before { refused = with_lines (record { second = u; fault = fault } ∷ []) before.refused }) d h.within.b) now.number
+      (record { goes = record { origin = h.origin; lit = h.lit; within = g.within; odometer = same-odometer g.within.b g.began }; began = g.began }))
 
   -- an activity is selected
   pub selected : (slot : Slot) (pick : Pick) → a ≡ Select slot pick → refusal (logged run.keeper.cabin.slots.seats) speed a ≡ None → (new : Run) → IsSelected (Select slot pick) run new
-      → RunWithin o done s (In (suc (length front))) [] [] new before d
+      → RunGoesOn o done s (In (suc (length front))) [] new before d h.within.b
   selected slot pick is allowed new picks =
       let w = h.within in
       let c = course_in w.b done s (In (length front)) (values_of run before).log in
       let g = selection-recorded d o done s (values_of run before) front slot pick rest (subst (λ (x : Action). s.actions ≡ front ++ x ∷ rest) is are) w
       (subst (λ (x : Action). refusal c.slots s.speed x ≡ None) is (refuses None allowed)) new.minutes (picks.1 w.sp w.minutes) in
-      subst (λ (r : Run). RunWithin o done s (In (suc (length front))) [] [] r before d) (sym picks.0)
-      (record { origin = h.origin; lit = h.lit; within = g.within; odometer = same-odometer g.within.b g.began })
+      subst (λ (r : Run). RunGoesOn o done s (In (suc (length front))) [] r before d h.within.b) (sym picks.0)
+      (record { goes = record { origin = h.origin; lit = h.lit; within = g.within; odometer = same-odometer g.within.b g.began }; began = g.began })
 
 -- ---- the unit has failed: power is cut
 
@@ -116,16 +116,16 @@ cut o done s begun rest run new out after d origin number left fails is told =
 
 -- ---- some actions, and then others
 
-pub actions-then : (xs ys : List Action) (m n speed : ℕ) (a b c : Run) (p q r : Outcome) (d e f : Devices) → n ≡ m + length ys → b.next ≡ a.next → (HaveTime f → HaveTime e)
-    → RecordsActions xs m speed a b p q d e → RecordsActions ys n speed b c q r e f → RecordsActions (xs ++ ys) n speed a c p r d f
-actions-then xs ys m n speed a b c p q r d e f is next earlier first later o done s now front rest are begun in_ time =
+pub actions-then : (I : Inside) (xs ys : List Action) (m n speed : ℕ) (a b c : Run) (p q r : Outcome) (d e f : Devices) → n ≡ m + length ys → b.next ≡ a.next → (HaveTime f → HaveTime e)
+    → ActsBy I xs m speed a b p q d e → ActsBy I ys n speed b c q r e f → ActsBy I (xs ++ ys) n speed a c p r d f
+actions-then I xs ys m n speed a b c p q r d e f is next earlier first later o done s now front rest are begun in_ time =
     let many = length-append xs ys in
-    let mid : InSecond o done s m b q e = first o done s now front (ys ++ rest) (are ∙ ap (λ (l : List Action). front ++ l) (append_assoc xs ys rest)) (omega (arith, begun, many, is)) in_ (earlier time) in
+    let mid : I o done s m b q e = first o done s now front (ys ++ rest) (are ∙ ap (λ (l : List Action). front ++ l) (append_assoc xs ys rest)) (omega (arith, begun, many, is)) in_ (earlier time) in
     let at : m ≡ length (front ++ xs) = let long = length-append front xs in omega (arith, begun, many, is, long) in
     later o done s (record { number = now.number ∙ sym next; given = now.given; speed_is = now.speed_is }) (front ++ xs) rest
     (are ∙ ap (λ (l : List Action). front ++ l) (append_assoc xs ys rest) ∙ sym (append_assoc front xs (ys ++ rest))) (omega (arith, is, at))
-    (subst (λ (k : ℕ). InSecond o done s k b q e) at mid) time
+    (subst (λ (k : ℕ). I o done s k b q e) at mid) time
 
 -- no action
-pub no-action : (n speed : ℕ) (run : Run) (out : Outcome) (d : Devices) → RecordsActions [] n speed run run out out d d
-no-action n speed run out d o done s now front rest are begun in_ time = subst (λ (k : ℕ). InSecond o done s k run out d) (let e : length front ≡ n = omega (arith, begun) in e) in_
+pub no-action : (I : Inside) (n speed : ℕ) (run : Run) (out : Outcome) (d : Devices) → ActsBy I [] n speed run run out out d d
+no-action I n speed run out d o done s now front rest are begun in_ time = subst (λ (k : ℕ). I o done s k run out d) (let e : length front ≡ n = omega (arith, begun) in e) in_

@@ -32,12 +32,12 @@ use Rattle.run_within.specs.Taking.{IsPut, AreTearsAt, MayBeJudged}
 use Rattle.run_within.proofs.Putting.{card-put, entered-next}
 use Rattle.run_acts.specs.declared.run.Run.{Run}
 use Rattle.run_acts.specs.Acting.{IsSettled, told_of}
-use Rattle.run_acts.specs.Recording.{log_of, values_of, RunWithin, RunFails, GoesOnOrCut, IsNow}
+use Rattle.run_acts.specs.Recording.{log_of, values_of, RunWithin, RunFails, GoesOnOrFails, IsNow}
 use Rattle.run_acts.specs.Settling.{settled_run, RecordsSettling, SettlesTo, IsSettledIn}
 use Rattle.recorder_with_cards.specs.Accepting.{put_run}
 use Rattle.recorder_with_cards.specs.Judged.{moment_in, RunNext, JudgesSo}
 use Rattle.recorder_with_cards.proofs.ActsRecorded.{refuses}
-use Rattle.recorder_with_cards.proofs.Resumed.{judged-goes}
+use Rattle.recorder_with_cards.proofs.Resumed.{judged-as}
 
 -- ---- the lines of a settling tell of tears at its moment
 
@@ -126,7 +126,8 @@ module _ (slot : Slot) (card : Card) (at : Moment) (speed : ℕ) (old : Run) (be
         abbrev next : RunNext o done s (suc n) waits [] mid told e slot card
         next = record { goes = on.goes; next = judged.next; none = judged.none slot; order = λ is_driver. inr (judged.none CoDriver) }
 
-        pub inserted : (judged_failed : Bool) (new : Run) (after : Outcome) (later : Devices) → JudgesSo slot card at judged_failed mid new told after e later → HaveTime later → GoesOnOrCut judged_failed o done s (In at.begun) [] new after later
+        pub inserted : (judged_failed : Bool) (new : Run) (after : Outcome) (later : Devices) → JudgesSo slot card at judged_failed mid new told after e later → HaveTime later → GoesOnOrFails judged_failed o done s (In at.begun) [] new after later h.within.b
         inserted judged_failed new after later judges end =
-            subst (λ (m : ℕ). GoesOnOrCut judged_failed o done s (In m) [] new after later) (sym begun)
-            (judged-goes judged_failed o done s (suc n) waits mid new told after e later on.goes (judges o done s (suc n) waits [] at-is next end))
+            subst (λ (m : ℕ). GoesOnOrFails judged_failed o done s (In m) [] new after later h.within.b) (sym begun)
+            (subst (λ (b : Beginning). GoesOnOrFails judged_failed o done s (In (suc n)) [] new after later b) (on.began ∙ put.goes.began)
+            (judged-as judged_failed o done s (suc n) waits mid new told after e later on.goes (judges o done s (suc n) waits [] at-is next end)))

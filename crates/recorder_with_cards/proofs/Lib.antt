@@ -29,3 +29,6 @@ pub mod SecondsRecorded
 pub mod Promised
 pub mod Later
 pub mod WakeNoted
+pub mod Staying
+pub mod ActsEvented
+pub mod SecondsEvented

@@ -61,7 +61,7 @@ use Rattle.run_within.proofs.Waking.{but-first, next-waking, find-other}
 use Rattle.run_acts.specs.declared.run.Run.{Run}
 use Rattle.run_acts.specs.declared.run.Power.TheVariants.{Lit}
 use Rattle.run_acts.specs.Power.{IsSpanBegun}
-use Rattle.run_acts.specs.Recording.{IsOrigin, log_of, values_of, RunWithin, ComesPower, GoesOnOrCut}
+use Rattle.run_acts.specs.Recording.{IsOrigin, log_of, values_of, RunWithin, ComesPower, GoesOnOrCut, GoesOnOrFails}
 use Rattle.run_acts.proofs.NoteRecorded.{same-course}
 use Rattle.recorder_with_cards.specs.Accepting.{IsBare, IsAccepted, IsAnew}
 use Rattle.recorder_with_cards.specs.Judged.{moment_in, RunNext, RunBehind, JudgedTo, JudgesSo, JudgesAnew}
@@ -245,6 +245,12 @@ pub judged-goes : (failed : Bool) (o : Origin) (done : List TraceSecond) (s : Tr
     JudgedTo failed o done s n who [] old new before after d e x → GoesOnOrCut failed o done s (In n) [] new after e
 judged-goes false o done s n who old new before after d e x h = h.goes
 judged-goes true o done s n who old new before after d e x h = h
+
+-- as the second began
+pub judged-as : (failed : Bool) (o : Origin) (done : List TraceSecond) (s : TraceSecond) (n : ℕ) (who : List Visit) (old new : Run) (before after : Outcome) (d e : Devices) (x : RunWithin o done s (In n) who [] old before d) →
+    JudgedTo failed o done s n who [] old new before after d e x → GoesOnOrFails failed o done s (In n) [] new after e x.within.b
+judged-as false o done s n who old new before after d e x h = record { goes = h.goes; began = h.began }
+judged-as true o done s n who old new before after d e x h = h
 
 driver-too : Contains both_slots Driver
 driver-too = Contains-append_left (Driver ∷ []) (CoDriver ∷ []) Driver (Contains-push [] Driver)

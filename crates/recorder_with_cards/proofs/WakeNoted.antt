@@ -111,11 +111,3 @@ not-none n is = grind (arith, nat_tests, is)
 
 pub is-some : (n : ℕ) → (n == 0) ≡ false → 0 < n
 is-some n is = let some = not-none n is in omega (arith, some)
-
--- ---- minutes are settled
-
-pub settles-these : (at : Moment) (failed : Bool) (old new : Run) (before after : Outcome) (U V A B C D : State) → IsCoherent U → IsUnit U → NotesSettling at failed old new before after U V →
-    (vs : List UnitEvent) × SettlesThese at failed old new before after vs × NotesEvents vs failed (devices U A B) (devices V C D)
-settles-these at failed old new before after U V A B C D whole unit n =
-    let vs = faults_to old.keeper at n.2 (told_of old before) in
-    (vs, (n.0, n.1, n.2, n.3, refl), faults-noted vs failed U V A B C D whole unit (faults-are old.keeper at n.2 (told_of old before)) n.4)

@@ -3,12 +3,6 @@ use Rattle.std.specs.Prelude.{◌≡◌, ℕ, ◌<◌, Bool, true, false, Option
 use Rattle.activity_codec.specs.declared.values.Slot.{Slot}
 use Rattle.activity_codec.specs.declared.values.Slot.TheVariants.{Driver, CoDriver}
 use Rattle.event_model.specs.Spans.{gap_of}
-use Rattle.minute_model.specs.declared.Minute.{Minute}
-use Rattle.minute_model.specs.Span.{Span, settled, decided_in}
-use Rattle.minute_rules.specs.Kept.{StandsFor}
-use Rattle.run_keeping.specs.Minutes.{Reach, IsReach}
-use Rattle.run_keeping.specs.Faults.{faults_to}
-use Rattle.run_acts.specs.Turning.{told_of}
 use Rattle.slot_machine.specs.Calls.{seat_in, card_in}
 use Rattle.unit_journal.specs.declared.notes.Notes.{Notes}
 use Rattle.trace_model.specs.declared.Card.{Card}
@@ -27,7 +21,7 @@ use Rattle.run_outcome.specs.Lines.{cut_at}
 use Rattle.run_keeping.specs.Keeping.{with_lines}
 use Rattle.run_acts.specs.Power.{IsSpanBegun, cut_run}
 use Rattle.run_acts.specs.Acting.{now_moment}
-use Rattle.run_acts.specs.Noting.{GapReach, AreGapEvents}
+use Rattle.run_acts.specs.Noting.{GapReach, AreGapEvents, SettlesThese}
 use Rattle.recorder_with_cards.specs.Accepting.{IsAccepted, IsEnteringNow, put_run}
 
 -- the events and faults of a card that entered in this way
@@ -138,12 +132,7 @@ NotesPowerOn speed old new before after d later = ((kept : ℕ) × NotesFound ke
 
 -- ---- a card is put in
 
--- the faults of the minutes that are settled
-abbrev pub SettlesThese : Moment → (failed : Bool) → (old new : Run) → (before after : Outcome) → List UnitEvent → Type 0
-SettlesThese at failed old new before after vs = (decided : List Minute) × ((span : Span) → StandsFor old.minutes span → decided_in (settled span) ≡ decided_in span ++ decided)
-    × (reach : Reach) × IsReach decided at failed (told_of old before) (told_of new after) reach × (vs ≡ faults_to old.keeper at reach (told_of old before))
-
--- and then those of the card
+-- the faults of the minutes that are settled, and then those of the card
 pub record SettlesThenJudges (slot : Slot) (card : Card) (at : Moment) (speed : ℕ) (old new : Run) (before after : Outcome) (vs : List UnitEvent) : Type 0 where
   pub between : Run
   pub told : Outcome

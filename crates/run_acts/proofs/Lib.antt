@@ -42,6 +42,9 @@ pub mod Apart
 pub mod NoneComes
 pub mod Asked
 pub mod NotedOn
+pub mod ActsNoted
+pub mod Numbers
+pub mod FallEvented
 pub mod NoteRecorded
 pub mod Pulled
 pub mod Closed

@@ -103,7 +103,7 @@ noted-any vs true d e f g first later h o long es told = λ log now unsure c the
     (one.0, subst (λ (U : State). U.may_leave one.0) first one.1, one.2)
 
 -- nothing was called
-same-says : (x : List ℕ) → SaysNothing x x
+pub same-says : (x : List ℕ) → SaysNothing x x
 same-says x = record { tables = λ kind there. refl; first_over = refl; over_count = refl }
 
 pub same-noted : (U A B : State) → NotesEvents [] false (devices U A B) (devices U A B)

@@ -20,25 +20,25 @@ use Rattle.run_within.proofs.Pulling.{pulled-out}
 use Rattle.run_acts.specs.declared.run.Run.{Run}
 use Rattle.run_acts.specs.Power.{with_cabin}
 use Rattle.run_acts.specs.Acting.{pulled_run, pulled_breaks}
-use Rattle.run_acts.specs.Recording.{values_of, RunWithin, RecordsAction}
+use Rattle.run_acts.specs.Recording.{values_of, RunWithin, RunGoesOn, RecordsAction}
 use Rattle.run_acts.proofs.Asked.{pulls-one}
-use Rattle.run_acts.proofs.NoteRecorded.{run-on}
+use Rattle.run_acts.proofs.NoteRecorded.{goes-as}
 
 module _ (d : Devices) (slot : Slot) (begun speed : ℕ) (run : Run) (out : Outcome) (low : ℕ) (stands : Stands low None run.keeper.cabin) where
-  out-of : (o : Origin) (done : List TraceSecond) (s : TraceSecond) (front rest : List Action) → s.actions ≡ front ++ Pull slot ∷ rest → begun ≡ suc (length front) → s.number ≡ run.next → RunWithin o done s (In (length front)) [] [] run out d →
-      (card : Card) → card_in (seat_in run.keeper.cabin.slots.seats slot) ≡ Some card → RunWithin o done s (In begun) [] [] (with_cabin (torn_out card run.next run.keeper.cabin) run) (record out { breaks = with_lines (Tear run.next slot false begun false ∷ []) out.breaks }) d
+  out-of : (o : Origin) (done : List TraceSecond) (s : TraceSecond) (front rest : List Action) → s.actions ≡ front ++ Pull slot ∷ rest → begun ≡ suc (length front) → s.number ≡ run.next → (w : RunWithin o done s (In (length front)) [] [] run out d) →
+      (card : Card) → card_in (seat_in run.keeper.cabin.slots.seats slot) ≡ Some card → RunGoesOn o done s (In begun) [] (with_cabin (torn_out card run.next run.keeper.cabin) run) (record out { breaks = with_lines (Tear run.next slot false begun false ∷ []) out.breaks }) d w.within.b
   out-of o done s front rest are n number w card is =
-      subst (λ (u : ℕ). RunWithin o done s (In begun) [] [] (with_cabin (torn_out card u run.keeper.cabin) run) (record out { breaks = with_lines (Tear u slot false begun false ∷ []) out.breaks }) d) number
-      (subst (λ (k : ℕ). RunWithin o done s (In k) [] [] (with_cabin (torn_out card s.number run.keeper.cabin) run) (record out { breaks = with_lines (Tear s.number slot false k false ∷ []) out.breaks }) d) (sym n)
-      (run-on o done s (In (length front)) (In (suc (length front))) [] [] [] [] run (with_cabin (torn_out card s.number run.keeper.cabin) run) out (record out { breaks = with_lines (Tear s.number slot false (suc (length front)) false ∷ []) out.breaks }) d d w.within.from w refl refl
+      subst (λ (u : ℕ). RunGoesOn o done s (In begun) [] (with_cabin (torn_out card u run.keeper.cabin) run) (record out { breaks = with_lines (Tear u slot false begun false ∷ []) out.breaks }) d w.within.b) number
+      (subst (λ (k : ℕ). RunGoesOn o done s (In k) [] (with_cabin (torn_out card s.number run.keeper.cabin) run) (record out { breaks = with_lines (Tear s.number slot false k false ∷ []) out.breaks }) d w.within.b) (sym n)
+      (goes-as o done s (In (length front)) (In (suc (length front))) [] [] [] run (with_cabin (torn_out card s.number run.keeper.cabin) run) out (record out { breaks = with_lines (Tear s.number slot false (suc (length front)) false ∷ []) out.breaks }) d d w.within.from w refl refl
       (pulled-out d o done s (values_of run out) front slot card rest are w.within is low stands)))
 
   pub pulled-recorded : RecordsAction (Pull slot) begun speed false run (pulled_run (card_in (seat_in run.keeper.cabin.slots.seats slot)) run.next run) out
       (record out { breaks = with_lines (pulled_breaks (card_in (seat_in run.keeper.cabin.slots.seats slot)) slot (record { second = run.next; begun = begun; late = false })) out.breaks }) d d
   pulled-recorded = λ o done s now front rest are n allowed w time. by o done s front rest are n now.number w (card_in (seat_in run.keeper.cabin.slots.seats slot)) refl (pulls-one run.keeper.cabin.slots.seats slot speed allowed)
     where
-      by : (o : Origin) (done : List TraceSecond) (s : TraceSecond) (front rest : List Action) → s.actions ≡ front ++ Pull slot ∷ rest → begun ≡ suc (length front) → s.number ≡ run.next → RunWithin o done s (In (length front)) [] [] run out d →
+      by : (o : Origin) (done : List TraceSecond) (s : TraceSecond) (front rest : List Action) → s.actions ≡ front ++ Pull slot ∷ rest → begun ≡ suc (length front) → s.number ≡ run.next → (w : RunWithin o done s (In (length front)) [] [] run out d) →
           (c : Option Card) → card_in (seat_in run.keeper.cabin.slots.seats slot) ≡ c → (card_in (seat_in run.keeper.cabin.slots.seats slot) ≡ None → ⊥) →
-          RunWithin o done s (In begun) [] [] (pulled_run c run.next run) (record out { breaks = with_lines (pulled_breaks c slot (record { second = run.next; begun = begun; late = false })) out.breaks }) d
+          RunGoesOn o done s (In begun) [] (pulled_run c run.next run) (record out { breaks = with_lines (pulled_breaks c slot (record { second = run.next; begun = begun; late = false })) out.breaks }) d w.within.b
       by o done s front rest are n number w None is one = absurd (one is)
       by o done s front rest are n number w (Some card) is one = out-of o done s front rest are n number w card is

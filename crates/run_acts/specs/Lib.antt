@@ -18,3 +18,4 @@ pub mod Devices
 pub mod Faults
 pub mod Named
 pub mod Evented
+pub mod ActsEvented

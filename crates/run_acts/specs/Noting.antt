@@ -1,5 +1,5 @@
 -- What a note on the unit and then on accepted cards leaves, by value, of unit and cards, and of the record of a run (profile).
-use Rattle.std.specs.Prelude.{◌≡◌, ℕ, Bool, true, false, Option, Some, None, List, [], ◌∷◌, ◌++◌}
+use Rattle.std.specs.Prelude.{◌≡◌, ◌⊎◌, ℕ, Bool, true, false, Option, Some, None, List, [], ◌∷◌, ◌++◌}
 use Rattle.activity_codec.specs.declared.values.Slot.{Slot}
 use Rattle.activity_codec.specs.declared.values.Slot.TheVariants.{Driver, CoDriver}
 use Rattle.trace_model.specs.declared.Card.{Card}
@@ -9,8 +9,15 @@ use Rattle.event_model.specs.declared.entries.Span.{Span}
 use Rattle.event_model.specs.declared.kinds.TheConstants.{POWER_INTERRUPTION, CARD_FAULT}
 use Rattle.unit_notes.specs.declared.unit_event.UnitEvent.{UnitEvent}
 use Rattle.run_acts.specs.NotedEvents.{NotesEvents}
+use Rattle.tach_media.specs.Medium.{State}
+use Rattle.minute_model.specs.declared.Minute.{Minute}
+use Rattle.minute_model.specs.Span.{Span as Minutes, settled, decided_in}
+use Rattle.minute_rules.specs.Kept.{StandsFor}
+use Rattle.run_events.specs.Shown.{SaysNothing}
+use Rattle.run_keeping.specs.Minutes.{Reach, IsReach}
+use Rattle.run_keeping.specs.Faults.{faults_to}
 use Rattle.log_model.specs.declared.lines.Break.{Break}
-use Rattle.log_model.specs.Log.{Phase}
+use Rattle.log_model.specs.Log.{Phase, In}
 use Rattle.safety_model.specs.Safe.{Devices}
 use Rattle.slot_machine.specs.Calls.{seat_in, card_in}
 use Rattle.run_crew.specs.declared.cards.Cards.{Cards}
@@ -25,9 +32,9 @@ use Rattle.run_keeping.specs.declared.keeper.Moment.{Moment}
 use Rattle.run_recorded.specs.Origin.{Origin}
 use Rattle.run_within.specs.Taking.{fallen}
 use Rattle.run_acts.specs.declared.run.Run.{Run}
-use Rattle.run_acts.specs.Acting.{IsNotedIn}
+use Rattle.run_acts.specs.Acting.{IsNotedIn, IsNotedOn, Closing, Bare, Closed, Fell, IsClosed, told_of, left_run}
 use Rattle.run_acts.specs.Behind.{IsPoweredOrOff}
-use Rattle.run_acts.specs.Recording.{RunWithin, ComesPower, GoesOnOrCut, RecordsAction}
+use Rattle.run_acts.specs.Recording.{RunWithin, ComesPower, GoesOnOrFails, RecordsAction}
 
 -- ---- by value
 
@@ -84,6 +91,51 @@ AreGapEvents (Some span) at failed old new breaks after DriverFell vs = IsGapNot
 AreGapEvents (Some span) at failed old new breaks after (BothSlots driver codriver) vs =
     (n : AreNotedIn at old new breaks after driver codriver) × (failed ≡ true → codriver ≡ true) × (vs ≡ gap_event span old ∷ (fall_events driver old.next n.between ++ fall_events codriver old.next new))
 
+-- each image that a call may leave says of events what one before it did
+abbrev pub SaysNoMore : (old new : State) → Type 0
+SaysNoMore old new = (c : List ℕ) → new.may_leave c → (x : List ℕ) × old.may_leave x × SaysNothing x c
+
+-- A PLACE IS NOTED for the card of a slot, and nothing of that where there is none: the unit failed in its note; or it is noted on the card, which
+-- may have fallen.
+abbrev pub NotesPlace : Option Card → Slot → Moment → (failed : Bool) → (old new : Run) → (breaks after : Listed Break) → (d e : Devices) → Type 0
+NotesPlace None slot at failed old new breaks after d e = (failed ≡ false) × (new ≡ old) × (after ≡ breaks) × NotesEvents [] failed d e
+NotesPlace (Some card) slot at failed old new breaks after d e =
+    ((failed ≡ true) × (new ≡ old) × (after ≡ breaks) × NotesEvents [] failed d e) ⊎ NotesFall (λ fell. IsNotedOn card slot at old new breaks after fell) at.second failed new d e
+
+-- the faults of the minutes that are settled
+abbrev pub SettlesThese : Moment → (failed : Bool) → (old new : Run) → (before after : Outcome) → List UnitEvent → Type 0
+SettlesThese at failed old new before after vs = (decided : List Minute) × ((span : Minutes) → StandsFor old.minutes span → decided_in (settled span) ≡ decided_in span ++ decided)
+    × (reach : Reach) × IsReach decided at failed (told_of old before) (told_of new after) reach × (vs ≡ faults_to old.keeper at reach (told_of old before))
+
+-- the fault of a card that fell as its session was closed, with the cards that are left
+abbrev pub closed_events : Closing → (second : ℕ) → (left : Run) → List UnitEvent
+closed_events Bare second left = []
+closed_events Closed second left = []
+closed_events Fell second left = fall_events true second left
+
+-- A SESSION IS CLOSED, and this fault is noted with it; the unit may have failed.
+pub record NotesClosing (card : Card) (slot : Slot) (at : Moment) (failed : Bool) (old new : Run) (breaks after : Listed Break) (d e : Devices) : Type 0 where
+  pub closing : Closing
+  pub closed : IsClosed card slot at old new breaks after closing
+  pub notes : NotesEvents (closed_events closing at.second new) failed d e
+
+-- the faults of the minutes that are settled, and then that of the closing
+pub record SettlesThenCloses (card : Card) (slot : Slot) (at : Moment) (old new : Run) (before after : Outcome) (vs : List UnitEvent) : Type 0 where
+  pub between : Run
+  pub told : Outcome
+  pub faults : List UnitEvent
+  pub closing : Closing
+  pub settles : SettlesThese at false (left_run slot at.second old) between before told faults
+  pub closed : IsClosed card slot at between new told.breaks after.breaks closing
+  pub rest : after ≡ record told { breaks = after.breaks }
+  pub are : vs ≡ faults ++ closed_events closing at.second new
+
+-- A CARD IS WITHDRAWN, and nothing is noted where there is none: so it is noted; or the unit failed as the minutes before were kept.
+abbrev pub NotesWithdrawing : Option Card → Slot → Moment → (failed : Bool) → (old new : Run) → (before after : Outcome) → (d e : Devices) → Type 0
+NotesWithdrawing None slot at failed old new before after d e = (failed ≡ false) × (new ≡ old) × (after ≡ before) × NotesEvents [] failed d e
+NotesWithdrawing (Some card) slot at failed old new before after d e = (events : List UnitEvent)
+    × (((failed ≡ true) × SettlesThese at true (left_run slot at.second old) new before after events) ⊎ SettlesThenCloses card slot at old new before after events) × NotesEvents events failed d e
+
 -- ---- of unit and cards
 
 -- what is carried behind a note on a card, which may have fallen
@@ -104,10 +156,10 @@ BooksNotedIn (Some card) failed fell cards after d e = BooksNoted card failed fe
 -- ---- of the record
 
 -- A NOTE IS RECORDED at a moment of a second at which no card waits, before any action only where power comes with the second: the second goes
--- on at that moment, or power is about to be cut.
+-- on at that moment, as it began, or power is about to be cut.
 abbrev pub IsNoteRecorded : Phase → (failed : Bool) → (old new : Run) → (breaks after : Listed Break) → (d e : Devices) → Type 0
-IsNoteRecorded at failed old new breaks after d e = (o : Origin) (done : List TraceSecond) (s : TraceSecond) (out : Outcome) → RunWithin o done s at [] [] old (record out { breaks = breaks }) d → (at ≡ In 0 → ComesPower done (record out { breaks = breaks })) →
-    GoesOnOrCut failed o done s at [] new (record out { breaks = after }) e
+IsNoteRecorded at failed old new breaks after d e = (o : Origin) (done : List TraceSecond) (s : TraceSecond) (out : Outcome) → (w : RunWithin o done s at [] [] old (record out { breaks = breaks }) d) → (at ≡ In 0 → ComesPower done (record out { breaks = breaks })) →
+    GoesOnOrFails failed o done s at [] new (record out { breaks = after }) e w.within.b
 
 -- A PLACE IS NOTED, an action of that second: it is told of before.
 abbrev pub IsPlaceRecorded : Slot → Moment → (failed : Bool) → (old new : Run) → (breaks after : Listed Break) → (d e : Devices) → Type 0

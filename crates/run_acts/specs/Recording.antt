@@ -25,7 +25,7 @@ use Rattle.run_outcome.specs.declared.outcome.Outcome.{Outcome}
 use Rattle.run_recorded.specs.Origin.{Origin}
 use Rattle.run_keeping.specs.Books.{HaveTime}
 use Rattle.run_within.specs.Recorded.{Values, Recorded}
-use Rattle.run_within.specs.Within.{Within, CutWithin, passed_values}
+use Rattle.run_within.specs.Within.{Beginning, Within, CutWithin, passed_values}
 use Rattle.run_acts.specs.declared.run.Run.{Run}
 use Rattle.run_acts.specs.declared.run.Power.{Power}
 use Rattle.run_acts.specs.declared.run.Power.TheVariants.{Lit, Due, Lost}
@@ -60,6 +60,7 @@ pub record IsOrigin (o : Origin) : Type 0 where
   pub image : (c : Card) → (found_of o.found c).image ≡ card_image o.recording c
   pub start : (c : Card) → (found_of o.found c).start ≡ brought o.recording c
   pub number : (c : Card) → IsOwnValid (card_image o.recording c) → (found_of o.found c).number ≡ own_number (card_image o.recording c)
+  pub long : (c : Card) → IsOwnValid (card_image o.recording c) → length (own_number (card_image o.recording c)) ≡ 18
 
 -- BETWEEN TWO SECONDS, behind these: all is recorded, and the odometer that minutes are counted from is that at the last power-on.
 pub record RunRecorded (o : Origin) (done : List TraceSecond) (run : Run) (out : Outcome) (d : Devices) : Type 0 where
@@ -102,6 +103,16 @@ pub record RunFails (o : Origin) (done : List TraceSecond) (s : TraceSecond) (at
   pub same : with_power_lost s.number cabin ≡ with_power_lost s.number run.keeper.cabin
   pub within : CutWithin o done s at waits None (record (values_of run out) { cabin = cabin }) d
 
+-- THE SECOND GOES ON at a moment where these wait, as it began
+pub record RunGoesOn (o : Origin) (done : List TraceSecond) (s : TraceSecond) (at : Phase) (waits : List Visit) (run : Run) (out : Outcome) (d : Devices) (b : Beginning) : Type 0 where
+  pub goes : RunWithin o done s at waits [] run out d
+  pub began : goes.within.b ≡ b
+
+-- or the unit has failed in a call
+abbrev pub GoesOnOrFails : (failed : Bool) → Origin → List TraceSecond → TraceSecond → Phase → List Visit → Run → Outcome → Devices → Beginning → Type 0
+GoesOnOrFails false o done s at waits run out d b = RunGoesOn o done s at waits run out d b
+GoesOnOrFails true o done s at waits run out d b = RunFails o done s at run out d
+
 -- behind a call: the second goes on at a moment where these wait; or the unit has failed in it
 abbrev pub GoesOnOrCut : (failed : Bool) → Origin → List TraceSecond → TraceSecond → Phase → List Visit → Run → Outcome → Devices → Type 0
 GoesOnOrCut false o done s at waits run out d = RunWithin o done s at waits [] run out d
@@ -113,11 +124,12 @@ pub record IsNow (s : TraceSecond) (speed : ℕ) (run : Run) : Type 0 where
   pub given : s.has_power ≡ true
   pub speed_is : s.speed ≡ speed
 
--- AN ACTION of a second is carried out, which slots and speed do not refuse: it is the next one, and behind it so many have begun.
+-- AN ACTION of a second is carried out, which slots and speed do not refuse: it is the next one, and behind it so many have begun. The second goes
+-- on as it began.
 abbrev pub RecordsAction : Action → (begun speed : ℕ) → (failed : Bool) → (old new : Run) → (before after : Outcome) → (d e : Devices) → Type 0
 RecordsAction action begun speed failed old new before after d e = (o : Origin) (done : List TraceSecond) (s : TraceSecond) → IsNow s speed old →
     (front rest : List Action) → s.actions ≡ front ++ action ∷ rest → begun ≡ suc (length front) → refusal (logged old.keeper.cabin.slots.seats) speed action ≡ None →
-    RunWithin o done s (In (length front)) [] [] old before d → HaveTime e → GoesOnOrCut failed o done s (In begun) [] new after e
+    (w : RunWithin o done s (In (length front)) [] [] old before d) → HaveTime e → GoesOnOrFails failed o done s (In begun) [] new after e w.within.b
 
 -- N SECONDS of one minute: the first has had all of its actions, so many; the others, where there are any, have none, and nor has it then.
 -- Behind them all is recorded.

@@ -24,6 +24,8 @@ ghost use Rattle.run_keeping.specs.Minutes.{Told, Reach, IsReach};
 ghost use Rattle.run_acts.specs.Acting.{Closing, IsClosed, closed_falls, IsWithdrawn, left_run, pulled_run, pulled_breaks, told_of};
 ghost use Rattle.trace_model.specs.declared.Action.TheVariants.{Withdraw};
 ghost use Rattle.run_acts.specs.Recording.{RecordsAction};
+ghost use Rattle.run_acts.specs.Noting.{SaysNoMore, NotesClosing, NotesWithdrawing};
+ghost use Rattle.run_acts.specs.ActsEvented.{EventsWithdrawal};
 ghost use Rattle.run_acts.specs.Behind.{BooksWithdrawn};
 
 use crate::run::Run;
@@ -70,6 +72,8 @@ pub fn withdraw<M: Medium, C: Chip, D: Chip>(
         × ((span : Span) → StandsFor run.old.minutes span → decided_in (settled span) ≡ decided_in span ++ decided)
         × IsReach decided at (not (is_some closing)) (told_of (left_run slot at.second run.old) outcome.old) between reach
         × BooksWithdrawn card decided (is_err result) reach closing (told_of (left_run slot at.second run.old) outcome.old) (told_of run.new outcome.new) (devices (M.state unit.old) (C.state card_a.old) (D.state card_b.old)) (devices (M.state unit.new) (C.state card_a.new) (D.state card_b.new)) }
+    ensures events { NotesWithdrawing (card_in (seat_in run.old.keeper.cabin.slots.seats slot)) slot at (is_err result) run.old run.new outcome.old outcome.new (devices (M.state unit.old) (C.state card_a.old) (D.state card_b.old)) (devices (M.state unit.new) (C.state card_a.new) (D.state card_b.new)) }
+    ensures evented { EventsWithdrawal slot at (is_err result) run.old run.new outcome.old outcome.new (devices (M.state unit.old) (C.state card_a.old) (D.state card_b.old)) (devices (M.state unit.new) (C.state card_a.new) (D.state card_b.new)) }
     ensures recorded { at.late ≡ false → (speed : ℕ) → RecordsAction (Withdraw slot) at.begun speed (is_err result) run.old run.new outcome.old outcome.new (devices (M.state unit.old) (C.state card_a.old) (D.state card_b.old)) (devices (M.state unit.new) (C.state card_a.new) (D.state card_b.new)) }
     ensures held { IsHeld (run.new.next / 60) run.new (M.state unit.new) (C.card card_a.new) (D.card card_b.new) (C.state card_a.new) (D.state card_b.new) }
     ensures going { OnOk result (IsLit (run.new.next / 60) run.new (M.state unit.new) (C.card card_a.new) (D.card card_b.new) (C.state card_a.new) (D.state card_b.new)) }
@@ -110,6 +114,7 @@ fn close<M: Medium, C: Chip>(
     requires second { at.second ≢ 0 }
     requires room { length breaks.old.items + tears_of (session_of run.old.keeper.cabin.cards which) ≤ breaks.old.room }
     ensures closed { (closing : Closing) × IsClosed which slot at run.old run.new breaks.old breaks.new closing × HasBroken (C.state card.old) (C.state card.new) (closed_falls closing) }
+    ensures events { NotesClosing which slot at (is_err result) run.old run.new breaks.old breaks.new (devices (M.state unit.old) (C.state card.old) (C.state card.old)) (devices (M.state unit.new) (C.state card.new) (C.state card.new)) }
     ensures journal { LeavesOnly (M.state unit.old) (M.state unit.new) LeavesJournal }
     ensures left { IfSome (session_of run.old.keeper.cabin.cards which) (λ s. (act : Activity) × LeavesOnly (C.state card.old) (C.state card.new) (λ x c. IsSession s.session x → IsCardClosing s.session act x c)) }
     ensures bare { session_of run.old.keeper.cabin.cards which ≡ None → card.new ≡ card.old }
@@ -149,6 +154,7 @@ fn note_withdrawal<M: Medium>(
     requires entry { entry < insertion_ring.count }
     requires noted { noted ≤ run.now.noted }
     requires odometer { run.now.keeper.odometer ≤ HIGHEST_ODOMETER }
+    ensures quiet { SaysNoMore (M.state unit.old) (M.state unit.new) }
     ensures journal { LeavesOnly (M.state unit.old) (M.state unit.new) LeavesJournal }
     ensures cause { HasCause (M.state unit.old) (M.state unit.new) (is_err result) }
 {

@@ -18,7 +18,7 @@ use Rattle.run_keeping.proofs.DecidedBooked.{time-before}
 use Rattle.run_acts.specs.declared.run.Run.{Run}
 use Rattle.run_acts.specs.declared.run.Power.{Power}
 use Rattle.run_acts.specs.Room.{waiting}
-use Rattle.run_acts.specs.Recording.{GoesOnOrCut}
+use Rattle.run_acts.specs.Recording.{GoesOnOrFails}
 use Rattle.run_acts.specs.Settling.{RecordsSettling}
 use Rattle.recorder_with_cards.proofs.Inserted.{unsettled, inserted}
 use Rattle.tach_media.specs.Medium.{State}
@@ -26,7 +26,8 @@ use Rattle.run_acts.specs.NotedEvents.{NotesEvents}
 use Rattle.run_acts.proofs.NotedEvents.{then-noted}
 use Rattle.run_acts.specs.Faults.{NotesSettling}
 use Rattle.recorder_with_cards.specs.Accepting.{put_run}
-use Rattle.recorder_with_cards.proofs.WakeNoted.{settles-these, anew-these}
+use Rattle.run_acts.proofs.ActsNoted.{settles-these}
+use Rattle.recorder_with_cards.proofs.WakeNoted.{anew-these}
 use Rattle.recorder_with_cards.proofs.inserting.insert.Goals as goal
 
 pub settle-requires-clause-held : goal.settle-requires-clause-held
@@ -108,7 +109,7 @@ returns-in_err-settle-clause-recorded g c = λ late room o done s now front rest
     let records = subst (λ (b : Cabin). RecordsSettling r.0 c.args.at true (with_cabin b run) mid out told d e) c.put_in.ensures.kept r.2 in
     let fails = unsettled c.args.slot c.args.card c.args.at c.args.speed run out d o done s now front rest actions c.requires.at begun late allowed within mid told true settles r.0 r.1 e records time refl in
     let failed : true ≡ is_err c.from_residual.result = search rules in
-    subst (λ (f : Bool). GoesOnOrCut f o done s (In c.args.at.begun) [] mid told e) failed fails
+    subst (λ (f : Bool). GoesOnOrFails f o done s (In c.args.at.begun) [] mid told e within.within.b) failed fails
 
 pub returns-clause-recorded : goal.returns-clause-recorded
 returns-clause-recorded g c = λ late room o done s now front rest actions begun allowed within time.

@@ -29,6 +29,7 @@ use Rattle.run_within.specs.Recorded.{Values}
 use Rattle.run_acts.specs.declared.run.Power.{Power}
 use Rattle.run_acts.specs.Room.{waiting}
 use Rattle.run_acts.specs.Recording.{GoesOnOrCut}
+use Rattle.run_acts.proofs.NoteRecorded.{goes-plain}
 use Rattle.recorder_with_cards.specs.Judged.{moment_in}
 use Rattle.recorder_with_cards.proofs.Resumed.{RunWaking, waiting_in, at-once, wholes-of, kept-of, same-devices, awake, unmended, driver-judged, codriver-judged, codriver-power}
 use Rattle.event_model.specs.Spans.{gap_of}
@@ -429,7 +430,9 @@ returns-clause-recorded g c = λ room o origin done s supply v r may number give
     refl bare_too c.moment-at.result now c.args.speed (is_err c.accept_anew-2.result) two c.accept_anew-2.new.outcome c.accept_anew-2.ensures.accepted (devices V2 X2 Y2)
     time_two
     (c.accept_anew-2.ensures.recorded (omega (arith, room, few, few_too, none_waits, waits_none, t, same_room))) fine in
-    c.note_gap.ensures.recorded o done s c.accept_anew-2.new.outcome (subst (λ (f : Bool). GoesOnOrCut f o done s (In 0) [] two c.accept_anew-2.new.outcome (devices V2 X2 Y2)) fine second) (λ first. comes)
+    let judged = subst (λ (f : Bool). GoesOnOrCut f o done s (In 0) [] two c.accept_anew-2.new.outcome (devices V2 X2 Y2)) fine second in
+    goes-plain (is_err c.note_gap.result) o done s (In 0) [] c.note_gap.new.run (record c.accept_anew-2.new.outcome { breaks = c.note_gap.new.breaks }) (devices V3 X3 Y3) judged.within.b
+    (c.note_gap.ensures.recorded o done s c.accept_anew-2.new.outcome judged (λ first. comes))
 
 -- ---- WHAT IS NOTED
 

@@ -24,7 +24,8 @@ use Rattle.run_acts.specs.NotedEvents.{NotesEvents}
 use Rattle.run_acts.proofs.NotedEvents.{one-noted, same-noted, then-noted}
 use Rattle.log_model.specs.Log.{In}
 use Rattle.run_rule.specs.Between.{devices}
-use Rattle.run_acts.specs.Recording.{GoesOnOrCut}
+use Rattle.run_within.specs.Within.{Beginning}
+use Rattle.run_acts.specs.Recording.{GoesOnOrFails}
 use Rattle.run_acts.proofs.NoteRecorded.{unit-recorded, power-noted}
 use Rattle.run_acts.proofs.Kept.{moved-going}
 use Rattle.run_acts.proofs.Noted.{noted-ready, noted-row}
@@ -123,6 +124,9 @@ returns-clause-noted g c =
 
 -- ---- what is recorded
 
+pub returns-in_default-clause-recorded : goal.returns-in_default-clause-recorded
+returns-in_default-clause-recorded g c = λ o done s out w power. record { goes = w; began = refl }
+
 pub returns-in_err-note_event-clause-recorded : goal.returns-in_err-note_event-clause-recorded
 returns-in_err-note_event-clause-recorded g c = λ o done s out w power.
     let run = c.args.run.now in
@@ -131,7 +135,7 @@ returns-in_err-note_event-clause-recorded g c = λ o done s out w power.
     let X = g.C.Chip.state c.args.card_a.now in
     let Y = g.D.Chip.state c.args.card_b.now in
     let failed : true ≡ is_err c.from_residual.result = search rules in
-    subst (λ (q : Bool). GoesOnOrCut q o done s (In 0) [] run (record out { breaks = c.args.breaks.now }) (devices V X Y)) failed
+    subst (λ (q : Bool). GoesOnOrFails q o done s (In 0) [] run (record out { breaks = c.args.breaks.now }) (devices V X Y) w.within.b) failed
     (unit-recorded o done s 0 run (record out { breaks = c.args.breaks.now }) (g.M.Medium.state c.args.unit.now) V X Y (g.met.M.Medium.coherent c.args.unit.now) c.note_event.ensures.journal lit.span lit.stands lit.next w true c.in_err-note_event.ensures.cause)
 
 pub returns-in_err-note_in-clause-recorded : goal.returns-in_err-note_in-clause-recorded
@@ -144,7 +148,7 @@ returns-in_err-note_in-clause-recorded g c = λ o done s out w power.
     let E = devices (g.M.Medium.state c.note_in.new.unit) (g.C.Chip.state c.note_in.new.card_a) (g.D.Chip.state c.note_in.new.card_b) in
     let failed : true ≡ is_err c.from_residual-in_err-note_in.result = search rules in
     let w1 = unit-recorded o done s 0 run (record out { breaks = c.args.breaks.now }) (g.M.Medium.state c.args.unit.now) V X Y (g.met.M.Medium.coherent c.args.unit.now) c.note_event.ensures.journal lit.span lit.stands lit.next w false c.in_ok-note_event.ensures.cause in
-    subst (λ (q : Bool). GoesOnOrCut q o done s (In 0) [] c.note_in.new.run (record out { breaks = c.note_in.new.breaks }) E) failed (c.in_err-note_in.ensures.recorded o done s out w1 power)
+    subst (λ (q : Bool). GoesOnOrFails q o done s (In 0) [] c.note_in.new.run (record out { breaks = c.note_in.new.breaks }) E w.within.b) failed (c.in_err-note_in.ensures.recorded o done s out w1.goes power)
 
 pub returns-clause-recorded : goal.returns-clause-recorded
 returns-clause-recorded g c = λ o done s out w power.
@@ -154,9 +158,12 @@ returns-clause-recorded g c = λ o done s out w power.
     let X = g.C.Chip.state c.args.card_a.now in
     let Y = g.D.Chip.state c.args.card_b.now in
     let w1 = unit-recorded o done s 0 run (record out { breaks = c.args.breaks.now }) (g.M.Medium.state c.args.unit.now) V X Y (g.met.M.Medium.coherent c.args.unit.now) c.note_event.ensures.journal lit.span lit.stands lit.next w false c.in_ok-note_event.ensures.cause in
+    let F = devices (g.M.Medium.state c.note_in-2.new.unit) (g.C.Chip.state c.note_in-2.new.card_a) (g.D.Chip.state c.note_in-2.new.card_b) in
     let one = c.in_ok-note_in.ensures.noted in
-    c.note_in-2.ensures.recorded o done s out (c.in_ok-note_in.ensures.recorded o done s out w1 power)
-    (λ first. power-noted o done s run c.note_in.new.run out c.args.breaks.now c.note_in.new.breaks (devices V X Y) w1 (card_in (seat_in run.keeper.cabin.slots.seats Driver)) Driver one.0 one.1 (power first))
+    let first = c.in_ok-note_in.ensures.recorded o done s out w1.goes power in
+    subst (λ (b : Beginning). GoesOnOrFails (is_err c.note_in-2.result) o done s (In 0) [] c.note_in-2.new.run (record out { breaks = c.note_in-2.new.breaks }) F b) (first.began ∙ w1.began)
+    (c.note_in-2.ensures.recorded o done s out first.goes
+    (λ begins. power-noted o done s run c.note_in.new.run out c.args.breaks.now c.note_in.new.breaks (devices V X Y) w1.goes (card_in (seat_in run.keeper.cabin.slots.seats Driver)) Driver one.0 one.1 (power begins)))
 
 -- ---- what is noted on the unit
 

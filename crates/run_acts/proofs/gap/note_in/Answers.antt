@@ -194,6 +194,12 @@ returns-in-B-clause-recorded g c =
     (g.met.M.Medium.coherent c.args.unit.now) (g.met.D.Chip.coherent c.args.card_b.now) (g.met.D.Chip.coherent c.note_on-in-B.new.card) c.requires.held.card_b.size some e.value there refl refl lit.span lit.stands lit.next lit.cabin e.moments e.journal
     (is_err c.note_on-in-B.result) e.cause c.note_on-in-B.new.run c.note_on-in-B.new.breaks n.0 n.1 n.2 n.3
 
+pub returns-in_default-clause-recorded : goal.returns-in_default-clause-recorded
+returns-in_default-clause-recorded g c = λ o done s out w power. record { goes = w; began = refl }
+
+pub returns-in_default-number_in-clause-recorded : goal.returns-in_default-number_in-clause-recorded
+returns-in_default-number_in-clause-recorded g c = λ o done s out w power. record { goes = w; began = refl }
+
 -- ---- what is noted on the unit
 
 pub returns-in-A-clause-events : goal.returns-in-A-clause-events

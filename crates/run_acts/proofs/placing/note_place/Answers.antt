@@ -1,4 +1,4 @@
-use Rattle.std.proofs.Common.{rules, ◌≡◌, ◌∙◌, ℕ, ◌+◌, ◌-◌, ◌/◌, ◌≤◌, Bool, true, false, Option, Some, None, is_some, length, refl, ap, sym, subst, arith}
+use Rattle.std.proofs.Common.{rules, ◌≡◌, ◌∙◌, ℕ, ◌+◌, ◌-◌, ◌/◌, ◌^◌, ◌<◌, ◌≤◌, Bool, true, false, Option, Some, None, is_some, length, refl, ap, sym, subst, arith}
 use Rattle.trace_model.specs.declared.Card.TheVariants.{A, B}
 use Rattle.tach_media.proofs.Runs.{on_ok, ok_gives, cause_after}
 use Rattle.minute_model.specs.Span.{ungiven_of}
@@ -29,8 +29,29 @@ use Rattle.slot_machine.specs.Calls.{logged}
 use Rattle.run_rule.specs.Between.{devices}
 use Rattle.run_outcome.specs.declared.outcome.Outcome.{Outcome}
 use Rattle.run_recorded.specs.Origin.{Origin}
-use Rattle.run_acts.specs.Recording.{RunWithin, GoesOnOrCut, IsNow}
+use Rattle.run_within.specs.Within.{Beginning}
+use Rattle.run_acts.specs.Recording.{RunWithin, RunGoesOn, GoesOnOrFails, IsNow}
 use Rattle.run_acts.proofs.NoteRecorded.{noted-some, place-told, unit-recorded}
+use Rattle.std.proofs.Common.{inl, inr}
+use Rattle.trace_model.specs.declared.Card.{Card}
+use Rattle.gated_ring.specs.Change.{IsAdding}
+use Rattle.message_model.specs.Records.{unit_place_ring, unit_place_bytes}
+use Rattle.run_acts.specs.Acting.{IsNotedOn}
+use Rattle.run_acts.specs.NotedEvents.{NotesEvents}
+use Rattle.run_acts.specs.Noting.{NotesFall, NotesPlace, fall_events}
+use Rattle.run_acts.proofs.NotedEvents.{same-noted, noted-any, then-noted}
+use Rattle.run_acts.proofs.ActsNoted.{says-of, quiet-any, adding-nothing, no-place}
+use Rattle.log_model.specs.Slots.{other_slot}
+use Rattle.run_course.specs.Followed.{Progress}
+use Rattle.run_moments.specs.Telling.{IsLeft}
+use Rattle.run_evented.specs.Noting.{Acting}
+use Rattle.run_evented.specs.Bringing.{NotFound}
+use Rattle.run_evented.specs.SoFar.{EventedNow, MayFollow}
+use Rattle.run_acts.specs.Recording.{log_of, values_of}
+use Rattle.run_acts.proofs.ActsNoted.{same-fell}
+use Rattle.run_acts.specs.Evented.{EventsGoOn}
+use Rattle.run_acts.proofs.NoteRecorded.{unit-evented, some-evented}
+use Rattle.run_acts.proofs.FallEvented.{left-over, none-yet}
 use Rattle.run_acts.proofs.placing.note_place.Goals as goal
 
 pub note_place_in-requires-clause-ready : goal.note_place_in-requires-clause-ready
@@ -188,9 +209,9 @@ returns-in-B-clause-more g c =
 -- ---- what is recorded
 
 place-first : (o : Origin) (done : List TraceSecond) (s : TraceSecond) (slot : Slot) (ending : Bool) (country region begun speed : ℕ) (run : Run) (before : Outcome) (breaks : Listed Break) (d : Devices) → before.breaks ≡ breaks → IsNow s speed run → (front rest : List Action) → s.actions ≡ front ++ Place slot ending country region ∷ rest →
-    begun ≡ suc (length front) → refusal (logged run.keeper.cabin.slots.seats) speed (Place slot ending country region) ≡ None → RunWithin o done s (In (length front)) [] [] run before d → RunWithin o done s (In begun) [] [] run (record before { breaks = breaks }) d
+    begun ≡ suc (length front) → refusal (logged run.keeper.cabin.slots.seats) speed (Place slot ending country region) ≡ None → (w : RunWithin o done s (In (length front)) [] [] run before d) → RunGoesOn o done s (In begun) [] run (record before { breaks = breaks }) d w.within.b
 place-first o done s slot ending country region begun speed run before breaks d is now front rest are n allowed w =
-    subst (λ (l : Listed Break). RunWithin o done s (In begun) [] [] run (record before { breaks = l }) d) is (place-told o done s slot ending country region begun speed run before d now front rest are n allowed w)
+    subst (λ (l : Listed Break). RunGoesOn o done s (In begun) [] run (record before { breaks = l }) d w.within.b) is (place-told o done s slot ending country region begun speed run before d now front rest are n allowed w)
 
 pub returns-in_default-clause-recorded : goal.returns-in_default-clause-recorded
 returns-in_default-clause-recorded g c = λ late ending country region speed before is o done s now front rest are n allowed w time.
@@ -210,8 +231,8 @@ returns-in_err-note_place-clause-recorded g c = λ late ending country region sp
     let B0 = g.D.Chip.state c.args.card_b.now in
     let failed : true ≡ is_err c.from_residual.result = search rules in
     let w1 = place-first o done s c.args.slot ending country region c.args.at.begun speed run before c.args.breaks.now (devices U A0 B0) is now front rest are n allowed w in
-    subst (λ (q : Bool). GoesOnOrCut q o done s (In c.args.at.begun) [] run (record before { breaks = c.args.breaks.now }) (devices V A0 B0)) failed
-    (unit-recorded o done s c.args.at.begun run (record before { breaks = c.args.breaks.now }) U V A0 B0 (g.met.M.Medium.coherent c.args.unit.now) c.note_place.ensures.journal lit.span lit.stands lit.next w1 true c.in_err-note_place.ensures.cause)
+    subst (λ (q : Bool). GoesOnOrFails q o done s (In c.args.at.begun) [] run (record before { breaks = c.args.breaks.now }) (devices V A0 B0) w.within.b) failed
+    (unit-recorded o done s c.args.at.begun run (record before { breaks = c.args.breaks.now }) U V A0 B0 (g.met.M.Medium.coherent c.args.unit.now) c.note_place.ensures.journal lit.span lit.stands lit.next w1.goes true c.in_err-note_place.ensures.cause)
 
 pub returns-in-A-clause-recorded : goal.returns-in-A-clause-recorded
 returns-in-A-clause-recorded g c = λ late ending country region speed before is o done s now front rest are n allowed w time.
@@ -227,10 +248,11 @@ returns-in-A-clause-recorded g c = λ late ending country region speed before is
     let told : number_of_seat run.keeper.cabin.cards (seat_in run.keeper.cabin.slots.seats c.args.slot) ≡ Some c.in-Some-number_in.number = cc in
     let some = numbered-session run.keeper.cabin.cards (seat_in run.keeper.cabin.slots.seats c.args.slot) A c.in-Some-number_in.number there told in
     let w1 = place-first o done s c.args.slot ending country region c.args.at.begun speed run before c.args.breaks.now (devices U A0 B0) is now front rest are n allowed w in
-    let w2 = unit-recorded o done s c.args.at.begun run (record before { breaks = c.args.breaks.now }) U V A0 B0 (g.met.M.Medium.coherent c.args.unit.now) c.note_place.ensures.journal lit.span lit.stands lit.next w1 false c.in_ok-note_place.ensures.cause in
-    noted-some A c.args.slot c.args.at run c.args.breaks.now V (g.M.Medium.state c.note_place_in.new.unit) (g.C.Chip.state c.args.card_a.now) (g.C.Chip.state c.note_place_in.new.card) (g.D.Chip.state c.args.card_b.now)
+    let w2 = unit-recorded o done s c.args.at.begun run (record before { breaks = c.args.breaks.now }) U V A0 B0 (g.met.M.Medium.coherent c.args.unit.now) c.note_place.ensures.journal lit.span lit.stands lit.next w1.goes false c.in_ok-note_place.ensures.cause in
+    subst (λ (b : Beginning). GoesOnOrFails (is_err c.note_place_in.result) o done s (In c.args.at.begun) [] c.note_place_in.new.run (record before { breaks = c.note_place_in.new.breaks }) (devices (g.M.Medium.state c.note_place_in.new.unit) (g.C.Chip.state c.note_place_in.new.card) B0) b) (w2.began ∙ w1.began)
+    (noted-some A c.args.slot c.args.at run c.args.breaks.now V (g.M.Medium.state c.note_place_in.new.unit) (g.C.Chip.state c.args.card_a.now) (g.C.Chip.state c.note_place_in.new.card) (g.D.Chip.state c.args.card_b.now)
     (g.met.M.Medium.coherent c.note_place.new.unit) (g.met.C.Chip.coherent c.args.card_a.now) (g.met.C.Chip.coherent c.note_place_in.new.card) c.requires.held.card_a.size some e.value there c.requires.at late lit.span lit.stands lit.next lit.cabin e.moments e.journal
-    (is_err c.note_place_in.result) e.cause c.note_place_in.new.run c.note_place_in.new.breaks k.0 k.1 k.2 k.3 o done s before w2 (λ first. absurd (let none : c.args.at.begun ≡ 0 = cc in omega (arith, none, n)))
+    (is_err c.note_place_in.result) e.cause c.note_place_in.new.run c.note_place_in.new.breaks k.0 k.1 k.2 k.3 o done s before w2.goes (λ first. absurd (let none : c.args.at.begun ≡ 0 = cc in omega (arith, none, n))))
 
 pub returns-in-B-clause-recorded : goal.returns-in-B-clause-recorded
 returns-in-B-clause-recorded g c = λ late ending country region speed before is o done s now front rest are n allowed w time.
@@ -246,13 +268,193 @@ returns-in-B-clause-recorded g c = λ late ending country region speed before is
     let told : number_of_seat run.keeper.cabin.cards (seat_in run.keeper.cabin.slots.seats c.args.slot) ≡ Some c.in-Some-number_in.number = cc in
     let some = numbered-session run.keeper.cabin.cards (seat_in run.keeper.cabin.slots.seats c.args.slot) B c.in-Some-number_in.number there told in
     let w1 = place-first o done s c.args.slot ending country region c.args.at.begun speed run before c.args.breaks.now (devices U A0 B0) is now front rest are n allowed w in
-    let w2 = unit-recorded o done s c.args.at.begun run (record before { breaks = c.args.breaks.now }) U V A0 B0 (g.met.M.Medium.coherent c.args.unit.now) c.note_place.ensures.journal lit.span lit.stands lit.next w1 false c.in_ok-note_place.ensures.cause in
-    noted-some B c.args.slot c.args.at run c.args.breaks.now V (g.M.Medium.state c.note_place_in-in-B.new.unit) (g.D.Chip.state c.args.card_b.now) (g.D.Chip.state c.note_place_in-in-B.new.card) (g.C.Chip.state c.args.card_a.now)
+    let w2 = unit-recorded o done s c.args.at.begun run (record before { breaks = c.args.breaks.now }) U V A0 B0 (g.met.M.Medium.coherent c.args.unit.now) c.note_place.ensures.journal lit.span lit.stands lit.next w1.goes false c.in_ok-note_place.ensures.cause in
+    subst (λ (b : Beginning). GoesOnOrFails (is_err c.note_place_in-in-B.result) o done s (In c.args.at.begun) [] c.note_place_in-in-B.new.run (record before { breaks = c.note_place_in-in-B.new.breaks }) (devices (g.M.Medium.state c.note_place_in-in-B.new.unit) A0 (g.D.Chip.state c.note_place_in-in-B.new.card)) b) (w2.began ∙ w1.began)
+    (noted-some B c.args.slot c.args.at run c.args.breaks.now V (g.M.Medium.state c.note_place_in-in-B.new.unit) (g.D.Chip.state c.args.card_b.now) (g.D.Chip.state c.note_place_in-in-B.new.card) (g.C.Chip.state c.args.card_a.now)
     (g.met.M.Medium.coherent c.note_place.new.unit) (g.met.D.Chip.coherent c.args.card_b.now) (g.met.D.Chip.coherent c.note_place_in-in-B.new.card) c.requires.held.card_b.size some e.value there c.requires.at late lit.span lit.stands lit.next lit.cabin e.moments e.journal
-    (is_err c.note_place_in-in-B.result) e.cause c.note_place_in-in-B.new.run c.note_place_in-in-B.new.breaks k.0 k.1 k.2 k.3 o done s before w2 (λ first. absurd (let none : c.args.at.begun ≡ 0 = cc in omega (arith, none, n)))
+    (is_err c.note_place_in-in-B.result) e.cause c.note_place_in-in-B.new.run c.note_place_in-in-B.new.breaks k.0 k.1 k.2 k.3 o done s before w2.goes (λ first. absurd (let none : c.args.at.begun ≡ 0 = cc in omega (arith, none, n))))
 
 pub returns-in-A-clause-clock_a : goal.returns-in-A-clause-clock_a
 returns-in-A-clause-clock_a g c = c.note_place_in.ensures.clock_card
 
 pub returns-in-B-clause-clock_b : goal.returns-in-B-clause-clock_b
 returns-in-B-clause-clock_b g c = c.note_place_in-in-B.ensures.clock_card
+
+-- ---- what is noted on the unit
+
+pub returns-in_default-clause-events : goal.returns-in_default-clause-events
+returns-in_default-clause-events g c =
+    let run = c.args.run.now in
+    let U = g.M.Medium.state c.args.unit.now in
+    let A0 = g.C.Chip.state c.args.card_a.now in
+    let B0 = g.D.Chip.state c.args.card_b.now in
+    no-place (card_in (seat_in run.keeper.cabin.slots.seats c.args.slot)) c.args.slot c.args.at run c.args.breaks.now (devices U A0 B0) (same-noted U A0 B0)
+
+pub returns-in_default-number_in-clause-events : goal.returns-in_default-number_in-clause-events
+returns-in_default-number_in-clause-events g c =
+    let run = c.args.run.now in
+    let U = g.M.Medium.state c.args.unit.now in
+    let A0 = g.C.Chip.state c.args.card_a.now in
+    let B0 = g.D.Chip.state c.args.card_b.now in
+    no-place (card_in (seat_in run.keeper.cabin.slots.seats c.args.slot)) c.args.slot c.args.at run c.args.breaks.now (devices U A0 B0) (same-noted U A0 B0)
+
+pub returns-in_err-note_place-clause-events : goal.returns-in_err-note_place-clause-events
+returns-in_err-note_place-clause-events g c =
+    let run = c.args.run.now in
+    let U = g.M.Medium.state c.args.unit.now in
+    let V = g.M.Medium.state c.note_place.new.unit in
+    let A0 = g.C.Chip.state c.args.card_a.now in
+    let B0 = g.D.Chip.state c.args.card_b.now in
+    let there : card_in (seat_in run.keeper.cabin.slots.seats c.args.slot) ≡ Some c.in-Some.card = cc in
+    let failed : true ≡ is_err c.from_residual.result = search rules in
+    let ring = says-of U V (g.met.M.Medium.coherent c.args.unit.now) (IsAdding unit_place_ring (unit_place_bytes c.in-Some-number_in.number c.args.entry.now)) (adding-nothing (unit_place_bytes c.in-Some-number_in.number c.args.entry.now)) c.in_err-note_place.ensures.moments in
+    subst (λ (b : Bool). NotesPlace (card_in (seat_in run.keeper.cabin.slots.seats c.args.slot)) c.args.slot c.args.at b run run c.args.breaks.now c.args.breaks.now (devices U A0 B0) (devices V A0 B0)) failed
+    (subst (λ (q : Option Card). NotesPlace q c.args.slot c.args.at true run run c.args.breaks.now c.args.breaks.now (devices U A0 B0) (devices V A0 B0)) (sym there) (inl (refl, refl, refl, quiet-any U V A0 B0 A0 B0 true ring)))
+
+pub returns-in-A-clause-events : goal.returns-in-A-clause-events
+returns-in-A-clause-events g c =
+    let run = c.args.run.now in
+    let U = g.M.Medium.state c.args.unit.now in
+    let V = g.M.Medium.state c.note_place.new.unit in
+    let W = g.M.Medium.state c.note_place_in.new.unit in
+    let A0 = g.C.Chip.state c.args.card_a.now in
+    let B0 = g.D.Chip.state c.args.card_b.now in
+    let Y = g.C.Chip.state c.note_place_in.new.card in
+    let n = c.note_place_in.ensures.events in
+    let failed = is_err c.note_place_in.result in
+    let there : card_in (seat_in run.keeper.cabin.slots.seats c.args.slot) ≡ Some A = cc in
+    let ring = says-of U V (g.met.M.Medium.coherent c.args.unit.now) (IsAdding unit_place_ring (unit_place_bytes c.in-Some-number_in.number c.args.entry.now)) (adding-nothing (unit_place_bytes c.in-Some-number_in.number c.args.entry.now)) c.in_ok-note_place.ensures.moments in
+    let falls = fall_events n.fell c.args.at.second c.note_place_in.new.run in
+    let later : NotesEvents falls failed (devices V A0 B0) (devices W Y B0) = noted-any falls failed (devices V A0 A0) (devices W Y Y) (devices V A0 B0) (devices W Y B0) refl refl n.notes in
+    subst (λ (q : Option Card). NotesPlace q c.args.slot c.args.at failed run c.note_place_in.new.run c.args.breaks.now c.note_place_in.new.breaks (devices U A0 B0) (devices W Y B0)) (sym there)
+    (inr (record { fell = n.fell; noted = n.noted; failing = n.failing; notes = then-noted [] falls failed (devices U A0 B0) (devices V A0 B0) (devices W Y B0) (quiet-any U V A0 B0 A0 B0 false ring) later }))
+
+pub returns-in-B-clause-events : goal.returns-in-B-clause-events
+returns-in-B-clause-events g c =
+    let run = c.args.run.now in
+    let U = g.M.Medium.state c.args.unit.now in
+    let V = g.M.Medium.state c.note_place.new.unit in
+    let W = g.M.Medium.state c.note_place_in-in-B.new.unit in
+    let A0 = g.C.Chip.state c.args.card_a.now in
+    let B0 = g.D.Chip.state c.args.card_b.now in
+    let Y = g.D.Chip.state c.note_place_in-in-B.new.card in
+    let n = c.note_place_in-in-B.ensures.events in
+    let failed = is_err c.note_place_in-in-B.result in
+    let there : card_in (seat_in run.keeper.cabin.slots.seats c.args.slot) ≡ Some B = cc in
+    let ring = says-of U V (g.met.M.Medium.coherent c.args.unit.now) (IsAdding unit_place_ring (unit_place_bytes c.in-Some-number_in.number c.args.entry.now)) (adding-nothing (unit_place_bytes c.in-Some-number_in.number c.args.entry.now)) c.in_ok-note_place.ensures.moments in
+    let falls = fall_events n.fell c.args.at.second c.note_place_in-in-B.new.run in
+    let later : NotesEvents falls failed (devices V A0 B0) (devices W A0 Y) = noted-any falls failed (devices V B0 B0) (devices W Y Y) (devices V A0 B0) (devices W A0 Y) refl refl n.notes in
+    subst (λ (q : Option Card). NotesPlace q c.args.slot c.args.at failed run c.note_place_in-in-B.new.run c.args.breaks.now c.note_place_in-in-B.new.breaks (devices U A0 B0) (devices W A0 Y)) (sym there)
+    (inr (record { fell = n.fell; noted = n.noted; failing = n.failing; notes = then-noted [] falls failed (devices U A0 B0) (devices V A0 B0) (devices W A0 Y) (quiet-any U V A0 B0 A0 B0 false ring) later }))
+
+-- ---- how its events go on
+
+pub returns-in_default-clause-evented : goal.returns-in_default-clause-evented
+returns-in_default-clause-evented g c = λ late ending country region speed before is o done s now front rest are n allowed w events time.
+    let d : Devices = devices (g.M.Medium.state c.args.unit.now) (g.C.Chip.state c.args.card_a.now) (g.D.Chip.state c.args.card_b.now) in
+    subst (λ (l : Listed Break). EventedNow o done s w.within.b.run Acting (log_of (record before { breaks = l })) d) is events
+
+pub returns-in_default-number_in-clause-evented : goal.returns-in_default-number_in-clause-evented
+returns-in_default-number_in-clause-evented g c = λ late ending country region speed before is o done s now front rest are n allowed w events time.
+    let d : Devices = devices (g.M.Medium.state c.args.unit.now) (g.C.Chip.state c.args.card_a.now) (g.D.Chip.state c.args.card_b.now) in
+    subst (λ (l : Listed Break). EventedNow o done s w.within.b.run Acting (log_of (record before { breaks = l })) d) is events
+
+pub returns-in_err-note_place-clause-evented : goal.returns-in_err-note_place-clause-evented
+returns-in_err-note_place-clause-evented g c = λ late ending country region speed before is o done s now front rest are n allowed w events time.
+    let run = c.args.run.now in
+    let lit = c.requires.going in
+    let U = g.M.Medium.state c.args.unit.now in
+    let V = g.M.Medium.state c.note_place.new.unit in
+    let A0 = g.C.Chip.state c.args.card_a.now in
+    let B0 = g.D.Chip.state c.args.card_b.now in
+    let begun : ℕ = c.args.at.begun in
+    let out : Outcome = record before { breaks = c.args.breaks.now } in
+    let failed : true ≡ is_err c.from_residual.result = search rules in
+    let left = left-over front rest (Place c.args.slot ending country region) s begun n are in
+    let ring = says-of U V (g.met.M.Medium.coherent c.args.unit.now) (IsAdding unit_place_ring (unit_place_bytes c.in-Some-number_in.number c.args.entry.now)) (adding-nothing (unit_place_bytes c.in-Some-number_in.number c.args.entry.now)) c.in_err-note_place.ensures.moments in
+    let w1 = place-first o done s c.args.slot ending country region begun speed run before c.args.breaks.now (devices U A0 B0) is now front rest are n allowed w in
+    let first : EventedNow o done s w1.goes.within.b.run Acting (log_of out) (devices U A0 B0) = subst (λ (b : Beginning). EventedNow o done s b.run Acting (log_of out) (devices U A0 B0)) (sym w1.began)
+    (subst (λ (l : Listed Break). EventedNow o done s w.within.b.run Acting (log_of (record before { breaks = l })) (devices U A0 B0)) is events) in
+    subst (λ (q : Bool). EventsGoOn q o done s w.within.b.run (In begun) Acting (log_of out) (devices V A0 B0)) failed
+    (subst (λ (b : Beginning). EventsGoOn true o done s b.run (In begun) Acting (log_of out) (devices V A0 B0)) w1.began
+    (unit-evented o done s begun run out U V A0 B0 (g.met.M.Medium.coherent c.args.unit.now) c.note_place.ensures.journal lit.span lit.stands lit.next w1.goes rest left true c.in_err-note_place.ensures.cause (quiet-any U V A0 B0 A0 B0 true ring) first))
+
+pub returns-in-A-clause-evented : goal.returns-in-A-clause-evented
+returns-in-A-clause-evented g c = λ late ending country region speed before is o done s now front rest are n allowed w events time.
+    let run = c.args.run.now in
+    let e = c.note_place_in.ensures in
+    let k = e.noted in
+    let f = e.events in
+    let lit = c.requires.going in
+    let U = g.M.Medium.state c.args.unit.now in
+    let V = g.M.Medium.state c.note_place.new.unit in
+    let W = g.M.Medium.state c.note_place_in.new.unit in
+    let A0 = g.C.Chip.state c.args.card_a.now in
+    let B0 = g.D.Chip.state c.args.card_b.now in
+    let Y = g.C.Chip.state c.note_place_in.new.card in
+    let begun : ℕ = c.args.at.begun in
+    let out : Outcome = record before { breaks = c.args.breaks.now } in
+    let failed = is_err c.note_place_in.result in
+    let there : card_in (seat_in run.keeper.cabin.slots.seats c.args.slot) ≡ Some A = cc in
+    let told : number_of_seat run.keeper.cabin.cards (seat_in run.keeper.cabin.slots.seats c.args.slot) ≡ Some c.in-Some-number_in.number = cc in
+    let some = numbered-session run.keeper.cabin.cards (seat_in run.keeper.cabin.slots.seats c.args.slot) A c.in-Some-number_in.number there told in
+    let small : s.number < 2 ^ 32 = let low = c.requires.small in let same = now.number in omega (arith, low, same) in
+    let a : Action = Place c.args.slot ending country region in
+    let left = left-over front rest a s begun n are in
+    let ring = says-of U V (g.met.M.Medium.coherent c.args.unit.now) (IsAdding unit_place_ring (unit_place_bytes c.in-Some-number_in.number c.args.entry.now)) (adding-nothing (unit_place_bytes c.in-Some-number_in.number c.args.entry.now)) c.in_ok-note_place.ensures.moments in
+    let yet = subst (λ (l : Listed Break). NotFound (In begun) (other_slot c.args.slot) (log_of (record before { breaks = l })) s.number) is (none-yet o done s (length front) begun (values_of run before) (devices U A0 B0) w.within n (other_slot c.args.slot)).0 in
+    let follows = subst (λ (l : Listed Break). MayFollow (In begun) c.args.slot (log_of (record before { breaks = l })) s) is (none-yet o done s (length front) begun (values_of run before) (devices U A0 B0) w.within n c.args.slot).1 in
+    let w1 = place-first o done s c.args.slot ending country region begun speed run before c.args.breaks.now (devices U A0 B0) is now front rest are n allowed w in
+    let w2 = unit-recorded o done s begun run out U V A0 B0 (g.met.M.Medium.coherent c.args.unit.now) c.note_place.ensures.journal lit.span lit.stands lit.next w1.goes false c.in_ok-note_place.ensures.cause in
+    let first : EventedNow o done s w1.goes.within.b.run Acting (log_of out) (devices U A0 B0) = subst (λ (b : Beginning). EventedNow o done s b.run Acting (log_of out) (devices U A0 B0)) (sym w1.began)
+    (subst (λ (l : Listed Break). EventedNow o done s w.within.b.run Acting (log_of (record before { breaks = l })) (devices U A0 B0)) is events) in
+    let second : EventedNow o done s w2.goes.within.b.run Acting (log_of out) (devices V A0 B0) = subst (λ (b : Beginning). EventedNow o done s b.run Acting (log_of out) (devices V A0 B0)) (sym w2.began)
+    (unit-evented o done s begun run out U V A0 B0 (g.met.M.Medium.coherent c.args.unit.now) c.note_place.ensures.journal lit.span lit.stands lit.next w1.goes rest left false c.in_ok-note_place.ensures.cause (quiet-any U V A0 B0 A0 B0 false ring) first) in
+    let falls = fall_events k.0 c.args.at.second c.note_place_in.new.run in
+    let fell : f.fell ≡ k.0 = same-fell A c.args.slot c.args.at run c.note_place_in.new.run c.args.breaks.now c.note_place_in.new.breaks f.fell k.0 f.noted k.1 in
+    let notes : NotesEvents falls failed (devices V A0 B0) (devices W Y B0) = subst (λ (b : Bool). NotesEvents (fall_events b c.args.at.second c.note_place_in.new.run) failed (devices V A0 B0) (devices W Y B0)) fell
+    (noted-any (fall_events f.fell c.args.at.second c.note_place_in.new.run) failed (devices V A0 A0) (devices W Y Y) (devices V A0 B0) (devices W Y B0) refl refl f.notes) in
+    subst (λ (b : Beginning). EventsGoOn failed o done s b.run (In begun) Acting (log_of (record before { breaks = c.note_place_in.new.breaks })) (devices W Y B0)) (w2.began ∙ w1.began)
+    (some-evented A c.args.slot c.args.at run c.args.breaks.now V W A0 Y B0
+    (g.met.M.Medium.coherent c.note_place.new.unit) (g.met.C.Chip.coherent c.args.card_a.now) (g.met.C.Chip.coherent c.note_place_in.new.card) c.requires.held.card_a.size some e.value there c.requires.at late lit.span lit.stands lit.next lit.cabin e.moments e.journal
+    failed e.cause o done s before w2.goes (λ first. absurd (let zero_ : begun ≡ 0 = cc in omega (arith, zero_, n))) small yet follows rest left k.0 c.note_place_in.new.run c.note_place_in.new.breaks k.1 k.2 k.3 notes second)
+
+pub returns-in-B-clause-evented : goal.returns-in-B-clause-evented
+returns-in-B-clause-evented g c = λ late ending country region speed before is o done s now front rest are n allowed w events time.
+    let run = c.args.run.now in
+    let e = c.note_place_in-in-B.ensures in
+    let k = e.noted in
+    let f = e.events in
+    let lit = c.requires.going in
+    let U = g.M.Medium.state c.args.unit.now in
+    let V = g.M.Medium.state c.note_place.new.unit in
+    let W = g.M.Medium.state c.note_place_in-in-B.new.unit in
+    let A0 = g.C.Chip.state c.args.card_a.now in
+    let B0 = g.D.Chip.state c.args.card_b.now in
+    let Y = g.D.Chip.state c.note_place_in-in-B.new.card in
+    let begun : ℕ = c.args.at.begun in
+    let out : Outcome = record before { breaks = c.args.breaks.now } in
+    let failed = is_err c.note_place_in-in-B.result in
+    let there : card_in (seat_in run.keeper.cabin.slots.seats c.args.slot) ≡ Some B = cc in
+    let told : number_of_seat run.keeper.cabin.cards (seat_in run.keeper.cabin.slots.seats c.args.slot) ≡ Some c.in-Some-number_in.number = cc in
+    let some = numbered-session run.keeper.cabin.cards (seat_in run.keeper.cabin.slots.seats c.args.slot) B c.in-Some-number_in.number there told in
+    let small : s.number < 2 ^ 32 = let low = c.requires.small in let same = now.number in omega (arith, low, same) in
+    let a : Action = Place c.args.slot ending country region in
+    let left = left-over front rest a s begun n are in
+    let ring = says-of U V (g.met.M.Medium.coherent c.args.unit.now) (IsAdding unit_place_ring (unit_place_bytes c.in-Some-number_in.number c.args.entry.now)) (adding-nothing (unit_place_bytes c.in-Some-number_in.number c.args.entry.now)) c.in_ok-note_place.ensures.moments in
+    let yet = subst (λ (l : Listed Break). NotFound (In begun) (other_slot c.args.slot) (log_of (record before { breaks = l })) s.number) is (none-yet o done s (length front) begun (values_of run before) (devices U A0 B0) w.within n (other_slot c.args.slot)).0 in
+    let follows = subst (λ (l : Listed Break). MayFollow (In begun) c.args.slot (log_of (record before { breaks = l })) s) is (none-yet o done s (length front) begun (values_of run before) (devices U A0 B0) w.within n c.args.slot).1 in
+    let w1 = place-first o done s c.args.slot ending country region begun speed run before c.args.breaks.now (devices U A0 B0) is now front rest are n allowed w in
+    let w2 = unit-recorded o done s begun run out U V A0 B0 (g.met.M.Medium.coherent c.args.unit.now) c.note_place.ensures.journal lit.span lit.stands lit.next w1.goes false c.in_ok-note_place.ensures.cause in
+    let first : EventedNow o done s w1.goes.within.b.run Acting (log_of out) (devices U A0 B0) = subst (λ (b : Beginning). EventedNow o done s b.run Acting (log_of out) (devices U A0 B0)) (sym w1.began)
+    (subst (λ (l : Listed Break). EventedNow o done s w.within.b.run Acting (log_of (record before { breaks = l })) (devices U A0 B0)) is events) in
+    let second : EventedNow o done s w2.goes.within.b.run Acting (log_of out) (devices V A0 B0) = subst (λ (b : Beginning). EventedNow o done s b.run Acting (log_of out) (devices V A0 B0)) (sym w2.began)
+    (unit-evented o done s begun run out U V A0 B0 (g.met.M.Medium.coherent c.args.unit.now) c.note_place.ensures.journal lit.span lit.stands lit.next w1.goes rest left false c.in_ok-note_place.ensures.cause (quiet-any U V A0 B0 A0 B0 false ring) first) in
+    let falls = fall_events k.0 c.args.at.second c.note_place_in-in-B.new.run in
+    let fell : f.fell ≡ k.0 = same-fell B c.args.slot c.args.at run c.note_place_in-in-B.new.run c.args.breaks.now c.note_place_in-in-B.new.breaks f.fell k.0 f.noted k.1 in
+    let notes : NotesEvents falls failed (devices V A0 B0) (devices W A0 Y) = subst (λ (b : Bool). NotesEvents (fall_events b c.args.at.second c.note_place_in-in-B.new.run) failed (devices V A0 B0) (devices W A0 Y)) fell
+    (noted-any (fall_events f.fell c.args.at.second c.note_place_in-in-B.new.run) failed (devices V B0 B0) (devices W Y Y) (devices V A0 B0) (devices W A0 Y) refl refl f.notes) in
+    subst (λ (b : Beginning). EventsGoOn failed o done s b.run (In begun) Acting (log_of (record before { breaks = c.note_place_in-in-B.new.breaks })) (devices W A0 Y)) (w2.began ∙ w1.began)
+    (some-evented B c.args.slot c.args.at run c.args.breaks.now V W B0 Y A0
+    (g.met.M.Medium.coherent c.note_place.new.unit) (g.met.D.Chip.coherent c.args.card_b.now) (g.met.D.Chip.coherent c.note_place_in-in-B.new.card) c.requires.held.card_b.size some e.value there c.requires.at late lit.span lit.stands lit.next lit.cabin e.moments e.journal
+    failed e.cause o done s before w2.goes (λ first. absurd (let zero_ : begun ≡ 0 = cc in omega (arith, zero_, n))) small yet follows rest left k.0 c.note_place_in-in-B.new.run c.note_place_in-in-B.new.breaks k.1 k.2 k.3 notes second)

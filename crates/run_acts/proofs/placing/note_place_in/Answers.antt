@@ -15,6 +15,12 @@ use Rattle.run_keeping.proofs.Sessions.{number-set, torn-stands}
 use Rattle.run_keeping.proofs.CardBooked.{no-session, none-there}
 use Rattle.run_keeping.proofs.Fates.{no-lines}
 use Rattle.run_acts.proofs.Apart.{not-both, session-back, torn-apart, noted-sizes, ready-again, session-works, fell-broken, well-broken}
+use Rattle.event_model.specs.declared.kinds.TheConstants.{CARD_FAULT}
+use Rattle.tach_media.proofs.Runs.{ok_gives}
+use Rattle.run_notes.specs.Entries.{entry_of}
+use Rattle.run_crew.specs.Cabin.{crew_of}
+use Rattle.run_rule.specs.Between.{devices}
+use Rattle.run_acts.proofs.NotedEvents.{one-noted, same-noted, noted-any}
 use Rattle.run_acts.proofs.placing.note_place_in.Goals as goal
 
 pub note_place_on-requires-clause-port : goal.note_place_on-requires-clause-port
@@ -124,3 +130,43 @@ returns-clause-card g c =
     let cards = c.set_session.ensures ∙ ap (λ (q : Cards). with_session c.args.which (Some c.in-Some.accepted) q) c.take.ensures.left ∙ session-back c.args.which c.in-Some.accepted run.keeper.cabin.cards (sym c.in-Some.ensures.taken) in
     subst (λ (q : Cards). CardReady (known_of q c.args.which) next Y) (sym cards)
     (ready-again (known_of run.keeper.cabin.cards c.args.which) c.in-Ok.app (g.C.Chip.card c.args.card.now) next X Y c.requires.card is c.note_place_on.ensures.port cause.works)
+
+-- ---- what is noted on the unit
+
+pub returns-then-is_err-clause-events : goal.returns-then-is_err-clause-events
+returns-then-is_err-clause-events g c =
+    let run = c.args.run.now in
+    let U = g.M.Medium.state c.args.unit.now in
+    let V = g.M.Medium.state c.tear.new.unit in
+    let X = g.C.Chip.state c.args.card.now in
+    let Y = g.C.Chip.state c.note_place_on.new.card in
+    let crew = crew_of c.tear.new.self.cabin in
+    let keeper =
+    c.tear.ensures.keeper ∙ ap (λ (b : Cabin). record run.keeper { cabin = b }) (torn-apart c.args.which c.args.at.second run.keeper.cabin c.take.new.self c.take.ensures.left) in
+    record {
+      fell = true;
+      noted = record {
+        run = ap (λ (k : Keeper). record run { keeper = k }) keeper;
+        told = c.tear.ensures.told;
+      };
+      failing = λ _. refl;
+      notes = one-noted U V X X Y Y (g.met.M.Medium.coherent c.args.unit.now) (g.met.M.Medium.coherent c.tear.new.unit) c.requires.ready.is_unit (entry_of CARD_FAULT c.args.at.second c.args.at.second crew crew) (is_err c.tear.result)
+          (λ well. ok_gives c.tear.result c.tear.ensures.noted well) c.tear.ensures.moments c.tear.ensures.cause.works;
+    }
+
+pub returns-clause-events : goal.returns-clause-events
+returns-clause-events g c =
+    let run = c.args.run.now in
+    let X = g.C.Chip.state c.args.card.now in
+    let Y = g.C.Chip.state c.note_place_on.new.card in
+    let U = g.M.Medium.state c.args.unit.now in
+    let cards = c.set_session.ensures ∙ ap (λ (q : Cards). with_session c.args.which (Some c.in-Some.accepted) q) c.take.ensures.left ∙ session-back c.args.which c.in-Some.accepted run.keeper.cabin.cards (sym c.in-Some.ensures.taken) in
+    record {
+      fell = false;
+      noted = record {
+        run = ap (λ (q : Cards). record run { keeper = record run.keeper { cabin = record run.keeper.cabin { cards = q } } }) cards;
+        told = no-lines c.args.breaks.now;
+      };
+      failing = λ bad. bad;
+      notes = noted-any [] false (devices U X X) (devices U X X) (devices U X X) (devices U Y Y) refl refl (same-noted U X X);
+    }

@@ -22,6 +22,17 @@ use Rattle.run_acts.specs.declared.run.Run.{Run}
 use Rattle.run_acts.proofs.Noted.{noted-ready, noted-row}
 use Rattle.run_acts.specs.Acting.{Fell, IsClosingOf}
 use Rattle.run_acts.proofs.Cabins.{session-known, twice-ready}
+use Rattle.std.specs.Prelude.{List, []}
+use Rattle.event_model.specs.declared.kinds.TheConstants.{CARD_FAULT}
+use Rattle.tach_media.proofs.Runs.{ok_gives}
+use Rattle.run_notes.specs.Entries.{entry_of}
+use Rattle.run_crew.specs.Cabin.{crew_of}
+use Rattle.run_rule.specs.Between.{devices}
+use Rattle.run_keeping.proofs.CardBooked.{none-there}
+use Rattle.run_keeping.proofs.Fates.{no-lines}
+use Rattle.run_acts.specs.Acting.{Bare, Closed}
+use Rattle.run_acts.proofs.NotedEvents.{one-noted, same-noted}
+use Rattle.run_acts.proofs.ActsNoted.{quiet-any}
 use Rattle.run_acts.proofs.withdrawing.close.Goals as goal
 
 pub returns-in-Ok-leave-clause-ready : goal.returns-in-Ok-leave-clause-ready
@@ -83,3 +94,76 @@ pub returns-in-Err-clause-left : goal.returns-in-Err-clause-left
 returns-in-Err-clause-left g c =
     subst (λ (o : Option Accepted). IfSome o (λ s. (act : Activity) × LeavesOnly (g.C.Chip.state c.args.card.now) (g.C.Chip.state c.leave.new.card) (λ x n. IsSession s.session x → IsCardClosing s.session act x n))) c.in-Some.ensures.session
     (activity_of c.selected-selected.result, c.leave.ensures.moments)
+
+-- ---- what is noted on the unit
+
+pub returns-in_default-clause-events : goal.returns-in_default-clause-events
+returns-in_default-clause-events g c =
+    let run = c.args.run.now in
+    let U = g.M.Medium.state c.args.unit.now in
+    let X = g.C.Chip.state c.args.card.now in
+    let none : session_of run.keeper.cabin.cards c.args.which ≡ None = sym c.close.ensures.session ∙ none-there c.close.result c.in_default.not-Some in
+    record {
+      closing = Bare;
+      closed = record {
+        is = subst (λ (o : Option Accepted). IsClosingOf o Bare) (sym none) tt;
+        run = ap (λ (b : Cabin). record run { keeper = record run.keeper { cabin = b } }) c.close.ensures.kept;
+        told = no-lines c.args.breaks.now;
+      };
+      notes = same-noted U X X;
+    }
+
+pub returns-in_default-2-clause-events : goal.returns-in_default-2-clause-events
+returns-in_default-2-clause-events g c =
+    let run = c.args.run.now in
+    let U = g.M.Medium.state c.args.unit.now in
+    let X = g.C.Chip.state c.args.card.now in
+    let some : session_of run.keeper.cabin.cards c.args.which ≡ Some c.in-Some.accepted = sym c.in-Some.ensures.session in
+    record {
+      closing = Closed;
+      closed = record {
+        is = subst (λ (o : Option Accepted). IsClosingOf o Closed) (sym some) tt;
+        run = ap (λ (b : Cabin). record run { keeper = record run.keeper { cabin = b } }) c.close.ensures.kept;
+        told = no-lines c.args.breaks.now;
+      };
+      notes = same-noted U X X;
+    }
+
+pub returns-in-Ok-leave-clause-events : goal.returns-in-Ok-leave-clause-events
+returns-in-Ok-leave-clause-events g c =
+    let run = c.args.run.now in
+    let U = g.M.Medium.state c.args.unit.now in
+    let V = g.M.Medium.state c.note_withdrawal.new.unit in
+    let X = g.C.Chip.state c.args.card.now in
+    let Y = g.C.Chip.state c.leave.new.card in
+    let some : session_of run.keeper.cabin.cards c.args.which ≡ Some c.in-Some.accepted = sym c.in-Some.ensures.session in
+    record {
+      closing = Closed;
+      closed = record {
+        is = subst (λ (o : Option Accepted). IsClosingOf o Closed) (sym some) tt;
+        run = ap (λ (b : Cabin). record run { keeper = record run.keeper { cabin = b } }) c.close.ensures.kept;
+        told = no-lines c.args.breaks.now;
+      };
+      notes = quiet-any U V X X Y Y (is_err c.note_withdrawal.result) c.note_withdrawal.ensures.quiet;
+    }
+
+pub returns-in-Err-clause-events : goal.returns-in-Err-clause-events
+returns-in-Err-clause-events g c =
+    let run = c.args.run.now in
+    let which = c.args.which in
+    let U = g.M.Medium.state c.args.unit.now in
+    let V = g.M.Medium.state c.tear.new.unit in
+    let X = g.C.Chip.state c.args.card.now in
+    let Y = g.C.Chip.state c.leave.new.card in
+    let crew = crew_of c.tear.new.self.cabin in
+    let some : session_of run.keeper.cabin.cards which ≡ Some c.in-Some.accepted = sym c.in-Some.ensures.session in
+    record {
+      closing = Fell;
+      closed = record {
+        is = subst (λ (o : Option Accepted). IsClosingOf o Fell) (sym some) tt;
+        run = ap (λ (k : Keeper). record run { keeper = k }) (c.tear.ensures.keeper ∙ ap (λ (b : Cabin). record run.keeper { cabin = torn_out which c.args.at.second b }) c.close.ensures.kept);
+        told = c.tear.ensures.told;
+      };
+      notes = one-noted U V X X Y Y (g.met.M.Medium.coherent c.args.unit.now) (g.met.M.Medium.coherent c.tear.new.unit) c.requires.ready.is_unit (entry_of CARD_FAULT c.args.at.second c.args.at.second crew crew) (is_err c.tear.result)
+          (λ well. ok_gives c.tear.result c.tear.ensures.noted well) c.tear.ensures.moments c.tear.ensures.cause.works;
+    }
