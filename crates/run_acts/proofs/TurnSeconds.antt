@@ -123,7 +123,7 @@ or-false : (b : Bool) → (b || false) ≡ b
 or-false true = refl
 or-false false = refl
 
-all-both : {X : Type 0} (P : X → Type 0) (xs ys : List X) → AllByRecursion P xs → AllByRecursion P ys → AllByRecursion P (xs ++ ys)
+pub all-both : {X : Type 0} (P : X → Type 0) (xs ys : List X) → AllByRecursion P xs → AllByRecursion P ys → AllByRecursion P (xs ++ ys)
 all-both P [] ys hx hy = hy
 all-both P (x ∷ xs) ys hx hy = (hx.0, all-both P xs ys hx.1 hy)
 
@@ -302,7 +302,7 @@ module _ {U A0 B0 : State} {chip_a chip_b : CardState} (n speed begun : ℕ) (ol
     abbrev V : Values
     V = record (values_of old before) { minutes = minutes; next = next; begun = gone }
 
-    then_ : (now : Device → ℕ) × SecondMoment w.b.run (went w.b.run.log done).before s Keeping later [] w.b.broken now
+    pub then_ : (now : Device → ℕ) × SecondMoment w.b.run (went w.b.run.log done).before s Keeping later [] w.b.broken now
     then_ = moment-then old before minutes keeper watch marks breaks n begun speed failed decided reach d e is books devices odometer two lit some time o origin done s next gone w number next_is actions stored few low_end in-field well untold whole unit noted limit memory evented
 
     lines : LinesMore s.number (told_of (record old { minutes = minutes }) before) (told_of between told)
