@@ -55,6 +55,9 @@ pub mod SettledRecorded
 pub mod SettledEvented
 pub mod SeenSpan
 pub mod TurnEvented
+pub mod LastAlike
+pub mod TurnSeconds
+pub mod TurnMany
 pub mod TurnRecorded
 pub mod Ringing
 pub mod Uncut

@@ -66,7 +66,7 @@ number-back (a ∷ b ∷ ns) is =
     ∙ ap (λ (l : List ℕ). a ∷ b ∷ (l ++ [])) rest ∙ ap (λ (l : List ℕ). a ∷ b ∷ l) (append-nil ns)
 
 pub are-numbered : (o : Origin) → IsOrigin o → AreNumbered (named_as o) (watched_as o)
-are-numbered o origin c = sym (number-back (number_in (named_as o) c) (all-long o origin.numbers c))
+are-numbered o origin c = sym (number-back (number_in (named_as o) c) (all-long o origin.long c))
 
 -- a number goes by its bytes
 heads : (a b c d : ℕ) (xs ys : List ℕ) → a ∷ b ∷ xs ≡ c ∷ d ∷ ys → (a ≡ c) × (b ≡ d) × (xs ≡ ys)
@@ -84,7 +84,7 @@ known-as o origin cards found valid c has =
     by (known_of cards c).number (found.named c good) (found.told c good)
   where
     bytes : card_number_bytes (watched_as o c) ≡ number_in o c
-    bytes = number-back (number_in (named_as o) c) (all-long o origin.numbers c) ∙ same-number o c (valid c has)
+    bytes = number-back (number_in (named_as o) c) (all-long o origin.long c) ∙ same-number o c (valid c has)
 
     by : (q : Option FullCardNumber) → IfSome q (λ n. card_number_bytes n ≡ (found_of o.found c).number) → is_some q ≡ true → q ≡ Some (watched_as o c)
     by None named told = absurd (cc)

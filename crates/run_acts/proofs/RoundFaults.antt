@@ -606,4 +606,4 @@ module _ (d e : Devices) (o : Origin) (origin : IsOrigin o) (done : List TraceSe
 
 -- ---- what it notes
 pub keeping-notes : (vs : List UnitEvent) (failed : Bool) (d e : Devices) → IsCoherent d.unit → IsUnit d.unit → AreFaults vs → NotesFaults failed vs d.unit e.unit → (o : Origin) → IsOrigin o → (es : List Event) → AreTold (number_in o) vs es → NamesValid o es → NotesSo failed o es d e
-keeping-notes vs failed d e whole unit are faults o origin es told valid = notes-at vs failed d e (faults-noted vs failed d.unit e.unit d.card_a d.card_b e.card_a e.card_b whole unit are faults) o origin.numbers es told valid
+keeping-notes vs failed d e whole unit are faults o origin es told valid = notes-at vs failed d e (faults-noted vs failed d.unit e.unit d.card_a d.card_b e.card_a e.card_b whole unit are faults) o origin.long es told valid

@@ -75,10 +75,10 @@ module _ {U A0 B0 : State} {chip_a chip_b : CardState} (old : Run) (before : Out
   v = values_of (settled_run minutes old) before
 
   keeps_ : KeepsSo o done s q decided (told_of old before) v d e r.within
-  keeps_ = keeps old before minutes keeper marks breaks at failed decided d e leaving g small stands given odometer reach is books devices o done s (suc n) waits here r time
+  keeps_ = keeps old before minutes keeper marks breaks at failed decided d e leaving g small stands given odometer reach is books devices o done s (suc n) waits (omega arith) here r time
 
   low : s.number < 2 ^ 32
-  low = let same = number old before minutes keeper marks breaks at failed decided d e leaving g small stands given odometer reach is books devices o done s (suc n) waits here r time in omega (arith, same, small)
+  low = let same = number old before minutes keeper marks breaks at failed decided d e leaving g small stands given odometer reach is books devices o done s (suc n) waits (omega arith) here r time in omega (arith, same, small)
 
   is-here : IsReach decided (moment_of s q) failed (told_of old before) (told_of new after) reach
   is-here = subst (λ (m : Moment). IsReach decided m failed (told_of old before) (told_of new after) reach) here is
@@ -101,7 +101,7 @@ module _ {U A0 B0 : State} {chip_a chip_b : CardState} (old : Run) (before : Out
 
   rose : failed ≡ true → RoseBy 1 (breakdowns_of d Recorder) (breakdowns_of e Recorder)
   rose = unit-rose o (carried_at o done s q decided (told_of old before) v d r.within) failed old.keeper.cabin.cards keeper.cabin.cards d e r.within.powered r.within.there devices
-      (booked old before minutes keeper marks breaks at failed decided d e leaving g small stands given odometer reach is books devices o done s (suc n) waits here r time).1
+      (booked old before minutes keeper marks breaks at failed decided d e leaving g small stands given odometer reach is books devices o done s (suc n) waits (omega arith) here r time).1
 
   by : (f : Bool) → failed ≡ f → NotesSo f o a.events d e → EventsGoOn f o done s r.within.b.run (In (suc n)) Acting (log_of after) e
   by false same notes_ = call-notes d e o done s r.within.b.run Acting Acting (log_of before) (log_of after) a.events evented a.adds notes_ keeps_.goes.left

@@ -18,6 +18,7 @@ use Rattle.log_model.specs.declared.lines.Mark.{Mark}
 use Rattle.log_model.specs.Log.{RunLog, Phase, In, Keeping, is_torn_in}
 use Rattle.log_model.specs.Causes.{RoseBy}
 use Rattle.log_model.specs.Course.{Told as Second, Course, Before, has_power, went}
+use Rattle.unit_memory.specs.declared.format.Identity.{Identity}
 use Rattle.unit_model.specs.Image.{IsUnit, odometer_at}
 use Rattle.unit_rule.specs.Odometer.{odometer_after}
 use Rattle.unit_course.specs.Followed.{Supply}
@@ -152,6 +153,13 @@ module _ (old : Run) (before : Outcome) (minutes : Kept) (keeper : Keeper) (watc
   begins : BeginsNow o done w.b.run w.b.span s
   begins = record { followed = w.began.followed; lit = w.lit; number = w.moment.number; given = w.moment.given }
 
+  -- how far it has come
+  pub come-now : HasCome decided (moment_of s q) t u reach
+  come-now = come reach is
+
+  pub moment-then : (now : Device → ℕ) × SecondMoment w.b.run (went w.b.run.log done).before s Keeping later [] w.b.broken now
+  moment-then = let m = keeping-moment d e o origin done s q decided t u v w keeps_ small well untold off_ reach come-now in (m.now, m.moment)
+
   -- the second, as its events see it
   abbrev x : Seen
   x = seen_next later done s
@@ -182,9 +190,9 @@ module _ (old : Run) (before : Outcome) (minutes : Kept) (keeper : Keeper) (watc
         told_ = told-named o (faults_to old.keeper (late_moment old.next n begun) r t) (a r h).events (a r h).valid (subst (λ (ws : List UnitEvent). AreTold (number_in o) ws (a r h).events) (sym (same-vs r)) (a r h).told)
 
         by : (f : Bool) → NotesEnded n speed (late_moment old.next n begun) f r fed between before d.unit e.unit → NotesSo f (named_as o) ((a r h).events ++ brought) d e
-        by false g = turn-noted (faults_to old.keeper (late_moment old.next n begun) r t) g.ended d.unit e.unit d.card_a d.card_b e.card_a e.card_b whole unit (faults-are old.keeper (late_moment old.next n begun) r t) (named_as o) (all-long o origin.numbers) (a r h).events told_
+        by false g = turn-noted (faults_to old.keeper (late_moment old.next n begun) r t) g.ended d.unit e.unit d.card_a d.card_b e.card_a e.card_b whole unit (faults-are old.keeper (late_moment old.next n begun) r t) (named_as o) (all-long o origin.long) (a r h).events told_
             (watched_as o) (are-numbered o origin) (limit_in o) span new (ends g.ended g.fed) low lows g.noted
-        by true g = turn-cut (faults_to old.keeper (late_moment old.next n begun) r t) g.ended d.unit e.unit d.card_a d.card_b e.card_a e.card_b whole unit (faults-are old.keeper (late_moment old.next n begun) r t) (named_as o) (all-long o origin.numbers) (a r h).events told_
+        by true g = turn-cut (faults_to old.keeper (late_moment old.next n begun) r t) g.ended d.unit e.unit d.card_a d.card_b e.card_a e.card_b whole unit (faults-are old.keeper (late_moment old.next n begun) r t) (named_as o) (all-long o origin.long) (a r h).events told_
             (watched_as o) (are-numbered o origin) (limit_in o) span new (ends g.ended g.fed) low lows g.noted
 
     -- THE SECONDS ARE OVER, and all that they bring is noted
@@ -200,7 +208,7 @@ module _ (old : Run) (before : Outcome) (minutes : Kept) (keeper : Keeper) (watc
           evented = subst (λ (k : ℕ). Evented o (done ++ s ∷ []) later old.unfound k (IsLit (p.first ∷ p.rest)) e) (let at = w.next in omega (arith, next_is, some, at))
               (subst (λ (k : ℕ). Evented o (done ++ s ∷ []) later k (suc w.b.run.next) (IsLit (p.first ∷ p.rest)) e) (sym w.unfound)
               (subst (λ (ss : List Second). Evented o (done ++ s ∷ []) later w.b.run.unfound (suc w.b.run.next) (IsLit ss) e) p.is end));
-          limit = ap (λ (m_ : _). m_.limit) memory ∙ limit;
+          limit = ap (λ (m_ : Identity). m_.limit) memory ∙ limit;
           watched = λ on. watches g.ended g.fed;
         }
 
@@ -214,7 +222,7 @@ module _ (old : Run) (before : Outcome) (minutes : Kept) (keeper : Keeper) (watc
           (subst (λ (k : ℕ). Evented o (done ++ s ∷ []) (and_break later (cut_at (old.next + n - 1) true begun)) k (suc w.b.run.next) IsLost e) (sym w.unfound)
           (subst (λ (k : ℕ). Evented o (done ++ s ∷ []) (and_break later (cut_at (old.next + n - 1) true k)) w.b.run.unfound (suc w.b.run.next) IsLost e) actions
           (subst (λ (k : ℕ). Evented o (done ++ s ∷ []) (and_break later (cut_at k true (length s.actions))) w.b.run.unfound (suc w.b.run.next) IsLost e) number end)));
-      limit = ap (λ (m_ : _). m_.limit) memory ∙ limit;
+      limit = ap (λ (m_ : Identity). m_.limit) memory ∙ limit;
       watched = λ on. absurd (cc);
     }
 
