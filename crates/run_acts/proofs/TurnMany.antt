@@ -715,9 +715,6 @@ pub dark-events : (d : Devices) (n speed begun : ℕ) (old : Run) (before : Outc
     Evented o (done ++ s ∷ driven (n - 1) (s.number + 1) speed []) (log_of before) old.unfound (old.next + n) IsLost d
 dark-events d n speed begun old before some minute o done s now actions none h = by (n - 1) refl
   where
-    abbrev v_next : ℕ
-    v_next = suc old.next
-
     by : (k : ℕ) → n - 1 ≡ k → Evented o (done ++ s ∷ driven k (s.number + 1) speed []) (log_of before) old.unfound (old.next + n) IsLost d
     by zero is_ = subst (λ (m : ℕ). Evented o (done ++ s ∷ []) (log_of before) old.unfound m IsLost d) (let same : suc old.next ≡ old.next + n = omega (arith, is_, some) in same) h.evented
     by (suc c) is_ =
