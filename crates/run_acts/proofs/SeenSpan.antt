@@ -79,16 +79,14 @@ module _ (o : Origin) where
   fold-fine passes run [] all fine = all
   fold-fine passes run (x ∷ xs) all fine = fold-fine passes (run_with passes run x) xs (run-fine passes run x all fine.0) fine.1
 
+  one-run : (b : Bool) (run : List Seen) (more : List (List Seen)) → AllByRecursion Fine run → AllByRecursion (λ (r : List Seen). AllByRecursion Fine r) more →
+      AllByRecursion (λ (r : List Seen). AllByRecursion Fine r) (cond b [] (run ∷ []) ++ more)
+  one-run true run more all rest = rest
+  one-run false run more all rest = (all, rest)
+
   runs-fine : (passes : Seen → Bool) (run xs : List Seen) → AllByRecursion Fine run → AllByRecursion Fine xs → AllByRecursion (λ (r : List Seen). AllByRecursion Fine r) (runs_behind passes run xs)
   runs-fine passes run [] all fine = tt
-  runs-fine passes run (x ∷ xs) all fine = by (passes x)
-    where
-      rest : AllByRecursion (λ (r : List Seen). AllByRecursion Fine r) (runs_behind passes (run_with passes run x) xs)
-      rest = runs-fine passes (run_with passes run x) xs (run-fine passes run x all fine.0) fine.1
-
-      by : (b : Bool) → AllByRecursion (λ (r : List Seen). AllByRecursion Fine r) (cond b [] (run ∷ []) ++ runs_behind passes (run_with passes run x) xs)
-      by true = rest
-      by false = (all, rest)
+  runs-fine passes run (x ∷ xs) all fine = one-run (passes x) run (runs_behind passes (run_with passes run x) xs) all (runs-fine passes (run_with passes run x) xs (run-fine passes run x all fine.0) fine.1)
 
   last-fine : (x : Seen) (xs : List Seen) → Fine x → AllByRecursion Fine xs → Fine (last_seen x xs)
   last-fine x [] fine all = fine
@@ -106,13 +104,13 @@ module _ (o : Origin) where
       by None = tt
       by (Some over) = (all.0, last-fine x run all.0 all.1)
 
+  one-event : (q : Option Event) (es : List Event) → IfSome q FineEvent → NamesValid o es → NamesValid o (cons_option q es)
+  one-event None es fine rest = rest
+  one-event (Some e) es fine rest = (fine, rest)
+
   events-fine : (event : List Seen → Option Event) → ((run : List Seen) → AllByRecursion Fine run → IfSome (event run) FineEvent) → (runs : List (List Seen)) → AllByRecursion (λ (r : List Seen). AllByRecursion Fine r) runs → NamesValid o (filter_map event runs)
   events-fine event each [] all = tt
-  events-fine event each (run ∷ runs) all = by (event run) (each run all.0)
-    where
-      by : (q : Option Event) → IfSome q FineEvent → NamesValid o (cons_option q (filter_map event runs))
-      by None fine = events-fine event each runs all.1
-      by (Some e) fine = (fine, events-fine event each runs all.1)
+  events-fine event each (run ∷ runs) all = one-event (event run) (filter_map event runs) (each run all.0) (events-fine event each runs all.1)
 
   pub ends-valid : (limit : ℕ) (span xs : List Seen) → AllByRecursion Fine span → AllByRecursion Fine xs → NamesValid o (bares_by span xs ++ overs_by limit span xs)
   ends-valid limit span xs all fine =

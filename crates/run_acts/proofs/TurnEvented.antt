@@ -85,7 +85,7 @@ use Rattle.run_acts.proofs.Numbers.{all-long, so-as, told-named}
 use Rattle.run_acts.proofs.RoundFaults.{AddsFaults, IsUntoldAt, HasCome, MomentThen, keeping-adds, keeping-moment, keeping-cuts, keeping-notes}
 use Rattle.run_acts.proofs.TurnRecorded.{IsPushed, pushed, keeps, off, rose, at-is}
 
-turn-come : (all : List Minute) (at : Moment) (failed : Bool) (t u : Told) (reach : Reach) → IsTurnReach all at failed t u reach → HasCome all at t u reach
+pub turn-come : (all : List Minute) (at : Moment) (failed : Bool) (t u : Told) (reach : Reach) → IsTurnReach all at failed t u reach → HasCome all at t u reach
 turn-come all at failed t u (Whole xs) is = is
 turn-come all at false t u (Short xs m round) is = absurd is
 turn-come all at true t u (Short xs m round) is = is

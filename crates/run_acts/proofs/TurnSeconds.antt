@@ -312,36 +312,36 @@ module _ {U A0 B0 : State} {chip_a chip_b : CardState} (n speed begun : ℕ) (ol
     log-is : later ≡ and_breaks (log_of before) lines.more
     log-is = ap (λ (bs : List Break). record (log_of before) { breaks = bs }) lines.are
 
-    abbrev x : Seen
-    x = seen_next later done s
+    abbrev lastx : Seen
+    lastx = seen_next later done s
 
     abbrev front : List Seen
-    front = span_before (seen_spans (seen_of w.b.run.log done)) x
+    front = span_before (seen_spans (seen_of w.b.run.log done)) lastx
 
-    pub lit-x : x.told.lit ≡ true
+    pub lit-x : lastx.told.lit ≡ true
     lit-x = x-lit o origin done s decided V d w well untorn later then_.0 then_.1 lines.more log-is lines.apart
 
-    pub crew-x : crew_of old.keeper.cabin ≡ named (watched_as o) (events.crew_of x.itself)
+    pub crew-x : crew_of old.keeper.cabin ≡ named (watched_as o) (events.crew_of lastx.itself)
     crew-x = x-crew o origin done s decided V d w well untorn later then_.0 then_.1 lines.more log-is lines.apart
 
-    pub valid-x : CrewValid o (events.crew_of x.itself)
+    pub valid-x : CrewValid o (events.crew_of lastx.itself)
     valid-x = x-valid o origin done s decided V d w well untorn later then_.0 then_.1 lines.more log-is lines.apart
 
-    pub low-x : IsLow (number_of x)
+    pub low-x : IsLow (number_of lastx)
     low-x = let is_ = told-number later (went later done).before s in (let some_ = number in omega (arith, is_, some_, early, some), let fits = in-field in omega (arith, is_, fits))
 
     pub front-now : front ≡ span_seen w.b.run done s
     front-now = front-is o origin done s decided V d w well untorn later then_.0 then_.1 lines.more log-is lines.apart (seen_spans (seen_of w.b.run.log done))
 
-    pub span-then : span_of later (done ++ s ∷ []) ≡ front ++ x ∷ []
+    pub span-then : span_of later (done ++ s ∷ []) ≡ front ++ lastx ∷ []
     span-then =
         span-more later done s lit-x
-        ∙ ap (λ (spans : List (List Seen)). span_before spans x ++ x ∷ []) (span-now o origin done s decided V d w well untorn later then_.0 then_.1 lines.more log-is lines.apart)
+        ∙ ap (λ (spans : List (List Seen)). span_before spans lastx ++ lastx ∷ []) (span-now o origin done s decided V d w well untorn later then_.0 then_.1 lines.more log-is lines.apart)
 
     -- what is watched then
     module _ (span new : List Seen) (watched_ : IsWatching o span old.watch) (lows : AreLow new) (valids : AllByRecursion (λ (y : Seen). CrewValid o (events.crew_of y.itself)) new)
-        (feeds : map (watched (watched_as o)) new ≡ seconds_with old.next n speed (crew_of old.keeper.cabin)) (are : span ++ new ≡ front ++ x ∷ [])
-        (brings : bares_by span new ++ overs_by (limit_in o) span new ≡ bares_by front (x ∷ []) ++ overs_by (limit_in o) front (x ∷ [])) where
+        (feeds : map (watched (watched_as o)) new ≡ seconds_with old.next n speed (crew_of old.keeper.cabin)) (are : span ++ new ≡ front ++ lastx ∷ [])
+        (brings : bares_by span new ++ overs_by (limit_in o) span new ≡ bares_by front (lastx ∷ []) ++ overs_by (limit_in o) front (lastx ∷ [])) where
       ends : (ended : WatchEnded) → IsFed old.watch watch old.next n speed (crew_of old.keeper.cabin) ended → AreEnded (watched_as o) (limit_in o) span new ended
       ends ended fed_ = subst (λ (l : ℕ). AreEnded (watched_as o) l span new ended) watched_.limit
           (turn-ends (watched_as o) old.watch watch span new old.next n speed (crew_of old.keeper.cabin) ended fed_ watched_.stands feeds)
