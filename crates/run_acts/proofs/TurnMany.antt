@@ -147,7 +147,15 @@ use Rattle.run_events.proofs.Quiet.{bares-split, overs-split}
 use Rattle.run_within.specs.Turning.{BehindFirst}
 use Rattle.run_within.specs.Recorded.{progress}
 use Rattle.run_acts.proofs.LastAlike.{last-ends}
-use Rattle.run_acts.proofs.TurnSeconds.{all-both, well, then_, last-events, lit-x, crew-x, valid-x, low-x, front-now}
+use Rattle.run_within.specs.Within.{passed_values}
+use Rattle.run_evented.proofs.Unlit.{dark-seconds}
+use Rattle.run_acts.specs.declared.run.Power.TheVariants.{Due}
+use Rattle.unit_course.specs.Followed.{Due as IsDue}
+use Rattle.run_acts.specs.Booked.{IsBookedTurn}
+use Rattle.run_acts.specs.Turning.{IsLitTurn}
+use Rattle.run_acts.specs.Evented.{EventsLitTurn, CutEvented}
+use Rattle.run_acts.proofs.TurnRecorded.{reach-is, books-is, between-is, new-is, after-is}
+use Rattle.run_acts.proofs.TurnSeconds.{one-events, all-both, well, then_, last-events, lit-x, crew-x, valid-x, low-x, front-now}
 
 -- ---- a span that goes on
 evented-lit : (o : Origin) (done : List TraceSecond) (log : RunLog) (unfound next : ℕ) (t u : Second) (xs ys : List Second) (d : Devices) → Evented o done log unfound next (IsLit (t ∷ xs)) d → Evented o done log unfound next (IsLit (u ∷ ys)) d
@@ -624,3 +632,97 @@ module _ {U A0 B0 : State} {chip_a chip_b : CardState} (n speed begun : ℕ) (ol
   many-events = last-events n speed begun old before minutes keeper watch marks breaks failed decided reach d e g lit some minute small early stands given is books devices odometer whole unit noted memory time
       o r.within.origin r.watches.limit D L (old.next + suc c) turned.begun W num-l next-l acts-l stored-l from-l untorn-l evented-l
       front new_seen watching low-new valid-new fed-row (sym (append_assoc front (X ∷ qs) (XL ∷ [])) ∙ ap (λ (xs : List Seen). xs ++ XL ∷ []) (sym frontL-is)) (new-none ∙ sym last-none)
+
+-- ---- ONE SECOND, OR SEVERAL
+module _ {U A0 B0 : State} {chip_a chip_b : CardState} (n speed begun : ℕ) (old : Run) (before : Outcome) (minutes : Kept) (keeper : Keeper) (watch : Watch) (marks : Listed Mark) (breaks : Listed Break) (failed : Bool) (decided : List Minute) (reach : Reach) (d e : Devices)
+    (g : IsGoingOn None (old.next / 60) old U chip_a chip_b A0 B0) (lit : old.power ≡ Lit) (some : 0 < n) (minute : old.next % 60 + n ≤ 60) (small : old.next + n ≤ end_of_seconds) (early : first_second ≤ old.next)
+    (stands : (sp : Span) → StandsFor old.minutes sp → StandsFor minutes (fed_many sp speed n)) (given : (sp : Span) → StandsFor old.minutes sp → decided_in (fed_many sp speed n) ≡ decided_in sp ++ decided)
+    (is : IsTurnReach decided (late_moment old.next n begun) failed (told_of (record old { minutes = minutes }) before) (told_of (record old { minutes = minutes; keeper = keeper; watch = watch }) (record before { marks = marks; breaks = breaks })) reach)
+    (books : BooksTurn decided failed reach (told_of (record old { minutes = minutes }) before) (told_of (record old { minutes = minutes; keeper = keeper; watch = watch }) (record before { marks = marks; breaks = breaks })) d e)
+    (devices : DevicesGoOn failed old.keeper.cabin.cards keeper.cabin.cards d e) (odometer : keeper.odometer ≡ old.keeper.odometer) (whole : IsCoherent d.unit) (unit : IsUnit d.unit)
+    (noted : NotesKeeping decided n speed (late_moment old.next n begun) failed (record old { minutes = minutes }) (record old { minutes = minutes; keeper = keeper; watch = watch }) before (record before { marks = marks; breaks = breaks }) d.unit e.unit)
+    (memory : keeper.memory ≡ old.keeper.memory) (time : HaveTime e)
+    (o : Origin) (done : List TraceSecond) (s : TraceSecond) (now : IsNow s speed old) (actions : length s.actions ≡ begun) (behind : 1 < n → (s.actions ≡ []) × LastAt done speed) (r : WithinEvented o done s (In begun) [] [] Acting old before d) where
+  abbrev turned_run : Run
+  turned_run = passed n begun (cut_where failed (old.next + n - 1) (record old { minutes = minutes; keeper = keeper; watch = watch }))
+
+  abbrev turned_out : Outcome
+  turned_out = cut_breaks failed (old.next + n - 1) begun (record before { marks = marks; breaks = breaks })
+
+  here_ : WithinEvented o done s (In (length s.actions)) [] [] Acting old before d
+  here_ = subst (λ (k : ℕ). WithinEvented o done s (In k) [] [] Acting old before d) (sym actions) r
+
+  by-count : (k : ℕ) → n - 1 ≡ k → TurnedEvents o (done ++ s ∷ driven k (s.number + 1) s.speed []) turned_run turned_out e
+  by-count zero is_ = one-events n speed begun old before minutes keeper watch marks breaks failed decided reach d e g lit some minute small early stands given is books devices odometer whole unit noted memory time
+      (omega (arith, is_, some)) o done s now actions here_
+  by-count (suc c) is_ =
+      let few = behind (omega (arith, is_)) in
+      subst (λ (ss : List TraceSecond). TurnedEvents o ss turned_run turned_out e) (turn-ended done s (suc c))
+      (many-events n speed begun old before minutes keeper watch marks breaks failed decided reach d e g lit some minute small early stands given is books devices odometer whole unit noted memory time
+      c (omega (arith, is_)) o done s now actions few.0 few.1 here_)
+
+  pub seconds-events : TurnedEvents o (done ++ s ∷ driven (n - 1) (s.number + 1) speed []) turned_run turned_out e
+  seconds-events = subst (λ (k : ℕ). TurnedEvents o (done ++ s ∷ driven (n - 1) (s.number + 1) k []) turned_run turned_out e) now.speed_is (by-count (n - 1) refl)
+
+-- ---- A TURN
+module _ {U A0 B0 : State} {chip_a chip_b : CardState} (n speed begun : ℕ) (old new : Run) (before after : Outcome) (d e : Devices) (g : IsGoingOn None (old.next / 60) old U chip_a chip_b A0 B0) (early : first_second ≤ old.next) (lit : old.power ≡ Lit) (some : 0 < n)
+    (minute : old.next % 60 + n ≤ 60) (small : old.next + n ≤ end_of_seconds) (h : IsBookedTurn n speed begun old new before after d e) (whole : IsCoherent d.unit) (unit : IsUnit d.unit)
+    (noted : NotesKeeping h.0.decided n speed (late_moment old.next n begun) h.0.failed h.0.fed h.0.between before h.0.told d.unit e.unit) (memory : h.0.between.keeper.memory ≡ old.keeper.memory) where
+  abbrev T : IsLitTurn n speed begun old new before after
+  T = h.0
+
+  abbrev here : Run
+  here = record old { minutes = T.fed.minutes; keeper = T.between.keeper; watch = T.between.watch }
+
+  abbrev lines : Outcome
+  lines = record before { marks = T.told.marks; breaks = T.told.breaks }
+
+  noted-is : NotesKeeping T.decided n speed (late_moment old.next n begun) T.failed (record old { minutes = T.fed.minutes }) here before lines d.unit e.unit
+  noted-is =
+      subst (λ (x : Run). NotesKeeping T.decided n speed (late_moment old.next n begun) T.failed x here before lines d.unit e.unit) T.only
+      (subst (λ (x : Run). NotesKeeping T.decided n speed (late_moment old.next n begun) T.failed T.fed x before lines d.unit e.unit) (between-is n speed begun old new before after d e g lit some minute small h)
+      (subst (λ (x : Outcome). NotesKeeping T.decided n speed (late_moment old.next n begun) T.failed T.fed T.between before x d.unit e.unit) T.kept.outcome noted))
+
+  pub turn-events : EventsLitTurn n speed begun old new before after d e
+  turn-events o done s now actions behind r time =
+      subst (λ (x : Run). TurnedEvents o (done ++ s ∷ driven (n - 1) (s.number + 1) speed []) (passed n begun x) after e) (new-is n speed begun old new before after d e g lit some minute small h)
+      (subst (λ (x : Outcome). TurnedEvents o (done ++ s ∷ driven (n - 1) (s.number + 1) speed []) (passed n begun (cut_where T.failed (old.next + n - 1) here)) x e) (after-is n speed begun old new before after d e g lit some minute small h)
+      (seconds-events n speed begun old before T.fed.minutes T.between.keeper T.between.watch T.told.marks T.told.breaks T.failed T.decided h.1 d e g lit some minute small early T.minutes T.given
+      (reach-is n speed begun old new before after d e g lit some minute small h) (books-is n speed begun old new before after d e g lit some minute small h) h.4 h.5 whole unit noted-is memory time o done s now actions behind r))
+
+-- WITHOUT POWER, and at any supply of a run's power
+pub at-supply : (o : Origin) (done : List TraceSecond) (log : RunLog) (unfound next : ℕ) (power : Power) (a b : Supply) (d : Devices) → Supplies power a → Supplies power b → Evented o done log unfound next a d → Evented o done log unfound next b d
+at-supply o done log unfound next Lit (IsLit []) b d x y v = absurd x
+at-supply o done log unfound next Lit (IsLit (t ∷ xs)) (IsLit []) d x y v = absurd y
+at-supply o done log unfound next Lit (IsLit (t ∷ xs)) (IsLit (u ∷ ys)) d x y v = evented-lit o done log unfound next t u xs ys d v
+at-supply o done log unfound next Lit (IsLit (t ∷ xs)) IsDue d x y v = absurd y
+at-supply o done log unfound next Lit (IsLit (t ∷ xs)) IsLost d x y v = absurd y
+at-supply o done log unfound next Lit IsDue b d x y v = absurd x
+at-supply o done log unfound next Lit IsLost b d x y v = absurd x
+at-supply o done log unfound next Due (IsLit xs) b d x y v = absurd x
+at-supply o done log unfound next Due IsDue (IsLit xs) d x y v = absurd y
+at-supply o done log unfound next Due IsDue IsDue d x y v = v
+at-supply o done log unfound next Due IsDue IsLost d x y v = absurd y
+at-supply o done log unfound next Due IsLost b d x y v = absurd x
+at-supply o done log unfound next Lost (IsLit xs) b d x y v = absurd x
+at-supply o done log unfound next Lost IsDue b d x y v = absurd x
+at-supply o done log unfound next Lost IsLost (IsLit xs) d x y v = absurd y
+at-supply o done log unfound next Lost IsLost IsDue d x y v = absurd y
+at-supply o done log unfound next Lost IsLost IsLost d x y v = v
+
+-- it was cut in the first of n seconds
+pub dark-events : (d : Devices) (n speed begun : ℕ) (old : Run) (before : Outcome) → 0 < n → old.next % 60 + n ≤ 60 → (o : Origin) (done : List TraceSecond) (s : TraceSecond) → IsNow s speed old → length s.actions ≡ begun → (1 < n → s.actions ≡ []) → CutEvented o done s old before d →
+    Evented o (done ++ s ∷ driven (n - 1) (s.number + 1) speed []) (log_of before) old.unfound (old.next + n) IsLost d
+dark-events d n speed begun old before some minute o done s now actions none h = by (n - 1) refl
+  where
+    by : (k : ℕ) → n - 1 ≡ k → Evented o (done ++ s ∷ driven k (s.number + 1) speed []) (log_of before) old.unfound (old.next + n) IsLost d
+    by zero is_ = subst (λ (m : ℕ). Evented o (done ++ s ∷ []) (log_of before) old.unfound m IsLost d) (let same : suc old.next ≡ old.next + n = omega (arith, is_, some) in same) h.evented
+    by (suc c) is_ =
+        let r = h.cut.recorded in
+        let p_ : Progress = progress (passed_values s (values_of old before)) IsLost r.book in
+        let at = now.number in
+        let number : suc old.next ≡ s.number + 1 = omega (arith, at) in
+        let more = dark-seconds d o (done ++ s ∷ []) p_ r.recorded.followed h.evented refl c speed [] before.refused.items (omega (arith, minute, is_)) (omega (arith, minute, is_)) in
+        subst (λ (m : ℕ). Evented o (done ++ s ∷ driven (suc c) (s.number + 1) speed []) (log_of before) old.unfound m IsLost d) (let same : suc old.next + suc c ≡ old.next + n = omega (arith, is_, some) in same)
+        (subst (λ (ss : List TraceSecond). Evented o ss (log_of before) old.unfound (suc old.next + suc c) IsLost d)
+        (append_assoc done (s ∷ []) (driven (suc c) (suc old.next) speed []) ∙ ap (λ (m : ℕ). done ++ s ∷ driven (suc c) m speed []) number) more)

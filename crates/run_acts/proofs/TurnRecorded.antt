@@ -198,19 +198,19 @@ module _ {U A0 B0 : State} {chip_a chip_b : CardState} (n speed begun : ℕ) (ol
   abbrev t_of : Keeper → Told
   t_of k = record { keeper = k; marks = before.marks; breaks = before.breaks }
 
-  reach-is : IsTurnReach T.decided (late_moment old.next n begun) T.failed (t_of old.keeper) (told_of here lines) h.1
+  pub reach-is : IsTurnReach T.decided (late_moment old.next n begun) T.failed (t_of old.keeper) (told_of here lines) h.1
   reach-is = subst (λ (k : Keeper). IsTurnReach T.decided (late_moment old.next n begun) T.failed (t_of k) (told_of here lines) h.1) (ap (λ (r : Run). r.keeper) T.only) h.2
 
-  books-is : BooksTurn T.decided T.failed h.1 (t_of old.keeper) (told_of here lines) d e
+  pub books-is : BooksTurn T.decided T.failed h.1 (t_of old.keeper) (told_of here lines) d e
   books-is = subst (λ (k : Keeper). BooksTurn T.decided T.failed h.1 (t_of k) (told_of here lines) d e) (ap (λ (r : Run). r.keeper) T.only) h.3
 
-  between-is : T.between ≡ here
+  pub between-is : T.between ≡ here
   between-is = T.kept.only ∙ ap (λ (r : Run). record r { keeper = T.between.keeper; watch = T.between.watch }) T.only
 
-  new-is : cut_where T.failed (old.next + n - 1) here ≡ new
+  pub new-is : cut_where T.failed (old.next + n - 1) here ≡ new
   new-is = ap (cut_where T.failed (old.next + n - 1)) (sym between-is) ∙ sym T.run
 
-  after-is : cut_breaks T.failed (old.next + n - 1) begun lines ≡ after
+  pub after-is : cut_breaks T.failed (old.next + n - 1) begun lines ≡ after
   after-is = ap (cut_breaks T.failed (old.next + n - 1) begun) (sym T.kept.outcome) ∙ sym T.outcome
 
   module _ (o : Origin) (done : List TraceSecond) (s : TraceSecond) (now : IsNow s speed old) (actions : length s.actions ≡ begun) (none : 0 < n - 1 → s.actions ≡ []) (r : RunWithin o done s (In (length s.actions)) [] [] old before d) (time : HaveTime e) where
