@@ -79,11 +79,11 @@ module _ (f g : Card → List ℕ) where
 
   of-kind : (es : List Event) (kind : ℕ) → AgreeOnAll f g es → AgreeOnAll f g (by_kind es kind)
   of-kind [] kind agree = tt
-  of-kind (e ∷ es) kind agree = by (nat_eq e.kind kind)
+  of-kind (e ∷ es) kind agree = by (nat_eq e.kind kind) (of-kind es kind agree.1)
     where
-      by : (b : Bool) → AgreeOnAll f g (cond b (e ∷ by_kind es kind) (by_kind es kind))
-      by true = (agree.0, of-kind es kind agree.1)
-      by false = of-kind es kind agree.1
+      by : (b : Bool) → AgreeOnAll f g (by_kind es kind) → AgreeOnAll f g (cond b (e ∷ by_kind es kind) (by_kind es kind))
+      by true rest = (agree.0, rest)
+      by false rest = rest
 
   shown-as : (log : RunLog) (now : ℕ → List Event) (es : List Event) (x c : List ℕ) → AgreeOnAll f g es → ShowsMore f log now (by_kind es) x c → ShowsMore g log now (by_kind es) x c
   shown-as log now es x c agree h = record {
