@@ -76,7 +76,7 @@ call-notes d e o done s p stage next log later es v adds says left = record {
 }
 
 -- as the laws within a second have it
-pub evented-in : (o : Origin) (done : List TraceSecond) (s : TraceSecond) (p : Progress) (stage : Stage) (log : RunLog) (d : Devices) → EventedNow o done s p stage log d → EventedIn o done s p stage log d
+abbrev pub evented-in : (o : Origin) (done : List TraceSecond) (s : TraceSecond) (p : Progress) (stage : Stage) (log : RunLog) (d : Devices) → EventedNow o done s p stage log d → EventedIn o done s p stage log d
 evented-in o done s p stage log d v = record {
   tearing = v.tearing;
   sessions = v.sessions;

@@ -18,7 +18,7 @@ use Rattle.log_model.specs.declared.lines.SlotFault.{SlotFault}
 use Rattle.log_model.specs.declared.lines.Verdict.{Verdict}
 use Rattle.log_model.specs.Log.{RunLog, Phase, In, Keeping, same_phase, kept_by, kept_after, tears_here, is_torn_in, found_in}
 use Rattle.log_model.specs.Slots.{Slots, Sitting, in_slot, other_slot, refusal}
-use Rattle.log_model.specs.Course.{Visit, Course, Before, Moved, card_in, visits, has_power, answered, moved_by, both_told, went}
+use Rattle.log_model.specs.Course.{Told, Visit, Course, Before, Moved, card_in, visits, has_power, answered, moved_by, both_told, went}
 use Rattle.event_model.specs.declared.kinds.TheConstants.{DRIVING_WITHOUT_CARD, OVER_SPEEDING, POWER_INTERRUPTION, CARD_FAULT}
 use Rattle.event_model.specs.declared.entries.Span.{Span}
 use Rattle.event_model.specs.Spans.{gap_of}
@@ -40,7 +40,7 @@ use Rattle.run_events.proofs.Later.{told-number, seen-same}
 use Rattle.run_recorded.specs.Origin.{Origin, rule_of, start_at, first_of}
 use Rattle.run_evented.specs.Evented.{limit_in, brought_now}
 use Rattle.run_evented.specs.Noting.{Acting, is_told}
-use Rattle.run_evented.specs.SoFar.{fault_with}
+use Rattle.run_evented.specs.SoFar.{fault_with as fault_left}
 use Rattle.run_evented.specs.Bringing.{ChoiceBefore, TornSecond, NotFound, Brings, ATearIsBrought}
 use Rattle.run_evented.proofs.Lines.{same-before}
 use Rattle.run_evented.proofs.Fronts.{DifferAt, torn-same, accepted-same, stands-same, events-as}
@@ -163,6 +163,9 @@ finds-of p slot vs None = tt
 finds-of p slot vs (Some x) =
     all-both (IsOf p slot) (map (λ (verdict : Verdict). (record { phase = p; slot = slot; card = x.card }, verdict)) vs) [] (pairs-of p slot (record { phase = p; slot = slot; card = x.card }) refl refl vs) tt
 
+abbrev pub paired : Visit → List Verdict → List (Visit × Verdict)
+paired visit vs = map (λ (verdict : Verdict). (visit, verdict)) vs
+
 abbrev pair : Visit → Verdict → Visit × Verdict
 pair visit verdict = (visit, verdict)
 
@@ -203,6 +206,10 @@ pub crew-beside : (slot : Slot) (own : Option Card) (slots : Slots) →
     with_card slot own (with_card (other_slot slot) (accepted_card (in_slot slots (other_slot slot))) (record { driver = None; codriver = None })) ≡ with_card slot own (crew_of slots)
 crew-beside Driver own slots = refl
 crew-beside CoDriver own slots = refl
+
+pub crew-left : (slot : Slot) (slots : Slots) → with_card (other_slot slot) (accepted_card (in_slot slots (other_slot slot))) (record { driver = None; codriver = None }) ≡ with_card slot None (crew_of slots)
+crew-left Driver slots = refl
+crew-left CoDriver slots = refl
 
 pub none-there : (at : Phase) (slot : Slot) (slots : Slots) (leaving : List Visit) → leaving ++ visits at slot slots ≡ [] → accepted_card (in_slot slots slot) ≡ None
 none-there at slot slots leaving gone = by (in_slot slots slot) leaving gone
@@ -488,8 +495,8 @@ module _ (log : RunLog) (before : Before) (s : TraceSecond) (at : Phase) (power 
         beside-plain t' log later y s.number number-y at slot start.slots second untorn-other torn-other started itself-begun torn-beside
         ∙ sym (ap accepted_card left-slot ∙ accepted-cond (is_torn_in log s.number at (other_slot slot)) (in_slot start.slots (other_slot slot)))
 
-    pub fault-left : fault_of t' later y v ≡ fault_with s.number slot (crew_of (course_at log before s at).slots)
-    fault-left = (λ i. noted_with CARD_FAULT (number-y i) (number-y i) (with_card (other_slot slot) (beside-left i) (record { driver = None; codriver = None }))) ∙ ap (noted_with CARD_FAULT s.number s.number) (crew-beside slot None (course_at log before s at).slots)
+    pub fault-left : fault_of t' later y v ≡ fault_left s.number slot (crew_of (course_at log before s at).slots)
+    fault-left = (λ i. noted_with CARD_FAULT (number-y i) (number-y i) (with_card (other_slot slot) (beside-left i) (record { driver = None; codriver = None }))) ∙ ap (noted_with CARD_FAULT s.number s.number) (crew-left slot (course_at log before s at).slots)
 
     finds-none : finds log s.number at moves (other_slot slot) start ≡ []
     finds-none =

@@ -82,16 +82,16 @@ ends-added d o done p span s b at log r =
     record {
       kinds = all-both (λ (e : Event). Contains all_kinds e.kind) bares_of overs_of (there-of DRIVING_WITHOUT_CARD bares_of (2, omega arith, refl) bare) (there-of OVER_SPEEDING overs_of (5, omega arith, refl) over);
       on = λ more v. (
-      let bares_are : brought_now o log done s v.here v.own 0x04 ≡ bares_of = (λ i. cond (lit i) (bares_by (span_before (spans_are i) x) (x ∷ [])) []) in
-      let overs_are : brought_now o log done s v.here v.own 0x07 ≡ overs_of = (λ i. cond (lit i) (overs_by limit (span_before (spans_are i) x) (x ∷ [])) []) in
-      record {
-        here = v.here;
-        own = v.own;
-        told = λ kind among told. told-all bares_of overs_of bare over more (brought_now o log done s v.here v.own) v.told v.untold bares_are overs_are kind among;
-        untold = λ kind among off. absurd (never off);
-        fits = record { put_in = v.fits.put_in; still = v.fits.still; before = v.fits.before; waking = λ is. absurd (asleep is) };
-        open_now = v.open_now;
-      });
+          let bares_are : brought_now o log done s v.here v.own 0x04 ≡ bares_of = (λ i. cond (lit i) (bares_by (span_before (spans_are i) x) (x ∷ [])) []) in
+          let overs_are : brought_now o log done s v.here v.own 0x07 ≡ overs_of = (λ i. cond (lit i) (overs_by limit (span_before (spans_are i) x) (x ∷ [])) []) in
+          record {
+            here = v.here;
+            own = v.own;
+            told = λ kind among told. told-all bares_of overs_of bare over more (brought_now o log done s v.here v.own) v.told v.untold bares_are overs_are kind among;
+            untold = λ kind among off. absurd (never off);
+            fits = record { put_in = v.fits.put_in; still = v.fits.still; before = v.fits.before; waking = λ is. absurd (asleep is) };
+            open_now = v.open_now;
+          });
     }
   where
     never : true ≡ false → ⊥

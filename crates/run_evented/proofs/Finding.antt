@@ -42,7 +42,7 @@ use Rattle.run_evented.specs.SoFar.{FitsSoFar, stage_in, AreBare, ComesInTurn, j
 use Rattle.run_evented.proofs.Fronts.{IsFormer, former-other, DifferAt, torn-same, accepted-same, stands-same, events-as}
 use Rattle.run_evented.proofs.Parts.{outs, found_now, finds}
 use Rattle.run_evented.proofs.Brought.{SameBefore, told-speed, begun-same, moved-same, within-same, differ, faults-then, found-then}
-use Rattle.run_evented.proofs.Bringing.{kinds-then, few-at, before-as, crew-beside}
+use Rattle.run_evented.proofs.Bringing.{kinds-then, few-at, before-as, crew-beside, paired}
 use Rattle.run_evented.proofs.Tearing.{and-none, same-self, phase-self, slot-self, slot-apart, slot-beside, other-twice, told_slot, both-slot, cards-kept, IsBeside, turn-few, only-other, few-alone, map-few, not-torn, few-torn}
 use Rattle.run_evented.proofs.Stood.{accepted_here, bare-card, stands-as}
 use Rattle.run_evented.proofs.Adding.{power-now, starts-now, fits-now, open-now, added, aside-acting, aside-waking}
@@ -71,7 +71,7 @@ one-enters n None speed c slot is = absurd (let wrong : false ≡ true = is in c
 one-enters n (Some a) speed c slot is = none-enters n (refusal c.slots speed a) a c.slots slot is
 
 -- ---- of both slots
-no-pairs : (vs : List Visit) → flat_map (λ (visit : Visit). map (λ (v : Verdict). (visit, v)) []) vs ≡ []
+no-pairs : (vs : List Visit) → flat_map (λ (visit : Visit). paired visit []) vs ≡ []
 no-pairs [] = refl
 no-pairs (visit ∷ vs) = no-pairs vs
 

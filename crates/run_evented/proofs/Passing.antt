@@ -12,7 +12,7 @@ use Rattle.trace_model.specs.Trace.{TraceSecond}
 use Rattle.log_model.specs.declared.lines.Break.{Break}
 use Rattle.log_model.specs.declared.lines.Refused.{Refused}
 use Rattle.log_model.specs.declared.lines.Verdict.{Verdict}
-use Rattle.log_model.specs.Log.{RunLog, Phase, In, same_phase, kept_by, kept_after, is_torn_in, found_in}
+use Rattle.log_model.specs.Log.{RunLog, Phase, In, Keeping, same_phase, kept_by, kept_after, is_torn_in, found_in}
 use Rattle.log_model.specs.Slots.{Slots, in_slot, other_slot}
 use Rattle.log_model.specs.Course.{Visit, Course, Before, Moved, card_in, visits, has_power, went}
 use Rattle.event_model.specs.declared.kinds.TheConstants.{DRIVING_WITHOUT_CARD, OVER_SPEEDING, POWER_INTERRUPTION, CARD_FAULT}
@@ -33,7 +33,7 @@ use Rattle.run_evented.specs.SoFar.{FitsSoFar, ARefusalAddsNothing, APullAddsNot
 use Rattle.run_evented.proofs.Fronts.{DifferAt, torn-same, accepted-same, stands-same}
 use Rattle.run_evented.proofs.Parts.{outs, found_now, finds}
 use Rattle.run_evented.proofs.Brought.{SameBefore, within-same, differ, faults-then, found-then}
-use Rattle.run_evented.proofs.Bringing.{kinds-then, before-as, found-none, torn-here, torn-beside, found-same, same, outs-none, outs-other, few-others, finds-same}
+use Rattle.run_evented.proofs.Bringing.{kinds-then, before-as, found-none, paired, torn-here, torn-beside, found-same, same, outs-none, outs-other, few-others, finds-same}
 use Rattle.run_evented.proofs.Refusing.{same-at, refusal-brings}
 use Rattle.run_evented.proofs.Tearing.{IsBeside, both-slot, cards-kept, turn-few, only-other, few-alone, map-few}
 use Rattle.run_evented.proofs.Adding.{power-now, OpenBy, fits-now, open-now, added, aside-acting}
@@ -164,7 +164,7 @@ module _ (log : RunLog) (before : Before) (s : TraceSecond) (n : ℕ) (power : h
   none-found : (sl : Slot) → visits at sl start.slots ≡ [] → finds log s.number at moves sl start ≡ []
   none-found sl nobody = ap (flat_map (λ (visit : Visit). map (λ (verdict : Verdict). (visit, verdict)) (found_now log s.number at moves sl))) nobody
 
-  no-pairs : (vs : List Visit) → flat_map (λ (visit : Visit). map (λ (verdict : Verdict). (visit, verdict)) []) vs ≡ []
+  no-pairs : (vs : List Visit) → flat_map (λ (visit : Visit). paired visit []) vs ≡ []
   no-pairs [] = refl
   no-pairs (visit ∷ vs) = no-pairs vs
 

@@ -136,7 +136,7 @@ module _ (log : RunLog) (before : Before) (s : TraceSecond) (power : has_power b
       (λ one. inl (torn-there (In 0) slot x [] (λ (sl : Slot). outs log s.number (In 0) moves sl start) one.0.w torn-are one.0.are one.0.phase_is one.0.slot_is))
       (few-at-all slot)
     where
-      nobody : (o : Option Sitting) → map (λ (card : Card). record { phase = In 0; slot = slot; card = card }) (card_in o) ≡ [] → o ≡ None
+      nobody : (o : Option Sitting) → map {B = Visit} (λ (card : Card). record { phase = In 0; slot = slot; card = card }) (card_in o) ≡ [] → o ≡ None
       nobody None gone = refl
       nobody (Some c) gone = absurd (cc)
 

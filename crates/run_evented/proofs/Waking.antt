@@ -41,7 +41,7 @@ use Rattle.run_evented.specs.Bringing.{ChoiceBefore}
 use Rattle.run_evented.proofs.Fronts.{DifferAt, events-as}
 use Rattle.run_evented.proofs.Parts.{outs, found_now, finds}
 use Rattle.run_evented.proofs.Brought.{begun-same, moved-same, differ, faults-then, found-then}
-use Rattle.run_evented.proofs.Bringing.{kinds-then, one-of, none-of, not-fault, before-as, brought-as, crew-beside, IsOf, finds-of, flat-stays, torn-here, torn-beside, found-same, same, outs-own, outs-none, outs-other, few-others, finds-same}
+use Rattle.run_evented.proofs.Bringing.{kinds-then, one-of, none-of, not-fault, before-as, brought-as, crew-left, paired, IsOf, finds-of, flat-stays, torn-here, torn-beside, found-same, same, outs-own, outs-none, outs-other, few-others, finds-same}
 use Rattle.run_evented.proofs.Tearing.{and-none, same-self, slot-self, slot-apart, slot-beside, told_slot, both-slot, IsBeside, FirstBeside, turn-second, turn-few, only-other, few-alone, few-first, map-few}
 use Rattle.run_evented.proofs.Stood.{untorn-slot, stands-as, accepted-as, bare-as}
 use Rattle.run_evented.proofs.Noting.{by-more, bool-or}
@@ -188,7 +188,7 @@ module _ (log : RunLog) (before : Before) (s : TraceSecond) (power : has_power b
       fault-is : fault_of t' later y v ≡ fault_with s.number slot (crew_of (course_at log before s (In 0)).slots)
       fault-is =
           (λ i. noted_with CARD_FAULT (number-y i) (number-y i) (with_card (other_slot slot) (left i) (record { driver = None; codriver = None })))
-          ∙ ap (noted_with CARD_FAULT s.number s.number) (crew-beside slot None (course_at log before s (In 0)).slots)
+          ∙ ap (noted_with CARD_FAULT s.number s.number) (crew-left slot (course_at log before s (In 0)).slots)
 
       faults-more : faults_by t' later y ≡ faults_by t log x ++ fault_with s.number slot (crew_of (course_at log before s (In 0)).slots) ∷ []
       faults-more = faults-then (In 0) start.torn start.found xs ys fs gs t t' x y d log later (fault_with s.number slot (crew_of (course_at log before s (In 0)).slots) ∷ [])
@@ -346,7 +346,7 @@ waking-tear_adds dev o done p s b log r bare slot sits line tear there turn rest
         cond-nil true = refl
         cond-nil false = refl
 
-        no-pairs : (vs : List Visit) → flat_map (λ (visit : Visit). map (λ (verdict : Verdict). (visit, verdict)) []) vs ≡ []
+        no-pairs : (vs : List Visit) → flat_map (λ (visit : Visit). paired visit []) vs ≡ []
         no-pairs [] = refl
         no-pairs (visit ∷ vs) = no-pairs vs
 
@@ -487,17 +487,17 @@ module _ (dev : Devices) (o : Origin) (done : List TraceSecond) (p : Progress) (
   order-gap Driver t' y own other = λ i. own i && not (other refl i)
   order-gap CoDriver t' y own other = ap (λ (c : Bool). t'.by_gap (number_of y) Driver && not c) own ∙ and-none (t'.by_gap (number_of y) Driver)
 
-  stay-gap : (slot : Slot) (t t' : Tearing) (log later : RunLog) (x y : Seen) → (slot ≡ Driver → (t'.by_gap (number_of y) CoDriver ≡ false) × (t.by_gap (number_of x) CoDriver ≡ false)) →
-      t'.by_gap (number_of y) (other_slot slot) ≡ t.by_gap (number_of x) (other_slot slot) → standing t' y slot ≡ standing t x slot → beside_torn t' later y (In 0) (other_slot slot) ≡ beside_torn t log x (In 0) (other_slot slot)
-  stay-gap Driver t t' log later x y off alike stands =
+  stay-gap : (slot : Slot) (t t' : Tearing) (log more_log : RunLog) (x y : Seen) → (slot ≡ Driver → (t'.by_gap (number_of y) CoDriver ≡ false) × (t.by_gap (number_of x) CoDriver ≡ false)) →
+      t'.by_gap (number_of y) (other_slot slot) ≡ t.by_gap (number_of x) (other_slot slot) → standing t' y slot ≡ standing t x slot → beside_torn t' more_log y (In 0) (other_slot slot) ≡ beside_torn t log x (In 0) (other_slot slot)
+  stay-gap Driver t t' log more_log x y off alike stands =
       ap (λ (c : Bool). cond c (accepted_card (y.after 0).driver) (standing t' y Driver)) (off refl).0 ∙ stands ∙ sym (ap (λ (c : Bool). cond c (accepted_card (x.after 0).driver) (standing t x Driver)) (off refl).1)
-  stay-gap CoDriver t t' log later x y off alike stands = λ i. cond (alike i) (stands i) None
+  stay-gap CoDriver t t' log more_log x y off alike stands = λ i. cond (alike i) (stands i) None
 
-  left-gap : (slot : Slot) (t t' : Tearing) (log later : RunLog) (x y : Seen) → t'.by_gap (number_of y) slot ≡ true → standing t' y (other_slot slot) ≡ standing t x (other_slot slot) →
+  left-gap : (slot : Slot) (t t' : Tearing) (log more_log : RunLog) (x y : Seen) → t'.by_gap (number_of y) slot ≡ true → standing t' y (other_slot slot) ≡ standing t x (other_slot slot) →
       (slot ≡ Driver → standing t x CoDriver ≡ accepted_card (course_at log before_it s (In 0)).slots.codriver) → (slot ≡ CoDriver → accepted_card (y.after 0).driver ≡ accepted_card (course_at log before_it s (In 0)).slots.driver) →
-      beside_torn t' later y (In 0) slot ≡ accepted_card (in_slot (course_at log before_it s (In 0)).slots (other_slot slot))
-  left-gap Driver t t' log later x y own beside stands after = ap (λ (c : Bool). cond c (standing t' y CoDriver) None) own ∙ beside ∙ stands refl
-  left-gap CoDriver t t' log later x y own beside stands after = ap (λ (c : Bool). cond c (accepted_card (y.after 0).driver) (standing t' y Driver)) own ∙ after refl
+      beside_torn t' more_log y (In 0) slot ≡ accepted_card (in_slot (course_at log before_it s (In 0)).slots (other_slot slot))
+  left-gap Driver t t' log more_log x y own beside stands after = ap (λ (c : Bool). cond c (standing t' y CoDriver) None) own ∙ beside ∙ stands refl
+  left-gap CoDriver t t' log more_log x y own beside stands after = ap (λ (c : Bool). cond c (accepted_card (y.after 0).driver) (standing t' y Driver)) own ∙ after refl
 
   driver-gap : (slot : Slot) (t t' : Tearing) (x y : Seen) → standing t' y slot ≡ standing t x slot → standing t' y (other_slot slot) ≡ standing t x (other_slot slot) → (sl : Slot) → standing t' y sl ≡ standing t x sl
   driver-gap Driver t t' x y own other Driver = own
@@ -560,13 +560,13 @@ module _ (dev : Devices) (o : Origin) (done : List TraceSecond) (p : Progress) (
       )
 
   -- or none does
-  falls-or : (fell : Bool) (slot : Slot) (log later : RunLog) (es : List Event) → FallsAt fell done p s slot log later es → (r : Reaches p s (In 0) log) (more : List Event) (v : SoFar o done s Acting log more dev) → IsInOrder slot v.here →
-      Fallen slot (v.here.by_gap s.number (other_slot slot)) more later es
-  falls-or false slot log later es falls r more v order =
+  falls-or : (fell : Bool) (slot : Slot) (log after_log : RunLog) (es : List Event) → FallsAt fell done p s slot log after_log es → (r : Reaches p s (In 0) log) (more : List Event) (v : SoFar o done s Acting log more dev) → IsInOrder slot v.here →
+      Fallen slot (v.here.by_gap s.number (other_slot slot)) more after_log es
+  falls-or false slot log after_log es falls r more v order =
       let gap : Bool = v.here.by_gap s.number (other_slot slot) in
       let base = with-more dev o done s Acting log more v s.number (other_slot slot) in
       subst (λ (l : RunLog). Fallen slot gap more l es) (sym falls.0) (subst (λ (l : List Event). Fallen slot gap more log l) (sym falls.1) (base.0, base.1, r))
-  falls-or true slot log later es falls r more v order =
+  falls-or true slot log after_log es falls r more v order =
       let gap : Bool = v.here.by_gap s.number (other_slot slot) in
       subst (λ (l : RunLog). Fallen slot gap more l es) (sym falls.3) (subst (λ (l : List Event). Fallen slot gap more (and_break log falls.0) l) (sym falls.4) (fall-so slot log r more v order falls.0 falls.1 falls.2))
 
@@ -574,9 +574,9 @@ module _ (dev : Devices) (o : Origin) (done : List TraceSecond) (p : Progress) (
   falls-there false slot log later es falls = subst (AllByRecursion (λ (e : Event). Contains all_kinds e.kind)) (sym falls.1) tt
   falls-there true slot log later es falls = subst (AllByRecursion (λ (e : Event). Contains all_kinds e.kind)) (sym falls.4) ((7, omega arith, refl), tt)
 
-all-both : {X : Type 0} (P : X → Type 0) (xs ys : List X) → AllByRecursion P xs → AllByRecursion P ys → AllByRecursion P (xs ++ ys)
-all-both P [] ys hx hy = hy
-all-both P (x ∷ xs) ys hx hy = (hx.0, all-both P xs ys hx.1 hy)
+all-both : {X : Type 0} (P : X → Type 0) (xs zs : List X) → AllByRecursion P xs → AllByRecursion P zs → AllByRecursion P (xs ++ zs)
+all-both P [] zs hx hy = hy
+all-both P (x ∷ xs) zs hx hy = (hx.0, all-both P xs zs hx.1 hy)
 
 -- THE POWER-ON IS DONE
 pub interruption-adds : (dev : Devices) → AnInterruptionAdds dev
