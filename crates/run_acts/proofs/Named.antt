@@ -43,8 +43,8 @@ card-valid o (Some x) h = by x.accepted refl
 
 pub crew-valid : (o : Origin) → IsOrigin o → (standing : Card → Standing) (told : List Told) (c : Course) (number from : ℕ) (cabin : Cabin) → PresentStand o.found standing told c number from cabin → CrewValid o (crew_of c.slots)
 crew-valid o origin standing told c number from cabin h = record {
-  driver = card-valid o c.slots.driver (λ card u there. subst IsOwnValid (origin.image card) (h.seated Driver card u there).valid);
-  codriver = card-valid o c.slots.codriver (λ card u there. subst IsOwnValid (origin.image card) (h.seated CoDriver card u there).valid);
+  driver = card-valid o c.slots.driver (λ card u there. subst IsOwnValid (origin.image card) (h.seated Driver card u there).0);
+  codriver = card-valid o c.slots.codriver (λ card u there. subst IsOwnValid (origin.image card) (h.seated CoDriver card u there).0);
 }
 
 -- without one of them, too

@@ -77,13 +77,13 @@ module _ (f g : Card → List ℕ) where
   noted-as old [] new agree h = h
   noted-as old (e ∷ es) new agree h = (h.0, place-as old e (place_of e.kind (map (held_in e.kind) old) (held_of e)) (day_place e.kind (map (held_in e.kind) old) (held_of e)) h.0 agree.0.0 agree.0.1 h.1, noted-as h.0 es new agree.1 h.2)
 
+  one-kind : (b : Bool) (e : Event) (rest : List Event) → AgreeOn f g e.at_begin × AgreeOn f g e.at_end → AgreeOnAll f g rest → AgreeOnAll f g (cond b (e ∷ rest) rest)
+  one-kind true e rest one all_ = (one, all_)
+  one-kind false e rest one all_ = all_
+
   of-kind : (es : List Event) (kind : ℕ) → AgreeOnAll f g es → AgreeOnAll f g (by_kind es kind)
   of-kind [] kind agree = tt
-  of-kind (e ∷ es) kind agree = by (nat_eq e.kind kind) (of-kind es kind agree.1)
-    where
-      by : (b : Bool) → AgreeOnAll f g (by_kind es kind) → AgreeOnAll f g (cond b (e ∷ by_kind es kind) (by_kind es kind))
-      by true rest = (agree.0, rest)
-      by false rest = rest
+  of-kind (e ∷ es) kind agree = one-kind (nat_eq e.kind kind) e (by_kind es kind) agree.0 (of-kind es kind agree.1)
 
   shown-as : (log : RunLog) (now : ℕ → List Event) (es : List Event) (x c : List ℕ) → AgreeOnAll f g es → ShowsMore f log now (by_kind es) x c → ShowsMore g log now (by_kind es) x c
   shown-as log now es x c agree h = record {

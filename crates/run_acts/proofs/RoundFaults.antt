@@ -592,7 +592,7 @@ module _ (d e : Devices) (o : Origin) (origin : IsOrigin o) (done : List TraceSe
   rose-since before mid now le = ⊎_elim (λ more. inl (omega (arith, le, more))) (λ all_. inr all_)
 
   left-at : (at : Phase) → IsMoment s at → (rest : List Action) × IsLeft s at rest
-  left-at (In n) is = (drop n s.actions, take n s.actions, sym (take-append-drop n s.actions), length-take-le n s.actions is)
+  left-at (In n) is = (drop n s.actions, (take n s.actions, (sym (take-append-drop n s.actions), length-take-le n s.actions is)))
   left-at Keeping is = ([], refl)
 
   -- THE CUT that is told next leaves the events so

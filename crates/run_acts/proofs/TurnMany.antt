@@ -146,6 +146,10 @@ use Rattle.run_evented.proofs.Quiet.{ends-nothing, quiet-brings_nothing}
 use Rattle.run_events.proofs.Quiet.{bares-split, overs-split}
 use Rattle.run_within.specs.Turning.{BehindFirst}
 use Rattle.run_within.specs.Recorded.{progress}
+use Rattle.trace_model.specs.declared.Card.TheVariants.{A as CardA_, B as CardB_}
+use Rattle.card_image.specs.Own.{IsOwnValid}
+use Rattle.safety_model.specs.Recording.{card_image}
+use Rattle.run_recorded.specs.Ends.{recording_by}
 use Rattle.run_acts.proofs.LastAlike.{last-ends}
 use Rattle.run_within.specs.Within.{passed_values}
 use Rattle.run_evented.proofs.Unlit.{dark-seconds}
@@ -243,6 +247,11 @@ stills-low (suc n) number speed slots some fits = ((some, omega (arith, fits)), 
 stills-valid : (o : Origin) (n number speed : ℕ) (slots : Slots) → CrewValid o (events.crew_of slots) → AllByRecursion (λ (y : Seen). CrewValid o (events.crew_of y.itself)) (still_seconds n number speed slots)
 stills-valid o zero number speed slots valid = tt
 stills-valid o (suc n) number speed slots valid = (valid, stills-valid o n (number + 1) speed slots valid)
+
+-- the images at the start do not go with the seconds
+valid-now : (o : Origin) (done : List TraceSecond) (l : RunLog) (c : Card) → IsOwnValid (card_image (recording_by o done l) c) → ValidHere o c
+valid-now o done l CardA_ h = h
+valid-now o done l CardB_ h = h
 
 -- nothing behind nothing
 no-event : (xs ys : List Event) → xs ++ ys ≡ [] → ys ≡ []
@@ -428,7 +437,7 @@ module _ {U A0 B0 : State} {chip_a chip_b : CardState} (n speed begun : ℕ) (ol
       subst (λ (cab : Cabin). crew_of cab ≡ named f (events.crew_of slots)) B.cabin
       (crew-sits (start_at o) (went P1.log (done ++ s ∷ [])).told B.recorded.book.sure [] (B.values.next - 1) (ungiven_of (span_at (rule_of o) B.values.next (B.told ∷ B.span))) slots B.values.cabin
       (subst AllSitWell (sym B.cabin) (well n speed begun old before minutes keeper watch marks breaks failed decided reach d e g lit some minute small early stands given is books devices odometer whole unit noted memory time)) on.tells f
-      (known-as o r.within.origin B.values.cabin.cards B.recorded.found (λ card some_. (on.written card some_).may.0)))
+      (known-as o r.within.origin B.values.cabin.cards B.recorded.found (λ card some_. valid-now o (done ++ s ∷ []) P1.log card (on.written card some_).may.0)))
 
   fed-x : IsFedBy f speed crew X
   fed-x = record { at = told-speed log (went log done).before s power-now ∙ now.speed_is; named_ = crew-s }
