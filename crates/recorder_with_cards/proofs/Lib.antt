@@ -34,3 +34,4 @@ pub mod Staying
 pub mod ActsEvented
 pub mod SecondsEvented
 pub mod Uncut
+pub mod WholeOdometer

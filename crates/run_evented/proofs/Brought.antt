@@ -23,7 +23,7 @@ use Rattle.run_evented.proofs.Whole.{whole-told}
 use Rattle.run_evented.proofs.Fronts.{IsFormer, turn-front, DifferAt, old-faults, old-found}
 use Rattle.run_evented.proofs.Parts.{outs, finds, both-torn, both-found, all-outs, all-finds, leaving-at, begun-former}
 
-lit-course : (log : RunLog) (before : Before) (s : TraceSecond) → has_power before s ≡ true → (second_told log before s).course ≡ lit_course log s (not before.running) before.slots
+pub lit-course : (log : RunLog) (before : Before) (s : TraceSecond) → has_power before s ≡ true → (second_told log before s).course ≡ lit_course log s (not before.running) before.slots
 lit-course log before s power = rw power refl
 
 pub told-speed : (log : RunLog) (before : Before) (s : TraceSecond) → has_power before s ≡ true → (second_told log before s).second.speed ≡ s.speed

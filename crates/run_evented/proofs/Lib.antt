@@ -12,3 +12,12 @@ pub mod Brought
 pub mod Tearing
 pub mod Bringing
 pub mod Refusing
+pub mod Choices
+pub mod Adding
+pub mod Falling
+pub mod Stood
+pub mod Finding
+pub mod Waking
+pub mod Passing
+pub mod Ending
+pub mod Cutting

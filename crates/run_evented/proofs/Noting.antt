@@ -5,28 +5,28 @@ use Rattle.std.proofs.lemmas.List.Elements.{filter-append}
 use Rattle.trace_model.specs.Trace.{TraceSecond}
 use Rattle.tach_media.specs.Medium.{State}
 use Rattle.log_model.specs.declared.lines.Verdict.{Verdict}
-use Rattle.log_model.specs.Log.{RunLog, In}
+use Rattle.log_model.specs.Log.{RunLog, In, Phase}
 use Rattle.log_model.specs.Course.{Told, Visit, Before, Course, lit_course, has_power, second_told, went}
 use Rattle.event_model.specs.declared.kinds.TheConstants.{DRIVING_WITHOUT_CARD, OVER_SPEEDING, POWER_INTERRUPTION, CARD_FAULT}
 use Rattle.event_model.specs.Events.{Event, Seen, Tearing, fault_of, torn_in_turn, found_events, number_of, seen_of, seen_spans, events_of}
 use Rattle.unit_course.specs.Lines.{cut_at}
-use Rattle.unit_course.specs.Followed.{Lit}
+use Rattle.unit_course.specs.Followed.{Lit, Lost}
 use Rattle.unit_course.specs.Turn.{begins_with}
 use Rattle.safety_model.specs.Safe.{Devices}
 use Rattle.event_course.specs.Shown.{all_kinds}
 use Rattle.event_course.specs.Noted.{are_sure}
 use Rattle.run_course.specs.Moments.{and_break}
-use Rattle.run_course.specs.Followed.{Progress}
+use Rattle.run_course.specs.Followed.{Progress, Followed}
 use Rattle.run_course.specs.Seconds.{GoesOnBy, next_told}
 use Rattle.run_course.proofs.Steps.{with-supply}
 use Rattle.run_course.proofs.Told.{lit-power, lit-starts, lit-told}
-use Rattle.run_moments.specs.Moment.{goes_on}
-use Rattle.run_moments.specs.Telling.{begun_by}
+use Rattle.run_moments.specs.Moment.{goes_on, Moment}
+use Rattle.run_moments.specs.Telling.{begun_by, IsMore, IsLeft}
 use Rattle.run_moments.proofs.Reached.{second-reached}
 use Rattle.run_moments.proofs.Telling.{second-ends_told, cut-ends_told}
 use Rattle.run_events.specs.Shown.{by_kind, none, ShowsEvents}
 use Rattle.run_events.specs.Seconds.{span_before, bares_by, overs_by, gap_before, gap_by, faults_by, found_by, second_events, seen_next}
-use Rattle.run_events.specs.Choice.{IsPlainFrom, plain}
+use Rattle.run_events.specs.Choice.{IsPlainFrom, plain, IsTornIn}
 use Rattle.run_events.specs.Running.{HasEvents}
 use Rattle.run_events.proofs.Gaps.{goes-on, breaks-off}
 use Rattle.run_events.proofs.Shows.{more-then, nothing-more}
@@ -35,20 +35,24 @@ use Rattle.run_events.proofs.Ordered.{behind}
 use Rattle.run_events.proofs.Quiet.{plain-behind}
 use Rattle.run_recorded.specs.Origin.{Origin, rule_of, start_at, first_of}
 use Rattle.run_recorded.specs.Beside.{HaveLeftMore}
-use Rattle.run_evented.specs.Evented.{number_in, limit_in, events_now, brought_now, tearing_now, sessions_now}
-use Rattle.run_evented.specs.Noting.{Stage, Ended, is_told, ShowsThese, EventedIn, NotesThese, AStepIsNoted, AStageIsDone, stage_of, TheSecondBegins, TheSecondIsNoted, TheSecondIsCut}
+use Rattle.run_evented.specs.Evented.{number_in, limit_in, events_now, brought_now, tearing_now, sessions_now, NotesMore, Evented}
+use Rattle.run_evented.specs.Noting.{Stage, Ended, is_told, ShowsThese, EventedIn, NotesThese, AStepIsNoted, AStageIsDone, stage_of, TheSecondBegins, TheSecondIsNoted, TheSecondIsCut, AreOpen}
 use Rattle.run_evented.proofs.Lines.{same-before, tells-so, front-same, early-before, sessions-on}
 use Rattle.run_evented.proofs.Seconds.{cut-goes, cut-failed, cut-untold}
 use Rattle.run_evented.proofs.Whole.{whole-told}
+use Rattle.trace_model.specs.declared.Action.{Action}
+use Rattle.run_model.specs.declared.Device.{Device}
+use Rattle.run_model.specs.declared.Device.TheVariants.{Unit as Recorder}
+use Rattle.log_model.specs.Causes.{RoseBy}
 
 -- ONE NOTE AFTER ANOTHER
-by-more : (more es : List Event) (kind : ℕ) → by_kind (more ++ es) kind ≡ by_kind more kind ++ by_kind es kind
+pub by-more : (more es : List Event) (kind : ℕ) → by_kind (more ++ es) kind ≡ by_kind more kind ++ by_kind es kind
 by-more more es kind = filter-append (λ (e : Event). nat_eq e.kind kind) more es
 
 none-more : (more es : List Event) (kind : ℕ) → by_kind es kind ≡ [] → by_kind more kind ≡ [] → by_kind (more ++ es) kind ≡ []
 none-more more es kind last first = by-more more es kind ∙ ap (λ (xs : List Event). by_kind more kind ++ xs) last ∙ ap (λ (xs : List Event). xs ++ []) first
 
-noted-more : (o : Origin) (more es : List Event) (d e : Devices) (P : List ℕ → Type 0) → ((c : List ℕ) → d.unit.may_leave c → (x : List ℕ) × P x × ShowsThese o more x c) → NotesThese o es d e →
+pub noted-more : (o : Origin) (more es : List Event) (d e : Devices) (P : List ℕ → Type 0) → ((c : List ℕ) → d.unit.may_leave c → (x : List ℕ) × P x × ShowsThese o more x c) → NotesThese o es d e →
     (c : List ℕ) → e.unit.may_leave c → (x : List ℕ) × P x × ShowsThese o (more ++ es) x c
 noted-more o more es d e P noted says c left =
     let at = says c left in
@@ -72,7 +76,7 @@ step-noted d e o done s p stage log later v here own es brings aside says left o
   open_now = open_now;
 }
 
-bool-or : (b : Bool) → (b ≡ true) ⊎ (b ≡ false)
+pub bool-or : (b : Bool) → (b ≡ true) ⊎ (b ≡ false)
 bool-or true = inl refl
 bool-or false = inr refl
 
@@ -122,7 +126,7 @@ same-if : (b : Bool) → cond {A = List Event} b [] [] ≡ []
 same-if true = refl
 same-if false = refl
 
-nothing-brought : (kind limit : ℕ) (sessions : ℕ → Visit → ℕ) (t : Tearing) (log : RunLog) (spans : List (List Seen)) (x : Seen) (starts : Bool) → x.told.starts ≡ starts → x.told.course.torn ≡ [] → x.told.course.found ≡ [] → is_told (stage_of starts) kind ≡ true →
+pub nothing-brought : (kind limit : ℕ) (sessions : ℕ → Visit → ℕ) (t : Tearing) (log : RunLog) (spans : List (List Seen)) (x : Seen) (starts : Bool) → x.told.starts ≡ starts → x.told.course.torn ≡ [] → x.told.course.found ≡ [] → is_told (stage_of starts) kind ≡ true →
     [] ≡ second_events kind limit sessions t log spans x
 nothing-brought kind limit sessions t log spans x true starts torn found is =
     waking-none (kind == DRIVING_WITHOUT_CARD) (kind == OVER_SPEEDING) (kind == POWER_INTERRUPTION) (kind == CARD_FAULT)
@@ -170,13 +174,13 @@ second-begins d o done p f v span is s number power =
     none-there x at = omega (arith, at.1)
 
 -- A SECOND ENDS
-abbrev behind-all : State → (P : List ℕ → Type 0) → State
+abbrev pub behind-all : State → (P : List ℕ → Type 0) → State
 behind-all u P = record u { may_leave = P }
 
 all-told : (o : Origin) (done : List TraceSecond) (s : TraceSecond) (p : Progress) (log : RunLog) (d : Devices) (v : EventedIn o done s p Ended log d) (kind : ℕ) → Contains all_kinds kind → by_kind v.more kind ≡ brought_now o log done s v.here v.own kind
 all-told o done s p log d v kind there = v.told kind there refl
 
-same-left : (o : Origin) (d : Devices) → HaveLeftMore o d d
+pub same-left : (o : Origin) (d : Devices) → HaveLeftMore o d d
 same-left o d = record { unit = λ x h. h; card = λ c x h. h }
 
 pub second-is_noted : (d : Devices) → TheSecondIsNoted d
@@ -197,12 +201,18 @@ second-is_noted d o done p f span is s log mid now m v fits =
       found_open = sessions-on o done p f s log g d d v.sessions v.own v.open_before (same-left o d) v.open_now;
     }
 
-empty-or : (es : List Event) → (es ≡ []) ⊎ (es ≡ [] → ⊥)
+pub empty-or : (es : List Event) → (es ≡ []) ⊎ (es ≡ [] → ⊥)
 empty-or [] = inl refl
 empty-or (e ∷ es) = inr (λ is. absurd (cc))
 
-pub second-is_cut : (d e : Devices) → TheSecondIsCut d e
-second-is_cut d e o done p f span is s at log waits mid now later m more broke rest is_left stage v here own fits open_now left same each =
+-- OR THE UNIT FAILS: of what was noted before, by any log of it, nothing is sure
+pub cut-by : (d e : Devices) (o : Origin) (done : List TraceSecond) (p : Progress) (f : Followed (rule_of o) (start_at o) o.from (first_of o) done p) (span : List Told) → p.supply ≡ Lit span → (s : TraceSecond) (at : Phase) (log : RunLog) (waits : List Visit) (mid now later : Device → ℕ) →
+    Moment p (went p.log done).before s at log waits mid now → IsMore now later → RoseBy 1 (mid Recorder) (later Recorder) → (rest : List Action) → IsLeft s at rest → let cut : RunLog = and_break log (cut_at s.number true (begun_by s at)) in
+    (stage : Stage) (old : RunLog) (v : EventedIn o done s p stage old d) (here : Tearing) (own : ℕ → Visit → ℕ) → IsTornIn here (seen_next cut done s) → AreOpen o cut done s own e → HaveLeftMore o d e →
+    ((kind : ℕ) → Contains all_kinds kind → (brought_now o cut done s here own kind ≡ []) → by_kind v.more kind ≡ []) →
+    (((kind : ℕ) → (brought_now o cut done s here own kind ≡ [] → ⊥) → are_sure cut (events_now o cut done s here own v.tearing v.sessions kind) ≡ true → ⊥) → NotesMore o cut (events_now o cut done s here own v.tearing v.sessions) none d e) →
+    Evented o (done ++ s ∷ []) cut p.unfound (suc p.next) Lost e
+cut-by d e o done p f span is s at log waits mid now later m more broke rest is_left stage old v here own fits open_now left same each_then =
     let k : ℕ = begun_by s at in
     let cut : RunLog = and_break log (cut_at s.number true k) in
     let g : GoesOnBy p cut s = cut-goes o done p f s at log waits mid now m k in
@@ -212,11 +222,11 @@ second-is_cut d e o done p f span is s at log waits mid now later m more broke r
     let has : HasEvents (number_in o) o.recording.unit (limit_in o) p.log done (behind-all d.unit P) v.tearing v.sessions = record { torn = v.torn; noted = record { shows = λ x h. h } } in
     let now_events : ℕ → List Event = events_now o cut done s here own v.tearing v.sessions in
     let behind_so = behind cut o.from done s f.order (g.number ∙ f.next) in
+    let not_sure : (kind : ℕ) → (brought_now o cut done s here own kind ≡ [] → ⊥) → are_sure cut (now_events kind) ≡ true → ⊥ =
+    unsure-now (number_in o) o.recording.unit (limit_in o) p.log cut p.unfound p.supply done s v.tearing here v.sessions own {U = behind-all d.unit P} has v.gaps (tells-so o done p f s cut g) (early-before o done p f s cut g) fits failed behind_so in
+    let each = each_then not_sure in
     let unsure : (kind : ℕ) → Contains all_kinds kind → (by_kind v.more kind ≡ []) ⊎ (are_sure cut (now_events kind) ≡ true → ⊥) = λ kind there.
-    ⊎_elim
-    (λ none. ⊎_elim (λ was. inl (v.told kind there was ∙ same kind there was none)) (λ was. inl (v.untold kind there was)) (bool-or (is_told stage kind)))
-    (λ some. inr (unsure-now (number_in o) o.recording.unit (limit_in o) p.log cut p.unfound p.supply done s v.tearing here v.sessions own {U = behind-all d.unit P} has v.gaps (tells-so o done p f s cut g) (early-before o done p f s cut g) fits failed behind_so kind some))
-    (empty-or (brought_now o cut done s here own kind)) in
+    ⊎_elim (λ none. inl (same kind there none)) (λ some. inr (not_sure kind some)) (empty-or (brought_now o cut done s here own kind)) in
     record {
       tearing = tearing_now s here v.tearing;
       sessions = sessions_now s own v.sessions;
@@ -230,3 +240,8 @@ second-is_cut d e o done p f span is s at log waits mid now later m more broke r
           (cut-untold o done p f s at log waits mid now m k);
       found_open = sessions-on o done p f s cut g d e v.sessions own v.open_before left open_now;
     }
+
+pub second-is_cut : (d e : Devices) → TheSecondIsCut d e
+second-is_cut d e o done p f span is s at log waits mid now later m more broke rest is_left stage v here own fits open_now left same each =
+    cut-by d e o done p f span is s at log waits mid now later m more broke rest is_left stage log v here own fits open_now left
+    (λ kind there none. ⊎_elim (λ was. v.told kind there was ∙ same kind there was none) (λ was. v.untold kind there was) (bool-or (is_told stage kind))) (λ not_sure. each)

@@ -23,10 +23,10 @@ use Rattle.run_evented.specs.Bringing.{ARefusalBringsNothing}
 use Rattle.run_evented.proofs.Bringing.{brought-as, before-as}
 
 module _ (log : RunLog) (r : Refused) where
-  abbrev later : RunLog
+  abbrev pub later : RunLog
   later = and_refused log r
 
-  same-at : (u : ℕ) → SameAt log later u
+  pub same-at : (u : ℕ) → SameAt log later u
   same-at u = let h = refusal-more log (log.refused ++ r ∷ []) u in record { cut = h.cut; torn = h.torn; found = h.found }
 
   kept-same : (u : ℕ) → kept_after later u ≡ kept_after log u

@@ -46,15 +46,15 @@ other-twice Driver = refl
 other-twice CoDriver = refl
 
 -- ---- what a tear line tells
-module _ (u : ℕ) (begun : ℕ) (late : Bool) (slot : Slot) where
-  pub told-here : (at : Phase) → phase_of begun late ≡ at → tears_here u at slot (Tear u slot true begun late) ≡ true
+module _ (u : ℕ) (begun : ℕ) (late : Bool) (slot : Slot) (failed : Bool) where
+  pub told-here : (at : Phase) → phase_of begun late ≡ at → tears_here u at slot (Tear u slot failed begun late) ≡ true
   told-here at is =
       (λ i. same-self u i && same_phase (is i) at && slot-self slot i) ∙ (λ i. true && phase-self at i && true)
 
-  pub told-beside : (p : Phase) → tears_here u p (other_slot slot) (Tear u slot true begun late) ≡ false
+  pub told-beside : (p : Phase) → tears_here u p (other_slot slot) (Tear u slot failed begun late) ≡ false
   told-beside p = (λ i. nat_eq u u && same_phase (phase_of begun late) p && slot-apart slot i) ∙ and-none (nat_eq u u && same_phase (phase_of begun late) p)
 
-  pub told-elsewhere : (at p : Phase) (other : Slot) → phase_of begun late ≡ at → same_phase at p ≡ false → tears_here u p other (Tear u slot true begun late) ≡ false
+  pub told-elsewhere : (at p : Phase) (other : Slot) → phase_of begun late ≡ at → same_phase at p ≡ false → tears_here u p other (Tear u slot failed begun late) ≡ false
   told-elsewhere at p other is apart =
       (λ i. same-self u i && same_phase (is i) p && same_slot slot other) ∙ (λ i. true && apart i && same_slot slot other)
 

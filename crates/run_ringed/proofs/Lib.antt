@@ -6,3 +6,4 @@ pub mod Shown
 pub mod Around
 pub mod Bytes
 pub mod SoFar
+pub mod Steps

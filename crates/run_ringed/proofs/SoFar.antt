@@ -111,7 +111,7 @@ goes-earlier log spans now u notes early same = record {
 
 -- ---- nothing is called
 
-left-itself : (o : Origin) (d : Devices) → HaveLeftMore o d d
+pub left-itself : (o : Origin) (d : Devices) → HaveLeftMore o d d
 left-itself o d = record { unit = λ x left. left; card = λ c x left. left }
 
 along : (o : Origin) (d : Devices) (log later : RunLog) (spans now : List SpanFrom) (notes : List Note) (seats : Card → Option Seating) → Ringed o log spans notes seats d → GoOn log later spans now notes → Ringed o later now notes seats d

@@ -1,2 +1,3 @@
 pub mod Ringed
 pub mod SoFar
+pub mod Steps

@@ -3,6 +3,7 @@ ghost use Rattle.trace_model.specs.Trace.{TraceSecond};
 ghost use Rattle.log_model.specs.Log.{RunLog};
 ghost use Rattle.log_model.specs.Same.{SameAt};
 ghost use Rattle.run_rule.specs.Between.{devices};
+ghost use Rattle.run_ringed.specs.Steps.{AnActionPasses, AnActionIsCut, APlaceIsEntered, APlaceIsCut, ACardIsWithdrawn, AWithdrawalIsCut, ACardIsAccepted, AnAcceptanceIsCut};
 ghost use Rattle.run_ringed.specs.SoFar.{ASecondBeginsInRings, RingsGoOn, AnActionNotesNothing, AnActionIsNoted, TheSecondEndsInRings, ACutEndsInRings, DarkSecondsNoteNothing};
 ghost use Rattle.run_ringed.specs.Ringed.{NoRingIsWritten, RingsStay, FewerSit, AnInsertionIsNoted, APlaceIsNoted, AWithdrawalIsNoted, AWithdrawalIsBroken, AnInsertionIsBroken, APlaceIsBroken, RingsAreShown, notes_in, noted_next};
 
@@ -140,4 +141,23 @@ pub fn rings_go_on_within_a_second<M: Medium, C: Chip, D: Chip, N: Medium, E: Ch
 )
     ensures calls { RingsGoOn (devices (M.state old_unit.now) (C.state old_a.now) (D.state old_b.now)) (devices (N.state unit.now) (E.state card_a.now) (F.state card_b.now)) }
     ensures noted { AnActionIsNoted (devices (M.state old_unit.now) (C.state old_a.now) (D.state old_b.now)) (devices (N.state unit.now) (E.state card_a.now) (F.state card_b.now)) }
+{}
+
+/// What each action of a second makes of its rings: it notes nothing, or a place, a withdrawal or an insertion; or the unit failed in it, and power is cut.
+pub fn an_action_is_carried_in_rings<M: Medium, C: Chip, D: Chip, N: Medium, E: Chip, F: Chip>(
+    old_unit: &M,
+    old_a: &C,
+    old_b: &D,
+    unit: &N,
+    card_a: &E,
+    card_b: &F,
+)
+    ensures passes { AnActionPasses (devices (M.state old_unit.now) (C.state old_a.now) (D.state old_b.now)) (devices (N.state unit.now) (E.state card_a.now) (F.state card_b.now)) }
+    ensures cut { AnActionIsCut (devices (M.state old_unit.now) (C.state old_a.now) (D.state old_b.now)) (devices (N.state unit.now) (E.state card_a.now) (F.state card_b.now)) }
+    ensures place { APlaceIsEntered (devices (M.state old_unit.now) (C.state old_a.now) (D.state old_b.now)) (devices (N.state unit.now) (E.state card_a.now) (F.state card_b.now)) }
+    ensures place_cut { APlaceIsCut (devices (M.state old_unit.now) (C.state old_a.now) (D.state old_b.now)) (devices (N.state unit.now) (E.state card_a.now) (F.state card_b.now)) }
+    ensures withdrawal { ACardIsWithdrawn (devices (M.state old_unit.now) (C.state old_a.now) (D.state old_b.now)) (devices (N.state unit.now) (E.state card_a.now) (F.state card_b.now)) }
+    ensures withdrawal_cut { AWithdrawalIsCut (devices (M.state old_unit.now) (C.state old_a.now) (D.state old_b.now)) (devices (N.state unit.now) (E.state card_a.now) (F.state card_b.now)) }
+    ensures insertion { ACardIsAccepted (devices (M.state old_unit.now) (C.state old_a.now) (D.state old_b.now)) (devices (N.state unit.now) (E.state card_a.now) (F.state card_b.now)) }
+    ensures insertion_cut { AnAcceptanceIsCut (devices (M.state old_unit.now) (C.state old_a.now) (D.state old_b.now)) (devices (N.state unit.now) (E.state card_a.now) (F.state card_b.now)) }
 {}

@@ -20,6 +20,7 @@ use Rattle.run_opening.specs.declared.fault.RunFault.{RunFault}
 use Rattle.run_opening.specs.declared.fault.RunFault.TheVariants as run
 use Rattle.recorder.specs.Trace.{IsForUnit}
 use Rattle.recorder_with_cards.specs.Gone.{IsRefusedBy as IsRefusedAt}
+use Rattle.recorder_with_cards.proofs.WholeOdometer.{all-there}
 use Rattle.recorder_with_cards.specs.Ends.{BeginAs, MayRecord, EndsTrace, IsKeptFrom}
 use Rattle.run_outcome.specs.declared.outcome.Outcome.{Outcome}
 use Rattle.tacho.specs.declared.end.Fault.{Fault}
@@ -86,6 +87,7 @@ module _ (old new : Outside) (outcome : Outcome) (start : ℕ) (items : List Ite
       when = subst (λ (t : ℕ). IsTurnedAway t (devices_of old) (devices_of new) outcome fault ⊎ IsFoundLater fault) (same-trace s is told).0 when;
     };
     unbroken = λ s is x a b starts sound counts. unbroken-log (log_of outcome) (refused x a b starts.begins starts.clocks).1.breaks;
+    whole = λ s is x a b starts sound counts ran. absurd (refused-no-run (refusal_with_cards fault) (cards-refusal fault) ran);
   }
     where
       kept-from : (s : ℕ) (is : List Item) (x a b : List ℕ) → StartWith x a b s is old new → IsKeptFrom x a b s (devices_of old) (devices_of new) fault
@@ -98,10 +100,7 @@ module _ (old new : Outside) (outcome : Outcome) (start : ℕ) (items : List Ite
       → (fault : Fault) → IsRun fault → (fault ≡ WriteFault → Rose old.sink.faults new.sink.faults) → EndsWithCards old new outcome fault
   cards-run recorded begun fault ran rose = record {
     with_cards = not-unit;
-    run = λ s is x a b starts done.
-        let same = same-trace s is starts.told in
-        subst (λ (t : ℕ). EndsTrace x a b t is outcome (devices_of old) (devices_of new)) same.0
-        (subst (λ (l : List Item). EndsTrace x a b start l outcome (devices_of old) (devices_of new)) same.1 (recorded x a b starts.begins starts.clocks));
+    run = λ s is x a b starts done. recorded-as s is x a b starts;
     refused = λ s is x a b starts ref. absurd (refused-no-run fault ref ran);
     records = λ s is x a b starts sound may. run-done old new fault ran rose sound.sink;
     finds = λ s is x a b starts sound not.
@@ -109,6 +108,16 @@ module _ (old new : Outside) (outcome : Outcome) (start : ℕ) (items : List Ite
     later = later;
     broke = broke;
     early = λ s is told ref. absurd (refused-no-run fault ref ran);
-    unbroken = λ s is x a b starts sound counts.
-        none-failed _ (breakdowns_of (devices_of old)) (breakdowns_of (devices_of new)) _ (log_of outcome) counts (none-broke old new sound later) (recorded x a b starts.begins starts.clocks).ends.caused.causes;
+    unbroken = unbroken-as;
+    whole = λ s is x a b starts sound counts done. all-there x a b s is outcome (devices_of old) (devices_of new) (recorded-as s is x a b starts) (unbroken-as s is x a b starts sound counts);
   }
+    where
+      recorded-as : (s : ℕ) (is : List Item) (x a b : List ℕ) → StartWith x a b s is old new → EndsTrace x a b s is outcome (devices_of old) (devices_of new)
+      recorded-as s is x a b starts =
+          let same = same-trace s is starts.told in
+          subst (λ (t : ℕ). EndsTrace x a b t is outcome (devices_of old) (devices_of new)) same.0
+          (subst (λ (l : List Item). EndsTrace x a b start l outcome (devices_of old) (devices_of new)) same.1 (recorded x a b starts.begins starts.clocks))
+
+      unbroken-as : (s : ℕ) (is : List Item) (x a b : List ℕ) → StartWith x a b s is old new → AreSound old new → HaveCounts (devices_of old) → (cuts true (log_of outcome) ≡ []) × (tears true (log_of outcome) ≡ [])
+      unbroken-as s is x a b starts sound counts =
+          none-failed _ (breakdowns_of (devices_of old)) (breakdowns_of (devices_of new)) _ (log_of outcome) counts (none-broke old new sound later) (recorded x a b starts.begins starts.clocks).ends.caused.causes

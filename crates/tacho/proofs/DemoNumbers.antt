@@ -1,5 +1,5 @@
 -- A run's promise goes by the clocks and the breakdowns of the devices as it began, and by nothing else of them.
-use Rattle.std.proofs.Common.{◌≡◌, ℕ, List, subst}
+use Rattle.std.proofs.Common.{◌≡◌, inl, inr, ⊎_elim, ℕ, List, subst}
 use Rattle.trace_model.specs.declared.Card.{Card}
 use Rattle.trace_model.specs.declared.Item.{Item}
 use Rattle.run_model.specs.declared.Device.{Device}
@@ -7,7 +7,7 @@ use Rattle.log_model.specs.Causes.{HasCauses}
 use Rattle.safety_model.specs.Recording.{Recording, history_of, lost_of}
 use Rattle.safety_model.specs.Unit.{UnitSafe, issued_bytes}
 use Rattle.safety_model.specs.Cards.{CardSafe}
-use Rattle.safety_model.specs.Safe.{Devices, card_of, breakdowns_of, IsVerdict}
+use Rattle.safety_model.specs.Safe.{Devices, card_of, breakdowns_of, IsVerdict, WasFound}
 use Rattle.unit_model.specs.Image.{recorded}
 use Rattle.run_outcome.specs.declared.outcome.Outcome.{Outcome}
 use Rattle.recorder_with_cards.specs.Ends.{recording_of, EndsTrace}
@@ -33,6 +33,7 @@ module _ (x a b : List ℕ) (start : ℕ) (items : List Item) (out : Outcome) (p
         causes = subst (λ (m : Device → ℕ). Caused q.unit.clock (λ c. (card_of q c).clock) m) (λ i device. broken device i)
             (subst (λ (k : Card → ℕ). Caused q.unit.clock k (breakdowns_of p)) (λ i c. cards c i)
             (subst (λ (n : ℕ). Caused n (λ c. (card_of p c).clock) (breakdowns_of p)) unit h.ends.caused.causes));
+        kept = λ br at. ⊎_elim (λ was_found. inl (subst (λ (n : ℕ). WasFound (now.unit.left_since n) br) unit was_found)) (λ none. inr none) (h.ends.caused.kept br at);
         complete = h.ends.caused.complete;
       };
       brings = h.ends.brings;

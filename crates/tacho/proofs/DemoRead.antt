@@ -16,9 +16,11 @@ use Rattle.unit_model.specs.Image.{recorded}
 use Rattle.safety_model.specs.Recording.{Recording, history_of, lost_of}
 use Rattle.safety_model.specs.Unit.{UnitSafe, UnitMarkHolds}
 use Rattle.safety_model.specs.Cards.{CardSafe, Agree}
-use Rattle.safety_model.specs.Safe.{Devices, card_of, breakdowns_of, IsVerdict}
+use Rattle.safety_model.specs.Safe.{Devices, card_of, breakdowns_of, IsVerdict, WasFound}
 use Rattle.run_rule.specs.Between.{devices}
 use Rattle.run_recorded.specs.Whole.{IsFull}
+use Rattle.log_model.specs.declared.lines.Break.{Break}
+use Rattle.log_model.specs.declared.lines.Break.TheVariants.{Cut, Tear}
 use Rattle.run_outcome.specs.declared.outcome.Outcome.{Outcome}
 use Rattle.recorder_with_cards.specs.Ends.{recording_of, EndsTrace}
 use Rattle.tacho.specs.Anew.{EndsAnew, began_at}
@@ -70,6 +72,10 @@ module _ (U V : State) (is : IsRead U V) where
     both-read A u y h unit card = h (now-back u unit) card
     both-read B u y h unit card = h (now-back u unit) card
 
+    found-read : (br : Break) → WasFound (U.left_since p.unit.clock) br → WasFound (V.left_since p.unit.clock) br
+    found-read (Cut second kept failed begun) h = (h.0, is.leaves.keeps p.unit.clock h.0 before h.1, h.2)
+    found-read (Tear second slot failed begun late) h = tt
+
     full-read : (c : Card) (y : List ℕ) → ((card_of (devices U Y Z) c).may_leave y → IsFull r c y) → (card_of (devices V Y Z) c).may_leave y → IsFull r c y
     full-read A y h left = h left
     full-read B y h left = h left
@@ -111,10 +117,13 @@ module _ (U V : State) (is : IsRead U V) where
                 failed_tears = was.failed_tears;
                 torn_cards = λ c. torn-read c _ (was.torn_cards c);
                 begun = was.begun;
+                order = was.order;
+                moments = was.moments;
                 finds = was.finds;
                 judged = was.judged;
                 verdicts = λ t e v told found. verdict-read e.card t.second.number v (was.verdicts t e v told found);
               };
+              kept = λ br at. ⊎_elim (λ was_found. inl (found-read br was_found)) (λ none. inr none) (h.ends.caused.kept br at);
               complete = h.ends.caused.complete;
             };
             brings = h.ends.brings;

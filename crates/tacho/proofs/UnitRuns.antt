@@ -1,13 +1,16 @@
 -- How a trace without a card's line ends that is recorded on the unit alone.
-use Rattle.std.proofs.Common.{◌≡◌, ◌∙◌, ◌≤◌, ◌<◌, ◌⊎◌, ℕ, ◌/◌, inl, inr, ⊎_elim, refl, ap, sym, subst, arith, true, Bool, List, length, Option, Some, None}
+use Rattle.std.proofs.Common.{◌≡◌, ◌∙◌, ◌≤◌, ◌<◌, ◌⊎◌, ℕ, ◌/◌, inl, inr, ⊎_elim, refl, ap, sym, subst, arith, true, Bool, List, [], length, Option, Some, None}
 use Rattle.std.specs.Prelude.{IfSome, is_some}
 use Rattle.tach_media.specs.Medium.{State, IsCoherent, LeavesOnly, Unchanged, Rose, HasBroken, last_count}
 use Rattle.run_model.specs.declared.Device.{Device}
 use Rattle.run_model.specs.declared.Device.TheVariants.{Unit as OfUnit, CardA, CardB}
 use Rattle.trace_model.specs.declared.Item.{Item}
+use Rattle.trace_model.specs.Trace.{seconds_of}
 use Rattle.trace_text.specs.declared.trace.Form.TheVariants.{Whole}
 use Rattle.trace_text.specs.Judged.{IsTraceText}
-use Rattle.unit_model.specs.Image.{last_kept}
+use Rattle.minute_model.specs.declared.Rule.TheVariants.{Original}
+use Rattle.log_model.proofs.Spanning.{seconds-order}
+use Rattle.unit_model.specs.Image.{recorded as days_in, odometer_at, last_kept}
 use Rattle.unit_model.specs.Decoding.{Decodes, first_bad_place}
 use Rattle.recorder.specs.declared.opening.RunFault.{RunFault}
 use Rattle.recorder.specs.declared.opening.RunFault.TheVariants as run
@@ -16,13 +19,14 @@ use Rattle.recorder.specs.Booked.{StartsAs}
 use Rattle.recorder.specs.Gone.{IsRefusedBy}
 use Rattle.recorder.specs.Opening.{IsRefused, IsFoundLater, IsUnitFault}
 use Rattle.recorder.specs.Followed.{NoVerdict, run_log}
-use Rattle.log_model.specs.Causes.{cuts}
+use Rattle.log_model.specs.Causes.{cuts, tears}
+use Rattle.recorder_with_cards.proofs.WholeOdometer.{whole-odometer}
 use Rattle.run_outcome.specs.declared.outcome.Outcome.{Outcome}
 use Rattle.tacho.specs.declared.end.Fault.{Fault}
 use Rattle.tacho.specs.declared.end.Fault.TheVariants.{Done, Usage, BadTrace, TooLong, BadUnit, ClockBack, SameCard, ReadFault, WriteFault, MediumFault, Memory, BadFile, BadCard, Changed}
 use Rattle.tacho.specs.Outside.{Outside}
 use Rattle.tacho.specs.Outcomes.{IsEmpty, IsRun, IsRefusal, IsTold}
-use Rattle.tacho.specs.UnitRecorded.{IsOfUnit, refusal_on_unit, breakdowns_in, IsSound, Starts, IsRecorded, IsCaused, EndsOnUnit}
+use Rattle.tacho.specs.UnitRecorded.{IsOfUnit, refusal_on_unit, breakdowns_in, IsSound, HaveCounts, Starts, IsRecorded, IsAllThere, IsCaused, EndsOnUnit}
 use Rattle.tacho.proofs.Recordings.{none-bad, refused-no-run}
 use Rattle.tacho.proofs.Unbroken.{none-failed, unbroken-log}
 
@@ -76,6 +80,7 @@ module _ (old new : Outside) (outcome : Outcome) (start : ℕ) (items : List Ite
     broke = broke;
     early = λ s is told ref. record { by = (run.MediumFault device); is = refl; when = on-read (run.MediumFault device) when s is told };
     unbroken = λ s is x told starts sound counts. unbroken-log (run_log outcome) (refused x starts.alone starts.clock).2.breaks;
+    whole = λ s is x told starts sound counts no. absurd no;
   }
   unit-refused (run.BadUnit place) of_unit broke when refused =
       let bad : (x : List ℕ) → Starts x old.unit new.unit → first_bad_place x ≡ Some place = λ x starts.
@@ -94,6 +99,7 @@ module _ (old new : Outside) (outcome : Outcome) (start : ℕ) (items : List Ite
         broke = broke;
         early = λ s is told ref. record { by = (run.BadUnit place); is = refl; when = on-read (run.BadUnit place) when s is told };
         unbroken = λ s is x told starts sound counts. unbroken-log (run_log outcome) (refused x starts.alone starts.clock).2.breaks;
+        whole = λ s is x told starts sound counts no. absurd no;
       }
   unit-refused (run.ClockBack kept second) of_unit broke when refused =
       let found : (x : List ℕ) → Starts x old.unit new.unit → Decodes x × (last_kept x ≡ kept) = λ x starts.
@@ -124,6 +130,7 @@ module _ (old new : Outside) (outcome : Outcome) (start : ℕ) (items : List Ite
         broke = broke;
         early = λ s is told ref. record { by = (run.ClockBack kept second); is = refl; when = on-read (run.ClockBack kept second) when s is told };
         unbroken = λ s is x told starts sound counts. unbroken-log (run_log outcome) (refused x starts.alone starts.clock).2.breaks;
+        whole = λ s is x told starts sound counts no. absurd no;
       }
   unit-refused (run.SameCard number) of_unit broke when refused = absurd of_unit
 
@@ -179,9 +186,21 @@ unit-run old new outcome start items for_unit is_read recorded caused begun brok
   finds_clock_back = λ s is x told starts sound decodes back. absurd (not_back s x (is_read told.text s is told.told told.trace).0 (begun x starts.alone).1 back);
   broke = broke;
   early = λ s is told ref. absurd (refused-no-run fault ref ran);
-  unbroken = λ s is x told starts sound counts. none-failed NoVerdict (breakdowns_in old) (breakdowns_in new) _ (run_log outcome) counts (none_broke sound) (caused x starts.alone starts.clock);
+  unbroken = λ s is x told starts sound counts. unbroken_as x starts sound counts;
+  whole = λ s is x told starts sound counts done cards. there s is x (of_trace s is x (is_read told.text s is told.told told.trace) (recorded x starts.alone starts.clock)) (unbroken_as x starts sound counts).0 cards;
 }
   where
+    there : (s : ℕ) (is : List Item) (x : List ℕ) → IsRecorded x s is old.unit.clock outcome new.unit → cuts true (run_log outcome) ≡ [] → IsAllThere x s is outcome new.unit
+    there s is x h none cards =
+        let f = h cards in
+        let w = f.whole none in (
+          w.0,
+          λ y left. (w.1 y left, whole-odometer Original cards (run_log outcome) s (seconds_of s is) (seconds-order s is) w.0 (days_in x) (odometer_at x) y (w.1 y left) (f.odometer y left)),
+        )
+
+    unbroken_as : (x : List ℕ) → Starts x old.unit new.unit → IsSound old new → HaveCounts old → (cuts true (run_log outcome) ≡ []) × (tears true (run_log outcome) ≡ [])
+    unbroken_as x starts sound counts = none-failed NoVerdict (breakdowns_in old) (breakdowns_in new) _ (run_log outcome) counts (none_broke sound) (caused x starts.alone starts.clock)
+
     none_broke : IsSound old new → (device : Device) → breakdowns_in new device ≡ breakdowns_in old device
     none_broke sound OfUnit = ⊎_elim (λ failed. absurd (sound.unit failed)) (λ same. same) unit_unbroken
     none_broke sound CardA = ap (λ (s : State). s.breakdowns) same_a

@@ -13,7 +13,8 @@ use Rattle.run_opening.specs.Opening.{IsRefused, IsAsItWas}
 use Rattle.run_opening.specs.declared.fault.RunFault.{RunFault}
 use Rattle.run_opening.specs.declared.fault.RunFault.TheVariants as run
 use Rattle.recorder.specs.Trace.{IsForUnit}
-use Rattle.recorder_with_cards.specs.Ends.{BeginAs, MayRecord, EndsTrace, IsKeptFrom}
+use Rattle.recorder_with_cards.specs.Whole.{IsAllThere}
+use Rattle.recorder_with_cards.specs.Ends.{recording_of, BeginAs, MayRecord, EndsTrace, IsKeptFrom}
 use Rattle.run_outcome.specs.declared.outcome.Outcome.{Outcome}
 use Rattle.trace_model.specs.declared.Item.{Item}
 use Rattle.tacho.specs.declared.end.Fault.{Fault}
@@ -95,3 +96,7 @@ pub record EndsWithCards (old new : Outside) (outcome : Outcome) (fault : Fault)
   -- Where nothing failed, no call has cut the power or torn out a card.
   pub unbroken : (start : ℕ) (items : List Item) (unit card_a card_b : List ℕ) → StartWith unit card_a card_b start items old new → AreSound old new
       → HaveCounts (devices_of old) → (cuts true (log_of outcome) ≡ []) × (tears true (log_of outcome) ≡ [])
+  -- WHERE NOTHING FAILED, EVERY MINUTE IS THERE: each decided one stands in the history, the unit has all of it in its newest days, with each whole
+  -- kilometre, and a card that was accepted all of its entries, retained, but those behind whose minute a `tear` line pulled it out.
+  pub whole : (start : ℕ) (items : List Item) (unit card_a card_b : List ℕ) → StartWith unit card_a card_b start items old new → AreSound old new
+      → HaveCounts (devices_of old) → IsRun fault → IsAllThere (recording_of unit card_a card_b start items outcome) (devices_of new)

@@ -4,9 +4,12 @@ use Rattle.tach_media.specs.Medium.{State, Rose, HasBroken, LeavesOnly, Unchange
 use Rattle.run_model.specs.declared.Device.{Device}
 use Rattle.run_model.specs.declared.Device.TheVariants.{Unit as OfUnit}
 use Rattle.log_model.specs.Causes.{HasCauses, cuts, tears}
+use Rattle.minute_model.specs.declared.Rule.TheVariants.{Original}
 use Rattle.history_model.specs.Presence.{Start}
+use Rattle.safety_model.specs.Unit.{HasEachDecided, IsFilled}
+use Rattle.recorder_with_cards.specs.Whole.{HasWholeOdometer}
 use Rattle.recorder.specs.Booked.{StartsAs}
-use Rattle.recorder.specs.Followed.{IsFollowed, NoVerdict, breakdowns_of, run_log}
+use Rattle.recorder.specs.Followed.{IsFollowed, NoVerdict, breakdowns_of, run_log, told_of, history_of}
 use Rattle.recorder.specs.Opening.{IsRefused, IsFoundLater}
 use Rattle.recorder.specs.Trace.{IsForUnit}
 use Rattle.recorder.specs.declared.opening.RunFault.{RunFault}
@@ -14,7 +17,7 @@ use Rattle.recorder.specs.declared.opening.RunFault.TheVariants as run
 use Rattle.run_outcome.specs.declared.outcome.Outcome.{Outcome}
 use Rattle.trace_model.specs.declared.Item.{Item}
 use Rattle.trace_model.specs.Trace.{seconds_of}
-use Rattle.unit_model.specs.Image.{last_kept}
+use Rattle.unit_model.specs.Image.{recorded, last_kept, odometer_at}
 use Rattle.unit_model.specs.Decoding.{Decodes, first_bad_place}
 use Rattle.tacho.specs.declared.end.Fault.{Fault}
 use Rattle.tacho.specs.declared.end.Fault.TheVariants.{Done, Usage, BadUnit, ClockBack, MediumFault, Memory}
@@ -49,6 +52,12 @@ pub record Starts (x : List ℕ) (old new : State) : Type 0 where
 -- what a run has recorded of a trace, whatever the cards bring: it began with this image, at this clock
 abbrev pub IsRecorded : (x : List ℕ) → (start : ℕ) → List Item → (clock : ℕ) → Outcome → State → Type 0
 IsRecorded x start items clock outcome unit = (cards : Start) → IsFollowed cards x start items clock outcome unit
+
+-- each decided minute of a trace stands in the history, whatever the cards bring, and each image that a stop may leave has the start's days
+-- with all of it, of which the newest 366 are retained, and its odometer with each whole kilometre
+abbrev pub IsAllThere : (x : List ℕ) → (start : ℕ) → List Item → Outcome → State → Type 0
+IsAllThere x start items outcome unit = (cards : Start) → HasEachDecided Original (told_of outcome start items) (history_of cards outcome start items)
+    × ((y : List ℕ) → unit.may_leave y → IsFilled (recorded x) (history_of cards outcome start items) y × HasWholeOdometer Original (told_of outcome start items) (odometer_at x) y)
 
 -- how often each device broke down
 abbrev pub breakdowns_in : Outside → Device → ℕ
@@ -99,3 +108,6 @@ pub record EndsOnUnit (old new : Outside) (outcome : Outcome) (fault : Fault) : 
   -- Where nothing failed, no call has cut the power.
   pub unbroken : (start : ℕ) (items : List Item) (x : List ℕ) → IsTold old start items → Starts x old.unit new.unit → IsSound old new → HaveCounts old
       → (cuts true (run_log outcome) ≡ []) × (tears true (run_log outcome) ≡ [])
+  -- WHERE NOTHING FAILED, EVERY MINUTE IS THERE: each decided one stands in the history, and the unit has all of it in its newest days.
+  pub whole : (start : ℕ) (items : List Item) (x : List ℕ) → IsTold old start items → Starts x old.unit new.unit → IsSound old new → HaveCounts old
+      → IsRun fault → IsAllThere x start items outcome new.unit

@@ -1,4 +1,4 @@
-use Rattle.std.proofs.Common.{◌≡◌, ◌∙◌, Bool, true, false, length, refl, ap, sym, subst}
+use Rattle.std.proofs.Common.{◌≡◌, ◌∙◌, Bool, true, false, length, refl, ap, sym, subst, arith}
 use Rattle.log_model.specs.declared.lines.Refused.{Refused}
 use Rattle.run_outcome.specs.Lines.{Listed}
 use Rattle.run_acts.specs.Power.{is_lit}

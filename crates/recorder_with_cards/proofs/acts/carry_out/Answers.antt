@@ -32,6 +32,8 @@ use Rattle.recorder_with_cards.proofs.More.{inserted-more}
 use Rattle.run_acts.specs.Evented.{EventsAction}
 use Rattle.recorder_with_cards.proofs.ActsEvented.{pulled-evented}
 use Rattle.run_keeping.proofs.Later.{later-same}
+use Rattle.run_rings.proofs.Same.{rings-left}
+use Rattle.recorder_with_cards.specs.EnteredRings.{RingsDone}
 use Rattle.recorder_with_cards.proofs.acts.carry_out.Goals as goal
 
 pub insert-requires-clause-elsewhere : goal.insert-requires-clause-elsewhere
@@ -282,3 +284,51 @@ returns-in-Place-clause-evented g c =
     subst (λ (a : Action). EventsAction a c.args.begun c.args.speed (is_err c.note_place.result) run c.note_place.new.run o (record o { breaks = c.note_place.new.breaks }) d e) (sym c.in-Place.is)
     (subst (λ (n : ℕ). EventsAction (Place c.in-Place.slot c.in-Place.ending c.in-Place.country c.in-Place.region) n c.args.speed (is_err c.note_place.result) run c.note_place.new.run o (record o { breaks = c.note_place.new.breaks }) d e) (ap (λ (m : Moment). m.begun) c.moment-at.ensures)
     (c.note_place.ensures.evented late c.in-Place.ending c.in-Place.country c.in-Place.region c.args.speed o refl))
+
+-- ---- the rings
+
+pub returns-in-Select-clause-rings : goal.returns-in-Select-clause-rings
+returns-in-Select-clause-rings g c = λ tells.
+    let run = c.args.run.now in
+    let o = c.args.outcome.now in
+    let U = g.M.Medium.state c.args.unit.now in
+    subst (λ (a : Action). RingsDone a (moment_of c.args.begun run) c.args.speed false run (record run { minutes = c.select.new.self }) o o U U) (sym c.in-Select.is) (rings-left U)
+
+pub returns-in-Tear-clause-rings : goal.returns-in-Tear-clause-rings
+returns-in-Tear-clause-rings g c = λ tells.
+    let run = c.args.run.now in
+    let o = c.args.outcome.now in
+    let U = g.M.Medium.state c.args.unit.now in
+    subst (λ (a : Action). RingsDone a (moment_of c.args.begun run) c.args.speed false run c.pull.new.run o (record o { breaks = c.pull.new.breaks }) U U) (sym c.in-Tear.is) (rings-left U)
+
+pub returns-in-Insert-clause-rings : goal.returns-in-Insert-clause-rings
+returns-in-Insert-clause-rings g c = λ tells.
+    let run = c.args.run.now in
+    let o = c.args.outcome.now in
+    let U = g.M.Medium.state c.args.unit.now in
+    let V = g.M.Medium.state c.insert.new.unit in
+    subst (λ (a : Action). RingsDone a (moment_of c.args.begun run) c.args.speed (is_err c.insert.result) run c.insert.new.run o c.insert.new.outcome U V) (sym c.in-Insert.is)
+    (subst (λ (m : Moment). RingsDone (Insert c.in-Insert.slot c.in-Insert.card) m c.args.speed (is_err c.insert.result) run c.insert.new.run o c.insert.new.outcome U V) c.moment-at.ensures (c.insert.ensures.rings tells))
+
+pub returns-in-Withdraw-clause-rings : goal.returns-in-Withdraw-clause-rings
+returns-in-Withdraw-clause-rings g c = λ tells.
+    let run = c.args.run.now in
+    let o = c.args.outcome.now in
+    let U = g.M.Medium.state c.args.unit.now in
+    let V = g.M.Medium.state c.withdraw.new.unit in
+    subst (λ (a : Action). RingsDone a (moment_of c.args.begun run) c.args.speed (is_err c.withdraw.result) run c.withdraw.new.run o c.withdraw.new.outcome U V) (sym c.in-Withdraw.is)
+    (subst (λ (m : Moment). RingsDone (Withdraw c.in-Withdraw.slot) m c.args.speed (is_err c.withdraw.result) run c.withdraw.new.run o c.withdraw.new.outcome U V) c.moment-at.ensures (c.withdraw.ensures.rings tells))
+
+pub returns-in-Place-clause-rings : goal.returns-in-Place-clause-rings
+returns-in-Place-clause-rings g c = λ tells.
+    let run = c.args.run.now in
+    let o = c.args.outcome.now in
+    let U = g.M.Medium.state c.args.unit.now in
+    let V = g.M.Medium.state c.note_place.new.unit in
+    let after : Outcome = record o { breaks = c.note_place.new.breaks } in
+    let e = c.place-entry.ensures in
+    subst (λ (a : Action). RingsDone a (moment_of c.args.begun run) c.args.speed (is_err c.note_place.result) run c.note_place.new.run o after U V) (sym c.in-Place.is) (
+      c.place-entry.result,
+      record { time = e.time; kind = e.kind; country_is = e.where_to.0; region_is = e.where_to.1; odometer = e.odometer; most = e.most },
+      c.note_place.ensures.rings tells,
+    )

@@ -10,6 +10,7 @@ use Rattle.card_session.specs.Cards.{IsCardClosing}
 use Rattle.tach_media.specs.Medium.{LeavesOnly, broken_by}
 use Rattle.tach_media.proofs.Runs.{on_ok, ok_gives}
 use Rattle.tach_media.proofs.Breakdowns.{none_broken, call_broken, fewer_broken}
+use Rattle.run_crew.specs.declared.cards.Known.{Known}
 use Rattle.run_crew.specs.declared.cards.Accepted.{Accepted}
 use Rattle.run_crew.specs.declared.cards.Cards.{Cards}
 use Rattle.run_crew.specs.declared.cabin.Cabin.{Cabin}
@@ -169,6 +170,29 @@ returns-in-Err-clause-events g c =
     }
 
 -- ---- the rings
+
+pub returns-in_default-clause-rings : goal.returns-in_default-clause-rings
+returns-in_default-clause-rings g c = λ tells.
+    let run = c.args.run.now in
+    let none : session_of run.keeper.cabin.cards c.args.which ≡ None = sym c.close.ensures.session ∙ none-there c.close.result c.in_default.not-Some in
+    record {
+      closing = Bare;
+      closed = record {
+        is = subst (λ (o : Option Accepted). IsClosingOf o Bare) (sym none) tt;
+        run = ap (λ (b : Cabin). record run { keeper = record run.keeper { cabin = b } }) c.close.ensures.kept;
+        told = no-lines c.args.breaks.now;
+      };
+      rings = rings-left (g.M.Medium.state c.args.unit.now);
+    }
+
+-- a card with a session has told its sizes
+pub returns-in_default-sizes-clause-rings : goal.returns-in_default-sizes-clause-rings
+returns-in_default-sizes-clause-rings g c = λ tells.
+    let cards = c.args.run.now.keeper.cabin.cards in
+    let some : session_of cards c.args.which ≡ Some c.in-Some.accepted = sym c.in-Some.ensures.session in
+    let gone = no-session c.args.which cards (g.C.Chip.card c.args.card.now) (g.C.Chip.state c.args.card.now) c.requires.card (λ app is. c.in_default-sizes.not-Ok app (ap (λ (q : Known). q.sizes) c.of.ensures ∙ is)) in
+    let bad : Some c.in-Some.accepted ≡ None = sym some ∙ gone in
+    absurd (cc)
 
 pub returns-in-Ok-leave-clause-rings : goal.returns-in-Ok-leave-clause-rings
 returns-in-Ok-leave-clause-rings g c = λ tells.
