@@ -6,6 +6,8 @@ use Rattle.event_model.specs.Spans.{gap_of}
 use Rattle.slot_machine.specs.Calls.{seat_in, card_in}
 use Rattle.unit_journal.specs.declared.notes.Notes.{Notes}
 use Rattle.trace_model.specs.declared.Card.{Card}
+use Rattle.trace_model.specs.declared.Action.{Action}
+use Rattle.trace_model.specs.declared.Action.TheVariants.{Select, Insert, Withdraw, Tear, Place}
 use Rattle.unit_notes.specs.declared.unit_event.UnitEvent.{UnitEvent}
 use Rattle.safety_model.specs.Safe.{Devices}
 use Rattle.run_keeping.specs.declared.keeper.Moment.{Moment}
@@ -21,7 +23,7 @@ use Rattle.run_outcome.specs.Lines.{cut_at}
 use Rattle.run_keeping.specs.Keeping.{with_lines}
 use Rattle.run_acts.specs.Power.{IsSpanBegun, cut_run}
 use Rattle.run_acts.specs.Acting.{now_moment}
-use Rattle.run_acts.specs.Noting.{GapReach, AreGapEvents, SettlesThese}
+use Rattle.run_acts.specs.Noting.{GapReach, AreGapEvents, NotesPlace, SettlesThese, NotesWithdrawing}
 use Rattle.recorder_with_cards.specs.Accepting.{IsAccepted, IsEnteringNow, put_run}
 
 -- the events and faults of a card that entered in this way
@@ -147,3 +149,13 @@ pub record NotesInserting (slot : Slot) (card : Card) (at : Moment) (speed : ℕ
   pub events : List UnitEvent
   pub are : ((failed ≡ true) × SettlesThese at true (put_run slot card old) new before after events) ⊎ SettlesThenJudges slot card at speed (put_run slot card old) new before after events
   pub notes : NotesEvents events failed d later
+
+-- ---- an action
+
+-- AN ACTION IS CARRIED OUT, and so it is noted: of a selection, and of a card that is pulled out, nothing.
+abbrev pub NotesDone : Action → Moment → (speed : ℕ) → (failed : Bool) → (old new : Run) → (before after : Outcome) → (d later : Devices) → Type 0
+NotesDone (Select slot pick) at speed failed old new before after d later = NotesEvents [] failed d later
+NotesDone (Insert slot card) at speed failed old new before after d later = NotesInserting slot card at speed failed old new before after d later
+NotesDone (Withdraw slot) at speed failed old new before after d later = NotesWithdrawing (card_in (seat_in old.keeper.cabin.slots.seats slot)) slot at failed old new before after d later
+NotesDone (Tear slot) at speed failed old new before after d later = NotesEvents [] failed d later
+NotesDone (Place slot ending country region) at speed failed old new before after d later = NotesPlace (card_in (seat_in old.keeper.cabin.slots.seats slot)) slot at failed old new before.breaks after.breaks d later

@@ -18,6 +18,7 @@ ghost use Rattle.run_acts.specs.Evented.{EventsAction};
 ghost use Rattle.recorder_with_cards.specs.Acting.{put_count, refusal_lines, refused_by, IsSelected, IsFine, StaysIn, moment_of, IsDone, IsActedBy, IsActed, IsItemActed, AreActed, CallsNone};
 ghost use Rattle.recorder_with_cards.specs.Recorded.{action_of, actions_in, RecordsActions, EventsActions};
 ghost use Rattle.recorder_with_cards.specs.EnteredRings.{RingsDone};
+ghost use Rattle.recorder_with_cards.specs.Noting.{NotesDone};
 ghost use Rattle.recorder_with_cards.specs.Items.{between, insertions_in};
 ghost use Rattle.run_outcome.specs.Room.{insertion_count};
 
@@ -232,6 +233,7 @@ fn carry_out<M: Medium, C: Chip, D: Chip>(
     ensures done { IsDone action (moment_of begun run.old) speed (is_err result) run.old run.new outcome.old outcome.new }
     ensures evented { EventsAction action begun speed (is_err result) run.old run.new outcome.old outcome.new (devices (M.state unit.old) (C.state card_a.old) (D.state card_b.old)) (devices (M.state unit.new) (C.state card_a.new) (D.state card_b.new)) }
     ensures recorded { RecordsAction action begun speed (is_err result) run.old run.new outcome.old outcome.new (devices (M.state unit.old) (C.state card_a.old) (D.state card_b.old)) (devices (M.state unit.new) (C.state card_a.new) (D.state card_b.new)) }
+    ensures events { NotesDone action (moment_of begun run.old) speed (is_err result) run.old run.new outcome.old outcome.new (devices (M.state unit.old) (C.state card_a.old) (D.state card_b.old)) (devices (M.state unit.new) (C.state card_a.new) (D.state card_b.new)) }
     ensures rings { is_some (M.state unit.old).image ≡ true → RingsDone action (moment_of begun run.old) speed (is_err result) run.old run.new outcome.old outcome.new (M.state unit.old) (M.state unit.new) }
     ensures still { CallsNone None action → (unit.new ≡ unit.old) × (card_a.new ≡ card_a.old) × (card_b.new ≡ card_b.old) }
     ensures time { HaveTime (devices (M.state unit.new) (C.state card_a.new) (D.state card_b.new)) → HaveTime (devices (M.state unit.old) (C.state card_a.old) (D.state card_b.old)) }

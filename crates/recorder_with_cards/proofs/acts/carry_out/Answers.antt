@@ -34,6 +34,8 @@ use Rattle.recorder_with_cards.proofs.ActsEvented.{pulled-evented}
 use Rattle.run_keeping.proofs.Later.{later-same}
 use Rattle.run_rings.proofs.Same.{rings-left}
 use Rattle.recorder_with_cards.specs.EnteredRings.{RingsDone}
+use Rattle.run_acts.proofs.NotedEvents.{same-noted}
+use Rattle.recorder_with_cards.specs.Noting.{NotesDone}
 use Rattle.recorder_with_cards.proofs.acts.carry_out.Goals as goal
 
 pub insert-requires-clause-elsewhere : goal.insert-requires-clause-elsewhere
@@ -332,3 +334,49 @@ returns-in-Place-clause-rings g c = λ tells.
       record { time = e.time; kind = e.kind; country_is = e.where_to.0; region_is = e.where_to.1; odometer = e.odometer; most = e.most },
       c.note_place.ensures.rings tells,
     )
+
+-- ---- what is noted on the unit
+
+pub returns-in-Select-clause-events : goal.returns-in-Select-clause-events
+returns-in-Select-clause-events g c =
+    let run = c.args.run.now in
+    let o = c.args.outcome.now in
+    let d = devices (g.M.Medium.state c.args.unit.now) (g.C.Chip.state c.args.card_a.now) (g.D.Chip.state c.args.card_b.now) in
+    subst (λ (a : Action). NotesDone a (moment_of c.args.begun run) c.args.speed false run (record run { minutes = c.select.new.self }) o o d d) (sym c.in-Select.is)
+    (same-noted (g.M.Medium.state c.args.unit.now) (g.C.Chip.state c.args.card_a.now) (g.D.Chip.state c.args.card_b.now))
+
+pub returns-in-Tear-clause-events : goal.returns-in-Tear-clause-events
+returns-in-Tear-clause-events g c =
+    let run = c.args.run.now in
+    let o = c.args.outcome.now in
+    let d = devices (g.M.Medium.state c.args.unit.now) (g.C.Chip.state c.args.card_a.now) (g.D.Chip.state c.args.card_b.now) in
+    subst (λ (a : Action). NotesDone a (moment_of c.args.begun run) c.args.speed false run c.pull.new.run o (record o { breaks = c.pull.new.breaks }) d d) (sym c.in-Tear.is)
+    (same-noted (g.M.Medium.state c.args.unit.now) (g.C.Chip.state c.args.card_a.now) (g.D.Chip.state c.args.card_b.now))
+
+pub returns-in-Insert-clause-events : goal.returns-in-Insert-clause-events
+returns-in-Insert-clause-events g c =
+    let run = c.args.run.now in
+    let o = c.args.outcome.now in
+    let d = devices (g.M.Medium.state c.args.unit.now) (g.C.Chip.state c.args.card_a.now) (g.D.Chip.state c.args.card_b.now) in
+    let e = devices (g.M.Medium.state c.insert.new.unit) (g.C.Chip.state c.insert.new.card_a) (g.D.Chip.state c.insert.new.card_b) in
+    subst (λ (a : Action). NotesDone a (moment_of c.args.begun run) c.args.speed (is_err c.insert.result) run c.insert.new.run o c.insert.new.outcome d e) (sym c.in-Insert.is)
+    (subst (λ (m : Moment). NotesDone (Insert c.in-Insert.slot c.in-Insert.card) m c.args.speed (is_err c.insert.result) run c.insert.new.run o c.insert.new.outcome d e) c.moment-at.ensures c.insert.ensures.noted)
+
+pub returns-in-Withdraw-clause-events : goal.returns-in-Withdraw-clause-events
+returns-in-Withdraw-clause-events g c =
+    let run = c.args.run.now in
+    let o = c.args.outcome.now in
+    let d = devices (g.M.Medium.state c.args.unit.now) (g.C.Chip.state c.args.card_a.now) (g.D.Chip.state c.args.card_b.now) in
+    let e = devices (g.M.Medium.state c.withdraw.new.unit) (g.C.Chip.state c.withdraw.new.card_a) (g.D.Chip.state c.withdraw.new.card_b) in
+    subst (λ (a : Action). NotesDone a (moment_of c.args.begun run) c.args.speed (is_err c.withdraw.result) run c.withdraw.new.run o c.withdraw.new.outcome d e) (sym c.in-Withdraw.is)
+    (subst (λ (m : Moment). NotesDone (Withdraw c.in-Withdraw.slot) m c.args.speed (is_err c.withdraw.result) run c.withdraw.new.run o c.withdraw.new.outcome d e) c.moment-at.ensures c.withdraw.ensures.events)
+
+pub returns-in-Place-clause-events : goal.returns-in-Place-clause-events
+returns-in-Place-clause-events g c =
+    let run = c.args.run.now in
+    let o = c.args.outcome.now in
+    let after : Outcome = record o { breaks = c.note_place.new.breaks } in
+    let d = devices (g.M.Medium.state c.args.unit.now) (g.C.Chip.state c.args.card_a.now) (g.D.Chip.state c.args.card_b.now) in
+    let e = devices (g.M.Medium.state c.note_place.new.unit) (g.C.Chip.state c.note_place.new.card_a) (g.D.Chip.state c.note_place.new.card_b) in
+    subst (λ (a : Action). NotesDone a (moment_of c.args.begun run) c.args.speed (is_err c.note_place.result) run c.note_place.new.run o after d e) (sym c.in-Place.is)
+    (subst (λ (m : Moment). NotesDone (Place c.in-Place.slot c.in-Place.ending c.in-Place.country c.in-Place.region) m c.args.speed (is_err c.note_place.result) run c.note_place.new.run o after d e) c.moment-at.ensures c.note_place.ensures.events)
