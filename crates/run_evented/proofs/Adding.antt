@@ -50,6 +50,21 @@ steps-follow d o done s first second third log mid later es more a b = record {
 pub adds-nothing : (d : Devices) (o : Origin) (done : List TraceSecond) (s : TraceSecond) (stage : Stage) (log : RunLog) → Adds o done s stage log stage log [] d
 adds-nothing d o done s stage log = record { kinds = tt; on = λ more v. subst (λ (all : List Event). SoFar o done s stage log all d) (sym (append-nil more)) v }
 
+-- the same events of each type in another order
+pub adds-as : (d : Devices) (o : Origin) (done : List TraceSecond) (s : TraceSecond) (stage : Stage) (log : RunLog) (next : Stage) (later : RunLog) (es fs : List Event) → ((kind : ℕ) → by_kind fs kind ≡ by_kind es kind) → AllByRecursion (λ (e : Event). Contains all_kinds e.kind) fs →
+    Adds o done s stage log next later es d → Adds o done s stage log next later fs d
+adds-as d o done s stage log next later es fs same kinds adds = record {
+  kinds = kinds;
+  on = λ more v. (let w = adds.on more v in record {
+    here = w.here;
+    own = w.own;
+    told = λ kind there told. by-more more fs kind ∙ ap (λ (l : List Event). by_kind more kind ++ l) (same kind) ∙ sym (by-more more es kind) ∙ w.told kind there told;
+    untold = λ kind there off. by-more more fs kind ∙ ap (λ (l : List Event). by_kind more kind ++ l) (same kind) ∙ sym (by-more more es kind) ∙ w.untold kind there off;
+    fits = w.fits;
+    open_now = w.open_now;
+  });
+}
+
 -- what was found open was open before
 pub later-images : (o : Origin) (done : List TraceSecond) (s : TraceSecond) (stage : Stage) (log : RunLog) (more : List Event) (d e : Devices) → HaveLeftMore o d e → SoFar o done s stage log more d → SoFar o done s stage log more e
 later-images o done s stage log more d e left v = record {

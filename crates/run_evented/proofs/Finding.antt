@@ -374,7 +374,7 @@ module _ (log : RunLog) (before : Before) (s : TraceSecond) (n : ℕ) (power : h
           ∙ sym (append-nil (map (fault_of t log x) (torn_in_turn t x xs))))
 
       -- ---- the cards beside it
-      slots-beside : in_slot (course_at later before s at).slots (other_slot f.slot) ≡ in_slot (course_at log before s at).slots (other_slot f.slot)
+      pub slots-beside : in_slot (course_at later before s at).slots (other_slot f.slot) ≡ in_slot (course_at log before s at).slots (other_slot f.slot)
       slots-beside =
           (λ i. in_slot (both_told later s.number at (moved-same log later before s at power is same i) (begun-same log later before s at power is same i)).slots (other_slot f.slot))
           ∙ both-slot later s.number at moves (other_slot f.slot) start

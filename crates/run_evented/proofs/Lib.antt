@@ -21,3 +21,4 @@ pub mod Waking
 pub mod Passing
 pub mod Ending
 pub mod Cutting
+pub mod Kept

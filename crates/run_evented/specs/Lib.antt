@@ -3,3 +3,4 @@ pub mod Going
 pub mod Noting
 pub mod Bringing
 pub mod SoFar
+pub mod Kept

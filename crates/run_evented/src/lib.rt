@@ -3,6 +3,7 @@
 
 mod going;
 mod laws;
+mod steps;
 
 pub use going::{
     an_off_line_brings_nothing, an_off_line_cuts_and_brings_nothing, dark_seconds_bring_nothing,
@@ -13,4 +14,9 @@ pub use laws::{
     a_second_is_broken, a_second_is_noted, a_stage_is_done, a_step_is_noted, a_tear_is_brought,
     an_off_cut_brings_nothing, events_are_found, events_are_shown, events_stay, nothing_is_noted,
     the_second_begins, the_second_is_cut, the_second_is_noted,
+};
+pub use steps::{
+    a_call_notes, a_failure_cuts, a_find_adds, a_pull_adds_nothing, a_refusal_adds_nothing,
+    a_second_begins_now, a_second_ends_now, a_tear_adds, a_waking_tear_adds, an_interruption_adds,
+    no_break_no_span, steps_follow, the_interruption_is_found, what_ends_is_added,
 };
