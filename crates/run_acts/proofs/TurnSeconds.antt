@@ -149,7 +149,7 @@ record LinesMore (u : ℕ) (t y : Told) : Type 0 where
 fate-apart : (s : TraceSecond) (fate : Fate) (slot : Slot) → AllByRecursion (IsApart s.number) (breaks_by fate slot (moment_of s (keeping_of s)))
 fate-apart s Still slot = tt
 fate-apart s (Has a clock) slot = tt
-fate-apart s Fell slot = (λ n other. told-elsewhere s.number (length s.actions) true slot Keeping (In n) other refl refl, tt)
+fate-apart s Fell slot = (λ n other. told-elsewhere s.number (length s.actions) true slot true Keeping (In n) other refl refl, tt)
 
 round-lines : (s : TraceSecond) (p : Present) (minute : ℕ) (round : Round) (t y : Told) → LinesMore s.number (told_after p minute (moment_of s (keeping_of s)) round t) y → LinesMore s.number t y
 round-lines s p minute round t y h =
