@@ -1,5 +1,5 @@
 -- What the actions that need no card to be judged note on the unit: of rings nothing, and the faults of cards that fell.
-use Rattle.std.proofs.Common.{◌≡◌, ◌∙◌, ◌⊎◌, inl, inr, ⊎_elim, ℕ, ◌+◌, ◌*◌, ◌<◌, ◌≤◌, Bool, true, false, Option, Some, None, List, [], ◌∷◌, ◌++◌, refl, ap, sym, subst, arith}
+use Rattle.std.proofs.Common.{◌≡◌, ◌∙◌, ◌⊎◌, inl, inr, ⊎_elim, ℕ, ◌+◌, ◌*◌, ◌<◌, ◌≤◌, Bool, true, false, Option, Some, None, List, [], ◌∷◌, ◌++◌, length, refl, ap, sym, subst, arith, length-append}
 use Rattle.activity_codec.specs.declared.values.Slot.{Slot}
 use Rattle.trace_model.specs.declared.Card.{Card}
 use Rattle.tacho_types.specs.declared.numbers.TimeReal.{TimeReal}
@@ -24,7 +24,8 @@ use Rattle.run_keeping.specs.Faults.{faults_to}
 use Rattle.run_keeping.proofs.Fates.{no-lines}
 use Rattle.run_evented.specs.Evented.{number_in}
 use Rattle.run_acts.specs.declared.run.Run.{Run}
-use Rattle.run_acts.specs.Acting.{told_of, left_run}
+use Rattle.run_acts.specs.Acting.{IsNotedOn, Closing, Bare, Closed, Fell, IsClosed, closed_breaks, closed_falls, told_of, left_run}
+use Rattle.run_keeping.specs.Keeping.{tear_of, with_lines}
 use Rattle.run_acts.specs.Faults.{NotesSettling}
 use Rattle.run_acts.specs.NotedEvents.{NotesEvents}
 use Rattle.run_acts.specs.Noting.{SaysNoMore, NotesPlace, SettlesThese, closed_events, NotesClosing, NotesWithdrawing}
@@ -73,6 +74,20 @@ pub no-place : (q : Option Card) (slot : Slot) (at : Moment) (run : Run) (breaks
 no-place None slot at run breaks d notes = (refl, refl, refl, notes)
 no-place (Some card) slot at run breaks d notes = inr (record { fell = false; noted = record { run = refl; told = no-lines breaks }; failing = λ bad. bad; notes = notes })
 
+-- whether a card fell is told
+more-lines : (breaks : Listed Break) (x : Break) → with_lines [] breaks ≡ with_lines (x ∷ []) breaks → ⊥
+more-lines breaks x is =
+    let long = ap (λ (l : Listed Break). length l.items) is in
+    let none = length-append breaks.items [] in
+    let one = length-append breaks.items (x ∷ []) in
+    omega (arith, long, none, one)
+
+pub same-fell : (card : Card) (slot : Slot) (at : Moment) (old new : Run) (breaks after : Listed Break) (x y : Bool) → IsNotedOn card slot at old new breaks after x → IsNotedOn card slot at old new breaks after y → x ≡ y
+same-fell card slot at old new breaks after true true h k = refl
+same-fell card slot at old new breaks after false false h k = refl
+same-fell card slot at old new breaks after true false h k = absurd (more-lines breaks (tear_of slot at) (sym k.told ∙ h.told))
+same-fell card slot at old new breaks after false true h k = absurd (more-lines breaks (tear_of slot at) (sym h.told ∙ k.told))
+
 -- ---- a card is withdrawn
 
 -- the unit failed in the keeping of the minutes before
@@ -88,6 +103,15 @@ withdrawal-noted q card is slot at failed old between new before told after d e 
     let fault : List UnitEvent = closed_events n.closing at.second new in
     subst (λ (o : Option Card). NotesWithdrawing o slot at failed old new before (record told { breaks = after }) d f) (sym is)
     (vs ++ fault, inr (record { between = between; told = told; faults = vs; closing = n.closing; settles = settles; closed = n.closed; rest = refl; are = refl }), then-noted vs fault failed d e f notes n.notes)
+
+-- so often the card has failed in it, whichever way is told
+lines-of : (slot : Slot) (at : Moment) (breaks after : Listed Break) (closing : Closing) → after ≡ with_lines (closed_breaks closing slot at) breaks → length after.items ≡ length breaks.items + closed_falls closing
+lines-of slot at breaks after Bare is = let long = ap (λ (l : Listed Break). length l.items) is in let all = length-append breaks.items [] in omega (arith, long, all)
+lines-of slot at breaks after Closed is = let long = ap (λ (l : Listed Break). length l.items) is in let all = length-append breaks.items [] in omega (arith, long, all)
+lines-of slot at breaks after Fell is = let long = ap (λ (l : Listed Break). length l.items) is in let all = length-append breaks.items (tear_of slot at ∷ []) in omega (arith, long, all)
+
+pub same-closing : (card : Card) (slot : Slot) (at : Moment) (old new : Run) (breaks after : Listed Break) (x y : Closing) → IsClosed card slot at old new breaks after x → IsClosed card slot at old new breaks after y → closed_falls x ≡ closed_falls y
+same-closing card slot at old new breaks after x y h k = let first = lines-of slot at breaks after x h.told in let other = lines-of slot at breaks after y k.told in omega (arith, first, other)
 
 -- the other card does not matter
 pub closing-any : (card : Card) (slot : Slot) (at : Moment) (failed : Bool) (old new : Run) (breaks after : Listed Break) (d e f g : Devices) → d.unit ≡ f.unit → e.unit ≡ g.unit → NotesClosing card slot at failed old new breaks after d e → NotesClosing card slot at failed old new breaks after f g

@@ -43,7 +43,7 @@ other-seat : (seat : Option Seat) (card : Card) → IfSome seat (λ s. same_card
 other-seat None card h = refl
 other-seat (Some s) card h = h
 
-left-stays : (slot : Slot) (card : Card) (second : ℕ) (slots : Slots) → IfSome (seat_in slots.seats slot) (λ s. same_card s.card card ≡ false) → seat_in (left_from (slot_with slots.seats card) second slots).seats slot ≡ seat_in slots.seats slot
+pub left-stays : (slot : Slot) (card : Card) (second : ℕ) (slots : Slots) → IfSome (seat_in slots.seats slot) (λ s. same_card s.card card ≡ false) → seat_in (left_from (slot_with slots.seats card) second slots).seats slot ≡ seat_in slots.seats slot
 left-stays Driver card second slots h = driver-stays (is_card slots.seats.driver card) (is_card slots.seats.codriver card) second slots (other-seat slots.seats.driver card h)
 left-stays CoDriver card second slots h = codriver-stays (is_card slots.seats.driver card) (is_card slots.seats.codriver card) second slots (other-seat slots.seats.codriver card h)
 
@@ -52,7 +52,7 @@ seat-goes : (o : Option Seat) (P Q : Seat → Type 0) → ((s : Seat) → P s �
 seat-goes None P Q goes h = tt
 seat-goes (Some s) P Q goes h = goes s h
 
-had : (o : Option Accepted) (kept : Kept) → IsFateOf o kept Fell → is_some o ≡ true
+pub had : (o : Option Accepted) (kept : Kept) → IsFateOf o kept Fell → is_some o ≡ true
 had None kept h = absurd h
 had (Some a) kept h = refl
 
@@ -84,7 +84,7 @@ same-bare slot cabin h = record { seat = refl; bare = h }
 then-bare : (slot : Slot) (a b c : Cabin) → StaysBare slot a b → StaysBare slot b c → StaysBare slot a c
 then-bare slot a b c first next = record { seat = next.seat ∙ first.seat; bare = next.bare }
 
-fate-bare : (fate : Fate) (present : Option Card) (kept : Kept) (second : ℕ) (slot : Slot) (cabin : Cabin) → IsFateOf (session_at cabin.cards present) kept fate → IsBareIn cabin slot → StaysBare slot cabin (cabin_by fate present second cabin)
+pub fate-bare : (fate : Fate) (present : Option Card) (kept : Kept) (second : ℕ) (slot : Slot) (cabin : Cabin) → IsFateOf (session_at cabin.cards present) kept fate → IsBareIn cabin slot → StaysBare slot cabin (cabin_by fate present second cabin)
 fate-bare Still None kept second slot cabin is h = same-bare slot cabin h
 fate-bare (Has a clock) None kept second slot cabin is h = same-bare slot cabin h
 fate-bare Fell None kept second slot cabin is h = same-bare slot cabin h
@@ -102,7 +102,7 @@ fate-bare Fell (Some card) kept second slot cabin is h =
     }
 
 -- a fate that was not asked changes nothing
-still-bare : (fate : Fate) (present : Option Card) (second : ℕ) (slot : Slot) (cabin : Cabin) → fate ≡ Still → IsBareIn cabin slot → StaysBare slot cabin (cabin_by fate present second cabin)
+pub still-bare : (fate : Fate) (present : Option Card) (second : ℕ) (slot : Slot) (cabin : Cabin) → fate ≡ Still → IsBareIn cabin slot → StaysBare slot cabin (cabin_by fate present second cabin)
 still-bare fate None second slot cabin is h = subst (λ (f : Fate). StaysBare slot cabin (cabin_by f None second cabin)) (sym is) (same-bare slot cabin h)
 still-bare fate (Some card) second slot cabin is h = subst (λ (f : Fate). StaysBare slot cabin (cabin_by f (Some card) second cabin)) (sym is) (same-bare slot cabin h)
 

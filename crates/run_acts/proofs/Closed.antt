@@ -1,5 +1,5 @@
 -- The session of a card that has left its slot is closed, behind the minutes that its leaving decides: what is recorded.
-use Rattle.std.proofs.Common.{◌≡◌, ◌∙◌, ◌⊎◌, ℕ, ◌+◌, ◌/◌, ◌≤◌, Bool, true, false, not, Option, Some, None, List, [], ◌∷◌, is_some, refl, ap, sym, subst, arith}
+use Rattle.std.proofs.Common.{◌≡◌, ◌∙◌, ◌⊎◌, ℕ, ◌+◌, ◌/◌, ◌^◌, ◌<◌, ◌≤◌, Bool, true, false, not, Option, Some, None, List, [], ◌∷◌, is_some, refl, ap, sym, subst, arith}
 use Rattle.std.specs.Prelude.{IfSome}
 use Rattle.activity_codec.specs.declared.values.Activity.{Activity}
 use Rattle.activity_codec.specs.declared.values.Slot.{Slot}
@@ -34,7 +34,7 @@ use Rattle.run_crew.specs.declared.cards.Accepted.{Accepted}
 use Rattle.run_crew.specs.declared.cards.Cards.{Cards}
 use Rattle.run_crew.specs.declared.cabin.Cabin.{Cabin}
 use Rattle.run_crew.specs.Cards.{session_of, with_session}
-use Rattle.run_crew.specs.Cabin.{torn_out, with_session_of}
+use Rattle.run_crew.specs.Cabin.{torn_out, with_session_of, Stands, crew_of}
 use Rattle.run_rule.specs.Found.{Found, found_of}
 use Rattle.run_rule.specs.Between.{Carried}
 use Rattle.run_course.specs.Seconds.{kept_all}
@@ -58,8 +58,28 @@ use Rattle.run_acts.specs.Power.{with_cabin}
 use Rattle.run_acts.specs.Acting.{Closing, Bare, Closed, Fell, closed_cabin, closed_breaks, closed_falls, IsClosingOf, IsClosed}
 use Rattle.run_acts.specs.Behind.{IsPoweredOrOff, carried_closed}
 use Rattle.run_acts.specs.Recording.{log_of, values_of, RunWithin, GoesOnOrFails}
+use Rattle.log_model.specs.Log.{RunLog}
+use Rattle.log_model.specs.Slots.{other_slot}
+use Rattle.trace_model.specs.declared.Action.{Action}
+use Rattle.event_model.specs.declared.kinds.TheConstants.{CARD_FAULT}
+use Rattle.run_notes.specs.Entries.{entry_of}
+use Rattle.run_course.specs.Moments.{and_break}
+use Rattle.run_moments.specs.Telling.{IsLeft, BrokeDown}
+use Rattle.run_moments.proofs.Telling.{card-torn}
+use Rattle.run_moments.proofs.Reached.{leaves-first}
+use Rattle.run_evented.specs.Noting.{Acting}
+use Rattle.run_evented.specs.Bringing.{NotFound}
+use Rattle.run_evented.specs.SoFar.{EventedNow, MayFollow}
+use Rattle.run_evented.proofs.Adding.{call-notes}
+use Rattle.run_evented.proofs.Cutting.{failure-cuts}
+use Rattle.run_evented.proofs.Falling.{tear-adds}
+use Rattle.run_acts.specs.NotedEvents.{NotesEvents}
+use Rattle.run_acts.specs.Noting.{closed_events}
+use Rattle.run_acts.specs.Evented.{EventsGoOn}
+use Rattle.run_acts.proofs.RoundFaults.{none-added}
+use Rattle.run_acts.proofs.FallEvented.{call-evented, begins-now, leaving-out, leaving-falls}
 use Rattle.run_acts.proofs.Withdrawn.{closed-any}
-use Rattle.run_acts.proofs.NoteRecorded.{goes-as, card-goes, unit-any, unit-of, to-unit, card-rose, rose-by, rose-on}
+use Rattle.run_acts.proofs.NoteRecorded.{goes-as, any-evented, card-goes, unit-any, unit-of, to-unit, card-rose, rose-by, rose-on}
 
 -- when a card was last used, behind the closing of its session
 closed-timed : (f : Found) (w : Carried) (cards : Cards) (c : Card) (U X Y Z : State) → AreFoundCards f cards → IsCoherent X → LARGEST_IMAGE ≤ X.size → (a : Accepted) (act : Activity) → session_of cards c ≡ Some a → IsPowered f w cards (arranged c U X Z) →
@@ -176,3 +196,59 @@ module _ {C : Type 0} (state : C → State) (c : Card) (slot : Slot) (at : Momen
           subst (λ (l : Listed Break). GoesOnOrFails failed o done s (In n) [] (with_cabin (with_session_of c None run.keeper.cabin) run) (record told { breaks = l }) e w.within.b) (no-lines told.breaks)
           (closed a has failed refl (powered Closed how))
       by (Some a) has Fell how broke_ = fell a has broke_ failed refl (powered Fell how)
+
+  -- ---- its events
+
+  module _ (small : s.number < 2 ^ 32) (none : NotFound (In n) (other_slot slot) (log_of told) s.number) (follows : MayFollow (In n) slot (log_of told) s) (low : ℕ) (sits_ : Stands low (Some c) run.keeper.cabin) (actions : List Action) (behind : IsLeft s (In n) actions)
+      (now : EventedNow o done s w.within.b.run Acting (log_of told) d) where
+    -- it is closed
+    closes-evented : (a : Accepted) → session_of run.keeper.cabin.cards c ≡ Some a → NotesEvents [] failed d e → EventsGoOn failed o done s w.within.b.run (In n) Acting (log_of told) e
+    closes-evented a has notes =
+        call-evented d e (call-notes d e) (failure-cuts d e) o w.origin.long done s w.within.b.run w.within.b.span (begins-now o w.origin done s (In n) v d w.within) (In n) (log_of told) (log_of told) [] now (none-added o done s (log_of told) (log_of told) e refl)
+        (goes a has).left failed notes
+        (λ bad. record { waits = []; mid = w.within.b.broken; now = breakdowns_of d; moment = w.within.moment; more = (goes a has).breakdowns; rose = broke bad; rest = actions; left = behind })
+
+    -- or the card fell
+    falls-evented : (a : Accepted) → session_of run.keeper.cabin.cards c ≡ Some a → HasBroken (state x) (state y) 1 → (new : Run) → new ≡ with_cabin (torn_out c at.second (with_session_of c None run.keeper.cabin)) run → NotesEvents (closed_events Fell at.second new) failed d e →
+        EventsGoOn failed o done s w.within.b.run (In n) Acting (and_break (log_of told) (tear_of slot at)) e
+    falls-evented a has broken new is notes =
+        let gone : Cabin = torn_out c s.number (with_session_of c None run.keeper.cabin) in
+        let cabin_is : new.keeper.cabin ≡ gone = ap (λ (r : Run). r.keeper.cabin) is ∙ ap (λ (u : ℕ). torn_out c u (with_session_of c None run.keeper.cabin)) second in
+        let fault : NotesEvents (entry_of CARD_FAULT s.number s.number (crew_of gone) (crew_of gone) ∷ []) failed d e =
+        subst (λ (u : ℕ). NotesEvents (entry_of CARD_FAULT u u (crew_of gone) (crew_of gone) ∷ []) failed d e) second
+        (subst (λ (b : Cabin). NotesEvents (entry_of CARD_FAULT at.second at.second (crew_of b) (crew_of b) ∷ []) failed d e) cabin_is notes) in
+        let leaves = leaving (ap is_some has) in
+        call-evented d e (call-notes d e) (failure-cuts d e) o w.origin.long done s w.within.b.run w.within.b.span (begins-now o w.origin done s (In n) v d w.within) (In n) (log_of told) (and_break (log_of told) (tear_of slot at))
+        (entry_of CARD_FAULT s.number s.number (crew_of gone) (crew_of gone) ∷ []) now
+        (leaving-falls o w.origin done s (In n) v d w.within slot c (s.number / 60) (s.number / 60) leaves low (Some c) sits_ e (tear-adds e) (tear_of slot at) (tear-here a has) none follows small)
+        (goes a has).left failed fault
+        (λ bad. record {
+          waits = [];
+          mid = w.within.b.broken;
+          now = breakdowns_of e;
+          moment = (card-torn w.within.b.run (went w.within.b.run.log done).before s (In n) (log_of told) [] w.within.b.broken (breakdowns_of d) (breakdowns_of e) w.within.moment slot (tear_of slot at) (tear-here a has) (leaves-first (log_of told) (went w.within.b.run.log done).before s (In n) slot (record { phase = In n; slot = slot; card = c }) [] leaves.leaves) leaves.untorn c
+              (leaving-out o w.origin done s (In n) v d w.within slot c (s.number / 60) (s.number / 60) leaves low (Some c) sits_)
+              (record { more = (goes a has).breakdowns; broke = card-rose c U V (state x) (state y) Z (rose-by (state x).breakdowns (state y).breakdowns broken.breakdowns) })).0;
+          more = λ device. omega arith;
+          rose = broke bad;
+          rest = actions;
+          left = behind;
+        })
+
+    pub closed-evented : (new : Run) (after : Listed Break) (closing : Closing) → IsClosed c slot at run new told.breaks after closing → HasBroken (state x) (state y) (closed_falls closing) → NotesEvents (closed_events closing at.second new) failed d e →
+        EventsGoOn failed o done s w.within.b.run (In n) Acting (log_of (record told { breaks = after })) e
+    closed-evented new after closing is broken notes =
+        subst (λ (l : Listed Break). EventsGoOn failed o done s w.within.b.run (In n) Acting (log_of (record told { breaks = l })) e) (sym is.told) (by (session_of run.keeper.cabin.cards c) refl closing is.is is.run broken notes)
+      where
+        by : (q : Option Accepted) → session_of run.keeper.cabin.cards c ≡ q → (closing : Closing) → IsClosingOf (session_of run.keeper.cabin.cards c) closing → new ≡ with_cabin (closed_cabin closing c at.second run.keeper.cabin) run → HasBroken (state x) (state y) (closed_falls closing) →
+            NotesEvents (closed_events closing at.second new) failed d e → EventsGoOn failed o done s w.within.b.run (In n) Acting (log_of (record told { breaks = with_lines (closed_breaks closing slot at) told.breaks })) e
+        by None has Bare how run_is broke_ notes_ =
+            let still_ : y ≡ x = still has in
+            subst (λ (l : Listed Break). EventsGoOn failed o done s w.within.b.run (In n) Acting (log_of (record told { breaks = l })) e) (no-lines told.breaks)
+            (subst (λ (z : C). EventsGoOn failed o done s w.within.b.run (In n) Acting (log_of told) (arranged c V (state z) Z)) (sym still_)
+            (any-evented c o done s n run told U V (state x) Z unit_whole unit span stands ends w actions behind failed cause (subst (λ (z : C). NotesEvents [] failed d (arranged c V (state z) Z)) still_ notes_) now))
+        by None has Closed how run_is broke_ notes_ = absurd (subst (λ (q : Option Accepted). IsClosingOf q Closed) has how)
+        by None has Fell how run_is broke_ notes_ = absurd (subst (λ (q : Option Accepted). IsClosingOf q Fell) has how)
+        by (Some a) has Bare how run_is broke_ notes_ = absurd (subst (λ (q : Option Accepted). IsClosingOf q Bare) has how)
+        by (Some a) has Closed how run_is broke_ notes_ = subst (λ (l : Listed Break). EventsGoOn failed o done s w.within.b.run (In n) Acting (log_of (record told { breaks = l })) e) (no-lines told.breaks) (closes-evented a has notes_)
+        by (Some a) has Fell how run_is broke_ notes_ = falls-evented a has broke_ new run_is notes_

@@ -29,7 +29,8 @@ use Rattle.run_crew.specs.declared.cabin.Cabin.{Cabin}
 use Rattle.run_crew.specs.declared.cards.Accepted.{Accepted}
 use Rattle.run_crew.specs.declared.cards.Cards.{Cards}
 use Rattle.run_crew.specs.Cards.{known_of, session_of, with_session, accepted_number}
-use Rattle.run_crew.specs.Cabin.{Stands, AnswersTo, SeatAnswers, number_of_seat, slot_with, left_from, torn_out, crew_of}
+use Rattle.run_crew.specs.Cabin.{Stands, AnswersTo, SeatAnswers, SitsNowhere, number_of_seat, slot_with, left_from, torn_out, crew_of}
+use Rattle.run_within.proofs.Seats.{nowhere-none}
 use Rattle.run_notes.specs.Entries.{number_or_no_card, IsCrewOf}
 use Rattle.run_crew.specs.declared.cards.Crew.{Crew}
 use Rattle.event_crews.specs.Watched.{named}
@@ -51,24 +52,46 @@ abbrev SeatIs : Cards → Option Seat → Option Sitting → Type 0
 SeatIs cards seat sitting = ((number_of_seat cards seat ≡ None) × (events.accepted_card sitting ≡ None))
     ⊎ ((c : Card) × (is_some (session_of cards c) ≡ true) × (number_of_seat cards seat ≡ (known_of cards c).number) × (events.accepted_card sitting ≡ Some c))
 
-module _ (cards : Cards) (start : Start) (past : List HistoryMinute) (from low : ℕ) (kept : Kept) where
+-- a card in a slot has a session exactly where it is accepted
+abbrev pub SitsWell : Cards → Option Seat → Type 0
+SitsWell cards None = Unit {0}
+SitsWell cards (Some seat) = is_some seat.newest ≡ is_some (session_of cards seat.card)
+
+pub record AllSitWell (cabin : Cabin) : Type 0 where
+  pub driver : SitsWell cabin.cards cabin.slots.seats.driver
+  pub codriver : SitsWell cabin.cards cabin.slots.seats.codriver
+
+answers-well : (low : ℕ) (n : Option ℕ) (x : Option Accepted) → AnswersTo low n x → is_some n ≡ is_some x
+answers-well low None None h = refl
+answers-well low None (Some s) h = absurd h
+answers-well low (Some n) None h = absurd h
+answers-well low (Some n) (Some s) h = refl
+
+seat-well : (low : ℕ) (cards : Cards) (seat : Option Seat) → SeatAnswers low cards seat → SitsWell cards seat
+seat-well low cards None h = tt
+seat-well low cards (Some seat) h = answers-well low seat.newest (session_of cards seat.card) h
+
+pub all-well : (low : ℕ) (leaving : Option Card) (cabin : Cabin) → Stands low leaving cabin → AllSitWell cabin
+all-well low leaving cabin h = record { driver = seat-well low cabin.cards cabin.slots.seats.driver h.driver; codriver = seat-well low cabin.cards cabin.slots.seats.codriver h.codriver }
+
+module _ (cards : Cards) (start : Start) (past : List HistoryMinute) (from : ℕ) (kept : Kept) where
   accepted-is : (sitting : Sitting) (a : Option ℕ) → sitting.accepted ≡ a → events.accepted_card (Some sitting) ≡ option_map {T = ℕ} {U = Card} (λ u. sitting.card) a
   accepted-is sitting a is = ap (λ (q : Option ℕ). option_map {T = ℕ} {U = Card} (λ u. sitting.card) q) is
 
-  both-are : (seat : Seat) (sitting : Sitting) → seat.card ≡ sitting.card → (n : Option ℕ) (a : Option ℕ) → sitting.accepted ≡ a → (x : Option Accepted) → session_of cards seat.card ≡ x → IsNewest start past from kept seat.card n a → AnswersTo low n x → SeatIs cards (Some seat) (Some sitting)
-  both-are seat sitting card None None a None x new answers = inl (no-number cards seat.card x, accepted-is sitting None a)
-  both-are seat sitting card None None a (Some s) x new answers = absurd answers
-  both-are seat sitting card None (Some u) a s x new answers = absurd new
-  both-are seat sitting card (Some n) None a s x new answers = absurd new
-  both-are seat sitting card (Some n) (Some u) a None x new answers = absurd answers
-  both-are seat sitting card (Some n) (Some u) a (Some s) x new answers =
+  both-are : (seat : Seat) (sitting : Sitting) → seat.card ≡ sitting.card → (n : Option ℕ) (a : Option ℕ) → sitting.accepted ≡ a → (x : Option Accepted) → session_of cards seat.card ≡ x → IsNewest start past from kept seat.card n a → is_some n ≡ is_some x → SeatIs cards (Some seat) (Some sitting)
+  both-are seat sitting card None None a None x new well = inl (no-number cards seat.card x, accepted-is sitting None a)
+  both-are seat sitting card None None a (Some s) x new well = absurd (let bad : false ≡ true = well in cc)
+  both-are seat sitting card None (Some u) a s x new well = absurd new
+  both-are seat sitting card (Some n) None a s x new well = absurd new
+  both-are seat sitting card (Some n) (Some u) a None x new well = absurd (let bad : true ≡ false = well in cc)
+  both-are seat sitting card (Some n) (Some u) a (Some s) x new well =
       inr (seat.card, ap (λ (q : Option Accepted). is_some q) x, its-number cards seat.card s x, accepted-is sitting (Some u) a ∙ ap (λ (c : Card). Some c) (sym card))
 
-  seat-is : (seat : Option Seat) (sitting : Option Sitting) → SitsAs start past from kept seat sitting → SeatAnswers low cards seat → SeatIs cards seat sitting
-  seat-is None None sits answers = inl (refl, refl)
-  seat-is None (Some sitting) sits answers = absurd sits
-  seat-is (Some seat) None sits answers = absurd sits
-  seat-is (Some seat) (Some sitting) sits answers = both-are seat sitting sits.0 seat.newest sitting.accepted refl (session_of cards seat.card) refl sits.1 answers
+  seat-is : (seat : Option Seat) (sitting : Option Sitting) → SitsAs start past from kept seat sitting → SitsWell cards seat → SeatIs cards seat sitting
+  seat-is None None sits well = inl (refl, refl)
+  seat-is None (Some sitting) sits well = absurd sits
+  seat-is (Some seat) None sits well = absurd sits
+  seat-is (Some seat) (Some sitting) sits well = both-are seat sitting sits.0 seat.newest sitting.accepted refl (session_of cards seat.card) refl sits.1 well
 
 seat-named : (number : Card → List ℕ) (cards : Cards) → AreKnownBy number cards → (seat : Option Seat) (sitting : Option Sitting) → SeatIs cards seat sitting → card_number_bytes (number_or_no_card (number_of_seat cards seat)) ≡ number_or_none number (events.accepted_card sitting)
 seat-named number cards known seat sitting (inl is) = ap (λ (q : Option FullCardNumber). card_number_bytes (number_or_no_card q)) is.0 ∙ sym (ap (λ (q : Option Card). number_or_none number q) is.1)
@@ -80,27 +103,33 @@ seat-as number cards known seat sitting (inr is) = is.2 ∙ known is.0 is.1 ∙ 
 
 -- ---- both
 
-module _ (start : Start) (told : List Told) (past : List HistoryMinute) (left : List Card) (u from low : ℕ) (leaving : Option Card) (slots : Slots) (cabin : Cabin) (stands : Stands low leaving cabin) (tells : SlotsTell start told past left u from slots cabin.slots) where
+module _ (start : Start) (told : List Told) (past : List HistoryMinute) (left : List Card) (u from : ℕ) (slots : Slots) (cabin : Cabin) (well : AllSitWell cabin) (tells : SlotsTell start told past left u from slots cabin.slots) where
   first-is : SeatIs cabin.cards cabin.slots.seats.driver slots.driver
-  first-is = seat-is cabin.cards start past from low cabin.slots cabin.slots.seats.driver slots.driver tells.driver stands.driver
+  first-is = seat-is cabin.cards start past from cabin.slots cabin.slots.seats.driver slots.driver tells.driver well.driver
 
   second-is : SeatIs cabin.cards cabin.slots.seats.codriver slots.codriver
-  second-is = seat-is cabin.cards start past from low cabin.slots cabin.slots.seats.codriver slots.codriver tells.codriver stands.codriver
+  second-is = seat-is cabin.cards start past from cabin.slots cabin.slots.seats.codriver slots.codriver tells.codriver well.codriver
+
+  pub sitting-named : (number : Card → List ℕ) → AreKnownBy number cabin.cards → IsCrewOf number (events.crew_of slots) (crew_of cabin)
+  sitting-named number known = record {
+    driver = seat-named number cabin.cards known cabin.slots.seats.driver slots.driver first-is;
+    codriver = seat-named number cabin.cards known cabin.slots.seats.codriver slots.codriver second-is;
+  }
+
+  pub crew-sits : (number : Card → FullCardNumber) → AreKnownAs number cabin.cards → crew_of cabin ≡ named number (events.crew_of slots)
+  crew-sits number known =
+      let first = seat-as number cabin.cards known cabin.slots.seats.driver slots.driver first-is in
+      let second = seat-as number cabin.cards known cabin.slots.seats.codriver slots.codriver second-is in
+      ap (λ (q : Option FullCardNumber). record { driver = q; codriver = (crew_of cabin).codriver }) first
+      ∙ ap (λ (q : Option FullCardNumber). record { driver = (named number (events.crew_of slots)).driver; codriver = q }) second
 
 pub cards-named : (number : Card → List ℕ) (start : Start) (told : List Told) (past : List HistoryMinute) (left : List Card) (u from low : ℕ) (leaving : Option Card) (slots : Slots) (cabin : Cabin) →
     Stands low leaving cabin → SlotsTell start told past left u from slots cabin.slots → AreKnownBy number cabin.cards → IsCrewOf number (events.crew_of slots) (crew_of cabin)
-cards-named number start told past left u from low leaving slots cabin stands tells known = record {
-  driver = seat-named number cabin.cards known cabin.slots.seats.driver slots.driver (first-is start told past left u from low leaving slots cabin stands tells);
-  codriver = seat-named number cabin.cards known cabin.slots.seats.codriver slots.codriver (second-is start told past left u from low leaving slots cabin stands tells);
-}
+cards-named number start told past left u from low leaving slots cabin stands tells known = sitting-named start told past left u from slots cabin (all-well low leaving cabin stands) tells number known
 
 pub crew-named : (number : Card → FullCardNumber) (start : Start) (told : List Told) (past : List HistoryMinute) (left : List Card) (u from low : ℕ) (leaving : Option Card) (slots : Slots) (cabin : Cabin) →
     Stands low leaving cabin → SlotsTell start told past left u from slots cabin.slots → AreKnownAs number cabin.cards → crew_of cabin ≡ named number (events.crew_of slots)
-crew-named number start told past left u from low leaving slots cabin stands tells known =
-    let first = seat-as number cabin.cards known cabin.slots.seats.driver slots.driver (first-is start told past left u from low leaving slots cabin stands tells) in
-    let second = seat-as number cabin.cards known cabin.slots.seats.codriver slots.codriver (second-is start told past left u from low leaving slots cabin stands tells) in
-    ap (λ (q : Option FullCardNumber). record { driver = q; codriver = (crew_of cabin).codriver }) first
-    ∙ ap (λ (q : Option FullCardNumber). record { driver = (named number (events.crew_of slots)).driver; codriver = q }) second
+crew-named number start told past left u from low leaving slots cabin stands tells known = crew-sits start told past left u from slots cabin (all-well low leaving cabin stands) tells number known
 
 -- ---- behind a tear
 
@@ -127,24 +156,47 @@ not-both seats card apart there = by (is_card seats.driver card) refl
     by false is = is
     by true is = let clash : true ≡ false = sym there ∙ apart card is in absurd (cc)
 
+module _ (number : Card → List ℕ) (start : Start) (told : List Told) (past : List HistoryMinute) (left : List Card) (u from : ℕ) (slots : Slots) (cabin : Cabin) (well : AllSitWell cabin) (tells : SlotsTell start told past left u from slots cabin.slots)
+    (known : AreKnownBy number cabin.cards) where
+  was : IsCrewOf number (events.crew_of slots) (crew_of cabin)
+  was = sitting-named start told past left u from slots cabin well tells number known
+
+  -- it sat there
+  pub torn-sits : (slot : Slot) (card : Card) → is_card (seat_in cabin.slots.seats slot) card ≡ true → (second : ℕ) → IsCrewOf number (events.with_card slot None (events.crew_of slots)) (crew_of (torn_out card second cabin))
+  torn-sits Driver card there second =
+      let at = in-driver cabin.slots.seats card there in
+      let gone : Cabin = record { slots = left_from (Some Driver) second cabin.slots; cards = with_session card None cabin.cards } in
+      let is : IsCrewOf number (events.with_card Driver None (events.crew_of slots)) (crew_of gone) =
+      record { driver = refl; codriver = ap (λ (q : Option FullCardNumber). card_number_bytes (number_or_no_card q)) (other-seat cabin.cards card cabin.slots.seats.codriver (tells.apart card there)) ∙ was.codriver } in
+      subst (λ (q : Option Slot). IsCrewOf number (events.with_card Driver None (events.crew_of slots)) (crew_of (record { slots = left_from q second cabin.slots; cards = with_session card None cabin.cards }))) (sym at) is
+  torn-sits CoDriver card there second =
+      let none = not-both cabin.slots.seats card tells.apart there in
+      let at = in-codriver cabin.slots.seats card none there in
+      let gone : Cabin = record { slots = left_from (Some CoDriver) second cabin.slots; cards = with_session card None cabin.cards } in
+      let is : IsCrewOf number (events.with_card CoDriver None (events.crew_of slots)) (crew_of gone) =
+      record { driver = ap (λ (q : Option FullCardNumber). card_number_bytes (number_or_no_card q)) (other-seat cabin.cards card cabin.slots.seats.driver none) ∙ was.driver; codriver = refl } in
+      subst (λ (q : Option Slot). IsCrewOf number (events.with_card CoDriver None (events.crew_of slots)) (crew_of (record { slots = left_from q second cabin.slots; cards = with_session card None cabin.cards }))) (sym at) is
+
+  -- or it was leaving that slot
+  stays-in : (card : Card) (seat : Option Seat) → is_card seat card ≡ false → card_number_bytes (number_or_no_card (number_of_seat (with_session card None cabin.cards) seat)) ≡ card_number_bytes (number_or_no_card (number_of_seat cabin.cards seat))
+  stays-in card seat not = ap (λ (q : Option FullCardNumber). card_number_bytes (number_or_no_card q)) (other-seat cabin.cards card seat not)
+
+  empty-in : (card : Card) (seat : Option Seat) → seat ≡ None → card_number_bytes (number_or_no_card (number_of_seat (with_session card None cabin.cards) seat)) ≡ number_or_none number None
+  empty-in card seat none = ap (λ (q : Option Seat). card_number_bytes (number_or_no_card (number_of_seat (with_session card None cabin.cards) q))) none
+
+  pub torn-leaves : (slot : Slot) (card : Card) → seat_in cabin.slots.seats slot ≡ None → SitsNowhere cabin.slots.seats card → (second : ℕ) → IsCrewOf number (events.with_card slot None (events.crew_of slots)) (crew_of (torn_out card second cabin))
+  torn-leaves Driver card empty nowhere second =
+      subst (λ (q : Option Slot). IsCrewOf number (events.with_card Driver None (events.crew_of slots)) (crew_of (record { slots = left_from q second cabin.slots; cards = with_session card None cabin.cards }))) (sym (nowhere-none cabin.slots.seats card nowhere))
+      (record { driver = empty-in card cabin.slots.seats.driver empty; codriver = stays-in card cabin.slots.seats.codriver nowhere.codriver ∙ was.codriver })
+  torn-leaves CoDriver card empty nowhere second =
+      subst (λ (q : Option Slot). IsCrewOf number (events.with_card CoDriver None (events.crew_of slots)) (crew_of (record { slots = left_from q second cabin.slots; cards = with_session card None cabin.cards }))) (sym (nowhere-none cabin.slots.seats card nowhere))
+      (record { driver = stays-in card cabin.slots.seats.driver nowhere.driver ∙ was.driver; codriver = empty-in card cabin.slots.seats.codriver empty })
+
 pub torn-named : (number : Card → List ℕ) (start : Start) (told : List Told) (past : List HistoryMinute) (left : List Card) (u from low : ℕ) (leaving : Option Card) (slots : Slots) (cabin : Cabin) →
     Stands low leaving cabin → SlotsTell start told past left u from slots cabin.slots → AreKnownBy number cabin.cards → (slot : Slot) (card : Card) → is_card (seat_in cabin.slots.seats slot) card ≡ true → (second : ℕ) →
     IsCrewOf number (events.with_card slot None (events.crew_of slots)) (crew_of (torn_out card second cabin))
-torn-named number start told past left u from low leaving slots cabin stands tells known Driver card there second =
-    let was = cards-named number start told past left u from low leaving slots cabin stands tells known in
-    let at = in-driver cabin.slots.seats card there in
-    let gone : Cabin = record { slots = left_from (Some Driver) second cabin.slots; cards = with_session card None cabin.cards } in
-    let is : IsCrewOf number (events.with_card Driver None (events.crew_of slots)) (crew_of gone) =
-    record { driver = refl; codriver = ap (λ (q : Option FullCardNumber). card_number_bytes (number_or_no_card q)) (other-seat cabin.cards card cabin.slots.seats.codriver (tells.apart card there)) ∙ was.codriver } in
-    subst (λ (q : Option Slot). IsCrewOf number (events.with_card Driver None (events.crew_of slots)) (crew_of (record { slots = left_from q second cabin.slots; cards = with_session card None cabin.cards }))) (sym at) is
-torn-named number start told past left u from low leaving slots cabin stands tells known CoDriver card there second =
-    let was = cards-named number start told past left u from low leaving slots cabin stands tells known in
-    let none = not-both cabin.slots.seats card tells.apart there in
-    let at = in-codriver cabin.slots.seats card none there in
-    let gone : Cabin = record { slots = left_from (Some CoDriver) second cabin.slots; cards = with_session card None cabin.cards } in
-    let is : IsCrewOf number (events.with_card CoDriver None (events.crew_of slots)) (crew_of gone) =
-    record { driver = ap (λ (q : Option FullCardNumber). card_number_bytes (number_or_no_card q)) (other-seat cabin.cards card cabin.slots.seats.driver none) ∙ was.driver; codriver = refl } in
-    subst (λ (q : Option Slot). IsCrewOf number (events.with_card CoDriver None (events.crew_of slots)) (crew_of (record { slots = left_from q second cabin.slots; cards = with_session card None cabin.cards }))) (sym at) is
+torn-named number start told past left u from low leaving slots cabin stands tells known slot card there second =
+    torn-sits number start told past left u from slots cabin (all-well low leaving cabin stands) tells known slot card there second
 
 -- ---- who has a session
 

@@ -1,5 +1,5 @@
 -- A note at a moment of a second: what is recorded behind it.
-use Rattle.std.proofs.Common.{◌≡◌, ◌∙◌, ◌⊎◌, inl, inr, ⊎_elim, ℕ, suc, ◌+◌, ◌/◌, ◌<◌, ◌≤◌, Bool, true, false, not, Option, Some, None, List, [], ◌∷◌, ◌++◌, is_some, length, refl, ap, sym, subst, arith, append-nil}
+use Rattle.std.proofs.Common.{◌≡◌, ◌∙◌, ◌⊎◌, inl, inr, ⊎_elim, ℕ, suc, ◌+◌, ◌/◌, ◌^◌, ◌<◌, ◌≤◌, Bool, true, false, not, Option, Some, None, List, [], ◌∷◌, ◌++◌, is_some, length, refl, ap, sym, subst, arith, append-nil}
 use Rattle.std.specs.Prelude.{min, IfSome}
 use Rattle.std.specs.List.{AllByRecursion}
 use Rattle.std.proofs.lemmas.Bool.{cases_lt}
@@ -36,7 +36,10 @@ use Rattle.device_steps.specs.CardNotes.{IsNote}
 use Rattle.run_crew.specs.declared.cards.Accepted.{Accepted}
 use Rattle.run_crew.specs.declared.cards.Cards.{Cards}
 use Rattle.run_crew.specs.Cards.{session_of, with_session}
-use Rattle.run_crew.specs.Cabin.{Stands, torn_out}
+use Rattle.event_model.specs.declared.kinds.TheConstants.{CARD_FAULT}
+use Rattle.run_notes.specs.Entries.{entry_of}
+use Rattle.run_crew.specs.declared.cabin.Cabin.{Cabin}
+use Rattle.run_crew.specs.Cabin.{Stands, torn_out, crew_of}
 use Rattle.run_rule.specs.Found.{found_of}
 use Rattle.run_rule.specs.Cards.{IsUntouched}
 use Rattle.run_rule.specs.Between.{Carried, devices}
@@ -72,6 +75,23 @@ use Rattle.run_acts.proofs.Cabins.{noted_cabin}
 use Rattle.run_acts.proofs.Apart.{some-one}
 use Rattle.run_acts.proofs.Asked.{allowed-in}
 use Rattle.run_acts.proofs.NotedOn.{noted-books, noted-timed}
+use Rattle.log_model.specs.Log.{RunLog}
+use Rattle.log_model.specs.Slots.{other_slot}
+use Rattle.log_model.specs.Course.{went}
+use Rattle.run_moments.proofs.Telling.{card-torn}
+use Rattle.run_moments.specs.Telling.{IsLeft}
+use Rattle.run_course.specs.Moments.{and_break}
+use Rattle.run_evented.specs.Noting.{Acting}
+use Rattle.run_evented.specs.Bringing.{NotFound}
+use Rattle.run_evented.specs.SoFar.{EventedNow, MayFollow}
+use Rattle.run_evented.proofs.Adding.{call-notes}
+use Rattle.run_evented.proofs.Cutting.{failure-cuts}
+use Rattle.run_evented.proofs.Falling.{tear-adds}
+use Rattle.run_acts.specs.NotedEvents.{NotesEvents}
+use Rattle.run_acts.specs.Noting.{fall_events}
+use Rattle.run_acts.specs.Evented.{EventsGoOn}
+use Rattle.run_acts.proofs.RoundFaults.{none-added}
+use Rattle.run_acts.proofs.FallEvented.{IsFailing, call-evented, begins-now, seated-untorn, seated-out, seated-falls}
 
 -- ---- the devices
 
@@ -283,6 +303,24 @@ module _ (o : Origin) (done : List TraceSecond) (s : TraceSecond) (n : ℕ) (run
     });
   }
 
+  -- and where it tells of no event the events stay
+  pub unit-evented : (actions : List Action) → IsLeft s (In n) actions → (failed : Bool) → HasCause U V failed → NotesEvents [] failed (devices U X Y) (devices V X Y) → EventedNow o done s w.within.b.run Acting (log_of out) (devices U X Y) →
+      EventsGoOn failed o done s w.within.b.run (In n) Acting (log_of out) (devices V X Y)
+  unit-evented actions left failed cause notes now =
+      call-evented (devices U X Y) (devices V X Y) (call-notes (devices U X Y) (devices V X Y)) (failure-cuts (devices U X Y) (devices V X Y)) o w.origin.long done s w.within.b.run w.within.b.span
+      (begins-now o w.origin done s (In n) (values_of run out) (devices U X Y) w.within) (In n) (log_of out) (log_of out) [] now (none-added o done s (log_of out) (log_of out) (devices V X Y) refl)
+      (unit-goes o run.keeper.cabin.cards U V X Y unit-began unit cause.breakdowns).left failed notes
+      (λ bad. record {
+        waits = [];
+        mid = w.within.b.broken;
+        now = breakdowns_of (devices U X Y);
+        moment = w.within.moment;
+        more = (unit-goes o run.keeper.cabin.cards U V X Y unit-began unit cause.breakdowns).breakdowns;
+        rose = rose-on (w.within.b.broken Recorder) U.breakdowns V.breakdowns w.within.moment.unit (rose-by U.breakdowns V.breakdowns (cause.breaks w.within.powered.lit.works bad));
+        rest = actions;
+        left = left;
+      })
+
 -- ---- A NOTE ON A CARD, and where that failed its tear, which is noted on the unit
 
 -- the unit among three devices
@@ -405,6 +443,51 @@ module _ (c : Card) (slot : Slot) (at : Moment) (run : Run) (breaks : Listed Bre
         (subst (λ (l : Listed Break). GoesOnOrFails failed o done s (In at.begun) [] (with_cabin (torn_out c at.second run.keeper.cabin) run) (record out { breaks = l }) e w.within.b) (sym is.told)
         (fell on_card broken failed refl (books true on_card w.within.from)))
 
+    -- and so go its events: a card that fell is told with its fault
+    pub noted-evented : s.number < 2 ^ 32 → NotFound (In at.begun) (other_slot slot) (log_of (record out { breaks = breaks })) s.number → MayFollow (In at.begun) slot (log_of (record out { breaks = breaks })) s → (actions : List Action) → IsLeft s (In at.begun) actions →
+        (fell_ : Bool) (new : Run) (after : Listed Break) → IsNotedOn c slot at run new breaks after fell_ → HasBroken X Y (falls_by fell_) → HasCause X Y fell_ → NotesEvents (fall_events fell_ at.second new) failed d e →
+        EventedNow o done s w.within.b.run Acting (log_of (record out { breaks = breaks })) d → EventsGoOn failed o done s w.within.b.run (In at.begun) Acting (log_of (record out { breaks = after })) e
+    noted-evented small none follows actions left false new after is broken on_card notes now =
+        let log : RunLog = log_of (record out { breaks = breaks }) in
+        let same : breaks ≡ after = no-lines breaks ∙ sym is.told in
+        subst (λ (l : Listed Break). EventsGoOn failed o done s w.within.b.run (In at.begun) Acting (log_of (record out { breaks = l })) e) same
+        (call-evented d e (call-notes d e) (failure-cuts d e) o w.origin.long done s w.within.b.run w.within.b.span (begins-now o w.origin done s (In at.begun) v d w.within) (In at.begun) log log [] now (none-added o done s log log e refl) (goes on_card.breakdowns).left failed notes
+        (λ bad. record {
+          waits = [];
+          mid = w.within.b.broken;
+          now = breakdowns_of d;
+          moment = w.within.moment;
+          more = (goes on_card.breakdowns).breakdowns;
+          rose = broke bad;
+          rest = actions;
+          left = left;
+        }))
+    noted-evented small none follows actions left true new after is broken on_card notes now =
+        let log : RunLog = log_of (record out { breaks = breaks }) in
+        let k = called on_card broken in
+        let gone : Cabin = torn_out c s.number run.keeper.cabin in
+        let crew_is : new.keeper.cabin ≡ gone = ap (λ (r : Run). r.keeper.cabin) is.run ∙ ap (λ (u : ℕ). torn_out c u run.keeper.cabin) here in
+        let told : NotesEvents (entry_of CARD_FAULT s.number s.number (crew_of gone) (crew_of gone) ∷ []) failed d e =
+        subst (λ (u : ℕ). NotesEvents (entry_of CARD_FAULT u u (crew_of gone) (crew_of gone) ∷ []) failed d e) here
+        (subst (λ (b : Cabin). NotesEvents (entry_of CARD_FAULT at.second at.second (crew_of b) (crew_of b) ∷ []) failed d e) crew_is notes) in
+        subst (λ (l : Listed Break). EventsGoOn failed o done s w.within.b.run (In at.begun) Acting (log_of (record out { breaks = l })) e) (sym is.told)
+        (call-evented d e (call-notes d e) (failure-cuts d e) o w.origin.long done s w.within.b.run w.within.b.span (begins-now o w.origin done s (In at.begun) v d w.within) (In at.begun) log (and_break log (tear_of slot at))
+        (entry_of CARD_FAULT s.number s.number (crew_of gone) (crew_of gone) ∷ []) now
+        (seated-falls o w.origin done s (In at.begun) v d w.within slot c seat (ap is_some has) (ungiven_of span) cabin e (tear-adds e) (tear_of slot at) k.here none follows small)
+        (goes on_card.breakdowns).left failed told
+        (λ bad. record {
+          waits = [];
+          mid = w.within.b.broken;
+          now = breakdowns_of e;
+          moment = (card-torn w.within.b.run (went w.within.b.run.log done).before s (In at.begun) log [] w.within.b.broken (breakdowns_of d) (breakdowns_of e) w.within.moment slot (tear_of slot at) k.here k.power
+              (seated-untorn o w.origin done s (In at.begun) v d w.within slot c seat (ap is_some has) (ungiven_of span) cabin) c
+              (seated-out o w.origin done s (In at.begun) v d w.within slot c seat (ap is_some has) (ungiven_of span) cabin) k.broke).0;
+          more = λ device. omega arith;
+          rose = broke bad;
+          rest = actions;
+          left = left;
+        }))
+
   pub note-recorded : (new : Run) (after : Listed Break) (fell : Bool) → IsNotedOn c slot at run new breaks after fell → HasBroken X Y (falls_by fell) → HasCause X Y fell → IsNoteRecorded (In at.begun) failed run new breaks after (arranged c U X Z) (arranged c V Y Z)
   note-recorded new after fell is broken on_card = λ o done s out w first. noted o done s out w first fell new after is broken on_card
 
@@ -434,6 +517,19 @@ noted-some c slot at run breaks U V X Y Z unit_whole whole later size some value
     note-recorded c slot at run breaks U V X Y Z unit_whole whole later size one.0 (subst (λ (o : Option Accepted). IfSome o (λ a. IsValue a.session)) one.1 value) one.1 seat second late span stands ends cabin
     (subst (λ (o : Option Accepted). IfSome o (λ a. LeavesOnly X Y (IsNote a.session.application))) one.1 card) unit failed cause new after fell is broken on_card
 
+pub some-evented : (c : Card) (slot : Slot) (at : Moment) (run : Run) (breaks : Listed Break) (U V X Y Z : State) → IsCoherent U → IsCoherent X → IsCoherent Y → LARGEST_IMAGE ≤ X.size → is_some (session_of run.keeper.cabin.cards c) ≡ true →
+    IfSome (session_of run.keeper.cabin.cards c) (λ a. IsValue a.session) → card_in (seat_in run.keeper.cabin.slots.seats slot) ≡ Some c → at.second ≡ run.next → at.late ≡ false →
+    (span : Span) → StandsFor run.minutes span → end_of span ≡ run.next → Stands (ungiven_of span) None run.keeper.cabin →
+    IfSome (session_of run.keeper.cabin.cards c) (λ a. LeavesOnly X Y (IsNote a.session.application)) → LeavesOnly U V LeavesJournal → (failed : Bool) → HasCause U V failed →
+    (o : Origin) (done : List TraceSecond) (s : TraceSecond) (out : Outcome) (w : RunWithin o done s (In at.begun) [] [] run (record out { breaks = breaks }) (arranged c U X Z)) → (In at.begun ≡ In 0 → ComesPower done (record out { breaks = breaks })) → s.number < 2 ^ 32 →
+    NotFound (In at.begun) (other_slot slot) (log_of (record out { breaks = breaks })) s.number → MayFollow (In at.begun) slot (log_of (record out { breaks = breaks })) s → (actions : List Action) → IsLeft s (In at.begun) actions →
+    (fell : Bool) (new : Run) (after : Listed Break) → IsNotedOn c slot at run new breaks after fell → HasBroken X Y (falls_by fell) → HasCause X Y fell → NotesEvents (fall_events fell at.second new) failed (arranged c U X Z) (arranged c V Y Z) →
+    EventedNow o done s w.within.b.run Acting (log_of (record out { breaks = breaks })) (arranged c U X Z) → EventsGoOn failed o done s w.within.b.run (In at.begun) Acting (log_of (record out { breaks = after })) (arranged c V Y Z)
+some-evented c slot at run breaks U V X Y Z unit_whole whole later size some value seat second late span stands ends cabin card unit failed cause o done s out w first small none follows actions left fell new after is broken on_card notes now =
+    let one = some-one (session_of run.keeper.cabin.cards c) some in
+    noted-evented c slot at run breaks U V X Y Z unit_whole whole later size one.0 (subst (λ (o : Option Accepted). IfSome o (λ a. IsValue a.session)) one.1 value) one.1 seat second late span stands ends cabin
+    (subst (λ (o : Option Accepted). IfSome o (λ a. LeavesOnly X Y (IsNote a.session.application))) one.1 card) unit failed cause o done s out w first small none follows actions left fell new after is broken on_card notes now
+
 -- ---- A PLACE IS TOLD OF
 
 pub place-told : (o : Origin) (done : List TraceSecond) (s : TraceSecond) (slot : Slot) (ending : Bool) (country region begun speed : ℕ) (run : Run) (out : Outcome) (d : Devices) → IsNow s speed run → (front rest : List Action) → s.actions ≡ front ++ Place slot ending country region ∷ rest → begun ≡ suc (length front) →
@@ -449,3 +545,10 @@ pub unit-any : (c : Card) (o : Origin) (done : List TraceSecond) (s : TraceSecon
     (w : RunWithin o done s (In n) [] [] run out (arranged c U X Z)) → (failed : Bool) → HasCause U V failed → GoesOnOrFails failed o done s (In n) [] run out (arranged c V X Z) w.within.b
 unit-any A o done s n run out U V X Z whole unit span stands ends w failed cause = unit-recorded o done s n run out U V X Z whole unit span stands ends w failed cause
 unit-any B o done s n run out U V X Z whole unit span stands ends w failed cause = unit-recorded o done s n run out U V Z X whole unit span stands ends w failed cause
+
+-- and of its events
+pub any-evented : (c : Card) (o : Origin) (done : List TraceSecond) (s : TraceSecond) (n : ℕ) (run : Run) (out : Outcome) (U V X Z : State) → IsCoherent U → LeavesOnly U V LeavesJournal → (span : Span) → StandsFor run.minutes span → end_of span ≡ run.next →
+    (w : RunWithin o done s (In n) [] [] run out (arranged c U X Z)) → (actions : List Action) → IsLeft s (In n) actions → (failed : Bool) → HasCause U V failed → NotesEvents [] failed (arranged c U X Z) (arranged c V X Z) → EventedNow o done s w.within.b.run Acting (log_of out) (arranged c U X Z) →
+    EventsGoOn failed o done s w.within.b.run (In n) Acting (log_of out) (arranged c V X Z)
+any-evented A o done s n run out U V X Z whole unit span stands ends w actions left failed cause notes now = unit-evented o done s n run out U V X Z whole unit span stands ends w actions left failed cause notes now
+any-evented B o done s n run out U V X Z whole unit span stands ends w actions left failed cause notes now = unit-evented o done s n run out U V Z X whole unit span stands ends w actions left failed cause notes now

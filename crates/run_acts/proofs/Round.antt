@@ -161,14 +161,14 @@ module _ (o : Origin) (done : List TraceSecond) (s : TraceSecond) (q : Point) (b
   present-is : p ≡ present_by (start_at o) told0 past m.minute
   present-is = ap (λ (es : List Ended). or_nobody (present_in es m.minute)) (sym same_past) ∙ ap or_nobody by-history
 
-  there : present_in cabin.slots.past m.minute ≡ Some p
+  pub there : present_in cabin.slots.past m.minute ≡ Some p
   there = by-history ∙ ap (λ (q : Present). Some q) (sym present-is)
 
   pub minute-is : i ≡ decided_minute k m
   minute-is = ap (λ (q : Present). record { minute = m.minute; driver = record { act = m.driver; card = q.driver }; codriver = record { act = m.codriver; card = q.codriver } }) (sym present-is)
 
   -- the unit has it
-  unit-slate : Slate o done s q b os (suc m.minute) (past ++ i ∷ []) log z cabin first last
+  pub unit-slate : Slate o done s q b os (suc m.minute) (past ++ i ∷ []) log z cabin first last
   unit-slate = record {
     point = h.point;
     now = h.now;
@@ -185,14 +185,14 @@ module _ (o : Origin) (done : List TraceSecond) (s : TraceSecond) (q : Point) (b
     stays = h.stays;
   }
 
-  stands : (card : Card) → IsIn p card → StandsIn o.found z cabin.cards told0 c s.number m.minute card
+  pub stands : (card : Card) → IsIn p card → StandsIn o.found z cabin.cards told0 c s.number m.minute card
   stands card in_ = h.present.ended m.minute p card (omega arith) there in_
 
   module _ (round : Round) (failed : Bool) (le : os.low ≤ m.minute) (few : s.number / 60 ≤ m.minute + 4)
       (is : IsRound (present_at k.cabin m.minute) (minute_of m k) (moment_of s q) failed t.keeper round) (two : AreTwo (present_at k.cabin m.minute).driver (present_at k.cabin m.minute).codriver)
       (driver_broken : HasBrokenDown round.driver (present_at k.cabin m.minute).driver first last) (codriver_broken : HasBrokenDown round.codriver (present_at k.cabin m.minute).codriver first last) where
     -- the driver's card, and the co-driver's
-    first-fate : Behind o done s q b os m.minute (suc m.minute) (past ++ i ∷ []) first last Driver log z cabin unit-slate refl le few round.driver p.driver
+    pub first-fate : Behind o done s q b os m.minute (suc m.minute) (past ++ i ∷ []) first last Driver log z cabin unit-slate refl le few round.driver p.driver
     first-fate = fate-behind o done s q b os m.minute (suc m.minute) (past ++ i ∷ []) first last Driver log z cabin unit-slate refl le few round.driver p.driver (kept_in (minute_of m k) Driver) (inr is.driver) refl p there refl
         (λ card e. (stands card (inl e)).valid) driver_broken
 
@@ -205,10 +205,10 @@ module _ (o : Origin) (done : List TraceSecond) (s : TraceSecond) (q : Point) (b
     abbrev cabin1 : Cabin
     cabin1 = cabin_by round.driver p.driver s.number cabin
 
-    second-is : (round.codriver ≡ Still) ⊎ IsFateOf (session_at cabin1.cards p.codriver) (kept_in (minute_of m k) CoDriver) round.codriver
+    pub second-is : (round.codriver ≡ Still) ⊎ IsFateOf (session_at cabin1.cards p.codriver) (kept_in (minute_of m k) CoDriver) round.codriver
     second-is = ⊎_elim (λ off. inl off.not_asked) (λ f. inr f) is.codriver
 
-    there1 : present_in cabin1.slots.past m.minute ≡ Some p
+    pub there1 : present_in cabin1.slots.past m.minute ≡ Some p
     there1 = ap (λ (es : List Ended). present_in es m.minute) (past-by round.driver p.driver s.number cabin) ∙ there
 
     second-fate : Behind o done s q b os m.minute (suc m.minute) (past ++ i ∷ []) first last CoDriver log1 z1 cabin1 first-fate.slate refl le few round.codriver p.codriver

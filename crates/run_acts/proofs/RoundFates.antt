@@ -316,9 +316,9 @@ module _ (o : Origin) (done : List TraceSecond) (s : TraceSecond) (q : Point) (b
     had-before d x = ap (λ (q : Option Accepted). is_some q) (sym (still-so d (other-one d x))) ∙ x
 
     -- what is had of the slots, whether it sat in one or was leaving one
-    record IsOut : Type 0 where
-      untorn : is_torn_in log s.number q.at slot ≡ false
-      out : (moved_at log bef s q.at).leaving slot ++ visits q.at slot c.slots ≡ visit ∷ []
+    pub record IsOut : Type 0 where
+      pub untorn : is_torn_in log s.number q.at slot ≡ false
+      pub out : (moved_at log bef s q.at).leaving slot ++ visits q.at slot c.slots ≡ visit ∷ []
       tells : IsTornFrom slot c d_ → SlotsTell (start_at o) told0 past d_.left s.number from d_.slots out_.slots
       who : IsTornFrom slot c d_ → (sl : Slot) (d : Card) (u : ℕ) → in_slot d_.slots sl ≡ sits d u → (in_slot c.slots sl ≡ sits d u) × (same_card card d ≡ false)
       past_is : out_.slots.past ≡ cabin.slots.past
@@ -493,11 +493,20 @@ module _ (o : Origin) (done : List TraceSecond) (s : TraceSecond) (q : Point) (b
         by Driver is_ = l.driver m p le there is_
         by CoDriver is_ = l.codriver m p le there is_
 
-    pub out-behind : (p : Present) → present_in cabin.slots.past m ≡ Some p → present_of p slot ≡ Some card → Behind Fell (Some card)
-    out-behind p there at = ⊎_elim
-        (λ early. fell-behind (sat p there at early))
-        (λ leaving. fell-behind (was-leaving (subst (λ (sl : Slot). IsLeaving log bef s q.at os.low os.high cabin sl card) (its-slot leaving.0 leaving.1 p there at) leaving.1)))
+    -- it sat in that slot, or was leaving it
+    abbrev pub SatOrLeft : Type 0
+    SatOrLeft = (is_card (seat_in cabin.slots.seats slot) card ≡ true) ⊎ IsLeaving log bef s q.at os.low os.high cabin slot card
+
+    pub out-is : (p : Present) → present_in cabin.slots.past m ≡ Some p → present_of p slot ≡ Some card → IsOut × SatOrLeft
+    out-is p there at = ⊎_elim
+        (λ early. (sat p there at early, inl (occupied p there at early)))
+        (λ leaving.
+        let l = subst (λ (sl : Slot). IsLeaving log bef s q.at os.low os.high cabin sl card) (its-slot leaving.0 leaving.1 p there at) leaving.1 in
+        (was-leaving l, inr l))
         (h.back card had)
+
+    pub out-behind : (p : Present) → present_in cabin.slots.past m ≡ Some p → present_of p slot ≡ Some card → Behind Fell (Some card)
+    out-behind p there at = fell-behind (out-is p there at).0
 
   -- EACH FATE
   pub fate-behind : (fate : Fate) (present : Option Card) (kept : Kept) → (fate ≡ Still) ⊎ IsFateOf (session_at cabin.cards present) kept fate → kept.entry.minute ≡ m → (p : Present) → present_in cabin.slots.past m ≡ Some p →

@@ -35,7 +35,7 @@ lost-one None new x y h some none = absurd (cc)
 lost-one (Some a) None x y h some none = rose-once x y h
 lost-one (Some a) (Some b) x y h some none = absurd (cc)
 
-gone-cards : (t u : Told) (d e : Devices) → HaveBrokenOff t u d e → AreGone t.keeper.cabin.cards u.keeper.cabin.cards (breakdowns_of d) (breakdowns_of e)
+pub gone-cards : (t u : Told) (d e : Devices) → HaveBrokenOff t u d e → AreGone t.keeper.cabin.cards u.keeper.cabin.cards (breakdowns_of d) (breakdowns_of e)
 gone-cards t u d e h A some none = lost-one t.keeper.cabin.cards.a.accepted u.keeper.cabin.cards.a.accepted d.card_a e.card_a h.a some none
 gone-cards t u d e h B some none = lost-one t.keeper.cabin.cards.b.accepted u.keeper.cabin.cards.b.accepted d.card_b e.card_b h.b some none
 

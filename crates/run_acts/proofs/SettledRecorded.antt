@@ -94,13 +94,13 @@ module _ {U A0 B0 : State} {chip_a chip_b : CardState} (old : Run) (before : Out
     abbrev w : Within o done s (In n) waits None decided v d
     w = r.within
 
-    number : s.number ≡ old.next
+    pub number : s.number ≡ old.next
     number = w.moment.number ∙ sym w.next
 
     to-is : ungiven_of w.sp ≡ s.number / 60
     to-is = same-ungiven minutes w.sp (settled g.span) w.minutes stands ∙ settled-ungiven leaving (old.next / 60) old g ∙ ap (λ (m : ℕ). m / 60) (sym number)
 
-    end : w.from + length decided ≡ s.number / 60
+    pub end : w.from + length decided ≡ s.number / 60
     end = w.until ∙ to-is
 
     few : s.number / 60 ≤ w.from + 4
@@ -116,12 +116,12 @@ module _ {U A0 B0 : State} {chip_a chip_b : CardState} (old : Run) (before : Out
     over : All (λ (m : Minute). m.minute < s.number / 60) decided
     over = over-so o done s q decided (told_of old before) v d w (let to = end in omega (arith, to))
 
-    booked : EndsAll o.found (odometer_at o.recording.unit) (carried_at o done s q decided (told_of old before) v d w) old.keeper failed reach (all_travelled w.ds w.b.travel) (told_of new after) e × AreTimedOn o.found d e
+    pub booked : EndsAll o.found (odometer_at o.recording.unit) (carried_at o done s q decided (told_of old before) v d w) old.keeper failed reach (all_travelled w.ds w.b.travel) (told_of new after) e × AreTimedOn o.found d e
     booked = books o.found (carried_at o done s q decided (told_of old before) v d w) (odometer_at o.recording.unit) (all_travelled w.ds w.b.travel)
         (may-book o done s q decided (told_of old before) v d w few over) w.travels
         (r.odometer ∙ ap (odometer_after (odometer_at o.recording.unit)) (sym (travelled-earlier w.ds w.b.travel))) time
 
-    keeps : KeepsSo o done s q decided (told_of old before) v d e w
+    pub keeps : KeepsSo o done s q decided (told_of old before) v d e w
     keeps = record {
       point = in-point s n waits some w.moment.is;
       few = few;

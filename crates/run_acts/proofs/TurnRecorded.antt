@@ -57,12 +57,12 @@ use Rattle.run_acts.proofs.SettledRecorded.{same-ungiven, two-present}
 use Rattle.run_acts.proofs.Turned.{turn-decides, turn-most}
 
 -- a span that goes on has a second
-record IsPushed (xs : List Second) (x : Second) : Type 0 where
-  first : Second
-  rest : List Second
-  is : xs ++ x ∷ [] ≡ first ∷ rest
+pub record IsPushed (xs : List Second) (x : Second) : Type 0 where
+  pub first : Second
+  pub rest : List Second
+  pub is : xs ++ x ∷ [] ≡ first ∷ rest
 
-pushed : (xs : List Second) (x : Second) → IsPushed xs x
+pub pushed : (xs : List Second) (x : Second) → IsPushed xs x
 pushed [] x = record { first = x; rest = []; is = refl }
 pushed (y ∷ xs) x = record { first = y; rest = xs ++ x ∷ []; is = refl }
 
@@ -102,7 +102,7 @@ module _ (old : Run) (before : Outcome) (minutes : Kept) (keeper : Keeper) (watc
     booked = books o.found (carried_at o done s q decided t v d w) (odometer_at o.recording.unit) (all_travelled w.ds w.b.travel) (may-book o done s q decided t v d w few (are-over o done s decided t v d w)) w.travels
         (stored ∙ ap (odometer_after (odometer_at o.recording.unit)) (sym (travelled-earlier w.ds w.b.travel))) time
 
-    keeps : KeepsSo o done s q decided t v d e w
+    pub keeps : KeepsSo o done s q decided t v d e w
     keeps = record {
       point = last-point s;
       few = few;
@@ -111,13 +111,13 @@ module _ (old : Run) (before : Outcome) (minutes : Kept) (keeper : Keeper) (watc
       goes = goes-on o (carried_at o done s q decided t v d w) failed old.keeper.cabin.cards keeper.cabin.cards d e w.powered w.there devices booked.1;
     }
 
-    off : HaveBrokenOff t u d e
+    pub off : HaveBrokenOff t u d e
     off = record { a = devices.card_a.broken; b = devices.card_b.broken }
 
-    rose : failed ≡ true → RoseBy 1 (breakdowns_of d Recorder) (breakdowns_of e Recorder)
+    pub rose : failed ≡ true → RoseBy 1 (breakdowns_of d Recorder) (breakdowns_of e Recorder)
     rose = unit-rose o (carried_at o done s q decided t v d w) failed old.keeper.cabin.cards keeper.cabin.cards d e w.powered w.there devices booked.1
 
-    at-is : late_moment old.next n begun ≡ moment_of s q
+    pub at-is : late_moment old.next n begun ≡ moment_of s q
     at-is = ap (λ (m : ℕ). record { second = m; begun = begun; late = true }) (sym number) ∙ ap (λ (b : ℕ). record { second = s.number; begun = b; late = true }) (sym actions)
 
     turn-reach : IsTurnReach decided (moment_of s q) failed t u reach
@@ -175,11 +175,11 @@ module _ (old : Run) (before : Outcome) (minutes : Kept) (keeper : Keeper) (watc
     turn-core = by failed reach refl turn-reach booked.0
 
 -- ---- the last of some seconds
-last-actions : (c begun : ℕ) (s : TraceSecond) → length s.actions ≡ begun → (0 < c → s.actions ≡ []) → length (last_of c s).actions ≡ begun
+pub last-actions : (c begun : ℕ) (s : TraceSecond) → length s.actions ≡ begun → (0 < c → s.actions ≡ []) → length (last_of c s).actions ≡ begun
 last-actions zero begun s is none = is
 last-actions (suc c) begun s is none = let some : 0 < suc c = omega arith in sym (ap (λ (as_ : List Action). length as_) (none some)) ∙ is
 
-last-number : (c : ℕ) (s : TraceSecond) → (last_of c s).number ≡ s.number + c
+pub last-number : (c : ℕ) (s : TraceSecond) → (last_of c s).number ≡ s.number + c
 last-number zero s = omega arith
 last-number (suc c) s = refl
 
@@ -198,19 +198,19 @@ module _ {U A0 B0 : State} {chip_a chip_b : CardState} (n speed begun : ℕ) (ol
   abbrev t_of : Keeper → Told
   t_of k = record { keeper = k; marks = before.marks; breaks = before.breaks }
 
-  reach-is : IsTurnReach T.decided (late_moment old.next n begun) T.failed (t_of old.keeper) (told_of here lines) h.1
+  pub reach-is : IsTurnReach T.decided (late_moment old.next n begun) T.failed (t_of old.keeper) (told_of here lines) h.1
   reach-is = subst (λ (k : Keeper). IsTurnReach T.decided (late_moment old.next n begun) T.failed (t_of k) (told_of here lines) h.1) (ap (λ (r : Run). r.keeper) T.only) h.2
 
-  books-is : BooksTurn T.decided T.failed h.1 (t_of old.keeper) (told_of here lines) d e
+  pub books-is : BooksTurn T.decided T.failed h.1 (t_of old.keeper) (told_of here lines) d e
   books-is = subst (λ (k : Keeper). BooksTurn T.decided T.failed h.1 (t_of k) (told_of here lines) d e) (ap (λ (r : Run). r.keeper) T.only) h.3
 
-  between-is : T.between ≡ here
+  pub between-is : T.between ≡ here
   between-is = T.kept.only ∙ ap (λ (r : Run). record r { keeper = T.between.keeper; watch = T.between.watch }) T.only
 
-  new-is : cut_where T.failed (old.next + n - 1) here ≡ new
+  pub new-is : cut_where T.failed (old.next + n - 1) here ≡ new
   new-is = ap (cut_where T.failed (old.next + n - 1)) (sym between-is) ∙ sym T.run
 
-  after-is : cut_breaks T.failed (old.next + n - 1) begun lines ≡ after
+  pub after-is : cut_breaks T.failed (old.next + n - 1) begun lines ≡ after
   after-is = ap (cut_breaks T.failed (old.next + n - 1) begun) (sym T.kept.outcome) ∙ sym T.outcome
 
   module _ (o : Origin) (done : List TraceSecond) (s : TraceSecond) (now : IsNow s speed old) (actions : length s.actions ≡ begun) (none : 0 < n - 1 → s.actions ≡ []) (r : RunWithin o done s (In (length s.actions)) [] [] old before d) (time : HaveTime e) where

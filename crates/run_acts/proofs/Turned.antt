@@ -60,6 +60,14 @@ module _ {U A0 B0 : State} {chip_a chip_b : CardState} (run : Run) (g : IsLit (r
       let a : ℕ = minutes_ahead g.span.rule in
       omega (arith, is, ahead, due, end, one)
 
+  -- one minute more at most
+  pub turn-one : run.next % 60 + n ≤ 60 → ungiven_of (fed_many g.span speed n) ≤ ungiven_of g.span + 1
+  turn-one one =
+      let is = ungiven-fed g.span speed n in
+      let end = g.next in
+      let a : ℕ = minutes_ahead g.span.rule in
+      omega (arith, is, end, one)
+
   pub turn-decides : (items : List Minute) → run.next + n ≤ end_of_seconds → decided_in (fed_many g.span speed n) ≡ decided_in g.span ++ items → Decides (ungiven_of g.span) (ungiven_of (fed_many g.span speed n)) run.keeper.journal.kept items
   turn-decides items small given =
       decides g.span (fed_many g.span speed n) run.keeper.journal.kept items turn-first g.stands.numbered g.stands.settled (fed_many-numbered g.span speed n g.stands.numbered) (fed_many-settled g.span speed n g.stands.settled)

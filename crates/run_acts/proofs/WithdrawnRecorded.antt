@@ -1,6 +1,6 @@
 -- A card is withdrawn: what is recorded, behind the minutes that its leaving decides and the closing of its session.
-use Rattle.std.proofs.Common.{◌≡◌, ◌∙◌, ℕ, suc, ◌+◌, ◌/◌, ◌≤◌, Bool, true, false, Option, Some, None, List, [], ◌∷◌, ◌++◌, length, is_some, refl, ap, sym, subst, arith}
-use Rattle.std.specs.Prelude.{IfSome}
+use Rattle.std.proofs.Common.{◌≡◌, ◌∙◌, ℕ, suc, ◌+◌, ◌/◌, ◌^◌, ◌<◌, ◌≤◌, Bool, true, false, Option, Some, None, List, [], ◌∷◌, ◌++◌, length, is_some, refl, ap, sym, subst, arith}
+use Rattle.std.specs.Prelude.{IfSome, slice_get}
 use Rattle.activity_codec.specs.declared.values.Activity.{Activity}
 use Rattle.activity_codec.specs.declared.values.Slot.{Slot}
 use Rattle.trace_model.specs.declared.Card.{Card}
@@ -15,8 +15,8 @@ use Rattle.minute_model.specs.declared.Minute.{Minute}
 use Rattle.minute_model.specs.Span.{Span, settled, decided_in, end_of}
 use Rattle.minute_rules.specs.Kept.{StandsFor}
 use Rattle.log_model.specs.declared.lines.Break.{Break}
-use Rattle.log_model.specs.Log.{In}
-use Rattle.log_model.specs.Slots.{refusal}
+use Rattle.log_model.specs.Log.{In, RunLog, Phase, found_in}
+use Rattle.log_model.specs.Slots.{refusal, other_slot}
 use Rattle.log_model.specs.Course.{went}
 use Rattle.unit_model.specs.Image.{odometer_at}
 use Rattle.unit_rule.specs.Odometer.{odometer_after}
@@ -43,7 +43,15 @@ use Rattle.run_acts.specs.Settling.{settled_run, IsSettledIn, RecordsSettling}
 use Rattle.run_acts.proofs.Apart.{not-both}
 use Rattle.run_acts.proofs.Asked.{allowed-in}
 use Rattle.run_acts.proofs.NoneComes.{none-comes}
-use Rattle.run_acts.proofs.Closed.{closed-recorded}
+use Rattle.log_model.specs.declared.lines.Find.{Find}
+use Rattle.run_crew.specs.Cabin.{Stands}
+use Rattle.run_evented.specs.Noting.{Acting}
+use Rattle.run_evented.specs.SoFar.{EventedNow, puts_into}
+use Rattle.run_acts.specs.NotedEvents.{NotesEvents}
+use Rattle.run_acts.specs.Noting.{closed_events}
+use Rattle.run_acts.specs.Evented.{EventsGoOn, EventsSettling, IsUntold}
+use Rattle.run_acts.proofs.FallEvented.{left-over}
+use Rattle.run_acts.proofs.Closed.{closed-recorded, closed-evented}
 
 -- the moment of an action
 abbrev pub acting_at : ℕ → ℕ → Moment
@@ -52,6 +60,15 @@ acting_at second begun = record { second = second; begun = begun; late = false }
 pub moment-is : (at : Moment) (second begun : ℕ) → at.second ≡ second → at.begun ≡ begun → at.late ≡ false → at ≡ acting_at second begun
 moment-is at second begun u n l =
     ap (λ (x : ℕ). record { second = x; begun = at.begun; late = at.late }) u ∙ ap (λ (x : ℕ). record { second = second; begun = x; late = at.late }) n ∙ ap (λ (x : Bool). record { second = second; begun = begun; late = x }) l
+
+get-at : (front : List Action) (a : Action) (rest : List Action) → slice_get (front ++ a ∷ rest) (length front) ≡ Some a
+get-at [] a rest = refl
+get-at (x ∷ front) a rest = get-at front a rest
+
+-- what was found is told by the finds alone
+found-as : (log later : RunLog) (u : ℕ) (p : Phase) (slot : Slot) → later.finds ≡ log.finds → found_in later u p slot ≡ found_in log u p slot
+unfolding found_in
+found-as log later u p slot same = ap (λ (fs : List Find). found_in (record log { finds = fs }) u p slot) same
 
 -- ---- in a second, at its action
 
@@ -95,3 +112,51 @@ module _ (o : Origin) (done : List TraceSecond) (s : TraceSecond) (front rest : 
       had : (q : Option Accepted) → session_of run.keeper.cabin.cards c ≡ q → is_some (session_of between.keeper.cabin.cards c) ≡ true → is_some (session_of run.keeper.cabin.cards c) ≡ true
       had None is some = absurd (not-both (session_of between.keeper.cabin.cards c) some (none-comes c at ms t (told_of between told) kept (same ∙ is)))
       had (Some a) is some = ap is_some is
+
+  -- ---- its events
+
+  -- nothing is told of the action yet, and it puts no card into a slot
+  withdraws : slice_get s.actions (length front) ≡ Some (Withdraw slot)
+  withdraws = ap (λ (as_ : List Action). slice_get as_ (length front)) are ∙ get-at front (Withdraw slot) rest
+
+  puts-none : (x : Slot) → puts_into x (slice_get s.actions (length front)) ≡ false
+  puts-none x = ap (puts_into x) withdraws
+
+  untold : IsUntold s (length front) (log_of before) (left_run slot s.number run).keeper.cabin
+  untold = record {
+    torn = λ x. w.within.moment.up_to.torn (In (suc (length front))) x (omega arith);
+    found = λ x. w.within.moment.up_to.found (In (suc (length front))) x (omega arith);
+    bare = λ x puts. absurd (let no : false ≡ true = sym (puts-none x) ∙ puts in cc);
+  }
+
+  -- the minutes before are kept
+  pub settled-evented : (failed : Bool) (e : Devices) → EventsSettling decided (acting_at s.number (suc (length front))) failed (left_run slot s.number run) between before told d e → EventedNow o done s w.within.b.run Acting (log_of before) d → HaveTime e →
+      EventsGoOn failed o done s w.within.b.run (In (suc (length front))) Acting (log_of told) e
+  settled-evented failed e settles events time =
+      subst (λ (b : Beginning). EventsGoOn failed o done s b.run (In (suc (length front))) Acting (log_of told) e) left.goes.began
+      (settles o done s (length front) [] refl gone untold (subst (λ (b : Beginning). EventedNow o done s b.run Acting (log_of before) d) (sym left.goes.began) events) time)
+
+  -- and its session is closed
+  pub closing-evented : {C : Type 0} (state : C → State) (U V Z : State) (x y : C) → IsCoherent U → IsCoherent (state x) → LARGEST_IMAGE ≤ (state x).size →
+      IfSome (session_of between.keeper.cabin.cards c) (λ s. (act : Activity) × LeavesOnly (state x) (state y) (λ i n. IsSession s.session i → IsCardClosing s.session act i n)) → (session_of between.keeper.cabin.cards c ≡ None → y ≡ x) →
+      LeavesOnly U V LeavesJournal → (failed : Bool) → HasCause U V failed → (state x).breakdowns ≤ (state y).breakdowns → (span : Span) → StandsFor between.minutes span → end_of span ≡ between.next →
+      RecordsSettling decided (acting_at s.number (suc (length front))) false (left_run slot s.number run) between before told d (arranged c U (state x) Z) → HaveTime (arranged c U (state x) Z) →
+      (at : Moment) (ms : List Minute) (t : Told) → AreKept at ms t (told_of between told) → session_of t.keeper.cabin.cards c ≡ session_of run.keeper.cabin.cards c →
+      s.number < 2 ^ 32 → told.finds ≡ before.finds → (low : ℕ) → Stands low (Some c) between.keeper.cabin → EventedNow o done s w.within.b.run Acting (log_of told) (arranged c U (state x) Z) →
+      (new : Run) (after : Listed Break) (closing : Closing) → IsClosed c slot (acting_at s.number (suc (length front))) between new told.breaks after closing → HasBroken (state x) (state y) (closed_falls closing) →
+      NotesEvents (closed_events closing s.number new) failed (arranged c U (state x) Z) (arranged c V (state y) Z) → EventsGoOn failed o done s w.within.b.run (In (suc (length front))) Acting (log_of (record told { breaks = after })) (arranged c V (state y) Z)
+  closing-evented state U V Z x y unit_whole whole size closes still unit failed cause rise span stands_ ends records time at ms t kept same small finds low sits_ events new after closing is broken notes =
+      let kept_all : IsSettledIn o done s (In (suc (length front))) [] gone.within.b gone.within.from (gone.within.from + length decided) (left_run slot s.number run) between before told (arranged c U (state x) Z) =
+      records o done s (suc (length front)) [] (omega arith) refl gone time in
+      let began = kept_all.began ∙ left.goes.began in
+      subst (λ (b : Beginning). EventsGoOn failed o done s b.run (In (suc (length front))) Acting (log_of (record told { breaks = after })) (arranged c V (state y) Z)) began
+      (closed-evented state c slot (acting_at s.number (suc (length front))) between told U V Z x y unit_whole whole size closes still unit failed cause rise span stands_ ends o done s (suc (length front)) refl kept_all.goes kept_all.from
+      (λ some. subst (λ (b : Beginning). IsLeaving (log_of told) (went b.run.log done).before s (In (suc (length front))) (s.number / 60) (s.number / 60) between.keeper.cabin slot c) (sym kept_all.began)
+      (kept_all.leave slot c (left.leaving (had_ (session_of run.keeper.cabin.cards c) refl some)) some))
+      small (found-as (log_of before) (log_of told) s.number (In (suc (length front))) (other_slot slot) (ap (λ (l : Listed Find). l.items) finds) ∙ w.within.moment.up_to.found (In (suc (length front))) (other_slot slot) (omega arith))
+      (λ torn. puts-none (other_slot slot)) low sits_ rest (left-over front rest (Withdraw slot) s (suc (length front)) refl are)
+      (subst (λ (b : Beginning). EventedNow o done s b.run Acting (log_of told) (arranged c U (state x) Z)) (sym began) events) new after closing is broken notes)
+    where
+      had_ : (q : Option Accepted) → session_of run.keeper.cabin.cards c ≡ q → is_some (session_of between.keeper.cabin.cards c) ≡ true → is_some (session_of run.keeper.cabin.cards c) ≡ true
+      had_ None is_ some = absurd (not-both (session_of between.keeper.cabin.cards c) some (none-comes c at ms t (told_of between told) kept (same ∙ is_)))
+      had_ (Some a) is_ some = ap is_some is_

@@ -16,4 +16,7 @@ pub mod Noting
 pub mod Settling
 pub mod Devices
 pub mod Faults
+pub mod Named
+pub mod Evented
+pub mod ActsEvented
 pub mod Ringing

@@ -17,6 +17,7 @@ ghost use Rattle.run_rule.specs.Between.{devices};
 ghost use Rattle.card_session.specs.Sessions.{IsValue};
 ghost use Rattle.device_steps.specs.CardNotes.{IsNote};
 ghost use Rattle.run_acts.specs.Noting.{IsPlaceRecorded, NotesFall, NotesPlace};
+ghost use Rattle.run_acts.specs.ActsEvented.{EventsPlace};
 ghost use Rattle.run_rings.specs.Same.{LeavesRings};
 ghost use Rattle.run_acts.specs.Ringing.{WritesPlace};
 ghost use Rattle.run_acts.specs.declared.run.Power.TheVariants.{Lit};
@@ -79,6 +80,7 @@ pub fn note_place<M: Medium, C: Chip, D: Chip>(
     requires breaks { length breaks.old.items + falls_of run.old.keeper.cabin ≤ breaks.old.room }
     ensures placed { (fell : Bool) × IsPlaced (card_in (seat_in run.old.keeper.cabin.slots.seats slot)) slot at run.old run.new breaks.old breaks.new fell }
     ensures events { NotesPlace (card_in (seat_in run.old.keeper.cabin.slots.seats slot)) slot at (is_err result) run.old run.new breaks.old breaks.new (devices (M.state unit.old) (C.state card_a.old) (D.state card_b.old)) (devices (M.state unit.new) (C.state card_a.new) (D.state card_b.new)) }
+    ensures evented { EventsPlace slot at (is_err result) run.old run.new breaks.old breaks.new (devices (M.state unit.old) (C.state card_a.old) (D.state card_b.old)) (devices (M.state unit.new) (C.state card_a.new) (D.state card_b.new)) }
     ensures recorded { IsPlaceRecorded slot at (is_err result) run.old run.new breaks.old breaks.new (devices (M.state unit.old) (C.state card_a.old) (D.state card_b.old)) (devices (M.state unit.new) (C.state card_a.new) (D.state card_b.new)) }
     ensures rings { is_some (M.state unit.old).image ≡ true → WritesPlace (number_of_seat run.old.keeper.cabin.cards (seat_in run.old.keeper.cabin.slots.seats slot)) entry.now (is_err result) (M.state unit.old) (M.state unit.new) }
     ensures only { run.new ≡ record run.old { keeper = run.new.keeper } }

@@ -18,6 +18,7 @@ ghost use Rattle.run_keeping.specs.Decided.{BooksAll};
 ghost use Rattle.run_acts.specs.Acting.{IsSettled, IsBareIn, told_of};
 ghost use Rattle.run_acts.specs.Settling.{RecordsSettling};
 ghost use Rattle.run_acts.specs.Faults.{NotesSettling};
+ghost use Rattle.run_acts.specs.Evented.{EventsSettling};
 
 use crate::run::Run;
 use run_keeping::Moment;
@@ -51,6 +52,9 @@ pub fn settle<M: Medium, C: Chip, D: Chip>(
         × BooksAll decided (is_err result) reach (told_of run.old outcome.old) (told_of run.new outcome.new) (devices (M.state unit.old) (C.state card_a.old) (D.state card_b.old)) (devices (M.state unit.new) (C.state card_a.new) (D.state card_b.new)) }
     ensures recorded { (decided : List Minute) × ((span : Span) → StandsFor run.old.minutes span → decided_in (settled span) ≡ decided_in span ++ decided)
         × RecordsSettling decided at (is_err result) run.old run.new outcome.old outcome.new (devices (M.state unit.old) (C.state card_a.old) (D.state card_b.old)) (devices (M.state unit.new) (C.state card_a.new) (D.state card_b.new)) }
+    // What that notes of faults goes on with the events of its second.
+    ensures evented { (decided : List Minute) × ((span : Span) → StandsFor run.old.minutes span → decided_in (settled span) ≡ decided_in span ++ decided)
+        × EventsSettling decided at (is_err result) run.old run.new outcome.old outcome.new (devices (M.state unit.old) (C.state card_a.old) (D.state card_b.old)) (devices (M.state unit.new) (C.state card_a.new) (D.state card_b.new)) }
     ensures noted { NotesSettling at (is_err result) run.old run.new outcome.old outcome.new (M.state unit.old) (M.state unit.new) }
     ensures clock { (M.state unit.old).clock ≤ (M.state unit.new).clock }
     ensures clock_a { (C.state card_a.old).clock ≤ (C.state card_a.new).clock }

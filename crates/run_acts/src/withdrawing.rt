@@ -26,6 +26,7 @@ ghost use Rattle.run_acts.specs.Acting.{Closing, IsClosed, closed_falls, IsWithd
 ghost use Rattle.trace_model.specs.declared.Action.TheVariants.{Withdraw};
 ghost use Rattle.run_acts.specs.Recording.{RecordsAction};
 ghost use Rattle.run_acts.specs.Noting.{SaysNoMore, NotesClosing, NotesWithdrawing};
+ghost use Rattle.run_acts.specs.ActsEvented.{EventsWithdrawal};
 ghost use Rattle.run_acts.specs.Behind.{BooksWithdrawn};
 ghost use Rattle.run_acts.specs.Ringing.{WithdrawsSo, ClosesSo, WritesWithdrawal};
 
@@ -74,6 +75,7 @@ pub fn withdraw<M: Medium, C: Chip, D: Chip>(
         × IsReach decided at (not (is_some closing)) (told_of (left_run slot at.second run.old) outcome.old) between reach
         × BooksWithdrawn card decided (is_err result) reach closing (told_of (left_run slot at.second run.old) outcome.old) (told_of run.new outcome.new) (devices (M.state unit.old) (C.state card_a.old) (D.state card_b.old)) (devices (M.state unit.new) (C.state card_a.new) (D.state card_b.new)) }
     ensures events { NotesWithdrawing (card_in (seat_in run.old.keeper.cabin.slots.seats slot)) slot at (is_err result) run.old run.new outcome.old outcome.new (devices (M.state unit.old) (C.state card_a.old) (D.state card_b.old)) (devices (M.state unit.new) (C.state card_a.new) (D.state card_b.new)) }
+    ensures evented { EventsWithdrawal slot at (is_err result) run.old run.new outcome.old outcome.new (devices (M.state unit.old) (C.state card_a.old) (D.state card_b.old)) (devices (M.state unit.new) (C.state card_a.new) (D.state card_b.new)) }
     ensures recorded { at.late ≡ false → (speed : ℕ) → RecordsAction (Withdraw slot) at.begun speed (is_err result) run.old run.new outcome.old outcome.new (devices (M.state unit.old) (C.state card_a.old) (D.state card_b.old)) (devices (M.state unit.new) (C.state card_a.new) (D.state card_b.new)) }
     ensures rings { is_some (M.state unit.old).image ≡ true → WithdrawsSo (card_in (seat_in run.old.keeper.cabin.slots.seats slot)) slot at (is_err result) run.old run.new outcome.old outcome.new (M.state unit.old) (M.state unit.new) }
     ensures held { IsHeld (run.new.next / 60) run.new (M.state unit.new) (C.card card_a.new) (D.card card_b.new) (C.state card_a.new) (D.state card_b.new) }

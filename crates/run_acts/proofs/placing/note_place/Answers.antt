@@ -1,4 +1,4 @@
-use Rattle.std.proofs.Common.{rules, ◌≡◌, ◌∙◌, ℕ, ◌+◌, ◌-◌, ◌/◌, ◌≤◌, Bool, true, false, Option, Some, None, is_some, length, refl, ap, sym, subst, arith, inl, inr}
+use Rattle.std.proofs.Common.{rules, ◌≡◌, ◌∙◌, ℕ, ◌+◌, ◌-◌, ◌/◌, ◌≤◌, Bool, true, false, Option, Some, None, is_some, length, refl, ap, sym, subst, arith, inl, inr, ◌^◌, ◌<◌}
 use Rattle.trace_model.specs.declared.Card.TheVariants.{A, B}
 use Rattle.tach_media.proofs.Runs.{on_ok, ok_gives, cause_after}
 use Rattle.minute_model.specs.Span.{ungiven_of}
@@ -23,21 +23,21 @@ use Rattle.trace_model.specs.declared.Action.{Action}
 use Rattle.trace_model.specs.declared.Action.TheVariants.{Place}
 use Rattle.trace_model.specs.Trace.{TraceSecond}
 use Rattle.log_model.specs.Log.{In}
-use Rattle.log_model.specs.Slots.{refusal}
+use Rattle.log_model.specs.Slots.{refusal, other_slot}
 use Rattle.safety_model.specs.Safe.{Devices}
 use Rattle.run_rule.specs.Between.{devices}
 use Rattle.run_outcome.specs.declared.outcome.Outcome.{Outcome}
 use Rattle.run_recorded.specs.Origin.{Origin}
 use Rattle.run_within.specs.Within.{Beginning}
-use Rattle.run_acts.specs.Recording.{RunWithin, RunGoesOn, GoesOnOrFails, IsNow, GoesOnOrCut}
-use Rattle.run_acts.proofs.NoteRecorded.{noted-some, place-told, unit-recorded}
+use Rattle.run_acts.specs.Recording.{RunWithin, RunGoesOn, GoesOnOrFails, IsNow, GoesOnOrCut, log_of, values_of}
+use Rattle.run_acts.proofs.NoteRecorded.{noted-some, place-told, unit-recorded, unit-evented, some-evented}
 use Rattle.trace_model.specs.declared.Card.{Card}
 use Rattle.gated_ring.specs.Change.{IsAdding}
 use Rattle.message_model.specs.Records.{unit_place_ring}
 use Rattle.run_acts.specs.NotedEvents.{NotesEvents}
 use Rattle.run_acts.specs.Noting.{NotesFall, NotesPlace, fall_events}
 use Rattle.run_acts.proofs.NotedEvents.{same-noted, noted-any, then-noted}
-use Rattle.run_acts.proofs.ActsNoted.{says-of, quiet-any, adding-nothing, no-place}
+use Rattle.run_acts.proofs.ActsNoted.{says-of, quiet-any, adding-nothing, no-place, same-fell}
 use Rattle.tacho_types.specs.declared.card_number.FullCardNumber.{FullCardNumber}
 use Rattle.tach_media.specs.Medium.{State, IsCoherent}
 use Rattle.unit_notes.specs.Entries.{unit_place_bytes}
@@ -47,6 +47,13 @@ use Rattle.run_rings.proofs.Same.{rings-left}
 use Rattle.run_acts.specs.Ringing.{WritesPlace}
 use Rattle.run_acts.proofs.Ringing.{place-broken, place-then}
 use Rattle.run_keeping.proofs.Later.{state-by, later-same, later-then, later-of-unit, later-of-a, later-of-b}
+use Rattle.run_course.specs.Followed.{Progress}
+use Rattle.run_moments.specs.Telling.{IsLeft}
+use Rattle.run_evented.specs.Noting.{Acting}
+use Rattle.run_evented.specs.Bringing.{NotFound}
+use Rattle.run_evented.specs.SoFar.{EventedNow, MayFollow}
+use Rattle.run_acts.specs.Evented.{EventsGoOn}
+use Rattle.run_acts.proofs.FallEvented.{left-over, none-yet}
 use Rattle.run_acts.proofs.placing.note_place.Goals as goal
 
 pub note_place_in-requires-clause-ready : goal.note_place_in-requires-clause-ready
@@ -418,3 +425,115 @@ returns-in-A-clause-later g c = later-then (devices (g.M.Medium.state c.args.uni
 
 pub returns-in-B-clause-later : goal.returns-in-B-clause-later
 returns-in-B-clause-later g c = later-then (devices (g.M.Medium.state c.args.unit.now) (g.C.Chip.state c.args.card_a.now) (g.D.Chip.state c.args.card_b.now)) (devices (g.M.Medium.state c.note_place.new.unit) (g.C.Chip.state c.args.card_a.now) (g.D.Chip.state c.args.card_b.now)) (devices (g.M.Medium.state c.note_place_in-in-B.new.unit) (g.C.Chip.state c.args.card_a.now) (g.D.Chip.state c.note_place_in-in-B.new.card)) (later-of-unit (g.M.Medium.state c.args.unit.now) (g.M.Medium.state c.note_place.new.unit) (g.C.Chip.state c.args.card_a.now) (g.D.Chip.state c.args.card_b.now) (state-by (g.M.Medium.state c.args.unit.now) (g.M.Medium.state c.note_place.new.unit) _ c.note_place.ensures.journal.later c.note_place.ensures.cause)) (later-of-b (g.M.Medium.state c.note_place.new.unit) (g.M.Medium.state c.note_place_in-in-B.new.unit) (g.C.Chip.state c.args.card_a.now) (g.D.Chip.state c.args.card_b.now) (g.D.Chip.state c.note_place_in-in-B.new.card) (state-by (g.M.Medium.state c.note_place.new.unit) (g.M.Medium.state c.note_place_in-in-B.new.unit) _ c.note_place_in-in-B.ensures.journal.later c.note_place_in-in-B.ensures.cause) (state-by (g.D.Chip.state c.args.card_b.now) (g.D.Chip.state c.note_place_in-in-B.new.card) c.note_place_in-in-B.ensures.noted.0 c.note_place_in-in-B.ensures.clock_card c.note_place_in-in-B.ensures.noted.3))
+
+-- ---- how its events go on
+
+pub returns-in_default-clause-evented : goal.returns-in_default-clause-evented
+returns-in_default-clause-evented g c = λ late ending country region speed before is o done s now front rest are n allowed w events time.
+    let d : Devices = devices (g.M.Medium.state c.args.unit.now) (g.C.Chip.state c.args.card_a.now) (g.D.Chip.state c.args.card_b.now) in
+    subst (λ (l : Listed Break). EventedNow o done s w.within.b.run Acting (log_of (record before { breaks = l })) d) is events
+
+pub returns-in_default-number_in-clause-evented : goal.returns-in_default-number_in-clause-evented
+returns-in_default-number_in-clause-evented g c = λ late ending country region speed before is o done s now front rest are n allowed w events time.
+    let d : Devices = devices (g.M.Medium.state c.args.unit.now) (g.C.Chip.state c.args.card_a.now) (g.D.Chip.state c.args.card_b.now) in
+    subst (λ (l : Listed Break). EventedNow o done s w.within.b.run Acting (log_of (record before { breaks = l })) d) is events
+
+pub returns-in_err-note_place-clause-evented : goal.returns-in_err-note_place-clause-evented
+returns-in_err-note_place-clause-evented g c = λ late ending country region speed before is o done s now front rest are n allowed w events time.
+    let run = c.args.run.now in
+    let lit = c.requires.going in
+    let U = g.M.Medium.state c.args.unit.now in
+    let V = g.M.Medium.state c.note_place.new.unit in
+    let A0 = g.C.Chip.state c.args.card_a.now in
+    let B0 = g.D.Chip.state c.args.card_b.now in
+    let begun : ℕ = c.args.at.begun in
+    let out : Outcome = record before { breaks = c.args.breaks.now } in
+    let failed : true ≡ is_err c.from_residual.result = search rules in
+    let left = left-over front rest (Place c.args.slot ending country region) s begun n are in
+    let ring = says-of U V (g.met.M.Medium.coherent c.args.unit.now) (IsAdding unit_place_ring (unit_place_bytes c.in-Some-number_in.number c.args.entry.now)) (adding-nothing (unit_place_bytes c.in-Some-number_in.number c.args.entry.now)) c.in_err-note_place.ensures.moments in
+    let w1 = place-first o done s c.args.slot ending country region begun speed run before c.args.breaks.now (devices U A0 B0) is now front rest are n allowed w in
+    let first : EventedNow o done s w1.goes.within.b.run Acting (log_of out) (devices U A0 B0) = subst (λ (b : Beginning). EventedNow o done s b.run Acting (log_of out) (devices U A0 B0)) (sym w1.began)
+    (subst (λ (l : Listed Break). EventedNow o done s w.within.b.run Acting (log_of (record before { breaks = l })) (devices U A0 B0)) is events) in
+    subst (λ (q : Bool). EventsGoOn q o done s w.within.b.run (In begun) Acting (log_of out) (devices V A0 B0)) failed
+    (subst (λ (b : Beginning). EventsGoOn true o done s b.run (In begun) Acting (log_of out) (devices V A0 B0)) w1.began
+    (unit-evented o done s begun run out U V A0 B0 (g.met.M.Medium.coherent c.args.unit.now) c.note_place.ensures.journal lit.span lit.stands lit.next w1.goes rest left true c.in_err-note_place.ensures.cause (quiet-any U V A0 B0 A0 B0 true ring) first))
+
+pub returns-in-A-clause-evented : goal.returns-in-A-clause-evented
+returns-in-A-clause-evented g c = λ late ending country region speed before is o done s now front rest are n allowed w events time.
+    let run = c.args.run.now in
+    let e = c.note_place_in.ensures in
+    let k = e.noted in
+    let f = e.events in
+    let lit = c.requires.going in
+    let U = g.M.Medium.state c.args.unit.now in
+    let V = g.M.Medium.state c.note_place.new.unit in
+    let W = g.M.Medium.state c.note_place_in.new.unit in
+    let A0 = g.C.Chip.state c.args.card_a.now in
+    let B0 = g.D.Chip.state c.args.card_b.now in
+    let Y = g.C.Chip.state c.note_place_in.new.card in
+    let begun : ℕ = c.args.at.begun in
+    let out : Outcome = record before { breaks = c.args.breaks.now } in
+    let failed = is_err c.note_place_in.result in
+    let there : card_in (seat_in run.keeper.cabin.slots.seats c.args.slot) ≡ Some A = cc in
+    let told : number_of_seat run.keeper.cabin.cards (seat_in run.keeper.cabin.slots.seats c.args.slot) ≡ Some c.in-Some-number_in.number = cc in
+    let some = numbered-session run.keeper.cabin.cards (seat_in run.keeper.cabin.slots.seats c.args.slot) A c.in-Some-number_in.number there told in
+    let small : s.number < 2 ^ 32 = let low = c.requires.small in let same = now.number in omega (arith, low, same) in
+    let a : Action = Place c.args.slot ending country region in
+    let left = left-over front rest a s begun n are in
+    let ring = says-of U V (g.met.M.Medium.coherent c.args.unit.now) (IsAdding unit_place_ring (unit_place_bytes c.in-Some-number_in.number c.args.entry.now)) (adding-nothing (unit_place_bytes c.in-Some-number_in.number c.args.entry.now)) c.in_ok-note_place.ensures.moments in
+    let yet = subst (λ (l : Listed Break). NotFound (In begun) (other_slot c.args.slot) (log_of (record before { breaks = l })) s.number) is (none-yet o done s (length front) begun (values_of run before) (devices U A0 B0) w.within n (other_slot c.args.slot)).0 in
+    let follows = subst (λ (l : Listed Break). MayFollow (In begun) c.args.slot (log_of (record before { breaks = l })) s) is (none-yet o done s (length front) begun (values_of run before) (devices U A0 B0) w.within n c.args.slot).1 in
+    let w1 = place-first o done s c.args.slot ending country region begun speed run before c.args.breaks.now (devices U A0 B0) is now front rest are n allowed w in
+    let w2 = unit-recorded o done s begun run out U V A0 B0 (g.met.M.Medium.coherent c.args.unit.now) c.note_place.ensures.journal lit.span lit.stands lit.next w1.goes false c.in_ok-note_place.ensures.cause in
+    let first : EventedNow o done s w1.goes.within.b.run Acting (log_of out) (devices U A0 B0) = subst (λ (b : Beginning). EventedNow o done s b.run Acting (log_of out) (devices U A0 B0)) (sym w1.began)
+    (subst (λ (l : Listed Break). EventedNow o done s w.within.b.run Acting (log_of (record before { breaks = l })) (devices U A0 B0)) is events) in
+    let second : EventedNow o done s w2.goes.within.b.run Acting (log_of out) (devices V A0 B0) = subst (λ (b : Beginning). EventedNow o done s b.run Acting (log_of out) (devices V A0 B0)) (sym w2.began)
+    (unit-evented o done s begun run out U V A0 B0 (g.met.M.Medium.coherent c.args.unit.now) c.note_place.ensures.journal lit.span lit.stands lit.next w1.goes rest left false c.in_ok-note_place.ensures.cause (quiet-any U V A0 B0 A0 B0 false ring) first) in
+    let falls = fall_events k.0 c.args.at.second c.note_place_in.new.run in
+    let fell : f.fell ≡ k.0 = same-fell A c.args.slot c.args.at run c.note_place_in.new.run c.args.breaks.now c.note_place_in.new.breaks f.fell k.0 f.noted k.1 in
+    let notes : NotesEvents falls failed (devices V A0 B0) (devices W Y B0) = subst (λ (b : Bool). NotesEvents (fall_events b c.args.at.second c.note_place_in.new.run) failed (devices V A0 B0) (devices W Y B0)) fell
+    (noted-any (fall_events f.fell c.args.at.second c.note_place_in.new.run) failed (devices V A0 A0) (devices W Y Y) (devices V A0 B0) (devices W Y B0) refl refl f.notes) in
+    subst (λ (b : Beginning). EventsGoOn failed o done s b.run (In begun) Acting (log_of (record before { breaks = c.note_place_in.new.breaks })) (devices W Y B0)) (w2.began ∙ w1.began)
+    (some-evented A c.args.slot c.args.at run c.args.breaks.now V W A0 Y B0
+    (g.met.M.Medium.coherent c.note_place.new.unit) (g.met.C.Chip.coherent c.args.card_a.now) (g.met.C.Chip.coherent c.note_place_in.new.card) c.requires.held.card_a.size some e.value there c.requires.at late lit.span lit.stands lit.next lit.cabin e.moments e.journal
+    failed e.cause o done s before w2.goes (λ first. absurd (let zero_ : begun ≡ 0 = cc in omega (arith, zero_, n))) small yet follows rest left k.0 c.note_place_in.new.run c.note_place_in.new.breaks k.1 k.2 k.3 notes second)
+
+pub returns-in-B-clause-evented : goal.returns-in-B-clause-evented
+returns-in-B-clause-evented g c = λ late ending country region speed before is o done s now front rest are n allowed w events time.
+    let run = c.args.run.now in
+    let e = c.note_place_in-in-B.ensures in
+    let k = e.noted in
+    let f = e.events in
+    let lit = c.requires.going in
+    let U = g.M.Medium.state c.args.unit.now in
+    let V = g.M.Medium.state c.note_place.new.unit in
+    let W = g.M.Medium.state c.note_place_in-in-B.new.unit in
+    let A0 = g.C.Chip.state c.args.card_a.now in
+    let B0 = g.D.Chip.state c.args.card_b.now in
+    let Y = g.D.Chip.state c.note_place_in-in-B.new.card in
+    let begun : ℕ = c.args.at.begun in
+    let out : Outcome = record before { breaks = c.args.breaks.now } in
+    let failed = is_err c.note_place_in-in-B.result in
+    let there : card_in (seat_in run.keeper.cabin.slots.seats c.args.slot) ≡ Some B = cc in
+    let told : number_of_seat run.keeper.cabin.cards (seat_in run.keeper.cabin.slots.seats c.args.slot) ≡ Some c.in-Some-number_in.number = cc in
+    let some = numbered-session run.keeper.cabin.cards (seat_in run.keeper.cabin.slots.seats c.args.slot) B c.in-Some-number_in.number there told in
+    let small : s.number < 2 ^ 32 = let low = c.requires.small in let same = now.number in omega (arith, low, same) in
+    let a : Action = Place c.args.slot ending country region in
+    let left = left-over front rest a s begun n are in
+    let ring = says-of U V (g.met.M.Medium.coherent c.args.unit.now) (IsAdding unit_place_ring (unit_place_bytes c.in-Some-number_in.number c.args.entry.now)) (adding-nothing (unit_place_bytes c.in-Some-number_in.number c.args.entry.now)) c.in_ok-note_place.ensures.moments in
+    let yet = subst (λ (l : Listed Break). NotFound (In begun) (other_slot c.args.slot) (log_of (record before { breaks = l })) s.number) is (none-yet o done s (length front) begun (values_of run before) (devices U A0 B0) w.within n (other_slot c.args.slot)).0 in
+    let follows = subst (λ (l : Listed Break). MayFollow (In begun) c.args.slot (log_of (record before { breaks = l })) s) is (none-yet o done s (length front) begun (values_of run before) (devices U A0 B0) w.within n c.args.slot).1 in
+    let w1 = place-first o done s c.args.slot ending country region begun speed run before c.args.breaks.now (devices U A0 B0) is now front rest are n allowed w in
+    let w2 = unit-recorded o done s begun run out U V A0 B0 (g.met.M.Medium.coherent c.args.unit.now) c.note_place.ensures.journal lit.span lit.stands lit.next w1.goes false c.in_ok-note_place.ensures.cause in
+    let first : EventedNow o done s w1.goes.within.b.run Acting (log_of out) (devices U A0 B0) = subst (λ (b : Beginning). EventedNow o done s b.run Acting (log_of out) (devices U A0 B0)) (sym w1.began)
+    (subst (λ (l : Listed Break). EventedNow o done s w.within.b.run Acting (log_of (record before { breaks = l })) (devices U A0 B0)) is events) in
+    let second : EventedNow o done s w2.goes.within.b.run Acting (log_of out) (devices V A0 B0) = subst (λ (b : Beginning). EventedNow o done s b.run Acting (log_of out) (devices V A0 B0)) (sym w2.began)
+    (unit-evented o done s begun run out U V A0 B0 (g.met.M.Medium.coherent c.args.unit.now) c.note_place.ensures.journal lit.span lit.stands lit.next w1.goes rest left false c.in_ok-note_place.ensures.cause (quiet-any U V A0 B0 A0 B0 false ring) first) in
+    let falls = fall_events k.0 c.args.at.second c.note_place_in-in-B.new.run in
+    let fell : f.fell ≡ k.0 = same-fell B c.args.slot c.args.at run c.note_place_in-in-B.new.run c.args.breaks.now c.note_place_in-in-B.new.breaks f.fell k.0 f.noted k.1 in
+    let notes : NotesEvents falls failed (devices V A0 B0) (devices W A0 Y) = subst (λ (b : Bool). NotesEvents (fall_events b c.args.at.second c.note_place_in-in-B.new.run) failed (devices V A0 B0) (devices W A0 Y)) fell
+    (noted-any (fall_events f.fell c.args.at.second c.note_place_in-in-B.new.run) failed (devices V B0 B0) (devices W Y Y) (devices V A0 B0) (devices W A0 Y) refl refl f.notes) in
+    subst (λ (b : Beginning). EventsGoOn failed o done s b.run (In begun) Acting (log_of (record before { breaks = c.note_place_in-in-B.new.breaks })) (devices W A0 Y)) (w2.began ∙ w1.began)
+    (some-evented B c.args.slot c.args.at run c.args.breaks.now V W B0 Y A0
+    (g.met.M.Medium.coherent c.note_place.new.unit) (g.met.D.Chip.coherent c.args.card_b.now) (g.met.D.Chip.coherent c.note_place_in-in-B.new.card) c.requires.held.card_b.size some e.value there c.requires.at late lit.span lit.stands lit.next lit.cabin e.moments e.journal
+    failed e.cause o done s before w2.goes (λ first. absurd (let zero_ : begun ≡ 0 = cc in omega (arith, zero_, n))) small yet follows rest left k.0 c.note_place_in-in-B.new.run c.note_place_in-in-B.new.breaks k.1 k.2 k.3 notes second)

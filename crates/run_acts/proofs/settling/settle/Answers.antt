@@ -14,6 +14,7 @@ use Rattle.run_acts.proofs.Settled.{settled-ungiven, settled-later, settled-deci
 use Rattle.run_acts.proofs.Bare.{all-bare}
 use Rattle.run_acts.proofs.GoesOn.{same-left}
 use Rattle.run_acts.proofs.SettledRecorded.{settling-so}
+use Rattle.run_acts.proofs.SettledEvented.{settling-events}
 use Rattle.run_rule.specs.Between.{devices}
 use Rattle.run_acts.proofs.settling.settle.Goals as goal
 
@@ -172,6 +173,29 @@ pub returns-clause-noted : goal.returns-clause-noted
 returns-clause-noted g c =
     let b = rw c.as_slice.ensures.value at c.keep_all.ensures.booked in
     (c.settle-decided.result.items, c.settle-decided.ensures.given, b.0, b.1, b.3)
+
+pub returns-clause-evented : goal.returns-clause-evented
+returns-clause-evented g c =
+    let h = c.requires.going in
+    let k = c.keep_all.ensures in
+    let old = c.args.run.now in
+    let items = c.settle-decided.result.items in
+    let b = rw c.as_slice.ensures.value at k.booked in (
+      items,
+      c.settle-decided.ensures.given,
+      λ o done s n waits here r untold evented time. settling-events old c.args.outcome.now c.settle-decided.new.self c.keep_all.new.self c.keep_all.new.marks c.keep_all.new.breaks c.args.at (is_err c.keep_all.result) items
+          (devices (g.M.Medium.state c.args.unit.now) (g.C.Chip.state c.args.card_a.now) (g.D.Chip.state c.args.card_b.now)) (devices (g.M.Medium.state c.keep_all.new.unit) (g.C.Chip.state c.keep_all.new.card_a) (g.D.Chip.state c.keep_all.new.card_b))
+          h.0 h.1 c.requires.small (c.settle-decided.ensures.settled h.1.span h.1.stands) (c.settle-decided.ensures.given h.1.span h.1.stands) k.same.1 b.0 b.1 b.2
+          (record {
+            cause = k.cause;
+            keeps = k.unit_keeps;
+            tells = k.tells;
+            clock = k.clock;
+            card_a = record { keeps = k.a_keeps; clock = k.clock_a; tells = k.tells_a; more = k.more_a; broken = k.a_broken; bare = λ none. same-left (g.C.Chip.state c.args.card_a.now) (g.C.Chip.state c.keep_all.new.card_a) (ap g.C.Chip.state (k.a_bare none)) };
+            card_b = record { keeps = k.b_keeps; clock = k.clock_b; tells = k.tells_b; more = k.more_b; broken = k.b_broken; bare = λ none. same-left (g.D.Chip.state c.args.card_b.now) (g.D.Chip.state c.keep_all.new.card_b) (ap g.D.Chip.state (k.b_bare none)) };
+          })
+          (g.met.M.Medium.coherent c.args.unit.now) c.requires.held.is_unit b.3 o done s n waits here r time untold evented,
+    )
 
 -- ---- what holds of the devices after any calls
 

@@ -23,6 +23,8 @@ use Rattle.run_acts.specs.Turning.{IsKeptInTurn, cut_where, cut_breaks}
 use Rattle.run_acts.proofs.Turned.{turn-end, turn-later, turn-most, turn-decides, turned-held, turned-cut, turned-lit}
 use Rattle.run_acts.proofs.Room.{Spends, room-lit, room-lost}
 use Rattle.run_acts.proofs.Uncut.{turn-uncut, uncut-broke, cut-broke}
+use Rattle.run_rule.specs.Between.{devices}
+use Rattle.run_acts.proofs.TurnMany.{turn-events}
 use Rattle.run_acts.proofs.turning.lit_turn.Goals as goal
 
 -- ---- what the keeping is given
@@ -387,3 +389,69 @@ returns-then-is_err-clause-broke g c =
 
 pub returns-else-is_err-clause-broke : goal.returns-else-is_err-clause-broke
 returns-else-is_err-clause-broke g c = uncut-broke _ _ (g.M.Medium.state c.args.unit.now) (g.M.Medium.state c.keep_turn-kept.new.unit) (is_err c.keep_turn-kept.result) c.keep_turn-kept.ensures.cause (turn-uncut _ _ _ _ _ _ _ _ _ c.keep_turn-kept.ensures.kept)
+
+-- ---- the events
+
+pub returns-then-is_err-clause-evented : goal.returns-then-is_err-clause-evented
+returns-then-is_err-clause-evented g c =
+    let run = c.args.run.now in
+    let e = c.keep_turn-kept.ensures in
+    let bad : is_err c.keep_turn-kept.result ≡ true = sym c.is_err.ensures.value ∙ c.if-is_err.true in
+    let b = rw c.as_slice.ensures.value at (rw bad at e.booked) in
+    let nt = rw c.as_slice.ensures.value at (rw bad at e.noted) in
+    let on : is_lit run.power ≡ true = ap is_lit c.requires.lit in
+    turn-events c.args.n c.args.speed c.args.begun run c.cut.new.self c.args.outcome.now (record c.keep_turn-kept.new.outcome { breaks = c.cut.new.breaks })
+    (devices (g.M.Medium.state c.args.unit.now) (g.C.Chip.state c.args.card_a.now) (g.D.Chip.state c.args.card_b.now)) (devices (g.M.Medium.state c.keep_turn-kept.new.unit) (g.C.Chip.state c.keep_turn-kept.new.card_a) (g.D.Chip.state c.keep_turn-kept.new.card_b))
+    (c.requires.going.lit on) c.requires.going.low c.requires.lit c.requires.some c.requires.minute c.requires.small (
+      record {
+        failed = true;
+        fed = record run { minutes = c.feed-decided.new.minutes };
+        between = c.keep_turn-kept.new.run;
+        told = c.keep_turn-kept.new.outcome;
+        only = refl;
+        minutes = c.feed-decided.ensures.fed;
+        decided = c.feed-decided.result.items;
+        given = c.feed-decided.ensures.given;
+        kept = rw c.as_slice.ensures.value at (rw bad at e.kept);
+        run = c.cut.ensures.run;
+        outcome = ap (λ (b : Listed Break). record c.keep_turn-kept.new.outcome { breaks = b }) c.cut.ensures.breaks;
+      },
+      b.0,
+      b.1,
+      b.2,
+      rw bad at e.devices,
+      e.same.1,
+    )
+    (g.met.M.Medium.coherent c.args.unit.now) c.requires.going.held.is_unit nt e.same.0
+
+pub returns-else-is_err-clause-evented : goal.returns-else-is_err-clause-evented
+returns-else-is_err-clause-evented g c =
+    let run = c.args.run.now in
+    let e = c.keep_turn-kept.ensures in
+    let well : is_err c.keep_turn-kept.result ≡ false = sym c.is_err.ensures.value ∙ c.if-is_err.false in
+    let b = rw c.as_slice.ensures.value at (rw well at e.booked) in
+    let nt = rw c.as_slice.ensures.value at (rw well at e.noted) in
+    let on : is_lit run.power ≡ true = ap is_lit c.requires.lit in
+    turn-events c.args.n c.args.speed c.args.begun run c.keep_turn-kept.new.run c.args.outcome.now c.keep_turn-kept.new.outcome
+    (devices (g.M.Medium.state c.args.unit.now) (g.C.Chip.state c.args.card_a.now) (g.D.Chip.state c.args.card_b.now)) (devices (g.M.Medium.state c.keep_turn-kept.new.unit) (g.C.Chip.state c.keep_turn-kept.new.card_a) (g.D.Chip.state c.keep_turn-kept.new.card_b))
+    (c.requires.going.lit on) c.requires.going.low c.requires.lit c.requires.some c.requires.minute c.requires.small (
+      record {
+        failed = false;
+        fed = record run { minutes = c.feed-decided.new.minutes };
+        between = c.keep_turn-kept.new.run;
+        told = c.keep_turn-kept.new.outcome;
+        only = refl;
+        minutes = c.feed-decided.ensures.fed;
+        decided = c.feed-decided.result.items;
+        given = c.feed-decided.ensures.given;
+        kept = rw c.as_slice.ensures.value at (rw well at e.kept);
+        run = refl;
+        outcome = refl;
+      },
+      b.0,
+      b.1,
+      b.2,
+      rw well at e.devices,
+      e.same.1,
+    )
+    (g.met.M.Medium.coherent c.args.unit.now) c.requires.going.held.is_unit nt e.same.0

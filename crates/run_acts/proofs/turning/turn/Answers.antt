@@ -14,6 +14,13 @@ use Rattle.run_acts.proofs.TurnRecorded.{turn-lit, turn-dark}
 use Rattle.run_acts.proofs.Room.{room-dark}
 use Rattle.run_keeping.proofs.Later.{later-same}
 use Rattle.run_outcome.proofs.Broken.{broke-none}
+use Rattle.unit_course.specs.Followed.{Lost as IsLost}
+use Rattle.run_evented.specs.Noting.{Acting}
+use Rattle.run_acts.specs.declared.run.Power.{Power}
+use Rattle.run_acts.specs.declared.run.Power.TheVariants.{Lit, Lost}
+use Rattle.run_acts.specs.Recording.{log_of, Supplies}
+use Rattle.run_acts.specs.Evented.{CutEvented, WithinEvented, InSecondEventedBy, RunEvented}
+use Rattle.run_acts.proofs.TurnMany.{at-supply, dark-events}
 use Rattle.run_acts.proofs.turning.turn.Goals as goal
 
 -- ---- without power
@@ -107,3 +114,46 @@ returns-then-not-is_lit-clause-broke g c = broke-none c.args.outcome.now.breaks.
 
 pub returns-clause-broke : goal.returns-clause-broke
 returns-clause-broke g c = c.lit_turn.ensures.broke
+
+-- ---- the events
+
+pub returns-then-not-is_lit-clause-evented : goal.returns-then-not-is_lit-clause-evented
+returns-then-not-is_lit-clause-evented g c = λ o done s now actions behind within time.
+    let run = c.args.run.now in
+    let before = c.args.outcome.now in
+    let d = devices (g.M.Medium.state c.args.unit.now) (g.C.Chip.state c.args.card_a.now) (g.D.Chip.state c.args.card_b.now) in
+    let dark : is_lit run.power ≡ false = sym c.is_lit.ensures ∙ c.if-not-is_lit.true in
+    let r : CutEvented o done s run before d = subst (λ (b : Bool). InSecondEventedBy b o done s c.args.begun run before d) dark within in
+    let seconds = done ++ s ∷ driven (c.args.n - 1) (s.number + 1) c.args.speed [] in
+    let rec : RunRecorded o seconds (passed c.args.n c.args.begun run) before d = turn-dark c.args.n c.args.speed c.args.begun run before d c.requires.some c.requires.minute o done s now actions (λ more. (behind (omega (arith, more))).0) r.cut in
+    subst (λ (x : Run). RunEvented o seconds x before d) (sym c.pass.ensures)
+    (record {
+      recorded = rec;
+      evented = at-supply o seconds (log_of before) run.unfound (run.next + c.args.n) run.power IsLost rec.supply d (subst (λ (p : Power). Supplies p IsLost) (sym r.cut.lost) tt) rec.powers
+          (dark-events d c.args.n c.args.speed c.args.begun run before c.requires.some c.requires.minute o done s now actions (λ more. (behind more).0) r);
+      limit = r.limit;
+      watched = λ on. absurd (let bad : Lost ≡ Lit = sym r.cut.lost ∙ on in cc);
+    })
+
+pub returns-clause-evented : goal.returns-clause-evented
+returns-clause-evented g c = λ o done s now actions behind within time.
+    let run = c.args.run.now in
+    let before = c.args.outcome.now in
+    let d = devices (g.M.Medium.state c.args.unit.now) (g.C.Chip.state c.args.card_a.now) (g.D.Chip.state c.args.card_b.now) in
+    let e = devices (g.M.Medium.state c.lit_turn.new.unit) (g.C.Chip.state c.lit_turn.new.card_a) (g.D.Chip.state c.lit_turn.new.card_b) in
+    let lit : is_lit run.power ≡ true = sym c.is_lit.ensures ∙ c.if-not-is_lit.false in
+    let r : WithinEvented o done s (In c.args.begun) [] [] Acting run before d = subst (λ (b : Bool). InSecondEventedBy b o done s c.args.begun run before d) lit within in
+    let there : RunWithin o done s (In (length s.actions)) [] [] run before d = subst (λ (k : ℕ). RunWithin o done s (In k) [] [] run before d) (sym actions) r.within in
+    let seconds = done ++ s ∷ driven (c.args.n - 1) (s.number + 1) c.args.speed [] in
+    let after = c.lit_turn.new.outcome in
+    let turned : Run = passed c.args.n c.args.begun c.lit_turn.new.run in
+    let rec : RunRecorded o seconds turned after e = turn-lit c.args.n c.args.speed c.args.begun run c.lit_turn.new.run before after d e (c.requires.going.lit lit) r.within.lit c.requires.some c.requires.minute c.requires.small c.lit_turn.ensures.booked
+    o done s now actions (λ more. (behind (omega (arith, more))).0) there time in
+    let t = c.lit_turn.ensures.evented o done s now actions behind r time in
+    subst (λ (x : Run). RunEvented o seconds x after e) (sym c.pass-2.ensures)
+    (record {
+      recorded = rec;
+      evented = at-supply o seconds (log_of after) turned.unfound turned.next turned.power t.supply rec.supply e t.powers rec.powers t.evented;
+      limit = t.limit;
+      watched = t.watched;
+    })

@@ -1,4 +1,4 @@
-use Rattle.std.proofs.Common.{rules, ◌≡◌, ◌∙◌, inl, inr, ℕ, ◌+◌, ◌-◌, ◌*◌, ◌/◌, ◌≤◌, Bool, true, false, not, Option, Some, None, is_some, List, ◌++◌, length, refl, ap, sym, subst, arith}
+use Rattle.std.proofs.Common.{rules, ◌≡◌, ◌∙◌, inl, inr, ℕ, ◌+◌, ◌-◌, ◌*◌, ◌/◌, ◌≤◌, Bool, true, false, not, Option, Some, None, is_some, List, ◌++◌, length, refl, ap, sym, subst, arith, ◌^◌, ◌<◌}
 use Rattle.std.specs.Prelude.{is_err, suc, []}
 use Rattle.trace_model.specs.declared.Card.{Card}
 use Rattle.trace_model.specs.declared.Card.TheVariants.{A, B}
@@ -31,18 +31,22 @@ use Rattle.run_acts.specs.Acting.{Closing, told_of, IsSettled, IsWithdrawn, clos
 use Rattle.run_acts.proofs.Leaving.{left-going, left-held, left-falls, closed-past, closed-minute, closed-sessions, closed-falls, closed-a, closed-b}
 use Rattle.run_acts.proofs.Cabins.{cabin-only, cabin-going, cabin-held, ready-same, at-same}
 use Rattle.log_model.specs.Log.{In}
-use Rattle.run_acts.specs.Recording.{RunFails, GoesOnOrFails, GoesOnOrCut}
+use Rattle.run_acts.specs.Recording.{RunFails, GoesOnOrFails, GoesOnOrCut, log_of}
 use Rattle.run_acts.specs.Settling.{RecordsSettling}
 use Rattle.run_acts.proofs.Asked.{withdraws-one}
-use Rattle.run_acts.proofs.WithdrawnRecorded.{acting_at, moment-is, settling-cut, closing-recorded}
+use Rattle.run_acts.proofs.WithdrawnRecorded.{acting_at, moment-is, settling-cut, closing-recorded, settled-evented, closing-evented}
 use Rattle.run_acts.specs.Faults.{NotesSettling}
-use Rattle.run_acts.specs.Noting.{NotesClosing, NotesWithdrawing}
-use Rattle.run_acts.proofs.NotedEvents.{same-noted}
-use Rattle.run_acts.proofs.ActsNoted.{settles-these, withdrawal-cut, withdrawal-noted, closing-any}
+use Rattle.run_acts.specs.Noting.{NotesClosing, NotesWithdrawing, closed_events}
+use Rattle.run_acts.proofs.NotedEvents.{same-noted, noted-any}
+use Rattle.run_acts.proofs.ActsNoted.{settles-these, withdrawal-cut, withdrawal-noted, closing-any, same-closing}
 use Rattle.run_rings.proofs.Same.{rings-left}
 use Rattle.run_acts.specs.Ringing.{WithdrawsSo}
 use Rattle.run_acts.proofs.Ringing.{settling-leaves, closes-behind}
 use Rattle.run_keeping.proofs.Later.{state-by, later-same, later-then, later-of-a, later-of-b}
+use Rattle.tach_media.specs.Medium.{HasBroken}
+use Rattle.run_evented.specs.Noting.{Acting}
+use Rattle.run_acts.specs.NotedEvents.{NotesEvents}
+use Rattle.run_acts.specs.Evented.{EventsGoOn, EventsSettling}
 use Rattle.run_acts.proofs.withdrawing.withdraw.Goals as goal
 
 -- ---- it has left its slot
@@ -685,3 +689,111 @@ returns-in-A-clause-later g c = later-then (devices (g.M.Medium.state c.args.uni
 
 pub returns-in-B-clause-later : goal.returns-in-B-clause-later
 returns-in-B-clause-later g c = later-then (devices (g.M.Medium.state c.args.unit.now) (g.C.Chip.state c.args.card_a.now) (g.D.Chip.state c.args.card_b.now)) (devices (g.M.Medium.state c.settle.new.unit) (g.C.Chip.state c.settle.new.card_a) (g.D.Chip.state c.settle.new.card_b)) (devices (g.M.Medium.state c.close-in-B.new.unit) (g.C.Chip.state c.settle.new.card_a) (g.D.Chip.state c.close-in-B.new.card)) c.settle.ensures.later (later-of-b (g.M.Medium.state c.settle.new.unit) (g.M.Medium.state c.close-in-B.new.unit) (g.C.Chip.state c.settle.new.card_a) (g.D.Chip.state c.settle.new.card_b) (g.D.Chip.state c.close-in-B.new.card) (state-by (g.M.Medium.state c.settle.new.unit) (g.M.Medium.state c.close-in-B.new.unit) _ c.close-in-B.ensures.journal.later c.close-in-B.ensures.cause) c.close-in-B.ensures.later)
+
+-- ---- how its events go on
+
+here-evented : (decided : List Minute) (failed : Bool) (slot : Slot) (at here : Moment) (run between : Run) (before told : Outcome) (left : Cabin) (d e : Devices) → left ≡ with_slot_left slot at.second run.keeper.cabin → at ≡ here →
+    EventsSettling decided at failed (with_cabin left run) between before told d e → EventsSettling decided here failed (left_run slot here.second run) between before told d e
+here-evented decided failed slot at here run between before told left d e is moment settles =
+    subst (λ (m : Moment). EventsSettling decided m failed (left_run slot m.second run) between before told d e) moment
+    (subst (λ (b : Cabin). EventsSettling decided at failed (with_cabin b run) between before told d e) is settles)
+
+pub returns-in_default-clause-evented : goal.returns-in_default-clause-evented
+returns-in_default-clause-evented g c = λ late speed o done s now front rest are n allowed w events time.
+    let seats = c.args.run.now.keeper.cabin.slots.seats in
+    let none : card_in (seat_in seats c.args.slot) ≡ None = sym c.card.ensures ∙ none-there c.card.result c.in_default.not-Some in
+    absurd (withdraws-one seats c.args.slot speed allowed none)
+
+pub returns-in_err-settle-clause-evented : goal.returns-in_err-settle-clause-evented
+returns-in_err-settle-clause-evented g c = λ late speed o done s now front rest are n allowed w events time.
+    let run = c.args.run.now in
+    let there : card_in (seat_in run.keeper.cabin.slots.seats c.args.slot) ≡ Some c.in-Some.card = cc in
+    let D = devices (g.M.Medium.state c.args.unit.now) (g.C.Chip.state c.args.card_a.now) (g.D.Chip.state c.args.card_b.now) in
+    let E = devices (g.M.Medium.state c.settle.new.unit) (g.C.Chip.state c.settle.new.card_a) (g.D.Chip.state c.settle.new.card_b) in
+    let failed : true ≡ is_err c.from_residual.result = search rules in
+    let moment = moment-is c.args.at s.number (suc (length front)) (c.requires.at ∙ sym now.number) n late in
+    let v = c.in_err-settle.ensures.evented in
+    subst (λ (q : Bool). EventsGoOn q o done s w.within.b.run (In c.args.at.begun) Acting (log_of c.settle.new.outcome) E) failed
+    (subst (λ (q : ℕ). EventsGoOn true o done s w.within.b.run (In q) Acting (log_of c.settle.new.outcome) E) (sym n)
+    (settled-evented o done s front rest c.args.slot are speed now.speed_is c.in-Some.card run c.settle.new.run c.args.outcome.now c.settle.new.outcome D w there allowed (c.in_err-settle.ensures.settled.minutes w.within.sp w.within.minutes) v.0 (v.1 w.within.sp w.within.minutes) true E
+    (here-evented v.0 true c.args.slot c.args.at (acting_at s.number (suc (length front))) run c.settle.new.run c.args.outcome.now c.settle.new.outcome c.leave.new.self D E c.leave.ensures.kept moment v.2) events time))
+
+pub returns-in-A-clause-evented : goal.returns-in-A-clause-evented
+returns-in-A-clause-evented g c = λ late speed o done s now front rest are n allowed w events time.
+    let run = c.args.run.now in
+    let there : card_in (seat_in run.keeper.cabin.slots.seats c.args.slot) ≡ Some A = cc in
+    let D = devices (g.M.Medium.state c.args.unit.now) (g.C.Chip.state c.args.card_a.now) (g.D.Chip.state c.args.card_b.now) in
+    let between : Run = c.settle.new.run in
+    let told : Outcome = c.settle.new.outcome in
+    let U1 = g.M.Medium.state c.settle.new.unit in
+    let V = g.M.Medium.state c.close.new.unit in
+    let A1 = g.C.Chip.state c.settle.new.card_a in
+    let B1 = g.D.Chip.state c.settle.new.card_b in
+    let X = g.C.Chip.state c.settle.new.card_a in
+    let Y = g.C.Chip.state c.close.new.card in
+    let Z = B1 in
+    let left_ = subst (λ (b : Cabin). IsGoingOn (Some A) (run.next / 60) (with_cabin b run) (g.M.Medium.state c.args.unit.now) (g.C.Chip.card c.args.card_a.now) (g.D.Chip.card c.args.card_b.now) (g.C.Chip.state c.args.card_a.now) (g.D.Chip.state c.args.card_b.now)) (sym c.leave.ensures.kept)
+    (left-going c.args.slot A c.args.at.second run (run.next / 60) c.requires.going (λ from h. subst (λ (b : Cabin). Stands from (Some A) b) c.leave.ensures.kept (c.leave.ensures.stands from A there h))) in
+    let going = c.in_ok-settle.ensures.going (Some A) left_ in
+    let moment = moment-is c.args.at s.number (suc (length front)) (c.requires.at ∙ sym now.number) n late in
+    let second : c.args.at.second ≡ s.number = c.requires.at ∙ sym now.number in
+    let small : s.number < 2 ^ 32 = let low = c.requires.small in let same = now.number in omega (arith, low, same) in
+    let r = c.in_ok-settle.ensures.recorded in
+    let v = c.in_ok-settle.ensures.evented in
+    let e = c.close.ensures in
+    let k = e.events in
+    let fell = e.closed in
+    let unit_later = e.journal.later in
+    let mid = time-before A U1 V X Y Z unit_later e.clock_card time in
+    let kept = settled-evented o done s front rest c.args.slot are speed now.speed_is A run between c.args.outcome.now told D w there allowed (c.in_ok-settle.ensures.settled.minutes w.within.sp w.within.minutes) v.0 (v.1 w.within.sp w.within.minutes) false (devices U1 A1 B1)
+    (here-evented v.0 false c.args.slot c.args.at (acting_at s.number (suc (length front))) run between c.args.outcome.now told c.leave.new.self D (devices U1 A1 B1) c.leave.ensures.kept moment v.2) events mid in
+    let same = same-closing A c.args.slot c.args.at between c.close.new.run told.breaks c.close.new.breaks k.closing fell.0 k.closed fell.1 in
+    let notes = noted-any (closed_events k.closing c.args.at.second c.close.new.run) (is_err c.close.result) (devices U1 X X) (devices V Y Y) (devices U1 A1 B1) (devices V Y B1) refl refl k.notes in
+    subst (λ (q : ℕ). EventsGoOn (is_err c.close.result) o done s w.within.b.run (In q) Acting (log_of (record told { breaks = c.close.new.breaks })) (devices V Y B1)) (sym n)
+    (closing-evented o done s front rest c.args.slot are speed now.speed_is A run between c.args.outcome.now told D w there allowed (c.in_ok-settle.ensures.settled.minutes w.within.sp w.within.minutes) r.0 (r.1 w.within.sp w.within.minutes)
+    g.C.Chip.state U1 V Z c.settle.new.card_a c.close.new.card (g.met.M.Medium.coherent c.settle.new.unit) (g.met.C.Chip.coherent c.settle.new.card_a) c.settle.ensures.held.card_a.size e.left e.bare e.journal (is_err c.close.result) e.cause e.more going.span going.stands going.next
+    (here-settled r.0 false c.args.slot c.args.at (acting_at s.number (suc (length front))) run between c.args.outcome.now told c.leave.new.self D (devices U1 A1 B1) c.leave.ensures.kept moment r.2)
+    mid c.args.at c.in_ok-settle.ensures.settled.decided (told_of (with_cabin c.leave.new.self run) c.args.outcome.now) c.in_ok-settle.ensures.settled.kept (ap (λ (b : Cabin). session_of b.cards A) c.leave.ensures.kept)
+    small (ap (λ (x : Outcome). x.finds) c.in_ok-settle.ensures.settled.outcome) (ungiven_of going.span) going.cabin kept
+    c.close.new.run c.close.new.breaks k.closing (subst (λ (m : Moment). IsClosed A c.args.slot m between c.close.new.run told.breaks c.close.new.breaks k.closing) moment k.closed)
+    (subst (λ (x : ℕ). HasBroken X Y x) (sym same) fell.2) (subst (λ (u : ℕ). NotesEvents (closed_events k.closing u c.close.new.run) (is_err c.close.result) (devices U1 A1 B1) (devices V Y B1)) second notes))
+
+pub returns-in-B-clause-evented : goal.returns-in-B-clause-evented
+returns-in-B-clause-evented g c = λ late speed o done s now front rest are n allowed w events time.
+    let run = c.args.run.now in
+    let there : card_in (seat_in run.keeper.cabin.slots.seats c.args.slot) ≡ Some B = cc in
+    let D = devices (g.M.Medium.state c.args.unit.now) (g.C.Chip.state c.args.card_a.now) (g.D.Chip.state c.args.card_b.now) in
+    let between : Run = c.settle.new.run in
+    let told : Outcome = c.settle.new.outcome in
+    let U1 = g.M.Medium.state c.settle.new.unit in
+    let V = g.M.Medium.state c.close-in-B.new.unit in
+    let A1 = g.C.Chip.state c.settle.new.card_a in
+    let B1 = g.D.Chip.state c.settle.new.card_b in
+    let X = g.D.Chip.state c.settle.new.card_b in
+    let Y = g.D.Chip.state c.close-in-B.new.card in
+    let Z = A1 in
+    let left_ = subst (λ (b : Cabin). IsGoingOn (Some B) (run.next / 60) (with_cabin b run) (g.M.Medium.state c.args.unit.now) (g.C.Chip.card c.args.card_a.now) (g.D.Chip.card c.args.card_b.now) (g.C.Chip.state c.args.card_a.now) (g.D.Chip.state c.args.card_b.now)) (sym c.leave.ensures.kept)
+    (left-going c.args.slot B c.args.at.second run (run.next / 60) c.requires.going (λ from h. subst (λ (b : Cabin). Stands from (Some B) b) c.leave.ensures.kept (c.leave.ensures.stands from B there h))) in
+    let going = c.in_ok-settle.ensures.going (Some B) left_ in
+    let moment = moment-is c.args.at s.number (suc (length front)) (c.requires.at ∙ sym now.number) n late in
+    let second : c.args.at.second ≡ s.number = c.requires.at ∙ sym now.number in
+    let small : s.number < 2 ^ 32 = let low = c.requires.small in let same = now.number in omega (arith, low, same) in
+    let r = c.in_ok-settle.ensures.recorded in
+    let v = c.in_ok-settle.ensures.evented in
+    let e = c.close-in-B.ensures in
+    let k = e.events in
+    let fell = e.closed in
+    let unit_later = e.journal.later in
+    let mid = time-before B U1 V X Y Z unit_later e.clock_card time in
+    let kept = settled-evented o done s front rest c.args.slot are speed now.speed_is B run between c.args.outcome.now told D w there allowed (c.in_ok-settle.ensures.settled.minutes w.within.sp w.within.minutes) v.0 (v.1 w.within.sp w.within.minutes) false (devices U1 A1 B1)
+    (here-evented v.0 false c.args.slot c.args.at (acting_at s.number (suc (length front))) run between c.args.outcome.now told c.leave.new.self D (devices U1 A1 B1) c.leave.ensures.kept moment v.2) events mid in
+    let same = same-closing B c.args.slot c.args.at between c.close-in-B.new.run told.breaks c.close-in-B.new.breaks k.closing fell.0 k.closed fell.1 in
+    let notes = noted-any (closed_events k.closing c.args.at.second c.close-in-B.new.run) (is_err c.close-in-B.result) (devices U1 X X) (devices V Y Y) (devices U1 A1 B1) (devices V A1 Y) refl refl k.notes in
+    subst (λ (q : ℕ). EventsGoOn (is_err c.close-in-B.result) o done s w.within.b.run (In q) Acting (log_of (record told { breaks = c.close-in-B.new.breaks })) (devices V A1 Y)) (sym n)
+    (closing-evented o done s front rest c.args.slot are speed now.speed_is B run between c.args.outcome.now told D w there allowed (c.in_ok-settle.ensures.settled.minutes w.within.sp w.within.minutes) r.0 (r.1 w.within.sp w.within.minutes)
+    g.D.Chip.state U1 V Z c.settle.new.card_b c.close-in-B.new.card (g.met.M.Medium.coherent c.settle.new.unit) (g.met.D.Chip.coherent c.settle.new.card_b) c.settle.ensures.held.card_b.size e.left e.bare e.journal (is_err c.close-in-B.result) e.cause e.more going.span going.stands going.next
+    (here-settled r.0 false c.args.slot c.args.at (acting_at s.number (suc (length front))) run between c.args.outcome.now told c.leave.new.self D (devices U1 A1 B1) c.leave.ensures.kept moment r.2)
+    mid c.args.at c.in_ok-settle.ensures.settled.decided (told_of (with_cabin c.leave.new.self run) c.args.outcome.now) c.in_ok-settle.ensures.settled.kept (ap (λ (b : Cabin). session_of b.cards B) c.leave.ensures.kept)
+    small (ap (λ (x : Outcome). x.finds) c.in_ok-settle.ensures.settled.outcome) (ungiven_of going.span) going.cabin kept
+    c.close-in-B.new.run c.close-in-B.new.breaks k.closing (subst (λ (m : Moment). IsClosed B c.args.slot m between c.close-in-B.new.run told.breaks c.close-in-B.new.breaks k.closing) moment k.closed)
+    (subst (λ (x : ℕ). HasBroken X Y x) (sym same) fell.2) (subst (λ (u : ℕ). NotesEvents (closed_events k.closing u c.close-in-B.new.run) (is_err c.close-in-B.result) (devices U1 A1 B1) (devices V A1 Y)) second notes))
