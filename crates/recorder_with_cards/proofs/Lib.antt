@@ -1,5 +1,6 @@
 pub mod EnteredRings
 pub mod EnteredTold
+pub mod EnteredAdds
 pub mod EnteredEvents
 pub mod Items
 pub mod Dark
