@@ -40,10 +40,13 @@ says-of U V whole R says moments = λ c there. ⊎_elim (λ was. (c, was, same-s
 pub says-still : (U : State) → SaysNoMore U U
 says-still U = λ c there. (c, there, same-says c)
 
+quiet-cut : (U V A B C D : State) → SaysNoMore U V → NotesEvents [] true (devices U A B) (devices V C D)
+quiet-cut U V A B C D same o long [] told = λ log now unsure c there. let one = same c there in (one.0, one.1, nothing-more (number_in o) log now one.0 c one.2)
+quiet-cut U V A B C D same o long (e ∷ es) told = absurd told
+
 pub quiet-any : (U V A B C D : State) (failed : Bool) → SaysNoMore U V → NotesEvents [] failed (devices U A B) (devices V C D)
 quiet-any U V A B C D false same = quiet-noted U V A B C D same
-quiet-any U V A B C D true same o long [] told = λ log now unsure c there. let one = same c there in (one.0, one.1, nothing-more (number_in o) log now one.0 c one.2)
-quiet-any U V A B C D true same o long (e ∷ es) told = absurd told
+quiet-any U V A B C D true same = quiet-cut U V A B C D same
 
 -- a place is added to its ring
 pub adding-nothing : (head x c : List ℕ) → IsAdding unit_place_ring head x c → SaysNothing x c

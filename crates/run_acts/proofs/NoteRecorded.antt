@@ -200,6 +200,7 @@ run-on o done s at next waits fewer rest more run new out after d e first w powe
 -- as it began
 pub goes-as : (o : Origin) (done : List TraceSecond) (s : TraceSecond) (at next : Phase) (waits fewer : List Visit) (rest : List Minute) (run new : Run) (out after : Outcome) (d e : Devices) (first : ℕ) → (w : RunWithin o done s at waits rest run out d) →
     new.power ≡ run.power → new.keeper.odometer ≡ run.keeper.odometer → GoesOn o done s next fewer None [] (values_of new after) e w.within.b first → RunGoesOn o done s next fewer new after e w.within.b
+unfolding run-on
 goes-as o done s at next waits fewer rest run new out after d e first w power odometer g = record {
   goes = run-on o done s at next waits fewer rest [] run new out after d e first w power odometer g;
   began = g.began;

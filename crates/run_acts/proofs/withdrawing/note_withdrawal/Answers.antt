@@ -11,8 +11,8 @@ use Rattle.run_acts.specs.Ringing.{odometer_of, Withdraws}
 use Rattle.run_acts.proofs.Ringing.{withdrawal-gone, withdrawal-noted}
 use Rattle.run_acts.proofs.withdrawing.note_withdrawal.Goals as goal
 
-pub returns-then-noted-clause-quiet : goal.returns-then-noted-clause-quiet
-returns-then-noted-clause-quiet g c = says-still (g.M.Medium.state c.args.unit.now)
+pub returns-then-run-noted-ge-INSERTIONS-clause-quiet : goal.returns-then-run-noted-ge-INSERTIONS-clause-quiet
+returns-then-run-noted-ge-INSERTIONS-clause-quiet g c = says-still (g.M.Medium.state c.args.unit.now)
 
 pub returns-clause-quiet : goal.returns-clause-quiet
 returns-clause-quiet g c =
@@ -22,8 +22,8 @@ returns-clause-quiet g c =
 
 -- ---- the rings
 
-pub returns-then-noted-clause-rings : goal.returns-then-noted-clause-rings
-returns-then-noted-clause-rings g c = λ tells span stands.
+pub returns-then-run-noted-ge-INSERTIONS-clause-rings : goal.returns-then-run-noted-ge-INSERTIONS-clause-rings
+returns-then-run-noted-ge-INSERTIONS-clause-rings g c = λ tells span stands.
     let s : Seating = record { index = c.args.entry; behind = c.args.run.now.noted - c.args.noted } in
     let most : insertion_ring.count ≤ c.args.run.now.noted - c.args.noted = omega arith in
     withdrawal-gone s c.args.at.second (odometer_of c.args.run.now span) (g.M.Medium.state c.args.unit.now) most
