@@ -8,7 +8,14 @@ use Rattle.activity_codec.specs.declared.values.Slot.{Slot}
 use Rattle.activity_codec.specs.declared.values.Slot.TheVariants.{Driver, CoDriver}
 use Rattle.activity_codec.specs.Activity.{same_slot}
 use Rattle.trace_model.specs.declared.Card.{Card}
+use Rattle.trace_model.specs.declared.Action.{Action}
 use Rattle.trace_model.specs.Trace.{TraceSecond}
+use Rattle.run_model.specs.declared.Device.{Device}
+use Rattle.run_model.specs.declared.Device.TheVariants.{Unit as Recorder}
+use Rattle.log_model.specs.Causes.{RoseBy}
+use Rattle.unit_course.specs.Lines.{cut_at}
+use Rattle.unit_course.specs.Followed.{Lost as IsLost}
+use Rattle.run_recorded.specs.Beside.{HaveLeftMore}
 use Rattle.log_model.specs.declared.lines.Break.{Break}
 use Rattle.log_model.specs.declared.lines.Break.TheVariants.{Tear}
 use Rattle.log_model.specs.declared.lines.Find.{Find}
@@ -26,15 +33,19 @@ use Rattle.run_course.specs.Within.{IsFoundOf}
 use Rattle.run_course.proofs.Lookups.{find-more}
 use Rattle.run_course.proofs.Moments.{later-lines}
 use Rattle.run_course.specs.Followed.{Progress}
+use Rattle.run_moments.specs.Moment.{Moment}
+use Rattle.run_moments.specs.Telling.{IsMore, IsLeft}
 use Rattle.run_moments.specs.Reached.{IsUpTo, Reaches, moved_with, course_at, moved_at, IsTearAt, IsFindAt}
 use Rattle.run_moments.proofs.Reached.{lines-reached}
 use Rattle.run_moments.proofs.Lines.{who-sits, find-seen}
 use Rattle.run_events.specs.Shown.{by_kind}
 use Rattle.run_recorded.specs.Origin.{Origin}
 use Rattle.run_evented.specs.Bringing.{NotFound}
-use Rattle.run_evented.specs.Noting.{Stage}
-use Rattle.run_evented.specs.SoFar.{puts_into, Adds, NotesUnsure, BeginsNow, AreBare, ComesInTurn, IsOpenWith, MayFollow, stage_in, fault_with, judged_with, crew_at}
-use Rattle.run_evented.proofs.Adding.{steps-follow, adds-nothing, adds-as}
+use Rattle.run_evented.specs.Evented.{Evented}
+use Rattle.run_evented.specs.Noting.{Stage, Ended, NotesThese}
+use Rattle.run_evented.specs.SoFar.{puts_into, Adds, EventedNow, NotesUnsure, BeginsNow, AreBare, ComesInTurn, IsOpenWith, MayFollow, stage_in, fault_with, judged_with, crew_at}
+use Rattle.run_evented.proofs.Cutting.{failure-cuts}
+use Rattle.run_evented.proofs.Adding.{call-notes, steps-follow, adds-nothing, adds-as}
 use Rattle.run_evented.proofs.Falling.{tear-adds}
 use Rattle.run_evented.proofs.Finding.{find-adds}
 use Rattle.run_evented.proofs.Tearing.{and-none, slot-apart}
@@ -120,6 +131,38 @@ lost-kinds speed session u accepted left = by (nat_lt 0 speed) (nat_eq session 0
     by true false = ((3, omega arith, refl), ((7, omega arith, refl), ((4, omega arith, refl), tt)))
     by false true = ((7, omega arith, refl), tt)
     by false false = ((7, omega arith, refl), ((4, omega arith, refl), tt))
+
+-- ---- WHICH NOTES THESE ARE
+told-in : (number : Card → List ℕ) (notes : List UnitNote) (events : List Event) → TellEvents number notes events → AreTold number (events_in notes) events
+told-in number [] [] told = tt
+told-in number [] (e ∷ events) told = absurd told
+told-in number (Inserts insertion ∷ notes) events told = told-in number notes events told
+told-in number (BeginsRow card session spared ∷ notes) events told = told-in number notes events told
+told-in number (Tells v ∷ notes) [] told = absurd told
+told-in number (Tells v ∷ notes) (e ∷ events) told = (told.0, told-in number notes events told.1)
+
+pub ending-told : (number : Card → List ℕ) (second : ℕ) → second < 2 ^ 32 → (e : Entering) → e.at.second ≡ second → (ending : Ending) (noted : ℕ) (cabin : Cabin) (beforehand accepted left : Crew) → IsLow ending → AreNamed number ending e noted cabin beforehand accepted left →
+    AreTold number (events_in (notes_by ending e noted cabin)) (events_by ending e.speed second beforehand accepted left)
+ending-told number second low e at ending noted cabin beforehand accepted left small named =
+    subst (λ (u : ℕ). AreTold number (events_in (notes_by ending e noted cabin)) (events_by ending e.speed u beforehand accepted left)) at
+    (told-in number (notes_by ending e noted cabin) (events_by ending e.speed e.at.second beforehand accepted left) (events-told number second low e at ending noted cabin beforehand accepted left small named))
+
+-- what was noted is what was added, but where the unit failed as an insertion was to be noted: then nothing was
+pub noted-or : (ending : Ending) (speed second : ℕ) (beforehand accepted left : Crew) → (events_by ending speed second beforehand accepted left ≡ added_by ending speed second beforehand accepted left) ⊎ (events_by ending speed second beforehand accepted left ≡ [])
+noted-or (Unfit fid place) speed second beforehand accepted left = inl refl
+noted-or (Ahead stored) speed second beforehand accepted left = inl refl
+noted-or Fell speed second beforehand accepted left = inl refl
+noted-or Unasked speed second beforehand accepted left = inl refl
+noted-or (Unnoted entered clock) speed second beforehand accepted left = inr refl
+noted-or (Seated entered clock entry) speed second beforehand accepted left = inl refl
+noted-or (Lost entered clock entry) speed second beforehand accepted left = inl refl
+
+-- so it is noted, or the unit failed in that
+pub unsure-added : (o : Origin) (ending : Ending) (speed second : ℕ) (beforehand accepted left : Crew) (d e : Devices) → NotesSo true o (events_by ending speed second beforehand accepted left) d e → NotesUnsure o (added_by ending speed second beforehand accepted left) d e
+unsure-added o ending speed second beforehand accepted left d e notes log now unsure = notes log now (⊎_elim
+    (λ same. subst (AllByRecursion (λ (g : Event). are_sure log (now g.kind) ≡ true → ⊥)) (sym same) unsure)
+    (λ gone. subst (AllByRecursion (λ (g : Event). are_sure log (now g.kind) ≡ true → ⊥)) (sym gone) tt)
+    (noted-or ending speed second beforehand accepted left))
 
 -- ---- WHAT IT ADDS
 module _ (d : Devices) (o : Origin) (done : List TraceSecond) (p : Progress) (span : List Told) (s : TraceSecond) (b : BeginsNow o done p span s) (n : ℕ) (log : RunLog) (r : Reaches p s (In n) log) (e : Entering) (second : e.at.second ≡ s.number) (begun : e.at.begun ≡ n)
@@ -310,34 +353,31 @@ module _ (d : Devices) (o : Origin) (done : List TraceSecond) (p : Progress) (sp
       subst (λ (l : RunLog). AddsTo l (moving_events s.speed s.number with_it ++ unclosed_events entered.look.session s.number with_it)) (found-only (find_of e (verdict.Accepted entered.replayed))) (accepted-adds entered.replayed entered.look.session opened)
   ending-adds (Lost entered clock entry) opened moves = lost-adds entered.replayed entered.look.session opened moves
 
--- ---- WHICH NOTES THESE ARE
-told-in : (number : Card → List ℕ) (notes : List UnitNote) (events : List Event) → TellEvents number notes events → AreTold number (events_in notes) events
-told-in number [] [] told = tt
-told-in number [] (e ∷ events) told = absurd told
-told-in number (Inserts insertion ∷ notes) events told = told-in number notes events told
-told-in number (BeginsRow card session spared ∷ notes) events told = told-in number notes events told
-told-in number (Tells v ∷ notes) [] told = absurd told
-told-in number (Tells v ∷ notes) (e ∷ events) told = (told.0, told-in number notes events told.1)
+  -- and its lines are of the moment
+  pub ending-reached : (ending : Ending) → Reaches p s (In n) (log_with ending e log)
+  ending-reached (Unfit fid place) = subst (Reaches p s (In n)) (found-only (find_of e (verdict.NotValid fid place))) ((lines-reached p s (In n) log r).1 (find_of e (verdict.NotValid fid place)) (found-at (verdict.NotValid fid place)))
+  ending-reached (Ahead stored) =
+      subst (Reaches p s (In n)) (found-only (find_of e (verdict.TimeOverlap stored e.at.second))) ((lines-reached p s (In n) log r).1 (find_of e (verdict.TimeOverlap stored e.at.second)) (found-at (verdict.TimeOverlap stored e.at.second)))
+  ending-reached Fell = subst (Reaches p s (In n)) (torn-only (tear_of e.slot e.at)) ((lines-reached p s (In n) log r).0 e.slot true (tear_of e.slot e.at) torn-at)
+  ending-reached Unasked = subst (Reaches p s (In n)) no-lines r
+  ending-reached (Unnoted entered clock) = subst (Reaches p s (In n)) (found-only (find_of e (verdict.Accepted entered.replayed))) (reached entered.replayed)
+  ending-reached (Seated entered clock entry) = subst (Reaches p s (In n)) (found-only (find_of e (verdict.Accepted entered.replayed))) (reached entered.replayed)
+  ending-reached (Lost entered clock entry) = (lines-reached p s (In n) (log1 entered.replayed) (reached entered.replayed)).0 e.slot true (tear_of e.slot e.at) torn-at
 
-pub ending-told : (number : Card → List ℕ) (second : ℕ) → second < 2 ^ 32 → (e : Entering) → e.at.second ≡ second → (ending : Ending) (noted : ℕ) (cabin : Cabin) (beforehand accepted left : Crew) → IsLow ending → AreNamed number ending e noted cabin beforehand accepted left →
-    AreTold number (events_in (notes_by ending e noted cabin)) (events_by ending e.speed second beforehand accepted left)
-ending-told number second low e at ending noted cabin beforehand accepted left small named =
-    subst (λ (u : ℕ). AreTold number (events_in (notes_by ending e noted cabin)) (events_by ending e.speed u beforehand accepted left)) at
-    (told-in number (notes_by ending e noted cabin) (events_by ending e.speed e.at.second beforehand accepted left) (events-told number second low e at ending noted cabin beforehand accepted left small named))
+  -- IT IS NOTED: the second goes on;
+  pub judged-goes : (old : Devices) (ending : Ending) → IsOpened ending o e.which d → (n ≡ 0 → FallsMoving ending s.speed) → EventedNow o done s p (stage_in n) log old → NotesSo false o (events_by ending s.speed s.number bare with_it bare) old d →
+      events_by ending s.speed s.number bare with_it bare ≡ added_by ending s.speed s.number bare with_it bare → HaveLeftMore o old d → EventedNow o done s p (stage_in n) (log_with ending e log) d
+  judged-goes old ending opened moves now notes same left =
+      call-notes old d o done s p (stage_in n) (stage_in n) log (log_with ending e log) (added_by ending s.speed s.number bare with_it bare) now (ending-adds ending opened moves) (subst (λ (es : List Event). NotesThese o es old d) same notes) left
 
--- what was noted is what was added, but where the unit failed as an insertion was to be noted: then nothing was
-pub noted-or : (ending : Ending) (speed second : ℕ) (beforehand accepted left : Crew) → (events_by ending speed second beforehand accepted left ≡ added_by ending speed second beforehand accepted left) ⊎ (events_by ending speed second beforehand accepted left ≡ [])
-noted-or (Unfit fid place) speed second beforehand accepted left = inl refl
-noted-or (Ahead stored) speed second beforehand accepted left = inl refl
-noted-or Fell speed second beforehand accepted left = inl refl
-noted-or Unasked speed second beforehand accepted left = inl refl
-noted-or (Unnoted entered clock) speed second beforehand accepted left = inr refl
-noted-or (Seated entered clock entry) speed second beforehand accepted left = inl refl
-noted-or (Lost entered clock entry) speed second beforehand accepted left = inl refl
-
--- so it is noted, or the unit failed in that
-pub unsure-added : (o : Origin) (ending : Ending) (speed second : ℕ) (beforehand accepted left : Crew) (d e : Devices) → NotesSo true o (events_by ending speed second beforehand accepted left) d e → NotesUnsure o (added_by ending speed second beforehand accepted left) d e
-unsure-added o ending speed second beforehand accepted left d e notes log now unsure = notes log now (⊎_elim
-    (λ same. subst (AllByRecursion (λ (g : Event). are_sure log (now g.kind) ≡ true → ⊥)) (sym same) unsure)
-    (λ gone. subst (AllByRecursion (λ (g : Event). are_sure log (now g.kind) ≡ true → ⊥)) (sym gone) tt)
-    (noted-or ending speed second beforehand accepted left))
+  -- or the unit failed in that, and the cut that is told ends it.
+  pub judged-cut : (old : Devices) (ending : Ending) → IsOpened ending o e.which d → (n ≡ 0 → FallsMoving ending s.speed) → EventedNow o done s p (stage_in n) log old → NotesSo true o (events_by ending s.speed s.number bare with_it bare) old d → HaveLeftMore o old d →
+      (waits : List Visit) (mid now after : Device → ℕ) → Moment p before s (In n) (log_with ending e log) waits mid now → IsMore now after → RoseBy 1 (mid Recorder) (after Recorder) → (rest : List Action) → IsLeft s (In n) rest →
+      Evented o (done ++ s ∷ []) (and_break (log_with ending e log) (cut_at s.number true n)) p.unfound (suc p.next) IsLost d
+  judged-cut old ending opened moves now notes left waits mid counted after m rose broke rest is_left =
+      failure-cuts old d o done p span s b (stage_in n) (stage_in n) log (log_with ending e log) (added_by ending s.speed s.number bare with_it bare) now (ending-adds ending opened moves)
+      (unsure-added o ending s.speed s.number bare with_it bare old d notes) left (In n) waits mid counted after m rose broke rest is_left (λ ended. absurd (going n ended))
+    where
+      going : (k : ℕ) → stage_in k ≡ Ended → ⊥
+      going zero ended = absurd (cc)
+      going (suc k) ended = absurd (cc)
