@@ -26,13 +26,13 @@ more-uncut xs ys zero_cuts = let all = cuts-behind xs ys in omega (arith, all, z
 
 -- so no breakdown is told
 pub uncut-broke : (before after : List Break) (old new : State) (failed : Bool) → HasCause old new failed → failed_cuts after ≡ failed_cuts before → BreaksDown before after old new
-uncut-broke before after old new failed cause same = broke-same {before} {after} {old} {new} same cause.breakdowns
+uncut-broke before after old new failed cause same = broke-same {before = before} {after = after} {old = old} {new = new} same cause.breakdowns
 
 -- or a failed call broke the unit down, and is told as a cut behind them
 pub cut-broke : (before between after : List Break) (second begun : ℕ) (old new : State) (failed : Bool) → old.works ≡ true → HasCause old new failed → failed ≡ true → failed_cuts between ≡ failed_cuts before
     → after ≡ between ++ cut_at second true begun ∷ [] → BreaksDown before after old new
 cut-broke before between after second begun old new failed works cause failing same is =
-    let once = broke-once {between} {after} second begun {old} {new} is (cause.breaks works failing) in
+    let once = broke-once {before = between} {after = after} second begun {old = old} {new = new} is (cause.breaks works failing) in
     let few = once.few in
     let broke = once.broke in
     record { few = omega (arith, same, few); broke = omega (arith, same, broke) }

@@ -24,8 +24,9 @@ use Rattle.recorder_with_cards.proofs.WholeOdometer.{all-there}
 use Rattle.recorder_with_cards.specs.Ends.{BeginAs, MayRecord, EndsTrace, IsKeptFrom}
 use Rattle.run_outcome.specs.declared.outcome.Outcome.{Outcome}
 use Rattle.tacho.specs.declared.end.Fault.{Fault}
-use Rattle.tacho.specs.declared.end.Fault.TheVariants.{Done, WriteFault}
-use Rattle.tacho.specs.Outside.{Outside}
+use Rattle.tacho.specs.declared.end.Fault.TheVariants.{Done, WriteFault, MediumFault}
+use Rattle.tacho.specs.Outside.{Outside, memory_of}
+use Rattle.tacho.specs.Program.{HasCauses}
 use Rattle.tacho.specs.Outcomes.{IsEmpty, IsRun, IsRefusal, IsTold}
 use Rattle.tacho.specs.CardsRecorded.{refusal_with_cards, devices_of, StartWith, AreSound, HaveCounts, IsTurnedAway, IsRefusedBy, EndsWithCards}
 use Rattle.tacho.proofs.Recordings.{none-bad, refused-no-run}
@@ -47,6 +48,34 @@ none-caused old new x a b start (run.MediumFault CardB) sound may h = sound.card
 none-caused old new x a b start (run.BadUnit place) sound may h = none-bad x place may.decodes h.cause
 none-caused old new x a b start (run.ClockBack kept second) sound may h = let p = may.later in let q = h.cause.1 in let r = h.cause.3 in omega (arith, p, q, r)
 none-caused old new x a b start (run.SameCard number) sound may h = may.numbers (h.cause.2 A).0 (h.cause.2 B).0 ((h.cause.2 A).1 ∙ sym (h.cause.2 B).1)
+
+-- the cause of a refusal that names a device
+refused-cause : (old new : Outside) (start : ℕ) (before after : Outcome) (fault : RunFault)
+    → IsRefusedAt start before after old.unit new.unit old.card_a.memory new.card_a.memory old.card_b.memory new.card_b.memory fault
+    → (device : Device) → refusal_with_cards fault ≡ MediumFault device → Rose (memory_of device old).faults (memory_of device new).faults
+refused-cause old new start before after (run.MediumFault OfUnit) h device is =
+    let same : OfUnit ≡ device = cc in
+    subst (λ (d : Device). Rose (memory_of d old).faults (memory_of d new).faults) same (⊎_elim (λ was. was.0.0) (λ late. absurd late) h)
+refused-cause old new start before after (run.MediumFault CardA) h device is =
+    let same : CardA ≡ device = cc in
+    subst (λ (d : Device). Rose (memory_of d old).faults (memory_of d new).faults) same (⊎_elim (λ was. was.0.0) (λ late. absurd late) h)
+refused-cause old new start before after (run.MediumFault CardB) h device is =
+    let same : CardB ≡ device = cc in
+    subst (λ (d : Device). Rose (memory_of d old).faults (memory_of d new).faults) same (⊎_elim (λ was. was.0.0) (λ late. absurd late) h)
+refused-cause old new start before after (run.BadUnit place) h device is = absurd (cc)
+refused-cause old new start before after (run.ClockBack kept second) h device is = absurd (cc)
+refused-cause old new start before after (run.SameCard number) h device is = absurd (cc)
+
+pub refused-causes : (old new : Outside) (start : ℕ) (before after : Outcome) (fault : RunFault)
+    → IsRefusedAt start before after old.unit new.unit old.card_a.memory new.card_a.memory old.card_b.memory new.card_b.memory fault
+    → old.source.faults ≤ new.source.faults → old.sink.faults ≤ new.sink.faults → HasCauses old new (refusal_with_cards fault)
+refused-causes old new start before after fault h source sink = record {
+  read_fault = λ is. absurd (subst IsRefusal is (cards-refusal fault));
+  write_fault = λ is. absurd (subst IsRefusal is (cards-refusal fault));
+  medium_fault = λ device is. refused-cause old new start before after fault h device is;
+  reads = source;
+  writes = sink;
+}
 
 -- when a trace was refused, where the outcome had no line
 pub refused-when : (start : ℕ) (before after : Outcome) (U V X Y Z W : State) (by : RunFault) → IsEmpty before → IsRefusedAt start before after U V X Y Z W by

@@ -104,7 +104,7 @@ module _ (old new : Outside) (outcome : Outcome) (start : ℕ) (items : List Ite
   unit-refused (run.ClockBack kept second) of_unit broke when refused =
       let found : (x : List ℕ) → Starts x old.unit new.unit → Decodes x × (last_kept x ≡ kept) = λ x starts.
       let r = refused x starts.alone starts.clock in still x old.unit new.unit (λ y. Decodes y × (last_kept y ≡ kept)) whole whole_new starts.alone r.1 r.0.2 in
-      let when : (x : List ℕ) → Starts x old.unit new.unit → (second ≡ start) × (start / 60 ≤ kept) = λ x starts.
+      let at : (x : List ℕ) → Starts x old.unit new.unit → (second ≡ start) × (start / 60 ≤ kept) = λ x starts.
       let r = refused x starts.alone starts.clock in (r.0.0, r.0.1) in
       record {
         for_unit = only-lines;
@@ -114,18 +114,18 @@ module _ (old new : Outside) (outcome : Outcome) (start : ℕ) (items : List Ite
         bad_unit = λ p x starts is. absurd (cc);
         clock_back = λ k t x starts is.
             let e : kept ≡ k = cc in let f : second ≡ t = cc in
-            let have = found x starts in let w = when x starts in
+            let have = found x starts in let w = at x starts in
             (have.0, have.1 ∙ e, subst (λ (u : ℕ). u / 60 ≤ k) (sym w.0 ∙ f) (subst (λ (u : ℕ). start / 60 ≤ u) e w.1));
         refused = λ x starts is. let r = refused x starts.alone starts.clock in (r.1, r.2);
         records = λ s is x told starts sound decodes late.
             let same = (is_read told.text s is told.told told.trace).0 in
-            let kept_is = (found x starts).1 in let w = (when x starts).1 in
+            let kept_is = (found x starts).1 in let w = (at x starts).1 in
             let late_here : last_kept x < start / 60 = subst (λ (u : ℕ). last_kept x < u / 60) (sym same) late in
             absurd (omega (arith, late_here, kept_is, w));
         finds_bad_unit = λ s is x p told starts sound bad. absurd (none-bad x p (found x starts).0 bad);
         finds_clock_back = λ s is x told starts sound decodes back.
             let same = (is_read told.text s is told.told told.trace).0 in
-            let kept_is = (found x starts).1 in let w = (when x starts).0 in
+            let kept_is = (found x starts).1 in let w = (at x starts).0 in
             ap (λ (k : ℕ). ClockBack k second) (sym kept_is) ∙ ap (ClockBack (last_kept x)) (w ∙ same);
         broke = broke;
         early = λ s is told ref. record { by = (run.ClockBack kept second); is = refl; when = on-read (run.ClockBack kept second) when s is told };
@@ -198,13 +198,13 @@ unit-run old new outcome start items for_unit is_read recorded caused begun brok
           λ y left. (w.1 y left, whole-odometer Original cards (run_log outcome) s (seconds_of s is) (seconds-order s is) w.0 (days_in x) (odometer_at x) y (w.1 y left) (f.odometer y left)),
         )
 
-    unbroken_as : (x : List ℕ) → Starts x old.unit new.unit → IsSound old new → HaveCounts old → (cuts true (run_log outcome) ≡ []) × (tears true (run_log outcome) ≡ [])
-    unbroken_as x starts sound counts = none-failed NoVerdict (breakdowns_in old) (breakdowns_in new) _ (run_log outcome) counts (none_broke sound) (caused x starts.alone starts.clock)
-
     none_broke : IsSound old new → (device : Device) → breakdowns_in new device ≡ breakdowns_in old device
     none_broke sound OfUnit = ⊎_elim (λ failed. absurd (sound.unit failed)) (λ same. same) unit_unbroken
     none_broke sound CardA = ap (λ (s : State). s.breakdowns) same_a
     none_broke sound CardB = ap (λ (s : State). s.breakdowns) same_b
+
+    unbroken_as : (x : List ℕ) → Starts x old.unit new.unit → IsSound old new → HaveCounts old → (cuts true (run_log outcome) ≡ []) × (tears true (run_log outcome) ≡ [])
+    unbroken_as x starts sound counts = none-failed NoVerdict (breakdowns_in old) (breakdowns_in new) _ (run_log outcome) counts (none_broke sound) (caused x starts.alone starts.clock)
 
     of_trace : (s : ℕ) (is : List Item) (x : List ℕ) → (start ≡ s) × (items ≡ is) → IsRecorded x start items old.unit.clock outcome new.unit → IsRecorded x s is old.unit.clock outcome new.unit
     of_trace s is x same h = subst (λ (t : ℕ). IsRecorded x t is old.unit.clock outcome new.unit) same.0 (subst (λ (l : List Item). IsRecorded x start l old.unit.clock outcome new.unit) same.1 h)

@@ -2,7 +2,7 @@ use Rattle.std.proofs.Common.{ap, subst, sym, arith, refl, inl, inr}
 use Rattle.tacho.specs.Outcomes.{IsEmpty}
 use Rattle.tacho.proofs.Recordings.{reserved-empty, ends-unread, ends-reserving, ends-refused, ends-run}
 use Rattle.tacho.proofs.UnitRuns.{refused-on-unit, of-unit, unit-refused, unit-refusal, unit-run}
-use Rattle.tacho.proofs.CardRuns.{refused-when, cards-refused, cards-refusal, cards-run}
+use Rattle.tacho.proofs.CardRuns.{refused-when, refused-causes, cards-refused, cards-refusal, cards-run}
 use Rattle.tacho.proofs.record_command.record.Goals as goal
 
 pub returns-in-Err-record_on_unit-clause-ends : goal.returns-in-Err-record_on_unit-clause-ends
@@ -48,3 +48,10 @@ returns-clause-ends g c =
     (λ fault ran rose. inr (inr (cards-run _ _ c.run_trace-2.new.outcome c.in-Ok.trace.start c.in-Ok.trace.items (c.is_for_unit.ensures.card c.if-is_for_unit.false) f.later f.broke e.reads
     (λ x a b begins clocks. f.recorded x a b begins clocks (omega (arith, e.few))) f.begun fault ran rose)))
     c.print_outcome-2.ensures.ok c.print_outcome-2.ensures.err c.print_outcome-2.ensures.cause
+
+-- ---- the cause of a refusal
+
+pub returns-in-Err-record_with_cards-clause-causes : goal.returns-in-Err-record_with_cards-clause-causes
+returns-in-Err-record_with_cards-clause-causes g c =
+    rw c.refusal_with_cards.ensures
+    (refused-causes _ _ c.in-Ok.trace.start c.in-Ok-reserve.reserved c.run_trace-2.new.outcome c.in-Err-record_with_cards.fault c.in-Err-record_with_cards.ensures.refused (omega arith) (omega arith))
