@@ -1,5 +1,7 @@
 pub mod EnteredRings
 pub mod EnteredTold
+pub mod EnteredAdds
+pub mod EnteredNamed
 pub mod EnteredEvents
 pub mod Items
 pub mod Dark
