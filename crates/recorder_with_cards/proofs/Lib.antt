@@ -37,5 +37,6 @@ pub mod WakeNoted
 pub mod Staying
 pub mod ActsEvented
 pub mod SecondsEvented
+pub mod BegunEvented
 pub mod Uncut
 pub mod WholeOdometer
