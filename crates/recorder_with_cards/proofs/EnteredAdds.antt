@@ -26,7 +26,13 @@ use Rattle.log_model.specs.Slots.{Slots, Sitting, in_slot, other_slot}
 use Rattle.log_model.specs.Course.{Told, Visit, Course, Before, card_in, with_slot, visits, went}
 use Rattle.event_model.specs.declared.kinds.TheConstants.{CARD_NOT_VALID, TIME_OVERLAP, INSERTION_WHILE_DRIVING, SESSION_NOT_CLOSED, CARD_FAULT}
 use Rattle.event_model.specs.Events.{Event, Crew, Tearing, accepted_card, crew_of, with_card, noted_with}
-use Rattle.safety_model.specs.Safe.{Devices}
+use Rattle.card_layout.specs.declared.files.Application.{Application}
+use Rattle.card_image.specs.Fields.{session_time}
+use Rattle.card_image.specs.Own.{own_sizes}
+use Rattle.card_judge.specs.declared.looking.CardLook.{CardLook}
+use Rattle.card_judge.specs.Judged.{IsLook}
+use Rattle.safety_model.specs.Safe.{Devices, card_of}
+use Rattle.run_rule.specs.Found.{found_of}
 use Rattle.event_course.specs.Shown.{all_kinds}
 use Rattle.run_course.specs.Moments.{and_break, and_find, finds_here}
 use Rattle.run_course.specs.Within.{IsFoundOf}
@@ -53,6 +59,7 @@ use Rattle.run_evented.proofs.Waking.{waking-tear_adds}
 use Rattle.run_evented.proofs.Noting.{by-more}
 use Rattle.run_keeping.specs.Keeping.{tear_of}
 use Rattle.run_entering.specs.declared.lines.Entering.{Entering}
+use Rattle.run_entering.specs.Entered.{IsFound}
 use Rattle.run_entering.specs.Entering.{Ending, Unfit, Ahead, Fell, Unasked, Unnoted, Seated, Lost, find_of, finds_by, breaks_by}
 use Rattle.run_acts.specs.NotedEvents.{AreTold, NotesSo}
 use Rattle.run_crew.specs.declared.cabin.Cabin.{Cabin}
@@ -85,6 +92,20 @@ IsOpened Unasked o card d = Unit {0}
 IsOpened (Unnoted entered clock) o card d = IsOpenWith o card (verdict.Accepted entered.replayed) entered.look.session d
 IsOpened (Seated entered clock entry) o card d = IsOpenWith o card (verdict.Accepted entered.replayed) entered.look.session d
 IsOpened (Lost entered clock entry) o card d = IsOpenWith o card (verdict.Accepted entered.replayed) entered.look.session d
+
+-- the image that it was told by, which a stop might have left
+pub opened-by : (o : Origin) (card : Card) (d : Devices) (v : Verdict) (app : Application) (look : CardLook) (x : List ℕ) → (card_of d card).left_since (found_of o.found card).began x → own_sizes x ≡ app → IsLook app x look → IsOpenWith o card v look.session d
+opened-by o card d v app look x left own is = λ accepts. (x, left, ap (λ (a : Application). session_time a x) own ∙ sym is.session)
+
+-- so it was opened, by the image that was found of it
+pub ending-opened : (o : Origin) (card : Card) (d : Devices) (app : Application) (second : ℕ) (unit : Option (List ℕ)) (x : List ℕ) → (card_of d card).left_since (found_of o.found card).began x → own_sizes x ≡ app → (ending : Ending) → IsFound app second unit ending x → IsOpened ending o card d
+ending-opened o card d app second unit x left own (Unfit fid place) found = tt
+ending-opened o card d app second unit x left own (Ahead stored) found = tt
+ending-opened o card d app second unit x left own Fell found = tt
+ending-opened o card d app second unit x left own Unasked found = tt
+ending-opened o card d app second unit x left own (Unnoted entered clock) found = opened-by o card d (verdict.Accepted entered.replayed) app entered.look x left own found.looked
+ending-opened o card d app second unit x left own (Seated entered clock entry) found = opened-by o card d (verdict.Accepted entered.replayed) app entered.look x left own found.looked
+ending-opened o card d app second unit x left own (Lost entered clock entry) found = opened-by o card d (verdict.Accepted entered.replayed) app entered.look x left own found.looked
 
 -- an accepted card falls at a power-on where the vehicle moves alone
 abbrev pub FallsMoving : Ending → (speed : ℕ) → Type 0

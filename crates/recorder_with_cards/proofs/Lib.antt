@@ -2,6 +2,7 @@ pub mod EnteredRings
 pub mod EnteredTold
 pub mod EnteredAdds
 pub mod EnteredNamed
+pub mod Spanned
 pub mod EnteredEvents
 pub mod Items
 pub mod Dark
