@@ -364,6 +364,7 @@ comes-waking o done s b waits untold run out d w =
 pub codriver-power : (o : Origin) (done : List TraceSecond) (s : TraceSecond) (b : Beginning) (card : Option Card) (old : Run) (before : Outcome) (d : Devices) → RunWaking o done s b (waiting_in CoDriver card) (CoDriver ∷ []) old before d →
     card_in old.keeper.cabin.slots.seats.codriver ≡ card → IsBare old.keeper.cabin.slots.seats.codriver → (at : Moment) → at ≡ moment_in s 0 → (speed : ℕ) (failed : Bool) (new : Run) (after : Outcome) →
     IsAnew card CoDriver at speed old new before after → (e : Devices) → HaveTime e → JudgesAnew card CoDriver at failed old new before after d e → failed ≡ false → ComesPower done after
+unfolding codriver-next
 codriver-power o done s b None old before d w is bare at now speed failed new after anew e time judges well =
     subst (λ (q : Outcome). ComesPower done q) (sym anew.1) (comes-waking o done s b [] (CoDriver ∷ []) old before d w)
 codriver-power o done s b (Some card) old before d w is bare at now speed failed new after anew e time judges well =
