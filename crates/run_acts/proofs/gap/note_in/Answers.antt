@@ -209,9 +209,11 @@ returns-in-A-clause-events g c =
     let run = c.args.run.now in
     let n = c.note_on.ensures.events in
     let there : card_in (seat_in run.keeper.cabin.slots.seats c.args.slot) ≡ Some A = cc in
+    let told : number_of_seat run.keeper.cabin.cards (seat_in run.keeper.cabin.slots.seats c.args.slot) ≡ Some c.in-Some-number_in.field-0 = cc in
+    let some = numbered-session run.keeper.cabin.cards (seat_in run.keeper.cabin.slots.seats c.args.slot) A c.in-Some-number_in.field-0 there told in
     record {
       fell = n.fell;
-      noted = subst (λ (o : Option Card). IsNotedIn o c.args.slot (now_moment run) run c.note_on.new.run c.args.breaks.now c.note_on.new.breaks n.fell) (sym there) n.noted;
+      noted = subst (λ (o : Option Card). IsNotedIn o c.args.slot (now_moment run) run c.note_on.new.run c.args.breaks.now c.note_on.new.breaks n.fell) (sym there) (n.noted, λ fell. some);
       failing = n.failing;
       notes = noted-any (fall_events n.fell run.next c.note_on.new.run) (is_err c.note_on.result) (devices (g.M.Medium.state c.args.unit.now) (g.C.Chip.state c.args.card_a.now) (g.C.Chip.state c.args.card_a.now)) (devices (g.M.Medium.state c.note_on.new.unit) (g.C.Chip.state c.note_on.new.card) (g.C.Chip.state c.note_on.new.card)) (devices (g.M.Medium.state c.args.unit.now) (g.C.Chip.state c.args.card_a.now) (g.D.Chip.state c.args.card_b.now)) (devices (g.M.Medium.state c.note_on.new.unit) (g.C.Chip.state c.note_on.new.card) (g.D.Chip.state c.args.card_b.now)) refl refl n.notes;
     }
@@ -221,16 +223,54 @@ returns-in-B-clause-events g c =
     let run = c.args.run.now in
     let n = c.note_on-in-B.ensures.events in
     let there : card_in (seat_in run.keeper.cabin.slots.seats c.args.slot) ≡ Some B = cc in
+    let told : number_of_seat run.keeper.cabin.cards (seat_in run.keeper.cabin.slots.seats c.args.slot) ≡ Some c.in-Some-number_in.field-0 = cc in
+    let some = numbered-session run.keeper.cabin.cards (seat_in run.keeper.cabin.slots.seats c.args.slot) B c.in-Some-number_in.field-0 there told in
     record {
       fell = n.fell;
-      noted = subst (λ (o : Option Card). IsNotedIn o c.args.slot (now_moment run) run c.note_on-in-B.new.run c.args.breaks.now c.note_on-in-B.new.breaks n.fell) (sym there) n.noted;
+      noted = subst (λ (o : Option Card). IsNotedIn o c.args.slot (now_moment run) run c.note_on-in-B.new.run c.args.breaks.now c.note_on-in-B.new.breaks n.fell) (sym there) (n.noted, λ fell. some);
       failing = n.failing;
       notes = noted-any (fall_events n.fell run.next c.note_on-in-B.new.run) (is_err c.note_on-in-B.result) (devices (g.M.Medium.state c.args.unit.now) (g.D.Chip.state c.args.card_b.now) (g.D.Chip.state c.args.card_b.now)) (devices (g.M.Medium.state c.note_on-in-B.new.unit) (g.D.Chip.state c.note_on-in-B.new.card) (g.D.Chip.state c.note_on-in-B.new.card)) (devices (g.M.Medium.state c.args.unit.now) (g.C.Chip.state c.args.card_a.now) (g.D.Chip.state c.args.card_b.now)) (devices (g.M.Medium.state c.note_on-in-B.new.unit) (g.C.Chip.state c.args.card_a.now) (g.D.Chip.state c.note_on-in-B.new.card)) refl refl n.notes;
     }
 
 noted-not : (o : Option Card) (slot : Slot) (at : Moment) (run : Run) (breaks : Listed Break) → IsNotedIn o slot at run run breaks breaks false
-noted-not None slot at run breaks = (refl, refl)
-noted-not (Some card) slot at run breaks = record { run = refl; told = no-lines breaks }
+noted-not None slot at run breaks = (refl, refl, refl)
+noted-not (Some card) slot at run breaks = (record { run = refl; told = no-lines breaks }, λ fell. absurd (let bad : false ≡ true = fell in cc))
+
+-- ---- by value
+
+pub returns-in-A-clause-noted : goal.returns-in-A-clause-noted
+returns-in-A-clause-noted g c =
+    let run = c.args.run.now in
+    let n = c.note_on.ensures.events in
+    let there : card_in (seat_in run.keeper.cabin.slots.seats c.args.slot) ≡ Some A = cc in
+    let told : number_of_seat run.keeper.cabin.cards (seat_in run.keeper.cabin.slots.seats c.args.slot) ≡ Some c.in-Some-number_in.field-0 = cc in
+    let some = numbered-session run.keeper.cabin.cards (seat_in run.keeper.cabin.slots.seats c.args.slot) A c.in-Some-number_in.field-0 there told in (
+      n.fell,
+      subst (λ (o : Option Card). IsNotedIn o c.args.slot (now_moment run) run c.note_on.new.run c.args.breaks.now c.note_on.new.breaks n.fell) (sym there) (n.noted, λ fell. some),
+      n.failing,
+    )
+
+pub returns-in-B-clause-noted : goal.returns-in-B-clause-noted
+returns-in-B-clause-noted g c =
+    let run = c.args.run.now in
+    let n = c.note_on-in-B.ensures.events in
+    let there : card_in (seat_in run.keeper.cabin.slots.seats c.args.slot) ≡ Some B = cc in
+    let told : number_of_seat run.keeper.cabin.cards (seat_in run.keeper.cabin.slots.seats c.args.slot) ≡ Some c.in-Some-number_in.field-0 = cc in
+    let some = numbered-session run.keeper.cabin.cards (seat_in run.keeper.cabin.slots.seats c.args.slot) B c.in-Some-number_in.field-0 there told in (
+      n.fell,
+      subst (λ (o : Option Card). IsNotedIn o c.args.slot (now_moment run) run c.note_on-in-B.new.run c.args.breaks.now c.note_on-in-B.new.breaks n.fell) (sym there) (n.noted, λ fell. some),
+      n.failing,
+    )
+
+pub returns-in_default-clause-noted : goal.returns-in_default-clause-noted
+returns-in_default-clause-noted g c =
+    let run = c.args.run.now in
+    (false, noted-not (card_in (seat_in run.keeper.cabin.slots.seats c.args.slot)) c.args.slot (now_moment run) run c.args.breaks.now, λ bad. bad)
+
+pub returns-in_default-number_in-clause-noted : goal.returns-in_default-number_in-clause-noted
+returns-in_default-number_in-clause-noted g c =
+    let run = c.args.run.now in
+    (false, noted-not (card_in (seat_in run.keeper.cabin.slots.seats c.args.slot)) c.args.slot (now_moment run) run c.args.breaks.now, λ bad. bad)
 
 pub returns-in_default-clause-events : goal.returns-in_default-clause-events
 returns-in_default-clause-events g c =
