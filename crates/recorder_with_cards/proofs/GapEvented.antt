@@ -61,7 +61,7 @@ use Rattle.run_acts.specs.Named.{CrewValid, NamesValid}
 use Rattle.run_acts.specs.Recording.{IsOrigin, log_of, values_of, RunWithin}
 use Rattle.run_acts.specs.Evented.{EventsGoOn}
 use Rattle.run_acts.proofs.EventCrews.{all-well, sitting-named, sessions-known, faults-told}
-use Rattle.run_acts.proofs.FallEvented.{IsFailing}
+use Rattle.run_acts.specs.ActsEvented.{IsFailing}
 use Rattle.run_acts.proofs.Named.{crew-valid, without-valid, both-valid}
 use Rattle.run_acts.proofs.Numbers.{notes-at}
 use Rattle.run_acts.proofs.RoundFaults.{told-both}

@@ -56,7 +56,7 @@ use Rattle.run_acts.specs.NotedEvents.{NotesEvents}
 use Rattle.run_acts.specs.Power.{IsSpanBegun}
 use Rattle.run_acts.specs.Recording.{IsOrigin, log_of, values_of, RunWithin}
 use Rattle.run_acts.specs.Evented.{IsWatching, span_seen, RunWatches, WithinEvented, EventsGoOn}
-use Rattle.run_acts.proofs.FallEvented.{IsFailing}
+use Rattle.run_acts.specs.ActsEvented.{IsFailing}
 use Rattle.recorder_with_cards.specs.Accepting.{IsBare, IsAccepted, IsAnew}
 use Rattle.recorder_with_cards.specs.Judged.{moment_in, RunNext, IsInTurn, EventsJudged, JudgesAnew, EventsAnew}
 use Rattle.recorder_with_cards.specs.Woken.{EventsWoken}
