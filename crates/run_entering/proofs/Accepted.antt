@@ -40,7 +40,7 @@ fell-broken works cause = record { faults = cause.faults; breakdowns = omega (ar
 not_failed : false ≡ true → ⊥
 not_failed e = cc
 
-none-falls : 0 ≡ 1 → ⊥
+none-falls : ◌≡◌ {A = ℕ} 0 1 → ⊥
 none-falls e = cc
 
 or_false : (b : Bool) → (b || false) ≡ b
