@@ -150,6 +150,40 @@ way-opened o card d second unit x left_ Unread found = tt
 way-opened o card d second unit x left_ (Unsized field) found = tt
 way-opened o card d second unit x left_ (Judged app ending) found = ending-opened o card d app second unit x left_ found.0 ending found.1
 
+-- its time fits its field
+way-low : (way : Way) (registration : Registration) (e : Entering) (failed : Bool) (unit : Option (List ℕ)) (card after : State) → IsWay way registration e failed unit card after → IsLow (ending_of way)
+way-low Unread registration e failed unit card after is = tt
+way-low (Unsized field) registration e failed unit card after is = tt
+way-low (Judged app (Unfit fid place)) registration e failed unit card after is = tt
+way-low (Judged app (Ahead stored)) registration e failed unit card after is = is
+way-low (Judged app Fell) registration e failed unit card after is = tt
+way-low (Judged app Unasked) registration e failed unit card after is = tt
+way-low (Judged app (Unnoted entered clock)) registration e failed unit card after is = tt
+way-low (Judged app (Seated entered clock entry)) registration e failed unit card after is = is.1.low
+way-low (Judged app (Lost entered clock entry)) registration e failed unit card after is = is.1.low
+
+-- it fell, once it was accepted, where the vehicle moves
+way-moves : (way : Way) (registration : Registration) (e : Entering) (failed : Bool) (unit : Option (List ℕ)) (card after : State) → IsWay way registration e failed unit card after → FallsMoving (ending_of way) e.speed
+way-moves Unread registration e failed unit card after is = tt
+way-moves (Unsized field) registration e failed unit card after is = tt
+way-moves (Judged app (Unfit fid place)) registration e failed unit card after is = tt
+way-moves (Judged app (Ahead stored)) registration e failed unit card after is = tt
+way-moves (Judged app Fell) registration e failed unit card after is = tt
+way-moves (Judged app Unasked) registration e failed unit card after is = tt
+way-moves (Judged app (Unnoted entered clock)) registration e failed unit card after is = tt
+way-moves (Judged app (Seated entered clock entry)) registration e failed unit card after is = tt
+way-moves (Judged app (Lost entered clock entry)) registration e failed unit card after is = is.3
+
+-- and an accepted one told its number
+ending-numbered : (ending : Ending) (f : Found) (w : Carried) (e : Entering) (unit card : State) → IsToldOf ending f w e unit card → (number : List ℕ) → (IsOwnValid (found_of f e.which).image → (found_of f e.which).number ≡ number) → IsNumbered ending number
+ending-numbered (Unfit fid place) f w e unit card told number same = tt
+ending-numbered (Ahead stored) f w e unit card told number same = tt
+ending-numbered Fell f w e unit card told number same = tt
+ending-numbered Unasked f w e unit card told number same = tt
+ending-numbered (Unnoted entered clock) f w e unit card told number same = tt
+ending-numbered (Seated entered clock entry) f w e unit card told number same = told.named ∙ same told.valid
+ending-numbered (Lost entered clock entry) f w e unit card told number same = told.named ∙ same told.valid
+
 -- ---- IT IS JUDGED
 
 module _ (o : Origin) (done : List TraceSecond) (s : TraceSecond) (n : ℕ) (waits fewer : List Visit) (e : Entering) (k : Keeper) (out : Outcome) (unfound next_ begun : ℕ) (minutes : Kept) (U X Z : State) (w : Within o done s (In n) waits None [] (values_with k out unfound next_ begun minutes) (arranged e.which U X Z)) (m : MayJudge o done s n waits fewer e k out unfound next_ begun minutes U X Z w)
@@ -205,8 +239,7 @@ module _ (o : Origin) (done : List TraceSecond) (s : TraceSecond) (n : ℕ) (wai
   rest-left : IsLeft s (In n) (drop n s.actions)
   rest-left = (take n s.actions, sym (take-append-drop n s.actions), length-take-le n s.actions w.moment.is)
 
-  module _ (failed : Bool) (k' : Keeper) (noted noted' : ℕ) (out' : Outcome) (W Y : State) (way : Way) (g : HasGone e failed k k' noted noted' out out' U W X Y Z way) (sound : AreSound U W X Y)
-      (is_low : IsLow (ending_of way)) (moves : n ≡ 0 → FallsMoving (ending_of way) s.speed) (numbered : IsNumbered (ending_of way) (number_in o e.which)) where
+  module _ (failed : Bool) (k' : Keeper) (noted noted' : ℕ) (out' : Outcome) (W Y : State) (way : Way) (g : HasGone e failed k k' noted noted' out out' U W X Y Z way) (sound : AreSound U W X Y) where
     abbrev later : Devices
     later = arranged e.which W Y Z
 
@@ -215,6 +248,19 @@ module _ (o : Origin) (done : List TraceSecond) (s : TraceSecond) (n : ℕ) (wai
 
     abbrev brings : List Event
     brings = events_by (ending_of way) s.speed s.number bare with_it bare
+
+    told : IsToldOf (ending_of way) o.found (with_standing e.which Out (before o done s n waits fewer e k out unfound next_ begun minutes U X Z w m)) e U X
+    told = (known-behind o done s n waits fewer e k out unfound next_ begun minutes U X Z w m failed k' noted noted' out' W Y way g sound).told
+
+    is_low : IsLow (ending_of way)
+    is_low = way-low way k.memory.registration e failed U.image X Y g.entered.is
+
+    moves : n ≡ 0 → FallsMoving (ending_of way) s.speed
+    moves is = subst (FallsMoving (ending_of way)) (sym speed) (way-moves way k.memory.registration e failed U.image X Y g.entered.is)
+
+    numbered : IsNumbered (ending_of way) (number_in o e.which)
+    numbered = ending-numbered (ending_of way) o.found (with_standing e.which Out (before o done s n waits fewer e k out unfound next_ begun minutes U X Z w m)) e U X told (number_in o e.which)
+        (λ valid. origin.number e.which (subst IsOwnValid (origin.image e.which) valid))
 
     more : HaveLeftMore o (arranged e.which U X Z) (arranged e.which W Y Z)
     more = left o done s n waits fewer e k out unfound next_ begun minutes U X Z w m failed k' noted noted' out' W Y way g sound
@@ -232,8 +278,7 @@ module _ (o : Origin) (done : List TraceSecond) (s : TraceSecond) (n : ℕ) (wai
         (ap (λ (q : Option Seat). is_card q e.which) m.seat ∙ own-card e.which None) m.elsewhere (ending_of way) is_low numbered)
 
     names : NamesValid o brings
-    names = events-valid o (ending_of way) o.found (with_standing e.which Out (before o done s n waits fewer e k out unfound next_ begun minutes U X Z w m)) e U X
-        (known-behind o done s n waits fewer e k out unfound next_ begun minutes U X Z w m failed k' noted noted' out' W Y way g sound).told (λ valid. subst IsOwnValid (origin.image e.which) valid) crew crew-good s.speed s.number
+    names = events-valid o (ending_of way) o.found (with_standing e.which Out (before o done s n waits fewer e k out unfound next_ begun minutes U X Z w m)) e U X told (λ valid. subst IsOwnValid (origin.image e.which) valid) crew crew-good s.speed s.number
 
     -- the lines
     lines : log_of out' ≡ log_with (ending_of way) e v.log

@@ -192,15 +192,16 @@ module _ (slot : Slot) (card : Card) (at : Moment) (speed : ℕ) (old : Run) (be
           (subst (λ (f : Bool). EventsGoOn f o done s h.within.b.run (In (suc (length front))) Acting (log_of told) e) fails settled-evented)
 
       -- or they are kept, and the card is judged
-      module _ (records : RecordsSettling decided at failed (put_run slot card old) mid before told d e) (well : failed ≡ false) (seat : seat_in mid.keeper.cabin.slots.seats slot ≡ Some (record { card = card; newest = None })) where
+      module _ (many : List Minute) (given_ : (span : Span) → StandsFor old.minutes span → decided_in (settled span) ≡ decided_in span ++ many) (records : RecordsSettling many at failed (put_run slot card old) mid before told d e) (well : failed ≡ false)
+          (seat : seat_in mid.keeper.cabin.slots.seats slot ≡ Some (record { card = card; newest = None })) where
         abbrev next_ : RunNext o done s (suc (length front)) (entering_by (length front) (Insert slot card)) [] mid told e slot card
-        next_ = next mid told failed settles decided given e records time well seat
+        next_ = next mid told failed settles many given_ e records time well seat
 
         abbrev all-began : next_.goes.within.b ≡ h.within.b
-        all-began = (on mid told failed settles decided given e records time well seat).began ∙ put-began
+        all-began = (on mid told failed settles many given_ e records time well seat).began ∙ (put mid told failed settles many given_).goes.began
 
         none-else : (x : Slot) → found_in (log_of told) s.number (In (suc (length front))) x ≡ []
-        none-else x = (judged mid told failed settles decided given e records time well seat).none x
+        none-else x = (judged mid told failed settles many given_ e records time well seat).none x
 
         turn : IsInTurn next_.goes.within.b done s (suc (length front)) (log_of told) slot
         turn = record {
