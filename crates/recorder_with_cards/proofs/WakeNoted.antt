@@ -30,7 +30,7 @@ use Rattle.run_acts.specs.Faults.{NotesSettling}
 use Rattle.run_acts.specs.Turning.{told_of}
 use Rattle.run_acts.specs.declared.run.Run.{Run}
 use Rattle.run_acts.specs.Acting.{now_moment}
-use Rattle.recorder_with_cards.specs.Noting.{judged_events, NotesAnew, JudgesThese, JudgesDriver, JudgesBoth, NotesWaking, NotesFound, read_run, read_outcome, SettlesThese}
+use Rattle.recorder_with_cards.specs.Noting.{judged_events, NotesAnew, JudgesThese, JudgesDriver, JudgesBoth, NotesWaking, NotesFound, read_run, read_outcome}
 
 -- images that say the same are cut
 quiet-cut : (U V A B : State) → ((c : List ℕ) → V.may_leave c → (x : List ℕ) × U.may_leave x × SaysNothing x c) → NotesEvents [] true (devices U A B) (devices V A B)
