@@ -36,7 +36,7 @@ use Rattle.run_acts.specs.declared.run.Power.TheVariants.{Lit, Lost}
 use Rattle.run_acts.specs.Power.{is_lit, cut_run}
 use Rattle.run_acts.specs.Recording.{values_of, IsOrigin, RunWithin, RunCut, InSecondBy, InSecond, RunFails, RunGoesOn, IsNow, RecordsAction}
 use Rattle.recorder_with_cards.specs.Acting.{IsSelected}
-use Rattle.recorder_with_cards.specs.Recorded.{RecordsActions}
+use Rattle.recorder_with_cards.specs.Recorded.{Inside, ActsBy}
 
 -- ---- with power, or cut
 
@@ -116,16 +116,16 @@ cut o done s begun rest run new out after d origin number left fails is told =
 
 -- ---- some actions, and then others
 
-pub actions-then : (xs ys : List Action) (m n speed : ℕ) (a b c : Run) (p q r : Outcome) (d e f : Devices) → n ≡ m + length ys → b.next ≡ a.next → (HaveTime f → HaveTime e)
-    → RecordsActions xs m speed a b p q d e → RecordsActions ys n speed b c q r e f → RecordsActions (xs ++ ys) n speed a c p r d f
-actions-then xs ys m n speed a b c p q r d e f is next earlier first later o done s now front rest are begun in_ time =
+pub actions-then : (I : Inside) (xs ys : List Action) (m n speed : ℕ) (a b c : Run) (p q r : Outcome) (d e f : Devices) → n ≡ m + length ys → b.next ≡ a.next → (HaveTime f → HaveTime e)
+    → ActsBy I xs m speed a b p q d e → ActsBy I ys n speed b c q r e f → ActsBy I (xs ++ ys) n speed a c p r d f
+actions-then I xs ys m n speed a b c p q r d e f is next earlier first later o done s now front rest are begun in_ time =
     let many = length-append xs ys in
-    let mid : InSecond o done s m b q e = first o done s now front (ys ++ rest) (are ∙ ap (λ (l : List Action). front ++ l) (append_assoc xs ys rest)) (omega (arith, begun, many, is)) in_ (earlier time) in
+    let mid : I o done s m b q e = first o done s now front (ys ++ rest) (are ∙ ap (λ (l : List Action). front ++ l) (append_assoc xs ys rest)) (omega (arith, begun, many, is)) in_ (earlier time) in
     let at : m ≡ length (front ++ xs) = let long = length-append front xs in omega (arith, begun, many, is, long) in
     later o done s (record { number = now.number ∙ sym next; given = now.given; speed_is = now.speed_is }) (front ++ xs) rest
     (are ∙ ap (λ (l : List Action). front ++ l) (append_assoc xs ys rest) ∙ sym (append_assoc front xs (ys ++ rest))) (omega (arith, is, at))
-    (subst (λ (k : ℕ). InSecond o done s k b q e) at mid) time
+    (subst (λ (k : ℕ). I o done s k b q e) at mid) time
 
 -- no action
-pub no-action : (n speed : ℕ) (run : Run) (out : Outcome) (d : Devices) → RecordsActions [] n speed run run out out d d
-no-action n speed run out d o done s now front rest are begun in_ time = subst (λ (k : ℕ). InSecond o done s k run out d) (let e : length front ≡ n = omega (arith, begun) in e) in_
+pub no-action : (I : Inside) (n speed : ℕ) (run : Run) (out : Outcome) (d : Devices) → ActsBy I [] n speed run run out out d d
+no-action I n speed run out d o done s now front rest are begun in_ time = subst (λ (k : ℕ). I o done s k run out d) (let e : length front ≡ n = omega (arith, begun) in e) in_

@@ -1,5 +1,9 @@
 pub mod EnteredRings
 pub mod EnteredTold
+pub mod EnteredAdds
+pub mod EnteredNamed
+pub mod EnteredEvented
+pub mod Spanned
 pub mod EnteredEvents
 pub mod Items
 pub mod Dark
@@ -30,5 +34,9 @@ pub mod SecondsRecorded
 pub mod Promised
 pub mod Later
 pub mod WakeNoted
+pub mod Staying
+pub mod ActsEvented
+pub mod SecondsEvented
+pub mod BegunEvented
 pub mod Uncut
 pub mod WholeOdometer

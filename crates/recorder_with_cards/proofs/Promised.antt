@@ -22,11 +22,13 @@ use Rattle.joint_rule.specs.Rules.{Out}
 use Rattle.unit_course.specs.Followed.{Supply, Lit as IsLit, Due as IsDue, Lost as IsLost}
 use Rattle.unit_course.specs.Legs.{not_travelled}
 use Rattle.unit_model.specs.declared.layout.TheConstants.{HIGHEST_ODOMETER}
-use Rattle.unit_model.specs.Image.{last_kept, odometer_at}
+use Rattle.unit_model.specs.Image.{number_of, last_kept, odometer_at}
 use Rattle.unit_model.specs.Decoding.{Decodes}
 use Rattle.unit_rule.specs.Odometer.{HasTravelled}
 use Rattle.unit_rule.proofs.Travelling.{travelled-opened}
 use Rattle.unit_journal.specs.Image.{IsFoundBy}
+use Rattle.unit_journal.proofs.Beside.{passes_beside}
+use Rattle.unit_memory.specs.declared.format.Identity.{Identity}
 use Rattle.safety_model.specs.Recording.{Recording, card_image, brought}
 use Rattle.safety_model.specs.Safe.{Devices, card_of, breakdowns_of, MayBegin}
 use Rattle.slot_machine.specs.Kept.{nothing_yet}
@@ -46,6 +48,8 @@ use Rattle.run_recorded.specs.Origin.{Origin}
 use Rattle.run_recorded.specs.Ends.{recording_by, EndsRun}
 use Rattle.run_recorded.specs.Seconds.{empty_log}
 use Rattle.run_recorded.proofs.Ends.{ends-run}
+use Rattle.run_evented.specs.Evented.{limit_in, Evented}
+use Rattle.run_evented.proofs.Ends.{nothing-noted, events-shown}
 use Rattle.run_within.specs.Recorded.{Values, progress, carried, AreThere, IsHeldBy, Recorded}
 use Rattle.run_within.specs.Going.{MayStart}
 use Rattle.run_within.proofs.Going.{begun-recorded}
@@ -60,7 +64,8 @@ use Rattle.run_outcome.specs.declared.outcome.Outcome.{Outcome}
 use Rattle.run_acts.specs.declared.run.Run.{Run}
 use Rattle.run_acts.specs.declared.run.Power.{Power}
 use Rattle.run_acts.specs.declared.run.Power.TheVariants.{Lit, Due, Lost}
-use Rattle.run_acts.specs.Recording.{values_of, IsOrigin, Supplies, RunRecorded}
+use Rattle.run_acts.specs.Recording.{log_of, values_of, IsOrigin, Supplies, RunRecorded}
+use Rattle.run_acts.specs.Evented.{RunEvented}
 use Rattle.run_acts.proofs.Numbers.{own-long}
 use Rattle.recorder_with_cards.specs.Ends.{BeginAs, recorded_with, recording_of, opened_with, origin_of, MayRecord, EndsTrace}
 use Rattle.recorder_with_cards.proofs.Waiting.{first-second}
@@ -131,7 +136,7 @@ module _ (x a b : List ℕ) (start : ℕ) (items : List Item) (began now : Devic
       ends-run o done (progress v supply h.book) h.travel v.marks (carried v h.due h.book h.standing h.brought) began now h.recorded (found-by r0 done v.log (found_in r0 began) began found)
       (is-carried done v (carried v h.due h.book h.standing h.brought) supply h.held) refl refl h.beside unit_whole card_whole decodes refl
 
-  pub promised : (run : Run) (out : Outcome) → RunRecorded o (seconds_of start items) run out now → IsCoherent now.unit → ((c : Card) → IsCoherent (card_of now c)) → MayRecord x a b start → IsFound r0 (found_in r0 began) began →
+  pub promised : (run : Run) (out : Outcome) → RunEvented o (seconds_of start items) run out now → IsCoherent now.unit → ((c : Card) → IsCoherent (card_of now c)) → MayRecord x a b start → IsFound r0 (found_in r0 began) began →
       EndsTrace x a b start items out began now
   promised run out h unit_whole card_whole may found = record {
     may = record {
@@ -139,10 +144,17 @@ module _ (x a b : List ℕ) (start : ℕ) (items : List Item) (began now : Devic
       clock = λ s is. let number = first-second start items s is in let later = may.later in omega (arith, number, later);
       numbers = may.numbers;
     };
-    ends = ends-so (seconds_of start items) h.supply (values_of run out) h.recorded unit_whole card_whole found may.decodes;
+    ends = ends-so (seconds_of start items) h.recorded.supply (values_of run out) h.recorded.recorded unit_whole card_whole found may.decodes;
+    events = events-shown began now o (seconds_of start items) (log_of out) run.unfound run.next h.recorded.supply h.evented (recording_of x a b start items out) refl
+        (both (λ c. card_image (recording_of x a b start items out) c ≡ card_image o.recording c) refl refl) refl refl (both (λ c. (found_of o.found c).began ≡ (card_of began c).clock) refl refl);
   }
 
 -- ---- as the run begins
+
+due-supply : (supply : Supply) → Supplies Due supply → supply ≡ IsDue
+due-supply (IsLit span) h = absurd h
+due-supply IsDue h = refl
+due-supply IsLost h = absurd h
 
 module _ (x a b : List ℕ) (start : ℕ) (began now : Devices) (opened : Opened) (ready : IsReady (opened_with x a b) start opened began now) where
   abbrev first-r : Recording
@@ -227,7 +239,7 @@ module _ (x a b : List ℕ) (start : ℕ) (began now : Devices) (opened : Opened
         travelled-opened (odometer_at x) now.unit x refl (let le : odometer_at x ≤ HIGHEST_ODOMETER = omega (arith, is, low) in le)
         (λ y left. ready.begins.unit.only y (unit_whole.counts_now now.unit.clock y (omega arith) left))
 
-    pub starts-recorded : (run : Run) (out : Outcome) → run.power ≡ Due → run.next ≡ start → run.begun ≡ 0 → run.unfound ≡ 0 → run.keeper.cabin.slots ≡ nothing_yet → ((c : Card) → known_in run.keeper.cabin.cards c ≡ known_of opened c) →
+    starts-recorded : (run : Run) (out : Outcome) → run.power ≡ Due → run.next ≡ start → run.begun ≡ 0 → run.unfound ≡ 0 → run.keeper.cabin.slots ≡ nothing_yet → ((c : Card) → known_in run.keeper.cabin.cards c ≡ known_of opened c) →
         ((c : Card) → session_of run.keeper.cabin.cards c ≡ None) → out.breaks.items ≡ [] → out.refused.items ≡ [] → out.finds.items ≡ [] → out.marks.items ≡ [] → RunRecorded first-o [] run out now
     starts-recorded run out due next begun unfound slots same bare breaks refused finds marks = record {
       origin = is-origin;
@@ -251,3 +263,27 @@ module _ (x a b : List ℕ) (start : ℕ) (began now : Devices) (opened : Opened
       });
       odometer = λ lit. absurd (let bad : Due ≡ Lit = sym due ∙ lit in cc);
     }
+
+    -- and no event of it
+    pub starts-evented : (run : Run) (out : Outcome) → run.power ≡ Due → run.next ≡ start → run.begun ≡ 0 → run.unfound ≡ 0 → run.keeper.memory ≡ opened.unit.memory → run.keeper.cabin.slots ≡ nothing_yet →
+        ((c : Card) → known_in run.keeper.cabin.cards c ≡ known_of opened c) → ((c : Card) → session_of run.keeper.cabin.cards c ≡ None) → out.breaks.items ≡ [] → out.refused.items ≡ [] → out.finds.items ≡ [] → out.marks.items ≡ [] →
+        RunEvented first-o [] run out now
+    starts-evented run out due next begun unfound memory slots same bare breaks refused finds marks = record {
+      recorded = r;
+      evented = subst (λ (l : RunLog). Evented first-o [] l run.unfound run.next r.supply now) (sym log)
+          (subst (λ (n : ℕ). Evented first-o [] empty_log n run.next r.supply now) (sym unfound)
+          (subst (λ (n : ℕ). Evented first-o [] empty_log 0 n r.supply now) (sym next)
+          (subst (λ (p : Supply). Evented first-o [] empty_log 0 start p now) (sym (due-supply r.supply (subst (λ (p : Power). Supplies p r.supply) due r.powers)))
+          (nothing-noted now first-o only_unit (passes_beside x ready.decodes).overs))));
+      limit = let is = ready.memory.limit in let same : run.keeper.memory.limit ≡ opened.unit.memory.limit = ap (λ (i : Identity). i.limit) memory in omega (arith, is, same);
+      watched = λ lit. absurd (let bad : Due ≡ Lit = sym due ∙ lit in cc);
+    }
+      where
+        r : RunRecorded first-o [] run out now
+        r = starts-recorded run out due next begun unfound slots same bare breaks refused finds marks
+
+        log : log_of out ≡ empty_log
+        log = ap (λ bs. record { breaks = bs; refused = out.refused.items; finds = out.finds.items }) breaks ∙ ap (λ rs. record { breaks = []; refused = rs; finds = out.finds.items }) refused ∙ ap (λ fs. record { breaks = []; refused = []; finds = fs }) finds
+
+        only_unit : (y : List ℕ) → now.unit.may_leave y → y ≡ x
+        only_unit y left = ready.begins.unit.only y (unit_whole.counts_now now.unit.clock y (omega arith) left)

@@ -36,7 +36,7 @@ use Rattle.unit_rule.specs.Marks.{Holds}
 use Rattle.unit_rule.specs.Odometer.{odometer_by, odometer_after, ShowsOdometer, HasTravelled}
 use Rattle.unit_rule.proofs.Travelling.{odometer-sum}
 use Rattle.device_steps.specs.Rule.{Both, CardRests, IsTakenUp}
-use Rattle.safety_model.specs.Safe.{Devices, card_of}
+use Rattle.safety_model.specs.Safe.{Devices, card_of, breakdowns_of}
 use Rattle.slot_machine.specs.declared.seats.Seat.{Seat}
 use Rattle.slot_machine.specs.Calls.{Seats, seat_in, card_in}
 use Rattle.slot_machine.specs.Kept.{Kept}
@@ -44,6 +44,13 @@ use Rattle.run_crew.specs.declared.cabin.Cabin.{Cabin}
 use Rattle.run_rule.specs.Between.{devices}
 use Rattle.run_course.specs.Moments.{and_find}
 use Rattle.run_course.specs.Presence.{SitsAs, SlotsTell}
+use Rattle.run_course.specs.Followed.{Progress, Followed}
+use Rattle.run_moments.specs.Telling.{IsMore}
+use Rattle.run_recorded.specs.Beside.{HaveLeftMore}
+use Rattle.run_recorded.specs.Seconds.{found_again}
+use Rattle.run_recorded.proofs.Seconds.{found-recorded}
+use Rattle.run_model.specs.declared.Device.TheVariants.{Unit as Recorder}
+use Rattle.log_model.specs.Causes.{RoseBy}
 use Rattle.run_outcome.specs.declared.outcome.Outcome.{Outcome}
 use Rattle.run_recorded.specs.Origin.{Origin, rule_of, start_at, first_of}
 use Rattle.run_keeping.specs.declared.keeper.Keeper.{Keeper}
@@ -51,7 +58,7 @@ use Rattle.run_keeping.specs.declared.keeper.Moment.{Moment}
 use Rattle.run_keeping.specs.Books.{HaveTime}
 use Rattle.run_entering.specs.declared.lines.Entering.{Entering}
 use Rattle.run_entering.specs.Entering.{Ending, Unfit, Ahead, Fell, Unasked, Unnoted, Seated, Lost, ending_of, find_of, finds_by}
-use Rattle.run_within.specs.Recorded.{Values, carried, slots_of, IsOff, Recorded}
+use Rattle.run_within.specs.Recorded.{Values, progress, carried, slots_of, IsOff, Recorded}
 use Rattle.run_within.specs.Within.{Beginning, Within, CutWithin}
 use Rattle.run_within.specs.Powering.{read_values, begun_values, begun_again, IsBack, IsOnlyRead}
 use Rattle.run_within.specs.Waking.{IsWaking, both_slots}
@@ -141,6 +148,13 @@ odometer-found start b leg g unit x h there =
     let none : shown.leg ≡ 0 = ⊎_elim (λ is. is) (λ some. absurd (let bad : None ≡ Some shown.leg = some in cc)) shown.side in
     shown.is ∙ ap (λ (n : ℕ). odometer_after start ((resumed leg g).before ++ n ∷ [])) none ∙ shown-so start (resumed leg g).before h.begins
 
+-- the unit was read, so it is known what was kept, but it broke down as it was mended
+pub record IsReadAgain (o : Origin) (done : List TraceSecond) (p : Progress) (k : ℕ) (d e : Devices) : Type 0 where
+  pub followed : Followed (rule_of o) (start_at o) o.from (first_of o) done (found_again k p)
+  pub left : HaveLeftMore o d e
+  pub more : IsMore (breakdowns_of d) (breakdowns_of e)
+  pub broke : RoseBy 1 (breakdowns_of d Recorder) (breakdowns_of e Recorder)
+
 -- ---- THE UNIT WAS READ, and is mended
 
 module _ (o : Origin) (origin : IsOrigin o) (done : List TraceSecond) (s : TraceSecond) (supply : Supply) (v : Values) (U X Y : State) (r : Recorded o done supply v (devices U X Y)) (may : MayPower supply v.next) (number : s.number ≡ v.next) (given : s.has_power ≡ true)
@@ -224,7 +238,24 @@ module _ (o : Origin) (origin : IsOrigin o) (done : List TraceSecond) (s : Trace
     pub awake : (begins : Beginning) × RunWaking o done s begins (waiting_in Driver (card_in new.keeper.cabin.slots.seats.driver) ++ waiting_in CoDriver (card_in new.keeper.cabin.slots.seats.codriver)) both_slots new out (devices W X Y)
     awake = (b, record { origin = origin; lit = begun.power; waking = wakes; odometer = odometer })
 
-  -- its mending failed
+    -- how it began
+    pub awake-is : (awake.0.run ≡ found_again j.kept (progress v supply r.book)) × (awake.0.span ≡ []) × HaveLeftMore o d e
+    unfolding awake
+    awake-is = (ap (λ (k : ℕ). found_again k (progress v supply r.book)) kept-is, refl, back.goes.left)
+
+  -- its mending failed: what was read is known, and the unit broke down
+  pub unmended-read : failed ≡ true → IsReadAgain o done (progress v supply r.book) j.kept d e
+  unmended-read fails =
+      let read : IsOnlyRead o done supply v d r (last_kept has-image.0) e =
+      only-read o done supply v d r may U whole (starts U Unchanged) whole wholes works has-image.0 has-image.1 refl first j W failed mends tells cause holds taken_a taken_b fails in
+      record {
+        followed = as-read (λ (k : ℕ). Followed (rule_of o) (start_at o) o.from (first_of o) done (found_again k (progress v supply r.book)))
+            (found-recorded o done (progress v supply r.book) r.travel v.marks (breakdowns_of d) r.brought r.recorded may (last_kept has-image.0) read.leg read.shows).followed;
+        left = read.goes.left;
+        more = read.goes.breakdowns;
+        broke = read.broke;
+      }
+
   pub unmended : failed ≡ true → GoesOnOrCut true o done s (In 0) [] old out (devices W X Y)
   unmended fails =
       let read : IsOnlyRead o done supply v d r (last_kept has-image.0) e =
@@ -297,6 +328,21 @@ module _ (o : Origin) (done : List TraceSecond) (s : TraceSecond) (b : Beginning
         odometer = on.goes.odometer ∙ ap (λ (x : Beginning). odometer_after (odometer_at o.recording.unit) x.travel.before) began;
       }
 
+-- the driver's is the next
+pub driver-next : (o : Origin) (done : List TraceSecond) (s : TraceSecond) (b : Beginning) (card : Card) (rest : List Visit) (old : Run) (before : Outcome) (d : Devices) → RunWaking o done s b (waiting_in Driver (Some card) ++ rest) both_slots old before d →
+    AllByRecursion (λ (x : Visit). x.phase ≡ In 0) rest → card_in old.keeper.cabin.slots.seats.driver ≡ Some card → IsBare old.keeper.cabin.slots.seats.driver →
+    (next : RunNext o done s 0 (waiting_in Driver (Some card) ++ rest) rest old before d Driver card) × (next.goes.within.b ≡ b)
+driver-next o done s b card rest old before d w once is bare =
+    let waits : List Visit = waiting_in Driver (Some card) ++ rest in (
+      record {
+        goes = within-of o done s b waits both_slots old before d w;
+        next = next-waking o done s b (values_of old before) d waits both_slots w.waking Driver card rest (bare-is old.keeper.cabin.slots.seats.driver card is bare) (but-first (In 0) Driver card rest) once;
+        none = w.waking.none Driver driver-too;
+        order = λ is_driver. inr (w.waking.none CoDriver codriver-too);
+      },
+      w.waking.began,
+    )
+
 -- the driver's
 pub driver-judged : (o : Origin) (done : List TraceSecond) (s : TraceSecond) (b : Beginning) (card : Option Card) (rest : List Visit) (old : Run) (before : Outcome) (d : Devices) → RunWaking o done s b (waiting_in Driver card ++ rest) both_slots old before d →
     AllByRecursion (λ (x : Visit). x.phase ≡ In 0) rest → card_in old.keeper.cabin.slots.seats.driver ≡ card → IsBare old.keeper.cabin.slots.seats.driver → (at : Moment) → at ≡ moment_in s 0 → (speed : ℕ) (failed : Bool) (new : Run) (after : Outcome) →
@@ -332,7 +378,7 @@ driver-judged o done s b (Some card) rest old before d w once is bare at now spe
     )
 
 -- the co-driver's
-codriver-next : (o : Origin) (done : List TraceSecond) (s : TraceSecond) (b : Beginning) (card : Card) (old : Run) (before : Outcome) (d : Devices) → RunWaking o done s b (waiting_in CoDriver (Some card)) (CoDriver ∷ []) old before d →
+pub codriver-next : (o : Origin) (done : List TraceSecond) (s : TraceSecond) (b : Beginning) (card : Card) (old : Run) (before : Outcome) (d : Devices) → RunWaking o done s b (waiting_in CoDriver (Some card)) (CoDriver ∷ []) old before d →
     card_in old.keeper.cabin.slots.seats.codriver ≡ Some card → IsBare old.keeper.cabin.slots.seats.codriver → RunNext o done s 0 (waiting_in CoDriver (Some card)) [] old before d CoDriver card
 codriver-next o done s b card old before d w is bare = record {
   goes = within-of o done s b (waiting_in CoDriver (Some card)) (CoDriver ∷ []) old before d w;
@@ -340,6 +386,12 @@ codriver-next o done s b card old before d w is bare = record {
   none = w.waking.none CoDriver (Contains-push [] CoDriver);
   order = λ is_driver. absurd (let bad : CoDriver ≡ Driver = is_driver in cc);
 }
+
+-- as the second began
+pub codriver-began : (o : Origin) (done : List TraceSecond) (s : TraceSecond) (b : Beginning) (card : Card) (old : Run) (before : Outcome) (d : Devices) (w : RunWaking o done s b (waiting_in CoDriver (Some card)) (CoDriver ∷ []) old before d) →
+    (is : card_in old.keeper.cabin.slots.seats.codriver ≡ Some card) (bare : IsBare old.keeper.cabin.slots.seats.codriver) → (codriver-next o done s b card old before d w is bare).goes.within.b ≡ b
+unfolding codriver-next
+codriver-began o done s b card old before d w is bare = w.waking.began
 
 pub codriver-judged : (o : Origin) (done : List TraceSecond) (s : TraceSecond) (b : Beginning) (card : Option Card) (old : Run) (before : Outcome) (d : Devices) → RunWaking o done s b (waiting_in CoDriver card) (CoDriver ∷ []) old before d →
     card_in old.keeper.cabin.slots.seats.codriver ≡ card → IsBare old.keeper.cabin.slots.seats.codriver → (at : Moment) → at ≡ moment_in s 0 → (speed : ℕ) (failed : Bool) (new : Run) (after : Outcome) →
@@ -356,7 +408,7 @@ codriver-judged o done s b (Some card) old before d w is bare at now speed faile
     judged-goes failed o done s 0 waits old new before after d e next.goes (judges o done s 0 waits [] now next time)
 
 -- power comes with the second still
-comes-waking : (o : Origin) (done : List TraceSecond) (s : TraceSecond) (b : Beginning) (waits : List Visit) (untold : List Slot) (run : Run) (out : Outcome) (d : Devices) → RunWaking o done s b waits untold run out d → ComesPower done out
+pub comes-waking : (o : Origin) (done : List TraceSecond) (s : TraceSecond) (b : Beginning) (waits : List Visit) (untold : List Slot) (run : Run) (out : Outcome) (d : Devices) → RunWaking o done s b waits untold run out d → ComesPower done out
 comes-waking o done s b waits untold run out d w =
     ap (λ (x : Went). x.before.running) (same-course o done s (In 0) waits [] run out d (within-of o done s b waits untold run out d w))
     ∙ subst (λ (x : Beginning). (went x.run.log done).before.running ≡ false) (sym w.waking.began) w.waking.starts
@@ -373,3 +425,24 @@ codriver-power o done s b (Some card) old before d w is bare at now speed failed
     comes-waking o done s b [] [] new after e
     (behind-on o done s b waits (CoDriver ∷ []) old before d w new after e [] [] (subst (λ (f : Bool). JudgedTo f o done s 0 waits [] old new before after d e next.goes) well (judges o done s 0 waits [] now next time))
     (λ slot there. absurd (omega (arith, there.1))))
+
+-- behind both nobody waits
+pub codriver-on : (o : Origin) (done : List TraceSecond) (s : TraceSecond) (b : Beginning) (card : Option Card) (old : Run) (before : Outcome) (d : Devices) → RunWaking o done s b (waiting_in CoDriver card) (CoDriver ∷ []) old before d →
+    card_in old.keeper.cabin.slots.seats.codriver ≡ card → IsBare old.keeper.cabin.slots.seats.codriver → (at : Moment) → at ≡ moment_in s 0 → (speed : ℕ) (failed : Bool) (new : Run) (after : Outcome) →
+    IsAnew card CoDriver at speed old new before after → (e : Devices) → (card ≡ None → (P : Devices → Type 0) → P d → P e) → HaveTime e → JudgesAnew card CoDriver at failed old new before after d e → failed ≡ false → RunWaking o done s b [] [] new after e
+unfolding codriver-next
+codriver-on o done s b None old before d w is bare at now speed failed new after anew e still time judges well =
+    still refl (λ (x : Devices). RunWaking o done s b [] [] new after x)
+    (subst (λ (r : Run). RunWaking o done s b [] [] r after d) (sym anew.0)
+    (subst (λ (q : Outcome). RunWaking o done s b [] [] old q d) (sym anew.1)
+    (record {
+      origin = w.origin;
+      lit = w.lit;
+      waking = record { within = w.waking.within; began = w.waking.began; starts = w.waking.starts; is_now = w.waking.is_now; none = λ slot there. absurd (omega (arith, there.1)) };
+      odometer = w.odometer;
+    })))
+codriver-on o done s b (Some card) old before d w is bare at now speed failed new after anew e still time judges well =
+    let waits : List Visit = waiting_in CoDriver (Some card) in
+    let next : RunNext o done s 0 waits [] old before d CoDriver card = codriver-next o done s b card old before d w is bare in
+    behind-on o done s b waits (CoDriver ∷ []) old before d w new after e [] [] (subst (λ (f : Bool). JudgedTo f o done s 0 waits [] old new before after d e next.goes) well (judges o done s 0 waits [] now next time))
+    (λ slot there. absurd (omega (arith, there.1)))

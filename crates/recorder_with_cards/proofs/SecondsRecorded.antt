@@ -30,7 +30,7 @@ use Rattle.run_acts.specs.Power.{is_lit, has_power, darkened, off_run, off_cut, 
 use Rattle.run_acts.specs.Turning.{IsTurnOf}
 use Rattle.run_acts.specs.Recording.{values_of, Supplies, RunRecorded, InSecond}
 use Rattle.recorder_with_cards.specs.Acting.{IsItemActed, AreActed}
-use Rattle.recorder_with_cards.specs.Recorded.{action_of, actions_in, HasBegun, HasRun}
+use Rattle.recorder_with_cards.specs.Recorded.{Inside, Between, action_of, actions_in, HasBegunBy, HasRunBy}
 
 -- ---- a second without power
 
@@ -78,12 +78,12 @@ pub passes-dark : (a b : Run) (o p : Outcome) (n speed begun : ℕ) → is_lit a
 passes-dark a b o p n speed begun dark_ h = subst (λ (lit : Bool). IsTurnOf lit n speed begun a b o p) dark_ h
 
 -- there is none up to the next minute
-lost-away : (p : Power) (next : ℕ) → has_power p next ≡ false → (p ≡ Lost) × (0 < next % 60)
+pub lost-away : (p : Power) (next : ℕ) → has_power p next ≡ false → (p ≡ Lost) × (0 < next % 60)
 lost-away Lit next away = absurd (cc)
 lost-away Due next away = absurd (cc)
 lost-away Lost next away = let test : (next % 60 == 0) ≡ false = away in (refl, grind (arith, nat_tests, test))
 
-lost-supply : (p : Power) (supply : Supply) → p ≡ Lost → Supplies p supply → supply ≡ IsLost
+pub lost-supply : (p : Power) (supply : Supply) → p ≡ Lost → Supplies p supply → supply ≡ IsLost
 lost-supply Lit supply is powers = absurd (cc)
 lost-supply Due supply is powers = absurd (cc)
 lost-supply Lost (IsLit span) is powers = absurd powers
@@ -156,10 +156,10 @@ module _ (o : Origin) (done : List TraceSecond) (old : Run) (before : Outcome) (
 
 -- ---- a second has begun
 
-pub by-power : {P : Type 0} (power : Bool) (o : Origin) (done : List TraceSecond) (s : TraceSecond) (run : Run) (out : Outcome) (d : Devices) → HasBegun (Ok power) o done s run out d →
-    (power ≡ true → InSecond o done s 0 run out d → P) → (power ≡ false → RunRecorded o done run out d → P) → P
-by-power true o done s run out d begun lit away = lit refl begun
-by-power false o done s run out d begun lit away = away refl begun
+pub by-power : {P : Type 0} (R : Between) (I : Inside) (power : Bool) (o : Origin) (done : List TraceSecond) (s : TraceSecond) (run : Run) (out : Outcome) (d : Devices) → HasBegunBy R I (Ok power) o done s run out d →
+    (power ≡ true → I o done s 0 run out d → P) → (power ≡ false → R o done run out d → P) → P
+by-power R I true o done s run out d begun lit away = lit refl begun
+by-power R I false o done s run out d begun lit away = away refl begun
 
 -- ---- seconds, one after another
 
@@ -177,9 +177,9 @@ plain-parts (suc n) k number speed =
     (plain-parts n k (number + 1) speed ∙ ap (λ (m : ℕ). driven n (number + 1) speed [] ++ driven k m speed []) (let e : number + 1 + n ≡ number + suc n = omega arith in e))
 
 -- behind the first one the others
-pub run-then : (result : Result (Unit {0}) RunFault) (o : Origin) (done : List TraceSecond) (n number later speed : ℕ) (actions : List Action) (run : Run) (out : Outcome) (d : Devices) → 0 < n → later ≡ number + 1 →
-    HasRun result o ((done ++ driven 1 number speed actions) ++ driven (n - 1) later speed []) run out d → HasRun result o (done ++ driven n number speed actions) run out d
-run-then result o done n number later speed actions run out d some next h =
+pub run-then : (R : Between) (result : Result (Unit {0}) RunFault) (o : Origin) (done : List TraceSecond) (n number later speed : ℕ) (actions : List Action) (run : Run) (out : Outcome) (d : Devices) → 0 < n → later ≡ number + 1 →
+    HasRunBy R result o ((done ++ driven 1 number speed actions) ++ driven (n - 1) later speed []) run out d → HasRunBy R result o (done ++ driven n number speed actions) run out d
+run-then R result o done n number later speed actions run out d some next h =
     let s : TraceSecond = record { number = number; has_power = true; speed = speed; actions = actions } in
-    subst (λ (ss : List TraceSecond). HasRun result o ss run out d)
+    subst (λ (ss : List TraceSecond). HasRunBy R result o ss run out d)
     (ap (λ (m : ℕ). (done ++ s ∷ []) ++ driven (n - 1) m speed []) next ∙ append_assoc done (s ∷ []) (driven (n - 1) (number + 1) speed []) ∙ ap (λ (ss : List TraceSecond). done ++ ss) (sym (first-driven n number speed actions some))) h

@@ -12,6 +12,7 @@ use Rattle.safety_model.specs.Safe.{Devices, MayBegin, breakdowns_of}
 use Rattle.run_rule.specs.Opening.{BeginsAs}
 use Rattle.run_recorded.specs.Origin.{Origin}
 use Rattle.run_recorded.specs.Ends.{EndsRun}
+use Rattle.run_evented.specs.Evented.{ShowsEventsOf}
 use Rattle.run_opening.specs.Begun.{found_in}
 use Rattle.run_opening.specs.Begun.{IsRefusedBy as IsRefusedAs}
 use Rattle.run_opening.specs.Opening.{IsAsItWas}
@@ -55,10 +56,12 @@ pub record MayRecord (unit card_a card_b : List ℕ) (start : ℕ) : Type 0 wher
   pub later : last_kept unit < start / 60
   pub numbers : IsOwnValid card_a → IsOwnValid card_b → own_number card_a ≢ own_number card_b
 
--- WHAT A RUN PROMISES that was recorded: it could begin, and the crash-safety theorem holds of it.
+-- WHAT A RUN PROMISES that was recorded: it could begin, the crash-safety theorem holds of it, and every image that a stop may leave of the unit
+-- shows its events and faults.
 pub record EndsTrace (unit card_a card_b : List ℕ) (start : ℕ) (items : List Item) (out : Outcome) (began now : Devices) : Type 0 where
   pub may : MayBegin (recording_of unit card_a card_b start items out)
   pub ends : EndsRun (recording_of unit card_a card_b start items out) out.marks.items began now
+  pub events : (x : List ℕ) → now.unit.may_leave x → ShowsEventsOf (recording_of unit card_a card_b start items out) began now x
 
 -- OR IT WAS KEPT FROM BEING RECORDED: by these images, or a call that has failed in the opening; each device is as it was.
 pub record IsKeptFrom (unit card_a card_b : List ℕ) (start : ℕ) (began now : Devices) (fault : RunFault) : Type 0 where

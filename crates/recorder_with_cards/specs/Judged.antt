@@ -1,10 +1,11 @@
 -- What is recorded of a run as a card is accepted or turned away, over devices that tell their images (profile).
-use Rattle.std.specs.Prelude.{◌≡◌, ◌⊎◌, ℕ, Bool, true, false, Option, Some, None, List, []}
+use Rattle.std.specs.Prelude.{◌≡◌, ◌⊎◌, ℕ, suc, Bool, true, false, Option, Some, None, List, [], slice_get}
 use Rattle.activity_codec.specs.declared.values.Slot.{Slot}
 use Rattle.activity_codec.specs.declared.values.Slot.TheVariants.{Driver, CoDriver}
 use Rattle.trace_model.specs.declared.Card.{Card}
 use Rattle.trace_model.specs.Trace.{TraceSecond}
-use Rattle.log_model.specs.Log.{In, found_in}
+use Rattle.log_model.specs.Log.{RunLog, In, found_in}
+use Rattle.log_model.specs.Slots.{other_slot}
 use Rattle.log_model.specs.Course.{Visit, went}
 use Rattle.safety_model.specs.Safe.{Devices}
 use Rattle.run_moments.specs.Reached.{moved_at}
@@ -13,8 +14,11 @@ use Rattle.run_keeping.specs.Books.{HaveTime}
 use Rattle.run_outcome.specs.declared.outcome.Outcome.{Outcome}
 use Rattle.run_recorded.specs.Origin.{Origin}
 use Rattle.run_within.specs.Judging.{IsNext}
+use Rattle.run_within.specs.Within.{Beginning}
+use Rattle.run_evented.specs.SoFar.{EventedNow, AreBare, ComesInTurn, puts_into, stage_in}
 use Rattle.run_acts.specs.declared.run.Run.{Run}
 use Rattle.run_acts.specs.Recording.{log_of, values_of, RunWithin, GoesOnOrCut}
+use Rattle.run_acts.specs.Evented.{EventsGoOn}
 
 -- the moment of a second behind so many of its actions
 abbrev pub moment_in : TraceSecond → (n : ℕ) → Moment
@@ -48,3 +52,24 @@ JudgesSo slot card at failed old new before after d e = (o : Origin) (done : Lis
 abbrev pub JudgesAnew : Option Card → Slot → Moment → (failed : Bool) → (old new : Run) → (before after : Outcome) → (d e : Devices) → Type 0
 JudgesAnew None slot at failed old new before after d e = failed ≡ false
 JudgesAnew (Some card) slot at failed old new before after d e = JudgesSo slot card at failed old new before after d e
+
+-- ---- its events
+
+-- A CARD IS JUDGED IN ITS TURN: at a power-on the span begins with it, no card is accepted yet, and the driver's comes before all of the co-driver's; in
+-- an action nothing was found of the card of the other slot, and none is put there.
+pub record IsInTurn (b : Beginning) (done : List TraceSecond) (s : TraceSecond) (n : ℕ) (log : RunLog) (slot : Slot) : Type 0 where
+  pub first : n ≡ 0 → AreBare (went b.run.log done).before.slots × ComesInTurn slot log s.number
+  pub starts : n ≡ 0 → b.span ≡ []
+  pub other_unfound : (m : ℕ) → n ≡ suc m → found_in log s.number (In n) (other_slot slot) ≡ []
+  pub apart : (m : ℕ) → n ≡ suc m → puts_into (other_slot slot) (slice_get s.actions m) ≡ false
+
+-- WHAT IT BRINGS IS NOTED, or the unit has failed in that: its events are told by an image that a stop might have left of it.
+abbrev pub EventsJudged : Slot → Card → Moment → (speed : ℕ) → (failed : Bool) → (old new : Run) → (before after : Outcome) → (d e : Devices) → Type 0
+EventsJudged slot card at speed failed old new before after d e = (o : Origin) (done : List TraceSecond) (s : TraceSecond) (n : ℕ) (waits fewer : List Visit) → at ≡ moment_in s n → s.speed ≡ speed →
+    (next : RunNext o done s n waits fewer old before d slot card) → IsInTurn next.goes.within.b done s n (log_of before) slot → EventedNow o done s next.goes.within.b.run (stage_in n) (log_of before) d → HaveTime e →
+    EventsGoOn failed o done s next.goes.within.b.run (In n) (stage_in n) (log_of after) e
+
+-- the card of a slot, if there is one
+abbrev pub EventsAnew : Option Card → Slot → Moment → (speed : ℕ) → (failed : Bool) → (old new : Run) → (before after : Outcome) → (d e : Devices) → Type 0
+EventsAnew None slot at speed failed old new before after d e = Unit {0}
+EventsAnew (Some card) slot at speed failed old new before after d e = EventsJudged slot card at speed failed old new before after d e

@@ -12,6 +12,7 @@ use Rattle.run_outcome.specs.declared.outcome.Outcome.{Outcome}
 use Rattle.run_acts.specs.declared.run.Run.{Run}
 use Rattle.run_acts.specs.Going.{largest_number}
 use Rattle.run_acts.specs.Recording.{RunRecorded, InSecond, IsNow}
+use Rattle.run_acts.specs.Evented.{RunEvented, InSecondEvented, LastAt}
 
 -- an item's action, where it is one
 abbrev pub action_of : Item → List Action
@@ -23,34 +24,77 @@ action_of (Act action) = action ∷ []
 abbrev pub actions_in : List Item → List Action
 actions_in items = flat_map action_of items
 
--- ---- within a second
+-- ---- what calls carry on, whatever that is
+
+-- what is carried within a second, behind so many of its actions; and what is carried between two seconds
+abbrev pub Inside : Type 1
+Inside = Origin → List TraceSecond → TraceSecond → (n : ℕ) → Run → Outcome → Devices → Type 0
+
+abbrev pub Between : Type 1
+Between = Origin → List TraceSecond → Run → Outcome → Devices → Type 0
 
 -- A SECOND HAS BEGUN to which the trace gives power: it has power, or had it as it began; or there is none up to the next minute. A unit that
 -- tells its image refuses none.
-abbrev pub HasBegun : Result Bool RunFault → Origin → List TraceSecond → TraceSecond → Run → Outcome → Devices → Type 0
-HasBegun (Ok true) o done s run out d = InSecond o done s 0 run out d
-HasBegun (Ok false) o done s run out d = RunRecorded o done run out d
-HasBegun (Err fault) o done s run out d = ⊥
+abbrev pub HasBegunBy : Between → Inside → Result Bool RunFault → Origin → List TraceSecond → TraceSecond → Run → Outcome → Devices → Type 0
+HasBegunBy R I (Ok true) o done s run out d = I o done s 0 run out d
+HasBegunBy R I (Ok false) o done s run out d = R o done run out d
+HasBegunBy R I (Err fault) o done s run out d = ⊥
 
-abbrev pub BeginsSecond : Result Bool RunFault → (speed : ℕ) → (old new : Run) → (before after : Outcome) → (d e : Devices) → Type 0
-BeginsSecond result speed old new before after d e = (o : Origin) (done : List TraceSecond) (s : TraceSecond) → IsNow s speed old → RunRecorded o done old before d → HaveTime e → HasBegun result o done s new after e
+abbrev pub BeginsBy : Between → Inside → Result Bool RunFault → (speed : ℕ) → (old new : Run) → (before after : Outcome) → (d e : Devices) → Type 0
+BeginsBy R I result speed old new before after d e = (o : Origin) (done : List TraceSecond) (s : TraceSecond) → IsNow s speed old → R o done old before d → HaveTime e → HasBegunBy R I result o done s new after e
 
 -- SOME ACTIONS of a second with power, one after another, behind those before them: it goes on, or power is cut in it.
-abbrev pub RecordsActions : List Action → (begun speed : ℕ) → (old new : Run) → (before after : Outcome) → (d e : Devices) → Type 0
-RecordsActions actions begun speed old new before after d e = (o : Origin) (done : List TraceSecond) (s : TraceSecond) → IsNow s speed old →
-    (front rest : List Action) → s.actions ≡ front ++ (actions ++ rest) → begun ≡ length front + length actions → InSecond o done s (length front) old before d → HaveTime e → InSecond o done s begun new after e
+abbrev pub ActsBy : Inside → List Action → (begun speed : ℕ) → (old new : Run) → (before after : Outcome) → (d e : Devices) → Type 0
+ActsBy I actions begun speed old new before after d e = (o : Origin) (done : List TraceSecond) (s : TraceSecond) → IsNow s speed old →
+    (front rest : List Action) → s.actions ≡ front ++ (actions ++ rest) → begun ≡ length front + length actions → I o done s (length front) old before d → HaveTime e → I o done s begun new after e
 
--- ---- from second to second
-
--- behind these seconds all is recorded; a unit that tells its image refuses none
-abbrev pub HasRun : Result (Unit {0}) RunFault → Origin → List TraceSecond → Run → Outcome → Devices → Type 0
-HasRun (Ok done_) o done run out d = RunRecorded o done run out d
-HasRun (Err fault) o done run out d = ⊥
+-- behind these seconds all is carried; a unit that tells its image refuses none
+abbrev pub HasRunBy : Between → Result (Unit {0}) RunFault → Origin → List TraceSecond → Run → Outcome → Devices → Type 0
+HasRunBy R (Ok done_) o done run out d = R o done run out d
+HasRunBy R (Err fault) o done run out d = ⊥
 
 -- SO MANY SECONDS at one speed, the first with these actions
-abbrev pub RecordsSeconds : Result (Unit {0}) RunFault → (seconds speed : ℕ) → List Action → (old new : Run) → (before after : Outcome) → (d e : Devices) → Type 0
-RecordsSeconds result seconds speed actions old new before after d e = (o : Origin) (done : List TraceSecond) → RunRecorded o done old before d → HaveTime e → HasRun result o (done ++ driven seconds old.next speed actions) new after e
+abbrev pub SecondsBy : Between → Result (Unit {0}) RunFault → (seconds speed : ℕ) → List Action → (old new : Run) → (before after : Outcome) → (d e : Devices) → Type 0
+SecondsBy R result seconds speed actions old new before after d e = (o : Origin) (done : List TraceSecond) → R o done old before d → HaveTime e → HasRunBy R result o (done ++ driven seconds old.next speed actions) new after e
 
 -- AN ITEM, where these actions wait for their second, so few that a line of the outcome can tell their number
+abbrev pub ItemBy : Between → Result (Unit {0}) RunFault → Item → List Action → (old new : Run) → (before after : Outcome) → (d e : Devices) → Type 0
+ItemBy R result item waiting old new before after d e = (o : Origin) (done : List TraceSecond) → length waiting ≤ largest_number → R o done old before d → HaveTime e → HasRunBy R result o (done ++ seconds_at old.next waiting item) new after e
+
+-- ---- what is recorded
+
+abbrev pub HasBegun : Result Bool RunFault → Origin → List TraceSecond → TraceSecond → Run → Outcome → Devices → Type 0
+HasBegun result o done s run out d = HasBegunBy RunRecorded InSecond result o done s run out d
+
+abbrev pub BeginsSecond : Result Bool RunFault → (speed : ℕ) → (old new : Run) → (before after : Outcome) → (d e : Devices) → Type 0
+BeginsSecond result speed old new before after d e = BeginsBy RunRecorded InSecond result speed old new before after d e
+
+abbrev pub RecordsActions : List Action → (begun speed : ℕ) → (old new : Run) → (before after : Outcome) → (d e : Devices) → Type 0
+RecordsActions actions begun speed old new before after d e = ActsBy InSecond actions begun speed old new before after d e
+
+abbrev pub HasRun : Result (Unit {0}) RunFault → Origin → List TraceSecond → Run → Outcome → Devices → Type 0
+HasRun result o done run out d = HasRunBy RunRecorded result o done run out d
+
+abbrev pub RecordsSeconds : Result (Unit {0}) RunFault → (seconds speed : ℕ) → List Action → (old new : Run) → (before after : Outcome) → (d e : Devices) → Type 0
+RecordsSeconds result seconds speed actions old new before after d e = SecondsBy RunRecorded result seconds speed actions old new before after d e
+
 abbrev pub RecordsItem : Result (Unit {0}) RunFault → Item → List Action → (old new : Run) → (before after : Outcome) → (d e : Devices) → Type 0
-RecordsItem result item waiting old new before after d e = (o : Origin) (done : List TraceSecond) → length waiting ≤ largest_number → RunRecorded o done old before d → HaveTime e → HasRun result o (done ++ seconds_at old.next waiting item) new after e
+RecordsItem result item waiting old new before after d e = ItemBy RunRecorded result item waiting old new before after d e
+
+-- ---- and the events with it
+
+abbrev pub BeginsEvented : Result Bool RunFault → (speed : ℕ) → (old new : Run) → (before after : Outcome) → (d e : Devices) → Type 0
+BeginsEvented result speed old new before after d e = BeginsBy RunEvented InSecondEvented result speed old new before after d e
+
+abbrev pub EventsActions : List Action → (begun speed : ℕ) → (old new : Run) → (before after : Outcome) → (d e : Devices) → Type 0
+EventsActions actions begun speed old new before after d e = ActsBy InSecondEvented actions begun speed old new before after d e
+
+abbrev pub EventsSeconds : Result (Unit {0}) RunFault → (seconds speed : ℕ) → List Action → (old new : Run) → (before after : Outcome) → (d e : Devices) → Type 0
+EventsSeconds result seconds speed actions old new before after d e = SecondsBy RunEvented result seconds speed actions old new before after d e
+
+-- so many seconds more without actions, behind one at their speed
+abbrev pub EventsMore : Result (Unit {0}) RunFault → (seconds speed : ℕ) → (old new : Run) → (before after : Outcome) → (d e : Devices) → Type 0
+EventsMore result seconds speed old new before after d e = (o : Origin) (done : List TraceSecond) → LastAt done speed → RunEvented o done old before d → HaveTime e → HasRunBy RunEvented result o (done ++ driven seconds old.next speed []) new after e
+
+abbrev pub EventsItem : Result (Unit {0}) RunFault → Item → List Action → (old new : Run) → (before after : Outcome) → (d e : Devices) → Type 0
+EventsItem result item waiting old new before after d e = ItemBy RunEvented result item waiting old new before after d e

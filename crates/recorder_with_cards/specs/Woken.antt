@@ -1,23 +1,40 @@
 -- What is recorded of a run as power comes, over devices that tell their images (profile): the unit was read, and is mended.
-use Rattle.std.specs.Prelude.{◌≡◌, ℕ, Bool, true, Result, Ok, Err, List, []}
+use Rattle.std.specs.Prelude.{◌≡◌, ℕ, suc, Bool, true, false, Result, Ok, Err, List, [], ◌∷◌, ◌++◌}
 use Rattle.trace_model.specs.Trace.{TraceSecond}
 use Rattle.log_model.specs.Log.{In}
-use Rattle.unit_course.specs.Followed.{Supply, MayPower}
+use Rattle.unit_course.specs.Lines.{cut_at}
+use Rattle.unit_course.specs.Followed.{Supply, Lost, MayPower}
 use Rattle.safety_model.specs.Safe.{Devices}
+use Rattle.run_course.specs.Moments.{and_break}
 use Rattle.run_keeping.specs.Books.{HaveTime}
 use Rattle.run_opening.specs.declared.fault.RunFault.{RunFault}
 use Rattle.run_outcome.specs.declared.outcome.Outcome.{Outcome}
 use Rattle.run_recorded.specs.Origin.{Origin}
 use Rattle.run_within.specs.Recorded.{Values, Recorded}
 use Rattle.run_within.specs.Powering.{read_values}
+use Rattle.run_evented.specs.Evented.{limit_in, Evented}
+use Rattle.run_evented.specs.Noting.{Acting}
 use Rattle.run_acts.specs.declared.run.Run.{Run}
 use Rattle.run_acts.specs.Power.{has_power}
-use Rattle.run_acts.specs.Recording.{IsOrigin, values_of, RunRecorded, InSecond, GoesOnOrCut, IsNow}
+use Rattle.run_acts.specs.Recording.{IsOrigin, log_of, values_of, RunRecorded, InSecond, GoesOnOrCut, IsNow}
+use Rattle.run_acts.specs.Evented.{WithinEvented, InSecondEvented, RunEvented}
 
 -- THE UNIT WAS MENDED, in which this last-kept minute was found, and each card judged: the second goes on before its actions; or the unit failed.
 abbrev pub ResumesSo : (kept : ℕ) → (failed : Bool) → (old new : Run) → (before after : Outcome) → (d e : Devices) → Type 0
 ResumesSo kept failed old new before after d e = (o : Origin) → IsOrigin o → (done : List TraceSecond) (s : TraceSecond) (supply : Supply) (v : Values) → Recorded o done supply v d → MayPower supply v.next →
     s.number ≡ v.next → s.has_power ≡ true → values_of old before ≡ read_values kept v → HaveTime e → GoesOnOrCut failed o done s (In 0) [] new after e
+
+-- what is noted of events with that: they are noted so far, with the interruption before; or the unit has failed before any action, and they are as
+-- the cut leaves them that is told next
+abbrev pub EventsWoken : (failed : Bool) → Origin → List TraceSecond → TraceSecond → Run → Outcome → Devices → Type 0
+EventsWoken false o done s run out d = WithinEvented o done s (In 0) [] [] Acting run out d
+EventsWoken true o done s run out d = Evented o (done ++ s ∷ []) (and_break (log_of out) (cut_at s.number true 0)) run.unfound (suc run.next) Lost d × (run.keeper.memory.limit ≡ limit_in o)
+
+-- THE UNIT WAS MENDED, and each card judged, behind seconds whose events were noted.
+abbrev pub EventsResuming : (kept speed : ℕ) → (failed : Bool) → (old new : Run) → (before after : Outcome) → (d e : Devices) → Type 0
+EventsResuming kept speed failed old new before after d e = (o : Origin) → IsOrigin o → (done : List TraceSecond) (s : TraceSecond) (supply : Supply) (v : Values) → Recorded o done supply v d → MayPower supply v.next →
+    s.number ≡ v.next → s.has_power ≡ true → s.speed ≡ speed → values_of old before ≡ read_values kept v → Evented o done v.log v.unfound v.next supply d → old.keeper.memory.limit ≡ limit_in o → HaveTime e →
+    EventsWoken failed o done s new after e
 
 -- power is back, or was lost at once: no unit that tells its image is refused
 abbrev pub WokenTo : Result (Unit {0}) RunFault → Origin → List TraceSecond → TraceSecond → Run → Outcome → Devices → Type 0
@@ -28,3 +45,12 @@ WokenTo (Err fault) o done s run out d = ⊥
 abbrev pub WakesSo : Result (Unit {0}) RunFault → (speed : ℕ) → (old new : Run) → (before after : Outcome) → (d e : Devices) → Type 0
 WakesSo result speed old new before after d e = (o : Origin) (done : List TraceSecond) (s : TraceSecond) → IsNow s speed old → RunRecorded o done old before d → has_power old.power old.next ≡ true →
     HaveTime e → WokenTo result o done s new after e
+
+-- and the events with it
+abbrev pub WokenEvented : Result (Unit {0}) RunFault → Origin → List TraceSecond → TraceSecond → Run → Outcome → Devices → Type 0
+WokenEvented (Ok done_) o done s run out d = InSecondEvented o done s 0 run out d
+WokenEvented (Err fault) o done s run out d = ⊥
+
+abbrev pub EventsWaking : Result (Unit {0}) RunFault → (speed : ℕ) → (old new : Run) → (before after : Outcome) → (d e : Devices) → Type 0
+EventsWaking result speed old new before after d e = (o : Origin) (done : List TraceSecond) (s : TraceSecond) → IsNow s speed old → RunEvented o done old before d → has_power old.power old.next ≡ true →
+    HaveTime e → WokenEvented result o done s new after e

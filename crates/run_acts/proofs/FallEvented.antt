@@ -50,23 +50,13 @@ use Rattle.run_acts.specs.Recording.{IsOrigin}
 use Rattle.run_acts.specs.NotedEvents.{AreTold, NotesEvents}
 use Rattle.run_acts.specs.EventCrews.{AreKnownBy}
 use Rattle.run_acts.specs.Evented.{EventsGoOn}
+use Rattle.run_acts.specs.ActsEvented.{IsFailing}
 use Rattle.run_acts.proofs.EventCrews.{AllSitWell, all-well, torn-sits, torn-leaves, sessions-known, faults-told}
 use Rattle.run_acts.proofs.Named.{crew-valid, without-valid}
 use Rattle.run_acts.proofs.Numbers.{AreLong, notes-at}
 use Rattle.run_acts.proofs.RoundFaults.{AddsFaults}
 
 -- ---- a call
-
--- a call on the unit has failed at a moment: the cut may be told
-pub record IsFailing (o : Origin) (done : List TraceSecond) (s : TraceSecond) (p : Progress) (at : Phase) (log : RunLog) (after : Device → ℕ) : Type 0 where
-  pub waits : List Visit
-  pub mid : Device → ℕ
-  pub now : Device → ℕ
-  pub moment : Moment p (went p.log done).before s at log waits mid now
-  pub more : IsMore now after
-  pub rose : RoseBy 1 (mid Recorder) (after Recorder)
-  pub rest : List Action
-  pub left : IsLeft s at rest
 
 -- IT NOTES WHAT ITS LINES ADD, or has failed in that
 pub call-evented : (d e : Devices) → ACallNotes d e → AFailureCuts d e → (o : Origin) → AreLong o → (done : List TraceSecond) (s : TraceSecond) (p : Progress) (span : List Told) → BeginsNow o done p span s → (at : Phase) (log later : RunLog) (vs : List UnitEvent) →

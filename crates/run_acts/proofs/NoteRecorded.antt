@@ -91,7 +91,9 @@ use Rattle.run_acts.specs.NotedEvents.{NotesEvents}
 use Rattle.run_acts.specs.Noting.{fall_events}
 use Rattle.run_acts.specs.Evented.{EventsGoOn}
 use Rattle.run_acts.proofs.RoundFaults.{none-added}
-use Rattle.run_acts.proofs.FallEvented.{IsFailing, call-evented, begins-now, seated-untorn, seated-out, seated-falls}
+use Rattle.run_acts.specs.ActsEvented.{IsFailing}
+use Rattle.run_recorded.specs.Beside.{HaveLeftMore}
+use Rattle.run_acts.proofs.FallEvented.{call-evented, begins-now, seated-untorn, seated-out, seated-falls}
 
 -- ---- the devices
 
@@ -321,6 +323,27 @@ module _ (o : Origin) (done : List TraceSecond) (s : TraceSecond) (n : ℕ) (run
         left = left;
       })
 
+  -- what was left might be left still
+  pub unit-leaves : (actions : List Action) → IsLeft s (In n) actions → (failed : Bool) → HasCause U V failed →
+      HaveLeftMore o (devices U X Y) (devices V X Y) × (failed ≡ true → IsFailing o done s w.within.b.run (In n) (log_of out) (breakdowns_of (devices V X Y)))
+  unit-leaves actions left failed cause = (
+    (unit-goes o run.keeper.cabin.cards U V X Y unit-began unit cause.breakdowns).left,
+    λ bad. record {
+      waits = [];
+      mid = w.within.b.broken;
+      now = breakdowns_of (devices U X Y);
+      moment = w.within.moment;
+      more = (unit-goes o run.keeper.cabin.cards U V X Y unit-began unit cause.breakdowns).breakdowns;
+      rose = rose-on (w.within.b.broken Recorder) U.breakdowns V.breakdowns w.within.moment.unit (rose-by U.breakdowns V.breakdowns (cause.breaks w.within.powered.lit.works bad));
+      rest = actions;
+      left = left;
+    },
+  )
+
+-- one call behind the other
+pub left-then : (o : Origin) (d e f : Devices) → HaveLeftMore o d e → HaveLeftMore o e f → HaveLeftMore o d f
+left-then o d e f h k = record { unit = λ x was. k.unit x (h.unit x was); card = λ card x was. k.card card x (h.card card x was) }
+
 -- ---- A NOTE ON A CARD, and where that failed its tear, which is noted on the unit
 
 -- the unit among three devices
@@ -488,6 +511,43 @@ module _ (c : Card) (slot : Slot) (at : Moment) (run : Run) (breaks : Listed Bre
           left = left;
         }))
 
+    -- what was left might be left still, and where the unit has failed the cut may be told
+    pub noted-leaves : (actions : List Action) → IsLeft s (In at.begun) actions → (fell_ : Bool) (new : Run) (after : Listed Break) → IsNotedOn c slot at run new breaks after fell_ → HasBroken X Y (falls_by fell_) → HasCause X Y fell_ →
+        HaveLeftMore o d e × (failed ≡ true → IsFailing o done s w.within.b.run (In at.begun) (log_of (record out { breaks = after })) (breakdowns_of e))
+    noted-leaves actions left false new after is broken on_card = (
+      (goes on_card.breakdowns).left,
+      λ bad.
+          subst (λ (l : Listed Break). IsFailing o done s w.within.b.run (In at.begun) (log_of (record out { breaks = l })) (breakdowns_of e)) (no-lines breaks ∙ sym is.told)
+          (record {
+            waits = [];
+            mid = w.within.b.broken;
+            now = breakdowns_of d;
+            moment = w.within.moment;
+            more = (goes on_card.breakdowns).breakdowns;
+            rose = broke bad;
+            rest = actions;
+            left = left;
+          }),
+    )
+    noted-leaves actions left true new after is broken on_card =
+        let k = called on_card broken in (
+          (goes on_card.breakdowns).left,
+          λ bad.
+              subst (λ (l : Listed Break). IsFailing o done s w.within.b.run (In at.begun) (log_of (record out { breaks = l })) (breakdowns_of e)) (sym is.told)
+              (record {
+                waits = [];
+                mid = w.within.b.broken;
+                now = breakdowns_of e;
+                moment = (card-torn w.within.b.run (went w.within.b.run.log done).before s (In at.begun) (log_of (record out { breaks = breaks })) [] w.within.b.broken (breakdowns_of d) (breakdowns_of e) w.within.moment slot (tear_of slot at) k.here k.power
+                    (seated-untorn o w.origin done s (In at.begun) v d w.within slot c seat (ap is_some has) (ungiven_of span) cabin) c
+                    (seated-out o w.origin done s (In at.begun) v d w.within slot c seat (ap is_some has) (ungiven_of span) cabin) k.broke).0;
+                more = λ device. omega arith;
+                rose = broke bad;
+                rest = actions;
+                left = left;
+              }),
+        )
+
   pub note-recorded : (new : Run) (after : Listed Break) (fell : Bool) → IsNotedOn c slot at run new breaks after fell → HasBroken X Y (falls_by fell) → HasCause X Y fell → IsNoteRecorded (In at.begun) failed run new breaks after (arranged c U X Z) (arranged c V Y Z)
   note-recorded new after fell is broken on_card = λ o done s out w first. noted o done s out w first fell new after is broken on_card
 
@@ -495,8 +555,8 @@ module _ (c : Card) (slot : Slot) (at : Moment) (run : Run) (breaks : Listed Bre
 noted-lines : (who : Option Card) (slot : Slot) (at : Moment) (old new : Run) (breaks after : Listed Break) (fell : Bool) → IsNotedIn who slot at old new breaks after fell →
     (more : List Break) × (after ≡ with_lines more breaks) × AllByRecursion (λ (b : Break). second_of b ≡ at.second) more
 noted-lines None slot at old new breaks after fell is = ([], is.1 ∙ no-lines breaks, tt)
-noted-lines (Some card) slot at old new breaks after false is = ([], is.told, tt)
-noted-lines (Some card) slot at old new breaks after true is = (tear_of slot at ∷ [], is.told, (refl, tt))
+noted-lines (Some card) slot at old new breaks after false is = ([], is.0.told, tt)
+noted-lines (Some card) slot at old new breaks after true is = (tear_of slot at ∷ [], is.0.told, (refl, tt))
 
 pub power-noted : (o : Origin) (done : List TraceSecond) (s : TraceSecond) (run new : Run) (out : Outcome) (breaks after : Listed Break) (d : Devices) (w : RunWithin o done s (In 0) [] [] run (record out { breaks = breaks }) d) (who : Option Card) (slot : Slot) (fell : Bool) →
     IsNotedIn who slot (now_moment run) run new breaks after fell → ComesPower done (record out { breaks = breaks }) → ComesPower done (record out { breaks = after })
@@ -529,6 +589,18 @@ some-evented c slot at run breaks U V X Y Z unit_whole whole later size some val
     let one = some-one (session_of run.keeper.cabin.cards c) some in
     noted-evented c slot at run breaks U V X Y Z unit_whole whole later size one.0 (subst (λ (o : Option Accepted). IfSome o (λ a. IsValue a.session)) one.1 value) one.1 seat second late span stands ends cabin
     (subst (λ (o : Option Accepted). IfSome o (λ a. LeavesOnly X Y (IsNote a.session.application))) one.1 card) unit failed cause o done s out w first small none follows actions left fell new after is broken on_card notes now
+
+pub some-leaves : (c : Card) (slot : Slot) (at : Moment) (run : Run) (breaks : Listed Break) (U V X Y Z : State) → IsCoherent U → IsCoherent X → IsCoherent Y → LARGEST_IMAGE ≤ X.size → is_some (session_of run.keeper.cabin.cards c) ≡ true →
+    IfSome (session_of run.keeper.cabin.cards c) (λ a. IsValue a.session) → card_in (seat_in run.keeper.cabin.slots.seats slot) ≡ Some c → at.second ≡ run.next → at.late ≡ false →
+    (span : Span) → StandsFor run.minutes span → end_of span ≡ run.next → Stands (ungiven_of span) None run.keeper.cabin →
+    IfSome (session_of run.keeper.cabin.cards c) (λ a. LeavesOnly X Y (IsNote a.session.application)) → LeavesOnly U V LeavesJournal → (failed : Bool) → HasCause U V failed →
+    (o : Origin) (done : List TraceSecond) (s : TraceSecond) (out : Outcome) (w : RunWithin o done s (In at.begun) [] [] run (record out { breaks = breaks }) (arranged c U X Z)) → (In at.begun ≡ In 0 → ComesPower done (record out { breaks = breaks })) →
+    (actions : List Action) → IsLeft s (In at.begun) actions → (fell : Bool) (new : Run) (after : Listed Break) → IsNotedOn c slot at run new breaks after fell → HasBroken X Y (falls_by fell) → HasCause X Y fell →
+    HaveLeftMore o (arranged c U X Z) (arranged c V Y Z) × (failed ≡ true → IsFailing o done s w.within.b.run (In at.begun) (log_of (record out { breaks = after })) (breakdowns_of (arranged c V Y Z)))
+some-leaves c slot at run breaks U V X Y Z unit_whole whole later size some value seat second late span stands ends cabin card unit failed cause o done s out w first actions left fell new after is broken on_card =
+    let one = some-one (session_of run.keeper.cabin.cards c) some in
+    noted-leaves c slot at run breaks U V X Y Z unit_whole whole later size one.0 (subst (λ (o : Option Accepted). IfSome o (λ a. IsValue a.session)) one.1 value) one.1 seat second late span stands ends cabin
+    (subst (λ (o : Option Accepted). IfSome o (λ a. LeavesOnly X Y (IsNote a.session.application))) one.1 card) unit failed cause o done s out w first actions left fell new after is broken on_card
 
 -- ---- A PLACE IS TOLD OF
 

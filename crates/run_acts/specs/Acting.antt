@@ -1,5 +1,5 @@
 -- What the actions of a second do that need no card to be judged, by value (profile).
-use Rattle.std.specs.Prelude.{◌≡◌, ◌⊎◌, ℕ, ◌+◌, ◌/◌, ◌<◌, ◌≤◌, Bool, true, false, Option, Some, None, IfSome, List, [], ◌∷◌, ◌++◌}
+use Rattle.std.specs.Prelude.{◌≡◌, ◌⊎◌, ℕ, ◌+◌, ◌/◌, ◌<◌, ◌≤◌, Bool, true, false, Option, Some, None, IfSome, is_some, List, [], ◌∷◌, ◌++◌}
 use Rattle.activity_codec.specs.declared.values.Slot.{Slot}
 use Rattle.trace_model.specs.declared.Card.{Card}
 use Rattle.minute_model.specs.declared.Minute.{Minute}
@@ -136,7 +136,7 @@ IsPlaced (Some card) slot at old new breaks after fell = IsNotedOn card slot at 
 abbrev pub now_moment : Run → Moment
 now_moment run = record { second = run.next; begun = 0; late = false }
 
--- IT IS NOTED ON THE CARD OF A SLOT, where there is one that is accepted
+-- IT IS NOTED ON THE CARD OF A SLOT, where there is one that is accepted, which alone may fall
 abbrev pub IsNotedIn : Option Card → Slot → Moment → (old new : Run) → (breaks after : Listed Break) → (fell : Bool) → Type 0
-IsNotedIn None slot at old new breaks after fell = (new ≡ old) × (after ≡ breaks)
-IsNotedIn (Some card) slot at old new breaks after fell = IsNotedOn card slot at old new breaks after fell
+IsNotedIn None slot at old new breaks after fell = (new ≡ old) × (after ≡ breaks) × (fell ≡ false)
+IsNotedIn (Some card) slot at old new breaks after fell = IsNotedOn card slot at old new breaks after fell × (fell ≡ true → is_some (session_of old.keeper.cabin.cards card) ≡ true)

@@ -21,6 +21,7 @@ ghost use Rattle.run_acts.specs.declared.run.Power.TheVariants.{Lit};
 ghost use Rattle.run_acts.specs.Going.{first_second, end_of_seconds, IsHeld, IsLit};
 ghost use Rattle.run_acts.specs.Room.{falls_of};
 ghost use Rattle.run_acts.specs.Acting.{IsNotedOn, IsNotedIn, falls_by, now_moment};
+ghost use Rattle.run_acts.specs.ActsEvented.{NoteLeaves};
 ghost use Rattle.run_acts.specs.Noting.{GapReach, IsGapNoted, IsNoteRecorded, NotesFall, AreGapEvents};
 
 use crate::run::Run;
@@ -57,6 +58,7 @@ pub fn note_gap<M: Medium, C: Chip, D: Chip>(
     requires breaks { length breaks.old.items + falls_of run.old.keeper.cabin ≤ breaks.old.room }
     ensures noted { (reach : GapReach) × IsGapNoted (gap_of kept run.old.next) (now_moment run.old) (is_err result) run.old run.new breaks.old breaks.new reach }
     ensures recorded { IsNoteRecorded (In 0) (is_err result) run.old run.new breaks.old breaks.new (devices (M.state unit.old) (C.state card_a.old) (D.state card_b.old)) (devices (M.state unit.new) (C.state card_a.new) (D.state card_b.new)) }
+    ensures leaves { NoteLeaves (is_err result) run.old breaks.old breaks.new (devices (M.state unit.old) (C.state card_a.old) (D.state card_b.old)) (devices (M.state unit.new) (C.state card_a.new) (D.state card_b.new)) }
     ensures events { (reach : GapReach) × (vs : List UnitEvent) × AreGapEvents (gap_of kept run.old.next) (now_moment run.old) (is_err result) run.old run.new breaks.old breaks.new reach vs × NotesEvents vs (is_err result) (devices (M.state unit.old) (C.state card_a.old) (D.state card_b.old)) (devices (M.state unit.new) (C.state card_a.new) (D.state card_b.new)) }
     ensures rings { LeavesRings (M.state unit.old) (M.state unit.new) }
     ensures only { run.new ≡ record run.old { keeper = run.new.keeper } }
@@ -98,6 +100,7 @@ fn note_in<M: Medium, C: Chip, D: Chip>(
     requires breaks { length breaks.old.items + falls_of run.old.keeper.cabin ≤ breaks.old.room }
     ensures noted { (fell : Bool) × IsNotedIn (card_in (seat_in run.old.keeper.cabin.slots.seats slot)) slot (now_moment run.old) run.old run.new breaks.old breaks.new fell × (is_err result ≡ true → fell ≡ true) }
     ensures recorded { IsNoteRecorded (In 0) (is_err result) run.old run.new breaks.old breaks.new (devices (M.state unit.old) (C.state card_a.old) (D.state card_b.old)) (devices (M.state unit.new) (C.state card_a.new) (D.state card_b.new)) }
+    ensures leaves { NoteLeaves (is_err result) run.old breaks.old breaks.new (devices (M.state unit.old) (C.state card_a.old) (D.state card_b.old)) (devices (M.state unit.new) (C.state card_a.new) (D.state card_b.new)) }
     ensures events { NotesFall (λ fell. IsNotedIn (card_in (seat_in run.old.keeper.cabin.slots.seats slot)) slot (now_moment run.old) run.old run.new breaks.old breaks.new fell) run.old.next (is_err result) run.new (devices (M.state unit.old) (C.state card_a.old) (D.state card_b.old)) (devices (M.state unit.new) (C.state card_a.new) (D.state card_b.new)) }
     ensures rings { LeavesRings (M.state unit.old) (M.state unit.new) }
     ensures only { run.new ≡ record run.old { keeper = run.new.keeper } }

@@ -4,7 +4,9 @@ use Rattle.trace_model.specs.declared.Action.{Action}
 use Rattle.safety_model.specs.Safe.{Devices}
 use Rattle.run_rule.specs.Between.{devices}
 use Rattle.run_acts.specs.Going.{largest_number}
-use Rattle.recorder_with_cards.specs.Recorded.{action_of, actions_in, RecordsActions}
+use Rattle.run_acts.specs.Recording.{InSecond}
+use Rattle.run_acts.specs.Evented.{InSecondEvented}
+use Rattle.recorder_with_cards.specs.Recorded.{action_of, actions_in, RecordsActions, EventsActions}
 use Rattle.recorder_with_cards.proofs.ActsRecorded.{no-action, actions-then}
 use Rattle.recorder_with_cards.proofs.Waiting.{actions-more, few-actions, one-action}
 use Rattle.std.proofs.lemmas.List.{length-take}
@@ -39,7 +41,11 @@ loop-i-init g c = record {
   recorded = λ power many few.
       let d : Devices = devices (g.M.Medium.state c.args.unit.now) (g.C.Chip.state c.args.card_a.now) (g.D.Chip.state c.args.card_b.now) in
       subst (λ (xs : List Action). RecordsActions xs (c.args.from - c.args.from) c.args.speed c.args.run.now c.args.run.now c.args.outcome.now c.args.outcome.now d d) (sym (ap actions_in (between-none c.args.from c.args.items.now)))
-      (no-action (c.args.from - c.args.from) c.args.speed c.args.run.now c.args.outcome.now d);
+      (no-action InSecond (c.args.from - c.args.from) c.args.speed c.args.run.now c.args.outcome.now d);
+  evented = λ power many few.
+      let d : Devices = devices (g.M.Medium.state c.args.unit.now) (g.C.Chip.state c.args.card_a.now) (g.D.Chip.state c.args.card_b.now) in
+      subst (λ (xs : List Action). EventsActions xs (c.args.from - c.args.from) c.args.speed c.args.run.now c.args.run.now c.args.outcome.now c.args.outcome.now d d) (sym (ap actions_in (between-none c.args.from c.args.items.now)))
+      (no-action InSecondEvented (c.args.from - c.args.from) c.args.speed c.args.run.now c.args.outcome.now d);
   still = λ dark. (dark, refl, refl, refl);
   time = λ h. h;
   later = later-same (devices (g.M.Medium.state c.args.unit.now) (g.C.Chip.state c.args.card_a.now) (g.D.Chip.state c.args.card_b.now));
@@ -81,8 +87,27 @@ loop-i-preserved g c =
           let f : Devices = devices (g.M.Medium.state c.act_item.new.unit) (g.C.Chip.state c.act_item.new.card_a) (g.D.Chip.state c.act_item.new.card_b) in
           subst (λ (n : ℕ). RecordsActions (actions_in (between from (i + 1) items)) n c.args.speed c.args.run.now c.act_item.new.run c.args.outcome.now c.act_item.new.outcome d f) (let same : c.number_of.result ≡ i + 1 - from = omega (arith, number, low) in same)
           (subst (λ (xs : List Action). RecordsActions xs c.number_of.result c.args.speed c.args.run.now c.act_item.new.run c.args.outcome.now c.act_item.new.outcome d f) (sym more)
-          (actions-then so (action_of item) (i - from) c.number_of.result c.args.speed c.args.run.now c.loop-i.run c.act_item.new.run c.args.outcome.now c.loop-i.outcome c.act_item.new.outcome d m f
+          (actions-then InSecond so (action_of item) (i - from) c.number_of.result c.args.speed c.args.run.now c.loop-i.run c.act_item.new.run c.args.outcome.now c.loop-i.outcome c.act_item.new.outcome d m f
           (omega (arith, number, now)) v.next e.time (v.recorded power before (omega (arith, few, low))) (e.recorded power)));
+      evented = λ power many few.
+          let i : ℕ = c.loop-i.i in
+          let from : ℕ = c.args.from in
+          let low : from ≤ i = c.loop-i.auto.i in
+          let item = c.get.result.now in
+          let so = actions_in (between from i items) in
+          let more = actions-more items from i item low c.get.ensures in
+          let parts = few-actions items from i item low c.get.ensures in
+          let one = one-action item in
+          let before : length so ≡ i - from = omega (arith, parts.0, parts.1, one, many, low) in
+          let now : length (action_of item) ≡ 1 = omega (arith, parts.0, parts.1, one, many, low) in
+          let number : c.number_of.result ≡ i - from + 1 = let n = c.number_of.ensures in omega (arith, n, few, low) in
+          let d : Devices = devices (g.M.Medium.state c.args.unit.now) (g.C.Chip.state c.args.card_a.now) (g.D.Chip.state c.args.card_b.now) in
+          let m : Devices = devices (g.M.Medium.state c.loop-i.unit) (g.C.Chip.state c.loop-i.card_a) (g.D.Chip.state c.loop-i.card_b) in
+          let f : Devices = devices (g.M.Medium.state c.act_item.new.unit) (g.C.Chip.state c.act_item.new.card_a) (g.D.Chip.state c.act_item.new.card_b) in
+          subst (λ (n : ℕ). EventsActions (actions_in (between from (i + 1) items)) n c.args.speed c.args.run.now c.act_item.new.run c.args.outcome.now c.act_item.new.outcome d f) (let same : c.number_of.result ≡ i + 1 - from = omega (arith, number, low) in same)
+          (subst (λ (xs : List Action). EventsActions xs c.number_of.result c.args.speed c.args.run.now c.act_item.new.run c.args.outcome.now c.act_item.new.outcome d f) (sym more)
+          (actions-then InSecondEvented so (action_of item) (i - from) c.number_of.result c.args.speed c.args.run.now c.loop-i.run c.act_item.new.run c.args.outcome.now c.loop-i.outcome c.act_item.new.outcome d m f
+          (omega (arith, number, now)) v.next e.time (v.evented power before (omega (arith, few, low))) (e.evented power)));
       still = λ dark.
           let was = v.still dark in
           let now = e.still was.0 in
@@ -129,6 +154,14 @@ returns-clause-recorded g c =
 
 pub returns-clause-later : goal.returns-clause-later
 returns-clause-later g c = c.loop-i.invariant.later
+
+pub returns-clause-evented : goal.returns-clause-evented
+returns-clause-evented g c =
+    let end : c.args.to ≤ c.loop-i.i = c.loop-i-test.false in
+    let some : c.loop-i.i ≤ c.args.to = c.loop-i.auto.i-end c.requires.first in
+    subst (λ (n : ℕ). c.args.has_power ≡ true → length (actions_in (between c.args.from n c.args.items.now)) ≡ n - c.args.from → n - c.args.from ≤ largest_number
+    → EventsActions (actions_in (between c.args.from n c.args.items.now)) (n - c.args.from) c.args.speed c.args.run.now c.loop-i.run c.args.outcome.now c.loop-i.outcome (devices (g.M.Medium.state c.args.unit.now) (g.C.Chip.state c.args.card_a.now) (g.D.Chip.state c.args.card_b.now)) (devices (g.M.Medium.state c.loop-i.unit) (g.C.Chip.state c.loop-i.card_a) (g.D.Chip.state c.loop-i.card_b)))
+    (let same : c.loop-i.i ≡ c.args.to = omega (arith, end, some) in same) c.loop-i.invariant.evented
 
 -- ---- how often the unit broke down
 

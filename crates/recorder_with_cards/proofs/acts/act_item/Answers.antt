@@ -7,7 +7,9 @@ use Rattle.run_acts.specs.Power.{is_lit}
 use Rattle.recorder_with_cards.specs.Acting.{IsItemActed}
 use Rattle.run_rule.specs.Between.{devices}
 use Rattle.safety_model.specs.Safe.{Devices}
-use Rattle.recorder_with_cards.specs.Recorded.{action_of, RecordsActions}
+use Rattle.recorder_with_cards.specs.Recorded.{action_of, RecordsActions, EventsActions}
+use Rattle.run_acts.specs.Recording.{InSecond}
+use Rattle.run_acts.specs.Evented.{InSecondEvented}
 use Rattle.recorder_with_cards.proofs.ActsRecorded.{no-action}
 use Rattle.recorder_with_cards.proofs.Allowed.{count-is}
 use Rattle.run_outcome.proofs.Broken.{broke-none}
@@ -37,18 +39,34 @@ returns-in-Act-clause-still g c = λ dark.
 pub returns-in-Run-clause-recorded : goal.returns-in-Run-clause-recorded
 returns-in-Run-clause-recorded g c = λ power.
     let d : Devices = devices (g.M.Medium.state c.args.unit.now) (g.C.Chip.state c.args.card_a.now) (g.D.Chip.state c.args.card_b.now) in
-    subst (λ (xs : List Action). RecordsActions xs c.args.begun c.args.speed c.args.run.now c.args.run.now c.args.outcome.now c.args.outcome.now d d) (sym (ap action_of c.in-Run.is)) (no-action c.args.begun c.args.speed c.args.run.now c.args.outcome.now d)
+    subst (λ (xs : List Action). RecordsActions xs c.args.begun c.args.speed c.args.run.now c.args.run.now c.args.outcome.now c.args.outcome.now d d) (sym (ap action_of c.in-Run.is)) (no-action InSecond c.args.begun c.args.speed c.args.run.now c.args.outcome.now d)
 
 pub returns-in-Off-clause-recorded : goal.returns-in-Off-clause-recorded
 returns-in-Off-clause-recorded g c = λ power.
     let d : Devices = devices (g.M.Medium.state c.args.unit.now) (g.C.Chip.state c.args.card_a.now) (g.D.Chip.state c.args.card_b.now) in
-    subst (λ (xs : List Action). RecordsActions xs c.args.begun c.args.speed c.args.run.now c.args.run.now c.args.outcome.now c.args.outcome.now d d) (sym (ap action_of c.in-Off.is)) (no-action c.args.begun c.args.speed c.args.run.now c.args.outcome.now d)
+    subst (λ (xs : List Action). RecordsActions xs c.args.begun c.args.speed c.args.run.now c.args.run.now c.args.outcome.now c.args.outcome.now d d) (sym (ap action_of c.in-Off.is)) (no-action InSecond c.args.begun c.args.speed c.args.run.now c.args.outcome.now d)
 
 pub returns-in-Act-clause-time : goal.returns-in-Act-clause-time
 returns-in-Act-clause-time g c = c.act.ensures.time
 
 pub returns-in-Act-clause-later : goal.returns-in-Act-clause-later
 returns-in-Act-clause-later g c = c.act.ensures.later
+
+-- ---- and the events with it
+
+pub returns-in-Act-clause-evented : goal.returns-in-Act-clause-evented
+returns-in-Act-clause-evented g c = λ power.
+    subst (λ (xs : List Action). EventsActions xs c.args.begun c.args.speed c.args.run.now c.act.new.run c.args.outcome.now c.act.new.outcome (devices (g.M.Medium.state c.args.unit.now) (g.C.Chip.state c.args.card_a.now) (g.D.Chip.state c.args.card_b.now)) (devices (g.M.Medium.state c.act.new.unit) (g.C.Chip.state c.act.new.card_a) (g.D.Chip.state c.act.new.card_b))) (sym (ap action_of c.in-Act.is)) (c.act.ensures.evented power)
+
+pub returns-in-Run-clause-evented : goal.returns-in-Run-clause-evented
+returns-in-Run-clause-evented g c = λ power.
+    let d : Devices = devices (g.M.Medium.state c.args.unit.now) (g.C.Chip.state c.args.card_a.now) (g.D.Chip.state c.args.card_b.now) in
+    subst (λ (xs : List Action). EventsActions xs c.args.begun c.args.speed c.args.run.now c.args.run.now c.args.outcome.now c.args.outcome.now d d) (sym (ap action_of c.in-Run.is)) (no-action InSecondEvented c.args.begun c.args.speed c.args.run.now c.args.outcome.now d)
+
+pub returns-in-Off-clause-evented : goal.returns-in-Off-clause-evented
+returns-in-Off-clause-evented g c = λ power.
+    let d : Devices = devices (g.M.Medium.state c.args.unit.now) (g.C.Chip.state c.args.card_a.now) (g.D.Chip.state c.args.card_b.now) in
+    subst (λ (xs : List Action). EventsActions xs c.args.begun c.args.speed c.args.run.now c.args.run.now c.args.outcome.now c.args.outcome.now d d) (sym (ap action_of c.in-Off.is)) (no-action InSecondEvented c.args.begun c.args.speed c.args.run.now c.args.outcome.now d)
 
 -- ---- how often the unit broke down
 

@@ -18,7 +18,7 @@ use Rattle.safety_model.specs.Safe.{Devices}
 use Rattle.run_acts.specs.declared.run.Run.{Run}
 use Rattle.run_acts.specs.declared.run.Power.{Power}
 use Rattle.run_acts.specs.Power.{is_lit}
-use Rattle.run_acts.specs.Recording.{InSecond, RunWithin, GoesOnOrFails}
+use Rattle.run_acts.specs.Recording.{InSecond, RunWithin, GoesOnOrFails, log_of}
 use Rattle.run_acts.specs.Going.{IsAt}
 use Rattle.run_acts.specs.Room.{falls_of}
 use Rattle.run_acts.proofs.Standing.{cut-at}
@@ -27,6 +27,11 @@ use Rattle.recorder_with_cards.specs.Acting.{put_count, moment_of, IsDone, IsAct
 use Rattle.recorder_with_cards.proofs.ActsRecorded.{as-lit, lit-in, cut-in, refused, cut, left}
 use Rattle.recorder_with_cards.proofs.Allowed.{fine-selected}
 use Rattle.recorder_with_cards.proofs.Rooms.{few-wait, room-cut}
+use Rattle.run_evented.specs.Noting.{Acting}
+use Rattle.run_acts.specs.Evented.{WithinEvented, EventsGoOn}
+use Rattle.recorder_with_cards.proofs.ActsEvented.{in-evented_cut, evented-lit, in-evented_lit, evented-on, evented-cuts, refused-evented}
+use Rattle.run_keeping.specs.Keeping.{with_lines}
+use Rattle.recorder_with_cards.proofs.Staying.{done-watched}
 use Rattle.run_keeping.proofs.Later.{later-same}
 use Rattle.run_outcome.proofs.Broken.{broke-none}
 use Rattle.run_acts.proofs.Uncut.{uncut-broke, cut-broke}
@@ -198,6 +203,63 @@ returns-then-is_err-clause-later g c = c.carry_out.ensures.later
 
 pub returns-else-is_err-clause-later : goal.returns-else-is_err-clause-later
 returns-else-is_err-clause-later g c = c.carry_out.ensures.later
+
+-- ---- and the events with it
+
+pub returns-in-Err-clause-evented : goal.returns-in-Err-clause-evented
+returns-in-Err-clause-evented g c = λ o done s now front rest are begun in_ time.
+    let here : suc (length front) ≡ c.args.begun = omega (arith, begun) in
+    let run = c.args.run.now in
+    let out = c.args.outcome.now in
+    let d : Devices = devices (g.M.Medium.state c.args.unit.now) (g.C.Chip.state c.args.card_a.now) (g.D.Chip.state c.args.card_b.now) in
+    let told : Outcome = record out { refused = c.refuse.new.refused } in
+    let h = evented-lit o done s run out d (length front) (ap is_lit c.requires.lit) in_ in
+    in-evented_lit o done s run told d c.args.begun
+    (subst (λ (n : ℕ). WithinEvented o done s (In n) [] [] Acting run told d) here
+    (refused-evented o done s c.args.speed run out d now front c.args.action rest are h c.in-Err.fault (sym c.in-Err.ensures) told (ap (λ (l : Listed Refused). record out { refused = l }) c.refuse.ensures)))
+
+pub returns-then-is_err-clause-evented : goal.returns-then-is_err-clause-evented
+returns-then-is_err-clause-evented g c =
+    let allowed : refusal (logged c.args.run.now.keeper.cabin.slots.seats) c.args.speed c.args.action ≡ None = first_of (search rules, grind (arith, common_steps)) in
+    λ o done s now front rest are begun in_ time.
+    let run = c.args.run.now in
+    let out = c.args.outcome.now in
+    let mid : Run = c.carry_out.new.run in
+    let told : Outcome = c.carry_out.new.outcome in
+    let d : Devices = devices (g.M.Medium.state c.args.unit.now) (g.C.Chip.state c.args.card_a.now) (g.D.Chip.state c.args.card_b.now) in
+    let e : Devices = devices (g.M.Medium.state c.carry_out.new.unit) (g.C.Chip.state c.carry_out.new.card_a) (g.D.Chip.state c.carry_out.new.card_b) in
+    let failed : is_err c.carry_out.result ≡ true = sym c.is_err.ensures.value ∙ c.if-is_err.true in
+    let here : c.args.begun ≡ suc (length front) = omega (arith, begun) in
+    let h = evented-lit o done s run out d (length front) (ap is_lit c.requires.lit) in_ in
+    let w = h.within in
+    let fails = subst (λ (b : Bool). GoesOnOrFails b o done s (In c.args.begun) [] mid told e w.within.b) failed (c.carry_out.ensures.recorded o done s now front rest are here allowed w time) in
+    let events = subst (λ (b : Bool). EventsGoOn b o done s w.within.b.run (In c.args.begun) Acting (log_of told) e) failed (c.carry_out.ensures.evented o done s now front rest are here allowed w h.evented time) in
+    let after : Outcome = record told { breaks = c.cut.new.breaks } in
+    let stays = c.carry_out.ensures.stays in
+    let is_after : after ≡ record told { breaks = with_lines (cut_at mid.next true c.args.begun ∷ []) told.breaks } = ap (λ (l : Listed Break). record told { breaks = l }) c.cut.ensures.breaks in
+    in-evented_cut o done s c.cut.new.self after e c.args.begun
+    (evented-cuts o done s (length front) c.args.begun run mid c.cut.new.self out told after d e now.number h
+    (cut o done s c.args.begun rest mid c.cut.new.self told after e w.origin (now.number ∙ sym stays.next) (left front rest c.args.action s here are) fails c.cut.ensures.run is_after)
+    events (done-watched c.args.action (moment_of c.args.begun run) c.args.speed (is_err c.carry_out.result) run mid out told c.carry_out.ensures.done) stays.next stays.unfound c.cut.ensures.run is_after)
+
+pub returns-else-is_err-clause-evented : goal.returns-else-is_err-clause-evented
+returns-else-is_err-clause-evented g c =
+    let allowed : refusal (logged c.args.run.now.keeper.cabin.slots.seats) c.args.speed c.args.action ≡ None = first_of (search rules, grind (arith, common_steps)) in
+    λ o done s now front rest are begun in_ time.
+    let run = c.args.run.now in
+    let out = c.args.outcome.now in
+    let mid : Run = c.carry_out.new.run in
+    let told : Outcome = c.carry_out.new.outcome in
+    let d : Devices = devices (g.M.Medium.state c.args.unit.now) (g.C.Chip.state c.args.card_a.now) (g.D.Chip.state c.args.card_b.now) in
+    let e : Devices = devices (g.M.Medium.state c.carry_out.new.unit) (g.C.Chip.state c.carry_out.new.card_a) (g.D.Chip.state c.carry_out.new.card_b) in
+    let well : is_err c.carry_out.result ≡ false = sym c.is_err.ensures.value ∙ c.if-is_err.false in
+    let here : c.args.begun ≡ suc (length front) = omega (arith, begun) in
+    let h = evented-lit o done s run out d (length front) (ap is_lit c.requires.lit) in_ in
+    let w = h.within in
+    let goes = subst (λ (b : Bool). GoesOnOrFails b o done s (In c.args.begun) [] mid told e w.within.b) well (c.carry_out.ensures.recorded o done s now front rest are here allowed w time) in
+    let events = subst (λ (b : Bool). EventsGoOn b o done s w.within.b.run (In c.args.begun) Acting (log_of told) e) well (c.carry_out.ensures.evented o done s now front rest are here allowed w h.evented time) in
+    in-evented_lit o done s mid told e c.args.begun
+    (evented-on o done s (length front) c.args.begun run mid out told d e h goes events (done-watched c.args.action (moment_of c.args.begun run) c.args.speed (is_err c.carry_out.result) run mid out told c.carry_out.ensures.done))
 
 -- ---- how often the unit broke down
 

@@ -14,12 +14,11 @@ use Rattle.run_acts.specs.declared.run.Run.{Run}
 use Rattle.run_acts.specs.Power.{is_lit}
 use Rattle.run_acts.specs.Going.{IsHeld, IsLit}
 use Rattle.run_acts.specs.Room.{Takes}
-use Rattle.run_acts.specs.Acting.{pulled_run}
+use Rattle.run_acts.specs.Acting.{pulled_run, pulled_breaks}
 use Rattle.recorder_with_cards.specs.Acting.{put_count, StaysIn, moment_of, IsDone, CallsNone}
 use Rattle.recorder_with_cards.proofs.ActsRecorded.{selected}
 use Rattle.recorder_with_cards.proofs.Rooms.{few-wait, put-room}
 use Rattle.run_acts.proofs.Pulled.{pulled-recorded}
-use Rattle.run_acts.specs.Acting.{pulled_breaks}
 use Rattle.run_acts.specs.Recording.{RunGoesOn, RecordsAction}
 use Rattle.run_keeping.proofs.DecidedBooked.{time-before}
 use Rattle.run_keeping.specs.Keeping.{with_lines}
@@ -30,6 +29,8 @@ use Rattle.recorder_with_cards.proofs.Allowed.{insert-elsewhere}
 use Rattle.recorder_with_cards.proofs.Picked.{picked-going}
 use Rattle.recorder_with_cards.proofs.Pulled.{pulled-stays, pulled-held, pulled-going, pulled-takes}
 use Rattle.recorder_with_cards.proofs.More.{inserted-more}
+use Rattle.run_acts.specs.Evented.{EventsAction}
+use Rattle.recorder_with_cards.proofs.ActsEvented.{pulled-evented}
 use Rattle.run_keeping.proofs.Later.{later-same}
 use Rattle.run_rings.proofs.Same.{rings-left}
 use Rattle.recorder_with_cards.specs.EnteredRings.{RingsDone}
@@ -232,6 +233,59 @@ returns-in-Select-clause-later g c = later-same (devices (g.M.Medium.state c.arg
 
 pub returns-in-Tear-clause-later : goal.returns-in-Tear-clause-later
 returns-in-Tear-clause-later g c = later-same (devices (g.M.Medium.state c.args.unit.now) (g.C.Chip.state c.args.card_a.now) (g.D.Chip.state c.args.card_b.now))
+
+-- ---- and the events with it
+
+pub returns-in-Select-clause-evented : goal.returns-in-Select-clause-evented
+returns-in-Select-clause-evented g c = λ o done s now front rest are begun allowed h events time. events
+
+pub returns-in-Tear-clause-evented : goal.returns-in-Tear-clause-evented
+returns-in-Tear-clause-evented g c =
+    let run = c.args.run.now in
+    let o = c.args.outcome.now in
+    let d : Devices = devices (g.M.Medium.state c.args.unit.now) (g.C.Chip.state c.args.card_a.now) (g.D.Chip.state c.args.card_b.now) in
+    let card = card_in (seat_in run.keeper.cabin.slots.seats c.in-Tear.slot) in
+    let told : c.pull.new.breaks ≡ with_lines (pulled_breaks card c.in-Tear.slot (moment_of c.args.begun run)) o.breaks = c.pull.ensures.breaks ∙ ap (λ (m : Moment). with_lines (pulled_breaks card c.in-Tear.slot m) o.breaks) c.moment-at.ensures in
+    let is : c.pull.new.run ≡ pulled_run card run.next run = c.pull.ensures.run ∙ ap (λ (m : Moment). pulled_run card m.second run) c.moment-at.ensures in
+    subst (λ (a : Action). EventsAction a c.args.begun c.args.speed false run c.pull.new.run o (record o { breaks = c.pull.new.breaks }) d d) (sym c.in-Tear.is)
+    (subst (λ (r : Run). EventsAction (Tear c.in-Tear.slot) c.args.begun c.args.speed false run r o (record o { breaks = c.pull.new.breaks }) d d) (sym is)
+    (subst (λ (l : Listed Break). EventsAction (Tear c.in-Tear.slot) c.args.begun c.args.speed false run (pulled_run card run.next run) o (record o { breaks = l }) d d) (sym told)
+    (pulled-evented d c.in-Tear.slot c.args.begun c.args.speed run o)))
+
+pub returns-in-Insert-clause-evented : goal.returns-in-Insert-clause-evented
+returns-in-Insert-clause-evented g c =
+    let run = c.args.run.now in
+    let o = c.args.outcome.now in
+    let d : Devices = devices (g.M.Medium.state c.args.unit.now) (g.C.Chip.state c.args.card_a.now) (g.D.Chip.state c.args.card_b.now) in
+    let e : Devices = devices (g.M.Medium.state c.insert.new.unit) (g.C.Chip.state c.insert.new.card_a) (g.D.Chip.state c.insert.new.card_b) in
+    let late = ap (λ (m : Moment). m.late) c.moment-at.ensures in
+    let lit = c.requires.going.lit (ap is_lit c.requires.lit) in
+    let room = put-room run o (put_count c.args.action) 0 c.requires.lit (few-wait (run.next / 60) run lit) c.requires.room in
+    subst (λ (a : Action). EventsAction a c.args.begun c.args.speed (is_err c.insert.result) run c.insert.new.run o c.insert.new.outcome d e) (sym c.in-Insert.is)
+    (subst (λ (n : ℕ). EventsAction (Insert c.in-Insert.slot c.in-Insert.card) n c.args.speed (is_err c.insert.result) run c.insert.new.run o c.insert.new.outcome d e) (ap (λ (m : Moment). m.begun) c.moment-at.ensures)
+    (c.insert.ensures.evented late room))
+
+pub returns-in-Withdraw-clause-evented : goal.returns-in-Withdraw-clause-evented
+returns-in-Withdraw-clause-evented g c =
+    let run = c.args.run.now in
+    let o = c.args.outcome.now in
+    let d : Devices = devices (g.M.Medium.state c.args.unit.now) (g.C.Chip.state c.args.card_a.now) (g.D.Chip.state c.args.card_b.now) in
+    let e : Devices = devices (g.M.Medium.state c.withdraw.new.unit) (g.C.Chip.state c.withdraw.new.card_a) (g.D.Chip.state c.withdraw.new.card_b) in
+    let late = ap (λ (m : Moment). m.late) c.moment-at.ensures in
+    subst (λ (a : Action). EventsAction a c.args.begun c.args.speed (is_err c.withdraw.result) run c.withdraw.new.run o c.withdraw.new.outcome d e) (sym c.in-Withdraw.is)
+    (subst (λ (n : ℕ). EventsAction (Withdraw c.in-Withdraw.slot) n c.args.speed (is_err c.withdraw.result) run c.withdraw.new.run o c.withdraw.new.outcome d e) (ap (λ (m : Moment). m.begun) c.moment-at.ensures)
+    (c.withdraw.ensures.evented late c.args.speed))
+
+pub returns-in-Place-clause-evented : goal.returns-in-Place-clause-evented
+returns-in-Place-clause-evented g c =
+    let run = c.args.run.now in
+    let o = c.args.outcome.now in
+    let d : Devices = devices (g.M.Medium.state c.args.unit.now) (g.C.Chip.state c.args.card_a.now) (g.D.Chip.state c.args.card_b.now) in
+    let e : Devices = devices (g.M.Medium.state c.note_place.new.unit) (g.C.Chip.state c.note_place.new.card_a) (g.D.Chip.state c.note_place.new.card_b) in
+    let late = ap (λ (m : Moment). m.late) c.moment-at.ensures in
+    subst (λ (a : Action). EventsAction a c.args.begun c.args.speed (is_err c.note_place.result) run c.note_place.new.run o (record o { breaks = c.note_place.new.breaks }) d e) (sym c.in-Place.is)
+    (subst (λ (n : ℕ). EventsAction (Place c.in-Place.slot c.in-Place.ending c.in-Place.country c.in-Place.region) n c.args.speed (is_err c.note_place.result) run c.note_place.new.run o (record o { breaks = c.note_place.new.breaks }) d e) (ap (λ (m : Moment). m.begun) c.moment-at.ensures)
+    (c.note_place.ensures.evented late c.in-Place.ending c.in-Place.country c.in-Place.region c.args.speed o refl))
 
 -- ---- the rings
 

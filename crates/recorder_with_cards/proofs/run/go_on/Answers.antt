@@ -1,16 +1,17 @@
 use Rattle.std.proofs.Common.{◌≡◌, ◌∙◌, ℕ, ◌+◌, ◌-◌, ◌<◌, ◌≤◌, Bool, true, false, List, ◌++◌, length, refl, ap, sym, subst, arith}
 use Rattle.std.proofs.lemmas.List.{append-nil}
 use Rattle.trace_model.specs.declared.Action.{Action}
-use Rattle.trace_model.specs.Trace.{TraceSecond, seconds_at}
+use Rattle.trace_model.specs.Trace.{TraceSecond, seconds_at, item_seconds}
 use Rattle.safety_model.specs.Safe.{Devices}
 use Rattle.run_rule.specs.Between.{devices}
 use Rattle.run_acts.specs.Recording.{RunRecorded}
 use Rattle.run_outcome.specs.declared.outcome.Outcome.{Outcome}
-use Rattle.recorder_with_cards.specs.Recorded.{actions_in, HasRun}
+use Rattle.run_acts.specs.Evented.{RunEvented}
+use Rattle.recorder_with_cards.specs.Recorded.{actions_in, HasRun, HasRunBy}
+use Rattle.recorder_with_cards.proofs.SecondsEvented.{off-evented}
 use Rattle.recorder_with_cards.proofs.SecondsRecorded.{off-seconds}
 use Rattle.tach_media.proofs.Runs.{on_ok, ok_gives}
 use Rattle.trace_model.specs.declared.Item.{Item}
-use Rattle.trace_model.specs.Trace.{item_seconds}
 use Rattle.trace_text.specs.Line.{InRange}
 use Rattle.log_model.specs.declared.lines.Break.{Break}
 use Rattle.run_outcome.specs.Lines.{Listed}
@@ -162,6 +163,29 @@ returns-in-Off-clause-later g c = later-same (devices (g.M.Medium.state c.args.u
 
 pub returns-in-Run-clause-later : goal.returns-in-Run-clause-later
 returns-in-Run-clause-later g c = c.drive.ensures.later
+
+-- ---- and the events with it
+
+pub returns-in-Act-clause-evented : goal.returns-in-Act-clause-evented
+returns-in-Act-clause-evented g c = λ many o done few r time.
+    let d : Devices = devices (g.M.Medium.state c.args.unit.now) (g.C.Chip.state c.args.card_a.now) (g.D.Chip.state c.args.card_b.now) in
+    let acts : List Action = actions_in (between c.args.from c.args.to c.args.items.now) in
+    subst (λ (i : Item). RunEvented o (done ++ seconds_at c.args.run.now.next acts i) c.args.run.now c.args.outcome.now d) (sym c.in-Act.is)
+    (subst (λ (ss : List TraceSecond). RunEvented o ss c.args.run.now c.args.outcome.now d) (sym (append-nil done)) r)
+
+pub returns-in-Off-clause-evented : goal.returns-in-Off-clause-evented
+returns-in-Off-clause-evented g c = λ many o done few r time.
+    let d : Devices = devices (g.M.Medium.state c.args.unit.now) (g.C.Chip.state c.args.card_a.now) (g.D.Chip.state c.args.card_b.now) in
+    let acts : List Action = actions_in (between c.args.from c.args.to c.args.items.now) in
+    let out : Outcome = record c.args.outcome.now { breaks = c.off.new.breaks } in
+    subst (λ (i : Item). RunEvented o (done ++ seconds_at c.args.run.now.next acts i) c.off.new.self out d) (sym c.in-Off.is)
+    (off-evented o done c.args.run.now c.args.outcome.now d r c.in-Off.seconds (subst InRange c.in-Off.is c.requires.item).0 c.off.new.breaks c.off.ensures.breaks c.off.new.self c.off.ensures.run)
+
+pub returns-in-Run-clause-evented : goal.returns-in-Run-clause-evented
+returns-in-Run-clause-evented g c = λ many o done few r time.
+    let acts : List Action = actions_in (between c.args.from c.args.to c.args.items.now) in
+    subst (λ (i : Item). HasRunBy RunEvented c.drive.result o (done ++ seconds_at c.args.run.now.next acts i) c.drive.new.run c.drive.new.outcome (devices (g.M.Medium.state c.drive.new.unit) (g.C.Chip.state c.drive.new.card_a) (g.D.Chip.state c.drive.new.card_b))) (sym c.in-Run.is)
+    (c.drive.ensures.evented many (omega (arith, few, many)) o done r time)
 
 -- ---- how often the unit broke down
 

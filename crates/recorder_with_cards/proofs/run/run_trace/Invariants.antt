@@ -3,12 +3,11 @@ use Rattle.trace_model.specs.Trace.{total_seconds, seconds_of}
 use Rattle.run_rule.specs.Between.{IsFound, devices}
 use Rattle.run_keeping.specs.Books.{HaveTime}
 use Rattle.run_opening.specs.Begun.{found_in}
-use Rattle.run_acts.specs.Going.{largest_number}
-use Rattle.run_acts.specs.Recording.{RunRecorded}
+use Rattle.run_acts.specs.Going.{largest_number, IsGoing}
+use Rattle.run_acts.specs.Evented.{RunEvented}
 use Rattle.recorder_with_cards.specs.Ends.{BeginAs, MayRecord, opened_with, origin_of}
 use Rattle.recorder_with_cards.proofs.Waiting.{Waits}
 use Rattle.run_outcome.specs.Room.{offs, insertions}
-use Rattle.run_acts.specs.Going.{IsGoing}
 use Rattle.run_acts.specs.Room.{HasRoom}
 use Rattle.run_keeping.specs.Later.{AreLater}
 use Rattle.run_outcome.specs.Broken.{BreaksDown}
@@ -26,6 +25,6 @@ invariant-loop-i g l = record {
   later : AreLater (devices (g.U.Medium.state l.fn.unit) (g.C.Chip.state l.fn.card_a) (g.C.Chip.state l.fn.card_b)) (devices (g.U.Medium.state l.unit) (g.C.Chip.state l.card_a) (g.C.Chip.state l.card_b));
   broke : BreaksDown l.fn.outcome.breaks.items l.outcome.breaks.items (g.U.Medium.state l.fn.unit) (g.U.Medium.state l.unit);
   told : (x a b : List ℕ) → BeginAs x a b (devices (g.U.Medium.state l.fn.unit) (g.C.Chip.state l.fn.card_a) (g.C.Chip.state l.fn.card_b)) → MayRecord x a b l.trace.start × IsFound (opened_with x a b) (found_in (opened_with x a b) (devices (g.U.Medium.state l.fn.unit) (g.C.Chip.state l.fn.card_a) (g.C.Chip.state l.fn.card_b))) (devices (g.U.Medium.state l.fn.unit) (g.C.Chip.state l.fn.card_a) (g.C.Chip.state l.fn.card_b));
-  recorded : (x a b : List ℕ) → BeginAs x a b (devices (g.U.Medium.state l.fn.unit) (g.C.Chip.state l.fn.card_a) (g.C.Chip.state l.fn.card_b)) → HaveTime (devices (g.U.Medium.state l.unit) (g.C.Chip.state l.card_a) (g.C.Chip.state l.card_b)) → length l.trace.items ≤ largest_number
-      → RunRecorded (origin_of x a b l.trace.start (devices (g.U.Medium.state l.fn.unit) (g.C.Chip.state l.fn.card_a) (g.C.Chip.state l.fn.card_b))) (seconds_of l.trace.start (take l.i l.trace.items)) l.run l.outcome (devices (g.U.Medium.state l.unit) (g.C.Chip.state l.card_a) (g.C.Chip.state l.card_b));
+  evented : (x a b : List ℕ) → BeginAs x a b (devices (g.U.Medium.state l.fn.unit) (g.C.Chip.state l.fn.card_a) (g.C.Chip.state l.fn.card_b)) → HaveTime (devices (g.U.Medium.state l.unit) (g.C.Chip.state l.card_a) (g.C.Chip.state l.card_b)) → length l.trace.items ≤ largest_number
+      → RunEvented (origin_of x a b l.trace.start (devices (g.U.Medium.state l.fn.unit) (g.C.Chip.state l.fn.card_a) (g.C.Chip.state l.fn.card_b))) (seconds_of l.trace.start (take l.i l.trace.items)) l.run l.outcome (devices (g.U.Medium.state l.unit) (g.C.Chip.state l.card_a) (g.C.Chip.state l.card_b));
 }

@@ -26,7 +26,11 @@ use Rattle.log_model.specs.Log.{In}
 use Rattle.run_rule.specs.Between.{devices}
 use Rattle.run_within.specs.Within.{Beginning}
 use Rattle.run_acts.specs.Recording.{GoesOnOrFails}
-use Rattle.run_acts.proofs.NoteRecorded.{unit-recorded, power-noted}
+use Rattle.run_acts.proofs.NoteRecorded.{unit-recorded, power-noted, unit-leaves, left-then}
+use Rattle.safety_model.specs.Safe.{breakdowns_of}
+use Rattle.run_recorded.specs.Beside.{HaveLeftMore}
+use Rattle.run_acts.specs.Recording.{log_of}
+use Rattle.run_acts.specs.ActsEvented.{IsFailing}
 use Rattle.run_acts.proofs.Kept.{moved-going}
 use Rattle.run_acts.proofs.Noted.{noted-ready, noted-row}
 use Rattle.run_rings.specs.Same.{LeavesRings}
@@ -167,6 +171,58 @@ returns-clause-recorded g c = λ o done s out w power.
     subst (λ (b : Beginning). GoesOnOrFails (is_err c.note_in-2.result) o done s (In 0) [] c.note_in-2.new.run (record out { breaks = c.note_in-2.new.breaks }) F b) (first.began ∙ w1.began)
     (c.note_in-2.ensures.recorded o done s out first.goes
     (λ begins. power-noted o done s run c.note_in.new.run out c.args.breaks.now c.note_in.new.breaks (devices V X Y) w1.goes (card_in (seat_in run.keeper.cabin.slots.seats Driver)) Driver one.0 one.1 (power begins)))
+
+-- ---- what was left before, and a failure
+
+pub returns-in_default-clause-leaves : goal.returns-in_default-clause-leaves
+returns-in_default-clause-leaves g c = λ o done s out w power. (record { unit = λ x h. h; card = λ card x h. h }, λ bad. absurd (let wrong : false ≡ true = bad in cc))
+
+pub returns-in_err-note_event-clause-leaves : goal.returns-in_err-note_event-clause-leaves
+returns-in_err-note_event-clause-leaves g c = λ o done s out w power.
+    let run = c.args.run.now in
+    let lit = c.requires.going in
+    let V = g.M.Medium.state c.note_event.new.unit in
+    let X = g.C.Chip.state c.args.card_a.now in
+    let Y = g.D.Chip.state c.args.card_b.now in
+    let one = unit-leaves o done s 0 run (record out { breaks = c.args.breaks.now }) (g.M.Medium.state c.args.unit.now) V X Y (g.met.M.Medium.coherent c.args.unit.now) c.note_event.ensures.journal lit.span lit.stands lit.next w s.actions ([], refl, refl) true c.in_err-note_event.ensures.cause in
+    (one.0, λ bad. one.1 refl)
+
+pub returns-in_err-note_in-clause-leaves : goal.returns-in_err-note_in-clause-leaves
+returns-in_err-note_in-clause-leaves g c = λ o done s out w power.
+    let run = c.args.run.now in
+    let lit = c.requires.going in
+    let U = g.M.Medium.state c.args.unit.now in
+    let V = g.M.Medium.state c.note_event.new.unit in
+    let X = g.C.Chip.state c.args.card_a.now in
+    let Y = g.D.Chip.state c.args.card_b.now in
+    let E = devices (g.M.Medium.state c.note_in.new.unit) (g.C.Chip.state c.note_in.new.card_a) (g.D.Chip.state c.note_in.new.card_b) in
+    let w1 = unit-recorded o done s 0 run (record out { breaks = c.args.breaks.now }) U V X Y (g.met.M.Medium.coherent c.args.unit.now) c.note_event.ensures.journal lit.span lit.stands lit.next w false c.in_ok-note_event.ensures.cause in
+    let one = unit-leaves o done s 0 run (record out { breaks = c.args.breaks.now }) U V X Y (g.met.M.Medium.coherent c.args.unit.now) c.note_event.ensures.journal lit.span lit.stands lit.next w s.actions ([], refl, refl) false c.in_ok-note_event.ensures.cause in
+    let two = c.in_err-note_in.ensures.leaves o done s out w1.goes power in (
+      left-then o (devices U X Y) (devices V X Y) E one.0 two.0,
+      λ bad. subst (λ (b : Beginning). IsFailing o done s b.run (In 0) (log_of (record out { breaks = c.note_in.new.breaks })) (breakdowns_of E)) w1.began (two.1 refl),
+    )
+
+pub returns-clause-leaves : goal.returns-clause-leaves
+returns-clause-leaves g c = λ o done s out w power.
+    let run = c.args.run.now in
+    let lit = c.requires.going in
+    let U = g.M.Medium.state c.args.unit.now in
+    let V = g.M.Medium.state c.note_event.new.unit in
+    let X = g.C.Chip.state c.args.card_a.now in
+    let Y = g.D.Chip.state c.args.card_b.now in
+    let E = devices (g.M.Medium.state c.note_in.new.unit) (g.C.Chip.state c.note_in.new.card_a) (g.D.Chip.state c.note_in.new.card_b) in
+    let F = devices (g.M.Medium.state c.note_in-2.new.unit) (g.C.Chip.state c.note_in-2.new.card_a) (g.D.Chip.state c.note_in-2.new.card_b) in
+    let w1 = unit-recorded o done s 0 run (record out { breaks = c.args.breaks.now }) U V X Y (g.met.M.Medium.coherent c.args.unit.now) c.note_event.ensures.journal lit.span lit.stands lit.next w false c.in_ok-note_event.ensures.cause in
+    let one = unit-leaves o done s 0 run (record out { breaks = c.args.breaks.now }) U V X Y (g.met.M.Medium.coherent c.args.unit.now) c.note_event.ensures.journal lit.span lit.stands lit.next w s.actions ([], refl, refl) false c.in_ok-note_event.ensures.cause in
+    let noted = c.in_ok-note_in.ensures.noted in
+    let first = c.in_ok-note_in.ensures.recorded o done s out w1.goes (λ begins. power) in
+    let two = c.in_ok-note_in.ensures.leaves o done s out w1.goes power in
+    let comes = power-noted o done s run c.note_in.new.run out c.args.breaks.now c.note_in.new.breaks (devices V X Y) w1.goes (card_in (seat_in run.keeper.cabin.slots.seats Driver)) Driver noted.0 noted.1 power in
+    let three = c.note_in-2.ensures.leaves o done s out first.goes comes in (
+      left-then o (devices U X Y) (devices V X Y) F one.0 (left-then o (devices V X Y) E F two.0 three.0),
+      λ bad. subst (λ (b : Beginning). IsFailing o done s b.run (In 0) (log_of (record out { breaks = c.note_in-2.new.breaks })) (breakdowns_of F)) (first.began ∙ w1.began) (three.1 bad),
+    )
 
 -- ---- what is noted on the unit
 

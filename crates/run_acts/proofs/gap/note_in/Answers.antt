@@ -22,7 +22,7 @@ use Rattle.run_keeping.proofs.Fates.{no-lines}
 use Rattle.run_acts.specs.Acting.{noted_breaks, now_moment, IsNotedIn}
 use Rattle.run_acts.proofs.Cabins.{keeper-only, cabin-going, cabin-held, ready-same, at-same, noted_cabin, noted-is, noted-past, noted-minute, noted-sessions, noted-falls, noted-a, noted-b, numbered-session}
 use Rattle.std.specs.Prelude.{is_err}
-use Rattle.run_acts.proofs.NoteRecorded.{noted-some}
+use Rattle.run_acts.proofs.NoteRecorded.{noted-some, some-leaves}
 use Rattle.run_rule.specs.Between.{devices}
 use Rattle.run_acts.specs.Noting.{fall_events}
 use Rattle.run_acts.proofs.NotedEvents.{same-noted, noted-any}
@@ -202,6 +202,40 @@ returns-in_default-clause-recorded g c = λ o done s out w power. record { goes 
 pub returns-in_default-number_in-clause-recorded : goal.returns-in_default-number_in-clause-recorded
 returns-in_default-number_in-clause-recorded g c = λ o done s out w power. record { goes = w; began = refl }
 
+-- ---- what was left before, and a failure
+
+pub returns-in-A-clause-leaves : goal.returns-in-A-clause-leaves
+returns-in-A-clause-leaves g c = λ o done s out w power.
+    let run = c.args.run.now in
+    let e = c.note_on.ensures in
+    let n = e.noted in
+    let lit = c.requires.going in
+    let there : card_in (seat_in run.keeper.cabin.slots.seats c.args.slot) ≡ Some A = cc in
+    let told : number_of_seat run.keeper.cabin.cards (seat_in run.keeper.cabin.slots.seats c.args.slot) ≡ Some c.in-Some-number_in.field-0 = cc in
+    let some = numbered-session run.keeper.cabin.cards (seat_in run.keeper.cabin.slots.seats c.args.slot) A c.in-Some-number_in.field-0 there told in
+    some-leaves A c.args.slot (now_moment run) run c.args.breaks.now (g.M.Medium.state c.args.unit.now) (g.M.Medium.state c.note_on.new.unit) (g.C.Chip.state c.args.card_a.now) (g.C.Chip.state c.note_on.new.card) (g.D.Chip.state c.args.card_b.now)
+    (g.met.M.Medium.coherent c.args.unit.now) (g.met.C.Chip.coherent c.args.card_a.now) (g.met.C.Chip.coherent c.note_on.new.card) c.requires.held.card_a.size some e.value there refl refl lit.span lit.stands lit.next lit.cabin e.moments e.journal
+    (is_err c.note_on.result) e.cause o done s out w (λ begins. power) s.actions ([], refl, refl) n.0 c.note_on.new.run c.note_on.new.breaks n.1 n.2 n.3
+
+pub returns-in-B-clause-leaves : goal.returns-in-B-clause-leaves
+returns-in-B-clause-leaves g c = λ o done s out w power.
+    let run = c.args.run.now in
+    let e = c.note_on-in-B.ensures in
+    let n = e.noted in
+    let lit = c.requires.going in
+    let there : card_in (seat_in run.keeper.cabin.slots.seats c.args.slot) ≡ Some B = cc in
+    let told : number_of_seat run.keeper.cabin.cards (seat_in run.keeper.cabin.slots.seats c.args.slot) ≡ Some c.in-Some-number_in.field-0 = cc in
+    let some = numbered-session run.keeper.cabin.cards (seat_in run.keeper.cabin.slots.seats c.args.slot) B c.in-Some-number_in.field-0 there told in
+    some-leaves B c.args.slot (now_moment run) run c.args.breaks.now (g.M.Medium.state c.args.unit.now) (g.M.Medium.state c.note_on-in-B.new.unit) (g.D.Chip.state c.args.card_b.now) (g.D.Chip.state c.note_on-in-B.new.card) (g.C.Chip.state c.args.card_a.now)
+    (g.met.M.Medium.coherent c.args.unit.now) (g.met.D.Chip.coherent c.args.card_b.now) (g.met.D.Chip.coherent c.note_on-in-B.new.card) c.requires.held.card_b.size some e.value there refl refl lit.span lit.stands lit.next lit.cabin e.moments e.journal
+    (is_err c.note_on-in-B.result) e.cause o done s out w (λ begins. power) s.actions ([], refl, refl) n.0 c.note_on-in-B.new.run c.note_on-in-B.new.breaks n.1 n.2 n.3
+
+pub returns-in_default-clause-leaves : goal.returns-in_default-clause-leaves
+returns-in_default-clause-leaves g c = λ o done s out w power. (record { unit = λ x h. h; card = λ card x h. h }, λ bad. absurd (let wrong : false ≡ true = bad in cc))
+
+pub returns-in_default-number_in-clause-leaves : goal.returns-in_default-number_in-clause-leaves
+returns-in_default-number_in-clause-leaves g c = λ o done s out w power. (record { unit = λ x h. h; card = λ card x h. h }, λ bad. absurd (let wrong : false ≡ true = bad in cc))
+
 -- ---- what is noted on the unit
 
 pub returns-in-A-clause-events : goal.returns-in-A-clause-events
@@ -209,9 +243,11 @@ returns-in-A-clause-events g c =
     let run = c.args.run.now in
     let n = c.note_on.ensures.events in
     let there : card_in (seat_in run.keeper.cabin.slots.seats c.args.slot) ≡ Some A = cc in
+    let told : number_of_seat run.keeper.cabin.cards (seat_in run.keeper.cabin.slots.seats c.args.slot) ≡ Some c.in-Some-number_in.field-0 = cc in
+    let some = numbered-session run.keeper.cabin.cards (seat_in run.keeper.cabin.slots.seats c.args.slot) A c.in-Some-number_in.field-0 there told in
     record {
       fell = n.fell;
-      noted = subst (λ (o : Option Card). IsNotedIn o c.args.slot (now_moment run) run c.note_on.new.run c.args.breaks.now c.note_on.new.breaks n.fell) (sym there) n.noted;
+      noted = subst (λ (o : Option Card). IsNotedIn o c.args.slot (now_moment run) run c.note_on.new.run c.args.breaks.now c.note_on.new.breaks n.fell) (sym there) (n.noted, λ fell. some);
       failing = n.failing;
       notes = noted-any (fall_events n.fell run.next c.note_on.new.run) (is_err c.note_on.result) (devices (g.M.Medium.state c.args.unit.now) (g.C.Chip.state c.args.card_a.now) (g.C.Chip.state c.args.card_a.now)) (devices (g.M.Medium.state c.note_on.new.unit) (g.C.Chip.state c.note_on.new.card) (g.C.Chip.state c.note_on.new.card)) (devices (g.M.Medium.state c.args.unit.now) (g.C.Chip.state c.args.card_a.now) (g.D.Chip.state c.args.card_b.now)) (devices (g.M.Medium.state c.note_on.new.unit) (g.C.Chip.state c.note_on.new.card) (g.D.Chip.state c.args.card_b.now)) refl refl n.notes;
     }
@@ -221,16 +257,54 @@ returns-in-B-clause-events g c =
     let run = c.args.run.now in
     let n = c.note_on-in-B.ensures.events in
     let there : card_in (seat_in run.keeper.cabin.slots.seats c.args.slot) ≡ Some B = cc in
+    let told : number_of_seat run.keeper.cabin.cards (seat_in run.keeper.cabin.slots.seats c.args.slot) ≡ Some c.in-Some-number_in.field-0 = cc in
+    let some = numbered-session run.keeper.cabin.cards (seat_in run.keeper.cabin.slots.seats c.args.slot) B c.in-Some-number_in.field-0 there told in
     record {
       fell = n.fell;
-      noted = subst (λ (o : Option Card). IsNotedIn o c.args.slot (now_moment run) run c.note_on-in-B.new.run c.args.breaks.now c.note_on-in-B.new.breaks n.fell) (sym there) n.noted;
+      noted = subst (λ (o : Option Card). IsNotedIn o c.args.slot (now_moment run) run c.note_on-in-B.new.run c.args.breaks.now c.note_on-in-B.new.breaks n.fell) (sym there) (n.noted, λ fell. some);
       failing = n.failing;
       notes = noted-any (fall_events n.fell run.next c.note_on-in-B.new.run) (is_err c.note_on-in-B.result) (devices (g.M.Medium.state c.args.unit.now) (g.D.Chip.state c.args.card_b.now) (g.D.Chip.state c.args.card_b.now)) (devices (g.M.Medium.state c.note_on-in-B.new.unit) (g.D.Chip.state c.note_on-in-B.new.card) (g.D.Chip.state c.note_on-in-B.new.card)) (devices (g.M.Medium.state c.args.unit.now) (g.C.Chip.state c.args.card_a.now) (g.D.Chip.state c.args.card_b.now)) (devices (g.M.Medium.state c.note_on-in-B.new.unit) (g.C.Chip.state c.args.card_a.now) (g.D.Chip.state c.note_on-in-B.new.card)) refl refl n.notes;
     }
 
 noted-not : (o : Option Card) (slot : Slot) (at : Moment) (run : Run) (breaks : Listed Break) → IsNotedIn o slot at run run breaks breaks false
-noted-not None slot at run breaks = (refl, refl)
-noted-not (Some card) slot at run breaks = record { run = refl; told = no-lines breaks }
+noted-not None slot at run breaks = (refl, refl, refl)
+noted-not (Some card) slot at run breaks = (record { run = refl; told = no-lines breaks }, λ fell. absurd (let bad : false ≡ true = fell in cc))
+
+-- ---- by value
+
+pub returns-in-A-clause-noted : goal.returns-in-A-clause-noted
+returns-in-A-clause-noted g c =
+    let run = c.args.run.now in
+    let n = c.note_on.ensures.events in
+    let there : card_in (seat_in run.keeper.cabin.slots.seats c.args.slot) ≡ Some A = cc in
+    let told : number_of_seat run.keeper.cabin.cards (seat_in run.keeper.cabin.slots.seats c.args.slot) ≡ Some c.in-Some-number_in.field-0 = cc in
+    let some = numbered-session run.keeper.cabin.cards (seat_in run.keeper.cabin.slots.seats c.args.slot) A c.in-Some-number_in.field-0 there told in (
+      n.fell,
+      subst (λ (o : Option Card). IsNotedIn o c.args.slot (now_moment run) run c.note_on.new.run c.args.breaks.now c.note_on.new.breaks n.fell) (sym there) (n.noted, λ fell. some),
+      n.failing,
+    )
+
+pub returns-in-B-clause-noted : goal.returns-in-B-clause-noted
+returns-in-B-clause-noted g c =
+    let run = c.args.run.now in
+    let n = c.note_on-in-B.ensures.events in
+    let there : card_in (seat_in run.keeper.cabin.slots.seats c.args.slot) ≡ Some B = cc in
+    let told : number_of_seat run.keeper.cabin.cards (seat_in run.keeper.cabin.slots.seats c.args.slot) ≡ Some c.in-Some-number_in.field-0 = cc in
+    let some = numbered-session run.keeper.cabin.cards (seat_in run.keeper.cabin.slots.seats c.args.slot) B c.in-Some-number_in.field-0 there told in (
+      n.fell,
+      subst (λ (o : Option Card). IsNotedIn o c.args.slot (now_moment run) run c.note_on-in-B.new.run c.args.breaks.now c.note_on-in-B.new.breaks n.fell) (sym there) (n.noted, λ fell. some),
+      n.failing,
+    )
+
+pub returns-in_default-clause-noted : goal.returns-in_default-clause-noted
+returns-in_default-clause-noted g c =
+    let run = c.args.run.now in
+    (false, noted-not (card_in (seat_in run.keeper.cabin.slots.seats c.args.slot)) c.args.slot (now_moment run) run c.args.breaks.now, λ bad. bad)
+
+pub returns-in_default-number_in-clause-noted : goal.returns-in_default-number_in-clause-noted
+returns-in_default-number_in-clause-noted g c =
+    let run = c.args.run.now in
+    (false, noted-not (card_in (seat_in run.keeper.cabin.slots.seats c.args.slot)) c.args.slot (now_moment run) run c.args.breaks.now, λ bad. bad)
 
 pub returns-in_default-clause-events : goal.returns-in_default-clause-events
 returns-in_default-clause-events g c =
