@@ -38,3 +38,5 @@ pub mod ActsEvented
 pub mod SecondsEvented
 pub mod Uncut
 pub mod WholeOdometer
+pub mod GapEvented
+pub mod WokenEvented
