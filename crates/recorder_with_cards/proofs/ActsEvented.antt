@@ -21,7 +21,7 @@ use Rattle.safety_model.specs.Safe.{Devices, breakdowns_of}
 use Rattle.unit_memory.specs.declared.format.Identity.{Identity}
 use Rattle.run_notes.specs.declared.watch.Watch.{Watch}
 use Rattle.run_events.proofs.Shows.{nothing-more}
-use Rattle.run_moments.specs.Reached.{course_at, moved_at, IsTearAt}
+use Rattle.run_moments.specs.Reached.{course_at, moved_at, Reaches, IsTearAt}
 use Rattle.run_moments.proofs.Reached.{action-reached}
 use Rattle.run_moments.proofs.Moment.{reaches-of}
 use Rattle.run_course.specs.Moments.{and_break, and_refused}
@@ -147,6 +147,8 @@ pulled-evented d slot begun speed run out o done s now front rest are is allowed
 
     c : Course
     c = course_at log was s (In n)
+
+    reached : Reaches p s (In (suc n)) log × (course_at log was s (In (suc n)) ≡ answered n (refusal c.slots s.speed (Pull slot)) (Pull slot) c) × (moved_at log was s (In (suc n)) ≡ moved_by n (refusal c.slots s.speed (Pull slot)) (Pull slot) c.slots)
     reached = action-reached p was s log front (Pull slot) rest are (reaches-of p was s (In n) log [] w.within.b.broken (breakdowns_of d) w.within.moment)
 
     none : refusal c.slots s.speed (Pull slot) ≡ None

@@ -3,7 +3,6 @@ use Rattle.std.proofs.Common.{◌≡◌, ◌⊎◌, inl, inr, ⊎_elim, ℕ, zer
 use Rattle.std.specs.Prelude.{option_map, slice_get}
 use Rattle.std.specs.List.{AllByRecursion}
 use Rattle.std.proofs.lemmas.Bool.Decides.{nat_tests}
-use Rattle.std.proofs.lemmas.List.Elements.{filter-append}
 use Rattle.activity_codec.specs.declared.values.Slot.{Slot}
 use Rattle.activity_codec.specs.declared.values.Slot.TheVariants.{Driver, CoDriver}
 use Rattle.activity_codec.specs.Activity.{same_slot}
@@ -21,11 +20,11 @@ use Rattle.log_model.specs.declared.lines.Break.TheVariants.{Tear}
 use Rattle.log_model.specs.declared.lines.Find.{Find}
 use Rattle.log_model.specs.declared.lines.Verdict.{Verdict}
 use Rattle.log_model.specs.declared.lines.Verdict.TheVariants as verdict
-use Rattle.log_model.specs.Log.{RunLog, Phase, In, same_phase, phase_of, is_torn_in, found_in, is_accepting}
+use Rattle.log_model.specs.Log.{RunLog, Phase, In, same_phase, phase_of, is_torn_in, found_in}
 use Rattle.log_model.specs.Slots.{Slots, Sitting, in_slot, other_slot}
 use Rattle.log_model.specs.Course.{Told, Visit, Course, Before, card_in, with_slot, visits, went}
 use Rattle.event_model.specs.declared.kinds.TheConstants.{CARD_NOT_VALID, TIME_OVERLAP, INSERTION_WHILE_DRIVING, SESSION_NOT_CLOSED, CARD_FAULT}
-use Rattle.event_model.specs.Events.{Event, Crew, Tearing, accepted_card, crew_of, with_card, noted_with}
+use Rattle.event_model.specs.Events.{Event, Crew, crew_of, with_card, noted_with}
 use Rattle.card_layout.specs.declared.files.Application.{Application}
 use Rattle.card_image.specs.Fields.{session_time}
 use Rattle.card_image.specs.Own.{own_sizes}
@@ -40,16 +39,16 @@ use Rattle.run_course.proofs.Lookups.{find-more}
 use Rattle.run_course.proofs.Moments.{later-lines}
 use Rattle.run_course.specs.Followed.{Progress}
 use Rattle.run_moments.specs.Moment.{Moment}
-use Rattle.run_moments.specs.Telling.{IsMore, IsLeft}
-use Rattle.run_moments.specs.Reached.{IsUpTo, Reaches, moved_with, course_at, moved_at, IsTearAt, IsFindAt}
+use Rattle.run_moments.specs.Telling.{IsMore, IsLeft, IsOneOut, BrokeDown, WaitBut}
+use Rattle.run_moments.proofs.Telling.{card-torn, card-judged}
+use Rattle.run_moments.specs.Reached.{Reaches, moved_with, course_at, moved_at, IsTearAt, IsFindAt}
 use Rattle.run_moments.proofs.Reached.{lines-reached}
 use Rattle.run_moments.proofs.Lines.{who-sits, find-seen}
 use Rattle.run_events.specs.Shown.{by_kind}
 use Rattle.run_recorded.specs.Origin.{Origin}
-use Rattle.run_evented.specs.Bringing.{NotFound}
 use Rattle.run_evented.specs.Evented.{Evented}
-use Rattle.run_evented.specs.Noting.{Stage, Ended, NotesThese}
-use Rattle.run_evented.specs.SoFar.{puts_into, Adds, EventedNow, NotesUnsure, BeginsNow, AreBare, ComesInTurn, IsOpenWith, MayFollow, stage_in, fault_with, judged_with, crew_at}
+use Rattle.run_evented.specs.Noting.{Ended, NotesThese}
+use Rattle.run_evented.specs.SoFar.{puts_into, Adds, EventedNow, NotesUnsure, BeginsNow, AreBare, ComesInTurn, IsOpenWith, stage_in, fault_with, judged_with, crew_at}
 use Rattle.run_evented.proofs.Cutting.{failure-cuts}
 use Rattle.run_evented.proofs.Adding.{call-notes, steps-follow, adds-nothing, adds-as}
 use Rattle.run_evented.proofs.Falling.{tear-adds}
@@ -60,8 +59,9 @@ use Rattle.run_evented.proofs.Noting.{by-more}
 use Rattle.run_keeping.specs.Keeping.{tear_of}
 use Rattle.run_entering.specs.declared.lines.Entering.{Entering}
 use Rattle.run_entering.specs.Entered.{IsFound}
-use Rattle.run_entering.specs.Entering.{Ending, Unfit, Ahead, Fell, Unasked, Unnoted, Seated, Lost, find_of, finds_by, breaks_by}
+use Rattle.run_entering.specs.Entering.{Ending, Unfit, Ahead, Fell, Unasked, Unnoted, Seated, Lost, find_of, finds_by, breaks_by, falls_of}
 use Rattle.run_acts.specs.NotedEvents.{AreTold, NotesSo}
+use Rattle.run_acts.specs.ActsEvented.{IsFailing}
 use Rattle.run_crew.specs.declared.cabin.Cabin.{Cabin}
 use Rattle.run_entering.specs.Noted.{UnitNote, Inserts, BeginsRow, Tells, notes_by}
 use Rattle.event_course.specs.Noted.{are_sure}
@@ -218,15 +218,21 @@ module _ (d : Devices) (o : Origin) (done : List TraceSecond) (p : Progress) (sp
   find-on : (v : Verdict) (session : ℕ) → IsOpenWith o e.which v session d → Adds o done s (stage_in n) log (stage_in n) (and_find log (find_of e v)) (judged_with session s.number s.speed e.slot e.which crew v) d
   find-on v session opened = find-adds d o done p span s b n log r (find_of e v) (found-at v) first (record { card = e.which; accepted = None }) sits none enters session opened
 
+  -- who sits there by a log of this moment is the one that is out
+  one-visit : (q : Option Sitting) (x : Sitting) → x.card ≡ e.which → q ≡ Some x → map {B = Visit} (λ (c : Card). record { phase = In n; slot = e.slot; card = c }) (card_in q) ≡ record { phase = In n; slot = e.slot; card = e.which } ∷ []
+  one-visit q x card is = ap (λ (w : Option Sitting). map {B = Visit} (λ (c : Card). record { phase = In n; slot = e.slot; card = c }) (card_in w)) is ∙ ap (λ (c : Card). record { phase = In n; slot = e.slot; card = c } ∷ []) card
+
+  one-out : (later : RunLog) (x : Sitting) → x.card ≡ e.which → in_slot (course_at later before s (In n)).slots e.slot ≡ Some x → ((moved_at later before s (In n)).leaving e.slot ≡ []) →
+      IsOneOut (In n) e.slot e.which ((moved_at later before s (In n)).leaving e.slot ++ visits (In n) e.slot (course_at later before s (In n)).slots)
+  one-out later x card there leaving =
+      ap (λ (vs : List Visit). vs ++ visits (In n) e.slot (course_at later before s (In n)).slots) leaving ∙ one-visit (in_slot (course_at later before s (In n)).slots e.slot) x card there
+
   -- a tear, of who sits there by a log of this moment
   tear-on : (later : RunLog) → Reaches p s (In n) later → (x : Sitting) → x.card ≡ e.which → in_slot (course_at later before s (In n)).slots e.slot ≡ Some x → ((moved_at later before s (In n)).leaving e.slot ≡ []) → (n ≡ 0 → AreBare before.slots × ComesInTurn e.slot later s.number) →
       ((m : ℕ) → n ≡ suc m → found_in later s.number (In n) (other_slot e.slot) ≡ []) → (n ≡ 0 → s.speed ≡ 0 → x.accepted ≡ None) →
       Adds o done s (stage_in n) later (stage_in n) (and_break later (tear_of e.slot e.at)) (fault_with s.number e.slot (crew_at p done s (In n) later) ∷ []) d
   tear-on later reached x card there leaving turn unfound rest = by n refl
     where
-      one-visit : (q : Option Sitting) (x : Sitting) → x.card ≡ e.which → q ≡ Some x → map {B = Visit} (λ (c : Card). record { phase = In n; slot = e.slot; card = c }) (card_in q) ≡ record { phase = In n; slot = e.slot; card = e.which } ∷ []
-      one-visit q x card is = ap (λ (w : Option Sitting). map {B = Visit} (λ (c : Card). record { phase = In n; slot = e.slot; card = c }) (card_in w)) is ∙ ap (λ (c : Card). record { phase = In n; slot = e.slot; card = c } ∷ []) card
-
       by : (k : ℕ) → n ≡ k → Adds o done s (stage_in n) later (stage_in n) (and_break later (tear_of e.slot e.at)) (fault_with s.number e.slot (crew_at p done s (In n) later) ∷ []) d
       by zero is = subst (λ (k : ℕ). Adds o done s (stage_in k) later (stage_in k) (and_break later (tear_of e.slot e.at)) (fault_with s.number e.slot (crew_at p done s (In k) later) ∷ []) d) (sym is)
           (waking-tear_adds d o done p s (subst (λ (l : List Told). BeginsNow o done p l s) (starts is) b) later (subst (λ (k : ℕ). Reaches p s (In k) later) is reached) (turn is).0 e.slot x (tear_of e.slot e.at)
@@ -234,8 +240,7 @@ module _ (d : Devices) (o : Origin) (done : List TraceSecond) (p : Progress) (sp
       by (suc m) is = subst (λ (k : ℕ). Adds o done s (stage_in k) later (stage_in k) (and_break later (tear_of e.slot e.at)) (fault_with s.number e.slot (crew_at p done s (In k) later) ∷ []) d) (sym is)
           (tear-adds d o done p span s b (In (suc m)) later (subst (λ (k : ℕ). Reaches p s (In k) later) is reached) e.slot e.which (tear_of e.slot e.at) (subst (λ (k : ℕ). IsTearAt s (In k) e.slot true (tear_of e.slot e.at)) is torn-at)
           (subst (λ (k : ℕ). is_torn_in later s.number (In k) e.slot ≡ false) is (who-sits later before s (In n) e.slot x there))
-          (subst (λ (k : ℕ). (moved_at later before s (In k)).leaving e.slot ++ visits (In k) e.slot (course_at later before s (In k)).slots ≡ record { phase = In k; slot = e.slot; card = e.which } ∷ []) is
-          (ap (λ (vs : List Visit). vs ++ visits (In n) e.slot (course_at later before s (In n)).slots) leaving ∙ one-visit (in_slot (course_at later before s (In n)).slots e.slot) x card there))
+          (subst (λ (k : ℕ). (moved_at later before s (In k)).leaving e.slot ++ visits (In k) e.slot (course_at later before s (In k)).slots ≡ record { phase = In k; slot = e.slot; card = e.which } ∷ []) is (one-out later x card there leaving))
           (subst (λ (k : ℕ). found_in later s.number (In k) (other_slot e.slot) ≡ []) is (unfound m is)) (λ torn. apart m is))
 
   -- of the other slot the same may be found
@@ -402,3 +407,41 @@ module _ (d : Devices) (o : Origin) (done : List TraceSecond) (p : Progress) (sp
       going : (k : ℕ) → stage_in k ≡ Ended → ⊥
       going zero ended = absurd (cc)
       going (suc k) ended = absurd (cc)
+
+  -- ---- THE MOMENT that it reaches: what was found of it is told, and that it was torn out
+  power-comes : In n ≡ In 0 → before.running ≡ false
+  power-comes is =
+      let here : n ≡ 0 = cc in
+      let starts_ : not before.running ≡ true = subst (λ (k : ℕ). (moved_at log before s (In k)).enters e.slot ≡ true) here enters in
+      by before.running starts_
+    where
+      by : (running : Bool) → not running ≡ true → running ≡ false
+      by false is_ = refl
+      by true is_ = absurd (cc)
+
+  module _ (mid was later : Device → ℕ) (waits fewer : List Visit) (m : Moment p before s (In n) log waits mid was) (but : WaitBut (In n) e.slot e.which waits fewer) (behind : AllByRecursion (λ (x : Visit). x.phase ≡ In n) fewer)
+      (more : IsMore was later) (rose : RoseBy 1 (mid Recorder) (later Recorder)) (rest : List Action) (is_left : IsLeft s (In n) rest) where
+    judged-moment : (v : Verdict) → Moment p before s (In n) (and_find log (find_of e v)) fewer mid was
+    judged-moment v = (card-judged p before s (In n) log waits fewer mid was m (find_of e v) (found-at v) (record { card = e.which; accepted = None }) sits none enters in-order but behind).0
+
+    torn-moment : (l : RunLog) (many : List Visit) → Moment p before s (In n) l many mid was → (x : Sitting) → x.card ≡ e.which → in_slot (course_at l before s (In n)).slots e.slot ≡ Some x → (moved_at l before s (In n)).leaving e.slot ≡ [] → BrokeDown e.which was later →
+        Moment p before s (In n) (and_break l (tear_of e.slot e.at)) many mid later
+    torn-moment l many at x card there leaving broke =
+        (card-torn p before s (In n) l many mid was later at e.slot (tear_of e.slot e.at) torn-at power-comes (who-sits l before s (In n) e.slot x there) e.which (one-out l x card there leaving) broke).0
+
+    failing : (l : RunLog) (many : List Visit) (counted : Device → ℕ) → Moment p before s (In n) l many mid counted → IsMore counted later → IsFailing o done s p (In n) l later
+    failing l many counted at up = record { waits = many; mid = mid; now = counted; moment = at; more = up; rose = rose; rest = rest; left = is_left }
+
+    judged-fails : (v : Verdict) → IsFailing o done s p (In n) (record log { breaks = log.breaks ++ []; finds = log.finds ++ find_of e v ∷ [] }) later
+    judged-fails v = subst (λ (l : RunLog). IsFailing o done s p (In n) l later) (found-only (find_of e v)) (failing (and_find log (find_of e v)) fewer was (judged-moment v) more)
+
+    pub ending-fails : (ending : Ending) → (falls_of ending ≡ 1 → BrokeDown e.which was later) → IsFailing o done s p (In n) (log_with ending e log) later
+    ending-fails (Unfit fid place) broke = judged-fails (verdict.NotValid fid place)
+    ending-fails (Ahead stored) broke = judged-fails (verdict.TimeOverlap stored e.at.second)
+    ending-fails Fell broke = subst (λ (l : RunLog). IsFailing o done s p (In n) l later) (torn-only (tear_of e.slot e.at))
+        (failing (and_break log (tear_of e.slot e.at)) waits later (torn-moment log waits m (record { card = e.which; accepted = None }) refl sits stays (broke refl)) (λ device. omega arith))
+    ending-fails Unasked broke = subst (λ (l : RunLog). IsFailing o done s p (In n) l later) no-lines (failing log waits was m more)
+    ending-fails (Unnoted entered clock) broke = judged-fails (verdict.Accepted entered.replayed)
+    ending-fails (Seated entered clock entry) broke = judged-fails (verdict.Accepted entered.replayed)
+    ending-fails (Lost entered clock entry) broke =
+        failing (and_break (log1 entered.replayed) (tear_of e.slot e.at)) fewer later (torn-moment (log1 entered.replayed) fewer (judged-moment (verdict.Accepted entered.replayed)) (sat entered.replayed) refl (sits-then entered.replayed) (stays-then entered.replayed) (broke refl)) (λ device. omega arith)

@@ -12,7 +12,7 @@ use Rattle.log_model.specs.Course.{Told}
 use Rattle.history_model.specs.Presence.{card_start}
 use Rattle.unit_course.specs.Followed.{Supply}
 use Rattle.unit_course.specs.Followed.{Lit as IsLitBy, Due as IsDueBy, Lost as IsLostBy}
-use Rattle.unit_course.specs.Turn.{span_at}
+use Rattle.unit_course.specs.Turn.{span_at, begins_with}
 use Rattle.unit_model.specs.Image.{odometer_at}
 use Rattle.unit_rule.specs.Odometer.{odometer_after}
 use Rattle.safety_model.specs.Safe.{Devices}
@@ -22,7 +22,8 @@ use Rattle.run_crew.specs.Cabin.{Stands, with_minute_ended}
 use Rattle.run_outcome.specs.declared.outcome.TheConstants.{MOST_OWED}
 use Rattle.run_outcome.specs.declared.outcome.Outcome.{Outcome}
 use Rattle.run_recorded.specs.Origin.{Origin, rule_of, start_at}
-use Rattle.run_within.specs.Recorded.{Values, Recorded}
+use Rattle.history_model.specs.Book.{Book}
+use Rattle.run_within.specs.Recorded.{Values, progress, Recorded}
 use Rattle.run_within.specs.Within.{Beginning, GoesOn, begun_behind, undecided_from}
 use Rattle.run_within.proofs.Beginning.{second-begins, minute-over}
 use Rattle.run_acts.specs.declared.run.Run.{Run}
@@ -72,15 +73,19 @@ module _ (o : Origin) (origin : IsOrigin o) (done : List TraceSecond) (s : Trace
     from-is : ungiven_of going.span ≡ from
     from-is = same-undecided run.minutes going.span (span_at (rule_of o) run.next (t ∷ span)) going.stands r.held.minutes
 
-    on : (cabin : Cabin) (first : ℕ) → GoesOn o done s (In 0) [] None [] (record (values_of run out) { cabin = cabin }) d (begun_behind o done (t ∷ span) (values_of run out) d r) first → RunWithin o done s (In 0) [] [] (record run { keeper = record run.keeper { cabin = cabin } }) out d
-    on cabin first h = record {
-      origin = origin;
-      lit = lit;
-      within = h.within;
-      odometer = odometer ∙ ap (λ (b : Beginning). odometer_after (odometer_at o.recording.unit) b.travel.before) (sym h.began);
-    }
+    on : (cabin : Cabin) (first : ℕ) → GoesOn o done s (In 0) [] None [] (record (values_of run out) { cabin = cabin }) d (begun_behind o done (t ∷ span) (values_of run out) d r) first →
+        (w : RunWithin o done s (In 0) [] [] (record run { keeper = record run.keeper { cabin = cabin } }) out d) × (w.within.b ≡ begun_behind o done (t ∷ span) (values_of run out) d r)
+    on cabin first h = (
+      record {
+        origin = origin;
+        lit = lit;
+        within = h.within;
+        odometer = odometer ∙ ap (λ (b : Beginning). odometer_after (odometer_at o.recording.unit) b.travel.before) (sym h.began);
+      },
+      h.began,
+    )
 
-    by : (b : Bool) → nat_eq (run.next % 60) 0 ≡ b → RunWithin o done s (In 0) [] [] (over_by b run) out d
+    by : (b : Bool) → nat_eq (run.next % 60) 0 ≡ b → (w : RunWithin o done s (In 0) [] [] (over_by b run) out d) × (w.within.b ≡ begun_behind o done (t ∷ span) (values_of run out) d r)
     by false is = on run.keeper.cabin from (second-begins d o done s t span (values_of run out) r number given (same-minute run.next is))
     by true is =
         let at : run.next % 60 ≡ 0 = eqb-true (run.next % 60) 0 is in
@@ -96,11 +101,20 @@ module _ (o : Origin) (origin : IsOrigin o) (done : List TraceSecond) (s : Trace
         (subst (λ (m : ℕ). GoesOn o done s (In 0) [] None [] (record (values_of run out) { cabin = with_minute_ended m run.keeper.cabin }) d (begun_behind o done (t ∷ span) (values_of run out) d r) from) before
         (minute-over d o done s t span (values_of run out) r number given (starts-of o origin) minute (omega (arith, due, same)) few stands))
 
-  by-supply : (supply : Supply) → Supplies Lit supply → (r : Recorded o done supply (values_of run out) d) → run.keeper.odometer ≡ odometer_after (odometer_at o.recording.unit) r.travel.before → RunWithin o done s (In 0) [] [] (minute_over run) out d
-  by-supply (IsLitBy (t ∷ span)) h r odometer = by t span r odometer (nat_eq (run.next % 60) 0) refl
+  -- it goes on, in a span that has begun, as that was recorded
+  abbrev Goes : Supply → Type 0
+  Goes supply = (w : RunWithin o done s (In 0) [] [] (minute_over run) out d) × (book : Book) × (w.within.b.run ≡ progress (values_of run out) supply book) × (begins_with w.within.b.span ≡ false)
+
+  by-supply : (supply : Supply) → Supplies Lit supply → (r : Recorded o done supply (values_of run out) d) → run.keeper.odometer ≡ odometer_after (odometer_at o.recording.unit) r.travel.before → Goes supply
+  by-supply (IsLitBy (t ∷ span)) h r odometer =
+      let g = by t span r odometer (nat_eq (run.next % 60) 0) refl in
+      (g.0, r.book, ap (λ (b : Beginning). b.run) g.1, ap (λ (b : Beginning). begins_with b.span) g.1)
   by-supply (IsLitBy []) h r odometer = absurd h
   by-supply IsDueBy h r odometer = absurd h
   by-supply IsLostBy h r odometer = absurd h
 
+  pub second-goes : (rec : RunRecorded o done run out d) → (w : RunWithin o done s (In 0) [] [] (minute_over run) out d) × (book : Book) × (w.within.b.run ≡ progress (values_of run out) rec.supply book) × (begins_with w.within.b.span ≡ false)
+  second-goes rec = by-supply rec.supply (subst (λ (p : Power). Supplies p rec.supply) lit rec.powers) rec.recorded (rec.odometer lit)
+
   pub second-on : RunRecorded o done run out d → RunWithin o done s (In 0) [] [] (minute_over run) out d
-  second-on rec = by-supply rec.supply (subst (λ (p : Power). Supplies p rec.supply) lit rec.powers) rec.recorded (rec.odometer lit)
+  second-on rec = (second-goes rec).0

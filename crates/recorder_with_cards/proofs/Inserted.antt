@@ -1,5 +1,6 @@
 -- A card is put into a slot: the minutes before are kept, and then it is judged.
 use Rattle.std.proofs.Common.{◌≡◌, ◌∙◌, inr, ℕ, suc, ◌+◌, ◌/◌, ◌≤◌, Bool, true, false, Some, None, List, [], ◌∷◌, ◌++◌, length, refl, ap, sym, subst, arith, append-nil, append_assoc, length-append}
+use Rattle.std.specs.Prelude.{slice_get}
 use Rattle.std.specs.List.{AllByRecursion}
 use Rattle.activity_codec.specs.declared.values.Slot.{Slot}
 use Rattle.activity_codec.specs.declared.values.Slot.TheVariants.{Driver, CoDriver}
@@ -11,8 +12,9 @@ use Rattle.minute_model.specs.declared.Minute.{Minute}
 use Rattle.minute_model.specs.Span.{Span, settled, decided_in}
 use Rattle.minute_rules.specs.Kept.{StandsFor}
 use Rattle.log_model.specs.declared.lines.Break.{Break}
-use Rattle.log_model.specs.Log.{In}
-use Rattle.log_model.specs.Slots.{refusal}
+use Rattle.activity_codec.specs.Activity.{same_slot}
+use Rattle.log_model.specs.Log.{In, found_in}
+use Rattle.log_model.specs.Slots.{refusal, other_slot}
 use Rattle.log_model.specs.Course.{Visit}
 use Rattle.unit_model.specs.Image.{odometer_at}
 use Rattle.unit_rule.specs.Odometer.{odometer_after}
@@ -31,11 +33,15 @@ use Rattle.run_within.specs.Within.{Beginning, course_in}
 use Rattle.run_within.specs.Taking.{IsPut, AreTearsAt, MayBeJudged}
 use Rattle.run_within.proofs.Putting.{card-put, entered-next}
 use Rattle.run_acts.specs.declared.run.Run.{Run}
-use Rattle.run_acts.specs.Acting.{IsSettled, told_of}
+use Rattle.run_crew.specs.Cabin.{with_card_in}
+use Rattle.run_evented.specs.Noting.{Acting}
+use Rattle.run_evented.specs.SoFar.{EventedNow, puts_into}
+use Rattle.run_acts.specs.Acting.{IsSettled, IsBareIn, told_of}
+use Rattle.run_acts.specs.Evented.{EventsGoOn, EventsSettling, IsUntold}
 use Rattle.run_acts.specs.Recording.{log_of, values_of, RunWithin, RunFails, GoesOnOrFails, IsNow}
 use Rattle.run_acts.specs.Settling.{settled_run, RecordsSettling, SettlesTo, IsSettledIn}
 use Rattle.recorder_with_cards.specs.Accepting.{put_run}
-use Rattle.recorder_with_cards.specs.Judged.{moment_in, RunNext, JudgesSo}
+use Rattle.recorder_with_cards.specs.Judged.{moment_in, RunNext, JudgesSo, IsInTurn, EventsJudged}
 use Rattle.recorder_with_cards.proofs.ActsRecorded.{refuses}
 use Rattle.recorder_with_cards.proofs.Resumed.{judged-as}
 
@@ -61,6 +67,22 @@ tears-kept s n at now le ms t u (more m front round v mid kept is) =
       ap (λ (xs : List Break). (xs ++ driver) ++ codriver) before.1 ∙ ap (λ (xs : List Break). xs ++ codriver) (append_assoc v.breaks.items before.0 driver) ∙ append_assoc v.breaks.items (before.0 ++ driver) codriver,
       tears-both s n (before.0 ++ driver) codriver (tears-both s n before.0 driver before.2 (tears-by s n at now le round.driver Driver)) (tears-by s n at now le round.codriver CoDriver),
     )
+
+-- ---- the slot into which an action puts its card
+
+get-at : (front : List Action) (a : Action) (rest : List Action) → slice_get (front ++ a ∷ rest) (length front) ≡ Some a
+get-at [] a rest = refl
+get-at (x ∷ front) a rest = get-at front a rest
+
+slot-is : (x y : Slot) → same_slot x y ≡ true → x ≡ y
+slot-is Driver Driver is = refl
+slot-is Driver CoDriver is = absurd (cc)
+slot-is CoDriver Driver is = absurd (cc)
+slot-is CoDriver CoDriver is = refl
+
+slots-apart : (slot : Slot) → same_slot slot (other_slot slot) ≡ false
+slots-apart Driver = refl
+slots-apart CoDriver = refl
 
 -- ---- A CARD IS PUT IN
 
@@ -131,3 +153,68 @@ module _ (slot : Slot) (card : Card) (at : Moment) (speed : ℕ) (old : Run) (be
             subst (λ (m : ℕ). GoesOnOrFails judged_failed o done s (In m) [] new after later h.within.b) (sym begun)
             (subst (λ (b : Beginning). GoesOnOrFails judged_failed o done s (In (suc n)) [] new after later b) (on.began ∙ put.goes.began)
             (judged-as judged_failed o done s (suc n) waits mid new told after e later on.goes (judges o done s (suc n) waits [] at-is next end)))
+
+  -- ---- ITS EVENTS
+
+  acts : slice_get s.actions (length front) ≡ Some (Insert slot card)
+  acts = ap (λ (as_ : List Action). slice_get as_ (length front)) actions ∙ get-at front (Insert slot card) rest
+
+  puts-it : (x : Slot) → puts_into x (slice_get s.actions (length front)) ≡ same_slot slot x
+  puts-it x = ap (puts_into x) acts
+
+  -- nothing is told of the action yet, and the card is not accepted in the slot into which it is put
+  module _ (bare : IsBareIn (with_card_in slot card old.keeper.cabin) slot) where
+    untold : IsUntold s (length front) (log_of before) (put_run slot card old).keeper.cabin
+    untold = record {
+      torn = λ x. h.within.moment.up_to.torn (In (suc (length front))) x (omega arith);
+      found = λ x. h.within.moment.up_to.found (In (suc (length front))) x (omega arith);
+      bare = λ x puts. subst (IsBareIn (with_card_in slot card old.keeper.cabin)) (slot-is slot x (sym (puts-it x) ∙ puts)) bare;
+    }
+
+    module _ (mid : Run) (told : Outcome) (failed : Bool) (settles : IsSettled at failed (put_run slot card old) mid before told) (decided : List Minute) (given : (span : Span) → StandsFor old.minutes span → decided_in (settled span) ≡ decided_in span ++ decided)
+        (e : Devices) (notes : EventsSettling decided at failed (put_run slot card old) mid before told d e) (time : HaveTime e) (now_ : EventedNow o done s h.within.b.run Acting (log_of before) d) where
+      abbrev w : RunWithin o done s (In (suc (length front))) (entering_by (length front) (Insert slot card)) decided (settled_run mid.minutes (put_run slot card old)) before d
+      w = waiting mid told failed settles decided given
+
+      abbrev put-began : w.within.b ≡ h.within.b
+      put-began = (put mid told failed settles decided given).goes.began
+
+      -- the minutes before are kept
+      pub settled-evented : EventsGoOn failed o done s h.within.b.run (In (suc (length front))) Acting (log_of told) e
+      settled-evented =
+          subst (λ (b : Beginning). EventsGoOn failed o done s b.run (In (suc (length front))) Acting (log_of told) e) put-began
+          (notes o done s (length front) (entering_by (length front) (Insert slot card)) at-is w untold (subst (λ (b : Beginning). EventedNow o done s b.run Acting (log_of before) d) (sym put-began) now_) time)
+
+      -- the unit failed as they were kept
+      pub unsettled-evented : failed ≡ true → EventsGoOn true o done s h.within.b.run (In at.begun) Acting (log_of told) e
+      unsettled-evented fails =
+          subst (λ (m : ℕ). EventsGoOn true o done s h.within.b.run (In m) Acting (log_of told) e) (sym begun)
+          (subst (λ (f : Bool). EventsGoOn f o done s h.within.b.run (In (suc (length front))) Acting (log_of told) e) fails settled-evented)
+
+      -- or they are kept, and the card is judged
+      module _ (many : List Minute) (given_ : (span : Span) → StandsFor old.minutes span → decided_in (settled span) ≡ decided_in span ++ many) (records : RecordsSettling many at failed (put_run slot card old) mid before told d e) (well : failed ≡ false)
+          (seat : seat_in mid.keeper.cabin.slots.seats slot ≡ Some (record { card = card; newest = None })) where
+        abbrev next_ : RunNext o done s (suc (length front)) (entering_by (length front) (Insert slot card)) [] mid told e slot card
+        next_ = next mid told failed settles many given_ e records time well seat
+
+        abbrev all-began : next_.goes.within.b ≡ h.within.b
+        all-began = (on mid told failed settles many given_ e records time well seat).began ∙ (put mid told failed settles many given_).goes.began
+
+        none-else : (x : Slot) → found_in (log_of told) s.number (In (suc (length front))) x ≡ []
+        none-else x = (judged mid told failed settles many given_ e records time well seat).none x
+
+        turn : IsInTurn next_.goes.within.b done s (suc (length front)) (log_of told) slot
+        turn = record {
+          first = λ is. absurd (omega (arith, is));
+          starts = λ is. absurd (omega (arith, is));
+          other_unfound = λ m is. none-else (other_slot slot);
+          apart = λ m is. subst (λ (k : ℕ). puts_into (other_slot slot) (slice_get s.actions k) ≡ false) (let same : length front ≡ m = omega (arith, is) in same) (puts-it (other_slot slot) ∙ slots-apart slot);
+        }
+
+        pub inserted-evented : (judged_failed : Bool) (new : Run) (after : Outcome) (later : Devices) → EventsJudged slot card at speed judged_failed mid new told after e later → HaveTime later →
+            EventsGoOn judged_failed o done s h.within.b.run (In at.begun) Acting (log_of after) later
+        inserted-evented judged_failed new after later judges end =
+            subst (λ (m : ℕ). EventsGoOn judged_failed o done s h.within.b.run (In m) Acting (log_of after) later) (sym begun)
+            (subst (λ (b : Beginning). EventsGoOn judged_failed o done s b.run (In (suc (length front))) Acting (log_of after) later) all-began
+            (judges o done s (suc (length front)) (entering_by (length front) (Insert slot card)) [] at-is now.speed_is next_ turn
+            (subst (λ (b : Beginning). EventedNow o done s b.run Acting (log_of told) e) (sym all-began) (subst (λ (f : Bool). EventsGoOn f o done s h.within.b.run (In (suc (length front))) Acting (log_of told) e) well settled-evented)) end))

@@ -24,14 +24,16 @@ use Rattle.unit_notes.specs.declared.unit_event.UnitEvent.{UnitEvent}
 use Rattle.run_rule.specs.Between.{devices}
 use Rattle.run_keeping.specs.declared.keeper.Moment.{Moment}
 use Rattle.run_entering.specs.declared.lines.Entering.{Entering}
-use Rattle.run_entering.specs.Entering.{ending_of, measured}
+use Rattle.run_entering.specs.Entering.{Way, ending_of, measured}
+use Rattle.run_keeping.specs.declared.keeper.Keeper.{Keeper}
+use Rattle.recorder_with_cards.specs.EnteredEvents.{events_in}
 use Rattle.run_entering.specs.Noted.{UnitNote, IsOnUnit, IsComing, HasNoted, notes_by}
 use Rattle.run_acts.specs.NotedEvents.{NotesEvents}
 use Rattle.run_acts.proofs.NotedEvents.{quiet-noted}
 use Rattle.recorder_with_cards.proofs.EnteredEvents.{entered-noted}
 use Rattle.recorder_with_cards.specs.Accepting.{IsAccepted}
 use Rattle.recorder_with_cards.specs.Judged.{JudgedTo}
-use Rattle.recorder_with_cards.specs.Noting.{judged_events, IsJudgedNoting, NotesAnew}
+use Rattle.recorder_with_cards.specs.Noting.{IsJudgedNoting, NotesAnew}
 
 -- its clock is not at its last value
 pub mine-time : (which : Card) (unit mine others : State) → HaveTime (arranged which unit mine others) → mine.clock < last_count
@@ -62,14 +64,16 @@ noted-as : (which : Card) (U V X Y Z : State) (vs : List UnitEvent) (failed : Bo
 noted-as A U V X Y Z vs failed one other = one
 noted-as B U V X Y Z vs failed one other = other
 
+pub judged-notes : (e : Entering) (failed : Bool) (way : Way) (k : Keeper) (noted : ℕ) (U V X Y Z : State) → IsCoherent U → IsCoherent V → IsUnit U → V.works ≡ not failed →
+    HasNoted IsOnUnit IsComing (notes_by (ending_of way) e noted (measured way e k).cabin) failed U V → NotesEvents (events_in (notes_by (ending_of way) e noted (measured way e k).cabin)) failed (arranged e.which U X Z) (arranged e.which V Y Z)
+judged-notes e failed way k noted U V X Y Z whole behind unit works notes_ =
+    let notes : List UnitNote = notes_by (ending_of way) e noted (measured way e k).cabin in
+    noted-as e.which U V X Y Z (events_in notes) failed (entered-noted U V X Z Y Z notes whole behind unit failed notes_ works) (entered-noted U V Z X Z Y notes whole behind unit failed notes_ works)
+
 pub judged-noting : (e : Entering) (failed : Bool) (old new : Run) (before after : Outcome) (a : IsAccepted e old new before after) (U V X Y Z : State) → IsCoherent U → IsCoherent V → IsUnit U → V.works ≡ not failed →
     HasNoted IsOnUnit IsComing (notes_by (ending_of a.way) e old.noted (measured a.way e old.keeper).cabin) failed U V → IsJudgedNoting e failed old new before after (arranged e.which U X Z) (arranged e.which V Y Z)
 judged-noting e failed old new before after a U V X Y Z whole behind unit works noted =
-    let notes : List UnitNote = notes_by (ending_of a.way) e old.noted (measured a.way e old.keeper).cabin in
-    record {
-      accepted = a;
-      notes = noted-as e.which U V X Y Z (judged_events a.way e old) failed (entered-noted U V X Z Y Z notes whole behind unit failed noted works) (entered-noted U V Z X Z Y notes whole behind unit failed noted works);
-    }
+    record { accepted = a; notes = judged-notes e failed a.way old.keeper old.noted U V X Y Z whole behind unit works noted }
 
 -- no card is there: nothing is noted
 same-noted : (U X Y : State) → NotesEvents [] false (devices U X Y) (devices U X Y)

@@ -2,6 +2,7 @@ pub mod EnteredRings
 pub mod EnteredTold
 pub mod EnteredAdds
 pub mod EnteredNamed
+pub mod EnteredEvented
 pub mod Spanned
 pub mod EnteredEvents
 pub mod Items
@@ -36,6 +37,7 @@ pub mod WakeNoted
 pub mod Staying
 pub mod ActsEvented
 pub mod SecondsEvented
+pub mod BegunEvented
 pub mod Uncut
 pub mod WholeOdometer
 pub mod GapEvented

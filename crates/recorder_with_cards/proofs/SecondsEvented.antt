@@ -94,22 +94,20 @@ module _ (o : Origin) (done : List TraceSecond) (old : Run) (before : Outcome) (
         watched = λ lit. absurd (let bad : Due ≡ Lit = sym power ∙ lit in cc);
       }
     where
-      followed = r.recorded.recorded.followed
-
       plain : Evented o (done ++ dark (suc n) old.next) (log_of before) old.unfound (old.next + suc n) IsDue d → Evented o (done ++ dark (suc n) old.next) (log_of (record before { breaks = with_lines [] before.breaks })) old.unfound (old.next + suc n) IsDue d
       plain e = subst (λ (l : Listed Break). Evented o (done ++ dark (suc n) old.next) (log_of (record before { breaks = l })) old.unfound (old.next + suc n) IsDue d) (no-lines before.breaks) e
 
       so : (q : Power) (s : Supply) → r.supply ≡ s → Supplies q s → Evented o (done ++ dark (suc n) old.next) (log_of (record before { breaks = with_lines (off_cut (is_lit q) (old.next - 1) old.begun) before.breaks })) old.unfound (old.next + suc n) IsDue d
       so Lit (IsLit []) at powers = absurd powers
-      so Lit (IsLit (t ∷ span)) at powers = off-line_cuts d o done p followed h.evented t span at n
+      so Lit (IsLit (t ∷ span)) at powers = off-line_cuts d o done p r.recorded.recorded.followed h.evented t span at n
       so Lit IsDue at powers = absurd powers
       so Lit IsLost at powers = absurd powers
       so Due (IsLit span) at powers = absurd powers
-      so Due IsDue at powers = plain (off-line d o done p followed h.evented (subst IsDark (sym at) tt) n)
+      so Due IsDue at powers = plain (off-line d o done p r.recorded.recorded.followed h.evented (subst IsDark (sym at) tt) n)
       so Due IsLost at powers = absurd powers
       so Lost (IsLit span) at powers = absurd powers
       so Lost IsDue at powers = absurd powers
-      so Lost IsLost at powers = plain (off-line d o done p followed h.evented (subst IsDark (sym at) tt) n)
+      so Lost IsLost at powers = plain (off-line d o done p r.recorded.recorded.followed h.evented (subst IsDark (sym at) tt) n)
 
       by : (q : Power) → old.power ≡ q → (s : Supply) → r.supply ≡ s → Supplies old.power s → Evented o (done ++ dark (suc n) old.next) (log_of (record before { breaks = with_lines (off_cut (is_lit old.power) (old.next - 1) old.begun) before.breaks })) old.unfound (old.next + suc n) IsDue d
       by q is_ s at powers =

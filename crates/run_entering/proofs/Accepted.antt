@@ -40,6 +40,9 @@ fell-broken works cause = record { faults = cause.faults; breakdowns = omega (ar
 not_failed : false ≡ true → ⊥
 not_failed e = cc
 
+none-falls : ◌≡◌ {A = ℕ} 0 1 → ⊥
+none-falls e = cc
+
 or_false : (b : Bool) → (b || false) ≡ b
 or_false true = refl
 or_false false = refl
@@ -119,6 +122,7 @@ module _ (app : Application) (session : ℕ) (e : Entering) (k v : Keeper) (brea
     broken = m.broken;
     later = m.later;
     near = let four = moving-writes e moves in let near = m.near in omega (arith, four, near);
+    moves = λ fell_. moves;
   }
 
   on-card : (failed : Bool) → IsMoved app e false k v breaks breaks_after U V X Y fell → (u : List ℕ) → HasNoted (IsOnCard app k.memory.registration e u) (IsComingOnCard app k.memory.registration e u) (moving_on_card k.memory.registration e) (failed || fell) X Y
@@ -158,6 +162,7 @@ module _ (app : Application) (session : ℕ) (e : Entering) (k : Keeper) (breaks
     broken = none_broken X;
     later = omega arith;
     near = omega arith;
+    moves = λ fell_. absurd (not_failed fell_);
   }
 
   pub rests-unclosed : session ≢ 0 → HasNoted IsOnUnit IsComing (event_of SESSION_NOT_CLOSED session e.at.second k.cabin ∷ []) failed U V → IsNotedOn app session e failed k k breaks breaks U V X X false
@@ -195,6 +200,7 @@ module _ (app : Application) (e : Entering) (entered : Entered) (clock : ℕ) (k
       broken = none_broken X;
       later = omega arith;
       near = omega arith;
+      moves = λ falls. absurd (none-falls falls);
     },
   )
   taken-cut v noted_after U V X (Some entry) s = (
@@ -206,6 +212,7 @@ module _ (app : Application) (e : Entering) (entered : Entered) (clock : ℕ) (k
       broken = none_broken X;
       later = omega arith;
       near = omega arith;
+      moves = λ falls. absurd (none-falls falls);
     },
   )
 
@@ -220,6 +227,7 @@ module _ (app : Application) (e : Entering) (entered : Entered) (clock : ℕ) (k
     broken = m.broken;
     later = m.later;
     near = m.near;
+    moves = λ falls. absurd (none-falls falls);
   }
   seated-taken true failed v noted_after breaks U V W X Y entry counted seat m = record {
     left = record { keeper = m.keeper; count = counted; outcome = taken-outcome true entry breaks m.told };
@@ -228,6 +236,7 @@ module _ (app : Application) (e : Entering) (entered : Entered) (clock : ℕ) (k
     broken = m.broken;
     later = m.later;
     near = m.near;
+    moves = λ falls. m.moves refl;
   }
 
   pub taken-on : (fell failed : Bool) (k1 v : Keeper) (noted_after : ℕ) (breaks : Listed Break) (U V W X Y : State) (entry : Option ℕ) → IsSeated entered.look entered.session e false k k1 noted noted_after U V entry

@@ -253,6 +253,7 @@ module _ (app : Application) (e : Entering) (k : Keeper) (U V X M Z : State) (un
         let same = newest-is works low in
         record {
           valid = valid;
+          named = accepted-number-by f w k.cabin.cards e.which U V X M Z m.found unit_whole unit_after whole after registration long odometer e.at.second few answer out bare m.powered m.late app own size enters valid entered ok;
           found = record { unit_image = r.unit_image; card_image = r.card_image; on = r.on; there = r.there; valid = r.valid; early = r.early; number = r.number };
           whole = accepted-whole-by f w k.cabin.cards e.which U V X M Z m.found unit_whole unit_after whole after registration long odometer e.at.second few answer out bare m.powered m.late app own size enters valid entered ok;
           most = most;
@@ -307,6 +308,7 @@ module _ (e : Entering) (k : Keeper) (sizes : Result Application ℕ) (U X M Z :
   told-before : (f : Found) (w : Carried) (entered : Entered) → IsToldSo f w e entered U M → IsToldSo f w e entered U X
   told-before f w entered t = record {
     valid = t.valid;
+    named = t.named;
     found = record {
       unit_image = t.found.unit_image;
       card_image = t.found.card_image;

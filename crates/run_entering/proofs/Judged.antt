@@ -1,5 +1,5 @@
 -- How a card that was judged ended, over plain states.
-use Rattle.std.proofs.Common.{◌≡◌, ◌∙◌, inl, inr, ℕ, ◌+◌, ◌<◌, ◌≤◌, Bool, true, false, Option, Some, None, IfSome, List, [], ◌∷◌, ◌++◌, refl, ap, sym, subst, arith}
+use Rattle.std.proofs.Common.{◌≡◌, ◌∙◌, inl, inr, ℕ, ◌+◌, ◌^◌, ◌<◌, ◌≤◌, Bool, true, false, Option, Some, None, IfSome, List, [], ◌∷◌, ◌++◌, refl, ap, sym, subst, arith}
 use Rattle.std.specs.Prelude.{Result, Ok, Err}
 use Rattle.activity_codec.specs.declared.entries.Entry.{Entry}
 use Rattle.tach_media.specs.Medium.{State, IsCoherent, LeavesOnly, Unchanged, HasCause, HasBroken, broken_by, revivable}
@@ -79,8 +79,8 @@ module _ (app : Application) (e : Entering) (k : Keeper) (noted : ℕ) (o : Outc
       lacked = at_image (λ (l : List ℕ). entered.replayed ≡ replayed_count (session_time app l) (end_mark app l) entered.owed.items) is enters.accepted.number;
     }
 
-    new-so : IsNew app vehicle e.at.second entered
-    new-so = record { sizes = enters.accepted.sizes; vehicle = enters.accepted.vehicle; fresh = enters.accepted.fresh; fit = enters.accepted.fit; few = enters.accepted.few }
+    new-so : entered.look.session < 2 ^ 32 → IsNew app vehicle e.at.second entered
+    new-so low = record { low = low; sizes = enters.accepted.sizes; vehicle = enters.accepted.vehicle; fresh = enters.accepted.fresh; fit = enters.accepted.fit; few = enters.accepted.few }
 
     put-in : (u : List ℕ) → U.image ≡ Some u → HasNoted (IsOnCard app vehicle e u) (IsComingOnCard app vehicle e u) (PutIn ∷ []) false X M
     put-in u told = one-note (IsOnCard app vehicle e u) (IsComingOnCard app vehicle e u) PutIn
@@ -109,11 +109,11 @@ module _ (app : Application) (e : Entering) (k : Keeper) (noted : ℕ) (o : Outc
         broken = let few : falls_of ending ≤ 0 + falls_of ending = omega arith in fewer_broken few (both_broken (kept-broken enters.cause) t.broken);
       }
 
-      pub judged-taken : (fell : Bool) (entry : Option ℕ) → IsEntry entry failed V.image → Taken (taken_as fell entered M.clock entry) → IsJudgedSo app e failed k v noted noted_after o p U W X Y (taken_as fell entered M.clock entry)
-      judged-taken true None is t = judged-by (Unnoted entered M.clock) (is, new-so, clock-so _ t) told-so refl t
-      judged-taken false None is t = judged-by (Unnoted entered M.clock) (is, new-so, clock-so _ t) told-so refl t
-      judged-taken false (Some entry) is t = judged-by (Seated entered M.clock entry) (place-so entry is, new-so, clock-so _ t) told-so refl t
-      judged-taken true (Some entry) is t = judged-by (Lost entered M.clock entry) (place-so entry is, new-so, clock-so _ t) told-so refl t
+      pub judged-taken : entered.look.session < 2 ^ 32 → (fell : Bool) (entry : Option ℕ) → IsEntry entry failed V.image → Taken (taken_as fell entered M.clock entry) → IsJudgedSo app e failed k v noted noted_after o p U W X Y (taken_as fell entered M.clock entry)
+      judged-taken low true None is t = judged-by (Unnoted entered M.clock) (is, new-so low, clock-so _ t) told-so refl t
+      judged-taken low false None is t = judged-by (Unnoted entered M.clock) (is, new-so low, clock-so _ t) told-so refl t
+      judged-taken low false (Some entry) is t = judged-by (Seated entered M.clock entry) (place-so entry is, new-so low, clock-so _ t) told-so refl t
+      judged-taken low true (Some entry) is t = judged-by (Lost entered M.clock entry) (place-so entry is, new-so low, clock-so _ t, t.moves refl) told-so refl t
 
   -- ---- it is not
 
@@ -154,10 +154,10 @@ module _ (app : Application) (e : Entering) (k : Keeper) (noted : ℕ) (o : Outc
     broken = kept-broken enters.cause;
   }
 
-  pub judged-ahead : (failed : Bool) (stored now : ℕ) (p : Outcome) (W : State) → Enters (Err (TimeOverlap stored now)) → p ≡ outcome_by (Ahead stored) e o
+  pub judged-ahead : (failed : Bool) (stored now : ℕ) → stored < 2 ^ 32 → (p : Outcome) (W : State) → Enters (Err (TimeOverlap stored now)) → p ≡ outcome_by (Ahead stored) e o
       → HasNoted IsOnUnit IsComing (notes_by (Ahead stored) e noted k.cabin) failed V W → IsJudgedSo app e failed k k noted noted o p U W X M (Ahead stored)
-  judged-ahead failed stored now p W enters told notes = record {
-    is = tt;
+  judged-ahead failed stored now low p W enters told notes = record {
+    is = low;
     left = record { keeper = refl; count = refl; outcome = told };
     found = if_told X.image (IsFound app e.at.second U.image (Ahead stored)) (λ x is. let was = at_image (λ (l : List ℕ). IsValid app l × (stored ≡ (card_view app l).stored)) is enters.refused.3 in (was.0, was.1, enters.refused.2));
     notes = notes-after IsOnUnit IsComing enters.unit.leaves (enters.unit.same refl) notes;
@@ -189,7 +189,7 @@ module _ (e : Entering) (k : Keeper) (noted : ℕ) (o : Outcome) (U X M : State)
     ending-woken Unasked is = is
     ending-woken (Unnoted entered t) is = (is.0, is.1, clock-woken t is.2)
     ending-woken (Seated entered t entry) is = (is.0, is.1, clock-woken t is.2)
-    ending-woken (Lost entered t entry) is = (is.0, is.1, clock-woken t is.2)
+    ending-woken (Lost entered t entry) is = (is.0, is.1, clock-woken t is.2, is.3)
 
     pub entered-judged : IfSome M.image (λ x. own_sizes x ≡ app) → (ending : Ending) → Ended ending → HasEntered e failed k v noted noted_after o p U W X Y (Judged app ending)
     entered-judged sized ending j = record {

@@ -1,5 +1,5 @@
 -- What is left behind a card that was put into a slot, or met power there, by value (profile).
-use Rattle.std.specs.Prelude.{◌≡◌, ℕ, ◌+◌, ◌<◌, ◌≤◌, Bool, true, false, ◌||◌, Option, Some, None, Result, Ok, Err, IfSome, List, [], ◌∷◌, length, nat_lt, if◌then◌else◌}
+use Rattle.std.specs.Prelude.{◌≡◌, ℕ, ◌+◌, ◌^◌, ◌<◌, ◌≤◌, Bool, true, false, ◌||◌, Option, Some, None, Result, Ok, Err, IfSome, List, [], ◌∷◌, length, nat_lt, if◌then◌else◌}
 use Rattle.tach_media.specs.Medium.{State, LeavesOnly, HasBroken}
 use Rattle.tacho_types.specs.declared.texts.Registration.{Registration}
 use Rattle.card_layout.specs.declared.files.Application.{Application}
@@ -41,6 +41,8 @@ pub record IsNew (app : Application) (registration : Registration) (second : ℕ
   pub fresh : entered.session.odometer ≡ None
   pub fit : AreOwed second entered.owed.items
   pub few : entered.replayed ≤ length entered.owed.items
+  -- the time of the last one, which it told, fits its field
+  pub low : entered.look.session < 2 ^ 32
 
 -- the marks have the clock behind its insertion: the event of a moving vehicle is noted on the card since, with four writes at most
 abbrev pub writes_behind : Entering → ℕ
@@ -55,10 +57,10 @@ pub record IsClock (e : Entering) (clock : ℕ) (card card_after : State) : Type
 abbrev pub IsPlace : (entry : ℕ) → (unit : Option (List ℕ)) → Type 0
 IsPlace entry unit = (entry < insertion_ring.count) × IfSome unit (λ x. PointsInside insertion_ring x → entry ≡ taken insertion_ring x)
 
--- so it is with an ending: the unit failed, where that decides it
+-- so it is with an ending: the unit failed, where that decides it; a card that was accepted is torn out where the vehicle moves alone
 abbrev pub IsEnding : Ending → Application → Registration → Entering → (failed : Bool) → (unit : Option (List ℕ)) → (card card_after : State) → Type 0
 IsEnding (Unfit fid place) app registration e failed unit card card_after = Unit {0}
-IsEnding (Ahead stored) app registration e failed unit card card_after = Unit {0}
+IsEnding (Ahead stored) app registration e failed unit card card_after = stored < 2 ^ 32
 IsEnding Fell app registration e failed unit card card_after = Unit {0}
 IsEnding Unasked app registration e failed unit card card_after = failed ≡ true
 IsEnding (Unnoted entered clock) app registration e failed unit card card_after =
@@ -66,7 +68,7 @@ IsEnding (Unnoted entered clock) app registration e failed unit card card_after 
 IsEnding (Seated entered clock entry) app registration e failed unit card card_after =
     IsPlace entry unit × IsNew app registration e.at.second entered × IsClock e clock card card_after
 IsEnding (Lost entered clock entry) app registration e failed unit card card_after =
-    IsPlace entry unit × IsNew app registration e.at.second entered × IsClock e clock card card_after
+    IsPlace entry unit × IsNew app registration e.at.second entered × IsClock e clock card card_after × (0 < e.speed)
 
 -- ---- what the image of a card was
 
@@ -130,6 +132,7 @@ pub record IsNotedOn (app : Application) (session : ℕ) (e : Entering) (failed 
   pub broken : HasBroken card card_after (count_of fell)
   pub later : card.clock ≤ card_after.clock
   pub near : card_after.clock ≤ card.clock + writes_behind e
+  pub moves : fell ≡ true → 0 < e.speed
 
 -- A card that is found to be accepted ended so.
 pub record IsTaken (app : Application) (e : Entering) (failed : Bool) (k v : Keeper) (noted noted_after : ℕ) (o p : Outcome)
@@ -141,6 +144,7 @@ pub record IsTaken (app : Application) (e : Entering) (failed : Bool) (k v : Kee
   pub broken : HasBroken card card_after (falls_of ending)
   pub later : card.clock ≤ card_after.clock
   pub near : card_after.clock ≤ card.clock + writes_behind e
+  pub moves : falls_of ending ≡ 1 → 0 < e.speed
 
 -- with this entry, or none
 abbrev pub IsEntry : Option ℕ → (failed : Bool) → (unit : Option (List ℕ)) → Type 0

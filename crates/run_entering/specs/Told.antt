@@ -137,9 +137,10 @@ pub record Answers (f : CardFound) (c : Card) (b : Book) (x : List ℕ) (minute 
   pub words : (own_view x).session ≡ 0 → (own_view x).word ≤ minute
 
 -- what the find of an acceptance tells: so many entries were owed by images that a stop might have left then, and all of them, which are few, are
--- on it; the card was valid at the start; and it answered its newest minute
+-- on it; the card was valid at the start, and told the number that it has; and it answered its newest minute
 pub record IsToldSo (f : Found) (w : Carried) (e : Entering) (entered : Entered) (unit card : State) : Type 0 where
   pub valid : IsOwnValid (found_of f e.which).image
+  pub named : card_number_bytes entered.look.number ≡ (found_of f e.which).number
   pub found : HasFoundSo f e.which unit card e.at.second entered.replayed
   pub whole : entered.replayed ≡ length entered.owed.items
   pub most : length entered.owed.items ≤ most_owed

@@ -70,6 +70,7 @@ fn defer<M: Medium>(
     requires second { entering.at.second ≢ 0 }
     requires room { length outcome.old.finds.items < outcome.old.finds.room }
     ensures told { outcome.new ≡ outcome_by (Ahead stored) entering outcome.old }
+    ensures low { stored < 2 ^ 32 }
     ensures journal { LeavesOnly (M.state unit.old) (M.state unit.new) LeavesJournal }
     ensures notes { HasNoted IsOnUnit IsComing (notes_by (Ahead stored) entering 0 keeper.now.cabin) (is_err result) (M.state unit.old) (M.state unit.new) }
     ensures ready { OnOk result (UnitReady keeper.now (M.state unit.new)) }

@@ -201,6 +201,7 @@ pub(crate) fn take_in<M: Medium, C: Chip, D: Chip>(
     ensures size { (C.state card.new).size ≡ (C.state card.old).size }
     ensures more { (C.state card.old).breakdowns ≤ (C.state card.new).breakdowns }
     ensures most { length entered.owed.items ≤ most_owed }
+    ensures low { entered.look.session < 2 ^ 32 }
     ensures later { IsLater (C.state card.old) (C.state card.new) }
 {
     let look = entered.look;

@@ -10,6 +10,7 @@ use Rattle.safety_model.specs.Cards.{CardSafe}
 use Rattle.safety_model.specs.Safe.{Devices, card_of, breakdowns_of, IsVerdict, WasFound}
 use Rattle.unit_model.specs.Image.{recorded}
 use Rattle.run_outcome.specs.declared.outcome.Outcome.{Outcome}
+use Rattle.run_evented.specs.Evented.{ShowsEventsOf}
 use Rattle.recorder_with_cards.specs.Ends.{recording_of, EndsTrace}
 
 module _ (x a b : List ℕ) (start : ℕ) (items : List Item) (out : Outcome) (p q now : Devices) (unit : p.unit.clock ≡ q.unit.clock) (cards : (c : Card) → (card_of p c).clock ≡ (card_of q c).clock) (broken : (device : Device) → breakdowns_of p device ≡ breakdowns_of q device) where
@@ -18,6 +19,17 @@ module _ (x a b : List ℕ) (start : ℕ) (items : List Item) (out : Outcome) (p
 
   abbrev Caused : ℕ → (Card → ℕ) → (Device → ℕ) → Type 0
   Caused n k m = HasCauses (λ c u v. IsVerdict r (now.unit.left_since n) ((card_of now c).left_since (k c)) c u v) m (breakdowns_of now) r.trace r.log
+
+  events-by : (y : List ℕ) → ShowsEventsOf r p now y → ShowsEventsOf r q now y
+  events-by y h = record {
+    sessions = h.sessions;
+    are_sessions = λ t f among found accepts. let one = h.are_sessions t f among found accepts in (one.0, subst (λ (n : ℕ). (card_of now f.0.card).left_since n one.0) (cards f.0.card) one.1, one.2);
+    tearing = h.tearing;
+    are_torn = h.are_torn;
+    events = h.events;
+    first_over = h.first_over;
+    over_count = h.over_count;
+  }
 
   pub ends-by : EndsTrace x a b start items out p now → EndsTrace x a b start items out q now
   ends-by h = record {
@@ -40,4 +52,5 @@ module _ (x a b : List ℕ) (start : ℕ) (items : List Item) (out : Outcome) (p
       odometer = h.ends.odometer;
       whole = h.ends.whole;
     };
+    events = λ y left. events-by y (h.events y left);
   }

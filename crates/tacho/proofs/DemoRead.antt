@@ -19,6 +19,7 @@ use Rattle.safety_model.specs.Cards.{CardSafe, Agree}
 use Rattle.safety_model.specs.Safe.{Devices, card_of, breakdowns_of, IsVerdict, WasFound}
 use Rattle.run_rule.specs.Between.{devices}
 use Rattle.run_recorded.specs.Whole.{IsFull}
+use Rattle.run_evented.specs.Evented.{ShowsEventsOf}
 use Rattle.log_model.specs.declared.lines.Break.{Break}
 use Rattle.log_model.specs.declared.lines.Break.TheVariants.{Cut, Tear}
 use Rattle.run_outcome.specs.declared.outcome.Outcome.{Outcome}
@@ -95,6 +96,22 @@ module _ (U V : State) (is : IsRead U V) where
     verdict-read A u (TimeOverlap stored now) h = h
     verdict-read B u (TimeOverlap stored now) h = h
 
+    -- a card's image that told a session is there still
+    told-read : (c : Card) (y : List ℕ) → (card_of (devices U Y Z) c).left_since (card_of p c).clock y → (card_of (devices V Y Z) c).left_since (card_of p c).clock y
+    told-read A y h = h
+    told-read B y h = h
+
+    events-read : (y : List ℕ) → ShowsEventsOf r p (devices U Y Z) y → ShowsEventsOf r p (devices V Y Z) y
+    events-read y h = record {
+      sessions = h.sessions;
+      are_sessions = λ t f among found accepts. let one = h.are_sessions t f among found accepts in (one.0, told-read f.0.card one.0 one.1, one.2);
+      tearing = h.tearing;
+      are_torn = h.are_torn;
+      events = h.events;
+      first_over = h.first_over;
+      over_count = h.over_count;
+    }
+
     pub ends-read : EndsTrace x a b start items out p (devices U Y Z) → EndsTrace x a b start items out p (devices V Y Z)
     ends-read h =
         let was = h.ends.caused.causes in
@@ -131,6 +148,7 @@ module _ (U V : State) (is : IsRead U V) where
             whole = λ nothing. let w = h.ends.whole nothing in
                 record { decided = w.decided; unit = λ y left. w.unit y (now-back y left); card = λ c u valid accepted y left. full-read c y (λ on. w.card c u valid accepted y on) left };
           };
+          events = λ y left. events-read y (h.events y (now-back y left));
         }
 
 -- and so it is of what was recorded on new devices

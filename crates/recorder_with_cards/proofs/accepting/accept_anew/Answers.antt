@@ -5,7 +5,7 @@ use Rattle.safety_model.specs.Safe.{Devices}
 use Rattle.run_rule.specs.Between.{devices}
 use Rattle.slot_machine.specs.Calls.{seat_in, card_in}
 use Rattle.run_acts.specs.Room.{Takes}
-use Rattle.recorder_with_cards.specs.Judged.{JudgesAnew}
+use Rattle.recorder_with_cards.specs.Judged.{JudgesAnew, EventsAnew}
 use Rattle.recorder_with_cards.specs.Noting.{NotesAnew}
 use Rattle.recorder_with_cards.proofs.Judged.{none-noting}
 use Rattle.recorder_with_cards.proofs.Goes.{bare-one}
@@ -30,6 +30,22 @@ returns-clause-recorded g c = λ room.
     let e : Devices = devices (g.M.Medium.state c.accept_in.new.unit) (g.C.Chip.state c.accept_in.new.card_a) (g.D.Chip.state c.accept_in.new.card_b) in
     subst (λ (q : Option Card). JudgesAnew q c.args.slot c.args.at (is_err c.accept_in.result) c.args.run.now c.accept_in.new.run c.args.outcome.now c.accept_in.new.outcome d e) (sym is)
     (c.accept_in.ensures.recorded (omega (arith, room, one)))
+
+pub returns-clause-evented : goal.returns-clause-evented
+returns-clause-evented g c = λ room.
+    let seat = seat_in c.args.run.now.keeper.cabin.slots.seats c.args.slot in
+    let is : card_in seat ≡ Some c.in-Some.card = sym c.card.ensures ∙ c.in-Some.is in
+    let one = bare-one seat c.in-Some.card is c.requires.bare in
+    let d : Devices = devices (g.M.Medium.state c.args.unit.now) (g.C.Chip.state c.args.card_a.now) (g.D.Chip.state c.args.card_b.now) in
+    let e : Devices = devices (g.M.Medium.state c.accept_in.new.unit) (g.C.Chip.state c.accept_in.new.card_a) (g.D.Chip.state c.accept_in.new.card_b) in
+    subst (λ (q : Option Card). EventsAnew q c.args.slot c.args.at c.args.speed (is_err c.accept_in.result) c.args.run.now c.accept_in.new.run c.args.outcome.now c.accept_in.new.outcome d e) (sym is)
+    (c.accept_in.ensures.evented (omega (arith, room, one)))
+
+pub returns-in_default-clause-evented : goal.returns-in_default-clause-evented
+returns-in_default-clause-evented g c = λ room.
+    let none : card_in (seat_in c.args.run.now.keeper.cabin.slots.seats c.args.slot) ≡ None = search rules in
+    let d : Devices = devices (g.M.Medium.state c.args.unit.now) (g.C.Chip.state c.args.card_a.now) (g.D.Chip.state c.args.card_b.now) in
+    subst (λ (q : Option Card). EventsAnew q c.args.slot c.args.at c.args.speed false c.args.run.now c.args.run.now c.args.outcome.now c.args.outcome.now d d) (sym none) tt
 
 pub returns-clause-noted : goal.returns-clause-noted
 returns-clause-noted g c =

@@ -1,4 +1,4 @@
-use Rattle.std.proofs.Common.{rules, ◌≡◌, ◌∙◌, ⊎_elim, ℕ, ◌+◌, ◌*◌, ◌/◌, ◌<◌, ◌≤◌, Bool, true, Option, Some, None, IfSome, is_some, List, length, refl, ap, sym, subst, arith, length-append}
+use Rattle.std.proofs.Common.{rules, ◌≡◌, ◌∙◌, ⊎_elim, ℕ, ◌+◌, ◌*◌, ◌/◌, ◌^◌, ◌<◌, ◌≤◌, Bool, true, Option, Some, None, IfSome, is_some, List, length, refl, ap, sym, subst, arith, length-append}
 use Rattle.tach_media.proofs.Runs.{on_ok, ok_gives}
 use Rattle.trace_model.specs.declared.Card.{Card}
 use Rattle.joint_rule.specs.Views.{other}
@@ -24,7 +24,9 @@ use Rattle.run_told.specs.Told.{arranged}
 use Rattle.run_acts.specs.Entered.{MayJudge, HasGone, AreSound}
 use Rattle.run_acts.proofs.EnteredWhole.{entered-recorded}
 use Rattle.run_acts.specs.declared.run.Run.{Run}
-use Rattle.recorder_with_cards.proofs.Judged.{mine-time, found-by, judged-by, judged-noting}
+use Rattle.run_keeping.specs.declared.keeper.Moment.{Moment}
+use Rattle.recorder_with_cards.proofs.Judged.{mine-time, found-by, judged-by, judged-notes, judged-noting}
+use Rattle.recorder_with_cards.proofs.EnteredEvented.{judged-evented}
 use Rattle.recorder_with_cards.proofs.NoSession.{seat-answers}
 use Rattle.recorder_with_cards.proofs.EnteredRings.{accept-writes}
 use Rattle.recorder_with_cards.proofs.accepting.accept_here.Goals as goal
@@ -160,6 +162,50 @@ returns-clause-recorded g c = λ room o done s n waits fewer at next time.
     } in
     judged-by failed o done s n waits fewer run new c.args.outcome.now c.accept-answer.new.outcome (arranged e.which U X Y) (arranged e.which V Z Y) next.goes c.requires.lit (ap (λ (q : Keeper). q.odometer) w.1.left.keeper)
     (entered-recorded o done s n waits fewer e run.keeper c.args.outcome.now run.unfound run.next run.begun run.minutes U X Y next.goes.within may failed c.accept-answer.new.keeper run.noted c.accept-answer.new.noted c.accept-answer.new.outcome V Z sound w.0 gone)
+
+-- ---- its events
+
+pub returns-clause-evented : goal.returns-clause-evented
+returns-clause-evented g c = λ room o done s n waits fewer at speed next turn events time.
+    let run = c.args.run.now in
+    let e = c.args.entering in
+    let h = c.requires.going in
+    let w = c.accept-answer.ensures.entered in
+    let U : State = g.M.Medium.state c.args.unit.now in
+    let V : State = g.M.Medium.state c.accept-answer.new.unit in
+    let X : State = g.C.Chip.state c.args.card.now in
+    let Z : State = g.C.Chip.state c.accept-answer.new.card in
+    let Y : State = g.D.Chip.state c.args.others.now in
+    let failed : Bool = is_err c.accept-answer.result in
+    let sits = seat-answers (ungiven_of h.span) run.keeper.cabin e.slot e.which h.cabin c.requires.seat in
+    let may : MayJudge o done s n waits fewer e run.keeper c.args.outcome.now run.unfound run.next run.begun run.minutes U X Y next.goes.within = record {
+      origin = found-by o next.goes.origin;
+      moment = at;
+      last = let second = c.requires.at in let small = c.requires.small in omega (arith, second, small);
+      next_ = next.next;
+      none = next.none;
+      order = next.order;
+      ready = h.ready.unit_ready;
+      seat = c.requires.seat;
+      elsewhere = sits.0;
+      bare = sits.1;
+      room = room;
+    } in
+    let gone : HasGone e failed run.keeper c.accept-answer.new.keeper run.noted c.accept-answer.new.noted c.args.outcome.now c.accept-answer.new.outcome U V X Z Y w.0 =
+    record { entered = w.1; books = w.2; cause = c.accept-answer.ensures.cause; more = c.accept-answer.ensures.more; in_time = c.accept-answer.ensures.in_time } in
+    let sound : AreSound U V X Z = record {
+      time = mine-time e.which V Z Y time;
+      unit_before = g.met.M.Medium.coherent c.args.unit.now;
+      unit_behind = g.met.M.Medium.coherent c.accept-answer.new.unit;
+      card_before = g.met.C.Chip.coherent c.args.card.now;
+      card_behind = g.met.C.Chip.coherent c.accept-answer.new.card;
+    } in
+    let small : s.number < 2 ^ 32 = let second = c.requires.at in let here = ap (λ (m : Moment). m.second) at in let few = c.requires.small in omega (arith, second, here, few) in
+    judged-evented o done s n waits fewer e run.keeper c.args.outcome.now run.unfound run.next run.begun run.minutes U X Y next.goes.within may next.goes.origin turn speed small (ungiven_of h.span) h.cabin
+    failed c.accept-answer.new.keeper run.noted c.accept-answer.new.noted c.accept-answer.new.outcome V Z w.0 gone sound events
+    (judged-notes e failed w.0 run.keeper run.noted U V X Z Y (g.met.M.Medium.coherent c.args.unit.now) (g.met.M.Medium.coherent c.accept-answer.new.unit) c.requires.held.is_unit c.accept-answer.ensures.cause.works w.1.notes)
+
+-- ---- what is noted
 
 pub returns-clause-noted : goal.returns-clause-noted
 returns-clause-noted g c =

@@ -17,9 +17,11 @@ use Rattle.run_outcome.specs.declared.outcome.Outcome.{Outcome}
 use Rattle.run_keeping.proofs.DecidedBooked.{time-before}
 use Rattle.run_acts.specs.declared.run.Run.{Run}
 use Rattle.run_acts.specs.declared.run.Power.{Power}
-use Rattle.run_acts.specs.Recording.{GoesOnOrFails}
+use Rattle.run_acts.specs.Recording.{log_of, GoesOnOrFails}
 use Rattle.run_acts.specs.Settling.{RecordsSettling}
-use Rattle.recorder_with_cards.proofs.Inserted.{unsettled, inserted}
+use Rattle.run_evented.specs.Noting.{Acting}
+use Rattle.run_acts.specs.Evented.{EventsGoOn, EventsSettling}
+use Rattle.recorder_with_cards.proofs.Inserted.{unsettled, inserted, unsettled-evented, inserted-evented}
 use Rattle.tach_media.specs.Medium.{State}
 use Rattle.run_acts.specs.NotedEvents.{NotesEvents}
 use Rattle.run_acts.proofs.NotedEvents.{then-noted}
@@ -138,6 +140,53 @@ returns-clause-recorded g c = λ late room o done s now front rest actions begun
     inserted c.args.slot c.args.card c.args.at c.args.speed run out d o done s now front rest actions c.requires.at begun late allowed within mid told false settles r.0 r.1 e records
     (time-before e last c.accept_in.ensures.clock c.accept_in.ensures.clock_a c.accept_in.ensures.clock_b time) refl seat (is_err c.accept_in.result) c.accept_in.new.run c.accept_in.new.outcome last
     (c.accept_in.ensures.recorded (omega (arith, room, marks, rooms, was))) time
+
+-- ---- the events of it
+
+pub returns-in_err-settle-clause-evented : goal.returns-in_err-settle-clause-evented
+returns-in_err-settle-clause-evented g c = λ late room o done s now front rest actions begun allowed within events time.
+    let run = c.args.run.now in
+    let out = c.args.outcome.now in
+    let h = c.requires.going in
+    let mid : Run = c.settle.new.run in
+    let told : Outcome = c.settle.new.outcome in
+    let d : Devices = devices (g.M.Medium.state c.args.unit.now) (g.C.Chip.state c.args.card_a.now) (g.D.Chip.state c.args.card_b.now) in
+    let e : Devices = devices (g.M.Medium.state c.settle.new.unit) (g.C.Chip.state c.settle.new.card_a) (g.D.Chip.state c.settle.new.card_b) in
+    let r = c.in_err-settle.ensures.evented in
+    let stands = subst (λ (b : Cabin). Stands (ungiven_of h.span) None b) c.put_in.ensures.kept (c.put_in.ensures.stands (ungiven_of h.span) h.cabin) in
+    let bare = put-bare c.args.slot c.args.card run.keeper.cabin (ungiven_of h.span) stands in
+    let settles = subst (λ (b : Cabin). IsSettled c.args.at true (with_cabin b run) mid out told) c.put_in.ensures.kept c.in_err-settle.ensures.settled in
+    let notes = subst (λ (b : Cabin). EventsSettling r.0 c.args.at true (with_cabin b run) mid out told d e) c.put_in.ensures.kept r.2 in
+    let fails = unsettled-evented c.args.slot c.args.card c.args.at c.args.speed run out d o done s now front rest actions c.requires.at begun late allowed within bare mid told true settles r.0 r.1 e notes time events refl in
+    let failed : true ≡ is_err c.from_residual.result = search rules in
+    subst (λ (f : Bool). EventsGoOn f o done s within.within.b.run (In c.args.at.begun) Acting (log_of told) e) failed fails
+
+pub returns-clause-evented : goal.returns-clause-evented
+returns-clause-evented g c = λ late room o done s now front rest actions begun allowed within events time.
+    let run = c.args.run.now in
+    let out = c.args.outcome.now in
+    let h = c.requires.going in
+    let mid : Run = c.settle.new.run in
+    let told : Outcome = c.settle.new.outcome in
+    let d : Devices = devices (g.M.Medium.state c.args.unit.now) (g.C.Chip.state c.args.card_a.now) (g.D.Chip.state c.args.card_b.now) in
+    let e : Devices = devices (g.M.Medium.state c.settle.new.unit) (g.C.Chip.state c.settle.new.card_a) (g.D.Chip.state c.settle.new.card_b) in
+    let last : Devices = devices (g.M.Medium.state c.accept_in.new.unit) (g.C.Chip.state c.accept_in.new.card_a) (g.D.Chip.state c.accept_in.new.card_b) in
+    let r = c.in_ok-settle.ensures.evented in
+    let q = c.in_ok-settle.ensures.recorded in
+    let stands = subst (λ (b : Cabin). Stands (ungiven_of h.span) None b) c.put_in.ensures.kept (c.put_in.ensures.stands (ungiven_of h.span) h.cabin) in
+    let put = put-bare c.args.slot c.args.card run.keeper.cabin (ungiven_of h.span) stands in
+    let bare = subst (λ (b : Cabin). IsBareIn b c.args.slot) (sym c.put_in.ensures.kept) put in
+    let seat = (c.in_ok-settle.ensures.bare c.args.slot bare).0 ∙ ap (λ (b : Cabin). seat_in b.slots.seats c.args.slot) c.put_in.ensures.kept ∙ seat-put c.args.slot c.args.card run.keeper.cabin in
+    let settles = subst (λ (b : Cabin). IsSettled c.args.at false (with_cabin b run) mid out told) c.put_in.ensures.kept c.in_ok-settle.ensures.settled in
+    let t = (subst (λ (b : Cabin). Takes 0 0 0 (with_cabin b run) mid out told) c.put_in.ensures.kept c.settle.ensures.takes) in
+    let marks = t.marks in
+    let rooms = t.rooms.0 in
+    let was = ap (λ (p : Power). waiting p run.minutes.owing) c.requires.lit in
+    let notes = subst (λ (b : Cabin). EventsSettling r.0 c.args.at false (with_cabin b run) mid out told d e) c.put_in.ensures.kept r.2 in
+    let records = subst (λ (b : Cabin). RecordsSettling q.0 c.args.at false (with_cabin b run) mid out told d e) c.put_in.ensures.kept q.2 in
+    let before = time-before e last c.accept_in.ensures.clock c.accept_in.ensures.clock_a c.accept_in.ensures.clock_b time in
+    inserted-evented c.args.slot c.args.card c.args.at c.args.speed run out d o done s now front rest actions c.requires.at begun late allowed within put mid told false settles r.0 r.1 e notes before events
+    q.0 q.1 records refl seat (is_err c.accept_in.result) c.accept_in.new.run c.accept_in.new.outcome last (c.accept_in.ensures.evented (omega (arith, room, marks, rooms, was))) time
 
 -- ---- what is noted
 

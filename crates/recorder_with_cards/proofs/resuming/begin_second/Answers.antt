@@ -14,6 +14,8 @@ use Rattle.run_acts.specs.Recording.{InSecondBy, InSecond}
 use Rattle.recorder_with_cards.proofs.GoingOn.{marks-due, second-on}
 use Rattle.run_keeping.proofs.Later.{later-same}
 use Rattle.run_outcome.proofs.Broken.{broke-none}
+use Rattle.run_acts.specs.Evented.{InSecondEventedBy, InSecondEvented}
+use Rattle.recorder_with_cards.proofs.BegunEvented.{lit-evented}
 use Rattle.recorder_with_cards.proofs.resuming.begin_second.Goals as goal
 
 away-dark : (p : Power) (next : ℕ) → has_power p next ≡ false → is_lit p ≡ false
@@ -152,3 +154,32 @@ returns-in_err-power_on-clause-broke g c = c.power_on.ensures.broke
 
 pub returns-clause-broke : goal.returns-clause-broke
 returns-clause-broke g c = c.power_on.ensures.broke
+
+-- ---- and the events with it
+
+pub returns-then-is_lit-clause-evented : goal.returns-then-is_lit-clause-evented
+returns-then-is_lit-clause-evented g c = λ o done s now rec time.
+    let run = c.args.run.now in
+    let out = c.args.outcome.now in
+    let U : State = g.M.Medium.state c.args.unit.now in
+    let X : State = g.C.Chip.state c.args.card_a.now in
+    let Y : State = g.D.Chip.state c.args.card_b.now in
+    let yes : is_lit run.power ≡ true = sym c.is_lit.ensures ∙ c.if-is_lit.true in
+    let lit : run.power ≡ Lit = lit-is run.power yes in
+    let on = lit-evented o done s run out (devices U X Y) U (g.C.Chip.card c.args.card_a.now) (g.D.Chip.card c.args.card_b.now) X Y lit now.number now.given c.requires.going.low (c.requires.going.lit yes) rec in
+    subst (λ (r : Run). InSecondEvented o done s 0 r out (devices U X Y)) (sym c.end_minute.ensures.run)
+    (subst (λ (b : Bool). InSecondEventedBy b o done s 0 (minute_over run) out (devices U X Y)) (sym (ap is_lit on.within.lit)) on)
+
+pub returns-in_err-power_on-clause-evented : goal.returns-in_err-power_on-clause-evented
+returns-in_err-power_on-clause-evented g c = λ o done s now rec time.
+    let run = c.args.run.now in
+    let dark : is_lit run.power ≡ false = sym c.is_lit.ensures ∙ c.if-is_lit.false in
+    let has : has_power run.power run.next ≡ true = sym c.has_power.ensures ∙ c.if-not-has_power.false in
+    absurd (c.in_err-power_on.ensures.evented (marks-due run c.args.outcome.now dark has c.requires.room) o done s now rec has time)
+
+pub returns-clause-evented : goal.returns-clause-evented
+returns-clause-evented g c = λ o done s now rec time.
+    let run = c.args.run.now in
+    let dark : is_lit run.power ≡ false = sym c.is_lit.ensures ∙ c.if-is_lit.false in
+    let has : has_power run.power run.next ≡ true = sym c.has_power.ensures ∙ c.if-not-has_power.false in
+    c.in_ok-power_on.ensures.evented (marks-due run c.args.outcome.now dark has c.requires.room) o done s now rec has time
