@@ -16,8 +16,7 @@ use Rattle.log_model.specs.Course.{Before, Course, Told, went}
 use Rattle.event_model.specs.declared.kinds.TheConstants.{POWER_INTERRUPTION, CARD_FAULT, OVER_SPEEDING}
 use Rattle.event_model.specs.declared.entries.Span.{Span}
 use Rattle.event_model.specs.Spans.{gap_of}
-use Rattle.event_model.specs.Events as events
-use Rattle.event_model.specs.Events.{Event, Crew, Seen, accepted_card, noted_with, with_card, seen_of, seen_spans}
+use Rattle.event_model.specs.Events.{Event, Crew, Seen, crew_of as sitting_crew, accepted_card, noted_with, with_card, seen_of, seen_spans}
 use Rattle.unit_notes.specs.declared.unit_event.UnitEvent.{UnitEvent}
 use Rattle.safety_model.specs.Safe.{Devices, breakdowns_of}
 use Rattle.slot_machine.specs.declared.seats.Seat.{Seat}
@@ -161,7 +160,7 @@ module _ (o : Origin) (origin : IsOrigin o) (done : List TraceSecond) (s : Trace
   cabin = run.keeper.cabin
 
   abbrev crew : Crew
-  crew = events.crew_of c.slots
+  crew = sitting_crew c.slots
 
   abbrev log_behind : Listed Break → RunLog
   log_behind told = log_of (record out { breaks = told })
@@ -204,7 +203,7 @@ module _ (o : Origin) (origin : IsOrigin o) (done : List TraceSecond) (s : Trace
     are_told : AreTold (number_in o) (fall_events driver run.next mid) events
     names : NamesValid o events
     left : Crew
-    crew_is : events.crew_of (course_at (log_behind told) was s (In 0)).slots ≡ left
+    crew_is : sitting_crew (course_at (log_behind told) was s (In 0)).slots ≡ left
     left_named : IsCrewOf (number_in o) left (crew_of mid.keeper.cabin)
     left_valid : CrewValid o left
     sessions : (card : Card) → is_some (session_of mid.keeper.cabin.cards card) ≡ true → is_some (session_of cabin.cards card) ≡ true
@@ -250,7 +249,7 @@ module _ (o : Origin) (origin : IsOrigin o) (done : List TraceSecond) (s : Trace
         are_told = fault-so run.next here mid Driver crew behind;
         names = ((without-valid o Driver crew valid, without-valid o Driver crew valid), tt);
         left = with_card Driver None crew;
-        crew_is = ap events.crew_of slots_are;
+        crew_is = ap sitting_crew slots_are;
         left_named = behind;
         left_valid = without-valid o Driver crew valid;
         sessions = λ x has. session-was card x cabin.cards (subst (λ (k : Cabin). is_some (session_of k.cards x) ≡ true) cabin_is has);
@@ -263,7 +262,7 @@ module _ (o : Origin) (origin : IsOrigin o) (done : List TraceSecond) (s : Trace
   first-note driver mid told noted = by (card_in cabin.slots.seats.driver) refl driver noted
     where
       by : (who : Option Card) → card_in cabin.slots.seats.driver ≡ who → (fell : Bool) → IsNotedIn who Driver (now_moment run) run mid out.breaks told fell → Behind fell mid told
-      by None is fell h = unfallen fell mid told h.1.1 h.0 h.1.0
+      by None is fell h = unfallen fell mid told h.2 h.0 h.1
       by (Some card) is false h = unfallen false mid told refl h.0.run (h.0.told ∙ sym (no-lines out.breaks))
       by (Some card) is true h = fallen-driver card is (h.1 refl) mid told h.0
 
@@ -282,12 +281,12 @@ module _ (o : Origin) (origin : IsOrigin o) (done : List TraceSecond) (s : Trace
   second-note driver codriver mid new told after first noted = by (card_in mid.keeper.cabin.slots.seats.codriver) refl codriver noted
     where
       by : (who : Option Card) → card_in mid.keeper.cabin.slots.seats.codriver ≡ who → (fell : Bool) → IsNotedIn who CoDriver (now_moment run) mid new told after fell → BehindBoth driver fell mid new told after first
-      by None is fell h = second-still driver fell mid new told after first h.1.1 h.1.0
+      by None is fell h = second-still driver fell mid new told after first h.2 h.1
       by (Some card) is false h = second-still driver false mid new told after first refl (h.0.told ∙ sym (no-lines told))
       by (Some card) is true h =
           let b : Break = tear_of CoDriver (now_moment run) in
           let later : Course = course_at (log_behind told) was s (In 0) in
-          let own : Crew = events.crew_of later.slots in
+          let own : Crew = sitting_crew later.slots in
           let seat-is : is_card mid.keeper.cabin.slots.seats.codriver card ≡ true = card-seated card mid.keeper.cabin.slots.seats.codriver is in
           let seated : card_in cabin.slots.seats.codriver ≡ Some card = sym (ap card_in first.seat) ∙ is in
           let accepted : is_some (accepted_card later.slots.codriver) ≡ true = ap (λ (q : Option Sitting). is_some (accepted_card q)) first.sits ∙ is-accepted CoDriver card seated (first.sessions card (h.1 refl)) in
@@ -334,21 +333,21 @@ module _ (o : Origin) (origin : IsOrigin o) (done : List TraceSecond) (s : Trace
 
   pub gap-adds : (empty : w.within.b.span ≡ []) (bare : AreBare was.slots) (q : Option Span) (low_gap : IsSmallGap q) (list : interruption log (seen_spans (seen_of p.log done)) s.number crew ≡ gap_events q crew) (e : Devices) →
       (failed : Bool) (new : Run) (after : Listed Break) (reach : GapReach) (vs : List UnitEvent) → AreGapEvents q (now_moment run) failed run new out.breaks after reach vs → GapAdds o done s log (log_behind after) vs e
-  gap-adds empty bare None low_gap list e failed new after NoGap vs h = subst (λ (us : List UnitEvent). GapAdds o done s log (log_behind after) us e) (sym h.1) (gap-alone empty bare None low_gap list e [] tt after h.0.1.1)
+  gap-adds empty bare None low_gap list e failed new after NoGap vs h = subst (λ (us : List UnitEvent). GapAdds o done s log (log_behind after) us e) (sym h.1) (gap-alone empty bare None low_gap list e [] tt after h.0.2)
   gap-adds empty bare None low_gap list e failed new after UnitFailed vs h = absurd h.0
   gap-adds empty bare None low_gap list e failed new after DriverFell vs h = absurd h.0
   gap-adds empty bare None low_gap list e failed new after (BothSlots driver codriver) vs h = absurd h.0
   gap-adds empty bare (Some gap) low_gap list e failed new after NoGap vs h = absurd h
   gap-adds empty bare (Some gap) low_gap list e failed new after UnitFailed vs h =
       subst (λ (us : List UnitEvent). GapAdds o done s log (log_behind after) us e) (sym h.1)
-      (gap-alone empty bare (Some gap) low_gap list e (gap_event gap run ∷ []) (gap-told (number_in o) gap run crew low_gap named) after h.0.1.1)
+      (gap-alone empty bare (Some gap) low_gap list e (gap_event gap run ∷ []) (gap-told (number_in o) gap run crew low_gap named) after h.0.2)
   gap-adds empty bare (Some gap) low_gap list e failed new after DriverFell vs h =
       let first : Behind true new after = first-note true new after h.0.1 in
       subst (λ (us : List UnitEvent). GapAdds o done s log (log_behind after) us e) (sym h.1)
       (both-added empty bare (Some gap) low_gap list e true false new new after after first (second-still true false new new after after first refl refl) (gap_event gap run ∷ []) (gap-told (number_in o) gap run crew low_gap named))
   gap-adds empty bare (Some gap) low_gap list e failed new after (BothSlots driver codriver) vs h =
       let first : Behind driver h.0.between h.0.told = first-note driver h.0.between h.0.told h.0.first in
-      subst (λ (us : List UnitEvent). GapAdds o done s log (log_behind after) us e) (sym h.1.1)
+      subst (λ (us : List UnitEvent). GapAdds o done s log (log_behind after) us e) (sym h.2)
       (both-added empty bare (Some gap) low_gap list e driver codriver h.0.between new h.0.told after first (second-note driver codriver h.0.between new h.0.told after first h.0.second) (gap_event gap run ∷ []) (gap-told (number_in o) gap run crew low_gap named))
 
   -- IT IS NOTED, or the unit has failed in that

@@ -408,7 +408,7 @@ codriver-judged o done s b (Some card) old before d w is bare at now speed faile
     judged-goes failed o done s 0 waits old new before after d e next.goes (judges o done s 0 waits [] now next time)
 
 -- power comes with the second still
-comes-waking : (o : Origin) (done : List TraceSecond) (s : TraceSecond) (b : Beginning) (waits : List Visit) (untold : List Slot) (run : Run) (out : Outcome) (d : Devices) → RunWaking o done s b waits untold run out d → ComesPower done out
+pub comes-waking : (o : Origin) (done : List TraceSecond) (s : TraceSecond) (b : Beginning) (waits : List Visit) (untold : List Slot) (run : Run) (out : Outcome) (d : Devices) → RunWaking o done s b waits untold run out d → ComesPower done out
 comes-waking o done s b waits untold run out d w =
     ap (λ (x : Went). x.before.running) (same-course o done s (In 0) waits [] run out d (within-of o done s b waits untold run out d w))
     ∙ subst (λ (x : Beginning). (went x.run.log done).before.running ≡ false) (sym w.waking.began) w.waking.starts
@@ -425,3 +425,24 @@ codriver-power o done s b (Some card) old before d w is bare at now speed failed
     comes-waking o done s b [] [] new after e
     (behind-on o done s b waits (CoDriver ∷ []) old before d w new after e [] [] (subst (λ (f : Bool). JudgedTo f o done s 0 waits [] old new before after d e next.goes) well (judges o done s 0 waits [] now next time))
     (λ slot there. absurd (omega (arith, there.1))))
+
+-- behind both nobody waits
+pub codriver-on : (o : Origin) (done : List TraceSecond) (s : TraceSecond) (b : Beginning) (card : Option Card) (old : Run) (before : Outcome) (d : Devices) → RunWaking o done s b (waiting_in CoDriver card) (CoDriver ∷ []) old before d →
+    card_in old.keeper.cabin.slots.seats.codriver ≡ card → IsBare old.keeper.cabin.slots.seats.codriver → (at : Moment) → at ≡ moment_in s 0 → (speed : ℕ) (failed : Bool) (new : Run) (after : Outcome) →
+    IsAnew card CoDriver at speed old new before after → (e : Devices) → (card ≡ None → (P : Devices → Type 0) → P d → P e) → HaveTime e → JudgesAnew card CoDriver at failed old new before after d e → failed ≡ false → RunWaking o done s b [] [] new after e
+unfolding codriver-next
+codriver-on o done s b None old before d w is bare at now speed failed new after anew e still time judges well =
+    still refl (λ (x : Devices). RunWaking o done s b [] [] new after x)
+    (subst (λ (r : Run). RunWaking o done s b [] [] r after d) (sym anew.0)
+    (subst (λ (q : Outcome). RunWaking o done s b [] [] old q d) (sym anew.1)
+    (record {
+      origin = w.origin;
+      lit = w.lit;
+      waking = record { within = w.waking.within; began = w.waking.began; starts = w.waking.starts; is_now = w.waking.is_now; none = λ slot there. absurd (omega (arith, there.1)) };
+      odometer = w.odometer;
+    })))
+codriver-on o done s b (Some card) old before d w is bare at now speed failed new after anew e still time judges well =
+    let waits : List Visit = waiting_in CoDriver (Some card) in
+    let next : RunNext o done s 0 waits [] old before d CoDriver card = codriver-next o done s b card old before d w is bare in
+    behind-on o done s b waits (CoDriver ∷ []) old before d w new after e [] [] (subst (λ (f : Bool). JudgedTo f o done s 0 waits [] old new before after d e next.goes) well (judges o done s 0 waits [] now next time))
+    (λ slot there. absurd (omega (arith, there.1)))

@@ -39,7 +39,7 @@ quiet-cut U V A B same o long (e ∷ es) told = absurd told
 
 -- a mending tells of no event
 module _ (j : Notes) (U W A B : State) (whole : IsCoherent U) (moments : LeavesOnly U W (IsMending j)) where
-  says : (c : List ℕ) → W.may_leave c → (x : List ℕ) × U.may_leave x × SaysNothing x c
+  pub says : (c : List ℕ) → W.may_leave c → (x : List ℕ) × U.may_leave x × SaysNothing x c
   says c there = ⊎_elim
       (λ was. (c, was, record { tables = λ kind at. refl; first_over = refl; over_count = refl }))
       (λ moment. (moment.0, whole.is_left moment.0 moment.1, keeps-nothing moment.0 c (slots-keeps moment.0 c moment.2.outside)))

@@ -1,5 +1,5 @@
 -- As power is back, the events of a run beside its record: the span begins, each card is judged, and the interruption before it is noted.
-use Rattle.std.proofs.Common.{◌≡◌, ◌∙◌, ℕ, suc, ◌+◌, ◌/◌, ◌^◌, ◌<◌, ◌≤◌, Bool, true, false, Option, Some, None, List, [], ◌∷◌, ◌++◌, Contains, map, length, drop, take, refl, ap, sym, subst, arith}
+use Rattle.std.proofs.Common.{◌≡◌, ◌∙◌, ℕ, zero, suc, ◌+◌, ◌/◌, ◌^◌, ◌<◌, ◌≤◌, Bool, true, false, Option, Some, None, List, [], ◌∷◌, ◌++◌, Contains, map, length, drop, take, refl, ap, sym, subst, arith}
 use Rattle.std.specs.List.{AllByRecursion}
 use Rattle.activity_codec.specs.declared.values.Slot.{Slot}
 use Rattle.activity_codec.specs.declared.values.Slot.TheVariants.{Driver, CoDriver}
@@ -11,7 +11,10 @@ use Rattle.log_model.specs.declared.lines.Break.{Break}
 use Rattle.log_model.specs.Log.{RunLog, In, is_torn_in, found_in}
 use Rattle.log_model.specs.Slots.{Slots, is_accepted, other_slot}
 use Rattle.log_model.specs.Course.{Visit, Went, fresh, went}
-use Rattle.event_model.specs.Events.{Crew, Seen, seen_of, seen_spans}
+use Rattle.event_model.specs.Events.{Crew, Seen, crew_of as sitting_crew, seen_of, seen_spans}
+use Rattle.event_model.specs.Spans.{gap_of}
+use Rattle.unit_notes.specs.declared.unit_event.UnitEvent.{UnitEvent}
+use Rattle.unit_journal.specs.declared.notes.Notes.{Notes}
 use Rattle.event_crews.specs.Watched.{watched}
 use Rattle.unit_course.specs.Lines.{cut_at, found_from}
 use Rattle.unit_course.specs.Followed.{Supply, Due, Lit, Lost as IsLost, MayPower, IsDark}
@@ -31,6 +34,7 @@ use Rattle.run_moments.proofs.Reached.{nothing-told}
 use Rattle.run_events.specs.Shown.{SaysNothing}
 use Rattle.run_events.specs.Seconds.{span_before, seen_next}
 use Rattle.run_events.proofs.Shows.{nothing-more}
+use Rattle.run_outcome.specs.Lines.{Listed}
 use Rattle.run_outcome.specs.declared.outcome.Outcome.{Outcome}
 use Rattle.run_recorded.specs.Origin.{Origin, rule_of, start_at, first_of}
 use Rattle.run_recorded.specs.Beside.{HaveLeftMore}
@@ -44,7 +48,7 @@ use Rattle.run_within.specs.Powering.{read_values}
 use Rattle.run_within.specs.Waking.{both_slots}
 use Rattle.run_within.proofs.Powering.{off-of}
 use Rattle.run_evented.specs.Evented.{number_in, limit_in, NotesNothing, Evented, EventedBy}
-use Rattle.run_evented.specs.Noting.{Waking, Acting}
+use Rattle.run_evented.specs.Noting.{Stage, Waking, Acting}
 use Rattle.run_evented.specs.SoFar.{EventedNow, BeginsNow, AreBare, ComesInTurn, interruption}
 use Rattle.run_evented.specs.Kept.{interruption_of}
 use Rattle.run_evented.proofs.Adding.{adds-nothing, second-begins_now, power-now, starts-now}
@@ -53,14 +57,17 @@ use Rattle.run_evented.proofs.Kept.{interruption-found, no-break_no-span}
 use Rattle.run_evented.proofs.Seconds.{events-found}
 use Rattle.run_acts.specs.declared.run.Run.{Run}
 use Rattle.run_acts.specs.NotedEvents.{NotesEvents}
+use Rattle.run_acts.specs.Acting.{IsNotedIn, now_moment}
+use Rattle.run_acts.specs.Noting.{GapReach, NoGap, UnitFailed, DriverFell, BothSlots, IsGapNoted, AreGapEvents}
+use Rattle.event_model.specs.declared.entries.Span.{Span}
 use Rattle.run_acts.specs.Power.{IsSpanBegun}
-use Rattle.run_acts.specs.Recording.{IsOrigin, log_of, values_of, RunWithin}
+use Rattle.run_acts.specs.Recording.{IsOrigin, log_of, values_of, RunWithin, GoesOnOrFails}
 use Rattle.run_acts.specs.Evented.{IsWatching, span_seen, RunWatches, WithinEvented, EventsGoOn}
 use Rattle.run_acts.specs.ActsEvented.{IsFailing}
 use Rattle.recorder_with_cards.specs.Accepting.{IsBare, IsAccepted, IsAnew}
 use Rattle.recorder_with_cards.specs.Judged.{moment_in, RunNext, IsInTurn, EventsJudged, JudgesAnew, EventsAnew}
 use Rattle.recorder_with_cards.specs.Woken.{EventsWoken}
-use Rattle.recorder_with_cards.proofs.GapEvented.{gap_events, gap-is}
+use Rattle.recorder_with_cards.proofs.GapEvented.{gap_events, gap-is, gap-small, gap-evented, none-evented}
 use Rattle.recorder_with_cards.proofs.Resumed.{RunWaking, IsReadAgain, within-of, waiting_in, driver-next, codriver-next, codriver-began}
 use Rattle.recorder_with_cards.proofs.Spanned.{no-span_no-break}
 
@@ -178,8 +185,8 @@ anew-limit (Some card) slot at speed old new before after is = (ap (λ (k : Keep
 -- ---- HOW IT ENDS
 
 -- the unit has failed, and a cut is told next
-pub woken-fails : (o : Origin) (done : List TraceSecond) (s : TraceSecond) (p : Progress) (run : Run) (out : Outcome) (d : Devices) → EventsGoOn true o done s p (In 0) Waking (log_of out) d → p.unfound ≡ run.unfound → p.next ≡ run.next → run.keeper.memory.limit ≡ limit_in o → EventsWoken true o done s run out d
-woken-fails o done s p run out d h unfound next limit =
+pub woken-fails : (o : Origin) (done : List TraceSecond) (s : TraceSecond) (p : Progress) (stage : Stage) (run : Run) (out : Outcome) (d : Devices) → EventsGoOn true o done s p (In 0) stage (log_of out) d → p.unfound ≡ run.unfound → p.next ≡ run.next → run.keeper.memory.limit ≡ limit_in o → EventsWoken true o done s run out d
+woken-fails o done s p stage run out d h unfound next limit =
     (subst (λ (n : ℕ). Evented o (done ++ s ∷ []) (and_break (log_of out) (cut_at s.number true 0)) run.unfound (suc n) IsLost d) next (subst (λ (n : ℕ). Evented o (done ++ s ∷ []) (and_break (log_of out) (cut_at s.number true 0)) n (suc p.next) IsLost d) unfound h), limit)
 
 -- a span that begins is watched from nothing on
@@ -201,3 +208,113 @@ woken-on o done s b run out d empty x is now limit watch =
       evented = subst (λ (y : Beginning). EventedNow o done s y.run Acting (log_of out) d) (sym is) now;
       watches = record { limit = limit; watched = subst (λ (span : List Seen). IsWatching o span run.watch) (sym (span-none o done s x.within.b.run begins)) watch };
     }
+
+-- ---- THE WHOLE OF IT
+
+-- THE SPAN BEGINS: nothing is noted of it yet, and its cards may be judged
+pub wakes-evented : (o : Origin) (done : List TraceSecond) (s : TraceSecond) (supply : Supply) (v : Values) (d e : Devices) (r : Recorded o done supply v d) (may : MayPower supply v.next) (number : s.number ≡ v.next) (given : s.has_power ≡ true) (k : ℕ) →
+    Evented o done v.log v.unfound v.next supply d → NotesNothing d e → (b : Beginning) (waits : List Visit) (run : Run) (out : Outcome) → RunWaking o done s b waits both_slots run out e →
+    (b.run ≡ found_again k (progress v supply r.book)) × (b.span ≡ []) × HaveLeftMore o d e → log_of out ≡ (found_again k (progress v supply r.book)).log →
+    WakesEvented o done s b waits both_slots run out e × ComesInTurn Driver (log_of out) s.number × Followed (rule_of o) (start_at o) o.from (first_of o) done (found_again k (progress v supply r.book))
+wakes-evented o done s supply v d e r may number given k evented quiet b waits run out waking is log =
+    let q : Progress = found_again k (progress v supply r.book) in
+    let f : Followed (rule_of o) (start_at o) o.from (first_of o) done q =
+    subst (λ (x : Progress). Followed (rule_of o) (start_at o) o.from (first_of o) done x) (ap (λ (x : Beginning). x.run) waking.waking.began ∙ is.0) waking.waking.within.began.followed in (
+      record {
+        waking = waking;
+        bare = subst (λ (x : Progress). AreBare (went x.log done).before.slots) (sym is.0) (q-bare o done s supply v d e r may number given k evented quiet is.2 f);
+        empty = is.1;
+        evented = subst (λ (x : Progress). EventedNow o done s x Waking (log_of out) e) (sym is.0) (subst (λ (l : RunLog). EventedNow o done s q Waking l e) (sym log) (q-evented o done s supply v d e r may number given k evented quiet is.2 f));
+      },
+      subst (λ (l : RunLog). ComesInTurn Driver l s.number) (sym log) (q-turn o done s supply v d e r may number given k evented quiet is.2 f),
+      f,
+    )
+
+module _ (o : Origin) (origin : IsOrigin o) (done : List TraceSecond) (s : TraceSecond) (supply : Supply) (v : Values) (d e : Devices) (r : Recorded o done supply v d) (may : MayPower supply v.next) (number : s.number ≡ v.next) (given : s.has_power ≡ true) (k : ℕ)
+    (evented : Evented o done v.log v.unfound v.next supply d) (quiet : NotesNothing d e) (left : HaveLeftMore o d e) (followed : Followed (rule_of o) (start_at o) o.from (first_of o) done (found_again k (progress v supply r.book)))
+    (b : Beginning) (run_is : b.run ≡ found_again k (progress v supply r.book)) (empty : b.span ≡ []) (bare : AreBare (went b.run.log done).before.slots) (two : Run) (told : Outcome) (g : Devices) (w : RunWaking o done s b [] [] two told g) (now : EventedNow o done s b.run Waking (log_of told) g)
+    (low : ℕ) (stands : Stands low None two.keeper.cabin) (small : s.number < 2 ^ 32) where
+  abbrev x : RunWithin o done s (In 0) [] [] two told g
+  x = within-of o done s b [] [] two told g w
+
+  pub same-run : x.within.b.run ≡ found_again k (progress v supply r.book)
+  same-run = ap (λ (y : Beginning). y.run) w.waking.began ∙ run_is
+
+  pub here-empty : x.within.b.span ≡ []
+  here-empty = ap (λ (y : Beginning). y.span) w.waking.began ∙ empty
+
+  here-bare : AreBare (went x.within.b.run.log done).before.slots
+  here-bare = subst (λ (y : Beginning). AreBare (went y.run.log done).before.slots) (sym w.waking.began) bare
+
+  here-now : EventedNow o done s x.within.b.run Waking (log_of told) g
+  here-now = subst (λ (y : Beginning). EventedNow o done s y.run Waking (log_of told) g) (sym w.waking.began) now
+
+  -- the interruption, by what was read
+  listed : (crew : Crew) → interruption (log_of told) (seen_spans (seen_of x.within.b.run.log done)) s.number crew ≡ interruption_of k (seen_spans (seen_of v.log done)) s.number crew
+  listed crew =
+      ap (λ (y : Progress). interruption (log_of told) (seen_spans (seen_of y.log done)) s.number crew) same-run
+      ∙ q-list o done s supply v d e r may number given k evented quiet left followed (log_of told) (subst (λ (y : Progress). GoesOnBy y (log_of told) s) same-run (goes_on x.within.moment)) crew
+
+  -- IT IS NOTED where a break was told before,
+  pub gap-woken : (v.log.breaks ≡ [] → ⊥) → k < s.number / 60 → (h : Devices) (failed : Bool) (new : Run) (after : Listed Break) (reach : GapReach) (vs : List UnitEvent) → AreGapEvents (gap_of k two.next) (now_moment two) failed two new told.breaks after reach vs → NotesEvents vs failed g h →
+      HaveLeftMore o g h × (failed ≡ true → IsFailing o done s x.within.b.run (In 0) (log_of (record told { breaks = after })) (breakdowns_of h)) → EventsGoOn failed o done s x.within.b.run (In 0) Acting (log_of (record told { breaks = after })) h
+  gap-woken some early h failed new after reach vs are notes leaves =
+      let here : two.next ≡ s.number = x.within.next ∙ sym x.within.moment.number in
+      let crew : Crew = sitting_crew (course_at (log_of told) (went x.within.b.run.log done).before s (In 0)).slots in
+      gap-evented o origin done s two told g x low stands small here-empty here-bare (gap_of k s.number) (gap-small k s.number small early)
+      (listed crew ∙ gap-is k (seen_spans (seen_of v.log done)) s.number crew (q-some o done s supply v d e r may number given k evented quiet left followed some)) h failed new after reach vs
+      (subst (λ (n : ℕ). AreGapEvents (gap_of k n) (now_moment two) failed two new told.breaks after reach vs) here are) notes leaves.0 leaves.1 here-now
+
+  -- and else there was none.
+  pub none-woken : v.log.breaks ≡ [] → NotesEvents [] false g g → EventedNow o done s x.within.b.run Acting (log_of told) g
+  none-woken none notes =
+      let crew : Crew = sitting_crew (course_at (log_of told) (went x.within.b.run.log done).before s (In 0)).slots in
+      none-evented o origin done s two told g x low stands small here-empty here-bare
+      (listed crew ∙ ap (λ (spans : List (List Seen)). interruption_of k spans s.number crew) (q-none o done s supply v d e r may number given k evented quiet left followed none)) notes here-now
+
+-- the limit is that of the unit, and the span that began is watched by it
+pub begun-watched : (o : Origin) (old mid new : Run) (journal : Notes) → IsSpanBegun old mid journal → old.keeper.memory.limit ≡ limit_in o → new.watch ≡ mid.watch → IsWatching o [] new.watch
+begun-watched o old mid new journal begun limit same =
+    subst (IsWatching o []) (sym same) (record { stands = begun.watch; limit = begun.limit.0 ∙ limit; low = tt; valid = tt })
+
+-- behind the note of the interruption
+pub woken-ends : (o : Origin) (done : List TraceSecond) (s : TraceSecond) (b : Beginning) → b.span ≡ [] → (failed : Bool) (run : Run) (out : Outcome) (d : Devices) → GoesOnOrFails failed o done s (In 0) [] run out d b → EventsGoOn failed o done s b.run (In 0) Acting (log_of out) d →
+    b.run.unfound ≡ run.unfound → b.run.next ≡ run.next → run.keeper.memory.limit ≡ limit_in o → IsWatching o [] run.watch → EventsWoken failed o done s run out d
+woken-ends o done s b empty false run out d goes now unfound next limit watch = woken-on o done s b run out d empty goes.goes goes.began now limit watch
+woken-ends o done s b empty true run out d goes cut unfound next limit watch = woken-fails o done s b.run Acting run out d cut unfound next limit
+
+-- the note leaves the memory as it was
+noted-memory : (who : Option Card) (slot : Slot) (at : Moment) (old new : Run) (breaks after : Listed Break) (fell : Bool) → IsNotedIn who slot at old new breaks after fell → new.keeper.memory ≡ old.keeper.memory
+noted-memory None slot at old new breaks after fell is = ap (λ (r : Run). r.keeper.memory) is.0
+noted-memory (Some card) slot at old new breaks after false is = ap (λ (r : Run). r.keeper.memory) is.0.run
+noted-memory (Some card) slot at old new breaks after true is = ap (λ (r : Run). r.keeper.memory) is.0.run
+
+pub gap-memory : (q : Option Span) (at : Moment) (failed : Bool) (old new : Run) (breaks after : Listed Break) (reach : GapReach) → IsGapNoted q at failed old new breaks after reach → new.keeper.memory ≡ old.keeper.memory
+gap-memory None at failed old new breaks after NoGap is = ap (λ (r : Run). r.keeper.memory) is.1
+gap-memory None at failed old new breaks after UnitFailed is = absurd is
+gap-memory None at failed old new breaks after DriverFell is = absurd is
+gap-memory None at failed old new breaks after (BothSlots driver codriver) is = absurd is
+gap-memory (Some gap) at failed old new breaks after NoGap is = absurd is
+gap-memory (Some gap) at failed old new breaks after UnitFailed is = ap (λ (r : Run). r.keeper.memory) is.1
+gap-memory (Some gap) at failed old new breaks after DriverFell is = noted-memory (card_in (seat_in old.keeper.cabin.slots.seats Driver)) Driver at old new breaks after true is.1
+gap-memory (Some gap) at failed old new breaks after (BothSlots driver codriver) is =
+    noted-memory (card_in (seat_in is.0.between.keeper.cabin.slots.seats CoDriver)) CoDriver at is.0.between new is.0.told after codriver is.0.second
+    ∙ noted-memory (card_in (seat_in old.keeper.cabin.slots.seats Driver)) Driver at old is.0.between breaks is.0.told driver is.0.first
+
+-- what was read told of breaks exactly where breaks were told before
+found-few : (n k : ℕ) (bs : List Break) → length (found_from n k bs) ≡ 0 → bs ≡ []
+found-few n k [] none = refl
+found-few zero k (b ∷ bs) none = absurd (omega (arith, none))
+found-few (suc n) k (b ∷ bs) none = absurd (omega (arith, none))
+
+found-no : (n k : ℕ) → length (found_from n k []) ≡ 0
+found-no zero k = refl
+found-no (suc n) k = refl
+
+pub none-told : (n k : ℕ) (bs items : List Break) → items ≡ found_from n k bs → length items ≡ 0 → bs ≡ []
+none-told n k bs items is none = found-few n k bs (ap length (sym is) ∙ none)
+
+pub some-told : (n k : ℕ) (bs items : List Break) → items ≡ found_from n k bs → 0 < length items → bs ≡ [] → ⊥
+some-told n k bs items is some none =
+    let no : length items ≡ 0 = ap length is ∙ ap (λ (l : List Break). length (found_from n k l)) none ∙ found-no n k in
+    omega (arith, some, no)

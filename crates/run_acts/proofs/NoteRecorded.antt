@@ -554,7 +554,7 @@ module _ (c : Card) (slot : Slot) (at : Moment) (run : Run) (breaks : Listed Bre
 -- what is noted on the card of a slot leaves power coming with the second
 noted-lines : (who : Option Card) (slot : Slot) (at : Moment) (old new : Run) (breaks after : Listed Break) (fell : Bool) → IsNotedIn who slot at old new breaks after fell →
     (more : List Break) × (after ≡ with_lines more breaks) × AllByRecursion (λ (b : Break). second_of b ≡ at.second) more
-noted-lines None slot at old new breaks after fell is = ([], is.1.0 ∙ no-lines breaks, tt)
+noted-lines None slot at old new breaks after fell is = ([], is.1 ∙ no-lines breaks, tt)
 noted-lines (Some card) slot at old new breaks after false is = ([], is.0.told, tt)
 noted-lines (Some card) slot at old new breaks after true is = (tear_of slot at ∷ [], is.0.told, (refl, tt))
 

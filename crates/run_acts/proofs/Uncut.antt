@@ -104,7 +104,7 @@ placed-uncut None slot at old new breaks after fell is = ap (λ (l : Listed Brea
 placed-uncut (Some card) slot at old new breaks after fell is = on-uncut card slot at old new breaks after fell is
 
 in-uncut : (card : Option Card) (slot : Slot) (at : Moment) (old new : Run) (breaks after : Listed Break) (fell : Bool) → IsNotedIn card slot at old new breaks after fell → failed_cuts after.items ≡ failed_cuts breaks.items
-in-uncut None slot at old new breaks after fell is = ap (λ (l : Listed Break). failed_cuts l.items) is.1.0
+in-uncut None slot at old new breaks after fell is = ap (λ (l : Listed Break). failed_cuts l.items) is.1
 in-uncut (Some card) slot at old new breaks after fell is = on-uncut card slot at old new breaks after fell is.0
 
 both-uncut : (at : Moment) (old new : Run) (breaks after : Listed Break) (driver codriver : Bool) → AreNotedIn at old new breaks after driver codriver → failed_cuts after.items ≡ failed_cuts breaks.items
