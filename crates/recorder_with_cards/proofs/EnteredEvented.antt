@@ -60,7 +60,7 @@ use Rattle.run_acts.proofs.EnteredFacts.{before, mine-back, now-is, card-began, 
 use Rattle.run_acts.proofs.EnteredTurned.{own-card}
 use Rattle.run_acts.proofs.EnteredWhole.{found-in}
 use Rattle.run_acts.proofs.EventCrews.{all-well, sitting-named, sessions-known}
-use Rattle.run_acts.proofs.FallEvented.{IsFailing}
+use Rattle.run_acts.specs.ActsEvented.{IsFailing}
 use Rattle.run_acts.proofs.Named.{both-valid, crew-valid, without-valid}
 use Rattle.run_acts.proofs.Numbers.{notes-at}
 use Rattle.recorder_with_cards.specs.EnteredEvents.{events_in}
