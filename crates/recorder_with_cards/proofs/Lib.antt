@@ -40,3 +40,5 @@ pub mod SecondsEvented
 pub mod BegunEvented
 pub mod Uncut
 pub mod WholeOdometer
+pub mod GapEvented
+pub mod WokenEvented

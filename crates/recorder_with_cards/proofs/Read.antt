@@ -20,7 +20,7 @@ use Rattle.run_told.proofs.Power.{unread-powerless}
 use Rattle.run_outcome.specs.Lines.{Listed, found_from}
 use Rattle.run_outcome.specs.declared.outcome.Outcome.{Outcome}
 use Rattle.run_recorded.specs.Origin.{Origin}
-use Rattle.run_recorded.specs.Beside.{TellsMore, cards_of}
+use Rattle.run_recorded.specs.Beside.{TellsMore, cards_of, HaveLeftMore}
 use Rattle.run_recorded.specs.Ends.{AreVerdicts, AreSpared}
 use Rattle.run_recorded.proofs.Seconds.{more-recorded}
 use Rattle.run_recorded.proofs.Beside.{found-tells, idle-verdicts, idle-spared, kept-later}
@@ -125,6 +125,10 @@ module _ (o : Origin) (done : List TraceSecond) (supply : Supply) (v : Values) (
 
     spared : AreSpared o done v.log e
     spared = idle-spared o done done v.log v.log d e [] v.next r.beside.spared same tt (λ c whole. inl (goes.untouched c whole))
+
+    -- what was left might be left still
+    pub left-on : HaveLeftMore o d (devices V d.card_a d.card_b)
+    left-on = goes.left
 
     pub read-on : Recorded o done supply v (devices V d.card_a d.card_b)
     read-on = record {

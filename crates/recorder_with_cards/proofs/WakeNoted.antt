@@ -74,7 +74,7 @@ both-these at speed failed mid one two before told after d e f is vs driver note
 
 -- ---- the unit is read
 
-read-says : (U V : State) → LeavesOnly U V Unchanged → (c : List ℕ) → V.may_leave c → (x : List ℕ) × U.may_leave x × SaysNothing x c
+pub read-says : (U V : State) → LeavesOnly U V Unchanged → (c : List ℕ) → V.may_leave c → (x : List ℕ) × U.may_leave x × SaysNothing x c
 read-says U V leaves c there = ⊎_elim
     (λ was. (c, was, record { tables = λ kind at. refl; first_over = refl; over_count = refl }))
     (λ moment. absurd moment.2)

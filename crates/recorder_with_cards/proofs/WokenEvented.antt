@@ -60,9 +60,10 @@ use Rattle.run_acts.specs.NotedEvents.{NotesEvents}
 use Rattle.run_acts.specs.Acting.{IsNotedIn, now_moment}
 use Rattle.run_acts.specs.Noting.{GapReach, NoGap, UnitFailed, DriverFell, BothSlots, IsGapNoted, AreGapEvents}
 use Rattle.event_model.specs.declared.entries.Span.{Span}
-use Rattle.run_acts.specs.Power.{IsSpanBegun}
-use Rattle.run_acts.specs.Recording.{IsOrigin, log_of, values_of, RunWithin, GoesOnOrFails}
-use Rattle.run_acts.specs.Evented.{IsWatching, span_seen, RunWatches, WithinEvented, EventsGoOn}
+use Rattle.run_acts.specs.Power.{IsSpanBegun, cut_run}
+use Rattle.run_keeping.specs.Keeping.{with_lines}
+use Rattle.run_acts.specs.Recording.{IsOrigin, log_of, values_of, RunWithin, RunCut, GoesOnOrFails}
+use Rattle.run_acts.specs.Evented.{IsWatching, span_seen, RunWatches, WithinEvented, CutEvented, EventsGoOn}
 use Rattle.run_acts.specs.ActsEvented.{IsFailing}
 use Rattle.recorder_with_cards.specs.Accepting.{IsBare, IsAccepted, IsAnew}
 use Rattle.recorder_with_cards.specs.Judged.{moment_in, RunNext, IsInTurn, EventsJudged, JudgesAnew, EventsAnew}
@@ -318,3 +319,15 @@ pub some-told : (n k : ℕ) (bs items : List Break) → items ≡ found_from n k
 some-told n k bs items is some none =
     let no : length items ≡ 0 = ap length is ∙ ap (λ (l : List Break). length (found_from n k l)) none ∙ found-no n k in
     omega (arith, some, no)
+
+-- the cut is told
+pub cut-woken : (o : Origin) (done : List TraceSecond) (s : TraceSecond) (mid new : Run) (out after : Outcome) (d : Devices) → EventsWoken true o done s mid out d → RunCut o done s new after d → new ≡ cut_run mid.next mid →
+    after ≡ record out { breaks = with_lines (cut_at mid.next true 0 ∷ []) out.breaks } → s.number ≡ mid.next → CutEvented o done s new after d
+cut-woken o done s mid new out after d fails cut is told number =
+    let log : and_break (log_of out) (cut_at s.number true 0) ≡ log_of after = ap (λ (u : ℕ). and_break (log_of out) (cut_at u true 0)) number ∙ sym (ap log_of told) in
+    record {
+      cut = cut;
+      evented = subst (λ (l : RunLog). Evented o (done ++ s ∷ []) l new.unfound (suc new.next) IsLost d) log
+          (subst (λ (r : Run). Evented o (done ++ s ∷ []) (and_break (log_of out) (cut_at s.number true 0)) r.unfound (suc r.next) IsLost d) (sym is) fails.0);
+      limit = ap (λ (r : Run). r.keeper.memory.limit) is ∙ fails.1;
+    }

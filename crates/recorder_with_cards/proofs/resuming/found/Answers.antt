@@ -22,6 +22,9 @@ use Rattle.run_acts.specs.Power.{is_lit}
 use Rattle.run_acts.specs.Room.{bare_seats}
 use Rattle.run_acts.specs.Recording.{values_of, InSecondBy, GoesOnOrCut}
 use Rattle.recorder_with_cards.proofs.ActsRecorded.{cut-in, cut}
+use Rattle.recorder_with_cards.proofs.ActsEvented.{in-evented_cut, in-evented_lit}
+use Rattle.recorder_with_cards.specs.Woken.{EventsWoken}
+use Rattle.recorder_with_cards.proofs.WokenEvented.{cut-woken}
 use Rattle.recorder_with_cards.proofs.Start.{if-err}
 use Rattle.recorder_with_cards.proofs.Read.{may-of, unit-tells, image-of, at-image, kept-early, learned}
 use Rattle.recorder_with_cards.specs.Noting.{NotesWaking}
@@ -111,6 +114,71 @@ returns-clause-recorded g c = λ room o done s now rec has time.
     let well : is_err c.resume.result ≡ false = sym c.is_err.ensures.value ∙ c.if-is_err.false in
     let lit : mid.power ≡ Lit = ok_gives c.resume.result c.resume.ensures.power well in
     subst (λ (b : Bool). InSecondBy b o done s 0 mid c.resume.new.outcome e) (sym (ap is_lit lit)) (subst (λ (f : Bool). GoesOnOrCut f o done s (In 0) [] mid c.resume.new.outcome e) well resumed)
+
+-- ---- WHAT IS NOTED, beside what is recorded
+
+pub returns-in_err-judge_clock-clause-evented : goal.returns-in_err-judge_clock-clause-evented
+returns-in_err-judge_clock-clause-evented g c = λ room o done s now all has time.
+    let run = c.args.run.now in
+    let out = c.args.outcome.now in
+    let rec = all.recorded in
+    let U : State = g.M.Medium.state c.args.unit.now in
+    let X : State = g.C.Chip.state c.args.card_a.now in
+    let Y : State = g.D.Chip.state c.args.card_b.now in
+    let may = may-of run.power rec.supply run.next rec.powers c.requires.dark has in
+    let image = image-of U.image (unit-tells o done rec.supply (values_of run out) (devices U X Y) rec.recorded may) in
+    let early = kept-early o done rec.supply (values_of run out) (devices U X Y) rec.recorded may image.0 ((g.met.M.Medium.coherent c.args.unit.now).is_left image.0 image.1) in
+    let is = (at-image (IsFoundBy c.args.journal) U.image image.0 image.1 c.requires.loaded.found).kept in
+    let kept = c.last_kept-kept.ensures.kept in
+    let next = ap (λ (r : Run). r.next) c.learn.ensures.run in
+    let back = c.in_err-judge_clock.ensures.back.1 in
+    absurd (omega (arith, early, is, kept, next, back))
+
+pub returns-then-is_err-clause-evented : goal.returns-then-is_err-clause-evented
+returns-then-is_err-clause-evented g c = λ room o done s now all has time.
+    let run = c.args.run.now in
+    let out = c.args.outcome.now in
+    let rec = all.recorded in
+    let U : State = g.M.Medium.state c.args.unit.now in
+    let X : State = g.C.Chip.state c.args.card_a.now in
+    let Y : State = g.D.Chip.state c.args.card_b.now in
+    let may = may-of run.power rec.supply run.next rec.powers c.requires.dark has in
+    let mid : Run = c.resume.new.run in
+    let e : Devices = devices (g.M.Medium.state c.resume.new.unit) (g.C.Chip.state c.resume.new.card_a) (g.D.Chip.state c.resume.new.card_b) in
+    let kept = c.last_kept-kept.ensures.kept in
+    let values = learned run c.learn.new.self out c.learn.new.breaks c.last_kept-kept.result c.learn.ensures.run c.learn.ensures.breaks c.learn.ensures.same ∙ ap (λ (k : ℕ). read_values k (values_of run out)) kept in
+    let same = ap (λ (r : Run). bare_seats r.keeper.cabin.slots.seats) c.learn.ensures.run in
+    let next : mid.next ≡ run.next = c.resume.ensures.next ∙ ap (λ (r : Run). r.next) c.learn.ensures.run in
+    let limit = ap (λ (r : Run). r.keeper.memory.limit) c.learn.ensures.run ∙ all.limit in
+    let resumed = c.resume.ensures.recorded (omega (arith, room, same)) o rec.origin done s rec.supply (values_of run out) rec.recorded may now.number now.given values time in
+    let woken = c.resume.ensures.evented (omega (arith, room, same)) o rec.origin done s rec.supply (values_of run out) rec.recorded may now.number now.given now.speed_is values all.evented limit time in
+    let failed : is_err c.resume.result ≡ true = sym c.is_err.ensures.value ∙ c.if-is_err.true in
+    let told = ap (λ (l : Listed Break). record c.resume.new.outcome { breaks = l }) c.cut.ensures.breaks in
+    let cut_is = cut o done s 0 s.actions mid c.cut.new.self c.resume.new.outcome (record c.resume.new.outcome { breaks = c.cut.new.breaks }) e rec.origin (now.number ∙ sym next) ([], refl, refl)
+    (subst (λ (f : Bool). GoesOnOrCut f o done s (In 0) [] mid c.resume.new.outcome e) failed resumed) c.cut.ensures.run told in
+    in-evented_cut o done s c.cut.new.self (record c.resume.new.outcome { breaks = c.cut.new.breaks }) e 0
+    (cut-woken o done s mid c.cut.new.self c.resume.new.outcome (record c.resume.new.outcome { breaks = c.cut.new.breaks }) e (subst (λ (f : Bool). EventsWoken f o done s mid c.resume.new.outcome e) failed woken) cut_is c.cut.ensures.run told (now.number ∙ sym next))
+
+pub returns-clause-evented : goal.returns-clause-evented
+returns-clause-evented g c = λ room o done s now all has time.
+    let run = c.args.run.now in
+    let out = c.args.outcome.now in
+    let rec = all.recorded in
+    let U : State = g.M.Medium.state c.args.unit.now in
+    let X : State = g.C.Chip.state c.args.card_a.now in
+    let Y : State = g.D.Chip.state c.args.card_b.now in
+    let may = may-of run.power rec.supply run.next rec.powers c.requires.dark has in
+    let mid : Run = c.resume.new.run in
+    let e : Devices = devices (g.M.Medium.state c.resume.new.unit) (g.C.Chip.state c.resume.new.card_a) (g.D.Chip.state c.resume.new.card_b) in
+    let kept = c.last_kept-kept.ensures.kept in
+    let values = learned run c.learn.new.self out c.learn.new.breaks c.last_kept-kept.result c.learn.ensures.run c.learn.ensures.breaks c.learn.ensures.same ∙ ap (λ (k : ℕ). read_values k (values_of run out)) kept in
+    let same = ap (λ (r : Run). bare_seats r.keeper.cabin.slots.seats) c.learn.ensures.run in
+    let next : mid.next ≡ run.next = c.resume.ensures.next ∙ ap (λ (r : Run). r.next) c.learn.ensures.run in
+    let limit = ap (λ (r : Run). r.keeper.memory.limit) c.learn.ensures.run ∙ all.limit in
+    let resumed = c.resume.ensures.recorded (omega (arith, room, same)) o rec.origin done s rec.supply (values_of run out) rec.recorded may now.number now.given values time in
+    let woken = c.resume.ensures.evented (omega (arith, room, same)) o rec.origin done s rec.supply (values_of run out) rec.recorded may now.number now.given now.speed_is values all.evented limit time in
+    let well : is_err c.resume.result ≡ false = sym c.is_err.ensures.value ∙ c.if-is_err.false in
+    in-evented_lit o done s mid c.resume.new.outcome e 0 (subst (λ (f : Bool). EventsWoken f o done s mid c.resume.new.outcome e) well woken)
 
 -- ---- what is noted
 

@@ -1,21 +1,26 @@
-use Rattle.std.proofs.Common.{◌≡◌, ◌∙◌, inl, inr, ℕ, ◌/◌, ◌≤◌, Bool, true, false, Option, Some, List, ap, sym, subst, arith}
+use Rattle.std.proofs.Common.{◌≡◌, ◌∙◌, inl, inr, ℕ, ◌/◌, ◌≤◌, Bool, true, false, Option, Some, List, refl, ap, sym, subst, arith}
 use Rattle.tach_media.specs.Medium.{State}
 use Rattle.log_model.specs.declared.lines.Break.{Break}
 use Rattle.unit_model.specs.Decoding.{first_bad_place}
-use Rattle.safety_model.specs.Safe.{Devices}
+use Rattle.safety_model.specs.Safe.{Devices, breakdowns_of}
 use Rattle.run_rule.specs.Between.{devices}
 use Rattle.run_outcome.specs.Lines.{Listed}
 use Rattle.run_within.proofs.Calls.{not-read}
 use Rattle.run_within.proofs.Reading.{reading-fails}
 use Rattle.run_acts.specs.Power.{is_lit, cut_run}
-use Rattle.run_acts.specs.Recording.{values_of, InSecond}
+use Rattle.run_acts.specs.Recording.{log_of, values_of, RunCut, InSecond}
+use Rattle.run_within.specs.Recorded.{progress}
+use Rattle.run_evented.proofs.Dark.{power-on_broken}
+use Rattle.run_evented.proofs.Seconds.{events-stay}
+use Rattle.recorder_with_cards.proofs.ActsEvented.{in-evented_cut}
+use Rattle.recorder_with_cards.proofs.WokenEvented.{cut-woken}
 use Rattle.recorder_with_cards.proofs.CutOff.{cut-as}
-use Rattle.recorder_with_cards.proofs.Read.{may-of, read-on, unit-tells, unit-decodes, not-bad, image-of, at-image}
+use Rattle.recorder_with_cards.proofs.Read.{may-of, read-on, left-on, unit-tells, unit-decodes, not-bad, image-of, at-image}
 use Rattle.run_acts.specs.declared.run.Run.{Run}
 use Rattle.run_acts.specs.Going.{IsAt}
 use Rattle.run_acts.proofs.Standing.{cut-at}
 use Rattle.tach_media.proofs.Runs.{on_ok, ok_gives}
-use Rattle.recorder_with_cards.proofs.WakeNoted.{read-noted, read-then}
+use Rattle.recorder_with_cards.proofs.WakeNoted.{read-says, read-noted, read-then}
 use Rattle.run_keeping.proofs.Later.{state-revived, later-then, later-of-unit}
 use Rattle.run_outcome.proofs.Broken.{broke-none, broke-once, broke-then}
 use Rattle.recorder_with_cards.proofs.resuming.power_on.Goals as goal
@@ -83,6 +88,75 @@ returns-in-Err-Failed-clause-recorded g c = λ room o done s now rec has time.
     let cut = cut-as e o done s 0 run out rec.origin now.number lost in
     subst (λ (r : Run). InSecond o done s 0 r (record out { breaks = c.cut.new.breaks }) e) (sym c.cut.ensures.run)
     (subst (λ (l : Listed Break). InSecond o done s 0 (cut_run run.next run) (record out { breaks = l }) e) (sym c.cut.ensures.breaks) cut)
+
+-- ---- WHAT IS NOTED, beside what is recorded
+
+pub returns-in-Ok-clause-evented : goal.returns-in-Ok-clause-evented
+returns-in-Ok-clause-evented g c = λ room o done s now all has time.
+    let run = c.args.run.now in
+    let out = c.args.outcome.now in
+    let rec = all.recorded in
+    let U : State = g.M.Medium.state c.args.unit.now in
+    let V : State = g.M.Medium.state c.load.new.unit in
+    let X : State = g.C.Chip.state c.args.card_a.now in
+    let Y : State = g.D.Chip.state c.args.card_b.now in
+    let whole = g.met.M.Medium.coherent c.args.unit.now in
+    let may = may-of run.power rec.supply run.next rec.powers c.requires.dark has in
+    let read = read-on o done rec.supply (values_of run out) (devices U X Y) rec.recorded may V whole c.load.ensures.leaves c.load.ensures.cause.breakdowns in
+    let left = left-on o done rec.supply (values_of run out) (devices U X Y) rec.recorded may V whole c.load.ensures.leaves c.load.ensures.cause.breakdowns in
+    c.found.ensures.evented room o done s now (record {
+      recorded = record {
+        origin = rec.origin;
+        supply = rec.supply;
+        powers = rec.powers;
+        recorded = read;
+        odometer = λ lit. absurd (let bad : false ≡ true = sym c.requires.dark ∙ ap is_lit lit in cc);
+      };
+      evented = events-stay (devices U X Y) (devices V X Y) o done (log_of out) run.unfound run.next rec.supply all.evented (read-says U V c.load.ensures.leaves) left;
+      limit = all.limit;
+      watched = λ lit. absurd (let bad : false ≡ true = sym c.requires.dark ∙ ap is_lit lit in cc);
+    }) has time
+
+pub returns-in-Err-BadUnit-clause-evented : goal.returns-in-Err-BadUnit-clause-evented
+returns-in-Err-BadUnit-clause-evented g c = λ room o done s now all has time.
+    let run = c.args.run.now in
+    let out = c.args.outcome.now in
+    let rec = all.recorded in
+    let U : State = g.M.Medium.state c.args.unit.now in
+    let V : State = g.M.Medium.state c.load.new.unit in
+    let X : State = g.C.Chip.state c.args.card_a.now in
+    let Y : State = g.D.Chip.state c.args.card_b.now in
+    let whole = g.met.M.Medium.coherent c.args.unit.now in
+    let may = may-of run.power rec.supply run.next rec.powers c.requires.dark has in
+    let read = read-on o done rec.supply (values_of run out) (devices U X Y) rec.recorded may V whole c.load.ensures.leaves c.load.ensures.cause.breakdowns in
+    let after = g.met.M.Medium.coherent c.load.new.unit in
+    let image = image-of V.image (unit-tells o done rec.supply (values_of run out) (devices V X Y) read may) in
+    let decodes = unit-decodes o done rec.supply (values_of run out) (devices V X Y) read may after image.0 (after.is_left image.0 image.1) in
+    let bad = rw c.in-Err-BadUnit.field-0-is at c.in-Err-BadUnit.ensures.bad in
+    absurd (not-bad image.0 c.in-Err-BadUnit.place decodes (at-image (λ (x : List ℕ). first_bad_place x ≡ Some c.in-Err-BadUnit.place) V.image image.0 image.1 bad))
+
+pub returns-in-Err-Failed-clause-evented : goal.returns-in-Err-Failed-clause-evented
+returns-in-Err-Failed-clause-evented g c = λ room o done s now all has time.
+    let run = c.args.run.now in
+    let out = c.args.outcome.now in
+    let rec = all.recorded in
+    let U : State = g.M.Medium.state c.args.unit.now in
+    let V : State = g.M.Medium.state c.load.new.unit in
+    let X : State = g.C.Chip.state c.args.card_a.now in
+    let Y : State = g.D.Chip.state c.args.card_b.now in
+    let whole = g.met.M.Medium.coherent c.args.unit.now in
+    let may = may-of run.power rec.supply run.next rec.powers c.requires.dark has in
+    let d : Devices = devices U X Y in
+    let e : Devices = devices V X Y in
+    let cause = rw c.in-Err-Failed.field-0-is at c.in-Err-Failed.ensures.cause in
+    let unread = not-read o done rec.supply (values_of run out) d rec.recorded may V whole c.load.ensures.leaves cause in
+    let lost = reading-fails d e o done s rec.supply (values_of run out) rec.recorded may now.number now.given unread in
+    let cut = cut-as e o done s 0 run out rec.origin now.number lost in
+    let told = ap (λ (l : Listed Break). record out { breaks = l }) c.cut.ensures.breaks in
+    let cut_is : RunCut o done s c.cut.new.self (record out { breaks = c.cut.new.breaks }) e = subst (λ (r : Run). RunCut o done s r (record out { breaks = c.cut.new.breaks }) e) (sym c.cut.ensures.run)
+    (subst (λ (l : Listed Break). RunCut o done s (cut_run run.next run) (record out { breaks = l }) e) (sym c.cut.ensures.breaks) cut) in
+    let broken = power-on_broken d e o done (progress (values_of run out) rec.supply rec.recorded.book) rec.recorded.recorded.followed all.evented may s now.number now.given (breakdowns_of d) (breakdowns_of e) unread.goes.breakdowns unread.broke (read-says U V c.load.ensures.leaves) unread.goes.left in
+    in-evented_cut o done s c.cut.new.self (record out { breaks = c.cut.new.breaks }) e 0 (cut-woken o done s run c.cut.new.self out (record out { breaks = c.cut.new.breaks }) e (broken, all.limit) cut_is c.cut.ensures.run told now.number)
 
 -- ---- what is noted
 

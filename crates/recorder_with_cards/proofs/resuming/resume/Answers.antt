@@ -1,4 +1,4 @@
-use Rattle.std.proofs.Common.{rules, ◌≡◌, ◌∙◌, inl, inr, ℕ, ◌+◌, ◌-◌, ◌*◌, ◌/◌, ◌<◌, ◌≤◌, ◌==◌, Bool, true, false, Option, None, [], ◌∷◌, ◌++◌, length, refl, ap, sym, subst, arith}
+use Rattle.std.proofs.Common.{rules, ◌≡◌, ◌∙◌, inl, inr, ℕ, ◌+◌, ◌-◌, ◌*◌, ◌/◌, ◌<◌, ◌^◌, suc, ◌≤◌, ◌==◌, Bool, true, false, Option, None, [], ◌∷◌, ◌++◌, length, refl, ap, sym, subst, arith}
 use Rattle.std.specs.Prelude.{is_err}
 use Rattle.tach_media.specs.Medium.{HasCause}
 use Rattle.tach_media.proofs.Runs.{on_ok, ok_gives, cause_after}
@@ -31,14 +31,30 @@ use Rattle.run_acts.specs.Room.{waiting}
 use Rattle.run_acts.specs.Recording.{GoesOnOrCut}
 use Rattle.run_acts.proofs.NoteRecorded.{goes-plain}
 use Rattle.recorder_with_cards.specs.Judged.{moment_in}
-use Rattle.recorder_with_cards.proofs.Resumed.{RunWaking, waiting_in, at-once, wholes-of, kept-of, same-devices, awake, unmended, driver-judged, codriver-judged, codriver-power}
+use Rattle.recorder_with_cards.proofs.Resumed.{RunWaking, waiting_in, at-once, wholes-of, kept-of, same-devices, awake, awake-is, unmended, unmended-read, within-of, driver-judged, codriver-judged, codriver-power, codriver-on, comes-waking}
+use Rattle.recorder_with_cards.specs.Woken.{EventsWoken}
+use Rattle.recorder_with_cards.proofs.WokenEvented.{WakesEvented, unmended-evented, wakes-evented, driver-evented, codriver-evented, anew-limit, woken-fails, woken-on, woken-ends, none-woken, gap-woken, here-empty, begun-watched, gap-memory, none-told, some-told}
+use Rattle.log_model.specs.Log.{RunLog}
+use Rattle.unit_course.specs.Lines.{cut_at}
+use Rattle.unit_course.specs.Followed.{Lost}
+use Rattle.run_course.specs.Moments.{and_break}
+use Rattle.run_course.specs.Followed.{Progress}
+use Rattle.unit_memory.specs.declared.format.Identity.{Identity}
+use Rattle.run_recorded.specs.Seconds.{found_again}
+use Rattle.run_within.specs.Recorded.{progress}
+use Rattle.run_within.specs.Within.{Beginning}
+use Rattle.minute_model.specs.Span.{ungiven_of}
+use Rattle.run_evented.specs.Evented.{limit_in, Evented}
+use Rattle.run_evented.specs.Noting.{Waking}
+use Rattle.run_acts.specs.Recording.{log_of}
+use Rattle.run_acts.specs.Evented.{EventsGoOn}
 use Rattle.event_model.specs.Spans.{gap_of}
 use Rattle.run_acts.specs.NotedEvents.{NotesEvents}
-use Rattle.run_acts.proofs.NotedEvents.{then-noted}
+use Rattle.run_acts.proofs.NotedEvents.{same-noted, then-noted}
 use Rattle.run_acts.specs.Acting.{now_moment}
 use Rattle.run_acts.specs.Noting.{AreGapEvents}
 use Rattle.recorder_with_cards.specs.Noting.{Unmended, AtDriver, AtCoDriver, NoneBefore, AtGap, HasBegunSpan}
-use Rattle.recorder_with_cards.proofs.WakeNoted.{mended-noted, driver-these, both-these, is-none, is-some}
+use Rattle.recorder_with_cards.proofs.WakeNoted.{says, mended-noted, driver-these, both-these, is-none, is-some}
 use Rattle.run_keeping.proofs.Later.{state-by, later-then, later-of-unit}
 use Rattle.run_acts.proofs.Uncut.{gap-uncut}
 use Rattle.recorder_with_cards.proofs.Uncut.{anew-uncut}
@@ -576,6 +592,339 @@ returns-clause-noted g c =
       );
       notes = then-noted both.0 gap.1 (is_err c.note_gap.result) dev0 dev2 dev3 (subst (λ (q : Bool). NotesEvents both.0 q dev0 dev2) fine both.2) gap.3;
     }
+
+-- ---- WHAT IS NOTED, beside what is recorded
+
+pub returns-in_err-mend-clause-evented : goal.returns-in_err-mend-clause-evented
+returns-in_err-mend-clause-evented g c = λ room o origin done s supply v r may number given speed_is values evented limit time.
+    let U : State = g.M.Medium.state c.args.unit.now in
+    let X : State = g.C.Chip.state c.args.card_a.now in
+    let Y : State = g.D.Chip.state c.args.card_b.now in
+    let W : State = g.M.Medium.state c.mend.new.unit in
+    let run = c.args.run.now in
+    let out = c.args.outcome.now in
+    let bad = c.in_err-mend.ensures in
+    let loaded = c.requires.loaded in
+    let quiet = says c.args.journal U W X Y (g.met.M.Medium.coherent c.args.unit.now) c.mend.ensures.moments in
+    let read = unmended-read o origin done s supply v U X Y r may number given (g.met.M.Medium.coherent c.args.unit.now) (wholes-of U X Y (g.met.C.Chip.coherent c.args.card_a.now) (g.met.D.Chip.coherent c.args.card_b.now)) loaded.works c.args.journal (kept-of c.args.journal U.image loaded.found)
+    W true c.mend.ensures.moments c.mend.ensures.tells bad.cause c.mend.ensures.holds bad.first bad.second run out values refl in
+    let lost = unmended-evented o done s supply v (devices U X Y) (devices W X Y) r may number given c.args.journal.kept evented quiet read.left read.followed read in
+    let failed : true ≡ is_err c.from_residual.result = search rules in
+    subst (λ (f : Bool). EventsWoken f o done s run out (devices W X Y)) failed
+    (woken-fails o done s (found_again c.args.journal.kept (progress v supply r.book)) Waking run out (devices W X Y)
+    (subst (λ (l : RunLog). Evented o (done ++ s ∷ []) (and_break l (cut_at s.number true 0)) (found_again c.args.journal.kept (progress v supply r.book)).unfound (suc v.next) Lost (devices W X Y)) (sym (ap (λ (x : Values). x.log) values)) lost)
+    (sym (ap (λ (x : Values). x.unfound) values)) (sym (ap (λ (x : Values). x.next) values)) limit)
+
+pub returns-in_err-accept_anew-clause-evented : goal.returns-in_err-accept_anew-clause-evented
+returns-in_err-accept_anew-clause-evented g c = λ room o origin done s supply v r may number given speed_is values evented limit time.
+    let run = c.args.run.now in
+    let mid : Run = c.begin_span.new.self in
+    let begun = c.begin_span.ensures.begun in
+    let U : State = g.M.Medium.state c.args.unit.now in
+    let X : State = g.C.Chip.state c.args.card_a.now in
+    let Y : State = g.D.Chip.state c.args.card_b.now in
+    let W : State = g.M.Medium.state c.mend.new.unit in
+    let k : ℕ = c.args.journal.kept in
+    let ok = c.in_ok-mend.ensures in
+    let loaded = c.requires.loaded in
+    let woke = awake o origin done s supply v U X Y r may number given (g.met.M.Medium.coherent c.args.unit.now) (wholes-of U X Y (g.met.C.Chip.coherent c.args.card_a.now) (g.met.D.Chip.coherent c.args.card_b.now)) loaded.works c.args.journal (kept-of c.args.journal U.image loaded.found)
+    W false c.mend.ensures.moments c.mend.ensures.tells ok.cause c.mend.ensures.holds ok.first ok.second run c.args.outcome.now values refl c.mend.new.journal ok.agrees mid begun (g.met.M.Medium.coherent c.mend.new.unit) in
+    let is = awake-is o origin done s supply v U X Y r may number given (g.met.M.Medium.coherent c.args.unit.now) (wholes-of U X Y (g.met.C.Chip.coherent c.args.card_a.now) (g.met.D.Chip.coherent c.args.card_b.now)) loaded.works c.args.journal (kept-of c.args.journal U.image loaded.found)
+    W false c.mend.ensures.moments c.mend.ensures.tells ok.cause c.mend.ensures.holds ok.first ok.second run c.args.outcome.now values refl c.mend.new.journal ok.agrees mid begun (g.met.M.Medium.coherent c.mend.new.unit) in
+    let quiet = says c.args.journal U W X Y (g.met.M.Medium.coherent c.args.unit.now) c.mend.ensures.moments in
+    let dark = c.requires.going.dark c.requires.dark in
+    let cards = run.keeper.cabin.cards in
+    let cabin = ap (λ (k : Keeper). k.cabin) begun.keeper in
+    let bare = subst (λ (b : Cabin). IsBare b.slots.seats.driver) (sym cabin) (dark-bare 0 cards run.keeper.cabin.slots.seats.driver dark.bare (dark.stands 0).driver) in
+    let few = ap (λ (b : Cabin). bare_count b.slots.seats.driver) cabin in
+    let now : c.moment-at.result ≡ moment_in s 0 = c.moment-at.ensures ∙ ap (λ (m : ℕ). record { second = m; begun = 0; late = false }) (begun.next ∙ ap (λ (x : Values). x.next) values ∙ sym number) in
+    let one : Run = c.accept_anew.new.run in
+    let out1 : Outcome = c.accept_anew.new.outcome in
+    let V1 : State = g.M.Medium.state c.accept_anew.new.unit in
+    let X1 : State = g.C.Chip.state c.accept_anew.new.card_a in
+    let Y1 : State = g.D.Chip.state c.accept_anew.new.card_b in
+    let first_card = card_in mid.keeper.cabin.slots.seats.driver in
+    let others = waiting_in CoDriver (card_in mid.keeper.cabin.slots.seats.codriver) in
+    let once = at-once CoDriver (card_in mid.keeper.cabin.slots.seats.codriver) in
+    let woken = wakes-evented o done s supply v (devices U X Y) (devices W X Y) r may number given k evented quiet woke.0 (waiting_in Driver first_card ++ others) mid c.args.outcome.now woke.1 is (ap (λ (x : Values). x.log) values) in
+    let recorded_one = c.accept_anew.ensures.recorded (omega (arith, room, few)) in
+    let first = driver-judged o done s woke.0 first_card others mid c.args.outcome.now (devices W X Y) woke.1 once refl bare c.moment-at.result now c.args.speed (is_err c.accept_anew.result) one out1 c.accept_anew.ensures.accepted (devices V1 X1 Y1)
+    (λ none P. same-devices P g.M.Medium.state g.C.Chip.state g.D.Chip.state c.mend.new.unit c.accept_anew.new.unit c.args.card_a.now c.accept_anew.new.card_a c.args.card_b.now c.accept_anew.new.card_b (c.accept_anew.ensures.still none)) time recorded_one in
+    let one_evented = driver-evented o done s woke.0 first_card others mid c.args.outcome.now (devices W X Y) woken.0 woken.1 once refl bare c.moment-at.result now c.args.speed speed_is (is_err c.accept_anew.result) one out1 c.accept_anew.ensures.accepted (devices V1 X1 Y1)
+    (λ none P. same-devices P g.M.Medium.state g.C.Chip.state g.D.Chip.state c.mend.new.unit c.accept_anew.new.unit c.args.card_a.now c.accept_anew.new.card_a c.args.card_b.now c.accept_anew.new.card_b (c.accept_anew.ensures.still none)) time recorded_one
+    (c.accept_anew.ensures.evented (omega (arith, room, few))) in
+    let same_one = anew-limit first_card Driver c.moment-at.result c.args.speed mid one c.args.outcome.now out1 c.accept_anew.ensures.accepted in
+    let limit_one : one.keeper.memory.limit ≡ limit_in o = ap (λ (m : Identity). m.limit) (same_one.0 ∙ ap (λ (k : Keeper). k.memory) begun.keeper) ∙ limit in
+    let unfound_one : woke.0.run.unfound ≡ one.unfound = ap (λ (q : Progress). q.unfound) is.0 ∙ sym (ap (λ (x : Values). x.unfound) values) ∙ sym begun.unfound ∙ sym (ap (λ (r : Run). r.unfound) c.accept_anew.ensures.only) in
+    let next_one : woke.0.run.next ≡ one.next = ap (λ (q : Progress). q.next) is.0 ∙ sym (ap (λ (x : Values). x.next) values) ∙ sym begun.next ∙ sym (ap (λ (r : Run). r.next) c.accept_anew.ensures.only) in
+    let fails : is_err c.accept_anew.result ≡ true = search rules in
+    let failed : true ≡ is_err c.from_residual-in_err-accept_anew.result = search rules in
+    subst (λ (f : Bool). EventsWoken f o done s one out1 (devices V1 X1 Y1)) failed
+    (woken-fails o done s woke.0.run Waking one out1 (devices V1 X1 Y1) (subst (λ (f : Bool). EventsGoOn f o done s woke.0.run (In 0) Waking (log_of out1) (devices V1 X1 Y1)) fails one_evented) unfound_one next_one limit_one)
+
+pub returns-in_err-accept_anew-2-clause-evented : goal.returns-in_err-accept_anew-2-clause-evented
+returns-in_err-accept_anew-2-clause-evented g c = λ room o origin done s supply v r may number given speed_is values evented limit time.
+    let run = c.args.run.now in
+    let mid : Run = c.begin_span.new.self in
+    let begun = c.begin_span.ensures.begun in
+    let U : State = g.M.Medium.state c.args.unit.now in
+    let X : State = g.C.Chip.state c.args.card_a.now in
+    let Y : State = g.D.Chip.state c.args.card_b.now in
+    let W : State = g.M.Medium.state c.mend.new.unit in
+    let k : ℕ = c.args.journal.kept in
+    let ok = c.in_ok-mend.ensures in
+    let loaded = c.requires.loaded in
+    let woke = awake o origin done s supply v U X Y r may number given (g.met.M.Medium.coherent c.args.unit.now) (wholes-of U X Y (g.met.C.Chip.coherent c.args.card_a.now) (g.met.D.Chip.coherent c.args.card_b.now)) loaded.works c.args.journal (kept-of c.args.journal U.image loaded.found)
+    W false c.mend.ensures.moments c.mend.ensures.tells ok.cause c.mend.ensures.holds ok.first ok.second run c.args.outcome.now values refl c.mend.new.journal ok.agrees mid begun (g.met.M.Medium.coherent c.mend.new.unit) in
+    let is = awake-is o origin done s supply v U X Y r may number given (g.met.M.Medium.coherent c.args.unit.now) (wholes-of U X Y (g.met.C.Chip.coherent c.args.card_a.now) (g.met.D.Chip.coherent c.args.card_b.now)) loaded.works c.args.journal (kept-of c.args.journal U.image loaded.found)
+    W false c.mend.ensures.moments c.mend.ensures.tells ok.cause c.mend.ensures.holds ok.first ok.second run c.args.outcome.now values refl c.mend.new.journal ok.agrees mid begun (g.met.M.Medium.coherent c.mend.new.unit) in
+    let quiet = says c.args.journal U W X Y (g.met.M.Medium.coherent c.args.unit.now) c.mend.ensures.moments in
+    let dark = c.requires.going.dark c.requires.dark in
+    let cards = run.keeper.cabin.cards in
+    let cabin = ap (λ (k : Keeper). k.cabin) begun.keeper in
+    let bare = subst (λ (b : Cabin). IsBare b.slots.seats.driver) (sym cabin) (dark-bare 0 cards run.keeper.cabin.slots.seats.driver dark.bare (dark.stands 0).driver) in
+    let few = ap (λ (b : Cabin). bare_count b.slots.seats.driver) cabin in
+    let now : c.moment-at.result ≡ moment_in s 0 = c.moment-at.ensures ∙ ap (λ (m : ℕ). record { second = m; begun = 0; late = false }) (begun.next ∙ ap (λ (x : Values). x.next) values ∙ sym number) in
+    let one : Run = c.accept_anew.new.run in
+    let out1 : Outcome = c.accept_anew.new.outcome in
+    let V1 : State = g.M.Medium.state c.accept_anew.new.unit in
+    let X1 : State = g.C.Chip.state c.accept_anew.new.card_a in
+    let Y1 : State = g.D.Chip.state c.accept_anew.new.card_b in
+    let first_card = card_in mid.keeper.cabin.slots.seats.driver in
+    let others = waiting_in CoDriver (card_in mid.keeper.cabin.slots.seats.codriver) in
+    let once = at-once CoDriver (card_in mid.keeper.cabin.slots.seats.codriver) in
+    let woken = wakes-evented o done s supply v (devices U X Y) (devices W X Y) r may number given k evented quiet woke.0 (waiting_in Driver first_card ++ others) mid c.args.outcome.now woke.1 is (ap (λ (x : Values). x.log) values) in
+    let recorded_one = c.accept_anew.ensures.recorded (omega (arith, room, few)) in
+    let first = driver-judged o done s woke.0 first_card others mid c.args.outcome.now (devices W X Y) woke.1 once refl bare c.moment-at.result now c.args.speed (is_err c.accept_anew.result) one out1 c.accept_anew.ensures.accepted (devices V1 X1 Y1)
+    (λ none P. same-devices P g.M.Medium.state g.C.Chip.state g.D.Chip.state c.mend.new.unit c.accept_anew.new.unit c.args.card_a.now c.accept_anew.new.card_a c.args.card_b.now c.accept_anew.new.card_b (c.accept_anew.ensures.still none)) (time-before (devices V1 X1 Y1) (devices (g.M.Medium.state c.accept_anew-2.new.unit) (g.C.Chip.state c.accept_anew-2.new.card_a) (g.D.Chip.state c.accept_anew-2.new.card_b)) c.accept_anew-2.ensures.clock c.accept_anew-2.ensures.clock_a c.accept_anew-2.ensures.clock_b time) recorded_one in
+    let one_evented = driver-evented o done s woke.0 first_card others mid c.args.outcome.now (devices W X Y) woken.0 woken.1 once refl bare c.moment-at.result now c.args.speed speed_is (is_err c.accept_anew.result) one out1 c.accept_anew.ensures.accepted (devices V1 X1 Y1)
+    (λ none P. same-devices P g.M.Medium.state g.C.Chip.state g.D.Chip.state c.mend.new.unit c.accept_anew.new.unit c.args.card_a.now c.accept_anew.new.card_a c.args.card_b.now c.accept_anew.new.card_b (c.accept_anew.ensures.still none)) (time-before (devices V1 X1 Y1) (devices (g.M.Medium.state c.accept_anew-2.new.unit) (g.C.Chip.state c.accept_anew-2.new.card_a) (g.D.Chip.state c.accept_anew-2.new.card_b)) c.accept_anew-2.ensures.clock c.accept_anew-2.ensures.clock_a c.accept_anew-2.ensures.clock_b time) recorded_one
+    (c.accept_anew.ensures.evented (omega (arith, room, few))) in
+    let same_one = anew-limit first_card Driver c.moment-at.result c.args.speed mid one c.args.outcome.now out1 c.accept_anew.ensures.accepted in
+    let limit_one : one.keeper.memory.limit ≡ limit_in o = ap (λ (m : Identity). m.limit) (same_one.0 ∙ ap (λ (k : Keeper). k.memory) begun.keeper) ∙ limit in
+    let unfound_one : woke.0.run.unfound ≡ one.unfound = ap (λ (q : Progress). q.unfound) is.0 ∙ sym (ap (λ (x : Values). x.unfound) values) ∙ sym begun.unfound ∙ sym (ap (λ (r : Run). r.unfound) c.accept_anew.ensures.only) in
+    let next_one : woke.0.run.next ≡ one.next = ap (λ (q : Progress). q.next) is.0 ∙ sym (ap (λ (x : Values). x.next) values) ∙ sym begun.next ∙ sym (ap (λ (r : Run). r.next) c.accept_anew.ensures.only) in
+    let well : is_err c.accept_anew.result ≡ false = search rules in
+    let two : Run = c.accept_anew-2.new.run in
+    let out2 : Outcome = c.accept_anew-2.new.outcome in
+    let V2 : State = g.M.Medium.state c.accept_anew-2.new.unit in
+    let X2 : State = g.C.Chip.state c.accept_anew-2.new.card_a in
+    let Y2 : State = g.D.Chip.state c.accept_anew-2.new.card_b in
+    let beside : seat_in one.keeper.cabin.slots.seats CoDriver ≡ seat_in mid.keeper.cabin.slots.seats CoDriver = c.accept_anew.ensures.beside in
+    let bare_too = subst IsBare (sym (beside ∙ ap (λ (b : Cabin). b.slots.seats.codriver) cabin)) (dark-bare 0 cards run.keeper.cabin.slots.seats.codriver dark.bare (dark.stands 0).codriver) in
+    let few_too = ap bare_count (beside ∙ ap (λ (b : Cabin). b.slots.seats.codriver) cabin) in
+    let none_waits = begun-none mid.minutes run.next begun.minutes in
+    let waits_none = ap (λ (p : Power). waiting p mid.minutes.owing) begun.power in
+    let t = c.accept_anew.ensures.takes.marks in
+    let same_room = c.accept_anew.ensures.takes.rooms.0 in
+    let second_card = card_in one.keeper.cabin.slots.seats.codriver in
+    let behind_one : WakesEvented o done s woke.0 (waiting_in CoDriver second_card) (CoDriver ∷ []) one out1 (devices V1 X1 Y1) = record {
+      waking = subst (λ (seat : Option Seat). RunWaking o done s woke.0 (waiting_in CoDriver (card_in seat)) (CoDriver ∷ []) one out1 (devices V1 X1 Y1)) (sym beside) (first.0 well);
+      bare = woken.0.bare;
+      empty = woken.0.empty;
+      evented = subst (λ (f : Bool). EventsGoOn f o done s woke.0.run (In 0) Waking (log_of out1) (devices V1 X1 Y1)) well one_evented;
+    } in
+    let recorded_two = c.accept_anew-2.ensures.recorded (omega (arith, room, few, few_too, none_waits, waits_none, t, same_room)) in
+    let two_evented = codriver-evented o done s woke.0 second_card one out1 (devices V1 X1 Y1) behind_one refl bare_too c.moment-at.result now c.args.speed speed_is (is_err c.accept_anew-2.result) two out2 c.accept_anew-2.ensures.accepted (devices V2 X2 Y2)
+    (λ none P. same-devices P g.M.Medium.state g.C.Chip.state g.D.Chip.state c.accept_anew.new.unit c.accept_anew-2.new.unit c.accept_anew.new.card_a c.accept_anew-2.new.card_a c.accept_anew.new.card_b c.accept_anew-2.new.card_b (c.accept_anew-2.ensures.still none)) time recorded_two
+    (c.accept_anew-2.ensures.evented (omega (arith, room, few, few_too, none_waits, waits_none, t, same_room))) in
+    let same_two = anew-limit second_card CoDriver c.moment-at.result c.args.speed one two out1 out2 c.accept_anew-2.ensures.accepted in
+    let limit_two : two.keeper.memory.limit ≡ limit_in o = ap (λ (m : Identity). m.limit) same_two.0 ∙ limit_one in
+    let unfound_two : woke.0.run.unfound ≡ two.unfound = unfound_one ∙ sym (ap (λ (r : Run). r.unfound) c.accept_anew-2.ensures.only) in
+    let next_two : woke.0.run.next ≡ two.next = next_one ∙ sym (ap (λ (r : Run). r.next) c.accept_anew-2.ensures.only) in
+    let fails : is_err c.accept_anew-2.result ≡ true = search rules in
+    let failed : true ≡ is_err c.from_residual-in_err-accept_anew-2.result = search rules in
+    subst (λ (f : Bool). EventsWoken f o done s two out2 (devices V2 X2 Y2)) failed
+    (woken-fails o done s woke.0.run Waking two out2 (devices V2 X2 Y2) (subst (λ (f : Bool). EventsGoOn f o done s woke.0.run (In 0) Waking (log_of out2) (devices V2 X2 Y2)) fails two_evented) unfound_two next_two limit_two)
+
+pub returns-then-is_first-clause-evented : goal.returns-then-is_first-clause-evented
+returns-then-is_first-clause-evented g c = λ room o origin done s supply v r may number given speed_is values evented limit time.
+    let run = c.args.run.now in
+    let mid : Run = c.begin_span.new.self in
+    let begun = c.begin_span.ensures.begun in
+    let U : State = g.M.Medium.state c.args.unit.now in
+    let X : State = g.C.Chip.state c.args.card_a.now in
+    let Y : State = g.D.Chip.state c.args.card_b.now in
+    let W : State = g.M.Medium.state c.mend.new.unit in
+    let k : ℕ = c.args.journal.kept in
+    let ok = c.in_ok-mend.ensures in
+    let loaded = c.requires.loaded in
+    let woke = awake o origin done s supply v U X Y r may number given (g.met.M.Medium.coherent c.args.unit.now) (wholes-of U X Y (g.met.C.Chip.coherent c.args.card_a.now) (g.met.D.Chip.coherent c.args.card_b.now)) loaded.works c.args.journal (kept-of c.args.journal U.image loaded.found)
+    W false c.mend.ensures.moments c.mend.ensures.tells ok.cause c.mend.ensures.holds ok.first ok.second run c.args.outcome.now values refl c.mend.new.journal ok.agrees mid begun (g.met.M.Medium.coherent c.mend.new.unit) in
+    let is = awake-is o origin done s supply v U X Y r may number given (g.met.M.Medium.coherent c.args.unit.now) (wholes-of U X Y (g.met.C.Chip.coherent c.args.card_a.now) (g.met.D.Chip.coherent c.args.card_b.now)) loaded.works c.args.journal (kept-of c.args.journal U.image loaded.found)
+    W false c.mend.ensures.moments c.mend.ensures.tells ok.cause c.mend.ensures.holds ok.first ok.second run c.args.outcome.now values refl c.mend.new.journal ok.agrees mid begun (g.met.M.Medium.coherent c.mend.new.unit) in
+    let quiet = says c.args.journal U W X Y (g.met.M.Medium.coherent c.args.unit.now) c.mend.ensures.moments in
+    let dark = c.requires.going.dark c.requires.dark in
+    let cards = run.keeper.cabin.cards in
+    let cabin = ap (λ (k : Keeper). k.cabin) begun.keeper in
+    let bare = subst (λ (b : Cabin). IsBare b.slots.seats.driver) (sym cabin) (dark-bare 0 cards run.keeper.cabin.slots.seats.driver dark.bare (dark.stands 0).driver) in
+    let few = ap (λ (b : Cabin). bare_count b.slots.seats.driver) cabin in
+    let now : c.moment-at.result ≡ moment_in s 0 = c.moment-at.ensures ∙ ap (λ (m : ℕ). record { second = m; begun = 0; late = false }) (begun.next ∙ ap (λ (x : Values). x.next) values ∙ sym number) in
+    let one : Run = c.accept_anew.new.run in
+    let out1 : Outcome = c.accept_anew.new.outcome in
+    let V1 : State = g.M.Medium.state c.accept_anew.new.unit in
+    let X1 : State = g.C.Chip.state c.accept_anew.new.card_a in
+    let Y1 : State = g.D.Chip.state c.accept_anew.new.card_b in
+    let first_card = card_in mid.keeper.cabin.slots.seats.driver in
+    let others = waiting_in CoDriver (card_in mid.keeper.cabin.slots.seats.codriver) in
+    let once = at-once CoDriver (card_in mid.keeper.cabin.slots.seats.codriver) in
+    let woken = wakes-evented o done s supply v (devices U X Y) (devices W X Y) r may number given k evented quiet woke.0 (waiting_in Driver first_card ++ others) mid c.args.outcome.now woke.1 is (ap (λ (x : Values). x.log) values) in
+    let recorded_one = c.accept_anew.ensures.recorded (omega (arith, room, few)) in
+    let first = driver-judged o done s woke.0 first_card others mid c.args.outcome.now (devices W X Y) woke.1 once refl bare c.moment-at.result now c.args.speed (is_err c.accept_anew.result) one out1 c.accept_anew.ensures.accepted (devices V1 X1 Y1)
+    (λ none P. same-devices P g.M.Medium.state g.C.Chip.state g.D.Chip.state c.mend.new.unit c.accept_anew.new.unit c.args.card_a.now c.accept_anew.new.card_a c.args.card_b.now c.accept_anew.new.card_b (c.accept_anew.ensures.still none)) (time-before (devices V1 X1 Y1) (devices (g.M.Medium.state c.accept_anew-2.new.unit) (g.C.Chip.state c.accept_anew-2.new.card_a) (g.D.Chip.state c.accept_anew-2.new.card_b)) c.accept_anew-2.ensures.clock c.accept_anew-2.ensures.clock_a c.accept_anew-2.ensures.clock_b time) recorded_one in
+    let one_evented = driver-evented o done s woke.0 first_card others mid c.args.outcome.now (devices W X Y) woken.0 woken.1 once refl bare c.moment-at.result now c.args.speed speed_is (is_err c.accept_anew.result) one out1 c.accept_anew.ensures.accepted (devices V1 X1 Y1)
+    (λ none P. same-devices P g.M.Medium.state g.C.Chip.state g.D.Chip.state c.mend.new.unit c.accept_anew.new.unit c.args.card_a.now c.accept_anew.new.card_a c.args.card_b.now c.accept_anew.new.card_b (c.accept_anew.ensures.still none)) (time-before (devices V1 X1 Y1) (devices (g.M.Medium.state c.accept_anew-2.new.unit) (g.C.Chip.state c.accept_anew-2.new.card_a) (g.D.Chip.state c.accept_anew-2.new.card_b)) c.accept_anew-2.ensures.clock c.accept_anew-2.ensures.clock_a c.accept_anew-2.ensures.clock_b time) recorded_one
+    (c.accept_anew.ensures.evented (omega (arith, room, few))) in
+    let same_one = anew-limit first_card Driver c.moment-at.result c.args.speed mid one c.args.outcome.now out1 c.accept_anew.ensures.accepted in
+    let limit_one : one.keeper.memory.limit ≡ limit_in o = ap (λ (m : Identity). m.limit) (same_one.0 ∙ ap (λ (k : Keeper). k.memory) begun.keeper) ∙ limit in
+    let unfound_one : woke.0.run.unfound ≡ one.unfound = ap (λ (q : Progress). q.unfound) is.0 ∙ sym (ap (λ (x : Values). x.unfound) values) ∙ sym begun.unfound ∙ sym (ap (λ (r : Run). r.unfound) c.accept_anew.ensures.only) in
+    let next_one : woke.0.run.next ≡ one.next = ap (λ (q : Progress). q.next) is.0 ∙ sym (ap (λ (x : Values). x.next) values) ∙ sym begun.next ∙ sym (ap (λ (r : Run). r.next) c.accept_anew.ensures.only) in
+    let well : is_err c.accept_anew.result ≡ false = search rules in
+    let two : Run = c.accept_anew-2.new.run in
+    let out2 : Outcome = c.accept_anew-2.new.outcome in
+    let V2 : State = g.M.Medium.state c.accept_anew-2.new.unit in
+    let X2 : State = g.C.Chip.state c.accept_anew-2.new.card_a in
+    let Y2 : State = g.D.Chip.state c.accept_anew-2.new.card_b in
+    let beside : seat_in one.keeper.cabin.slots.seats CoDriver ≡ seat_in mid.keeper.cabin.slots.seats CoDriver = c.accept_anew.ensures.beside in
+    let bare_too = subst IsBare (sym (beside ∙ ap (λ (b : Cabin). b.slots.seats.codriver) cabin)) (dark-bare 0 cards run.keeper.cabin.slots.seats.codriver dark.bare (dark.stands 0).codriver) in
+    let few_too = ap bare_count (beside ∙ ap (λ (b : Cabin). b.slots.seats.codriver) cabin) in
+    let none_waits = begun-none mid.minutes run.next begun.minutes in
+    let waits_none = ap (λ (p : Power). waiting p mid.minutes.owing) begun.power in
+    let t = c.accept_anew.ensures.takes.marks in
+    let same_room = c.accept_anew.ensures.takes.rooms.0 in
+    let second_card = card_in one.keeper.cabin.slots.seats.codriver in
+    let behind_one : WakesEvented o done s woke.0 (waiting_in CoDriver second_card) (CoDriver ∷ []) one out1 (devices V1 X1 Y1) = record {
+      waking = subst (λ (seat : Option Seat). RunWaking o done s woke.0 (waiting_in CoDriver (card_in seat)) (CoDriver ∷ []) one out1 (devices V1 X1 Y1)) (sym beside) (first.0 well);
+      bare = woken.0.bare;
+      empty = woken.0.empty;
+      evented = subst (λ (f : Bool). EventsGoOn f o done s woke.0.run (In 0) Waking (log_of out1) (devices V1 X1 Y1)) well one_evented;
+    } in
+    let recorded_two = c.accept_anew-2.ensures.recorded (omega (arith, room, few, few_too, none_waits, waits_none, t, same_room)) in
+    let two_evented = codriver-evented o done s woke.0 second_card one out1 (devices V1 X1 Y1) behind_one refl bare_too c.moment-at.result now c.args.speed speed_is (is_err c.accept_anew-2.result) two out2 c.accept_anew-2.ensures.accepted (devices V2 X2 Y2)
+    (λ none P. same-devices P g.M.Medium.state g.C.Chip.state g.D.Chip.state c.accept_anew.new.unit c.accept_anew-2.new.unit c.accept_anew.new.card_a c.accept_anew-2.new.card_a c.accept_anew.new.card_b c.accept_anew-2.new.card_b (c.accept_anew-2.ensures.still none)) time recorded_two
+    (c.accept_anew-2.ensures.evented (omega (arith, room, few, few_too, none_waits, waits_none, t, same_room))) in
+    let same_two = anew-limit second_card CoDriver c.moment-at.result c.args.speed one two out1 out2 c.accept_anew-2.ensures.accepted in
+    let limit_two : two.keeper.memory.limit ≡ limit_in o = ap (λ (m : Identity). m.limit) same_two.0 ∙ limit_one in
+    let unfound_two : woke.0.run.unfound ≡ two.unfound = unfound_one ∙ sym (ap (λ (r : Run). r.unfound) c.accept_anew-2.ensures.only) in
+    let next_two : woke.0.run.next ≡ two.next = next_one ∙ sym (ap (λ (r : Run). r.next) c.accept_anew-2.ensures.only) in
+    let fine : is_err c.accept_anew-2.result ≡ false = search rules in
+    let both = codriver-on o done s woke.0 second_card one out1 (devices V1 X1 Y1) behind_one.waking refl bare_too c.moment-at.result now c.args.speed (is_err c.accept_anew-2.result) two out2 c.accept_anew-2.ensures.accepted (devices V2 X2 Y2)
+    (λ none P. same-devices P g.M.Medium.state g.C.Chip.state g.D.Chip.state c.accept_anew.new.unit c.accept_anew-2.new.unit c.accept_anew.new.card_a c.accept_anew-2.new.card_a c.accept_anew.new.card_b c.accept_anew-2.new.card_b (c.accept_anew-2.ensures.still none)) time recorded_two fine in
+    let noted_two = subst (λ (f : Bool). EventsGoOn f o done s woke.0.run (In 0) Waking (log_of out2) (devices V2 X2 Y2)) fine two_evented in
+    let lit = ok_gives c.accept_anew-2.result c.accept_anew-2.ensures.going fine in
+    let next_is = ap (λ (x : Values). x.next) values in
+    let most = c.requires.going.small in
+    let small : s.number < 2 ^ 32 = omega (arith, number, next_is, most) in
+    let watch_two = same_two.1 ∙ same_one.1 in
+    let none : (length c.args.outcome.now.breaks.items == 0) ≡ true = sym c.is_empty-is_first.ensures ∙ c.if-is_first.true in
+    let untold = none-told v.unfound k v.log.breaks c.args.outcome.now.breaks.items (ap (λ (x : Values). x.log.breaks) values) (is-none (length c.args.outcome.now.breaks.items) none) in
+    let noted = none-woken o origin done s supply v (devices U X Y) (devices W X Y) r may number given k evented quiet is.2 woken.2 woke.0 is.0 is.1 woken.0.bare two out2 (devices V2 X2 Y2) both noted_two (ungiven_of lit.span) lit.cabin small untold (same-noted V2 X2 Y2) in
+    let x = within-of o done s woke.0 [] [] two out2 (devices V2 X2 Y2) both in
+    woken-on o done s x.within.b two out2 (devices V2 X2 Y2) (here-empty o origin done s supply v (devices U X Y) (devices W X Y) r may number given k evented quiet is.2 woken.2 woke.0 is.0 is.1 woken.0.bare two out2 (devices V2 X2 Y2) both noted_two (ungiven_of lit.span) lit.cabin small)
+    x refl noted limit_two (begun-watched o run mid two c.mend.new.journal begun limit watch_two)
+
+pub returns-clause-evented : goal.returns-clause-evented
+returns-clause-evented g c = λ room o origin done s supply v r may number given speed_is values evented limit time.
+    let V3 : State = g.M.Medium.state c.note_gap.new.unit in
+    let X3 : State = g.C.Chip.state c.note_gap.new.card_a in
+    let Y3 : State = g.D.Chip.state c.note_gap.new.card_b in
+    let time_two = time-before (devices (g.M.Medium.state c.accept_anew-2.new.unit) (g.C.Chip.state c.accept_anew-2.new.card_a) (g.D.Chip.state c.accept_anew-2.new.card_b)) (devices V3 X3 Y3) c.note_gap.ensures.clock c.note_gap.ensures.clock_a c.note_gap.ensures.clock_b time in
+    let run = c.args.run.now in
+    let mid : Run = c.begin_span.new.self in
+    let begun = c.begin_span.ensures.begun in
+    let U : State = g.M.Medium.state c.args.unit.now in
+    let X : State = g.C.Chip.state c.args.card_a.now in
+    let Y : State = g.D.Chip.state c.args.card_b.now in
+    let W : State = g.M.Medium.state c.mend.new.unit in
+    let k : ℕ = c.args.journal.kept in
+    let ok = c.in_ok-mend.ensures in
+    let loaded = c.requires.loaded in
+    let woke = awake o origin done s supply v U X Y r may number given (g.met.M.Medium.coherent c.args.unit.now) (wholes-of U X Y (g.met.C.Chip.coherent c.args.card_a.now) (g.met.D.Chip.coherent c.args.card_b.now)) loaded.works c.args.journal (kept-of c.args.journal U.image loaded.found)
+    W false c.mend.ensures.moments c.mend.ensures.tells ok.cause c.mend.ensures.holds ok.first ok.second run c.args.outcome.now values refl c.mend.new.journal ok.agrees mid begun (g.met.M.Medium.coherent c.mend.new.unit) in
+    let is = awake-is o origin done s supply v U X Y r may number given (g.met.M.Medium.coherent c.args.unit.now) (wholes-of U X Y (g.met.C.Chip.coherent c.args.card_a.now) (g.met.D.Chip.coherent c.args.card_b.now)) loaded.works c.args.journal (kept-of c.args.journal U.image loaded.found)
+    W false c.mend.ensures.moments c.mend.ensures.tells ok.cause c.mend.ensures.holds ok.first ok.second run c.args.outcome.now values refl c.mend.new.journal ok.agrees mid begun (g.met.M.Medium.coherent c.mend.new.unit) in
+    let quiet = says c.args.journal U W X Y (g.met.M.Medium.coherent c.args.unit.now) c.mend.ensures.moments in
+    let dark = c.requires.going.dark c.requires.dark in
+    let cards = run.keeper.cabin.cards in
+    let cabin = ap (λ (k : Keeper). k.cabin) begun.keeper in
+    let bare = subst (λ (b : Cabin). IsBare b.slots.seats.driver) (sym cabin) (dark-bare 0 cards run.keeper.cabin.slots.seats.driver dark.bare (dark.stands 0).driver) in
+    let few = ap (λ (b : Cabin). bare_count b.slots.seats.driver) cabin in
+    let now : c.moment-at.result ≡ moment_in s 0 = c.moment-at.ensures ∙ ap (λ (m : ℕ). record { second = m; begun = 0; late = false }) (begun.next ∙ ap (λ (x : Values). x.next) values ∙ sym number) in
+    let one : Run = c.accept_anew.new.run in
+    let out1 : Outcome = c.accept_anew.new.outcome in
+    let V1 : State = g.M.Medium.state c.accept_anew.new.unit in
+    let X1 : State = g.C.Chip.state c.accept_anew.new.card_a in
+    let Y1 : State = g.D.Chip.state c.accept_anew.new.card_b in
+    let first_card = card_in mid.keeper.cabin.slots.seats.driver in
+    let others = waiting_in CoDriver (card_in mid.keeper.cabin.slots.seats.codriver) in
+    let once = at-once CoDriver (card_in mid.keeper.cabin.slots.seats.codriver) in
+    let woken = wakes-evented o done s supply v (devices U X Y) (devices W X Y) r may number given k evented quiet woke.0 (waiting_in Driver first_card ++ others) mid c.args.outcome.now woke.1 is (ap (λ (x : Values). x.log) values) in
+    let recorded_one = c.accept_anew.ensures.recorded (omega (arith, room, few)) in
+    let first = driver-judged o done s woke.0 first_card others mid c.args.outcome.now (devices W X Y) woke.1 once refl bare c.moment-at.result now c.args.speed (is_err c.accept_anew.result) one out1 c.accept_anew.ensures.accepted (devices V1 X1 Y1)
+    (λ none P. same-devices P g.M.Medium.state g.C.Chip.state g.D.Chip.state c.mend.new.unit c.accept_anew.new.unit c.args.card_a.now c.accept_anew.new.card_a c.args.card_b.now c.accept_anew.new.card_b (c.accept_anew.ensures.still none)) (time-before (devices V1 X1 Y1) (devices (g.M.Medium.state c.accept_anew-2.new.unit) (g.C.Chip.state c.accept_anew-2.new.card_a) (g.D.Chip.state c.accept_anew-2.new.card_b)) c.accept_anew-2.ensures.clock c.accept_anew-2.ensures.clock_a c.accept_anew-2.ensures.clock_b time_two) recorded_one in
+    let one_evented = driver-evented o done s woke.0 first_card others mid c.args.outcome.now (devices W X Y) woken.0 woken.1 once refl bare c.moment-at.result now c.args.speed speed_is (is_err c.accept_anew.result) one out1 c.accept_anew.ensures.accepted (devices V1 X1 Y1)
+    (λ none P. same-devices P g.M.Medium.state g.C.Chip.state g.D.Chip.state c.mend.new.unit c.accept_anew.new.unit c.args.card_a.now c.accept_anew.new.card_a c.args.card_b.now c.accept_anew.new.card_b (c.accept_anew.ensures.still none)) (time-before (devices V1 X1 Y1) (devices (g.M.Medium.state c.accept_anew-2.new.unit) (g.C.Chip.state c.accept_anew-2.new.card_a) (g.D.Chip.state c.accept_anew-2.new.card_b)) c.accept_anew-2.ensures.clock c.accept_anew-2.ensures.clock_a c.accept_anew-2.ensures.clock_b time_two) recorded_one
+    (c.accept_anew.ensures.evented (omega (arith, room, few))) in
+    let same_one = anew-limit first_card Driver c.moment-at.result c.args.speed mid one c.args.outcome.now out1 c.accept_anew.ensures.accepted in
+    let limit_one : one.keeper.memory.limit ≡ limit_in o = ap (λ (m : Identity). m.limit) (same_one.0 ∙ ap (λ (k : Keeper). k.memory) begun.keeper) ∙ limit in
+    let unfound_one : woke.0.run.unfound ≡ one.unfound = ap (λ (q : Progress). q.unfound) is.0 ∙ sym (ap (λ (x : Values). x.unfound) values) ∙ sym begun.unfound ∙ sym (ap (λ (r : Run). r.unfound) c.accept_anew.ensures.only) in
+    let next_one : woke.0.run.next ≡ one.next = ap (λ (q : Progress). q.next) is.0 ∙ sym (ap (λ (x : Values). x.next) values) ∙ sym begun.next ∙ sym (ap (λ (r : Run). r.next) c.accept_anew.ensures.only) in
+    let well : is_err c.accept_anew.result ≡ false = search rules in
+    let two : Run = c.accept_anew-2.new.run in
+    let out2 : Outcome = c.accept_anew-2.new.outcome in
+    let V2 : State = g.M.Medium.state c.accept_anew-2.new.unit in
+    let X2 : State = g.C.Chip.state c.accept_anew-2.new.card_a in
+    let Y2 : State = g.D.Chip.state c.accept_anew-2.new.card_b in
+    let beside : seat_in one.keeper.cabin.slots.seats CoDriver ≡ seat_in mid.keeper.cabin.slots.seats CoDriver = c.accept_anew.ensures.beside in
+    let bare_too = subst IsBare (sym (beside ∙ ap (λ (b : Cabin). b.slots.seats.codriver) cabin)) (dark-bare 0 cards run.keeper.cabin.slots.seats.codriver dark.bare (dark.stands 0).codriver) in
+    let few_too = ap bare_count (beside ∙ ap (λ (b : Cabin). b.slots.seats.codriver) cabin) in
+    let none_waits = begun-none mid.minutes run.next begun.minutes in
+    let waits_none = ap (λ (p : Power). waiting p mid.minutes.owing) begun.power in
+    let t = c.accept_anew.ensures.takes.marks in
+    let same_room = c.accept_anew.ensures.takes.rooms.0 in
+    let second_card = card_in one.keeper.cabin.slots.seats.codriver in
+    let behind_one : WakesEvented o done s woke.0 (waiting_in CoDriver second_card) (CoDriver ∷ []) one out1 (devices V1 X1 Y1) = record {
+      waking = subst (λ (seat : Option Seat). RunWaking o done s woke.0 (waiting_in CoDriver (card_in seat)) (CoDriver ∷ []) one out1 (devices V1 X1 Y1)) (sym beside) (first.0 well);
+      bare = woken.0.bare;
+      empty = woken.0.empty;
+      evented = subst (λ (f : Bool). EventsGoOn f o done s woke.0.run (In 0) Waking (log_of out1) (devices V1 X1 Y1)) well one_evented;
+    } in
+    let recorded_two = c.accept_anew-2.ensures.recorded (omega (arith, room, few, few_too, none_waits, waits_none, t, same_room)) in
+    let two_evented = codriver-evented o done s woke.0 second_card one out1 (devices V1 X1 Y1) behind_one refl bare_too c.moment-at.result now c.args.speed speed_is (is_err c.accept_anew-2.result) two out2 c.accept_anew-2.ensures.accepted (devices V2 X2 Y2)
+    (λ none P. same-devices P g.M.Medium.state g.C.Chip.state g.D.Chip.state c.accept_anew.new.unit c.accept_anew-2.new.unit c.accept_anew.new.card_a c.accept_anew-2.new.card_a c.accept_anew.new.card_b c.accept_anew-2.new.card_b (c.accept_anew-2.ensures.still none)) time_two recorded_two
+    (c.accept_anew-2.ensures.evented (omega (arith, room, few, few_too, none_waits, waits_none, t, same_room))) in
+    let same_two = anew-limit second_card CoDriver c.moment-at.result c.args.speed one two out1 out2 c.accept_anew-2.ensures.accepted in
+    let limit_two : two.keeper.memory.limit ≡ limit_in o = ap (λ (m : Identity). m.limit) same_two.0 ∙ limit_one in
+    let unfound_two : woke.0.run.unfound ≡ two.unfound = unfound_one ∙ sym (ap (λ (r : Run). r.unfound) c.accept_anew-2.ensures.only) in
+    let next_two : woke.0.run.next ≡ two.next = next_one ∙ sym (ap (λ (r : Run). r.next) c.accept_anew-2.ensures.only) in
+    let fine : is_err c.accept_anew-2.result ≡ false = search rules in
+    let both = codriver-on o done s woke.0 second_card one out1 (devices V1 X1 Y1) behind_one.waking refl bare_too c.moment-at.result now c.args.speed (is_err c.accept_anew-2.result) two out2 c.accept_anew-2.ensures.accepted (devices V2 X2 Y2)
+    (λ none P. same-devices P g.M.Medium.state g.C.Chip.state g.D.Chip.state c.accept_anew.new.unit c.accept_anew-2.new.unit c.accept_anew.new.card_a c.accept_anew-2.new.card_a c.accept_anew.new.card_b c.accept_anew-2.new.card_b (c.accept_anew-2.ensures.still none)) time_two recorded_two fine in
+    let noted_two = subst (λ (f : Bool). EventsGoOn f o done s woke.0.run (In 0) Waking (log_of out2) (devices V2 X2 Y2)) fine two_evented in
+    let lit = ok_gives c.accept_anew-2.result c.accept_anew-2.ensures.going fine in
+    let next_is = ap (λ (x : Values). x.next) values in
+    let most = c.requires.going.small in
+    let small : s.number < 2 ^ 32 = omega (arith, number, next_is, most) in
+    let watch_two = same_two.1 ∙ same_one.1 in
+    let new : Run = c.note_gap.new.run in
+    let out3 : Outcome = record out2 { breaks = c.note_gap.new.breaks } in
+    let some : (length c.args.outcome.now.breaks.items == 0) ≡ false = sym c.is_empty-is_first.ensures ∙ c.if-is_first.false in
+    let told_before = some-told v.unfound k v.log.breaks c.args.outcome.now.breaks.items (ap (λ (x : Values). x.log.breaks) values) (is-some (length c.args.outcome.now.breaks.items) some) in
+    let kept : c.last_kept-kept.result ≡ k = c.last_kept-kept.ensures.kept in
+    let later = c.requires.later in
+    let early : k < s.number / 60 = subst (λ (n : ℕ). k < n / 60) (next_is ∙ sym number) later in
+    let gap = c.note_gap.ensures.events in
+    let x = within-of o done s woke.0 [] [] two out2 (devices V2 X2 Y2) both in
+    let comes = comes-waking o done s woke.0 [] [] two out2 (devices V2 X2 Y2) both in
+    let are = subst (λ (n : ℕ). AreGapEvents (gap_of n two.next) (now_moment two) (is_err c.note_gap.result) two new out2.breaks c.note_gap.new.breaks gap.0 gap.1) kept gap.2 in
+    let noted = gap-woken o origin done s supply v (devices U X Y) (devices W X Y) r may number given k evented quiet is.2 woken.2 woke.0 is.0 is.1 woken.0.bare two out2 (devices V2 X2 Y2) both noted_two (ungiven_of lit.span) lit.cabin small told_before early (devices V3 X3 Y3)
+    (is_err c.note_gap.result) new c.note_gap.new.breaks gap.0 gap.1 are gap.3 (c.note_gap.ensures.leaves o done s out2 x comes) in
+    let empty = here-empty o origin done s supply v (devices U X Y) (devices W X Y) r may number given k evented quiet is.2 woken.2 woke.0 is.0 is.1 woken.0.bare two out2 (devices V2 X2 Y2) both noted_two (ungiven_of lit.span) lit.cabin small in
+    let began : x.within.b ≡ woke.0 = both.waking.began in
+    let stays = gap-memory (gap_of c.last_kept-kept.result two.next) (now_moment two) (is_err c.note_gap.result) two new out2.breaks c.note_gap.new.breaks c.note_gap.ensures.noted.0 c.note_gap.ensures.noted.1 in
+    woken-ends o done s x.within.b empty (is_err c.note_gap.result) new out3 (devices V3 X3 Y3) (c.note_gap.ensures.recorded o done s out2 x (λ first. comes)) noted
+    (ap (λ (b : Beginning). b.run.unfound) began ∙ unfound_two ∙ sym (ap (λ (r : Run). r.unfound) c.note_gap.ensures.only)) (ap (λ (b : Beginning). b.run.next) began ∙ next_two ∙ sym (ap (λ (r : Run). r.next) c.note_gap.ensures.only))
+    (ap (λ (m : Identity). m.limit) stays ∙ limit_two) (begun-watched o run mid new c.mend.new.journal begun limit (ap (λ (r : Run). r.watch) c.note_gap.ensures.only ∙ watch_two))
 
 -- ---- what holds of the devices after any calls
 
