@@ -15,7 +15,6 @@ use Rattle.event_model.specs.Events.{Crew, Seen, crew_of as sitting_crew, seen_o
 use Rattle.event_model.specs.Spans.{gap_of}
 use Rattle.unit_notes.specs.declared.unit_event.UnitEvent.{UnitEvent}
 use Rattle.unit_journal.specs.declared.notes.Notes.{Notes}
-use Rattle.event_crews.specs.Watched.{watched}
 use Rattle.unit_course.specs.Lines.{cut_at, found_from}
 use Rattle.unit_course.specs.Followed.{Supply, Due, Lit, Lost as IsLost, MayPower, IsDark}
 use Rattle.safety_model.specs.Safe.{Devices, breakdowns_of}
