@@ -45,7 +45,8 @@ span-goes o done p s {span} begins goes =
 
 module _ (o : Origin) (done : List TraceSecond) (s : TraceSecond) (run : Run) (out : Outcome) (d : Devices) (U : State) (chip_a chip_b : CardState) (X Y : State) (lit : run.power ≡ Lit) (number : s.number ≡ run.next) (given : s.has_power ≡ true) (low : first_second ≤ run.next)
     (going : IsLit ((run.next - 1) / 60) run U chip_a chip_b X Y) where
-  pub lit-evented : (h : RunEvented o done run out d) → WithinEvented o done s (In 0) [] [] Acting (minute_over run) out d
+  -- the second goes on by the log so far
+  pub lit-evented : (h : RunEvented o done run out d) → (w : WithinEvented o done s (In 0) [] [] Acting (minute_over run) out d) × (w.within.within.b.run.log ≡ log_of out)
   lit-evented h =
       let g = second-goes o h.recorded.origin done s run out d U chip_a chip_b X Y lit number given low going h.recorded in
       let w : RunWithin o done s (In 0) [] [] (minute_over run) out d = g.0 in
@@ -54,13 +55,15 @@ module _ (o : Origin) (done : List TraceSecond) (s : TraceSecond) (run : Run) (o
       let log : p.log ≡ log_of out = ap (λ (q : Progress). q.log) is in
       let begins = begins-now o w.origin done s (In 0) (values_of (minute_over run) out) d w.within in
       let base : EventedBy o done p d = subst (λ (q : Progress). EventedBy o done q d) (sym is) h.evented in
-      let now = second-begins_now d o done p w.within.b.span s begins base in
-      record {
-        within = w;
-        evented = subst (λ (l : RunLog). EventedNow o done s p Acting l d) log (subst (λ (b : Bool). EventedNow o done s p (stage_of b) p.log d) g.3 now);
-        watches = record {
-          limit = ap (λ (m : Identity). m.limit) (over-memory (nat_eq (run.next % 60) 0) run) ∙ h.limit;
-          watched = subst (λ (x : Watch). IsWatching o (span_seen p done s) x) (sym (over-watch (nat_eq (run.next % 60) 0) run))
-              (subst (λ (xs : List Seen). IsWatching o xs run.watch) (sym (span-goes o done p s begins g.3 ∙ ap (λ (l : RunLog). span_of l done) log)) (h.watched lit));
-        };
-      }
+      let now = second-begins_now d o done p w.within.b.span s begins base in (
+        record {
+          within = w;
+          evented = subst (λ (l : RunLog). EventedNow o done s p Acting l d) log (subst (λ (b : Bool). EventedNow o done s p (stage_of b) p.log d) g.3 now);
+          watches = record {
+            limit = ap (λ (m : Identity). m.limit) (over-memory (nat_eq (run.next % 60) 0) run) ∙ h.limit;
+            watched = subst (λ (x : Watch). IsWatching o (span_seen p done s) x) (sym (over-watch (nat_eq (run.next % 60) 0) run))
+                (subst (λ (xs : List Seen). IsWatching o xs run.watch) (sym (span-goes o done p s begins g.3 ∙ ap (λ (l : RunLog). span_of l done) log)) (h.watched lit));
+          };
+        },
+        log,
+      )

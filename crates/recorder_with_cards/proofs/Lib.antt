@@ -42,3 +42,9 @@ pub mod Uncut
 pub mod WholeOdometer
 pub mod GapEvented
 pub mod WokenEvented
+pub mod RingsHeld
+pub mod ActsRinged
+pub mod OffRings
+pub mod SecondsRinged
+pub mod BegunRinged
+pub mod SideShown

@@ -1,5 +1,5 @@
 -- What a run promises, from what was recorded of it; and that nothing is recorded as it begins.
-use Rattle.std.proofs.Common.{◌≡◌, ◌∙◌, inl, ℕ, ◌+◌, ◌-◌, ◌/◌, ◌<◌, ◌≤◌, true, false, Option, Some, None, IfSome, is_some, Result, Ok, List, [], ◌++◌, length, All, refl, ap, sym, subst, arith}
+use Rattle.std.proofs.Common.{◌≡◌, ◌∙◌, inl, ℕ, ◌+◌, ◌-◌, ◌/◌, ◌<◌, ◌≤◌, true, false, Option, Some, None, IfSome, option_map, is_some, Result, Ok, List, [], ◌++◌, length, All, refl, ap, sym, subst, arith}
 use Rattle.trace_model.specs.declared.Card.{Card}
 use Rattle.trace_model.specs.declared.Card.TheVariants.{A, B}
 use Rattle.trace_model.specs.declared.Item.{Item}
@@ -15,6 +15,10 @@ use Rattle.chip_model.specs.declared.command.CardState.{CardState}
 use Rattle.tacho_types.specs.declared.card_number.FullCardNumber.{FullCardNumber}
 use Rattle.tacho_types.specs.CardNumber.{card_number_bytes, card_number_of}
 use Rattle.log_model.specs.Log.{RunLog}
+use Rattle.log_model.specs.Course.{went}
+use Rattle.log_model.specs.Spans.{spans_of}
+use Rattle.side_model.specs.Done.{done_of}
+use Rattle.side_model.specs.Noted.{Note, notes_of}
 use Rattle.run_model.specs.declared.Device.{Device}
 use Rattle.run_model.specs.declared.Device.TheVariants.{Unit as Recorder, CardA, CardB}
 use Rattle.history_model.specs.Book.{not_begun}
@@ -31,7 +35,9 @@ use Rattle.unit_journal.proofs.Beside.{passes_beside}
 use Rattle.unit_memory.specs.declared.format.Identity.{Identity}
 use Rattle.safety_model.specs.Recording.{Recording, card_image, brought}
 use Rattle.safety_model.specs.Safe.{Devices, card_of, breakdowns_of, MayBegin}
+use Rattle.safety_model.specs.Side.{ShowsSide}
 use Rattle.slot_machine.specs.Kept.{nothing_yet}
+use Rattle.run_crew.specs.declared.cards.Accepted.{Accepted}
 use Rattle.run_crew.specs.declared.cards.Known.{Known}
 use Rattle.run_crew.specs.declared.cards.Cards.{Cards}
 use Rattle.run_crew.specs.declared.cabin.Cabin.{Cabin}
@@ -50,6 +56,10 @@ use Rattle.run_recorded.specs.Seconds.{empty_log}
 use Rattle.run_recorded.proofs.Ends.{ends-run}
 use Rattle.run_evented.specs.Evented.{limit_in, Evented}
 use Rattle.run_evented.proofs.Ends.{nothing-noted, events-shown}
+use Rattle.run_ringed.specs.Ringed.{Seating, Ringed, notes_in}
+use Rattle.run_ringed.specs.SoFar.{AreEarlier, RingedBehind}
+use Rattle.run_ringed.proofs.Rings.{none-noted, fewer-sit}
+use Rattle.run_ringed.proofs.Shown.{rings-shown}
 use Rattle.run_within.specs.Recorded.{Values, progress, carried, AreThere, IsHeldBy, Recorded}
 use Rattle.run_within.specs.Going.{MayStart}
 use Rattle.run_within.proofs.Going.{begun-recorded}
@@ -66,9 +76,12 @@ use Rattle.run_acts.specs.declared.run.Power.{Power}
 use Rattle.run_acts.specs.declared.run.Power.TheVariants.{Lit, Due, Lost}
 use Rattle.run_acts.specs.Recording.{log_of, values_of, IsOrigin, Supplies, RunRecorded}
 use Rattle.run_acts.specs.Evented.{RunEvented}
+use Rattle.run_acts.specs.Ringing.{seating_of}
+use Rattle.run_acts.specs.RunRinged.{seats_of, RunRinged}
 use Rattle.run_acts.proofs.Numbers.{own-long}
 use Rattle.recorder_with_cards.specs.Ends.{BeginAs, recorded_with, recording_of, opened_with, origin_of, MayRecord, EndsTrace}
 use Rattle.recorder_with_cards.proofs.Waiting.{first-second}
+use Rattle.recorder_with_cards.proofs.SideShown.{side-shown}
 
 -- what holds of either card
 pub both : (P : Card → Type 0) → P A → P B → (c : Card) → P c
@@ -136,7 +149,7 @@ module _ (x a b : List ℕ) (start : ℕ) (items : List Item) (began now : Devic
       ends-run o done (progress v supply h.book) h.travel v.marks (carried v h.due h.book h.standing h.brought) began now h.recorded (found-by r0 done v.log (found_in r0 began) began found)
       (is-carried done v (carried v h.due h.book h.standing h.brought) supply h.held) refl refl h.beside unit_whole card_whole decodes refl
 
-  pub promised : (run : Run) (out : Outcome) → RunEvented o (seconds_of start items) run out now → IsCoherent now.unit → ((c : Card) → IsCoherent (card_of now c)) → MayRecord x a b start → IsFound r0 (found_in r0 began) began →
+  pub promised : (run : Run) (out : Outcome) → RunRinged o (seconds_of start items) run out now → IsCoherent now.unit → ((c : Card) → IsCoherent (card_of now c)) → MayRecord x a b start → IsFound r0 (found_in r0 began) began →
       EndsTrace x a b start items out began now
   promised run out h unit_whole card_whole may found = record {
     may = record {
@@ -144,12 +157,35 @@ module _ (x a b : List ℕ) (start : ℕ) (items : List Item) (began now : Devic
       clock = λ s is. let number = first-second start items s is in let later = may.later in omega (arith, number, later);
       numbers = may.numbers;
     };
-    ends = ends-so (seconds_of start items) h.recorded.supply (values_of run out) h.recorded.recorded unit_whole card_whole found may.decodes;
-    events = events-shown began now o (seconds_of start items) (log_of out) run.unfound run.next h.recorded.supply h.evented (recording_of x a b start items out) refl
-        (both (λ c. card_image (recording_of x a b start items out) c ≡ card_image o.recording c) refl refl) refl refl (both (λ c. (found_of o.found c).began ≡ (card_of began c).clock) refl refl);
+    ends = ends-so (seconds_of start items) h.evented.recorded.supply (values_of run out) h.evented.recorded.recorded unit_whole card_whole found may.decodes;
+    side = record { shows = shows };
   }
+    where
+      r : Recording
+      r = recording_of x a b start items out
+
+      images : (c : Card) → card_image r c ≡ card_image o.recording c
+      images = both (λ c. card_image r c ≡ card_image o.recording c) refl refl
+
+      clocks : (c : Card) → (found_of o.found c).began ≡ (card_of began c).clock
+      clocks = both (λ c. (found_of o.found c).began ≡ (card_of began c).clock) refl refl
+
+      shows : (y : List ℕ) → now.unit.may_leave y → ShowsSide r began now y
+      shows y left =
+          side-shown r began now y may.decodes
+          (events-shown began now o (seconds_of start items) (log_of out) run.unfound run.next h.evented.recorded.supply h.evented.evented r refl images refl refl clocks y left)
+          h.spans (record { spans_are = h.ringed.spans_are; bases = h.stored.bases }) (h.stored.stored y left)
+          (rings-shown began now o (log_of out) h.spans (notes_in (log_of out) (seconds_of start items)) (seats_of run) h.ringed.ringed r refl images refl refl clocks y left)
 
 -- ---- as the run begins
+
+no-spans : (log : RunLog) → spans_of (went log []).told ≡ []
+unfolding went spans_of
+no-spans log = refl
+
+no-notes : (log : RunLog) → notes_in log [] ≡ []
+unfolding done_of notes_of
+no-notes log = refl
 
 due-supply : (supply : Supply) → Supplies Due supply → supply ≡ IsDue
 due-supply (IsLit span) h = absurd h
@@ -264,6 +300,9 @@ module _ (x a b : List ℕ) (start : ℕ) (began now : Devices) (opened : Opened
       odometer = λ lit. absurd (let bad : Due ≡ Lit = sym due ∙ lit in cc);
     }
 
+    only_unit : (y : List ℕ) → now.unit.may_leave y → y ≡ x
+    only_unit y left = ready.begins.unit.only y (unit_whole.counts_now now.unit.clock y (omega arith) left)
+
     -- and no event of it
     pub starts-evented : (run : Run) (out : Outcome) → run.power ≡ Due → run.next ≡ start → run.begun ≡ 0 → run.unfound ≡ 0 → run.keeper.memory ≡ opened.unit.memory → run.keeper.cabin.slots ≡ nothing_yet →
         ((c : Card) → known_in run.keeper.cabin.cards c ≡ known_of opened c) → ((c : Card) → session_of run.keeper.cabin.cards c ≡ None) → out.breaks.items ≡ [] → out.refused.items ≡ [] → out.finds.items ≡ [] → out.marks.items ≡ [] →
@@ -285,5 +324,21 @@ module _ (x a b : List ℕ) (start : ℕ) (began now : Devices) (opened : Opened
         log : log_of out ≡ empty_log
         log = ap (λ bs. record { breaks = bs; refused = out.refused.items; finds = out.finds.items }) breaks ∙ ap (λ rs. record { breaks = []; refused = rs; finds = out.finds.items }) refused ∙ ap (λ fs. record { breaks = []; refused = []; finds = fs }) finds
 
-        only_unit : (y : List ℕ) → now.unit.may_leave y → y ≡ x
-        only_unit y left = ready.begins.unit.only y (unit_whole.counts_now now.unit.clock y (omega arith) left)
+    -- and nothing of its rings
+    pub starts-ringed : (run : Run) (out : Outcome) → run.power ≡ Due → run.next ≡ start → run.begun ≡ 0 → run.unfound ≡ 0 → run.keeper.memory ≡ opened.unit.memory → run.keeper.cabin.slots ≡ nothing_yet →
+        ((c : Card) → known_in run.keeper.cabin.cards c ≡ known_of opened c) → ((c : Card) → session_of run.keeper.cabin.cards c ≡ None) → out.breaks.items ≡ [] → out.refused.items ≡ [] → out.finds.items ≡ [] → out.marks.items ≡ [] →
+        RunRinged first-o [] run out now
+    starts-ringed run out due next begun unfound memory slots same bare breaks refused finds marks = record {
+      evented = starts-evented run out due next begun unfound memory slots same bare breaks refused finds marks;
+      spans = [];
+      base = λ lit. absurd (let bad : Due ≡ Lit = sym due ∙ lit in cc);
+      ringed = rings-behind (log_of out) run.next (seats_of run) (λ c. ap (λ (session : Option Accepted). option_map (seating_of run.noted) session) (bare c));
+    }
+      where
+        rings-behind : (log : RunLog) (n : ℕ) (seats : Card → Option Seating) → ((c : Card) → seats c ≡ None) → RingedBehind first-o [] log n [] seats now
+        rings-behind log n seats none = record {
+          spans_are = sym (no-spans log);
+          before = tt;
+          early = subst (AreEarlier n) (sym (no-notes log)) tt;
+          ringed = subst (λ (notes : List Note). Ringed first-o log [] notes seats now) (sym (no-notes log)) (fewer-sit now first-o log [] [] (λ c. None) seats (none-noted now first-o log [] only_unit) (λ c. inl (none c)));
+        }

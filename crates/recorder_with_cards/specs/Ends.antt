@@ -9,10 +9,10 @@ use Rattle.unit_model.specs.Image.{last_kept}
 use Rattle.card_image.specs.Own.{own_number, IsOwnValid}
 use Rattle.safety_model.specs.Recording.{Recording}
 use Rattle.safety_model.specs.Safe.{Devices, MayBegin, breakdowns_of}
+use Rattle.safety_model.specs.Side.{Side}
 use Rattle.run_rule.specs.Opening.{BeginsAs}
 use Rattle.run_recorded.specs.Origin.{Origin}
 use Rattle.run_recorded.specs.Ends.{EndsRun}
-use Rattle.run_evented.specs.Evented.{ShowsEventsOf}
 use Rattle.run_opening.specs.Begun.{found_in}
 use Rattle.run_opening.specs.Begun.{IsRefusedBy as IsRefusedAs}
 use Rattle.run_opening.specs.Opening.{IsAsItWas}
@@ -57,11 +57,11 @@ pub record MayRecord (unit card_a card_b : List ℕ) (start : ℕ) : Type 0 wher
   pub numbers : IsOwnValid card_a → IsOwnValid card_b → own_number card_a ≢ own_number card_b
 
 -- WHAT A RUN PROMISES that was recorded: it could begin, the crash-safety theorem holds of it, and every image that a stop may leave of the unit
--- shows its events and faults.
+-- shows its auxiliary records: events and faults, insertions with their withdrawals, places, and the odometer.
 pub record EndsTrace (unit card_a card_b : List ℕ) (start : ℕ) (items : List Item) (out : Outcome) (began now : Devices) : Type 0 where
   pub may : MayBegin (recording_of unit card_a card_b start items out)
   pub ends : EndsRun (recording_of unit card_a card_b start items out) out.marks.items began now
-  pub events : (x : List ℕ) → now.unit.may_leave x → ShowsEventsOf (recording_of unit card_a card_b start items out) began now x
+  pub side : Side (recording_of unit card_a card_b start items out) began now
 
 -- OR IT WAS KEPT FROM BEING RECORDED: by these images, or a call that has failed in the opening; each device is as it was.
 pub record IsKeptFrom (unit card_a card_b : List ℕ) (start : ℕ) (began now : Devices) (fault : RunFault) : Type 0 where

@@ -11,8 +11,9 @@ use Rattle.run_opening.specs.declared.fault.RunFault.{RunFault}
 use Rattle.run_outcome.specs.declared.outcome.Outcome.{Outcome}
 use Rattle.run_acts.specs.declared.run.Run.{Run}
 use Rattle.run_acts.specs.Going.{largest_number}
-use Rattle.run_acts.specs.Recording.{RunRecorded, InSecond, IsNow}
-use Rattle.run_acts.specs.Evented.{RunEvented, InSecondEvented, LastAt}
+use Rattle.run_acts.specs.Recording.{IsNow}
+use Rattle.run_acts.specs.Evented.{LastAt}
+use Rattle.run_acts.specs.RunRinged.{RunRinged, InSecondRinged}
 
 -- an item's action, where it is one
 abbrev pub action_of : Item → List Action
@@ -61,40 +62,20 @@ SecondsBy R result seconds speed actions old new before after d e = (o : Origin)
 abbrev pub ItemBy : Between → Result (Unit {0}) RunFault → Item → List Action → (old new : Run) → (before after : Outcome) → (d e : Devices) → Type 0
 ItemBy R result item waiting old new before after d e = (o : Origin) (done : List TraceSecond) → length waiting ≤ largest_number → R o done old before d → HaveTime e → HasRunBy R result o (done ++ seconds_at old.next waiting item) new after e
 
--- ---- what is recorded
+-- ---- what is recorded, with its events and rings
 
-abbrev pub HasBegun : Result Bool RunFault → Origin → List TraceSecond → TraceSecond → Run → Outcome → Devices → Type 0
-HasBegun result o done s run out d = HasBegunBy RunRecorded InSecond result o done s run out d
+abbrev pub BeginsRinged : Result Bool RunFault → (speed : ℕ) → (old new : Run) → (before after : Outcome) → (d e : Devices) → Type 0
+BeginsRinged result speed old new before after d e = BeginsBy RunRinged InSecondRinged result speed old new before after d e
 
-abbrev pub BeginsSecond : Result Bool RunFault → (speed : ℕ) → (old new : Run) → (before after : Outcome) → (d e : Devices) → Type 0
-BeginsSecond result speed old new before after d e = BeginsBy RunRecorded InSecond result speed old new before after d e
+abbrev pub RingsActions : List Action → (begun speed : ℕ) → (old new : Run) → (before after : Outcome) → (d e : Devices) → Type 0
+RingsActions actions begun speed old new before after d e = ActsBy InSecondRinged actions begun speed old new before after d e
 
-abbrev pub RecordsActions : List Action → (begun speed : ℕ) → (old new : Run) → (before after : Outcome) → (d e : Devices) → Type 0
-RecordsActions actions begun speed old new before after d e = ActsBy InSecond actions begun speed old new before after d e
-
-abbrev pub HasRun : Result (Unit {0}) RunFault → Origin → List TraceSecond → Run → Outcome → Devices → Type 0
-HasRun result o done run out d = HasRunBy RunRecorded result o done run out d
-
-abbrev pub RecordsSeconds : Result (Unit {0}) RunFault → (seconds speed : ℕ) → List Action → (old new : Run) → (before after : Outcome) → (d e : Devices) → Type 0
-RecordsSeconds result seconds speed actions old new before after d e = SecondsBy RunRecorded result seconds speed actions old new before after d e
-
-abbrev pub RecordsItem : Result (Unit {0}) RunFault → Item → List Action → (old new : Run) → (before after : Outcome) → (d e : Devices) → Type 0
-RecordsItem result item waiting old new before after d e = ItemBy RunRecorded result item waiting old new before after d e
-
--- ---- and the events with it
-
-abbrev pub BeginsEvented : Result Bool RunFault → (speed : ℕ) → (old new : Run) → (before after : Outcome) → (d e : Devices) → Type 0
-BeginsEvented result speed old new before after d e = BeginsBy RunEvented InSecondEvented result speed old new before after d e
-
-abbrev pub EventsActions : List Action → (begun speed : ℕ) → (old new : Run) → (before after : Outcome) → (d e : Devices) → Type 0
-EventsActions actions begun speed old new before after d e = ActsBy InSecondEvented actions begun speed old new before after d e
-
-abbrev pub EventsSeconds : Result (Unit {0}) RunFault → (seconds speed : ℕ) → List Action → (old new : Run) → (before after : Outcome) → (d e : Devices) → Type 0
-EventsSeconds result seconds speed actions old new before after d e = SecondsBy RunEvented result seconds speed actions old new before after d e
+abbrev pub RingsSeconds : Result (Unit {0}) RunFault → (seconds speed : ℕ) → List Action → (old new : Run) → (before after : Outcome) → (d e : Devices) → Type 0
+RingsSeconds result seconds speed actions old new before after d e = SecondsBy RunRinged result seconds speed actions old new before after d e
 
 -- so many seconds more without actions, behind one at their speed
-abbrev pub EventsMore : Result (Unit {0}) RunFault → (seconds speed : ℕ) → (old new : Run) → (before after : Outcome) → (d e : Devices) → Type 0
-EventsMore result seconds speed old new before after d e = (o : Origin) (done : List TraceSecond) → LastAt done speed → RunEvented o done old before d → HaveTime e → HasRunBy RunEvented result o (done ++ driven seconds old.next speed []) new after e
+abbrev pub RingsMore : Result (Unit {0}) RunFault → (seconds speed : ℕ) → (old new : Run) → (before after : Outcome) → (d e : Devices) → Type 0
+RingsMore result seconds speed old new before after d e = (o : Origin) (done : List TraceSecond) → LastAt done speed → RunRinged o done old before d → HaveTime e → HasRunBy RunRinged result o (done ++ driven seconds old.next speed []) new after e
 
-abbrev pub EventsItem : Result (Unit {0}) RunFault → Item → List Action → (old new : Run) → (before after : Outcome) → (d e : Devices) → Type 0
-EventsItem result item waiting old new before after d e = ItemBy RunEvented result item waiting old new before after d e
+abbrev pub RingsItem : Result (Unit {0}) RunFault → Item → List Action → (old new : Run) → (before after : Outcome) → (d e : Devices) → Type 0
+RingsItem result item waiting old new before after d e = ItemBy RunRinged result item waiting old new before after d e

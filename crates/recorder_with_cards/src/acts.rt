@@ -15,8 +15,9 @@ ghost use Rattle.run_acts.specs.Going.{largest_number, first_second, end_of_seco
 ghost use Rattle.run_acts.specs.Room.{HasRoomWithin, Takes};
 ghost use Rattle.run_acts.specs.Recording.{RecordsAction};
 ghost use Rattle.run_acts.specs.Evented.{EventsAction};
+ghost use Rattle.run_acts.specs.RunRinged.{RingsAction};
 ghost use Rattle.recorder_with_cards.specs.Acting.{put_count, refusal_lines, refused_by, IsSelected, IsFine, StaysIn, moment_of, IsDone, IsActedBy, IsActed, IsItemActed, AreActed, CallsNone};
-ghost use Rattle.recorder_with_cards.specs.Recorded.{action_of, actions_in, RecordsActions, EventsActions};
+ghost use Rattle.recorder_with_cards.specs.Recorded.{action_of, actions_in, RingsActions};
 ghost use Rattle.recorder_with_cards.specs.EnteredRings.{RingsDone};
 ghost use Rattle.recorder_with_cards.specs.Noting.{NotesDone};
 ghost use Rattle.recorder_with_cards.specs.Items.{between, insertions_in};
@@ -55,8 +56,7 @@ pub(crate) fn act_all<M: Medium, C: Chip, D: Chip>(
     requires dark { has_power ≡ false → is_lit run.old.power ≡ false }
     requires room { HasRoomWithin run.old outcome.old 1 0 (insertions_in from to items.now) (to - from) }
     ensures acted { AreActed has_power speed 0 (between from to items.now) run.old run.new outcome.old outcome.new }
-    ensures evented { has_power ≡ true → length (actions_in (between from to items.now)) ≡ to - from → to - from ≤ largest_number → EventsActions (actions_in (between from to items.now)) (to - from) speed run.old run.new outcome.old outcome.new (devices (M.state unit.old) (C.state card_a.old) (D.state card_b.old)) (devices (M.state unit.new) (C.state card_a.new) (D.state card_b.new)) }
-    ensures recorded { has_power ≡ true → length (actions_in (between from to items.now)) ≡ to - from → to - from ≤ largest_number → RecordsActions (actions_in (between from to items.now)) (to - from) speed run.old run.new outcome.old outcome.new (devices (M.state unit.old) (C.state card_a.old) (D.state card_b.old)) (devices (M.state unit.new) (C.state card_a.new) (D.state card_b.new)) }
+    ensures ringed { has_power ≡ true → length (actions_in (between from to items.now)) ≡ to - from → to - from ≤ largest_number → RingsActions (actions_in (between from to items.now)) (to - from) speed run.old run.new outcome.old outcome.new (devices (M.state unit.old) (C.state card_a.old) (D.state card_b.old)) (devices (M.state unit.new) (C.state card_a.new) (D.state card_b.new)) }
     ensures still { is_lit run.old.power ≡ false → (is_lit run.new.power ≡ false) × (unit.new ≡ unit.old) × (card_a.new ≡ card_a.old) × (card_b.new ≡ card_b.old) }
     ensures time { HaveTime (devices (M.state unit.new) (C.state card_a.new) (D.state card_b.new)) → HaveTime (devices (M.state unit.old) (C.state card_a.old) (D.state card_b.old)) }
     ensures later { AreLater (devices (M.state unit.old) (C.state card_a.old) (D.state card_b.old)) (devices (M.state unit.new) (C.state card_a.new) (D.state card_b.new)) }
@@ -98,8 +98,7 @@ fn act_item<M: Medium, C: Chip, D: Chip>(
     requires dark { has_power ≡ false → is_lit run.old.power ≡ false }
     requires room { HasRoomWithin run.old outcome.old 1 0 (insertion_count item.now) 1 }
     ensures acted { IsItemActed item.now has_power (is_lit run.old.power) begun speed run.old run.new outcome.old outcome.new }
-    ensures evented { has_power ≡ true → EventsActions (action_of item.now) begun speed run.old run.new outcome.old outcome.new (devices (M.state unit.old) (C.state card_a.old) (D.state card_b.old)) (devices (M.state unit.new) (C.state card_a.new) (D.state card_b.new)) }
-    ensures recorded { has_power ≡ true → RecordsActions (action_of item.now) begun speed run.old run.new outcome.old outcome.new (devices (M.state unit.old) (C.state card_a.old) (D.state card_b.old)) (devices (M.state unit.new) (C.state card_a.new) (D.state card_b.new)) }
+    ensures ringed { has_power ≡ true → RingsActions (action_of item.now) begun speed run.old run.new outcome.old outcome.new (devices (M.state unit.old) (C.state card_a.old) (D.state card_b.old)) (devices (M.state unit.new) (C.state card_a.new) (D.state card_b.new)) }
     ensures still { is_lit run.old.power ≡ false → (is_lit run.new.power ≡ false) × (unit.new ≡ unit.old) × (card_a.new ≡ card_a.old) × (card_b.new ≡ card_b.old) }
     ensures time { HaveTime (devices (M.state unit.new) (C.state card_a.new) (D.state card_b.new)) → HaveTime (devices (M.state unit.old) (C.state card_a.old) (D.state card_b.old)) }
     ensures later { AreLater (devices (M.state unit.old) (C.state card_a.old) (D.state card_b.old)) (devices (M.state unit.new) (C.state card_a.new) (D.state card_b.new)) }
@@ -136,8 +135,7 @@ fn act<M: Medium, C: Chip, D: Chip>(
     requires dark { has_power ≡ false → is_lit run.old.power ≡ false }
     requires room { HasRoomWithin run.old outcome.old 1 0 (put_count action) 1 }
     ensures acted { IsActed has_power (is_lit run.old.power) action begun speed run.old run.new outcome.old outcome.new }
-    ensures evented { has_power ≡ true → EventsActions (action ∷ []) begun speed run.old run.new outcome.old outcome.new (devices (M.state unit.old) (C.state card_a.old) (D.state card_b.old)) (devices (M.state unit.new) (C.state card_a.new) (D.state card_b.new)) }
-    ensures recorded { has_power ≡ true → RecordsActions (action ∷ []) begun speed run.old run.new outcome.old outcome.new (devices (M.state unit.old) (C.state card_a.old) (D.state card_b.old)) (devices (M.state unit.new) (C.state card_a.new) (D.state card_b.new)) }
+    ensures ringed { has_power ≡ true → RingsActions (action ∷ []) begun speed run.old run.new outcome.old outcome.new (devices (M.state unit.old) (C.state card_a.old) (D.state card_b.old)) (devices (M.state unit.new) (C.state card_a.new) (D.state card_b.new)) }
     ensures still { (has_power ≡ true → is_lit run.old.power ≡ true → CallsNone (refusal (logged run.old.keeper.cabin.slots.seats) speed action) action) → (unit.new ≡ unit.old) × (card_a.new ≡ card_a.old) × (card_b.new ≡ card_b.old) }
     ensures time { HaveTime (devices (M.state unit.new) (C.state card_a.new) (D.state card_b.new)) → HaveTime (devices (M.state unit.old) (C.state card_a.old) (D.state card_b.old)) }
     ensures later { AreLater (devices (M.state unit.old) (C.state card_a.old) (D.state card_b.old)) (devices (M.state unit.new) (C.state card_a.new) (D.state card_b.new)) }
@@ -178,8 +176,7 @@ fn act_lit<M: Medium, C: Chip, D: Chip>(
     requires going { IsWithin run.old (M.state unit.old) (C.card card_a.old) (D.card card_b.old) (C.state card_a.old) (D.state card_b.old) }
     requires room { HasRoomWithin run.old outcome.old 1 0 (put_count action) 1 }
     ensures acted { IsActedBy (refusal (logged run.old.keeper.cabin.slots.seats) speed action) action begun speed run.old run.new outcome.old outcome.new }
-    ensures evented { EventsActions (action ∷ []) begun speed run.old run.new outcome.old outcome.new (devices (M.state unit.old) (C.state card_a.old) (D.state card_b.old)) (devices (M.state unit.new) (C.state card_a.new) (D.state card_b.new)) }
-    ensures recorded { RecordsActions (action ∷ []) begun speed run.old run.new outcome.old outcome.new (devices (M.state unit.old) (C.state card_a.old) (D.state card_b.old)) (devices (M.state unit.new) (C.state card_a.new) (D.state card_b.new)) }
+    ensures ringed { RingsActions (action ∷ []) begun speed run.old run.new outcome.old outcome.new (devices (M.state unit.old) (C.state card_a.old) (D.state card_b.old)) (devices (M.state unit.new) (C.state card_a.new) (D.state card_b.new)) }
     ensures still { CallsNone (refusal (logged run.old.keeper.cabin.slots.seats) speed action) action → (unit.new ≡ unit.old) × (card_a.new ≡ card_a.old) × (card_b.new ≡ card_b.old) }
     ensures time { HaveTime (devices (M.state unit.new) (C.state card_a.new) (D.state card_b.new)) → HaveTime (devices (M.state unit.old) (C.state card_a.old) (D.state card_b.old)) }
     ensures later { AreLater (devices (M.state unit.old) (C.state card_a.old) (D.state card_b.old)) (devices (M.state unit.new) (C.state card_a.new) (D.state card_b.new)) }
@@ -233,6 +230,7 @@ fn carry_out<M: Medium, C: Chip, D: Chip>(
     ensures done { IsDone action (moment_of begun run.old) speed (is_err result) run.old run.new outcome.old outcome.new }
     ensures evented { EventsAction action begun speed (is_err result) run.old run.new outcome.old outcome.new (devices (M.state unit.old) (C.state card_a.old) (D.state card_b.old)) (devices (M.state unit.new) (C.state card_a.new) (D.state card_b.new)) }
     ensures recorded { RecordsAction action begun speed (is_err result) run.old run.new outcome.old outcome.new (devices (M.state unit.old) (C.state card_a.old) (D.state card_b.old)) (devices (M.state unit.new) (C.state card_a.new) (D.state card_b.new)) }
+    ensures ringed { RingsAction action begun speed (is_err result) run.old run.new outcome.old outcome.new (devices (M.state unit.old) (C.state card_a.old) (D.state card_b.old)) (devices (M.state unit.new) (C.state card_a.new) (D.state card_b.new)) }
     ensures events { NotesDone action (moment_of begun run.old) speed (is_err result) run.old run.new outcome.old outcome.new (devices (M.state unit.old) (C.state card_a.old) (D.state card_b.old)) (devices (M.state unit.new) (C.state card_a.new) (D.state card_b.new)) }
     ensures rings { is_some (M.state unit.old).image ≡ true → RingsDone action (moment_of begun run.old) speed (is_err result) run.old run.new outcome.old outcome.new (M.state unit.old) (M.state unit.new) }
     ensures still { CallsNone None action → (unit.new ≡ unit.old) × (card_a.new ≡ card_a.old) × (card_b.new ≡ card_b.old) }

@@ -11,7 +11,7 @@ ghost use Rattle.run_acts.specs.Going.{end_of_seconds, IsHeld, IsLit, IsAt, IsGo
 ghost use Rattle.run_acts.specs.Room.{HasRoom, HasRoomWithin, falls_of, bare_seats};
 ghost use Rattle.recorder_with_cards.specs.Waking.{IsAwake, TakesUp, TakesAwake};
 ghost use Rattle.recorder_with_cards.specs.Woken.{ResumesSo, WakesSo, EventsResuming, EventsWaking};
-ghost use Rattle.recorder_with_cards.specs.Recorded.{BeginsSecond, BeginsEvented};
+ghost use Rattle.recorder_with_cards.specs.Recorded.{BeginsRinged};
 ghost use Rattle.recorder_with_cards.specs.Noting.{NotesWaking, NotesFound, NotesPowerOn};
 ghost use Rattle.run_outcome.specs.declared.outcome.TheConstants.{MOST_OWED};
 ghost use Rattle.run_rule.specs.Between.{devices};
@@ -51,8 +51,7 @@ pub(crate) fn begin_second<M: Medium, C: Chip, D: Chip>(
     ensures room { (left offs insertions actions : ℕ) → HasRoom run.old outcome.old (1 + left) offs insertions actions → OnOk result (HasRoomWithin run.new outcome.new (1 + left) offs insertions actions) }
     ensures unfound { OnOk result (run.new.unfound ≤ length outcome.new.breaks.items) }
     ensures unit { IsUnit (M.state unit.new) }
-    ensures recorded { BeginsSecond result speed run.old run.new outcome.old outcome.new (devices (M.state unit.old) (C.state card_a.old) (D.state card_b.old)) (devices (M.state unit.new) (C.state card_a.new) (D.state card_b.new)) }
-    ensures evented { BeginsEvented result speed run.old run.new outcome.old outcome.new (devices (M.state unit.old) (C.state card_a.old) (D.state card_b.old)) (devices (M.state unit.new) (C.state card_a.new) (D.state card_b.new)) }
+    ensures ringed { BeginsRinged result speed run.old run.new outcome.old outcome.new (devices (M.state unit.old) (C.state card_a.old) (D.state card_b.old)) (devices (M.state unit.new) (C.state card_a.new) (D.state card_b.new)) }
     ensures noted { OnOk result (is_lit run.old.power ≡ false → has_power run.old.power run.old.next ≡ true → NotesPowerOn speed run.old run.new outcome.old outcome.new (devices (M.state unit.old) (C.state card_a.old) (D.state card_b.old)) (devices (M.state unit.new) (C.state card_a.new) (D.state card_b.new))) }
     ensures clock { (M.state unit.old).clock ≤ (M.state unit.new).clock }
     ensures clock_a { (C.state card_a.old).clock ≤ (C.state card_a.new).clock }

@@ -30,12 +30,12 @@ plain-last (suc n) number speed =
     ap (λ (ss : List TraceSecond). record { number = number; has_power = true; speed = speed; actions = [] } ∷ ss)
     (plain-last n (number + 1) speed ∙ ap (λ (k : ℕ). driven n (number + 1) speed [] ++ record { number = k; has_power = true; speed = speed; actions = [] } ∷ []) (let e : number + 1 + n ≡ number + suc n = omega arith in e))
 
-acted-last : (n number speed : ℕ) (actions : List Action) → driven (suc (suc n)) number speed actions ≡ driven (suc n) number speed actions ++ record { number = number + suc n; has_power = true; speed = speed; actions = [] } ∷ []
+pub acted-last : (n number speed : ℕ) (actions : List Action) → driven (suc (suc n)) number speed actions ≡ driven (suc n) number speed actions ++ record { number = number + suc n; has_power = true; speed = speed; actions = [] } ∷ []
 acted-last n number speed actions =
     ap (λ (ss : List TraceSecond). record { number = number; has_power = true; speed = speed; actions = actions } ∷ ss)
     (plain-last n (number + 1) speed ∙ ap (λ (k : ℕ). driven n (number + 1) speed [] ++ record { number = k; has_power = true; speed = speed; actions = [] } ∷ []) (let e : number + 1 + n ≡ number + suc n = omega arith in e))
 
-off-last : (n number : ℕ) → dark (suc n) number ≡ dark n number ++ record { number = number + n; has_power = false; speed = 0; actions = [] } ∷ []
+pub off-last : (n number : ℕ) → dark (suc n) number ≡ dark n number ++ record { number = number + n; has_power = false; speed = 0; actions = [] } ∷ []
 off-last zero number = ap (λ (k : ℕ). record { number = k; has_power = false; speed = 0; actions = [] } ∷ []) (let e : number ≡ number + 0 = omega arith in e)
 off-last (suc n) number =
     ap (λ (ss : List TraceSecond). record { number = number; has_power = false; speed = 0; actions = [] } ∷ ss)

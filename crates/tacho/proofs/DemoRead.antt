@@ -1,5 +1,5 @@
 -- What was recorded stands where the unit is only read behind the run.
-use Rattle.std.proofs.Common.{◌≡◌, ◌≤◌, ◌-◌, ℕ, List, inl, inr, ⊎_elim, ◌⊎◌, arith, Bool}
+use Rattle.std.proofs.Common.{◌≡◌, ◌≤◌, ◌-◌, ℕ, List, inl, inr, ⊎_elim, ◌⊎◌, arith, Bool, refl, subst}
 use Rattle.trace_model.specs.declared.Card.{Card}
 use Rattle.trace_model.specs.declared.Card.TheVariants.{A, B}
 use Rattle.trace_model.specs.declared.Item.{Item}
@@ -13,13 +13,16 @@ use Rattle.tach_media.specs.Medium.{State, LeavesOnly, Unchanged}
 use Rattle.unit_journal.specs.Reading.{ReadsIfAny}
 use Rattle.unit_model.specs.Days.{ShownDay}
 use Rattle.unit_model.specs.Image.{recorded}
+use Rattle.message_model.specs.Records.{insertion_ring}
+use Rattle.side_model.specs.Noted.{insertions_of}
+use Rattle.side_model.specs.Rings.{RingShows, IsInsertion, is_sure_insertion}
 use Rattle.safety_model.specs.Recording.{Recording, history_of, lost_of}
 use Rattle.safety_model.specs.Unit.{UnitSafe, UnitMarkHolds}
 use Rattle.safety_model.specs.Cards.{CardSafe, Agree}
 use Rattle.safety_model.specs.Safe.{Devices, card_of, breakdowns_of, IsVerdict, WasFound}
+use Rattle.safety_model.specs.Side.{holder_of, notes_in, IsPrevious, ShowsSide}
 use Rattle.run_rule.specs.Between.{devices}
 use Rattle.run_recorded.specs.Whole.{IsFull}
-use Rattle.run_evented.specs.Evented.{ShowsEventsOf}
 use Rattle.log_model.specs.declared.lines.Break.{Break}
 use Rattle.log_model.specs.declared.lines.Break.TheVariants.{Cut, Tear}
 use Rattle.run_outcome.specs.declared.outcome.Outcome.{Outcome}
@@ -101,8 +104,18 @@ module _ (U V : State) (is : IsRead U V) where
     told-read A y h = h
     told-read B y h = h
 
-    events-read : (y : List ℕ) → ShowsEventsOf r p (devices U Y Z) y → ShowsEventsOf r p (devices V Y Z) y
-    events-read y h = record {
+    same-card : (c : Card) → card_of (devices U Y Z) c ≡ card_of (devices V Y Z) c
+    same-card A = refl
+    same-card B = refl
+
+    side-read : (y : List ℕ) → ShowsSide r p (devices U Y Z) y → ShowsSide r p (devices V Y Z) y
+    side-read y h = record {
+      spans = h.spans;
+      are_spans = h.are_spans;
+      odometer = h.odometer;
+      insertions = λ dense. subst (λ (k : Card → State). RingShows insertion_ring (is_sure_insertion r.log h.spans (holder_of r)) (IsInsertion r.log h.spans (holder_of r) (λ c. IsPrevious r (card_of p c).clock (k c))) (insertions_of (notes_in r)) r.unit y)
+          (λ i c. same-card c i) (h.insertions dense);
+      places = h.places;
       sessions = h.sessions;
       are_sessions = λ t f among found accepts. let one = h.are_sessions t f among found accepts in (one.0, told-read f.0.card one.0 one.1, one.2);
       tearing = h.tearing;
@@ -148,7 +161,7 @@ module _ (U V : State) (is : IsRead U V) where
             whole = λ nothing. let w = h.ends.whole nothing in
                 record { decided = w.decided; unit = λ y left. w.unit y (now-back y left); card = λ c u valid accepted y left. full-read c y (λ on. w.card c u valid accepted y on) left };
           };
-          events = λ y left. events-read y (h.events y (now-back y left));
+          side = record { shows = λ y left. side-read y (h.side.shows y (now-back y left)) };
         }
 
 -- and so it is of what was recorded on new devices

@@ -4,8 +4,7 @@ use Rattle.run_outcome.specs.Lines.{Listed}
 use Rattle.run_acts.specs.Power.{is_lit}
 use Rattle.recorder_with_cards.specs.Acting.{IsActed}
 use Rattle.run_rule.specs.Between.{devices}
-use Rattle.recorder_with_cards.proofs.ActsRecorded.{passed-over}
-use Rattle.recorder_with_cards.proofs.ActsEvented.{evented-over}
+use Rattle.recorder_with_cards.proofs.RingsHeld.{ringed-over}
 use Rattle.recorder_with_cards.proofs.Allowed.{lit-refused}
 use Rattle.run_keeping.proofs.Later.{later-same}
 use Rattle.run_outcome.proofs.Broken.{broke-none}
@@ -54,19 +53,6 @@ returns-clause-still g c = λ none.
     let lit : is_lit c.args.run.now.power ≡ true = sym c.is_lit.ensures ∙ c.if-not-is_lit.false in
     c.act_lit.ensures.still (none c.if-not-has_power.false lit)
 
--- ---- what is recorded
-
-pub returns-then-not-has_power-clause-recorded : goal.returns-then-not-has_power-clause-recorded
-returns-then-not-has_power-clause-recorded g c = λ power. absurd (let no : false ≡ true = sym c.if-not-has_power.true ∙ power in cc)
-
-pub returns-then-not-is_lit-clause-recorded : goal.returns-then-not-is_lit-clause-recorded
-returns-then-not-is_lit-clause-recorded g c = λ power o done s now front rest are begun in_ time.
-    let dark : is_lit c.args.run.now.power ≡ false = sym c.is_lit.ensures ∙ c.if-not-is_lit.true in
-    passed-over o done s c.args.run.now c.args.outcome.now (devices (g.M.Medium.state c.args.unit.now) (g.C.Chip.state c.args.card_a.now) (g.D.Chip.state c.args.card_b.now)) (length front) c.args.begun dark in_
-
-pub returns-clause-recorded : goal.returns-clause-recorded
-returns-clause-recorded g c = λ power. c.act_lit.ensures.recorded
-
 pub returns-then-not-has_power-clause-time : goal.returns-then-not-has_power-clause-time
 returns-then-not-has_power-clause-time g c = λ h. h
 
@@ -85,18 +71,18 @@ returns-then-not-is_lit-clause-later g c = later-same (devices (g.M.Medium.state
 pub returns-clause-later : goal.returns-clause-later
 returns-clause-later g c = c.act_lit.ensures.later
 
--- ---- and the events with it
+-- ---- what is recorded, with its events and rings
 
-pub returns-then-not-has_power-clause-evented : goal.returns-then-not-has_power-clause-evented
-returns-then-not-has_power-clause-evented g c = λ power. absurd (let no : false ≡ true = sym c.if-not-has_power.true ∙ power in cc)
+pub returns-then-not-has_power-clause-ringed : goal.returns-then-not-has_power-clause-ringed
+returns-then-not-has_power-clause-ringed g c = λ power. absurd (let no : false ≡ true = sym c.if-not-has_power.true ∙ power in cc)
 
-pub returns-then-not-is_lit-clause-evented : goal.returns-then-not-is_lit-clause-evented
-returns-then-not-is_lit-clause-evented g c = λ power o done s now front rest are begun in_ time.
+pub returns-then-not-is_lit-clause-ringed : goal.returns-then-not-is_lit-clause-ringed
+returns-then-not-is_lit-clause-ringed g c = λ power o done s now front rest are begun in_ time.
     let dark : is_lit c.args.run.now.power ≡ false = sym c.is_lit.ensures ∙ c.if-not-is_lit.true in
-    evented-over o done s c.args.run.now c.args.outcome.now (devices (g.M.Medium.state c.args.unit.now) (g.C.Chip.state c.args.card_a.now) (g.D.Chip.state c.args.card_b.now)) (length front) c.args.begun dark in_
+    ringed-over o done s c.args.run.now c.args.outcome.now (devices (g.M.Medium.state c.args.unit.now) (g.C.Chip.state c.args.card_a.now) (g.D.Chip.state c.args.card_b.now)) (length front) c.args.begun dark in_
 
-pub returns-clause-evented : goal.returns-clause-evented
-returns-clause-evented g c = λ power. c.act_lit.ensures.evented
+pub returns-clause-ringed : goal.returns-clause-ringed
+returns-clause-ringed g c = λ power. c.act_lit.ensures.ringed
 
 -- ---- how often the unit broke down
 

@@ -4,9 +4,8 @@ use Rattle.trace_model.specs.declared.Action.{Action}
 use Rattle.safety_model.specs.Safe.{Devices}
 use Rattle.run_rule.specs.Between.{devices}
 use Rattle.run_acts.specs.Going.{largest_number}
-use Rattle.run_acts.specs.Recording.{InSecond}
-use Rattle.run_acts.specs.Evented.{InSecondEvented}
-use Rattle.recorder_with_cards.specs.Recorded.{action_of, actions_in, RecordsActions, EventsActions}
+use Rattle.run_acts.specs.RunRinged.{InSecondRinged}
+use Rattle.recorder_with_cards.specs.Recorded.{action_of, actions_in, RingsActions}
 use Rattle.recorder_with_cards.proofs.ActsRecorded.{no-action, actions-then}
 use Rattle.recorder_with_cards.proofs.Waiting.{actions-more, few-actions, one-action}
 use Rattle.std.proofs.lemmas.List.{length-take}
@@ -38,14 +37,10 @@ pub loop-i-init : goal.loop-i-init
 loop-i-init g c = record {
   going = c.requires.going;
   acted = subst (λ (xs : List Item). AreActed c.args.has_power c.args.speed 0 xs c.args.run.now c.args.run.now c.args.outcome.now c.args.outcome.now) (sym (between-none c.args.from c.args.items.now)) (refl, refl);
-  recorded = λ power many few.
+  ringed = λ power many few.
       let d : Devices = devices (g.M.Medium.state c.args.unit.now) (g.C.Chip.state c.args.card_a.now) (g.D.Chip.state c.args.card_b.now) in
-      subst (λ (xs : List Action). RecordsActions xs (c.args.from - c.args.from) c.args.speed c.args.run.now c.args.run.now c.args.outcome.now c.args.outcome.now d d) (sym (ap actions_in (between-none c.args.from c.args.items.now)))
-      (no-action InSecond (c.args.from - c.args.from) c.args.speed c.args.run.now c.args.outcome.now d);
-  evented = λ power many few.
-      let d : Devices = devices (g.M.Medium.state c.args.unit.now) (g.C.Chip.state c.args.card_a.now) (g.D.Chip.state c.args.card_b.now) in
-      subst (λ (xs : List Action). EventsActions xs (c.args.from - c.args.from) c.args.speed c.args.run.now c.args.run.now c.args.outcome.now c.args.outcome.now d d) (sym (ap actions_in (between-none c.args.from c.args.items.now)))
-      (no-action InSecondEvented (c.args.from - c.args.from) c.args.speed c.args.run.now c.args.outcome.now d);
+      subst (λ (xs : List Action). RingsActions xs (c.args.from - c.args.from) c.args.speed c.args.run.now c.args.run.now c.args.outcome.now c.args.outcome.now d d) (sym (ap actions_in (between-none c.args.from c.args.items.now)))
+      (no-action InSecondRinged (c.args.from - c.args.from) c.args.speed c.args.run.now c.args.outcome.now d);
   still = λ dark. (dark, refl, refl, refl);
   time = λ h. h;
   later = later-same (devices (g.M.Medium.state c.args.unit.now) (g.C.Chip.state c.args.card_a.now) (g.D.Chip.state c.args.card_b.now));
@@ -70,7 +65,7 @@ loop-i-preserved g c =
           (acted-more c.args.has_power c.args.speed 0 (c.loop-i.i - c.args.from + 1) (between c.args.from c.loop-i.i items) c.get.result.now c.args.run.now c.loop-i.run c.act_item.new.run c.args.outcome.now c.loop-i.outcome c.act_item.new.outcome v.acted
           (let long = length-take (c.loop-i.i - c.args.from) (drop c.args.from items) in let rest = length-drop c.args.from items in let last = c.requires.last in let low = c.loop-i.auto.i in omega (arith, long, rest, last, low, less))
           (subst (λ (n : ℕ). IsItemActed c.get.result.now c.args.has_power (is_lit c.loop-i.run.power) n c.args.speed c.loop-i.run c.act_item.new.run c.loop-i.outcome c.act_item.new.outcome) c.number_of.ensures e.acted));
-      recorded = λ power many few.
+      ringed = λ power many few.
           let i : ℕ = c.loop-i.i in
           let from : ℕ = c.args.from in
           let low : from ≤ i = c.loop-i.auto.i in
@@ -85,29 +80,10 @@ loop-i-preserved g c =
           let d : Devices = devices (g.M.Medium.state c.args.unit.now) (g.C.Chip.state c.args.card_a.now) (g.D.Chip.state c.args.card_b.now) in
           let m : Devices = devices (g.M.Medium.state c.loop-i.unit) (g.C.Chip.state c.loop-i.card_a) (g.D.Chip.state c.loop-i.card_b) in
           let f : Devices = devices (g.M.Medium.state c.act_item.new.unit) (g.C.Chip.state c.act_item.new.card_a) (g.D.Chip.state c.act_item.new.card_b) in
-          subst (λ (n : ℕ). RecordsActions (actions_in (between from (i + 1) items)) n c.args.speed c.args.run.now c.act_item.new.run c.args.outcome.now c.act_item.new.outcome d f) (let same : c.number_of.result ≡ i + 1 - from = omega (arith, number, low) in same)
-          (subst (λ (xs : List Action). RecordsActions xs c.number_of.result c.args.speed c.args.run.now c.act_item.new.run c.args.outcome.now c.act_item.new.outcome d f) (sym more)
-          (actions-then InSecond so (action_of item) (i - from) c.number_of.result c.args.speed c.args.run.now c.loop-i.run c.act_item.new.run c.args.outcome.now c.loop-i.outcome c.act_item.new.outcome d m f
-          (omega (arith, number, now)) v.next e.time (v.recorded power before (omega (arith, few, low))) (e.recorded power)));
-      evented = λ power many few.
-          let i : ℕ = c.loop-i.i in
-          let from : ℕ = c.args.from in
-          let low : from ≤ i = c.loop-i.auto.i in
-          let item = c.get.result.now in
-          let so = actions_in (between from i items) in
-          let more = actions-more items from i item low c.get.ensures in
-          let parts = few-actions items from i item low c.get.ensures in
-          let one = one-action item in
-          let before : length so ≡ i - from = omega (arith, parts.0, parts.1, one, many, low) in
-          let now : length (action_of item) ≡ 1 = omega (arith, parts.0, parts.1, one, many, low) in
-          let number : c.number_of.result ≡ i - from + 1 = let n = c.number_of.ensures in omega (arith, n, few, low) in
-          let d : Devices = devices (g.M.Medium.state c.args.unit.now) (g.C.Chip.state c.args.card_a.now) (g.D.Chip.state c.args.card_b.now) in
-          let m : Devices = devices (g.M.Medium.state c.loop-i.unit) (g.C.Chip.state c.loop-i.card_a) (g.D.Chip.state c.loop-i.card_b) in
-          let f : Devices = devices (g.M.Medium.state c.act_item.new.unit) (g.C.Chip.state c.act_item.new.card_a) (g.D.Chip.state c.act_item.new.card_b) in
-          subst (λ (n : ℕ). EventsActions (actions_in (between from (i + 1) items)) n c.args.speed c.args.run.now c.act_item.new.run c.args.outcome.now c.act_item.new.outcome d f) (let same : c.number_of.result ≡ i + 1 - from = omega (arith, number, low) in same)
-          (subst (λ (xs : List Action). EventsActions xs c.number_of.result c.args.speed c.args.run.now c.act_item.new.run c.args.outcome.now c.act_item.new.outcome d f) (sym more)
-          (actions-then InSecondEvented so (action_of item) (i - from) c.number_of.result c.args.speed c.args.run.now c.loop-i.run c.act_item.new.run c.args.outcome.now c.loop-i.outcome c.act_item.new.outcome d m f
-          (omega (arith, number, now)) v.next e.time (v.evented power before (omega (arith, few, low))) (e.evented power)));
+          subst (λ (n : ℕ). RingsActions (actions_in (between from (i + 1) items)) n c.args.speed c.args.run.now c.act_item.new.run c.args.outcome.now c.act_item.new.outcome d f) (let same : c.number_of.result ≡ i + 1 - from = omega (arith, number, low) in same)
+          (subst (λ (xs : List Action). RingsActions xs c.number_of.result c.args.speed c.args.run.now c.act_item.new.run c.args.outcome.now c.act_item.new.outcome d f) (sym more)
+          (actions-then InSecondRinged so (action_of item) (i - from) c.number_of.result c.args.speed c.args.run.now c.loop-i.run c.act_item.new.run c.args.outcome.now c.loop-i.outcome c.act_item.new.outcome d m f
+          (omega (arith, number, now)) v.next e.time (v.ringed power before (omega (arith, few, low))) (e.ringed power)));
       still = λ dark.
           let was = v.still dark in
           let now = e.still was.0 in
@@ -144,24 +120,16 @@ returns-clause-acted g c =
     let some : c.loop-i.i ≤ c.args.to = c.loop-i.auto.i-end c.requires.first in
     subst (λ (n : ℕ). AreActed c.args.has_power c.args.speed 0 (between c.args.from n c.args.items.now) c.args.run.now c.loop-i.run c.args.outcome.now c.loop-i.outcome) (let same : c.loop-i.i ≡ c.args.to = omega (arith, end, some) in same) c.loop-i.invariant.acted
 
-pub returns-clause-recorded : goal.returns-clause-recorded
-returns-clause-recorded g c =
-    let end : c.args.to ≤ c.loop-i.i = c.loop-i-test.false in
-    let some : c.loop-i.i ≤ c.args.to = c.loop-i.auto.i-end c.requires.first in
-    subst (λ (n : ℕ). c.args.has_power ≡ true → length (actions_in (between c.args.from n c.args.items.now)) ≡ n - c.args.from → n - c.args.from ≤ largest_number
-    → RecordsActions (actions_in (between c.args.from n c.args.items.now)) (n - c.args.from) c.args.speed c.args.run.now c.loop-i.run c.args.outcome.now c.loop-i.outcome (devices (g.M.Medium.state c.args.unit.now) (g.C.Chip.state c.args.card_a.now) (g.D.Chip.state c.args.card_b.now)) (devices (g.M.Medium.state c.loop-i.unit) (g.C.Chip.state c.loop-i.card_a) (g.D.Chip.state c.loop-i.card_b)))
-    (let same : c.loop-i.i ≡ c.args.to = omega (arith, end, some) in same) c.loop-i.invariant.recorded
-
 pub returns-clause-later : goal.returns-clause-later
 returns-clause-later g c = c.loop-i.invariant.later
 
-pub returns-clause-evented : goal.returns-clause-evented
-returns-clause-evented g c =
+pub returns-clause-ringed : goal.returns-clause-ringed
+returns-clause-ringed g c =
     let end : c.args.to ≤ c.loop-i.i = c.loop-i-test.false in
     let some : c.loop-i.i ≤ c.args.to = c.loop-i.auto.i-end c.requires.first in
     subst (λ (n : ℕ). c.args.has_power ≡ true → length (actions_in (between c.args.from n c.args.items.now)) ≡ n - c.args.from → n - c.args.from ≤ largest_number
-    → EventsActions (actions_in (between c.args.from n c.args.items.now)) (n - c.args.from) c.args.speed c.args.run.now c.loop-i.run c.args.outcome.now c.loop-i.outcome (devices (g.M.Medium.state c.args.unit.now) (g.C.Chip.state c.args.card_a.now) (g.D.Chip.state c.args.card_b.now)) (devices (g.M.Medium.state c.loop-i.unit) (g.C.Chip.state c.loop-i.card_a) (g.D.Chip.state c.loop-i.card_b)))
-    (let same : c.loop-i.i ≡ c.args.to = omega (arith, end, some) in same) c.loop-i.invariant.evented
+    → RingsActions (actions_in (between c.args.from n c.args.items.now)) (n - c.args.from) c.args.speed c.args.run.now c.loop-i.run c.args.outcome.now c.loop-i.outcome (devices (g.M.Medium.state c.args.unit.now) (g.C.Chip.state c.args.card_a.now) (g.D.Chip.state c.args.card_b.now)) (devices (g.M.Medium.state c.loop-i.unit) (g.C.Chip.state c.loop-i.card_a) (g.D.Chip.state c.loop-i.card_b)))
+    (let same : c.loop-i.i ≡ c.args.to = omega (arith, end, some) in same) c.loop-i.invariant.ringed
 
 -- ---- how often the unit broke down
 

@@ -7,9 +7,8 @@ use Rattle.run_acts.specs.Power.{is_lit}
 use Rattle.recorder_with_cards.specs.Acting.{IsItemActed}
 use Rattle.run_rule.specs.Between.{devices}
 use Rattle.safety_model.specs.Safe.{Devices}
-use Rattle.recorder_with_cards.specs.Recorded.{action_of, RecordsActions, EventsActions}
-use Rattle.run_acts.specs.Recording.{InSecond}
-use Rattle.run_acts.specs.Evented.{InSecondEvented}
+use Rattle.recorder_with_cards.specs.Recorded.{action_of, RingsActions}
+use Rattle.run_acts.specs.RunRinged.{InSecondRinged}
 use Rattle.recorder_with_cards.proofs.ActsRecorded.{no-action}
 use Rattle.recorder_with_cards.proofs.Allowed.{count-is}
 use Rattle.run_outcome.proofs.Broken.{broke-none}
@@ -25,26 +24,10 @@ returns-in-Act-clause-acted g c =
     let run = c.args.run.now in
     subst (λ (i : Item). IsItemActed i c.args.has_power (is_lit run.power) c.args.begun c.args.speed run c.act.new.run c.args.outcome.now c.act.new.outcome) (sym c.in-Act.is) c.act.ensures.acted
 
--- ---- what is recorded
-
-pub returns-in-Act-clause-recorded : goal.returns-in-Act-clause-recorded
-returns-in-Act-clause-recorded g c = λ power.
-    subst (λ (xs : List Action). RecordsActions xs c.args.begun c.args.speed c.args.run.now c.act.new.run c.args.outcome.now c.act.new.outcome (devices (g.M.Medium.state c.args.unit.now) (g.C.Chip.state c.args.card_a.now) (g.D.Chip.state c.args.card_b.now)) (devices (g.M.Medium.state c.act.new.unit) (g.C.Chip.state c.act.new.card_a) (g.D.Chip.state c.act.new.card_b))) (sym (ap action_of c.in-Act.is)) (c.act.ensures.recorded power)
-
 pub returns-in-Act-clause-still : goal.returns-in-Act-clause-still
 returns-in-Act-clause-still g c = λ dark.
     let same = c.act.ensures.still (λ power lit. absurd (let no : false ≡ true = sym dark ∙ lit in cc)) in
     (c.act.ensures.dark dark, same.0, same.1, same.2)
-
-pub returns-in-Run-clause-recorded : goal.returns-in-Run-clause-recorded
-returns-in-Run-clause-recorded g c = λ power.
-    let d : Devices = devices (g.M.Medium.state c.args.unit.now) (g.C.Chip.state c.args.card_a.now) (g.D.Chip.state c.args.card_b.now) in
-    subst (λ (xs : List Action). RecordsActions xs c.args.begun c.args.speed c.args.run.now c.args.run.now c.args.outcome.now c.args.outcome.now d d) (sym (ap action_of c.in-Run.is)) (no-action InSecond c.args.begun c.args.speed c.args.run.now c.args.outcome.now d)
-
-pub returns-in-Off-clause-recorded : goal.returns-in-Off-clause-recorded
-returns-in-Off-clause-recorded g c = λ power.
-    let d : Devices = devices (g.M.Medium.state c.args.unit.now) (g.C.Chip.state c.args.card_a.now) (g.D.Chip.state c.args.card_b.now) in
-    subst (λ (xs : List Action). RecordsActions xs c.args.begun c.args.speed c.args.run.now c.args.run.now c.args.outcome.now c.args.outcome.now d d) (sym (ap action_of c.in-Off.is)) (no-action InSecond c.args.begun c.args.speed c.args.run.now c.args.outcome.now d)
 
 pub returns-in-Act-clause-time : goal.returns-in-Act-clause-time
 returns-in-Act-clause-time g c = c.act.ensures.time
@@ -52,21 +35,21 @@ returns-in-Act-clause-time g c = c.act.ensures.time
 pub returns-in-Act-clause-later : goal.returns-in-Act-clause-later
 returns-in-Act-clause-later g c = c.act.ensures.later
 
--- ---- and the events with it
+-- ---- what is recorded, with its events and rings
 
-pub returns-in-Act-clause-evented : goal.returns-in-Act-clause-evented
-returns-in-Act-clause-evented g c = λ power.
-    subst (λ (xs : List Action). EventsActions xs c.args.begun c.args.speed c.args.run.now c.act.new.run c.args.outcome.now c.act.new.outcome (devices (g.M.Medium.state c.args.unit.now) (g.C.Chip.state c.args.card_a.now) (g.D.Chip.state c.args.card_b.now)) (devices (g.M.Medium.state c.act.new.unit) (g.C.Chip.state c.act.new.card_a) (g.D.Chip.state c.act.new.card_b))) (sym (ap action_of c.in-Act.is)) (c.act.ensures.evented power)
+pub returns-in-Act-clause-ringed : goal.returns-in-Act-clause-ringed
+returns-in-Act-clause-ringed g c = λ power.
+    subst (λ (xs : List Action). RingsActions xs c.args.begun c.args.speed c.args.run.now c.act.new.run c.args.outcome.now c.act.new.outcome (devices (g.M.Medium.state c.args.unit.now) (g.C.Chip.state c.args.card_a.now) (g.D.Chip.state c.args.card_b.now)) (devices (g.M.Medium.state c.act.new.unit) (g.C.Chip.state c.act.new.card_a) (g.D.Chip.state c.act.new.card_b))) (sym (ap action_of c.in-Act.is)) (c.act.ensures.ringed power)
 
-pub returns-in-Run-clause-evented : goal.returns-in-Run-clause-evented
-returns-in-Run-clause-evented g c = λ power.
+pub returns-in-Run-clause-ringed : goal.returns-in-Run-clause-ringed
+returns-in-Run-clause-ringed g c = λ power.
     let d : Devices = devices (g.M.Medium.state c.args.unit.now) (g.C.Chip.state c.args.card_a.now) (g.D.Chip.state c.args.card_b.now) in
-    subst (λ (xs : List Action). EventsActions xs c.args.begun c.args.speed c.args.run.now c.args.run.now c.args.outcome.now c.args.outcome.now d d) (sym (ap action_of c.in-Run.is)) (no-action InSecondEvented c.args.begun c.args.speed c.args.run.now c.args.outcome.now d)
+    subst (λ (xs : List Action). RingsActions xs c.args.begun c.args.speed c.args.run.now c.args.run.now c.args.outcome.now c.args.outcome.now d d) (sym (ap action_of c.in-Run.is)) (no-action InSecondRinged c.args.begun c.args.speed c.args.run.now c.args.outcome.now d)
 
-pub returns-in-Off-clause-evented : goal.returns-in-Off-clause-evented
-returns-in-Off-clause-evented g c = λ power.
+pub returns-in-Off-clause-ringed : goal.returns-in-Off-clause-ringed
+returns-in-Off-clause-ringed g c = λ power.
     let d : Devices = devices (g.M.Medium.state c.args.unit.now) (g.C.Chip.state c.args.card_a.now) (g.D.Chip.state c.args.card_b.now) in
-    subst (λ (xs : List Action). EventsActions xs c.args.begun c.args.speed c.args.run.now c.args.run.now c.args.outcome.now c.args.outcome.now d d) (sym (ap action_of c.in-Off.is)) (no-action InSecondEvented c.args.begun c.args.speed c.args.run.now c.args.outcome.now d)
+    subst (λ (xs : List Action). RingsActions xs c.args.begun c.args.speed c.args.run.now c.args.run.now c.args.outcome.now c.args.outcome.now d d) (sym (ap action_of c.in-Off.is)) (no-action InSecondRinged c.args.begun c.args.speed c.args.run.now c.args.outcome.now d)
 
 -- ---- how often the unit broke down
 

@@ -1,4 +1,4 @@
-use Rattle.std.proofs.Common.{rules, ◌≡◌, ◌∙◌, ℕ, ◌+◌, ◌/◌, ◌<◌, ◌≤◌, ◌∷◌, [], ◌++◌, List, Bool, true, false, Option, None, length, refl, ap, sym, subst, arith}
+use Rattle.std.proofs.Common.{rules, ◌≡◌, ◌∙◌, ℕ, ◌+◌, ◌/◌, ◌<◌, ◌≤◌, ◌∷◌, [], ◌++◌, List, Bool, true, false, Option, None, length, refl, ap, sym, subst, arith, append_assoc, length-append}
 use Rattle.std.proofs.lemmas.Grind.{common_steps}
 use Rattle.std.specs.Prelude.{is_err, suc}
 use Rattle.tach_media.proofs.Runs.{ok_gives}
@@ -18,18 +18,21 @@ use Rattle.safety_model.specs.Safe.{Devices}
 use Rattle.run_acts.specs.declared.run.Run.{Run}
 use Rattle.run_acts.specs.declared.run.Power.{Power}
 use Rattle.run_acts.specs.Power.{is_lit}
-use Rattle.run_acts.specs.Recording.{InSecond, RunWithin, GoesOnOrFails, log_of}
+use Rattle.run_acts.specs.Recording.{GoesOnOrFails, log_of}
 use Rattle.run_acts.specs.Going.{IsAt}
 use Rattle.run_acts.specs.Room.{falls_of}
 use Rattle.run_acts.proofs.Standing.{cut-at}
 use Rattle.run_acts.proofs.Torn.{cut-falls}
 use Rattle.recorder_with_cards.specs.Acting.{put_count, moment_of, IsDone, IsActedBy, CallsNone}
-use Rattle.recorder_with_cards.proofs.ActsRecorded.{as-lit, lit-in, cut-in, refused, cut, left}
+use Rattle.recorder_with_cards.proofs.ActsRecorded.{cut, left}
 use Rattle.recorder_with_cards.proofs.Allowed.{fine-selected}
 use Rattle.recorder_with_cards.proofs.Rooms.{few-wait, room-cut}
 use Rattle.run_evented.specs.Noting.{Acting}
-use Rattle.run_acts.specs.Evented.{WithinEvented, EventsGoOn}
-use Rattle.recorder_with_cards.proofs.ActsEvented.{in-evented_cut, evented-lit, in-evented_lit, evented-on, evented-cuts, refused-evented}
+use Rattle.run_acts.specs.Evented.{EventsGoOn}
+use Rattle.run_acts.specs.RunRinged.{WithinRinged, RingsGoOn}
+use Rattle.recorder_with_cards.proofs.ActsEvented.{evented-cuts}
+use Rattle.recorder_with_cards.proofs.RingsHeld.{ringed-lit, in-ringed_lit, in-ringed_cut, at-front}
+use Rattle.recorder_with_cards.proofs.ActsRinged.{ringed-on, ringed-cuts, refused-ringed}
 use Rattle.run_keeping.specs.Keeping.{with_lines}
 use Rattle.recorder_with_cards.proofs.Staying.{done-watched}
 use Rattle.run_keeping.proofs.Later.{later-same}
@@ -138,54 +141,6 @@ returns-else-is_err-clause-still g c =
     let allowed : refusal (logged c.args.run.now.keeper.cabin.slots.seats) c.args.speed c.args.action ≡ None = first_of (search rules, grind (arith, common_steps)) in λ none.
     c.carry_out.ensures.still (subst (λ (r : Option SlotFault). CallsNone r c.args.action) allowed none)
 
--- ---- what is recorded
-
-pub returns-in-Err-clause-recorded : goal.returns-in-Err-clause-recorded
-returns-in-Err-clause-recorded g c = λ o done s now front rest are begun in_ time.
-    let here : suc (length front) ≡ c.args.begun = omega (arith, begun) in
-    let run = c.args.run.now in
-    let out = c.args.outcome.now in
-    let d : Devices = devices (g.M.Medium.state c.args.unit.now) (g.C.Chip.state c.args.card_a.now) (g.D.Chip.state c.args.card_b.now) in
-    let told : Outcome = record out { refused = c.refuse.new.refused } in
-    let h = as-lit o done s run out d (length front) (ap is_lit c.requires.lit) in_ in
-    lit-in o done s run told d c.args.begun
-    (subst (λ (n : ℕ). RunWithin o done s (In n) [] [] run told d) here
-    ((refused o done s c.args.speed run out d now front c.args.action rest are h c.in-Err.fault (sym c.in-Err.ensures) told (ap (λ (l : Listed Refused). record out { refused = l }) c.refuse.ensures)).goes))
-
-pub returns-then-is_err-clause-recorded : goal.returns-then-is_err-clause-recorded
-returns-then-is_err-clause-recorded g c =
-    let allowed : refusal (logged c.args.run.now.keeper.cabin.slots.seats) c.args.speed c.args.action ≡ None = first_of (search rules, grind (arith, common_steps)) in
-    λ o done s now front rest are begun in_ time.
-    let run = c.args.run.now in
-    let out = c.args.outcome.now in
-    let mid : Run = c.carry_out.new.run in
-    let told : Outcome = c.carry_out.new.outcome in
-    let d : Devices = devices (g.M.Medium.state c.args.unit.now) (g.C.Chip.state c.args.card_a.now) (g.D.Chip.state c.args.card_b.now) in
-    let e : Devices = devices (g.M.Medium.state c.carry_out.new.unit) (g.C.Chip.state c.carry_out.new.card_a) (g.D.Chip.state c.carry_out.new.card_b) in
-    let failed : is_err c.carry_out.result ≡ true = sym c.is_err.ensures.value ∙ c.if-is_err.true in
-    let here : c.args.begun ≡ suc (length front) = omega (arith, begun) in
-    let h = as-lit o done s run out d (length front) (ap is_lit c.requires.lit) in_ in
-    let fails = subst (λ (b : Bool). GoesOnOrFails b o done s (In c.args.begun) [] mid told e h.within.b) failed (c.carry_out.ensures.recorded o done s now front rest are here allowed h time) in
-    let after : Outcome = record told { breaks = c.cut.new.breaks } in
-    cut-in o done s c.cut.new.self after e c.args.begun
-    (cut o done s c.args.begun rest mid c.cut.new.self told after e h.origin (now.number ∙ sym c.carry_out.ensures.stays.next) (left front rest c.args.action s here are) fails c.cut.ensures.run (ap (λ (l : Listed Break). record told { breaks = l }) c.cut.ensures.breaks))
-
-pub returns-else-is_err-clause-recorded : goal.returns-else-is_err-clause-recorded
-returns-else-is_err-clause-recorded g c =
-    let allowed : refusal (logged c.args.run.now.keeper.cabin.slots.seats) c.args.speed c.args.action ≡ None = first_of (search rules, grind (arith, common_steps)) in
-    λ o done s now front rest are begun in_ time.
-    let run = c.args.run.now in
-    let out = c.args.outcome.now in
-    let mid : Run = c.carry_out.new.run in
-    let told : Outcome = c.carry_out.new.outcome in
-    let d : Devices = devices (g.M.Medium.state c.args.unit.now) (g.C.Chip.state c.args.card_a.now) (g.D.Chip.state c.args.card_b.now) in
-    let e : Devices = devices (g.M.Medium.state c.carry_out.new.unit) (g.C.Chip.state c.carry_out.new.card_a) (g.D.Chip.state c.carry_out.new.card_b) in
-    let well : is_err c.carry_out.result ≡ false = sym c.is_err.ensures.value ∙ c.if-is_err.false in
-    let here : c.args.begun ≡ suc (length front) = omega (arith, begun) in
-    let h = as-lit o done s run out d (length front) (ap is_lit c.requires.lit) in_ in
-    lit-in o done s mid told e c.args.begun
-    ((subst (λ (b : Bool). GoesOnOrFails b o done s (In c.args.begun) [] mid told e h.within.b) well (c.carry_out.ensures.recorded o done s now front rest are here allowed h time)).goes)
-
 pub returns-in-Err-clause-time : goal.returns-in-Err-clause-time
 returns-in-Err-clause-time g c = λ h. h
 
@@ -204,22 +159,22 @@ returns-then-is_err-clause-later g c = c.carry_out.ensures.later
 pub returns-else-is_err-clause-later : goal.returns-else-is_err-clause-later
 returns-else-is_err-clause-later g c = c.carry_out.ensures.later
 
--- ---- and the events with it
+-- ---- what is recorded, with its events and rings
 
-pub returns-in-Err-clause-evented : goal.returns-in-Err-clause-evented
-returns-in-Err-clause-evented g c = λ o done s now front rest are begun in_ time.
+pub returns-in-Err-clause-ringed : goal.returns-in-Err-clause-ringed
+returns-in-Err-clause-ringed g c = λ o done s now front rest are begun in_ time.
     let here : suc (length front) ≡ c.args.begun = omega (arith, begun) in
     let run = c.args.run.now in
     let out = c.args.outcome.now in
     let d : Devices = devices (g.M.Medium.state c.args.unit.now) (g.C.Chip.state c.args.card_a.now) (g.D.Chip.state c.args.card_b.now) in
     let told : Outcome = record out { refused = c.refuse.new.refused } in
-    let h = evented-lit o done s run out d (length front) (ap is_lit c.requires.lit) in_ in
-    in-evented_lit o done s run told d c.args.begun
-    (subst (λ (n : ℕ). WithinEvented o done s (In n) [] [] Acting run told d) here
-    (refused-evented o done s c.args.speed run out d now front c.args.action rest are h c.in-Err.fault (sym c.in-Err.ensures) told (ap (λ (l : Listed Refused). record out { refused = l }) c.refuse.ensures)))
+    let h = ringed-lit o done s run out d (length front) (ap is_lit c.requires.lit) in_ in
+    in-ringed_lit o done s run told d c.args.begun
+    (subst (λ (n : ℕ). WithinRinged o done s n run told d) here
+    (refused-ringed o done s c.args.speed run out d now front c.args.action rest are h c.in-Err.fault (sym c.in-Err.ensures) told (ap (λ (l : Listed Refused). record out { refused = l }) c.refuse.ensures)))
 
-pub returns-then-is_err-clause-evented : goal.returns-then-is_err-clause-evented
-returns-then-is_err-clause-evented g c =
+pub returns-then-is_err-clause-ringed : goal.returns-then-is_err-clause-ringed
+returns-then-is_err-clause-ringed g c =
     let allowed : refusal (logged c.args.run.now.keeper.cabin.slots.seats) c.args.speed c.args.action ≡ None = first_of (search rules, grind (arith, common_steps)) in
     λ o done s now front rest are begun in_ time.
     let run = c.args.run.now in
@@ -230,20 +185,25 @@ returns-then-is_err-clause-evented g c =
     let e : Devices = devices (g.M.Medium.state c.carry_out.new.unit) (g.C.Chip.state c.carry_out.new.card_a) (g.D.Chip.state c.carry_out.new.card_b) in
     let failed : is_err c.carry_out.result ≡ true = sym c.is_err.ensures.value ∙ c.if-is_err.true in
     let here : c.args.begun ≡ suc (length front) = omega (arith, begun) in
-    let h = evented-lit o done s run out d (length front) (ap is_lit c.requires.lit) in_ in
-    let w = h.within in
+    let h = ringed-lit o done s run out d (length front) (ap is_lit c.requires.lit) in_ in
+    let w = h.evented.within in
+    let more : List Action = front ++ c.args.action ∷ [] in
     let fails = subst (λ (b : Bool). GoesOnOrFails b o done s (In c.args.begun) [] mid told e w.within.b) failed (c.carry_out.ensures.recorded o done s now front rest are here allowed w time) in
-    let events = subst (λ (b : Bool). EventsGoOn b o done s w.within.b.run (In c.args.begun) Acting (log_of told) e) failed (c.carry_out.ensures.evented o done s now front rest are here allowed w h.evented time) in
+    let events = subst (λ (b : Bool). EventsGoOn b o done s w.within.b.run (In c.args.begun) Acting (log_of told) e) failed (c.carry_out.ensures.evented o done s now front rest are here allowed w h.evented.evented time) in
+    let rings = subst (λ (b : Bool). RingsGoOn b o done s w.within.b.run.log more mid (log_of told) h.spans h.told e) failed
+    (c.carry_out.ensures.ringed o done s now front rest are here allowed w h.spans h.told (at-front o done s run out d front (c.args.action ∷ rest) are h) time) in
     let after : Outcome = record told { breaks = c.cut.new.breaks } in
     let stays = c.carry_out.ensures.stays in
     let is_after : after ≡ record told { breaks = with_lines (cut_at mid.next true c.args.begun ∷ []) told.breaks } = ap (λ (l : Listed Break). record told { breaks = l }) c.cut.ensures.breaks in
-    in-evented_cut o done s c.cut.new.self after e c.args.begun
-    (evented-cuts o done s (length front) c.args.begun run mid c.cut.new.self out told after d e now.number h
+    in-ringed_cut o done s c.cut.new.self after e c.args.begun
+    (ringed-cuts o done s w.within.b.run.log c.args.begun mid c.cut.new.self told after e h.spans h.told (now.number ∙ sym stays.next)
+    (evented-cuts o done s (length front) c.args.begun run mid c.cut.new.self out told after d e now.number h.evented
     (cut o done s c.args.begun rest mid c.cut.new.self told after e w.origin (now.number ∙ sym stays.next) (left front rest c.args.action s here are) fails c.cut.ensures.run is_after)
     events (done-watched c.args.action (moment_of c.args.begun run) c.args.speed (is_err c.carry_out.result) run mid out told c.carry_out.ensures.done) stays.next stays.unfound c.cut.ensures.run is_after)
+    more (let long = length-append front (c.args.action ∷ []) in omega (arith, long, here)) rings c.cut.ensures.run is_after)
 
-pub returns-else-is_err-clause-evented : goal.returns-else-is_err-clause-evented
-returns-else-is_err-clause-evented g c =
+pub returns-else-is_err-clause-ringed : goal.returns-else-is_err-clause-ringed
+returns-else-is_err-clause-ringed g c =
     let allowed : refusal (logged c.args.run.now.keeper.cabin.slots.seats) c.args.speed c.args.action ≡ None = first_of (search rules, grind (arith, common_steps)) in
     λ o done s now front rest are begun in_ time.
     let run = c.args.run.now in
@@ -254,12 +214,16 @@ returns-else-is_err-clause-evented g c =
     let e : Devices = devices (g.M.Medium.state c.carry_out.new.unit) (g.C.Chip.state c.carry_out.new.card_a) (g.D.Chip.state c.carry_out.new.card_b) in
     let well : is_err c.carry_out.result ≡ false = sym c.is_err.ensures.value ∙ c.if-is_err.false in
     let here : c.args.begun ≡ suc (length front) = omega (arith, begun) in
-    let h = evented-lit o done s run out d (length front) (ap is_lit c.requires.lit) in_ in
-    let w = h.within in
+    let h = ringed-lit o done s run out d (length front) (ap is_lit c.requires.lit) in_ in
+    let w = h.evented.within in
+    let more : List Action = front ++ c.args.action ∷ [] in
     let goes = subst (λ (b : Bool). GoesOnOrFails b o done s (In c.args.begun) [] mid told e w.within.b) well (c.carry_out.ensures.recorded o done s now front rest are here allowed w time) in
-    let events = subst (λ (b : Bool). EventsGoOn b o done s w.within.b.run (In c.args.begun) Acting (log_of told) e) well (c.carry_out.ensures.evented o done s now front rest are here allowed w h.evented time) in
-    in-evented_lit o done s mid told e c.args.begun
-    (evented-on o done s (length front) c.args.begun run mid out told d e h goes events (done-watched c.args.action (moment_of c.args.begun run) c.args.speed (is_err c.carry_out.result) run mid out told c.carry_out.ensures.done))
+    let events = subst (λ (b : Bool). EventsGoOn b o done s w.within.b.run (In c.args.begun) Acting (log_of told) e) well (c.carry_out.ensures.evented o done s now front rest are here allowed w h.evented.evented time) in
+    let rings = subst (λ (b : Bool). RingsGoOn b o done s w.within.b.run.log more mid (log_of told) h.spans h.told e) well
+    (c.carry_out.ensures.ringed o done s now front rest are here allowed w h.spans h.told (at-front o done s run out d front (c.args.action ∷ rest) are h) time) in
+    in-ringed_lit o done s mid told e c.args.begun
+    (ringed-on o done s (length front) c.args.begun run mid out told d e h more rest (are ∙ sym (append_assoc front (c.args.action ∷ []) rest)) (let long = length-append front (c.args.action ∷ []) in omega (arith, long, here))
+    goes events (done-watched c.args.action (moment_of c.args.begun run) c.args.speed (is_err c.carry_out.result) run mid out told c.carry_out.ensures.done) rings)
 
 -- ---- how often the unit broke down
 

@@ -31,9 +31,11 @@ use Rattle.recorder_with_cards.proofs.Pulled.{pulled-stays, pulled-held, pulled-
 use Rattle.recorder_with_cards.proofs.More.{inserted-more}
 use Rattle.run_acts.specs.Evented.{EventsAction}
 use Rattle.recorder_with_cards.proofs.ActsEvented.{pulled-evented}
+use Rattle.run_acts.specs.RunRinged.{RingsAction}
+use Rattle.recorder_with_cards.proofs.ActsRinged.{selected-ringed, pulled-ringed}
 use Rattle.run_keeping.proofs.Later.{later-same}
 use Rattle.run_rings.proofs.Same.{rings-left}
-use Rattle.recorder_with_cards.specs.EnteredRings.{RingsDone}
+use Rattle.recorder_with_cards.specs.EnteredRings.{IsPlaceNow, RingsDone}
 use Rattle.run_acts.proofs.NotedEvents.{same-noted}
 use Rattle.recorder_with_cards.specs.Noting.{NotesDone}
 use Rattle.recorder_with_cards.proofs.acts.carry_out.Goals as goal
@@ -287,7 +289,67 @@ returns-in-Place-clause-evented g c =
     (subst (λ (n : ℕ). EventsAction (Place c.in-Place.slot c.in-Place.ending c.in-Place.country c.in-Place.region) n c.args.speed (is_err c.note_place.result) run c.note_place.new.run o (record o { breaks = c.note_place.new.breaks }) d e) (ap (λ (m : Moment). m.begun) c.moment-at.ensures)
     (c.note_place.ensures.evented late c.in-Place.ending c.in-Place.country c.in-Place.region c.args.speed o refl))
 
--- ---- the rings
+-- ---- and the rings with it
+
+pub returns-in-Select-clause-ringed : goal.returns-in-Select-clause-ringed
+returns-in-Select-clause-ringed g c =
+    let run = c.args.run.now in
+    let o = c.args.outcome.now in
+    let d : Devices = devices (g.M.Medium.state c.args.unit.now) (g.C.Chip.state c.args.card_a.now) (g.D.Chip.state c.args.card_b.now) in
+    subst (λ (a : Action). RingsAction a c.args.begun c.args.speed false run (record run { minutes = c.select.new.self }) o o d d) (sym c.in-Select.is)
+    (selected-ringed d c.in-Select.slot c.in-Select.pick c.args.begun c.args.speed run c.select.new.self o)
+
+pub returns-in-Tear-clause-ringed : goal.returns-in-Tear-clause-ringed
+returns-in-Tear-clause-ringed g c =
+    let run = c.args.run.now in
+    let o = c.args.outcome.now in
+    let d : Devices = devices (g.M.Medium.state c.args.unit.now) (g.C.Chip.state c.args.card_a.now) (g.D.Chip.state c.args.card_b.now) in
+    let card = card_in (seat_in run.keeper.cabin.slots.seats c.in-Tear.slot) in
+    let told : c.pull.new.breaks ≡ with_lines (pulled_breaks card c.in-Tear.slot (moment_of c.args.begun run)) o.breaks = c.pull.ensures.breaks ∙ ap (λ (m : Moment). with_lines (pulled_breaks card c.in-Tear.slot m) o.breaks) c.moment-at.ensures in
+    let is : c.pull.new.run ≡ pulled_run card run.next run = c.pull.ensures.run ∙ ap (λ (m : Moment). pulled_run card m.second run) c.moment-at.ensures in
+    subst (λ (a : Action). RingsAction a c.args.begun c.args.speed false run c.pull.new.run o (record o { breaks = c.pull.new.breaks }) d d) (sym c.in-Tear.is)
+    (subst (λ (r : Run). RingsAction (Tear c.in-Tear.slot) c.args.begun c.args.speed false run r o (record o { breaks = c.pull.new.breaks }) d d) (sym is)
+    (subst (λ (l : Listed Break). RingsAction (Tear c.in-Tear.slot) c.args.begun c.args.speed false run (pulled_run card run.next run) o (record o { breaks = l }) d d) (sym told)
+    (pulled-ringed d c.in-Tear.slot c.args.begun c.args.speed run o)))
+
+pub returns-in-Insert-clause-ringed : goal.returns-in-Insert-clause-ringed
+returns-in-Insert-clause-ringed g c =
+    let run = c.args.run.now in
+    let o = c.args.outcome.now in
+    let d : Devices = devices (g.M.Medium.state c.args.unit.now) (g.C.Chip.state c.args.card_a.now) (g.D.Chip.state c.args.card_b.now) in
+    let e : Devices = devices (g.M.Medium.state c.insert.new.unit) (g.C.Chip.state c.insert.new.card_a) (g.D.Chip.state c.insert.new.card_b) in
+    let late = ap (λ (m : Moment). m.late) c.moment-at.ensures in
+    let lit = c.requires.going.lit (ap is_lit c.requires.lit) in
+    let room = put-room run o (put_count c.args.action) 0 c.requires.lit (few-wait (run.next / 60) run lit) c.requires.room in
+    subst (λ (a : Action). RingsAction a c.args.begun c.args.speed (is_err c.insert.result) run c.insert.new.run o c.insert.new.outcome d e) (sym c.in-Insert.is)
+    (subst (λ (n : ℕ). RingsAction (Insert c.in-Insert.slot c.in-Insert.card) n c.args.speed (is_err c.insert.result) run c.insert.new.run o c.insert.new.outcome d e) (ap (λ (m : Moment). m.begun) c.moment-at.ensures)
+    (c.insert.ensures.ringed late room))
+
+pub returns-in-Withdraw-clause-ringed : goal.returns-in-Withdraw-clause-ringed
+returns-in-Withdraw-clause-ringed g c =
+    let run = c.args.run.now in
+    let o = c.args.outcome.now in
+    let d : Devices = devices (g.M.Medium.state c.args.unit.now) (g.C.Chip.state c.args.card_a.now) (g.D.Chip.state c.args.card_b.now) in
+    let e : Devices = devices (g.M.Medium.state c.withdraw.new.unit) (g.C.Chip.state c.withdraw.new.card_a) (g.D.Chip.state c.withdraw.new.card_b) in
+    let late = ap (λ (m : Moment). m.late) c.moment-at.ensures in
+    subst (λ (a : Action). RingsAction a c.args.begun c.args.speed (is_err c.withdraw.result) run c.withdraw.new.run o c.withdraw.new.outcome d e) (sym c.in-Withdraw.is)
+    (subst (λ (n : ℕ). RingsAction (Withdraw c.in-Withdraw.slot) n c.args.speed (is_err c.withdraw.result) run c.withdraw.new.run o c.withdraw.new.outcome d e) (ap (λ (m : Moment). m.begun) c.moment-at.ensures)
+    (c.withdraw.ensures.ringed late c.args.speed))
+
+pub returns-in-Place-clause-ringed : goal.returns-in-Place-clause-ringed
+returns-in-Place-clause-ringed g c =
+    let run = c.args.run.now in
+    let o = c.args.outcome.now in
+    let d : Devices = devices (g.M.Medium.state c.args.unit.now) (g.C.Chip.state c.args.card_a.now) (g.D.Chip.state c.args.card_b.now) in
+    let e : Devices = devices (g.M.Medium.state c.note_place.new.unit) (g.C.Chip.state c.note_place.new.card_a) (g.D.Chip.state c.note_place.new.card_b) in
+    let late = ap (λ (m : Moment). m.late) c.moment-at.ensures in
+    let entry = c.place-entry.ensures in
+    let now : IsPlaceNow c.in-Place.ending c.in-Place.country c.in-Place.region run c.place-entry.result = record { time = entry.time; kind = entry.kind; country_is = entry.where_to.0; region_is = entry.where_to.1; odometer = entry.odometer; most = entry.most } in
+    subst (λ (a : Action). RingsAction a c.args.begun c.args.speed (is_err c.note_place.result) run c.note_place.new.run o (record o { breaks = c.note_place.new.breaks }) d e) (sym c.in-Place.is)
+    (subst (λ (n : ℕ). RingsAction (Place c.in-Place.slot c.in-Place.ending c.in-Place.country c.in-Place.region) n c.args.speed (is_err c.note_place.result) run c.note_place.new.run o (record o { breaks = c.note_place.new.breaks }) d e) (ap (λ (m : Moment). m.begun) c.moment-at.ensures)
+    (c.note_place.ensures.ringed c.in-Place.ending c.in-Place.country c.in-Place.region now late c.args.speed o refl))
+
+-- ---- what the rings get
 
 pub returns-in-Select-clause-rings : goal.returns-in-Select-clause-rings
 returns-in-Select-clause-rings g c = λ tells.

@@ -3,12 +3,12 @@ use Rattle.std.proofs.lemmas.List.{append-nil}
 use Rattle.trace_model.specs.Trace.{TraceSecond, driven}
 use Rattle.safety_model.specs.Safe.{Devices}
 use Rattle.run_rule.specs.Between.{devices}
-use Rattle.run_acts.specs.Recording.{RunRecorded}
 use Rattle.recorder_with_cards.proofs.SecondsRecorded.{plain-parts}
 use Rattle.std.proofs.lemmas.Grind.{common_steps}
 use Rattle.run_acts.specs.Room.{cuts_from, HasRoom}
 use Rattle.recorder_with_cards.proofs.Rooms.{room-less}
-use Rattle.run_acts.specs.Evented.{RunEvented, LastAt}
+use Rattle.run_acts.specs.Evented.{LastAt}
+use Rattle.run_acts.specs.RunRinged.{RunRinged}
 use Rattle.recorder_with_cards.proofs.SecondsEvented.{last-more}
 use Rattle.run_keeping.proofs.Later.{later-same, later-then}
 use Rattle.run_outcome.proofs.Broken.{broke-none, broke-then}
@@ -21,14 +21,10 @@ loop-left-init g c = record {
   enough = c.requires.room;
   room = λ left offs insertions actions h. h;
   few = omega arith;
-  recorded = λ o done r time.
+  ringed = λ o done last r time.
       let d : Devices = devices (g.M.Medium.state c.args.unit.now) (g.C.Chip.state c.args.card_a.now) (g.D.Chip.state c.args.card_b.now) in
-      subst (λ (n : ℕ). RunRecorded o (done ++ driven n c.args.run.now.next c.args.speed []) c.args.run.now c.args.outcome.now d) (let e : 0 ≡ c.args.seconds - c.args.seconds = omega arith in e)
-      (subst (λ (ss : List TraceSecond). RunRecorded o ss c.args.run.now c.args.outcome.now d) (sym (append-nil done)) r);
-  evented = λ o done last r time.
-      let d : Devices = devices (g.M.Medium.state c.args.unit.now) (g.C.Chip.state c.args.card_a.now) (g.D.Chip.state c.args.card_b.now) in
-      subst (λ (n : ℕ). LastAt (done ++ driven n c.args.run.now.next c.args.speed []) c.args.speed × RunEvented o (done ++ driven n c.args.run.now.next c.args.speed []) c.args.run.now c.args.outcome.now d) (let e : 0 ≡ c.args.seconds - c.args.seconds = omega arith in e)
-      (subst (λ (ss : List TraceSecond). LastAt ss c.args.speed × RunEvented o ss c.args.run.now c.args.outcome.now d) (sym (append-nil done)) (last, r));
+      subst (λ (n : ℕ). LastAt (done ++ driven n c.args.run.now.next c.args.speed []) c.args.speed × RunRinged o (done ++ driven n c.args.run.now.next c.args.speed []) c.args.run.now c.args.outcome.now d) (let e : 0 ≡ c.args.seconds - c.args.seconds = omega arith in e)
+      (subst (λ (ss : List TraceSecond). LastAt ss c.args.speed × RunRinged o ss c.args.run.now c.args.outcome.now d) (sym (append-nil done)) (last, r));
   time = λ h. h;
   later = later-same (devices (g.M.Medium.state c.args.unit.now) (g.C.Chip.state c.args.card_a.now) (g.D.Chip.state c.args.card_b.now));
   broke = broke-none c.args.outcome.now.breaks.items {old = (g.M.Medium.state c.args.unit.now)} {new = (g.M.Medium.state c.args.unit.now)} (omega arith);
@@ -57,30 +53,18 @@ loop-left-preserved g c =
           room (left - n + more) offs insertions actions
           (room-less cuts_from c.loop-left.run c.loop-left.outcome (left + more) (n + (left - n + more)) offs offs insertions insertions actions actions (omega (arith, most)) (omega arith) (omega arith) (omega arith) (v.room more offs insertions actions h));
       few = let few = v.few in omega (arith, few);
-      recorded = λ o done r time.
+      ringed = λ o done last r time.
           let so : ℕ = c.args.seconds - left in
-          let was = v.recorded o done r (c.in_ok-step.ensures.time time) in
+          let was = v.ringed o done last r (c.in_ok-step.ensures.time time) in
           let few = v.few in
           let start = v.next in
           let here : c.loop-left.run.next ≡ c.args.run.now.next + so = omega (arith, start, few) in
           let e : Devices = devices (g.M.Medium.state c.step.new.unit) (g.C.Chip.state c.step.new.card_a) (g.D.Chip.state c.step.new.card_b) in
-          subst (λ (ss : List TraceSecond). RunRecorded o ss c.step.new.run c.step.new.outcome e)
+          subst (λ (ss : List TraceSecond). LastAt ss c.args.speed × RunRinged o ss c.step.new.run c.step.new.outcome e)
           (append_assoc done (driven so c.args.run.now.next c.args.speed []) (driven n c.loop-left.run.next c.args.speed [])
           ∙ ap (λ (ss : List TraceSecond). done ++ ss) (ap (λ (m : ℕ). driven so c.args.run.now.next c.args.speed [] ++ driven n m c.args.speed []) here ∙ sym (plain-parts so n c.args.run.now.next c.args.speed)
           ∙ ap (λ (m : ℕ). driven m c.args.run.now.next c.args.speed []) (let e : so + n ≡ c.args.seconds - (left - n) = omega (arith, few, most) in e)))
-          (c.in_ok-step.ensures.recorded o (done ++ driven so c.args.run.now.next c.args.speed []) was time);
-      evented = λ o done last r time.
-          let so : ℕ = c.args.seconds - left in
-          let was = v.evented o done last r (c.in_ok-step.ensures.time time) in
-          let few = v.few in
-          let start = v.next in
-          let here : c.loop-left.run.next ≡ c.args.run.now.next + so = omega (arith, start, few) in
-          let e : Devices = devices (g.M.Medium.state c.step.new.unit) (g.C.Chip.state c.step.new.card_a) (g.D.Chip.state c.step.new.card_b) in
-          subst (λ (ss : List TraceSecond). LastAt ss c.args.speed × RunEvented o ss c.step.new.run c.step.new.outcome e)
-          (append_assoc done (driven so c.args.run.now.next c.args.speed []) (driven n c.loop-left.run.next c.args.speed [])
-          ∙ ap (λ (ss : List TraceSecond). done ++ ss) (ap (λ (m : ℕ). driven so c.args.run.now.next c.args.speed [] ++ driven n m c.args.speed []) here ∙ sym (plain-parts so n c.args.run.now.next c.args.speed)
-          ∙ ap (λ (m : ℕ). driven m c.args.run.now.next c.args.speed []) (let e : so + n ≡ c.args.seconds - (left - n) = omega (arith, few, most) in e)))
-          (last-more n c.loop-left.run.next c.args.speed (done ++ driven so c.args.run.now.next c.args.speed []) was.0, c.in_ok-step.ensures.evented o (done ++ driven so c.args.run.now.next c.args.speed []) was.0 was.1 time);
+          (last-more n c.loop-left.run.next c.args.speed (done ++ driven so c.args.run.now.next c.args.speed []) was.0, c.in_ok-step.ensures.ringed o (done ++ driven so c.args.run.now.next c.args.speed []) was.0 was.1 time);
       time = λ h. v.time (c.in_ok-step.ensures.time h);
       later = later-then (devices (g.M.Medium.state c.args.unit.now) (g.C.Chip.state c.args.card_a.now) (g.D.Chip.state c.args.card_b.now)) (devices (g.M.Medium.state c.loop-left.unit) (g.C.Chip.state c.loop-left.card_a) (g.D.Chip.state c.loop-left.card_b)) (devices (g.M.Medium.state c.step.new.unit) (g.C.Chip.state c.step.new.card_a) (g.D.Chip.state c.step.new.card_b)) v.later c.in_ok-step.ensures.later;
       broke = broke-then c.loop-left.invariant.broke c.in_ok-step.ensures.broke;
@@ -112,21 +96,8 @@ returns-in_err-step-clause-gone g c = record {
   is_unit = c.in_err-step.ensures.gone.is_unit;
 }
 
--- ---- what is recorded
-
-pub returns-clause-recorded : goal.returns-clause-recorded
-returns-clause-recorded g c = λ o done r time.
-    let none = c.loop-left-test.false in
-    subst (λ (n : ℕ). RunRecorded o (done ++ driven n c.args.run.now.next c.args.speed []) c.loop-left.run c.loop-left.outcome (devices (g.M.Medium.state c.loop-left.unit) (g.C.Chip.state c.loop-left.card_a) (g.D.Chip.state c.loop-left.card_b))) (let e : c.args.seconds - c.loop-left.left ≡ c.args.seconds = omega (arith, none) in e)
-    (c.loop-left.invariant.recorded o done r time)
-
 pub returns-clause-time : goal.returns-clause-time
 returns-clause-time g c = c.loop-left.invariant.time
-
-pub returns-in_err-step-clause-recorded : goal.returns-in_err-step-clause-recorded
-returns-in_err-step-clause-recorded g c = λ o done r time.
-    let was = c.loop-left.invariant.recorded o done r (c.in_err-step.ensures.time time) in
-    absurd (c.in_err-step.ensures.recorded o (done ++ driven (c.args.seconds - c.loop-left.left) c.args.run.now.next c.args.speed []) was time)
 
 pub returns-in_err-step-clause-time : goal.returns-in_err-step-clause-time
 returns-in_err-step-clause-time g c = λ h. c.loop-left.invariant.time (c.in_err-step.ensures.time h)
@@ -137,18 +108,18 @@ returns-clause-later g c = c.loop-left.invariant.later
 pub returns-in_err-step-clause-later : goal.returns-in_err-step-clause-later
 returns-in_err-step-clause-later g c = later-then (devices (g.M.Medium.state c.args.unit.now) (g.C.Chip.state c.args.card_a.now) (g.D.Chip.state c.args.card_b.now)) (devices (g.M.Medium.state c.loop-left.unit) (g.C.Chip.state c.loop-left.card_a) (g.D.Chip.state c.loop-left.card_b)) (devices (g.M.Medium.state c.step.new.unit) (g.C.Chip.state c.step.new.card_a) (g.D.Chip.state c.step.new.card_b)) c.loop-left.invariant.later c.in_err-step.ensures.later
 
--- ---- and the events with it
+-- ---- what is recorded, with its events and rings
 
-pub returns-clause-evented : goal.returns-clause-evented
-returns-clause-evented g c = λ o done last r time.
+pub returns-clause-ringed : goal.returns-clause-ringed
+returns-clause-ringed g c = λ o done last r time.
     let none = c.loop-left-test.false in
-    subst (λ (n : ℕ). RunEvented o (done ++ driven n c.args.run.now.next c.args.speed []) c.loop-left.run c.loop-left.outcome (devices (g.M.Medium.state c.loop-left.unit) (g.C.Chip.state c.loop-left.card_a) (g.D.Chip.state c.loop-left.card_b))) (let e : c.args.seconds - c.loop-left.left ≡ c.args.seconds = omega (arith, none) in e)
-    ((c.loop-left.invariant.evented o done last r time).1)
+    subst (λ (n : ℕ). RunRinged o (done ++ driven n c.args.run.now.next c.args.speed []) c.loop-left.run c.loop-left.outcome (devices (g.M.Medium.state c.loop-left.unit) (g.C.Chip.state c.loop-left.card_a) (g.D.Chip.state c.loop-left.card_b))) (let e : c.args.seconds - c.loop-left.left ≡ c.args.seconds = omega (arith, none) in e)
+    ((c.loop-left.invariant.ringed o done last r time).1)
 
-pub returns-in_err-step-clause-evented : goal.returns-in_err-step-clause-evented
-returns-in_err-step-clause-evented g c = λ o done last r time.
-    let was = c.loop-left.invariant.evented o done last r (c.in_err-step.ensures.time time) in
-    absurd (c.in_err-step.ensures.evented o (done ++ driven (c.args.seconds - c.loop-left.left) c.args.run.now.next c.args.speed []) was.0 was.1 time)
+pub returns-in_err-step-clause-ringed : goal.returns-in_err-step-clause-ringed
+returns-in_err-step-clause-ringed g c = λ o done last r time.
+    let was = c.loop-left.invariant.ringed o done last r (c.in_err-step.ensures.time time) in
+    absurd (c.in_err-step.ensures.ringed o (done ++ driven (c.args.seconds - c.loop-left.left) c.args.run.now.next c.args.speed []) was.0 was.1 time)
 
 -- ---- how often the unit broke down
 

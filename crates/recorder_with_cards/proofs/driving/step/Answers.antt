@@ -8,14 +8,14 @@ use Rattle.run_keeping.specs.Keeping.{with_lines}
 use Rattle.run_outcome.specs.declared.outcome.Outcome.{Outcome}
 use Rattle.run_acts.specs.declared.run.Run.{Run}
 use Rattle.run_acts.specs.Power.{is_lit, has_power, passed}
-use Rattle.run_acts.specs.Recording.{RunRecorded, IsNow, InSecond}
+use Rattle.run_acts.specs.Recording.{IsNow}
 use Rattle.recorder_with_cards.proofs.Dark.{away-dark}
-use Rattle.recorder_with_cards.proofs.SecondsRecorded.{refused_dark, none-refused, passes-dark, dark-run, by-power, first-driven}
+use Rattle.recorder_with_cards.proofs.SecondsRecorded.{refused_dark, none-refused, passes-dark, by-power, first-driven}
 use Rattle.std.proofs.lemmas.Grind.{common_steps}
 use Rattle.run_acts.specs.Room.{cuts_from, cuts_within, HasRoom, HasRoomWithin}
 use Rattle.recorder_with_cards.proofs.Rooms.{room-less}
-use Rattle.run_acts.specs.Evented.{RunEvented, InSecondEvented}
-use Rattle.recorder_with_cards.proofs.SecondsEvented.{dark-evented}
+use Rattle.run_acts.specs.RunRinged.{RunRinged, InSecondRinged}
+use Rattle.recorder_with_cards.proofs.SecondsRinged.{dark-ringed}
 use Rattle.run_keeping.proofs.Later.{later-then}
 use Rattle.run_outcome.proofs.Broken.{broke-then}
 use Rattle.recorder_with_cards.proofs.driving.step.Goals as goal
@@ -56,48 +56,8 @@ returns-in_err-begin_second-clause-gone g c = record {
   is_unit = c.in_err-begin_second.ensures.unit;
 }
 
--- ---- what is recorded
-
-pub returns-clause-recorded : goal.returns-clause-recorded
-returns-clause-recorded g c = λ o done r time.
-    let old = c.args.run.now in
-    let out = c.args.outcome.now in
-    let s : TraceSecond = record { number = old.next; has_power = true; speed = c.args.speed; actions = [] } in
-    let d0 : Devices = devices (g.M.Medium.state c.args.unit.now) (g.C.Chip.state c.args.card_a.now) (g.D.Chip.state c.args.card_b.now) in
-    let d1 : Devices = devices (g.M.Medium.state c.begin_second.new.unit) (g.C.Chip.state c.begin_second.new.card_a) (g.D.Chip.state c.begin_second.new.card_b) in
-    let d3 : Devices = devices (g.M.Medium.state c.turn.new.unit) (g.C.Chip.state c.turn.new.card_a) (g.D.Chip.state c.turn.new.card_b) in
-    let r1 : Run = c.begin_second.new.run in
-    let r3 : Run = c.turn.new.run in
-    let p1 : Outcome = c.begin_second.new.outcome in
-    let p3 : Outcome = c.turn.new.outcome in
-    let begun_next : r1.next ≡ old.next = c.in_ok-begin_second.ensures.next in
-    let all_ : done ++ s ∷ driven (c.args.n - 1) (old.next + 1) c.args.speed [] ≡ done ++ driven c.args.n old.next c.args.speed [] = ap (λ (ss : List TraceSecond). done ++ ss) (sym (first-driven c.args.n old.next c.args.speed [] c.requires.some)) in
-    let begun = c.in_ok-begin_second.ensures.recorded o done s (record { number = refl; given = refl; speed_is = refl }) r (time-before d1 d3 c.turn.ensures.clock c.turn.ensures.clock_a c.turn.ensures.clock_b time) in
-    by-power RunRecorded InSecond c.in_ok-begin_second.field-0 o done s r1 p1 d1 begun
-    (λ lit in_.
-    subst (λ (ss : List TraceSecond). RunRecorded o ss r3 p3 d3) all_
-    (c.turn.ensures.recorded o done s (record { number = sym begun_next; given = refl; speed_is = refl }) refl (λ more. refl) in_ time))
-    (λ away was.
-    let kept = c.in_ok-begin_second.ensures.dark away in
-    let none : has_power old.power old.next ≡ false = sym c.in_ok-begin_second.ensures.power ∙ away in
-    let dark_old : is_lit old.power ≡ false = away-dark old.power old.next none in
-    let dark1 : is_lit r1.power ≡ false = ap (λ (x : Run). is_lit x.power) kept.0 ∙ dark_old in
-    let turn_still = c.turn.ensures.dark dark1 in
-    let passes = passes-dark r1 r3 p1 p3 c.args.n c.args.speed 0 dark1 c.turn.ensures.turned in
-    let is : r3 ≡ passed c.args.n 0 old = passes.0 ∙ ap (passed c.args.n 0) kept.0 in
-    let told : p3 ≡ record out { refused = with_lines (refused_dark old.next []) out.refused } = passes.1 ∙ kept.1 ∙ none-refused out in
-    subst (λ (x : State). RunRecorded o (done ++ driven c.args.n old.next c.args.speed []) r3 p3 (devices x (g.C.Chip.state c.turn.new.card_a) (g.D.Chip.state c.turn.new.card_b))) (sym (ap g.M.Medium.state (turn_still.0 ∙ kept.2)))
-    (subst (λ (x : State). RunRecorded o (done ++ driven c.args.n old.next c.args.speed []) r3 p3 (devices (g.M.Medium.state c.args.unit.now) x (g.D.Chip.state c.turn.new.card_b))) (sym (ap g.C.Chip.state (turn_still.1 ∙ kept.3)))
-    (subst (λ (x : State). RunRecorded o (done ++ driven c.args.n old.next c.args.speed []) r3 p3 (devices (g.M.Medium.state c.args.unit.now) (g.C.Chip.state c.args.card_a.now) x)) (sym (ap g.D.Chip.state (turn_still.2 ∙ kept.4)))
-    (dark-run o done old out d0 r c.args.n c.args.speed 0 [] c.requires.some none c.requires.minute r3 p3 is told))))
-
 pub returns-clause-time : goal.returns-clause-time
 returns-clause-time g c = λ h. time-before (devices (g.M.Medium.state c.args.unit.now) (g.C.Chip.state c.args.card_a.now) (g.D.Chip.state c.args.card_b.now)) (devices (g.M.Medium.state c.begin_second.new.unit) (g.C.Chip.state c.begin_second.new.card_a) (g.D.Chip.state c.begin_second.new.card_b)) c.in_ok-begin_second.ensures.clock c.in_ok-begin_second.ensures.clock_a c.in_ok-begin_second.ensures.clock_b (time-before (devices (g.M.Medium.state c.begin_second.new.unit) (g.C.Chip.state c.begin_second.new.card_a) (g.D.Chip.state c.begin_second.new.card_b)) (devices (g.M.Medium.state c.turn.new.unit) (g.C.Chip.state c.turn.new.card_a) (g.D.Chip.state c.turn.new.card_b)) c.turn.ensures.clock c.turn.ensures.clock_a c.turn.ensures.clock_b h)
-
-pub returns-in_err-begin_second-clause-recorded : goal.returns-in_err-begin_second-clause-recorded
-returns-in_err-begin_second-clause-recorded g c = λ o done r time.
-    let s : TraceSecond = record { number = c.args.run.now.next; has_power = true; speed = c.args.speed; actions = [] } in
-    absurd (c.in_err-begin_second.ensures.recorded o done s (record { number = refl; given = refl; speed_is = refl }) r time)
 
 pub returns-in_err-begin_second-clause-time : goal.returns-in_err-begin_second-clause-time
 returns-in_err-begin_second-clause-time g c = time-before (devices (g.M.Medium.state c.args.unit.now) (g.C.Chip.state c.args.card_a.now) (g.D.Chip.state c.args.card_b.now)) (devices (g.M.Medium.state c.begin_second.new.unit) (g.C.Chip.state c.begin_second.new.card_a) (g.D.Chip.state c.begin_second.new.card_b)) c.in_err-begin_second.ensures.clock c.in_err-begin_second.ensures.clock_a c.in_err-begin_second.ensures.clock_b
@@ -108,10 +68,10 @@ returns-clause-later g c = later-then (devices (g.M.Medium.state c.args.unit.now
 pub returns-in_err-begin_second-clause-later : goal.returns-in_err-begin_second-clause-later
 returns-in_err-begin_second-clause-later g c = c.in_err-begin_second.ensures.later
 
--- ---- and the events with it
+-- ---- what is recorded, with its events and rings
 
-pub returns-clause-evented : goal.returns-clause-evented
-returns-clause-evented g c = λ o done last r time.
+pub returns-clause-ringed : goal.returns-clause-ringed
+returns-clause-ringed g c = λ o done last r time.
     let old = c.args.run.now in
     let out = c.args.outcome.now in
     let s : TraceSecond = record { number = old.next; has_power = true; speed = c.args.speed; actions = [] } in
@@ -124,11 +84,11 @@ returns-clause-evented g c = λ o done last r time.
     let p3 : Outcome = c.turn.new.outcome in
     let begun_next : r1.next ≡ old.next = c.in_ok-begin_second.ensures.next in
     let all_ : done ++ s ∷ driven (c.args.n - 1) (old.next + 1) c.args.speed [] ≡ done ++ driven c.args.n old.next c.args.speed [] = ap (λ (ss : List TraceSecond). done ++ ss) (sym (first-driven c.args.n old.next c.args.speed [] c.requires.some)) in
-    let begun = c.in_ok-begin_second.ensures.evented o done s (record { number = refl; given = refl; speed_is = refl }) r (time-before d1 d3 c.turn.ensures.clock c.turn.ensures.clock_a c.turn.ensures.clock_b time) in
-    by-power RunEvented InSecondEvented c.in_ok-begin_second.field-0 o done s r1 p1 d1 begun
+    let begun = c.in_ok-begin_second.ensures.ringed o done s (record { number = refl; given = refl; speed_is = refl }) r (time-before d1 d3 c.turn.ensures.clock c.turn.ensures.clock_a c.turn.ensures.clock_b time) in
+    by-power RunRinged InSecondRinged c.in_ok-begin_second.field-0 o done s r1 p1 d1 begun
     (λ lit in_.
-    subst (λ (ss : List TraceSecond). RunEvented o ss r3 p3 d3) all_
-    (c.turn.ensures.evented o done s (record { number = sym begun_next; given = refl; speed_is = refl }) refl (λ more. (refl, last)) in_ time))
+    subst (λ (ss : List TraceSecond). RunRinged o ss r3 p3 d3) all_
+    (c.turn.ensures.ringed o done s (record { number = sym begun_next; given = refl; speed_is = refl }) refl (λ more. (refl, last)) in_ time))
     (λ away was.
     let kept = c.in_ok-begin_second.ensures.dark away in
     let none : has_power old.power old.next ≡ false = sym c.in_ok-begin_second.ensures.power ∙ away in
@@ -138,15 +98,15 @@ returns-clause-evented g c = λ o done last r time.
     let passes = passes-dark r1 r3 p1 p3 c.args.n c.args.speed 0 dark1 c.turn.ensures.turned in
     let is : r3 ≡ passed c.args.n 0 old = passes.0 ∙ ap (passed c.args.n 0) kept.0 in
     let told : p3 ≡ record out { refused = with_lines (refused_dark old.next []) out.refused } = passes.1 ∙ kept.1 ∙ none-refused out in
-    subst (λ (x : State). RunEvented o (done ++ driven c.args.n old.next c.args.speed []) r3 p3 (devices x (g.C.Chip.state c.turn.new.card_a) (g.D.Chip.state c.turn.new.card_b))) (sym (ap g.M.Medium.state (turn_still.0 ∙ kept.2)))
-    (subst (λ (x : State). RunEvented o (done ++ driven c.args.n old.next c.args.speed []) r3 p3 (devices (g.M.Medium.state c.args.unit.now) x (g.D.Chip.state c.turn.new.card_b))) (sym (ap g.C.Chip.state (turn_still.1 ∙ kept.3)))
-    (subst (λ (x : State). RunEvented o (done ++ driven c.args.n old.next c.args.speed []) r3 p3 (devices (g.M.Medium.state c.args.unit.now) (g.C.Chip.state c.args.card_a.now) x)) (sym (ap g.D.Chip.state (turn_still.2 ∙ kept.4)))
-    (dark-evented o done old out d0 r c.args.n c.args.speed 0 [] c.requires.some none c.requires.minute r3 p3 is told))))
+    subst (λ (x : State). RunRinged o (done ++ driven c.args.n old.next c.args.speed []) r3 p3 (devices x (g.C.Chip.state c.turn.new.card_a) (g.D.Chip.state c.turn.new.card_b))) (sym (ap g.M.Medium.state (turn_still.0 ∙ kept.2)))
+    (subst (λ (x : State). RunRinged o (done ++ driven c.args.n old.next c.args.speed []) r3 p3 (devices (g.M.Medium.state c.args.unit.now) x (g.D.Chip.state c.turn.new.card_b))) (sym (ap g.C.Chip.state (turn_still.1 ∙ kept.3)))
+    (subst (λ (x : State). RunRinged o (done ++ driven c.args.n old.next c.args.speed []) r3 p3 (devices (g.M.Medium.state c.args.unit.now) (g.C.Chip.state c.args.card_a.now) x)) (sym (ap g.D.Chip.state (turn_still.2 ∙ kept.4)))
+    (dark-ringed o done old out d0 r c.args.n c.args.speed 0 [] c.requires.some none c.requires.minute r3 p3 is told))))
 
-pub returns-in_err-begin_second-clause-evented : goal.returns-in_err-begin_second-clause-evented
-returns-in_err-begin_second-clause-evented g c = λ o done last r time.
+pub returns-in_err-begin_second-clause-ringed : goal.returns-in_err-begin_second-clause-ringed
+returns-in_err-begin_second-clause-ringed g c = λ o done last r time.
     let s : TraceSecond = record { number = c.args.run.now.next; has_power = true; speed = c.args.speed; actions = [] } in
-    absurd (c.in_err-begin_second.ensures.evented o done s (record { number = refl; given = refl; speed_is = refl }) r time)
+    absurd (c.in_err-begin_second.ensures.ringed o done s (record { number = refl; given = refl; speed_is = refl }) r time)
 
 -- ---- how often the unit broke down
 

@@ -10,12 +10,11 @@ use Rattle.run_acts.proofs.Standing.{lit-is, begun-at, still-dark}
 use Rattle.recorder_with_cards.proofs.AwakeRooms.{room-over, room-away, room-awake}
 use Rattle.tach_media.specs.Medium.{State}
 use Rattle.run_rule.specs.Between.{devices}
-use Rattle.run_acts.specs.Recording.{InSecondBy, InSecond}
-use Rattle.recorder_with_cards.proofs.GoingOn.{marks-due, second-on}
+use Rattle.recorder_with_cards.proofs.GoingOn.{marks-due}
 use Rattle.run_keeping.proofs.Later.{later-same}
 use Rattle.run_outcome.proofs.Broken.{broke-none}
-use Rattle.run_acts.specs.Evented.{InSecondEventedBy, InSecondEvented}
-use Rattle.recorder_with_cards.proofs.BegunEvented.{lit-evented}
+use Rattle.run_acts.specs.RunRinged.{InSecondRingedBy, InSecondRinged}
+use Rattle.recorder_with_cards.proofs.BegunRinged.{lit-ringed}
 use Rattle.recorder_with_cards.proofs.resuming.begin_second.Goals as goal
 
 away-dark : (p : Power) (next : ℕ) → has_power p next ≡ false → is_lit p ≡ false
@@ -80,38 +79,6 @@ returns-in_err-power_on-clause-lit g c = λ lit.
     let dark : is_lit c.args.run.now.power ≡ false = sym c.is_lit.ensures ∙ c.if-is_lit.false in
     absurd (let bad : false ≡ true = sym dark ∙ lit in cc)
 
--- ---- WHAT IS RECORDED
-
-pub returns-then-not-has_power-clause-recorded : goal.returns-then-not-has_power-clause-recorded
-returns-then-not-has_power-clause-recorded g c = λ o done s now rec time. rec
-
-pub returns-then-is_lit-clause-recorded : goal.returns-then-is_lit-clause-recorded
-returns-then-is_lit-clause-recorded g c = λ o done s now rec time.
-    let run = c.args.run.now in
-    let out = c.args.outcome.now in
-    let U : State = g.M.Medium.state c.args.unit.now in
-    let X : State = g.C.Chip.state c.args.card_a.now in
-    let Y : State = g.D.Chip.state c.args.card_b.now in
-    let yes : is_lit run.power ≡ true = sym c.is_lit.ensures ∙ c.if-is_lit.true in
-    let lit : run.power ≡ Lit = lit-is run.power yes in
-    let on = second-on o rec.origin done s run out (devices U X Y) U (g.C.Chip.card c.args.card_a.now) (g.D.Chip.card c.args.card_b.now) X Y lit now.number now.given c.requires.going.low (c.requires.going.lit yes) rec in
-    subst (λ (r : Run). InSecond o done s 0 r out (devices U X Y)) (sym c.end_minute.ensures.run)
-    (subst (λ (b : Bool). InSecondBy b o done s 0 (minute_over run) out (devices U X Y)) (sym (ap is_lit on.lit)) on)
-
-pub returns-in_err-power_on-clause-recorded : goal.returns-in_err-power_on-clause-recorded
-returns-in_err-power_on-clause-recorded g c = λ o done s now rec time.
-    let run = c.args.run.now in
-    let dark : is_lit run.power ≡ false = sym c.is_lit.ensures ∙ c.if-is_lit.false in
-    let has : has_power run.power run.next ≡ true = sym c.has_power.ensures ∙ c.if-not-has_power.false in
-    absurd (c.in_err-power_on.ensures.recorded (marks-due run c.args.outcome.now dark has c.requires.room) o done s now rec has time)
-
-pub returns-clause-recorded : goal.returns-clause-recorded
-returns-clause-recorded g c = λ o done s now rec time.
-    let run = c.args.run.now in
-    let dark : is_lit run.power ≡ false = sym c.is_lit.ensures ∙ c.if-is_lit.false in
-    let has : has_power run.power run.next ≡ true = sym c.has_power.ensures ∙ c.if-not-has_power.false in
-    c.in_ok-power_on.ensures.recorded (marks-due run c.args.outcome.now dark has c.requires.room) o done s now rec has time
-
 -- ---- what is noted
 
 pub returns-then-not-has_power-clause-noted : goal.returns-then-not-has_power-clause-noted
@@ -155,10 +122,13 @@ returns-in_err-power_on-clause-broke g c = c.power_on.ensures.broke
 pub returns-clause-broke : goal.returns-clause-broke
 returns-clause-broke g c = c.power_on.ensures.broke
 
--- ---- and the events with it
+-- ---- what is recorded, with its events and rings
 
-pub returns-then-is_lit-clause-evented : goal.returns-then-is_lit-clause-evented
-returns-then-is_lit-clause-evented g c = λ o done s now rec time.
+pub returns-then-not-has_power-clause-ringed : goal.returns-then-not-has_power-clause-ringed
+returns-then-not-has_power-clause-ringed g c = λ o done s now rec time. rec
+
+pub returns-then-is_lit-clause-ringed : goal.returns-then-is_lit-clause-ringed
+returns-then-is_lit-clause-ringed g c = λ o done s now rec time.
     let run = c.args.run.now in
     let out = c.args.outcome.now in
     let U : State = g.M.Medium.state c.args.unit.now in
@@ -166,20 +136,20 @@ returns-then-is_lit-clause-evented g c = λ o done s now rec time.
     let Y : State = g.D.Chip.state c.args.card_b.now in
     let yes : is_lit run.power ≡ true = sym c.is_lit.ensures ∙ c.if-is_lit.true in
     let lit : run.power ≡ Lit = lit-is run.power yes in
-    let on = lit-evented o done s run out (devices U X Y) U (g.C.Chip.card c.args.card_a.now) (g.D.Chip.card c.args.card_b.now) X Y lit now.number now.given c.requires.going.low (c.requires.going.lit yes) rec in
-    subst (λ (r : Run). InSecondEvented o done s 0 r out (devices U X Y)) (sym c.end_minute.ensures.run)
-    (subst (λ (b : Bool). InSecondEventedBy b o done s 0 (minute_over run) out (devices U X Y)) (sym (ap is_lit on.within.lit)) on)
+    let on = lit-ringed o done s run out (devices U X Y) U (g.C.Chip.card c.args.card_a.now) (g.D.Chip.card c.args.card_b.now) X Y lit now.number now.given c.requires.going.low (c.requires.going.lit yes) rec in
+    subst (λ (r : Run). InSecondRinged o done s 0 r out (devices U X Y)) (sym c.end_minute.ensures.run)
+    (subst (λ (b : Bool). InSecondRingedBy b o done s 0 (minute_over run) out (devices U X Y)) (sym (ap is_lit on.evented.within.lit)) on)
 
-pub returns-in_err-power_on-clause-evented : goal.returns-in_err-power_on-clause-evented
-returns-in_err-power_on-clause-evented g c = λ o done s now rec time.
+pub returns-in_err-power_on-clause-ringed : goal.returns-in_err-power_on-clause-ringed
+returns-in_err-power_on-clause-ringed g c = λ o done s now rec time.
     let run = c.args.run.now in
     let dark : is_lit run.power ≡ false = sym c.is_lit.ensures ∙ c.if-is_lit.false in
     let has : has_power run.power run.next ≡ true = sym c.has_power.ensures ∙ c.if-not-has_power.false in
-    absurd (c.in_err-power_on.ensures.evented (marks-due run c.args.outcome.now dark has c.requires.room) o done s now rec has time)
+    absurd (c.in_err-power_on.ensures.ringed (marks-due run c.args.outcome.now dark has c.requires.room) o done s now rec has time)
 
-pub returns-clause-evented : goal.returns-clause-evented
-returns-clause-evented g c = λ o done s now rec time.
+pub returns-clause-ringed : goal.returns-clause-ringed
+returns-clause-ringed g c = λ o done s now rec time.
     let run = c.args.run.now in
     let dark : is_lit run.power ≡ false = sym c.is_lit.ensures ∙ c.if-is_lit.false in
     let has : has_power run.power run.next ≡ true = sym c.has_power.ensures ∙ c.if-not-has_power.false in
-    c.in_ok-power_on.ensures.evented (marks-due run c.args.outcome.now dark has c.requires.room) o done s now rec has time
+    c.in_ok-power_on.ensures.ringed (marks-due run c.args.outcome.now dark has c.requires.room) o done s now rec has time

@@ -4,12 +4,10 @@ use Rattle.trace_model.specs.declared.Action.{Action}
 use Rattle.trace_model.specs.Trace.{TraceSecond, seconds_at, item_seconds}
 use Rattle.safety_model.specs.Safe.{Devices}
 use Rattle.run_rule.specs.Between.{devices}
-use Rattle.run_acts.specs.Recording.{RunRecorded}
 use Rattle.run_outcome.specs.declared.outcome.Outcome.{Outcome}
-use Rattle.run_acts.specs.Evented.{RunEvented}
-use Rattle.recorder_with_cards.specs.Recorded.{actions_in, HasRun, HasRunBy}
-use Rattle.recorder_with_cards.proofs.SecondsEvented.{off-evented}
-use Rattle.recorder_with_cards.proofs.SecondsRecorded.{off-seconds}
+use Rattle.run_acts.specs.RunRinged.{RunRinged}
+use Rattle.recorder_with_cards.specs.Recorded.{actions_in, HasRunBy}
+use Rattle.recorder_with_cards.proofs.SecondsRinged.{off-ringed}
 use Rattle.tach_media.proofs.Runs.{on_ok, ok_gives}
 use Rattle.trace_model.specs.declared.Item.{Item}
 use Rattle.trace_text.specs.Line.{InRange}
@@ -123,29 +121,6 @@ returns-in-Run-clause-room g c = λ left offs insertions actions h.
     on_ok c.drive.result (λ well some. ok_gives c.drive.result (c.drive.ensures.room left offs insertions actions
     (room-less cuts_from run o (c.in-Run.seconds + left) (c.in-Run.seconds + left) (0 + offs) offs (k + insertions) (k + insertions) (a + actions) (a + actions) (omega arith) (omega arith) (omega arith) (omega arith) here)) well)
 
--- ---- what is recorded
-
-pub returns-in-Act-clause-recorded : goal.returns-in-Act-clause-recorded
-returns-in-Act-clause-recorded g c = λ many o done few r time.
-    let d : Devices = devices (g.M.Medium.state c.args.unit.now) (g.C.Chip.state c.args.card_a.now) (g.D.Chip.state c.args.card_b.now) in
-    let acts : List Action = actions_in (between c.args.from c.args.to c.args.items.now) in
-    subst (λ (i : Item). RunRecorded o (done ++ seconds_at c.args.run.now.next acts i) c.args.run.now c.args.outcome.now d) (sym c.in-Act.is)
-    (subst (λ (ss : List TraceSecond). RunRecorded o ss c.args.run.now c.args.outcome.now d) (sym (append-nil done)) r)
-
-pub returns-in-Off-clause-recorded : goal.returns-in-Off-clause-recorded
-returns-in-Off-clause-recorded g c = λ many o done few r time.
-    let d : Devices = devices (g.M.Medium.state c.args.unit.now) (g.C.Chip.state c.args.card_a.now) (g.D.Chip.state c.args.card_b.now) in
-    let acts : List Action = actions_in (between c.args.from c.args.to c.args.items.now) in
-    let out : Outcome = record c.args.outcome.now { breaks = c.off.new.breaks } in
-    subst (λ (i : Item). RunRecorded o (done ++ seconds_at c.args.run.now.next acts i) c.off.new.self out d) (sym c.in-Off.is)
-    (off-seconds o done c.args.run.now c.args.outcome.now d r c.in-Off.seconds (subst InRange c.in-Off.is c.requires.item).0 c.off.new.breaks c.off.ensures.breaks c.off.new.self c.off.ensures.run)
-
-pub returns-in-Run-clause-recorded : goal.returns-in-Run-clause-recorded
-returns-in-Run-clause-recorded g c = λ many o done few r time.
-    let acts : List Action = actions_in (between c.args.from c.args.to c.args.items.now) in
-    subst (λ (i : Item). HasRun c.drive.result o (done ++ seconds_at c.args.run.now.next acts i) c.drive.new.run c.drive.new.outcome (devices (g.M.Medium.state c.drive.new.unit) (g.C.Chip.state c.drive.new.card_a) (g.D.Chip.state c.drive.new.card_b))) (sym c.in-Run.is)
-    (c.drive.ensures.recorded many (omega (arith, few, many)) o done r time)
-
 pub returns-in-Act-clause-time : goal.returns-in-Act-clause-time
 returns-in-Act-clause-time g c = λ h. h
 
@@ -164,28 +139,28 @@ returns-in-Off-clause-later g c = later-same (devices (g.M.Medium.state c.args.u
 pub returns-in-Run-clause-later : goal.returns-in-Run-clause-later
 returns-in-Run-clause-later g c = c.drive.ensures.later
 
--- ---- and the events with it
+-- ---- what is recorded, with its events and rings
 
-pub returns-in-Act-clause-evented : goal.returns-in-Act-clause-evented
-returns-in-Act-clause-evented g c = λ many o done few r time.
+pub returns-in-Act-clause-ringed : goal.returns-in-Act-clause-ringed
+returns-in-Act-clause-ringed g c = λ many o done few r time.
     let d : Devices = devices (g.M.Medium.state c.args.unit.now) (g.C.Chip.state c.args.card_a.now) (g.D.Chip.state c.args.card_b.now) in
     let acts : List Action = actions_in (between c.args.from c.args.to c.args.items.now) in
-    subst (λ (i : Item). RunEvented o (done ++ seconds_at c.args.run.now.next acts i) c.args.run.now c.args.outcome.now d) (sym c.in-Act.is)
-    (subst (λ (ss : List TraceSecond). RunEvented o ss c.args.run.now c.args.outcome.now d) (sym (append-nil done)) r)
+    subst (λ (i : Item). RunRinged o (done ++ seconds_at c.args.run.now.next acts i) c.args.run.now c.args.outcome.now d) (sym c.in-Act.is)
+    (subst (λ (ss : List TraceSecond). RunRinged o ss c.args.run.now c.args.outcome.now d) (sym (append-nil done)) r)
 
-pub returns-in-Off-clause-evented : goal.returns-in-Off-clause-evented
-returns-in-Off-clause-evented g c = λ many o done few r time.
+pub returns-in-Off-clause-ringed : goal.returns-in-Off-clause-ringed
+returns-in-Off-clause-ringed g c = λ many o done few r time.
     let d : Devices = devices (g.M.Medium.state c.args.unit.now) (g.C.Chip.state c.args.card_a.now) (g.D.Chip.state c.args.card_b.now) in
     let acts : List Action = actions_in (between c.args.from c.args.to c.args.items.now) in
     let out : Outcome = record c.args.outcome.now { breaks = c.off.new.breaks } in
-    subst (λ (i : Item). RunEvented o (done ++ seconds_at c.args.run.now.next acts i) c.off.new.self out d) (sym c.in-Off.is)
-    (off-evented o done c.args.run.now c.args.outcome.now d r c.in-Off.seconds (subst InRange c.in-Off.is c.requires.item).0 c.off.new.breaks c.off.ensures.breaks c.off.new.self c.off.ensures.run)
+    subst (λ (i : Item). RunRinged o (done ++ seconds_at c.args.run.now.next acts i) c.off.new.self out d) (sym c.in-Off.is)
+    (off-ringed o done c.args.run.now c.args.outcome.now d r c.in-Off.seconds (subst InRange c.in-Off.is c.requires.item).0 c.off.new.breaks c.off.ensures.breaks c.off.new.self c.off.ensures.run)
 
-pub returns-in-Run-clause-evented : goal.returns-in-Run-clause-evented
-returns-in-Run-clause-evented g c = λ many o done few r time.
+pub returns-in-Run-clause-ringed : goal.returns-in-Run-clause-ringed
+returns-in-Run-clause-ringed g c = λ many o done few r time.
     let acts : List Action = actions_in (between c.args.from c.args.to c.args.items.now) in
-    subst (λ (i : Item). HasRunBy RunEvented c.drive.result o (done ++ seconds_at c.args.run.now.next acts i) c.drive.new.run c.drive.new.outcome (devices (g.M.Medium.state c.drive.new.unit) (g.C.Chip.state c.drive.new.card_a) (g.D.Chip.state c.drive.new.card_b))) (sym c.in-Run.is)
-    (c.drive.ensures.evented many (omega (arith, few, many)) o done r time)
+    subst (λ (i : Item). HasRunBy RunRinged c.drive.result o (done ++ seconds_at c.args.run.now.next acts i) c.drive.new.run c.drive.new.outcome (devices (g.M.Medium.state c.drive.new.unit) (g.C.Chip.state c.drive.new.card_a) (g.D.Chip.state c.drive.new.card_b))) (sym c.in-Run.is)
+    (c.drive.ensures.ringed many (omega (arith, few, many)) o done r time)
 
 -- ---- how often the unit broke down
 

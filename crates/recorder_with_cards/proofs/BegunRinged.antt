@@ -1,0 +1,96 @@
+-- A second begins behind one with power: nothing of its rings is noted yet.
+use Rattle.std.proofs.Common.{◌≡◌, ◌∙◌, ℕ, ◌-◌, ◌/◌, ◌%◌, ◌≤◌, Bool, true, false, not, nat_eq, Option, List, [], ◌∷◌, ◌++◌, cond, refl, ap, sym, subst}
+use Rattle.trace_model.specs.declared.Card.{Card}
+use Rattle.trace_model.specs.Trace.{TraceSecond}
+use Rattle.tach_media.specs.Medium.{State}
+use Rattle.chip_model.specs.declared.command.CardState.{CardState}
+use Rattle.log_model.specs.Log.{RunLog, In}
+use Rattle.log_model.specs.Course.{Told, Before, has_power, second_told, went}
+use Rattle.side_model.specs.Odometer.{SpanFrom}
+use Rattle.unit_course.specs.Followed.{Supply}
+use Rattle.unit_course.specs.Followed.{Lit as IsLitBy, Due as IsDueBy, Lost as IsLostBy}
+use Rattle.safety_model.specs.Safe.{Devices}
+use Rattle.run_course.specs.Followed.{IsSupplied, IsGoing}
+use Rattle.run_course.proofs.Told.{going-power}
+use Rattle.run_outcome.specs.declared.outcome.Outcome.{Outcome}
+use Rattle.run_recorded.specs.Origin.{Origin}
+use Rattle.run_rings.specs.Spans.{go_on_from, with_second}
+use Rattle.run_ringed.specs.Ringed.{Seating}
+use Rattle.run_ringed.specs.SoFar.{RingedBehind, IsSecond, RingedIn}
+use Rattle.run_ringed.proofs.SoFar.{second-begins}
+use Rattle.run_acts.specs.declared.run.Run.{Run}
+use Rattle.run_acts.specs.declared.run.Power.{Power}
+use Rattle.run_acts.specs.declared.run.Power.TheVariants.{Lit}
+use Rattle.run_acts.specs.Power.{over_by, minute_over}
+use Rattle.run_acts.specs.Going.{first_second, IsLit}
+use Rattle.run_acts.specs.Recording.{log_of, Supplies, RunRecorded}
+use Rattle.run_acts.specs.RunRinged.{seats_of, IsLastFrom, RunRinged, RingsWithin, WithinRinged}
+use Rattle.recorder_with_cards.proofs.BegunEvented.{lit-evented}
+
+-- a second with power, as its spans have it
+pub second-as : (log : RunLog) (before : Before) (s : TraceSecond) → has_power before s ≡ true → IsSecond s before (second_told log before s)
+second-as log before s power = rw power (record { number = refl; speed = refl; lit = refl; starts = refl })
+
+-- the last span goes on
+goes-last : (front : List SpanFrom) (last : SpanFrom) (base : ℕ) (t : Told) → go_on_from (front ++ last ∷ []) base t ≡ front ++ record { base = last.base; span = last.span ++ t ∷ [] } ∷ []
+goes-last [] last base t = refl
+goes-last (x ∷ []) last base t = refl
+goes-last (x ∷ y ∷ front) last base t = ap (λ (l : List SpanFrom). x ∷ l) (goes-last (y ∷ front) last base t)
+
+pub last-goes_on : (base : ℕ) (spans : List SpanFrom) (t : Told) → t.lit ≡ true → t.starts ≡ false → IsLastFrom base spans → IsLastFrom base (with_second spans base t)
+last-goes_on base spans t lit starts is =
+    let more : SpanFrom = record { base = is.1.base; span = is.1.span ++ t ∷ [] } in (
+      is.0,
+      more,
+      ap (λ (b : Bool). cond b (cond t.starts (spans ++ record { base = base; span = t ∷ [] } ∷ []) (go_on_from spans base t)) spans) lit
+          ∙ ap (λ (b : Bool). cond b (spans ++ record { base = base; span = t ∷ [] } ∷ []) (go_on_from spans base t)) starts
+          ∙ ap (λ (l : List SpanFrom). go_on_from l base t) is.2 ∙ goes-last is.0 is.1 base t,
+      is.3,
+    )
+
+-- as a minute is over the cards are accepted as before, and so is the odometer
+over-seats : (b : Bool) (run : Run) → seats_of (over_by b run) ≡ seats_of run
+over-seats true run = refl
+over-seats false run = refl
+
+over-odometer : (b : Bool) (run : Run) → (over_by b run).keeper.odometer ≡ run.keeper.odometer
+over-odometer true run = refl
+over-odometer false run = refl
+
+module _ (o : Origin) (done : List TraceSecond) (s : TraceSecond) (run : Run) (out : Outcome) (d : Devices) (U : State) (chip_a chip_b : CardState) (X Y : State) (lit : run.power ≡ Lit) (number : s.number ≡ run.next) (given : s.has_power ≡ true) (low : first_second ≤ run.next)
+    (going : IsLit ((run.next - 1) / 60) run U chip_a chip_b X Y) where
+  runs : (supply : Supply) → Supplies Lit supply → IsSupplied supply (went (log_of out) done).before run.next → IsGoing (went (log_of out) done).before
+  runs (IsLitBy (t ∷ span)) h power = power
+  runs (IsLitBy []) h power = absurd h
+  runs IsDueBy h power = absurd h
+  runs IsLostBy h power = absurd h
+
+  pub lit-ringed : RunRinged o done run out d → WithinRinged o done s 0 (minute_over run) out d
+  lit-ringed h =
+      let log : RunLog = log_of out in
+      let before : Before = (went log done).before in
+      let r = h.evented.recorded in
+      let goes = runs r.supply (subst (λ (p : Power). Supplies p r.supply) lit r.powers) r.recorded.recorded.followed.power in
+      let t : Told = second_told log before s in
+      let second : IsSecond s before t = second-as log before s (going-power before s goes given) in
+      let starts : t.starts ≡ false = second.starts ∙ ap not goes.running in
+      let odometer : ℕ = run.keeper.odometer in
+      let over : Bool = nat_eq (run.next % 60) 0 in
+      let e = lit-evented o done s run out d U chip_a chip_b X Y lit number given low going h.evented in
+      let now : RingedIn o done s log [] log h.spans odometer t (seats_of run) d = second-begins d o done s log h.spans odometer t (seats_of run)
+      (subst (λ (n : ℕ). RingedBehind o done log n h.spans (seats_of run) d) (sym number) h.ringed) goes.running second in
+      let rings : RingsWithin o done s log [] (minute_over run) log h.spans t d = record {
+        base = subst (λ (n : ℕ). IsLastFrom n (with_second h.spans n t)) (sym (over-odometer over run)) (last-goes_on odometer h.spans t second.lit starts (h.base lit));
+        ringed = subst (λ (n : ℕ). RingedIn o done s log [] log h.spans n t (seats_of (minute_over run)) d) (sym (over-odometer over run))
+            (subst (λ (seats : Card → Option Seating). RingedIn o done s log [] log h.spans odometer t seats d) (sym (over-seats over run)) now);
+      } in
+      record {
+        evented = e.0;
+        front = [];
+        rest = s.actions;
+        are = refl;
+        number = refl;
+        spans = h.spans;
+        told = t;
+        rings = subst (λ (l : RunLog). RingsWithin o done s l [] (minute_over run) log h.spans t d) (sym e.1) rings;
+      }
