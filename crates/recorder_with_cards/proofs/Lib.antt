@@ -48,3 +48,4 @@ pub mod OffRings
 pub mod SecondsRinged
 pub mod BegunRinged
 pub mod SideShown
+pub mod Extended
