@@ -112,5 +112,5 @@ fn an_hour_with_a_driver_is_downloaded(rt: HostRuntime) -> Result<(), Fail> {
 // four insertions, and the words of two slots
 #[test]
 fn a_day_with_two_drivers_is_downloaded(rt: HostRuntime) -> Result<(), Fail> {
-    asks_by_its_frames_alone(&rt, DAY, 623 + 700 + 143 + 267)
+    asks_by_its_frames_alone(&rt, DAY, 623 + 684 + 143 + 267)
 }
