@@ -35,7 +35,6 @@ use Rattle.unit_journal.proofs.Beside.{passes_beside}
 use Rattle.unit_memory.specs.declared.format.Identity.{Identity}
 use Rattle.safety_model.specs.Recording.{Recording, card_image, brought}
 use Rattle.safety_model.specs.Safe.{Devices, card_of, breakdowns_of, MayBegin}
-use Rattle.safety_model.specs.Side.{ShowsSide}
 use Rattle.slot_machine.specs.Kept.{nothing_yet}
 use Rattle.run_crew.specs.declared.cards.Accepted.{Accepted}
 use Rattle.run_crew.specs.declared.cards.Known.{Known}
@@ -56,7 +55,7 @@ use Rattle.run_recorded.specs.Seconds.{empty_log}
 use Rattle.run_recorded.proofs.Ends.{ends-run}
 use Rattle.run_evented.specs.Evented.{limit_in, Evented}
 use Rattle.run_evented.proofs.Ends.{nothing-noted, events-shown}
-use Rattle.run_ringed.specs.Ringed.{Seating, Ringed, notes_in}
+use Rattle.run_ringed.specs.Ringed.{Seating, Ringed, notes_in, ShowsRingsOf}
 use Rattle.run_ringed.specs.SoFar.{AreEarlier, RingedBehind}
 use Rattle.run_ringed.proofs.Rings.{none-noted, fewer-sit}
 use Rattle.run_ringed.proofs.Shown.{rings-shown}
@@ -81,7 +80,7 @@ use Rattle.run_acts.specs.RunRinged.{seats_of, RunRinged}
 use Rattle.run_acts.proofs.Numbers.{own-long}
 use Rattle.recorder_with_cards.specs.Ends.{BeginAs, recorded_with, recording_of, opened_with, origin_of, MayRecord, EndsTrace}
 use Rattle.recorder_with_cards.proofs.Waiting.{first-second}
-use Rattle.recorder_with_cards.proofs.SideShown.{side-shown}
+use Rattle.recorder_with_cards.proofs.SideShown.{insertions-inside, places-inside}
 
 -- what holds of either card
 pub both : (P : Card → Type 0) → P A → P B → (c : Card) → P c
@@ -158,7 +157,13 @@ module _ (x a b : List ℕ) (start : ℕ) (items : List Item) (began now : Devic
       numbers = may.numbers;
     };
     ends = ends-so (seconds_of start items) h.evented.recorded.supply (values_of run out) h.evented.recorded.recorded unit_whole card_whole found may.decodes;
-    side = record { shows = shows };
+    events = λ y left. events-shown began now o (seconds_of start items) (log_of out) run.unfound run.next h.evented.recorded.supply h.evented.evented r refl images refl refl clocks y left;
+    rings = record {
+      spans = h.spans;
+      spans_are = h.ringed.spans_are;
+      insertions = λ y left dense. (shown y left).insertions (record { points = insertions-inside x may.decodes; dense = dense });
+      places = λ y left dense. (shown y left).places (record { points = places-inside x may.decodes; dense = dense });
+    };
   }
     where
       r : Recording
@@ -170,12 +175,8 @@ module _ (x a b : List ℕ) (start : ℕ) (items : List Item) (began now : Devic
       clocks : (c : Card) → (found_of o.found c).began ≡ (card_of began c).clock
       clocks = both (λ c. (found_of o.found c).began ≡ (card_of began c).clock) refl refl
 
-      shows : (y : List ℕ) → now.unit.may_leave y → ShowsSide r began now y
-      shows y left =
-          side-shown r began now y may.decodes
-          (events-shown began now o (seconds_of start items) (log_of out) run.unfound run.next h.evented.recorded.supply h.evented.evented r refl images refl refl clocks y left)
-          h.spans (record { spans_are = h.ringed.spans_are; bases = h.stored.bases }) (h.stored.stored y left)
-          (rings-shown began now o (log_of out) h.spans (notes_in (log_of out) (seconds_of start items)) (seats_of run) h.ringed.ringed r refl images refl refl clocks y left)
+      shown : (y : List ℕ) → now.unit.may_leave y → ShowsRingsOf r h.spans began now y
+      shown y left = rings-shown began now o (log_of out) h.spans (notes_in (log_of out) (seconds_of start items)) (seats_of run) h.ringed.ringed r refl images refl refl clocks y left
 
 -- ---- as the run begins
 

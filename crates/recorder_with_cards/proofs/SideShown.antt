@@ -13,10 +13,10 @@ use Rattle.run_evented.specs.Evented.{ShowsEventsOf}
 use Rattle.run_ringed.specs.Ringed.{ShowsRingsOf}
 
 -- the pointers of a unit that decodes point inside its rings
-insertions-inside : (x : List ℕ) → Decodes x → PointsInside insertion_ring x
+pub insertions-inside : (x : List ℕ) → Decodes x → PointsInside insertion_ring x
 insertions-inside x decodes = (passes_beside x decodes).insertions
 
-places-inside : (x : List ℕ) → Decodes x → PointsInside unit_place_ring x
+pub places-inside : (x : List ℕ) → Decodes x → PointsInside unit_place_ring x
 places-inside x decodes = (passes_beside x decodes).places
 
 pub side-shown : (r : Recording) (began now : Devices) (x : List ℕ) → Decodes r.unit → ShowsEventsOf r began now x → (spans : List SpanFrom) → AreSpansFrom r.rule r.log (told_of r) (odometer_at r.unit) (last_kept r.unit) spans →
