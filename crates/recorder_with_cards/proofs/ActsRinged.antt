@@ -10,6 +10,7 @@ use Rattle.trace_model.specs.Trace.{TraceSecond}
 use Rattle.minute_rules.specs.Kept.{Kept as Minutes}
 use Rattle.log_model.specs.declared.lines.Break.{Break}
 use Rattle.log_model.specs.declared.lines.Break.TheVariants.{Tear}
+use Rattle.log_model.specs.declared.lines.Find.{Find}
 use Rattle.log_model.specs.declared.lines.Refused.{Refused}
 use Rattle.log_model.specs.declared.lines.SlotFault.{SlotFault}
 use Rattle.log_model.specs.Log.{RunLog, In, cut_in, is_torn_in, found_in}
@@ -89,11 +90,12 @@ ringed-cuts o done s began begun mid new told after e spans t number evented fro
 -- no device was called, and fewer cards are accepted, or the same
 passes-by : (d : Devices) (o : Origin) (done : List TraceSecond) (s : TraceSecond) (began log later : RunLog) (front : List Action) (a : Action) (spans : List SpanFrom) (t : Told) (run new : Run) → RingsWithin o done s began front run log spans t d →
     GoesOnTo log later s front → NotesMore later (went began done).before s front a [] → new.keeper.odometer ≡ run.keeper.odometer → ((c : Card) → (seats_of new c ≡ seats_of run c) ⊎ (seats_of new c ≡ None)) →
-    RingsWithin o done s began (front ++ a ∷ []) new later spans t d
-passes-by d o done s began log later front a spans t run new rings goes none same fewer =
+    new.noted ≡ run.noted → later.finds ≡ log.finds → RingsWithin o done s began (front ++ a ∷ []) new later spans t d
+passes-by d o done s began log later front a spans t run new rings goes none same fewer noted finds =
     let on = passes d d o done s began log later front a spans run.keeper.odometer t (seats_of run) (seats_of new) rings.ringed goes none (rings-left d.unit) (left-itself o d) fewer in
     record {
       base = subst (λ (n : ℕ). IsLastFrom n (with_second spans n t)) (sym same) rings.base;
+      counted = let was = rings.counted in let many = ap (λ (fs : List Find). length fs) finds in omega (arith, was, noted, many);
       ringed = subst (λ (n : ℕ). RingedIn o done s began (front ++ a ∷ []) later spans n t (seats_of new) d) (sym same) on;
     }
 
@@ -101,7 +103,7 @@ passes-by d o done s began log later front a spans t run new rings goes none sam
 pub selected-ringed : (d : Devices) (slot : Slot) (pick : Pick) (begun speed : ℕ) (run : Run) (minutes : Minutes) (out : Outcome) → RingsAction (Select slot pick) begun speed false run (record run { minutes = minutes }) out out d d
 selected-ringed d slot pick begun speed run minutes out o done s now front rest are is allowed w spans t rings time =
     passes-by d o done s w.within.b.run.log (log_of out) (log_of out) front (Select slot pick) spans t run (record run { minutes = minutes }) rings (goes-still (log_of out) s front w.within.moment.up_to.uncut)
-    (selections (log_of out) (went w.within.b.run.log done).before s front slot pick) refl (λ c. inl refl)
+    (selections (log_of out) (went w.within.b.run.log done).before s front slot pick) refl (λ c. inl refl) refl refl
 
 -- a card is pulled out
 pulled-seats : (card : Card) (second : ℕ) (run : Run) (c : Card) → (seats_of (with_cabin (torn_out card second run.keeper.cabin) run) c ≡ seats_of run c) ⊎ (seats_of (with_cabin (torn_out card second run.keeper.cabin) run) c ≡ None)
@@ -126,7 +128,7 @@ pulled-ringed d slot begun speed run out o done s now front rest are is allowed 
     by (Some card) some one =
         let new : Run = with_cabin (torn_out card run.next run.keeper.cabin) run in
         let told = passes-by d o done s w.within.b.run.log log (and_break log line) front (Pull slot) spans t run new rings (goes-torn log s front slot false w.within.moment.up_to.uncut)
-        (pulls (and_break log line) (went w.within.b.run.log done).before s front slot) refl (pulled-seats card run.next run) in
+        (pulls (and_break log line) (went w.within.b.run.log done).before s front slot) refl (pulled-seats card run.next run) refl refl in
         subst (λ (u : ℕ). RingsWithin o done s w.within.b.run.log (front ++ Pull slot ∷ []) new (and_break log (Tear u slot false begun false)) spans t d) now.number
         (subst (λ (k : ℕ). RingsWithin o done s w.within.b.run.log (front ++ Pull slot ∷ []) new (and_break log (Tear s.number slot false k false)) spans t d) (sym is) told)
 
@@ -150,7 +152,7 @@ refused-ringed o done s speed run before d now front a rest are h fault is after
     let same : course_behind log was s front ≡ course_at log was s (In (length front)) = behind-at log was s front (a ∷ rest) are uncut few in
     let faults : refusal (course_behind log was s front).slots s.speed a ≡ Some fault = ap (λ (c : Course). refusal c.slots s.speed a) same ∙ refuses o done s speed run before d now front a rest are w (Some fault) is in
     let none : NotesMore later was s front a [] = refusals later was s front a fault (ap (λ (c : Course). refusal c.slots s.speed a) (behind-refused log was s front line) ∙ faults) in
-    let rings = passes-by d o done s w.within.b.run.log log later front a h.spans h.told run run (at-front o done s run before d front (a ∷ rest) are h) goes none refl (λ c. inl refl) in
+    let rings = passes-by d o done s w.within.b.run.log log later front a h.spans h.told run run (at-front o done s run before d front (a ∷ rest) are h) goes none refl (λ c. inl refl) refl refl in
     let all : s.actions ≡ (front ++ a ∷ []) ++ rest = are ∙ sym (append_assoc front (a ∷ []) rest) in
     let number : length (front ++ a ∷ []) ≡ suc (length front) = let long = length-append front (a ∷ []) in omega (arith, long) in
     ringed-on o done s (length front) (suc (length front)) run run before after d d h (front ++ a ∷ []) rest all number (refused o done s speed run before d now front a rest are w fault is after told)

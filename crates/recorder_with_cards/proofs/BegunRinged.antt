@@ -1,5 +1,5 @@
 -- A second begins behind one with power: nothing of its rings is noted yet.
-use Rattle.std.proofs.Common.{◌≡◌, ◌∙◌, ℕ, ◌-◌, ◌/◌, ◌%◌, ◌≤◌, Bool, true, false, not, nat_eq, Option, List, [], ◌∷◌, ◌++◌, cond, refl, ap, sym, subst}
+use Rattle.std.proofs.Common.{◌≡◌, ◌∙◌, ℕ, ◌-◌, ◌/◌, ◌%◌, ◌≤◌, Bool, true, false, not, nat_eq, Option, List, [], ◌∷◌, ◌++◌, cond, refl, ap, sym, subst, arith}
 use Rattle.trace_model.specs.declared.Card.{Card}
 use Rattle.trace_model.specs.Trace.{TraceSecond}
 use Rattle.tach_media.specs.Medium.{State}
@@ -53,6 +53,10 @@ over-seats : (b : Bool) (run : Run) → seats_of (over_by b run) ≡ seats_of ru
 over-seats true run = refl
 over-seats false run = refl
 
+over-noted : (b : Bool) (run : Run) → (over_by b run).noted ≡ run.noted
+over-noted true run = refl
+over-noted false run = refl
+
 over-odometer : (b : Bool) (run : Run) → (over_by b run).keeper.odometer ≡ run.keeper.odometer
 over-odometer true run = refl
 over-odometer false run = refl
@@ -81,6 +85,7 @@ module _ (o : Origin) (done : List TraceSecond) (s : TraceSecond) (run : Run) (o
       (subst (λ (n : ℕ). RingedBehind o done log n h.spans (seats_of run) d) (sym number) h.ringed) goes.running second in
       let rings : RingsWithin o done s log [] (minute_over run) log h.spans t d = record {
         base = subst (λ (n : ℕ). IsLastFrom n (with_second h.spans n t)) (sym (over-odometer over run)) (last-goes_on odometer h.spans t second.lit starts (h.base lit));
+        counted = let was = h.counted in let noted = over-noted over run in omega (arith, was, noted);
         ringed = subst (λ (n : ℕ). RingedIn o done s log [] log h.spans n t (seats_of (minute_over run)) d) (sym (over-odometer over run))
             (subst (λ (seats : Card → Option Seating). RingedIn o done s log [] log h.spans odometer t seats d) (sym (over-seats over run)) now);
       } in

@@ -48,4 +48,3 @@ pub mod OffRings
 pub mod SecondsRinged
 pub mod BegunRinged
 pub mod SideShown
-pub mod Extended

@@ -328,11 +328,12 @@ module _ (x a b : List ℕ) (start : ℕ) (began now : Devices) (opened : Opened
     -- and nothing of its rings
     pub starts-ringed : (run : Run) (out : Outcome) → run.power ≡ Due → run.next ≡ start → run.begun ≡ 0 → run.unfound ≡ 0 → run.keeper.memory ≡ opened.unit.memory → run.keeper.cabin.slots ≡ nothing_yet →
         ((c : Card) → known_in run.keeper.cabin.cards c ≡ known_of opened c) → ((c : Card) → session_of run.keeper.cabin.cards c ≡ None) → out.breaks.items ≡ [] → out.refused.items ≡ [] → out.finds.items ≡ [] → out.marks.items ≡ [] →
-        RunRinged first-o [] run out now
-    starts-ringed run out due next begun unfound memory slots same bare breaks refused finds marks = record {
+        run.noted ≡ 0 → RunRinged first-o [] run out now
+    starts-ringed run out due next begun unfound memory slots same bare breaks refused finds marks noted = record {
       evented = starts-evented run out due next begun unfound memory slots same bare breaks refused finds marks;
       spans = [];
       base = λ lit. absurd (let bad : Due ≡ Lit = sym due ∙ lit in cc);
+      counted = omega (arith, noted);
       ringed = rings-behind (log_of out) run.next (seats_of run) (λ c. ap (λ (session : Option Accepted). option_map (seating_of run.noted) session) (bare c));
     }
       where

@@ -1,5 +1,5 @@
 -- What seconds of a run leave of its rings: without power, and of an `off` line.
-use Rattle.std.proofs.Common.{◌≡◌, ◌∙◌, ◌⊎◌, inl, inr, ℕ, zero, suc, ◌+◌, ◌-◌, ◌%◌, ◌<◌, ◌≤◌, Bool, true, false, Option, Some, None, List, [], ◌∷◌, ◌++◌, All, refl, ap, sym, subst, arith, append-nil}
+use Rattle.std.proofs.Common.{◌≡◌, ◌∙◌, ◌⊎◌, inl, inr, ℕ, zero, suc, ◌+◌, ◌-◌, ◌%◌, ◌<◌, ◌≤◌, Bool, true, false, Option, Some, None, List, [], ◌∷◌, ◌++◌, All, length, refl, ap, sym, subst, arith, append-nil}
 use Rattle.std.proofs.lemmas.List.Elements.{All-nil, All-cons}
 use Rattle.trace_model.specs.declared.Action.{Action}
 use Rattle.trace_model.specs.declared.Card.{Card}
@@ -105,6 +105,11 @@ dark-seats : (n : ℕ) (run : Run) (c : Card) → seats_of (record (darkened tru
 dark-seats n run A = refl
 dark-seats n run B = refl
 
+-- and as many insertions were noted
+dark-noted : (lit : Bool) (run : Run) → (darkened lit run).noted ≡ run.noted
+dark-noted true run = refl
+dark-noted false run = refl
+
 -- ---- of a run
 
 module _ (o : Origin) (done : List TraceSecond) (old : Run) (before : Outcome) (d : Devices) (h : RunRinged o done old before d) where
@@ -129,6 +134,7 @@ module _ (o : Origin) (done : List TraceSecond) (old : Run) (before : Outcome) (
         evented = dark-evented o done old before d h.evented (suc n) speed begun actions some away_ fits new after is told;
         spans = h.spans;
         base = λ lit. absurd (let bad : Lost ≡ Lit = sym power ∙ lit in cc);
+        counted = let was = h.counted in let noted = ap (λ (x : Run). x.noted) is in let many = ap (λ (q : Outcome). length q.finds.items) told in omega (arith, was, noted, many);
         ringed = subst (λ (x : Run). RingedBehind o (done ++ driven (suc n) old.next speed actions) (log_of after) x.next h.spans (seats_of x) d) (sym is)
             (subst (λ (q : Outcome). RingedBehind o (done ++ driven (suc n) old.next speed actions) (log_of q) (old.next + suc n) h.spans (seats_of old) d) (sym told) one);
       }
@@ -143,6 +149,7 @@ module _ (o : Origin) (done : List TraceSecond) (old : Run) (before : Outcome) (
         evented = off-evented o done old before d h.evented (suc n) some breaks told new is;
         spans = rings.0;
         base = λ lit. absurd (let bad : Due ≡ Lit = sym power ∙ lit in cc);
+        counted = let was = h.counted in let noted = ap (λ (x : Run). x.noted) is ∙ dark-noted (is_lit old.power) old in omega (arith, was, noted);
         ringed = subst (λ (x : Run). RingedBehind o (done ++ dark (suc n) old.next) (log_of (record before { breaks = breaks })) x.next rings.0 (seats_of x) d) (sym is)
             (subst (λ (l : Listed Break). RingedBehind o (done ++ dark (suc n) old.next) (log_of (record before { breaks = l })) (old.next + suc n) rings.0 (seats_of (off_run (suc n) old)) d) (sym told) rings.1);
       }

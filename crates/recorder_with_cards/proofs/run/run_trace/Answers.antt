@@ -127,7 +127,7 @@ loop-i-init g c =
           run c.args.outcome.now c.new-run.ensures.power next c.new-run.ensures.begun c.new-run.ensures.unfound (ap (λ (k : Keeper). k.memory) keeper) slots
           (both (λ k. known_in run.keeper.cabin.cards k ≡ known_of opened k) (ap (λ (k : Keeper). k.cabin.cards.a) keeper) (ap (λ (k : Keeper). k.cabin.cards.b) keeper))
           (none-yet run.keeper.cabin.cards a_none b_none)
-          (ap (λ (l : Listed Break). l.items) q.reserved.breaks) (ap (λ (l : Listed Refused). l.items) q.reserved.refused) (ap (λ (l : Listed Find). l.items) q.reserved.finds) (ap (λ (l : Listed Mark). l.items) q.reserved.marks));
+          (ap (λ (l : Listed Break). l.items) q.reserved.breaks) (ap (λ (l : Listed Refused). l.items) q.reserved.refused) (ap (λ (l : Listed Find). l.items) q.reserved.finds) (ap (λ (l : Listed Mark). l.items) q.reserved.marks) c.new-run.ensures.noted);
     }
 
 -- ---- an item
