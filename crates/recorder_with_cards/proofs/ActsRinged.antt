@@ -82,7 +82,8 @@ ringed-cuts o done s began begun mid new told after e spans t number evented fro
     record {
       evented = evented;
       spans = now;
-      ringed = subst (λ (l : RunLog). RingedBehind o (done ++ s ∷ []) l (suc new.next) now nobody e) log (subst (λ (n : ℕ). RingedBehind o (done ++ s ∷ []) (with_cut (log_of told) s front) (suc n) now nobody e) next rings);
+      counted = let was = rings.counted in let noted = ap (λ (r : Run). r.noted) is in let many = ap (λ (q : Outcome). length q.finds.items) after_is in omega (arith, was, noted, many);
+      ringed = subst (λ (l : RunLog). RingedBehind o (done ++ s ∷ []) l (suc new.next) now nobody e) log (subst (λ (n : ℕ). RingedBehind o (done ++ s ∷ []) (with_cut (log_of told) s front) (suc n) now nobody e) next rings.ringed);
     }
 
 -- ---- an action that notes nothing

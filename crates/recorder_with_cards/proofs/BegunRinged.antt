@@ -14,7 +14,7 @@ use Rattle.run_course.specs.Followed.{IsSupplied, IsGoing}
 use Rattle.run_course.proofs.Told.{going-power}
 use Rattle.run_outcome.specs.declared.outcome.Outcome.{Outcome}
 use Rattle.run_recorded.specs.Origin.{Origin}
-use Rattle.run_rings.specs.Spans.{go_on_from, with_second}
+use Rattle.run_rings.specs.Spans.{with_second}
 use Rattle.run_ringed.specs.Ringed.{Seating}
 use Rattle.run_ringed.specs.SoFar.{RingedBehind, IsSecond, RingedIn}
 use Rattle.run_ringed.proofs.SoFar.{second-begins}
@@ -25,28 +25,12 @@ use Rattle.run_acts.specs.Power.{over_by, minute_over}
 use Rattle.run_acts.specs.Going.{first_second, IsLit}
 use Rattle.run_acts.specs.Recording.{log_of, Supplies, RunRecorded}
 use Rattle.run_acts.specs.RunRinged.{seats_of, IsLastFrom, RunRinged, RingsWithin, WithinRinged}
+use Rattle.run_acts.proofs.RingedSecond.{goes-last}
 use Rattle.recorder_with_cards.proofs.BegunEvented.{lit-evented}
 
 -- a second with power, as its spans have it
 pub second-as : (log : RunLog) (before : Before) (s : TraceSecond) → has_power before s ≡ true → IsSecond s before (second_told log before s)
 second-as log before s power = rw power (record { number = refl; speed = refl; lit = refl; starts = refl })
-
--- the last span goes on
-goes-last : (front : List SpanFrom) (last : SpanFrom) (base : ℕ) (t : Told) → go_on_from (front ++ last ∷ []) base t ≡ front ++ record { base = last.base; span = last.span ++ t ∷ [] } ∷ []
-goes-last [] last base t = refl
-goes-last (x ∷ []) last base t = refl
-goes-last (x ∷ y ∷ front) last base t = ap (λ (l : List SpanFrom). x ∷ l) (goes-last (y ∷ front) last base t)
-
-pub last-goes_on : (base : ℕ) (spans : List SpanFrom) (t : Told) → t.lit ≡ true → t.starts ≡ false → IsLastFrom base spans → IsLastFrom base (with_second spans base t)
-last-goes_on base spans t lit starts is =
-    let more : SpanFrom = record { base = is.1.base; span = is.1.span ++ t ∷ [] } in (
-      is.0,
-      more,
-      ap (λ (b : Bool). cond b (cond t.starts (spans ++ record { base = base; span = t ∷ [] } ∷ []) (go_on_from spans base t)) spans) lit
-          ∙ ap (λ (b : Bool). cond b (spans ++ record { base = base; span = t ∷ [] } ∷ []) (go_on_from spans base t)) starts
-          ∙ ap (λ (l : List SpanFrom). go_on_from l base t) is.2 ∙ goes-last is.0 is.1 base t,
-      is.3,
-    )
 
 -- as a minute is over the cards are accepted as before, and so is the odometer
 over-seats : (b : Bool) (run : Run) → seats_of (over_by b run) ≡ seats_of run
@@ -84,7 +68,7 @@ module _ (o : Origin) (done : List TraceSecond) (s : TraceSecond) (run : Run) (o
       let now : RingedIn o done s log [] log h.spans odometer t (seats_of run) d = second-begins d o done s log h.spans odometer t (seats_of run)
       (subst (λ (n : ℕ). RingedBehind o done log n h.spans (seats_of run) d) (sym number) h.ringed) goes.running second in
       let rings : RingsWithin o done s log [] (minute_over run) log h.spans t d = record {
-        base = subst (λ (n : ℕ). IsLastFrom n (with_second h.spans n t)) (sym (over-odometer over run)) (last-goes_on odometer h.spans t second.lit starts (h.base lit));
+        base = subst (λ (n : ℕ). IsLastFrom n (with_second h.spans n t)) (sym (over-odometer over run)) (goes-last odometer h.spans t second.lit starts (h.base lit));
         counted = let was = h.counted in let noted = over-noted over run in omega (arith, was, noted);
         ringed = subst (λ (n : ℕ). RingedIn o done s log [] log h.spans n t (seats_of (minute_over run)) d) (sym (over-odometer over run))
             (subst (λ (seats : Card → Option Seating). RingedIn o done s log [] log h.spans odometer t seats d) (sym (over-seats over run)) now);
