@@ -61,3 +61,4 @@ pub mod TurnMany
 pub mod TurnRecorded
 pub mod Ringing
 pub mod Uncut
+pub mod Stored
