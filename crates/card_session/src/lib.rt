@@ -23,3 +23,6 @@ pub use laws::{
 };
 pub use session::{CardSession, Kept};
 pub use words::LATEST_MINUTE;
+
+#[cfg(test)]
+mod tests;

@@ -8,8 +8,6 @@ mod images;
 mod judge_tests;
 mod keeping;
 #[cfg(test)]
-mod session_tests;
-#[cfg(test)]
 mod step_tests;
 #[cfg(test)]
 mod tests;

@@ -7,11 +7,11 @@ ghost use Rattle.card_judge.specs.Judged.{TellsSizes};
 ghost use Rattle.card_session.specs.declared.words.TheConstants.{LATEST_MINUTE};
 ghost use Rattle.card_session.specs.Inserting.{AreOwed};
 
+use super::*;
 use activity_codec::{Activity, Entry, Owed, Pick, Slot};
 use card_files::{CardIdentity, blank_card, image_size, read_application};
 use card_judge::InsertFault;
 use card_layout::{Application, Fid};
-use card_session::{CardSession, Inserted, Kept, LATEST_MINUTE};
 use std::alloc::Global;
 use std::test::Fail;
 use tach_media::{Failed, Left, Medium, MemMedium, Memory, Stop};

@@ -3,7 +3,7 @@ use Rattle.card_layout.specs.Application.{first_bad_field}
 use Rattle.card_layout.specs.Files.{files_of}
 use Rattle.tach_media.specs.Log.{History, image_of}
 use Rattle.tach_media.specs.Medium.{bytes_at}
-use Rattle.worked_rows.proofs.card.session_tests.sizes_of.Goals as goal
+use Rattle.card_session.proofs.tests.sizes_of.Goals as goal
 
 pub returns-in-Ok-clause-told : goal.returns-in-Ok-clause-told
 unfolding files_of

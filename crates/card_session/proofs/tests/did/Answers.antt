@@ -3,7 +3,7 @@ use Rattle.card_layout.specs.declared.files.Application.{Application}
 use Rattle.tach_media.specs.MemMedium.{memory_state}
 use Rattle.card_session.specs.Sessions.{Session, MayKeep}
 use Rattle.card_session.proofs.Memory.{may_keep}
-use Rattle.worked_rows.proofs.card.session_tests.did.Goals as goal
+use Rattle.card_session.proofs.tests.did.Goals as goal
 
 pub keep-requires-clause-card : goal.keep-requires-clause-card
 keep-requires-clause-card c =

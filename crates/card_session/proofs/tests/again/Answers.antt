@@ -1,5 +1,5 @@
 use Rattle.std.proofs.Common.{◌/◌, ◌<◌, arith}
-use Rattle.worked_rows.proofs.card.session_tests.again.Goals as goal
+use Rattle.card_session.proofs.tests.again.Goals as goal
 
 pub inserted-requires-clause-owed : goal.inserted-requires-clause-owed
 inserted-requires-clause-owed c = c.four-owed.ensures 1267437900 (omega arith)

@@ -3,7 +3,7 @@ use Rattle.card_layout.specs.declared.files.Application.{Application}
 use Rattle.tach_media.specs.MemMedium.{memory_state}
 use Rattle.card_session.specs.Sessions.{Session, MayClose}
 use Rattle.card_session.proofs.Memory.{may_close}
-use Rattle.worked_rows.proofs.card.session_tests.withdrawn.Goals as goal
+use Rattle.card_session.proofs.tests.withdrawn.Goals as goal
 
 pub close-requires : goal.close-requires
 close-requires c = record {

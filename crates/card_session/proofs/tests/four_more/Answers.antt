@@ -2,7 +2,7 @@ use Rattle.std.proofs.Common.{◌≡◌, ℕ, ◌/◌, ◌<◌, List, [], ◌∷
 use Rattle.std.proofs.lemmas.List.Elements.{All-from_recursion}
 use Rattle.activity_codec.specs.declared.entries.Entry.{Entry}
 use Rattle.card_session.specs.Inserting.{AreOwed}
-use Rattle.worked_rows.proofs.card.session_tests.four_more.Goals as goal
+use Rattle.card_session.proofs.tests.four_more.Goals as goal
 
 -- four entries of the day, one after the other
 owed : (now : ℕ) (a b c d : Entry) → a.minute ≡ 21123960 → b.minute ≡ 21123961 → c.minute ≡ 21123963 → d.minute ≡ 21123964 → 21123964 < now / 60 → AreOwed now (a ∷ b ∷ c ∷ d ∷ [])
