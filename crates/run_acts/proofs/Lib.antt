@@ -62,3 +62,4 @@ pub mod TurnRecorded
 pub mod Ringing
 pub mod Uncut
 pub mod Stored
+pub mod StoredRun

@@ -21,7 +21,7 @@ use Rattle.log_model.specs.Causes.{second_of}
 use Rattle.log_model.specs.Course.{Told, Visit, Went, went}
 use Rattle.log_model.specs.Log.{RunLog, Phase}
 use Rattle.log_model.specs.Spans.{seconds_in, first_in, end_in, spans_with, spans_of, AreApart}
-use Rattle.log_model.proofs.Spans.{spans-more}
+use Rattle.log_model.proofs.Spanning.{spans-more}
 use Rattle.log_model.proofs.Spanning.{spanned}
 use Rattle.history_model.specs.Minutes.{HistoryMinute}
 use Rattle.history_model.specs.Presence.{Start}
