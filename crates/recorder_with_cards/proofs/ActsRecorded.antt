@@ -29,7 +29,7 @@ use Rattle.run_keeping.specs.Keeping.{with_lines}
 use Rattle.run_within.specs.Recorded.{Values, Recorded}
 use Rattle.run_within.specs.Within.{Beginning, Within, GoesOn, course_in, told_before, refused_values, heard_values, cut_values, passed_values}
 use Rattle.run_within.proofs.Acting.{refusal-recorded, selection-recorded}
-use Rattle.run_within.proofs.Cutting.{cut-recorded}
+use Rattle.run_within.proofs.Cutting.{cut-recorded, recounted}
 use Rattle.run_acts.specs.declared.run.Run.{Run}
 use Rattle.run_acts.specs.declared.run.Power.{Power}
 use Rattle.run_acts.specs.declared.run.Power.TheVariants.{Lit, Lost}
@@ -102,8 +102,8 @@ left front rest a s here are = (front ++ a ∷ [], are ∙ sym (append_assoc fro
 pub cut : (o : Origin) (done : List TraceSecond) (s : TraceSecond) (begun : ℕ) (rest : List Action) (run new : Run) (out after : Outcome) (d : Devices) → IsOrigin o → s.number ≡ run.next → IsLeft s (In begun) rest
     → RunFails o done s (In begun) run out d → new ≡ cut_run run.next run → after ≡ record out { breaks = with_lines (cut_at run.next true begun ∷ []) out.breaks } → RunCut o done s new after d
 cut o done s begun rest run new out after d origin number left fails is told =
-    let v : Values = record (values_of run out) { cabin = fails.cabin } in
-    let r = cut-recorded o done s (In begun) fails.waits None v d fails.within rest left in
+    let v : Values = record (values_of run out) { cabin = fails.cabin; odometer = fails.odometer } in
+    let r = recounted o (done ++ s ∷ []) (cut_values s (In begun) v) d run.keeper.odometer (cut-recorded o done s (In begun) fails.waits None v d fails.within rest left) in
     subst (λ (x : Outcome). RunCut o done s new x d) (sym told)
     (subst (λ (x : Run). RunCut o done s x (record out { breaks = with_lines (cut_at run.next true begun ∷ []) out.breaks }) d) (sym is)
     (subst (λ (u : ℕ). RunCut o done s (cut_run u run) (record out { breaks = with_lines (cut_at u true begun ∷ []) out.breaks }) d) number

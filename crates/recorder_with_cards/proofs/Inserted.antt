@@ -125,7 +125,7 @@ module _ (slot : Slot) (card : Card) (at : Moment) (speed : ℕ) (old : Run) (be
       pub unsettled : failed ≡ true → RunFails o done s (In at.begun) mid told e
       unsettled fails =
           let cut = subst (λ (f : Bool). SettlesTo f o done s (In (suc n)) waits waiting.within.b waiting.within.from (waiting.within.from + length decided) (put_run slot card old) mid before told e) fails kept in
-          subst (λ (m : ℕ). RunFails o done s (In m) mid told e) (sym begun) (record { waits = waits; cabin = mid.keeper.cabin; same = refl; within = cut })
+          subst (λ (m : ℕ). RunFails o done s (In m) mid told e) (sym begun) (record { waits = waits; cabin = mid.keeper.cabin; same = refl; odometer = mid.keeper.odometer; counted = λ power. refl; within = cut })
 
       -- or they are kept, and the card is judged
       module _ (well : failed ≡ false) (seat : seat_in mid.keeper.cabin.slots.seats slot ≡ Some (record { card = card; newest = None })) where

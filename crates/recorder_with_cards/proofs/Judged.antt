@@ -56,7 +56,7 @@ judged-by false o done s n waits fewer old new before after d e w lit odometer h
   began = h.began;
   from = h.from;
 }
-judged-by true o done s n waits fewer old new before after d e w lit odometer h = record { waits = h.left; cabin = h.cabin; same = h.same; within = h.within }
+judged-by true o done s n waits fewer old new before after d e w lit odometer h = record { waits = h.left; cabin = h.cabin; same = h.same; odometer = new.keeper.odometer; counted = λ power. refl; within = h.within }
 
 -- ---- what is noted
 

@@ -134,6 +134,7 @@ module _ (o : Origin) (done : List TraceSecond) (supply : Supply) (v : Values) (
     read-on = record {
       book = r.book;
       travel = r.travel;
+      odometer = r.odometer;
       due = r.due;
       standing = r.standing;
       brought = r.brought;

@@ -60,14 +60,14 @@ use Rattle.run_entering.specs.declared.lines.Entering.{Entering}
 use Rattle.run_entering.specs.Entering.{Ending, Unfit, Ahead, Fell, Unasked, Unnoted, Seated, Lost, ending_of, find_of, finds_by}
 use Rattle.run_within.specs.Recorded.{Values, progress, carried, slots_of, IsOff, Recorded}
 use Rattle.run_within.specs.Within.{Beginning, Within, CutWithin}
-use Rattle.run_within.specs.Powering.{read_values, begun_values, begun_again, IsBack, IsOnlyRead}
+use Rattle.run_within.specs.Powering.{odometer_found, counted_from, read_values, begun_values, begun_again, IsBack, IsOnlyRead}
 use Rattle.run_within.specs.Waking.{IsWaking, both_slots}
 use Rattle.run_within.proofs.Powering.{off-of, power-wakes, mending-fails}
 use Rattle.run_within.proofs.Calls.{is-back, only-read}
 use Rattle.run_within.proofs.Waking.{but-first, next-waking, find-other}
 use Rattle.run_acts.specs.declared.run.Run.{Run}
 use Rattle.run_acts.specs.declared.run.Power.TheVariants.{Lit}
-use Rattle.run_acts.specs.Power.{IsSpanBegun}
+use Rattle.run_acts.specs.Power.{IsSpanBegun, is_lit}
 use Rattle.run_acts.specs.Recording.{IsOrigin, log_of, values_of, RunWithin, ComesPower, GoesOnOrCut, GoesOnOrFails}
 use Rattle.run_acts.proofs.NoteRecorded.{same-course}
 use Rattle.recorder_with_cards.specs.Accepting.{IsBare, IsAccepted, IsAnew}
@@ -199,15 +199,27 @@ module _ (o : Origin) (origin : IsOrigin o) (done : List TraceSecond) (s : Trace
     cabin : new.keeper.cabin ≡ old.keeper.cabin
     cabin = ap (λ (k : Keeper). k.cabin) begun.keeper
 
-    became : values_of new out ≡ record (values_of old out) { minutes = new.minutes }
+    image-behind : (y : List ℕ) × (W.image ≡ Some y)
+    image-behind = image-of W.image (tells ∙ ap is_some has-image.1)
+
+    odometer : new.keeper.odometer ≡ odometer_after (odometer_at o.recording.unit) b.travel.before
+    odometer =
+        ap (λ (k : Keeper). k.odometer) begun.keeper
+        ∙ sym (at-image (Agrees journal) W.image image-behind.0 image-behind.1 agrees).odometer
+        ∙ odometer-found (odometer_at o.recording.unit) (found (last_kept has-image.0) r.book) back.leg r.travel W image-behind.0 back.travels (after.is_left image-behind.0 image-behind.1)
+
+    became : values_of new out ≡ record (values_of old out) { minutes = new.minutes; odometer = new.keeper.odometer }
     became =
         ap (λ (c : Cabin). record (values_of new out) { cabin = c }) cabin
         ∙ ap (λ (n : ℕ). record (values_of new out) { cabin = old.keeper.cabin; unfound = n }) begun.unfound
         ∙ ap (λ (n : ℕ). record (values_of new out) { cabin = old.keeper.cabin; unfound = old.unfound; next = n }) begun.next
         ∙ ap (λ (n : ℕ). record (values_of new out) { cabin = old.keeper.cabin; unfound = old.unfound; next = old.next; begun = n }) begun.begun
 
-    are-begun : values_of new out ≡ begun_values (last_kept has-image.0) new.minutes v
-    are-begun = became ∙ ap (λ (x : Values). record x { minutes = new.minutes }) (values ∙ ap (λ (k : ℕ). read_values k v) (sym kept-is))
+    are-begun : values_of new out ≡ counted_from (odometer_found o r.travel.before back.leg) (begun_values (last_kept has-image.0) new.minutes v)
+    are-begun =
+        became
+        ∙ ap (λ (x : Values). record x { minutes = new.minutes; odometer = new.keeper.odometer }) (values ∙ ap (λ (k : ℕ). read_values k v) (sym kept-is))
+        ∙ ap (λ (n : ℕ). counted_from n (begun_values (last_kept has-image.0) new.minutes v)) odometer
 
     off : IsOff o done v (carried v r.due r.book r.standing r.brought) d
     off = off-of o done supply v (carried v r.due r.book r.standing r.brought) d may r.held
@@ -225,15 +237,6 @@ module _ (o : Origin) (origin : IsOrigin o) (done : List TraceSecond) (s : Trace
         subst (λ (xs : List Visit). IsWaking o done s b (values_of new out) e xs both_slots) waits
         (subst (λ (x : Values). IsWaking o done s b x e (fresh true (slots_of v done)).entered both_slots) (sym are-begun)
         (power-wakes d e o done s supply v r may number given (last_kept has-image.0) new.minutes back))
-
-    image-behind : (y : List ℕ) × (W.image ≡ Some y)
-    image-behind = image-of W.image (tells ∙ ap is_some has-image.1)
-
-    odometer : new.keeper.odometer ≡ odometer_after (odometer_at o.recording.unit) b.travel.before
-    odometer =
-        ap (λ (k : Keeper). k.odometer) begun.keeper
-        ∙ sym (at-image (Agrees journal) W.image image-behind.0 image-behind.1 agrees).odometer
-        ∙ odometer-found (odometer_at o.recording.unit) (found (last_kept has-image.0) r.book) back.leg r.travel W image-behind.0 back.travels (after.is_left image-behind.0 image-behind.1)
 
     pub awake : (begins : Beginning) × RunWaking o done s begins (waiting_in Driver (card_in new.keeper.cabin.slots.seats.driver) ++ waiting_in CoDriver (card_in new.keeper.cabin.slots.seats.codriver)) both_slots new out (devices W X Y)
     awake = (b, record { origin = origin; lit = begun.power; waking = wakes; odometer = odometer })
@@ -256,17 +259,20 @@ module _ (o : Origin) (origin : IsOrigin o) (done : List TraceSecond) (s : Trace
         broke = read.broke;
       }
 
-  pub unmended : failed ≡ true → GoesOnOrCut true o done s (In 0) [] old out (devices W X Y)
-  unmended fails =
+  pub unmended : failed ≡ true → is_lit old.power ≡ false → GoesOnOrCut true o done s (In 0) [] old out (devices W X Y)
+  unmended fails dark =
       let read : IsOnlyRead o done supply v d r (last_kept has-image.0) e =
       only-read o done supply v d r may U whole (starts U Unchanged) whole wholes works has-image.0 has-image.1 refl first j W failed mends tells cause holds taken_a taken_b fails in
-      let cut : CutWithin o done s (In 0) (fresh true (slots_of v done)).entered None (read_values (last_kept has-image.0) v) e =
+      let found_ : ℕ = odometer_found o r.travel.before read.leg in
+      let cut : CutWithin o done s (In 0) (fresh true (slots_of v done)).entered None (counted_from found_ (read_values (last_kept has-image.0) v)) e =
       mending-fails d e o done s supply v r may number given (last_kept has-image.0) read in
       record {
         waits = (fresh true (slots_of v done)).entered;
         cabin = old.keeper.cabin;
         same = refl;
-        within = subst (λ (x : Values). CutWithin o done s (In 0) (fresh true (slots_of v done)).entered None x e) (ap (λ (k : ℕ). read_values k v) kept-is ∙ sym values) cut;
+        odometer = found_;
+        counted = λ lit. absurd (let bad : true ≡ false = sym (ap is_lit lit) ∙ dark in cc);
+        within = subst (λ (x : Values). CutWithin o done s (In 0) (fresh true (slots_of v done)).entered None (counted_from found_ x) e) (ap (λ (k : ℕ). read_values k v) kept-is ∙ sym values) cut;
       }
 
 -- ---- A CARD IS JUDGED that waits

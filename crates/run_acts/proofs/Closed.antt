@@ -145,6 +145,8 @@ module _ {C : Type 0} (state : C → State) (c : Card) (slot : Slot) (at : Momen
       waits = [];
       cabin = with_session_of c None run.keeper.cabin;
       same = refl;
+      odometer = run.keeper.odometer;
+      counted = λ lit. refl;
       within = closing-fails d e o done s (In n) v w.within slot c called powerless (broke is) (λ keeping. cc);
     }
 
@@ -168,6 +170,8 @@ module _ {C : Type 0} (state : C → State) (c : Card) (slot : Slot) (at : Momen
       waits = [];
       cabin = torn_out c at.second (with_session_of c None run.keeper.cabin);
       same = refl;
+      odometer = run.keeper.odometer;
+      counted = λ lit. refl;
       within = subst (λ (u : ℕ). CutWithin o done s (In n) [] None (fallen_values (tear_of slot at) c u v) e) (sym second)
           (leaving-tear_fails d e o done s (In n) v w.within slot c called (tear_of slot at) tear-here (record { more = goes.breakdowns; broke = card-rose c U V (state x) (state y) Z (rose-by (state x).breakdowns (state y).breakdowns broken.breakdowns) })
           powerless (broke is) (λ keeping. cc));

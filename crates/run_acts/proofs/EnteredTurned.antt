@@ -58,6 +58,7 @@ cut-cabin o done s at waits speed v d cards found w = record {
   began = w.began;
   unfound = w.unfound;
   next = w.next;
+  odometer = w.odometer;
   counted = w.counted;
   moment = w.moment;
   rise = w.rise;

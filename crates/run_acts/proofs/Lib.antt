@@ -68,3 +68,5 @@ pub mod RingedWithdrawn
 pub mod RingedClosed
 pub mod RingedGap
 pub mod RingedTurn
+pub mod Stored
+pub mod StoredRun

@@ -287,6 +287,8 @@ module _ (o : Origin) (done : List TraceSecond) (s : TraceSecond) (n : ℕ) (run
     waits = [];
     cabin = run.keeper.cabin;
     same = refl;
+    odometer = run.keeper.odometer;
+    counted = λ lit. refl;
     within = failure-recorded (devices U X Y) (devices V X Y) o done s (In n) [] None [] (values_of run out) w.within (record {
       goes = unit-goes o run.keeper.cabin.cards U V X Y unit-began unit cause.breakdowns;
       broke = rose-on (w.within.b.broken Recorder) U.breakdowns V.breakdowns w.within.moment.unit (rose-by U.breakdowns V.breakdowns (cause.breaks w.within.powered.lit.works refl));
@@ -410,6 +412,8 @@ module _ (c : Card) (slot : Slot) (at : Moment) (run : Run) (breaks : Listed Bre
       waits = [];
       cabin = run.keeper.cabin;
       same = refl;
+      odometer = run.keeper.odometer;
+      counted = λ lit. refl;
       within = failure-recorded d e o done s (In at.begun) [] None [] v w.within (record {
         goes = goes on_card.breakdowns;
         broke = broke is;
@@ -451,6 +455,8 @@ module _ (c : Card) (slot : Slot) (at : Moment) (run : Run) (breaks : Listed Bre
       waits = [];
       cabin = torn_out c at.second run.keeper.cabin;
       same = refl;
+      odometer = run.keeper.odometer;
+      counted = λ lit. refl;
       within = subst (λ (n : ℕ). CutWithin o done s (In at.begun) [] None (torn_values (tear_of slot at) (torn_out c n run.keeper.cabin) v) e) (sym here)
           (seated-tear_fails d e o done s (In at.begun) v w.within slot c (tear_of slot at) (called on_card broken) powerless (broke is) (λ keeping. cc));
     }

@@ -84,6 +84,7 @@ module _ (o : Origin) (done : List TraceSecond) (s : TraceSecond) (q : Point) (a
     began = w.began;
     unfound = w.unfound;
     next = w.next;
+    odometer = w.odometer;
     counted = th.so.slate.now;
     moment = th.so.slate.moment;
     rise = th.so.slate.rise;
@@ -127,6 +128,7 @@ module _ (o : Origin) (done : List TraceSecond) (s : TraceSecond) (q : Point) (a
     began = w.began;
     unfound = w.unfound;
     next = w.next;
+    odometer = w.odometer;
     counted = th.so.slate.now;
     moment = th.so.slate.moment;
     rise = th.so.slate.rise;
@@ -183,6 +185,7 @@ module _ (o : Origin) (done : List TraceSecond) (s : TraceSecond) (q : Point) (a
       began = w.began;
       unfound = w.unfound;
       next = w.next;
+      odometer = w.odometer;
       counted = so.slate.now;
       moment = so.slate.moment;
       rise = so.slate.rise;
@@ -242,6 +245,7 @@ module _ (o : Origin) (done : List TraceSecond) (s : TraceSecond) (q : Point) (a
     began = w.began;
     unfound = w.unfound;
     next = w.next;
+    odometer = w.odometer;
     counted = thr.so.slate.now;
     moment = thr.so.slate.moment;
     rise = thr.so.slate.rise;

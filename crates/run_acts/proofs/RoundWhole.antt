@@ -125,6 +125,7 @@ module _ (o : Origin) (done : List TraceSecond) (s : TraceSecond) (q : Point) (a
             began = w.began;
             unfound = w.unfound;
             next = w.next;
+            odometer = w.odometer;
             moment = breakdowns-only w.b.run (went w.b.run.log done).before s q.at (told_values u v).log q.waits w.b.broken so.slate.now (breakdowns_of e) so.slate.moment so.slate.rise;
             sp = w.sp;
             minutes = w.minutes;

@@ -92,7 +92,7 @@ module _ (o : Origin) (done : List TraceSecond) (s : TraceSecond) (front rest : 
 
   -- the unit failed in the keeping
   pub settling-cut : (e : Devices) → RecordsSettling decided (acting_at s.number (suc (length front))) true (left_run slot s.number run) between before told d e → HaveTime e → RunFails o done s (In (suc (length front))) between told e
-  settling-cut e records time = record { waits = []; cabin = between.keeper.cabin; same = refl; within = records o done s (suc (length front)) [] (omega arith) refl gone time }
+  settling-cut e records time = record { waits = []; cabin = between.keeper.cabin; same = refl; odometer = between.keeper.odometer; counted = λ lit. refl; within = records o done s (suc (length front)) [] (omega arith) refl gone time }
 
   -- or they are kept, and its session is closed
   pub closing-recorded : {C : Type 0} (state : C → State) (U V Z : State) (x y : C) → IsCoherent U → IsCoherent (state x) → LARGEST_IMAGE ≤ (state x).size →

@@ -41,6 +41,7 @@ values_with k out unfound next begun minutes = record {
   next = next;
   begun = begun;
   minutes = minutes;
+  odometer = k.odometer;
 }
 
 -- what the opening found is that of the images at the start

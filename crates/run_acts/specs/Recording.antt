@@ -37,7 +37,7 @@ log_of out = record { breaks = out.breaks.items; refused = out.refused.items; fi
 
 -- what a run has by value, as far as its record speaks of it
 abbrev pub values_of : Run → Outcome → Values
-values_of run out = record { log = log_of out; marks = out.marks.items; cabin = run.keeper.cabin; unfound = run.unfound; next = run.next; begun = run.begun; minutes = run.minutes }
+values_of run out = record { log = log_of out; marks = out.marks.items; cabin = run.keeper.cabin; unfound = run.unfound; next = run.next; begun = run.begun; minutes = run.minutes; odometer = run.keeper.odometer }
 
 -- the power of a run between two seconds is that of the seconds so far: a span that goes on has a second
 abbrev pub Supplies : Power → Supply → Type 0
@@ -96,12 +96,15 @@ abbrev pub InSecond : Origin → List TraceSecond → TraceSecond → (n : ℕ) 
 InSecond o done s n run out d = InSecondBy (is_lit run.power) o done s n run out d
 
 -- THE UNIT HAS FAILED at a moment of a second, and power is about to be cut, whoever waits then; slots and sessions may be others than those that
--- are recorded, if a cut leaves the same of both (a card was accepted, and the note of that failed).
+-- are recorded, if a cut leaves the same of both (a card was accepted, and the note of that failed). Minutes are counted from an odometer that
+-- is the run's, but where the unit was read and its mending failed.
 pub record RunFails (o : Origin) (done : List TraceSecond) (s : TraceSecond) (at : Phase) (run : Run) (out : Outcome) (d : Devices) : Type 0 where
   pub waits : List Visit
   pub cabin : Cabin
   pub same : with_power_lost s.number cabin ≡ with_power_lost s.number run.keeper.cabin
-  pub within : CutWithin o done s at waits None (record (values_of run out) { cabin = cabin }) d
+  pub odometer : ℕ
+  pub counted : run.power ≡ Lit → odometer ≡ run.keeper.odometer
+  pub within : CutWithin o done s at waits None (record (values_of run out) { cabin = cabin; odometer = odometer }) d
 
 -- THE SECOND GOES ON at a moment where these wait, as it began
 pub record RunGoesOn (o : Origin) (done : List TraceSecond) (s : TraceSecond) (at : Phase) (waits : List Visit) (run : Run) (out : Outcome) (d : Devices) (b : Beginning) : Type 0 where

@@ -7,3 +7,6 @@ pub mod Around
 pub mod Bytes
 pub mod SoFar
 pub mod Steps
+pub mod Stored
+pub mod Bases
+pub mod Booked

@@ -54,6 +54,7 @@ module _ (o : Origin) (done : List TraceSecond) (s : TraceSecond) (at : Phase) (
       began = w.began;
       unfound = w.unfound;
       next = w.next;
+      odometer = w.odometer;
       moment = m;
       sp = sp;
       minutes = stands;

@@ -132,6 +132,7 @@ module _ (o : Origin) (done : List TraceSecond) (s : TraceSecond) (t : Told) (sp
       began = r.recorded;
       unfound = refl;
       next = refl;
+      odometer = r.odometer;
       moment = begins.0;
       sp = span_at (rule_of o) v.next (t ∷ span);
       minutes = on.minutes;

@@ -75,6 +75,7 @@ module _ (o : Origin) (done : List TraceSecond) (s : TraceSecond) (at : Phase) (
   step-closed = record {
     unfound_same = refl;
     next_same = refl;
+    odometer_same = refl;
     marks_same = refl;
     moment = breakdowns-only p was s at v.log [] w.b.broken (breakdowns_of d) (breakdowns_of e) w.moment k.goes.breakdowns;
     out = record { torn = λ x there. there; pulled = λ x there. there };
@@ -140,6 +141,7 @@ module _ (o : Origin) (done : List TraceSecond) (s : TraceSecond) (at : Phase) (
     step-torn = record {
       unfound_same = refl;
       next_same = refl;
+      odometer_same = refl;
       marks_same = refl;
       moment = torn.0;
       out = out-now;

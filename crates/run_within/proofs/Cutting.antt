@@ -63,7 +63,7 @@ use Rattle.run_recorded.specs.Ends.{recording_by, BringsAll, AreFound, AreVerdic
 use Rattle.run_recorded.specs.Beside.{MayBeFound, AreFewFound}
 use Rattle.run_recorded.proofs.Seconds.{second-is_broken}
 use Rattle.run_recorded.proofs.Beside.{second-tells, verdicts-on, kept-on_cut}
-use Rattle.run_within.specs.Recorded.{Values, progress, carried, IsWritten, Recorded}
+use Rattle.run_within.specs.Recorded.{Values, progress, carried, IsWritten, IsOff, Recorded}
 use Rattle.run_within.specs.Within.{Beginning, told_before, course_in, lost_minute, overlaps_by, MayBeWrittenSo, CutWithin, cut_values}
 use Rattle.run_within.proofs.Left.{counted-part}
 use Rattle.run_within.proofs.Stays.{since-later, since-cut}
@@ -143,10 +143,10 @@ module _ (o : Origin) (done : List TraceSecond) (s : TraceSecond) (at : Phase) (
   abbrev f : Followed (rule_of o) (start_at o) o.from (first_of o) done p
   f = w.began.followed
 
-  ends : t ≡ told_with (begins_with w.b.span) true s ended
+  pub ends : t ≡ told_with (begins_with w.b.span) true s ended
   ends = (cut-ends_told (rule_of o) (start_at o) o.from (first_of o) done p f w.b.span w.lit s at v.log waits w.b.broken w.counted (breakdowns_of d) w.moment w.rise w.broke left_actions left).0
 
-  goes : GoesOnBy p log s
+  pub goes : GoesOnBy p log s
   goes = record {
     number = w.moment.number;
     given = w.moment.given;
@@ -158,14 +158,14 @@ module _ (o : Origin) (done : List TraceSecond) (s : TraceSecond) (at : Phase) (
     finds = (w.moment.finds, w.moment.finds_are, w.moment.finds_here);
   }
 
-  number : t.second.number ≡ p.next
+  pub number : t.second.number ≡ p.next
   number = ap (λ (x : Told). x.second.number) ends ∙ w.moment.number
 
   waiting : List Minute
   waiting = option_to_list w.lost ++ w.rest
 
   -- what the second has decided
-  decides : (more : List Minute) × (decided_of (rule_of o) (w.b.span ++ t ∷ []) ≡ decided_of (rule_of o) w.b.span ++ (w.ds ++ (option_to_list w.lost ++ (w.rest ++ more))))
+  pub decides : (more : List Minute) × (decided_of (rule_of o) (w.b.span ++ t ∷ []) ≡ decided_of (rule_of o) w.b.span ++ (w.ds ++ (option_to_list w.lost ++ (w.rest ++ more))))
   decides = by at refl left
     where
       regroup : (more : List Minute) → (w.ds ++ (option_to_list w.lost ++ w.rest)) ++ more ≡ w.ds ++ (option_to_list w.lost ++ (w.rest ++ more))
@@ -337,6 +337,7 @@ module _ (o : Origin) (done : List TraceSecond) (s : TraceSecond) (at : Phase) (
   cut-recorded = record {
     book = book;
     travel = stranded_at w.lost (all_travelled w.ds w.b.travel);
+    odometer = tt;
     due = w.due;
     standing = w.standing;
     brought = w.brought;
@@ -356,3 +357,24 @@ module _ (o : Origin) (done : List TraceSecond) (s : TraceSecond) (at : Phase) (
       codriver = ap (λ (sl : Slots). is_accepted sl.codriver) dark-slot ∙ dark-seat c.slots.codriver;
     };
   }
+
+-- WITHOUT POWER no minute is counted: it may be from any odometer
+pub recounted : (o : Origin) (done : List TraceSecond) (v : Values) (d : Devices) (odometer : ℕ) → Recorded o done Lost v d → Recorded o done Lost (record v { odometer = odometer }) d
+recounted o done v d odometer r =
+    let off : IsOff o done v (carried v r.due r.book r.standing r.brought) d = r.held in
+    record {
+      book = r.book;
+      travel = r.travel;
+      due = r.due;
+      standing = r.standing;
+      brought = r.brought;
+      recorded = r.recorded;
+      beside = r.beside;
+      there = r.there;
+      few = r.few;
+      written = λ card. ⊎_elim (λ whole. inl whole) (λ (h : IsWritten o done v card). inr (record { may = h.may; time = h.time; since = h.since; entered_then = h.entered_then })) (r.written card);
+      found = r.found;
+      early = r.early;
+      held = record { powerless = off.powerless; due = off.due; tells = off.tells; bare = off.bare; driver = off.driver; codriver = off.codriver };
+      odometer = tt;
+    }

@@ -64,6 +64,8 @@ use Rattle.run_recorded.specs.Ends.{recording_by, BringsAll, AreFound, AreVerdic
 use Rattle.run_recorded.specs.Beside.{MayBeFound, AreFewFound}
 use Rattle.run_recorded.proofs.Seconds.{second-is_recorded}
 use Rattle.run_recorded.proofs.Beside.{second-tells, verdicts-on, kept-on}
+use Rattle.unit_model.specs.Image.{odometer_at}
+use Rattle.unit_rule.specs.Odometer.{odometer_after}
 use Rattle.run_within.specs.Recorded.{Values, progress, carried, AreBack, IsWritten, Recorded}
 use Rattle.run_within.specs.Within.{Beginning, told_before, course_in, overlaps_by, IsFoundSo, MayBeWrittenSo, Within, passed_values, RecordedFrom}
 use Rattle.run_within.proofs.Cutting.{rec-front, marks-all}
@@ -266,6 +268,7 @@ module _ (o : Origin) (done : List TraceSecond) (s : TraceSecond) (v : Values) (
     recorded = record {
       book = book;
       travel = all_travelled w.ds w.b.travel;
+      odometer = w.odometer ∙ ap (odometer_after (odometer_at o.recording.unit)) (sym (same-before w.ds w.b.travel));
       due = w.due;
       standing = w.standing;
       brought = w.brought;

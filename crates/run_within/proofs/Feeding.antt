@@ -76,6 +76,7 @@ module _ (o : Origin) (done : List TraceSecond) (s : TraceSecond) (v : Values) (
       began = w.began;
       unfound = w.unfound;
       next = w.next;
+      odometer = w.odometer;
       moment = comes.0;
       sp = fed w.sp s.speed;
       minutes = stands;

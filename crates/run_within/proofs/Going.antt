@@ -148,6 +148,7 @@ module _ (o : Origin) (done : List TraceSecond) (v : Values) (d : Devices) (r : 
   dark-on = record {
     book = r.book;
     travel = r.travel;
+    odometer = tt;
     due = r.due;
     standing = r.standing;
     brought = r.brought;
@@ -210,6 +211,7 @@ off-recorded d o done supply v r dark_ n =
     record {
       book = r.book;
       travel = r.travel;
+      odometer = tt;
       due = r.due;
       standing = r.standing;
       brought = r.brought;
@@ -334,6 +336,7 @@ module _ (o : Origin) (done : List TraceSecond) (t : Told) (span : List Told) (v
         record {
           book = r.book;
           travel = r.travel;
+          odometer = tt;
           due = r.due;
           standing = r.standing;
           brought = r.brought;
@@ -441,6 +444,7 @@ module _ (o : Origin) (done : List TraceSecond) (t : Told) (span : List Told) (v
     recorded = record {
       book = r.book;
       travel = r.travel;
+      odometer = r.odometer;
       due = r.due;
       standing = r.standing;
       brought = r.brought;
@@ -505,6 +509,7 @@ module _ (o : Origin) (v : Values) (d : Devices) (h : MayStart o v d) where
   begins-so = record {
     book = not_begun;
     travel = not_travelled;
+    odometer = tt;
     due = o.from / 60;
     standing = λ c. Out;
     brought = λ c. [];

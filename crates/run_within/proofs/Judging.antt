@@ -199,6 +199,7 @@ judged-so d e o done s at waits fewer v w card f marks cabin brought standing j 
     began = w.began;
     unfound = w.unfound;
     next = w.next;
+    odometer = w.odometer;
     moment = moment o done s at waits fewer v d e w card f marks cabin brought j;
     sp = w.sp;
     minutes = w.minutes;
@@ -242,6 +243,7 @@ judging-fails d e o done s at waits fewer v w card f marks cabin brought j k = r
   began = w.began;
   unfound = w.unfound;
   next = w.next;
+  odometer = w.odometer;
   counted = breakdowns_of e;
   moment = moment o done s at waits fewer v d e w card f marks cabin brought j;
   rise = λ device. omega arith;

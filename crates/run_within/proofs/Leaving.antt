@@ -99,6 +99,7 @@ module _ (o : Origin) (done : List TraceSecond) (s : TraceSecond) (v : Values) (
   step = record {
     unfound_same = refl;
     next_same = refl;
+    odometer_same = refl;
     marks_same = refl;
     moment = done_.0;
     out = record { torn = λ x there. same (λ (k : Course). Contains k.torn x) there; pulled = λ x there. same (λ (k : Course). Contains k.pulled x) there };

@@ -176,6 +176,7 @@ card-lost d e o done s at waits fewer v w card f marks cabin after brought b sta
     began = w.began;
     unfound = w.unfound;
     next = w.next;
+    odometer = w.odometer;
     moment = (moments o done s at waits fewer v d e w card f marks cabin after brought b j l).0;
     sp = w.sp;
     minutes = w.minutes;
@@ -219,6 +220,7 @@ losing-fails d e o done s at waits fewer v w card f marks cabin after brought b 
   began = w.began;
   unfound = w.unfound;
   next = w.next;
+  odometer = w.odometer;
   counted = breakdowns_of e;
   moment = (moments o done s at waits fewer v d e w card f marks cabin after brought b j l).0;
   rise = λ device. omega arith;

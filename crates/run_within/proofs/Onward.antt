@@ -49,6 +49,7 @@ module _ (o : Origin) (done : List TraceSecond) (s : TraceSecond) (at next : Pha
   pub record IsStep (sp : Span) : Type 0 where
     pub unfound_same : later.unfound ≡ v.unfound
     pub next_same : later.next ≡ v.next
+    pub odometer_same : later.odometer ≡ v.odometer
     pub marks_same : later.marks ≡ v.marks
     pub moment : Moment w.b.run (went w.b.run.log done).before s next later.log waits w.b.broken (breakdowns_of e)
     pub out : StaysOut c now
@@ -120,6 +121,7 @@ module _ (o : Origin) (done : List TraceSecond) (s : TraceSecond) (at next : Pha
         began = w.began;
         unfound = k.unfound_same ∙ w.unfound;
         next = k.next_same ∙ w.next;
+        odometer = k.odometer_same ∙ w.odometer;
         moment = k.moment;
         sp = sp;
         minutes = p.minutes;
@@ -161,6 +163,7 @@ module _ (o : Origin) (done : List TraceSecond) (s : TraceSecond) (at next : Pha
       began = w.began;
       unfound = k.unfound_same ∙ w.unfound;
       next = k.next_same ∙ w.next;
+      odometer = k.odometer_same ∙ w.odometer;
       counted = breakdowns_of e;
       moment = k.moment;
       rise = λ device. omega arith;

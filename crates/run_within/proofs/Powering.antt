@@ -43,7 +43,7 @@ use Rattle.run_present.proofs.Presence.{none-to_keep}
 use Rattle.run_within.specs.Recorded.{Values, progress, carried, IsWritten, IsOff, IsHeldBy, Recorded}
 use Rattle.run_within.specs.Within.{Beginning, course_in, overlaps_by, IsFoundSo, IsSparedSo, CutWithin}
 use Rattle.run_within.specs.Waking.{IsWaking, both_slots, PowerWakes}
-use Rattle.run_within.specs.Powering.{WasRead, read_values, begun_values, begun_again, GoOn, PowerIsBack, AMendingFails}
+use Rattle.run_within.specs.Powering.{WasRead, read_values, begun_values, odometer_found, counted_from, begun_again, GoOn, PowerIsBack, AMendingFails}
 use Rattle.run_within.proofs.Parts.{entered-told}
 use Rattle.run_within.proofs.Stays.{since-later}
 use Rattle.run_within.proofs.Written.{written-begins}
@@ -166,7 +166,7 @@ module _ (o : Origin) (done : List TraceSecond) (s : TraceSecond) (supply : Supp
 
 pub power-wakes : (d e : Devices) → PowerWakes d e
 power-wakes d e o done s supply v r may number given k minutes back =
-    subst (λ (w : Went). IsWaking o done s (begun_again o done supply v d r k back.leg e) (begun_values k minutes v) e (fresh true w.before.slots).entered both_slots) (same o done s supply v d e r may number given k back.leg back.shows back.goes)
+    subst (λ (w : Went). IsWaking o done s (begun_again o done supply v d r k back.leg e) (counted_from (odometer_found o r.travel.before back.leg) (begun_values k minutes v)) e (fresh true w.before.slots).entered both_slots) (same o done s supply v d e r may number given k back.leg back.shows back.goes)
     (record {
       began = refl;
       starts = (recorded o done s supply v d e r may number given k back.leg back.shows back.goes).followed.power.running;
@@ -178,6 +178,7 @@ power-wakes d e o done s supply v r may number given k minutes back =
         began = recorded-later o done s supply v d e r may number given k back.leg back.shows back.goes;
         unfound = refl;
         next = refl;
+        odometer = refl;
         moment = begins o done s supply v d e r may number given k back.leg back.shows back.goes (breakdowns_of e);
         sp = span_at (rule_of o) v.next [];
         minutes = back.stands;
@@ -217,13 +218,14 @@ power-back d e o done s supply v r may number given k minutes back =
 
 pub mending-fails : (d e : Devices) → AMendingFails d e
 mending-fails d e o done s supply v r may number given k read =
-    subst (λ (w : Went). CutWithin o done s (In 0) (fresh true w.before.slots).entered None (read_values k v) e) (same o done s supply v d e r may number given k read.leg read.shows read.goes)
+    subst (λ (w : Went). CutWithin o done s (In 0) (fresh true w.before.slots).entered None (counted_from (odometer_found o r.travel.before read.leg) (read_values k v)) e) (same o done s supply v d e r may number given k read.leg read.shows read.goes)
     (record {
       b = before o done s supply v d e r may number given k read.leg read.shows read.goes (breakdowns_of d);
       lit = refl;
       began = recorded o done s supply v d e r may number given k read.leg read.shows read.goes;
       unfound = refl;
       next = refl;
+      odometer = refl;
       counted = breakdowns_of d;
       moment = begins o done s supply v d e r may number given k read.leg read.shows read.goes (breakdowns_of d);
       rise = read.goes.breakdowns;

@@ -137,6 +137,7 @@ module _ (o : Origin) (done : List TraceSecond) (s : TraceSecond) (supply : Supp
   reading-failed = record {
     book = r.book;
     travel = r.travel;
+    odometer = tt;
     due = r.due;
     standing = r.standing;
     brought = r.brought;

@@ -88,6 +88,7 @@ module _ (o : Origin) (done : List TraceSecond) (s : TraceSecond) (at : Phase) (
   step = record {
     unfound_same = refl;
     next_same = refl;
+    odometer_same = refl;
     marks_same = refl;
     moment = torn.0;
     out = out-now;

@@ -14,7 +14,7 @@ use Rattle.unit_course.specs.Legs.{resumed}
 use Rattle.unit_course.specs.Travelled.{MayShow}
 use Rattle.unit_course.specs.Turn.{span_at}
 use Rattle.unit_model.specs.Image.{last_kept, odometer_at}
-use Rattle.unit_rule.specs.Odometer.{HasTravelled}
+use Rattle.unit_rule.specs.Odometer.{HasTravelled, odometer_after}
 use Rattle.safety_model.specs.Safe.{Devices, card_of, breakdowns_of}
 use Rattle.run_rule.specs.Found.{found_of}
 use Rattle.run_rule.specs.Cards.{IsUntouched}
@@ -33,6 +33,14 @@ read_values k v = record v { log = record v.log { breaks = found_from v.unfound 
 -- and a span begins, for which these minutes stand
 abbrev pub begun_values : (k : ℕ) → Kept → Values → Values
 begun_values k minutes v = record (read_values k v) { minutes = minutes }
+
+-- it was counted up to this leg as power went, and is counted on from there
+abbrev pub odometer_found : Origin → (before : List ℕ) → (leg : ℕ) → ℕ
+odometer_found o before leg = odometer_after (odometer_at o.recording.unit) (before ++ leg ∷ [])
+
+-- minutes are counted from this odometer
+abbrev pub counted_from : ℕ → Values → Values
+counted_from odometer v = record v { odometer = odometer }
 
 -- what a power-on leaves of the devices, however it ended: none has broken down less often, what they might have left before they might have
 -- left still, and a card that was as at the start is so
@@ -64,7 +72,7 @@ begun_again o done supply v d r k leg e = record { run = found_again k (progress
 abbrev pub PowerIsBack : (d e : Devices) → Type 0
 PowerIsBack d e = (o : Origin) (done : List TraceSecond) (s : TraceSecond) (supply : Supply) (v : Values) → (r : Recorded o done supply v d) → MayPower supply v.next → s.number ≡ v.next → s.has_power ≡ true →
     (k : ℕ) (minutes : Kept) → (back : IsBack o done supply v d r k minutes e) →
-    GoesOn o done s (In 0) (fresh true (slots_of v done)).entered None [] (begun_values k minutes v) e (begun_again o done supply v d r k back.leg e) (s.number / 60)
+    GoesOn o done s (In 0) (fresh true (slots_of v done)).entered None [] (counted_from (odometer_found o r.travel.before back.leg) (begun_values k minutes v)) e (begun_again o done supply v d r k back.leg e) (s.number / 60)
 
 -- THE UNIT WAS READ, and its mending failed.
 pub record IsOnlyRead (o : Origin) (done : List TraceSecond) (supply : Supply) (v : Values) (d : Devices) (r : Recorded o done supply v d) (k : ℕ) (e : Devices) : Type 0 where
@@ -78,7 +86,7 @@ pub record IsOnlyRead (o : Origin) (done : List TraceSecond) (supply : Supply) (
 
 abbrev pub AMendingFails : (d e : Devices) → Type 0
 AMendingFails d e = (o : Origin) (done : List TraceSecond) (s : TraceSecond) (supply : Supply) (v : Values) → (r : Recorded o done supply v d) → MayPower supply v.next → s.number ≡ v.next → s.has_power ≡ true →
-    (k : ℕ) → IsOnlyRead o done supply v d r k e → CutWithin o done s (In 0) (fresh true (slots_of v done)).entered None (read_values k v) e
+    (k : ℕ) → (read : IsOnlyRead o done supply v d r k e) → CutWithin o done s (In 0) (fresh true (slots_of v done)).entered None (counted_from (odometer_found o r.travel.before read.leg) (read_values k v)) e
 
 -- THE UNIT WAS NOT READ, since a call failed: nothing is found.
 pub record IsNotRead (o : Origin) (done : List TraceSecond) (supply : Supply) (v : Values) (d : Devices) (r : Recorded o done supply v d) (e : Devices) : Type 0 where

@@ -14,6 +14,8 @@ use Rattle.joint_rule.specs.Rules.{Standing}
 use Rattle.unit_course.specs.Followed.{Supply, Lit, Due, Lost}
 use Rattle.unit_course.specs.Legs.{Travel}
 use Rattle.unit_course.specs.Turn.{span_at}
+use Rattle.unit_model.specs.Image.{odometer_at}
+use Rattle.unit_rule.specs.Odometer.{odometer_after}
 use Rattle.card_image.specs.Own.{own_view, IsOwnValid}
 use Rattle.card_times.specs.Times.{AreTimedSince}
 use Rattle.safety_model.specs.Recording.{card_image}
@@ -34,7 +36,8 @@ use Rattle.run_recorded.specs.Ends.{recording_by, MayBeWritten, IsBeside}
 use Rattle.run_present.specs.Presence.{PresentStand}
 
 -- what a run has by value, as far as its record speaks of it: the lines and marks of its outcome, slots and sessions, the first break of
--- which it is not known what was kept, the number of the next second, how many actions the last one had, and the minutes of the span
+-- which it is not known what was kept, the number of the next second, how many actions the last one had, the minutes of the span, and the
+-- odometer from which they are counted
 pub record Values : Type 0 where
   pub log : RunLog
   pub marks : List Mark
@@ -43,6 +46,7 @@ pub record Values : Type 0 where
   pub next : ℕ
   pub begun : ℕ
   pub minutes : Kept
+  pub odometer : ℕ
 
 -- how far the run has gone
 abbrev pub progress : Values → Supply → Book → Progress
@@ -120,6 +124,16 @@ IsHeldBy o done (Lit span) v w d = IsOn o done span v w d
 IsHeldBy o done Due v w d = IsOff o done v w d
 IsHeldBy o done Lost v w d = IsOff o done v w d
 
+-- the odometer from which minutes are counted is that of the start and of what was travelled each time before power came last
+abbrev pub IsCountedFrom : Origin → (before : List ℕ) → (odometer : ℕ) → Type 0
+IsCountedFrom o before odometer = odometer ≡ odometer_after (odometer_at o.recording.unit) before
+
+-- while there is power
+abbrev pub IsCountedIn : Supply → Origin → (before : List ℕ) → (odometer : ℕ) → Type 0
+IsCountedIn (Lit span) o before odometer = IsCountedFrom o before odometer
+IsCountedIn Due o before odometer = Unit {0}
+IsCountedIn Lost o before odometer = Unit {0}
+
 -- THE RECORD behind these seconds
 pub record Recorded (o : Origin) (done : List TraceSecond) (supply : Supply) (v : Values) (d : Devices) : Type 0 where
   pub book : Book
@@ -135,3 +149,4 @@ pub record Recorded (o : Origin) (done : List TraceSecond) (supply : Supply) (v 
   pub found : AreFoundCards o.found v.cabin.cards
   pub early : AreEarly (carried v due book standing brought)
   pub held : IsHeldBy o done supply v (carried v due book standing brought) d
+  pub odometer : IsCountedIn supply o travel.before v.odometer

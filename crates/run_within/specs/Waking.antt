@@ -11,7 +11,7 @@ use Rattle.safety_model.specs.Safe.{Devices}
 use Rattle.run_recorded.specs.Origin.{Origin}
 use Rattle.run_within.specs.Recorded.{Values, slots_of, Recorded}
 use Rattle.run_within.specs.Within.{Beginning, Within}
-use Rattle.run_within.specs.Powering.{begun_values, IsBack, begun_again}
+use Rattle.run_within.specs.Powering.{begun_values, odometer_found, counted_from, IsBack, begun_again}
 
 -- AT A POWER-ON with which a second begins so: power begins with it, these cards wait, all minutes before this one are over, and of the cards
 -- of these slots nothing was found yet.
@@ -29,4 +29,4 @@ both_slots = Driver ∷ CoDriver ∷ []
 abbrev pub PowerWakes : (d e : Devices) → Type 0
 PowerWakes d e = (o : Origin) (done : List TraceSecond) (s : TraceSecond) (supply : Supply) (v : Values) → (r : Recorded o done supply v d) → MayPower supply v.next → s.number ≡ v.next → s.has_power ≡ true →
     (k : ℕ) (minutes : Kept) → (back : IsBack o done supply v d r k minutes e) →
-    IsWaking o done s (begun_again o done supply v d r k back.leg e) (begun_values k minutes v) e (fresh true (slots_of v done)).entered both_slots
+    IsWaking o done s (begun_again o done supply v d r k back.leg e) (counted_from (odometer_found o r.travel.before back.leg) (begun_values k minutes v)) e (fresh true (slots_of v done)).entered both_slots

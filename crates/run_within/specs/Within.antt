@@ -63,7 +63,7 @@ use Rattle.run_crew.specs.declared.cabin.Cabin.{Cabin}
 use Rattle.run_crew.specs.declared.cards.Cards.{Cards}
 use Rattle.run_crew.specs.Cards.{session_of}
 use Rattle.run_crew.specs.Cabin.{SitsNowhere, Stands, with_minute_ended, with_power_lost}
-use Rattle.run_within.specs.Recorded.{Values, progress, carried, IsWrittenSince, AreThere, Recorded}
+use Rattle.run_within.specs.Recorded.{Values, progress, carried, IsWrittenSince, AreThere, IsCountedFrom, Recorded}
 
 -- as the second began, behind its power-on: how far the run had gone, the seconds of the span, what was travelled, the marks, how often each
 -- device had broken down, and what acceptances had brought
@@ -191,6 +191,7 @@ pub record Within (o : Origin) (done : List TraceSecond) (s : TraceSecond) (at :
   pub spared : (c : Card) → IsSparedSo o b done (course_in b done s at v.log) waits s.number v.cabin.slots d c
   pub written : (c : Card) → is_some (session_of v.cabin.cards c) ≡ true → MayBeWrittenSo o b done (course_in b done s at v.log) waits s.number v.cabin.slots c
   pub travels : HasTravelled (odometer_at o.recording.unit) (kept_all new b.run.book) (all_travelled ds b.travel) d.unit
+  pub odometer : IsCountedFrom o b.travel.before v.odometer
 
 -- THE SECOND GOES ON: it began so, and this is the first minute that is still to be kept.
 pub record GoesOn (o : Origin) (done : List TraceSecond) (s : TraceSecond) (at : Phase) (waits : List Visit) (speed : Option ℕ) (rest : List Minute) (v : Values) (d : Devices) (b : Beginning) (first : ℕ) : Type 0 where
@@ -241,6 +242,7 @@ pub record CutWithin (o : Origin) (done : List TraceSecond) (s : TraceSecond) (a
   pub few : AreFewFound (recording_by o done b.run.log)
   pub spared : (c : Card) → IsSparedSo o b done (course_in b done s at v.log) waits s.number v.cabin.slots d c
   pub travels : HasTravelled (odometer_at o.recording.unit) (broken_at (lost_minute o b done new lost) (kept_all new b.run.book)) (stranded_at lost (all_travelled ds b.travel)) d.unit
+  pub odometer : IsCountedFrom o b.travel.before v.odometer
 
 -- what a run has by value behind the cut of a second, once that has gone
 abbrev pub cut_values : TraceSecond → Phase → Values → Values

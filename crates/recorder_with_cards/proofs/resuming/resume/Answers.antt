@@ -267,7 +267,7 @@ returns-in_err-mend-clause-recorded g c = λ room o origin done s supply v r may
     let failed : true ≡ is_err c.from_residual.result = search rules in
     subst (λ (f : Bool). GoesOnOrCut f o done s (In 0) [] c.args.run.now c.args.outcome.now (devices W X Y)) failed
     (unmended o origin done s supply v U X Y r may number given (g.met.M.Medium.coherent c.args.unit.now) (wholes-of U X Y (g.met.C.Chip.coherent c.args.card_a.now) (g.met.D.Chip.coherent c.args.card_b.now)) loaded.works c.args.journal (kept-of c.args.journal U.image loaded.found)
-    W true c.mend.ensures.moments c.mend.ensures.tells bad.cause c.mend.ensures.holds bad.first bad.second c.args.run.now c.args.outcome.now values refl)
+    W true c.mend.ensures.moments c.mend.ensures.tells bad.cause c.mend.ensures.holds bad.first bad.second c.args.run.now c.args.outcome.now values refl c.requires.dark)
 
 pub returns-in_err-accept_anew-clause-recorded : goal.returns-in_err-accept_anew-clause-recorded
 returns-in_err-accept_anew-clause-recorded g c = λ room o origin done s supply v r may number given values time.
