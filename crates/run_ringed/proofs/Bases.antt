@@ -1,6 +1,7 @@
 -- With which odometer the spans of a run began, as its log goes on and spans are added.
 use Rattle.std.proofs.Common.{◌≡◌, ◌⊎◌, inl, inr, ⊎_elim, ℕ, zero, suc, ◌+◌, ◌≤◌, Bool, true, false, cond, ◌||◌, ◌&&◌, nat_eq, Option, Some, None, List, [], ◌∷◌, ◌++◌, All, Contains, length, map, filter, take, drop, refl, ap, sym, subst, ◌∙◌, arith, append-nil, append_assoc}
 use Rattle.std.specs.List.{AllByRecursion, list_any}
+use Rattle.std.proofs.lemmas.List.{same_from_push}
 use Rattle.std.proofs.lemmas.List.Elements.{Contains-append_left, filter-append}
 use Rattle.std.proofs.lemmas.Bool.Decides.{nat_tests}
 use Rattle.minute_model.specs.Activity.{last}
@@ -27,7 +28,7 @@ use Rattle.run_rings.specs.Spans.{go_on_from, with_second}
 use Rattle.run_ringed.specs.SoFar.{HasMoreBreaks}
 use Rattle.run_ringed.specs.Stored.{IsFoundEnd, IsOpenEnd, limited, minutes_kept, IsNewest, StandsOn, StoresOn, SinceRead, StoresOff}
 use Rattle.run_ringed.proofs.SoFar.{failed-more}
-use Rattle.run_ringed.proofs.Stored.{head-in, may-more}
+use Rattle.run_ringed.proofs.Stored.{AtEnd, nothing, push, at-end, may-more}
 
 -- ---- lists
 
@@ -221,6 +222,30 @@ next-are earlier base span spans other t are lit off =
 
 pub stored-next : (o : Origin) (log : RunLog) (unfound base other : ℕ) (spans : List SpanFrom) (t : Told) → t.lit ≡ true → t.starts ≡ false → StoresOn o log unfound base spans → StoresOn o log unfound base (with_second spans other t)
 stored-next o log unfound base other spans t lit off h = record { earlier = h.earlier; span = h.span ++ t ∷ []; are = next-are h.earlier base h.span spans other t h.are lit off; stands = h.stands }
+
+-- whatever is told of that second, and with which odometer it goes on
+pub stored-alike : (o : Origin) (log : RunLog) (unfound base : ℕ) (spans : List SpanFrom) (t x : Told) → t.lit ≡ true → x.lit ≡ true → x.starts ≡ t.starts → StoresOn o log unfound base (with_second spans base t) → StoresOn o log unfound base (with_second spans base x)
+stored-alike o log unfound base spans t x lit also same h = by t.starts refl
+  where
+    by : (b : Bool) → t.starts ≡ b → StoresOn o log unfound base (with_second spans base x)
+    by true on =
+        let parts = same_from_push spans h.earlier (record { base = base; span = t ∷ [] }) (record { base = base; span = h.span }) (sym (with-first spans base t lit on) ∙ h.are) in
+        record { earlier = spans; span = x ∷ []; are = with-first spans base x also (same ∙ on); stands = subst (λ (e : List SpanFrom). StandsOn o log unfound e base) (sym parts.0) h.stands }
+    by false off = at_last spans (sym (with-next spans base t lit off) ∙ h.are) (with-next spans base x also (same ∙ off)) (at-end spans)
+      where
+        at_last : (ss : List SpanFrom) → go_on_from ss base t ≡ h.earlier ++ record { base = base; span = h.span } ∷ [] → with_second spans base x ≡ go_on_from ss base x → AtEnd ss → StoresOn o log unfound base (with_second spans base x)
+        at_last _ are now nothing =
+            let parts = same_from_push [] h.earlier (record { base = base; span = t ∷ [] }) (record { base = base; span = h.span }) are in
+            record { earlier = []; span = x ∷ []; are = now; stands = subst (λ (e : List SpanFrom). StandsOn o log unfound e base) (sym parts.0) h.stands }
+        at_last _ are now (push e s) =
+            let parts = same_from_push e h.earlier (record { base = s.base; span = s.span ++ t ∷ [] }) (record { base = base; span = h.span }) (sym (goes-on e s base t) ∙ are) in
+            let from : s.base ≡ base = ap (λ (y : SpanFrom). y.base) parts.1 in
+            record {
+              earlier = e;
+              span = s.span ++ x ∷ [];
+              are = now ∙ goes-on e s base x ∙ ap (λ (n : ℕ). e ++ record { base = n; span = s.span ++ x ∷ [] } ∷ []) from;
+              stands = subst (λ (l : List SpanFrom). StandsOn o log unfound l base) (sym parts.0) h.stands;
+            }
 
 -- or with which a span begins
 pub stored-first : (o : Origin) (log : RunLog) (unfound base : ℕ) (spans : List SpanFrom) (t : Told) → t.lit ≡ true → t.starts ≡ true → StandsOn o log unfound spans base → StoresOn o log unfound base (with_second spans base t)
