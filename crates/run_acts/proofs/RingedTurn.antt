@@ -25,7 +25,7 @@ use Rattle.unit_course.specs.Lines.{cut_at}
 use Rattle.unit_course.specs.Followed.{Lit as IsLit, Lost as IsLost}
 use Rattle.run_course.specs.Moments.{and_break}
 use Rattle.run_course.specs.Followed.{IsGoing, IsLost as HasLost}
-use Rattle.run_course.proofs.Told.{lit-told, dark-told, lit-power, lost-dark, next-dark}
+use Rattle.run_course.proofs.Told.{IsLitAs, lit-told, dark-told, lit-power, lost-dark, next-dark}
 use Rattle.run_course.proofs.Quiet.{quiet-are-told}
 use Rattle.run_rule.specs.Found.{found_of}
 use Rattle.run_crew.specs.declared.cards.Accepted.{Accepted}
@@ -39,23 +39,28 @@ use Rattle.run_recorded.specs.Origin.{Origin, rule_of, start_at, first_of}
 use Rattle.run_recorded.specs.Beside.{HaveLeftMore}
 use Rattle.run_ringed.specs.Ringed.{Seating, LeavesRings, notes_in}
 use Rattle.run_ringed.specs.SoFar.{RingedBehind, RingedIn, IsSecond, AreFewer, HasMoreBreaks, GoesBehind}
-use Rattle.run_ringed.specs.Steps.{nobody}
+use Rattle.run_ringed.specs.Steps.{nobody, spans_cut}
+use Rattle.run_ringed.specs.Stored.{StoresOn, StoresOff, Stores}
+use Rattle.run_ringed.proofs.Bases.{stored-later, stored-next, stored-alike}
 use Rattle.run_ringed.proofs.Rings.{fewer-sit}
 use Rattle.run_ringed.proofs.SoFar.{second-begins, go-on-in, second-ends, dark-ends}
 use Rattle.run_within.specs.Recorded.{Values, progress}
-use Rattle.run_within.specs.Within.{Beginning, Within}
+use Rattle.run_within.specs.Within.{Beginning, Within, CutWithin}
 use Rattle.run_within.specs.Turning.{last_of, before_last, turned_values, BehindFirst, IsTurned}
 use Rattle.run_within.proofs.Turning.{turn-ends}
 use Rattle.run_acts.specs.declared.run.Run.{Run}
+use Rattle.run_acts.specs.declared.run.Power.{Power}
 use Rattle.run_acts.specs.declared.run.Power.TheVariants.{Lit, Lost}
 use Rattle.run_acts.specs.Booked.{IsBookedTurn}
 use Rattle.run_acts.specs.Devices.{AreLeftMore, DevicesGoOn}
 use Rattle.run_acts.specs.Going.{end_of_seconds, IsGoingOn}
-use Rattle.run_acts.specs.Power.{passed, cut_run}
+use Rattle.run_acts.specs.Power.{is_lit, passed, cut_run}
+use Rattle.run_acts.specs.Rounds.{told_values}
 use Rattle.run_acts.specs.Recording.{log_of, values_of, IsNow, RunWithin, RunCut}
 use Rattle.run_acts.specs.RunRinged.{seats_of, IsLastFrom, RingsWithin, TurnedRings}
 use Rattle.run_acts.specs.Turning.{late_moment, told_of, cut_where, cut_breaks, IsLitTurn}
-use Rattle.run_acts.proofs.TurnRecorded.{last-actions, last-number, turned}
+use Rattle.run_acts.proofs.TurnRecorded.{last-actions, last-number, turned, fails-last}
+use Rattle.run_acts.proofs.StoredRun.{found-first, cut-stored}
 use Rattle.run_acts.specs.Ringing.{seating_of}
 use Rattle.run_acts.proofs.RingedLines.{AreTears, TellsBeside, TellsTears, tears-beside, kept-tells, up-to-tells}
 use Rattle.run_acts.proofs.RingedSecond.{cut-is, cut-torn, cut-found, here-append, tears-here_, goes-behind, power-here, starts-here, goes-last, alike-last, more-left}
@@ -84,14 +89,15 @@ abbrev quiet : (number speed : ℕ) → TraceSecond
 quiet number speed = record { number = number; has_power = true; speed = speed; actions = [] }
 
 -- behind some seconds: their spans, the last from this odometer
-pub record SpansBehind (o : Origin) (done : List TraceSecond) (log : RunLog) (next base : ℕ) (seats : Card → Option Seating) (d : Devices) : Type 0 where
+pub record SpansBehind (o : Origin) (done : List TraceSecond) (log : RunLog) (next unfound base : ℕ) (seats : Card → Option Seating) (d : Devices) : Type 0 where
   pub spans : List SpanFrom
   pub base_is : IsLastFrom base spans
   pub ringed : RingedBehind o done log next spans seats d
+  pub stored : StoresOn o log unfound base spans
 
-one-quiet : (o : Origin) (done : List TraceSecond) (log : RunLog) (u speed base : ℕ) (seats : Card → Option Seating) (d : Devices) → IsGoing (went log done).before → SpansBehind o done log u base seats d →
-    SpansBehind o (done ++ quiet u speed ∷ []) log (suc u) base seats d
-one-quiet o done log u speed base seats d goes q =
+one-quiet : (o : Origin) (done : List TraceSecond) (log : RunLog) (u speed unfound base : ℕ) (seats : Card → Option Seating) (d : Devices) → IsGoing (went log done).before → SpansBehind o done log u unfound base seats d →
+    SpansBehind o (done ++ quiet u speed ∷ []) log (suc u) unfound base seats d
+one-quiet o done log u speed unfound base seats d goes q =
     let x : TraceSecond = quiet u speed in
     let before : Before = (went log done).before in
     let power : has_power before x ≡ true = lit-power (second_told log before x ∷ []) before x u goes refl refl in
@@ -101,20 +107,21 @@ one-quiet o done log u speed base seats d goes q =
       spans = with_second q.spans base t;
       base_is = goes-last base q.spans t is.lit (is.starts ∙ ap not goes.running) q.base_is;
       ringed = second-ends d o done x log log q.spans base t seats (second-begins d o done x log q.spans base t seats q.ringed goes.running is) (same-behind log done) power;
+      stored = stored-next o log unfound base base q.spans t is.lit (is.starts ∙ ap not goes.running) q.stored;
     }
 
-many-quiet : (j : ℕ) (o : Origin) (done : List TraceSecond) (log : RunLog) (u speed base : ℕ) (seats : Card → Option Seating) (d : Devices) → ((i : ℕ) → IsGoing (went log (done ++ driven i u speed [])).before) → SpansBehind o done log u base seats d →
-    SpansBehind o (done ++ driven j u speed []) log (u + j) base seats d
-many-quiet zero o done log u speed base seats d goes q =
-    subst (λ (k : ℕ). SpansBehind o (done ++ []) log k base seats d) (let same : u ≡ u + 0 = omega arith in same) (subst (λ (ss : List TraceSecond). SpansBehind o ss log u base seats d) (sym (append-nil done)) q)
-many-quiet (suc j) o done log u speed base seats d goes q =
+many-quiet : (j : ℕ) (o : Origin) (done : List TraceSecond) (log : RunLog) (u speed unfound base : ℕ) (seats : Card → Option Seating) (d : Devices) → ((i : ℕ) → IsGoing (went log (done ++ driven i u speed [])).before) → SpansBehind o done log u unfound base seats d →
+    SpansBehind o (done ++ driven j u speed []) log (u + j) unfound base seats d
+many-quiet zero o done log u speed unfound base seats d goes q =
+    subst (λ (k : ℕ). SpansBehind o (done ++ []) log k unfound base seats d) (let same : u ≡ u + 0 = omega arith in same) (subst (λ (ss : List TraceSecond). SpansBehind o ss log u unfound base seats d) (sym (append-nil done)) q)
+many-quiet (suc j) o done log u speed unfound base seats d goes q =
     let x : TraceSecond = quiet u speed in
-    let first : SpansBehind o (done ++ x ∷ []) log (u + 1) base seats d =
-    subst (λ (k : ℕ). SpansBehind o (done ++ x ∷ []) log k base seats d) (let same : suc u ≡ u + 1 = omega arith in same)
-    (one-quiet o done log u speed base seats d (subst (λ (ss : List TraceSecond). IsGoing (went log ss).before) (append-nil done) (goes zero)) q) in
-    let rest = many-quiet j o (done ++ x ∷ []) log (u + 1) speed base seats d (λ i. subst (λ (ss : List TraceSecond). IsGoing (went log ss).before) (sym (append_assoc done (x ∷ []) (driven i (u + 1) speed []))) (goes (suc i))) first in
-    subst (λ (k : ℕ). SpansBehind o (done ++ driven (suc j) u speed []) log k base seats d) (let same : u + 1 + j ≡ u + suc j = omega arith in same)
-    (subst (λ (ss : List TraceSecond). SpansBehind o ss log (u + 1 + j) base seats d) (append_assoc done (x ∷ []) (driven j (u + 1) speed [])) rest)
+    let first : SpansBehind o (done ++ x ∷ []) log (u + 1) unfound base seats d =
+    subst (λ (k : ℕ). SpansBehind o (done ++ x ∷ []) log k unfound base seats d) (let same : suc u ≡ u + 1 = omega arith in same)
+    (one-quiet o done log u speed unfound base seats d (subst (λ (ss : List TraceSecond). IsGoing (went log ss).before) (append-nil done) (goes zero)) q) in
+    let rest = many-quiet j o (done ++ x ∷ []) log (u + 1) speed unfound base seats d (λ i. subst (λ (ss : List TraceSecond). IsGoing (went log ss).before) (sym (append_assoc done (x ∷ []) (driven i (u + 1) speed []))) (goes (suc i))) first in
+    subst (λ (k : ℕ). SpansBehind o (done ++ driven (suc j) u speed []) log k unfound base seats d) (let same : u + 1 + j ≡ u + suc j = omega arith in same)
+    (subst (λ (ss : List TraceSecond). SpansBehind o ss log (u + 1 + j) unfound base seats d) (append_assoc done (x ∷ []) (driven j (u + 1) speed [])) rest)
 
 -- ---- DARK SECONDS behind a cut
 one-dark : (o : Origin) (done : List TraceSecond) (log : RunLog) (u speed : ℕ) (spans : List SpanFrom) (base : ℕ) (d : Devices) → HasLost (went log done).before → 0 < u % 60 → RingedBehind o done log u spans nobody d →
@@ -148,8 +155,9 @@ fewer-behind o done log next spans seats fewer d v few = record { spans_are = v.
 
 -- THE SECOND WAS CUT: behind it nothing is noted before the next minute.
 pub dark-ringed : (n speed begun : ℕ) (old : Run) (before : Outcome) (d : Devices) → 0 < n → old.next % 60 + n ≤ 60 → (o : Origin) (done : List TraceSecond) (s : TraceSecond) → IsNow s speed old → (cut : RunCut o done s old before d) →
-    (spans : List SpanFrom) → old.noted ≤ length before.finds.items → RingedBehind o (done ++ s ∷ []) (log_of before) (suc old.next) spans nobody d → TurnedRings o (done ++ s ∷ driven (n - 1) (s.number + 1) speed []) (passed n begun old) before d
-dark-ringed n speed begun old before d some minute o done s now cut spans counted v = record {
+    (spans : List SpanFrom) → old.noted ≤ length before.finds.items → RingedBehind o (done ++ s ∷ []) (log_of before) (suc old.next) spans nobody d → StoresOff o (log_of before) old.unfound spans d →
+    TurnedRings o (done ++ s ∷ driven (n - 1) (s.number + 1) speed []) (passed n begun old) before d
+dark-ringed n speed begun old before d some minute o done s now cut spans counted v off = record {
   spans = spans;
   counted = counted;
   base = λ on. absurd (let clash : Lost ≡ Lit = sym cut.lost ∙ on in cc);
@@ -157,6 +165,7 @@ dark-ringed n speed begun old before d some minute o done s now cut spans counte
       (subst (λ (u : ℕ). RingedBehind o (done ++ s ∷ driven (n - 1) (s.number + 1) speed []) (log_of before) u spans nobody d) (let same : s.number + 1 + (n - 1) ≡ old.next + n = omega (arith, number, some) in same)
       (subst (λ (ss : List TraceSecond). RingedBehind o ss (log_of before) (s.number + 1 + (n - 1)) spans nobody d) (append_assoc done (s ∷ []) (driven (n - 1) (s.number + 1) speed [])) (all (n - 1) refl)))
       (λ c. inr (ap (λ (q : Option Accepted). option_map (seating_of old.noted) q) (cut.recorded.held.bare c)));
+  stored = subst (λ (p : Power). Stores (is_lit p) o (log_of before) old.unfound old.keeper.odometer spans d) (sym cut.lost) off;
 }
   where
     number : s.number ≡ old.next
@@ -202,6 +211,9 @@ module _ {U A0 B0 : State} {chip_a chip_b : CardState} (n speed begun : ℕ) (ol
   between-odometer : T.between.keeper.odometer ≡ old.keeper.odometer
   between-odometer = h.5
 
+  between-unfound : T.between.unfound ≡ old.unfound
+  between-unfound = ap (λ (r : Run). r.unfound) T.kept.only ∙ ap (λ (r : Run). r.unfound) T.only
+
   between-power : T.between.power ≡ old.power
   between-power = ap (λ (r : Run). r.power) T.kept.only ∙ ap (λ (r : Run). r.power) T.only
 
@@ -218,10 +230,17 @@ module _ {U A0 B0 : State} {chip_a chip_b : CardState} (n speed begun : ℕ) (ol
   new-fewer true r is = subst (λ (x : Run). AreFewer (seats_of old) (seats_of x)) (sym is) (λ c. inr (cut-seats (old.next + n - 1) T.between c))
 
   -- THE LAST SECOND, once its actions are noted: its keeping writes no ring, and it ends, cut or not
-  module _ (o : Origin) (D : List TraceSecond) (L : TraceSecond) (sp : Option ℕ) (rest : List Minute) (v : Values) (w : Within o D L Keeping [] sp rest v d) (log-is : v.log ≡ log_of before) (number : L.number ≡ old.next + n - 1) (acts : length L.actions ≡ begun)
-      (spans : List SpanFrom) (t : Told) (base : IsLastFrom old.keeper.odometer (with_second spans old.keeper.odometer t)) (counted : old.noted ≤ length (log_of before).finds) (r : RingedIn o D L w.b.run.log L.actions (log_of before) spans old.keeper.odometer t (seats_of old) d) where
+  module _ (o : Origin) (first : o.found.unit.first ≡ first_of o) (D : List TraceSecond) (L : TraceSecond) (rest : List Minute) (next_ gone : ℕ) (w : Within o D L Keeping [] (Some L.speed) rest (record (values_of old before) { minutes = T.fed.minutes; next = next_; begun = gone }) d)
+      (number : L.number ≡ old.next + n - 1) (acts : length L.actions ≡ begun)
+      (fails : T.failed ≡ true → CutWithin o D L Keeping [] (Some L.speed) (told_values (told_of (record old { minutes = T.fed.minutes; keeper = T.between.keeper; watch = T.between.watch }) (record before { marks = T.told.marks; breaks = T.told.breaks }))
+      (record (values_of old before) { minutes = T.fed.minutes; next = next_; begun = gone })) e)
+      (spans : List SpanFrom) (t : Told) (base : IsLastFrom old.keeper.odometer (with_second spans old.keeper.odometer t)) (counted : old.noted ≤ length (log_of before).finds) (r : RingedIn o D L w.b.run.log L.actions (log_of before) spans old.keeper.odometer t (seats_of old) d)
+      (st : StoresOn o w.b.run.log w.b.run.unfound old.keeper.odometer (with_second spans old.keeper.odometer t)) where
     abbrev log : RunLog
     log = log_of before
+
+    abbrev v : Values
+    v = record (values_of old before) { minutes = T.fed.minutes; next = next_; begun = gone }
 
     abbrev kept_log : RunLog
     kept_log = log_of T.told
@@ -236,7 +255,7 @@ module _ {U A0 B0 : State} {chip_a chip_b : CardState} (n speed begun : ℕ) (ol
     told = tears-beside (record { second = L.number; begun = length L.actions; late = true }) told-tears.lines log kept_log told-is tears
 
     uncut : cut_in log L.number ≡ None
-    uncut = subst (λ (l : RunLog). cut_in l L.number ≡ None) log-is w.moment.up_to.uncut
+    uncut = w.moment.up_to.uncut
 
     kept-uncut : cut_in kept_log L.number ≡ None
     kept-uncut = told.cut ∙ uncut
@@ -248,21 +267,37 @@ module _ {U A0 B0 : State} {chip_a chip_b : CardState} (n speed begun : ℕ) (ol
     left = more-left o d e (w.powered.lit.unit.unit_holds [] []).later w.there.clocks (record { unit = h.4.keeps; card_a = h.4.card_a.keeps; card_b = h.4.card_b.keeps })
 
     -- by a log behind it
-    ended : (seats : Card → Option Seating) → AreFewer (seats_of old) seats → (later : RunLog) (lines : List Break) → later ≡ record log { breaks = log.breaks ++ lines } → AllByRecursion (λ (b : Break). second_of b ≡ L.number) lines →
-        TellSameTo log later L.number (length L.actions) → SpansBehind o (D ++ L ∷ []) later (suc L.number) old.keeper.odometer seats e
-    ended seats few later lines is here same =
-        let base_ : ℕ = old.keeper.odometer in
-        let moved : RingedIn o D L w.b.run.log L.actions later spans base_ t seats e = go-on-in d e o D L w.b.run.log L.actions log later spans base_ t (seats_of old) seats r (lines, ap (λ (l : RunLog). l.breaks) is) same leaves left few in
-        let behind = goes-behind o D L Keeping [] sp rest v d w lines later (subst (λ (l : RunLog). later ≡ record l { breaks = l.breaks ++ lines }) (sym log-is) is) here in
-        let power = power-here o D L Keeping [] sp rest v d w in
-        let power_later : has_power (went later D).before L ≡ true = ap (λ (x : Went). has_power x.before L) behind.went_is ∙ power in
-        let x = lit-told later (went later D).before L power_later in
-        let starts : (second_told later (went later D).before L).starts ≡ t.starts = x.starts ∙ ap (λ (y : Went). not y.before.running) behind.went_is ∙ sym r.second.starts in
-        record {
-          spans = with_second spans base_ (second_told later (went later D).before L);
-          base_is = alike-last base_ spans t (second_told later (went later D).before L) r.second.lit x.lit starts base;
-          ringed = second-ends e o D L w.b.run.log later spans base_ t seats moved behind power;
-        }
+    module _ (later : RunLog) (lines : List Break) (is : later ≡ record log { breaks = log.breaks ++ lines }) (here : AllByRecursion (λ (b : Break). second_of b ≡ L.number) lines) where
+      more-told : HasMoreBreaks w.b.run.log later
+      more-told = (w.moment.breaks ++ lines, ap (λ (l : RunLog). l.breaks) is ∙ ap (λ (bs : List Break). bs ++ lines) w.moment.breaks_are ∙ append_assoc w.b.run.log.breaks w.moment.breaks lines)
+
+      behind : GoesBehind w.b.run.log later D
+      behind = goes-behind o D L Keeping [] (Some L.speed) rest v d w lines later is here
+
+      power : has_power (went w.b.run.log D).before L ≡ true
+      power = power-here o D L Keeping [] (Some L.speed) rest v d w
+
+      as-told : IsLitAs later (went later D).before L (second_told later (went later D).before L)
+      as-told = lit-told later (went later D).before L (ap (λ (x : Went). has_power x.before L) behind.went_is ∙ power)
+
+      starts-so : (second_told later (went later D).before L).starts ≡ t.starts
+      starts-so = as-told.starts ∙ ap (λ (y : Went). not y.before.running) behind.went_is ∙ sym r.second.starts
+
+      ended : (seats : Card → Option Seating) → AreFewer (seats_of old) seats → TellSameTo log later L.number (length L.actions) →
+          RingedBehind o (D ++ L ∷ []) later (suc L.number) (with_second spans old.keeper.odometer (second_told later (went later D).before L)) seats e
+      ended seats few same =
+          let moved : RingedIn o D L w.b.run.log L.actions later spans old.keeper.odometer t seats e =
+          go-on-in d e o D L w.b.run.log L.actions log later spans old.keeper.odometer t (seats_of old) seats r (lines, ap (λ (l : RunLog). l.breaks) is) same leaves left few in
+          second-ends e o D L w.b.run.log later spans old.keeper.odometer t seats moved behind power
+
+      ended-base : IsLastFrom old.keeper.odometer (with_second spans old.keeper.odometer (second_told later (went later D).before L))
+      ended-base = alike-last old.keeper.odometer spans t (second_told later (went later D).before L) r.second.lit as-told.lit starts-so base
+
+      ended-stored : StoresOn o later old.unfound old.keeper.odometer (with_second spans old.keeper.odometer (second_told later (went later D).before L))
+      ended-stored =
+          subst (λ (k : ℕ). StoresOn o later k old.keeper.odometer (with_second spans old.keeper.odometer (second_told later (went later D).before L))) (sym w.unfound)
+          (stored-alike o later w.b.run.unfound old.keeper.odometer spans t (second_told later (went later D).before L) r.second.lit as-told.lit starts-so
+          (stored-later o w.b.run.log later w.b.run.unfound old.keeper.odometer (with_second spans old.keeper.odometer t) w.began.followed.unfound more-told st))
 
     -- it went on
     same-kept : TellSameTo log kept_log L.number (length L.actions)
@@ -296,6 +331,25 @@ module _ {U A0 B0 : State} {chip_a chip_b : CardState} (n speed begun : ℕ) (ol
     next-is : suc L.number ≡ old.next + n
     next-is = omega (arith, number, some)
 
+    -- the log of the record is the one that was told
+    log-same : record log { breaks = T.told.breaks.items } ≡ kept_log
+    log-same = sym (ap log_of T.kept.outcome)
+
+    -- where it was cut, what was stored
+    cut-off : T.failed ≡ true → StoresOff o (and_break kept_log (cut_at L.number true (length L.actions))) old.unfound
+        (with_second spans old.keeper.odometer (second_told (and_break kept_log (cut_at L.number true (length L.actions))) (went (and_break kept_log (cut_at L.number true (length L.actions))) D).before L)) e
+    cut-off broke =
+        let gone_ : HasMoreBreaks w.b.run.log kept_log = more-told kept_log told-tears.lines told-is lines-here in
+        let behind_ : GoesBehind w.b.run.log (and_break kept_log (cut_at L.number true (length L.actions))) D =
+        behind (and_break kept_log (cut_at L.number true (length L.actions))) (told-tears.lines ++ cut_at L.number true (length L.actions) ∷ []) cut-lines (here-append L.number told-tears.lines (cut_at L.number true (length L.actions) ∷ []) lines-here (refl, tt)) in
+        let there : (l : RunLog) → l ≡ kept_log → HasMoreBreaks w.b.run.log l × (went (and_break l (cut_at L.number true (length L.actions))) D ≡ went w.b.run.log D) =
+        λ l is. (subst (HasMoreBreaks w.b.run.log) (sym is) gone_, ap (λ (x : RunLog). went (and_break x (cut_at L.number true (length L.actions))) D) is ∙ behind_.went_is) in
+        let at_log = there (record log { breaks = T.told.breaks.items }) log-same in
+        subst (λ (l : RunLog). StoresOff o (and_break l (cut_at L.number true (length L.actions))) old.unfound (spans_cut spans old.keeper.odometer (and_break l (cut_at L.number true (length L.actions))) D L) e) log-same
+        (cut-stored o first D L w.b.run w.began.followed w.b.span w.lit w.moment.number Keeping [] (Some L.speed)
+        (told_values (told_of (record old { minutes = T.fed.minutes; keeper = T.between.keeper; watch = T.between.watch }) (record before { marks = T.told.marks; breaks = T.told.breaks })) v) e (fails broke) [] refl
+        w.unfound old.keeper.odometer refl at_log.0 at_log.1 spans r.spans_are t r.second.lit r.second.starts st)
+
     pub last-ringed : TurnedRings o (D ++ L ∷ []) (passed n begun new) after e
     last-ringed = by T.failed refl
       where
@@ -303,32 +357,45 @@ module _ {U A0 B0 : State} {chip_a chip_b : CardState} (n speed begun : ℕ) (ol
         by false fine =
             let new_is : new ≡ T.between = T.run ∙ ap (λ (b : Bool). cut_where b (old.next + n - 1) T.between) fine in
             let after_is : after ≡ T.told = T.outcome ∙ ap (λ (b : Bool). cut_breaks b (old.next + n - 1) begun T.told) fine in
-            let x = ended (seats_of new) (new-fewer false new new_is) kept_log told-tears.lines told-is lines-here same-kept in
+            let ss : List SpanFrom = with_second spans old.keeper.odometer (second_told kept_log (went kept_log D).before L) in
+            let rings = ended kept_log told-tears.lines told-is lines-here (seats_of new) (new-fewer false new new_is) same-kept in
             let next : suc L.number ≡ new.next + n = next-is ∙ ap (λ (k : ℕ). k + n) (sym (ap (λ (r_ : Run). r_.next) new_is ∙ between-next)) in
+            let odometer : new.keeper.odometer ≡ old.keeper.odometer = ap (λ (r_ : Run). r_.keeper.odometer) new_is ∙ between-odometer in
+            let unfound : new.unfound ≡ old.unfound = ap (λ (r_ : Run). r_.unfound) new_is ∙ between-unfound in
+            let on_ : new.power ≡ Lit = ap (λ (r_ : Run). r_.power) new_is ∙ between-power ∙ lit in
             subst (λ (out : Outcome). TurnedRings o (D ++ L ∷ []) (passed n begun new) out e) (sym after_is) (record {
-              spans = x.spans;
+              spans = ss;
               counted = subst (λ (k : ℕ). k ≤ length kept_log.finds) (sym (ap (λ (r_ : Run). r_.noted) new_is ∙ between-noted)) kept-counted;
-              base = λ on. subst (λ (b : ℕ). IsLastFrom b x.spans) (sym (ap (λ (r_ : Run). r_.keeper.odometer) new_is ∙ between-odometer)) x.base_is;
-              ringed = subst (λ (k : ℕ). RingedBehind o (D ++ L ∷ []) kept_log k x.spans (seats_of new) e) next x.ringed;
+              base = λ on. subst (λ (b : ℕ). IsLastFrom b ss) (sym odometer) (ended-base kept_log told-tears.lines told-is lines-here);
+              ringed = subst (λ (k : ℕ). RingedBehind o (D ++ L ∷ []) kept_log k ss (seats_of new) e) next rings;
+              stored = subst (λ (p : Power). Stores (is_lit p) o kept_log new.unfound new.keeper.odometer ss e) (sym on_)
+                  (subst (λ (k : ℕ). StoresOn o kept_log k new.keeper.odometer ss) (sym unfound)
+                  (subst (λ (b : ℕ). StoresOn o kept_log old.unfound b ss) (sym odometer) (ended-stored kept_log told-tears.lines told-is lines-here)));
             })
         by true broke =
             let new_is : new ≡ cut_run (old.next + n - 1) T.between = T.run ∙ ap (λ (b : Bool). cut_where b (old.next + n - 1) T.between) broke in
             let after_is : after ≡ cut_breaks true (old.next + n - 1) begun T.told = T.outcome ∙ ap (λ (b : Bool). cut_breaks b (old.next + n - 1) begun T.told) broke in
-            let x = ended (seats_of new) (new-fewer true new new_is) (and_break kept_log (cut_at L.number true (length L.actions))) (told-tears.lines ++ cut_at L.number true (length L.actions) ∷ []) cut-lines
-            (here-append L.number told-tears.lines (cut_at L.number true (length L.actions) ∷ []) lines-here (refl, tt)) same-cut in
+            let cut_log_ : RunLog = and_break kept_log (cut_at L.number true (length L.actions)) in
+            let ss : List SpanFrom = with_second spans old.keeper.odometer (second_told (and_break kept_log (cut_at L.number true (length L.actions))) (went (and_break kept_log (cut_at L.number true (length L.actions))) D).before L) in
+            let rings = ended cut_log_ (told-tears.lines ++ cut_at L.number true (length L.actions) ∷ []) cut-lines (here-append L.number told-tears.lines (cut_at L.number true (length L.actions) ∷ []) lines-here (refl, tt))
+            (seats_of new) (new-fewer true new new_is) same-cut in
             let next : suc L.number ≡ new.next + n = next-is ∙ ap (λ (k : ℕ). k + n) (sym (ap (λ (r_ : Run). r_.next) new_is ∙ between-next)) in
-            let log_is : and_break kept_log (cut_at L.number true (length L.actions)) ≡ log_of after = (λ i. and_break kept_log (cut_at (number i) true (acts i))) ∙ sym (ap log_of after_is) in
+            let unfound : new.unfound ≡ old.unfound = ap (λ (r_ : Run). r_.unfound) new_is ∙ between-unfound in
+            let log_is : cut_log_ ≡ log_of after = (λ i. and_break kept_log (cut_at (number i) true (acts i))) ∙ sym (ap log_of after_is) in
             record {
-              spans = x.spans;
+              spans = ss;
               counted = subst (λ (l : RunLog). new.noted ≤ length l.finds) log_is (subst (λ (k : ℕ). k ≤ length kept_log.finds) (sym (ap (λ (r_ : Run). r_.noted) new_is ∙ between-noted)) kept-counted);
               base = λ on. absurd (let clash : Lost ≡ Lit = sym (ap (λ (r_ : Run). r_.power) new_is) ∙ on in cc);
-              ringed = subst (λ (l : RunLog). RingedBehind o (D ++ L ∷ []) l (new.next + n) x.spans (seats_of new) e) log_is
-                  (subst (λ (k : ℕ). RingedBehind o (D ++ L ∷ []) (and_break kept_log (cut_at L.number true (length L.actions))) k x.spans (seats_of new) e) next x.ringed);
+              ringed = subst (λ (l : RunLog). RingedBehind o (D ++ L ∷ []) l (new.next + n) ss (seats_of new) e) log_is
+                  (subst (λ (k : ℕ). RingedBehind o (D ++ L ∷ []) cut_log_ k ss (seats_of new) e) next rings);
+              stored = subst (λ (p : Power). Stores (is_lit p) o (log_of after) new.unfound new.keeper.odometer ss e) (sym (ap (λ (r_ : Run). r_.power) new_is))
+                  (subst (λ (k : ℕ). StoresOff o (log_of after) k ss e) (sym unfound)
+                  (subst (λ (l : RunLog). StoresOff o l old.unfound ss e) log_is (cut-off broke)));
             }
 
   -- ---- ONE SECOND, OR SEVERAL
   module _ (o : Origin) (done : List TraceSecond) (s : TraceSecond) (now : IsNow s speed old) (actions : length s.actions ≡ begun) (none : 0 < n - 1 → s.actions ≡ []) (r : RunWithin o done s (In (length s.actions)) [] [] old before d) (time : HaveTime e)
-      (spans : List SpanFrom) (t : Told) (rings : RingsWithin o done s r.within.b.run.log s.actions old (log_of before) spans t d) where
+      (spans : List SpanFrom) (t : Told) (rings : RingsWithin o done s r.within.b.run.log s.actions old (log_of before) spans t d) (st : StoresOn o r.within.b.run.log r.within.b.run.unfound old.keeper.odometer (with_second spans old.keeper.odometer t)) where
     abbrev log_ : RunLog
     log_ = log_of before
 
@@ -336,7 +403,7 @@ module _ {U A0 B0 : State} {chip_a chip_b : CardState} (n speed begun : ℕ) (ol
     base_ = old.keeper.odometer
 
     -- the first of several has ended
-    first-behind : SpansBehind o (done ++ s ∷ []) log_ (suc s.number) base_ (seats_of old) d
+    first-behind : SpansBehind o (done ++ s ∷ []) log_ (suc s.number) old.unfound base_ (seats_of old) d
     first-behind =
         let v : Values = values_of old before in
         let behind = goes-behind o done s (In (length s.actions)) [] None [] v d r.within [] log_ (ap (λ (bs : List Break). record log_ { breaks = bs }) (sym (append-nil log_.breaks))) tt in
@@ -348,6 +415,9 @@ module _ {U A0 B0 : State} {chip_a chip_b : CardState} (n speed begun : ℕ) (ol
           spans = with_second spans base_ (second_told log_ (went log_ done).before s);
           base_is = alike-last base_ spans t (second_told log_ (went log_ done).before s) rings.ringed.second.lit x.lit starts rings.base;
           ringed = second-ends d o done s r.within.b.run.log log_ spans base_ t (seats_of old) rings.ringed behind power;
+          stored = subst (λ (k : ℕ). StoresOn o log_ k base_ (with_second spans base_ (second_told log_ (went log_ done).before s))) (sym r.within.unfound)
+              (stored-alike o log_ r.within.b.run.unfound base_ spans t (second_told log_ (went log_ done).before s) rings.ringed.second.lit x.lit starts
+              (stored-later o r.within.b.run.log log_ r.within.b.run.unfound base_ (with_second spans base_ t) r.within.began.followed.unfound (r.within.moment.breaks, r.within.moment.breaks_are) st));
         }
 
     acts-of : (c : ℕ) → c ≡ n - 1 → length (last_of c s).actions ≡ begun
@@ -382,12 +452,12 @@ module _ {U A0 B0 : State} {chip_a chip_b : CardState} (n speed begun : ℕ) (ol
       done-is : (done ++ s ∷ []) ++ driven c (s.number + 1) s.speed [] ≡ done ++ s ∷ driven c (s.number + 1) s.speed []
       done-is = append_assoc done (s ∷ []) (driven c (s.number + 1) s.speed [])
 
-      behind-all : SpansBehind o (done ++ s ∷ driven c (s.number + 1) s.speed []) log_ (s.number + suc c) base_ (seats_of old) d
+      behind-all : SpansBehind o (done ++ s ∷ driven c (s.number + 1) s.speed []) log_ (s.number + suc c) old.unfound base_ (seats_of old) d
       behind-all =
-          subst (λ (u : ℕ). SpansBehind o (done ++ s ∷ driven c (s.number + 1) s.speed []) log_ u base_ (seats_of old) d) (let same : s.number + 1 + c ≡ s.number + suc c = omega arith in same)
-          (subst (λ (ss : List TraceSecond). SpansBehind o ss log_ (s.number + 1 + c) base_ (seats_of old) d) done-is
-          (many-quiet c o (done ++ s ∷ []) log_ (s.number + 1) s.speed base_ (seats_of old) d goes
-          (subst (λ (u : ℕ). SpansBehind o (done ++ s ∷ []) log_ u base_ (seats_of old) d) (let same : suc s.number ≡ s.number + 1 = omega arith in same) first-behind)))
+          subst (λ (u : ℕ). SpansBehind o (done ++ s ∷ driven c (s.number + 1) s.speed []) log_ u old.unfound base_ (seats_of old) d) (let same : s.number + 1 + c ≡ s.number + suc c = omega arith in same)
+          (subst (λ (ss : List TraceSecond). SpansBehind o ss log_ (s.number + 1 + c) old.unfound base_ (seats_of old) d) done-is
+          (many-quiet c o (done ++ s ∷ []) log_ (s.number + 1) s.speed old.unfound base_ (seats_of old) d goes
+          (subst (λ (u : ℕ). SpansBehind o (done ++ s ∷ []) log_ u old.unfound base_ (seats_of old) d) (let same : suc s.number ≡ s.number + 1 = omega arith in same) first-behind)))
 
       goes-l : IsGoing (went log_ (done ++ s ∷ driven c (s.number + 1) s.speed [])).before
       goes-l = subst (λ (ss : List TraceSecond). IsGoing (went log_ ss).before) done-is (goes c)
@@ -403,14 +473,23 @@ module _ {U A0 B0 : State} {chip_a chip_b : CardState} (n speed begun : ℕ) (ol
           let second = second-as log_ before_ (last_of (suc c) s) power-l in
           let begun_ : RingedIn o (done ++ s ∷ driven c (s.number + 1) s.speed []) (last_of (suc c) s) log_ [] log_ q.spans base_ t_ (seats_of old) d =
           second-begins d o (done ++ s ∷ driven c (s.number + 1) s.speed []) (last_of (suc c) s) log_ q.spans base_ t_ (seats_of old) q.ringed goes-l.running second in
-          last-ringed o (done ++ s ∷ driven c (s.number + 1) s.speed []) (last_of (suc c) s) (Some s.speed) T.decided (turned_values (suc c) x.begun T.fed.minutes (values_of old before)) x.fed refl (number-of (suc c) is) (acts-of (suc c) is)
+          let log_is = (x.goes_on (omega arith)).0 in
+          last-ringed o (found-first o r.origin) (done ++ s ∷ driven c (s.number + 1) s.speed []) (last_of (suc c) s) T.decided (old.next + suc c) x.begun x.fed (number-of (suc c) is) (acts-of (suc c) is)
+          (fails-last n speed begun old new before after d e g lit some minute small h o done s now actions none r time (suc c) is (done ++ s ∷ driven c (s.number + 1) s.speed []) (last_of (suc c) s) (old.next + suc c) x.begun (last-number (suc c) s) refl (acts-of (suc c) is)
+          x.fed x.travelled_before x.from)
           q.spans t_ (goes-last base_ q.spans t_ second.lit (second.starts ∙ ap not goes-l.running) q.base_is) rings.counted
-          (subst (λ (l : RunLog). RingedIn o (done ++ s ∷ driven c (s.number + 1) s.speed []) (last_of (suc c) s) l [] log_ q.spans base_ t_ (seats_of old) d) (sym (x.goes_on (omega arith)).0) begun_)
+          (subst (λ (l : RunLog). RingedIn o (done ++ s ∷ driven c (s.number + 1) s.speed []) (last_of (suc c) s) l [] log_ q.spans base_ t_ (seats_of old) d) (sym log_is) begun_)
+          (subst (λ (l : RunLog). StoresOn o l x.fed.b.run.unfound base_ (with_second q.spans base_ t_)) (sym log_is)
+          (subst (λ (k : ℕ). StoresOn o log_ k base_ (with_second q.spans base_ t_)) x.fed.unfound
+          (stored-next o log_ old.unfound base_ base_ q.spans t_ second.lit (second.starts ∙ ap not goes-l.running) q.stored)))
 
     by-count : (c : ℕ) → c ≡ n - 1 → IsTurned o done s c T.decided T.fed.minutes (values_of old before) d r.within → TurnedRings o (before_last c s done ++ last_of c s ∷ []) (passed n begun new) after e
     by-count zero is x =
-        last-ringed o done s (Some s.speed) T.decided (turned_values zero x.begun T.fed.minutes (values_of old before)) x.fed refl (number-of zero is) (acts-of zero is) spans t rings.base rings.counted
+        last-ringed o (found-first o r.origin) done s T.decided (old.next + 0) x.begun x.fed (number-of zero is) (acts-of zero is)
+        (fails-last n speed begun old new before after d e g lit some minute small h o done s now actions none r time zero is done s (old.next + 0) x.begun (last-number zero s) refl (acts-of zero is) x.fed x.travelled_before x.from)
+        spans t rings.base rings.counted
         (subst (λ (b : Beginning). RingedIn o done s b.run.log s.actions log_ spans base_ t (seats_of old) d) (sym (x.first refl)) rings.ringed)
+        (subst (λ (b : Beginning). StoresOn o b.run.log b.run.unfound base_ (with_second spans base_ t)) (sym (x.first refl)) st)
     by-count (suc c) is x = several-ringed c x is
 
     pub seconds-ringed : TurnedRings o (done ++ s ∷ driven (n - 1) (s.number + 1) speed []) (passed n begun new) after e

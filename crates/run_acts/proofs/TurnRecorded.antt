@@ -171,6 +171,16 @@ module _ (old : Run) (before : Outcome) (minutes : Kept) (keeper : Keeper) (watc
     by false (Short xs m round) same is_ b = absurd is_
     by true (Short xs m round) same is_ b = cut-now (keeping-recorded d e o done s q decided t u v w keeps true (Short xs m round) is_ off (λ yes_. rose same) b)
 
+    -- where the unit failed: the record as power is about to be cut
+    fails-by : (f : Bool) (r : Reach) → failed ≡ f → IsTurnReach decided (moment_of s q) f t u r → IsTurnBooked o.found (odometer_at o.recording.unit) (carried_at o done s q decided t v d w) old.keeper f r (all_travelled w.ds w.b.travel) u e →
+        f ≡ true → CutWithin o done s Keeping [] (Some s.speed) U e
+    fails-by false r same is_ b on = absurd (cc)
+    fails-by true (Whole xs) same is_ b on = note-fails d e o done s q decided t u v w keeps low xs is_ off (rose same) b.0 b.1
+    fails-by true (Short xs m round) same is_ b on = keeping-recorded d e o done s q decided t u v w keeps true (Short xs m round) is_ off (λ yes_. rose same) b
+
+    pub turn-fails : failed ≡ true → CutWithin o done s Keeping [] (Some s.speed) U e
+    turn-fails on = fails-by failed reach refl turn-reach booked.0 on
+
     pub turn-core : RunRecorded o (done ++ s ∷ []) (passed n begun (cut_where failed (old.next + n - 1) between)) (cut_breaks failed (old.next + n - 1) begun told) e
     turn-core = by failed reach refl turn-reach booked.0
 
@@ -252,6 +262,22 @@ module _ {U A0 B0 : State} {chip_a chip_b : CardState} (n speed begun : ℕ) (ol
         (turn-core old before T.fed.minutes T.between.keeper T.between.watch T.told.marks T.told.breaks n begun T.failed T.decided h.1 d e reach-is books-is h.4 h.5 (two-present (ungiven_of g.span) None old.keeper.cabin g.cabin)
         lit some time o r.origin D L next gone w num (omega (arith, next_is, is, some)) acts (r.odometer ∙ ap (odometer_after (odometer_at o.recording.unit)) (sym travel))
         (omega (arith, from, first, few, same)) (omega (arith, from, first, end, same))))
+
+    -- where the unit failed in its keeping: its record as power is about to be cut
+    pub fails-last : (c : ℕ) → c ≡ n - 1 → (D : List TraceSecond) (L : TraceSecond) (next gone : ℕ) → L.number ≡ s.number + c → next ≡ old.next + c → length L.actions ≡ begun →
+        (w : Within o D L Keeping [] (Some L.speed) T.decided (record (values_of old before) { minutes = T.fed.minutes; next = next; begun = gone }) d) → w.b.travel.before ≡ r.within.b.travel.before → w.from ≡ r.within.from →
+        T.failed ≡ true → CutWithin o D L Keeping [] (Some L.speed) (told_values (told_of here lines) (record (values_of old before) { minutes = T.fed.minutes; next = next; begun = gone })) e
+    fails-last c is D L next gone number next_is acts w travel from on =
+        let at = now.number in
+        let num : L.number ≡ old.next + n - 1 = omega (arith, number, is, at, some) in
+        let first = from-is in
+        let few = g.ended.few in
+        let end = ends-by in
+        let day : (old.next + n - 1) / 60 ≡ old.next / 60 = omega (arith, minute, some) in
+        let same : L.number / 60 ≡ old.next / 60 = ap (λ (m : ℕ). m / 60) num ∙ day in
+        turn-fails old before T.fed.minutes T.between.keeper T.between.watch T.told.marks T.told.breaks n begun T.failed T.decided h.1 d e reach-is books-is h.4 h.5 (two-present (ungiven_of g.span) None old.keeper.cabin g.cabin)
+        lit some time o r.origin D L next gone w num (omega (arith, next_is, is, some)) acts (r.odometer ∙ ap (odometer_after (odometer_at o.recording.unit)) (sym travel))
+        (omega (arith, from, first, few, same)) (omega (arith, from, first, end, same)) on
 
     by-count : (c : ℕ) → c ≡ n - 1 → IsTurned o done s c T.decided T.fed.minutes (values_of old before) d r.within → RunRecorded o (before_last c s done ++ last_of c s ∷ []) (passed n begun new) after e
     by-count zero is x = by-last zero is done s (old.next + 0) x.begun (last-number zero s) refl (last-actions zero begun s actions (λ lt. none (omega (arith, lt, is)))) x.fed x.travelled_before x.from

@@ -25,6 +25,7 @@ use Rattle.run_evented.specs.Noting.{Acting}
 use Rattle.run_ringed.specs.Ringed.{Seating}
 use Rattle.run_ringed.specs.SoFar.{RingedBehind, RingedIn}
 use Rattle.run_ringed.specs.Steps.{nobody, spans_cut}
+use Rattle.run_ringed.specs.Stored.{StoresOn, StoresOff, Stores}
 use Rattle.run_keeping.specs.declared.keeper.Moment.{Moment}
 use Rattle.run_keeping.specs.Books.{HaveTime}
 use Rattle.run_acts.specs.declared.run.Run.{Run}
@@ -42,13 +43,15 @@ seats_of run c = option_map (seating_of run.noted) (session_of run.keeper.cabin.
 abbrev pub IsLastFrom : (base : ℕ) → List SpanFrom → Type 0
 IsLastFrom base spans = (front : List SpanFrom) × (last : SpanFrom) × (spans ≡ front ++ last ∷ []) × (last.base ≡ base)
 
--- BETWEEN TWO SECONDS: all is recorded, events are noted, and the rings show what these seconds noted. No more insertions were noted than finds were told.
+-- BETWEEN TWO SECONDS: all is recorded, events are noted, and the rings show what these seconds noted; each span began with what the unit had
+-- stored. No more insertions were noted than finds were told.
 pub record RunRinged (o : Origin) (done : List TraceSecond) (run : Run) (out : Outcome) (d : Devices) : Type 0 where
   pub evented : RunEvented o done run out d
   pub spans : List SpanFrom
   pub base : run.power ≡ Lit → IsLastFrom run.keeper.odometer spans
   pub counted : run.noted ≤ length out.finds.items
   pub ringed : RingedBehind o done (log_of out) run.next spans (seats_of run) d
+  pub stored : Stores (is_lit run.power) o (log_of out) run.unfound run.keeper.odometer spans d
 
 -- ---- within a second
 
@@ -68,6 +71,8 @@ pub record WithinRinged (o : Origin) (done : List TraceSecond) (s : TraceSecond)
   pub spans : List SpanFrom
   pub told : Told
   pub rings : RingsWithin o done s evented.within.within.b.run.log front run (log_of out) spans told d
+  -- by the log as the second began
+  pub stored : StoresOn o evented.within.within.b.run.log evented.within.within.b.run.unfound run.keeper.odometer (with_second spans run.keeper.odometer told)
 
 -- and where power was cut in it: no card is accepted any more
 pub record CutRinged (o : Origin) (done : List TraceSecond) (s : TraceSecond) (run : Run) (out : Outcome) (d : Devices) : Type 0 where
@@ -75,6 +80,7 @@ pub record CutRinged (o : Origin) (done : List TraceSecond) (s : TraceSecond) (r
   pub spans : List SpanFrom
   pub counted : run.noted ≤ length out.finds.items
   pub ringed : RingedBehind o (done ++ s ∷ []) (log_of out) (suc run.next) spans nobody d
+  pub stored : StoresOff o (log_of out) run.unfound spans d
 
 -- IN A SECOND, behind so many of its actions
 abbrev pub InSecondRingedBy : (lit : Bool) → Origin → List TraceSecond → TraceSecond → (n : ℕ) → Run → Outcome → Devices → Type 0
@@ -128,6 +134,7 @@ pub record TurnedRings (o : Origin) (done : List TraceSecond) (run : Run) (out :
   pub base : run.power ≡ Lit → IsLastFrom run.keeper.odometer spans
   pub counted : run.noted ≤ length out.finds.items
   pub ringed : RingedBehind o done (log_of out) run.next spans (seats_of run) d
+  pub stored : Stores (is_lit run.power) o (log_of out) run.unfound run.keeper.odometer spans d
 
 -- N SECONDS of one minute: behind them the rings show what they noted.
 abbrev pub RingsTurn : (n speed begun : ℕ) → (old new : Run) → (before after : Outcome) → (d e : Devices) → Type 0

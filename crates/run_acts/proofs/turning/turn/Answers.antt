@@ -168,7 +168,7 @@ returns-clause-evented g c = λ o done s now actions behind within time.
 
 -- behind them, with what is recorded and the events
 ringed-of : (o : Origin) (done : List TraceSecond) (run : Run) (out : Outcome) (d : Devices) → RunEvented o done run out d → TurnedRings o done run out d → RunRinged o done run out d
-ringed-of o done run out d events rings = record { evented = events; spans = rings.spans; base = rings.base; counted = rings.counted; ringed = rings.ringed }
+ringed-of o done run out d events rings = record { evented = events; spans = rings.spans; base = rings.base; counted = rings.counted; ringed = rings.ringed; stored = rings.stored }
 
 -- all actions have begun
 whole-front : (front rest acts : List Action) → acts ≡ front ++ rest → length front ≡ length acts → front ≡ acts
@@ -185,7 +185,7 @@ returns-then-not-is_lit-clause-ringed g c = λ o done s now actions behind withi
     let seconds : List TraceSecond = done ++ s ∷ driven (c.args.n - 1) (s.number + 1) c.args.speed [] in
     let events : RunEvented o seconds c.pass.new.self before d = returns-then-not-is_lit-clause-evented g c o done s now actions behind (subst (λ (b : Bool). InSecondEventedBy b o done s c.args.begun run before d) (sym dark) r.evented) time in
     let rings : TurnedRings o seconds c.pass.new.self before d = subst (λ (x : Run). TurnedRings o seconds x before d) (sym c.pass.ensures)
-    (dark-ringed c.args.n c.args.speed c.args.begun run before d c.requires.some c.requires.minute o done s now r.evented.cut r.spans r.counted r.ringed) in
+    (dark-ringed c.args.n c.args.speed c.args.begun run before d c.requires.some c.requires.minute o done s now r.evented.cut r.spans r.counted r.ringed r.stored) in
     ringed-of o seconds c.pass.new.self before d events rings
 
 pub returns-clause-ringed : goal.returns-clause-ringed
@@ -207,5 +207,5 @@ returns-clause-ringed g c = λ o done s now actions behind within time.
     subst (λ (acts : List Action). RingsWithin o done s r.evented.within.within.b.run.log acts run (log_of before) r.spans r.told d) (whole-front r.front r.rest s.actions r.are r.number) r.rings in
     let rings : TurnedRings o seconds c.pass-2.new.self after e = subst (λ (x : Run). TurnedRings o seconds x after e) (sym c.pass-2.ensures)
     (seconds-ringed c.args.n c.args.speed c.args.begun run c.lit_turn.new.run before after d e (c.requires.going.lit lit) r.evented.within.lit c.requires.some c.requires.minute c.requires.small c.lit_turn.ensures.booked leaves
-    o done s now actions (λ more. (behind (omega (arith, more))).0) r.evented.within time r.spans r.told within_all) in
+    o done s now actions (λ more. (behind (omega (arith, more))).0) r.evented.within time r.spans r.told within_all r.stored) in
     ringed-of o seconds c.pass-2.new.self after e events rings
