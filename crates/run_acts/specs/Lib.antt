@@ -20,3 +20,4 @@ pub mod Named
 pub mod Evented
 pub mod ActsEvented
 pub mod Ringing
+pub mod RunRinged
