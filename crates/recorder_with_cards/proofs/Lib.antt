@@ -3,6 +3,9 @@ pub mod EnteredTold
 pub mod EnteredAdds
 pub mod EnteredNamed
 pub mod EnteredEvented
+pub mod EnteredHolder
+pub mod EnteredLines
+pub mod EnteredRinged
 pub mod Spanned
 pub mod EnteredEvents
 pub mod Items
