@@ -1,5 +1,6 @@
 -- What the lines that are told of a card that enters leave of the other moments of its second, and of the other slot.
 use Rattle.std.proofs.Common.{◌≡◌, ◌∙◌, ℕ, suc, ◌+◌, ◌<◌, ◌≤◌, Bool, true, false, cond, nat_eq, ◌||◌, ◌&&◌, Option, Some, None, is_some, List, [], ◌∷◌, ◌++◌, length, refl, ap, sym, subst, arith, append-nil, append_assoc}
+use Rattle.std.specs.List.{AllByRecursion}
 use Rattle.std.proofs.lemmas.Bool.Decides.{nat_tests}
 use Rattle.activity_codec.specs.declared.values.Slot.{Slot}
 use Rattle.activity_codec.specs.declared.values.Slot.TheVariants.{Driver, CoDriver}
@@ -8,6 +9,7 @@ use Rattle.log_model.specs.declared.lines.Break.{Break}
 use Rattle.log_model.specs.declared.lines.Find.{Find}
 use Rattle.log_model.specs.declared.lines.Verdict.{Verdict}
 use Rattle.log_model.specs.declared.lines.Verdict.TheVariants as verdict
+use Rattle.log_model.specs.Causes.{second_of}
 use Rattle.log_model.specs.Log.{RunLog, Phase, In, same_phase, phase_of, cut_in, tears_here, is_torn_in, found_in}
 use Rattle.log_model.specs.Slots.{other_slot}
 use Rattle.log_model.specs.Course.{begins}
@@ -15,16 +17,15 @@ use Rattle.run_course.specs.Moments.{and_break, and_find, finds_here}
 use Rattle.run_course.proofs.Lookups.{break-more, find-more}
 use Rattle.run_evented.proofs.Tearing.{and-none, slot-apart}
 use Rattle.run_rings.specs.Notes.{TellSameTo}
-use Rattle.run_ringed.specs.SoFar.{HasMoreBreaks}
 use Rattle.run_keeping.specs.Keeping.{tear_of}
 use Rattle.run_entering.specs.declared.lines.Entering.{Entering}
 use Rattle.run_entering.specs.Entering.{Ending, Unfit, Ahead, Fell, Unasked, Unnoted, Seated, Lost, find_of, finds_by, breaks_by}
+use Rattle.recorder_with_cards.specs.JudgedRings.{TellsHere}
 use Rattle.recorder_with_cards.proofs.EnteredAdds.{log_with}
 
 -- LINES OF A CALL at this moment of a second, of a card in this slot: these verdicts are told of it there, and nothing else of the second is
 pub record TellsOf (log later : RunLog) (u n : ℕ) (slot : Slot) (verdicts : List Verdict) : Type 0 where
   pub cut : cut_in later u ≡ cut_in log u
-  pub lines : HasMoreBreaks log later
   pub torn : (k : ℕ) (s : Slot) → nat_eq n k ≡ false → is_torn_in later u (In k) s ≡ is_torn_in log u (In k) s
   pub found : (k : ℕ) (s : Slot) → nat_eq n k ≡ false → found_in later u (In k) s ≡ found_in log u (In k) s
   pub others : found_in later u (In n) (other_slot slot) ≡ found_in log u (In n) (other_slot slot)
@@ -33,7 +34,6 @@ pub record TellsOf (log later : RunLog) (u n : ℕ) (slot : Slot) (verdicts : Li
 tells-nothing : (log : RunLog) (u n : ℕ) (slot : Slot) → TellsOf log log u n slot []
 tells-nothing log u n slot = record {
   cut = refl;
-  lines = ([], sym (append-nil log.breaks));
   torn = λ k s apart. refl;
   found = λ k s apart. refl;
   others = refl;
@@ -43,7 +43,6 @@ tells-nothing log u n slot = record {
 tells-then : (a b c : RunLog) (u n : ℕ) (slot : Slot) (vs ws : List Verdict) → TellsOf a b u n slot vs → TellsOf b c u n slot ws → TellsOf a c u n slot (vs ++ ws)
 tells-then a b c u n slot vs ws first next = record {
   cut = next.cut ∙ first.cut;
-  lines = (first.lines.0 ++ next.lines.0, next.lines.1 ∙ ap (λ (l : List Break). l ++ next.lines.0) first.lines.1 ∙ append_assoc a.breaks first.lines.0 next.lines.0);
   torn = λ k s apart. next.torn k s apart ∙ first.torn k s apart;
   found = λ k s apart. next.found k s apart ∙ first.found k s apart;
   others = next.others ∙ first.others;
@@ -67,7 +66,6 @@ find-tells log e v =
     λ k s none. seen.found (In k) s ∙ ap (λ (b : Bool). found_in log e.at.second (In k) s ++ cond b (f.verdict ∷ []) []) none ∙ append-nil (found_in log e.at.second (In k) s) in
     record {
       cut = seen.cut;
-      lines = ([], sym (append-nil log.breaks));
       torn = λ k s apart. seen.torn (In k) s;
       found = λ k s apart. off k s (ap (λ (b : Bool). nat_eq e.at.second e.at.second && b && same_slot e.slot s) apart ∙ ap (λ (b : Bool). b && same_slot e.slot s) (and-none (nat_eq e.at.second e.at.second)));
       others = off e.at.begun (other_slot e.slot) ((λ i. nat_eq e.at.second e.at.second && nat_eq e.at.begun e.at.begun && slot-apart e.slot i) ∙ and-none (nat_eq e.at.second e.at.second && nat_eq e.at.begun e.at.begun));
@@ -97,7 +95,6 @@ tear-tells log e early =
     ∙ ap (λ (c : Bool). c && same_slot e.slot s) (and-none (nat_eq e.at.second e.at.second)) in
     record {
       cut = seen.cut ∙ or-none (cut_in log e.at.second);
-      lines = (b ∷ [], refl);
       torn = λ k s apart. seen.torn (In k) s ∙ ap (λ (c : Bool). is_torn_in log e.at.second (In k) s || c) (off k s apart) ∙ or-false (is_torn_in log e.at.second (In k) s);
       found = λ k s apart. seen.found (In k) s;
       others = seen.found (In e.at.begun) (other_slot e.slot);
@@ -133,6 +130,29 @@ ending-tells (Seated entered clock entry) e log early = found-alone log e (verdi
 ending-tells (Lost entered clock entry) e log early =
     let f : Find = find_of e (verdict.Accepted entered.replayed) in
     tells-then log (and_find log f) (and_break (and_find log f) (tear_of e.slot e.at)) e.at.second e.at.begun e.slot (verdict.Accepted entered.replayed ∷ []) [] (find-tells log e (verdict.Accepted entered.replayed)) (tear-tells (and_find log f) e early)
+
+-- ---- all of them are of this second
+
+breaks-here : (ending : Ending) (e : Entering) → AllByRecursion (λ (b : Break). second_of b ≡ e.at.second) (breaks_by ending e)
+breaks-here (Unfit fid place) e = tt
+breaks-here (Ahead stored) e = tt
+breaks-here Fell e = (refl, tt)
+breaks-here Unasked e = tt
+breaks-here (Unnoted entered clock) e = tt
+breaks-here (Seated entered clock entry) e = tt
+breaks-here (Lost entered clock entry) e = (refl, tt)
+
+finds-here_ : (ending : Ending) (e : Entering) → AllByRecursion (λ (f : Find). f.second ≡ e.at.second) (finds_by ending e)
+finds-here_ (Unfit fid place) e = (refl, tt)
+finds-here_ (Ahead stored) e = (refl, tt)
+finds-here_ Fell e = tt
+finds-here_ Unasked e = tt
+finds-here_ (Unnoted entered clock) e = (refl, tt)
+finds-here_ (Seated entered clock entry) e = (refl, tt)
+finds-here_ (Lost entered clock entry) e = (refl, tt)
+
+pub ending-here : (ending : Ending) (e : Entering) (log : RunLog) → TellsHere log (log_with ending e log) e.at.second
+ending-here ending e log = record { breaks = (breaks_by ending e, refl, breaks-here ending e); finds = (finds_by ending e, refl, finds-here_ ending e) }
 
 -- ---- nothing is told of earlier moments
 

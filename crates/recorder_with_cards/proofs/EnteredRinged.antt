@@ -19,7 +19,7 @@ use Rattle.message_model.specs.Records.{insertion_ring}
 use Rattle.log_model.specs.declared.lines.Find.{Find}
 use Rattle.log_model.specs.declared.lines.Verdict.{Verdict}
 use Rattle.log_model.specs.declared.lines.Verdict.TheVariants as verdict
-use Rattle.log_model.specs.Log.{RunLog, In, found_in, is_accepting}
+use Rattle.log_model.specs.Log.{RunLog, In, cut_in, found_in, is_accepting}
 use Rattle.log_model.specs.Slots.{same_card, other_slot}
 use Rattle.log_model.specs.Course.{Visit}
 use Rattle.unit_notes.specs.Entries.{insertion_bytes}
@@ -41,7 +41,7 @@ use Rattle.run_outcome.specs.declared.outcome.Outcome.{Outcome}
 use Rattle.run_recorded.specs.Origin.{Origin}
 use Rattle.run_recorded.specs.Beside.{HaveLeftMore}
 use Rattle.run_ringed.specs.Ringed.{Seating, one_behind}
-use Rattle.run_ringed.specs.SoFar.{AreFewer, HasMoreBreaks}
+use Rattle.run_ringed.specs.SoFar.{AreFewer}
 use Rattle.run_keeping.specs.declared.keeper.Keeper.{Keeper}
 use Rattle.run_keeping.specs.declared.keeper.Moment.{Moment as KeepingAt}
 use Rattle.run_entering.specs.declared.lines.Entering.{Entering}
@@ -55,10 +55,10 @@ use Rattle.run_acts.specs.Ringing.{seating_of}
 use Rattle.run_acts.proofs.EnteredFacts.{before, mine-back, units, now-is, card-began, unit-told, known as known-behind, left}
 use Rattle.run_acts.proofs.EnteredWhole.{found-in}
 use Rattle.recorder_with_cards.specs.EnteredRings.{WritesBy}
-use Rattle.recorder_with_cards.specs.JudgedRings.{IsInsertionNow, AreSeatedWith, JudgedInRings}
+use Rattle.recorder_with_cards.specs.JudgedRings.{IsInsertionNow, AreSeatedWith, JudgedInRings, TellsHere}
 use Rattle.recorder_with_cards.proofs.EnteredAdds.{log_with}
 use Rattle.recorder_with_cards.proofs.EnteredHolder.{insertion-now}
-use Rattle.recorder_with_cards.proofs.EnteredLines.{TellsOf, verdicts_of, ending-tells, tells-same}
+use Rattle.recorder_with_cards.proofs.EnteredLines.{TellsOf, verdicts_of, ending-tells, ending-here, tells-same}
 use Rattle.recorder_with_cards.proofs.EnteredRings.{accept-writes}
 
 -- ---- where the insertions of the accepted cards stand
@@ -191,7 +191,8 @@ noted-few (Lost entered clock entry) e log noted le = let one = one-more noted i
 pub record IsRinged (o : Origin) (s : TraceSecond) (n : ℕ) (e : Entering) (spans : List SpanFrom) (noted noted' : ℕ) (k k' : Keeper) (out out' : Outcome) (failed : Bool) (d later : Devices) : Type 0 where
   pub rings : JudgedInRings failed o (record { second = s.number; slot = e.slot; card = e.which }) (found_in (log_of out') s.number (In n) e.slot) spans (seats_in noted k.cabin.cards) (seats_in noted' k'.cabin.cards) d later
   pub others : found_in (log_of out') s.number (In n) (other_slot e.slot) ≡ found_in (log_of out) s.number (In n) (other_slot e.slot)
-  pub lines : HasMoreBreaks (log_of out) (log_of out')
+  pub here : TellsHere (log_of out) (log_of out') s.number
+  pub cut : cut_in (log_of out') s.number ≡ cut_in (log_of out) s.number
   pub same : (x : ℕ) → n ≡ suc x → TellSameTo (log_of out) (log_of out') s.number x
   pub left : HaveLeftMore o d later
   pub counted : noted' ≤ length (log_of out').finds
@@ -225,8 +226,8 @@ module _ (o : Origin) (done : List TraceSecond) (s : TraceSecond) (n : ℕ) (wai
   others-found : found_in (log_of out') s.number (In n) (other_slot e.slot) ≡ found_in (log_of out) s.number (In n) (other_slot e.slot)
   others-found = tells.others
 
-  lines-more : HasMoreBreaks (log_of out) (log_of out')
-  lines-more = tells.lines
+  tells-here : TellsHere (log_of out) (log_of out') s.number
+  tells-here = subst (λ (l : RunLog). TellsHere (log_of out) l s.number) (sym log-is) (subst (λ (u : ℕ). TellsHere (log_of out) (log_with (ending_of way) e (log_of out)) u) second (ending-here (ending_of way) e (log_of out)))
 
   same-before : (x : ℕ) → n ≡ suc x → TellSameTo (log_of out) (log_of out') s.number x
   same-before x is = tells-same (log_of out) (log_of out') s.number x e.slot (verdicts_of (ending_of way) e) w.moment.up_to.uncut
@@ -299,4 +300,4 @@ module _ (o : Origin) (done : List TraceSecond) (s : TraceSecond) (n : ℕ) (wai
 
   -- all of it
   pub judged-ringed : IsRinged o s n e spans noted noted' k k' out out' failed (arranged e.which U X Z) (arranged e.which W Y Z)
-  judged-ringed = record { rings = judged-rings; others = others-found; lines = lines-more; same = same-before; left = more; counted = counted-then }
+  judged-ringed = record { rings = judged-rings; others = others-found; here = tells-here; cut = tells.cut; same = same-before; left = more; counted = counted-then }

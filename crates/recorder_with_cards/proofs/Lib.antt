@@ -6,6 +6,8 @@ pub mod EnteredEvented
 pub mod EnteredHolder
 pub mod EnteredLines
 pub mod EnteredRinged
+pub mod RingsHere
+pub mod InsertedRinged
 pub mod Spanned
 pub mod EnteredEvents
 pub mod Items

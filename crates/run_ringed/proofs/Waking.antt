@@ -1,14 +1,21 @@
 -- The rings over a power-on.
-use Rattle.std.proofs.Common.{◌≡◌, ◌⊎◌, inl, inr, ℕ, suc, Bool, true, false, cond, Option, Some, None, List, [], ◌∷◌, ◌++◌, map, length, refl, ap, sym, subst, ◌∙◌, arith, append-nil, append_assoc}
-use Rattle.std.specs.Prelude.{filter}
+use Rattle.std.proofs.Common.{◌≡◌, ◌⊎◌, inl, inr, ℕ, zero, suc, ◌&&◌, ◌||◌, Bool, true, false, cond, Option, Some, None, List, [], ◌∷◌, ◌++◌, map, length, refl, ap, sym, subst, ◌∙◌, arith, append-nil, append_assoc}
+use Rattle.std.specs.Prelude.{filter, nat_eq}
+use Rattle.std.specs.List.{list_any}
 use Rattle.activity_codec.specs.declared.values.Slot.{Slot}
 use Rattle.activity_codec.specs.declared.values.Slot.TheVariants.{Driver, CoDriver}
 use Rattle.trace_model.specs.declared.Card.{Card}
 use Rattle.trace_model.specs.Trace.{TraceSecond}
+use Rattle.log_model.specs.declared.lines.Break.{Break}
+use Rattle.log_model.specs.declared.lines.Break.TheVariants.{Cut, Tear}
 use Rattle.log_model.specs.declared.lines.Verdict.{Verdict}
+use Rattle.log_model.specs.Causes.{is_cut, has_failed, second_of}
 use Rattle.log_model.specs.Log.{RunLog, In, cut_in, found_in, is_accepting}
 use Rattle.log_model.specs.Slots.{Sitting, in_slot}
-use Rattle.log_model.specs.Course.{Told, Before, went}
+use Rattle.log_model.specs.Course.{Told, Before, Went, went}
+use Rattle.log_model.specs.Spans.{spans_of}
+use Rattle.unit_course.specs.Lines.{found_from}
+use Rattle.side_model.specs.Done.{has_failed_in}
 use Rattle.side_model.specs.Odometer.{SpanFrom}
 use Rattle.side_model.specs.Noted.{Acceptance, Note, Accepts}
 use Rattle.safety_model.specs.Safe.{Devices}
@@ -19,10 +26,11 @@ use Rattle.run_rings.proofs.Actions.{power-notes}
 use Rattle.run_rings.proofs.Spans.{earlier-stay}
 use Rattle.run_recorded.specs.Origin.{Origin}
 use Rattle.run_recorded.specs.Beside.{HaveLeftMore}
-use Rattle.run_ringed.specs.Ringed.{Seating, Ringed, StaysInRings, notes_in}
-use Rattle.run_ringed.specs.SoFar.{RingedBehind, notes_so_far, RingedIn, AreFewer, HasMoreBreaks}
+use Rattle.run_ringed.specs.Ringed.{Seating, Ringed, StaysInRings, GoOn, notes_in}
+use Rattle.run_ringed.specs.SoFar.{AreEarlier, RingedBehind, notes_so_far, RingedIn, AreFewer, HasMoreBreaks, GoesBehind}
 use Rattle.run_ringed.specs.Steps.{nobody}
 use Rattle.run_ringed.specs.Waking.{NoneFound, PowerBeginsInRings, IsFoundAnew, ASlotIsPassedAnew, ACardIsAcceptedAnew, AnAcceptanceIsCutAnew}
+use Rattle.run_ringed.proofs.Noted.{notes-alike}
 use Rattle.run_ringed.proofs.Rings.{fewer-sit, rings-stay}
 use Rattle.run_ringed.proofs.Around.{insertion-around, insertion-cut}
 use Rattle.run_ringed.proofs.SoFar.{left-itself, failed-more, goes-alike, goes-earlier, cut-ends}
@@ -142,3 +150,42 @@ cut-anew d e o done s began log cut spans base t seats v off more slot x sits ve
     let r : Ringed o cut now (notes ++ Accepts n ∷ []) nobody e = insertion-cut d e o cut now notes seats (lines-anew d e o done s began log cut spans base t seats v more) left n head writes long is failed in
     let w : RingedIn o done s began [] cut spans base t nobody e = noted-anew d e o done s began log cut spans base t seats v more nobody (Accepts n ∷ []) (one-anew log cut (went began done).before s off slot x sits verdict found accepting) r in
     cut-ends e o done s began cut [] s.actions spans base t nobody nobody w behind power refl is_cut (λ c. inl refl)
+
+-- ---- BETWEEN TWO SECONDS
+
+-- calls that write no ring leave it
+pub behind-stays : (d e : Devices) (o : Origin) (done : List TraceSecond) (log : RunLog) (next : ℕ) (spans : List SpanFrom) (seats : Card → Option Seating) → RingedBehind o done log next spans seats d → StaysInRings d e → HaveLeftMore o d e → RingedBehind o done log next spans seats e
+behind-stays d e o done log next spans seats v stays left = record {
+  spans_are = v.spans_are;
+  before = v.before;
+  early = v.early;
+  ringed = rings-stay d e o log log spans spans (notes_in log done) seats v.ringed stays left (goes-alike log log spans spans (notes_in log done) (λ u has. has) (λ u. refl));
+}
+
+-- and so does another log that tells the same of these seconds
+pub behind-alike : (d : Devices) (o : Origin) (done : List TraceSecond) (log later : RunLog) (next : ℕ) (spans : List SpanFrom) (seats : Card → Option Seating) → RingedBehind o done log next spans seats d → GoesBehind log later done →
+    ((u : ℕ) → has_failed_in log u ≡ true → has_failed_in later u ≡ true) → RingedBehind o done later next spans seats d
+behind-alike d o done log later next spans seats v behind failed =
+    let same : notes_in later done ≡ notes_in log done = notes-alike log later done behind.same in
+    let ringed : Ringed o later spans (notes_in log done) seats d = rings-stay d d o log later spans spans (notes_in log done) seats v.ringed (rings-left d.unit) (left-itself o d) (goes-alike log later spans spans (notes_in log done) failed (λ u. refl)) in
+    record {
+      spans_are = v.spans_are ∙ ap (λ (w : Went). spans_of w.told) (sym behind.went_is);
+      before = v.before;
+      early = subst (λ (l : List Note). AreEarlier next l) (sym same) v.early;
+      ringed = subst (λ (l : List Note). Ringed o later spans l seats d) (sym same) ringed;
+    }
+
+-- what is found kept after the cuts tells of the same failures
+failed-found : (i k u : ℕ) (bs : List Break) →
+    list_any (λ (b : Break). nat_eq (second_of b) u) (filter (λ (b : Break). is_cut b && has_failed b) (found_from i k bs)) ≡ list_any (λ (b : Break). nat_eq (second_of b) u) (filter (λ (b : Break). is_cut b && has_failed b) bs)
+failed-found zero k u [] = refl
+failed-found zero k u (Cut s old true n ∷ bs) = ap (λ (x : Bool). nat_eq s u || x) (failed-found zero k u bs)
+failed-found zero k u (Cut s old false n ∷ bs) = failed-found zero k u bs
+failed-found zero k u (Tear s slot f n late ∷ bs) = failed-found zero k u bs
+failed-found (suc i) k u [] = refl
+failed-found (suc i) k u (Cut s old true n ∷ bs) = ap (λ (x : Bool). nat_eq s u || x) (failed-found i k u bs)
+failed-found (suc i) k u (Cut s old false n ∷ bs) = failed-found i k u bs
+failed-found (suc i) k u (Tear s slot f n late ∷ bs) = failed-found i k u bs
+
+pub still-failed : (log : RunLog) (i k u : ℕ) → has_failed_in log u ≡ true → has_failed_in (record log { breaks = found_from i k log.breaks }) u ≡ true
+still-failed log i k u has = failed-found i k u log.breaks ∙ has

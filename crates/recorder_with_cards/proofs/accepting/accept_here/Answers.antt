@@ -275,7 +275,7 @@ returns-clause-ringed g c = λ room o done s n waits fewer at next spans odomete
     let few : length c.accept-answer.new.outcome.finds.items < 2 ^ 64 = search rules in
     let v = judged-ringed o done s n waits fewer e run.keeper c.args.outcome.now run.unfound run.next run.begun run.minutes U X Y next.goes.within may next.goes.origin small c.requires.fits spans odometer run.noted counted others
     failed c.accept-answer.new.keeper c.accept-answer.new.noted c.accept-answer.new.outcome V Z w.0 gone sound few in
-    record { rings = v.rings; others = v.others; lines = v.lines; same = v.same; left = v.left; odometer = ap (λ (q : Keeper). q.odometer) w.1.left.keeper; counted = v.counted }
+    record { rings = v.rings; others = v.others; here = v.here; cut = v.cut; same = v.same; left = v.left; odometer = ap (λ (q : Keeper). q.odometer) w.1.left.keeper; counted = v.counted }
 
 -- ---- what holds of the devices after any calls
 
