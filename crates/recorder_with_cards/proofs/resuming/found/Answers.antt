@@ -157,7 +157,7 @@ returns-then-is_err-clause-evented g c = λ room o done s now all has time.
     let cut_is = cut o done s 0 s.actions mid c.cut.new.self c.resume.new.outcome (record c.resume.new.outcome { breaks = c.cut.new.breaks }) e rec.origin (now.number ∙ sym next) ([], refl, refl)
     (subst (λ (f : Bool). GoesOnOrCut f o done s (In 0) [] mid c.resume.new.outcome e) failed resumed) c.cut.ensures.run told in
     in-evented_cut o done s c.cut.new.self (record c.resume.new.outcome { breaks = c.cut.new.breaks }) e 0
-    (cut-woken o done s mid c.cut.new.self c.resume.new.outcome (record c.resume.new.outcome { breaks = c.cut.new.breaks }) e (subst (λ (f : Bool). EventsWoken f o done s mid c.resume.new.outcome e) failed woken) cut_is c.cut.ensures.run told (now.number ∙ sym next))
+    (cut-woken o done s mid c.cut.new.self c.resume.new.outcome (record c.resume.new.outcome { breaks = c.cut.new.breaks }) e (log_of (record out { breaks = c.learn.new.breaks })) (subst (λ (f : Bool). EventsWoken f (log_of (record out { breaks = c.learn.new.breaks })) o done s mid c.resume.new.outcome e) failed woken) cut_is c.cut.ensures.run told (now.number ∙ sym next))
 
 pub returns-clause-evented : goal.returns-clause-evented
 returns-clause-evented g c = λ room o done s now all has time.
@@ -178,7 +178,7 @@ returns-clause-evented g c = λ room o done s now all has time.
     let resumed = c.resume.ensures.recorded (omega (arith, room, same)) o rec.origin done s rec.supply (values_of run out) rec.recorded may now.number now.given values time in
     let woken = c.resume.ensures.evented (omega (arith, room, same)) o rec.origin done s rec.supply (values_of run out) rec.recorded may now.number now.given now.speed_is values all.evented limit time in
     let well : is_err c.resume.result ≡ false = sym c.is_err.ensures.value ∙ c.if-is_err.false in
-    in-evented_lit o done s mid c.resume.new.outcome e 0 (subst (λ (f : Bool). EventsWoken f o done s mid c.resume.new.outcome e) well woken)
+    in-evented_lit o done s mid c.resume.new.outcome e 0 (subst (λ (f : Bool). EventsWoken f (log_of (record out { breaks = c.learn.new.breaks })) o done s mid c.resume.new.outcome e) well woken).0
 
 -- ---- what is noted
 

@@ -156,7 +156,7 @@ returns-in-Err-Failed-clause-evented g c = λ room o done s now all has time.
     let cut_is : RunCut o done s c.cut.new.self (record out { breaks = c.cut.new.breaks }) e = subst (λ (r : Run). RunCut o done s r (record out { breaks = c.cut.new.breaks }) e) (sym c.cut.ensures.run)
     (subst (λ (l : Listed Break). RunCut o done s (cut_run run.next run) (record out { breaks = l }) e) (sym c.cut.ensures.breaks) cut) in
     let broken = power-on_broken d e o done (progress (values_of run out) rec.supply rec.recorded.book) rec.recorded.recorded.followed all.evented may s now.number now.given (breakdowns_of d) (breakdowns_of e) unread.goes.breakdowns unread.broke (read-says U V c.load.ensures.leaves) unread.goes.left in
-    in-evented_cut o done s c.cut.new.self (record out { breaks = c.cut.new.breaks }) e 0 (cut-woken o done s run c.cut.new.self out (record out { breaks = c.cut.new.breaks }) e (broken, all.limit) cut_is c.cut.ensures.run told now.number)
+    in-evented_cut o done s c.cut.new.self (record out { breaks = c.cut.new.breaks }) e 0 (cut-woken o done s run c.cut.new.self out (record out { breaks = c.cut.new.breaks }) e (log_of out) (broken, all.limit) cut_is c.cut.ensures.run told now.number)
 
 -- ---- what is noted
 
