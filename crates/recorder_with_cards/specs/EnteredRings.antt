@@ -1,17 +1,13 @@
 -- What a card that enters writes in the rings of its unit (profile): its insertion, or nothing.
-use Rattle.std.specs.Prelude.{◌≡◌, ◌⊎◌, ◌≤◌, ℕ, Bool, true, false, Option, Some, None, is_some}
+use Rattle.std.specs.Prelude.{◌≡◌, ◌⊎◌, ℕ, Bool, true, false, Option, Some, None, is_some}
 use Rattle.activity_codec.specs.declared.values.Slot.{Slot}
 use Rattle.trace_model.specs.declared.Card.{Card}
 use Rattle.trace_model.specs.declared.Action.{Action}
 use Rattle.trace_model.specs.declared.Action.TheVariants.{Select, Insert, Withdraw, Tear, Place}
 use Rattle.tacho_types.specs.declared.places.PlaceEntry.{PlaceEntry}
-use Rattle.minute_model.specs.Span.{Span, travelled_of}
-use Rattle.minute_rules.specs.Kept.{StandsFor}
-use Rattle.unit_model.specs.declared.layout.TheConstants.{HIGHEST_ODOMETER}
-use Rattle.side_model.specs.Rings.{kind_of}
 use Rattle.slot_machine.specs.Calls.{seat_in, card_in}
 use Rattle.run_crew.specs.Cabin.{number_of_seat}
-use Rattle.run_keeping.specs.Minutes.{odometer_by}
+pub use Rattle.run_acts.specs.Ringing.{IsPlaceNow}
 use Rattle.run_acts.specs.Ringing.{WritesPlace, WithdrawsSo}
 use Rattle.tach_media.specs.Medium.{State, HasCause}
 use Rattle.message_model.specs.Records.{insertion_ring}
@@ -77,15 +73,6 @@ RingsInserting slot card at speed failed old new before after unit unit_after =
     ((failed ≡ true) × IsSettled at true (put_run slot card old) new before after × LeavesRings unit unit_after) ⊎ InsertsBehind slot card at speed failed old new before after unit unit_after
 
 -- ---- an action
-
--- a place that is entered now
-pub record IsPlaceNow (ending : Bool) (country region : ℕ) (run : Run) (entry : PlaceEntry) : Type 0 where
-  pub time : entry.time.0 ≡ run.next
-  pub kind : entry.kind ≡ kind_of ending
-  pub country_is : entry.country.0 ≡ country
-  pub region_is : entry.region ≡ region
-  pub odometer : (span : Span) → StandsFor run.minutes span → entry.odometer.0 ≡ odometer_by run.keeper.odometer (travelled_of span)
-  pub most : entry.odometer.0 ≤ HIGHEST_ODOMETER
 
 -- AN ACTION THAT IS CARRIED OUT writes the rings so, of a unit that tells its image: a card that is put in, withdrawn, or whose holder enters a place
 abbrev pub RingsDone : Action → Moment → (speed : ℕ) → (failed : Bool) → (old new : Run) → (before after : Outcome) → (unit unit_after : State) → Type 0

@@ -94,7 +94,7 @@ module _ (o : Origin) (origin : IsOrigin o) (done : List TraceSecond) (s : Trace
   pub reaches-now : Reaches w.b.run s at v.log
   reaches-now = reaches-of p was s at v.log [] w.b.broken (breakdowns_of d) w.moment
 
-  known : AreKnownBy (number_in o) v.cabin.cards
+  pub known : AreKnownBy (number_in o) v.cabin.cards
   known = sessions-known o.found (number_in o) v.cabin.cards w.found
       (λ card has. subst IsOwnValid (sym (origin.image card)) (w.written card has).valid)
       (λ card valid. origin.number card (subst IsOwnValid (origin.image card) valid))

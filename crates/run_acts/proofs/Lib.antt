@@ -61,3 +61,10 @@ pub mod TurnMany
 pub mod TurnRecorded
 pub mod Ringing
 pub mod Uncut
+pub mod RingedLines
+pub mod RingedSecond
+pub mod RingedPlace
+pub mod RingedWithdrawn
+pub mod RingedClosed
+pub mod RingedGap
+pub mod RingedTurn

@@ -223,7 +223,7 @@ module _ {U A0 B0 : State} {chip_a chip_b : CardState} (n speed begun : ℕ) (ol
     given-so : (sp : Span) → StandsFor old.minutes sp → decided_in (fed_many sp s.speed (suc (n - 1))) ≡ decided_in sp ++ T.decided
     given-so sp x = subst (λ (k : ℕ). decided_in (fed_many sp s.speed k) ≡ decided_in sp ++ T.decided) many (subst (λ (k : ℕ). decided_in (fed_many sp k n) ≡ decided_in sp ++ T.decided) (sym now.speed_is) (T.given sp x))
 
-    turned : IsTurned o done s (n - 1) T.decided T.fed.minutes (values_of old before) d r.within
+    pub turned : IsTurned o done s (n - 1) T.decided T.fed.minutes (values_of old before) d r.within
     turned = turn-is_fed d o done s (values_of old before) r.within (n - 1) (let is = now.number in omega (arith, minute, some, is)) T.fed.minutes fed-so T.decided given-so
 
     from-is : r.within.from ≡ ungiven_of g.span

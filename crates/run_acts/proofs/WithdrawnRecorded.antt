@@ -15,7 +15,7 @@ use Rattle.minute_model.specs.declared.Minute.{Minute}
 use Rattle.minute_model.specs.Span.{Span, settled, decided_in, end_of}
 use Rattle.minute_rules.specs.Kept.{StandsFor}
 use Rattle.log_model.specs.declared.lines.Break.{Break}
-use Rattle.log_model.specs.Log.{In, RunLog, Phase, found_in}
+use Rattle.log_model.specs.Log.{In, RunLog, Phase, is_torn_in, found_in}
 use Rattle.log_model.specs.Slots.{refusal, other_slot}
 use Rattle.log_model.specs.Course.{went}
 use Rattle.unit_model.specs.Image.{odometer_at}
@@ -51,6 +51,7 @@ use Rattle.run_acts.specs.NotedEvents.{NotesEvents}
 use Rattle.run_acts.specs.Noting.{closed_events}
 use Rattle.run_acts.specs.Evented.{EventsGoOn, EventsSettling, IsUntold}
 use Rattle.run_acts.proofs.FallEvented.{left-over}
+use Rattle.run_acts.proofs.RingedLines.{SatIn}
 use Rattle.run_acts.proofs.Closed.{closed-recorded, closed-evented}
 
 -- the moment of an action
@@ -112,6 +113,18 @@ module _ (o : Origin) (done : List TraceSecond) (s : TraceSecond) (front rest : 
       had : (q : Option Accepted) → session_of run.keeper.cabin.cards c ≡ q → is_some (session_of between.keeper.cabin.cards c) ≡ true → is_some (session_of run.keeper.cabin.cards c) ≡ true
       had None is some = absurd (not-both (session_of between.keeper.cabin.cards c) some (none-comes c at ms t (told_of between told) kept (same ∙ is)))
       had (Some a) is some = ap is_some is
+
+  -- where it has its session still its slot was not torn in that
+  pub untorn-then : (e : Devices) → RecordsSettling decided (acting_at s.number (suc (length front))) false (left_run slot s.number run) between before told d e → HaveTime e → is_some (session_of run.keeper.cabin.cards c) ≡ true →
+      is_some (session_of between.keeper.cabin.cards c) ≡ true → is_torn_in (log_of told) s.number (In (suc (length front))) slot ≡ false
+  untorn-then e records time had some = ((records o done s (suc (length front)) [] (omega arith) refl gone time).leave slot c (left.leaving had) some).untorn
+
+  -- in the minutes that are still to be kept it was present in its slot, if at all
+  pub sat-there : is_some (session_of run.keeper.cabin.cards c) ≡ true → SatIn c slot w.within.from (left_run slot s.number run).keeper.cabin.slots.past
+  sat-there had =
+      let l = left.leaving had in
+      subst (λ (low : ℕ). SatIn c slot low (left_run slot s.number run).keeper.cabin.slots.past) left.goes.from
+      (record { driver = λ m present le there is. l.driver m present le there is; codriver = λ m present le there is. l.codriver m present le there is })
 
   -- ---- its events
 

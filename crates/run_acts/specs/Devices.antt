@@ -23,3 +23,9 @@ pub record DevicesGoOn (failed : Bool) (cards after : Cards) (d e : Devices) : T
   pub clock : d.unit.clock ≤ e.unit.clock
   pub card_a : CardGoesOn cards.a.accepted after.a.accepted d.card_a e.card_a
   pub card_b : CardGoesOn cards.b.accepted after.b.accepted d.card_b e.card_b
+
+-- WHAT EACH DEVICE might have left it might have left still
+pub record AreLeftMore (d e : Devices) : Type 0 where
+  pub unit : HasLeftMore d.unit e.unit
+  pub card_a : HasLeftMore d.card_a e.card_a
+  pub card_b : HasLeftMore d.card_b e.card_b

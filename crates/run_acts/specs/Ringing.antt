@@ -1,5 +1,5 @@
 -- What calls write in the rings of the unit (profile): a place, a withdrawal, or nothing.
-use Rattle.std.specs.Prelude.{◌≡◌, ◌⊎◌, ℕ, ◌-◌, Bool, true, false, Option, Some, None, List}
+use Rattle.std.specs.Prelude.{◌≡◌, ◌⊎◌, ℕ, ◌-◌, ◌≤◌, Bool, true, false, Option, Some, None, List}
 use Rattle.activity_codec.specs.declared.values.Slot.{Slot}
 use Rattle.trace_model.specs.declared.Card.{Card}
 use Rattle.tacho_types.specs.declared.card_number.FullCardNumber.{FullCardNumber}
@@ -10,6 +10,8 @@ use Rattle.gated_ring.specs.Change.{IsAdded}
 use Rattle.message_model.specs.Records.{unit_place_ring}
 use Rattle.minute_model.specs.Span.{Span, travelled_of}
 use Rattle.minute_rules.specs.Kept.{StandsFor}
+use Rattle.side_model.specs.Rings.{kind_of}
+use Rattle.unit_model.specs.declared.layout.TheConstants.{HIGHEST_ODOMETER}
 use Rattle.unit_notes.specs.Entries.{unit_place_bytes}
 use Rattle.run_crew.specs.declared.cards.Accepted.{Accepted}
 use Rattle.run_crew.specs.Cards.{session_of}
@@ -23,6 +25,15 @@ use Rattle.run_acts.specs.declared.run.Run.{Run}
 use Rattle.run_acts.specs.Acting.{Closing, Bare, Closed, Fell, IsSettled, IsClosed, IsClosedBehind, left_run}
 
 -- ---- a place
+
+-- a place that is entered now
+pub record IsPlaceNow (ending : Bool) (country region : ℕ) (run : Run) (entry : PlaceEntry) : Type 0 where
+  pub time : entry.time.0 ≡ run.next
+  pub kind : entry.kind ≡ kind_of ending
+  pub country_is : entry.country.0 ≡ country
+  pub region_is : entry.region ≡ region
+  pub odometer : (span : Span) → StandsFor run.minutes span → entry.odometer.0 ≡ odometer_by run.keeper.odometer (travelled_of span)
+  pub most : entry.odometer.0 ≤ HIGHEST_ODOMETER
 
 -- an entry is added to the ring of places, or the unit failed in that
 abbrev pub AddsPlace : (failed : Bool) → (head : List ℕ) → (old new : State) → Type 0

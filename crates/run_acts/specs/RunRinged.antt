@@ -1,11 +1,12 @@
 -- What is carried of the rings of a run with cards, beside what is recorded of it (profile): between two seconds, and within one; and what calls
 -- make of that.
-use Rattle.std.specs.Prelude.{◌≡◌, ◌+◌, ◌-◌, ◌<◌, ◌++◌, ℕ, suc, Bool, true, false, Option, None, List, [], ◌∷◌, length, option_map}
+use Rattle.std.specs.Prelude.{◌≡◌, ◌+◌, ◌-◌, ◌<◌, ◌≤◌, ◌++◌, ℕ, suc, Bool, true, false, Option, None, List, [], ◌∷◌, length, option_map}
 use Rattle.activity_codec.specs.declared.values.Slot.{Slot}
 use Rattle.trace_model.specs.declared.Action.{Action}
 use Rattle.trace_model.specs.declared.Action.TheVariants.{Withdraw, Place}
 use Rattle.trace_model.specs.declared.Card.{Card}
 use Rattle.trace_model.specs.Trace.{TraceSecond, driven}
+use Rattle.tacho_types.specs.declared.places.PlaceEntry.{PlaceEntry}
 use Rattle.log_model.specs.declared.lines.Break.{Break}
 use Rattle.log_model.specs.Log.{RunLog, In}
 use Rattle.log_model.specs.Slots.{refusal}
@@ -31,7 +32,7 @@ use Rattle.run_acts.specs.declared.run.Power.TheVariants.{Lit}
 use Rattle.run_acts.specs.Power.{is_lit}
 use Rattle.run_acts.specs.Recording.{log_of, RunWithin, ComesPower, IsNow}
 use Rattle.run_acts.specs.Evented.{RunEvented, WithinEvented, CutEvented, LastAt}
-use Rattle.run_acts.specs.Ringing.{seating_of}
+use Rattle.run_acts.specs.Ringing.{seating_of, IsPlaceNow}
 
 -- where the insertions of the accepted cards of a run stand
 abbrev pub seats_of : Run → Card → Option Seating
@@ -41,11 +42,12 @@ seats_of run c = option_map (seating_of run.noted) (session_of run.keeper.cabin.
 abbrev pub IsLastFrom : (base : ℕ) → List SpanFrom → Type 0
 IsLastFrom base spans = (front : List SpanFrom) × (last : SpanFrom) × (spans ≡ front ++ last ∷ []) × (last.base ≡ base)
 
--- BETWEEN TWO SECONDS: all is recorded, events are noted, and the rings show what these seconds noted.
+-- BETWEEN TWO SECONDS: all is recorded, events are noted, and the rings show what these seconds noted. No more insertions were noted than finds were told.
 pub record RunRinged (o : Origin) (done : List TraceSecond) (run : Run) (out : Outcome) (d : Devices) : Type 0 where
   pub evented : RunEvented o done run out d
   pub spans : List SpanFrom
   pub base : run.power ≡ Lit → IsLastFrom run.keeper.odometer spans
+  pub counted : run.noted ≤ length out.finds.items
   pub ringed : RingedBehind o done (log_of out) run.next spans (seats_of run) d
 
 -- ---- within a second
@@ -53,6 +55,7 @@ pub record RunRinged (o : Origin) (done : List TraceSecond) (run : Run) (out : O
 -- THE RINGS WITHIN A SECOND that began by this log, behind these of its actions: its span is the last, and began with the odometer of a run
 pub record RingsWithin (o : Origin) (done : List TraceSecond) (s : TraceSecond) (began : RunLog) (front : List Action) (run : Run) (log : RunLog) (spans : List SpanFrom) (told : Told) (d : Devices) : Type 0 where
   pub base : IsLastFrom run.keeper.odometer (with_second spans run.keeper.odometer told)
+  pub counted : run.noted ≤ length log.finds
   pub ringed : RingedIn o done s began front log spans run.keeper.odometer told (seats_of run) d
 
 -- WITHIN A SECOND, while there is power, behind so many of its actions: these
@@ -70,6 +73,7 @@ pub record WithinRinged (o : Origin) (done : List TraceSecond) (s : TraceSecond)
 pub record CutRinged (o : Origin) (done : List TraceSecond) (s : TraceSecond) (run : Run) (out : Outcome) (d : Devices) : Type 0 where
   pub evented : CutEvented o done s run out d
   pub spans : List SpanFrom
+  pub counted : run.noted ≤ length out.finds.items
   pub ringed : RingedBehind o (done ++ s ∷ []) (log_of out) (suc run.next) spans nobody d
 
 -- IN A SECOND, behind so many of its actions
@@ -86,11 +90,15 @@ InSecondRinged o done s n run out d = InSecondRingedBy (is_lit run.power) o done
 abbrev pub with_cut : RunLog → TraceSecond → List Action → RunLog
 with_cut log s front = and_break log (cut_at s.number true (length front))
 
--- BEHIND A CALL in a second that began by this log: its rings go on; or, where the unit has failed in the last of these actions, they are as the cut
--- leaves them that is told next.
+-- the unit has failed in the last of these actions: the rings are as the cut leaves them that is told next
+pub record RingsCut (o : Origin) (done : List TraceSecond) (s : TraceSecond) (front : List Action) (run : Run) (log : RunLog) (spans : List SpanFrom) (told : Told) (d : Devices) : Type 0 where
+  pub counted : run.noted ≤ length log.finds
+  pub ringed : RingedBehind o (done ++ s ∷ []) (with_cut log s front) (suc s.number) (spans_cut spans run.keeper.odometer (with_cut log s front) done s) nobody d
+
+-- BEHIND A CALL in a second that began by this log its rings go on; or the unit has failed.
 abbrev pub RingsGoOn : (failed : Bool) → Origin → List TraceSecond → TraceSecond → (began : RunLog) → (front : List Action) → Run → RunLog → List SpanFrom → Told → Devices → Type 0
 RingsGoOn false o done s began front run log spans t d = RingsWithin o done s began front run log spans t d
-RingsGoOn true o done s began front run log spans t d = RingedBehind o (done ++ s ∷ []) (with_cut log s front) (suc s.number) (spans_cut spans run.keeper.odometer (with_cut log s front) done s) nobody d
+RingsGoOn true o done s began front run log spans t d = RingsCut o done s front run log spans t d
 
 -- AN ACTION of a second is carried out, which slots and speed do not refuse.
 abbrev pub RingsAction : Action → (begun speed : ℕ) → (failed : Bool) → (old new : Run) → (before after : Outcome) → (d e : Devices) → Type 0
@@ -99,9 +107,9 @@ RingsAction action begun speed failed old new before after d e = (o : Origin) (d
     (w : RunWithin o done s (In (length front)) [] [] old before d) → (spans : List SpanFrom) (t : Told) → RingsWithin o done s w.within.b.run.log front old (log_of before) spans t d → HaveTime e →
     RingsGoOn failed o done s w.within.b.run.log (front ++ action ∷ []) new (log_of after) spans t e
 
--- A PLACE IS NOTED
-abbrev pub RingsPlace : Slot → (ending : Bool) → (country region : ℕ) → Moment → (failed : Bool) → (old new : Run) → (breaks after : Listed Break) → (d e : Devices) → Type 0
-RingsPlace slot ending country region at failed old new breaks after d e = at.late ≡ false → (speed : ℕ) (before : Outcome) → before.breaks ≡ breaks →
+-- A PLACE IS NOTED that is entered now
+abbrev pub RingsPlace : Slot → PlaceEntry → Moment → (failed : Bool) → (old new : Run) → (breaks after : Listed Break) → (d e : Devices) → Type 0
+RingsPlace slot entry at failed old new breaks after d e = (ending : Bool) (country region : ℕ) → IsPlaceNow ending country region old entry → at.late ≡ false → (speed : ℕ) (before : Outcome) → before.breaks ≡ breaks →
     RingsAction (Place slot ending country region) at.begun speed failed old new before (record before { breaks = after }) d e
 
 -- A CARD IS WITHDRAWN
@@ -113,6 +121,13 @@ abbrev pub RingsGap : (failed : Bool) → (old new : Run) → (breaks after : Li
 RingsGap failed old new breaks after d e = (o : Origin) (done : List TraceSecond) (s : TraceSecond) (out : Outcome) → (w : RunWithin o done s (In 0) [] [] old (record out { breaks = breaks }) d) → ComesPower done (record out { breaks = breaks }) →
     (spans : List SpanFrom) (t : Told) → RingsWithin o done s w.within.b.run.log [] old (log_of (record out { breaks = breaks })) spans t d →
     RingsGoOn failed o done s w.within.b.run.log [] new (log_of (record out { breaks = after })) spans t e
+
+-- BEHIND THESE SECONDS the rings show what they noted, by the power of a run
+pub record TurnedRings (o : Origin) (done : List TraceSecond) (run : Run) (out : Outcome) (d : Devices) : Type 0 where
+  pub spans : List SpanFrom
+  pub base : run.power ≡ Lit → IsLastFrom run.keeper.odometer spans
+  pub counted : run.noted ≤ length out.finds.items
+  pub ringed : RingedBehind o done (log_of out) run.next spans (seats_of run) d
 
 -- N SECONDS of one minute: behind them the rings show what they noted.
 abbrev pub RingsTurn : (n speed begun : ℕ) → (old new : Run) → (before after : Outcome) → (d e : Devices) → Type 0

@@ -22,6 +22,7 @@ ghost use Rattle.run_acts.specs.Going.{first_second, end_of_seconds, IsHeld, IsL
 ghost use Rattle.run_acts.specs.Room.{falls_of};
 ghost use Rattle.run_acts.specs.Acting.{IsNotedOn, IsNotedIn, falls_by, now_moment};
 ghost use Rattle.run_acts.specs.ActsEvented.{NoteLeaves};
+ghost use Rattle.run_acts.specs.RunRinged.{RingsGap};
 ghost use Rattle.run_acts.specs.Noting.{GapReach, IsGapNoted, IsNoteRecorded, NotesFall, AreGapEvents};
 
 use crate::run::Run;
@@ -61,6 +62,7 @@ pub fn note_gap<M: Medium, C: Chip, D: Chip>(
     ensures leaves { NoteLeaves (is_err result) run.old breaks.old breaks.new (devices (M.state unit.old) (C.state card_a.old) (D.state card_b.old)) (devices (M.state unit.new) (C.state card_a.new) (D.state card_b.new)) }
     ensures events { (reach : GapReach) × (vs : List UnitEvent) × AreGapEvents (gap_of kept run.old.next) (now_moment run.old) (is_err result) run.old run.new breaks.old breaks.new reach vs × NotesEvents vs (is_err result) (devices (M.state unit.old) (C.state card_a.old) (D.state card_b.old)) (devices (M.state unit.new) (C.state card_a.new) (D.state card_b.new)) }
     ensures rings { LeavesRings (M.state unit.old) (M.state unit.new) }
+    ensures ringed { RingsGap (is_err result) run.old run.new breaks.old breaks.new (devices (M.state unit.old) (C.state card_a.old) (D.state card_b.old)) (devices (M.state unit.new) (C.state card_a.new) (D.state card_b.new)) }
     ensures only { run.new ≡ record run.old { keeper = run.new.keeper } }
     ensures held { IsHeld (run.new.next / 60) run.new (M.state unit.new) (C.card card_a.new) (D.card card_b.new) (C.state card_a.new) (D.state card_b.new) }
     ensures going { OnOk result (IsLit (run.new.next / 60) run.new (M.state unit.new) (C.card card_a.new) (D.card card_b.new) (C.state card_a.new) (D.state card_b.new)) }

@@ -19,6 +19,7 @@ ghost use Rattle.run_acts.specs.Acting.{IsSettled, IsBareIn, told_of};
 ghost use Rattle.run_acts.specs.Settling.{RecordsSettling};
 ghost use Rattle.run_acts.specs.Faults.{NotesSettling};
 ghost use Rattle.run_acts.specs.Evented.{EventsSettling};
+ghost use Rattle.run_acts.specs.Devices.{AreLeftMore};
 
 use crate::run::Run;
 use run_keeping::Moment;
@@ -56,6 +57,7 @@ pub fn settle<M: Medium, C: Chip, D: Chip>(
     ensures evented { (decided : List Minute) × ((span : Span) → StandsFor run.old.minutes span → decided_in (settled span) ≡ decided_in span ++ decided)
         × EventsSettling decided at (is_err result) run.old run.new outcome.old outcome.new (devices (M.state unit.old) (C.state card_a.old) (D.state card_b.old)) (devices (M.state unit.new) (C.state card_a.new) (D.state card_b.new)) }
     ensures noted { NotesSettling at (is_err result) run.old run.new outcome.old outcome.new (M.state unit.old) (M.state unit.new) }
+    ensures keeps { AreLeftMore (devices (M.state unit.old) (C.state card_a.old) (D.state card_b.old)) (devices (M.state unit.new) (C.state card_a.new) (D.state card_b.new)) }
     ensures clock { (M.state unit.old).clock ≤ (M.state unit.new).clock }
     ensures clock_a { (C.state card_a.old).clock ≤ (C.state card_a.new).clock }
     ensures clock_b { (D.state card_b.old).clock ≤ (D.state card_b.new).clock }

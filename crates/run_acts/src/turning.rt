@@ -19,6 +19,7 @@ ghost use Rattle.run_acts.specs.Devices.{DevicesGoOn};
 ghost use Rattle.run_acts.specs.Recording.{RecordsTurn};
 ghost use Rattle.run_acts.specs.Faults.{NotesKeeping, NotesTurn};
 ghost use Rattle.run_acts.specs.Evented.{EventsTurn, EventsLitTurn};
+ghost use Rattle.run_acts.specs.RunRinged.{RingsTurn};
 ghost use Rattle.run_keeping.specs.Minutes.{Reach};
 ghost use Rattle.run_acts.specs.declared.run.Run.{Run};
 ghost use Rattle.run_keeping.specs.Later.{AreLater};
@@ -54,6 +55,8 @@ pub fn turn<M: Medium, C: Chip, D: Chip>(
     ensures noted { is_lit run.old.power ≡ true → (between : Run) × NotesTurn n speed begun run.old between outcome.old outcome.new (M.state unit.old) (M.state unit.new) × (run.new ≡ passed n begun between) }
     // And what the seconds bring of events is noted.
     ensures evented { EventsTurn n speed begun run.old run.new outcome.old outcome.new (devices (M.state unit.old) (C.state card_a.old) (D.state card_b.old)) (devices (M.state unit.new) (C.state card_a.new) (D.state card_b.new)) }
+    // And the rings show what they noted.
+    ensures ringed { RingsTurn n speed begun run.old run.new outcome.old outcome.new (devices (M.state unit.old) (C.state card_a.old) (D.state card_b.old)) (devices (M.state unit.new) (C.state card_a.new) (D.state card_b.new)) }
     ensures recorded { RecordsTurn n speed begun run.old run.new outcome.old outcome.new (devices (M.state unit.old) (C.state card_a.old) (D.state card_b.old)) (devices (M.state unit.new) (C.state card_a.new) (D.state card_b.new)) }
     ensures clock { (M.state unit.old).clock ≤ (M.state unit.new).clock }
     ensures clock_a { (C.state card_a.old).clock ≤ (C.state card_a.new).clock }

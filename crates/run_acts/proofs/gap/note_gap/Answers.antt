@@ -36,6 +36,8 @@ use Rattle.run_acts.proofs.Noted.{noted-ready, noted-row}
 use Rattle.run_rings.specs.Same.{LeavesRings}
 use Rattle.run_rings.proofs.Same.{rings-left, rings-moments, rings-then, table-outside}
 use Rattle.run_keeping.proofs.Later.{state-by, later-same, later-then, later-of-unit}
+use Rattle.safety_model.specs.Safe.{Devices}
+use Rattle.run_acts.proofs.RingedGap.{note-ringed}
 use Rattle.run_acts.proofs.gap.note_gap.Goals as goal
 
 pub note_in-requires-clause-going : goal.note_in-requires-clause-going
@@ -369,3 +371,33 @@ returns-in_err-note_in-clause-later g c = later-then (devices (g.M.Medium.state 
 
 pub returns-clause-later : goal.returns-clause-later
 returns-clause-later g c = later-then (devices (g.M.Medium.state c.args.unit.now) (g.C.Chip.state c.args.card_a.now) (g.D.Chip.state c.args.card_b.now)) (devices (g.M.Medium.state c.note_event.new.unit) (g.C.Chip.state c.args.card_a.now) (g.D.Chip.state c.args.card_b.now)) (devices (g.M.Medium.state c.note_in-2.new.unit) (g.C.Chip.state c.note_in-2.new.card_a) (g.D.Chip.state c.note_in-2.new.card_b)) (later-of-unit (g.M.Medium.state c.args.unit.now) (g.M.Medium.state c.note_event.new.unit) (g.C.Chip.state c.args.card_a.now) (g.D.Chip.state c.args.card_b.now) (state-by (g.M.Medium.state c.args.unit.now) (g.M.Medium.state c.note_event.new.unit) _ c.note_event.ensures.journal.later c.note_event.ensures.cause)) (later-then (devices (g.M.Medium.state c.note_event.new.unit) (g.C.Chip.state c.args.card_a.now) (g.D.Chip.state c.args.card_b.now)) (devices (g.M.Medium.state c.note_in.new.unit) (g.C.Chip.state c.note_in.new.card_a) (g.D.Chip.state c.note_in.new.card_b)) (devices (g.M.Medium.state c.note_in-2.new.unit) (g.C.Chip.state c.note_in-2.new.card_a) (g.D.Chip.state c.note_in-2.new.card_b)) c.note_in.ensures.later c.note_in-2.ensures.later)
+
+-- ---- how the rings go on
+
+pub returns-in_default-clause-ringed : goal.returns-in_default-clause-ringed
+returns-in_default-clause-ringed g c =
+    let run = c.args.run.now in
+    let d : Devices = devices (g.M.Medium.state c.args.unit.now) (g.C.Chip.state c.args.card_a.now) (g.D.Chip.state c.args.card_b.now) in
+    note-ringed (gap_of c.args.kept run.next) false run run c.args.breaks.now c.args.breaks.now d d (returns-in_default-clause-noted g c) (returns-in_default-clause-rings g c) (returns-in_default-clause-leaves g c)
+
+pub returns-in_err-note_event-clause-ringed : goal.returns-in_err-note_event-clause-ringed
+returns-in_err-note_event-clause-ringed g c =
+    let run = c.args.run.now in
+    let d : Devices = devices (g.M.Medium.state c.args.unit.now) (g.C.Chip.state c.args.card_a.now) (g.D.Chip.state c.args.card_b.now) in
+    let e : Devices = devices (g.M.Medium.state c.note_event.new.unit) (g.C.Chip.state c.args.card_a.now) (g.D.Chip.state c.args.card_b.now) in
+    note-ringed (gap_of c.args.kept run.next) (is_err c.from_residual.result) run run c.args.breaks.now c.args.breaks.now d e (returns-in_err-note_event-clause-noted g c) (returns-in_err-note_event-clause-rings g c) (returns-in_err-note_event-clause-leaves g c)
+
+pub returns-in_err-note_in-clause-ringed : goal.returns-in_err-note_in-clause-ringed
+returns-in_err-note_in-clause-ringed g c =
+    let run = c.args.run.now in
+    let d : Devices = devices (g.M.Medium.state c.args.unit.now) (g.C.Chip.state c.args.card_a.now) (g.D.Chip.state c.args.card_b.now) in
+    let e : Devices = devices (g.M.Medium.state c.note_in.new.unit) (g.C.Chip.state c.note_in.new.card_a) (g.D.Chip.state c.note_in.new.card_b) in
+    note-ringed (gap_of c.args.kept run.next) (is_err c.from_residual-in_err-note_in.result) run c.note_in.new.run c.args.breaks.now c.note_in.new.breaks d e
+    (returns-in_err-note_in-clause-noted g c) (returns-in_err-note_in-clause-rings g c) (returns-in_err-note_in-clause-leaves g c)
+
+pub returns-clause-ringed : goal.returns-clause-ringed
+returns-clause-ringed g c =
+    let run = c.args.run.now in
+    let d : Devices = devices (g.M.Medium.state c.args.unit.now) (g.C.Chip.state c.args.card_a.now) (g.D.Chip.state c.args.card_b.now) in
+    let e : Devices = devices (g.M.Medium.state c.note_in-2.new.unit) (g.C.Chip.state c.note_in-2.new.card_a) (g.D.Chip.state c.note_in-2.new.card_b) in
+    note-ringed (gap_of c.args.kept run.next) (is_err c.note_in-2.result) run c.note_in-2.new.run c.args.breaks.now c.note_in-2.new.breaks d e (returns-clause-noted g c) (returns-clause-rings g c) (returns-clause-leaves g c)

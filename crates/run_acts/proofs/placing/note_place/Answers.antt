@@ -8,7 +8,7 @@ use Rattle.run_crew.specs.Cards.{session_of}
 use Rattle.run_crew.specs.Cabin.{number_of_seat}
 use Rattle.log_model.specs.declared.lines.Break.{Break}
 use Rattle.run_outcome.specs.Lines.{Listed}
-use Rattle.run_keeping.specs.Keeping.{CardReady}
+use Rattle.run_keeping.specs.Keeping.{CardReady, HasLeftMore, with_lines}
 use Rattle.run_keeping.proofs.Counts.{lines-length}
 use Rattle.run_acts.specs.declared.run.Run.{Run}
 use Rattle.run_acts.specs.Power.{with_cabin}
@@ -17,7 +17,8 @@ use Rattle.run_acts.specs.Room.{falls_of}
 use Rattle.run_acts.proofs.Noted.{noted-ready, noted-row}
 use Rattle.run_acts.specs.Acting.{noted_breaks, IsNotedOn}
 use Rattle.run_acts.proofs.Cabins.{keeper-only, cabin-going, cabin-held, ready-same, at-same, noted_cabin, noted-is, noted-past, noted-minute, noted-sessions, noted-falls, noted-a, noted-b, numbered-session}
-use Rattle.std.specs.Prelude.{is_err, suc, List, [], ◌∷◌, ◌++◌}
+use Rattle.std.specs.Prelude.{is_err, suc, IfSome, List, [], ◌∷◌, ◌++◌}
+use Rattle.std.proofs.lemmas.List.{append-nil}
 use Rattle.activity_codec.specs.declared.values.Slot.{Slot}
 use Rattle.trace_model.specs.declared.Action.{Action}
 use Rattle.trace_model.specs.declared.Action.TheVariants.{Place}
@@ -39,7 +40,7 @@ use Rattle.run_acts.specs.Noting.{NotesFall, NotesPlace, fall_events}
 use Rattle.run_acts.proofs.NotedEvents.{same-noted, noted-any, then-noted}
 use Rattle.run_acts.proofs.ActsNoted.{says-of, quiet-any, adding-nothing, no-place, same-fell}
 use Rattle.tacho_types.specs.declared.card_number.FullCardNumber.{FullCardNumber}
-use Rattle.tach_media.specs.Medium.{State, IsCoherent}
+use Rattle.tach_media.specs.Medium.{State, IsCoherent, LeavesOnly}
 use Rattle.unit_notes.specs.Entries.{unit_place_bytes}
 use Rattle.slot_machine.specs.declared.seats.Seat.{Seat}
 use Rattle.run_crew.specs.declared.cards.Cards.{Cards}
@@ -54,6 +55,10 @@ use Rattle.run_evented.specs.Bringing.{NotFound}
 use Rattle.run_evented.specs.SoFar.{EventedNow, MayFollow}
 use Rattle.run_acts.specs.Evented.{EventsGoOn}
 use Rattle.run_acts.proofs.FallEvented.{left-over, none-yet}
+use Rattle.run_crew.specs.declared.cards.Accepted.{Accepted}
+use Rattle.device_steps.specs.CardNotes.{IsNote}
+use Rattle.run_acts.proofs.RingedPlace.{IsThere, who-enters, place-goes}
+use Rattle.run_acts.proofs.RingedSecond.{left-after}
 use Rattle.run_acts.proofs.placing.note_place.Goals as goal
 
 pub note_place_in-requires-clause-ready : goal.note_place_in-requires-clause-ready
@@ -537,3 +542,95 @@ returns-in-B-clause-evented g c = λ late ending country region speed before is 
     (some-evented B c.args.slot c.args.at run c.args.breaks.now V W B0 Y A0
     (g.met.M.Medium.coherent c.note_place.new.unit) (g.met.D.Chip.coherent c.args.card_b.now) (g.met.D.Chip.coherent c.note_place_in-in-B.new.card) c.requires.held.card_b.size some e.value there c.requires.at late lit.span lit.stands lit.next lit.cabin e.moments e.journal
     failed e.cause o done s before w2.goes (λ first. absurd (let zero_ : begun ≡ 0 = cc in omega (arith, zero_, n))) small yet follows rest left k.0 c.note_place_in-in-B.new.run c.note_place_in-in-B.new.breaks k.1 k.2 k.3 notes second)
+
+-- ---- how the rings go on
+
+-- nobody is refused who has none to enter for
+no-entering : {T : Type 0} (cards : Cards) (seat : Option Seat) (there : IsThere cards seat) → number_of_seat cards seat ≡ None → T
+no-entering {T} cards seat there none = absurd (let clash : Some there.number ≡ None = sym there.numbered ∙ none in cc)
+
+-- a card with a session was called alone
+some-left : (q : Option Accepted) (R : Accepted → List ℕ → List ℕ → Type 0) (X Y : State) → is_some q ≡ true → IfSome q (λ a. LeavesOnly X Y (R a)) → HasLeftMore X Y
+some-left None R X Y some h = absurd (cc)
+some-left (Some a) R X Y some h = h.keeps
+
+pub returns-in_default-clause-ringed : goal.returns-in_default-clause-ringed
+returns-in_default-clause-ringed g c = λ ending country region now late speed before is o done s here front rest are n allowed w spans t rings time.
+    let cabin = c.args.run.now.keeper.cabin in
+    let lit = c.requires.going in
+    no-entering cabin.cards (seat_in cabin.slots.seats c.args.slot) (who-enters (ungiven_of lit.span) cabin lit.cabin c.args.slot speed ending country region allowed)
+    (no-number cabin.cards (seat_in cabin.slots.seats c.args.slot) c.card.result c.card.ensures c.in_default.not-Some)
+
+pub returns-in_default-number_in-clause-ringed : goal.returns-in_default-number_in-clause-ringed
+returns-in_default-number_in-clause-ringed g c = λ ending country region now late speed before is o done s here front rest are n allowed w spans t rings time.
+    let cabin = c.args.run.now.keeper.cabin in
+    let lit = c.requires.going in
+    no-entering cabin.cards (seat_in cabin.slots.seats c.args.slot) (who-enters (ungiven_of lit.span) cabin lit.cabin c.args.slot speed ending country region allowed)
+    (sym c.number_in.ensures ∙ none-given c.number_in.result c.in_default-number_in.not-Some)
+
+pub returns-in_err-note_place-clause-ringed : goal.returns-in_err-note_place-clause-ringed
+returns-in_err-note_place-clause-ringed g c =
+    let run = c.args.run.now in
+    let lit = c.requires.going in
+    let number = c.in-Some-number_in.number in
+    let card : Card = c.in-Some.card in
+    let breaks : Listed Break = c.args.breaks.now in
+    let U = g.M.Medium.state c.args.unit.now in
+    let V = g.M.Medium.state c.note_place.new.unit in
+    let A0 = g.C.Chip.state c.args.card_a.now in
+    let B0 = g.D.Chip.state c.args.card_b.now in
+    let there : card_in (seat_in run.keeper.cabin.slots.seats c.args.slot) ≡ Some card = cc in
+    let told : number_of_seat run.keeper.cabin.cards (seat_in run.keeper.cabin.slots.seats c.args.slot) ≡ Some number = cc in
+    let none : breaks ≡ with_lines [] breaks = ap (λ (bs : List Break). record breaks { items = bs }) (sym (append-nil breaks.items)) in
+    place-goes c.args.slot c.args.entry.now c.args.at (is_err c.from_residual.result) run run breaks breaks (devices U A0 B0) (devices V A0 B0) card number false there told
+    (numbered-session run.keeper.cabin.cards (seat_in run.keeper.cabin.slots.seats c.args.slot) card number there told) (ungiven_of lit.span) lit.cabin c.requires.at c.requires.small (record { run = refl; told = none })
+    (λ tells. subst (λ (o : Option FullCardNumber). WritesPlace o c.args.entry.now (is_err c.from_residual.result) U V) told (returns-in_err-note_place-clause-rings g c tells))
+    (record { unit = c.note_place.ensures.journal.keeps; card_a = λ t x le at. at; card_b = λ t x le at. at })
+
+pub returns-in-A-clause-ringed : goal.returns-in-A-clause-ringed
+returns-in-A-clause-ringed g c =
+    let run = c.args.run.now in
+    let lit = c.requires.going in
+    let number = c.in-Some-number_in.number in
+    let e = c.note_place_in.ensures in
+    let U = g.M.Medium.state c.args.unit.now in
+    let V = g.M.Medium.state c.note_place.new.unit in
+    let W = g.M.Medium.state c.note_place_in.new.unit in
+    let A0 = g.C.Chip.state c.args.card_a.now in
+    let B0 = g.D.Chip.state c.args.card_b.now in
+    let Y = g.C.Chip.state c.note_place_in.new.card in
+    let there : card_in (seat_in run.keeper.cabin.slots.seats c.args.slot) ≡ Some A = cc in
+    let told : number_of_seat run.keeper.cabin.cards (seat_in run.keeper.cabin.slots.seats c.args.slot) ≡ Some number = cc in
+    let some = numbered-session run.keeper.cabin.cards (seat_in run.keeper.cabin.slots.seats c.args.slot) A number there told in
+    place-goes c.args.slot c.args.entry.now c.args.at (is_err c.note_place_in.result) run c.note_place_in.new.run c.args.breaks.now c.note_place_in.new.breaks (devices U A0 B0) (devices W Y B0) A number e.noted.0 there told
+    some (ungiven_of lit.span) lit.cabin c.requires.at c.requires.small e.noted.1
+    (λ tells. subst (λ (o : Option FullCardNumber). WritesPlace o c.args.entry.now (is_err c.note_place_in.result) U W) told (returns-in-A-clause-rings g c tells))
+    (record {
+      unit = left-after U V W c.note_place.ensures.journal.keeps c.note_place.ensures.journal.later e.journal.keeps;
+      card_a = some-left (session_of run.keeper.cabin.cards A) (λ a. IsNote a.session.application) A0 Y some e.moments;
+      card_b = λ t x le at. at;
+    })
+
+pub returns-in-B-clause-ringed : goal.returns-in-B-clause-ringed
+returns-in-B-clause-ringed g c =
+    let run = c.args.run.now in
+    let lit = c.requires.going in
+    let number = c.in-Some-number_in.number in
+    let e = c.note_place_in-in-B.ensures in
+    let U = g.M.Medium.state c.args.unit.now in
+    let V = g.M.Medium.state c.note_place.new.unit in
+    let W = g.M.Medium.state c.note_place_in-in-B.new.unit in
+    let A0 = g.C.Chip.state c.args.card_a.now in
+    let B0 = g.D.Chip.state c.args.card_b.now in
+    let Y = g.D.Chip.state c.note_place_in-in-B.new.card in
+    let there : card_in (seat_in run.keeper.cabin.slots.seats c.args.slot) ≡ Some B = cc in
+    let told : number_of_seat run.keeper.cabin.cards (seat_in run.keeper.cabin.slots.seats c.args.slot) ≡ Some number = cc in
+    let some = numbered-session run.keeper.cabin.cards (seat_in run.keeper.cabin.slots.seats c.args.slot) B number there told in
+    place-goes c.args.slot c.args.entry.now c.args.at (is_err c.note_place_in-in-B.result) run c.note_place_in-in-B.new.run c.args.breaks.now c.note_place_in-in-B.new.breaks (devices U A0 B0) (devices W A0 Y) B number e.noted.0 there told
+    some (ungiven_of lit.span) lit.cabin c.requires.at c.requires.small e.noted.1
+    (λ tells. subst (λ (o : Option FullCardNumber). WritesPlace o c.args.entry.now (is_err c.note_place_in-in-B.result) U W) told (returns-in-B-clause-rings g c tells))
+    (record {
+      unit = left-after U V W c.note_place.ensures.journal.keeps c.note_place.ensures.journal.later e.journal.keeps;
+      card_a = λ t x le at. at;
+      card_b = some-left (session_of run.keeper.cabin.cards B) (λ a. IsNote a.session.application) B0 Y some e.moments;
+    })

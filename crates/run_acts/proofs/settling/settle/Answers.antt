@@ -201,3 +201,6 @@ returns-clause-evented g c =
 
 pub returns-clause-later : goal.returns-clause-later
 returns-clause-later g c = c.keep_all.ensures.later
+
+pub returns-clause-keeps : goal.returns-clause-keeps
+returns-clause-keeps g c = record { unit = c.keep_all.ensures.unit_keeps; card_a = c.keep_all.ensures.a_keeps; card_b = c.keep_all.ensures.b_keeps }

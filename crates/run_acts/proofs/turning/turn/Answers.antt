@@ -1,5 +1,5 @@
-use Rattle.std.proofs.Common.{◌≡◌, ◌∙◌, ℕ, ◌+◌, ◌-◌, ◌/◌, ◌≤◌, ◌<◌, Bool, true, false, Option, Some, List, [], ◌∷◌, ◌++◌, length, refl, ap, sym, subst, arith}
-use Rattle.trace_model.specs.Trace.{driven}
+use Rattle.std.proofs.Common.{◌≡◌, ◌∙◌, ℕ, ◌+◌, ◌-◌, ◌/◌, ◌≤◌, ◌<◌, Bool, true, false, Option, Some, List, [], ◌∷◌, ◌++◌, length, refl, ap, sym, subst, arith, append-nil, length-append}
+use Rattle.trace_model.specs.Trace.{TraceSecond, driven}
 use Rattle.log_model.specs.Log.{In}
 use Rattle.run_rule.specs.Between.{devices}
 use Rattle.run_outcome.specs.declared.outcome.Outcome.{Outcome}
@@ -21,6 +21,12 @@ use Rattle.run_acts.specs.declared.run.Power.TheVariants.{Lit, Lost}
 use Rattle.run_acts.specs.Recording.{log_of, Supplies}
 use Rattle.run_acts.specs.Evented.{CutEvented, WithinEvented, InSecondEventedBy, RunEvented}
 use Rattle.run_acts.proofs.TurnMany.{at-supply, dark-events}
+use Rattle.trace_model.specs.declared.Action.{Action}
+use Rattle.safety_model.specs.Safe.{Devices}
+use Rattle.run_recorded.specs.Origin.{Origin}
+use Rattle.run_acts.specs.RunRinged.{RunRinged, RingsWithin, WithinRinged, CutRinged, InSecondRingedBy, TurnedRings}
+use Rattle.run_acts.proofs.Ringing.{turn-leaves}
+use Rattle.run_acts.proofs.RingedTurn.{dark-ringed, seconds-ringed}
 use Rattle.run_acts.proofs.turning.turn.Goals as goal
 
 -- ---- without power
@@ -157,3 +163,49 @@ returns-clause-evented g c = λ o done s now actions behind within time.
       limit = t.limit;
       watched = t.watched;
     })
+
+-- ---- the rings
+
+-- behind them, with what is recorded and the events
+ringed-of : (o : Origin) (done : List TraceSecond) (run : Run) (out : Outcome) (d : Devices) → RunEvented o done run out d → TurnedRings o done run out d → RunRinged o done run out d
+ringed-of o done run out d events rings = record { evented = events; spans = rings.spans; base = rings.base; counted = rings.counted; ringed = rings.ringed }
+
+-- all actions have begun
+whole-front : (front rest acts : List Action) → acts ≡ front ++ rest → length front ≡ length acts → front ≡ acts
+whole-front front [] acts are same = sym (are ∙ append-nil front)
+whole-front front (a ∷ rest) acts are same = absurd (let all = ap (λ (l : List Action). length l) are ∙ length-append front (a ∷ rest) in omega (arith, all, same))
+
+pub returns-then-not-is_lit-clause-ringed : goal.returns-then-not-is_lit-clause-ringed
+returns-then-not-is_lit-clause-ringed g c = λ o done s now actions behind within time.
+    let run = c.args.run.now in
+    let before = c.args.outcome.now in
+    let d : Devices = devices (g.M.Medium.state c.args.unit.now) (g.C.Chip.state c.args.card_a.now) (g.D.Chip.state c.args.card_b.now) in
+    let dark : is_lit run.power ≡ false = sym c.is_lit.ensures ∙ c.if-not-is_lit.true in
+    let r : CutRinged o done s run before d = subst (λ (b : Bool). InSecondRingedBy b o done s c.args.begun run before d) dark within in
+    let seconds : List TraceSecond = done ++ s ∷ driven (c.args.n - 1) (s.number + 1) c.args.speed [] in
+    let events : RunEvented o seconds c.pass.new.self before d = returns-then-not-is_lit-clause-evented g c o done s now actions behind (subst (λ (b : Bool). InSecondEventedBy b o done s c.args.begun run before d) (sym dark) r.evented) time in
+    let rings : TurnedRings o seconds c.pass.new.self before d = subst (λ (x : Run). TurnedRings o seconds x before d) (sym c.pass.ensures)
+    (dark-ringed c.args.n c.args.speed c.args.begun run before d c.requires.some c.requires.minute o done s now r.evented.cut r.spans r.counted r.ringed) in
+    ringed-of o seconds c.pass.new.self before d events rings
+
+pub returns-clause-ringed : goal.returns-clause-ringed
+returns-clause-ringed g c = λ o done s now actions behind within time.
+    let run = c.args.run.now in
+    let before = c.args.outcome.now in
+    let after = c.lit_turn.new.outcome in
+    let U = g.M.Medium.state c.args.unit.now in
+    let V = g.M.Medium.state c.lit_turn.new.unit in
+    let d : Devices = devices U (g.C.Chip.state c.args.card_a.now) (g.D.Chip.state c.args.card_b.now) in
+    let e : Devices = devices V (g.C.Chip.state c.lit_turn.new.card_a) (g.D.Chip.state c.lit_turn.new.card_b) in
+    let lit : is_lit run.power ≡ true = sym c.is_lit.ensures ∙ c.if-not-is_lit.false in
+    let there : WithinRinged o done s c.args.begun run before d = subst (λ (b : Bool). InSecondRingedBy b o done s c.args.begun run before d) lit within in
+    let r : WithinRinged o done s (length s.actions) run before d = subst (λ (k : ℕ). WithinRinged o done s k run before d) (sym actions) there in
+    let seconds : List TraceSecond = done ++ s ∷ driven (c.args.n - 1) (s.number + 1) c.args.speed [] in
+    let events : RunEvented o seconds c.pass-2.new.self after e = returns-clause-evented g c o done s now actions behind (subst (λ (b : Bool). InSecondEventedBy b o done s c.args.begun run before d) (sym lit) there.evented) time in
+    let leaves = turn-leaves c.args.n c.args.speed c.args.begun run c.lit_turn.new.run before after U V (g.met.M.Medium.coherent c.args.unit.now) c.requires.going.held.is_unit c.lit_turn.ensures.noted in
+    let within_all : RingsWithin o done s r.evented.within.within.b.run.log s.actions run (log_of before) r.spans r.told d =
+    subst (λ (acts : List Action). RingsWithin o done s r.evented.within.within.b.run.log acts run (log_of before) r.spans r.told d) (whole-front r.front r.rest s.actions r.are r.number) r.rings in
+    let rings : TurnedRings o seconds c.pass-2.new.self after e = subst (λ (x : Run). TurnedRings o seconds x after e) (sym c.pass-2.ensures)
+    (seconds-ringed c.args.n c.args.speed c.args.begun run c.lit_turn.new.run before after d e (c.requires.going.lit lit) r.evented.within.lit c.requires.some c.requires.minute c.requires.small c.lit_turn.ensures.booked leaves
+    o done s now actions (λ more. (behind (omega (arith, more))).0) r.evented.within time r.spans r.told within_all) in
+    ringed-of o seconds c.pass-2.new.self after e events rings

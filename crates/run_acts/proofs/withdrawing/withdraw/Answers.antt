@@ -1,5 +1,5 @@
-use Rattle.std.proofs.Common.{rules, ◌≡◌, ◌∙◌, inl, inr, ℕ, ◌+◌, ◌-◌, ◌*◌, ◌/◌, ◌≤◌, Bool, true, false, not, Option, Some, None, is_some, List, ◌++◌, length, refl, ap, sym, subst, arith, ◌^◌, ◌<◌}
-use Rattle.std.specs.Prelude.{is_err, suc, []}
+use Rattle.std.proofs.Common.{rules, ◌≡◌, ◌∙◌, inl, inr, ℕ, ◌+◌, ◌-◌, ◌*◌, ◌/◌, ◌≤◌, Bool, true, false, not, Option, Some, None, is_some, List, ◌++◌, All, length, refl, ap, sym, subst, arith, ◌^◌, ◌<◌}
+use Rattle.std.specs.Prelude.{is_err, suc, [], ◌∷◌, IfSome}
 use Rattle.trace_model.specs.declared.Card.{Card}
 use Rattle.trace_model.specs.declared.Card.TheVariants.{A, B}
 use Rattle.tach_media.proofs.Runs.{on_ok, ok_gives, cause_after}
@@ -17,7 +17,7 @@ use Rattle.run_crew.specs.Cabin.{Stands, with_slot_left}
 use Rattle.run_outcome.specs.Lines.{Listed}
 use Rattle.run_outcome.specs.declared.outcome.Outcome.{Outcome}
 use Rattle.run_keeping.specs.declared.keeper.Moment.{Moment}
-use Rattle.run_keeping.specs.Keeping.{tears_of}
+use Rattle.run_keeping.specs.Keeping.{HasLeftMore, tears_of}
 use Rattle.run_keeping.specs.Minutes.{Told, Reach, IsReach}
 use Rattle.run_keeping.proofs.Counts.{lines-length}
 use Rattle.run_acts.specs.declared.run.Run.{Run}
@@ -34,19 +34,30 @@ use Rattle.log_model.specs.Log.{In}
 use Rattle.run_acts.specs.Recording.{RunFails, GoesOnOrFails, GoesOnOrCut, log_of}
 use Rattle.run_acts.specs.Settling.{RecordsSettling}
 use Rattle.run_acts.proofs.Asked.{withdraws-one}
-use Rattle.run_acts.proofs.WithdrawnRecorded.{acting_at, moment-is, settling-cut, closing-recorded, settled-evented, closing-evented}
+use Rattle.run_acts.proofs.WithdrawnRecorded.{acting_at, moment-is, settling-cut, closing-recorded, settled-evented, closing-evented, untorn-then, sat-there}
 use Rattle.run_acts.specs.Faults.{NotesSettling}
 use Rattle.run_acts.specs.Noting.{NotesClosing, NotesWithdrawing, closed_events}
 use Rattle.run_acts.proofs.NotedEvents.{same-noted, noted-any}
 use Rattle.run_acts.proofs.ActsNoted.{settles-these, withdrawal-cut, withdrawal-noted, closing-any, same-closing}
 use Rattle.run_rings.proofs.Same.{rings-left}
-use Rattle.run_acts.specs.Ringing.{WithdrawsSo}
+use Rattle.run_acts.specs.Ringing.{WithdrawsSo, ClosesRings}
 use Rattle.run_acts.proofs.Ringing.{settling-leaves, closes-behind}
 use Rattle.run_keeping.proofs.Later.{state-by, later-same, later-then, later-of-a, later-of-b}
-use Rattle.tach_media.specs.Medium.{HasBroken}
+use Rattle.tach_media.specs.Medium.{State, LeavesOnly, HasBroken}
 use Rattle.run_evented.specs.Noting.{Acting}
 use Rattle.run_acts.specs.NotedEvents.{NotesEvents}
 use Rattle.run_acts.specs.Evented.{EventsGoOn, EventsSettling}
+use Rattle.activity_codec.specs.declared.values.Activity.{Activity}
+use Rattle.trace_model.specs.declared.Action.TheVariants.{Withdraw}
+use Rattle.card_session.specs.Sessions.{IsSession}
+use Rattle.card_session.specs.Cards.{IsCardClosing}
+use Rattle.message_model.specs.Records.{insertion_ring}
+use Rattle.run_crew.specs.declared.cards.Accepted.{Accepted}
+use Rattle.run_acts.specs.RunRinged.{RingsGoOn}
+use Rattle.run_acts.proofs.Settled.{settled-decides}
+use Rattle.run_acts.proofs.SettledRecorded.{same-ungiven}
+use Rattle.run_acts.proofs.RingedSecond.{left-after, more-left}
+use Rattle.run_acts.proofs.RingedClosed.{settling-ringed, closing-ringed, gone-told}
 use Rattle.run_acts.proofs.withdrawing.withdraw.Goals as goal
 
 -- ---- it has left its slot
@@ -797,3 +808,148 @@ returns-in-B-clause-evented g c = λ late speed o done s now front rest are n al
     small (ap (λ (x : Outcome). x.finds) c.in_ok-settle.ensures.settled.outcome) (ungiven_of going.span) going.cabin kept
     c.close-in-B.new.run c.close-in-B.new.breaks k.closing (subst (λ (m : Moment). IsClosed B c.args.slot m between c.close-in-B.new.run told.breaks c.close-in-B.new.breaks k.closing) moment k.closed)
     (subst (λ (x : ℕ). HasBroken X Y x) (sym same) fell.2) (subst (λ (u : ℕ). NotesEvents (closed_events k.closing u c.close-in-B.new.run) (is_err c.close-in-B.result) (devices U1 A1 B1) (devices V A1 Y)) second notes))
+
+-- ---- how the rings go on
+
+here-kept : (failed : Bool) (slot : Slot) (at here : Moment) (run between : Run) (before told : Outcome) (left : Cabin) → left ≡ with_slot_left slot at.second run.keeper.cabin → at ≡ here →
+    IsSettled at failed (with_cabin left run) between before told → IsSettled here failed (left_run slot here.second run) between before told
+here-kept failed slot at here run between before told left is moment settles =
+    subst (λ (m : Moment). IsSettled m failed (left_run slot m.second run) between before told) moment
+    (subst (λ (b : Cabin). IsSettled at failed (with_cabin b run) between before told) is settles)
+
+-- an entry is one of the ring
+entry-of : (n : ℕ) (q : Option Accepted) → IfSome q (λ x. (x.entry < insertion_ring.count) × (x.noted ≤ n)) → IfSome q (λ x. x.entry < insertion_ring.count)
+entry-of n None h = tt
+entry-of n (Some x) h = h.0
+
+-- a card whose session is closed was called alone, or not at all
+closing-left : {C : Type 0} (state : C → State) (x y : C) (q : Option Accepted) → IfSome q (λ s. (act : Activity) × LeavesOnly (state x) (state y) (λ i n. IsSession s.session i → IsCardClosing s.session act i n)) → (q ≡ None → y ≡ x) → HasLeftMore (state x) (state y)
+closing-left state x y None h same = subst (λ (z : _). HasLeftMore (state x) (state z)) (sym (same refl)) (λ t c le at. at)
+closing-left state x y (Some s) h same = h.1.keeps
+
+pub returns-in_default-clause-ringed : goal.returns-in_default-clause-ringed
+returns-in_default-clause-ringed g c = λ late speed o done s now front rest are n allowed w spans t rings time.
+    let seats = c.args.run.now.keeper.cabin.slots.seats in
+    let none : card_in (seat_in seats c.args.slot) ≡ None = sym c.card.ensures ∙ none-there c.card.result c.in_default.not-Some in
+    absurd (withdraws-one seats c.args.slot speed allowed none)
+
+pub returns-in_err-settle-clause-ringed : goal.returns-in_err-settle-clause-ringed
+returns-in_err-settle-clause-ringed g c = λ late speed o done s now front rest are n allowed w spans t rings time.
+    let run = c.args.run.now in
+    let card : Card = c.in-Some.card in
+    let lit = c.requires.going in
+    let there : card_in (seat_in run.keeper.cabin.slots.seats c.args.slot) ≡ Some card = cc in
+    let U = g.M.Medium.state c.args.unit.now in
+    let V = g.M.Medium.state c.settle.new.unit in
+    let D = devices U (g.C.Chip.state c.args.card_a.now) (g.D.Chip.state c.args.card_b.now) in
+    let E = devices V (g.C.Chip.state c.settle.new.card_a) (g.D.Chip.state c.settle.new.card_b) in
+    let failed : true ≡ is_err c.from_residual.result = search rules in
+    let moment = moment-is c.args.at s.number (suc (length front)) (c.requires.at ∙ sym now.number) n late in
+    let small : s.number < 2 ^ 32 = let low = c.requires.small in let same = now.number in omega (arith, low, same) in
+    let kept = here-kept true c.args.slot c.args.at (acting_at s.number (suc (length front))) run c.settle.new.run c.args.outcome.now c.settle.new.outcome c.leave.new.self c.leave.ensures.kept moment c.in_err-settle.ensures.settled in
+    subst (λ (q : Bool). RingsGoOn q o done s w.within.b.run.log (front ++ Withdraw c.args.slot ∷ []) c.settle.new.run (log_of c.settle.new.outcome) spans t E) failed
+    (settling-ringed o done s front rest c.args.slot are speed now.speed_is card run c.settle.new.run c.args.outcome.now c.settle.new.outcome D E w there allowed true kept
+    (more-left o D E (w.within.powered.lit.unit.unit_holds [] []).later w.within.there.clocks c.settle.ensures.keeps) spans t rings (ungiven_of lit.span) lit.cabin small (entry-of run.noted (session_of run.keeper.cabin.cards card) (lit.entries card))
+    (settling-leaves c.args.at true (with_cabin c.leave.new.self run) c.settle.new.run c.args.outcome.now c.settle.new.outcome U V c.in_err-settle.ensures.noted))
+
+pub returns-in-A-clause-ringed : goal.returns-in-A-clause-ringed
+returns-in-A-clause-ringed g c = λ late speed o done s now front rest are n allowed w spans t rings time.
+    let run = c.args.run.now in
+    let lit = c.requires.going in
+    let there : card_in (seat_in run.keeper.cabin.slots.seats c.args.slot) ≡ Some A = cc in
+    let between : Run = c.settle.new.run in
+    let told : Outcome = c.settle.new.outcome in
+    let U = g.M.Medium.state c.args.unit.now in
+    let U1 = g.M.Medium.state c.settle.new.unit in
+    let V = g.M.Medium.state c.close.new.unit in
+    let A0 = g.C.Chip.state c.args.card_a.now in
+    let B0 = g.D.Chip.state c.args.card_b.now in
+    let A1 = g.C.Chip.state c.settle.new.card_a in
+    let B1 = g.D.Chip.state c.settle.new.card_b in
+    let X = A1 in
+    let Y = g.C.Chip.state c.close.new.card in
+    let D : Devices = devices U A0 B0 in
+    let E : Devices = devices V Y B1 in
+    let moment = moment-is c.args.at s.number (suc (length front)) (c.requires.at ∙ sym now.number) n late in
+    let second : c.args.at.second ≡ s.number = c.requires.at ∙ sym now.number in
+    let small : s.number < 2 ^ 32 = let low = c.requires.small in let same = now.number in omega (arith, low, same) in
+    let r = c.in_ok-settle.ensures.recorded in
+    let e = c.close.ensures in
+    let k = e.rings (c.settle.ensures.tells ∙ w.within.there.unit) in
+    let unit_later = e.journal.later in
+    let mid = time-before A U1 V X Y B1 unit_later e.clock_card time in
+    let minutes = c.in_ok-settle.ensures.settled.minutes w.within.sp w.within.minutes in
+    let kept = here-kept false c.args.slot c.args.at (acting_at s.number (suc (length front))) run between c.args.outcome.now told c.leave.new.self c.leave.ensures.kept moment c.in_ok-settle.ensures.settled in
+    let keeps = c.settle.ensures.keeps in
+    let left = more-left o D E (w.within.powered.lit.unit.unit_holds [] []).later w.within.there.clocks (record {
+      unit = left-after U U1 V keeps.unit c.settle.ensures.clock e.journal.keeps;
+      card_a = left-after A0 A1 Y keeps.card_a c.settle.ensures.clock_a (closing-left g.C.Chip.state c.settle.new.card_a c.close.new.card (session_of between.keeper.cabin.cards A) e.left e.bare);
+      card_b = keeps.card_b;
+    }) in
+    let leaves = settling-leaves c.args.at false (with_cabin c.leave.new.self run) between c.args.outcome.now told U U1 c.in_ok-settle.ensures.noted in
+    let closed : IsClosed A c.args.slot (acting_at s.number (suc (length front))) between c.close.new.run told.breaks c.close.new.breaks k.closing = subst (λ (m : Moment). IsClosed A c.args.slot m between c.close.new.run told.breaks c.close.new.breaks k.closing) moment k.closed in
+    let writes : ClosesRings k.closing (session_of between.keeper.cabin.cards A) (acting_at s.number (suc (length front))) (is_err c.close.result) between U V =
+    subst (λ (m : Moment). ClosesRings k.closing (session_of between.keeper.cabin.cards A) m (is_err c.close.result) between U V) moment
+    (closes-behind k.closing (session_of between.keeper.cabin.cards A) c.args.at (is_err c.close.result) between U U1 V leaves k.rings) in
+    let entries = entry-of run.noted (session_of run.keeper.cabin.cards A) (lit.entries A) in
+    let records = here-settled r.0 false c.args.slot c.args.at (acting_at s.number (suc (length front))) run between c.args.outcome.now told c.leave.new.self D (devices U1 A1 B1) c.leave.ensures.kept moment r.2 in
+    let from_is : w.within.from ≡ ungiven_of lit.span = let to = w.within.until in let same = same-ungiven run.minutes w.within.sp lit.span w.within.minutes lit.stands in omega (arith, to, same) in
+    let later = (settled-decides None (run.next / 60) run lit kept.decided c.requires.small (kept.given lit.span lit.stands)).from in
+    closing-ringed o done s front rest c.args.slot are speed now.speed_is A run between c.args.outcome.now told D E w there allowed false kept left spans t rings (ungiven_of lit.span) lit.cabin small entries
+    c.close.new.run c.close.new.breaks k.closing closed minutes
+    (λ had has. untorn-then o done s front rest c.args.slot are speed now.speed_is A run between c.args.outcome.now told D w there allowed minutes r.0 (r.1 w.within.sp w.within.minutes) (devices U1 A1 B1) records mid had has)
+    (λ had none. gone-told o done s front rest c.args.slot are speed now.speed_is A run between c.args.outcome.now told D E w there allowed false kept left spans t rings (ungiven_of lit.span) lit.cabin small entries kept.kept w.within.from
+    (sat-there o done s front rest c.args.slot are speed now.speed_is A run between c.args.outcome.now told D w there allowed minutes r.0 (r.1 w.within.sp w.within.minutes) had)
+    (subst (λ (low : ℕ). All (λ (m : Minute). low ≤ m.minute) kept.decided) (sym from_is) later) had none)
+    (is_err c.close.result) writes
+
+pub returns-in-B-clause-ringed : goal.returns-in-B-clause-ringed
+returns-in-B-clause-ringed g c = λ late speed o done s now front rest are n allowed w spans t rings time.
+    let run = c.args.run.now in
+    let lit = c.requires.going in
+    let there : card_in (seat_in run.keeper.cabin.slots.seats c.args.slot) ≡ Some B = cc in
+    let between : Run = c.settle.new.run in
+    let told : Outcome = c.settle.new.outcome in
+    let U = g.M.Medium.state c.args.unit.now in
+    let U1 = g.M.Medium.state c.settle.new.unit in
+    let V = g.M.Medium.state c.close-in-B.new.unit in
+    let A0 = g.C.Chip.state c.args.card_a.now in
+    let B0 = g.D.Chip.state c.args.card_b.now in
+    let A1 = g.C.Chip.state c.settle.new.card_a in
+    let B1 = g.D.Chip.state c.settle.new.card_b in
+    let X = B1 in
+    let Y = g.D.Chip.state c.close-in-B.new.card in
+    let D : Devices = devices U A0 B0 in
+    let E : Devices = devices V A1 Y in
+    let moment = moment-is c.args.at s.number (suc (length front)) (c.requires.at ∙ sym now.number) n late in
+    let second : c.args.at.second ≡ s.number = c.requires.at ∙ sym now.number in
+    let small : s.number < 2 ^ 32 = let low = c.requires.small in let same = now.number in omega (arith, low, same) in
+    let r = c.in_ok-settle.ensures.recorded in
+    let e = c.close-in-B.ensures in
+    let k = e.rings (c.settle.ensures.tells ∙ w.within.there.unit) in
+    let unit_later = e.journal.later in
+    let mid = time-before B U1 V X Y A1 unit_later e.clock_card time in
+    let minutes = c.in_ok-settle.ensures.settled.minutes w.within.sp w.within.minutes in
+    let kept = here-kept false c.args.slot c.args.at (acting_at s.number (suc (length front))) run between c.args.outcome.now told c.leave.new.self c.leave.ensures.kept moment c.in_ok-settle.ensures.settled in
+    let keeps = c.settle.ensures.keeps in
+    let left = more-left o D E (w.within.powered.lit.unit.unit_holds [] []).later w.within.there.clocks (record {
+      unit = left-after U U1 V keeps.unit c.settle.ensures.clock e.journal.keeps;
+      card_a = keeps.card_a;
+      card_b = left-after B0 B1 Y keeps.card_b c.settle.ensures.clock_b (closing-left g.D.Chip.state c.settle.new.card_b c.close-in-B.new.card (session_of between.keeper.cabin.cards B) e.left e.bare);
+    }) in
+    let leaves = settling-leaves c.args.at false (with_cabin c.leave.new.self run) between c.args.outcome.now told U U1 c.in_ok-settle.ensures.noted in
+    let closed : IsClosed B c.args.slot (acting_at s.number (suc (length front))) between c.close-in-B.new.run told.breaks c.close-in-B.new.breaks k.closing = subst (λ (m : Moment). IsClosed B c.args.slot m between c.close-in-B.new.run told.breaks c.close-in-B.new.breaks k.closing) moment k.closed in
+    let writes : ClosesRings k.closing (session_of between.keeper.cabin.cards B) (acting_at s.number (suc (length front))) (is_err c.close-in-B.result) between U V =
+    subst (λ (m : Moment). ClosesRings k.closing (session_of between.keeper.cabin.cards B) m (is_err c.close-in-B.result) between U V) moment
+    (closes-behind k.closing (session_of between.keeper.cabin.cards B) c.args.at (is_err c.close-in-B.result) between U U1 V leaves k.rings) in
+    let entries = entry-of run.noted (session_of run.keeper.cabin.cards B) (lit.entries B) in
+    let records = here-settled r.0 false c.args.slot c.args.at (acting_at s.number (suc (length front))) run between c.args.outcome.now told c.leave.new.self D (devices U1 A1 B1) c.leave.ensures.kept moment r.2 in
+    let from_is : w.within.from ≡ ungiven_of lit.span = let to = w.within.until in let same = same-ungiven run.minutes w.within.sp lit.span w.within.minutes lit.stands in omega (arith, to, same) in
+    let later = (settled-decides None (run.next / 60) run lit kept.decided c.requires.small (kept.given lit.span lit.stands)).from in
+    closing-ringed o done s front rest c.args.slot are speed now.speed_is B run between c.args.outcome.now told D E w there allowed false kept left spans t rings (ungiven_of lit.span) lit.cabin small entries
+    c.close-in-B.new.run c.close-in-B.new.breaks k.closing closed minutes
+    (λ had has. untorn-then o done s front rest c.args.slot are speed now.speed_is B run between c.args.outcome.now told D w there allowed minutes r.0 (r.1 w.within.sp w.within.minutes) (devices U1 A1 B1) records mid had has)
+    (λ had none. gone-told o done s front rest c.args.slot are speed now.speed_is B run between c.args.outcome.now told D E w there allowed false kept left spans t rings (ungiven_of lit.span) lit.cabin small entries kept.kept w.within.from
+    (sat-there o done s front rest c.args.slot are speed now.speed_is B run between c.args.outcome.now told D w there allowed minutes r.0 (r.1 w.within.sp w.within.minutes) had)
+    (subst (λ (low : ℕ). All (λ (m : Minute). low ≤ m.minute) kept.decided) (sym from_is) later) had none)
+    (is_err c.close-in-B.result) writes
