@@ -47,7 +47,7 @@ none-noted u slot card vs none = ap (λ (l : List Verdict). map {B = Note} _ l) 
 module _ (o : Origin) (done : List TraceSecond) (s : TraceSecond) (front rest : List Action) (slot : Slot) (card : Card) (are : s.actions ≡ front ++ Insert slot card ∷ rest) (old : Run) (before : Outcome) (d : Devices) (w : RunWithin o done s (In (length front)) [] [] old before d)
     (spans : List SpanFrom) (t : Told) (rings : RingsWithin o done s w.within.b.run.log front old (log_of before) spans t d) (allowed : refusal (course_in w.within.b done s (In (length front)) (log_of before)).slots s.speed (Insert slot card) ≡ None)
     (mid : Run) (told : Outcome) (e : Devices) (lines : List Break) (log_is : log_of told ≡ record (log_of before) { breaks = before.breaks.items ++ lines }) (tears : AreTears (record { second = s.number; begun = suc (length front); late = false }) lines)
-    (leaves : StaysInRings d e) (left : HaveLeftMore o d e) (fewer : AreFewer (seats_of old) (seats_of mid)) (same_odometer : mid.keeper.odometer ≡ old.keeper.odometer) where
+    (leaves : StaysInRings d e) (left : HaveLeftMore o d e) (fewer : AreFewer (seats_of old) (seats_of mid)) (same_odometer : mid.keeper.odometer ≡ old.keeper.odometer) (same_noted : mid.noted ≡ old.noted) where
   abbrev a : Action
   a = Insert slot card
 
@@ -120,6 +120,13 @@ module _ (o : Origin) (done : List TraceSecond) (s : TraceSecond) (front rest : 
       (none-noted s.number slot card (found_in log s.number (In (length front + 1)) slot) (ap (λ (k : ℕ). filter is_accepting (found_in log s.number (In k) slot)) longer ∙ none))
       (insertions log (went w.within.b.run.log done).before s front begun slot card fine)
 
+  -- no more insertions were noted than finds were told
+  pub counted-told : mid.noted ≤ length (log_of told).finds
+  counted-told =
+      let few : old.noted ≤ length (log_of before).finds = rings.counted in
+      let finds : length (log_of told).finds ≡ length (log_of before).finds = ap (λ (l : RunLog). length l.finds) log_is in
+      omega (arith, few, finds, same_noted)
+
   -- ---- THE UNIT FAILED in the minutes before
   told-cut : IsCutIn w.within.b.run.log (log_of before) (with_cut (log_of told) s (front ++ Insert slot card ∷ [])) done s front (Insert slot card) rest
   told-cut = is-cut (log_of before) (log_of told) s front rest (Insert slot card) are uncut more-told same-told uncut-told o done (In (length front)) [] None [] (values_of old before) d w.within here-told
@@ -127,11 +134,14 @@ module _ (o : Origin) (done : List TraceSecond) (s : TraceSecond) (front rest : 
   pub unsettled-ringed : RingsGoOn true o done s w.within.b.run.log (front ++ Insert slot card ∷ []) mid (log_of told) spans t e
   unsettled-ringed =
       let cut : RunLog = with_cut (log_of told) s (front ++ Insert slot card ∷ []) in
-      subst (λ (b : ℕ). RingedBehind o (done ++ s ∷ []) cut (suc s.number) (spans_cut spans b cut done s) nobody e) (sym same_odometer)
-      (action-cut d e o done s w.within.b.run.log (log_of before) cut front (Insert slot card) rest spans old.keeper.odometer t (seats_of old) rings.ringed told-cut
-      (notes-none cut told-cut.goes.begun
-      (ap (λ c. refusal c.slots s.speed (Insert slot card)) (course-cut (log_of before) (log_of told) s front rest (Insert slot card) are uncut more-told same-told uncut-told was) ∙ allowed)
-      (ap (filter is_accepting) (cut-found_ (log_of told) uncut-told) ∙ ap (filter is_accepting) none-told)) leaves left)
+      record {
+        counted = counted-told;
+        ringed = subst (λ (b : ℕ). RingedBehind o (done ++ s ∷ []) cut (suc s.number) (spans_cut spans b cut done s) nobody e) (sym same_odometer)
+            (action-cut d e o done s w.within.b.run.log (log_of before) cut front (Insert slot card) rest spans old.keeper.odometer t (seats_of old) rings.ringed told-cut
+            (notes-none cut told-cut.goes.begun
+            (ap (λ c. refusal c.slots s.speed (Insert slot card)) (course-cut (log_of before) (log_of told) s front rest (Insert slot card) are uncut more-told same-told uncut-told was) ∙ allowed)
+            (ap (filter is_accepting) (cut-found_ (log_of told) uncut-told) ∙ ap (filter is_accepting) none-told)) leaves left);
+      }
     where
       cut-found_ : (later : RunLog) → cut_in later s.number ≡ None → found_in (with_cut later s (front ++ Insert slot card ∷ [])) s.number (In (suc (length front))) slot ≡ found_in later s.number (In (suc (length front))) slot
       cut-found_ later none = cut-found later s.number (length (front ++ Insert slot card ∷ [])) none (In (suc (length front))) slot
@@ -191,11 +201,14 @@ module _ (o : Origin) (done : List TraceSecond) (s : TraceSecond) (front rest : 
     }
     by true h =
         let cut : RunLog = with_cut (log_of after) s (front ++ Insert slot card ∷ []) in
-        subst (λ (b : ℕ). RingedBehind o (done ++ s ∷ []) cut (suc s.number) (spans_cut spans b cut done s) nobody f) (sym (j.odometer ∙ same_odometer)) (⊎_elim
-        (λ p. action-cut e f o done s w.within.b.run.log (log_of told) cut front (Insert slot card) rest spans old.keeper.odometer t (seats_of mid) settled-in cuts (notes-none cut cuts.goes.begun fine-cut (ap (filter is_accepting) found-cut ∙ p.0)) p.1 j.left)
-        (λ i. acceptance-is-cut e f o done s w.within.b.run.log (log_of told) cut front rest spans old.keeper.odometer t (seats_of mid) settled-in slot card cuts fine-cut i.verdict
-        (ap (λ (k : ℕ). found_in cut s.number (In k) slot) longer ∙ found-cut ∙ i.found) i.accepting i.head i.writes i.inserts.long (i.inserts.is cut) j.left)
-        h)
+        record {
+          counted = j.counted;
+          ringed = subst (λ (b : ℕ). RingedBehind o (done ++ s ∷ []) cut (suc s.number) (spans_cut spans b cut done s) nobody f) (sym (j.odometer ∙ same_odometer)) (⊎_elim
+              (λ p. action-cut e f o done s w.within.b.run.log (log_of told) cut front (Insert slot card) rest spans old.keeper.odometer t (seats_of mid) settled-in cuts (notes-none cut cuts.goes.begun fine-cut (ap (filter is_accepting) found-cut ∙ p.0)) p.1 j.left)
+              (λ i. acceptance-is-cut e f o done s w.within.b.run.log (log_of told) cut front rest spans old.keeper.odometer t (seats_of mid) settled-in slot card cuts fine-cut i.verdict
+              (ap (λ (k : ℕ). found_in cut s.number (In k) slot) longer ∙ found-cut ∙ i.found) i.accepting i.head i.writes i.inserts.long (i.inserts.is cut) j.left)
+              h);
+        }
 
     -- SO THE RINGS GO ON
     pub inserted-ringed : RingsGoOn failed o done s w.within.b.run.log (front ++ Insert slot card ∷ []) new (log_of after) spans t f

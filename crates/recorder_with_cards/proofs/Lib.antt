@@ -47,3 +47,4 @@ pub mod Uncut
 pub mod WholeOdometer
 pub mod GapEvented
 pub mod WokenEvented
+pub mod WokenRinged

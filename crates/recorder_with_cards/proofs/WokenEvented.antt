@@ -202,12 +202,14 @@ span-none o done s p b =
 pub woken-on : (o : Origin) (done : List TraceSecond) (s : TraceSecond) (b : Beginning) (run : Run) (out : Outcome) (d : Devices) → b.span ≡ [] → (x : RunWithin o done s (In 0) [] [] run out d) → x.within.b ≡ b → EventedNow o done s b.run Acting (log_of out) d → run.keeper.memory.limit ≡ limit_in o →
     IsWatching o [] run.watch → (began : RunLog) → x.within.b.run.log ≡ began → EventsWoken false began o done s run out d
 woken-on o done s b run out d empty x is now limit watch began log =
-    let begins : BeginsNow o done x.within.b.run [] s = subst (λ (span : _). BeginsNow o done x.within.b.run span s) (ap (λ (y : Beginning). y.span) is ∙ empty) (record { followed = x.within.began.followed; lit = x.within.lit; number = x.within.moment.number; given = x.within.moment.given }) in
-    (record {
-      within = x;
-      evented = subst (λ (y : Beginning). EventedNow o done s y.run Acting (log_of out) d) (sym is) now;
-      watches = record { limit = limit; watched = subst (λ (span : List Seen). IsWatching o span run.watch) (sym (span-none o done s x.within.b.run begins)) watch };
-    }, log)
+    let begins : BeginsNow o done x.within.b.run [] s = subst (λ (span : _). BeginsNow o done x.within.b.run span s) (ap (λ (y : Beginning). y.span) is ∙ empty) (record { followed = x.within.began.followed; lit = x.within.lit; number = x.within.moment.number; given = x.within.moment.given }) in (
+      record {
+        within = x;
+        evented = subst (λ (y : Beginning). EventedNow o done s y.run Acting (log_of out) d) (sym is) now;
+        watches = record { limit = limit; watched = subst (λ (span : List Seen). IsWatching o span run.watch) (sym (span-none o done s x.within.b.run begins)) watch };
+      },
+      log,
+    )
 
 -- ---- THE WHOLE OF IT
 

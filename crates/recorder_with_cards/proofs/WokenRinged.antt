@@ -25,7 +25,7 @@ use Rattle.run_course.specs.Followed.{Progress, Followed, Comes}
 use Rattle.run_course.specs.Seconds.{GoesOnBy}
 use Rattle.run_course.proofs.Steps.{went-same_}
 use Rattle.run_course.specs.Followed.{IsSupplied}
-use Rattle.run_course.specs.Order.{AreInOrder}
+use Rattle.log_model.specs.Spans.{AreInOrder}
 use Rattle.run_course.proofs.Logs.{all-before, found_log, same-found, went-found}
 use Rattle.run_course.proofs.Told.{comes-power, lost-comes}
 use Rattle.unit_course.specs.Followed.{Supply, MayPower, Lit, Due}
@@ -34,6 +34,9 @@ use Rattle.log_model.specs.Same.{SameAt}
 use Rattle.run_events.proofs.Later.{told-number}
 use Rattle.run_moments.proofs.Reached.{TellsNothing, nothing-told}
 use Rattle.run_evented.proofs.Lines.{same-before}
+use Rattle.run_course.specs.Moments.{and_break}
+use Rattle.run_outcome.specs.Lines.{with_lines}
+use Rattle.run_outcome.specs.Lines.{cut_at as cut_line}
 use Rattle.run_outcome.specs.declared.outcome.Outcome.{Outcome}
 use Rattle.run_keeping.specs.declared.keeper.Moment.{Moment}
 use Rattle.run_keeping.specs.Books.{HaveTime}
@@ -51,13 +54,15 @@ use Rattle.run_ringed.proofs.Waking.{behind-alike, still-failed, power-begins, p
 use Rattle.run_within.specs.Within.{Beginning}
 use Rattle.run_within.specs.Waking.{both_slots}
 use Rattle.run_acts.specs.declared.run.Run.{Run}
+use Rattle.run_acts.specs.Power.{is_lit, cut_run}
 use Rattle.run_acts.specs.Recording.{log_of, values_of, RunWithin}
-use Rattle.run_acts.specs.RunRinged.{seats_of, IsLastFrom, RingsWithin, with_cut, RingsGoOn}
+use Rattle.run_acts.specs.Evented.{CutEvented}
+use Rattle.run_acts.specs.RunRinged.{seats_of, IsLastFrom, RingsWithin, WithinRinged, CutRinged, InSecondRingedBy, InSecondRinged, with_cut, RingsGoOn}
 use Rattle.run_acts.proofs.RingedSecond.{cut-is, cut-torn, cut-found, cut-failed, power-here, odometer-here, begins-last}
 use Rattle.recorder_with_cards.specs.Accepting.{IsBare, IsAnew}
 use Rattle.recorder_with_cards.specs.Judged.{moment_in, RunNext, JudgesAnew}
 use Rattle.recorder_with_cards.specs.JudgedRings.{AreSeatedWith, JudgedInRings, IsJudgedInRings, RingsJudged, RingsJudgedAnew}
-use Rattle.recorder_with_cards.specs.Woken.{RingsWoken}
+use Rattle.recorder_with_cards.specs.Woken.{EventsWoken, RingsWoken}
 use Rattle.recorder_with_cards.proofs.Resumed.{RunWaking, within-of, waiting_in, driver-next, codriver-next, codriver-began}
 use Rattle.recorder_with_cards.proofs.RingsHere.{here-then, here-more, here-cut, goes-behind}
 
@@ -271,16 +276,19 @@ module _ (o : Origin) (done : List TraceSecond) (s : TraceSecond) (waits fewer :
   }
   by true h =
       let cut : RunLog = with_cut (log_of after) s [] in
-      subst (λ (n : ℕ). RingedBehind o (done ++ s ∷ []) cut (suc s.number) (spans_cut spans n cut done s) nobody e) (sym j.odometer) (⊎_elim
-      (λ p.
-      let passed : RingedIn o done s next.goes.within.b.run.log [] cut spans old.keeper.odometer t nobody e =
-      passed-anew d e o done s next.goes.within.b.run.log (log_of before) cut spans old.keeper.odometer t (seats_of old) nobody rings.ringed off cut-more slot (found_in (log_of after) s.number (In 0) slot)
-      (anew-by (log_of before) cut slot (found_in (log_of after) s.number (In 0) slot) first next.none (cut-found_ (other_slot slot) ∙ j.others) (cut-found_ slot)) (inr p.0) p.1 j.left (λ c. inr refl) in
-      cut-ends e o done s next.goes.within.b.run.log cut [] s.actions spans old.keeper.odometer t nobody nobody passed behind power refl (cut-is (log_of after) s.number 0 uncut) (λ c. inl refl))
-      (λ i. cut-anew d e o done s next.goes.within.b.run.log (log_of before) cut spans old.keeper.odometer t (seats_of old) rings.ringed off cut-more slot sat.0 sat.1 i.verdict
-      (anew-by (log_of before) cut slot (i.verdict ∷ []) first next.none (cut-found_ (other_slot slot) ∙ j.others) (cut-found_ slot ∙ i.found)) i.accepting behind power (cut-is (log_of after) s.number 0 uncut) (cut-failed (log_of after) s.number 0 uncut)
-      i.head i.writes i.inserts.long (of-sitter cut i.head (i.inserts.is cut)) j.left)
-      h)
+      record {
+        counted = j.counted;
+        ringed = subst (λ (n : ℕ). RingedBehind o (done ++ s ∷ []) cut (suc s.number) (spans_cut spans n cut done s) nobody e) (sym j.odometer) (⊎_elim
+            (λ p.
+            let passed : RingedIn o done s next.goes.within.b.run.log [] cut spans old.keeper.odometer t nobody e =
+            passed-anew d e o done s next.goes.within.b.run.log (log_of before) cut spans old.keeper.odometer t (seats_of old) nobody rings.ringed off cut-more slot (found_in (log_of after) s.number (In 0) slot)
+            (anew-by (log_of before) cut slot (found_in (log_of after) s.number (In 0) slot) first next.none (cut-found_ (other_slot slot) ∙ j.others) (cut-found_ slot)) (inr p.0) p.1 j.left (λ c. inr refl) in
+            cut-ends e o done s next.goes.within.b.run.log cut [] s.actions spans old.keeper.odometer t nobody nobody passed behind power refl (cut-is (log_of after) s.number 0 uncut) (λ c. inl refl))
+            (λ i. cut-anew d e o done s next.goes.within.b.run.log (log_of before) cut spans old.keeper.odometer t (seats_of old) rings.ringed off cut-more slot sat.0 sat.1 i.verdict
+            (anew-by (log_of before) cut slot (i.verdict ∷ []) first next.none (cut-found_ (other_slot slot) ∙ j.others) (cut-found_ slot ∙ i.found)) i.accepting behind power (cut-is (log_of after) s.number 0 uncut) (cut-failed (log_of after) s.number 0 uncut)
+            i.head i.writes i.inserts.long (of-sitter cut i.head (i.inserts.is cut)) j.left)
+            h);
+      }
 
   slot-ringed : RingsGoOn failed o done s next.goes.within.b.run.log [] new (log_of after) spans t e
   slot-ringed = by failed j.rings
@@ -332,4 +340,36 @@ codriver-ringed o done s b (Some card) old before d spans t w is bare at at_is s
 -- behind all of that
 pub woken-rings : (failed : Bool) (o : Origin) (done : List TraceSecond) (s : TraceSecond) (began log : RunLog) (spans : List SpanFrom) (t : Told) (run : Run) (later : RunLog) (d : Devices) → began ≡ log → RingsGoOn failed o done s began [] run later spans t d → RingsWoken failed log o done s spans run later d
 woken-rings false o done s began log spans t run later d same h = (t, subst (λ (l : RunLog). RingsWithin o done s l [] run later spans t d) same h)
-woken-rings true o done s began log spans t run later d same h = (spans_cut spans run.keeper.odometer (with_cut later s []) done s, h)
+woken-rings true o done s began log spans t run later d same h = (spans_cut spans run.keeper.odometer (with_cut later s []) done s, h.counted, h.ringed)
+
+-- ---- THE POWER-ON AS A WHOLE
+
+-- the unit failed in it, and the cut is told
+pub cut-ringed : (o : Origin) (done : List TraceSecond) (s : TraceSecond) (mid new : Run) (out after : Outcome) (d : Devices) (began : RunLog) (spans : List SpanFrom) → RingsWoken true began o done s spans mid (log_of out) d → CutEvented o done s new after d → new ≡ cut_run mid.next mid →
+    after ≡ record out { breaks = with_lines (cut_line mid.next true 0 ∷ []) out.breaks } → s.number ≡ mid.next → (n : ℕ) → InSecondRinged o done s n new after d
+cut-ringed o done s mid new out after d began spans fails cut is told number n =
+    let log : and_break (log_of out) (cut_at s.number true 0) ≡ log_of after = ap (λ (u : ℕ). and_break (log_of out) (cut_at u true 0)) number ∙ sym (ap log_of told) in
+    let next : suc s.number ≡ suc new.next = ap suc (number ∙ sym (ap (λ (r : Run). r.next) is)) in
+    let all : CutRinged o done s new after d = record {
+      evented = cut;
+      spans = fails.0;
+      counted = subst (λ (q : Outcome). new.noted ≤ length q.finds.items) (sym told) (subst (λ (r : Run). r.noted ≤ length out.finds.items) (sym is) fails.1);
+      ringed = subst (λ (m : ℕ). RingedBehind o (done ++ s ∷ []) (log_of after) m fails.0 nobody d) next
+          (subst (λ (l : RunLog). RingedBehind o (done ++ s ∷ []) l (suc s.number) fails.0 nobody d) log fails.2);
+    } in
+    subst (λ (b : Bool). InSecondRingedBy b o done s n new after d) (sym (ap is_lit cut.cut.lost)) all
+
+-- or the second goes on
+pub lit-woken : (o : Origin) (done : List TraceSecond) (s : TraceSecond) (run : Run) (out : Outcome) (d : Devices) (began : RunLog) (spans : List SpanFrom) → EventsWoken false began o done s run out d → RingsWoken false began o done s spans run (log_of out) d → InSecondRinged o done s 0 run out d
+lit-woken o done s run out d began spans woken rungs =
+    let all : WithinRinged o done s 0 run out d = record {
+      evented = woken.0;
+      front = [];
+      rest = s.actions;
+      are = refl;
+      number = refl;
+      spans = spans;
+      told = rungs.0;
+      rings = subst (λ (l : RunLog). RingsWithin o done s l [] run (log_of out) spans rungs.0 d) (sym woken.1) rungs.1;
+    } in
+    subst (λ (b : Bool). InSecondRingedBy b o done s 0 run out d) (sym (ap is_lit woken.0.within.lit)) all

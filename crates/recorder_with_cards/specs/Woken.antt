@@ -68,7 +68,7 @@ EventsWaking result speed old new before after d e = (o : Origin) (done : List T
 -- the cut leaves them that is told next
 abbrev pub RingsWoken : (failed : Bool) → (began : RunLog) → Origin → List TraceSecond → TraceSecond → List SpanFrom → Run → RunLog → Devices → Type 0
 RingsWoken false began o done s spans run log d = (t : Told) × RingsWithin o done s began [] run log spans t d
-RingsWoken true began o done s spans run log d = (now : List SpanFrom) × RingedBehind o (done ++ s ∷ []) (with_cut log s []) (suc s.number) now nobody d
+RingsWoken true began o done s spans run log d = (now : List SpanFrom) × (run.noted ≤ length log.finds) × RingedBehind o (done ++ s ∷ []) (with_cut log s []) (suc s.number) now nobody d
 
 -- THE UNIT WAS MENDED, and each card judged, behind seconds whose rings show what they noted.
 abbrev pub RingsResuming : (kept : ℕ) → (failed : Bool) → (old new : Run) → (before after : Outcome) → (d e : Devices) → Type 0

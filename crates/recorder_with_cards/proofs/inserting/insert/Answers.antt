@@ -221,7 +221,7 @@ returns-in_err-settle-clause-ringed g c = λ late room o done s now front rest a
     mid told e lines.lines (ap log_of settles.outcome ∙ ap (λ (bs : List Break). record (log_of out) { breaks = bs }) lines.are) (subst (λ (m : Moment). AreTears m lines.lines) at lines.tears)
     (settling-leaves c.args.at true (with_cabin c.put_in.new.self run) mid out told U V c.in_err-settle.ensures.noted)
     (more-left o d e (within.within.powered.lit.unit.unit_holds [] []).later within.within.there.clocks c.settle.ensures.keeps)
-    (fewer-seats put mid (ap (λ (r : Run). r.noted) settles.only) lines.sessions) lines.odometer in
+    (fewer-seats put mid (ap (λ (r : Run). r.noted) settles.only) lines.sessions) lines.odometer (ap (λ (r : Run). r.noted) settles.only) in
     let failed : true ≡ is_err c.from_residual.result = search rules in
     subst (λ (f : Bool). RingsGoOn f o done s within.within.b.run.log (front ++ Insert c.args.slot c.args.card ∷ []) mid (log_of told) spans t e) failed rung
 
@@ -260,9 +260,9 @@ returns-clause-ringed g c = λ late room o done s now front rest actions begun a
     let fewer = fewer-seats put mid noted lines.sessions in
     let counted : mid.noted ≤ length (log_of told).finds = let few = rings.counted in let same = ap (λ (l : RunLog). length l.finds) log in omega (arith, few, same, noted) in
     let j = next-judged c.args.slot c.args.card c.args.at c.args.speed run out d o done s now front rest actions c.requires.at begun late allowed within mid told false settles q.0 q.1 e records before refl seat (with_second spans run.keeper.odometer t)
-    (odometer-mid o done s front rest c.args.slot c.args.card actions run out d within spans t rings fine mid told e lines.lines log tears leaves left fewer lines.odometer (entering_by (length front) (Insert c.args.slot c.args.card)))
+    (odometer-mid o done s front rest c.args.slot c.args.card actions run out d within spans t rings fine mid told e lines.lines log tears leaves left fewer lines.odometer noted (entering_by (length front) (Insert c.args.slot c.args.card)))
     counted (is_err c.accept_in.result) c.accept_in.new.run c.accept_in.new.outcome last (c.accept_in.ensures.ringed (omega (arith, room, marks, rooms, was))) time in
-    inserted-ringed o done s front rest c.args.slot c.args.card actions run out d within spans t rings fine mid told e lines.lines log tears leaves left fewer lines.odometer
+    inserted-ringed o done s front rest c.args.slot c.args.card actions run out d within spans t rings fine mid told e lines.lines log tears leaves left fewer lines.odometer noted
     (is_err c.accept_in.result) c.accept_in.new.run c.accept_in.new.outcome last j
 
 -- ---- what is noted

@@ -956,7 +956,7 @@ returns-in_err-mend-clause-ringed g c = λ room o origin done s supply v r may n
     let cut = unpowered-ringed o done s q read.followed read.followed.power number given (devices W X Y) spans seats (subst (λ (l : RunLog). RingedBehind o done l s.number spans seats (devices W X Y)) log behind) run.keeper.odometer in
     let failed : true ≡ is_err c.from_residual.result = search rules in
     subst (λ (f : Bool). RingsWoken f (log_of out) o done s spans run (log_of out) (devices W X Y)) failed
-    (spans_cut spans run.keeper.odometer (with_cut q.log s []) done s, subst (λ (l : RunLog). RingedBehind o (done ++ s ∷ []) (with_cut l s []) (suc s.number) (spans_cut spans run.keeper.odometer (with_cut q.log s []) done s) nobody (devices W X Y)) (sym log) cut)
+    (spans_cut spans run.keeper.odometer (with_cut q.log s []) done s, counted, subst (λ (l : RunLog). RingedBehind o (done ++ s ∷ []) (with_cut l s []) (suc s.number) (spans_cut spans run.keeper.odometer (with_cut q.log s []) done s) nobody (devices W X Y)) (sym log) cut)
 
 pub returns-in_err-accept_anew-clause-ringed : goal.returns-in_err-accept_anew-clause-ringed
 returns-in_err-accept_anew-clause-ringed g c = λ room o origin done s supply v r may number given values spans seats ringed counted time.
