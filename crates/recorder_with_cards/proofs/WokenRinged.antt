@@ -13,8 +13,8 @@ use Rattle.unit_journal.specs.Mends.{IsMending}
 use Rattle.minute_model.specs.Span.{travelled_of}
 use Rattle.log_model.specs.declared.lines.Verdict.{Verdict}
 use Rattle.log_model.specs.Log.{RunLog, Phase, In, cut_in, is_torn_in, found_in, is_accepting}
-use Rattle.log_model.specs.Slots.{Slots, Sitting, in_slot, with_slot, other_slot}
-use Rattle.log_model.specs.Course.{Course, Told, Before, Moved, Visit, Went, visits, leaves, slot_told, both_told, has_power, went, second_told}
+use Rattle.log_model.specs.Slots.{Slots, Sitting, in_slot, other_slot}
+use Rattle.log_model.specs.Course.{Course, with_slot, Told, Before, Moved, Visit, Went, visits, leaves, slot_told, both_told, has_power, went, second_told}
 use Rattle.side_model.specs.Odometer.{SpanFrom, odometer_at}
 use Rattle.safety_model.specs.Safe.{Devices}
 use Rattle.unit_rule.specs.Odometer.{odometer_by}
@@ -35,7 +35,7 @@ use Rattle.run_events.proofs.Later.{told-number}
 use Rattle.run_moments.proofs.Reached.{TellsNothing, nothing-told}
 use Rattle.run_evented.proofs.Lines.{same-before}
 use Rattle.run_course.specs.Moments.{and_break}
-use Rattle.run_outcome.specs.Lines.{with_lines}
+use Rattle.run_keeping.specs.Keeping.{with_lines}
 use Rattle.run_outcome.specs.Lines.{cut_at as cut_line}
 use Rattle.run_outcome.specs.declared.outcome.Outcome.{Outcome}
 use Rattle.run_keeping.specs.declared.keeper.Moment.{Moment}
