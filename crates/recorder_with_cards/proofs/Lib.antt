@@ -3,6 +3,11 @@ pub mod EnteredTold
 pub mod EnteredAdds
 pub mod EnteredNamed
 pub mod EnteredEvented
+pub mod EnteredHolder
+pub mod EnteredLines
+pub mod EnteredRinged
+pub mod RingsHere
+pub mod InsertedRinged
 pub mod Spanned
 pub mod EnteredEvents
 pub mod Items
@@ -48,3 +53,4 @@ pub mod OffRings
 pub mod SecondsRinged
 pub mod BegunRinged
 pub mod SideShown
+pub mod WokenRinged

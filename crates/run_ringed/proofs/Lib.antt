@@ -10,3 +10,4 @@ pub mod Steps
 pub mod Stored
 pub mod Bases
 pub mod Booked
+pub mod Waking

@@ -2,3 +2,4 @@ pub mod Ringed
 pub mod SoFar
 pub mod Steps
 pub mod Stored
+pub mod Waking
