@@ -17,11 +17,13 @@ use Rattle.run_recorded.specs.Origin.{Origin}
 use Rattle.run_rings.specs.Spans.{with_second}
 use Rattle.run_ringed.specs.Ringed.{Seating}
 use Rattle.run_ringed.specs.SoFar.{RingedBehind, IsSecond, RingedIn}
+use Rattle.run_ringed.specs.Stored.{StoresOn, Stores}
 use Rattle.run_ringed.proofs.SoFar.{second-begins}
+use Rattle.run_ringed.proofs.Bases.{stored-next}
 use Rattle.run_acts.specs.declared.run.Run.{Run}
 use Rattle.run_acts.specs.declared.run.Power.{Power}
 use Rattle.run_acts.specs.declared.run.Power.TheVariants.{Lit}
-use Rattle.run_acts.specs.Power.{over_by, minute_over}
+use Rattle.run_acts.specs.Power.{is_lit, over_by, minute_over}
 use Rattle.run_acts.specs.Going.{first_second, IsLit}
 use Rattle.run_acts.specs.Recording.{log_of, Supplies, RunRecorded}
 use Rattle.run_acts.specs.RunRinged.{seats_of, IsLastFrom, RunRinged, RingsWithin, WithinRinged}
@@ -40,6 +42,10 @@ over-seats false run = refl
 over-noted : (b : Bool) (run : Run) → (over_by b run).noted ≡ run.noted
 over-noted true run = refl
 over-noted false run = refl
+
+over-unfound : (b : Bool) (run : Run) → (over_by b run).unfound ≡ run.unfound
+over-unfound true run = refl
+over-unfound false run = refl
 
 over-odometer : (b : Bool) (run : Run) → (over_by b run).keeper.odometer ≡ run.keeper.odometer
 over-odometer true run = refl
@@ -73,6 +79,10 @@ module _ (o : Origin) (done : List TraceSecond) (s : TraceSecond) (run : Run) (o
         ringed = subst (λ (n : ℕ). RingedIn o done s log [] log h.spans n t (seats_of (minute_over run)) d) (sym (over-odometer over run))
             (subst (λ (seats : Card → Option Seating). RingedIn o done s log [] log h.spans odometer t seats d) (sym (over-seats over run)) now);
       } in
+      let was : StoresOn o log run.unfound odometer h.spans = subst (λ (p : Power). Stores (is_lit p) o log run.unfound odometer h.spans d) lit h.stored in
+      let unfound : run.unfound ≡ e.0.within.within.b.run.unfound = sym (over-unfound over run) ∙ e.0.within.within.unfound in
+      let next : StoresOn o log e.0.within.within.b.run.unfound odometer (with_second h.spans odometer t) =
+      subst (λ (n : ℕ). StoresOn o log n odometer (with_second h.spans odometer t)) unfound (stored-next o log run.unfound odometer odometer h.spans t second.lit starts was) in
       record {
         evented = e.0;
         front = [];
@@ -82,4 +92,6 @@ module _ (o : Origin) (done : List TraceSecond) (s : TraceSecond) (run : Run) (o
         spans = h.spans;
         told = t;
         rings = subst (λ (l : RunLog). RingsWithin o done s l [] (minute_over run) log h.spans t d) (sym e.1) rings;
+        stored = subst (λ (l : RunLog). StoresOn o l e.0.within.within.b.run.unfound (minute_over run).keeper.odometer (with_second h.spans (minute_over run).keeper.odometer t)) (sym e.1)
+            (subst (λ (n : ℕ). StoresOn o log e.0.within.within.b.run.unfound n (with_second h.spans n t)) (sym (over-odometer over run)) next);
       }

@@ -57,8 +57,10 @@ use Rattle.run_evented.specs.Evented.{limit_in, Evented}
 use Rattle.run_evented.proofs.Ends.{nothing-noted, events-shown}
 use Rattle.run_ringed.specs.Ringed.{Seating, Ringed, notes_in, ShowsRingsOf}
 use Rattle.run_ringed.specs.SoFar.{AreEarlier, RingedBehind}
+use Rattle.run_ringed.specs.Stored.{StoresOff, Stores}
 use Rattle.run_ringed.proofs.Rings.{none-noted, fewer-sit}
 use Rattle.run_ringed.proofs.Shown.{rings-shown}
+use Rattle.run_ringed.proofs.Bases.{stored-start}
 use Rattle.run_within.specs.Recorded.{Values, progress, carried, AreThere, IsHeldBy, Recorded}
 use Rattle.run_within.specs.Going.{MayStart}
 use Rattle.run_within.proofs.Going.{begun-recorded}
@@ -73,6 +75,7 @@ use Rattle.run_outcome.specs.declared.outcome.Outcome.{Outcome}
 use Rattle.run_acts.specs.declared.run.Run.{Run}
 use Rattle.run_acts.specs.declared.run.Power.{Power}
 use Rattle.run_acts.specs.declared.run.Power.TheVariants.{Lit, Due, Lost}
+use Rattle.run_acts.specs.Power.{is_lit}
 use Rattle.run_acts.specs.Recording.{log_of, values_of, IsOrigin, Supplies, RunRecorded}
 use Rattle.run_acts.specs.Evented.{RunEvented}
 use Rattle.run_acts.specs.Ringing.{seating_of}
@@ -335,6 +338,7 @@ module _ (x a b : List ℕ) (start : ℕ) (began now : Devices) (opened : Opened
       base = λ lit. absurd (let bad : Due ≡ Lit = sym due ∙ lit in cc);
       counted = omega (arith, noted);
       ringed = rings-behind (log_of out) run.next (seats_of run) (λ c. ap (λ (session : Option Accepted). option_map (seating_of run.noted) session) (bare c));
+      stored = subst (λ (p : Power). Stores (is_lit p) first-o (log_of out) run.unfound run.keeper.odometer [] now) (sym due) (subst (λ (n : ℕ). StoresOff first-o (log_of out) n [] now) (sym unfound) (stored-start first-o (log_of out) now only_unit));
     }
       where
         rings-behind : (log : RunLog) (n : ℕ) (seats : Card → Option Seating) → ((c : Card) → seats c ≡ None) → RingedBehind first-o [] log n [] seats now

@@ -14,6 +14,7 @@ use Rattle.side_model.specs.Odometer.{SpanFrom}
 use Rattle.unit_course.specs.Followed.{Supply}
 use Rattle.unit_course.specs.Followed.{Lit as IsLit, Due as IsDue, Lost as IsLost}
 use Rattle.unit_course.specs.Lines.{cut_at}
+use Rattle.unit_course.specs.Turn.{cut_last}
 use Rattle.safety_model.specs.Safe.{Devices}
 use Rattle.run_course.specs.Moments.{and_break}
 use Rattle.run_course.specs.Followed.{Progress, Followed}
@@ -31,13 +32,16 @@ use Rattle.run_within.specs.Recorded.{progress}
 use Rattle.run_evented.proofs.Unlit.{acted-last, off-last, behind-more}
 use Rattle.run_ringed.specs.Ringed.{Seating}
 use Rattle.run_ringed.specs.SoFar.{RingedBehind, AreFewer, GoesBehind}
+use Rattle.run_ringed.specs.Stored.{StoresOff, Stores}
 use Rattle.run_ringed.proofs.SoFar.{dark-ends}
+use Rattle.run_ringed.proofs.Bases.{stored-dark}
 use Rattle.run_acts.specs.declared.run.Run.{Run}
 use Rattle.run_acts.specs.declared.run.Power.{Power}
 use Rattle.run_acts.specs.declared.run.Power.TheVariants.{Lit, Due, Lost}
 use Rattle.run_acts.specs.Power.{is_lit, has_power as has_by, darkened, off_run, off_cut, passed}
 use Rattle.run_acts.specs.Recording.{log_of, values_of, Supplies, RunRecorded}
 use Rattle.run_acts.specs.RunRinged.{seats_of, RunRinged}
+use Rattle.run_acts.proofs.StoredRun.{run-off}
 use Rattle.recorder_with_cards.proofs.SecondsRecorded.{refused_dark, lost-away, lost-supply}
 use Rattle.recorder_with_cards.proofs.SecondsEvented.{dark-evented, off-evented}
 use Rattle.recorder_with_cards.proofs.OffRings.{cut_off, off-cut-rings}
@@ -110,6 +114,17 @@ dark-noted : (lit : Bool) (run : Run) → (darkened lit run).noted ≡ run.noted
 dark-noted true run = refl
 dark-noted false run = refl
 
+-- nor fewer cuts found
+dark-unfound : (lit : Bool) (run : Run) → (darkened lit run).unfound ≡ run.unfound
+dark-unfound true run = refl
+dark-unfound false run = refl
+
+-- the last span ends with a cut
+cut-off-last : (earlier : List SpanFrom) (base : ℕ) (span : List Told) → cut_off (earlier ++ record { base = base; span = span } ∷ []) ≡ earlier ++ record { base = base; span = cut_last span } ∷ []
+cut-off-last [] base span = refl
+cut-off-last (x ∷ []) base span = refl
+cut-off-last (x ∷ y ∷ earlier) base span = ap (λ (l : List SpanFrom). x ∷ l) (cut-off-last (y ∷ earlier) base span)
+
 -- ---- of a run
 
 module _ (o : Origin) (done : List TraceSecond) (old : Run) (before : Outcome) (d : Devices) (h : RunRinged o done old before d) where
@@ -130,6 +145,9 @@ module _ (o : Origin) (done : List TraceSecond) (old : Run) (before : Outcome) (
       let lines : List Refused = before.refused.items ++ refused_dark old.next actions in
       let one : RingedBehind o (done ++ driven (suc n) old.next speed actions) (record (log_of before) { refused = lines }) (old.next + suc n) h.spans (seats_of old) d =
       rings-lost o done p r.recorded.recorded.followed d h.spans (seats_of old) h.ringed supply speed actions lines none.1 n fits in
+      let was : StoresOff o (log_of before) old.unfound h.spans d = subst (λ (q : Power). Stores (is_lit q) o (log_of before) old.unfound old.keeper.odometer h.spans d) none.0 h.stored in
+      let off : StoresOff o (log_of after) old.unfound h.spans d = subst (λ (q : Outcome). StoresOff o (log_of q) old.unfound h.spans d) (sym told)
+      (stored-dark o (log_of before) (record (log_of before) { refused = lines }) old.unfound h.spans d r.recorded.recorded.followed.unfound ([], sym (append-nil (log_of before).breaks)) was) in
       record {
         evented = dark-evented o done old before d h.evented (suc n) speed begun actions some away_ fits new after is told;
         spans = h.spans;
@@ -137,6 +155,7 @@ module _ (o : Origin) (done : List TraceSecond) (old : Run) (before : Outcome) (
         counted = let was = h.counted in let noted = ap (λ (x : Run). x.noted) is in let many = ap (λ (q : Outcome). length q.finds.items) told in omega (arith, was, noted, many);
         ringed = subst (λ (x : Run). RingedBehind o (done ++ driven (suc n) old.next speed actions) (log_of after) x.next h.spans (seats_of x) d) (sym is)
             (subst (λ (q : Outcome). RingedBehind o (done ++ driven (suc n) old.next speed actions) (log_of q) (old.next + suc n) h.spans (seats_of old) d) (sym told) one);
+        stored = subst (λ (q : Power). Stores (is_lit q) o (log_of after) new.unfound new.keeper.odometer h.spans d) (sym power) (subst (λ (x : Run). StoresOff o (log_of after) x.unfound h.spans d) (sym is) off);
       }
 
   -- AN `off` LINE
@@ -152,35 +171,45 @@ module _ (o : Origin) (done : List TraceSecond) (old : Run) (before : Outcome) (
         counted = let was = h.counted in let noted = ap (λ (x : Run). x.noted) is ∙ dark-noted (is_lit old.power) old in omega (arith, was, noted);
         ringed = subst (λ (x : Run). RingedBehind o (done ++ dark (suc n) old.next) (log_of (record before { breaks = breaks })) x.next rings.0 (seats_of x) d) (sym is)
             (subst (λ (l : Listed Break). RingedBehind o (done ++ dark (suc n) old.next) (log_of (record before { breaks = l })) (old.next + suc n) rings.0 (seats_of (off_run (suc n) old)) d) (sym told) rings.1);
+        stored = subst (λ (q : Power). Stores (is_lit q) o (log_of (record before { breaks = breaks })) new.unfound new.keeper.odometer rings.0 d) (sym power)
+            (subst (λ (k : ℕ). StoresOff o (log_of (record before { breaks = breaks })) k rings.0 d) (sym (ap (λ (x : Run). x.unfound) is ∙ dark-unfound (is_lit old.power) old))
+            (subst (λ (l : Listed Break). StoresOff o (log_of (record before { breaks = l })) old.unfound rings.0 d) (sym told) rings.2));
       }
     where
       plain : RingedBehind o (done ++ dark (suc n) old.next) (log_of before) (old.next + suc n) h.spans (seats_of old) d →
           RingedBehind o (done ++ dark (suc n) old.next) (log_of (record before { breaks = with_lines [] before.breaks })) (old.next + suc n) h.spans (seats_of old) d
       plain e = subst (λ (l : Listed Break). RingedBehind o (done ++ dark (suc n) old.next) (log_of (record before { breaks = l })) (old.next + suc n) h.spans (seats_of old) d) (no-lines before.breaks) e
 
-      so : (q : Power) (s : Supply) → r.supply ≡ s → Supplies q s →
+      plain-off : StoresOff o (log_of before) old.unfound h.spans d → StoresOff o (log_of (record before { breaks = with_lines [] before.breaks })) old.unfound h.spans d
+      plain-off e = subst (λ (l : Listed Break). StoresOff o (log_of (record before { breaks = l })) old.unfound h.spans d) (no-lines before.breaks) e
+
+      so : (q : Power) (s : Supply) → r.supply ≡ s → Supplies q s → old.power ≡ q → Stores (is_lit q) o (log_of before) old.unfound old.keeper.odometer h.spans d →
           (spans : List SpanFrom) × RingedBehind o (done ++ dark (suc n) old.next) (log_of (record before { breaks = with_lines (off_cut (is_lit q) (old.next - 1) old.begun) before.breaks })) (old.next + suc n) spans
           (seats_of (record (darkened (is_lit q) old) { power = Due; next = old.next + suc n; begun = 0 })) d
-      so Lit (IsLit []) at powers = absurd powers
-      so Lit (IsLit (t ∷ span)) at powers =
+          × StoresOff o (log_of (record before { breaks = with_lines (off_cut (is_lit q) (old.next - 1) old.begun) before.breaks })) old.unfound spans d
+      so Lit (IsLit []) at powers power_is st = absurd powers
+      so Lit (IsLit (t ∷ span)) at powers power_is st =
           let lit : Run = record (darkened true old) { power = Due; next = old.next + suc n; begun = 0 } in
           let f = with-supply (rule_of o) (start_at o) o.from (first_of o) done p (IsLit (t ∷ span)) at r.recorded.recorded.followed in (
             cut_off h.spans,
             rings-off o d (and_break (log_of before) (cut_at (old.next - 1) false old.begun)) (cut_off h.spans) (seats_of lit) n done old.next
                 (off-cut-rings (rule_of o) (start_at o) o.from (first_of o) done p t span f o d h.spans (seats_of old) (seats_of lit) h.ringed (λ c. inr (dark-seats (suc n) old c))),
+            run-off o done old before d r power_is h.spans h.ringed.spans_are st (cut_off h.spans) (λ earlier base span same. ap cut_off same ∙ cut-off-last earlier base span),
           )
-      so Lit IsDue at powers = absurd powers
-      so Lit IsLost at powers = absurd powers
-      so Due (IsLit span) at powers = absurd powers
-      so Due IsDue at powers = (h.spans, plain (rings-off o d (log_of before) h.spans (seats_of old) n done old.next h.ringed))
-      so Due IsLost at powers = absurd powers
-      so Lost (IsLit span) at powers = absurd powers
-      so Lost IsDue at powers = absurd powers
-      so Lost IsLost at powers = (h.spans, plain (rings-off o d (log_of before) h.spans (seats_of old) n done old.next h.ringed))
+      so Lit IsDue at powers power_is st = absurd powers
+      so Lit IsLost at powers power_is st = absurd powers
+      so Due (IsLit span) at powers power_is st = absurd powers
+      so Due IsDue at powers power_is st = (h.spans, plain (rings-off o d (log_of before) h.spans (seats_of old) n done old.next h.ringed), plain-off st)
+      so Due IsLost at powers power_is st = absurd powers
+      so Lost (IsLit span) at powers power_is st = absurd powers
+      so Lost IsDue at powers power_is st = absurd powers
+      so Lost IsLost at powers power_is st = (h.spans, plain (rings-off o d (log_of before) h.spans (seats_of old) n done old.next h.ringed), plain-off st)
 
       by : (q : Power) → old.power ≡ q → (s : Supply) → r.supply ≡ s → Supplies old.power s →
           (spans : List SpanFrom) × RingedBehind o (done ++ dark (suc n) old.next) (log_of (record before { breaks = with_lines (off_cut (is_lit old.power) (old.next - 1) old.begun) before.breaks })) (old.next + suc n) spans (seats_of (off_run (suc n) old)) d
+          × StoresOff o (log_of (record before { breaks = with_lines (off_cut (is_lit old.power) (old.next - 1) old.begun) before.breaks })) old.unfound spans d
       by q is_ s at powers =
           subst (λ (x : Power). (spans : List SpanFrom) × RingedBehind o (done ++ dark (suc n) old.next) (log_of (record before { breaks = with_lines (off_cut (is_lit x) (old.next - 1) old.begun) before.breaks })) (old.next + suc n) spans
-          (seats_of (record (darkened (is_lit x) old) { power = Due; next = old.next + suc n; begun = 0 })) d) (sym is_)
-          (so q s at (subst (λ (x : Power). Supplies x s) is_ powers))
+          (seats_of (record (darkened (is_lit x) old) { power = Due; next = old.next + suc n; begun = 0 })) d
+          × StoresOff o (log_of (record before { breaks = with_lines (off_cut (is_lit x) (old.next - 1) old.begun) before.breaks })) old.unfound spans d) (sym is_)
+          (so q s at (subst (λ (x : Power). Supplies x s) is_ powers) is_ (subst (λ (x : Power). Stores (is_lit x) o (log_of before) old.unfound old.keeper.odometer h.spans d) is_ h.stored))
