@@ -341,9 +341,9 @@ codriver-ringed o done s b (Some card) old before d spans t w is bare at at_is s
     (λ is_driver. driver-first is_driver) spans t w.rings at at_is failed rings time
 
 -- behind all of that
-pub woken-rings : (failed : Bool) (o : Origin) (done : List TraceSecond) (s : TraceSecond) (began log : RunLog) (spans : List SpanFrom) (t : Told) (run : Run) (later : RunLog) (d : Devices) → began ≡ log → RingsGoOn failed o done s began [] run later spans t d → RingsWoken failed log o done s spans run later d
-woken-rings false o done s began log spans t run later d same h = (t, subst (λ (l : RunLog). RingsWithin o done s l [] run later spans t d) same h)
-woken-rings true o done s began log spans t run later d same h = (spans_cut spans run.keeper.odometer (with_cut later s []) done s, h.counted, h.ringed)
+pub woken-rings : (failed : Bool) (o : Origin) (done : List TraceSecond) (s : TraceSecond) (b : Beginning) (log : RunLog) (spans : List SpanFrom) (t : Told) (run : Run) (later : RunLog) (d : Devices) → b.run.log ≡ log → RingsGoOn failed o done s b [] run later spans t d → RingsWoken failed log o done s spans run later d
+woken-rings false o done s b log spans t run later d same h = (t, subst (λ (l : RunLog). RingsWithin o done s l [] run later spans t d) same h)
+woken-rings true o done s b log spans t run later d same h = (spans_cut spans run.keeper.odometer (with_cut later s []) done s, h.counted, h.ringed)
 
 -- ---- THE POWER-ON AS A WHOLE
 

@@ -1003,7 +1003,7 @@ returns-in_err-accept_anew-clause-ringed g c = λ room o origin done s supply v 
     (c.accept_anew.ensures.ringed (omega (arith, room, few))) in
     let failed : is_err c.accept_anew.result ≡ is_err c.from_residual-in_err-accept_anew.result = search rules in
     subst (λ (f : Bool). RingsWoken f (log_of out) o done s spans one (log_of out1) (devices V1 X1 Y1)) failed
-    (woken-rings (is_err c.accept_anew.result) o done s woke.0.run.log (log_of out) spans t one (log_of out1) (devices V1 X1 Y1) log0 one_ringed)
+    (woken-rings (is_err c.accept_anew.result) o done s woke.0 (log_of out) spans t one (log_of out1) (devices V1 X1 Y1) log0 one_ringed)
 
 pub returns-in_err-accept_anew-2-clause-ringed : goal.returns-in_err-accept_anew-2-clause-ringed
 returns-in_err-accept_anew-2-clause-ringed g c = λ room o origin done s supply v r may number given values spans seats ringed counted time.
@@ -1075,7 +1075,7 @@ returns-in_err-accept_anew-2-clause-ringed g c = λ room o origin done s supply 
     (c.accept_anew-2.ensures.ringed (omega (arith, room, few, few_too, none_waits, waits_none, marks, same_room))) in
     let failed : is_err c.accept_anew-2.result ≡ is_err c.from_residual-in_err-accept_anew-2.result = search rules in
     subst (λ (f : Bool). RingsWoken f (log_of out) o done s spans two (log_of out2) (devices V2 X2 Y2)) failed
-    (woken-rings (is_err c.accept_anew-2.result) o done s woke.0.run.log (log_of out) spans t two (log_of out2) (devices V2 X2 Y2) log0 two_ringed)
+    (woken-rings (is_err c.accept_anew-2.result) o done s woke.0 (log_of out) spans t two (log_of out2) (devices V2 X2 Y2) log0 two_ringed)
 
 pub returns-then-is_first-clause-ringed : goal.returns-then-is_first-clause-ringed
 returns-then-is_first-clause-ringed g c = λ room o origin done s supply v r may number given values spans seats ringed counted time.
@@ -1146,7 +1146,7 @@ returns-then-is_first-clause-ringed g c = λ room o origin done s supply v r may
     (λ none P. same-devices P g.M.Medium.state g.C.Chip.state g.D.Chip.state c.accept_anew.new.unit c.accept_anew-2.new.unit c.accept_anew.new.card_a c.accept_anew-2.new.card_a c.accept_anew.new.card_b c.accept_anew-2.new.card_b (c.accept_anew-2.ensures.still none)) time recorded_two
     (c.accept_anew-2.ensures.ringed (omega (arith, room, few, few_too, none_waits, waits_none, marks, same_room))) in
     let fine : is_err c.accept_anew-2.result ≡ false = search rules in
-    woken-rings false o done s woke.0.run.log (log_of out) spans t two (log_of out2) (devices V2 X2 Y2) log0 (subst (λ (f : Bool). RingsGoOn f o done s woke.0 [] two (log_of out2) spans t (devices V2 X2 Y2)) fine two_ringed)
+    woken-rings false o done s woke.0 (log_of out) spans t two (log_of out2) (devices V2 X2 Y2) log0 (subst (λ (f : Bool). RingsGoOn f o done s woke.0 [] two (log_of out2) spans t (devices V2 X2 Y2)) fine two_ringed)
 
 pub returns-clause-ringed : goal.returns-clause-ringed
 returns-clause-ringed g c = λ room o origin done s supply v r may number given values spans seats ringed counted time.
