@@ -1228,7 +1228,7 @@ returns-clause-ringed g c = λ room o origin done s supply v r may number given 
     let began = both.waking.began in
     let rings = subst (λ (b : Beginning). RingsWithin o done s b.run.log [] two (log_of out2) spans t (devices V2 X2 Y2)) (sym began)
     (subst (λ (f : Bool). RingsGoOn f o done s woke.0 [] two (log_of out2) spans t (devices V2 X2 Y2)) fine two_ringed) in
-    woken-rings (is_err c.note_gap.result) o done s x.within.b.run.log (log_of out) spans t c.note_gap.new.run (log_of (record out2 { breaks = c.note_gap.new.breaks })) (devices V3 X3 Y3) (ap (λ (b : Beginning). b.run.log) began ∙ log0)
+    woken-rings (is_err c.note_gap.result) o done s x.within.b (log_of out) spans t c.note_gap.new.run (log_of (record out2 { breaks = c.note_gap.new.breaks })) (devices V3 X3 Y3) (ap (λ (b : Beginning). b.run.log) began ∙ log0)
     (c.note_gap.ensures.ringed o done s out2 x comes spans t rings)
 
 -- ---- what holds of the devices after any calls
