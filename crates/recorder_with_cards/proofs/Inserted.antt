@@ -9,7 +9,7 @@ use Rattle.trace_model.specs.declared.Action.{Action}
 use Rattle.trace_model.specs.declared.Action.TheVariants.{Insert}
 use Rattle.trace_model.specs.Trace.{TraceSecond}
 use Rattle.minute_model.specs.declared.Minute.{Minute}
-use Rattle.minute_model.specs.Span.{Span, settled, decided_in}
+use Rattle.minute_model.specs.Span.{Span, settled, decided_in, travelled_of}
 use Rattle.minute_rules.specs.Kept.{StandsFor}
 use Rattle.log_model.specs.declared.lines.Break.{Break}
 use Rattle.activity_codec.specs.Activity.{same_slot}
@@ -17,7 +17,9 @@ use Rattle.log_model.specs.Log.{In, found_in}
 use Rattle.log_model.specs.Slots.{refusal, other_slot}
 use Rattle.log_model.specs.Course.{Visit}
 use Rattle.unit_model.specs.Image.{odometer_at}
-use Rattle.unit_rule.specs.Odometer.{odometer_after}
+use Rattle.unit_rule.specs.Odometer.{odometer_by, odometer_after}
+use Rattle.side_model.specs.Odometer.{SpanFrom}
+use Rattle.side_model.specs.Odometer as side
 use Rattle.safety_model.specs.Safe.{Devices}
 use Rattle.slot_machine.specs.Calls.{seat_in, logged}
 use Rattle.run_moments.specs.Reached.{IsTearAt}
@@ -42,6 +44,7 @@ use Rattle.run_acts.specs.Recording.{log_of, values_of, RunWithin, RunFails, Goe
 use Rattle.run_acts.specs.Settling.{settled_run, RecordsSettling, SettlesTo, IsSettledIn}
 use Rattle.recorder_with_cards.specs.Accepting.{put_run}
 use Rattle.recorder_with_cards.specs.Judged.{moment_in, RunNext, JudgesSo, IsInTurn, EventsJudged}
+use Rattle.recorder_with_cards.specs.JudgedRings.{RingsJudged, IsJudgedInRings}
 use Rattle.recorder_with_cards.proofs.ActsRecorded.{refuses}
 use Rattle.recorder_with_cards.proofs.Resumed.{judged-as}
 
@@ -91,7 +94,7 @@ module _ (slot : Slot) (card : Card) (at : Moment) (speed : ℕ) (old : Run) (be
   abbrev n : ℕ
   n = length front
 
-  at-is : at ≡ moment_in s (suc n)
+  pub at-is : at ≡ moment_in s (suc n)
   at-is =
       ap (λ (x : ℕ). record { second = x; begun = at.begun; late = at.late }) (second ∙ sym now.number)
       ∙ ap (λ (x : ℕ). record { second = s.number; begun = x; late = at.late }) begun
@@ -153,6 +156,13 @@ module _ (slot : Slot) (card : Card) (at : Moment) (speed : ℕ) (old : Run) (be
             subst (λ (m : ℕ). GoesOnOrFails judged_failed o done s (In m) [] new after later h.within.b) (sym begun)
             (subst (λ (b : Beginning). GoesOnOrFails judged_failed o done s (In (suc n)) [] new after later b) (on.began ∙ put.goes.began)
             (judged-as judged_failed o done s (suc n) waits mid new told after e later on.goes (judges o done s (suc n) waits [] at-is next end)))
+
+        -- its insertion in the rings, where the odometer of then is that of these spans
+        pub next-judged : (spans : List SpanFrom) → ((w : RunWithin o done s (In (suc (length front))) (entering_by (length front) (Insert slot card)) [] mid told e) → w.within.b ≡ h.within.b → odometer_by mid.keeper.odometer (travelled_of w.within.sp) ≡ side.odometer_at s.number spans) →
+            mid.noted ≤ length (log_of told).finds → (judged_failed : Bool) (new : Run) (after : Outcome) (later : Devices) → RingsJudged slot card at judged_failed mid new told after e later → HaveTime later →
+            IsJudgedInRings judged_failed o s (suc (length front)) slot card spans mid new told after e later
+        next-judged spans odometer counted judged_failed new after later judges end =
+            judges o done s (suc n) waits [] at-is next spans (odometer on.goes (on.began ∙ put.goes.began)) counted end
 
   -- ---- ITS EVENTS
 

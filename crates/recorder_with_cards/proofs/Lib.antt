@@ -3,6 +3,11 @@ pub mod EnteredTold
 pub mod EnteredAdds
 pub mod EnteredNamed
 pub mod EnteredEvented
+pub mod EnteredHolder
+pub mod EnteredLines
+pub mod EnteredRinged
+pub mod RingsHere
+pub mod InsertedRinged
 pub mod Spanned
 pub mod EnteredEvents
 pub mod Items
@@ -42,6 +47,7 @@ pub mod Uncut
 pub mod WholeOdometer
 pub mod GapEvented
 pub mod WokenEvented
+pub mod WokenRinged
 pub mod RingsHeld
 pub mod ActsRinged
 pub mod OffRings

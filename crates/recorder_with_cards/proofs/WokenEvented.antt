@@ -185,8 +185,8 @@ anew-limit (Some card) slot at speed old new before after is = (ap (λ (k : Keep
 -- ---- HOW IT ENDS
 
 -- the unit has failed, and a cut is told next
-pub woken-fails : (o : Origin) (done : List TraceSecond) (s : TraceSecond) (p : Progress) (stage : Stage) (run : Run) (out : Outcome) (d : Devices) → EventsGoOn true o done s p (In 0) stage (log_of out) d → p.unfound ≡ run.unfound → p.next ≡ run.next → run.keeper.memory.limit ≡ limit_in o → EventsWoken true o done s run out d
-woken-fails o done s p stage run out d h unfound next limit =
+pub woken-fails : (o : Origin) (done : List TraceSecond) (s : TraceSecond) (p : Progress) (stage : Stage) (run : Run) (out : Outcome) (d : Devices) (began : RunLog) → EventsGoOn true o done s p (In 0) stage (log_of out) d → p.unfound ≡ run.unfound → p.next ≡ run.next → run.keeper.memory.limit ≡ limit_in o → EventsWoken true began o done s run out d
+woken-fails o done s p stage run out d began h unfound next limit =
     (subst (λ (n : ℕ). Evented o (done ++ s ∷ []) (and_break (log_of out) (cut_at s.number true 0)) run.unfound (suc n) IsLost d) next (subst (λ (n : ℕ). Evented o (done ++ s ∷ []) (and_break (log_of out) (cut_at s.number true 0)) n (suc p.next) IsLost d) unfound h), limit)
 
 -- a span that begins is watched from nothing on
@@ -200,14 +200,16 @@ span-none o done s p b =
 
 -- it goes on, and all is noted
 pub woken-on : (o : Origin) (done : List TraceSecond) (s : TraceSecond) (b : Beginning) (run : Run) (out : Outcome) (d : Devices) → b.span ≡ [] → (x : RunWithin o done s (In 0) [] [] run out d) → x.within.b ≡ b → EventedNow o done s b.run Acting (log_of out) d → run.keeper.memory.limit ≡ limit_in o →
-    (w : IsWatching o [] run.watch) → WithinEvented o done s (In 0) [] [] Acting run out d
-woken-on o done s b run out d empty x is now limit watch =
-    let begins : BeginsNow o done x.within.b.run [] s = subst (λ (span : _). BeginsNow o done x.within.b.run span s) (ap (λ (y : Beginning). y.span) is ∙ empty) (record { followed = x.within.began.followed; lit = x.within.lit; number = x.within.moment.number; given = x.within.moment.given }) in
-    record {
-      within = x;
-      evented = subst (λ (y : Beginning). EventedNow o done s y.run Acting (log_of out) d) (sym is) now;
-      watches = record { limit = limit; watched = subst (λ (span : List Seen). IsWatching o span run.watch) (sym (span-none o done s x.within.b.run begins)) watch };
-    }
+    IsWatching o [] run.watch → (began : RunLog) → x.within.b.run.log ≡ began → EventsWoken false began o done s run out d
+woken-on o done s b run out d empty x is now limit watch began log =
+    let begins : BeginsNow o done x.within.b.run [] s = subst (λ (span : _). BeginsNow o done x.within.b.run span s) (ap (λ (y : Beginning). y.span) is ∙ empty) (record { followed = x.within.began.followed; lit = x.within.lit; number = x.within.moment.number; given = x.within.moment.given }) in (
+      record {
+        within = x;
+        evented = subst (λ (y : Beginning). EventedNow o done s y.run Acting (log_of out) d) (sym is) now;
+        watches = record { limit = limit; watched = subst (λ (span : List Seen). IsWatching o span run.watch) (sym (span-none o done s x.within.b.run begins)) watch };
+      },
+      log,
+    )
 
 -- ---- THE WHOLE OF IT
 
@@ -279,9 +281,9 @@ begun-watched o old mid new journal begun limit same =
 
 -- behind the note of the interruption
 pub woken-ends : (o : Origin) (done : List TraceSecond) (s : TraceSecond) (b : Beginning) → b.span ≡ [] → (failed : Bool) (run : Run) (out : Outcome) (d : Devices) → GoesOnOrFails failed o done s (In 0) [] run out d b → EventsGoOn failed o done s b.run (In 0) Acting (log_of out) d →
-    b.run.unfound ≡ run.unfound → b.run.next ≡ run.next → run.keeper.memory.limit ≡ limit_in o → IsWatching o [] run.watch → EventsWoken failed o done s run out d
-woken-ends o done s b empty false run out d goes now unfound next limit watch = woken-on o done s b run out d empty goes.goes goes.began now limit watch
-woken-ends o done s b empty true run out d goes cut unfound next limit watch = woken-fails o done s b.run Acting run out d cut unfound next limit
+    b.run.unfound ≡ run.unfound → b.run.next ≡ run.next → run.keeper.memory.limit ≡ limit_in o → IsWatching o [] run.watch → (began : RunLog) → b.run.log ≡ began → EventsWoken failed began o done s run out d
+woken-ends o done s b empty false run out d goes now unfound next limit watch began log = woken-on o done s b run out d empty goes.goes goes.began now limit watch began (ap (λ (y : Beginning). y.run.log) goes.began ∙ log)
+woken-ends o done s b empty true run out d goes cut unfound next limit watch began log = woken-fails o done s b.run Acting run out d began cut unfound next limit
 
 -- the note leaves the memory as it was
 noted-memory : (who : Option Card) (slot : Slot) (at : Moment) (old new : Run) (breaks after : Listed Break) (fell : Bool) → IsNotedIn who slot at old new breaks after fell → new.keeper.memory ≡ old.keeper.memory
@@ -320,9 +322,9 @@ some-told n k bs items is some none =
     omega (arith, some, no)
 
 -- the cut is told
-pub cut-woken : (o : Origin) (done : List TraceSecond) (s : TraceSecond) (mid new : Run) (out after : Outcome) (d : Devices) → EventsWoken true o done s mid out d → RunCut o done s new after d → new ≡ cut_run mid.next mid →
+pub cut-woken : (o : Origin) (done : List TraceSecond) (s : TraceSecond) (mid new : Run) (out after : Outcome) (d : Devices) (began : RunLog) → EventsWoken true began o done s mid out d → RunCut o done s new after d → new ≡ cut_run mid.next mid →
     after ≡ record out { breaks = with_lines (cut_at mid.next true 0 ∷ []) out.breaks } → s.number ≡ mid.next → CutEvented o done s new after d
-cut-woken o done s mid new out after d fails cut is told number =
+cut-woken o done s mid new out after d began fails cut is told number =
     let log : and_break (log_of out) (cut_at s.number true 0) ≡ log_of after = ap (λ (u : ℕ). and_break (log_of out) (cut_at u true 0)) number ∙ sym (ap log_of told) in
     record {
       cut = cut;

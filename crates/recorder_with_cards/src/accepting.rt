@@ -10,6 +10,7 @@ ghost use Rattle.run_acts.specs.Room.{falls_of, bare_count, Takes};
 ghost use Rattle.recorder_with_cards.specs.Accepting.{chip_a_of, chip_b_of, a_of, b_of, IsAccepted, IsEnteringNow, IsAnew, IsBare};
 ghost use Rattle.recorder_with_cards.specs.Judged.{JudgesSo, JudgesAnew, EventsJudged, EventsAnew};
 ghost use Rattle.recorder_with_cards.specs.Noting.{IsJudgedNoting, NotesJudging, NotesAnew};
+ghost use Rattle.recorder_with_cards.specs.JudgedRings.{RingsEntering, RingsJudged, RingsJudgedAnew};
 ghost use Rattle.recorder_with_cards.specs.EnteredRings.{IsJudgedRinging, RingsJudging, RingsAnew};
 ghost use Rattle.run_entering.specs.declared.lines.Entering.{Entering as Enters};
 ghost use Rattle.run_outcome.specs.declared.outcome.TheConstants.{MOST_OWED};
@@ -53,6 +54,7 @@ pub(crate) fn accept_here<M: Medium, C: Chip, D: Chip>(
     ensures refused { outcome.new.refused ≡ outcome.old.refused }
     ensures recorded { length outcome.old.marks.items + MOST_OWED ≤ outcome.old.marks.room → JudgesSo entering.slot entering.which entering.at (is_err result) run.old run.new outcome.old outcome.new (arranged entering.which (M.state unit.old) (C.state card.old) (D.state others.now)) (arranged entering.which (M.state unit.new) (C.state card.new) (D.state others.now)) }
     ensures evented { length outcome.old.marks.items + MOST_OWED ≤ outcome.old.marks.room → EventsJudged entering.slot entering.which entering.at entering.speed (is_err result) run.old run.new outcome.old outcome.new (arranged entering.which (M.state unit.old) (C.state card.old) (D.state others.now)) (arranged entering.which (M.state unit.new) (C.state card.new) (D.state others.now)) }
+    ensures ringed { length outcome.old.marks.items + MOST_OWED ≤ outcome.old.marks.room → RingsEntering entering.slot entering.which entering.at entering.odometer.0 (is_err result) run.old run.new outcome.old outcome.new (arranged entering.which (M.state unit.old) (C.state card.old) (D.state others.now)) (arranged entering.which (M.state unit.new) (C.state card.new) (D.state others.now)) }
     ensures rings { IsJudgedRinging entering (is_err result) run.old run.new outcome.old outcome.new (M.state unit.old) (M.state unit.new) }
     ensures noted { IsJudgedNoting entering (is_err result) run.old run.new outcome.old outcome.new (arranged entering.which (M.state unit.old) (C.state card.old) (D.state others.now)) (arranged entering.which (M.state unit.new) (C.state card.new) (D.state others.now)) }
     ensures clock { (M.state unit.old).clock ≤ (M.state unit.new).clock }
@@ -71,6 +73,8 @@ pub(crate) fn accept_here<M: Medium, C: Chip, D: Chip>(
         outcome,
     );
     run.noted = noted;
+    // So many insertions were noted at most: a find was told of each.
+    let _most = outcome.finds.len();
     answer
 }
 
@@ -105,6 +109,7 @@ pub(crate) fn accept_in<M: Medium, C: Chip, D: Chip>(
     ensures takes { Takes 1 0 0 run.old run.new outcome.old outcome.new }
     ensures recorded { length outcome.old.marks.items + MOST_OWED ≤ outcome.old.marks.room → JudgesSo slot card at (is_err result) run.old run.new outcome.old outcome.new (devices (M.state unit.old) (C.state card_a.old) (D.state card_b.old)) (devices (M.state unit.new) (C.state card_a.new) (D.state card_b.new)) }
     ensures evented { length outcome.old.marks.items + MOST_OWED ≤ outcome.old.marks.room → EventsJudged slot card at speed (is_err result) run.old run.new outcome.old outcome.new (devices (M.state unit.old) (C.state card_a.old) (D.state card_b.old)) (devices (M.state unit.new) (C.state card_a.new) (D.state card_b.new)) }
+    ensures ringed { length outcome.old.marks.items + MOST_OWED ≤ outcome.old.marks.room → RingsJudged slot card at (is_err result) run.old run.new outcome.old outcome.new (devices (M.state unit.old) (C.state card_a.old) (D.state card_b.old)) (devices (M.state unit.new) (C.state card_a.new) (D.state card_b.new)) }
     ensures rings { RingsJudging slot card at speed (is_err result) run.old run.new outcome.old outcome.new (M.state unit.old) (M.state unit.new) }
     ensures noted { NotesJudging slot card at speed (is_err result) run.old run.new outcome.old outcome.new (devices (M.state unit.old) (C.state card_a.old) (D.state card_b.old)) (devices (M.state unit.new) (C.state card_a.new) (D.state card_b.new)) }
     ensures clock { (M.state unit.old).clock ≤ (M.state unit.new).clock }
@@ -173,6 +178,7 @@ pub(crate) fn accept_anew<M: Medium, C: Chip, D: Chip>(
     ensures recorded { length outcome.old.marks.items + MOST_OWED * bare_count (seat_in run.old.keeper.cabin.slots.seats slot) ≤ outcome.old.marks.room → JudgesAnew (card_in (seat_in run.old.keeper.cabin.slots.seats slot)) slot at (is_err result) run.old run.new outcome.old outcome.new (devices (M.state unit.old) (C.state card_a.old) (D.state card_b.old)) (devices (M.state unit.new) (C.state card_a.new) (D.state card_b.new)) }
     ensures evented { length outcome.old.marks.items + MOST_OWED * bare_count (seat_in run.old.keeper.cabin.slots.seats slot) ≤ outcome.old.marks.room → EventsAnew (card_in (seat_in run.old.keeper.cabin.slots.seats slot)) slot at speed (is_err result) run.old run.new outcome.old outcome.new (devices (M.state unit.old) (C.state card_a.old) (D.state card_b.old)) (devices (M.state unit.new) (C.state card_a.new) (D.state card_b.new)) }
     ensures still { card_in (seat_in run.old.keeper.cabin.slots.seats slot) ≡ None → (unit.new ≡ unit.old) × (card_a.new ≡ card_a.old) × (card_b.new ≡ card_b.old) }
+    ensures ringed { length outcome.old.marks.items + MOST_OWED * bare_count (seat_in run.old.keeper.cabin.slots.seats slot) ≤ outcome.old.marks.room → RingsJudgedAnew (card_in (seat_in run.old.keeper.cabin.slots.seats slot)) slot at (is_err result) run.old run.new outcome.old outcome.new (devices (M.state unit.old) (C.state card_a.old) (D.state card_b.old)) (devices (M.state unit.new) (C.state card_a.new) (D.state card_b.new)) }
     ensures rings { RingsAnew (card_in (seat_in run.old.keeper.cabin.slots.seats slot)) slot at speed (is_err result) run.old run.new outcome.old outcome.new (M.state unit.old) (M.state unit.new) }
     ensures noted { NotesAnew (card_in (seat_in run.old.keeper.cabin.slots.seats slot)) slot at speed (is_err result) run.old run.new outcome.old outcome.new (devices (M.state unit.old) (C.state card_a.old) (D.state card_b.old)) (devices (M.state unit.new) (C.state card_a.new) (D.state card_b.new)) }
     ensures clock { (M.state unit.old).clock ≤ (M.state unit.new).clock }

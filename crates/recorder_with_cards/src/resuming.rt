@@ -10,7 +10,7 @@ ghost use Rattle.run_acts.specs.Power.{is_lit, has_power, minute_over};
 ghost use Rattle.run_acts.specs.Going.{end_of_seconds, IsHeld, IsLit, IsAt, IsGoing, IsWithin, IsFoundLater};
 ghost use Rattle.run_acts.specs.Room.{HasRoom, HasRoomWithin, falls_of, bare_seats};
 ghost use Rattle.recorder_with_cards.specs.Waking.{IsAwake, TakesUp, TakesAwake};
-ghost use Rattle.recorder_with_cards.specs.Woken.{ResumesSo, WakesSo, EventsResuming, EventsWaking};
+ghost use Rattle.recorder_with_cards.specs.Woken.{ResumesSo, WakesSo, EventsResuming, EventsWaking, RingsResuming, RingsWaking};
 ghost use Rattle.recorder_with_cards.specs.Recorded.{BeginsRinged};
 ghost use Rattle.recorder_with_cards.specs.Noting.{NotesWaking, NotesFound, NotesPowerOn};
 ghost use Rattle.run_outcome.specs.declared.outcome.TheConstants.{MOST_OWED};
@@ -94,6 +94,7 @@ fn power_on<M: Medium, C: Chip, D: Chip>(
     ensures unit { IsUnit (M.state unit.new) }
     ensures recorded { length outcome.old.marks.items + MOST_OWED * bare_seats run.old.keeper.cabin.slots.seats ≤ outcome.old.marks.room → WakesSo result speed run.old run.new outcome.old outcome.new (devices (M.state unit.old) (C.state card_a.old) (D.state card_b.old)) (devices (M.state unit.new) (C.state card_a.new) (D.state card_b.new)) }
     ensures evented { length outcome.old.marks.items + MOST_OWED * bare_seats run.old.keeper.cabin.slots.seats ≤ outcome.old.marks.room → EventsWaking result speed run.old run.new outcome.old outcome.new (devices (M.state unit.old) (C.state card_a.old) (D.state card_b.old)) (devices (M.state unit.new) (C.state card_a.new) (D.state card_b.new)) }
+    ensures ringed { length outcome.old.marks.items + MOST_OWED * bare_seats run.old.keeper.cabin.slots.seats ≤ outcome.old.marks.room → RingsWaking result speed run.old run.new outcome.old outcome.new (devices (M.state unit.old) (C.state card_a.old) (D.state card_b.old)) (devices (M.state unit.new) (C.state card_a.new) (D.state card_b.new)) }
     ensures noted { OnOk result (NotesPowerOn speed run.old run.new outcome.old outcome.new (devices (M.state unit.old) (C.state card_a.old) (D.state card_b.old)) (devices (M.state unit.new) (C.state card_a.new) (D.state card_b.new))) }
     ensures clock { (M.state unit.old).clock ≤ (M.state unit.new).clock }
     ensures clock_a { (C.state card_a.old).clock ≤ (C.state card_a.new).clock }
@@ -137,6 +138,7 @@ fn found<M: Medium, C: Chip, D: Chip>(
     ensures unit { IsUnit (M.state unit.new) }
     ensures recorded { length outcome.old.marks.items + MOST_OWED * bare_seats run.old.keeper.cabin.slots.seats ≤ outcome.old.marks.room → WakesSo result speed run.old run.new outcome.old outcome.new (devices (M.state unit.old) (C.state card_a.old) (D.state card_b.old)) (devices (M.state unit.new) (C.state card_a.new) (D.state card_b.new)) }
     ensures evented { length outcome.old.marks.items + MOST_OWED * bare_seats run.old.keeper.cabin.slots.seats ≤ outcome.old.marks.room → EventsWaking result speed run.old run.new outcome.old outcome.new (devices (M.state unit.old) (C.state card_a.old) (D.state card_b.old)) (devices (M.state unit.new) (C.state card_a.new) (D.state card_b.new)) }
+    ensures ringed { length outcome.old.marks.items + MOST_OWED * bare_seats run.old.keeper.cabin.slots.seats ≤ outcome.old.marks.room → RingsWaking result speed run.old run.new outcome.old outcome.new (devices (M.state unit.old) (C.state card_a.old) (D.state card_b.old)) (devices (M.state unit.new) (C.state card_a.new) (D.state card_b.new)) }
     ensures noted { OnOk result (NotesFound journal.kept speed run.old run.new outcome.old outcome.new (devices (M.state unit.old) (C.state card_a.old) (D.state card_b.old)) (devices (M.state unit.new) (C.state card_a.new) (D.state card_b.new))) }
     ensures clock { (M.state unit.old).clock ≤ (M.state unit.new).clock }
     ensures clock_a { (C.state card_a.old).clock ≤ (C.state card_a.new).clock }
@@ -182,6 +184,7 @@ fn resume<M: Medium, C: Chip, D: Chip>(
     ensures more { length outcome.old.breaks.items ≤ length outcome.new.breaks.items }
     ensures recorded { length outcome.old.marks.items + MOST_OWED * bare_seats run.old.keeper.cabin.slots.seats ≤ outcome.old.marks.room → ResumesSo journal.kept (is_err result) run.old run.new outcome.old outcome.new (devices (M.state unit.old) (C.state card_a.old) (D.state card_b.old)) (devices (M.state unit.new) (C.state card_a.new) (D.state card_b.new)) }
     ensures evented { length outcome.old.marks.items + MOST_OWED * bare_seats run.old.keeper.cabin.slots.seats ≤ outcome.old.marks.room → EventsResuming journal.kept speed (is_err result) run.old run.new outcome.old outcome.new (devices (M.state unit.old) (C.state card_a.old) (D.state card_b.old)) (devices (M.state unit.new) (C.state card_a.new) (D.state card_b.new)) }
+    ensures ringed { length outcome.old.marks.items + MOST_OWED * bare_seats run.old.keeper.cabin.slots.seats ≤ outcome.old.marks.room → RingsResuming journal.kept (is_err result) run.old run.new outcome.old outcome.new (devices (M.state unit.old) (C.state card_a.old) (D.state card_b.old)) (devices (M.state unit.new) (C.state card_a.new) (D.state card_b.new)) }
     ensures noted { NotesWaking journal.kept speed (is_err result) run.old run.new outcome.old outcome.new (devices (M.state unit.old) (C.state card_a.old) (D.state card_b.old)) (devices (M.state unit.new) (C.state card_a.new) (D.state card_b.new)) }
     ensures clock { (M.state unit.old).clock ≤ (M.state unit.new).clock }
     ensures clock_a { (C.state card_a.old).clock ≤ (C.state card_a.new).clock }

@@ -1,5 +1,5 @@
 -- What is recorded of a run with cards, as its calls say it (profile): between two seconds, and within one.
-use Rattle.std.specs.Prelude.{◌≡◌, ◌+◌, ◌-◌, ◌<◌, Bool, true, false, None, List, [], ◌∷◌, ◌++◌, ℕ, suc, length}
+use Rattle.std.specs.Prelude.{◌≡◌, ◌+◌, ◌-◌, ◌<◌, Bool, true, false, None, List, [], ◌∷◌, ◌++◌, All, ℕ, suc, length}
 use Rattle.trace_model.specs.declared.Action.{Action}
 use Rattle.trace_model.specs.declared.Card.{Card}
 use Rattle.trace_model.specs.Trace.{TraceSecond, driven}
@@ -61,6 +61,7 @@ pub record IsOrigin (o : Origin) : Type 0 where
   pub start : (c : Card) → (found_of o.found c).start ≡ brought o.recording c
   pub number : (c : Card) → IsOwnValid (card_image o.recording c) → (found_of o.found c).number ≡ own_number (card_image o.recording c)
   pub long : (c : Card) → IsOwnValid (card_image o.recording c) → length (own_number (card_image o.recording c)) ≡ 18
+  pub bytes : (c : Card) → All (λ n. n < 256) (card_image o.recording c)
 
 -- BETWEEN TWO SECONDS, behind these: all is recorded, and the odometer that minutes are counted from is that at the last power-on.
 pub record RunRecorded (o : Origin) (done : List TraceSecond) (run : Run) (out : Outcome) (d : Devices) : Type 0 where

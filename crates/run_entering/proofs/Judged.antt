@@ -31,7 +31,7 @@ use Rattle.run_keeping.proofs.Fates.{no-lines}
 use Rattle.run_entering.specs.declared.lines.Entering.{Entering}
 use Rattle.run_entering.specs.Entering.{Ending, Unfit, Ahead, Fell, Unasked, Unnoted, Seated, Lost, Way, Unread, Unsized, Judged, ending_of, measured, taken_as, falls_of, cabin_by, outcome_by, noted_by}
 use Rattle.run_entering.specs.Noted.{HasNoted, IsOnUnit, IsComing, IsOnCard, IsComingOnCard, UnitNote, CardNote, PutIn, AreDone, AreBeingDone, AreOnCard, AreComingOnCard, fault_of, notes_by, card_notes_by, card_notes_behind, is_cut}
-use Rattle.run_entering.specs.Entered.{IsEnding, IsNew, IsClock, IsPlace, IsTold, IsFound, IsFoundIn, IsWay, IsLeft, IsEntry, IsTaken, IsJudgedSo, HasEntered, writes_behind}
+use Rattle.run_entering.specs.Entered.{IsEnding, FitsInsertion, IsNew, IsClock, IsPlace, IsTold, IsFound, IsFoundIn, IsWay, IsLeft, IsEntry, IsTaken, IsJudgedSo, HasEntered, writes_behind}
 use Rattle.run_entering.proofs.Notes.{not_cut, one-note, no-notes, notes-read, notes-then, notes-after, notes-as}
 use Rattle.run_entering.proofs.Accepted.{kept-broken, fell-broken}
 
@@ -79,8 +79,8 @@ module _ (app : Application) (e : Entering) (k : Keeper) (noted : ℕ) (o : Outc
       lacked = at_image (λ (l : List ℕ). entered.replayed ≡ replayed_count (session_time app l) (end_mark app l) entered.owed.items) is enters.accepted.number;
     }
 
-    new-so : entered.look.session < 2 ^ 32 → IsNew app vehicle e.at.second entered
-    new-so low = record { low = low; sizes = enters.accepted.sizes; vehicle = enters.accepted.vehicle; fresh = enters.accepted.fresh; fit = enters.accepted.fit; few = enters.accepted.few }
+    new-so : entered.look.session < 2 ^ 32 → FitsInsertion entered.look → IsNew app vehicle e.at.second entered
+    new-so low sized = record { low = low; sized = sized; sizes = enters.accepted.sizes; vehicle = enters.accepted.vehicle; fresh = enters.accepted.fresh; fit = enters.accepted.fit; few = enters.accepted.few }
 
     put-in : (u : List ℕ) → U.image ≡ Some u → HasNoted (IsOnCard app vehicle e u) (IsComingOnCard app vehicle e u) (PutIn ∷ []) false X M
     put-in u told = one-note (IsOnCard app vehicle e u) (IsComingOnCard app vehicle e u) PutIn
@@ -109,11 +109,11 @@ module _ (app : Application) (e : Entering) (k : Keeper) (noted : ℕ) (o : Outc
         broken = let few : falls_of ending ≤ 0 + falls_of ending = omega arith in fewer_broken few (both_broken (kept-broken enters.cause) t.broken);
       }
 
-      pub judged-taken : entered.look.session < 2 ^ 32 → (fell : Bool) (entry : Option ℕ) → IsEntry entry failed V.image → Taken (taken_as fell entered M.clock entry) → IsJudgedSo app e failed k v noted noted_after o p U W X Y (taken_as fell entered M.clock entry)
-      judged-taken low true None is t = judged-by (Unnoted entered M.clock) (is, new-so low, clock-so _ t) told-so refl t
-      judged-taken low false None is t = judged-by (Unnoted entered M.clock) (is, new-so low, clock-so _ t) told-so refl t
-      judged-taken low false (Some entry) is t = judged-by (Seated entered M.clock entry) (place-so entry is, new-so low, clock-so _ t) told-so refl t
-      judged-taken low true (Some entry) is t = judged-by (Lost entered M.clock entry) (place-so entry is, new-so low, clock-so _ t, t.moves refl) told-so refl t
+      pub judged-taken : entered.look.session < 2 ^ 32 → FitsInsertion entered.look → (fell : Bool) (entry : Option ℕ) → IsEntry entry failed V.image → Taken (taken_as fell entered M.clock entry) → IsJudgedSo app e failed k v noted noted_after o p U W X Y (taken_as fell entered M.clock entry)
+      judged-taken low sized true None is t = judged-by (Unnoted entered M.clock) (is, new-so low sized, clock-so _ t) told-so refl t
+      judged-taken low sized false None is t = judged-by (Unnoted entered M.clock) (is, new-so low sized, clock-so _ t) told-so refl t
+      judged-taken low sized false (Some entry) is t = judged-by (Seated entered M.clock entry) (place-so entry is, new-so low sized, clock-so _ t) told-so refl t
+      judged-taken low sized true (Some entry) is t = judged-by (Lost entered M.clock entry) (place-so entry is, new-so low sized, clock-so _ t, t.moves refl) told-so refl t
 
   -- ---- it is not
 

@@ -1,6 +1,7 @@
 -- What is left behind a card that was put into a slot, or met power there, by value (profile).
 use Rattle.std.specs.Prelude.{◌≡◌, ℕ, ◌+◌, ◌^◌, ◌<◌, ◌≤◌, Bool, true, false, ◌||◌, Option, Some, None, Result, Ok, Err, IfSome, List, [], ◌∷◌, length, nat_lt, if◌then◌else◌}
 use Rattle.tach_media.specs.Medium.{State, LeavesOnly, HasBroken}
+use Rattle.tacho_types.specs.CardNumber.{card_number_bytes}
 use Rattle.tacho_types.specs.declared.texts.Registration.{Registration}
 use Rattle.card_layout.specs.declared.files.Application.{Application}
 use Rattle.card_layout.specs.Application.{application_in, first_bad_field}
@@ -34,6 +35,14 @@ IsMeasured (Err field) chip card = IfSome card.image (λ x. first_bad_field (app
 
 -- ---- what is said of an accepted card, whatever the devices tell
 
+-- what it told fills the fields of its insertion, and the numbers fit them
+pub record FitsInsertion (look : CardLook) : Type 0 where
+  pub surname : length look.surname.0 ≡ 36
+  pub first : length look.first.0 ≡ 36
+  pub number : length (card_number_bytes look.number) ≡ 18
+  pub expiry : look.expiry.0 < 2 ^ 32
+  pub previous : IfSome look.previous (λ v. (length v.registration.0 ≡ 15) × (v.last_use.0 < 2 ^ 32))
+
 -- its session is a new one, of this vehicle and these sizes; and what was owed to it is of earlier minutes
 pub record IsNew (app : Application) (registration : Registration) (second : ℕ) (entered : Entered) : Type 0 where
   pub sizes : entered.session.application ≡ app
@@ -43,6 +52,7 @@ pub record IsNew (app : Application) (registration : Registration) (second : ℕ
   pub few : entered.replayed ≤ length entered.owed.items
   -- the time of the last one, which it told, fits its field
   pub low : entered.look.session < 2 ^ 32
+  pub sized : FitsInsertion entered.look
 
 -- the marks have the clock behind its insertion: the event of a moving vehicle is noted on the card since, with four writes at most
 abbrev pub writes_behind : Entering → ℕ

@@ -13,7 +13,7 @@ ghost use Rattle.run_entering.specs.Entering.{taken_as, most_owed};
 ghost use Rattle.card_session.specs.Sessions.{IsValue};
 ghost use Rattle.run_told.specs.Told.{arranged};
 ghost use Rattle.run_entering.specs.Told.{BooksSeat, BooksNotes, TimesNotes, BooksTaken};
-ghost use Rattle.run_entering.specs.Entered.{IsSeated, IsMoved, IsNotedOn, IsEntry, IsTaken};
+ghost use Rattle.run_entering.specs.Entered.{FitsInsertion, IsSeated, IsMoved, IsNotedOn, IsEntry, IsTaken};
 
 use crate::lines::{Entering, find, insertion_of, other_card, tell_replayed};
 use crate::noting::{note_driving, note_unclosed};
@@ -202,6 +202,7 @@ pub(crate) fn take_in<M: Medium, C: Chip, D: Chip>(
     ensures more { (C.state card.old).breakdowns ≤ (C.state card.new).breakdowns }
     ensures most { length entered.owed.items ≤ most_owed }
     ensures low { entered.look.session < 2 ^ 32 }
+    ensures sized { FitsInsertion entered.look }
     ensures later { IsLater (C.state card.old) (C.state card.new) }
 {
     let look = entered.look;

@@ -11,6 +11,7 @@ use Rattle.recorder_with_cards.proofs.Judged.{none-noting}
 use Rattle.recorder_with_cards.proofs.Goes.{bare-one}
 use Rattle.run_rings.proofs.Same.{rings-left}
 use Rattle.recorder_with_cards.specs.EnteredRings.{RingsAnew}
+use Rattle.recorder_with_cards.specs.JudgedRings.{RingsJudgedAnew}
 use Rattle.run_keeping.proofs.Later.{later-same}
 use Rattle.recorder_with_cards.proofs.accepting.accept_anew.Goals as goal
 
@@ -73,6 +74,22 @@ returns-in_default-clause-rings g c =
     let none : card_in (seat_in c.args.run.now.keeper.cabin.slots.seats c.args.slot) ≡ None = search rules in
     let U = g.M.Medium.state c.args.unit.now in
     subst (λ (q : Option Card). RingsAnew q c.args.slot c.args.at c.args.speed false c.args.run.now c.args.run.now c.args.outcome.now c.args.outcome.now U U) (sym none) (rings-left U)
+
+pub returns-clause-ringed : goal.returns-clause-ringed
+returns-clause-ringed g c = λ room.
+    let seat = seat_in c.args.run.now.keeper.cabin.slots.seats c.args.slot in
+    let is : card_in seat ≡ Some c.in-Some.card = sym c.card.ensures ∙ c.in-Some.is in
+    let one = bare-one seat c.in-Some.card is c.requires.bare in
+    let d : Devices = devices (g.M.Medium.state c.args.unit.now) (g.C.Chip.state c.args.card_a.now) (g.D.Chip.state c.args.card_b.now) in
+    let e : Devices = devices (g.M.Medium.state c.accept_in.new.unit) (g.C.Chip.state c.accept_in.new.card_a) (g.D.Chip.state c.accept_in.new.card_b) in
+    subst (λ (q : Option Card). RingsJudgedAnew q c.args.slot c.args.at (is_err c.accept_in.result) c.args.run.now c.accept_in.new.run c.args.outcome.now c.accept_in.new.outcome d e) (sym is)
+    (c.accept_in.ensures.ringed (omega (arith, room, one)))
+
+pub returns-in_default-clause-ringed : goal.returns-in_default-clause-ringed
+returns-in_default-clause-ringed g c = λ room.
+    let none : card_in (seat_in c.args.run.now.keeper.cabin.slots.seats c.args.slot) ≡ None = search rules in
+    let d : Devices = devices (g.M.Medium.state c.args.unit.now) (g.C.Chip.state c.args.card_a.now) (g.D.Chip.state c.args.card_b.now) in
+    subst (λ (q : Option Card). RingsJudgedAnew q c.args.slot c.args.at false c.args.run.now c.args.run.now c.args.outcome.now c.args.outcome.now d d) (sym none) tt
 
 -- ---- what holds of the devices after any calls
 

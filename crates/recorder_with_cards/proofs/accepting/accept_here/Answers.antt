@@ -29,6 +29,7 @@ use Rattle.recorder_with_cards.proofs.Judged.{mine-time, found-by, judged-by, ju
 use Rattle.recorder_with_cards.proofs.EnteredEvented.{judged-evented}
 use Rattle.recorder_with_cards.proofs.NoSession.{seat-answers}
 use Rattle.recorder_with_cards.proofs.EnteredRings.{accept-writes}
+use Rattle.recorder_with_cards.proofs.EnteredRinged.{judged-ringed}
 use Rattle.recorder_with_cards.proofs.accepting.accept_here.Goals as goal
 
 pub returns-clause-beside : goal.returns-clause-beside
@@ -227,6 +228,54 @@ returns-clause-rings g c =
       writes = λ tells. accept-writes (g.M.Medium.state c.args.unit.now) (g.M.Medium.state c.accept-answer.new.unit) (g.C.Chip.state c.args.card.now) (g.C.Chip.state c.accept-answer.new.card)
           (g.met.M.Medium.coherent c.args.unit.now) (g.met.M.Medium.coherent c.accept-answer.new.unit) c.args.entering (is_err c.accept-answer.result) run.keeper c.accept-answer.new.keeper run.noted c.accept-answer.new.noted c.args.outcome.now c.accept-answer.new.outcome w.0 tells c.accept-answer.ensures.cause w.1;
     }
+
+-- where its insertion stands, in the rings of the run
+entry-noted : (n : ℕ) (q : Option Accepted) → IfSome q (HasEntry n) → IfSome q (λ b. b.noted ≤ n)
+entry-noted n None h = tt
+entry-noted n (Some b) h = h.1
+
+pub returns-clause-ringed : goal.returns-clause-ringed
+returns-clause-ringed g c = λ room o done s n waits fewer at next spans odometer counted time.
+    let run = c.args.run.now in
+    let e = c.args.entering in
+    let h = c.requires.going in
+    let w = c.accept-answer.ensures.entered in
+    let U : State = g.M.Medium.state c.args.unit.now in
+    let V : State = g.M.Medium.state c.accept-answer.new.unit in
+    let X : State = g.C.Chip.state c.args.card.now in
+    let Z : State = g.C.Chip.state c.accept-answer.new.card in
+    let Y : State = g.D.Chip.state c.args.others.now in
+    let failed : Bool = is_err c.accept-answer.result in
+    let may : MayJudge o done s n waits fewer e run.keeper c.args.outcome.now run.unfound run.next run.begun run.minutes U X Y next.goes.within =
+    let sits = seat-answers (ungiven_of h.span) run.keeper.cabin e.slot e.which h.cabin c.requires.seat in
+    record {
+      origin = found-by o next.goes.origin;
+      moment = at;
+      last = let second = c.requires.at in let small = c.requires.small in omega (arith, second, small);
+      next_ = next.next;
+      none = next.none;
+      order = next.order;
+      ready = h.ready.unit_ready;
+      seat = c.requires.seat;
+      elsewhere = sits.0;
+      bare = sits.1;
+      room = room;
+    } in
+    let gone : HasGone e failed run.keeper c.accept-answer.new.keeper run.noted c.accept-answer.new.noted c.args.outcome.now c.accept-answer.new.outcome U V X Z Y w.0 =
+    record { entered = w.1; books = w.2; cause = c.accept-answer.ensures.cause; more = c.accept-answer.ensures.more; in_time = c.accept-answer.ensures.in_time } in
+    let sound : AreSound U V X Z = record {
+      time = mine-time e.which V Z Y time;
+      unit_before = g.met.M.Medium.coherent c.args.unit.now;
+      unit_behind = g.met.M.Medium.coherent c.accept-answer.new.unit;
+      card_before = g.met.C.Chip.coherent c.args.card.now;
+      card_behind = g.met.C.Chip.coherent c.accept-answer.new.card;
+    } in
+    let small : s.number < 2 ^ 32 = let second = c.requires.at in let here = ap (λ (m : Moment). m.second) at in let few = c.requires.small in omega (arith, second, here, few) in
+    let others : (card : Card) → IfSome (session_of run.keeper.cabin.cards card) (λ b. b.noted ≤ run.noted) = λ card. entry-noted run.noted (session_of run.keeper.cabin.cards card) (h.entries card) in
+    let few : length c.accept-answer.new.outcome.finds.items < 2 ^ 64 = search rules in
+    let v = judged-ringed o done s n waits fewer e run.keeper c.args.outcome.now run.unfound run.next run.begun run.minutes U X Y next.goes.within may next.goes.origin small c.requires.fits spans odometer run.noted counted others
+    failed c.accept-answer.new.keeper c.accept-answer.new.noted c.accept-answer.new.outcome V Z w.0 gone sound few in
+    record { rings = v.rings; others = v.others; here = v.here; cut = v.cut; same = v.same; left = v.left; odometer = ap (λ (q : Keeper). q.odometer) w.1.left.keeper; counted = v.counted }
 
 -- ---- what holds of the devices after any calls
 

@@ -1,9 +1,10 @@
-use Rattle.std.proofs.Common.{◌+◌, ◌≤◌, sym, subst}
+use Rattle.std.proofs.Common.{◌+◌, ◌≤◌, ◌∙◌, sym, subst}
 use Rattle.std.specs.Prelude.{is_err}
 use Rattle.trace_model.specs.declared.Card.{Card}
 use Rattle.safety_model.specs.Safe.{Devices}
 use Rattle.run_rule.specs.Between.{devices}
 use Rattle.recorder_with_cards.specs.Judged.{JudgesSo, EventsJudged}
+use Rattle.recorder_with_cards.specs.JudgedRings.{RingsJudged}
 use Rattle.run_keeping.proofs.Later.{state-by, later-of-a, later-of-b}
 use Rattle.recorder_with_cards.proofs.accepting.accept_in.Goals as goal
 
@@ -32,6 +33,26 @@ returns-in-B-clause-evented g c = λ room.
     let d : Devices = devices (g.M.Medium.state c.args.unit.now) (g.C.Chip.state c.args.card_a.now) (g.D.Chip.state c.args.card_b.now) in
     let e : Devices = devices (g.M.Medium.state c.accept_here-in-B.new.unit) (g.C.Chip.state c.args.card_a.now) (g.D.Chip.state c.accept_here-in-B.new.card) in
     subst (λ (card : Card). EventsJudged c.args.slot card c.args.at c.args.speed (is_err c.accept_here-in-B.result) c.args.run.now c.accept_here-in-B.new.run c.args.outcome.now c.accept_here-in-B.new.outcome d e) (sym c.in-B.is) (c.accept_here-in-B.ensures.evented room)
+
+-- ---- its insertion in the rings of the run
+
+pub returns-in-A-clause-ringed : goal.returns-in-A-clause-ringed
+returns-in-A-clause-ringed g c = λ room.
+    let d : Devices = devices (g.M.Medium.state c.args.unit.now) (g.C.Chip.state c.args.card_a.now) (g.D.Chip.state c.args.card_b.now) in
+    let e : Devices = devices (g.M.Medium.state c.accept_here.new.unit) (g.C.Chip.state c.accept_here.new.card) (g.D.Chip.state c.args.card_b.now) in
+    subst (λ (card : Card). RingsJudged c.args.slot card c.args.at (is_err c.accept_here.result) c.args.run.now c.accept_here.new.run c.args.outcome.now c.accept_here.new.outcome d e) (sym c.in-A.is)
+    (λ o done s n waits fewer at next spans now counted time.
+    let sp = next.goes.within.sp in let stands = next.goes.within.minutes in
+    c.accept_here.ensures.ringed room o done s n waits fewer at next spans (c.odometer_now.ensures.value next.goes.within.sp next.goes.within.minutes ∙ now) counted time)
+
+pub returns-in-B-clause-ringed : goal.returns-in-B-clause-ringed
+returns-in-B-clause-ringed g c = λ room.
+    let d : Devices = devices (g.M.Medium.state c.args.unit.now) (g.C.Chip.state c.args.card_a.now) (g.D.Chip.state c.args.card_b.now) in
+    let e : Devices = devices (g.M.Medium.state c.accept_here-in-B.new.unit) (g.C.Chip.state c.args.card_a.now) (g.D.Chip.state c.accept_here-in-B.new.card) in
+    subst (λ (card : Card). RingsJudged c.args.slot card c.args.at (is_err c.accept_here-in-B.result) c.args.run.now c.accept_here-in-B.new.run c.args.outcome.now c.accept_here-in-B.new.outcome d e) (sym c.in-B.is)
+    (λ o done s n waits fewer at next spans now counted time.
+    let sp = next.goes.within.sp in let stands = next.goes.within.minutes in
+    c.accept_here-in-B.ensures.ringed room o done s n waits fewer at next spans (c.odometer_now.ensures.value next.goes.within.sp next.goes.within.minutes ∙ now) counted time)
 
 -- ---- what holds of the devices after any calls
 

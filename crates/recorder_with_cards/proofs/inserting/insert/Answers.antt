@@ -1,4 +1,4 @@
-use Rattle.std.proofs.Common.{rules, ◌≡◌, ◌∙◌, inl, inr, ℕ, ◌+◌, ◌*◌, ◌/◌, ◌≤◌, Bool, true, false, Some, None, [], ◌++◌, length, refl, ap, sym, subst, arith}
+use Rattle.std.proofs.Common.{rules, ◌≡◌, ◌∙◌, inl, inr, ℕ, ◌+◌, ◌*◌, ◌/◌, ◌≤◌, Bool, true, false, Some, None, List, [], ◌∷◌, ◌++◌, length, refl, ap, sym, subst, arith}
 use Rattle.tach_media.proofs.Runs.{cause_after}
 use Rattle.minute_model.specs.Span.{ungiven_of}
 use Rattle.run_crew.specs.declared.cabin.Cabin.{Cabin}
@@ -21,7 +21,20 @@ use Rattle.run_acts.specs.Recording.{log_of, GoesOnOrFails}
 use Rattle.run_acts.specs.Settling.{RecordsSettling}
 use Rattle.run_evented.specs.Noting.{Acting}
 use Rattle.run_acts.specs.Evented.{EventsGoOn, EventsSettling}
-use Rattle.recorder_with_cards.proofs.Inserted.{unsettled, inserted, unsettled-evented, inserted-evented}
+use Rattle.log_model.specs.declared.lines.Break.{Break}
+use Rattle.log_model.specs.Log.{RunLog}
+use Rattle.trace_model.specs.declared.Action.TheVariants.{Insert}
+use Rattle.run_keeping.specs.declared.keeper.Moment.{Moment}
+use Rattle.run_moments.specs.Moment.{entering_by}
+use Rattle.run_rings.specs.Spans.{with_second}
+use Rattle.run_acts.specs.Acting.{told_of}
+use Rattle.run_acts.specs.RunRinged.{RingsGoOn}
+use Rattle.run_acts.proofs.RingedLines.{AreTears, up-to-tells}
+use Rattle.run_acts.proofs.RingedSecond.{more-left}
+use Rattle.run_acts.proofs.RingedClosed.{fewer-seats}
+use Rattle.recorder_with_cards.proofs.ActsRecorded.{refuses}
+use Rattle.recorder_with_cards.proofs.Inserted.{at-is, unsettled, inserted, next-judged, unsettled-evented, inserted-evented}
+use Rattle.recorder_with_cards.proofs.InsertedRinged.{unsettled-ringed, inserted-ringed, odometer-mid}
 use Rattle.tach_media.specs.Medium.{State}
 use Rattle.run_acts.specs.NotedEvents.{NotesEvents}
 use Rattle.run_acts.proofs.NotedEvents.{then-noted}
@@ -187,6 +200,70 @@ returns-clause-evented g c = λ late room o done s now front rest actions begun 
     let before = time-before e last c.accept_in.ensures.clock c.accept_in.ensures.clock_a c.accept_in.ensures.clock_b time in
     inserted-evented c.args.slot c.args.card c.args.at c.args.speed run out d o done s now front rest actions c.requires.at begun late allowed within put mid told false settles r.0 r.1 e notes before events
     q.0 q.1 records refl seat (is_err c.accept_in.result) c.accept_in.new.run c.accept_in.new.outcome last (c.accept_in.ensures.evented (omega (arith, room, marks, rooms, was))) time
+
+-- ---- its insertion in the rings of the run
+
+pub returns-in_err-settle-clause-ringed : goal.returns-in_err-settle-clause-ringed
+returns-in_err-settle-clause-ringed g c = λ late room o done s now front rest actions begun allowed within spans t rings time.
+    let run = c.args.run.now in
+    let out = c.args.outcome.now in
+    let put : Run = put_run c.args.slot c.args.card run in
+    let mid : Run = c.settle.new.run in
+    let told : Outcome = c.settle.new.outcome in
+    let U : State = g.M.Medium.state c.args.unit.now in
+    let V : State = g.M.Medium.state c.settle.new.unit in
+    let d : Devices = devices U (g.C.Chip.state c.args.card_a.now) (g.D.Chip.state c.args.card_b.now) in
+    let e : Devices = devices V (g.C.Chip.state c.settle.new.card_a) (g.D.Chip.state c.settle.new.card_b) in
+    let settles : IsSettled c.args.at true put mid out told = subst (λ (b : Cabin). IsSettled c.args.at true (with_cabin b run) mid out told) c.put_in.ensures.kept c.in_err-settle.ensures.settled in
+    let lines = up-to-tells c.args.at settles.decided true (told_of put out) (told_of mid told) settles.kept in
+    let at = at-is c.args.slot c.args.card c.args.at c.args.speed run out d o done s now front rest actions c.requires.at begun late allowed within in
+    let rung = unsettled-ringed o done s front rest c.args.slot c.args.card actions run out d within spans t rings (refuses o done s c.args.speed run out d now front (Insert c.args.slot c.args.card) rest actions within None allowed)
+    mid told e lines.lines (ap log_of settles.outcome ∙ ap (λ (bs : List Break). record (log_of out) { breaks = bs }) lines.are) (subst (λ (m : Moment). AreTears m lines.lines) at lines.tears)
+    (settling-leaves c.args.at true (with_cabin c.put_in.new.self run) mid out told U V c.in_err-settle.ensures.noted)
+    (more-left o d e (within.within.powered.lit.unit.unit_holds [] []).later within.within.there.clocks c.settle.ensures.keeps)
+    (fewer-seats put mid (ap (λ (r : Run). r.noted) settles.only) lines.sessions) lines.odometer (ap (λ (r : Run). r.noted) settles.only) in
+    let failed : true ≡ is_err c.from_residual.result = search rules in
+    subst (λ (f : Bool). RingsGoOn f o done s within.within.b.run.log (front ++ Insert c.args.slot c.args.card ∷ []) mid (log_of told) spans t e) failed rung
+
+pub returns-clause-ringed : goal.returns-clause-ringed
+returns-clause-ringed g c = λ late room o done s now front rest actions begun allowed within spans t rings time.
+    let run = c.args.run.now in
+    let out = c.args.outcome.now in
+    let h = c.requires.going in
+    let put : Run = put_run c.args.slot c.args.card run in
+    let mid : Run = c.settle.new.run in
+    let told : Outcome = c.settle.new.outcome in
+    let U : State = g.M.Medium.state c.args.unit.now in
+    let V : State = g.M.Medium.state c.settle.new.unit in
+    let d : Devices = devices U (g.C.Chip.state c.args.card_a.now) (g.D.Chip.state c.args.card_b.now) in
+    let e : Devices = devices V (g.C.Chip.state c.settle.new.card_a) (g.D.Chip.state c.settle.new.card_b) in
+    let last : Devices = devices (g.M.Medium.state c.accept_in.new.unit) (g.C.Chip.state c.accept_in.new.card_a) (g.D.Chip.state c.accept_in.new.card_b) in
+    let q = c.in_ok-settle.ensures.recorded in
+    let stands = subst (λ (b : Cabin). Stands (ungiven_of h.span) None b) c.put_in.ensures.kept (c.put_in.ensures.stands (ungiven_of h.span) h.cabin) in
+    let bare = subst (λ (b : Cabin). IsBareIn b c.args.slot) (sym c.put_in.ensures.kept) (put-bare c.args.slot c.args.card run.keeper.cabin (ungiven_of h.span) stands) in
+    let seat = (c.in_ok-settle.ensures.bare c.args.slot bare).0 ∙ ap (λ (b : Cabin). seat_in b.slots.seats c.args.slot) c.put_in.ensures.kept ∙ seat-put c.args.slot c.args.card run.keeper.cabin in
+    let settles : IsSettled c.args.at false put mid out told = subst (λ (b : Cabin). IsSettled c.args.at false (with_cabin b run) mid out told) c.put_in.ensures.kept c.in_ok-settle.ensures.settled in
+    let u = (subst (λ (b : Cabin). Takes 0 0 0 (with_cabin b run) mid out told) c.put_in.ensures.kept c.settle.ensures.takes) in
+    let marks = u.marks in
+    let rooms = u.rooms.0 in
+    let was = ap (λ (p : Power). waiting p run.minutes.owing) c.requires.lit in
+    let records = subst (λ (b : Cabin). RecordsSettling q.0 c.args.at false (with_cabin b run) mid out told d e) c.put_in.ensures.kept q.2 in
+    let before = time-before e last c.accept_in.ensures.clock c.accept_in.ensures.clock_a c.accept_in.ensures.clock_b time in
+    let lines = up-to-tells c.args.at settles.decided false (told_of put out) (told_of mid told) settles.kept in
+    let at = at-is c.args.slot c.args.card c.args.at c.args.speed run out d o done s now front rest actions c.requires.at begun late allowed within in
+    let fine = refuses o done s c.args.speed run out d now front (Insert c.args.slot c.args.card) rest actions within None allowed in
+    let log : log_of told ≡ record (log_of out) { breaks = (log_of out).breaks ++ lines.lines } = ap log_of settles.outcome ∙ ap (λ (bs : List Break). record (log_of out) { breaks = bs }) lines.are in
+    let tears = subst (λ (m : Moment). AreTears m lines.lines) at lines.tears in
+    let leaves = settling-leaves c.args.at false (with_cabin c.put_in.new.self run) mid out told U V c.in_ok-settle.ensures.noted in
+    let left = more-left o d e (within.within.powered.lit.unit.unit_holds [] []).later within.within.there.clocks c.settle.ensures.keeps in
+    let noted : mid.noted ≡ run.noted = ap (λ (r : Run). r.noted) settles.only in
+    let fewer = fewer-seats put mid noted lines.sessions in
+    let counted : mid.noted ≤ length (log_of told).finds = let few = rings.counted in let same = ap (λ (l : RunLog). length l.finds) log in omega (arith, few, same, noted) in
+    let j = next-judged c.args.slot c.args.card c.args.at c.args.speed run out d o done s now front rest actions c.requires.at begun late allowed within mid told false settles q.0 q.1 e records before refl seat (with_second spans run.keeper.odometer t)
+    (odometer-mid o done s front rest c.args.slot c.args.card actions run out d within spans t rings fine mid told e lines.lines log tears leaves left fewer lines.odometer noted (entering_by (length front) (Insert c.args.slot c.args.card)))
+    counted (is_err c.accept_in.result) c.accept_in.new.run c.accept_in.new.outcome last (c.accept_in.ensures.ringed (omega (arith, room, marks, rooms, was))) time in
+    inserted-ringed o done s front rest c.args.slot c.args.card actions run out d within spans t rings fine mid told e lines.lines log tears leaves left fewer lines.odometer noted
+    (is_err c.accept_in.result) c.accept_in.new.run c.accept_in.new.outcome last j
 
 -- ---- what is noted
 

@@ -12,7 +12,9 @@ use Rattle.run_opening.specs.Units.{IsClockBack}
 use Rattle.run_acts.specs.Going.{IsAt, IsFoundLater}
 use Rattle.run_acts.proofs.Standing.{cut-at}
 use Rattle.recorder_with_cards.proofs.Taken.{up-room, up-awake, up-lost}
-use Rattle.log_model.specs.Log.{In}
+use Rattle.log_model.specs.Log.{RunLog, In}
+use Rattle.run_course.proofs.Logs.{found_log}
+use Rattle.run_ringed.specs.SoFar.{RingedBehind}
 use Rattle.unit_journal.specs.Image.{IsFoundBy}
 use Rattle.safety_model.specs.Safe.{Devices}
 use Rattle.run_rule.specs.Between.{devices}
@@ -20,10 +22,12 @@ use Rattle.run_within.specs.Powering.{read_values}
 use Rattle.run_acts.specs.declared.run.Power.TheVariants.{Lit}
 use Rattle.run_acts.specs.Power.{is_lit}
 use Rattle.run_acts.specs.Room.{bare_seats}
-use Rattle.run_acts.specs.Recording.{values_of, InSecondBy, GoesOnOrCut}
+use Rattle.run_acts.specs.Recording.{log_of, values_of, InSecondBy, GoesOnOrCut}
+use Rattle.run_acts.specs.RunRinged.{seats_of}
 use Rattle.recorder_with_cards.proofs.ActsRecorded.{cut-in, cut}
 use Rattle.recorder_with_cards.proofs.ActsEvented.{in-evented_cut, in-evented_lit}
-use Rattle.recorder_with_cards.specs.Woken.{EventsWoken}
+use Rattle.recorder_with_cards.specs.Woken.{EventsWoken, RingsWoken}
+use Rattle.recorder_with_cards.proofs.WokenRinged.{learned-ringed, cut-ringed, lit-woken}
 use Rattle.recorder_with_cards.proofs.WokenEvented.{cut-woken}
 use Rattle.recorder_with_cards.proofs.Start.{if-err}
 use Rattle.recorder_with_cards.proofs.Read.{may-of, unit-tells, image-of, at-image, kept-early, learned}
@@ -157,7 +161,7 @@ returns-then-is_err-clause-evented g c = λ room o done s now all has time.
     let cut_is = cut o done s 0 s.actions mid c.cut.new.self c.resume.new.outcome (record c.resume.new.outcome { breaks = c.cut.new.breaks }) e rec.origin (now.number ∙ sym next) ([], refl, refl)
     (subst (λ (f : Bool). GoesOnOrCut f o done s (In 0) [] mid c.resume.new.outcome e) failed resumed) c.cut.ensures.run told in
     in-evented_cut o done s c.cut.new.self (record c.resume.new.outcome { breaks = c.cut.new.breaks }) e 0
-    (cut-woken o done s mid c.cut.new.self c.resume.new.outcome (record c.resume.new.outcome { breaks = c.cut.new.breaks }) e (subst (λ (f : Bool). EventsWoken f o done s mid c.resume.new.outcome e) failed woken) cut_is c.cut.ensures.run told (now.number ∙ sym next))
+    (cut-woken o done s mid c.cut.new.self c.resume.new.outcome (record c.resume.new.outcome { breaks = c.cut.new.breaks }) e (log_of (record out { breaks = c.learn.new.breaks })) (subst (λ (f : Bool). EventsWoken f (log_of (record out { breaks = c.learn.new.breaks })) o done s mid c.resume.new.outcome e) failed woken) cut_is c.cut.ensures.run told (now.number ∙ sym next))
 
 pub returns-clause-evented : goal.returns-clause-evented
 returns-clause-evented g c = λ room o done s now all has time.
@@ -178,7 +182,86 @@ returns-clause-evented g c = λ room o done s now all has time.
     let resumed = c.resume.ensures.recorded (omega (arith, room, same)) o rec.origin done s rec.supply (values_of run out) rec.recorded may now.number now.given values time in
     let woken = c.resume.ensures.evented (omega (arith, room, same)) o rec.origin done s rec.supply (values_of run out) rec.recorded may now.number now.given now.speed_is values all.evented limit time in
     let well : is_err c.resume.result ≡ false = sym c.is_err.ensures.value ∙ c.if-is_err.false in
-    in-evented_lit o done s mid c.resume.new.outcome e 0 (subst (λ (f : Bool). EventsWoken f o done s mid c.resume.new.outcome e) well woken)
+    in-evented_lit o done s mid c.resume.new.outcome e 0 (subst (λ (f : Bool). EventsWoken f (log_of (record out { breaks = c.learn.new.breaks })) o done s mid c.resume.new.outcome e) well woken).0
+
+-- ---- AND THE RINGS
+
+pub returns-in_err-judge_clock-clause-ringed : goal.returns-in_err-judge_clock-clause-ringed
+returns-in_err-judge_clock-clause-ringed g c = λ room o done s now all has time.
+    let run = c.args.run.now in
+    let out = c.args.outcome.now in
+    let rec = all.evented.recorded in
+    let U : State = g.M.Medium.state c.args.unit.now in
+    let X : State = g.C.Chip.state c.args.card_a.now in
+    let Y : State = g.D.Chip.state c.args.card_b.now in
+    let may = may-of run.power rec.supply run.next rec.powers c.requires.dark has in
+    let image = image-of U.image (unit-tells o done rec.supply (values_of run out) (devices U X Y) rec.recorded may) in
+    let early = kept-early o done rec.supply (values_of run out) (devices U X Y) rec.recorded may image.0 ((g.met.M.Medium.coherent c.args.unit.now).is_left image.0 image.1) in
+    let is = (at-image (IsFoundBy c.args.journal) U.image image.0 image.1 c.requires.loaded.found).kept in
+    let kept = c.last_kept-kept.ensures.kept in
+    let next = ap (λ (r : Run). r.next) c.learn.ensures.run in
+    let back = c.in_err-judge_clock.ensures.back.1 in
+    absurd (omega (arith, early, is, kept, next, back))
+
+pub returns-then-is_err-clause-ringed : goal.returns-then-is_err-clause-ringed
+returns-then-is_err-clause-ringed g c = λ room o done s now all has time.
+    let run = c.args.run.now in
+    let out = c.args.outcome.now in
+    let rec = all.evented.recorded in
+    let U : State = g.M.Medium.state c.args.unit.now in
+    let X : State = g.C.Chip.state c.args.card_a.now in
+    let Y : State = g.D.Chip.state c.args.card_b.now in
+    let may = may-of run.power rec.supply run.next rec.powers c.requires.dark has in
+    let mid : Run = c.resume.new.run in
+    let e : Devices = devices (g.M.Medium.state c.resume.new.unit) (g.C.Chip.state c.resume.new.card_a) (g.D.Chip.state c.resume.new.card_b) in
+    let kept = c.last_kept-kept.ensures.kept in
+    let values = learned run c.learn.new.self out c.learn.new.breaks c.last_kept-kept.result c.learn.ensures.run c.learn.ensures.breaks c.learn.ensures.same ∙ ap (λ (k : ℕ). read_values k (values_of run out)) kept in
+    let same = ap (λ (r : Run). bare_seats r.keeper.cabin.slots.seats) c.learn.ensures.run in
+    let next : mid.next ≡ run.next = c.resume.ensures.next ∙ ap (λ (r : Run). r.next) c.learn.ensures.run in
+    let limit = ap (λ (r : Run). r.keeper.memory.limit) c.learn.ensures.run ∙ all.evented.limit in
+    let resumed = c.resume.ensures.recorded (omega (arith, room, same)) o rec.origin done s rec.supply (values_of run out) rec.recorded may now.number now.given values time in
+    let woken = c.resume.ensures.evented (omega (arith, room, same)) o rec.origin done s rec.supply (values_of run out) rec.recorded may now.number now.given now.speed_is values all.evented.evented limit time in
+    let began : RunLog = log_of (record out { breaks = c.learn.new.breaks }) in
+    let log : began ≡ found_log run.unfound c.last_kept-kept.result (log_of out) = ap (λ (l : Listed Break). log_of (record out { breaks = l })) c.learn.ensures.breaks in
+    let noted = ap (λ (r : Run). r.noted) c.learn.ensures.run in
+    let counted = all.counted in
+    let ringed : RingedBehind o done began s.number all.spans (seats_of run) (devices U X Y) = subst (λ (l : RunLog). RingedBehind o done l s.number all.spans (seats_of run) (devices U X Y)) (sym log)
+    (learned-ringed o done (log_of out) run.unfound c.last_kept-kept.result run.next s.number rec.recorded.recorded.followed.order now.number all.spans (seats_of run) (devices U X Y) all.ringed) in
+    let rungs = c.resume.ensures.ringed (omega (arith, room, same)) o rec.origin done s rec.supply (values_of run out) rec.recorded may now.number now.given values all.spans (seats_of run) ringed (omega (arith, counted, noted)) time in
+    let failed : is_err c.resume.result ≡ true = sym c.is_err.ensures.value ∙ c.if-is_err.true in
+    let told = ap (λ (l : Listed Break). record c.resume.new.outcome { breaks = l }) c.cut.ensures.breaks in
+    let cut_is = cut o done s 0 s.actions mid c.cut.new.self c.resume.new.outcome (record c.resume.new.outcome { breaks = c.cut.new.breaks }) e rec.origin (now.number ∙ sym next) ([], refl, refl)
+    (subst (λ (f : Bool). GoesOnOrCut f o done s (In 0) [] mid c.resume.new.outcome e) failed resumed) c.cut.ensures.run told in
+    let cut_evented = cut-woken o done s mid c.cut.new.self c.resume.new.outcome (record c.resume.new.outcome { breaks = c.cut.new.breaks }) e began (subst (λ (f : Bool). EventsWoken f began o done s mid c.resume.new.outcome e) failed woken) cut_is c.cut.ensures.run told (now.number ∙ sym next) in
+    cut-ringed o done s mid c.cut.new.self c.resume.new.outcome (record c.resume.new.outcome { breaks = c.cut.new.breaks }) e began all.spans (subst (λ (f : Bool). RingsWoken f began o done s all.spans mid (log_of c.resume.new.outcome) e) failed rungs) cut_evented c.cut.ensures.run told (now.number ∙ sym next) 0
+
+pub returns-clause-ringed : goal.returns-clause-ringed
+returns-clause-ringed g c = λ room o done s now all has time.
+    let run = c.args.run.now in
+    let out = c.args.outcome.now in
+    let rec = all.evented.recorded in
+    let U : State = g.M.Medium.state c.args.unit.now in
+    let X : State = g.C.Chip.state c.args.card_a.now in
+    let Y : State = g.D.Chip.state c.args.card_b.now in
+    let may = may-of run.power rec.supply run.next rec.powers c.requires.dark has in
+    let mid : Run = c.resume.new.run in
+    let e : Devices = devices (g.M.Medium.state c.resume.new.unit) (g.C.Chip.state c.resume.new.card_a) (g.D.Chip.state c.resume.new.card_b) in
+    let kept = c.last_kept-kept.ensures.kept in
+    let values = learned run c.learn.new.self out c.learn.new.breaks c.last_kept-kept.result c.learn.ensures.run c.learn.ensures.breaks c.learn.ensures.same ∙ ap (λ (k : ℕ). read_values k (values_of run out)) kept in
+    let same = ap (λ (r : Run). bare_seats r.keeper.cabin.slots.seats) c.learn.ensures.run in
+    let next : mid.next ≡ run.next = c.resume.ensures.next ∙ ap (λ (r : Run). r.next) c.learn.ensures.run in
+    let limit = ap (λ (r : Run). r.keeper.memory.limit) c.learn.ensures.run ∙ all.evented.limit in
+    let woken = c.resume.ensures.evented (omega (arith, room, same)) o rec.origin done s rec.supply (values_of run out) rec.recorded may now.number now.given now.speed_is values all.evented.evented limit time in
+    let began : RunLog = log_of (record out { breaks = c.learn.new.breaks }) in
+    let log : began ≡ found_log run.unfound c.last_kept-kept.result (log_of out) = ap (λ (l : Listed Break). log_of (record out { breaks = l })) c.learn.ensures.breaks in
+    let noted = ap (λ (r : Run). r.noted) c.learn.ensures.run in
+    let counted = all.counted in
+    let ringed : RingedBehind o done began s.number all.spans (seats_of run) (devices U X Y) = subst (λ (l : RunLog). RingedBehind o done l s.number all.spans (seats_of run) (devices U X Y)) (sym log)
+    (learned-ringed o done (log_of out) run.unfound c.last_kept-kept.result run.next s.number rec.recorded.recorded.followed.order now.number all.spans (seats_of run) (devices U X Y) all.ringed) in
+    let rungs = c.resume.ensures.ringed (omega (arith, room, same)) o rec.origin done s rec.supply (values_of run out) rec.recorded may now.number now.given values all.spans (seats_of run) ringed (omega (arith, counted, noted)) time in
+    let well : is_err c.resume.result ≡ false = sym c.is_err.ensures.value ∙ c.if-is_err.false in
+    lit-woken o done s mid c.resume.new.outcome e began all.spans (subst (λ (f : Bool). EventsWoken f began o done s mid c.resume.new.outcome e) well woken)
+    (subst (λ (f : Bool). RingsWoken f began o done s all.spans mid (log_of c.resume.new.outcome) e) well rungs)
 
 -- ---- what is noted
 

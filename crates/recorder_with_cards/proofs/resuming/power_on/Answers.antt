@@ -14,6 +14,12 @@ use Rattle.run_evented.proofs.Dark.{power-on_broken}
 use Rattle.run_evented.proofs.Seconds.{events-stay}
 use Rattle.recorder_with_cards.proofs.ActsEvented.{in-evented_cut}
 use Rattle.recorder_with_cards.proofs.WokenEvented.{cut-woken}
+use Rattle.log_model.specs.Course.{went}
+use Rattle.run_ringed.specs.SoFar.{RingedBehind}
+use Rattle.run_ringed.specs.Steps.{spans_cut}
+use Rattle.run_ringed.proofs.Waking.{behind-stays}
+use Rattle.run_acts.specs.RunRinged.{seats_of, with_cut}
+use Rattle.recorder_with_cards.proofs.WokenRinged.{read-leaves, comes-of, unpowered-ringed, cut-ringed}
 use Rattle.recorder_with_cards.proofs.CutOff.{cut-as}
 use Rattle.recorder_with_cards.proofs.Read.{may-of, read-on, left-on, unit-tells, unit-decodes, not-bad, image-of, at-image}
 use Rattle.run_acts.specs.declared.run.Run.{Run}
@@ -156,7 +162,87 @@ returns-in-Err-Failed-clause-evented g c = λ room o done s now all has time.
     let cut_is : RunCut o done s c.cut.new.self (record out { breaks = c.cut.new.breaks }) e = subst (λ (r : Run). RunCut o done s r (record out { breaks = c.cut.new.breaks }) e) (sym c.cut.ensures.run)
     (subst (λ (l : Listed Break). RunCut o done s (cut_run run.next run) (record out { breaks = l }) e) (sym c.cut.ensures.breaks) cut) in
     let broken = power-on_broken d e o done (progress (values_of run out) rec.supply rec.recorded.book) rec.recorded.recorded.followed all.evented may s now.number now.given (breakdowns_of d) (breakdowns_of e) unread.goes.breakdowns unread.broke (read-says U V c.load.ensures.leaves) unread.goes.left in
-    in-evented_cut o done s c.cut.new.self (record out { breaks = c.cut.new.breaks }) e 0 (cut-woken o done s run c.cut.new.self out (record out { breaks = c.cut.new.breaks }) e (broken, all.limit) cut_is c.cut.ensures.run told now.number)
+    in-evented_cut o done s c.cut.new.self (record out { breaks = c.cut.new.breaks }) e 0 (cut-woken o done s run c.cut.new.self out (record out { breaks = c.cut.new.breaks }) e (log_of out) (broken, all.limit) cut_is c.cut.ensures.run told now.number)
+
+-- ---- AND THE RINGS
+
+pub returns-in-Ok-clause-ringed : goal.returns-in-Ok-clause-ringed
+returns-in-Ok-clause-ringed g c = λ room o done s now all has time.
+    let run = c.args.run.now in
+    let out = c.args.outcome.now in
+    let rec = all.evented.recorded in
+    let U : State = g.M.Medium.state c.args.unit.now in
+    let V : State = g.M.Medium.state c.load.new.unit in
+    let X : State = g.C.Chip.state c.args.card_a.now in
+    let Y : State = g.D.Chip.state c.args.card_b.now in
+    let whole = g.met.M.Medium.coherent c.args.unit.now in
+    let may = may-of run.power rec.supply run.next rec.powers c.requires.dark has in
+    let read = read-on o done rec.supply (values_of run out) (devices U X Y) rec.recorded may V whole c.load.ensures.leaves c.load.ensures.cause.breakdowns in
+    let left = left-on o done rec.supply (values_of run out) (devices U X Y) rec.recorded may V whole c.load.ensures.leaves c.load.ensures.cause.breakdowns in
+    c.found.ensures.ringed room o done s now (record {
+      evented = record {
+        recorded = record {
+          origin = rec.origin;
+          supply = rec.supply;
+          powers = rec.powers;
+          recorded = read;
+          odometer = λ lit. absurd (let bad : false ≡ true = sym c.requires.dark ∙ ap is_lit lit in cc);
+        };
+        evented = events-stay (devices U X Y) (devices V X Y) o done (log_of out) run.unfound run.next rec.supply all.evented.evented (read-says U V c.load.ensures.leaves) left;
+        limit = all.evented.limit;
+        watched = λ lit. absurd (let bad : false ≡ true = sym c.requires.dark ∙ ap is_lit lit in cc);
+      };
+      spans = all.spans;
+      base = λ lit. absurd (let bad : false ≡ true = sym c.requires.dark ∙ ap is_lit lit in cc);
+      counted = all.counted;
+      ringed = behind-stays (devices U X Y) (devices V X Y) o done (log_of out) run.next all.spans (seats_of run) all.ringed (read-leaves U V whole c.load.ensures.leaves) left;
+    }) has time
+
+pub returns-in-Err-BadUnit-clause-ringed : goal.returns-in-Err-BadUnit-clause-ringed
+returns-in-Err-BadUnit-clause-ringed g c = λ room o done s now all has time.
+    let run = c.args.run.now in
+    let out = c.args.outcome.now in
+    let rec = all.evented.recorded in
+    let U : State = g.M.Medium.state c.args.unit.now in
+    let V : State = g.M.Medium.state c.load.new.unit in
+    let X : State = g.C.Chip.state c.args.card_a.now in
+    let Y : State = g.D.Chip.state c.args.card_b.now in
+    let whole = g.met.M.Medium.coherent c.args.unit.now in
+    let may = may-of run.power rec.supply run.next rec.powers c.requires.dark has in
+    let read = read-on o done rec.supply (values_of run out) (devices U X Y) rec.recorded may V whole c.load.ensures.leaves c.load.ensures.cause.breakdowns in
+    let after = g.met.M.Medium.coherent c.load.new.unit in
+    let image = image-of V.image (unit-tells o done rec.supply (values_of run out) (devices V X Y) read may) in
+    let decodes = unit-decodes o done rec.supply (values_of run out) (devices V X Y) read may after image.0 (after.is_left image.0 image.1) in
+    let bad = rw c.in-Err-BadUnit.field-0-is at c.in-Err-BadUnit.ensures.bad in
+    absurd (not-bad image.0 c.in-Err-BadUnit.place decodes (at-image (λ (x : List ℕ). first_bad_place x ≡ Some c.in-Err-BadUnit.place) V.image image.0 image.1 bad))
+
+pub returns-in-Err-Failed-clause-ringed : goal.returns-in-Err-Failed-clause-ringed
+returns-in-Err-Failed-clause-ringed g c = λ room o done s now all has time.
+    let run = c.args.run.now in
+    let out = c.args.outcome.now in
+    let rec = all.evented.recorded in
+    let U : State = g.M.Medium.state c.args.unit.now in
+    let V : State = g.M.Medium.state c.load.new.unit in
+    let X : State = g.C.Chip.state c.args.card_a.now in
+    let Y : State = g.D.Chip.state c.args.card_b.now in
+    let whole = g.met.M.Medium.coherent c.args.unit.now in
+    let may = may-of run.power rec.supply run.next rec.powers c.requires.dark has in
+    let d : Devices = devices U X Y in
+    let e : Devices = devices V X Y in
+    let cause = rw c.in-Err-Failed.field-0-is at c.in-Err-Failed.ensures.cause in
+    let unread = not-read o done rec.supply (values_of run out) d rec.recorded may V whole c.load.ensures.leaves cause in
+    let lost = reading-fails d e o done s rec.supply (values_of run out) rec.recorded may now.number now.given unread in
+    let cut = cut-as e o done s 0 run out rec.origin now.number lost in
+    let told = ap (λ (l : Listed Break). record out { breaks = l }) c.cut.ensures.breaks in
+    let cut_is : RunCut o done s c.cut.new.self (record out { breaks = c.cut.new.breaks }) e = subst (λ (r : Run). RunCut o done s r (record out { breaks = c.cut.new.breaks }) e) (sym c.cut.ensures.run)
+    (subst (λ (l : Listed Break). RunCut o done s (cut_run run.next run) (record out { breaks = l }) e) (sym c.cut.ensures.breaks) cut) in
+    let broken = power-on_broken d e o done (progress (values_of run out) rec.supply rec.recorded.book) rec.recorded.recorded.followed all.evented.evented may s now.number now.given (breakdowns_of d) (breakdowns_of e) unread.goes.breakdowns unread.broke (read-says U V c.load.ensures.leaves) unread.goes.left in
+    let cut_evented = cut-woken o done s run c.cut.new.self out (record out { breaks = c.cut.new.breaks }) e (log_of out) (broken, all.evented.limit) cut_is c.cut.ensures.run told now.number in
+    let progressed = progress (values_of run out) rec.supply rec.recorded.book in
+    let behind = behind-stays d e o done (log_of out) run.next all.spans (seats_of run) all.ringed (read-leaves U V whole c.load.ensures.leaves) unread.goes.left in
+    let rung = unpowered-ringed o done s progressed rec.recorded.recorded.followed (comes-of progressed.supply (went (log_of out) done).before run.next may rec.recorded.recorded.followed.power) now.number now.given e all.spans (seats_of run)
+    (subst (λ (m : ℕ). RingedBehind o done (log_of out) m all.spans (seats_of run) e) (sym now.number) behind) run.keeper.odometer in
+    cut-ringed o done s run c.cut.new.self out (record out { breaks = c.cut.new.breaks }) e (log_of out) all.spans (spans_cut all.spans run.keeper.odometer (with_cut (log_of out) s []) done s, all.counted, rung) cut_evented c.cut.ensures.run told now.number 0
 
 -- ---- what is noted
 

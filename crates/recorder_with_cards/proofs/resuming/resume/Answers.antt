@@ -32,7 +32,15 @@ use Rattle.run_acts.specs.Recording.{GoesOnOrCut}
 use Rattle.run_acts.proofs.NoteRecorded.{goes-plain}
 use Rattle.recorder_with_cards.specs.Judged.{moment_in}
 use Rattle.recorder_with_cards.proofs.Resumed.{RunWaking, waiting_in, at-once, wholes-of, kept-of, same-devices, awake, awake-is, unmended, unmended-read, within-of, driver-judged, codriver-judged, codriver-power, codriver-on, comes-waking}
-use Rattle.recorder_with_cards.specs.Woken.{EventsWoken}
+use Rattle.recorder_with_cards.specs.Woken.{EventsWoken, RingsWoken}
+use Rattle.log_model.specs.Course.{Told, went, second_told}
+use Rattle.run_within.specs.Waking.{both_slots}
+use Rattle.run_ringed.specs.SoFar.{RingedBehind}
+use Rattle.run_ringed.specs.Steps.{nobody, spans_cut}
+use Rattle.run_ringed.proofs.Waking.{behind-stays}
+use Rattle.run_acts.specs.Ringing.{seating_of}
+use Rattle.run_acts.specs.RunRinged.{RingsWithin, RingsGoOn, with_cut}
+use Rattle.recorder_with_cards.proofs.WokenRinged.{WakesRinged, in-both, mend-leaves, unpowered-ringed, wakes-ringed, driver-ringed, codriver-ringed, woken-rings}
 use Rattle.recorder_with_cards.proofs.WokenEvented.{WakesEvented, unmended-evented, wakes-evented, driver-evented, codriver-evented, anew-limit, woken-fails, woken-on, woken-ends, none-woken, gap-woken, here-empty, begun-watched, gap-memory, none-told, some-told}
 use Rattle.log_model.specs.Log.{RunLog}
 use Rattle.unit_course.specs.Lines.{cut_at}
@@ -610,8 +618,8 @@ returns-in_err-mend-clause-evented g c = λ room o origin done s supply v r may 
     W true c.mend.ensures.moments c.mend.ensures.tells bad.cause c.mend.ensures.holds bad.first bad.second run out values refl in
     let lost = unmended-evented o done s supply v (devices U X Y) (devices W X Y) r may number given c.args.journal.kept evented quiet read.left read.followed read in
     let failed : true ≡ is_err c.from_residual.result = search rules in
-    subst (λ (f : Bool). EventsWoken f o done s run out (devices W X Y)) failed
-    (woken-fails o done s (found_again c.args.journal.kept (progress v supply r.book)) Waking run out (devices W X Y)
+    subst (λ (f : Bool). EventsWoken f (log_of c.args.outcome.now) o done s run out (devices W X Y)) failed
+    (woken-fails o done s (found_again c.args.journal.kept (progress v supply r.book)) Waking run out (devices W X Y) (log_of out)
     (subst (λ (l : RunLog). Evented o (done ++ s ∷ []) (and_break l (cut_at s.number true 0)) (found_again c.args.journal.kept (progress v supply r.book)).unfound (suc v.next) Lost (devices W X Y)) (sym (ap (λ (x : Values). x.log) values)) lost)
     (sym (ap (λ (x : Values). x.unfound) values)) (sym (ap (λ (x : Values). x.next) values)) limit)
 
@@ -659,8 +667,8 @@ returns-in_err-accept_anew-clause-evented g c = λ room o origin done s supply v
     let next_one : woke.0.run.next ≡ one.next = ap (λ (q : Progress). q.next) is.0 ∙ sym (ap (λ (x : Values). x.next) values) ∙ sym begun.next ∙ sym (ap (λ (r : Run). r.next) c.accept_anew.ensures.only) in
     let fails : is_err c.accept_anew.result ≡ true = search rules in
     let failed : true ≡ is_err c.from_residual-in_err-accept_anew.result = search rules in
-    subst (λ (f : Bool). EventsWoken f o done s one out1 (devices V1 X1 Y1)) failed
-    (woken-fails o done s woke.0.run Waking one out1 (devices V1 X1 Y1) (subst (λ (f : Bool). EventsGoOn f o done s woke.0.run (In 0) Waking (log_of out1) (devices V1 X1 Y1)) fails one_evented) unfound_one next_one limit_one)
+    subst (λ (f : Bool). EventsWoken f (log_of c.args.outcome.now) o done s one out1 (devices V1 X1 Y1)) failed
+    (woken-fails o done s woke.0.run Waking one out1 (devices V1 X1 Y1) (log_of c.args.outcome.now) (subst (λ (f : Bool). EventsGoOn f o done s woke.0.run (In 0) Waking (log_of out1) (devices V1 X1 Y1)) fails one_evented) unfound_one next_one limit_one)
 
 pub returns-in_err-accept_anew-2-clause-evented : goal.returns-in_err-accept_anew-2-clause-evented
 returns-in_err-accept_anew-2-clause-evented g c = λ room o origin done s supply v r may number given speed_is values evented limit time.
@@ -734,8 +742,8 @@ returns-in_err-accept_anew-2-clause-evented g c = λ room o origin done s supply
     let next_two : woke.0.run.next ≡ two.next = next_one ∙ sym (ap (λ (r : Run). r.next) c.accept_anew-2.ensures.only) in
     let fails : is_err c.accept_anew-2.result ≡ true = search rules in
     let failed : true ≡ is_err c.from_residual-in_err-accept_anew-2.result = search rules in
-    subst (λ (f : Bool). EventsWoken f o done s two out2 (devices V2 X2 Y2)) failed
-    (woken-fails o done s woke.0.run Waking two out2 (devices V2 X2 Y2) (subst (λ (f : Bool). EventsGoOn f o done s woke.0.run (In 0) Waking (log_of out2) (devices V2 X2 Y2)) fails two_evented) unfound_two next_two limit_two)
+    subst (λ (f : Bool). EventsWoken f (log_of c.args.outcome.now) o done s two out2 (devices V2 X2 Y2)) failed
+    (woken-fails o done s woke.0.run Waking two out2 (devices V2 X2 Y2) (log_of c.args.outcome.now) (subst (λ (f : Bool). EventsGoOn f o done s woke.0.run (In 0) Waking (log_of out2) (devices V2 X2 Y2)) fails two_evented) unfound_two next_two limit_two)
 
 pub returns-then-is_first-clause-evented : goal.returns-then-is_first-clause-evented
 returns-then-is_first-clause-evented g c = λ room o origin done s supply v r may number given speed_is values evented limit time.
@@ -822,6 +830,7 @@ returns-then-is_first-clause-evented g c = λ room o origin done s supply v r ma
     let x = within-of o done s woke.0 [] [] two out2 (devices V2 X2 Y2) both in
     woken-on o done s x.within.b two out2 (devices V2 X2 Y2) (here-empty o origin done s supply v (devices U X Y) (devices W X Y) r may number given k evented quiet is.2 woken.2 woke.0 is.0 is.1 woken.0.bare two out2 (devices V2 X2 Y2) both noted_two (ungiven_of lit.span) lit.cabin small)
     x refl noted limit_two (begun-watched o run mid two c.mend.new.journal begun limit watch_two)
+    (log_of c.args.outcome.now) (ap (λ (b : Beginning). b.run.log) both.waking.began ∙ ap (λ (q : Progress). q.log) is.0 ∙ sym (ap (λ (x : Values). x.log) values))
 
 pub returns-clause-evented : goal.returns-clause-evented
 returns-clause-evented g c = λ room o origin done s supply v r may number given speed_is values evented limit time.
@@ -925,6 +934,302 @@ returns-clause-evented g c = λ room o origin done s supply v r may number given
     woken-ends o done s x.within.b empty (is_err c.note_gap.result) new out3 (devices V3 X3 Y3) (c.note_gap.ensures.recorded o done s out2 x (λ first. comes)) noted
     (ap (λ (b : Beginning). b.run.unfound) began ∙ unfound_two ∙ sym (ap (λ (r : Run). r.unfound) c.note_gap.ensures.only)) (ap (λ (b : Beginning). b.run.next) began ∙ next_two ∙ sym (ap (λ (r : Run). r.next) c.note_gap.ensures.only))
     (ap (λ (m : Identity). m.limit) stays ∙ limit_two) (begun-watched o run mid new c.mend.new.journal begun limit (ap (λ (r : Run). r.watch) c.note_gap.ensures.only ∙ watch_two))
+    (log_of c.args.outcome.now) (ap (λ (b : Beginning). b.run.log) began ∙ ap (λ (q : Progress). q.log) is.0 ∙ sym (ap (λ (x : Values). x.log) values))
+
+-- ---- the rings
+
+pub returns-in_err-mend-clause-ringed : goal.returns-in_err-mend-clause-ringed
+returns-in_err-mend-clause-ringed g c = λ room o origin done s supply v r may number given values spans seats ringed counted time.
+    let U : State = g.M.Medium.state c.args.unit.now in
+    let X : State = g.C.Chip.state c.args.card_a.now in
+    let Y : State = g.D.Chip.state c.args.card_b.now in
+    let W : State = g.M.Medium.state c.mend.new.unit in
+    let run = c.args.run.now in
+    let out = c.args.outcome.now in
+    let bad = c.in_err-mend.ensures in
+    let loaded = c.requires.loaded in
+    let read = unmended-read o origin done s supply v U X Y r may number given (g.met.M.Medium.coherent c.args.unit.now) (wholes-of U X Y (g.met.C.Chip.coherent c.args.card_a.now) (g.met.D.Chip.coherent c.args.card_b.now)) loaded.works c.args.journal (kept-of c.args.journal U.image loaded.found)
+    W true c.mend.ensures.moments c.mend.ensures.tells bad.cause c.mend.ensures.holds bad.first bad.second run out values refl in
+    let q : Progress = found_again c.args.journal.kept (progress v supply r.book) in
+    let log : log_of out ≡ q.log = ap (λ (x : Values). x.log) values in
+    let behind = behind-stays (devices U X Y) (devices W X Y) o done (log_of out) s.number spans seats ringed (mend-leaves c.args.journal U W (g.met.M.Medium.coherent c.args.unit.now) c.mend.ensures.moments) read.left in
+    let cut = unpowered-ringed o done s q read.followed read.followed.power number given (devices W X Y) spans seats (subst (λ (l : RunLog). RingedBehind o done l s.number spans seats (devices W X Y)) log behind) run.keeper.odometer in
+    let failed : true ≡ is_err c.from_residual.result = search rules in
+    subst (λ (f : Bool). RingsWoken f (log_of out) o done s spans run (log_of out) (devices W X Y)) failed
+    (spans_cut spans run.keeper.odometer (with_cut q.log s []) done s, counted, subst (λ (l : RunLog). RingedBehind o (done ++ s ∷ []) (with_cut l s []) (suc s.number) (spans_cut spans run.keeper.odometer (with_cut q.log s []) done s) nobody (devices W X Y)) (sym log) cut)
+
+pub returns-in_err-accept_anew-clause-ringed : goal.returns-in_err-accept_anew-clause-ringed
+returns-in_err-accept_anew-clause-ringed g c = λ room o origin done s supply v r may number given values spans seats ringed counted time.
+    let run = c.args.run.now in
+    let out = c.args.outcome.now in
+    let mid : Run = c.begin_span.new.self in
+    let begun = c.begin_span.ensures.begun in
+    let U : State = g.M.Medium.state c.args.unit.now in
+    let X : State = g.C.Chip.state c.args.card_a.now in
+    let Y : State = g.D.Chip.state c.args.card_b.now in
+    let W : State = g.M.Medium.state c.mend.new.unit in
+    let k : ℕ = c.args.journal.kept in
+    let ok = c.in_ok-mend.ensures in
+    let loaded = c.requires.loaded in
+    let woke = awake o origin done s supply v U X Y r may number given (g.met.M.Medium.coherent c.args.unit.now) (wholes-of U X Y (g.met.C.Chip.coherent c.args.card_a.now) (g.met.D.Chip.coherent c.args.card_b.now)) loaded.works c.args.journal (kept-of c.args.journal U.image loaded.found)
+    W false c.mend.ensures.moments c.mend.ensures.tells ok.cause c.mend.ensures.holds ok.first ok.second run c.args.outcome.now values refl c.mend.new.journal ok.agrees mid begun (g.met.M.Medium.coherent c.mend.new.unit) in
+    let is = awake-is o origin done s supply v U X Y r may number given (g.met.M.Medium.coherent c.args.unit.now) (wholes-of U X Y (g.met.C.Chip.coherent c.args.card_a.now) (g.met.D.Chip.coherent c.args.card_b.now)) loaded.works c.args.journal (kept-of c.args.journal U.image loaded.found)
+    W false c.mend.ensures.moments c.mend.ensures.tells ok.cause c.mend.ensures.holds ok.first ok.second run c.args.outcome.now values refl c.mend.new.journal ok.agrees mid begun (g.met.M.Medium.coherent c.mend.new.unit) in
+    let dark = c.requires.going.dark c.requires.dark in
+    let cards = run.keeper.cabin.cards in
+    let cabin = ap (λ (k : Keeper). k.cabin) begun.keeper in
+    let bare = subst (λ (b : Cabin). IsBare b.slots.seats.driver) (sym cabin) (dark-bare 0 cards run.keeper.cabin.slots.seats.driver dark.bare (dark.stands 0).driver) in
+    let few = ap (λ (b : Cabin). bare_count b.slots.seats.driver) cabin in
+    let now : c.moment-at.result ≡ moment_in s 0 = c.moment-at.ensures ∙ ap (λ (m : ℕ). record { second = m; begun = 0; late = false }) (begun.next ∙ ap (λ (x : Values). x.next) values ∙ sym number) in
+    let one : Run = c.accept_anew.new.run in
+    let out1 : Outcome = c.accept_anew.new.outcome in
+    let V1 : State = g.M.Medium.state c.accept_anew.new.unit in
+    let X1 : State = g.C.Chip.state c.accept_anew.new.card_a in
+    let Y1 : State = g.D.Chip.state c.accept_anew.new.card_b in
+    let first_card = card_in mid.keeper.cabin.slots.seats.driver in
+    let others = waiting_in CoDriver (card_in mid.keeper.cabin.slots.seats.codriver) in
+    let once = at-once CoDriver (card_in mid.keeper.cabin.slots.seats.codriver) in
+    let t : Told = second_told (log_of out) (went (log_of out) done).before s in
+    let log0 : woke.0.run.log ≡ log_of out = ap (λ (q : Progress). q.log) is.0 ∙ sym (ap (λ (x : Values). x.log) values) in
+    let mended = behind-stays (devices U X Y) (devices W X Y) o done (log_of out) s.number spans seats ringed (mend-leaves c.args.journal U W (g.met.M.Medium.coherent c.args.unit.now) c.mend.ensures.moments) is.2 in
+    let noted : mid.noted ≡ run.noted = begun.noted in
+    let starts : WakesRinged o done s woke.0 (waiting_in Driver first_card ++ others) both_slots spans t mid out (devices W X Y) =
+    wakes-ringed o done s woke.0 (waiting_in Driver first_card ++ others) mid out (devices W X Y) woke.1 (sym log0) spans seats mended
+    (λ card. ap (option_map (seating_of mid.noted)) (ap (λ (b : Cabin). session_of b.cards card) cabin ∙ dark.bare card)) (omega (arith, counted, noted)) in
+    let recorded_one = c.accept_anew.ensures.recorded (omega (arith, room, few)) in
+    let one_ringed : RingsGoOn (is_err c.accept_anew.result) o done s woke.0.run.log [] one (log_of out1) spans t (devices V1 X1 Y1) =
+    driver-ringed o done s woke.0 first_card others mid out (devices W X Y) spans t starts (woke.1.waking.none CoDriver (in-both CoDriver)) once refl bare c.moment-at.result now c.args.speed (is_err c.accept_anew.result) one out1 c.accept_anew.ensures.accepted (devices V1 X1 Y1)
+    (λ none P. same-devices P g.M.Medium.state g.C.Chip.state g.D.Chip.state c.mend.new.unit c.accept_anew.new.unit c.args.card_a.now c.accept_anew.new.card_a c.args.card_b.now c.accept_anew.new.card_b (c.accept_anew.ensures.still none)) time recorded_one
+    (c.accept_anew.ensures.ringed (omega (arith, room, few))) in
+    let failed : is_err c.accept_anew.result ≡ is_err c.from_residual-in_err-accept_anew.result = search rules in
+    subst (λ (f : Bool). RingsWoken f (log_of out) o done s spans one (log_of out1) (devices V1 X1 Y1)) failed
+    (woken-rings (is_err c.accept_anew.result) o done s woke.0.run.log (log_of out) spans t one (log_of out1) (devices V1 X1 Y1) log0 one_ringed)
+
+pub returns-in_err-accept_anew-2-clause-ringed : goal.returns-in_err-accept_anew-2-clause-ringed
+returns-in_err-accept_anew-2-clause-ringed g c = λ room o origin done s supply v r may number given values spans seats ringed counted time.
+    let run = c.args.run.now in
+    let out = c.args.outcome.now in
+    let mid : Run = c.begin_span.new.self in
+    let begun = c.begin_span.ensures.begun in
+    let U : State = g.M.Medium.state c.args.unit.now in
+    let X : State = g.C.Chip.state c.args.card_a.now in
+    let Y : State = g.D.Chip.state c.args.card_b.now in
+    let W : State = g.M.Medium.state c.mend.new.unit in
+    let k : ℕ = c.args.journal.kept in
+    let ok = c.in_ok-mend.ensures in
+    let loaded = c.requires.loaded in
+    let woke = awake o origin done s supply v U X Y r may number given (g.met.M.Medium.coherent c.args.unit.now) (wholes-of U X Y (g.met.C.Chip.coherent c.args.card_a.now) (g.met.D.Chip.coherent c.args.card_b.now)) loaded.works c.args.journal (kept-of c.args.journal U.image loaded.found)
+    W false c.mend.ensures.moments c.mend.ensures.tells ok.cause c.mend.ensures.holds ok.first ok.second run c.args.outcome.now values refl c.mend.new.journal ok.agrees mid begun (g.met.M.Medium.coherent c.mend.new.unit) in
+    let is = awake-is o origin done s supply v U X Y r may number given (g.met.M.Medium.coherent c.args.unit.now) (wholes-of U X Y (g.met.C.Chip.coherent c.args.card_a.now) (g.met.D.Chip.coherent c.args.card_b.now)) loaded.works c.args.journal (kept-of c.args.journal U.image loaded.found)
+    W false c.mend.ensures.moments c.mend.ensures.tells ok.cause c.mend.ensures.holds ok.first ok.second run c.args.outcome.now values refl c.mend.new.journal ok.agrees mid begun (g.met.M.Medium.coherent c.mend.new.unit) in
+    let dark = c.requires.going.dark c.requires.dark in
+    let cards = run.keeper.cabin.cards in
+    let cabin = ap (λ (k : Keeper). k.cabin) begun.keeper in
+    let bare = subst (λ (b : Cabin). IsBare b.slots.seats.driver) (sym cabin) (dark-bare 0 cards run.keeper.cabin.slots.seats.driver dark.bare (dark.stands 0).driver) in
+    let few = ap (λ (b : Cabin). bare_count b.slots.seats.driver) cabin in
+    let now : c.moment-at.result ≡ moment_in s 0 = c.moment-at.ensures ∙ ap (λ (m : ℕ). record { second = m; begun = 0; late = false }) (begun.next ∙ ap (λ (x : Values). x.next) values ∙ sym number) in
+    let one : Run = c.accept_anew.new.run in
+    let out1 : Outcome = c.accept_anew.new.outcome in
+    let V1 : State = g.M.Medium.state c.accept_anew.new.unit in
+    let X1 : State = g.C.Chip.state c.accept_anew.new.card_a in
+    let Y1 : State = g.D.Chip.state c.accept_anew.new.card_b in
+    let first_card = card_in mid.keeper.cabin.slots.seats.driver in
+    let others = waiting_in CoDriver (card_in mid.keeper.cabin.slots.seats.codriver) in
+    let once = at-once CoDriver (card_in mid.keeper.cabin.slots.seats.codriver) in
+    let t : Told = second_told (log_of out) (went (log_of out) done).before s in
+    let log0 : woke.0.run.log ≡ log_of out = ap (λ (q : Progress). q.log) is.0 ∙ sym (ap (λ (x : Values). x.log) values) in
+    let mended = behind-stays (devices U X Y) (devices W X Y) o done (log_of out) s.number spans seats ringed (mend-leaves c.args.journal U W (g.met.M.Medium.coherent c.args.unit.now) c.mend.ensures.moments) is.2 in
+    let noted : mid.noted ≡ run.noted = begun.noted in
+    let starts : WakesRinged o done s woke.0 (waiting_in Driver first_card ++ others) both_slots spans t mid out (devices W X Y) =
+    wakes-ringed o done s woke.0 (waiting_in Driver first_card ++ others) mid out (devices W X Y) woke.1 (sym log0) spans seats mended
+    (λ card. ap (option_map (seating_of mid.noted)) (ap (λ (b : Cabin). session_of b.cards card) cabin ∙ dark.bare card)) (omega (arith, counted, noted)) in
+    let recorded_one = c.accept_anew.ensures.recorded (omega (arith, room, few)) in
+    let one_ringed : RingsGoOn (is_err c.accept_anew.result) o done s woke.0.run.log [] one (log_of out1) spans t (devices V1 X1 Y1) =
+    driver-ringed o done s woke.0 first_card others mid out (devices W X Y) spans t starts (woke.1.waking.none CoDriver (in-both CoDriver)) once refl bare c.moment-at.result now c.args.speed (is_err c.accept_anew.result) one out1 c.accept_anew.ensures.accepted (devices V1 X1 Y1)
+    (λ none P. same-devices P g.M.Medium.state g.C.Chip.state g.D.Chip.state c.mend.new.unit c.accept_anew.new.unit c.args.card_a.now c.accept_anew.new.card_a c.args.card_b.now c.accept_anew.new.card_b (c.accept_anew.ensures.still none)) (time-before (devices V1 X1 Y1) (devices (g.M.Medium.state c.accept_anew-2.new.unit) (g.C.Chip.state c.accept_anew-2.new.card_a) (g.D.Chip.state c.accept_anew-2.new.card_b)) c.accept_anew-2.ensures.clock c.accept_anew-2.ensures.clock_a c.accept_anew-2.ensures.clock_b time) recorded_one
+    (c.accept_anew.ensures.ringed (omega (arith, room, few))) in
+    let first = driver-judged o done s woke.0 first_card others mid c.args.outcome.now (devices W X Y) woke.1 once refl bare c.moment-at.result now c.args.speed (is_err c.accept_anew.result) one out1 c.accept_anew.ensures.accepted (devices V1 X1 Y1)
+    (λ none P. same-devices P g.M.Medium.state g.C.Chip.state g.D.Chip.state c.mend.new.unit c.accept_anew.new.unit c.args.card_a.now c.accept_anew.new.card_a c.args.card_b.now c.accept_anew.new.card_b (c.accept_anew.ensures.still none)) (time-before (devices V1 X1 Y1) (devices (g.M.Medium.state c.accept_anew-2.new.unit) (g.C.Chip.state c.accept_anew-2.new.card_a) (g.D.Chip.state c.accept_anew-2.new.card_b)) c.accept_anew-2.ensures.clock c.accept_anew-2.ensures.clock_a c.accept_anew-2.ensures.clock_b time) recorded_one in
+    let well : is_err c.accept_anew.result ≡ false = search rules in
+    let two : Run = c.accept_anew-2.new.run in
+    let out2 : Outcome = c.accept_anew-2.new.outcome in
+    let V2 : State = g.M.Medium.state c.accept_anew-2.new.unit in
+    let X2 : State = g.C.Chip.state c.accept_anew-2.new.card_a in
+    let Y2 : State = g.D.Chip.state c.accept_anew-2.new.card_b in
+    let beside : seat_in one.keeper.cabin.slots.seats CoDriver ≡ seat_in mid.keeper.cabin.slots.seats CoDriver = c.accept_anew.ensures.beside in
+    let bare_too = subst IsBare (sym (beside ∙ ap (λ (b : Cabin). b.slots.seats.codriver) cabin)) (dark-bare 0 cards run.keeper.cabin.slots.seats.codriver dark.bare (dark.stands 0).codriver) in
+    let few_too = ap bare_count (beside ∙ ap (λ (b : Cabin). b.slots.seats.codriver) cabin) in
+    let none_waits = begun-none mid.minutes run.next begun.minutes in
+    let waits_none = ap (λ (p : Power). waiting p mid.minutes.owing) begun.power in
+    let marks = c.accept_anew.ensures.takes.marks in
+    let same_room = c.accept_anew.ensures.takes.rooms.0 in
+    let second_card = card_in one.keeper.cabin.slots.seats.codriver in
+    let behind_one : WakesRinged o done s woke.0 (waiting_in CoDriver second_card) (CoDriver ∷ []) spans t one out1 (devices V1 X1 Y1) = record {
+      waking = subst (λ (seat : Option Seat). RunWaking o done s woke.0 (waiting_in CoDriver (card_in seat)) (CoDriver ∷ []) one out1 (devices V1 X1 Y1)) (sym beside) (first.0 well);
+      rings = subst (λ (f : Bool). RingsGoOn f o done s woke.0.run.log [] one (log_of out1) spans t (devices V1 X1 Y1)) well one_ringed;
+    } in
+    let recorded_two = c.accept_anew-2.ensures.recorded (omega (arith, room, few, few_too, none_waits, waits_none, marks, same_room)) in
+    let two_ringed : RingsGoOn (is_err c.accept_anew-2.result) o done s woke.0.run.log [] two (log_of out2) spans t (devices V2 X2 Y2) =
+    codriver-ringed o done s woke.0 second_card one out1 (devices V1 X1 Y1) spans t behind_one refl bare_too c.moment-at.result now c.args.speed (is_err c.accept_anew-2.result) two out2 c.accept_anew-2.ensures.accepted (devices V2 X2 Y2)
+    (λ none P. same-devices P g.M.Medium.state g.C.Chip.state g.D.Chip.state c.accept_anew.new.unit c.accept_anew-2.new.unit c.accept_anew.new.card_a c.accept_anew-2.new.card_a c.accept_anew.new.card_b c.accept_anew-2.new.card_b (c.accept_anew-2.ensures.still none)) time recorded_two
+    (c.accept_anew-2.ensures.ringed (omega (arith, room, few, few_too, none_waits, waits_none, marks, same_room))) in
+    let failed : is_err c.accept_anew-2.result ≡ is_err c.from_residual-in_err-accept_anew-2.result = search rules in
+    subst (λ (f : Bool). RingsWoken f (log_of out) o done s spans two (log_of out2) (devices V2 X2 Y2)) failed
+    (woken-rings (is_err c.accept_anew-2.result) o done s woke.0.run.log (log_of out) spans t two (log_of out2) (devices V2 X2 Y2) log0 two_ringed)
+
+pub returns-then-is_first-clause-ringed : goal.returns-then-is_first-clause-ringed
+returns-then-is_first-clause-ringed g c = λ room o origin done s supply v r may number given values spans seats ringed counted time.
+    let run = c.args.run.now in
+    let out = c.args.outcome.now in
+    let mid : Run = c.begin_span.new.self in
+    let begun = c.begin_span.ensures.begun in
+    let U : State = g.M.Medium.state c.args.unit.now in
+    let X : State = g.C.Chip.state c.args.card_a.now in
+    let Y : State = g.D.Chip.state c.args.card_b.now in
+    let W : State = g.M.Medium.state c.mend.new.unit in
+    let k : ℕ = c.args.journal.kept in
+    let ok = c.in_ok-mend.ensures in
+    let loaded = c.requires.loaded in
+    let woke = awake o origin done s supply v U X Y r may number given (g.met.M.Medium.coherent c.args.unit.now) (wholes-of U X Y (g.met.C.Chip.coherent c.args.card_a.now) (g.met.D.Chip.coherent c.args.card_b.now)) loaded.works c.args.journal (kept-of c.args.journal U.image loaded.found)
+    W false c.mend.ensures.moments c.mend.ensures.tells ok.cause c.mend.ensures.holds ok.first ok.second run c.args.outcome.now values refl c.mend.new.journal ok.agrees mid begun (g.met.M.Medium.coherent c.mend.new.unit) in
+    let is = awake-is o origin done s supply v U X Y r may number given (g.met.M.Medium.coherent c.args.unit.now) (wholes-of U X Y (g.met.C.Chip.coherent c.args.card_a.now) (g.met.D.Chip.coherent c.args.card_b.now)) loaded.works c.args.journal (kept-of c.args.journal U.image loaded.found)
+    W false c.mend.ensures.moments c.mend.ensures.tells ok.cause c.mend.ensures.holds ok.first ok.second run c.args.outcome.now values refl c.mend.new.journal ok.agrees mid begun (g.met.M.Medium.coherent c.mend.new.unit) in
+    let dark = c.requires.going.dark c.requires.dark in
+    let cards = run.keeper.cabin.cards in
+    let cabin = ap (λ (k : Keeper). k.cabin) begun.keeper in
+    let bare = subst (λ (b : Cabin). IsBare b.slots.seats.driver) (sym cabin) (dark-bare 0 cards run.keeper.cabin.slots.seats.driver dark.bare (dark.stands 0).driver) in
+    let few = ap (λ (b : Cabin). bare_count b.slots.seats.driver) cabin in
+    let now : c.moment-at.result ≡ moment_in s 0 = c.moment-at.ensures ∙ ap (λ (m : ℕ). record { second = m; begun = 0; late = false }) (begun.next ∙ ap (λ (x : Values). x.next) values ∙ sym number) in
+    let one : Run = c.accept_anew.new.run in
+    let out1 : Outcome = c.accept_anew.new.outcome in
+    let V1 : State = g.M.Medium.state c.accept_anew.new.unit in
+    let X1 : State = g.C.Chip.state c.accept_anew.new.card_a in
+    let Y1 : State = g.D.Chip.state c.accept_anew.new.card_b in
+    let first_card = card_in mid.keeper.cabin.slots.seats.driver in
+    let others = waiting_in CoDriver (card_in mid.keeper.cabin.slots.seats.codriver) in
+    let once = at-once CoDriver (card_in mid.keeper.cabin.slots.seats.codriver) in
+    let t : Told = second_told (log_of out) (went (log_of out) done).before s in
+    let log0 : woke.0.run.log ≡ log_of out = ap (λ (q : Progress). q.log) is.0 ∙ sym (ap (λ (x : Values). x.log) values) in
+    let mended = behind-stays (devices U X Y) (devices W X Y) o done (log_of out) s.number spans seats ringed (mend-leaves c.args.journal U W (g.met.M.Medium.coherent c.args.unit.now) c.mend.ensures.moments) is.2 in
+    let noted : mid.noted ≡ run.noted = begun.noted in
+    let starts : WakesRinged o done s woke.0 (waiting_in Driver first_card ++ others) both_slots spans t mid out (devices W X Y) =
+    wakes-ringed o done s woke.0 (waiting_in Driver first_card ++ others) mid out (devices W X Y) woke.1 (sym log0) spans seats mended
+    (λ card. ap (option_map (seating_of mid.noted)) (ap (λ (b : Cabin). session_of b.cards card) cabin ∙ dark.bare card)) (omega (arith, counted, noted)) in
+    let recorded_one = c.accept_anew.ensures.recorded (omega (arith, room, few)) in
+    let one_ringed : RingsGoOn (is_err c.accept_anew.result) o done s woke.0.run.log [] one (log_of out1) spans t (devices V1 X1 Y1) =
+    driver-ringed o done s woke.0 first_card others mid out (devices W X Y) spans t starts (woke.1.waking.none CoDriver (in-both CoDriver)) once refl bare c.moment-at.result now c.args.speed (is_err c.accept_anew.result) one out1 c.accept_anew.ensures.accepted (devices V1 X1 Y1)
+    (λ none P. same-devices P g.M.Medium.state g.C.Chip.state g.D.Chip.state c.mend.new.unit c.accept_anew.new.unit c.args.card_a.now c.accept_anew.new.card_a c.args.card_b.now c.accept_anew.new.card_b (c.accept_anew.ensures.still none)) (time-before (devices V1 X1 Y1) (devices (g.M.Medium.state c.accept_anew-2.new.unit) (g.C.Chip.state c.accept_anew-2.new.card_a) (g.D.Chip.state c.accept_anew-2.new.card_b)) c.accept_anew-2.ensures.clock c.accept_anew-2.ensures.clock_a c.accept_anew-2.ensures.clock_b time) recorded_one
+    (c.accept_anew.ensures.ringed (omega (arith, room, few))) in
+    let first = driver-judged o done s woke.0 first_card others mid c.args.outcome.now (devices W X Y) woke.1 once refl bare c.moment-at.result now c.args.speed (is_err c.accept_anew.result) one out1 c.accept_anew.ensures.accepted (devices V1 X1 Y1)
+    (λ none P. same-devices P g.M.Medium.state g.C.Chip.state g.D.Chip.state c.mend.new.unit c.accept_anew.new.unit c.args.card_a.now c.accept_anew.new.card_a c.args.card_b.now c.accept_anew.new.card_b (c.accept_anew.ensures.still none)) (time-before (devices V1 X1 Y1) (devices (g.M.Medium.state c.accept_anew-2.new.unit) (g.C.Chip.state c.accept_anew-2.new.card_a) (g.D.Chip.state c.accept_anew-2.new.card_b)) c.accept_anew-2.ensures.clock c.accept_anew-2.ensures.clock_a c.accept_anew-2.ensures.clock_b time) recorded_one in
+    let well : is_err c.accept_anew.result ≡ false = search rules in
+    let two : Run = c.accept_anew-2.new.run in
+    let out2 : Outcome = c.accept_anew-2.new.outcome in
+    let V2 : State = g.M.Medium.state c.accept_anew-2.new.unit in
+    let X2 : State = g.C.Chip.state c.accept_anew-2.new.card_a in
+    let Y2 : State = g.D.Chip.state c.accept_anew-2.new.card_b in
+    let beside : seat_in one.keeper.cabin.slots.seats CoDriver ≡ seat_in mid.keeper.cabin.slots.seats CoDriver = c.accept_anew.ensures.beside in
+    let bare_too = subst IsBare (sym (beside ∙ ap (λ (b : Cabin). b.slots.seats.codriver) cabin)) (dark-bare 0 cards run.keeper.cabin.slots.seats.codriver dark.bare (dark.stands 0).codriver) in
+    let few_too = ap bare_count (beside ∙ ap (λ (b : Cabin). b.slots.seats.codriver) cabin) in
+    let none_waits = begun-none mid.minutes run.next begun.minutes in
+    let waits_none = ap (λ (p : Power). waiting p mid.minutes.owing) begun.power in
+    let marks = c.accept_anew.ensures.takes.marks in
+    let same_room = c.accept_anew.ensures.takes.rooms.0 in
+    let second_card = card_in one.keeper.cabin.slots.seats.codriver in
+    let behind_one : WakesRinged o done s woke.0 (waiting_in CoDriver second_card) (CoDriver ∷ []) spans t one out1 (devices V1 X1 Y1) = record {
+      waking = subst (λ (seat : Option Seat). RunWaking o done s woke.0 (waiting_in CoDriver (card_in seat)) (CoDriver ∷ []) one out1 (devices V1 X1 Y1)) (sym beside) (first.0 well);
+      rings = subst (λ (f : Bool). RingsGoOn f o done s woke.0.run.log [] one (log_of out1) spans t (devices V1 X1 Y1)) well one_ringed;
+    } in
+    let recorded_two = c.accept_anew-2.ensures.recorded (omega (arith, room, few, few_too, none_waits, waits_none, marks, same_room)) in
+    let two_ringed : RingsGoOn (is_err c.accept_anew-2.result) o done s woke.0.run.log [] two (log_of out2) spans t (devices V2 X2 Y2) =
+    codriver-ringed o done s woke.0 second_card one out1 (devices V1 X1 Y1) spans t behind_one refl bare_too c.moment-at.result now c.args.speed (is_err c.accept_anew-2.result) two out2 c.accept_anew-2.ensures.accepted (devices V2 X2 Y2)
+    (λ none P. same-devices P g.M.Medium.state g.C.Chip.state g.D.Chip.state c.accept_anew.new.unit c.accept_anew-2.new.unit c.accept_anew.new.card_a c.accept_anew-2.new.card_a c.accept_anew.new.card_b c.accept_anew-2.new.card_b (c.accept_anew-2.ensures.still none)) time recorded_two
+    (c.accept_anew-2.ensures.ringed (omega (arith, room, few, few_too, none_waits, waits_none, marks, same_room))) in
+    let fine : is_err c.accept_anew-2.result ≡ false = search rules in
+    woken-rings false o done s woke.0.run.log (log_of out) spans t two (log_of out2) (devices V2 X2 Y2) log0 (subst (λ (f : Bool). RingsGoOn f o done s woke.0.run.log [] two (log_of out2) spans t (devices V2 X2 Y2)) fine two_ringed)
+
+pub returns-clause-ringed : goal.returns-clause-ringed
+returns-clause-ringed g c = λ room o origin done s supply v r may number given values spans seats ringed counted time.
+    let V3 : State = g.M.Medium.state c.note_gap.new.unit in
+    let X3 : State = g.C.Chip.state c.note_gap.new.card_a in
+    let Y3 : State = g.D.Chip.state c.note_gap.new.card_b in
+    let time_two = time-before (devices (g.M.Medium.state c.accept_anew-2.new.unit) (g.C.Chip.state c.accept_anew-2.new.card_a) (g.D.Chip.state c.accept_anew-2.new.card_b)) (devices V3 X3 Y3) c.note_gap.ensures.clock c.note_gap.ensures.clock_a c.note_gap.ensures.clock_b time in
+    let run = c.args.run.now in
+    let out = c.args.outcome.now in
+    let mid : Run = c.begin_span.new.self in
+    let begun = c.begin_span.ensures.begun in
+    let U : State = g.M.Medium.state c.args.unit.now in
+    let X : State = g.C.Chip.state c.args.card_a.now in
+    let Y : State = g.D.Chip.state c.args.card_b.now in
+    let W : State = g.M.Medium.state c.mend.new.unit in
+    let k : ℕ = c.args.journal.kept in
+    let ok = c.in_ok-mend.ensures in
+    let loaded = c.requires.loaded in
+    let woke = awake o origin done s supply v U X Y r may number given (g.met.M.Medium.coherent c.args.unit.now) (wholes-of U X Y (g.met.C.Chip.coherent c.args.card_a.now) (g.met.D.Chip.coherent c.args.card_b.now)) loaded.works c.args.journal (kept-of c.args.journal U.image loaded.found)
+    W false c.mend.ensures.moments c.mend.ensures.tells ok.cause c.mend.ensures.holds ok.first ok.second run c.args.outcome.now values refl c.mend.new.journal ok.agrees mid begun (g.met.M.Medium.coherent c.mend.new.unit) in
+    let is = awake-is o origin done s supply v U X Y r may number given (g.met.M.Medium.coherent c.args.unit.now) (wholes-of U X Y (g.met.C.Chip.coherent c.args.card_a.now) (g.met.D.Chip.coherent c.args.card_b.now)) loaded.works c.args.journal (kept-of c.args.journal U.image loaded.found)
+    W false c.mend.ensures.moments c.mend.ensures.tells ok.cause c.mend.ensures.holds ok.first ok.second run c.args.outcome.now values refl c.mend.new.journal ok.agrees mid begun (g.met.M.Medium.coherent c.mend.new.unit) in
+    let dark = c.requires.going.dark c.requires.dark in
+    let cards = run.keeper.cabin.cards in
+    let cabin = ap (λ (k : Keeper). k.cabin) begun.keeper in
+    let bare = subst (λ (b : Cabin). IsBare b.slots.seats.driver) (sym cabin) (dark-bare 0 cards run.keeper.cabin.slots.seats.driver dark.bare (dark.stands 0).driver) in
+    let few = ap (λ (b : Cabin). bare_count b.slots.seats.driver) cabin in
+    let now : c.moment-at.result ≡ moment_in s 0 = c.moment-at.ensures ∙ ap (λ (m : ℕ). record { second = m; begun = 0; late = false }) (begun.next ∙ ap (λ (x : Values). x.next) values ∙ sym number) in
+    let one : Run = c.accept_anew.new.run in
+    let out1 : Outcome = c.accept_anew.new.outcome in
+    let V1 : State = g.M.Medium.state c.accept_anew.new.unit in
+    let X1 : State = g.C.Chip.state c.accept_anew.new.card_a in
+    let Y1 : State = g.D.Chip.state c.accept_anew.new.card_b in
+    let first_card = card_in mid.keeper.cabin.slots.seats.driver in
+    let others = waiting_in CoDriver (card_in mid.keeper.cabin.slots.seats.codriver) in
+    let once = at-once CoDriver (card_in mid.keeper.cabin.slots.seats.codriver) in
+    let t : Told = second_told (log_of out) (went (log_of out) done).before s in
+    let log0 : woke.0.run.log ≡ log_of out = ap (λ (q : Progress). q.log) is.0 ∙ sym (ap (λ (x : Values). x.log) values) in
+    let mended = behind-stays (devices U X Y) (devices W X Y) o done (log_of out) s.number spans seats ringed (mend-leaves c.args.journal U W (g.met.M.Medium.coherent c.args.unit.now) c.mend.ensures.moments) is.2 in
+    let noted : mid.noted ≡ run.noted = begun.noted in
+    let starts : WakesRinged o done s woke.0 (waiting_in Driver first_card ++ others) both_slots spans t mid out (devices W X Y) =
+    wakes-ringed o done s woke.0 (waiting_in Driver first_card ++ others) mid out (devices W X Y) woke.1 (sym log0) spans seats mended
+    (λ card. ap (option_map (seating_of mid.noted)) (ap (λ (b : Cabin). session_of b.cards card) cabin ∙ dark.bare card)) (omega (arith, counted, noted)) in
+    let recorded_one = c.accept_anew.ensures.recorded (omega (arith, room, few)) in
+    let one_ringed : RingsGoOn (is_err c.accept_anew.result) o done s woke.0.run.log [] one (log_of out1) spans t (devices V1 X1 Y1) =
+    driver-ringed o done s woke.0 first_card others mid out (devices W X Y) spans t starts (woke.1.waking.none CoDriver (in-both CoDriver)) once refl bare c.moment-at.result now c.args.speed (is_err c.accept_anew.result) one out1 c.accept_anew.ensures.accepted (devices V1 X1 Y1)
+    (λ none P. same-devices P g.M.Medium.state g.C.Chip.state g.D.Chip.state c.mend.new.unit c.accept_anew.new.unit c.args.card_a.now c.accept_anew.new.card_a c.args.card_b.now c.accept_anew.new.card_b (c.accept_anew.ensures.still none)) (time-before (devices V1 X1 Y1) (devices (g.M.Medium.state c.accept_anew-2.new.unit) (g.C.Chip.state c.accept_anew-2.new.card_a) (g.D.Chip.state c.accept_anew-2.new.card_b)) c.accept_anew-2.ensures.clock c.accept_anew-2.ensures.clock_a c.accept_anew-2.ensures.clock_b time_two) recorded_one
+    (c.accept_anew.ensures.ringed (omega (arith, room, few))) in
+    let first = driver-judged o done s woke.0 first_card others mid c.args.outcome.now (devices W X Y) woke.1 once refl bare c.moment-at.result now c.args.speed (is_err c.accept_anew.result) one out1 c.accept_anew.ensures.accepted (devices V1 X1 Y1)
+    (λ none P. same-devices P g.M.Medium.state g.C.Chip.state g.D.Chip.state c.mend.new.unit c.accept_anew.new.unit c.args.card_a.now c.accept_anew.new.card_a c.args.card_b.now c.accept_anew.new.card_b (c.accept_anew.ensures.still none)) (time-before (devices V1 X1 Y1) (devices (g.M.Medium.state c.accept_anew-2.new.unit) (g.C.Chip.state c.accept_anew-2.new.card_a) (g.D.Chip.state c.accept_anew-2.new.card_b)) c.accept_anew-2.ensures.clock c.accept_anew-2.ensures.clock_a c.accept_anew-2.ensures.clock_b time_two) recorded_one in
+    let well : is_err c.accept_anew.result ≡ false = search rules in
+    let two : Run = c.accept_anew-2.new.run in
+    let out2 : Outcome = c.accept_anew-2.new.outcome in
+    let V2 : State = g.M.Medium.state c.accept_anew-2.new.unit in
+    let X2 : State = g.C.Chip.state c.accept_anew-2.new.card_a in
+    let Y2 : State = g.D.Chip.state c.accept_anew-2.new.card_b in
+    let beside : seat_in one.keeper.cabin.slots.seats CoDriver ≡ seat_in mid.keeper.cabin.slots.seats CoDriver = c.accept_anew.ensures.beside in
+    let bare_too = subst IsBare (sym (beside ∙ ap (λ (b : Cabin). b.slots.seats.codriver) cabin)) (dark-bare 0 cards run.keeper.cabin.slots.seats.codriver dark.bare (dark.stands 0).codriver) in
+    let few_too = ap bare_count (beside ∙ ap (λ (b : Cabin). b.slots.seats.codriver) cabin) in
+    let none_waits = begun-none mid.minutes run.next begun.minutes in
+    let waits_none = ap (λ (p : Power). waiting p mid.minutes.owing) begun.power in
+    let marks = c.accept_anew.ensures.takes.marks in
+    let same_room = c.accept_anew.ensures.takes.rooms.0 in
+    let second_card = card_in one.keeper.cabin.slots.seats.codriver in
+    let behind_one : WakesRinged o done s woke.0 (waiting_in CoDriver second_card) (CoDriver ∷ []) spans t one out1 (devices V1 X1 Y1) = record {
+      waking = subst (λ (seat : Option Seat). RunWaking o done s woke.0 (waiting_in CoDriver (card_in seat)) (CoDriver ∷ []) one out1 (devices V1 X1 Y1)) (sym beside) (first.0 well);
+      rings = subst (λ (f : Bool). RingsGoOn f o done s woke.0.run.log [] one (log_of out1) spans t (devices V1 X1 Y1)) well one_ringed;
+    } in
+    let recorded_two = c.accept_anew-2.ensures.recorded (omega (arith, room, few, few_too, none_waits, waits_none, marks, same_room)) in
+    let two_ringed : RingsGoOn (is_err c.accept_anew-2.result) o done s woke.0.run.log [] two (log_of out2) spans t (devices V2 X2 Y2) =
+    codriver-ringed o done s woke.0 second_card one out1 (devices V1 X1 Y1) spans t behind_one refl bare_too c.moment-at.result now c.args.speed (is_err c.accept_anew-2.result) two out2 c.accept_anew-2.ensures.accepted (devices V2 X2 Y2)
+    (λ none P. same-devices P g.M.Medium.state g.C.Chip.state g.D.Chip.state c.accept_anew.new.unit c.accept_anew-2.new.unit c.accept_anew.new.card_a c.accept_anew-2.new.card_a c.accept_anew.new.card_b c.accept_anew-2.new.card_b (c.accept_anew-2.ensures.still none)) time_two recorded_two
+    (c.accept_anew-2.ensures.ringed (omega (arith, room, few, few_too, none_waits, waits_none, marks, same_room))) in
+    let fine : is_err c.accept_anew-2.result ≡ false = search rules in
+    let both = codriver-on o done s woke.0 second_card one out1 (devices V1 X1 Y1) behind_one.waking refl bare_too c.moment-at.result now c.args.speed (is_err c.accept_anew-2.result) two out2 c.accept_anew-2.ensures.accepted (devices V2 X2 Y2)
+    (λ none P. same-devices P g.M.Medium.state g.C.Chip.state g.D.Chip.state c.accept_anew.new.unit c.accept_anew-2.new.unit c.accept_anew.new.card_a c.accept_anew-2.new.card_a c.accept_anew.new.card_b c.accept_anew-2.new.card_b (c.accept_anew-2.ensures.still none)) time_two recorded_two fine in
+    let x = within-of o done s woke.0 [] [] two out2 (devices V2 X2 Y2) both in
+    let comes = comes-waking o done s woke.0 [] [] two out2 (devices V2 X2 Y2) both in
+    let began = both.waking.began in
+    let rings = subst (λ (b : Beginning). RingsWithin o done s b.run.log [] two (log_of out2) spans t (devices V2 X2 Y2)) (sym began)
+    (subst (λ (f : Bool). RingsGoOn f o done s woke.0.run.log [] two (log_of out2) spans t (devices V2 X2 Y2)) fine two_ringed) in
+    woken-rings (is_err c.note_gap.result) o done s x.within.b.run.log (log_of out) spans t c.note_gap.new.run (log_of (record out2 { breaks = c.note_gap.new.breaks })) (devices V3 X3 Y3) (ap (λ (b : Beginning). b.run.log) began ∙ log0)
+    (c.note_gap.ensures.ringed o done s out2 x comes spans t rings)
 
 -- ---- what holds of the devices after any calls
 
