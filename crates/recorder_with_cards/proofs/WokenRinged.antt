@@ -13,8 +13,8 @@ use Rattle.unit_journal.specs.Mends.{IsMending}
 use Rattle.minute_model.specs.Span.{travelled_of}
 use Rattle.log_model.specs.declared.lines.Verdict.{Verdict}
 use Rattle.log_model.specs.Log.{RunLog, Phase, In, cut_in, is_torn_in, found_in, is_accepting}
-use Rattle.log_model.specs.Slots.{Slots, Sitting, in_slot, with_slot, other_slot}
-use Rattle.log_model.specs.Course.{Course, Told, Before, Moved, Visit, Went, visits, leaves, slot_told, both_told, has_power, went, second_told}
+use Rattle.log_model.specs.Slots.{Slots, Sitting, in_slot, other_slot}
+use Rattle.log_model.specs.Course.{Course, fresh, unmoved, with_slot, Told, Before, Moved, Visit, Went, visits, leaves, slot_told, both_told, has_power, went, second_told}
 use Rattle.side_model.specs.Odometer.{SpanFrom, odometer_at}
 use Rattle.safety_model.specs.Safe.{Devices}
 use Rattle.unit_rule.specs.Odometer.{odometer_by}
@@ -35,7 +35,7 @@ use Rattle.run_events.proofs.Later.{told-number}
 use Rattle.run_moments.proofs.Reached.{TellsNothing, nothing-told}
 use Rattle.run_evented.proofs.Lines.{same-before}
 use Rattle.run_course.specs.Moments.{and_break}
-use Rattle.run_outcome.specs.Lines.{with_lines}
+use Rattle.run_keeping.specs.Keeping.{with_lines}
 use Rattle.run_outcome.specs.Lines.{cut_at as cut_line}
 use Rattle.run_outcome.specs.declared.outcome.Outcome.{Outcome}
 use Rattle.run_keeping.specs.declared.keeper.Moment.{Moment}
@@ -229,7 +229,7 @@ module _ (o : Origin) (done : List TraceSecond) (s : TraceSecond) (waits fewer :
   starts = rings.ringed.second.starts ∙ ap not off
 
   sat : SatThere (record { card = card; accepted = None }) (in_slot (went next.goes.within.b.run.log done).before.slots slot)
-  sat = sat-both (log_of before) s.number (In 0) _ slot _ (record { card = card; accepted = None }) next.next.sits_
+  sat = sat-both (log_of before) s.number (In 0) (unmoved (not (went next.goes.within.b.run.log done).before.running)) slot (fresh (not (went next.goes.within.b.run.log done).before.running) (went next.goes.within.b.run.log done).before.slots) (record { card = card; accepted = None }) next.next.sits_
 
   -- of the slots before it, and of this one
   anew-by : (log later : RunLog) (sl : Slot) (vs : List Verdict) → (sl ≡ Driver → found_in log s.number (In 0) CoDriver ≡ []) → found_in log s.number (In 0) sl ≡ [] → found_in later s.number (In 0) (other_slot sl) ≡ found_in log s.number (In 0) (other_slot sl) → found_in later s.number (In 0) sl ≡ vs →
@@ -250,11 +250,11 @@ module _ (o : Origin) (done : List TraceSecond) (s : TraceSecond) (waits fewer :
   cut-found_ : (sl : Slot) → found_in (with_cut (log_of after) s []) s.number (In 0) sl ≡ found_in (log_of after) s.number (In 0) sl
   cut-found_ sl = cut-found (log_of after) s.number 0 uncut (In 0) sl
 
-  behind : GoesBehind next.goes.within.b.run.log (with_cut (log_of after) s []) done
-  behind = goes-behind o done s (In 0) waits None [] (values_of old before) d next.goes.within (with_cut (log_of after) s []) (here-then (log_of before) (log_of after) (with_cut (log_of after) s []) s.number j.here (here-cut (log_of after) s []))
+  behind-cut : GoesBehind next.goes.within.b.run.log (with_cut (log_of after) s []) done
+  behind-cut = goes-behind o done s (In 0) waits None [] (values_of old before) d next.goes.within (with_cut (log_of after) s []) (here-then (log_of before) (log_of after) (with_cut (log_of after) s []) s.number j.here (here-cut (log_of after) s []))
 
-  power : has_power (went next.goes.within.b.run.log done).before s ≡ true
-  power = power-here o done s (In 0) waits None [] (values_of old before) d next.goes.within
+  power-then : has_power (went next.goes.within.b.run.log done).before s ≡ true
+  power-then = power-here o done s (In 0) waits None [] (values_of old before) d next.goes.within
 
   -- its insertion tells of who sits there
   of-sitter : (log : RunLog) (head : List ℕ) → IsInsertionIn o log (with_second spans old.keeper.odometer t) e (record { accepted = record { second = s.number; slot = slot; card = card }; withdrawn = None }) head →
@@ -283,9 +283,9 @@ module _ (o : Origin) (done : List TraceSecond) (s : TraceSecond) (waits fewer :
             let passed : RingedIn o done s next.goes.within.b.run.log [] cut spans old.keeper.odometer t nobody e =
             passed-anew d e o done s next.goes.within.b.run.log (log_of before) cut spans old.keeper.odometer t (seats_of old) nobody rings.ringed off cut-more slot (found_in (log_of after) s.number (In 0) slot)
             (anew-by (log_of before) cut slot (found_in (log_of after) s.number (In 0) slot) first next.none (cut-found_ (other_slot slot) ∙ j.others) (cut-found_ slot)) (inr p.0) p.1 j.left (λ c. inr refl) in
-            cut-ends e o done s next.goes.within.b.run.log cut [] s.actions spans old.keeper.odometer t nobody nobody passed behind power refl (cut-is (log_of after) s.number 0 uncut) (λ c. inl refl))
+            cut-ends e o done s next.goes.within.b.run.log cut [] s.actions spans old.keeper.odometer t nobody nobody passed behind-cut power-then refl (cut-is (log_of after) s.number 0 uncut) (λ c. inl refl))
             (λ i. cut-anew d e o done s next.goes.within.b.run.log (log_of before) cut spans old.keeper.odometer t (seats_of old) rings.ringed off cut-more slot sat.0 sat.1 i.verdict
-            (anew-by (log_of before) cut slot (i.verdict ∷ []) first next.none (cut-found_ (other_slot slot) ∙ j.others) (cut-found_ slot ∙ i.found)) i.accepting behind power (cut-is (log_of after) s.number 0 uncut) (cut-failed (log_of after) s.number 0 uncut)
+            (anew-by (log_of before) cut slot (i.verdict ∷ []) first next.none (cut-found_ (other_slot slot) ∙ j.others) (cut-found_ slot ∙ i.found)) i.accepting behind-cut power-then (cut-is (log_of after) s.number 0 uncut) (cut-failed (log_of after) s.number 0 uncut)
             i.head i.writes i.inserts.long (of-sitter cut i.head (i.inserts.is cut)) j.left)
             h);
       }
