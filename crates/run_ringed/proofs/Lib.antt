@@ -7,3 +7,4 @@ pub mod Around
 pub mod Bytes
 pub mod SoFar
 pub mod Steps
+pub mod Waking

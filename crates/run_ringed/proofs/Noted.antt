@@ -96,6 +96,11 @@ module _ (log later : RunLog) where
       ∙ ap (λ (t : Told). flat_map (noted_in log) (done_from log (before_next before t) ss)) (second-same before s same) in
       λ i. here i ++ rest i
 
+  -- SECONDS THAT BOTH TELL ALIKE note the same
+  pub notes-alike : (ss : List TraceSecond) → All (λ x. SameAt log later x.number) ss → notes_in later ss ≡ notes_in log ss
+  unfolding notes_of done_of
+  notes-alike ss all = notes-going not_begun.before ss all
+
   -- A SECOND MORE
   pub second-notes : (ss : List TraceSecond) (s : TraceSecond) → All (λ x. SameAt log later x.number) ss → notes_in later (ss ++ s ∷ []) ≡ notes_in log ss ++ noted_next later ss s
   unfolding notes_of done_of went

@@ -97,7 +97,7 @@ early-places u (Withdraws w ∷ notes) all = early-places u notes all.1
 early-places u (Enters p ∷ notes) all = (all.0, early-places u notes all.1)
 
 -- where those of earlier seconds are
-goes-earlier : (log : RunLog) (spans now : List SpanFrom) (u : ℕ) (notes : List Note) → AreEarlier u notes → ((v : ℕ) → v < u → odometer_at v now ≡ odometer_at v spans) → GoOn log log spans now notes
+pub goes-earlier : (log : RunLog) (spans now : List SpanFrom) (u : ℕ) (notes : List Note) → AreEarlier u notes → ((v : ℕ) → v < u → odometer_at v now ≡ odometer_at v spans) → GoOn log log spans now notes
 goes-earlier log spans now u notes early same = record {
   failed = λ v has. has;
   insertions = all-of (IsEarly u) (λ (i : InsertionNote). (odometer_at i.accepted.second now ≡ odometer_at i.accepted.second spans) × IfSome i.withdrawn (λ v. odometer_at v now ≡ odometer_at v spans))

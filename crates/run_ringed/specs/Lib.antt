@@ -1,3 +1,4 @@
 pub mod Ringed
 pub mod SoFar
 pub mod Steps
+pub mod Waking

@@ -3,6 +3,7 @@ ghost use Rattle.trace_model.specs.Trace.{TraceSecond};
 ghost use Rattle.log_model.specs.Log.{RunLog};
 ghost use Rattle.log_model.specs.Same.{SameAt};
 ghost use Rattle.run_rule.specs.Between.{devices};
+ghost use Rattle.run_ringed.specs.Waking.{PowerBeginsInRings, ASlotIsPassedAnew, ACardIsAcceptedAnew, AnAcceptanceIsCutAnew};
 ghost use Rattle.run_ringed.specs.Steps.{AnActionPasses, AnActionIsCut, APlaceIsEntered, APlaceIsCut, ACardIsWithdrawn, AWithdrawalIsCut, ACardIsAccepted, AnAcceptanceIsCut};
 ghost use Rattle.run_ringed.specs.SoFar.{ASecondBeginsInRings, RingsGoOn, AnActionNotesNothing, AnActionIsNoted, TheSecondEndsInRings, ACutEndsInRings, DarkSecondsNoteNothing};
 ghost use Rattle.run_ringed.specs.Ringed.{NoRingIsWritten, RingsStay, FewerSit, AnInsertionIsNoted, APlaceIsNoted, AWithdrawalIsNoted, AWithdrawalIsBroken, AnInsertionIsBroken, APlaceIsBroken, RingsAreShown, notes_in, noted_next};
@@ -160,4 +161,19 @@ pub fn an_action_is_carried_in_rings<M: Medium, C: Chip, D: Chip, N: Medium, E: 
     ensures withdrawal_cut { AWithdrawalIsCut (devices (M.state old_unit.now) (C.state old_a.now) (D.state old_b.now)) (devices (N.state unit.now) (E.state card_a.now) (F.state card_b.now)) }
     ensures insertion { ACardIsAccepted (devices (M.state old_unit.now) (C.state old_a.now) (D.state old_b.now)) (devices (N.state unit.now) (E.state card_a.now) (F.state card_b.now)) }
     ensures insertion_cut { AnAcceptanceIsCut (devices (M.state old_unit.now) (C.state old_a.now) (D.state old_b.now)) (devices (N.state unit.now) (E.state card_a.now) (F.state card_b.now)) }
+{}
+
+/// What a power-on makes of the rings: power begins, and slot by slot nothing is noted, or a card is accepted anew; or the unit failed in that, and power is cut.
+pub fn a_power_on_is_carried_in_rings<M: Medium, C: Chip, D: Chip, N: Medium, E: Chip, F: Chip>(
+    old_unit: &M,
+    old_a: &C,
+    old_b: &D,
+    unit: &N,
+    card_a: &E,
+    card_b: &F,
+)
+    ensures begins { PowerBeginsInRings (devices (M.state old_unit.now) (C.state old_a.now) (D.state old_b.now)) }
+    ensures passed { ASlotIsPassedAnew (devices (M.state old_unit.now) (C.state old_a.now) (D.state old_b.now)) (devices (N.state unit.now) (E.state card_a.now) (F.state card_b.now)) }
+    ensures accepted { ACardIsAcceptedAnew (devices (M.state old_unit.now) (C.state old_a.now) (D.state old_b.now)) (devices (N.state unit.now) (E.state card_a.now) (F.state card_b.now)) }
+    ensures cut { AnAcceptanceIsCutAnew (devices (M.state old_unit.now) (C.state old_a.now) (D.state old_b.now)) (devices (N.state unit.now) (E.state card_a.now) (F.state card_b.now)) }
 {}
