@@ -246,14 +246,8 @@ module _ (c : Card) (slot : Slot) (from : ℕ) (at : Moment) where
   -- in one round
   round-gone : (m : Minute) (round : Round) (t : Told) → SatIn c slot from t.keeper.cabin.slots.past → from ≤ m.minute → is_some (session_of t.keeper.cabin.cards c) ≡ true →
       session_of (cabin_after (present_at t.keeper.cabin m.minute) at.second round t.keeper.cabin).cards c ≡ None → TellsTear slot at (breaks_by round.driver Driver at ++ breaks_by round.codriver CoDriver at)
-  round-gone m round t sat low some gone = by (session_of cabin1.cards c) refl
+  round-gone m round t sat low some gone = by (session_of (cabin_by round.driver (present_at t.keeper.cabin m.minute).driver at.second t.keeper.cabin).cards c) refl
     where
-      p : Present
-      p = present_at t.keeper.cabin m.minute
-
-      cabin1 : Cabin
-      cabin1 = cabin_by round.driver (present_at t.keeper.cabin m.minute).driver at.second t.keeper.cabin
-
       by : (q : Option Accepted) → session_of (cabin_by round.driver (present_at t.keeper.cabin m.minute).driver at.second t.keeper.cabin).cards c ≡ q → TellsTear slot at (breaks_by round.driver Driver at ++ breaks_by round.codriver CoDriver at)
       by None is =
           let fell = fate-gone c round.driver (present_at t.keeper.cabin m.minute).driver at.second t.keeper.cabin some is in
@@ -283,18 +277,24 @@ module _ (c : Card) (slot : Slot) (from : ℕ) (at : Moment) where
   pub gone-torn : (ms : List Minute) (t u : Told) → AreKept at ms t u → SatIn c slot from t.keeper.cabin.slots.past → All (λ (x : Minute). from ≤ x.minute) ms → is_some (session_of t.keeper.cabin.cards c) ≡ true →
       session_of u.keeper.cabin.cards c ≡ None → TellsItsTear slot at t u
   gone-torn ms t u (none v) sat low some gone = not-none (session_of v.keeper.cabin.cards c) some gone
-  gone-torn ms t u (more m front round v mid kept is) sat low some gone = by (session_of mid.keeper.cabin.cards c) refl
+  gone-torn ms t u (more m front round v mid kept is) sat low some gone = by (session_of mid.keeper.cabin.cards c) refl (λ none. gone-torn front v mid kept sat (all-front front m low).0 some none)
     where
-      by : (q : Option Accepted) → session_of mid.keeper.cabin.cards c ≡ q → TellsItsTear slot at v (told_after (present_at mid.keeper.cabin m.minute) m.minute at round mid)
-      by None is_ =
-          let first = gone-torn front v mid kept sat (all-front front m low).0 some is_ in
-          let next = round-tells at m round false mid is in
+      next : TellsTears at mid (told_after (present_at mid.keeper.cabin m.minute) m.minute at round mid)
+      next = round-tells at m round false mid is
+
+      by : (q : Option Accepted) → session_of mid.keeper.cabin.cards c ≡ q → (session_of mid.keeper.cabin.cards c ≡ None → TellsItsTear slot at v mid) →
+          TellsItsTear slot at v (told_after (present_at mid.keeper.cabin m.minute) m.minute at round mid)
+      by None is_ before =
+          let first = before is_ in
           (first.0 ++ next.lines, next.are ∙ ap (λ (bs : List Break). bs ++ next.lines) first.1 ∙ append_assoc v.breaks.items first.0 next.lines, tear-front slot at first.0 next.lines first.2)
-      by (Some a) is_ =
+      by (Some a) is_ before =
           let first = kept-tells at front v mid kept in
-          let next = round-tells at m round false mid is in
-          let told = round-gone m round mid (subst (SatIn c slot from) (sym (kept-past front v mid kept)) sat) (all-front front m low).1 (ap (λ (o : Option Accepted). is_some o) is_) gone in
-          (first.lines ++ next.lines, next.are ∙ ap (λ (bs : List Break). bs ++ next.lines) first.are ∙ append_assoc v.breaks.items first.lines next.lines, tear-behind slot at first.lines (breaks_by round.driver Driver at ++ breaks_by round.codriver CoDriver at) told)
+          let lines : List Break = breaks_by round.driver Driver at ++ breaks_by round.codriver CoDriver at in
+          let told = round-gone m round mid (subst (SatIn c slot from) (sym (kept-past front v mid kept)) sat) (all-front front m low).1 (ap (λ (o : Option Accepted). is_some o) is_) gone in (
+            first.lines ++ lines,
+            append_assoc mid.breaks.items (breaks_by round.driver Driver at) (breaks_by round.codriver CoDriver at) ∙ ap (λ (bs : List Break). bs ++ lines) first.are ∙ append_assoc v.breaks.items first.lines lines,
+            tear-behind slot at first.lines lines told,
+          )
 
 -- ---- where insertions stand
 

@@ -71,9 +71,6 @@ use Rattle.run_acts.proofs.RingedLines.{AreTears, TellsBeside, tears-beside}
 
 -- with a cut behind them
 module _ (later : RunLog) (u k : ℕ) (none : cut_in later u ≡ None) where
-  abbrev cut : RunLog
-  cut = and_break later (cut_at u true k)
-
   same-number : nat_eq u u ≡ true
   same-number = grind (arith, nat_tests)
 

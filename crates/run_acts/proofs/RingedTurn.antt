@@ -24,7 +24,7 @@ use Rattle.safety_model.specs.Safe.{Devices, card_of}
 use Rattle.unit_course.specs.Lines.{cut_at}
 use Rattle.unit_course.specs.Followed.{Lit as IsLit, Lost as IsLost}
 use Rattle.run_course.specs.Moments.{and_break}
-use Rattle.run_course.specs.Followed.{IsGoing, IsLost as HasLost}
+use Rattle.run_course.specs.Followed.{Progress, IsGoing, IsLost as HasLost}
 use Rattle.run_course.proofs.Told.{lit-told, dark-told, lit-power, lost-dark, next-dark}
 use Rattle.run_course.proofs.Quiet.{quiet-are-told}
 use Rattle.run_rule.specs.Found.{found_of}
@@ -274,9 +274,6 @@ module _ {U A0 B0 : State} {chip_a chip_b : CardState} (n speed begun : ℕ) (ol
     }
 
     -- or was cut in its keeping
-    abbrev cut_log : RunLog
-    cut_log = and_break kept_log (cut_at L.number true (length L.actions))
-
     same-cut : TellSameTo log (and_break kept_log (cut_at L.number true (length L.actions))) L.number (length L.actions)
     same-cut = record {
       begun = λ k lt. ap (λ (q : Option ℕ). begins q k) uncut;
@@ -358,12 +355,6 @@ module _ {U A0 B0 : State} {chip_a chip_b : CardState} (n speed begun : ℕ) (ol
 
     -- those behind it go on, up to the last
     module _ (c : ℕ) (x : IsTurned o done s (suc c) T.decided T.fed.minutes (values_of old before) d r.within) where
-      abbrev D : List TraceSecond
-      D = done ++ s ∷ driven c (s.number + 1) s.speed []
-
-      abbrev L : TraceSecond
-      L = last_of (suc c) s
-
       B : BehindFirst o done s (values_of old before) d
       B = x.behind (omega arith)
 
@@ -373,7 +364,7 @@ module _ {U A0 B0 : State} {chip_a chip_b : CardState} (n speed begun : ℕ) (ol
       goes : (i : ℕ) → IsGoing (went log_ ((done ++ s ∷ []) ++ driven i (s.number + 1) s.speed [])).before
       goes i =
           let followed = B.recorded.recorded.followed in
-          let p = progress B.values (IsLit (B.told ∷ B.span)) B.recorded.book in
+          let p : Progress = progress B.values (IsLit (B.told ∷ B.span)) B.recorded.book in
           let told = quiet-are-told (rule_of o) (start_at o) o.from (first_of o) (done ++ s ∷ []) p followed B.told B.span refl i s.speed in
           subst (λ (l : RunLog). IsGoing (went l ((done ++ s ∷ []) ++ driven i (s.number + 1) s.speed [])).before) B.log
           (subst (λ (u : ℕ). IsGoing (went B.values.log ((done ++ s ∷ []) ++ driven i u s.speed [])).before) next-one
