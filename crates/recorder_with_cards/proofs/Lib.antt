@@ -47,10 +47,10 @@ pub mod Uncut
 pub mod WholeOdometer
 pub mod GapEvented
 pub mod WokenEvented
+pub mod WokenRinged
 pub mod RingsHeld
 pub mod ActsRinged
 pub mod OffRings
 pub mod SecondsRinged
 pub mod BegunRinged
 pub mod SideShown
-pub mod WokenRinged

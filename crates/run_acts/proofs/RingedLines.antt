@@ -23,10 +23,9 @@ use Rattle.run_crew.specs.declared.cabin.Cabin.{Cabin}
 use Rattle.run_crew.specs.Cards.{session_of}
 use Rattle.run_keeping.specs.declared.keeper.Moment.{Moment}
 use Rattle.run_keeping.specs.Keeping.{Fate, Still, Has, Fell, cabin_by, breaks_by, tear_of, GoesOnFrom, SessionsGoOn}
-use Rattle.run_keeping.specs.Minutes.{Told, Round, AreKept, none, more, AreKeptUpTo, IsRound, minute_of, or_nobody, present_at, cabin_after, breaks_after, told_after}
+use Rattle.run_keeping.specs.Minutes.{Told, Round, AreKept, none, more, AreKeptUpTo, IsRound, minute_of, or_nobody, present_at, cabin_after, told_after}
 use Rattle.run_keeping.proofs.Seats.{sessions-none, sessions-then}
 use Rattle.run_keeping.proofs.Counts.{past-by}
-use Rattle.run_ringed.specs.Ringed.{Seating}
 use Rattle.run_acts.specs.Ringing.{seating_of}
 use Rattle.run_acts.proofs.RoundBroken.{round-on}
 
@@ -90,7 +89,7 @@ abbrev pub phase_at : Moment → Phase
 phase_at at = phase_of at.begun at.late
 
 elsewhere : (at : Moment) (p : Phase) (slot other : Slot) → same_phase (phase_at at) p ≡ false → tears_here at.second p other (tear_of slot at) ≡ false
-elsewhere at p slot other no = ap (λ (b : Bool). nat_eq at.second at.second && b && same_slot slot other) no ∙ no-and (nat_eq at.second at.second) (same_slot slot other)
+elsewhere at p slot other away = ap (λ (b : Bool). nat_eq at.second at.second && b && same_slot slot other) away ∙ no-and (nat_eq at.second at.second) (same_slot slot other)
 
 here : (at : Moment) (slot : Slot) → tears_here at.second (phase_at at) slot (tear_of slot at) ≡ true
 here at slot = all-three (nat_eq at.second at.second) (same_phase (phase_at at) (phase_at at)) (same_slot slot slot) (same-number at.second) (phase-same (phase_at at)) (slot-same slot)
@@ -191,8 +190,8 @@ up-to-tells at ms true t u kept =
 -- ---- a session that is gone was torn out
 
 not-none : {T : Type 0} (o : Option Accepted) → is_some o ≡ true → o ≡ None → T
-not-none {T} None some none = absurd (cc)
-not-none {T} (Some a) some none = absurd (cc)
+not-none {T} None some gone = absurd (cc)
+not-none {T} (Some a) some gone = absurd (cc)
 
 -- who loses the session in a fate was present, and fell
 fate-gone : (c : Card) (fate : Fate) (present : Option Card) (second : ℕ) (cabin : Cabin) → is_some (session_of cabin.cards c) ≡ true → session_of (cabin_by fate present second cabin).cards c ≡ None → (fate ≡ Fell) × (present ≡ Some c)
@@ -235,7 +234,7 @@ codriver-tear fate slot at others fell is = (others, [], ap (λ (f : Fate). othe
 tear-front : (slot : Slot) (at : Moment) (xs ys : List Break) → TellsTear slot at xs → TellsTear slot at (xs ++ ys)
 tear-front slot at xs ys t = (t.0, t.1 ++ ys, ap (λ (l : List Break). l ++ ys) t.2 ∙ append_assoc t.0 (tear_of slot at ∷ t.1) ys)
 
-tear-behind : (slot : Slot) (at : Moment) (xs ys : List Break) → TellsTear slot at ys → TellsTear slot at (xs ++ ys)
+pub tear-behind : (slot : Slot) (at : Moment) (xs ys : List Break) → TellsTear slot at ys → TellsTear slot at (xs ++ ys)
 tear-behind slot at xs ys t = (xs ++ t.0, t.1, ap (λ (l : List Break). xs ++ l) t.2 ∙ sym (append_assoc xs t.0 (tear_of slot at ∷ t.1)))
 
 -- these lines more are told, and among them its tear

@@ -1,5 +1,5 @@
 -- What the rings of a second need of its record: how later lines go on with it, and a cut; who sits where; and its odometer.
-use Rattle.std.proofs.Common.{◌≡◌, ◌∙◌, ◌⊎◌, inl, inr, ⊎_elim, ℕ, suc, ◌+◌, ◌-◌, ◌/◌, ◌^◌, ◌<◌, ◌≤◌, min, Bool, true, false, cond, not, ◌||◌, Option, Some, None, is_some, nat_eq, List, [], ◌∷◌, ◌++◌, length, map, take, sum_by, refl, ap, sym, subst, arith, append_assoc, length-append}
+use Rattle.std.proofs.Common.{◌≡◌, ◌∙◌, ◌⊎◌, inl, inr, ⊎_elim, ℕ, zero, suc, ◌+◌, ◌-◌, ◌/◌, ◌≤◌, min, Bool, true, false, cond, not, ◌||◌, Option, Some, None, is_some, nat_eq, List, [], ◌∷◌, ◌++◌, length, map, take, sum_by, refl, ap, sym, subst, arith, append_assoc, length-append}
 use Rattle.std.specs.Prelude.{nat_lt}
 use Rattle.std.specs.List.{AllByRecursion}
 use Rattle.std.proofs.Math.Seq.{take-append_seam}
@@ -19,9 +19,8 @@ use Rattle.log_model.specs.declared.lines.Break.{Break}
 use Rattle.log_model.specs.Causes.{second_of}
 use Rattle.log_model.specs.Log.{RunLog, Phase, In, same_phase, cut_in, is_torn_in, found_in}
 use Rattle.log_model.specs.Slots.{Sitting, in_slot}
-use Rattle.log_model.specs.Course.{Told, Before, Visit, Course, Went, begins, has_power, all_acted, went}
+use Rattle.log_model.specs.Course.{Told, Before, Visit, Course, begins, has_power, all_acted, went}
 use Rattle.log_model.specs.Spans.{seconds_in, spans_of}
-use Rattle.event_model.specs.Events.{course_by}
 use Rattle.event_course.proofs.Failing.{failed-here}
 use Rattle.side_model.specs.Done.{course_powered, has_failed_in}
 use Rattle.side_model.specs.Odometer.{SpanFrom, odometer_at}
@@ -38,7 +37,7 @@ use Rattle.run_crew.specs.declared.cards.Accepted.{Accepted}
 use Rattle.run_crew.specs.declared.cards.Cards.{Cards}
 use Rattle.run_crew.specs.Cards.{session_of}
 use Rattle.run_crew.specs.Cabin.{AnswersTo, SeatAnswers}
-use Rattle.run_course.specs.Followed.{Progress, Followed}
+use Rattle.run_course.specs.Followed.{Followed}
 use Rattle.run_course.specs.Moments.{and_break, SameUpTo}
 use Rattle.run_course.specs.Presence.{SitsAs, IsNewest}
 use Rattle.run_course.specs.Seconds.{GoesOnBy}
@@ -47,12 +46,10 @@ use Rattle.run_course.proofs.Moments.{later-lines}
 use Rattle.run_course.proofs.Steps.{with-supply, went-same_}
 use Rattle.run_course.proofs.Told.{lit-power, lit-starts}
 use Rattle.run_moments.specs.Kept.{settled_times}
-use Rattle.run_moments.specs.Reached.{course_at}
-use Rattle.run_moments.proofs.Kept.{times-parts}
 use Rattle.run_moments.proofs.Reached.{at-by}
 use Rattle.run_rule.specs.Found.{found_of}
 use Rattle.run_keeping.specs.Keeping.{HasLeftMore}
-use Rattle.run_rings.specs.Notes.{TellSameTo, course_behind}
+use Rattle.run_rings.specs.Notes.{course_behind}
 use Rattle.run_rings.specs.Spans.{go_on_from, with_second, odometer_on, AreAllBefore}
 use Rattle.run_rings.proofs.Spans.{odometer-now}
 use Rattle.run_recorded.specs.Origin.{Origin, rule_of, start_at, first_of}
@@ -141,12 +138,16 @@ module _ (o : Origin) (done : List TraceSecond) (s : TraceSecond) (at : Phase) (
   at-seconds [] = refl
   at-seconds (t ∷ span) = refl
 
+times-seconds : (k : ℕ) (span : Span) → (settled_times k span).seconds ≡ span.seconds
+times-seconds zero span = refl
+times-seconds (suc k) span = times-seconds k span
+
 -- the sum of the speeds of the span, before the second is fed
 pub travelled-is : (o : Origin) (done : List TraceSecond) (s : TraceSecond) (at : Phase) (waits : List Visit) (rest : List Minute) (v : Values) (d : Devices) (w : Within o done s at waits None rest v d) → travelled_of w.sp ≡ sum_by (λ (x : Second). x.speed) (seconds_in w.b.span)
 travelled-is o done s at waits rest v d w =
     ap (λ (x : Span). travelled_of x) w.decided.span_is
     ∙ ap (λ (ss : List Second). sum_by (λ (x : Second). x.speed) ss)
-    ((times-parts w.decided.times (span_at (rule_of o) w.b.run.next w.b.span)).2 ∙ at-seconds o done s at waits None rest v d w w.b.span)
+    (times-seconds w.decided.times (span_at (rule_of o) w.b.run.next w.b.span) ∙ at-seconds o done s at waits None rest v d w w.b.span)
 
 -- ---- spans
 

@@ -1,37 +1,33 @@
 -- Seconds of one minute turn over: behind them the rings show what they noted.
-use Rattle.std.proofs.Common.{◌≡◌, ◌∙◌, ◌⊎◌, inl, inr, ⊎_elim, ℕ, zero, suc, ◌+◌, ◌-◌, ◌/◌, ◌%◌, ◌<◌, ◌≤◌, Bool, true, false, not, Option, Some, None, option_map, is_some, List, [], ◌∷◌, ◌++◌, All, length, refl, ap, sym, subst, arith, append_assoc, append-nil, length-append}
+use Rattle.std.proofs.Common.{◌≡◌, ◌∙◌, ◌⊎◌, inl, inr, ⊎_elim, ℕ, zero, suc, ◌+◌, ◌-◌, ◌/◌, ◌%◌, ◌<◌, ◌≤◌, Bool, true, false, not, Option, Some, None, option_map, List, [], ◌∷◌, ◌++◌, All, length, refl, ap, sym, subst, arith, append_assoc, append-nil}
 use Rattle.std.specs.Prelude.{nat_lt}
 use Rattle.std.specs.List.{AllByRecursion}
 use Rattle.std.proofs.lemmas.Bool.Decides.{nat_tests}
 use Rattle.std.proofs.lemmas.List.Elements.{All-nil, All-cons}
-use Rattle.activity_codec.specs.declared.values.Slot.{Slot}
 use Rattle.trace_model.specs.declared.Card.{Card}
 use Rattle.trace_model.specs.declared.Card.TheVariants.{A, B}
-use Rattle.trace_model.specs.declared.Action.{Action}
 use Rattle.trace_model.specs.Trace.{TraceSecond, driven}
 use Rattle.tach_media.specs.Medium.{State}
 use Rattle.chip_model.specs.declared.command.CardState.{CardState}
 use Rattle.minute_model.specs.declared.Minute.{Minute}
-use Rattle.minute_rules.specs.Kept.{Kept}
 use Rattle.log_model.specs.declared.lines.Break.{Break}
 use Rattle.log_model.specs.Causes.{second_of}
-use Rattle.log_model.specs.Log.{RunLog, In, Keeping, cut_in, is_torn_in, found_in}
+use Rattle.log_model.specs.Log.{RunLog, In, Keeping, cut_in}
 use Rattle.log_model.specs.Same.{SameAt}
-use Rattle.log_model.specs.Course.{Told, Before, Went, begins, has_power, went, second_told, before_next}
+use Rattle.log_model.specs.Course.{Told, Before, Went, begins, has_power, went, second_told}
 use Rattle.log_model.proofs.Growth.{went-more}
 use Rattle.side_model.specs.Odometer.{SpanFrom}
-use Rattle.safety_model.specs.Safe.{Devices, card_of}
+use Rattle.safety_model.specs.Safe.{Devices}
 use Rattle.unit_course.specs.Lines.{cut_at}
-use Rattle.unit_course.specs.Followed.{Lit as IsLit, Lost as IsLost}
+use Rattle.unit_course.specs.Followed.{Lit as IsLit}
 use Rattle.run_course.specs.Moments.{and_break}
 use Rattle.run_course.specs.Followed.{Progress, IsGoing, IsLost as HasLost}
 use Rattle.run_course.proofs.Told.{IsLitAs, lit-told, dark-told, lit-power, lost-dark, next-dark}
 use Rattle.run_course.proofs.Quiet.{quiet-are-told}
-use Rattle.run_rule.specs.Found.{found_of}
 use Rattle.run_crew.specs.declared.cards.Accepted.{Accepted}
 use Rattle.run_outcome.specs.declared.outcome.Outcome.{Outcome}
 use Rattle.run_keeping.specs.declared.keeper.Moment.{Moment}
-use Rattle.run_keeping.specs.Keeping.{SessionsGoOn, with_lines}
+use Rattle.run_keeping.specs.Keeping.{SessionsGoOn}
 use Rattle.run_keeping.specs.Books.{HaveTime}
 use Rattle.run_rings.specs.Notes.{TellSameTo}
 use Rattle.run_rings.specs.Spans.{with_second}
@@ -52,7 +48,6 @@ use Rattle.run_acts.specs.declared.run.Run.{Run}
 use Rattle.run_acts.specs.declared.run.Power.{Power}
 use Rattle.run_acts.specs.declared.run.Power.TheVariants.{Lit, Lost}
 use Rattle.run_acts.specs.Booked.{IsBookedTurn}
-use Rattle.run_acts.specs.Devices.{AreLeftMore, DevicesGoOn}
 use Rattle.run_acts.specs.Going.{end_of_seconds, IsGoingOn}
 use Rattle.run_acts.specs.Power.{is_lit, passed, cut_run}
 use Rattle.run_acts.specs.Rounds.{told_values}
@@ -63,7 +58,7 @@ use Rattle.run_acts.proofs.TurnRecorded.{last-actions, last-number, turned, fail
 use Rattle.run_acts.proofs.StoredRun.{found-first, cut-stored}
 use Rattle.run_acts.specs.Ringing.{seating_of}
 use Rattle.run_acts.proofs.RingedLines.{AreTears, TellsBeside, TellsTears, tears-beside, kept-tells, up-to-tells}
-use Rattle.run_acts.proofs.RingedSecond.{cut-is, cut-torn, cut-found, here-append, tears-here_, goes-behind, power-here, starts-here, goes-last, alike-last, more-left}
+use Rattle.run_acts.proofs.RingedSecond.{cut-is, cut-torn, cut-found, here-append, tears-here_, goes-behind, power-here, goes-last, alike-last, more-left}
 use Rattle.run_acts.proofs.RingedClosed.{fewer-seats}
 
 -- ---- a second with power, as its log tells it

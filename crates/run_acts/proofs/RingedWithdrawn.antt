@@ -1,5 +1,5 @@
 -- A card is withdrawn, and so the rings go on.
-use Rattle.std.proofs.Common.{◌≡◌, ◌∙◌, ◌⊎◌, inl, inr, ⊎_elim, ℕ, suc, ◌+◌, ◌-◌, ◌/◌, ◌*◌, ◌^◌, ◌<◌, ◌≤◌, min, Bool, true, false, not, cond, Option, Some, None, IfSome, is_some, option_map, List, [], ◌∷◌, ◌++◌, All, length, refl, ap, sym, subst, arith, append_assoc, append-nil, length-append}
+use Rattle.std.proofs.Common.{◌≡◌, ◌∙◌, ◌⊎◌, inl, inr, ⊎_elim, ℕ, suc, ◌+◌, ◌-◌, ◌^◌, ◌<◌, ◌≤◌, Bool, true, false, not, cond, Option, Some, None, IfSome, is_some, option_map, List, [], ◌∷◌, ◌++◌, length, refl, ap, sym, subst, arith}
 use Rattle.std.specs.Prelude.{nat_lt}
 use Rattle.std.proofs.lemmas.Bool.{cases_lt}
 use Rattle.activity_codec.specs.declared.values.Slot.{Slot}
@@ -10,8 +10,7 @@ use Rattle.trace_model.specs.declared.Card.TheVariants.{A, B}
 use Rattle.trace_model.specs.Trace.{TraceSecond}
 use Rattle.tacho_types.specs.declared.numbers.Odometer.{Odometer}
 use Rattle.tacho_types.specs.declared.numbers.TimeReal.{TimeReal}
-use Rattle.minute_model.specs.declared.Minute.{Minute}
-use Rattle.minute_model.specs.Span.{Span, settled, travelled_of}
+use Rattle.minute_model.specs.Span.{travelled_of}
 use Rattle.message_model.specs.Records.{insertion_ring}
 use Rattle.unit_rule.specs.Odometer.{odometer_by}
 use Rattle.log_model.specs.declared.lines.Break.{Break}
@@ -23,20 +22,17 @@ use Rattle.log_model.specs.Course.{Told, Before, begins, went}
 use Rattle.side_model.specs.Odometer.{SpanFrom, odometer_at}
 use Rattle.safety_model.specs.Safe.{Devices}
 use Rattle.slot_machine.specs.Calls.{seat_in, card_in, logged}
-use Rattle.run_crew.specs.declared.cabin.Cabin.{Cabin}
 use Rattle.run_crew.specs.declared.cards.Accepted.{Accepted}
-use Rattle.run_crew.specs.declared.cards.Cards.{Cards}
-use Rattle.run_crew.specs.Cards.{session_of, with_session}
+use Rattle.run_crew.specs.Cards.{session_of}
 use Rattle.run_crew.specs.Cabin.{Stands}
 use Rattle.run_outcome.specs.declared.outcome.Outcome.{Outcome}
-use Rattle.run_keeping.specs.Keeping.{GoesOnFrom, SessionsGoOn}
 use Rattle.run_rings.specs.Notes.{NotesMore, course_behind}
 use Rattle.run_rings.specs.Spans.{with_second}
 use Rattle.run_rings.proofs.Actions.{withdrawals}
 use Rattle.run_rings.proofs.Same.{same-rings}
 use Rattle.run_recorded.specs.Origin.{Origin, start_at}
 use Rattle.run_recorded.specs.Beside.{HaveLeftMore}
-use Rattle.run_ringed.specs.Ringed.{Seating, LeavesRings, WritesImages, WritesRing, MayBeWithdrawn, IsWithdrawnAt}
+use Rattle.run_ringed.specs.Ringed.{Seating, LeavesRings, WritesRing, MayBeWithdrawn}
 use Rattle.run_ringed.specs.SoFar.{RingedBehind, RingedIn, AreFewer}
 use Rattle.run_ringed.specs.Steps.{GoesOnTo, IsCutIn, nobody, spans_cut}
 use Rattle.run_ringed.proofs.Steps.{passes, action-cut, card-withdrawn, withdrawal-is-cut}
@@ -46,7 +42,7 @@ use Rattle.run_within.proofs.Pulling.{sitting-now}
 use Rattle.run_within.proofs.Seats.{this-or, seat-tells, answers-in}
 use Rattle.run_acts.specs.declared.run.Run.{Run}
 use Rattle.run_acts.specs.Recording.{log_of, values_of, RunWithin}
-use Rattle.run_acts.specs.RunRinged.{seats_of, IsLastFrom, RingsWithin, with_cut, RingsGoOn}
+use Rattle.run_acts.specs.RunRinged.{seats_of, IsLastFrom, RingsWithin, with_cut}
 use Rattle.run_acts.specs.Ringing.{seating_of, Withdraws}
 use Rattle.run_acts.proofs.RingedLines.{AreTears}
 use Rattle.run_acts.proofs.RingedSecond.{odometer-here, goes-to, sits-then, is-cut, sits-cut, torn-cut, bare-there}
@@ -169,18 +165,18 @@ module _ (o : Origin) (done : List TraceSecond) (s : TraceSecond) (front rest : 
 
   -- THE WITHDRAWAL IS NOTED
   abbrev seats-then : Run → Card → Option Seating
-  seats-then r c = cond (same_card card c) None (seats_of r c)
+  seats-then r c = cond {A = Option Seating} (same_card card c) None (seats_of r c)
 
   others-stay : (c : Card) → ((same_card card c ≡ false) × (seats-then run c ≡ seats_of run c)) ⊎ ((same_card card c ≡ true) × (seats-then run c ≡ None))
   others-stay c = ⊎_elim
-      (λ same. inr (same, ap (λ (b : Bool). cond b None (seats_of run c)) same))
-      (λ other. inl (other, ap (λ (b : Bool). cond b None (seats_of run c)) other))
+      (λ same. inr (same, ap (λ (b : Bool). cond {A = Option Seating} b None (seats_of run c)) same))
+      (λ other. inl (other, ap (λ (b : Bool). cond {A = Option Seating} b None (seats_of run c)) other))
       (this-or card c)
 
   then-fewer : (new : Run) → AreFewer (seats_of run) (seats_of new) → seats_of new card ≡ None → AreFewer (seats-then run) (seats_of new)
   then-fewer new fewer gone c = ⊎_elim
-      (λ same. inl (mine c same ∙ sym (ap (λ (b : Bool). cond b None (seats_of run c)) same)))
-      (λ other. ⊎_elim (λ stays. inl (stays ∙ sym (ap (λ (b : Bool). cond b None (seats_of run c)) other))) (λ none. inr none) (fewer c))
+      (λ same. inl (mine c same ∙ sym (ap (λ (b : Bool). cond {A = Option Seating} b None (seats_of run c)) same)))
+      (λ other. ⊎_elim (λ stays. inl (stays ∙ sym (ap (λ (b : Bool). cond {A = Option Seating} b None (seats_of run c)) other))) (λ none. inr none) (fewer c))
       (this-or card c)
     where
       same-is : (x y : Card) → same_card x y ≡ true → x ≡ y
@@ -232,11 +228,11 @@ module _ (o : Origin) (done : List TraceSecond) (s : TraceSecond) (front rest : 
       by (Some session) has = torn (is_torn_in log_cut s.number (In (suc (length front))) slot) refl
         where
           torn : (b : Bool) → is_torn_in log_cut s.number (In (suc (length front))) slot ≡ b → RingedBehind o (done ++ s ∷ []) log_cut (suc s.number) (spans_cut spans run.keeper.odometer log_cut done s) nobody e
-          torn true yes =
+          torn true fell =
               let x = sits-some (ap (λ (q : Option Accepted). is_some q) has) in
-              cut-quiet leaves (none-torn log_cut (record { card = card; accepted = Some x.0 }) (then-cut (record { card = card; accepted = Some x.0 }) x.1) cuts.goes.begun yes)
-          torn false no =
-              broken-noted session has (subst (λ (q : Option Accepted). IfSome q (λ r. r.entry < insertion_ring.count)) has entries) no (none-written (seating_of run.noted session) time odometer d e leaves)
+              cut-quiet leaves (none-torn log_cut (record { card = card; accepted = Some x.0 }) (then-cut (record { card = card; accepted = Some x.0 }) x.1) cuts.goes.begun fell)
+          torn false stays =
+              broken-noted session has (subst (λ (q : Option Accepted). IfSome q (λ r. r.entry < insertion_ring.count)) has entries) stays (none-written (seating_of run.noted session) time odometer d e leaves)
 
   pub cut-writes : (session : Accepted) → session_of run.keeper.cabin.cards card ≡ Some session → session.entry < insertion_ring.count → is_torn_in later s.number (In (suc (length front))) slot ≡ false →
       Withdraws true (seating_of run.noted session) s.number odometer d.unit e.unit → RingedBehind o (done ++ s ∷ []) log_cut (suc s.number) (spans_cut spans run.keeper.odometer log_cut done s) nobody e

@@ -824,8 +824,8 @@ entry-of n (Some x) h = h.0
 
 -- a card whose session is closed was called alone, or not at all
 closing-left : {C : Type 0} (state : C → State) (x y : C) (q : Option Accepted) → IfSome q (λ s. (act : Activity) × LeavesOnly (state x) (state y) (λ i n. IsSession s.session i → IsCardClosing s.session act i n)) → (q ≡ None → y ≡ x) → HasLeftMore (state x) (state y)
-closing-left state x y None h same = subst (λ (z : _). HasLeftMore (state x) (state z)) (sym (same refl)) (λ t c le at. at)
-closing-left state x y (Some s) h same = h.1.keeps
+closing-left {C} state x y None h same = subst (λ (z : C). HasLeftMore (state x) (state z)) (sym (same refl)) (λ t c le at. at)
+closing-left {C} state x y (Some s) h same = h.1.keeps
 
 pub returns-in_default-clause-ringed : goal.returns-in_default-clause-ringed
 returns-in_default-clause-ringed g c = λ late speed o done s now front rest are n allowed w spans t rings time.
