@@ -19,6 +19,7 @@ use Rattle.log_model.specs.Course.{went}
 use Rattle.log_model.specs.Spans.{spans_of}
 use Rattle.side_model.specs.Done.{done_of}
 use Rattle.side_model.specs.Noted.{Note, notes_of}
+use Rattle.side_model.specs.Odometer.{MayStore, HaveBases}
 use Rattle.run_model.specs.declared.Device.{Device}
 use Rattle.run_model.specs.declared.Device.TheVariants.{Unit as Recorder, CardA, CardB}
 use Rattle.history_model.specs.Book.{not_begun}
@@ -35,6 +36,7 @@ use Rattle.unit_journal.proofs.Beside.{passes_beside}
 use Rattle.unit_memory.specs.declared.format.Identity.{Identity}
 use Rattle.safety_model.specs.Recording.{Recording, card_image, brought}
 use Rattle.safety_model.specs.Safe.{Devices, card_of, breakdowns_of, MayBegin}
+use Rattle.safety_model.specs.Side.{ShowsSide}
 use Rattle.slot_machine.specs.Kept.{nothing_yet}
 use Rattle.run_crew.specs.declared.cards.Accepted.{Accepted}
 use Rattle.run_crew.specs.declared.cards.Known.{Known}
@@ -49,13 +51,13 @@ use Rattle.run_brought.specs.Accounts.{so_far}
 use Rattle.run_moments.specs.Telling.{IsMore}
 use Rattle.run_told.specs.Told.{AreFoundCards, IsHeldDark, IsPowerless}
 use Rattle.run_told.proofs.Opened.{opened-wait, opened-powerless}
-use Rattle.run_recorded.specs.Origin.{Origin}
+use Rattle.run_recorded.specs.Origin.{Origin, rule_of, first_of}
 use Rattle.run_recorded.specs.Ends.{recording_by, EndsRun}
 use Rattle.run_recorded.specs.Seconds.{empty_log}
 use Rattle.run_recorded.proofs.Ends.{ends-run}
 use Rattle.run_evented.specs.Evented.{limit_in, Evented}
 use Rattle.run_evented.proofs.Ends.{nothing-noted, events-shown}
-use Rattle.run_ringed.specs.Ringed.{Seating, Ringed, notes_in, ShowsRingsOf}
+use Rattle.run_ringed.specs.Ringed.{Seating, Ringed, notes_in}
 use Rattle.run_ringed.specs.SoFar.{AreEarlier, RingedBehind}
 use Rattle.run_ringed.specs.Stored.{StoresOff, Stores}
 use Rattle.run_ringed.proofs.Rings.{none-noted, fewer-sit}
@@ -81,9 +83,10 @@ use Rattle.run_acts.specs.Evented.{RunEvented}
 use Rattle.run_acts.specs.Ringing.{seating_of}
 use Rattle.run_acts.specs.RunRinged.{seats_of, RunRinged}
 use Rattle.run_acts.proofs.Numbers.{own-long}
+use Rattle.run_acts.proofs.StoredRun.{run-stores, run-bases}
 use Rattle.recorder_with_cards.specs.Ends.{BeginAs, recorded_with, recording_of, opened_with, origin_of, MayRecord, EndsTrace}
 use Rattle.recorder_with_cards.proofs.Waiting.{first-second}
-use Rattle.recorder_with_cards.proofs.SideShown.{insertions-inside, places-inside}
+use Rattle.recorder_with_cards.proofs.SideShown.{side-shown}
 
 -- what holds of either card
 pub both : (P : Card → Type 0) → P A → P B → (c : Card) → P c
@@ -160,13 +163,7 @@ module _ (x a b : List ℕ) (start : ℕ) (items : List Item) (began now : Devic
       numbers = may.numbers;
     };
     ends = ends-so (seconds_of start items) h.evented.recorded.supply (values_of run out) h.evented.recorded.recorded unit_whole card_whole found may.decodes;
-    events = λ y left. events-shown began now o (seconds_of start items) (log_of out) run.unfound run.next h.evented.recorded.supply h.evented.evented r refl images refl refl clocks y left;
-    rings = record {
-      spans = h.spans;
-      spans_are = h.ringed.spans_are;
-      insertions = λ y left dense. (shown y left).insertions (record { points = insertions-inside x may.decodes; dense = dense });
-      places = λ y left dense. (shown y left).places (record { points = places-inside x may.decodes; dense = dense });
-    };
+    side = record { shows = shows };
   }
     where
       r : Recording
@@ -178,8 +175,22 @@ module _ (x a b : List ℕ) (start : ℕ) (items : List Item) (began now : Devic
       clocks : (c : Card) → (found_of o.found c).began ≡ (card_of began c).clock
       clocks = both (λ c. (found_of o.found c).began ≡ (card_of began c).clock) refl refl
 
-      shown : (y : List ℕ) → now.unit.may_leave y → ShowsRingsOf r h.spans began now y
-      shown y left = rings-shown began now o (log_of out) h.spans (notes_in (log_of out) (seconds_of start items)) (seats_of run) h.ringed.ringed r refl images refl refl clocks y left
+      ss : List TraceSecond
+      ss = seconds_of start items
+
+      -- what each image has stored, and what each span began with, by the power
+      stores : (p : Power) → run.power ≡ p → Stores (is_lit p) o (log_of out) run.unfound run.keeper.odometer h.spans now →
+          ((y : List ℕ) → now.unit.may_leave y → MayStore (rule_of o) (odometer_at o.recording.unit) (first_of o) h.spans (last_kept y) (odometer_at y)) × HaveBases (rule_of o) (log_of out) (odometer_at o.recording.unit) (first_of o) [] h.spans
+      stores Lit is v = (run-stores o ss run out now h.evented.recorded is h.spans h.ringed.spans_are v, run-bases o ss run out now h.evented.recorded is h.spans h.ringed.spans_are v)
+      stores Due is v = (v.stores, v.bases)
+      stores Lost is v = (v.stores, v.bases)
+
+      shows : (y : List ℕ) → now.unit.may_leave y → ShowsSide r began now y
+      shows y left =
+          side-shown r began now y may.decodes
+          (events-shown began now o (seconds_of start items) (log_of out) run.unfound run.next h.evented.recorded.supply h.evented.evented r refl images refl refl clocks y left)
+          h.spans (record { spans_are = h.ringed.spans_are; bases = (stores run.power refl h.stored).1 }) ((stores run.power refl h.stored).0 y left)
+          (rings-shown began now o (log_of out) h.spans (notes_in (log_of out) (seconds_of start items)) (seats_of run) h.ringed.ringed r refl images refl refl clocks y left)
 
 -- ---- as the run begins
 
