@@ -87,6 +87,7 @@ use Rattle.run_acts.proofs.StoredRun.{run-stores, run-bases}
 use Rattle.recorder_with_cards.specs.Ends.{BeginAs, recorded_with, recording_of, opened_with, origin_of, MayRecord, EndsTrace}
 use Rattle.recorder_with_cards.proofs.Waiting.{first-second}
 use Rattle.recorder_with_cards.proofs.SideShown.{side-shown}
+use Rattle.recorder_with_cards.proofs.Written.{are-written}
 
 -- what holds of either card
 pub both : (P : Card → Type 0) → P A → P B → (c : Card) → P c
@@ -164,6 +165,7 @@ module _ (x a b : List ℕ) (start : ℕ) (items : List Item) (began now : Devic
     };
     ends = ends-so (seconds_of start items) h.evented.recorded.supply (values_of run out) h.evented.recorded.recorded unit_whole card_whole found may.decodes;
     side = record { shows = shows };
+    written = are-written o (seconds_of start items) h.evented.recorded.supply (values_of run out) began now h.evented.recorded.recorded (found-by r0 (seconds_of start items) (log_of out) (found_in r0 began) began found);
   }
     where
       r : Recording

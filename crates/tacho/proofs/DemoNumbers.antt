@@ -62,4 +62,5 @@ module _ (x a b : List ℕ) (start : ℕ) (items : List Item) (out : Outcome) (p
       whole = h.ends.whole;
     };
     side = record { shows = λ y left. side-by y (h.side.shows y left) };
+    written = h.written;
   }

@@ -104,6 +104,10 @@ module _ (U V : State) (is : IsRead U V) where
     told-read A y h = h
     told-read B y h = h
 
+    card-back : (c : Card) (y : List ℕ) → (card_of (devices V Y Z) c).may_leave y → (card_of (devices U Y Z) c).may_leave y
+    card-back A y h = h
+    card-back B y h = h
+
     same-card : (c : Card) → card_of (devices U Y Z) c ≡ card_of (devices V Y Z) c
     same-card A = refl
     same-card B = refl
@@ -162,6 +166,7 @@ module _ (U V : State) (is : IsRead U V) where
                 record { decided = w.decided; unit = λ y left. w.unit y (now-back y left); card = λ c u valid accepted y left. full-read c y (λ on. w.card c u valid accepted y on) left };
           };
           side = record { shows = λ y left. side-read y (h.side.shows y (now-back y left)) };
+          written = λ c valid y left. h.written c valid y (card-back c y left);
         }
 
 -- and so it is of what was recorded on new devices
