@@ -61,3 +61,5 @@ pub mod TurnMany
 pub mod TurnRecorded
 pub mod Ringing
 pub mod Uncut
+pub mod CardNotes
+pub mod OnCards

@@ -20,3 +20,5 @@ pub mod Named
 pub mod Evented
 pub mod ActsEvented
 pub mod Ringing
+pub mod CardNotes
+pub mod OnCards
