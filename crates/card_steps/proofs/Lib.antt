@@ -8,6 +8,8 @@ pub mod Shutting
 pub mod Withdrawn
 pub mod Clear
 pub mod Lists
+pub mod SameBook
+pub mod Deeds
 pub mod Replayed
 pub mod Unclosed
 pub mod Inserted

@@ -13,17 +13,23 @@ use Rattle.card_retention.specs.Entries.{closed_at}
 use Rattle.card_retention.specs.Shown.{Bound, InDays, AllUpTo}
 use Rattle.card_image.specs.Fields.{card_days, end_mark, session_time}
 use Rattle.card_image.specs.Own.{own_view, own_covered}
+use Rattle.card_session.specs.Books.{Book, mark_of}
+use Rattle.card_session.specs.Sessions.{book_of}
 use Rattle.card_session.specs.Inserting.{Follow}
 use Rattle.card_session.specs.Overwriting.{BeginsBehind, and_entry}
 use Rattle.card_session.specs.Repairs.{first_minute, mark_behind, and_entries, with_entries, newest_behind, BeginsLater}
+use Rattle.card_session.proofs.Marks.{mark_told}
+use Rattle.card_session.proofs.Stopping.{book_days}
 use Rattle.card_steps.specs.Carried.{Goes, Broke, BrokeOf, Begun, BegunOf, IsFresh}
 use Rattle.card_steps.specs.Shows.{IsStopped, IsDone, IsKeepShown}
 use Rattle.card_steps.specs.Closes.{IsClosedShown, IsCloseShown}
 use Rattle.card_steps.specs.Inserts.{IsOnDay, MayReplay, IsReplayShown}
+use Rattle.card_steps.specs.Deeds.{IsMade}
 use Rattle.card_steps.specs.Since.{IsByEntries, all_since, bound_since, counted_since, IsTied, GoesSince, BrokeSince, HoldsSince}
 use Rattle.card_steps.proofs.Moved.{goes_moved, goes_broke}
 use Rattle.card_steps.proofs.Replayed.{broke_later, begun_later, follow_first}
 use Rattle.card_steps.proofs.Clear.{clear_of, told_more, told_still, last_in}
+use Rattle.card_steps.proofs.Deeds.{made_same, PartedAt, parted_made}
 use Rattle.card_steps.proofs.Lists.{all_more, bound_more, counted_more, up_back, follow_behind, follow_tail, follow_on}
 
 -- ---- with some entries more
@@ -53,10 +59,11 @@ module _ (app : Application) (image : List ℕ) (more es : List Entry) (from : �
 -- ---- what ties them to the end mark
 
 -- the mark of another image, on the same day
-pub tied_still : (app : Application) (image : List ℕ) (more : List Entry) (x y : List ℕ) → end_mark app y / 1440 ≡ end_mark app x / 1440 → IsTied app image more x → IsTied app image more y
-tied_still app image more x y same t = record {
+pub tied_still : (app : Application) (image : List ℕ) (more : List Entry) (x y : List ℕ) → end_mark app y / 1440 ≡ end_mark app x / 1440 → IsMade app image more y → IsTied app image more x → IsTied app image more y
+tied_still app image more x y same made t = record {
   told = told_still (bound_since image more) (end_mark app x) (end_mark app y) (counted_since image more) (all_since image more) same t.told;
   day = ⊎_elim (λ first. inl (same ∙ first)) (λ in_. inr (subst (λ (k : ℕ). InDays k (counted_since image more).days) (sym same) in_)) t.day;
+  made = made;
 }
 
 told_list : (slack : Bound) (mark now covered : ℕ) (c : Counted) (all es : List Entry) → now / 1440 ≡ mark_behind mark es / 1440 → IsByEntries slack mark c all → IsByEntries (and_entries slack es) now (with_entries covered c es) (all ++ es)
@@ -74,21 +81,23 @@ day_list : (mark covered : ℕ) (c : Counted) (e : Entry) (es : List Entry) → 
 day_list mark covered c e [] = last_in covered c e
 day_list mark covered c e (f ∷ es) = day_list e.minute covered (with_entry covered c e) f es
 
-pub tied_more : (app : Application) (image : List ℕ) (more es : List Entry) (x y : List ℕ) → end_mark app y / 1440 ≡ mark_behind (end_mark app x) es / 1440 → IsTied app image more x → IsTied app image (more ++ es) y
-tied_more app image more es x y same t = record {
+pub tied_more : (app : Application) (image : List ℕ) (more es : List Entry) (x y : List ℕ) → end_mark app y / 1440 ≡ mark_behind (end_mark app x) es / 1440 → IsMade app image (more ++ es) y → IsTied app image more x → IsTied app image (more ++ es) y
+tied_more app image more es x y same made t = record {
   told =
       subst (λ (b : Bound). IsByEntries b (end_mark app y) (counted_since image (more ++ es)) (all_since image (more ++ es))) (bound_more image more es)
       (subst (λ (c : Counted). IsByEntries (and_entries (bound_since image more) es) (end_mark app y) c (all_since image (more ++ es))) (counted_more image more es)
       (subst (λ (l : List Entry). IsByEntries (and_entries (bound_since image more) es) (end_mark app y) (with_entries (own_covered image) (counted_since image more) es) l) (all_more image more es)
       (told_list (bound_since image more) (end_mark app x) (end_mark app y) (own_covered image) (counted_since image more) (all_since image more) es same t.told)));
   day = by es refl;
+  made = made;
 }
   where
     by : (fs : List Entry) → es ≡ fs → (end_mark app y / 1440 ≡ (own_view image).mark / 1440) ⊎ InDays (end_mark app y / 1440) (counted_since image (more ++ es)).days
     by [] none =
         let whole : more ≡ more ++ es = sym (append-nil more) ∙ ap (λ (l : List Entry). more ++ l) (sym none) in
         let at : end_mark app y / 1440 ≡ end_mark app x / 1440 = same ∙ ap (λ (l : List Entry). mark_behind (end_mark app x) l / 1440) none in
-        subst (λ (l : List Entry). (end_mark app y / 1440 ≡ (own_view image).mark / 1440) ⊎ InDays (end_mark app y / 1440) (counted_since image l).days) whole (tied_still app image more x y at t).day
+        subst (λ (l : List Entry). (end_mark app y / 1440 ≡ (own_view image).mark / 1440) ⊎ InDays (end_mark app y / 1440) (counted_since image l).days) whole
+        (tied_still app image more x y at (subst (λ (l : List Entry). IsMade app image l y) (sym whole) made) t).day
     by (e ∷ fs) some =
         inr (subst (λ (k : ℕ). InDays k (counted_since image (more ++ es)).days) (sym (same ∙ ap (λ (l : List Entry). mark_behind (end_mark app x) l / 1440) some))
         (subst (λ (c : Counted). InDays (mark_behind (end_mark app x) (e ∷ fs) / 1440) c.days) (ap (λ (l : List Entry). with_entries (own_covered image) (counted_since image more) l) (sym some) ∙ counted_more image more es)
@@ -146,44 +155,44 @@ module _ (app : Application) (image : List ℕ) (done es : List Entry) (e : Entr
   kept_session : 0 < session_time app y
   kept_session = omega (arith, session, shown.session)
 
-  stopped_holds : IsStopped app (bound_since image done) (own_covered image) (counted_since image done) (all_since image done) e x y → HoldsSince app image (done ++ e ∷ es) next y
-  stopped_holds old = record {
+  stopped_holds : IsMade app image done y → IsStopped app (bound_since image done) (own_covered image) (counted_since image done) (all_since image done) e x y → HoldsSince app image (done ++ e ∷ es) next y
+  stopped_holds made old = record {
     more = done;
     rest = e ∷ es;
     split = refl;
     behind = (omega (arith, late, old.mark), follow);
-    stands = inr (record { session = kept_session; from = e.minute; later = omega arith; left = old.left; tied = tied_still app image done x y (ap (λ (n : ℕ). n / 1440) old.mark) s.tied });
+    stands = inr (record { session = kept_session; from = e.minute; later = omega arith; left = old.left; tied = tied_still app image done x y (ap (λ (n : ℕ). n / 1440) old.mark) made s.tied });
   }
 
-  pub kept_goes : IsDone app (bound_since image done) (own_covered image) (counted_since image done) (all_since image done) e x y → GoesSince app image (done ++ e ∷ []) (suc e.minute) y
-  kept_goes new = record {
+  pub kept_goes : IsMade app image (done ++ e ∷ []) y → IsDone app (bound_since image done) (own_covered image) (counted_since image done) (all_since image done) e x y → GoesSince app image (done ++ e ∷ []) (suc e.minute) y
+  kept_goes made new = record {
     from = suc e.minute;
     later = omega arith;
     goes = goes_more app image done (e ∷ []) (suc e.minute) y new.goes;
-    tied = tied_more app image done (e ∷ []) x y (ap (λ (n : ℕ). n / 1440) new.mark) s.tied;
+    tied = tied_more app image done (e ∷ []) x y (ap (λ (n : ℕ). n / 1440) new.mark) made s.tied;
   }
 
   append_one : (done : List Entry) → done ++ e ∷ es ≡ (done ++ e ∷ []) ++ es
   append_one [] = refl
   append_one (f ∷ done) = ap (λ (l : List Entry). f ∷ l) (append_one done)
 
-  done_holds : IsDone app (bound_since image done) (own_covered image) (counted_since image done) (all_since image done) e x y → HoldsSince app image (done ++ e ∷ es) next y
-  done_holds new = record {
+  done_holds : IsMade app image (done ++ e ∷ []) y → IsDone app (bound_since image done) (own_covered image) (counted_since image done) (all_since image done) e x y → HoldsSince app image (done ++ e ∷ es) next y
+  done_holds made new = record {
     more = done ++ e ∷ [];
     rest = es;
     split = append_one done;
     behind = subst (λ (m : ℕ). Follow m es) (sym new.mark) follow;
-    stands = inl (goes_wider app image (done ++ e ∷ []) (suc e.minute) (first_minute next es) y (follow_first e.minute next es follow after) (kept_goes new));
+    stands = inl (goes_wider app image (done ++ e ∷ []) (suc e.minute) (first_minute next es) y (follow_first e.minute next es follow after) (kept_goes made new));
   }
 
-  pub keep_holds : HoldsSince app image (done ++ e ∷ es) next y
-  keep_holds = ⊎_elim (λ old. stopped_holds old) (λ new. done_holds new) shown.side
+  pub keep_holds : IsMade app image done y → (end_mark app y ≡ e.minute → IsMade app image (done ++ e ∷ []) y) → HoldsSince app image (done ++ e ∷ es) next y
+  keep_holds stopped made = ⊎_elim (λ old. stopped_holds stopped old) (λ new. done_holds (made new.mark) new) shown.side
 
 -- ---- A WITHDRAWAL
 
-module _ (app : Application) (image : List ℕ) (done : List Entry) (next : ℕ) (x y : List ℕ) (session : 0 < session_time app x) (tied : IsTied app image done x) where
+module _ (app : Application) (image : List ℕ) (done : List Entry) (next : ℕ) (x y : List ℕ) (session : 0 < session_time app x) (tied : IsTied app image done x) (made : IsMade app image done y) where
   pub closed_goes : IsClosedShown app (bound_since image done) (own_covered image) next (counted_since image done) (all_since image done) x y → GoesSince app image done next y
-  closed_goes shut = record { from = next; later = omega arith; goes = shut.goes; tied = tied_still app image done x y shut.day tied }
+  closed_goes shut = record { from = next; later = omega arith; goes = shut.goes; tied = tied_still app image done x y shut.day made tied }
 
   pub close_holds : IsCloseShown app (bound_since image done) (own_covered image) next (counted_since image done) (all_since image done) x y → HoldsSince app image done next y
   close_holds (inl open_) = record {
@@ -191,7 +200,7 @@ module _ (app : Application) (image : List ℕ) (done : List Entry) (next : ℕ)
     rest = [];
     split = sym (append-nil done);
     behind = tt;
-    stands = inr (record { session = omega (arith, session, open_.0); from = next; later = omega arith; left = inl open_.2; tied = tied_still app image done x y (ap (λ (n : ℕ). n / 1440) open_.1) tied });
+    stands = inr (record { session = omega (arith, session, open_.0); from = next; later = omega arith; left = inl open_.2; tied = tied_still app image done x y (ap (λ (n : ℕ). n / 1440) open_.1) made tied });
   }
   close_holds (inr shut) = record {
     more = done;
@@ -221,17 +230,21 @@ newest_day : (mark newest : ℕ) (es : List Entry) → newest / 1440 ≡ mark / 
 newest_day mark newest [] same = same
 newest_day mark newest (e ∷ es) same = newest_day e.minute (closed_at (Some e)) es (closed_day e)
 
-module _ (app : Application) (image : List ℕ) (more rest : List Entry) (next : ℕ) (x y : List ℕ) (follow : Follow (end_mark app x) rest) (session : 0 < session_time app x) (tied : IsTied app image more x) where
+module _ (app : Application) (image : List ℕ) (more rest : List Entry) (next : ℕ) (x y : List ℕ) (follow : Follow (end_mark app x) rest) (session : 0 < session_time app x) (tied : IsTied app image more x)
+    (parted : PartedAt app image more rest y) where
   append_then : (more done rest : List Entry) → more ++ (done ++ rest) ≡ (more ++ done) ++ rest
   append_then [] done rest = refl
   append_then (e ∷ more) done rest = ap (λ (l : List Entry). e ∷ l) (append_then more done rest)
+
+  first_follow : (done es : List Entry) → rest ≡ done ++ es → end_mark app y ≡ mark_behind (end_mark app x) done → Follow (end_mark app y) es
+  first_follow done es split at = subst (λ (m : ℕ). Follow m es) (sym at) (follow_behind (end_mark app x) done es (subst (Follow (end_mark app x)) split follow))
 
   pub replay_holds : IsReplayShown app (bound_since image more) (own_covered image) next (counted_since image more) (all_since image more) rest x y → HoldsSince app image (more ++ rest) next y
   replay_holds shown = record {
     more = more ++ shown.first.done;
     rest = shown.first.rest;
     split = ap (λ (l : List Entry). more ++ l) shown.first.split ∙ append_then more shown.first.done shown.first.rest;
-    behind = subst (λ (m : ℕ). Follow m shown.first.rest) (sym shown.first.behind) (follow_behind (end_mark app x) shown.first.done shown.first.rest (subst (Follow (end_mark app x)) shown.first.split follow));
+    behind = first_follow shown.first.done shown.first.rest shown.first.split shown.first.behind;
     stands = inr (record {
       session = omega (arith, session, shown.session);
       from = first_minute next shown.first.rest;
@@ -239,7 +252,10 @@ module _ (app : Application) (image : List ℕ) (more rest : List Entry) (next :
       left = ⊎_elim
           (λ broke. inl (broke_more app image more shown.first.done (first_minute next shown.first.rest) y broke))
           (λ begun. inr (begun_more app image more shown.first.done (first_minute next shown.first.rest) y begun.0, begun.1)) shown.first.left;
-      tied = tied_more app image more shown.first.done x y (ap (λ (n : ℕ). n / 1440) shown.first.behind) tied;
+      tied = tied_more app image more shown.first.done x y (ap (λ (n : ℕ). n / 1440) shown.first.behind)
+          (parted_made app image more rest y parted shown.first.done shown.first.rest shown.first.split
+          (up_back (end_mark app y) (all_since image more) shown.first.done (⊎_elim (λ broke. broke.until) (λ begun. begun.0.until) shown.first.left))
+          (first_follow shown.first.done shown.first.rest shown.first.split shown.first.behind)) tied;
     });
   }
 
@@ -250,7 +266,8 @@ module _ (app : Application) (image : List ℕ) (more rest : List Entry) (next :
       from = next;
       later = omega arith;
       goes = goes_more app image more rest next y goes;
-      tied = tied_more app image more rest x y (ap (λ (n : ℕ). n / 1440) at ∙ newest_day (end_mark app x) newest rest same) tied;
+      tied = tied_more app image more rest x y (ap (λ (n : ℕ). n / 1440) at ∙ newest_day (end_mark app x) newest rest same)
+          (parted_made app image more rest y parted rest [] (sym (append-nil rest)) (up_back (end_mark app y) (all_since image more) rest goes.until) tt) tied;
     }
 
     pub all_holds : end_mark app y ≡ newest_behind newest rest → Goes app (and_entries (bound_since image more) rest) (own_covered image) next (with_entries (own_covered image) (counted_since image more) rest) (all_since image more ++ rest) y
@@ -263,15 +280,21 @@ module _ (app : Application) (image : List ℕ) (more rest : List Entry) (next :
       stands = inl (all_goes at goes);
     }
 
--- ---- the days, the end mark and the session stay, and a later bound
+-- ---- the days, the newest vehicle and the session stay, and a later bound
 
-module _ (app : Application) (image : List ℕ) (x y : List ℕ) (days : card_days app y ≡ card_days app x) (mark : end_mark app y ≡ end_mark app x) where
+module _ (app : Application) (image : List ℕ) (x y : List ℕ) (same : book_of app y ≡ book_of app x) where
+  days : card_days app y ≡ card_days app x
+  days = sym (book_days app y) ∙ ap (λ (b : Book). b.days) same ∙ book_days app x
+
+  mark : end_mark app y ≡ end_mark app x
+  mark = mark_told app y ∙ ap (λ (b : Book). mark_of b) same ∙ sym (mark_told app x)
+
   pub goes_still : (more : List Entry) (next : ℕ) → GoesSince app image more next x → GoesSince app image more next y
   goes_still more next s = record {
     from = s.from;
     later = s.later;
     goes = goes_moved app (bound_since image more) (own_covered image) s.from (counted_since image more) (all_since image more) x y days mark s.goes;
-    tied = tied_still app image more x y (ap (λ (n : ℕ). n / 1440) mark) s.tied;
+    tied = tied_still app image more x y (ap (λ (n : ℕ). n / 1440) mark) (made_same app image more x y same s.tied.made) s.tied;
   }
 
   module _ (more rest : List Entry) (from : ℕ) where
@@ -301,7 +324,7 @@ module _ (app : Application) (image : List ℕ) (x y : List ℕ) (days : card_da
           left = ⊎_elim
               (λ old. inl (broke_still h.more h.rest broke.from old))
               (λ begun. inr (begun_still h.more h.rest broke.from begun.0, subst (λ (m : ℕ). IsOnDay m h.rest) (sym mark) begun.1)) broke.left;
-          tied = tied_still app image h.more x y (ap (λ (n : ℕ). n / 1440) mark) broke.tied;
+          tied = tied_still app image h.more x y (ap (λ (n : ℕ). n / 1440) mark) (made_same app image h.more x y same broke.tied.made) broke.tied;
         })) h.stands;
   }
 

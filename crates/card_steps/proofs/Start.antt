@@ -35,6 +35,7 @@ use Rattle.card_session.proofs.InsertingBooks.{trimmed_low}
 use Rattle.card_session.proofs.InsertingValid.{closed_by_words}
 use Rattle.card_session.proofs.Valid.{valid_words}
 use Rattle.card_steps.specs.Since.{HasOn, day_marks, all_since, bound_since, counted_since, IsTied, HoldsSince}
+use Rattle.card_steps.proofs.Deeds.{made_start}
 use Rattle.card_steps.proofs.BehindMark.{quiet_all}
 use Rattle.card_steps.proofs.Clear.{newest_is}
 use Rattle.card_steps.proofs.Lists.{up_both}
@@ -187,6 +188,7 @@ module _ (image : List ℕ) where
     start_tied = record {
       told = record { newest = λ k newest. by k newest; within = subst (λ (c : Counted). AllIn 0 (all_since image []) c.days) (sym counted_is) there };
       day = inl (ap (λ (n : ℕ). n / 1440) (sym mark_is));
+      made = made_start (own_sizes image) image;
     }
       where
         by : (k : ℕ) → is_newest k (counted_since image []).days ≡ true → HasOn k (bound_since image []).all ⊎ (end_mark (own_sizes image) image / 1440 < k)

@@ -12,6 +12,7 @@ use Rattle.card_image.specs.Own.{own_view, own_covered, counted_view}
 use Rattle.card_session.specs.Inserting.{Follow}
 use Rattle.card_session.specs.Repairs.{first_minute}
 use Rattle.card_steps.specs.Carried.{Goes, Broke, Begun}
+use Rattle.card_steps.specs.Deeds.{IsMade}
 use Rattle.card_steps.specs.Inserts.{IsOnDay}
 
 -- one of some entries lies on this day
@@ -41,10 +42,12 @@ bound_since image more = record { bytes = 16; all = day_marks (own_view image).m
 abbrev pub counted_since : (image : List ℕ) → (more : List Entry) → Counted
 counted_since image more = counted (own_covered image) (counted_view (own_view image)) more
 
--- what ties them to the end mark, which lies on the start's day or on one that counts
+-- what ties them to the end mark, which lies on the start's day or on one that counts; and days and newest vehicle are made of the start's
+-- by the keeps of these entries
 pub record IsTied (app : Application) (image : List ℕ) (more : List Entry) (x : List ℕ) : Type 0 where
   pub told : IsByEntries (bound_since image more) (end_mark app x) (counted_since image more) (all_since image more)
   pub day : (end_mark app x / 1440 ≡ (own_view image).mark / 1440) ⊎ InDays (end_mark app x / 1440) (counted_since image more).days
+  pub made : IsMade app image more x
 
 -- The days go on with them, where the next entry is not earlier than `next`.
 pub record GoesSince (app : Application) (image : List ℕ) (more : List Entry) (next : ℕ) (x : List ℕ) : Type 0 where

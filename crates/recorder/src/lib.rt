@@ -2,14 +2,10 @@
 //! outcome tells which minutes were acknowledged, where the power was lost, and which actions were refused.
 #![tactic(auto)]
 
-#[cfg(test)]
-mod event_tests;
 mod keeping;
 mod opening;
 mod power;
 mod run;
-#[cfg(test)]
-mod tests;
 mod turn;
 
 pub use log_model::{Break, Find, Mark, Refused, SlotFault, Verdict};

@@ -11,8 +11,6 @@ mod entered_rings;
 mod inserting;
 mod resuming;
 mod run;
-#[cfg(test)]
-mod tests;
 
 pub use entered_events::{
     what_an_accepted_card_brings_is_what_is_judged, what_is_noted_of_a_card_are_its_events,

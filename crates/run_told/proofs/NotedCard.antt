@@ -102,11 +102,8 @@ module _ (app : Application) (sound : IsApplication app) (x : List ℕ) (valid :
   abbrev leaves : Leaves app x c
   leaves = left app sound x valid c note
 
-  pub note-days : card_days app c ≡ card_days app x
-  note-days = days_same app x c leaves.days
-
-  pub note-mark : end_mark app c ≡ end_mark app x
-  note-mark = ap (λ (u : ℕ). u / 60) (last_use_same app x c sound (pointer-passes (vehicle_ring app) x (valid-passes app x valid).vehicles) leaves.vehicles)
+  pub note-book : book_of app c ≡ book_of app x
+  note-book = book-same app sound x c (pointer-passes (vehicle_ring app) x (valid-passes app x valid).vehicles) leaves.vehicles leaves.days
 
   pub note-session_time : session_time app c ≡ session_time app x
   note-session_time = session_same app x c leaves.session
@@ -115,7 +112,7 @@ module _ (app : Application) (sound : IsApplication app) (x : List ℕ) (valid :
   note-number = number_same app x c leaves.sizes (note-identification app x c note)
 
   pub note-goes : (image : List ℕ) → (more : _) → (next : ℕ) → GoesSince app image more next x → GoesSince app image more next c
-  note-goes image more next goes = goes_still app image x c note-days note-mark more next goes
+  note-goes image more next goes = goes_still app image x c note-book more next goes
 
 -- ---- a card that would be valid, were its session ended
 

@@ -27,6 +27,7 @@ use Rattle.card_steps.proofs.Inserted.{mark_day, days_of_open, shows_all}
 use Rattle.card_steps.proofs.Unclosed.{unclosed_shown}
 use Rattle.card_steps.proofs.Lists.{SameParts, same_parts}
 use Rattle.card_steps.proofs.OfCards.{open_holds, shut_inserting}
+use Rattle.card_steps.proofs.Deeds.{closed_made, open_parted}
 use Rattle.card_steps.proofs.Since.{since_replay, all_goes, tied_still, none_goes, later_holds, holds_up}
 
 -- entries that follow an end mark are all lacked
@@ -92,7 +93,9 @@ module _ (app : Application) (registration : Registration) (odometer now : ℕ) 
   pub replayed-goes : (y : List ℕ) → InsertsOpen app registration odometer owed now x y → GoesSince app image (done ++ lacked_by app x owed) next y
   replayed-goes y inserts =
       let all = all-shown y inserts in
-      all_goes app image done (lacked_by app x owed) next x y ordered session tied (card_view app x).newest (mark_day app x (days_of_open app x registration odometer now owed y (open_end app registration odometer now owed x y inserts))) all.mark all.goes
+      let moment = open_end app registration odometer now owed x y inserts in
+      all_goes app image done (lacked_by app x owed) next x y ordered session tied (open_parted app sound registration long now image done x fits tied.made odometer owed are.0 y moment) (card_view app x).newest
+      (mark_day app x (days_of_open app x registration odometer now owed y moment)) all.mark all.goes
 
   pub replayed-minute : (y : List ℕ) (t : Session) → InsertsOpen app registration odometer owed now x y → t.application ≡ app → IsSession t y → t.minute ≡ newest_behind (card_view app x).newest (lacked_by app x owed)
   replayed-minute y t inserts same knows = let all = all-shown y inserts in omega (arith, minute-is app y t same knows, all.mark, all.word, view_word app y)
@@ -112,7 +115,7 @@ module _ (app : Application) (registration : Registration) (now : ℕ) (image : 
   pub shut-goes : (y : List ℕ) → InsertsClosed app registration now x y → GoesSince app image brought next y
   shut-goes y inserts =
       let s = goes-here in
+      let moment = closed_end app registration 0 now [] x y inserts in
       let shown =
-      unclosed_shown app sound x fits registration long now valid none (bound_since image brought) (own_covered image) s.from next (counted_since image brought) (all_since image brought) (omega arith) (omega (arith, s.later, le)) late s.goes y
-      (closed_end app registration 0 now [] x y inserts) in
-      record { from = next; later = omega arith; goes = shown.0; tied = tied_still app image brought x y shown.1 s.tied }
+      unclosed_shown app sound x fits registration long now valid none (bound_since image brought) (own_covered image) s.from next (counted_since image brought) (all_since image brought) (omega arith) (omega (arith, s.later, le)) late s.goes y moment in
+      record { from = next; later = omega arith; goes = shown.0; tied = tied_still app image brought x y shown.1 (closed_made app sound registration long now image brought x fits s.tied.made y moment) s.tied }

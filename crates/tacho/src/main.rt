@@ -135,18 +135,3 @@ fn main(rt: HostRuntime) -> ExitCode {
     let _ = tell(&rt, ended.fault);
     ExitCode::from(ended.status)
 }
-
-#[cfg(test)]
-mod card_tests;
-#[cfg(test)]
-mod demo_tests;
-#[cfg(test)]
-mod download_tests;
-#[cfg(test)]
-mod format_tests;
-#[cfg(test)]
-mod record_tests;
-#[cfg(test)]
-mod tests;
-#[cfg(test)]
-mod unit_tests;

@@ -1,9 +1,9 @@
 //! Worked runs.
-use crate::tests::devices::{Devices, Stops, calls_of, card, new_devices, record};
-use crate::tests::reading::{told_by_card, told_by_unit};
-use crate::{Break, Find, Mark, Outcome, Verdict};
+use crate::run::devices::{Devices, Stops, calls_of, card, new_devices, record};
+use crate::run::reading::{told_by_card, told_by_unit};
 use activity_codec::Slot;
 use card_layout::{Fid, LARGEST_IMAGE};
+use recorder_with_cards::{Break, Find, Mark, Outcome, Verdict};
 use run_model::Device;
 use std::alloc::Global;
 use std::process::Abort;

@@ -2,10 +2,8 @@ ghost use Rattle.std.specs.Prelude.{IfOk, ◌≡◌, ◌+◌, ◌*◌, ◌<◌, 
 ghost use Rattle.tach_media.specs.MemMedium.{memory_state};
 ghost use Rattle.unit_model.specs.Image.{IsUnit};
 
-use crate::opening::{RunFault, load};
-use crate::run::{is_for_unit, run_trace};
-use log_model::{Break, Mark, Refused, SlotFault};
-use run_outcome::{Lines, Outcome};
+use recorder::{Break, Lines, Mark, Outcome, Refused, RunFault, SlotFault, is_for_unit, run_trace};
+use run_model::Device;
 use std::alloc::{AllocError, Global};
 use std::process::Abort;
 use std::rt::HostRuntime;
@@ -88,7 +86,11 @@ fn what_is_held<U: Medium>(alloc: Global, unit: &mut U, second: u32) -> Result<H
     if unit.size() != IMAGE_SIZE {
         return Err(Fail::from("no unit"));
     }
-    let Ok(journal) = load(unit) else {
+    unit.revive()?;
+    if unit.size() != IMAGE_SIZE {
+        return Err(Fail::from("no unit"));
+    }
+    let Ok(journal) = Journal::load(unit) else {
         return Err(Fail::from("not loaded"));
     };
     let words = words_on(alloc, &journal, unit, second)?;
@@ -313,5 +315,37 @@ fn an_action_without_power_is_refused(rt: HostRuntime) -> Result<(), Fail> {
     };
     assert_eq!(rt; *outcome.refused.get(1), refused);
     assert_eq!(rt; outcome.marks.len(), 2);
+    Ok(())
+}
+
+/// That a unit of which this call fails is refused in the opening, and is as it was.
+fn fails_at(rt: &(impl Abort + AllocGlobal), call: u64) -> Result<(), Fail> {
+    let alloc = rt.alloc();
+    let mut unit = new_unit(alloc, stops(alloc, 1, call, 1, 0, Left::Before)?)?;
+    let (ended, outcome) = record(alloc, b"start 1267401600\nrun 300 0\n", &mut unit)?;
+    assert_eq!(rt; ended, Err(RunFault::MediumFault(Device::Unit)));
+    assert_eq!(rt; outcome.marks.len(), 0);
+    assert_eq!(rt; unit.clock(), 0);
+    Ok(())
+}
+
+#[test]
+fn a_unit_that_fails_in_the_opening_is_told(rt: HostRuntime) -> Result<(), Fail> {
+    fails_at(&rt, 0)?;
+    fails_at(&rt, 1)?;
+    fails_at(&rt, 300)
+}
+
+#[test]
+fn a_minute_takes_three_writes(rt: HostRuntime) -> Result<(), Fail> {
+    let alloc = rt.alloc();
+    let mut unit = new_unit(alloc, Vec::new(alloc))?;
+    let _ = record(
+        alloc,
+        b"start 1267401600\nrun 60 0\nrun 3540 50\n",
+        &mut unit,
+    )?;
+    // three a minute, two more where the day begins, and two for the words of the second minute
+    assert_eq!(rt; unit.clock(), 58 * 3 + 2 + 2);
     Ok(())
 }

@@ -4,10 +4,10 @@ ghost use Rattle.tach_media.specs.MemMedium.{memory_state};
 ghost use Rattle.card_layout.specs.declared.files.TheConstants.{LARGEST_IMAGE};
 ghost use Rattle.unit_model.specs.Image.{IsUnit};
 
-use crate::{Outcome, RunFault, run_trace};
 use card_commands::SimCard;
 use card_files::{CardIdentity, blank_card};
 use card_layout::{LARGEST, LARGEST_IMAGE};
+use recorder_with_cards::{Outcome, RunFault, run_trace};
 use std::alloc::{AllocError, Global};
 use std::test::Fail;
 use tach_media::{Chip, Medium, MemMedium, MemSource, Memory, Stop};

@@ -1,0 +1,72 @@
+-- What sessions have made of a card's days and of its newest vehicle entry since an image of it, deed by deed (profile).
+use Rattle.std.specs.Prelude.{◌≡◌, ℕ, List, [], ◌∷◌, ◌++◌}
+use Rattle.activity_codec.specs.declared.values.Activity.{Activity}
+use Rattle.activity_codec.specs.declared.entries.Entry.{Entry}
+use Rattle.card_layout.specs.declared.files.Application.{Application}
+use Rattle.tacho_types.specs.declared.texts.Registration.{Registration}
+use Rattle.card_session.specs.Books.{Book, mark_of, with_entry, closed}
+use Rattle.card_session.specs.Sessions.{book_of}
+use Rattle.card_session.specs.Moments.{IsKeepMoment, IsCloseMoment}
+use Rattle.card_session.specs.Inserting.{with_cut, IsCutting}
+
+-- an entry that is kept: in which vehicle, with which odometer value, and how many km behind the one before
+pub record EntryKept : Type 0 where
+  pub entry : Entry
+  pub registration : Registration
+  pub odometer : ℕ
+  pub km : ℕ
+
+-- WHAT A SESSION DOES: it keeps an entry; it closes the words of the last one with an activity, where its minute has room for that, and moves
+-- the end mark there; or, where another session was left open, it cuts the days at the end mark.
+pub data Deed : Type 0 where
+  Keep : EntryKept → Deed
+  Close : Activity → Deed
+  Cut : Deed
+
+-- what that makes of the days, with their words and distances, and of the newest vehicle entry
+abbrev pub after : (size : ℕ) → Deed → Book → Book
+after size (Keep k) b = with_entry size k.registration k.odometer k.km b k.entry
+after size (Close act) b = closed size act b
+after size Cut b = with_cut (mark_of b) b
+
+-- and a moment of it
+abbrev pub IsDuring : (size : ℕ) → Deed → (b c : Book) → Type 0
+IsDuring size (Keep k) b c = IsKeepMoment size k.registration k.odometer k.km k.entry b c.days c.vehicle
+IsDuring size (Close act) b c = IsCloseMoment size act b c.days c.vehicle
+IsDuring size Cut b c = IsCutting (mark_of b) b c.days c.vehicle
+
+-- a deed that was done, or that was broken off at a moment of it
+pub data Step : Type 0 where
+  Done : Deed → Step
+  Broken : Deed → Step
+
+abbrev pub Makes : (size : ℕ) → Step → (b c : Book) → Type 0
+Makes size (Done d) b c = c ≡ after size d b
+Makes size (Broken d) b c = IsDuring size d b c
+
+-- ONE BOOK IS MADE OF ANOTHER by steps, one after the other
+abbrev pub MadeBy : (size : ℕ) → List Step → (b c : Book) → Type 0
+MadeBy size [] b c = c ≡ b
+MadeBy size (s ∷ ss) b c = (y : Book) × Makes size s b y × MadeBy size ss y c
+
+-- the entries of which the keep is done
+abbrev pub kept_by : Step → List Entry
+kept_by (Done (Keep k)) = k.entry ∷ []
+kept_by (Done (Close act)) = []
+kept_by (Done Cut) = []
+kept_by (Broken d) = []
+
+abbrev pub kept_in : List Step → List Entry
+kept_in [] = []
+kept_in (s ∷ ss) = kept_by s ++ kept_in ss
+
+-- by keeps of exactly these entries, in their order, with closings and cuts between them
+pub record IsMadeOf (size : ℕ) (start : Book) (more : List Entry) (b : Book) : Type 0 where
+  pub steps : List Step
+  pub kept : kept_in steps ≡ more
+  pub made : MadeBy size steps start b
+
+-- THE DAYS of a card, with their words and distances, AND ITS NEWEST VEHICLE ENTRY are those that the keeps of these entries make of an
+-- image at the start.
+abbrev pub IsMade : Application → (image : List ℕ) → (more : List Entry) → (x : List ℕ) → Type 0
+IsMade app image more x = IsMadeOf app.activity (book_of app image) more (book_of app x)

@@ -1,4 +1,0 @@
-mod devices;
-mod reading;
-mod rows;
-mod table;
