@@ -19,7 +19,6 @@ use Rattle.card_layout.specs.Files.{files_of, place_of, size_of}
 use Rattle.gated_ring.specs.Ring.{size_of as ring_size}
 use Rattle.card_records.specs.Noting.{IsNotingEvent, IsEventNoted, IsNotingPlace}
 use Rattle.card_records.specs.Rings.{file, place_ring}
-use Rattle.run_keeping.proofs.CardEvents.{events-run}
 use Rattle.slot_machine.specs.declared.seats.Seat.{Seat}
 use Rattle.slot_machine.specs.Calls.{Seats, is_card, card_in, seat_in}
 use Rattle.run_crew.specs.declared.cards.Accepted.{Accepted}
@@ -39,7 +38,7 @@ use Rattle.event_model.specs.declared.kinds.TheConstants.{POWER_INTERRUPTION}
 use Rattle.run_entering.specs.CardEvents.{ShowsMore, NotesOnCard, IsPlain}
 use Rattle.run_entering.proofs.CardTables.{all-shown, all-showing}
 use Rattle.run_entering.proofs.CardInserted.{shows-nothing, shows-unbegun, shows-whole, shows-by}
-use Rattle.run_entering.proofs.CardBrought.{shows-both, shows-first, notes-still}
+use Rattle.run_entering.proofs.CardBrought.{shows-both, shows-first, events-run, notes-still}
 use Rattle.run_acts.specs.declared.run.Run.{Run}
 use Rattle.run_acts.specs.Acting.{noted_run, IsNotedOn, IsNotedIn}
 use Rattle.run_acts.specs.CardNotes.{NotesOn, NotesOnCards, on_seat}
