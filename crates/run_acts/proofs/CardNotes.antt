@@ -15,6 +15,7 @@ use Rattle.card_layout.specs.declared.files.Application.{Application}
 use Rattle.card_records.specs.declared.card_event.CardEvent.{CardEvent}
 use Rattle.byte_fields.proofs.Images.{part_before}
 use Rattle.tacho_types.specs.declared.places.PlaceEntry.{PlaceEntry}
+use Rattle.tacho_types.specs.declared.card_number.FullCardNumber.{FullCardNumber}
 use Rattle.card_layout.specs.Files.{files_of, place_of, size_of}
 use Rattle.gated_ring.specs.Ring.{size_of as ring_size}
 use Rattle.card_records.specs.Noting.{IsNotingEvent, IsEventNoted, IsNotingPlace}
@@ -34,7 +35,7 @@ use Rattle.safety_model.specs.Safe.{Devices, card_of}
 use Rattle.unit_memory.specs.declared.format.Identity.{Identity}
 use Rattle.unit_notes.specs.declared.unit_event.UnitEvent.{UnitEvent}
 use Rattle.run_notes.specs.Entries.{card_entry}
-use Rattle.event_model.specs.declared.kinds.TheConstants.{POWER_INTERRUPTION}
+use Rattle.event_model.specs.declared.kinds.TheConstants.{POWER_INTERRUPTION, SESSION_NOT_CLOSED}
 use Rattle.run_entering.specs.CardEvents.{ShowsMore, NotesOnCard, IsPlain}
 use Rattle.run_entering.proofs.CardTables.{all-shown, all-showing}
 use Rattle.run_entering.proofs.CardInserted.{shows-nothing, shows-unbegun, shows-whole, shows-by}
@@ -46,7 +47,7 @@ use Rattle.run_acts.specs.CardNotes.{NotesOn, NotesOnCards, on_seat}
 -- ---- what is noted
 
 pub plain-gap : (event : CardEvent) → event.kind ≡ POWER_INTERRUPTION → IsPlain event
-plain-gap event is = (inr (inr is), λ other. let wrong : 8 ≡ 6 = sym is ∙ other in absurd (omega (arith, wrong)))
+plain-gap event is = (inr (inr is), λ other. let wrong : POWER_INTERRUPTION ≡ SESSION_NOT_CLOSED = sym is ∙ other in absurd (omega (arith, wrong)))
 
 pub entry-is : (event : UnitEvent) (noted : CardEvent) (told known : Identity) → noted ≡ card_entry event told.registration → told ≡ known → noted ≡ card_entry event known.registration
 entry-is event noted told known is same = is ∙ ap (λ (i : Identity). card_entry event i.registration) same
@@ -165,7 +166,7 @@ bare-seat cards seat event a b none card X = by_test (is_card seat card)
         by (Some a) at =
             let some = subst (λ (o : Option Accepted). IfSome o (λ a. is_some known.number ≡ true)) at is.numbered in
             let told : known.number ≡ None = ap (λ (o : Option Accepted). cond (is_some o) known.number None) (sym at) ∙ none in
-            absurd (let wrong : is_some known.number ≡ false = ap (λ o. is_some o) told in cc)
+            absurd (let wrong : is_some known.number ≡ false = ap (λ (o : Option FullCardNumber). is_some o) told in cc)
 
     of : (c : Card) → accepted_number (known_of cards c) ≡ None → session_of cards c ≡ None
     of A none = gone cards.a a none

@@ -25,7 +25,7 @@ use Rattle.run_acts.proofs.NotedEvents.{one-noted, same-noted, noted-any}
 use Rattle.run_acts.specs.Acting.{IsNotedOn}
 use Rattle.run_rings.proofs.Same.{rings-left, rings-moments, table-outside}
 use Rattle.card_records.specs.declared.card_event.CardEvent.{CardEvent}
-use Rattle.card_records.specs.Noting as card
+use Rattle.card_records.specs.Noting as on
 use Rattle.run_crew.specs.declared.cards.Accepted.{Accepted}
 use Rattle.run_keeping.proofs.CardBooked.{session-set}
 use Rattle.run_notes.specs.Entries.{card_entry}
@@ -210,7 +210,7 @@ returns-then-is_err-clause-card_events g c =
     let same = entry-is c.args.event.now c.on_card-noted.result c.identity.result run.keeper.memory c.on_card-noted.ensures c.identity.ensures in
     let cabin = ap (λ (k : Keeper). k.cabin) c.tear.ensures.keeper ∙ torn-apart c.args.which c.moment-at.result.second run.keeper.cabin c.take.new.self c.take.ensures.left in
     let gone : session_of c.tear.new.self.cabin.cards c.args.which ≡ None = ap (λ (b : Cabin). session_of b.cards c.args.which) cabin ∙ session-set c.args.which None cards in
-    let moments = subst (λ (v : CardEvent). LeavesOnly X Y (card.IsNotingEvent c.in-Ok.app v)) same c.note_event_on.ensures.moments in
+    let moments = subst (λ (v : CardEvent). LeavesOnly X Y (on.IsNotingEvent c.in-Ok.app v)) same c.note_event_on.ensures.moments in
     subst (λ (o : Option Accepted). NotesOn false (session_of cards c.args.which) o (event ∷ []) X Y) (sym gone)
     (on-session c.args.which cards c.in-Ok.app (g.C.Chip.card c.args.card.now) X Y None (event ∷ []) c.requires.card sizes c.requires.session
     (noted-cut c.in-Ok.app event (plain-gap event c.requires.kind) X Y (g.met.C.Chip.coherent c.args.card.now) moments))
@@ -227,8 +227,8 @@ returns-clause-card_events g c =
     let well : is_err c.note_event_on.result ≡ false = sym c.is_err.ensures.value ∙ c.if-is_err.false in
     let cause = subst (λ (b : Bool). HasCause X Y b) well c.note_event_on.ensures.cause in
     let cards = c.set_session.ensures ∙ ap (λ (q : Cards). with_session c.args.which (Some c.in-Some.accepted) q) c.take.ensures.left ∙ session-back c.args.which c.in-Some.accepted run.keeper.cabin.cards (sym c.in-Some.ensures.taken) in
-    let moments = subst (λ (v : CardEvent). LeavesOnly X Y (card.IsNotingEvent c.in-Ok.app v)) same c.note_event_on.ensures.moments in
-    let noted = subst (λ (v : CardEvent). IfSome X.image (λ x. IfSome Y.image (card.IsEventNoted c.in-Ok.app v x))) same (ok_gives c.note_event_on.result c.note_event_on.ensures.noted well) in
+    let moments = subst (λ (v : CardEvent). LeavesOnly X Y (on.IsNotingEvent c.in-Ok.app v)) same c.note_event_on.ensures.moments in
+    let noted = subst (λ (v : CardEvent). IfSome X.image (λ x. IfSome Y.image (on.IsEventNoted c.in-Ok.app v x))) same (ok_gives c.note_event_on.result c.note_event_on.ensures.noted well) in
     let works = session-works c.args.which before (g.C.Chip.card c.args.card.now) X c.requires.card c.requires.session in
     subst (λ (q : Cards). NotesOn false (session_of before c.args.which) (session_of q c.args.which) (event ∷ []) X Y) (sym cards)
     (on-session c.args.which before c.in-Ok.app (g.C.Chip.card c.args.card.now) X Y (session_of before c.args.which) (event ∷ []) c.requires.card sizes c.requires.session
