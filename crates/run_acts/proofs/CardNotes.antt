@@ -148,8 +148,8 @@ on-other failed seat event card session after X other same =
 
 -- the card of a seat that is not accepted has no session
 pub bare-seat : (cards : Cards) (seat : Option Seat) (event : CardEvent) (a : IsKnown cards.a) (b : IsKnown cards.b) → number_of_seat cards seat ≡ None → (card : Card) (X : State) → NotesOn false (session_of cards card) (session_of cards card) (on_seat seat event card) X X
-bare-seat cards seat event a b none card X = by_test (is_card seat card)
-    (λ is. subst (λ (o : Option Accepted). NotesOn false o o (on_seat seat event card) X X) (sym (bare seat card none is)) refl)
+bare-seat cards seat event a b unnamed card X = by_test (is_card seat card)
+    (λ is. subst (λ (o : Option Accepted). NotesOn false o o (on_seat seat event card) X X) (sym (bare seat card unnamed is)) refl)
     (λ is. on-other false seat event card (session_of cards card) (session_of cards card) X is refl)
   where
     same : (c d : Card) → same_card c d ≡ true → c ≡ d
@@ -159,22 +159,22 @@ bare-seat cards seat event a b none card X = by_test (is_card seat card)
     same B A is = absurd (let wrong : false ≡ true = is in cc)
 
     gone : (known : Known) → IsKnown known → accepted_number known ≡ None → known.accepted ≡ None
-    gone known is none = by known.accepted refl
+    gone known is unnamed = by known.accepted refl
       where
         by : (o : Option Accepted) → known.accepted ≡ o → known.accepted ≡ None
         by None at = at
         by (Some a) at =
             let some = subst (λ (o : Option Accepted). IfSome o (λ a. is_some known.number ≡ true)) at is.numbered in
-            let told : known.number ≡ None = ap (λ (o : Option Accepted). cond (is_some o) known.number None) (sym at) ∙ none in
+            let told : known.number ≡ None = ap (λ (o : Option Accepted). cond (is_some o) known.number None) (sym at) ∙ unnamed in
             absurd (let wrong : is_some known.number ≡ false = ap (λ (o : Option FullCardNumber). is_some o) told in cc)
 
     of : (c : Card) → accepted_number (known_of cards c) ≡ None → session_of cards c ≡ None
-    of A none = gone cards.a a none
-    of B none = gone cards.b b none
+    of A unnamed = gone cards.a a unnamed
+    of B unnamed = gone cards.b b unnamed
 
     bare : (seat : Option Seat) (card : Card) → number_of_seat cards seat ≡ None → is_card seat card ≡ true → session_of cards card ≡ None
-    bare None card none is = absurd (let wrong : false ≡ true = is in cc)
-    bare (Some seat) card none is = subst (λ (c : Card). session_of cards c ≡ None) (same seat.card card is) (of seat.card none)
+    bare None card unnamed is = absurd (let wrong : false ≡ true = is in cc)
+    bare (Some seat) card unnamed is = subst (λ (c : Card). session_of cards c ≡ None) (same seat.card card is) (of seat.card unnamed)
 
 -- ---- both slots
 
@@ -238,7 +238,7 @@ sits-once from cabin stands event card some = ⊎_elim
     (λ driver. by true false driver (two-seats cabin.slots.seats.driver cabin.slots.seats.codriver card stands.apart driver) (inl refl))
     (λ codriver. by_test (is_card cabin.slots.seats.driver card)
     (λ driver. absurd (let wrong = two-seats cabin.slots.seats.driver cabin.slots.seats.codriver card stands.apart driver in let both : true ≡ false = sym codriver ∙ wrong in cc))
-    (λ none. by false true none codriver (inr refl)))
+    (λ off. by false true off codriver (inr refl)))
     sits)
     (λ leaves. absurd (let wrong : None ≡ Some card = leaves in cc))
     (stands.only card some)

@@ -12,6 +12,7 @@ use Rattle.card_records.specs.declared.card_event.CardEvent.{CardEvent}
 use Rattle.card_image.specs.Fields.{file, file_bytes}
 use Rattle.card_session.proofs.InsertingUse.{use_inside}
 use Rattle.device_steps.specs.Entering.{owed_on}
+use Rattle.event_model.specs.declared.kinds.TheConstants.{INSERTION_WHILE_DRIVING, SESSION_NOT_CLOSED}
 use Rattle.run_entering.specs.declared.lines.Entering.{Entering}
 use Rattle.trace_model.specs.declared.Card.{Card}
 use Rattle.trace_model.specs.declared.Card.TheVariants.{A, B}
@@ -87,7 +88,7 @@ module _ (app : Application) (registration : Registration) (e : Entering) (u y :
   abbrev Told : List CardEvent
   Told = unclosed_on app e.at.second y
 
-  moving-kind : 5 ≢ 6
+  moving-kind : INSERTION_WHILE_DRIVING ≢ SESSION_NOT_CLOSED
   moving-kind is = omega (arith, is)
 
   -- that the vehicle moves
