@@ -58,7 +58,7 @@ module _ (o : Origin) (w : Carried) (failed : Bool) (cards after : Cards) (d e :
     unit = h.tells ∙ t.unit;
     cards = λ card. cards-told card t;
     clocks = λ card. cards-later card t;
-    timed = λ card valid. timed card valid (t.timed card valid);
+    timed = λ card valid. (timed card valid).0 (t.timed card valid);
   }
     where
       cards-told : (card : Card) → AreThere o.found d → is_some (card_of e card).image ≡ true

@@ -70,3 +70,5 @@ pub mod RingedGap
 pub mod RingedTurn
 pub mod Stored
 pub mod StoredRun
+pub mod CardNotes
+pub mod OnCards

@@ -21,3 +21,5 @@ pub mod Evented
 pub mod ActsEvented
 pub mod Ringing
 pub mod RunRinged
+pub mod CardNotes
+pub mod OnCards

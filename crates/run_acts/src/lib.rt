@@ -7,6 +7,7 @@ mod feeding;
 mod gap;
 mod kept_events;
 mod noted_events;
+mod on_cards;
 mod placing;
 mod power;
 mod rounds;
@@ -23,6 +24,7 @@ pub use kept_events::{
     the_cards_of_a_moment_are_named, the_crew_of_a_moment_is_named, who_has_a_session_is_known,
 };
 pub use noted_events::what_two_calls_note_parts;
+pub use on_cards::a_second_is_shown_on_a_card;
 pub use placing::{note_place, place};
 pub use rounds::{
     the_keeping_fails, the_keeping_is_recorded, the_minutes_are_kept, the_minutes_are_over,

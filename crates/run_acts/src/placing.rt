@@ -1,5 +1,5 @@
 //! A place is noted.
-ghost use Rattle.std.specs.Prelude.{◌≡◌, ◌≢◌, ℕ, ◌+◌, ◌/◌, ◌<◌, ◌≤◌, ◌^◌, Bool, true, Option, Some, None, IfSome, OnOk, length, is_err, is_some, if◌then◌else◌};
+ghost use Rattle.std.specs.Prelude.{◌≡◌, ◌≢◌, ℕ, ◌+◌, ◌/◌, ◌<◌, ◌≤◌, ◌^◌, Bool, true, false, Option, Some, None, IfSome, OnOk, [], length, is_err, is_some, if◌then◌else◌};
 ghost use Rattle.trace_model.specs.declared.Card.{Card};
 ghost use Rattle.tach_media.specs.Medium.{LeavesOnly, HasCause, HasBroken};
 ghost use Rattle.minute_model.specs.Span.{Span, travelled_of};
@@ -18,6 +18,7 @@ ghost use Rattle.card_session.specs.Sessions.{IsValue};
 ghost use Rattle.device_steps.specs.CardNotes.{IsNote};
 ghost use Rattle.run_acts.specs.Noting.{IsPlaceRecorded, NotesFall, NotesPlace};
 ghost use Rattle.run_acts.specs.ActsEvented.{EventsPlace};
+ghost use Rattle.run_acts.specs.CardNotes.{NotesOn, NotesOnCards};
 ghost use Rattle.run_rings.specs.Same.{LeavesRings};
 ghost use Rattle.run_acts.specs.Ringing.{WritesPlace};
 ghost use Rattle.run_acts.specs.RunRinged.{RingsPlace};
@@ -80,6 +81,7 @@ pub fn note_place<M: Medium, C: Chip, D: Chip>(
     requires odometer { entry.now.odometer.0 ≤ HIGHEST_ODOMETER }
     requires breaks { length breaks.old.items + falls_of run.old.keeper.cabin ≤ breaks.old.room }
     ensures placed { (fell : Bool) × IsPlaced (card_in (seat_in run.old.keeper.cabin.slots.seats slot)) slot at run.old run.new breaks.old breaks.new fell }
+    ensures card_events { NotesOnCards false run.old.keeper.cabin.cards run.new.keeper.cabin.cards (λ card. []) (devices (M.state unit.old) (C.state card_a.old) (D.state card_b.old)) (devices (M.state unit.new) (C.state card_a.new) (D.state card_b.new)) }
     ensures events { NotesPlace (card_in (seat_in run.old.keeper.cabin.slots.seats slot)) slot at (is_err result) run.old run.new breaks.old breaks.new (devices (M.state unit.old) (C.state card_a.old) (D.state card_b.old)) (devices (M.state unit.new) (C.state card_a.new) (D.state card_b.new)) }
     ensures evented { EventsPlace slot at (is_err result) run.old run.new breaks.old breaks.new (devices (M.state unit.old) (C.state card_a.old) (D.state card_b.old)) (devices (M.state unit.new) (C.state card_a.new) (D.state card_b.new)) }
     ensures recorded { IsPlaceRecorded slot at (is_err result) run.old run.new breaks.old breaks.new (devices (M.state unit.old) (C.state card_a.old) (D.state card_b.old)) (devices (M.state unit.new) (C.state card_a.new) (D.state card_b.new)) }
@@ -130,6 +132,7 @@ fn note_place_in<M: Medium, C: Chip>(
     requires odometer { entry.now.odometer.0 < 2 ^ 24 }
     requires room { length breaks.old.items < breaks.old.room }
     ensures noted { (fell : Bool) × IsNotedOn which slot at run.old run.new breaks.old breaks.new fell × HasBroken (C.state card.old) (C.state card.new) (falls_by fell) × HasCause (C.state card.old) (C.state card.new) fell }
+    ensures card_events { NotesOn false (session_of run.old.keeper.cabin.cards which) (session_of run.new.keeper.cabin.cards which) [] (C.state card.old) (C.state card.new) }
     ensures events { NotesFall (λ fell. IsNotedOn which slot at run.old run.new breaks.old breaks.new fell) at.second (is_err result) run.new (devices (M.state unit.old) (C.state card.old) (C.state card.old)) (devices (M.state unit.new) (C.state card.new) (C.state card.new)) }
     ensures rings { LeavesRings (M.state unit.old) (M.state unit.new) }
     ensures journal { LeavesOnly (M.state unit.old) (M.state unit.new) LeavesJournal }

@@ -30,7 +30,8 @@ use Rattle.run_told.proofs.Parts.{both_of, as-rests, of-rests, brought-on, CardO
 use Rattle.run_told.proofs.Noted.{noted-with, go-unit}
 use Rattle.run_keeping.specs.declared.keeper.Keeper.{Keeper}
 use Rattle.run_keeping.specs.Keeping.{Fate, Still, Has, Fell, cabin_by, marks_by}
-use Rattle.run_keeping.specs.Books.{IsTimedOn, AreTimedOn, standing_by}
+use Rattle.run_keeping.specs.Books.{StaysOn, AreTimedOn, standing_by}
+use Rattle.run_keeping.proofs.CardEvents.{stays-self}
 use Rattle.run_keeping.specs.Owing.{CardOwing, BooksCard, HasTime, BooksBrought, IsBroughtOrCut, carried_brought, but_to}
 use Rattle.run_keeping.proofs.MarksOn.{unit-none, others-hold}
 use Rattle.run_keeping.proofs.CardBooked.{session-set}
@@ -202,10 +203,10 @@ found-session f B s cards found = record { two = found.two; named = named; told 
     told B = found.told B
 
 -- the other card is as it was
-timed-by : (f : Found) (c : Card) (U V X Y Z : State) → IsTimedOn (found_of f c) X Y → AreTimedOn f (arranged c U X Z) (arranged c V Y Z)
+timed-by : (f : Found) (c : Card) (U V X Y Z : State) → StaysOn (found_of f c) X Y → AreTimedOn f (arranged c U X Z) (arranged c V Y Z)
 timed-by f A U V X Y Z on A valid = on
-timed-by f A U V X Y Z on B valid = λ timed. timed
-timed-by f B U V X Y Z on A valid = λ timed. timed
+timed-by f A U V X Y Z on B valid = stays-self (found_of f B) Z
+timed-by f B U V X Y Z on A valid = stays-self (found_of f A) Z
 timed-by f B U V X Y Z on B valid = on
 
 -- ---- ALL OF IT
@@ -254,5 +255,5 @@ module _ (c : Card) (said : Kept) (fate : Fate) (k v : Cabin) (second : ℕ) (U 
 pub nobody-booked : (said : Kept) (cards : Cards) (d : Devices) → BooksBrought None said false Still cards cards d d
 nobody-booked said cards d = λ f w owes found may lit go time. (
   (subst (λ (ms : List Mark). IsLitOwing f (record w { marks = ms }) owes d) (sym (append-nil w.marks)) lit, record { held = go.held; goes = go.goes }),
-  λ c valid timed. timed,
+  λ c valid. stays-self (found_of f c) (card_of d c),
 )

@@ -25,8 +25,9 @@ use Rattle.run_crew.specs.Cards.{known_of, session_of, with_session}
 use Rattle.run_crew.specs.Cabin.{IsBehind}
 use Rattle.run_rule.specs.Found.{Found, found_of}
 use Rattle.run_keeping.specs.Keeping.{Still, Has, Fell, CardReady, marks_by}
-use Rattle.run_keeping.specs.Books.{IsTimedOn, standing_by}
+use Rattle.run_keeping.specs.Books.{StaysOn, standing_by}
 use Rattle.run_keeping.specs.Owing.{CardOwing, BooksCard}
+use Rattle.run_keeping.proofs.CardEvents.{events-keeping, stays-self}
 use Rattle.run_keeping.proofs.CardBrought.{card-still, card-fell, card-has}
 
 pub session-set : (c : Card) (s : Option Accepted) (cards : Cards) → session_of (with_session c s cards) c ≡ s
@@ -60,13 +61,15 @@ pub session-unset : (c : Card) (cards : Cards) → session_of cards c ≡ None �
 session-unset A cards gone = ap (λ (o : Option Accepted). record cards { a = record cards.a { accepted = o } }) (sym gone)
 session-unset B cards gone = ap (λ (o : Option Accepted). record cards { b = record cards.b { accepted = o } }) (sym gone)
 
--- a call on a card that has a session leaves what is known of its last use
+-- a call on a card that has a session leaves what is known of its last use, and its events
 timed-of : (f : Found) (c : Card) (b : Book) (z : Standing) (ks : List ℕ) (marks : List Mark) (owes : List Entry) (a : Accepted) (U X Y : State) (e : Entry) (odometer : ℕ) → IsCoherent X → CardOwing f c b z ks marks owes (Some a) U X
-    → LeavesOnly X Y (λ x y. IsSession a.session x → IsCardKeeping a.session e odometer x y) → IsTimedOn (found_of f c) X Y
-timed-of f c b z ks marks owes a U X Y e odometer whole one run = λ timed.
-    let on = one.goes.goes in
-    keeping-timed (found_of f c).image (found_of f c).began X Y one.rule.dark.later whole timed a.session e odometer
-    (if_told X.image (λ x. own_sizes x ≡ a.session.application) (λ x is. (one.held.now x (whole.is_left x is)).0 ∙ sym on.sizes)) on.session run
+    → LeavesOnly X Y (λ x y. IsSession a.session x → IsCardKeeping a.session e odometer x y) → StaysOn (found_of f c) X Y
+timed-of f c b z ks marks owes a U X Y e odometer whole one run =
+    let on = one.goes.goes in (
+      λ timed. keeping-timed (found_of f c).image (found_of f c).began X Y one.rule.dark.later whole timed a.session e odometer
+          (if_told X.image (λ x. own_sizes x ≡ a.session.application) (λ x is. (one.held.now x (whole.is_left x is)).0 ∙ sym on.sizes)) on.session run,
+      events-keeping (own_sizes (found_of f c).image) X Y whole a.session e odometer on.sizes on.session run,
+    )
 
 module _ (c : Card) (said : Kept) (cards : Cards) (U X : State) where
   -- it has no session
@@ -75,7 +78,7 @@ module _ (c : Card) (said : Kept) (cards : Cards) (U X : State) where
     subst (λ (o : Option Accepted). CardOwing f c w.book (w.standing c) (w.brought c) (w.marks ++ []) [] o U X) (sym gone)
         (card-still f c w.book (w.standing c) (w.brought c) w.marks (said.entry ∷ []) said.entry.minute U X present
         (subst (λ (o : Option Accepted). CardOwing f c w.book (w.standing c) (w.brought c) w.marks (said.entry ∷ []) o U X) gone one)),
-    λ timed. timed,
+    stays-self (found_of f c) X,
   )
 
   module _ (behind : Cards) (Y : State) (chip : CardState) (a : Accepted) (unit : IsCoherent U) (whole : IsCoherent X) (after : IsCoherent Y) (some : session_of cards c ≡ Some a) (ready : CardReady (known_of cards c) chip X) (may : IsBehind cards said.entry.minute (Some c))

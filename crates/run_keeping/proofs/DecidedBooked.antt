@@ -12,7 +12,7 @@ use Rattle.unit_journal.specs.declared.kept.KeptMinute.{KeptMinute}
 use Rattle.history_model.specs.Minutes.{HistoryMinute, on_card}
 use Rattle.history_model.specs.Presence.{CardStart}
 use Rattle.joint_rule.specs.Rules.{Standing, Out, In, Torn, IsPresent}
-use Rattle.safety_model.specs.Safe.{Devices}
+use Rattle.safety_model.specs.Safe.{Devices, card_of}
 use Rattle.unit_course.specs.Legs.{Travel, travelled, all_travelled}
 use Rattle.unit_rule.specs.Odometer.{HasTravelled, odometer_by, odometer_after}
 use Rattle.slot_machine.specs.declared.seats.Present.{Present}
@@ -28,6 +28,7 @@ use Rattle.run_keeping.specs.Books.{AreBooked, AreTimedOn, HaveTime, MayBook, Ma
 use Rattle.run_keeping.specs.Faults.{last_faults, faults_of, faults_to, NotesFaults}
 use Rattle.run_keeping.specs.Decided.{MayBookAll, BooksAll, carried_by, decided_minute}
 use Rattle.run_keeping.proofs.Brought.{cards-by, found-session}
+use Rattle.run_keeping.proofs.CardEvents.{stays-self}
 use Rattle.run_keeping.proofs.MinuteBooked.{timed-then}
 use Rattle.run_keeping.proofs.Faults.{notes-none, more-noted, last-noted}
 use Rattle.run_keeping.proofs.Decided.{no_minute, this, front, whole, all-here}
@@ -125,7 +126,7 @@ pub record Booked (ds : List Minute) (i : ℕ) (at : Moment) (t u : Told) (d e :
   pub noted : NotesFaults false (faults_of t.keeper at done t) d.unit e.unit
 
 pub none-booked : (ds : List Minute) (at : Moment) (t : Told) (d : Devices) → Booked ds 0 at t t d d
-none-booked ds at t d = record { done = []; are = refl; rounds = tt; told = refl; books = λ f w start g may gone stored time. ((may.booked, gone), λ c valid timed. timed); noted = notes-none false d.unit }
+none-booked ds at t d = record { done = []; are = refl; rounds = tt; told = refl; books = λ f w start g may gone stored time. ((may.booked, gone), λ c valid. stays-self (found_of f c) (card_of d c)); noted = notes-none false d.unit }
 
 -- all of them
 pub all-booked : (ds : List Minute) (i : ℕ) → length ds ≤ i → (at : Moment) (t u : Told) (d e : Devices) → Booked ds i at t u d e → (reach : Reach) × IsReach ds at false t u reach × BooksAll ds false reach t u d e × NotesFaults false (faults_to t.keeper at reach t) d.unit e.unit

@@ -11,6 +11,7 @@ pub mod MinuteOwed
 pub mod MinuteBegun
 pub mod MarksOn
 pub mod CardBrought
+pub mod CardEvents
 pub mod CardBooked
 pub mod Brought
 pub mod MinuteBooked

@@ -34,6 +34,7 @@ use Rattle.run_told.proofs.Travelled.{travelled-noted}
 use Rattle.run_keeping.specs.declared.keeper.Keeper.{Keeper}
 use Rattle.run_keeping.specs.Keeping.{Fate, Still, TellsPresent, entry_in, kept_in, cabin_by, is_this}
 use Rattle.run_keeping.specs.Minutes.{Round, Told, unit_mark}
+use Rattle.run_keeping.proofs.CardEvents.{stays-then}
 use Rattle.run_keeping.specs.Books.{history_minute, standing_by, carried_after, MayCome, MayBook, HaveTime, IsBooked, AreTimedOn, BooksMinute}
 use Rattle.run_keeping.specs.Owing.{owes_minute, but_to, carried_kept, carried_brought, HasTime, MayBring, IsBroughtOrCut, BooksBrought, BooksOwed}
 use Rattle.run_keeping.proofs.Counts.{apart-turned}
@@ -80,13 +81,13 @@ carried-still (Some k) m w =
     ap (λ (s : Card → Standing). record w { marks = w.marks ++ []; standing = s }) (ext (carried_brought Still (Some k) m w).standing w.standing (λ c. same-both (is_this (Some k) c) (w.standing c)))
     ∙ ap (λ (ms : List Mark). record w { marks = ms }) (append-nil w.marks)
 
--- the cards alone tell of their last use
+-- the cards alone tell of their last use, and of their events
 pub timed-at : (f : Found) (U V X Y : State) (e : Devices) → AreTimedOn f (devices V X Y) e → AreTimedOn f (devices U X Y) e
 timed-at f U V X Y e timed A = timed A
 timed-at f U V X Y e timed B = timed B
 
 pub timed-then : (f : Found) (d e g : Devices) → AreTimedOn f d e → AreTimedOn f e g → AreTimedOn f d g
-timed-then f d e g first next c valid = λ timed. next c valid (first c valid timed)
+timed-then f d e g first next c valid = stays-then (found_of f c) (card_of d c) (card_of e c) (card_of g c) (first c valid) (next c valid)
 
 -- the clock of a card that was not asked
 pub clock-rests : {C : Type 0} (state : C → State) (a b : C) → b ≡ a → (state b).clock ≡ (state a).clock

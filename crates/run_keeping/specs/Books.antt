@@ -3,7 +3,7 @@ use Rattle.std.specs.Prelude.{◌≡◌, ◌⊎◌, ℕ, suc, ◌≤◌, ◌<◌
 use Rattle.trace_model.specs.declared.Card.{Card}
 use Rattle.tach_media.specs.Medium.{State, last_count}
 use Rattle.log_model.specs.declared.lines.Mark.{Mark}
-use Rattle.card_image.specs.Own.{IsOwnValid}
+use Rattle.card_image.specs.Own.{own_sizes, IsOwnValid}
 use Rattle.card_times.specs.Times.{AreTimedSince}
 use Rattle.unit_journal.specs.declared.kept.KeptMinute.{KeptMinute}
 use Rattle.history_model.specs.Minutes.{HistoryMinute, on_card}
@@ -17,6 +17,7 @@ use Rattle.run_crew.specs.declared.cards.Cards.{Cards}
 use Rattle.run_rule.specs.Found.{CardFound, Found, found_of}
 use Rattle.run_rule.specs.Between.{Carried}
 use Rattle.run_told.specs.Told.{AreFoundCards, IsPowered, IsPowerless, AreEarly}
+use Rattle.run_keeping.specs.CardEvents.{LeavesEvents}
 use Rattle.run_keeping.specs.Keeping.{Fate, Still, Has, Fell, is_this}
 use Rattle.run_keeping.specs.Minutes.{Round, Told, marks_after}
 
@@ -106,9 +107,13 @@ pub record HaveTime (d : Devices) : Type 0 where
 abbrev pub IsTimedOn : CardFound → (old new : State) → Type 0
 IsTimedOn f old new = AreTimedSince f.image f.began old → AreTimedSince f.image f.began new
 
--- of each card that was valid
+-- and its events are those of before
+abbrev pub StaysOn : CardFound → (old new : State) → Type 0
+StaysOn f old new = IsTimedOn f old new × LeavesEvents (own_sizes f.image) old new
+
+-- so it is of each card that was valid
 abbrev pub AreTimedOn : Found → (d e : Devices) → Type 0
-AreTimedOn f d e = (c : Card) → IsOwnValid (found_of f c).image → IsTimedOn (found_of f c) (card_of d c) (card_of e c)
+AreTimedOn f d e = (c : Card) → IsOwnValid (found_of f c).image → StaysOn (found_of f c) (card_of d c) (card_of e c)
 
 -- A MINUTE WAS TO BE KEPT, whose odometer is that of the start and of what was travelled up to it, and this came of it: so it is booked.
 abbrev pub BooksMinute : Present → KeptMinute → (failed : Bool) → Option Round → (t u : Told) → (d e : Devices) → Type 0

@@ -1,5 +1,6 @@
 pub mod Keeping
 pub mod Minutes
+pub mod CardEvents
 pub mod Books
 pub mod Owing
 pub mod Decided

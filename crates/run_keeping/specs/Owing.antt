@@ -26,7 +26,7 @@ use Rattle.run_strung.specs.Strung.{IsHeld}
 use Rattle.run_told.specs.Told.{GoesOwing, AreFoundCards, AllGo, owes_nothing, IsLitWith, IsLitOwing, IsPowerless}
 use Rattle.run_keeping.specs.Keeping.{Fate, is_this, marks_by}
 use Rattle.run_keeping.specs.Minutes.{Told, unit_mark}
-use Rattle.run_keeping.specs.Books.{MayBook, IsLeftOff, IsTimedOn, AreTimedOn, history_minute, standing_by}
+use Rattle.run_keeping.specs.Books.{MayBook, IsLeftOff, StaysOn, AreTimedOn, history_minute, standing_by}
 
 -- an entry more is put, for the card that was present
 abbrev pub and_put : Option Card → Entry → (Card → List Entry) → Card → List Entry
@@ -102,7 +102,7 @@ abbrev pub BooksCard : Card → Kept → Fate → (cards cards_after : Cards) �
 BooksCard c said fate cards cards_after unit card card_after = (f : Found) (w : Carried) → AreFoundCards f cards → is_some unit.image ≡ true → Holds f.unit w.due w.book w.marks unit → w.book.maybe ≡ None → card_after.clock < last_count
     → IsOwnValid (found_of f c).image → IsPresent (found_of f c).start (w.standing c) said.entry.minute
     → CardOwing f c w.book (w.standing c) (w.brought c) w.marks (said.entry ∷ []) (session_of cards c) unit card
-    → CardOwing f c w.book (standing_by fate said.entry.minute (w.standing c)) (w.brought c) (w.marks ++ marks_by fate (Some c) said.entry.minute) [] (session_of cards_after c) unit card_after × IsTimedOn (found_of f c) card card_after
+    → CardOwing f c w.book (standing_by fate said.entry.minute (w.standing c)) (w.brought c) (w.marks ++ marks_by fate (Some c) said.entry.minute) [] (session_of cards_after c) unit card_after × StaysOn (found_of f c) card card_after
 
 -- the clock of the card that was present does not stand at its last value
 abbrev pub HasTime : Option Card → Devices → Type 0

@@ -36,8 +36,21 @@ use Rattle.run_acts.proofs.Noted.{noted-ready, noted-row}
 use Rattle.run_rings.specs.Same.{LeavesRings}
 use Rattle.run_rings.proofs.Same.{rings-left, rings-moments, rings-then, table-outside}
 use Rattle.run_keeping.proofs.Later.{state-by, later-same, later-then, later-of-unit}
-use Rattle.safety_model.specs.Safe.{Devices}
 use Rattle.run_acts.proofs.RingedGap.{note-ringed}
+use Rattle.card_records.specs.declared.card_event.CardEvent.{CardEvent}
+use Rattle.minute_model.specs.Span.{ungiven_of}
+use Rattle.run_crew.specs.Cards.{session_of}
+use Rattle.run_keeping.specs.declared.keeper.Keeper.{Keeper}
+use Rattle.run_notes.specs.Entries.{card_entry}
+use Rattle.safety_model.specs.Safe.{Devices, card_of}
+use Rattle.trace_model.specs.declared.Card.{Card}
+use Rattle.trace_model.specs.declared.Card.TheVariants.{A, B}
+use Rattle.activity_codec.specs.declared.values.Slot.{Slot}
+use Rattle.log_model.specs.declared.lines.Break.{Break}
+use Rattle.run_outcome.specs.Lines.{Listed}
+use Rattle.unit_memory.specs.declared.format.Identity.{Identity}
+use Rattle.run_acts.specs.CardNotes.{NotesOn, NotesOnCards, on_seat, gap_on}
+use Rattle.run_acts.proofs.CardNotes.{on-none, on-unbegun, both-noted, first-noted}
 use Rattle.run_acts.proofs.gap.note_gap.Goals as goal
 
 pub note_in-requires-clause-going : goal.note_in-requires-clause-going
@@ -401,3 +414,80 @@ returns-clause-ringed g c =
     let d : Devices = devices (g.M.Medium.state c.args.unit.now) (g.C.Chip.state c.args.card_a.now) (g.D.Chip.state c.args.card_b.now) in
     let e : Devices = devices (g.M.Medium.state c.note_in-2.new.unit) (g.C.Chip.state c.note_in-2.new.card_a) (g.D.Chip.state c.note_in-2.new.card_b) in
     note-ringed (gap_of c.args.kept run.next) (is_err c.note_in-2.result) run c.note_in-2.new.run c.args.breaks.now c.note_in-2.new.breaks d e (returns-clause-noted g c) (returns-clause-rings g c) (returns-clause-leaves g c)
+
+-- ---- the events that the cards show
+
+-- the cards, beside whichever unit
+unit-apart : (card : Card) (U V X Y : State) (P : State → Type 0) → P (card_of (devices V X Y) card) → P (card_of (devices U X Y) card)
+unit-apart A U V X Y P is = is
+unit-apart B U V X Y P is = is
+
+-- what the unit was told of the vehicle stays
+memory-noted : (o : Option Card) (slot : Slot) (at : Moment) (old new : Run) (breaks after : Listed Break) (fell : Bool) → IsNotedIn o slot at old new breaks after fell → new.keeper.memory ≡ old.keeper.memory
+memory-noted None slot at old new breaks after fell is = ap (λ (r : Run). r.keeper.memory) is.0
+memory-noted (Some one) slot at old new breaks after false is = ap (λ (r : Run). r.keeper.memory) is.0.run
+memory-noted (Some one) slot at old new breaks after true is = ap (λ (r : Run). r.keeper.memory) is.0.run
+
+-- the interruption as a card has it
+card-gap : (run : Run) (span : Span) (told : UnitEvent) (event : CardEvent) → told ≡ gap_event span run → event ≡ card_entry told run.keeper.memory.registration → event ∷ [] ≡ gap_on (Some span) run.keeper.memory.registration
+card-gap run span told event is at = ap (λ (v : CardEvent). v ∷ []) (at ∙ ap (λ (u : UnitEvent). card_entry u run.keeper.memory.registration) is)
+
+gap-there : (run : Run) (o : Option Span) (span : Span) (told : UnitEvent) → o ≡ Some span → told ≡ gap_event span run → card_entry told run.keeper.memory.registration ∷ [] ≡ gap_on o run.keeper.memory.registration
+gap-there run o span told there is = card-gap run span told (card_entry told run.keeper.memory.registration) is refl ∙ ap (λ (p : Option Span). gap_on p run.keeper.memory.registration) (sym there)
+
+pub returns-in_default-clause-card_events : goal.returns-in_default-clause-card_events
+returns-in_default-clause-card_events g c =
+    let run = c.args.run.now in
+    let d = devices (g.M.Medium.state c.args.unit.now) (g.C.Chip.state c.args.card_a.now) (g.D.Chip.state c.args.card_b.now) in
+    let none : gap_of c.args.kept run.next ≡ None = sym c.power_gap.ensures ∙ none-there c.power_gap.result c.in_default.not-Some in
+    λ card. subst (λ (o : Option Span). NotesOn false (session_of run.keeper.cabin.cards card) (session_of run.keeper.cabin.cards card) (gap_on o run.keeper.memory.registration) (card_of d card) (card_of d card)) (sym none)
+    (on-none false (session_of run.keeper.cabin.cards card) (card_of d card))
+
+pub returns-in_err-note_event-clause-card_events : goal.returns-in_err-note_event-clause-card_events
+returns-in_err-note_event-clause-card_events g c =
+    let run = c.args.run.now in
+    let d = devices (g.M.Medium.state c.args.unit.now) (g.C.Chip.state c.args.card_a.now) (g.D.Chip.state c.args.card_b.now) in
+    let failed : true ≡ is_err c.from_residual.result = search rules in
+    λ card. subst (λ (q : Bool). NotesOn q (session_of run.keeper.cabin.cards card) (session_of run.keeper.cabin.cards card) (gap_on (gap_of c.args.kept run.next) run.keeper.memory.registration) (card_of d card) (card_of d card)) failed
+    (on-unbegun (session_of run.keeper.cabin.cards card) (session_of run.keeper.cabin.cards card) (gap_on (gap_of c.args.kept run.next) run.keeper.memory.registration) (card_of d card))
+
+pub returns-in_err-note_in-clause-card_events : goal.returns-in_err-note_in-clause-card_events
+returns-in_err-note_in-clause-card_events g c =
+    let run = c.args.run.now in
+    let between : Run = c.note_in.new.run in
+    let h = c.requires.going in
+    let V = g.M.Medium.state c.note_event.new.unit in
+    let d = devices V (g.C.Chip.state c.args.card_a.now) (g.D.Chip.state c.args.card_b.now) in
+    let e = devices (g.M.Medium.state c.note_in.new.unit) (g.C.Chip.state c.note_in.new.card_a) (g.D.Chip.state c.note_in.new.card_b) in
+    let there : gap_of c.args.kept run.next ≡ Some c.in-Some.span = cc in
+    let failed : true ≡ is_err c.from_residual-in_err-note_in.result = search rules in
+    let told : c.card_gap-event.result ≡ gap_event c.in-Some.span run = c.card_gap-event.ensures ∙ ap (λ (q : Crew). entry_of POWER_INTERRUPTION c.in-Some.span.begin c.in-Some.span.end q q) c.crew.ensures in
+    let event : CardEvent = card_entry c.card_gap-event.result run.keeper.memory.registration in
+    let noted = first-noted (ungiven_of h.span) run between h.cabin event d e c.in_err-note_in.ensures.card_events in
+    λ card. unit-apart card (g.M.Medium.state c.args.unit.now) V (g.C.Chip.state c.args.card_a.now) (g.D.Chip.state c.args.card_b.now)
+    (λ X. NotesOn (is_err c.from_residual-in_err-note_in.result) (session_of run.keeper.cabin.cards card) (session_of between.keeper.cabin.cards card) (gap_on (gap_of c.args.kept run.next) run.keeper.memory.registration) X (card_of e card))
+    (subst (λ (q : Bool). NotesOn q (session_of run.keeper.cabin.cards card) (session_of between.keeper.cabin.cards card) (gap_on (gap_of c.args.kept run.next) run.keeper.memory.registration) (card_of d card) (card_of e card)) failed
+    (subst (λ (es : List CardEvent). NotesOn true (session_of run.keeper.cabin.cards card) (session_of between.keeper.cabin.cards card) es (card_of d card) (card_of e card)) (gap-there run (gap_of c.args.kept run.next) c.in-Some.span c.card_gap-event.result there told) (noted card)))
+
+pub returns-clause-card_events : goal.returns-clause-card_events
+returns-clause-card_events g c =
+    let run = c.args.run.now in
+    let between : Run = c.note_in.new.run in
+    let new : Run = c.note_in-2.new.run in
+    let h = c.requires.going in
+    let V = g.M.Medium.state c.note_event.new.unit in
+    let d = devices V (g.C.Chip.state c.args.card_a.now) (g.D.Chip.state c.args.card_b.now) in
+    let m = devices (g.M.Medium.state c.note_in.new.unit) (g.C.Chip.state c.note_in.new.card_a) (g.D.Chip.state c.note_in.new.card_b) in
+    let e = devices (g.M.Medium.state c.note_in-2.new.unit) (g.C.Chip.state c.note_in-2.new.card_a) (g.D.Chip.state c.note_in-2.new.card_b) in
+    let failed = is_err c.note_in-2.result in
+    let there : gap_of c.args.kept run.next ≡ Some c.in-Some.span = cc in
+    let told : c.card_gap-event.result ≡ gap_event c.in-Some.span run = c.card_gap-event.ensures ∙ ap (λ (q : Crew). entry_of POWER_INTERRUPTION c.in-Some.span.begin c.in-Some.span.end q q) c.crew.ensures in
+    let event : CardEvent = card_entry c.card_gap-event.result run.keeper.memory.registration in
+    let one = c.in_ok-note_in.ensures.noted in
+    let two = c.note_in-2.ensures.noted in
+    let memory : between.keeper.memory ≡ run.keeper.memory = memory-noted (card_in (seat_in run.keeper.cabin.slots.seats Driver)) Driver (now_moment run) run between c.args.breaks.now c.note_in.new.breaks one.0 one.1 in
+    let seconds = subst (λ (i : Identity). NotesOnCards false between.keeper.cabin.cards new.keeper.cabin.cards (on_seat (seat_in between.keeper.cabin.slots.seats CoDriver) (card_entry c.card_gap-event.result i.registration)) m e) memory c.note_in-2.ensures.card_events in
+    let noted = both-noted (ungiven_of h.span) run between new (now_moment run) (now_moment between) c.args.breaks.now c.note_in.new.breaks c.note_in-2.new.breaks one.0 two.0 h.cabin one.1 two.1 event failed d m e c.in_ok-note_in.ensures.card_events seconds in
+    λ card. unit-apart card (g.M.Medium.state c.args.unit.now) V (g.C.Chip.state c.args.card_a.now) (g.D.Chip.state c.args.card_b.now)
+    (λ X. NotesOn failed (session_of run.keeper.cabin.cards card) (session_of new.keeper.cabin.cards card) (gap_on (gap_of c.args.kept run.next) run.keeper.memory.registration) X (card_of e card))
+    (subst (λ (es : List CardEvent). NotesOn failed (session_of run.keeper.cabin.cards card) (session_of new.keeper.cabin.cards card) es (card_of d card) (card_of e card)) (gap-there run (gap_of c.args.kept run.next) c.in-Some.span c.card_gap-event.result there told) (noted card))

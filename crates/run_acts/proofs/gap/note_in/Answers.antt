@@ -1,4 +1,4 @@
-use Rattle.std.proofs.Common.{◌≡◌, ◌∙◌, ℕ, ◌+◌, ◌-◌, ◌/◌, ◌≤◌, Bool, true, false, Option, Some, None, [], is_some, length, refl, ap, sym, subst, arith}
+use Rattle.std.proofs.Common.{◌≡◌, ◌∙◌, ℕ, ◌+◌, ◌-◌, ◌/◌, ◌≤◌, Bool, true, false, Option, Some, None, [], ◌∷◌, is_some, length, refl, ap, sym, subst, arith}
 use Rattle.activity_codec.specs.declared.values.Slot.{Slot}
 use Rattle.trace_model.specs.declared.Card.{Card}
 use Rattle.trace_model.specs.declared.Card.TheVariants.{A, B}
@@ -28,6 +28,12 @@ use Rattle.run_acts.specs.Noting.{fall_events}
 use Rattle.run_acts.proofs.NotedEvents.{same-noted, noted-any}
 use Rattle.run_rings.proofs.Same.{rings-left}
 use Rattle.run_keeping.proofs.Later.{state-by, later-same, later-of-a, later-of-b}
+use Rattle.card_records.specs.declared.card_event.CardEvent.{CardEvent}
+use Rattle.tacho_types.specs.declared.card_number.FullCardNumber.{FullCardNumber}
+use Rattle.safety_model.specs.Safe.{card_of}
+use Rattle.run_notes.specs.Entries.{card_entry}
+use Rattle.run_acts.specs.CardNotes.{NotesOn, on_seat}
+use Rattle.run_acts.proofs.CardNotes.{both-cards, seat-is, seat-other, seat-none, on-seat, on-as, on-other, bare-seat}
 use Rattle.run_acts.proofs.gap.note_in.Goals as goal
 
 -- ---- card a
@@ -347,3 +353,66 @@ returns-in-A-clause-later g c = later-of-a (g.M.Medium.state c.args.unit.now) (g
 
 pub returns-in-B-clause-later : goal.returns-in-B-clause-later
 returns-in-B-clause-later g c = later-of-b (g.M.Medium.state c.args.unit.now) (g.M.Medium.state c.note_on-in-B.new.unit) (g.C.Chip.state c.args.card_a.now) (g.D.Chip.state c.args.card_b.now) (g.D.Chip.state c.note_on-in-B.new.card) (state-by (g.M.Medium.state c.args.unit.now) (g.M.Medium.state c.note_on-in-B.new.unit) _ c.note_on-in-B.ensures.journal.later c.note_on-in-B.ensures.cause) (state-by (g.D.Chip.state c.args.card_b.now) (g.D.Chip.state c.note_on-in-B.new.card) c.note_on-in-B.ensures.noted.0 c.note_on-in-B.ensures.clock_card c.note_on-in-B.ensures.noted.3)
+
+-- ---- the events that the cards show
+
+pub returns-in-A-clause-card_events : goal.returns-in-A-clause-card_events
+returns-in-A-clause-card_events g c =
+    let run = c.args.run.now in
+    let new : Run = c.note_on.new.run in
+    let n = c.note_on.ensures.noted in
+    let second : ℕ = c.args.run.now.next in
+    let seat = seat_in run.keeper.cabin.slots.seats c.args.slot in
+    let event : CardEvent = card_entry c.args.event.now run.keeper.memory.registration in
+    let is : new ≡ with_cabin (noted_cabin n.0 A second run) run = n.1.run ∙ noted-is n.0 A second run in
+    let known : new.keeper.cabin.cards.b ≡ run.keeper.cabin.cards.b = ap (λ (r : Run). r.keeper.cabin.cards.b) is ∙ noted-b n.0 second run in
+    let there : card_in (seat_in run.keeper.cabin.slots.seats c.args.slot) ≡ Some A = cc in
+    let d = devices (g.M.Medium.state c.args.unit.now) (g.C.Chip.state c.args.card_a.now) (g.D.Chip.state c.args.card_b.now) in
+    let e = devices (g.M.Medium.state c.note_on.new.unit) (g.C.Chip.state c.note_on.new.card) (g.D.Chip.state c.args.card_b.now) in
+    both-cards (λ card. NotesOn false (session_of run.keeper.cabin.cards card) (session_of new.keeper.cabin.cards card) (on_seat seat event card) (card_of d card) (card_of e card))
+    (on-as false (session_of run.keeper.cabin.cards A) (session_of new.keeper.cabin.cards A) (event ∷ []) (on_seat seat event A) (g.C.Chip.state c.args.card_a.now) (g.C.Chip.state c.note_on.new.card) (sym (on-seat seat event A (seat-is seat A there))) c.note_on.ensures.card_events)
+    (on-other false seat event B (session_of run.keeper.cabin.cards B) (session_of new.keeper.cabin.cards B) (g.D.Chip.state c.args.card_b.now) (seat-other seat A B there refl) (ap (λ (k : Known). k.accepted) known))
+
+pub returns-in-B-clause-card_events : goal.returns-in-B-clause-card_events
+returns-in-B-clause-card_events g c =
+    let run = c.args.run.now in
+    let new : Run = c.note_on-in-B.new.run in
+    let n = c.note_on-in-B.ensures.noted in
+    let second : ℕ = c.args.run.now.next in
+    let seat = seat_in run.keeper.cabin.slots.seats c.args.slot in
+    let event : CardEvent = card_entry c.args.event.now run.keeper.memory.registration in
+    let is : new ≡ with_cabin (noted_cabin n.0 B second run) run = n.1.run ∙ noted-is n.0 B second run in
+    let known : new.keeper.cabin.cards.a ≡ run.keeper.cabin.cards.a = ap (λ (r : Run). r.keeper.cabin.cards.a) is ∙ noted-a n.0 second run in
+    let there : card_in (seat_in run.keeper.cabin.slots.seats c.args.slot) ≡ Some B = cc in
+    let d = devices (g.M.Medium.state c.args.unit.now) (g.C.Chip.state c.args.card_a.now) (g.D.Chip.state c.args.card_b.now) in
+    let e = devices (g.M.Medium.state c.note_on-in-B.new.unit) (g.C.Chip.state c.args.card_a.now) (g.D.Chip.state c.note_on-in-B.new.card) in
+    both-cards (λ card. NotesOn false (session_of run.keeper.cabin.cards card) (session_of new.keeper.cabin.cards card) (on_seat seat event card) (card_of d card) (card_of e card))
+    (on-other false seat event A (session_of run.keeper.cabin.cards A) (session_of new.keeper.cabin.cards A) (g.C.Chip.state c.args.card_a.now) (seat-other seat B A there refl) (ap (λ (k : Known). k.accepted) known))
+    (on-as false (session_of run.keeper.cabin.cards B) (session_of new.keeper.cabin.cards B) (event ∷ []) (on_seat seat event B) (g.D.Chip.state c.args.card_b.now) (g.D.Chip.state c.note_on-in-B.new.card) (sym (on-seat seat event B (seat-is seat B there))) c.note_on-in-B.ensures.card_events)
+
+none-there : (o : Option Card) → ((card : Card) → o ≡ Some card → ⊥) → o ≡ None
+none-there None never = refl
+none-there (Some card) never = absurd (never card refl)
+
+none-given : (o : Option FullCardNumber) → ((number : FullCardNumber) → o ≡ Some number → ⊥) → o ≡ None
+none-given None never = refl
+none-given (Some number) never = absurd (never number refl)
+
+pub returns-in_default-clause-card_events : goal.returns-in_default-clause-card_events
+returns-in_default-clause-card_events g c =
+    let run = c.args.run.now in
+    let seat = seat_in run.keeper.cabin.slots.seats c.args.slot in
+    let event : CardEvent = card_entry c.args.event.now run.keeper.memory.registration in
+    let none : card_in (seat_in run.keeper.cabin.slots.seats c.args.slot) ≡ None = sym c.card.ensures ∙ none-there c.card.result c.in_default.not-Some in
+    let d = devices (g.M.Medium.state c.args.unit.now) (g.C.Chip.state c.args.card_a.now) (g.D.Chip.state c.args.card_b.now) in
+    λ card. on-other false seat event card (session_of run.keeper.cabin.cards card) (session_of run.keeper.cabin.cards card) (card_of d card) (seat-none seat card none) refl
+
+pub returns-in_default-number_in-clause-card_events : goal.returns-in_default-number_in-clause-card_events
+returns-in_default-number_in-clause-card_events g c =
+    let run = c.args.run.now in
+    let seat = seat_in run.keeper.cabin.slots.seats c.args.slot in
+    let event : CardEvent = card_entry c.args.event.now run.keeper.memory.registration in
+    let none : number_of_seat run.keeper.cabin.cards (seat_in run.keeper.cabin.slots.seats c.args.slot) ≡ None = sym c.number_in.ensures ∙ none-given c.number_in.result c.in_default-number_in.not-Some in
+    let d = devices (g.M.Medium.state c.args.unit.now) (g.C.Chip.state c.args.card_a.now) (g.D.Chip.state c.args.card_b.now) in
+    let ready = c.requires.going.ready in
+    λ card. bare-seat run.keeper.cabin.cards seat event ready.card_a.is_known ready.card_b.is_known none card (card_of d card)

@@ -1,5 +1,5 @@
-use Rattle.std.proofs.Common.{◌≡◌, ◌∙◌, inl, ℕ, Bool, true, false, Some, None, refl, ap, sym, subst}
-use Rattle.std.specs.Prelude.{Ok, is_err, IfSome, List, [], ◌∷◌, ◌/◌, ◌≤◌}
+use Rattle.std.proofs.Common.{◌≡◌, ◌∙◌, inl, ℕ, Bool, true, false, Option, Some, None, refl, ap, sym, subst}
+use Rattle.std.specs.Prelude.{not, Ok, is_err, IfSome, List, [], ◌∷◌, ◌/◌, ◌≤◌}
 use Rattle.tach_media.specs.Medium.{HasCause}
 use Rattle.tach_media.specs.Medium.{LeavesOnly, State}
 use Rattle.tach_media.proofs.Runs.{weaken, ok_gives}
@@ -24,6 +24,14 @@ use Rattle.run_keeping.specs.Keeping.{fault_of}
 use Rattle.run_acts.proofs.NotedEvents.{one-noted, same-noted, noted-any}
 use Rattle.run_acts.specs.Acting.{IsNotedOn}
 use Rattle.run_rings.proofs.Same.{rings-left, rings-moments, table-outside}
+use Rattle.card_records.specs.declared.card_event.CardEvent.{CardEvent}
+use Rattle.card_records.specs.Noting as on
+use Rattle.run_crew.specs.declared.cards.Accepted.{Accepted}
+use Rattle.run_keeping.proofs.CardBooked.{session-set}
+use Rattle.run_notes.specs.Entries.{card_entry}
+use Rattle.run_entering.specs.CardEvents.{NotesOnCard}
+use Rattle.run_acts.specs.CardNotes.{NotesOn}
+use Rattle.run_acts.proofs.CardNotes.{plain-gap, entry-is, noted-well, noted-cut, on-session}
 use Rattle.run_acts.proofs.gap.note_on.Goals as goal
 
 pub note_event_on-requires-clause-port : goal.note_event_on-requires-clause-port
@@ -188,3 +196,41 @@ returns-then-is_err-clause-rings g c =
 
 pub returns-clause-rings : goal.returns-clause-rings
 returns-clause-rings g c = rings-left (g.M.Medium.state c.args.unit.now)
+
+-- ---- the events that the card shows
+
+pub returns-then-is_err-clause-card_events : goal.returns-then-is_err-clause-card_events
+returns-then-is_err-clause-card_events g c =
+    let run = c.args.run.now in
+    let cards = run.keeper.cabin.cards in
+    let X = g.C.Chip.state c.args.card.now in
+    let Y = g.C.Chip.state c.note_event_on.new.card in
+    let sizes : (known_of cards c.args.which).sizes ≡ Ok c.in-Ok.app = cc in
+    let event : CardEvent = card_entry c.args.event.now run.keeper.memory.registration in
+    let same = entry-is c.args.event.now c.on_card-noted.result c.identity.result run.keeper.memory c.on_card-noted.ensures c.identity.ensures in
+    let cabin = ap (λ (k : Keeper). k.cabin) c.tear.ensures.keeper ∙ torn-apart c.args.which c.moment-at.result.second run.keeper.cabin c.take.new.self c.take.ensures.left in
+    let gone : session_of c.tear.new.self.cabin.cards c.args.which ≡ None = ap (λ (b : Cabin). session_of b.cards c.args.which) cabin ∙ session-set c.args.which None cards in
+    let moments = subst (λ (v : CardEvent). LeavesOnly X Y (on.IsNotingEvent c.in-Ok.app v)) same c.note_event_on.ensures.moments in
+    subst (λ (o : Option Accepted). NotesOn false (session_of cards c.args.which) o (event ∷ []) X Y) (sym gone)
+    (on-session c.args.which cards c.in-Ok.app (g.C.Chip.card c.args.card.now) X Y None (event ∷ []) c.requires.card sizes c.requires.session
+    (noted-cut c.in-Ok.app event (plain-gap event c.requires.kind) X Y (g.met.C.Chip.coherent c.args.card.now) moments))
+
+pub returns-clause-card_events : goal.returns-clause-card_events
+returns-clause-card_events g c =
+    let run = c.args.run.now in
+    let before = run.keeper.cabin.cards in
+    let X = g.C.Chip.state c.args.card.now in
+    let Y = g.C.Chip.state c.note_event_on.new.card in
+    let sizes : (known_of before c.args.which).sizes ≡ Ok c.in-Ok.app = cc in
+    let event : CardEvent = card_entry c.args.event.now run.keeper.memory.registration in
+    let same = entry-is c.args.event.now c.on_card-noted.result c.identity.result run.keeper.memory c.on_card-noted.ensures c.identity.ensures in
+    let well : is_err c.note_event_on.result ≡ false = sym c.is_err.ensures.value ∙ c.if-is_err.false in
+    let cause = subst (λ (b : Bool). HasCause X Y b) well c.note_event_on.ensures.cause in
+    let cards = c.set_session.ensures ∙ ap (λ (q : Cards). with_session c.args.which (Some c.in-Some.accepted) q) c.take.ensures.left ∙ session-back c.args.which c.in-Some.accepted run.keeper.cabin.cards (sym c.in-Some.ensures.taken) in
+    let moments = subst (λ (v : CardEvent). LeavesOnly X Y (on.IsNotingEvent c.in-Ok.app v)) same c.note_event_on.ensures.moments in
+    let noted = subst (λ (v : CardEvent). IfSome X.image (λ x. IfSome Y.image (on.IsEventNoted c.in-Ok.app v x))) same (ok_gives c.note_event_on.result c.note_event_on.ensures.noted well) in
+    let works = session-works c.args.which before (g.C.Chip.card c.args.card.now) X c.requires.card c.requires.session in
+    subst (λ (q : Cards). NotesOn false (session_of before c.args.which) (session_of q c.args.which) (event ∷ []) X Y) (sym cards)
+    (on-session c.args.which before c.in-Ok.app (g.C.Chip.card c.args.card.now) X Y (session_of before c.args.which) (event ∷ []) c.requires.card sizes c.requires.session
+    (subst (λ (b : Bool). NotesOnCard c.in-Ok.app (event ∷ []) (not b) X Y) (sym c.requires.session)
+    (noted-well c.in-Ok.app event (plain-gap event c.requires.kind) X Y (g.met.C.Chip.coherent c.args.card.now) (g.met.C.Chip.coherent c.note_event_on.new.card) works cause.works moments noted)))

@@ -25,7 +25,7 @@ use Rattle.trace_model.specs.declared.Action.TheVariants.{Place}
 use Rattle.trace_model.specs.Trace.{TraceSecond}
 use Rattle.log_model.specs.Log.{In}
 use Rattle.log_model.specs.Slots.{refusal, other_slot}
-use Rattle.safety_model.specs.Safe.{Devices}
+use Rattle.safety_model.specs.Safe.{Devices, card_of}
 use Rattle.run_rule.specs.Between.{devices}
 use Rattle.run_outcome.specs.declared.outcome.Outcome.{Outcome}
 use Rattle.run_recorded.specs.Origin.{Origin}
@@ -59,6 +59,8 @@ use Rattle.run_crew.specs.declared.cards.Accepted.{Accepted}
 use Rattle.device_steps.specs.CardNotes.{IsNote}
 use Rattle.run_acts.proofs.RingedPlace.{IsThere, who-enters, place-goes}
 use Rattle.run_acts.proofs.RingedSecond.{left-after}
+use Rattle.run_acts.specs.CardNotes.{NotesOn}
+use Rattle.run_acts.proofs.CardNotes.{on-none, both-cards}
 use Rattle.run_acts.proofs.placing.note_place.Goals as goal
 
 pub note_place_in-requires-clause-ready : goal.note_place_in-requires-clause-ready
@@ -634,3 +636,50 @@ returns-in-B-clause-ringed g c =
       card_a = λ t x le at. at;
       card_b = some-left (session_of run.keeper.cabin.cards B) (λ a. IsNote a.session.application) B0 Y some e.moments;
     })
+
+-- ---- the events that the cards show
+
+pub returns-in_default-clause-card_events : goal.returns-in_default-clause-card_events
+returns-in_default-clause-card_events g c =
+    let d = devices (g.M.Medium.state c.args.unit.now) (g.C.Chip.state c.args.card_a.now) (g.D.Chip.state c.args.card_b.now) in
+    λ card. on-none false (session_of c.args.run.now.keeper.cabin.cards card) (card_of d card)
+
+pub returns-in_default-number_in-clause-card_events : goal.returns-in_default-number_in-clause-card_events
+returns-in_default-number_in-clause-card_events g c =
+    let d = devices (g.M.Medium.state c.args.unit.now) (g.C.Chip.state c.args.card_a.now) (g.D.Chip.state c.args.card_b.now) in
+    λ card. on-none false (session_of c.args.run.now.keeper.cabin.cards card) (card_of d card)
+
+pub returns-in_err-note_place-clause-card_events : goal.returns-in_err-note_place-clause-card_events
+returns-in_err-note_place-clause-card_events g c =
+    let run = c.args.run.now in
+    both-cards (λ card. NotesOn false (session_of run.keeper.cabin.cards card) (session_of run.keeper.cabin.cards card) []
+    (card_of (devices (g.M.Medium.state c.args.unit.now) (g.C.Chip.state c.args.card_a.now) (g.D.Chip.state c.args.card_b.now)) card) (card_of (devices (g.M.Medium.state c.note_place.new.unit) (g.C.Chip.state c.args.card_a.now) (g.D.Chip.state c.args.card_b.now)) card))
+    (on-none false (session_of run.keeper.cabin.cards A) (g.C.Chip.state c.args.card_a.now)) (on-none false (session_of run.keeper.cabin.cards B) (g.D.Chip.state c.args.card_b.now))
+
+pub returns-in-A-clause-card_events : goal.returns-in-A-clause-card_events
+returns-in-A-clause-card_events g c =
+    let run = c.args.run.now in
+    let new : Run = c.note_place_in.new.run in
+    let n = c.note_place_in.ensures.noted in
+    let second : ℕ = c.args.at.second in
+    let is : new ≡ with_cabin (noted_cabin n.0 A second run) run = n.1.run ∙ noted-is n.0 A second run in
+    let known : new.keeper.cabin.cards.b ≡ run.keeper.cabin.cards.b = ap (λ (r : Run). r.keeper.cabin.cards.b) is ∙ noted-b n.0 second run in
+    let Y = g.D.Chip.state c.args.card_b.now in
+    both-cards (λ card. NotesOn false (session_of run.keeper.cabin.cards card) (session_of new.keeper.cabin.cards card) []
+    (card_of (devices (g.M.Medium.state c.args.unit.now) (g.C.Chip.state c.args.card_a.now) Y) card) (card_of (devices (g.M.Medium.state c.note_place_in.new.unit) (g.C.Chip.state c.note_place_in.new.card) Y) card))
+    c.note_place_in.ensures.card_events
+    (subst (λ (o : Option Accepted). NotesOn false (session_of run.keeper.cabin.cards B) o [] Y Y) (sym (ap (λ (k : Known). k.accepted) known)) (on-none false (session_of run.keeper.cabin.cards B) Y))
+
+pub returns-in-B-clause-card_events : goal.returns-in-B-clause-card_events
+returns-in-B-clause-card_events g c =
+    let run = c.args.run.now in
+    let new : Run = c.note_place_in-in-B.new.run in
+    let n = c.note_place_in-in-B.ensures.noted in
+    let second : ℕ = c.args.at.second in
+    let is : new ≡ with_cabin (noted_cabin n.0 B second run) run = n.1.run ∙ noted-is n.0 B second run in
+    let known : new.keeper.cabin.cards.a ≡ run.keeper.cabin.cards.a = ap (λ (r : Run). r.keeper.cabin.cards.a) is ∙ noted-a n.0 second run in
+    let X = g.C.Chip.state c.args.card_a.now in
+    both-cards (λ card. NotesOn false (session_of run.keeper.cabin.cards card) (session_of new.keeper.cabin.cards card) []
+    (card_of (devices (g.M.Medium.state c.args.unit.now) X (g.D.Chip.state c.args.card_b.now)) card) (card_of (devices (g.M.Medium.state c.note_place_in-in-B.new.unit) X (g.D.Chip.state c.note_place_in-in-B.new.card)) card))
+    (subst (λ (o : Option Accepted). NotesOn false (session_of run.keeper.cabin.cards A) o [] X X) (sym (ap (λ (k : Known). k.accepted) known)) (on-none false (session_of run.keeper.cabin.cards A) X))
+    c.note_place_in-in-B.ensures.card_events

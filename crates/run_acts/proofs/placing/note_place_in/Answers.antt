@@ -1,5 +1,5 @@
 use Rattle.std.proofs.Common.{◌≡◌, ◌∙◌, inr, ℕ, Bool, true, false, Some, None, refl, ap, sym, subst}
-use Rattle.std.specs.Prelude.{Ok, is_err, List, [], ◌∷◌, ◌/◌, ◌≤◌}
+use Rattle.std.specs.Prelude.{not, is_some, Ok, is_err, List, [], ◌∷◌, ◌/◌, ◌≤◌}
 use Rattle.tach_media.specs.Medium.{HasCause}
 use Rattle.tach_media.proofs.Runs.{weaken, ok_gives}
 use Rattle.unit_notes.specs.Journal.{LeavesJournal}
@@ -21,6 +21,8 @@ use Rattle.run_rule.specs.Between.{devices}
 use Rattle.run_acts.proofs.NotedEvents.{one-noted, same-noted, noted-any}
 use Rattle.unit_notes.specs.Noting.{IsNotingEvent}
 use Rattle.run_rings.proofs.Same.{rings-left, rings-moments, table-outside}
+use Rattle.run_acts.specs.CardNotes.{NotesOn}
+use Rattle.run_acts.proofs.CardNotes.{on-session, place-noted}
 use Rattle.run_acts.proofs.placing.note_place_in.Goals as goal
 
 pub note_place_on-requires-clause-port : goal.note_place_on-requires-clause-port
@@ -180,3 +182,28 @@ returns-then-is_err-clause-rings g c =
 
 pub returns-clause-rings : goal.returns-clause-rings
 returns-clause-rings g c = rings-left (g.M.Medium.state c.args.unit.now)
+
+-- ---- the events that the card shows
+
+pub returns-then-is_err-clause-card_events : goal.returns-then-is_err-clause-card_events
+returns-then-is_err-clause-card_events g c =
+    let run = c.args.run.now in
+    let cards = run.keeper.cabin.cards in
+    let X = g.C.Chip.state c.args.card.now in
+    let Y = g.C.Chip.state c.note_place_on.new.card in
+    let sizes : (known_of cards c.args.which).sizes ≡ Ok c.in-Ok.app = cc in
+    let after = session_of c.tear.new.self.cabin.cards c.args.which in
+    on-session c.args.which cards c.in-Ok.app (g.C.Chip.card c.args.card.now) X Y after [] c.requires.card sizes c.requires.session
+    (place-noted c.in-Ok.app c.args.entry.now (not (is_some after)) X Y (g.met.C.Chip.coherent c.args.card.now) c.note_place_on.ensures.moments)
+
+pub returns-clause-card_events : goal.returns-clause-card_events
+returns-clause-card_events g c =
+    let run = c.args.run.now in
+    let before = run.keeper.cabin.cards in
+    let X = g.C.Chip.state c.args.card.now in
+    let Y = g.C.Chip.state c.note_place_on.new.card in
+    let sizes : (known_of before c.args.which).sizes ≡ Ok c.in-Ok.app = cc in
+    let cards = c.set_session.ensures ∙ ap (λ (q : Cards). with_session c.args.which (Some c.in-Some.accepted) q) c.take.ensures.left ∙ session-back c.args.which c.in-Some.accepted run.keeper.cabin.cards (sym c.in-Some.ensures.taken) in
+    subst (λ (q : Cards). NotesOn false (session_of before c.args.which) (session_of q c.args.which) [] X Y) (sym cards)
+    (on-session c.args.which before c.in-Ok.app (g.C.Chip.card c.args.card.now) X Y (session_of before c.args.which) [] c.requires.card sizes c.requires.session
+    (place-noted c.in-Ok.app c.args.entry.now (not (is_some (session_of before c.args.which))) X Y (g.met.C.Chip.coherent c.args.card.now) c.note_place_on.ensures.moments))

@@ -7,6 +7,8 @@ use Rattle.run_outcome.specs.Lines.{Listed}
 use Rattle.tach_media.proofs.Runs.{on_ok}
 use Rattle.run_crew.specs.Cabin.{Stands}
 use Rattle.run_keeping.specs.declared.keeper.Keeper.{Keeper}
+use Rattle.safety_model.specs.Safe.{card_of}
+use Rattle.run_rule.specs.Found.{found_of}
 use Rattle.run_rule.specs.Between.{devices}
 use Rattle.unit_journal.specs.declared.notes.Notes.{Notes}
 use Rattle.run_keeping.specs.Keeping.{TellsPresent, Still, IsBrought, AreEmptied, SessionsGoOn, cabin_by, kept_in, state_at, most_tears}
@@ -14,6 +16,7 @@ use Rattle.run_keeping.specs.Minutes.{Round, IsMinute, unit_mark}
 use Rattle.run_keeping.specs.Books.{BooksMinute}
 use Rattle.run_keeping.specs.Faults.{last_faults, NotesFaults}
 use Rattle.run_keeping.specs.Owing.{BooksBrought}
+use Rattle.run_keeping.proofs.CardEvents.{stays-self}
 use Rattle.run_keeping.proofs.MinuteBooked.{timed-at, clock-rests, booked-cut, booked-whole}
 use Rattle.run_keeping.proofs.Faults.{brought-notes, round-cut, round-whole}
 use Rattle.run_keeping.proofs.Counts.{tears-one, lines-length, first-stays, second-stays}
@@ -42,7 +45,7 @@ returns-in_err-commit-clause-kept g c =
     × NotesFaults f (last_faults p c.args.at round k.cabin) U V) failed (
       None,
       (refl, told-same c.commit.new.self k c.commit.new.marks c.args.marks.now c.args.breaks.now c.args.breaks.now keeper same.1 refl),
-      λ says. λ f w start v leg may gone odometer time. (c.in_err-commit.ensures.booked says f w start v leg (record { booked = may.booked; comes = may.comes }) gone odometer time.unit, timed-at f U V X Y (devices V X Y) (λ card valid timed. timed)),
+      λ says. λ f w start v leg may gone odometer time. (c.in_err-commit.ensures.booked says f w start v leg (record { booked = may.booked; comes = may.comes }) gone odometer time.unit, timed-at f U V X Y (devices V X Y) (λ card valid. stays-self (found_of f card) (card_of (devices V X Y) card))),
       c.in_err-commit.ensures.quiet,
     )
 

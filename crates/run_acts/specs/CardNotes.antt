@@ -1,0 +1,34 @@
+-- What the note of an interruption leaves of the events that the cards show, by value (profile).
+use Rattle.std.specs.Prelude.{◌≡◌, ℕ, ◌||◌, Bool, true, false, not, Option, Some, None, List, [], ◌∷◌, is_some, if◌then◌else◌}
+use Rattle.trace_model.specs.declared.Card.{Card}
+use Rattle.tach_media.specs.Medium.{State}
+use Rattle.tacho_types.specs.declared.texts.Registration.{Registration}
+use Rattle.card_records.specs.declared.card_event.CardEvent.{CardEvent}
+use Rattle.event_model.specs.declared.entries.Span.{Span}
+use Rattle.event_model.specs.declared.kinds.TheConstants.{POWER_INTERRUPTION}
+use Rattle.safety_model.specs.Safe.{Devices, card_of}
+use Rattle.slot_machine.specs.declared.seats.Seat.{Seat}
+use Rattle.slot_machine.specs.Calls.{is_card}
+use Rattle.run_crew.specs.declared.cards.Accepted.{Accepted}
+use Rattle.run_crew.specs.declared.cards.Cards.{Cards}
+use Rattle.run_crew.specs.Cards.{session_of}
+use Rattle.run_entering.specs.CardEvents.{NotesOnCard}
+
+-- A CARD BEHIND SOME NOTES: without a session it is as it was; else these events are noted on it, and where the unit failed, or it has fallen, they
+-- may have been cut short.
+abbrev pub NotesOn : (failed : Bool) → (session after : Option Accepted) → List CardEvent → (card card_after : State) → Type 0
+NotesOn failed None after events card card_after = card_after ≡ card
+NotesOn failed (Some a) after events card card_after = NotesOnCard a.session.application events (failed || not (is_some after)) card card_after
+
+-- so is each card
+abbrev pub NotesOnCards : (failed : Bool) → (cards after : Cards) → (events : Card → List CardEvent) → (d e : Devices) → Type 0
+NotesOnCards failed cards after events d e = (card : Card) → NotesOn failed (session_of cards card) (session_of after card) (events card) (card_of d card) (card_of e card)
+
+-- an event on the card of a seat alone
+abbrev pub on_seat : Option Seat → CardEvent → Card → List CardEvent
+on_seat seat event card = if is_card seat card then event ∷ [] else []
+
+-- an interruption of power as a card has it, if there was one
+abbrev pub gap_on : Option Span → Registration → List CardEvent
+gap_on None registration = []
+gap_on (Some span) registration = record { kind = POWER_INTERRUPTION; begin = record { 0 = span.begin }; end = record { 0 = span.end }; registration = registration } ∷ []

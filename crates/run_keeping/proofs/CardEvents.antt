@@ -1,0 +1,41 @@
+-- Calls that leave the events of a card as they are: none, one after another, and a keep.
+use Rattle.std.proofs.Common.{◌≡◌, ◌∙◌, ⊎_elim, ℕ, List, Some, IfSome, refl, subst}
+use Rattle.activity_codec.specs.declared.entries.Entry.{Entry}
+use Rattle.tach_media.specs.Medium.{State, IsCoherent, LeavesOnly}
+use Rattle.tach_media.proofs.Runs.{at_image}
+use Rattle.card_layout.specs.declared.files.Application.{Application}
+use Rattle.card_image.specs.Fields.{file_bytes}
+use Rattle.card_image.specs.Own.{own_sizes}
+use Rattle.card_session.specs.Sessions.{Session, IsSession, book_of}
+use Rattle.card_session.specs.Moments.{IsKeepMoment}
+use Rattle.card_session.specs.Cards.{IsCardKeeping, grown}
+use Rattle.card_session.proofs.Marks.{events_same}
+use Rattle.run_rule.specs.Found.{CardFound}
+use Rattle.run_keeping.specs.CardEvents.{LeavesEvents}
+use Rattle.run_keeping.specs.Books.{StaysOn}
+
+pub events-none : (app : Application) (X : State) → LeavesEvents app X X
+events-none app X c left = (c, left, refl)
+
+pub events-then : (app : Application) (X Y Z : State) → LeavesEvents app X Y → LeavesEvents app Y Z → LeavesEvents app X Z
+events-then app X Y Z first next c left =
+    let (y, was, same) = next c left in
+    let (x, before, too) = first y was in
+    (x, before, same ∙ too)
+
+-- a run of calls whose moments have the events of the image before
+pub events-run : (app : Application) (X Y : State) → IsCoherent X → (R : List ℕ → List ℕ → Type 0) → LeavesOnly X Y R → ((x c : List ℕ) → X.image ≡ Some x → R x c → file_bytes app 0x0502 c ≡ file_bytes app 0x0502 x) → LeavesEvents app X Y
+events-run app X Y whole R run step c left = ⊎_elim (λ was. (c, was, refl)) (λ one. (one.0, whole.is_left one.0 one.1, step one.0 c one.1 one.2)) (run.now c left)
+
+pub events-keeping : (app : Application) (X Y : State) → IsCoherent X → (s : Session) (e : Entry) (odometer : ℕ) → s.application ≡ app → IfSome X.image (IsSession s) → LeavesOnly X Y (λ x y. IsSession s x → IsCardKeeping s e odometer x y) → LeavesEvents app X Y
+events-keeping app X Y whole s e odometer sizes session run =
+    events-run app X Y whole (λ x y. IsSession s x → IsCardKeeping s e odometer x y) run (λ x c is moment.
+    subst (λ (a : Application). file_bytes a 0x0502 c ≡ file_bytes a 0x0502 x) sizes
+    (events_same s.application (IsKeepMoment s.application.activity s.registration odometer (grown s.odometer odometer) e (book_of s.application x)) x c (moment (at_image (IsSession s) is session)).card))
+
+-- of a card as it was found
+pub stays-self : (f : CardFound) (X : State) → StaysOn f X X
+stays-self f X = ((λ timed. timed), events-none (own_sizes f.image) X)
+
+pub stays-then : (f : CardFound) (X Y Z : State) → StaysOn f X Y → StaysOn f Y Z → StaysOn f X Z
+stays-then f X Y Z first next = ((λ timed. next.0 (first.0 timed)), events-then (own_sizes f.image) X Y Z first.1 next.1)
