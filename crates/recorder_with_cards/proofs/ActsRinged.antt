@@ -27,6 +27,9 @@ use Rattle.run_rings.proofs.Same.{rings-left}
 use Rattle.run_course.specs.Moments.{and_break, and_refused}
 use Rattle.run_course.specs.Followed.{Progress}
 use Rattle.run_moments.specs.Reached.{course_at}
+use Rattle.run_moments.specs.Telling.{IsLeft}
+use Rattle.unit_model.specs.Image.{odometer_at}
+use Rattle.unit_rule.specs.Odometer.{odometer_after}
 use Rattle.run_keeping.specs.Keeping.{with_lines}
 use Rattle.run_outcome.specs.Lines.{Listed}
 use Rattle.run_outcome.specs.declared.outcome.Outcome.{Outcome}
@@ -38,15 +41,18 @@ use Rattle.run_evented.specs.SoFar.{EventedNow}
 use Rattle.run_ringed.specs.Ringed.{Seating}
 use Rattle.run_ringed.specs.SoFar.{RingedBehind, RingedIn}
 use Rattle.run_ringed.specs.Steps.{GoesOnTo, nobody, spans_cut}
+use Rattle.run_ringed.specs.Stored.{StoresOn, StoresOff}
 use Rattle.run_ringed.proofs.SoFar.{left-itself}
 use Rattle.run_ringed.proofs.Steps.{passes}
 use Rattle.run_acts.specs.declared.run.Run.{Run}
+use Rattle.run_acts.specs.declared.run.Power.TheVariants.{Lit}
 use Rattle.run_acts.specs.Power.{with_cabin, cut_run}
 use Rattle.run_acts.specs.Acting.{pulled_run, pulled_breaks}
-use Rattle.run_acts.specs.Recording.{log_of, values_of, RunWithin, RunGoesOn, IsNow}
+use Rattle.run_acts.specs.Recording.{log_of, values_of, RunWithin, RunFails, RunGoesOn, IsNow}
 use Rattle.run_acts.specs.Evented.{WithinEvented, CutEvented, RunWatches, span_seen}
 use Rattle.run_acts.specs.RunRinged.{seats_of, IsLastFrom, RingsWithin, WithinRinged, CutRinged, with_cut, RingsGoOn, RingsAction}
 use Rattle.run_acts.proofs.Asked.{pulls-one}
+use Rattle.run_acts.proofs.StoredRun.{run-cut}
 use Rattle.recorder_with_cards.proofs.ActsRecorded.{refuses, refused}
 use Rattle.recorder_with_cards.proofs.ActsEvented.{watches-on, refused-now}
 use Rattle.recorder_with_cards.proofs.Staying.{StaysWatched}
@@ -70,12 +76,28 @@ ringed-on o done s n m run new before after d e h front rest are number g now sa
   spans = h.spans;
   told = h.told;
   rings = subst (λ (b : Beginning). RingsWithin o done s b.run.log front new (log_of after) h.spans h.told e) (sym g.began) rings;
+  stored = subst (λ (b : Beginning). StoresOn o b.run.log b.run.unfound new.keeper.odometer (with_second h.spans new.keeper.odometer h.told)) (sym g.began)
+      (subst (λ (k : ℕ). StoresOn o h.evented.within.within.b.run.log h.evented.within.within.b.run.unfound k (with_second h.spans k h.told))
+      (sym (g.goes.odometer ∙ ap (λ (b : Beginning). odometer_after (odometer_at o.recording.unit) b.travel.before) g.began ∙ sym h.evented.within.odometer)) h.stored);
 }
 
+-- what the failed call leaves of the odometers
+pub cut-stores : (o : Origin) (done : List TraceSecond) (s : TraceSecond) (n begun : ℕ) (run mid : Run) (out told : Outcome) (d e : Devices) → (h : WithinRinged o done s n run out d) → (front rest : List Action) → length front ≡ begun → RunFails o done s (In begun) mid told e → mid.power ≡ Lit →
+    IsLeft s (In begun) rest → mid.unfound ≡ run.unfound → RingsGoOn true o done s h.evented.within.within.b front mid (log_of told) h.spans h.told e →
+    StoresOff o (with_cut (log_of told) s front) mid.unfound (spans_cut h.spans mid.keeper.odometer (with_cut (log_of told) s front) done s) e
+cut-stores o done s n begun run mid out told d e h front rest many fails lit left unfound rings =
+    let w = h.evented.within in
+    let same : mid.keeper.odometer ≡ run.keeper.odometer = rings.odometer ∙ sym w.odometer in
+    subst (λ (k : ℕ). StoresOff o (with_cut (log_of told) s front) mid.unfound (spans_cut h.spans k (with_cut (log_of told) s front) done s) e) (sym same)
+    (subst (λ (k : ℕ). StoresOff o (and_break (log_of told) (cut_at s.number true k)) mid.unfound (spans_cut h.spans run.keeper.odometer (and_break (log_of told) (cut_at s.number true k)) done s) e) (sym many)
+    (run-cut o done s (In n) [] [] run out d w (In begun) mid told e fails lit rest left unfound run.keeper.odometer same rings.lines
+    (subst (λ (k : ℕ). went (and_break (log_of told) (cut_at s.number true k)) done ≡ went w.within.b.run.log done) many rings.behind.went_is)
+    h.spans h.rings.ringed.spans_are h.told h.rings.ringed.second.lit h.rings.ringed.second.starts h.stored))
+
 -- the unit has failed: the cut is told
-pub ringed-cuts : (o : Origin) (done : List TraceSecond) (s : TraceSecond) (began : RunLog) (begun : ℕ) (mid new : Run) (told after : Outcome) (e : Devices) (spans : List SpanFrom) (t : Told) → s.number ≡ mid.next → CutEvented o done s new after e → (front : List Action) → length front ≡ begun →
-    RingsGoOn true o done s began front mid (log_of told) spans t e → new ≡ cut_run mid.next mid → after ≡ record told { breaks = with_lines (cut_at mid.next true begun ∷ []) told.breaks } → CutRinged o done s new after e
-ringed-cuts o done s began begun mid new told after e spans t number evented front many rings is after_is =
+pub ringed-cuts : (o : Origin) (done : List TraceSecond) (s : TraceSecond) (b : Beginning) (begun : ℕ) (mid new : Run) (told after : Outcome) (e : Devices) (spans : List SpanFrom) (t : Told) → s.number ≡ mid.next → CutEvented o done s new after e → (front : List Action) → length front ≡ begun →
+    RingsGoOn true o done s b front mid (log_of told) spans t e → StoresOff o (with_cut (log_of told) s front) mid.unfound (spans_cut spans mid.keeper.odometer (with_cut (log_of told) s front) done s) e → new ≡ cut_run mid.next mid → after ≡ record told { breaks = with_lines (cut_at mid.next true begun ∷ []) told.breaks } → CutRinged o done s new after e
+ringed-cuts o done s b begun mid new told after e spans t number evented front many rings stored is after_is =
     let now : List SpanFrom = spans_cut spans mid.keeper.odometer (with_cut (log_of told) s front) done s in
     let log : with_cut (log_of told) s front ≡ log_of after = ap (λ (n : ℕ). and_break (log_of told) (cut_at s.number true n)) many ∙ ap (λ (u : ℕ). and_break (log_of told) (cut_at u true begun)) number ∙ sym (ap log_of after_is) in
     let next : s.number ≡ new.next = number ∙ sym (ap (λ (r : Run). r.next) is) in
@@ -84,6 +106,7 @@ ringed-cuts o done s began begun mid new told after e spans t number evented fro
       spans = now;
       counted = let was = rings.counted in let noted = ap (λ (r : Run). r.noted) is in let many = ap (λ (q : Outcome). length q.finds.items) after_is in omega (arith, was, noted, many);
       ringed = subst (λ (l : RunLog). RingedBehind o (done ++ s ∷ []) l (suc new.next) now nobody e) log (subst (λ (n : ℕ). RingedBehind o (done ++ s ∷ []) (with_cut (log_of told) s front) (suc n) now nobody e) next rings.ringed);
+      stored = subst (λ (l : RunLog). StoresOff o l new.unfound now e) log (subst (λ (k : ℕ). StoresOff o (with_cut (log_of told) s front) k now e) (sym (ap (λ (r : Run). r.unfound) is)) stored);
     }
 
 -- ---- an action that notes nothing

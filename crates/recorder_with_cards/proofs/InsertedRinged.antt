@@ -36,7 +36,7 @@ use Rattle.run_acts.specs.declared.run.Run.{Run}
 use Rattle.run_acts.specs.Recording.{log_of, values_of, RunWithin}
 use Rattle.run_acts.specs.RunRinged.{seats_of, IsLastFrom, RingsWithin, with_cut, RingsGoOn}
 use Rattle.run_acts.proofs.RingedLines.{AreTears, TellsBeside, tears-beside}
-use Rattle.run_acts.proofs.RingedSecond.{odometer-here, tears-here_, cut-found}
+use Rattle.run_acts.proofs.RingedSecond.{odometer-here, tears-here_, cut-found, since-begun}
 use Rattle.recorder_with_cards.specs.JudgedRings.{TellsHere, JudgedInRings, IsJudgedInRings}
 use Rattle.recorder_with_cards.proofs.RingsHere.{here-then, here-more, goes-to, course-then, course-cut, is-cut}
 
@@ -131,11 +131,14 @@ module _ (o : Origin) (done : List TraceSecond) (s : TraceSecond) (front rest : 
   told-cut : IsCutIn w.within.b.run.log (log_of before) (with_cut (log_of told) s (front ++ Insert slot card ∷ [])) done s front (Insert slot card) rest
   told-cut = is-cut (log_of before) (log_of told) s front rest (Insert slot card) are uncut more-told same-told uncut-told o done (In (length front)) [] None [] (values_of old before) d w.within here-told
 
-  pub unsettled-ringed : RingsGoOn true o done s w.within.b.run.log (front ++ Insert slot card ∷ []) mid (log_of told) spans t e
+  pub unsettled-ringed : RingsGoOn true o done s w.within.b (front ++ Insert slot card ∷ []) mid (log_of told) spans t e
   unsettled-ringed =
       let cut : RunLog = with_cut (log_of told) s (front ++ Insert slot card ∷ []) in
       record {
         counted = counted-told;
+        lines = since-begun o done s (In (length front)) [] None [] (values_of old before) d w.within (log_of told) more-told;
+        behind = told-cut.behind;
+        odometer = same_odometer ∙ w.odometer;
         ringed = subst (λ (b : ℕ). RingedBehind o (done ++ s ∷ []) cut (suc s.number) (spans_cut spans b cut done s) nobody e) (sym same_odometer)
             (action-cut d e o done s w.within.b.run.log (log_of before) cut front (Insert slot card) rest spans old.keeper.odometer t (seats_of old) rings.ringed told-cut
             (notes-none cut told-cut.goes.begun
@@ -189,7 +192,7 @@ module _ (o : Origin) (done : List TraceSecond) (s : TraceSecond) (front rest : 
     Found = found_in (log_of after) s.number (In (suc (length front))) slot
 
     by : (b : Bool) → JudgedInRings b o (record { second = s.number; slot = slot; card = card }) (found_in (log_of after) s.number (In (suc (length front))) slot) (with_second spans old.keeper.odometer t) (seats_of mid) (seats_of new) e f →
-        RingsGoOn b o done s w.within.b.run.log (front ++ Insert slot card ∷ []) new (log_of after) spans t f
+        RingsGoOn b o done s w.within.b (front ++ Insert slot card ∷ []) new (log_of after) spans t f
     by false h = record {
       base = subst (λ (b : ℕ). IsLastFrom b (with_second spans b t)) (sym (j.odometer ∙ same_odometer)) rings.base;
       counted = j.counted;
@@ -203,6 +206,9 @@ module _ (o : Origin) (done : List TraceSecond) (s : TraceSecond) (front rest : 
         let cut : RunLog = with_cut (log_of after) s (front ++ Insert slot card ∷ []) in
         record {
           counted = j.counted;
+          lines = since-begun o done s (In (length front)) [] None [] (values_of old before) d w.within (log_of after) (here-more (log_of before) (log_of after) s.number (here-then (log_of before) (log_of told) (log_of after) s.number here-told j.here));
+          behind = cuts.behind;
+          odometer = j.odometer ∙ same_odometer ∙ w.odometer;
           ringed = subst (λ (b : ℕ). RingedBehind o (done ++ s ∷ []) cut (suc s.number) (spans_cut spans b cut done s) nobody f) (sym (j.odometer ∙ same_odometer)) (⊎_elim
               (λ p. action-cut e f o done s w.within.b.run.log (log_of told) cut front (Insert slot card) rest spans old.keeper.odometer t (seats_of mid) settled-in cuts (notes-none cut cuts.goes.begun fine-cut (ap (filter is_accepting) found-cut ∙ p.0)) p.1 j.left)
               (λ i. acceptance-is-cut e f o done s w.within.b.run.log (log_of told) cut front rest spans old.keeper.odometer t (seats_of mid) settled-in slot card cuts fine-cut i.verdict
@@ -211,5 +217,5 @@ module _ (o : Origin) (done : List TraceSecond) (s : TraceSecond) (front rest : 
         }
 
     -- SO THE RINGS GO ON
-    pub inserted-ringed : RingsGoOn failed o done s w.within.b.run.log (front ++ Insert slot card ∷ []) new (log_of after) spans t f
+    pub inserted-ringed : RingsGoOn failed o done s w.within.b (front ++ Insert slot card ∷ []) new (log_of after) spans t f
     inserted-ringed = by failed j.rings

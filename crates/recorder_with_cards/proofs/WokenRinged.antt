@@ -58,7 +58,7 @@ use Rattle.run_acts.specs.Power.{is_lit, cut_run}
 use Rattle.run_acts.specs.Recording.{log_of, values_of, RunWithin}
 use Rattle.run_acts.specs.Evented.{CutEvented}
 use Rattle.run_acts.specs.RunRinged.{seats_of, IsLastFrom, RingsWithin, WithinRinged, CutRinged, InSecondRingedBy, InSecondRinged, with_cut, RingsGoOn}
-use Rattle.run_acts.proofs.RingedSecond.{cut-is, cut-torn, cut-found, cut-failed, power-here, odometer-here, begins-last}
+use Rattle.run_acts.proofs.RingedSecond.{cut-is, cut-torn, cut-found, cut-failed, power-here, odometer-here, begins-last, since-begun}
 use Rattle.recorder_with_cards.specs.Accepting.{IsBare, IsAnew}
 use Rattle.recorder_with_cards.specs.Judged.{moment_in, RunNext, JudgesAnew}
 use Rattle.recorder_with_cards.specs.JudgedRings.{AreSeatedWith, JudgedInRings, IsJudgedInRings, RingsJudged, RingsJudgedAnew}
@@ -262,7 +262,7 @@ module _ (o : Origin) (done : List TraceSecond) (s : TraceSecond) (waits fewer :
   of-sitter log head is = subst (λ (c : Card). IsInsertionIn o log (with_second spans old.keeper.odometer t) e (record { accepted = record { second = s.number; slot = slot; card = c }; withdrawn = None }) head) (sym sat.2) is
 
   by : (b : Bool) → JudgedInRings b o (record { second = s.number; slot = slot; card = card }) (found_in (log_of after) s.number (In 0) slot) (with_second spans old.keeper.odometer t) (seats_of old) (seats_of new) d e →
-      RingsGoOn b o done s next.goes.within.b.run.log [] new (log_of after) spans t e
+      RingsGoOn b o done s next.goes.within.b [] new (log_of after) spans t e
   by false h = record {
     base = subst (λ (n : ℕ). IsLastFrom n (with_second spans n t)) (sym j.odometer) rings.base;
     counted = j.counted;
@@ -278,6 +278,9 @@ module _ (o : Origin) (done : List TraceSecond) (s : TraceSecond) (waits fewer :
       let cut : RunLog = with_cut (log_of after) s [] in
       record {
         counted = j.counted;
+        lines = since-begun o done s (In 0) waits None [] (values_of old before) d next.goes.within (log_of after) (here-more (log_of before) (log_of after) s.number j.here);
+        behind = behind-cut;
+        odometer = j.odometer ∙ next.goes.odometer;
         ringed = subst (λ (n : ℕ). RingedBehind o (done ++ s ∷ []) cut (suc s.number) (spans_cut spans n cut done s) nobody e) (sym j.odometer) (⊎_elim
             (λ p.
             let passed : RingedIn o done s next.goes.within.b.run.log [] cut spans old.keeper.odometer t nobody e =
@@ -290,29 +293,29 @@ module _ (o : Origin) (done : List TraceSecond) (s : TraceSecond) (waits fewer :
             h);
       }
 
-  slot-ringed : RingsGoOn failed o done s next.goes.within.b.run.log [] new (log_of after) spans t e
+  slot-ringed : RingsGoOn failed o done s next.goes.within.b [] new (log_of after) spans t e
   slot-ringed = by failed j.rings
 
 -- by the call
 card-ringed : (o : Origin) (done : List TraceSecond) (s : TraceSecond) (b : Beginning) (waits fewer : List Visit) (slot : Slot) (card : Card) (old new : Run) (before after : Outcome) (d e : Devices) (next : RunNext o done s 0 waits fewer old before d slot card) → next.goes.within.b ≡ b → (went b.run.log done).before.running ≡ false →
     (slot ≡ Driver → found_in (log_of before) s.number (In 0) CoDriver ≡ []) → (spans : List SpanFrom) (t : Told) → RingsWithin o done s b.run.log [] old (log_of before) spans t d → (at : Moment) → at ≡ moment_in s 0 → (failed : Bool) → RingsJudged slot card at failed old new before after d e → HaveTime e →
-    RingsGoOn failed o done s b.run.log [] new (log_of after) spans t e
+    RingsGoOn failed o done s b [] new (log_of after) spans t e
 card-ringed o done s b waits fewer slot card old new before after d e next is off first spans t rings at at_is failed judges time =
     let here : RingsWithin o done s next.goes.within.b.run.log [] old (log_of before) spans t d = subst (λ (y : Beginning). RingsWithin o done s y.run.log [] old (log_of before) spans t d) (sym is) rings in
     let off_here : (went next.goes.within.b.run.log done).before.running ≡ false = subst (λ (y : Beginning). (went y.run.log done).before.running ≡ false) (sym is) off in
     let odometer : odometer_by old.keeper.odometer (travelled_of next.goes.within.sp) ≡ odometer_at s.number (with_second spans old.keeper.odometer t) =
     sym (odometer-here o done s (In 0) waits [] (values_of old before) d next.goes.within [] (log_of before) spans old.keeper.odometer t (seats_of old) here.ringed here.base) in
     let j = judges o done s 0 waits fewer at_is next (with_second spans old.keeper.odometer t) odometer rings.counted time in
-    subst (λ (y : Beginning). RingsGoOn failed o done s y.run.log [] new (log_of after) spans t e) is
+    subst (λ (y : Beginning). RingsGoOn failed o done s y [] new (log_of after) spans t e) is
     (slot-ringed o done s waits fewer slot card old new before after d e next off_here first spans t here failed j)
 
 -- nobody sits there
-bare-ringed : (o : Origin) (done : List TraceSecond) (s : TraceSecond) (began : RunLog) (old new : Run) (before after : Outcome) (d e : Devices) (spans : List SpanFrom) (t : Told) (failed : Bool) → failed ≡ false → new ≡ old → after ≡ before → ((P : Devices → Type 0) → P d → P e) →
-    RingsWithin o done s began [] old (log_of before) spans t d → RingsGoOn failed o done s began [] new (log_of after) spans t e
-bare-ringed o done s began old new before after d e spans t failed well same lines still rings =
-    subst (λ (f : Bool). RingsGoOn f o done s began [] new (log_of after) spans t e) (sym well)
-    (still (λ (x : Devices). RingsWithin o done s began [] new (log_of after) spans t x)
-    (subst (λ (r : Run). RingsWithin o done s began [] r (log_of after) spans t d) (sym same) (subst (λ (q : Outcome). RingsWithin o done s began [] old (log_of q) spans t d) (sym lines) rings)))
+bare-ringed : (o : Origin) (done : List TraceSecond) (s : TraceSecond) (b : Beginning) (old new : Run) (before after : Outcome) (d e : Devices) (spans : List SpanFrom) (t : Told) (failed : Bool) → failed ≡ false → new ≡ old → after ≡ before → ((P : Devices → Type 0) → P d → P e) →
+    RingsWithin o done s b.run.log [] old (log_of before) spans t d → RingsGoOn failed o done s b [] new (log_of after) spans t e
+bare-ringed o done s b old new before after d e spans t failed well same lines still rings =
+    subst (λ (f : Bool). RingsGoOn f o done s b [] new (log_of after) spans t e) (sym well)
+    (still (λ (x : Devices). RingsWithin o done s b.run.log [] new (log_of after) spans t x)
+    (subst (λ (r : Run). RingsWithin o done s b.run.log [] r (log_of after) spans t d) (sym same) (subst (λ (q : Outcome). RingsWithin o done s b.run.log [] old (log_of q) spans t d) (sym lines) rings)))
 
 driver-first : CoDriver ≡ Driver → {T : Type 0} → T
 driver-first is {T} = absurd (cc)
@@ -321,8 +324,8 @@ driver-first is {T} = absurd (cc)
 pub driver-ringed : (o : Origin) (done : List TraceSecond) (s : TraceSecond) (b : Beginning) (card : Option Card) (rest : List Visit) (old : Run) (before : Outcome) (d : Devices) (spans : List SpanFrom) (t : Told) → WakesRinged o done s b (waiting_in Driver card ++ rest) both_slots spans t old before d →
     (none : found_in (log_of before) s.number (In 0) CoDriver ≡ []) → AllByRecursion (λ (x : Visit). x.phase ≡ In 0) rest → card_in old.keeper.cabin.slots.seats.driver ≡ card → IsBare old.keeper.cabin.slots.seats.driver → (at : Moment) → at ≡ moment_in s 0 → (speed : ℕ) (failed : Bool) (new : Run) (after : Outcome) →
     IsAnew card Driver at speed old new before after → (e : Devices) → (card ≡ None → (P : Devices → Type 0) → P d → P e) → HaveTime e → JudgesAnew card Driver at failed old new before after d e → RingsJudgedAnew card Driver at failed old new before after d e →
-    RingsGoOn failed o done s b.run.log [] new (log_of after) spans t e
-driver-ringed o done s b None rest old before d spans t w none once is bare at at_is speed failed new after anew e still time judges rings = bare-ringed o done s b.run.log old new before after d e spans t failed judges anew.0 anew.1 (still refl) w.rings
+    RingsGoOn failed o done s b [] new (log_of after) spans t e
+driver-ringed o done s b None rest old before d spans t w none once is bare at at_is speed failed new after anew e still time judges rings = bare-ringed o done s b old new before after d e spans t failed judges anew.0 anew.1 (still refl) w.rings
 driver-ringed o done s b (Some card) rest old before d spans t w none once is bare at at_is speed failed new after anew e still time judges rings =
     let next = driver-next o done s b card rest old before d w.waking once is bare in
     card-ringed o done s b (waiting_in Driver (Some card) ++ rest) rest Driver card old new before after d e next.0 next.1 w.waking.waking.starts (λ is_driver. none) spans t w.rings at at_is failed rings time
@@ -331,16 +334,16 @@ driver-ringed o done s b (Some card) rest old before d spans t w none once is ba
 pub codriver-ringed : (o : Origin) (done : List TraceSecond) (s : TraceSecond) (b : Beginning) (card : Option Card) (old : Run) (before : Outcome) (d : Devices) (spans : List SpanFrom) (t : Told) → WakesRinged o done s b (waiting_in CoDriver card) (CoDriver ∷ []) spans t old before d →
     card_in old.keeper.cabin.slots.seats.codriver ≡ card → IsBare old.keeper.cabin.slots.seats.codriver → (at : Moment) → at ≡ moment_in s 0 → (speed : ℕ) (failed : Bool) (new : Run) (after : Outcome) →
     IsAnew card CoDriver at speed old new before after → (e : Devices) → (card ≡ None → (P : Devices → Type 0) → P d → P e) → HaveTime e → JudgesAnew card CoDriver at failed old new before after d e → RingsJudgedAnew card CoDriver at failed old new before after d e →
-    RingsGoOn failed o done s b.run.log [] new (log_of after) spans t e
-codriver-ringed o done s b None old before d spans t w is bare at at_is speed failed new after anew e still time judges rings = bare-ringed o done s b.run.log old new before after d e spans t failed judges anew.0 anew.1 (still refl) w.rings
+    RingsGoOn failed o done s b [] new (log_of after) spans t e
+codriver-ringed o done s b None old before d spans t w is bare at at_is speed failed new after anew e still time judges rings = bare-ringed o done s b old new before after d e spans t failed judges anew.0 anew.1 (still refl) w.rings
 codriver-ringed o done s b (Some card) old before d spans t w is bare at at_is speed failed new after anew e still time judges rings =
     card-ringed o done s b (waiting_in CoDriver (Some card)) [] CoDriver card old new before after d e (codriver-next o done s b card old before d w.waking is bare) (codriver-began o done s b card old before d w.waking is bare) w.waking.waking.starts
     (λ is_driver. driver-first is_driver) spans t w.rings at at_is failed rings time
 
 -- behind all of that
-pub woken-rings : (failed : Bool) (o : Origin) (done : List TraceSecond) (s : TraceSecond) (began log : RunLog) (spans : List SpanFrom) (t : Told) (run : Run) (later : RunLog) (d : Devices) → began ≡ log → RingsGoOn failed o done s began [] run later spans t d → RingsWoken failed log o done s spans run later d
-woken-rings false o done s began log spans t run later d same h = (t, subst (λ (l : RunLog). RingsWithin o done s l [] run later spans t d) same h)
-woken-rings true o done s began log spans t run later d same h = (spans_cut spans run.keeper.odometer (with_cut later s []) done s, h.counted, h.ringed)
+pub woken-rings : (failed : Bool) (o : Origin) (done : List TraceSecond) (s : TraceSecond) (b : Beginning) (log : RunLog) (spans : List SpanFrom) (t : Told) (run : Run) (later : RunLog) (d : Devices) → b.run.log ≡ log → RingsGoOn failed o done s b [] run later spans t d → RingsWoken failed log o done s spans run later d
+woken-rings false o done s b log spans t run later d same h = (t, subst (λ (l : RunLog). RingsWithin o done s l [] run later spans t d) same h)
+woken-rings true o done s b log spans t run later d same h = (spans_cut spans run.keeper.odometer (with_cut later s []) done s, h.counted, h.ringed)
 
 -- ---- THE POWER-ON AS A WHOLE
 

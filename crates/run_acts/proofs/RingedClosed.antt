@@ -37,12 +37,13 @@ use Rattle.run_ringed.specs.SoFar.{RingedBehind, AreFewer}
 use Rattle.run_ringed.specs.Steps.{nobody, spans_cut}
 use Rattle.run_acts.specs.declared.run.Run.{Run}
 use Rattle.run_acts.specs.Acting.{Closing, Bare, Closed, Fell, IsClosingOf, IsClosed, IsSettled, closed_cabin, closed_breaks, left_run, told_of}
-use Rattle.run_acts.specs.Recording.{log_of, RunWithin}
+use Rattle.run_acts.specs.Recording.{log_of, values_of, RunWithin}
 use Rattle.run_acts.specs.RunRinged.{seats_of, RingsWithin, with_cut, RingsGoOn}
 use Rattle.run_acts.specs.Ringing.{seating_of, odometer_of, Withdraws, ClosesRings}
 use Rattle.run_acts.proofs.Leaving.{closed-sessions}
 use Rattle.run_acts.proofs.WithdrawnRecorded.{acting_at}
 use Rattle.run_acts.proofs.RingedLines.{AreTears, TellsTears, SatIn, TellsTear, tears-both, up-to-tells, tear-told, tear-behind, gone-torn, seats-go}
+use Rattle.run_acts.proofs.RingedSecond.{is-cut, since-begun}
 use Rattle.run_acts.proofs.RingedWithdrawn.{counted-on, quiet-torn, quiet-bare, withdrawn, cut-leaves, cut-writes}
 
 -- ---- sessions and lines
@@ -101,9 +102,12 @@ module _ (o : Origin) (done : List TraceSecond) (s : TraceSecond) (front rest : 
   noted-is = ap (λ (r : Run). r.noted) kept.only
 
   -- THE UNIT FAILED as the minutes were kept
-  pub settling-ringed : LeavesRings d.unit e.unit → RingsGoOn true o done s w.within.b.run.log (front ++ a ∷ []) between (log_of told) spans t e
+  pub settling-ringed : LeavesRings d.unit e.unit → RingsGoOn true o done s w.within.b (front ++ a ∷ []) between (log_of told) spans t e
   settling-ringed leaves = record {
     counted = counted-on o done s front rest slot are run before d e w told-tears.lines (log_of told) told-is told-tears.tears left spans t rings c seat low stands speed now allowed small between noted-is;
+    lines = since-begun o done s (In (length front)) [] None [] (values_of run before) d w.within (log_of told) (told-tears.lines, ap (λ (l : RunLog). l.breaks) told-is);
+    behind = (is-cut o done s front rest a are (values_of run before) d w.within told-tears.lines (log_of told) told-is told-tears.tears).behind;
+    odometer = told-tears.odometer ∙ w.odometer;
     ringed = subst (λ (b : ℕ). RingedBehind o (done ++ s ∷ []) (with_cut (log_of told) s (front ++ a ∷ [])) (suc s.number) (spans_cut spans b (with_cut (log_of told) s (front ++ a ∷ [])) done s) nobody e) (sym told-tears.odometer)
         (cut-leaves o done s front rest slot are run before d e w told-tears.lines (log_of told) told-is told-tears.tears left spans t rings c seat low stands speed now allowed small entries leaves);
   }
@@ -202,10 +206,13 @@ module _ (o : Origin) (done : List TraceSecond) (s : TraceSecond) (front rest : 
           (subst (λ (l : RunLog). is_torn_in l s.number (In (suc (length front))) slot ≡ false) (same-log (ap (λ (j : Closing). closed_breaks j slot at) k)) (untorn (ap (λ (q : Option Accepted). is_some q) went.is) (ap (λ (q : Option Accepted). is_some q) is)))
           (same-writes false x went (h (settled w.within.sp) stands_))
 
-      pub closing-ringed : (fails : Bool) → ClosesRings closing (session_of between.keeper.cabin.cards c) at fails between d.unit e.unit → RingsGoOn fails o done s w.within.b.run.log (front ++ a ∷ []) new later spans t e
+      pub closing-ringed : (fails : Bool) → ClosesRings closing (session_of between.keeper.cabin.cards c) at fails between d.unit e.unit → RingsGoOn fails o done s w.within.b (front ++ a ∷ []) new later spans t e
       closing-ringed false h = noted closing refl (session_of between.keeper.cabin.cards c) refl closed.is h
       closing-ringed true h = record {
         counted = counted-on o done s front rest slot are run before d e w lines later later-is tears left spans t rings c seat low stands speed now allowed small new new-noted;
+        lines = since-begun o done s (In (length front)) [] None [] (values_of run before) d w.within later (lines, ap (λ (l : RunLog). l.breaks) later-is);
+        behind = (is-cut o done s front rest a are (values_of run before) d w.within lines later later-is tears).behind;
+        odometer = new-odometer ∙ w.odometer;
         ringed = subst (λ (b : ℕ). RingedBehind o (done ++ s ∷ []) (with_cut later s (front ++ a ∷ [])) (suc s.number) (spans_cut spans b (with_cut later s (front ++ a ∷ [])) done s) nobody e) (sym new-odometer)
             (broken closing refl (session_of between.keeper.cabin.cards c) refl h);
       }

@@ -24,7 +24,7 @@ use Rattle.run_rings.proofs.Actions.{power-notes}
 use Rattle.run_recorded.specs.Origin.{Origin}
 use Rattle.run_recorded.specs.Beside.{HaveLeftMore}
 use Rattle.run_ringed.specs.Ringed.{Ringed, LeavesRings, notes_in}
-use Rattle.run_ringed.specs.SoFar.{RingedBehind, RingedIn, AreFewer, HasMoreBreaks, notes_so_far}
+use Rattle.run_ringed.specs.SoFar.{RingedBehind, RingedIn, AreFewer, HasMoreBreaks, GoesBehind, notes_so_far}
 use Rattle.run_ringed.specs.Steps.{nobody, spans_cut}
 use Rattle.run_ringed.proofs.Rings.{fewer-sit, rings-stay}
 use Rattle.run_ringed.proofs.SoFar.{failed-more, goes-alike, cut-ends}
@@ -37,7 +37,7 @@ use Rattle.run_acts.specs.RunRinged.{seats_of, IsLastFrom, RingsWithin, with_cut
 use Rattle.run_acts.proofs.Cabins.{noted-sessions}
 use Rattle.run_acts.proofs.NoteRecorded.{same-course}
 use Rattle.run_acts.proofs.RingedLines.{AreTears, TellsBeside, tears-both, tears-beside}
-use Rattle.run_acts.proofs.RingedSecond.{cut-is, cut-found, goes-behind, power-here, here-append, tears-here_}
+use Rattle.run_acts.proofs.RingedSecond.{cut-is, cut-found, goes-behind, power-here, here-append, tears-here_, since-begun}
 use Rattle.run_acts.proofs.RingedPlace.{noted-tears}
 use Rattle.run_acts.proofs.RingedClosed.{fewer-seats}
 
@@ -168,7 +168,7 @@ module _ (o : Origin) (done : List TraceSecond) (s : TraceSecond) (old new : Run
   counted-on : new.noted ≤ length later.finds
   counted-on = subst (λ (k : ℕ). k ≤ length log.finds) (sym n.noted) rings.counted
 
-  pub gap-ringed : (failed : Bool) → RingsGoOn failed o done s w.within.b.run.log [] new later spans t e
+  pub gap-ringed : (failed : Bool) → RingsGoOn failed o done s w.within.b [] new later spans t e
   gap-ringed false = record {
     base = subst (λ (b : ℕ). IsLastFrom b (with_second spans b t)) (sym n.odometer) rings.base;
     counted = counted-on;
@@ -176,13 +176,16 @@ module _ (o : Origin) (done : List TraceSecond) (s : TraceSecond) (old new : Run
         (ringed-by later (n.lines, ap (λ (l : RunLog). l.breaks) later-is) (λ slot. told.found (In 0) slot));
   }
   gap-ringed true =
+      let gone : GoesBehind w.within.b.run.log log_cut done = goes-behind o done s (In 0) [] None [] (values_of old out) d w.within (n.lines ++ cut_at s.number true 0 ∷ []) log_cut cut-lines
+      (here-append s.number n.lines (cut_at s.number true 0 ∷ []) (tears-here_ s.number 0 false n.lines n.tears) (refl, tt)) in
       let ringed = ringed-by log_cut (n.lines ++ cut_at s.number true 0 ∷ [], ap (λ (l : RunLog). l.breaks) cut-lines) (λ slot. cut-found later s.number 0 later-uncut (In 0) slot ∙ told.found (In 0) slot) in
       record {
         counted = counted-on;
+        lines = since-begun o done s (In 0) [] None [] (values_of old out) d w.within later (n.lines, ap (λ (l : RunLog). l.breaks) later-is);
+        behind = gone;
+        odometer = n.odometer ∙ w.odometer;
         ringed = subst (λ (b : ℕ). RingedBehind o (done ++ s ∷ []) log_cut (suc s.number) (spans_cut spans b log_cut done s) nobody e) (sym n.odometer)
-            (cut-ends e o done s w.within.b.run.log log_cut [] s.actions spans old.keeper.odometer t (seats_of new) nobody ringed
-            (goes-behind o done s (In 0) [] None [] (values_of old out) d w.within (n.lines ++ cut_at s.number true 0 ∷ []) log_cut cut-lines
-            (here-append s.number n.lines (cut_at s.number true 0 ∷ []) (tears-here_ s.number 0 false n.lines n.tears) (refl, tt)))
+            (cut-ends e o done s w.within.b.run.log log_cut [] s.actions spans old.keeper.odometer t (seats_of new) nobody ringed gone
             (power-here o done s (In 0) [] None [] (values_of old out) d w.within) refl (cut-is later s.number 0 later-uncut) (λ c. inr refl));
       }
 

@@ -59,7 +59,7 @@ use Rattle.run_acts.proofs.Cabins.{session-known, noted-sessions}
 use Rattle.run_acts.proofs.FallEvented.{known}
 use Rattle.run_acts.proofs.RingedLines.{AreTears, seats-go}
 use Rattle.run_acts.proofs.WithdrawnRecorded.{moment-is}
-use Rattle.run_acts.proofs.RingedSecond.{more-left, odometer-here, goes-to, sits-then, is-cut, sits-cut}
+use Rattle.run_acts.proofs.RingedSecond.{more-left, odometer-here, goes-to, sits-then, is-cut, sits-cut, since-begun}
 
 -- ---- who may enter a place
 
@@ -204,7 +204,7 @@ module _ (o : Origin) (done : List TraceSecond) (s : TraceSecond) (front rest : 
   counted-on new same = subst (λ (k : ℕ). k ≤ length later.finds) (sym same) (subst (λ (l : RunLog). run.noted ≤ length l.finds) (sym is) rings.counted)
 
   pub place-ringed : (failed : Bool) (new : Run) → AreFewer (seats_of run) (seats_of new) → new.keeper.odometer ≡ run.keeper.odometer → new.noted ≡ run.noted → WritesPlace (Some number) entry failed d.unit e.unit →
-      RingsGoOn failed o done s w.within.b.run.log (front ++ a ∷ []) new later spans t e
+      RingsGoOn failed o done s w.within.b (front ++ a ∷ []) new later spans t e
   place-ringed false new fewer same noted writes = record {
     base = subst (λ (b : ℕ). IsLastFrom b (with_second spans b t)) (sym same) rings.base;
     counted = counted-on new noted;
@@ -215,6 +215,9 @@ module _ (o : Origin) (done : List TraceSecond) (s : TraceSecond) (front rest : 
   }
   place-ringed true new fewer same noted writes = record {
     counted = counted-on new noted;
+    lines = since-begun o done s (In (length front)) [] None [] v d w.within later (lines, ap (λ (l : RunLog). l.breaks) is);
+    behind = (is-cut o done s front rest a are v d w.within lines later is tears).behind;
+    odometer = same ∙ w.odometer;
     ringed = subst (λ (b : ℕ). RingedBehind o (done ++ s ∷ []) (with_cut later s (front ++ a ∷ [])) (suc s.number) (spans_cut spans b (with_cut later s (front ++ a ∷ [])) done s) nobody e) (sym same)
         (place-is-cut d e o done s w.within.b.run.log (log_of before) (with_cut later s (front ++ a ∷ [])) front rest spans run.keeper.odometer t (seats_of run) rings.ringed slot ending country region
         (is-cut o done s front rest a are v d w.within lines later is tears) x (sits-cut o done s front rest a are v d w.within lines later is tears slot x sitting.1) refl

@@ -59,7 +59,7 @@ use Rattle.run_recorded.specs.Origin.{Origin, rule_of, start_at, first_of}
 use Rattle.run_recorded.specs.Beside.{HaveLeftMore}
 use Rattle.run_evented.proofs.Lines.{same-before}
 use Rattle.run_ringed.specs.Ringed.{Seating}
-use Rattle.run_ringed.specs.SoFar.{GoesBehind, RingedIn}
+use Rattle.run_ringed.specs.SoFar.{GoesBehind, RingedIn, HasMoreBreaks}
 use Rattle.run_ringed.specs.Steps.{GoesOnTo, IsCutIn}
 use Rattle.run_within.specs.Recorded.{Values}
 use Rattle.run_within.specs.Within.{Within, course_in}
@@ -390,3 +390,7 @@ more-left o d e unit cards h = record { unit = λ x at. h.unit o.found.unit.bega
     of-card : (c : Card) (x : List ℕ) → (card_of d c).left_since (found_of o.found c).began x → (card_of e c).left_since (found_of o.found c).began x
     of-card A x at = h.card_a o.found.card_a.began x (cards A) at
     of-card B x at = h.card_b o.found.card_b.began x (cards B) at
+
+-- more is told since the second began
+pub since-begun : (o : Origin) (done : List TraceSecond) (s : TraceSecond) (at : Phase) (waits : List Visit) (sp : Option ℕ) (rest : List Minute) (v : Values) (d : Devices) (w : Within o done s at waits sp rest v d) (later : RunLog) → HasMoreBreaks v.log later → HasMoreBreaks w.b.run.log later
+since-begun o done s at waits sp rest v d w later more = (w.moment.breaks ++ more.0, more.1 ∙ ap (λ (bs : List Break). bs ++ more.0) w.moment.breaks_are ∙ append_assoc w.b.run.log.breaks w.moment.breaks more.0)

@@ -12,6 +12,8 @@ use Rattle.log_model.specs.Log.{RunLog, In}
 use Rattle.log_model.specs.Slots.{refusal}
 use Rattle.log_model.specs.Course.{Told}
 use Rattle.slot_machine.specs.Calls.{logged}
+use Rattle.unit_model.specs.Image.{odometer_at}
+use Rattle.unit_rule.specs.Odometer.{odometer_after}
 use Rattle.side_model.specs.Odometer.{SpanFrom}
 use Rattle.safety_model.specs.Safe.{Devices}
 use Rattle.unit_course.specs.Lines.{cut_at}
@@ -21,9 +23,10 @@ use Rattle.run_outcome.specs.Lines.{Listed}
 use Rattle.run_outcome.specs.declared.outcome.Outcome.{Outcome}
 use Rattle.run_recorded.specs.Origin.{Origin}
 use Rattle.run_rings.specs.Spans.{with_second}
+use Rattle.run_within.specs.Within.{Beginning}
 use Rattle.run_evented.specs.Noting.{Acting}
 use Rattle.run_ringed.specs.Ringed.{Seating}
-use Rattle.run_ringed.specs.SoFar.{RingedBehind, RingedIn}
+use Rattle.run_ringed.specs.SoFar.{RingedBehind, RingedIn, HasMoreBreaks, GoesBehind}
 use Rattle.run_ringed.specs.Steps.{nobody, spans_cut}
 use Rattle.run_ringed.specs.Stored.{StoresOn, StoresOff, Stores}
 use Rattle.run_keeping.specs.declared.keeper.Moment.{Moment}
@@ -96,22 +99,26 @@ InSecondRinged o done s n run out d = InSecondRingedBy (is_lit run.power) o done
 abbrev pub with_cut : RunLog → TraceSecond → List Action → RunLog
 with_cut log s front = and_break log (cut_at s.number true (length front))
 
--- the unit has failed in the last of these actions: the rings are as the cut leaves them that is told next
-pub record RingsCut (o : Origin) (done : List TraceSecond) (s : TraceSecond) (front : List Action) (run : Run) (log : RunLog) (spans : List SpanFrom) (told : Told) (d : Devices) : Type 0 where
+-- the unit has failed in the last of these actions: the rings are as the cut leaves them that is told next; more was told since the second began
+-- so, all of it of this second, and the odometer is the one of then
+pub record RingsCut (o : Origin) (done : List TraceSecond) (s : TraceSecond) (b : Beginning) (front : List Action) (run : Run) (log : RunLog) (spans : List SpanFrom) (told : Told) (d : Devices) : Type 0 where
   pub counted : run.noted ≤ length log.finds
+  pub lines : HasMoreBreaks b.run.log log
+  pub behind : GoesBehind b.run.log (with_cut log s front) done
+  pub odometer : run.keeper.odometer ≡ odometer_after (odometer_at o.recording.unit) b.travel.before
   pub ringed : RingedBehind o (done ++ s ∷ []) (with_cut log s front) (suc s.number) (spans_cut spans run.keeper.odometer (with_cut log s front) done s) nobody d
 
--- BEHIND A CALL in a second that began by this log its rings go on; or the unit has failed.
-abbrev pub RingsGoOn : (failed : Bool) → Origin → List TraceSecond → TraceSecond → (began : RunLog) → (front : List Action) → Run → RunLog → List SpanFrom → Told → Devices → Type 0
-RingsGoOn false o done s began front run log spans t d = RingsWithin o done s began front run log spans t d
-RingsGoOn true o done s began front run log spans t d = RingsCut o done s front run log spans t d
+-- BEHIND A CALL in a second that began so its rings go on; or the unit has failed.
+abbrev pub RingsGoOn : (failed : Bool) → Origin → List TraceSecond → TraceSecond → Beginning → (front : List Action) → Run → RunLog → List SpanFrom → Told → Devices → Type 0
+RingsGoOn false o done s b front run log spans t d = RingsWithin o done s b.run.log front run log spans t d
+RingsGoOn true o done s b front run log spans t d = RingsCut o done s b front run log spans t d
 
 -- AN ACTION of a second is carried out, which slots and speed do not refuse.
 abbrev pub RingsAction : Action → (begun speed : ℕ) → (failed : Bool) → (old new : Run) → (before after : Outcome) → (d e : Devices) → Type 0
 RingsAction action begun speed failed old new before after d e = (o : Origin) (done : List TraceSecond) (s : TraceSecond) → IsNow s speed old →
     (front rest : List Action) → s.actions ≡ front ++ action ∷ rest → begun ≡ suc (length front) → refusal (logged old.keeper.cabin.slots.seats) speed action ≡ None →
     (w : RunWithin o done s (In (length front)) [] [] old before d) → (spans : List SpanFrom) (t : Told) → RingsWithin o done s w.within.b.run.log front old (log_of before) spans t d → HaveTime e →
-    RingsGoOn failed o done s w.within.b.run.log (front ++ action ∷ []) new (log_of after) spans t e
+    RingsGoOn failed o done s w.within.b (front ++ action ∷ []) new (log_of after) spans t e
 
 -- A PLACE IS NOTED that is entered now
 abbrev pub RingsPlace : Slot → PlaceEntry → Moment → (failed : Bool) → (old new : Run) → (breaks after : Listed Break) → (d e : Devices) → Type 0
@@ -126,7 +133,7 @@ RingsWithdrawal slot at failed old new before after d e = at.late ≡ false → 
 abbrev pub RingsGap : (failed : Bool) → (old new : Run) → (breaks after : Listed Break) → (d e : Devices) → Type 0
 RingsGap failed old new breaks after d e = (o : Origin) (done : List TraceSecond) (s : TraceSecond) (out : Outcome) → (w : RunWithin o done s (In 0) [] [] old (record out { breaks = breaks }) d) → ComesPower done (record out { breaks = breaks }) →
     (spans : List SpanFrom) (t : Told) → RingsWithin o done s w.within.b.run.log [] old (log_of (record out { breaks = breaks })) spans t d →
-    RingsGoOn failed o done s w.within.b.run.log [] new (log_of (record out { breaks = after })) spans t e
+    RingsGoOn failed o done s w.within.b [] new (log_of (record out { breaks = after })) spans t e
 
 -- BEHIND THESE SECONDS the rings show what they noted, by the power of a run
 pub record TurnedRings (o : Origin) (done : List TraceSecond) (run : Run) (out : Outcome) (d : Devices) : Type 0 where

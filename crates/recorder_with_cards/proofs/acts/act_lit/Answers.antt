@@ -32,7 +32,7 @@ use Rattle.run_acts.specs.Evented.{EventsGoOn}
 use Rattle.run_acts.specs.RunRinged.{WithinRinged, RingsGoOn}
 use Rattle.recorder_with_cards.proofs.ActsEvented.{evented-cuts}
 use Rattle.recorder_with_cards.proofs.RingsHeld.{ringed-lit, in-ringed_lit, in-ringed_cut, at-front}
-use Rattle.recorder_with_cards.proofs.ActsRinged.{ringed-on, ringed-cuts, refused-ringed}
+use Rattle.recorder_with_cards.proofs.ActsRinged.{ringed-on, ringed-cuts, cut-stores, refused-ringed}
 use Rattle.run_keeping.specs.Keeping.{with_lines}
 use Rattle.recorder_with_cards.proofs.Staying.{done-watched}
 use Rattle.run_keeping.proofs.Later.{later-same}
@@ -190,17 +190,20 @@ returns-then-is_err-clause-ringed g c =
     let more : List Action = front ++ c.args.action ∷ [] in
     let fails = subst (λ (b : Bool). GoesOnOrFails b o done s (In c.args.begun) [] mid told e w.within.b) failed (c.carry_out.ensures.recorded o done s now front rest are here allowed w time) in
     let events = subst (λ (b : Bool). EventsGoOn b o done s w.within.b.run (In c.args.begun) Acting (log_of told) e) failed (c.carry_out.ensures.evented o done s now front rest are here allowed w h.evented.evented time) in
-    let rings = subst (λ (b : Bool). RingsGoOn b o done s w.within.b.run.log more mid (log_of told) h.spans h.told e) failed
+    let rings = subst (λ (b : Bool). RingsGoOn b o done s w.within.b more mid (log_of told) h.spans h.told e) failed
     (c.carry_out.ensures.ringed o done s now front rest are here allowed w h.spans h.told (at-front o done s run out d front (c.args.action ∷ rest) are h) time) in
     let after : Outcome = record told { breaks = c.cut.new.breaks } in
     let stays = c.carry_out.ensures.stays in
+    let many : length more ≡ c.args.begun = let long = length-append front (c.args.action ∷ []) in omega (arith, long, here) in
     let is_after : after ≡ record told { breaks = with_lines (cut_at mid.next true c.args.begun ∷ []) told.breaks } = ap (λ (l : Listed Break). record told { breaks = l }) c.cut.ensures.breaks in
     in-ringed_cut o done s c.cut.new.self after e c.args.begun
-    (ringed-cuts o done s w.within.b.run.log c.args.begun mid c.cut.new.self told after e h.spans h.told (now.number ∙ sym stays.next)
+    (ringed-cuts o done s w.within.b c.args.begun mid c.cut.new.self told after e h.spans h.told (now.number ∙ sym stays.next)
     (evented-cuts o done s (length front) c.args.begun run mid c.cut.new.self out told after d e now.number h.evented
     (cut o done s c.args.begun rest mid c.cut.new.self told after e w.origin (now.number ∙ sym stays.next) (left front rest c.args.action s here are) fails c.cut.ensures.run is_after)
     events (done-watched c.args.action (moment_of c.args.begun run) c.args.speed (is_err c.carry_out.result) run mid out told c.carry_out.ensures.done) stays.next stays.unfound c.cut.ensures.run is_after)
-    more (let long = length-append front (c.args.action ∷ []) in omega (arith, long, here)) rings c.cut.ensures.run is_after)
+    more many rings
+    (cut-stores o done s (length front) c.args.begun run mid out told d e h more rest many fails (stays.power ∙ c.requires.lit) (left front rest c.args.action s here are) stays.unfound rings)
+    c.cut.ensures.run is_after)
 
 pub returns-else-is_err-clause-ringed : goal.returns-else-is_err-clause-ringed
 returns-else-is_err-clause-ringed g c =
@@ -219,7 +222,7 @@ returns-else-is_err-clause-ringed g c =
     let more : List Action = front ++ c.args.action ∷ [] in
     let goes = subst (λ (b : Bool). GoesOnOrFails b o done s (In c.args.begun) [] mid told e w.within.b) well (c.carry_out.ensures.recorded o done s now front rest are here allowed w time) in
     let events = subst (λ (b : Bool). EventsGoOn b o done s w.within.b.run (In c.args.begun) Acting (log_of told) e) well (c.carry_out.ensures.evented o done s now front rest are here allowed w h.evented.evented time) in
-    let rings = subst (λ (b : Bool). RingsGoOn b o done s w.within.b.run.log more mid (log_of told) h.spans h.told e) well
+    let rings = subst (λ (b : Bool). RingsGoOn b o done s w.within.b more mid (log_of told) h.spans h.told e) well
     (c.carry_out.ensures.ringed o done s now front rest are here allowed w h.spans h.told (at-front o done s run out d front (c.args.action ∷ rest) are h) time) in
     in-ringed_lit o done s mid told e c.args.begun
     (ringed-on o done s (length front) c.args.begun run mid out told d e h more rest (are ∙ sym (append_assoc front (c.args.action ∷ []) rest)) (let long = length-append front (c.args.action ∷ []) in omega (arith, long, here))

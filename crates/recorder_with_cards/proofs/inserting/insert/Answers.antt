@@ -223,7 +223,7 @@ returns-in_err-settle-clause-ringed g c = λ late room o done s now front rest a
     (more-left o d e (within.within.powered.lit.unit.unit_holds [] []).later within.within.there.clocks c.settle.ensures.keeps)
     (fewer-seats put mid (ap (λ (r : Run). r.noted) settles.only) lines.sessions) lines.odometer (ap (λ (r : Run). r.noted) settles.only) in
     let failed : true ≡ is_err c.from_residual.result = search rules in
-    subst (λ (f : Bool). RingsGoOn f o done s within.within.b.run.log (front ++ Insert c.args.slot c.args.card ∷ []) mid (log_of told) spans t e) failed rung
+    subst (λ (f : Bool). RingsGoOn f o done s within.within.b (front ++ Insert c.args.slot c.args.card ∷ []) mid (log_of told) spans t e) failed rung
 
 pub returns-clause-ringed : goal.returns-clause-ringed
 returns-clause-ringed g c = λ late room o done s now front rest actions begun allowed within spans t rings time.

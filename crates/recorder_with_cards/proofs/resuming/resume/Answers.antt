@@ -997,13 +997,13 @@ returns-in_err-accept_anew-clause-ringed g c = λ room o origin done s supply v 
     wakes-ringed o done s woke.0 (waiting_in Driver first_card ++ others) mid out (devices W X Y) woke.1 (sym log0) spans seats mended
     (λ card. ap (option_map (seating_of mid.noted)) (ap (λ (b : Cabin). session_of b.cards card) cabin ∙ dark.bare card)) (omega (arith, counted, noted)) in
     let recorded_one = c.accept_anew.ensures.recorded (omega (arith, room, few)) in
-    let one_ringed : RingsGoOn (is_err c.accept_anew.result) o done s woke.0.run.log [] one (log_of out1) spans t (devices V1 X1 Y1) =
+    let one_ringed : RingsGoOn (is_err c.accept_anew.result) o done s woke.0 [] one (log_of out1) spans t (devices V1 X1 Y1) =
     driver-ringed o done s woke.0 first_card others mid out (devices W X Y) spans t starts (woke.1.waking.none CoDriver (in-both CoDriver)) once refl bare c.moment-at.result now c.args.speed (is_err c.accept_anew.result) one out1 c.accept_anew.ensures.accepted (devices V1 X1 Y1)
     (λ none P. same-devices P g.M.Medium.state g.C.Chip.state g.D.Chip.state c.mend.new.unit c.accept_anew.new.unit c.args.card_a.now c.accept_anew.new.card_a c.args.card_b.now c.accept_anew.new.card_b (c.accept_anew.ensures.still none)) time recorded_one
     (c.accept_anew.ensures.ringed (omega (arith, room, few))) in
     let failed : is_err c.accept_anew.result ≡ is_err c.from_residual-in_err-accept_anew.result = search rules in
     subst (λ (f : Bool). RingsWoken f (log_of out) o done s spans one (log_of out1) (devices V1 X1 Y1)) failed
-    (woken-rings (is_err c.accept_anew.result) o done s woke.0.run.log (log_of out) spans t one (log_of out1) (devices V1 X1 Y1) log0 one_ringed)
+    (woken-rings (is_err c.accept_anew.result) o done s woke.0 (log_of out) spans t one (log_of out1) (devices V1 X1 Y1) log0 one_ringed)
 
 pub returns-in_err-accept_anew-2-clause-ringed : goal.returns-in_err-accept_anew-2-clause-ringed
 returns-in_err-accept_anew-2-clause-ringed g c = λ room o origin done s supply v r may number given values spans seats ringed counted time.
@@ -1044,7 +1044,7 @@ returns-in_err-accept_anew-2-clause-ringed g c = λ room o origin done s supply 
     wakes-ringed o done s woke.0 (waiting_in Driver first_card ++ others) mid out (devices W X Y) woke.1 (sym log0) spans seats mended
     (λ card. ap (option_map (seating_of mid.noted)) (ap (λ (b : Cabin). session_of b.cards card) cabin ∙ dark.bare card)) (omega (arith, counted, noted)) in
     let recorded_one = c.accept_anew.ensures.recorded (omega (arith, room, few)) in
-    let one_ringed : RingsGoOn (is_err c.accept_anew.result) o done s woke.0.run.log [] one (log_of out1) spans t (devices V1 X1 Y1) =
+    let one_ringed : RingsGoOn (is_err c.accept_anew.result) o done s woke.0 [] one (log_of out1) spans t (devices V1 X1 Y1) =
     driver-ringed o done s woke.0 first_card others mid out (devices W X Y) spans t starts (woke.1.waking.none CoDriver (in-both CoDriver)) once refl bare c.moment-at.result now c.args.speed (is_err c.accept_anew.result) one out1 c.accept_anew.ensures.accepted (devices V1 X1 Y1)
     (λ none P. same-devices P g.M.Medium.state g.C.Chip.state g.D.Chip.state c.mend.new.unit c.accept_anew.new.unit c.args.card_a.now c.accept_anew.new.card_a c.args.card_b.now c.accept_anew.new.card_b (c.accept_anew.ensures.still none)) (time-before (devices V1 X1 Y1) (devices (g.M.Medium.state c.accept_anew-2.new.unit) (g.C.Chip.state c.accept_anew-2.new.card_a) (g.D.Chip.state c.accept_anew-2.new.card_b)) c.accept_anew-2.ensures.clock c.accept_anew-2.ensures.clock_a c.accept_anew-2.ensures.clock_b time) recorded_one
     (c.accept_anew.ensures.ringed (omega (arith, room, few))) in
@@ -1066,16 +1066,16 @@ returns-in_err-accept_anew-2-clause-ringed g c = λ room o origin done s supply 
     let second_card = card_in one.keeper.cabin.slots.seats.codriver in
     let behind_one : WakesRinged o done s woke.0 (waiting_in CoDriver second_card) (CoDriver ∷ []) spans t one out1 (devices V1 X1 Y1) = record {
       waking = subst (λ (seat : Option Seat). RunWaking o done s woke.0 (waiting_in CoDriver (card_in seat)) (CoDriver ∷ []) one out1 (devices V1 X1 Y1)) (sym beside) (first.0 well);
-      rings = subst (λ (f : Bool). RingsGoOn f o done s woke.0.run.log [] one (log_of out1) spans t (devices V1 X1 Y1)) well one_ringed;
+      rings = subst (λ (f : Bool). RingsGoOn f o done s woke.0 [] one (log_of out1) spans t (devices V1 X1 Y1)) well one_ringed;
     } in
     let recorded_two = c.accept_anew-2.ensures.recorded (omega (arith, room, few, few_too, none_waits, waits_none, marks, same_room)) in
-    let two_ringed : RingsGoOn (is_err c.accept_anew-2.result) o done s woke.0.run.log [] two (log_of out2) spans t (devices V2 X2 Y2) =
+    let two_ringed : RingsGoOn (is_err c.accept_anew-2.result) o done s woke.0 [] two (log_of out2) spans t (devices V2 X2 Y2) =
     codriver-ringed o done s woke.0 second_card one out1 (devices V1 X1 Y1) spans t behind_one refl bare_too c.moment-at.result now c.args.speed (is_err c.accept_anew-2.result) two out2 c.accept_anew-2.ensures.accepted (devices V2 X2 Y2)
     (λ none P. same-devices P g.M.Medium.state g.C.Chip.state g.D.Chip.state c.accept_anew.new.unit c.accept_anew-2.new.unit c.accept_anew.new.card_a c.accept_anew-2.new.card_a c.accept_anew.new.card_b c.accept_anew-2.new.card_b (c.accept_anew-2.ensures.still none)) time recorded_two
     (c.accept_anew-2.ensures.ringed (omega (arith, room, few, few_too, none_waits, waits_none, marks, same_room))) in
     let failed : is_err c.accept_anew-2.result ≡ is_err c.from_residual-in_err-accept_anew-2.result = search rules in
     subst (λ (f : Bool). RingsWoken f (log_of out) o done s spans two (log_of out2) (devices V2 X2 Y2)) failed
-    (woken-rings (is_err c.accept_anew-2.result) o done s woke.0.run.log (log_of out) spans t two (log_of out2) (devices V2 X2 Y2) log0 two_ringed)
+    (woken-rings (is_err c.accept_anew-2.result) o done s woke.0 (log_of out) spans t two (log_of out2) (devices V2 X2 Y2) log0 two_ringed)
 
 pub returns-then-is_first-clause-ringed : goal.returns-then-is_first-clause-ringed
 returns-then-is_first-clause-ringed g c = λ room o origin done s supply v r may number given values spans seats ringed counted time.
@@ -1116,7 +1116,7 @@ returns-then-is_first-clause-ringed g c = λ room o origin done s supply v r may
     wakes-ringed o done s woke.0 (waiting_in Driver first_card ++ others) mid out (devices W X Y) woke.1 (sym log0) spans seats mended
     (λ card. ap (option_map (seating_of mid.noted)) (ap (λ (b : Cabin). session_of b.cards card) cabin ∙ dark.bare card)) (omega (arith, counted, noted)) in
     let recorded_one = c.accept_anew.ensures.recorded (omega (arith, room, few)) in
-    let one_ringed : RingsGoOn (is_err c.accept_anew.result) o done s woke.0.run.log [] one (log_of out1) spans t (devices V1 X1 Y1) =
+    let one_ringed : RingsGoOn (is_err c.accept_anew.result) o done s woke.0 [] one (log_of out1) spans t (devices V1 X1 Y1) =
     driver-ringed o done s woke.0 first_card others mid out (devices W X Y) spans t starts (woke.1.waking.none CoDriver (in-both CoDriver)) once refl bare c.moment-at.result now c.args.speed (is_err c.accept_anew.result) one out1 c.accept_anew.ensures.accepted (devices V1 X1 Y1)
     (λ none P. same-devices P g.M.Medium.state g.C.Chip.state g.D.Chip.state c.mend.new.unit c.accept_anew.new.unit c.args.card_a.now c.accept_anew.new.card_a c.args.card_b.now c.accept_anew.new.card_b (c.accept_anew.ensures.still none)) (time-before (devices V1 X1 Y1) (devices (g.M.Medium.state c.accept_anew-2.new.unit) (g.C.Chip.state c.accept_anew-2.new.card_a) (g.D.Chip.state c.accept_anew-2.new.card_b)) c.accept_anew-2.ensures.clock c.accept_anew-2.ensures.clock_a c.accept_anew-2.ensures.clock_b time) recorded_one
     (c.accept_anew.ensures.ringed (omega (arith, room, few))) in
@@ -1138,15 +1138,15 @@ returns-then-is_first-clause-ringed g c = λ room o origin done s supply v r may
     let second_card = card_in one.keeper.cabin.slots.seats.codriver in
     let behind_one : WakesRinged o done s woke.0 (waiting_in CoDriver second_card) (CoDriver ∷ []) spans t one out1 (devices V1 X1 Y1) = record {
       waking = subst (λ (seat : Option Seat). RunWaking o done s woke.0 (waiting_in CoDriver (card_in seat)) (CoDriver ∷ []) one out1 (devices V1 X1 Y1)) (sym beside) (first.0 well);
-      rings = subst (λ (f : Bool). RingsGoOn f o done s woke.0.run.log [] one (log_of out1) spans t (devices V1 X1 Y1)) well one_ringed;
+      rings = subst (λ (f : Bool). RingsGoOn f o done s woke.0 [] one (log_of out1) spans t (devices V1 X1 Y1)) well one_ringed;
     } in
     let recorded_two = c.accept_anew-2.ensures.recorded (omega (arith, room, few, few_too, none_waits, waits_none, marks, same_room)) in
-    let two_ringed : RingsGoOn (is_err c.accept_anew-2.result) o done s woke.0.run.log [] two (log_of out2) spans t (devices V2 X2 Y2) =
+    let two_ringed : RingsGoOn (is_err c.accept_anew-2.result) o done s woke.0 [] two (log_of out2) spans t (devices V2 X2 Y2) =
     codriver-ringed o done s woke.0 second_card one out1 (devices V1 X1 Y1) spans t behind_one refl bare_too c.moment-at.result now c.args.speed (is_err c.accept_anew-2.result) two out2 c.accept_anew-2.ensures.accepted (devices V2 X2 Y2)
     (λ none P. same-devices P g.M.Medium.state g.C.Chip.state g.D.Chip.state c.accept_anew.new.unit c.accept_anew-2.new.unit c.accept_anew.new.card_a c.accept_anew-2.new.card_a c.accept_anew.new.card_b c.accept_anew-2.new.card_b (c.accept_anew-2.ensures.still none)) time recorded_two
     (c.accept_anew-2.ensures.ringed (omega (arith, room, few, few_too, none_waits, waits_none, marks, same_room))) in
     let fine : is_err c.accept_anew-2.result ≡ false = search rules in
-    woken-rings false o done s woke.0.run.log (log_of out) spans t two (log_of out2) (devices V2 X2 Y2) log0 (subst (λ (f : Bool). RingsGoOn f o done s woke.0.run.log [] two (log_of out2) spans t (devices V2 X2 Y2)) fine two_ringed)
+    woken-rings false o done s woke.0 (log_of out) spans t two (log_of out2) (devices V2 X2 Y2) log0 (subst (λ (f : Bool). RingsGoOn f o done s woke.0 [] two (log_of out2) spans t (devices V2 X2 Y2)) fine two_ringed)
 
 pub returns-clause-ringed : goal.returns-clause-ringed
 returns-clause-ringed g c = λ room o origin done s supply v r may number given values spans seats ringed counted time.
@@ -1191,7 +1191,7 @@ returns-clause-ringed g c = λ room o origin done s supply v r may number given 
     wakes-ringed o done s woke.0 (waiting_in Driver first_card ++ others) mid out (devices W X Y) woke.1 (sym log0) spans seats mended
     (λ card. ap (option_map (seating_of mid.noted)) (ap (λ (b : Cabin). session_of b.cards card) cabin ∙ dark.bare card)) (omega (arith, counted, noted)) in
     let recorded_one = c.accept_anew.ensures.recorded (omega (arith, room, few)) in
-    let one_ringed : RingsGoOn (is_err c.accept_anew.result) o done s woke.0.run.log [] one (log_of out1) spans t (devices V1 X1 Y1) =
+    let one_ringed : RingsGoOn (is_err c.accept_anew.result) o done s woke.0 [] one (log_of out1) spans t (devices V1 X1 Y1) =
     driver-ringed o done s woke.0 first_card others mid out (devices W X Y) spans t starts (woke.1.waking.none CoDriver (in-both CoDriver)) once refl bare c.moment-at.result now c.args.speed (is_err c.accept_anew.result) one out1 c.accept_anew.ensures.accepted (devices V1 X1 Y1)
     (λ none P. same-devices P g.M.Medium.state g.C.Chip.state g.D.Chip.state c.mend.new.unit c.accept_anew.new.unit c.args.card_a.now c.accept_anew.new.card_a c.args.card_b.now c.accept_anew.new.card_b (c.accept_anew.ensures.still none)) (time-before (devices V1 X1 Y1) (devices (g.M.Medium.state c.accept_anew-2.new.unit) (g.C.Chip.state c.accept_anew-2.new.card_a) (g.D.Chip.state c.accept_anew-2.new.card_b)) c.accept_anew-2.ensures.clock c.accept_anew-2.ensures.clock_a c.accept_anew-2.ensures.clock_b time_two) recorded_one
     (c.accept_anew.ensures.ringed (omega (arith, room, few))) in
@@ -1213,10 +1213,10 @@ returns-clause-ringed g c = λ room o origin done s supply v r may number given 
     let second_card = card_in one.keeper.cabin.slots.seats.codriver in
     let behind_one : WakesRinged o done s woke.0 (waiting_in CoDriver second_card) (CoDriver ∷ []) spans t one out1 (devices V1 X1 Y1) = record {
       waking = subst (λ (seat : Option Seat). RunWaking o done s woke.0 (waiting_in CoDriver (card_in seat)) (CoDriver ∷ []) one out1 (devices V1 X1 Y1)) (sym beside) (first.0 well);
-      rings = subst (λ (f : Bool). RingsGoOn f o done s woke.0.run.log [] one (log_of out1) spans t (devices V1 X1 Y1)) well one_ringed;
+      rings = subst (λ (f : Bool). RingsGoOn f o done s woke.0 [] one (log_of out1) spans t (devices V1 X1 Y1)) well one_ringed;
     } in
     let recorded_two = c.accept_anew-2.ensures.recorded (omega (arith, room, few, few_too, none_waits, waits_none, marks, same_room)) in
-    let two_ringed : RingsGoOn (is_err c.accept_anew-2.result) o done s woke.0.run.log [] two (log_of out2) spans t (devices V2 X2 Y2) =
+    let two_ringed : RingsGoOn (is_err c.accept_anew-2.result) o done s woke.0 [] two (log_of out2) spans t (devices V2 X2 Y2) =
     codriver-ringed o done s woke.0 second_card one out1 (devices V1 X1 Y1) spans t behind_one refl bare_too c.moment-at.result now c.args.speed (is_err c.accept_anew-2.result) two out2 c.accept_anew-2.ensures.accepted (devices V2 X2 Y2)
     (λ none P. same-devices P g.M.Medium.state g.C.Chip.state g.D.Chip.state c.accept_anew.new.unit c.accept_anew-2.new.unit c.accept_anew.new.card_a c.accept_anew-2.new.card_a c.accept_anew.new.card_b c.accept_anew-2.new.card_b (c.accept_anew-2.ensures.still none)) time_two recorded_two
     (c.accept_anew-2.ensures.ringed (omega (arith, room, few, few_too, none_waits, waits_none, marks, same_room))) in
@@ -1227,8 +1227,8 @@ returns-clause-ringed g c = λ room o origin done s supply v r may number given 
     let comes = comes-waking o done s woke.0 [] [] two out2 (devices V2 X2 Y2) both in
     let began = both.waking.began in
     let rings = subst (λ (b : Beginning). RingsWithin o done s b.run.log [] two (log_of out2) spans t (devices V2 X2 Y2)) (sym began)
-    (subst (λ (f : Bool). RingsGoOn f o done s woke.0.run.log [] two (log_of out2) spans t (devices V2 X2 Y2)) fine two_ringed) in
-    woken-rings (is_err c.note_gap.result) o done s x.within.b.run.log (log_of out) spans t c.note_gap.new.run (log_of (record out2 { breaks = c.note_gap.new.breaks })) (devices V3 X3 Y3) (ap (λ (b : Beginning). b.run.log) began ∙ log0)
+    (subst (λ (f : Bool). RingsGoOn f o done s woke.0 [] two (log_of out2) spans t (devices V2 X2 Y2)) fine two_ringed) in
+    woken-rings (is_err c.note_gap.result) o done s x.within.b (log_of out) spans t c.note_gap.new.run (log_of (record out2 { breaks = c.note_gap.new.breaks })) (devices V3 X3 Y3) (ap (λ (b : Beginning). b.run.log) began ∙ log0)
     (c.note_gap.ensures.ringed o done s out2 x comes spans t rings)
 
 -- ---- what holds of the devices after any calls

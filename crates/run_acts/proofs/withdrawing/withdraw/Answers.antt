@@ -847,7 +847,7 @@ returns-in_err-settle-clause-ringed g c = λ late speed o done s now front rest 
     let moment = moment-is c.args.at s.number (suc (length front)) (c.requires.at ∙ sym now.number) n late in
     let small : s.number < 2 ^ 32 = let low = c.requires.small in let same = now.number in omega (arith, low, same) in
     let kept = here-kept true c.args.slot c.args.at (acting_at s.number (suc (length front))) run c.settle.new.run c.args.outcome.now c.settle.new.outcome c.leave.new.self c.leave.ensures.kept moment c.in_err-settle.ensures.settled in
-    subst (λ (q : Bool). RingsGoOn q o done s w.within.b.run.log (front ++ Withdraw c.args.slot ∷ []) c.settle.new.run (log_of c.settle.new.outcome) spans t E) failed
+    subst (λ (q : Bool). RingsGoOn q o done s w.within.b (front ++ Withdraw c.args.slot ∷ []) c.settle.new.run (log_of c.settle.new.outcome) spans t E) failed
     (settling-ringed o done s front rest c.args.slot are speed now.speed_is card run c.settle.new.run c.args.outcome.now c.settle.new.outcome D E w there allowed true kept
     (more-left o D E (w.within.powered.lit.unit.unit_holds [] []).later w.within.there.clocks c.settle.ensures.keeps) spans t rings (ungiven_of lit.span) lit.cabin small (entry-of run.noted (session_of run.keeper.cabin.cards card) (lit.entries card))
     (settling-leaves c.args.at true (with_cabin c.leave.new.self run) c.settle.new.run c.args.outcome.now c.settle.new.outcome U V c.in_err-settle.ensures.noted))
