@@ -29,6 +29,7 @@ pub mod Counted
 pub mod Acted
 pub mod CutOff
 pub mod Read
+pub mod StoredCalls
 pub mod Resumed
 pub mod GoingOn
 pub mod Inserted
@@ -56,3 +57,4 @@ pub mod OffRings
 pub mod SecondsRinged
 pub mod BegunRinged
 pub mod SideShown
+pub mod WokenStored

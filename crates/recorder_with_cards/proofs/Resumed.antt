@@ -18,6 +18,7 @@ use Rattle.log_model.specs.declared.lines.Mark.{Mark}
 use Rattle.log_model.specs.declared.lines.Verdict.TheVariants as verdict
 use Rattle.log_model.specs.Log.{RunLog, In, found_in}
 use Rattle.log_model.specs.Slots.{Slots, Sitting}
+use Rattle.log_model.specs.Spans.{spans_of}
 use Rattle.log_model.specs.Course.{Visit, Went, went, fresh, visits, card_in as card_of_sitting}
 use Rattle.history_model.specs.Minutes.{HistoryMinute}
 use Rattle.history_model.specs.Presence.{Start}
@@ -28,6 +29,7 @@ use Rattle.unit_model.specs.Image.{last_kept, odometer_at}
 use Rattle.unit_journal.specs.declared.notes.Notes.{Notes}
 use Rattle.unit_journal.specs.Image.{Agrees, IsFoundBy}
 use Rattle.unit_journal.specs.Mends.{IsMending}
+use Rattle.unit_course.specs.Lines.{found_from}
 use Rattle.unit_course.specs.Followed.{Supply, MayPower}
 use Rattle.unit_course.specs.Legs.{Travel, resumed}
 use Rattle.unit_course.specs.Turn.{span_at}
@@ -36,6 +38,7 @@ use Rattle.unit_rule.specs.Marks.{Holds}
 use Rattle.unit_rule.specs.Odometer.{odometer_by, odometer_after, ShowsOdometer, HasTravelled}
 use Rattle.unit_rule.proofs.Travelling.{odometer-sum}
 use Rattle.device_steps.specs.Rule.{Both, CardRests, IsTakenUp}
+use Rattle.side_model.specs.Odometer.{SpanFrom}
 use Rattle.safety_model.specs.Safe.{Devices, card_of, breakdowns_of}
 use Rattle.slot_machine.specs.declared.seats.Seat.{Seat}
 use Rattle.slot_machine.specs.Calls.{Seats, seat_in, card_in}
@@ -45,7 +48,10 @@ use Rattle.run_rule.specs.Between.{devices}
 use Rattle.run_course.specs.Moments.{and_find}
 use Rattle.run_course.specs.Presence.{SitsAs, SlotsTell}
 use Rattle.run_course.specs.Followed.{Progress, Followed}
+use Rattle.run_course.proofs.Logs.{found_log}
 use Rattle.run_moments.specs.Telling.{IsMore}
+use Rattle.run_ringed.specs.Stored.{StandsOn, StoresOff}
+use Rattle.run_ringed.proofs.Bases.{stays-stored}
 use Rattle.run_recorded.specs.Beside.{HaveLeftMore}
 use Rattle.run_recorded.specs.Seconds.{found_again}
 use Rattle.run_recorded.proofs.Seconds.{found-recorded}
@@ -70,9 +76,11 @@ use Rattle.run_acts.specs.declared.run.Power.TheVariants.{Lit}
 use Rattle.run_acts.specs.Power.{IsSpanBegun, is_lit}
 use Rattle.run_acts.specs.Recording.{IsOrigin, log_of, values_of, RunWithin, ComesPower, GoesOnOrCut, GoesOnOrFails}
 use Rattle.run_acts.proofs.NoteRecorded.{same-course}
+use Rattle.run_acts.proofs.Stored.{stored-back}
 use Rattle.recorder_with_cards.specs.Accepting.{IsBare, IsAccepted, IsAnew}
 use Rattle.recorder_with_cards.specs.Judged.{moment_in, RunNext, RunBehind, JudgedTo, JudgesSo, JudgesAnew}
 use Rattle.recorder_with_cards.proofs.Read.{unit-tells, image-of, at-image}
+use Rattle.recorder_with_cards.proofs.StoredCalls.{mend-stays}
 
 -- ---- a run at its power-on
 
@@ -246,6 +254,16 @@ module _ (o : Origin) (origin : IsOrigin o) (done : List TraceSecond) (s : Trace
     unfolding awake
     awake-is = (ap (λ (k : ℕ). found_again k (progress v supply r.book)) kept-is, refl, back.goes.left)
 
+    -- the spans that have ended stand, and the one that begins does so with what is stored
+    pub awake-stands : journal.kept ≡ j.kept → (spans : List SpanFrom) → map (λ (x : SpanFrom). x.span) spans ≡ spans_of (went v.log done).told → StoresOff o v.log v.unfound spans (devices U X Y) → StandsOn o (log_of out) old.unfound spans new.keeper.odometer
+    awake-stands same spans are h =
+        let agreed = at-image (Agrees journal) W.image image-behind.0 image-behind.1 agrees in
+        let stored : StoresOff o v.log v.unfound spans (devices W X Y) = stays-stored o v.log v.unfound spans (devices U X Y) (devices W X Y) (mend-stays j (devices U X Y) (devices W X Y) whole mends) h in
+        let stands = stored-back o done supply v d r may (last_kept has-image.0) back.leg back.shows spans are (devices W X Y) image-behind.0 (after.is_left image-behind.0 image-behind.1) (agreed.kept ∙ same ∙ sym kept-is) stored in
+        subst (λ (n : ℕ). StandsOn o (log_of out) old.unfound spans n) (agreed.odometer ∙ sym (ap (λ (k : Keeper). k.odometer) begun.keeper))
+        (subst (λ (x : Values). StandsOn o x.log x.unfound spans (odometer_at image-behind.0)) (sym values)
+        (as-read (λ (k : ℕ). StandsOn o (found_log v.unfound k v.log) (length (found_from v.unfound k v.log.breaks)) spans (odometer_at image-behind.0)) stands))
+
   -- its mending failed: what was read is known, and the unit broke down
   pub unmended-read : failed ≡ true → IsReadAgain o done (progress v supply r.book) j.kept d e
   unmended-read fails =
@@ -258,6 +276,17 @@ module _ (o : Origin) (origin : IsOrigin o) (done : List TraceSecond) (s : Trace
         more = read.goes.breakdowns;
         broke = read.broke;
       }
+
+  -- the spans that have ended stand, by what an image has stored
+  pub unmended-stands : failed ≡ true → (spans : List SpanFrom) → map (λ (x : SpanFrom). x.span) spans ≡ spans_of (went v.log done).told → StoresOff o v.log v.unfound spans (devices U X Y) →
+      (base : ℕ) × StandsOn o (found_log v.unfound j.kept v.log) (length (found_from v.unfound j.kept v.log.breaks)) spans base
+  unmended-stands fails spans are h =
+      let read : IsOnlyRead o done supply v d r (last_kept has-image.0) e =
+      only-read o done supply v d r may U whole (starts U Unchanged) whole wholes works has-image.0 has-image.1 refl first j W failed mends tells cause holds taken_a taken_b fails in (
+        odometer_at has-image.0,
+        as-read (λ (k : ℕ). StandsOn o (found_log v.unfound k v.log) (length (found_from v.unfound k v.log.breaks)) spans (odometer_at has-image.0))
+            (stored-back o done supply v d r may (last_kept has-image.0) read.leg read.shows spans are (devices U X Y) has-image.0 (whole.is_left has-image.0 has-image.1) refl h),
+      )
 
   pub unmended : failed ≡ true → is_lit old.power ≡ false → GoesOnOrCut true o done s (In 0) [] old out (devices W X Y)
   unmended fails dark =

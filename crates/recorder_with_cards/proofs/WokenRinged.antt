@@ -17,7 +17,7 @@ use Rattle.log_model.specs.Slots.{Slots, Sitting, in_slot, other_slot}
 use Rattle.log_model.specs.Course.{Course, fresh, unmoved, with_slot, Told, Before, Moved, Visit, Went, visits, leaves, slot_told, both_told, has_power, went, second_told}
 use Rattle.side_model.specs.Odometer.{SpanFrom, odometer_at}
 use Rattle.safety_model.specs.Safe.{Devices}
-use Rattle.unit_rule.specs.Odometer.{odometer_by}
+use Rattle.unit_rule.specs.Odometer.{odometer_by, odometer_after}
 use Rattle.unit_course.specs.Lines.{cut_at}
 use Rattle.slot_machine.specs.Calls.{card_in}
 use Rattle.run_rule.specs.Between.{devices}
@@ -25,7 +25,8 @@ use Rattle.run_course.specs.Followed.{Progress, Followed, Comes}
 use Rattle.run_course.specs.Seconds.{GoesOnBy}
 use Rattle.run_course.proofs.Steps.{went-same_}
 use Rattle.run_course.specs.Followed.{IsSupplied}
-use Rattle.log_model.specs.Spans.{AreInOrder}
+use Rattle.log_model.specs.Spans.{AreInOrder, spans_of}
+use Rattle.unit_model.specs.Image.{odometer_at as odometer_at_start}
 use Rattle.run_course.proofs.Logs.{all-before, found_log, same-found, went-found}
 use Rattle.run_course.proofs.Told.{comes-power, lost-comes}
 use Rattle.unit_course.specs.Followed.{Supply, MayPower, Lit, Due}
@@ -49,15 +50,20 @@ use Rattle.run_ringed.specs.Ringed.{Seating, StaysInRings, IsInsertionIn}
 use Rattle.run_ringed.specs.SoFar.{RingedBehind, IsSecond, RingedIn, AreFewer, HasMoreBreaks, GoesBehind}
 use Rattle.run_ringed.specs.Steps.{nobody, spans_cut}
 use Rattle.run_ringed.specs.Waking.{NoneFound, IsFoundAnew}
+use Rattle.run_ringed.specs.Stored.{StandsOn, StoresOn, StoresOff}
+use Rattle.run_ringed.proofs.Bases.{stored-first}
 use Rattle.run_ringed.proofs.SoFar.{left-itself, go-on-in, cut-ends}
 use Rattle.run_ringed.proofs.Waking.{behind-alike, still-failed, power-begins, passed-anew, accepted-anew, cut-anew}
+use Rattle.run_within.specs.Recorded.{Values, Recorded}
 use Rattle.run_within.specs.Within.{Beginning}
 use Rattle.run_within.specs.Waking.{both_slots}
 use Rattle.run_acts.specs.declared.run.Run.{Run}
 use Rattle.run_acts.specs.Power.{is_lit, cut_run}
-use Rattle.run_acts.specs.Recording.{log_of, values_of, RunWithin}
+use Rattle.run_acts.specs.declared.run.Power.TheVariants.{Lit as HasPower}
+use Rattle.run_acts.specs.Recording.{log_of, values_of, RunWithin, RunFails, GoesOnOrFails}
 use Rattle.run_acts.specs.Evented.{CutEvented}
-use Rattle.run_acts.specs.RunRinged.{seats_of, IsLastFrom, RingsWithin, WithinRinged, CutRinged, InSecondRingedBy, InSecondRinged, with_cut, RingsGoOn}
+use Rattle.run_acts.specs.RunRinged.{seats_of, IsLastFrom, RingsWithin, RingsCut, WithinRinged, CutRinged, InSecondRingedBy, InSecondRinged, with_cut, RingsGoOn}
+use Rattle.run_acts.proofs.StoredRun.{run-cut}
 use Rattle.run_acts.proofs.RingedSecond.{cut-is, cut-torn, cut-found, cut-failed, power-here, odometer-here, begins-last, since-begun}
 use Rattle.recorder_with_cards.specs.Accepting.{IsBare, IsAnew}
 use Rattle.recorder_with_cards.specs.Judged.{moment_in, RunNext, JudgesAnew}
@@ -340,10 +346,62 @@ codriver-ringed o done s b (Some card) old before d spans t w is bare at at_is s
     card-ringed o done s b (waiting_in CoDriver (Some card)) [] CoDriver card old new before after d e (codriver-next o done s b card old before d w.waking is bare) (codriver-began o done s b card old before d w.waking is bare) w.waking.waking.starts
     (λ is_driver. driver-first is_driver) spans t w.rings at at_is failed rings time
 
--- behind all of that
-pub woken-rings : (failed : Bool) (o : Origin) (done : List TraceSecond) (s : TraceSecond) (b : Beginning) (log : RunLog) (spans : List SpanFrom) (t : Told) (run : Run) (later : RunLog) (d : Devices) → b.run.log ≡ log → RingsGoOn failed o done s b [] run later spans t d → RingsWoken failed log o done s spans run later d
-woken-rings false o done s b log spans t run later d same h = (t, subst (λ (l : RunLog). RingsWithin o done s l [] run later spans t d) same h)
-woken-rings true o done s b log spans t run later d same h = (spans_cut spans run.keeper.odometer (with_cut later s []) done s, h.counted, h.ringed)
+-- ---- WHAT IS STORED of odometers stands through them
+
+-- the seconds before, by the log as it was before what was kept was found
+pub spans-before : (o : Origin) (done : List TraceSecond) (supply : Supply) (v : Values) (d : Devices) → Recorded o done supply v d → (k : ℕ) (log : RunLog) → log ≡ found_log v.unfound k v.log → (spans : List SpanFrom) → map (λ (x : SpanFrom). x.span) spans ≡ spans_of (went log done).told →
+    map (λ (x : SpanFrom). x.span) spans ≡ spans_of (went v.log done).told
+spans-before o done supply v d r k log is spans are =
+    are ∙ ap (λ (l : RunLog). spans_of (went l done).told) is ∙ ap (λ (g : Went). spans_of g.told) (went-found v.log v.unfound k o.from done r.recorded.followed.order)
+
+-- a call in the second leaves the odometer
+pub goes-odometer : (failed : Bool) (o : Origin) (done : List TraceSecond) (s : TraceSecond) (at : Phase) (waits : List Visit) (run : Run) (out : Outcome) (d : Devices) (b : Beginning) → GoesOnOrFails failed o done s at waits run out d b → failed ≡ false →
+    run.keeper.odometer ≡ odometer_after (odometer_at_start o.recording.unit) b.travel.before
+goes-odometer false o done s at waits run out d b h well = h.goes.odometer ∙ ap (λ (x : Beginning). odometer_after (odometer_at_start o.recording.unit) x.travel.before) h.began
+goes-odometer true o done s at waits run out d b h well = absurd (cc)
+
+module _ (o : Origin) (done : List TraceSecond) (s : TraceSecond) (b : Beginning) (waits : List Visit) (untold : List Slot) (spans : List SpanFrom) (t : Told) (mid : Run) (out : Outcome) (d : Devices) (w : WakesRinged o done s b waits untold spans t mid out d)
+    (log : RunLog) (began-so : b.run.log ≡ log) (stands : StandsOn o log mid.unfound spans mid.keeper.odometer) where
+  stored : StoresOn o log mid.unfound mid.keeper.odometer (with_second spans mid.keeper.odometer t)
+  stored = stored-first o log mid.unfound mid.keeper.odometer spans t w.rings.ringed.second.lit (w.rings.ringed.second.starts ∙ ap not w.waking.waking.starts) stands
+
+  here_ : RunWithin o done s (In 0) waits [] mid out d
+  here_ = within-of o done s b waits untold mid out d w.waking
+
+  is-begun : b ≡ here_.within.b
+  is-begun = sym w.waking.waking.began
+
+  first-rings : RingsWithin o done s here_.within.b.run.log [] mid (log_of out) spans t d
+  first-rings = subst (λ (y : Beginning). RingsWithin o done s y.run.log [] mid (log_of out) spans t d) is-begun w.rings
+
+  stored-here : StoresOn o here_.within.b.run.log here_.within.b.run.unfound mid.keeper.odometer (with_second spans mid.keeper.odometer t)
+  stored-here =
+      subst (λ (n : ℕ). StoresOn o here_.within.b.run.log n mid.keeper.odometer (with_second spans mid.keeper.odometer t)) here_.within.unfound
+      (subst (λ (l : RunLog). StoresOn o l mid.unfound mid.keeper.odometer (with_second spans mid.keeper.odometer t)) (sym began-so ∙ ap (λ (y : Beginning). y.run.log) is-begun) stored)
+
+  goes-rings : (run : Run) (after : Outcome) (e : Devices) → RingsWithin o done s b.run.log [] run (log_of after) spans t e → run.unfound ≡ mid.unfound → run.keeper.odometer ≡ mid.keeper.odometer → RingsWoken false log o done s spans run (log_of after) e
+  goes-rings run after e h unfound same = (
+    t,
+    subst (λ (l : RunLog). RingsWithin o done s l [] run (log_of after) spans t e) began-so h,
+    subst (λ (k : ℕ). StoresOn o log run.unfound k (with_second spans k t)) (sym same) (subst (λ (n : ℕ). StoresOn o log n mid.keeper.odometer (with_second spans mid.keeper.odometer t)) (sym unfound) stored),
+  )
+
+  fails-rings : (run : Run) (after : Outcome) (e : Devices) → RingsCut o done s b [] run (log_of after) spans t e → RunFails o done s (In 0) run after e → run.power ≡ HasPower → run.unfound ≡ mid.unfound → RingsWoken true log o done s spans run (log_of after) e
+  fails-rings run after e h fails lit unfound =
+      let cut : RingsCut o done s here_.within.b [] run (log_of after) spans t e = subst (λ (y : Beginning). RingsCut o done s y [] run (log_of after) spans t e) is-begun h in
+      let same : run.keeper.odometer ≡ mid.keeper.odometer = cut.odometer ∙ sym here_.odometer in (
+        spans_cut spans run.keeper.odometer (with_cut (log_of after) s []) done s,
+        cut.counted,
+        cut.ringed,
+        subst (λ (k : ℕ). StoresOff o (with_cut (log_of after) s []) run.unfound (spans_cut spans k (with_cut (log_of after) s []) done s) e) (sym same)
+            (run-cut o done s (In 0) waits [] mid out d here_ (In 0) run after e fails lit s.actions ([], refl, refl) unfound mid.keeper.odometer same cut.lines cut.behind.went_is spans first-rings.ringed.spans_are t first-rings.ringed.second.lit first-rings.ringed.second.starts stored-here),
+      )
+
+  -- behind all of that
+  pub woken-rings : (failed : Bool) (run : Run) (after : Outcome) (e : Devices) → RingsGoOn failed o done s b [] run (log_of after) spans t e → (failed ≡ true → RunFails o done s (In 0) run after e) → run.power ≡ HasPower → run.unfound ≡ mid.unfound →
+      (failed ≡ false → run.keeper.odometer ≡ mid.keeper.odometer) → RingsWoken failed log o done s spans run (log_of after) e
+  woken-rings false run after e h fails lit unfound same = goes-rings run after e h unfound (same refl)
+  woken-rings true run after e h fails lit unfound same = fails-rings run after e h (fails refl) lit unfound
 
 -- ---- THE POWER-ON AS A WHOLE
 
@@ -359,6 +417,7 @@ cut-ringed o done s mid new out after d began spans fails cut is told number n =
       counted = subst (λ (q : Outcome). new.noted ≤ length q.finds.items) (sym told) (subst (λ (r : Run). r.noted ≤ length out.finds.items) (sym is) fails.1);
       ringed = subst (λ (m : ℕ). RingedBehind o (done ++ s ∷ []) (log_of after) m fails.0 nobody d) next
           (subst (λ (l : RunLog). RingedBehind o (done ++ s ∷ []) l (suc s.number) fails.0 nobody d) log fails.2);
+      stored = subst (λ (l : RunLog). StoresOff o l new.unfound fails.0 d) log (subst (λ (n : ℕ). StoresOff o (with_cut (log_of out) s []) n fails.0 d) (sym (ap (λ (r : Run). r.unfound) is)) fails.3);
     } in
     subst (λ (b : Bool). InSecondRingedBy b o done s n new after d) (sym (ap is_lit cut.cut.lost)) all
 
@@ -374,5 +433,7 @@ lit-woken o done s run out d began spans woken rungs =
       spans = spans;
       told = rungs.0;
       rings = subst (λ (l : RunLog). RingsWithin o done s l [] run (log_of out) spans rungs.0 d) (sym woken.1) rungs.1;
+      stored = subst (λ (n : ℕ). StoresOn o woken.0.within.within.b.run.log n run.keeper.odometer (with_second spans run.keeper.odometer rungs.0)) woken.0.within.within.unfound
+          (subst (λ (l : RunLog). StoresOn o l run.unfound run.keeper.odometer (with_second spans run.keeper.odometer rungs.0)) (sym woken.1) rungs.2);
     } in
     subst (λ (b : Bool). InSecondRingedBy b o done s 0 run out d) (sym (ap is_lit woken.0.within.lit)) all

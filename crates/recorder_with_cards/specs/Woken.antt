@@ -25,6 +25,8 @@ use Rattle.run_acts.specs.RunRinged.{RunRinged, RingsWithin, InSecondRinged, wit
 use Rattle.run_ringed.specs.Ringed.{Seating}
 use Rattle.run_ringed.specs.SoFar.{RingedBehind}
 use Rattle.run_ringed.specs.Steps.{nobody}
+use Rattle.run_rings.specs.Spans.{with_second}
+use Rattle.run_ringed.specs.Stored.{StoresOn, StoresOff}
 
 -- THE UNIT WAS MENDED, in which this last-kept minute was found, and each card judged: the second goes on before its actions; or the unit failed.
 abbrev pub ResumesSo : (kept : ℕ) → (failed : Bool) → (old new : Run) → (before after : Outcome) → (d e : Devices) → Type 0
@@ -67,13 +69,13 @@ EventsWaking result speed old new before after d e = (o : Origin) (done : List T
 -- of a second that began by this log: they go on, by these spans and the one that begins; or the unit has failed before any action, and they are as
 -- the cut leaves them that is told next
 abbrev pub RingsWoken : (failed : Bool) → (began : RunLog) → Origin → List TraceSecond → TraceSecond → List SpanFrom → Run → RunLog → Devices → Type 0
-RingsWoken false began o done s spans run log d = (t : Told) × RingsWithin o done s began [] run log spans t d
-RingsWoken true began o done s spans run log d = (now : List SpanFrom) × (run.noted ≤ length log.finds) × RingedBehind o (done ++ s ∷ []) (with_cut log s []) (suc s.number) now nobody d
+RingsWoken false began o done s spans run log d = (t : Told) × RingsWithin o done s began [] run log spans t d × StoresOn o began run.unfound run.keeper.odometer (with_second spans run.keeper.odometer t)
+RingsWoken true began o done s spans run log d = (now : List SpanFrom) × (run.noted ≤ length log.finds) × RingedBehind o (done ++ s ∷ []) (with_cut log s []) (suc s.number) now nobody d × StoresOff o (with_cut log s []) run.unfound now d
 
 -- THE UNIT WAS MENDED, and each card judged, behind seconds whose rings show what they noted.
 abbrev pub RingsResuming : (kept : ℕ) → (failed : Bool) → (old new : Run) → (before after : Outcome) → (d e : Devices) → Type 0
 RingsResuming kept failed old new before after d e = (o : Origin) → IsOrigin o → (done : List TraceSecond) (s : TraceSecond) (supply : Supply) (v : Values) → Recorded o done supply v d → MayPower supply v.next →
-    s.number ≡ v.next → s.has_power ≡ true → values_of old before ≡ read_values kept v → (spans : List SpanFrom) (seats : Card → Option Seating) → RingedBehind o done (log_of before) s.number spans seats d → old.noted ≤ length (log_of before).finds → HaveTime e →
+    s.number ≡ v.next → s.has_power ≡ true → values_of old before ≡ read_values kept v → (spans : List SpanFrom) (seats : Card → Option Seating) → RingedBehind o done (log_of before) s.number spans seats d → old.noted ≤ length (log_of before).finds → StoresOff o v.log v.unfound spans d → HaveTime e →
     RingsWoken failed (log_of before) o done s spans new (log_of after) e
 
 -- POWER COMES with a second where it may: so the rings go on.

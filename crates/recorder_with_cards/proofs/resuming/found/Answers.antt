@@ -15,6 +15,7 @@ use Rattle.recorder_with_cards.proofs.Taken.{up-room, up-awake, up-lost}
 use Rattle.log_model.specs.Log.{RunLog, In}
 use Rattle.run_course.proofs.Logs.{found_log}
 use Rattle.run_ringed.specs.SoFar.{RingedBehind}
+use Rattle.run_ringed.specs.Stored.{StoresOff, Stores}
 use Rattle.unit_journal.specs.Image.{IsFoundBy}
 use Rattle.safety_model.specs.Safe.{Devices}
 use Rattle.run_rule.specs.Between.{devices}
@@ -227,7 +228,8 @@ returns-then-is_err-clause-ringed g c = λ room o done s now all has time.
     let counted = all.counted in
     let ringed : RingedBehind o done began s.number all.spans (seats_of run) (devices U X Y) = subst (λ (l : RunLog). RingedBehind o done l s.number all.spans (seats_of run) (devices U X Y)) (sym log)
     (learned-ringed o done (log_of out) run.unfound c.last_kept-kept.result run.next s.number rec.recorded.recorded.followed.order now.number all.spans (seats_of run) (devices U X Y) all.ringed) in
-    let rungs = c.resume.ensures.ringed (omega (arith, room, same)) o rec.origin done s rec.supply (values_of run out) rec.recorded may now.number now.given values all.spans (seats_of run) ringed (omega (arith, counted, noted)) time in
+    let off : StoresOff o (log_of out) run.unfound all.spans (devices U X Y) = subst (λ (b : Bool). Stores b o (log_of out) run.unfound run.keeper.odometer all.spans (devices U X Y)) c.requires.dark all.stored in
+    let rungs = c.resume.ensures.ringed (omega (arith, room, same)) o rec.origin done s rec.supply (values_of run out) rec.recorded may now.number now.given values all.spans (seats_of run) ringed (omega (arith, counted, noted)) off time in
     let failed : is_err c.resume.result ≡ true = sym c.is_err.ensures.value ∙ c.if-is_err.true in
     let told = ap (λ (l : Listed Break). record c.resume.new.outcome { breaks = l }) c.cut.ensures.breaks in
     let cut_is = cut o done s 0 s.actions mid c.cut.new.self c.resume.new.outcome (record c.resume.new.outcome { breaks = c.cut.new.breaks }) e rec.origin (now.number ∙ sym next) ([], refl, refl)
@@ -258,7 +260,8 @@ returns-clause-ringed g c = λ room o done s now all has time.
     let counted = all.counted in
     let ringed : RingedBehind o done began s.number all.spans (seats_of run) (devices U X Y) = subst (λ (l : RunLog). RingedBehind o done l s.number all.spans (seats_of run) (devices U X Y)) (sym log)
     (learned-ringed o done (log_of out) run.unfound c.last_kept-kept.result run.next s.number rec.recorded.recorded.followed.order now.number all.spans (seats_of run) (devices U X Y) all.ringed) in
-    let rungs = c.resume.ensures.ringed (omega (arith, room, same)) o rec.origin done s rec.supply (values_of run out) rec.recorded may now.number now.given values all.spans (seats_of run) ringed (omega (arith, counted, noted)) time in
+    let off : StoresOff o (log_of out) run.unfound all.spans (devices U X Y) = subst (λ (b : Bool). Stores b o (log_of out) run.unfound run.keeper.odometer all.spans (devices U X Y)) c.requires.dark all.stored in
+    let rungs = c.resume.ensures.ringed (omega (arith, room, same)) o rec.origin done s rec.supply (values_of run out) rec.recorded may now.number now.given values all.spans (seats_of run) ringed (omega (arith, counted, noted)) off time in
     let well : is_err c.resume.result ≡ false = sym c.is_err.ensures.value ∙ c.if-is_err.false in
     lit-woken o done s mid c.resume.new.outcome e began all.spans (subst (λ (f : Bool). EventsWoken f began o done s mid c.resume.new.outcome e) well woken)
     (subst (λ (f : Bool). RingsWoken f began o done s all.spans mid (log_of c.resume.new.outcome) e) well rungs)

@@ -15,7 +15,12 @@ use Rattle.run_evented.proofs.Seconds.{events-stay}
 use Rattle.recorder_with_cards.proofs.ActsEvented.{in-evented_cut}
 use Rattle.recorder_with_cards.proofs.WokenEvented.{cut-woken}
 use Rattle.log_model.specs.Course.{went}
+use Rattle.unit_model.specs.Image.{odometer_at}
 use Rattle.run_ringed.specs.SoFar.{RingedBehind}
+use Rattle.run_ringed.specs.Stored.{Stores}
+use Rattle.run_ringed.proofs.Bases.{stays-stored}
+use Rattle.recorder_with_cards.proofs.StoredCalls.{read-stays}
+use Rattle.recorder_with_cards.proofs.WokenStored.{unread-stored}
 use Rattle.run_ringed.specs.Steps.{spans_cut}
 use Rattle.run_ringed.proofs.Waking.{behind-stays}
 use Rattle.run_acts.specs.RunRinged.{seats_of, with_cut}
@@ -196,6 +201,9 @@ returns-in-Ok-clause-ringed g c = λ room o done s now all has time.
       base = λ lit. absurd (let bad : false ≡ true = sym c.requires.dark ∙ ap is_lit lit in cc);
       counted = all.counted;
       ringed = behind-stays (devices U X Y) (devices V X Y) o done (log_of out) run.next all.spans (seats_of run) all.ringed (read-leaves U V whole c.load.ensures.leaves) left;
+      stored = subst (λ (b : Bool). Stores b o (log_of out) run.unfound run.keeper.odometer all.spans (devices V X Y)) (sym c.requires.dark)
+          (stays-stored o (log_of out) run.unfound all.spans (devices U X Y) (devices V X Y) (read-stays (devices U X Y) (devices V X Y) whole c.load.ensures.leaves)
+          (subst (λ (b : Bool). Stores b o (log_of out) run.unfound run.keeper.odometer all.spans (devices U X Y)) c.requires.dark all.stored));
     }) has time
 
 pub returns-in-Err-BadUnit-clause-ringed : goal.returns-in-Err-BadUnit-clause-ringed
@@ -240,9 +248,14 @@ returns-in-Err-Failed-clause-ringed g c = λ room o done s now all has time.
     let cut_evented = cut-woken o done s run c.cut.new.self out (record out { breaks = c.cut.new.breaks }) e (log_of out) (broken, all.evented.limit) cut_is c.cut.ensures.run told now.number in
     let progressed = progress (values_of run out) rec.supply rec.recorded.book in
     let behind = behind-stays d e o done (log_of out) run.next all.spans (seats_of run) all.ringed (read-leaves U V whole c.load.ensures.leaves) unread.goes.left in
-    let rung = unpowered-ringed o done s progressed rec.recorded.recorded.followed (comes-of progressed.supply (went (log_of out) done).before run.next may rec.recorded.recorded.followed.power) now.number now.given e all.spans (seats_of run)
-    (subst (λ (m : ℕ). RingedBehind o done (log_of out) m all.spans (seats_of run) e) (sym now.number) behind) run.keeper.odometer in
-    cut-ringed o done s run c.cut.new.self out (record out { breaks = c.cut.new.breaks }) e (log_of out) all.spans (spans_cut all.spans run.keeper.odometer (with_cut (log_of out) s []) done s, all.counted, rung) cut_evented c.cut.ensures.run told now.number 0
+    let image = image-of V.image (c.load.ensures.leaves.tells ∙ unit-tells o done rec.supply (values_of run out) d rec.recorded may) in
+    let comes = comes-of progressed.supply (went (log_of out) done).before run.next may rec.recorded.recorded.followed.power in
+    let off = stays-stored o (log_of out) run.unfound all.spans d e (read-stays d e whole c.load.ensures.leaves) (subst (λ (b : Bool). Stores b o (log_of out) run.unfound run.keeper.odometer all.spans d) c.requires.dark all.stored) in
+    let base : ℕ = odometer_at image.0 in
+    let stored = unread-stored o done s progressed rec.recorded.recorded.followed comes now.number now.given all.spans e image.0 ((g.met.M.Medium.coherent c.load.new.unit).is_left image.0 image.1) off in
+    let rung = unpowered-ringed o done s progressed rec.recorded.recorded.followed comes now.number now.given e all.spans (seats_of run)
+    (subst (λ (m : ℕ). RingedBehind o done (log_of out) m all.spans (seats_of run) e) (sym now.number) behind) base in
+    cut-ringed o done s run c.cut.new.self out (record out { breaks = c.cut.new.breaks }) e (log_of out) all.spans (spans_cut all.spans base (with_cut (log_of out) s []) done s, all.counted, rung, stored) cut_evented c.cut.ensures.run told now.number 0
 
 -- ---- what is noted
 

@@ -1,4 +1,4 @@
-use Rattle.std.proofs.Common.{rules, ◌≡◌, ◌∙◌, inl, inr, ℕ, ◌+◌, ◌-◌, ◌*◌, ◌/◌, ◌<◌, ◌^◌, suc, ◌≤◌, ◌==◌, Bool, true, false, Option, None, [], ◌∷◌, ◌++◌, length, refl, ap, sym, subst, arith}
+use Rattle.std.proofs.Common.{rules, ◌≡◌, ◌∙◌, inl, inr, ℕ, ◌+◌, ◌-◌, ◌*◌, ◌/◌, ◌<◌, ◌^◌, suc, ◌≤◌, ◌==◌, Bool, true, false, Option, None, List, [], ◌∷◌, ◌++◌, length, refl, ap, sym, subst, arith}
 use Rattle.std.specs.Prelude.{is_err}
 use Rattle.tach_media.specs.Medium.{HasCause}
 use Rattle.tach_media.proofs.Runs.{on_ok, ok_gives, cause_after}
@@ -28,19 +28,27 @@ use Rattle.run_keeping.proofs.DecidedBooked.{time-before}
 use Rattle.run_within.specs.Recorded.{Values}
 use Rattle.run_acts.specs.declared.run.Power.{Power}
 use Rattle.run_acts.specs.Room.{waiting}
-use Rattle.run_acts.specs.Recording.{GoesOnOrCut}
+use Rattle.run_acts.specs.Recording.{GoesOnOrCut, GoesOnOrFails}
 use Rattle.run_acts.proofs.NoteRecorded.{goes-plain}
 use Rattle.recorder_with_cards.specs.Judged.{moment_in}
-use Rattle.recorder_with_cards.proofs.Resumed.{RunWaking, waiting_in, at-once, wholes-of, kept-of, same-devices, awake, awake-is, unmended, unmended-read, within-of, driver-judged, codriver-judged, codriver-power, codriver-on, comes-waking}
+use Rattle.recorder_with_cards.proofs.Resumed.{RunWaking, waiting_in, at-once, wholes-of, kept-of, same-devices, awake, awake-is, awake-stands, unmended, unmended-read, unmended-stands, within-of, driver-judged, codriver-judged, codriver-power, codriver-on, comes-waking}
 use Rattle.recorder_with_cards.specs.Woken.{EventsWoken, RingsWoken}
 use Rattle.log_model.specs.Course.{Told, went, second_told}
 use Rattle.run_within.specs.Waking.{both_slots}
 use Rattle.run_ringed.specs.SoFar.{RingedBehind}
+use Rattle.run_ringed.specs.Stored.{StandsOn, StoresOff}
+use Rattle.run_ringed.proofs.Bases.{stays-stored}
+use Rattle.side_model.specs.Odometer.{SpanFrom}
+use Rattle.run_course.proofs.Logs.{found_log}
+use Rattle.unit_model.specs.Image.{odometer_at}
+use Rattle.unit_rule.specs.Odometer.{odometer_after}
 use Rattle.run_ringed.specs.Steps.{nobody, spans_cut}
 use Rattle.run_ringed.proofs.Waking.{behind-stays}
 use Rattle.run_acts.specs.Ringing.{seating_of}
 use Rattle.run_acts.specs.RunRinged.{RingsWithin, RingsGoOn, with_cut}
-use Rattle.recorder_with_cards.proofs.WokenRinged.{WakesRinged, in-both, mend-leaves, unpowered-ringed, wakes-ringed, driver-ringed, codriver-ringed, woken-rings}
+use Rattle.recorder_with_cards.proofs.WokenRinged.{WakesRinged, in-both, mend-leaves, unpowered-ringed, wakes-ringed, driver-ringed, codriver-ringed, woken-rings, spans-before, goes-odometer}
+use Rattle.recorder_with_cards.proofs.WokenStored.{unmended-stored}
+use Rattle.recorder_with_cards.proofs.StoredCalls.{mend-stays}
 use Rattle.recorder_with_cards.proofs.WokenEvented.{WakesEvented, unmended-evented, wakes-evented, driver-evented, codriver-evented, anew-limit, woken-fails, woken-on, woken-ends, none-woken, gap-woken, here-empty, begun-watched, gap-memory, none-told, some-told}
 use Rattle.log_model.specs.Log.{RunLog}
 use Rattle.unit_course.specs.Lines.{cut_at}
@@ -939,7 +947,7 @@ returns-clause-evented g c = λ room o origin done s supply v r may number given
 -- ---- the rings
 
 pub returns-in_err-mend-clause-ringed : goal.returns-in_err-mend-clause-ringed
-returns-in_err-mend-clause-ringed g c = λ room o origin done s supply v r may number given values spans seats ringed counted time.
+returns-in_err-mend-clause-ringed g c = λ room o origin done s supply v r may number given values spans seats ringed counted off time.
     let U : State = g.M.Medium.state c.args.unit.now in
     let X : State = g.C.Chip.state c.args.card_a.now in
     let Y : State = g.D.Chip.state c.args.card_b.now in
@@ -953,13 +961,25 @@ returns-in_err-mend-clause-ringed g c = λ room o origin done s supply v r may n
     let q : Progress = found_again c.args.journal.kept (progress v supply r.book) in
     let log : log_of out ≡ q.log = ap (λ (x : Values). x.log) values in
     let behind = behind-stays (devices U X Y) (devices W X Y) o done (log_of out) s.number spans seats ringed (mend-leaves c.args.journal U W (g.met.M.Medium.coherent c.args.unit.now) c.mend.ensures.moments) read.left in
-    let cut = unpowered-ringed o done s q read.followed read.followed.power number given (devices W X Y) spans seats (subst (λ (l : RunLog). RingedBehind o done l s.number spans seats (devices W X Y)) log behind) run.keeper.odometer in
+    let log_is : log_of out ≡ found_log v.unfound c.args.journal.kept v.log = log in
+    let are = spans-before o done supply v (devices U X Y) r c.args.journal.kept (log_of out) log_is spans ringed.spans_are in
+    let stands = unmended-stands o origin done s supply v U X Y r may number given (g.met.M.Medium.coherent c.args.unit.now) (wholes-of U X Y (g.met.C.Chip.coherent c.args.card_a.now) (g.met.D.Chip.coherent c.args.card_b.now)) loaded.works c.args.journal (kept-of c.args.journal U.image loaded.found)
+    W true c.mend.ensures.moments c.mend.ensures.tells bad.cause c.mend.ensures.holds bad.first bad.second run out values refl spans are off in
+    let base = stands.0 in
+    let cut = unpowered-ringed o done s q read.followed read.followed.power number given (devices W X Y) spans seats (subst (λ (l : RunLog). RingedBehind o done l s.number spans seats (devices W X Y)) log behind) base in
+    let mended = stays-stored o v.log v.unfound spans (devices U X Y) (devices W X Y) (mend-stays c.args.journal (devices U X Y) (devices W X Y) (g.met.M.Medium.coherent c.args.unit.now) c.mend.ensures.moments) off in
+    let stored = unmended-stored o done s q read.followed read.followed.power number given spans (devices W X Y) base stands.1 mended.stores in
+    let now : List SpanFrom = spans_cut spans base (with_cut q.log s []) done s in
     let failed : true ≡ is_err c.from_residual.result = search rules in
-    subst (λ (f : Bool). RingsWoken f (log_of out) o done s spans run (log_of out) (devices W X Y)) failed
-    (spans_cut spans run.keeper.odometer (with_cut q.log s []) done s, counted, subst (λ (l : RunLog). RingedBehind o (done ++ s ∷ []) (with_cut l s []) (suc s.number) (spans_cut spans run.keeper.odometer (with_cut q.log s []) done s) nobody (devices W X Y)) (sym log) cut)
+    subst (λ (f : Bool). RingsWoken f (log_of out) o done s spans run (log_of out) (devices W X Y)) failed (
+      now,
+      counted,
+      subst (λ (l : RunLog). RingedBehind o (done ++ s ∷ []) (with_cut l s []) (suc s.number) now nobody (devices W X Y)) (sym log) cut,
+      subst (λ (l : RunLog). StoresOff o (with_cut l s []) run.unfound now (devices W X Y)) (sym log) (subst (λ (n : ℕ). StoresOff o (with_cut q.log s []) n now (devices W X Y)) (sym (ap (λ (x : Values). x.unfound) values)) stored),
+    )
 
 pub returns-in_err-accept_anew-clause-ringed : goal.returns-in_err-accept_anew-clause-ringed
-returns-in_err-accept_anew-clause-ringed g c = λ room o origin done s supply v r may number given values spans seats ringed counted time.
+returns-in_err-accept_anew-clause-ringed g c = λ room o origin done s supply v r may number given values spans seats ringed counted off time.
     let run = c.args.run.now in
     let out = c.args.outcome.now in
     let mid : Run = c.begin_span.new.self in
@@ -996,17 +1016,25 @@ returns-in_err-accept_anew-clause-ringed g c = λ room o origin done s supply v 
     let starts : WakesRinged o done s woke.0 (waiting_in Driver first_card ++ others) both_slots spans t mid out (devices W X Y) =
     wakes-ringed o done s woke.0 (waiting_in Driver first_card ++ others) mid out (devices W X Y) woke.1 (sym log0) spans seats mended
     (λ card. ap (option_map (seating_of mid.noted)) (ap (λ (b : Cabin). session_of b.cards card) cabin ∙ dark.bare card)) (omega (arith, counted, noted)) in
+    let log_is : log_of out ≡ found_log v.unfound k v.log = ap (λ (x : Values). x.log) values in
+    let are = spans-before o done supply v (devices U X Y) r k (log_of out) log_is spans ringed.spans_are in
+    let kept_now : c.mend.new.journal.kept ≡ k = ap (λ (j : Notes). j.kept) c.in_ok-mend.ensures.notes in
+    let stands : StandsOn o (log_of out) mid.unfound spans mid.keeper.odometer = subst (λ (n : ℕ). StandsOn o (log_of out) n spans mid.keeper.odometer) (sym begun.unfound)
+    (awake-stands o origin done s supply v U X Y r may number given (g.met.M.Medium.coherent c.args.unit.now) (wholes-of U X Y (g.met.C.Chip.coherent c.args.card_a.now) (g.met.D.Chip.coherent c.args.card_b.now)) loaded.works c.args.journal (kept-of c.args.journal U.image loaded.found)
+    W false c.mend.ensures.moments c.mend.ensures.tells ok.cause c.mend.ensures.holds ok.first ok.second run c.args.outcome.now values refl c.mend.new.journal ok.agrees mid begun (g.met.M.Medium.coherent c.mend.new.unit) kept_now spans are off) in
     let recorded_one = c.accept_anew.ensures.recorded (omega (arith, room, few)) in
     let one_ringed : RingsGoOn (is_err c.accept_anew.result) o done s woke.0 [] one (log_of out1) spans t (devices V1 X1 Y1) =
     driver-ringed o done s woke.0 first_card others mid out (devices W X Y) spans t starts (woke.1.waking.none CoDriver (in-both CoDriver)) once refl bare c.moment-at.result now c.args.speed (is_err c.accept_anew.result) one out1 c.accept_anew.ensures.accepted (devices V1 X1 Y1)
     (λ none P. same-devices P g.M.Medium.state g.C.Chip.state g.D.Chip.state c.mend.new.unit c.accept_anew.new.unit c.args.card_a.now c.accept_anew.new.card_a c.args.card_b.now c.accept_anew.new.card_b (c.accept_anew.ensures.still none)) time recorded_one
     (c.accept_anew.ensures.ringed (omega (arith, room, few))) in
+    let first = driver-judged o done s woke.0 first_card others mid c.args.outcome.now (devices W X Y) woke.1 once refl bare c.moment-at.result now c.args.speed (is_err c.accept_anew.result) one out1 c.accept_anew.ensures.accepted (devices V1 X1 Y1)
+    (λ none P. same-devices P g.M.Medium.state g.C.Chip.state g.D.Chip.state c.mend.new.unit c.accept_anew.new.unit c.args.card_a.now c.accept_anew.new.card_a c.args.card_b.now c.accept_anew.new.card_b (c.accept_anew.ensures.still none)) time recorded_one in
     let failed : is_err c.accept_anew.result ≡ is_err c.from_residual-in_err-accept_anew.result = search rules in
     subst (λ (f : Bool). RingsWoken f (log_of out) o done s spans one (log_of out1) (devices V1 X1 Y1)) failed
-    (woken-rings (is_err c.accept_anew.result) o done s woke.0 (log_of out) spans t one (log_of out1) (devices V1 X1 Y1) log0 one_ringed)
+    (woken-rings o done s woke.0 (waiting_in Driver first_card ++ others) both_slots spans t mid out (devices W X Y) starts (log_of out) log0 stands (is_err c.accept_anew.result) one out1 (devices V1 X1 Y1) one_ringed (λ f. first.1 f) (ap (λ (r : Run). r.power) c.accept_anew.ensures.only ∙ begun.power) (ap (λ (r : Run). r.unfound) c.accept_anew.ensures.only) (λ well. (first.0 well).odometer ∙ sym woke.1.odometer))
 
 pub returns-in_err-accept_anew-2-clause-ringed : goal.returns-in_err-accept_anew-2-clause-ringed
-returns-in_err-accept_anew-2-clause-ringed g c = λ room o origin done s supply v r may number given values spans seats ringed counted time.
+returns-in_err-accept_anew-2-clause-ringed g c = λ room o origin done s supply v r may number given values spans seats ringed counted off time.
     let run = c.args.run.now in
     let out = c.args.outcome.now in
     let mid : Run = c.begin_span.new.self in
@@ -1043,6 +1071,12 @@ returns-in_err-accept_anew-2-clause-ringed g c = λ room o origin done s supply 
     let starts : WakesRinged o done s woke.0 (waiting_in Driver first_card ++ others) both_slots spans t mid out (devices W X Y) =
     wakes-ringed o done s woke.0 (waiting_in Driver first_card ++ others) mid out (devices W X Y) woke.1 (sym log0) spans seats mended
     (λ card. ap (option_map (seating_of mid.noted)) (ap (λ (b : Cabin). session_of b.cards card) cabin ∙ dark.bare card)) (omega (arith, counted, noted)) in
+    let log_is : log_of out ≡ found_log v.unfound k v.log = ap (λ (x : Values). x.log) values in
+    let are = spans-before o done supply v (devices U X Y) r k (log_of out) log_is spans ringed.spans_are in
+    let kept_now : c.mend.new.journal.kept ≡ k = ap (λ (j : Notes). j.kept) c.in_ok-mend.ensures.notes in
+    let stands : StandsOn o (log_of out) mid.unfound spans mid.keeper.odometer = subst (λ (n : ℕ). StandsOn o (log_of out) n spans mid.keeper.odometer) (sym begun.unfound)
+    (awake-stands o origin done s supply v U X Y r may number given (g.met.M.Medium.coherent c.args.unit.now) (wholes-of U X Y (g.met.C.Chip.coherent c.args.card_a.now) (g.met.D.Chip.coherent c.args.card_b.now)) loaded.works c.args.journal (kept-of c.args.journal U.image loaded.found)
+    W false c.mend.ensures.moments c.mend.ensures.tells ok.cause c.mend.ensures.holds ok.first ok.second run c.args.outcome.now values refl c.mend.new.journal ok.agrees mid begun (g.met.M.Medium.coherent c.mend.new.unit) kept_now spans are off) in
     let recorded_one = c.accept_anew.ensures.recorded (omega (arith, room, few)) in
     let one_ringed : RingsGoOn (is_err c.accept_anew.result) o done s woke.0 [] one (log_of out1) spans t (devices V1 X1 Y1) =
     driver-ringed o done s woke.0 first_card others mid out (devices W X Y) spans t starts (woke.1.waking.none CoDriver (in-both CoDriver)) once refl bare c.moment-at.result now c.args.speed (is_err c.accept_anew.result) one out1 c.accept_anew.ensures.accepted (devices V1 X1 Y1)
@@ -1073,12 +1107,16 @@ returns-in_err-accept_anew-2-clause-ringed g c = λ room o origin done s supply 
     codriver-ringed o done s woke.0 second_card one out1 (devices V1 X1 Y1) spans t behind_one refl bare_too c.moment-at.result now c.args.speed (is_err c.accept_anew-2.result) two out2 c.accept_anew-2.ensures.accepted (devices V2 X2 Y2)
     (λ none P. same-devices P g.M.Medium.state g.C.Chip.state g.D.Chip.state c.accept_anew.new.unit c.accept_anew-2.new.unit c.accept_anew.new.card_a c.accept_anew-2.new.card_a c.accept_anew.new.card_b c.accept_anew-2.new.card_b (c.accept_anew-2.ensures.still none)) time recorded_two
     (c.accept_anew-2.ensures.ringed (omega (arith, room, few, few_too, none_waits, waits_none, marks, same_room))) in
+    let both = λ (well_two : is_err c.accept_anew-2.result ≡ false). codriver-on o done s woke.0 second_card one out1 (devices V1 X1 Y1) behind_one.waking refl bare_too c.moment-at.result now c.args.speed (is_err c.accept_anew-2.result) two out2 c.accept_anew-2.ensures.accepted (devices V2 X2 Y2)
+    (λ none P. same-devices P g.M.Medium.state g.C.Chip.state g.D.Chip.state c.accept_anew.new.unit c.accept_anew-2.new.unit c.accept_anew.new.card_a c.accept_anew-2.new.card_a c.accept_anew.new.card_b c.accept_anew-2.new.card_b (c.accept_anew-2.ensures.still none)) time recorded_two well_two in
+    let second = codriver-judged o done s woke.0 second_card one out1 (devices V1 X1 Y1) behind_one.waking refl bare_too c.moment-at.result now c.args.speed (is_err c.accept_anew-2.result) two out2 c.accept_anew-2.ensures.accepted (devices V2 X2 Y2)
+    (λ none P. same-devices P g.M.Medium.state g.C.Chip.state g.D.Chip.state c.accept_anew.new.unit c.accept_anew-2.new.unit c.accept_anew.new.card_a c.accept_anew-2.new.card_a c.accept_anew.new.card_b c.accept_anew-2.new.card_b (c.accept_anew-2.ensures.still none)) time recorded_two in
     let failed : is_err c.accept_anew-2.result ≡ is_err c.from_residual-in_err-accept_anew-2.result = search rules in
     subst (λ (f : Bool). RingsWoken f (log_of out) o done s spans two (log_of out2) (devices V2 X2 Y2)) failed
-    (woken-rings (is_err c.accept_anew-2.result) o done s woke.0 (log_of out) spans t two (log_of out2) (devices V2 X2 Y2) log0 two_ringed)
+    (woken-rings o done s woke.0 (waiting_in Driver first_card ++ others) both_slots spans t mid out (devices W X Y) starts (log_of out) log0 stands (is_err c.accept_anew-2.result) two out2 (devices V2 X2 Y2) two_ringed (λ f. subst (λ (q : Bool). GoesOnOrCut q o done s (In 0) [] two out2 (devices V2 X2 Y2)) f second) (ap (λ (r : Run). r.power) c.accept_anew-2.ensures.only ∙ ap (λ (r : Run). r.power) c.accept_anew.ensures.only ∙ begun.power) (ap (λ (r : Run). r.unfound) c.accept_anew-2.ensures.only ∙ ap (λ (r : Run). r.unfound) c.accept_anew.ensures.only) (λ well_two. (both well_two).odometer ∙ sym woke.1.odometer))
 
 pub returns-then-is_first-clause-ringed : goal.returns-then-is_first-clause-ringed
-returns-then-is_first-clause-ringed g c = λ room o origin done s supply v r may number given values spans seats ringed counted time.
+returns-then-is_first-clause-ringed g c = λ room o origin done s supply v r may number given values spans seats ringed counted off time.
     let run = c.args.run.now in
     let out = c.args.outcome.now in
     let mid : Run = c.begin_span.new.self in
@@ -1115,6 +1153,12 @@ returns-then-is_first-clause-ringed g c = λ room o origin done s supply v r may
     let starts : WakesRinged o done s woke.0 (waiting_in Driver first_card ++ others) both_slots spans t mid out (devices W X Y) =
     wakes-ringed o done s woke.0 (waiting_in Driver first_card ++ others) mid out (devices W X Y) woke.1 (sym log0) spans seats mended
     (λ card. ap (option_map (seating_of mid.noted)) (ap (λ (b : Cabin). session_of b.cards card) cabin ∙ dark.bare card)) (omega (arith, counted, noted)) in
+    let log_is : log_of out ≡ found_log v.unfound k v.log = ap (λ (x : Values). x.log) values in
+    let are = spans-before o done supply v (devices U X Y) r k (log_of out) log_is spans ringed.spans_are in
+    let kept_now : c.mend.new.journal.kept ≡ k = ap (λ (j : Notes). j.kept) c.in_ok-mend.ensures.notes in
+    let stands : StandsOn o (log_of out) mid.unfound spans mid.keeper.odometer = subst (λ (n : ℕ). StandsOn o (log_of out) n spans mid.keeper.odometer) (sym begun.unfound)
+    (awake-stands o origin done s supply v U X Y r may number given (g.met.M.Medium.coherent c.args.unit.now) (wholes-of U X Y (g.met.C.Chip.coherent c.args.card_a.now) (g.met.D.Chip.coherent c.args.card_b.now)) loaded.works c.args.journal (kept-of c.args.journal U.image loaded.found)
+    W false c.mend.ensures.moments c.mend.ensures.tells ok.cause c.mend.ensures.holds ok.first ok.second run c.args.outcome.now values refl c.mend.new.journal ok.agrees mid begun (g.met.M.Medium.coherent c.mend.new.unit) kept_now spans are off) in
     let recorded_one = c.accept_anew.ensures.recorded (omega (arith, room, few)) in
     let one_ringed : RingsGoOn (is_err c.accept_anew.result) o done s woke.0 [] one (log_of out1) spans t (devices V1 X1 Y1) =
     driver-ringed o done s woke.0 first_card others mid out (devices W X Y) spans t starts (woke.1.waking.none CoDriver (in-both CoDriver)) once refl bare c.moment-at.result now c.args.speed (is_err c.accept_anew.result) one out1 c.accept_anew.ensures.accepted (devices V1 X1 Y1)
@@ -1146,10 +1190,13 @@ returns-then-is_first-clause-ringed g c = λ room o origin done s supply v r may
     (λ none P. same-devices P g.M.Medium.state g.C.Chip.state g.D.Chip.state c.accept_anew.new.unit c.accept_anew-2.new.unit c.accept_anew.new.card_a c.accept_anew-2.new.card_a c.accept_anew.new.card_b c.accept_anew-2.new.card_b (c.accept_anew-2.ensures.still none)) time recorded_two
     (c.accept_anew-2.ensures.ringed (omega (arith, room, few, few_too, none_waits, waits_none, marks, same_room))) in
     let fine : is_err c.accept_anew-2.result ≡ false = search rules in
-    woken-rings false o done s woke.0 (log_of out) spans t two (log_of out2) (devices V2 X2 Y2) log0 (subst (λ (f : Bool). RingsGoOn f o done s woke.0 [] two (log_of out2) spans t (devices V2 X2 Y2)) fine two_ringed)
+    let both = codriver-on o done s woke.0 second_card one out1 (devices V1 X1 Y1) behind_one.waking refl bare_too c.moment-at.result now c.args.speed (is_err c.accept_anew-2.result) two out2 c.accept_anew-2.ensures.accepted (devices V2 X2 Y2)
+    (λ none P. same-devices P g.M.Medium.state g.C.Chip.state g.D.Chip.state c.accept_anew.new.unit c.accept_anew-2.new.unit c.accept_anew.new.card_a c.accept_anew-2.new.card_a c.accept_anew.new.card_b c.accept_anew-2.new.card_b (c.accept_anew-2.ensures.still none)) time recorded_two fine in
+    woken-rings o done s woke.0 (waiting_in Driver first_card ++ others) both_slots spans t mid out (devices W X Y) starts (log_of out) log0 stands false two out2 (devices V2 X2 Y2) (subst (λ (f : Bool). RingsGoOn f o done s woke.0 [] two (log_of out2) spans t (devices V2 X2 Y2)) fine two_ringed)
+    (λ never. absurd (let bad : false ≡ true = never in cc)) (ap (λ (r : Run). r.power) c.accept_anew-2.ensures.only ∙ ap (λ (r : Run). r.power) c.accept_anew.ensures.only ∙ begun.power) (ap (λ (r : Run). r.unfound) c.accept_anew-2.ensures.only ∙ ap (λ (r : Run). r.unfound) c.accept_anew.ensures.only) (λ well_two. both.odometer ∙ sym woke.1.odometer)
 
 pub returns-clause-ringed : goal.returns-clause-ringed
-returns-clause-ringed g c = λ room o origin done s supply v r may number given values spans seats ringed counted time.
+returns-clause-ringed g c = λ room o origin done s supply v r may number given values spans seats ringed counted off time.
     let V3 : State = g.M.Medium.state c.note_gap.new.unit in
     let X3 : State = g.C.Chip.state c.note_gap.new.card_a in
     let Y3 : State = g.D.Chip.state c.note_gap.new.card_b in
@@ -1190,6 +1237,12 @@ returns-clause-ringed g c = λ room o origin done s supply v r may number given 
     let starts : WakesRinged o done s woke.0 (waiting_in Driver first_card ++ others) both_slots spans t mid out (devices W X Y) =
     wakes-ringed o done s woke.0 (waiting_in Driver first_card ++ others) mid out (devices W X Y) woke.1 (sym log0) spans seats mended
     (λ card. ap (option_map (seating_of mid.noted)) (ap (λ (b : Cabin). session_of b.cards card) cabin ∙ dark.bare card)) (omega (arith, counted, noted)) in
+    let log_is : log_of out ≡ found_log v.unfound k v.log = ap (λ (x : Values). x.log) values in
+    let are = spans-before o done supply v (devices U X Y) r k (log_of out) log_is spans ringed.spans_are in
+    let kept_now : c.mend.new.journal.kept ≡ k = ap (λ (j : Notes). j.kept) c.in_ok-mend.ensures.notes in
+    let stands : StandsOn o (log_of out) mid.unfound spans mid.keeper.odometer = subst (λ (n : ℕ). StandsOn o (log_of out) n spans mid.keeper.odometer) (sym begun.unfound)
+    (awake-stands o origin done s supply v U X Y r may number given (g.met.M.Medium.coherent c.args.unit.now) (wholes-of U X Y (g.met.C.Chip.coherent c.args.card_a.now) (g.met.D.Chip.coherent c.args.card_b.now)) loaded.works c.args.journal (kept-of c.args.journal U.image loaded.found)
+    W false c.mend.ensures.moments c.mend.ensures.tells ok.cause c.mend.ensures.holds ok.first ok.second run c.args.outcome.now values refl c.mend.new.journal ok.agrees mid begun (g.met.M.Medium.coherent c.mend.new.unit) kept_now spans are off) in
     let recorded_one = c.accept_anew.ensures.recorded (omega (arith, room, few)) in
     let one_ringed : RingsGoOn (is_err c.accept_anew.result) o done s woke.0 [] one (log_of out1) spans t (devices V1 X1 Y1) =
     driver-ringed o done s woke.0 first_card others mid out (devices W X Y) spans t starts (woke.1.waking.none CoDriver (in-both CoDriver)) once refl bare c.moment-at.result now c.args.speed (is_err c.accept_anew.result) one out1 c.accept_anew.ensures.accepted (devices V1 X1 Y1)
@@ -1228,8 +1281,14 @@ returns-clause-ringed g c = λ room o origin done s supply v r may number given 
     let began = both.waking.began in
     let rings = subst (λ (b : Beginning). RingsWithin o done s b.run.log [] two (log_of out2) spans t (devices V2 X2 Y2)) (sym began)
     (subst (λ (f : Bool). RingsGoOn f o done s woke.0 [] two (log_of out2) spans t (devices V2 X2 Y2)) fine two_ringed) in
-    woken-rings (is_err c.note_gap.result) o done s x.within.b (log_of out) spans t c.note_gap.new.run (log_of (record out2 { breaks = c.note_gap.new.breaks })) (devices V3 X3 Y3) (ap (λ (b : Beginning). b.run.log) began ∙ log0)
-    (c.note_gap.ensures.ringed o done s out2 x comes spans t rings)
+    let new : Run = c.note_gap.new.run in
+    let out3 : Outcome = record out2 { breaks = c.note_gap.new.breaks } in
+    let goes = c.note_gap.ensures.recorded o done s out2 x (λ first. comes) in
+    let gone : RingsGoOn (is_err c.note_gap.result) o done s woke.0 [] new (log_of out3) spans t (devices V3 X3 Y3) =
+    subst (λ (y : Beginning). RingsGoOn (is_err c.note_gap.result) o done s y [] new (log_of out3) spans t (devices V3 X3 Y3)) began (c.note_gap.ensures.ringed o done s out2 x comes spans t rings) in
+    woken-rings o done s woke.0 (waiting_in Driver first_card ++ others) both_slots spans t mid out (devices W X Y) starts (log_of out) log0 stands (is_err c.note_gap.result) new out3 (devices V3 X3 Y3) gone (λ f. subst (λ (q : Bool). GoesOnOrFails q o done s (In 0) [] new out3 (devices V3 X3 Y3) x.within.b) f goes)
+    (ap (λ (r : Run). r.power) c.note_gap.ensures.only ∙ ap (λ (r : Run). r.power) c.accept_anew-2.ensures.only ∙ ap (λ (r : Run). r.power) c.accept_anew.ensures.only ∙ begun.power) (ap (λ (r : Run). r.unfound) c.note_gap.ensures.only ∙ ap (λ (r : Run). r.unfound) c.accept_anew-2.ensures.only ∙ ap (λ (r : Run). r.unfound) c.accept_anew.ensures.only)
+    (λ well_three. goes-odometer (is_err c.note_gap.result) o done s (In 0) [] new out3 (devices V3 X3 Y3) x.within.b goes well_three ∙ ap (λ (b : Beginning). odometer_after (odometer_at o.recording.unit) b.travel.before) began ∙ sym woke.1.odometer)
 
 -- ---- what holds of the devices after any calls
 
