@@ -18,6 +18,7 @@ use Rattle.log_model.specs.Log.{RunLog}
 use Rattle.log_model.specs.Course.{went}
 use Rattle.log_model.specs.Spans.{spans_of}
 use Rattle.side_model.specs.Done.{done_of}
+use Rattle.side_model.specs.Odometer.{HaveBases, MayStore}
 use Rattle.side_model.specs.Noted.{Note, notes_of}
 use Rattle.run_model.specs.declared.Device.{Device}
 use Rattle.run_model.specs.declared.Device.TheVariants.{Unit as Recorder, CardA, CardB}
@@ -49,7 +50,7 @@ use Rattle.run_brought.specs.Accounts.{so_far}
 use Rattle.run_moments.specs.Telling.{IsMore}
 use Rattle.run_told.specs.Told.{AreFoundCards, IsHeldDark, IsPowerless}
 use Rattle.run_told.proofs.Opened.{opened-wait, opened-powerless}
-use Rattle.run_recorded.specs.Origin.{Origin}
+use Rattle.run_recorded.specs.Origin.{Origin, rule_of, first_of}
 use Rattle.run_recorded.specs.Ends.{recording_by, EndsRun}
 use Rattle.run_recorded.specs.Seconds.{empty_log}
 use Rattle.run_recorded.proofs.Ends.{ends-run}
@@ -77,13 +78,14 @@ use Rattle.run_acts.specs.declared.run.Power.{Power}
 use Rattle.run_acts.specs.declared.run.Power.TheVariants.{Lit, Due, Lost}
 use Rattle.run_acts.specs.Power.{is_lit}
 use Rattle.run_acts.specs.Recording.{log_of, values_of, IsOrigin, Supplies, RunRecorded}
+use Rattle.run_acts.proofs.StoredRun.{end-stores}
 use Rattle.run_acts.specs.Evented.{RunEvented}
 use Rattle.run_acts.specs.Ringing.{seating_of}
 use Rattle.run_acts.specs.RunRinged.{seats_of, RunRinged}
 use Rattle.run_acts.proofs.Numbers.{own-long}
 use Rattle.recorder_with_cards.specs.Ends.{BeginAs, recorded_with, recording_of, opened_with, origin_of, MayRecord, EndsTrace}
 use Rattle.recorder_with_cards.proofs.Waiting.{first-second}
-use Rattle.recorder_with_cards.proofs.SideShown.{insertions-inside, places-inside}
+use Rattle.recorder_with_cards.proofs.SideShown.{side-shown}
 
 -- what holds of either card
 pub both : (P : Card → Type 0) → P A → P B → (c : Card) → P c
@@ -160,12 +162,10 @@ module _ (x a b : List ℕ) (start : ℕ) (items : List Item) (began now : Devic
       numbers = may.numbers;
     };
     ends = ends-so (seconds_of start items) h.evented.recorded.supply (values_of run out) h.evented.recorded.recorded unit_whole card_whole found may.decodes;
-    events = λ y left. events-shown began now o (seconds_of start items) (log_of out) run.unfound run.next h.evented.recorded.supply h.evented.evented r refl images refl refl clocks y left;
-    rings = record {
-      spans = h.spans;
-      spans_are = h.ringed.spans_are;
-      insertions = λ y left dense. (shown y left).insertions (record { points = insertions-inside x may.decodes; dense = dense });
-      places = λ y left dense. (shown y left).places (record { points = places-inside x may.decodes; dense = dense });
+    side = record {
+      shows = λ y left. side-shown r began now y may.decodes
+          (events-shown began now o (seconds_of start items) (log_of out) run.unfound run.next h.evented.recorded.supply h.evented.evented r refl images refl refl clocks y left)
+          h.spans (record { spans_are = h.ringed.spans_are; bases = stores.0 }) (stores.1 y left) (shown y left);
     };
   }
     where
@@ -177,6 +177,9 @@ module _ (x a b : List ℕ) (start : ℕ) (items : List Item) (began now : Devic
 
       clocks : (c : Card) → (found_of o.found c).began ≡ (card_of began c).clock
       clocks = both (λ c. (found_of o.found c).began ≡ (card_of began c).clock) refl refl
+
+      stores : HaveBases (rule_of o) (log_of out) (odometer_at x) (last_kept x) [] h.spans × ((y : List ℕ) → now.unit.may_leave y → MayStore (rule_of o) (odometer_at x) (last_kept x) h.spans (last_kept y) (odometer_at y))
+      stores = end-stores o (seconds_of start items) run out now h.evented.recorded h.spans h.ringed.spans_are h.stored
 
       shown : (y : List ℕ) → now.unit.may_leave y → ShowsRingsOf r h.spans began now y
       shown y left = rings-shown began now o (log_of out) h.spans (notes_in (log_of out) (seconds_of start items)) (seats_of run) h.ringed.ringed r refl images refl refl clocks y left

@@ -1,5 +1,5 @@
 -- What a run with cards promises, over devices that began with one image each (profile).
-use Rattle.std.specs.Prelude.{◌≡◌, ◌≢◌, ◌<◌, ◌≤◌, ◌/◌, ℕ, List, [], All, map}
+use Rattle.std.specs.Prelude.{◌≡◌, ◌≢◌, ◌<◌, ◌≤◌, ◌/◌, ℕ, List, All}
 use Rattle.trace_model.specs.declared.Item.{Item}
 use Rattle.trace_model.specs.Trace.{TraceSecond, seconds_of}
 use Rattle.minute_model.specs.declared.Rule.TheVariants.{Original}
@@ -7,19 +7,12 @@ use Rattle.log_model.specs.Log.{RunLog}
 use Rattle.unit_model.specs.Decoding.{Decodes}
 use Rattle.unit_model.specs.Image.{last_kept}
 use Rattle.card_image.specs.Own.{own_number, IsOwnValid}
-use Rattle.log_model.specs.Spans.{spans_of}
-use Rattle.gated_ring.specs.Ring.{IsDense}
-use Rattle.message_model.specs.Records.{insertion_ring, unit_place_ring}
-use Rattle.side_model.specs.Odometer.{SpanFrom}
-use Rattle.side_model.specs.Noted.{insertions_of, places_of}
-use Rattle.side_model.specs.Rings.{RingShows, IsInsertion, IsPlace, is_sure_insertion, is_sure_place}
-use Rattle.safety_model.specs.Recording.{Recording, told_of}
-use Rattle.safety_model.specs.Safe.{Devices, card_of, MayBegin, breakdowns_of}
-use Rattle.safety_model.specs.Side.{holder_of, notes_in, IsPrevious}
+use Rattle.safety_model.specs.Recording.{Recording}
+use Rattle.safety_model.specs.Safe.{Devices, MayBegin, breakdowns_of}
+use Rattle.safety_model.specs.Side.{Side}
 use Rattle.run_rule.specs.Opening.{BeginsAs}
 use Rattle.run_recorded.specs.Origin.{Origin}
 use Rattle.run_recorded.specs.Ends.{EndsRun}
-use Rattle.run_evented.specs.Evented.{ShowsEventsOf}
 use Rattle.run_opening.specs.Begun.{found_in}
 use Rattle.run_opening.specs.Begun.{IsRefusedBy as IsRefusedAs}
 use Rattle.run_opening.specs.Opening.{IsAsItWas}
@@ -63,23 +56,12 @@ pub record MayRecord (unit card_a card_b : List ℕ) (start : ℕ) : Type 0 wher
   pub later : last_kept unit < start / 60
   pub numbers : IsOwnValid card_a → IsOwnValid card_b → own_number card_a ≢ own_number card_b
 
--- by its power spans, each with the odometer that it began with, every image that a stop may leave of the unit shows the insertions with their
--- withdrawals and the places of a run, as its auxiliary records are to show them
-pub record ShowsRings (r : Recording) (began now : Devices) : Type 0 where
-  pub spans : List SpanFrom
-  pub spans_are : map (λ s. s.span) spans ≡ spans_of (told_of r)
-  pub insertions : (x : List ℕ) → now.unit.may_leave x → IsDense insertion_ring r.unit →
-      RingShows insertion_ring (is_sure_insertion r.log spans (holder_of r)) (IsInsertion r.log spans (holder_of r) (λ c. IsPrevious r (card_of began c).clock (card_of now c))) (insertions_of (notes_in r)) r.unit x
-  pub places : (x : List ℕ) → now.unit.may_leave x → IsDense unit_place_ring r.unit →
-      RingShows unit_place_ring (is_sure_place r.log spans (holder_of r)) (IsPlace r.log spans (holder_of r)) (places_of (notes_in r)) r.unit x
-
 -- WHAT A RUN PROMISES that was recorded: it could begin, the crash-safety theorem holds of it, and every image that a stop may leave of the unit
--- shows its events and faults, its insertions and its places.
+-- shows its auxiliary records: the odometer, insertions, places, events and faults.
 pub record EndsTrace (unit card_a card_b : List ℕ) (start : ℕ) (items : List Item) (out : Outcome) (began now : Devices) : Type 0 where
   pub may : MayBegin (recording_of unit card_a card_b start items out)
   pub ends : EndsRun (recording_of unit card_a card_b start items out) out.marks.items began now
-  pub events : (x : List ℕ) → now.unit.may_leave x → ShowsEventsOf (recording_of unit card_a card_b start items out) began now x
-  pub rings : ShowsRings (recording_of unit card_a card_b start items out) began now
+  pub side : Side (recording_of unit card_a card_b start items out) began now
 
 -- OR IT WAS KEPT FROM BEING RECORDED: by these images, or a call that has failed in the opening; each device is as it was.
 pub record IsKeptFrom (unit card_a card_b : List ℕ) (start : ℕ) (began now : Devices) (fault : RunFault) : Type 0 where
