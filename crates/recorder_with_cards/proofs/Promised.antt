@@ -50,7 +50,7 @@ use Rattle.run_brought.specs.Accounts.{so_far}
 use Rattle.run_moments.specs.Telling.{IsMore}
 use Rattle.run_told.specs.Told.{AreFoundCards, IsHeldDark, IsPowerless}
 use Rattle.run_told.proofs.Opened.{opened-wait, opened-powerless}
-use Rattle.run_recorded.specs.Origin.{Origin, rule_of, first_of}
+use Rattle.run_recorded.specs.Origin.{Origin, rule_of}
 use Rattle.run_recorded.specs.Ends.{recording_by, EndsRun}
 use Rattle.run_recorded.specs.Seconds.{empty_log}
 use Rattle.run_recorded.proofs.Ends.{ends-run}

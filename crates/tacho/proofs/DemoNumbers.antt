@@ -11,11 +11,10 @@ use Rattle.safety_model.specs.Recording.{Recording, history_of, lost_of}
 use Rattle.safety_model.specs.Unit.{UnitSafe, issued_bytes}
 use Rattle.safety_model.specs.Cards.{CardSafe}
 use Rattle.safety_model.specs.Safe.{Devices, card_of, breakdowns_of, IsVerdict, WasFound}
-use Rattle.safety_model.specs.Side.{holder_of, notes_in, IsPrevious}
+use Rattle.safety_model.specs.Side.{holder_of, notes_in, IsPrevious, ShowsSide}
 use Rattle.unit_model.specs.Image.{recorded}
 use Rattle.run_outcome.specs.declared.outcome.Outcome.{Outcome}
-use Rattle.run_evented.specs.Evented.{ShowsEventsOf}
-use Rattle.recorder_with_cards.specs.Ends.{recording_of, ShowsRings, EndsTrace}
+use Rattle.recorder_with_cards.specs.Ends.{recording_of, EndsTrace}
 
 module _ (x a b : List ℕ) (start : ℕ) (items : List Item) (out : Outcome) (p q now : Devices) (unit : p.unit.clock ≡ q.unit.clock) (cards : (c : Card) → (card_of p c).clock ≡ (card_of q c).clock) (broken : (device : Device) → breakdowns_of p device ≡ breakdowns_of q device) where
   abbrev r : Recording
@@ -24,17 +23,14 @@ module _ (x a b : List ℕ) (start : ℕ) (items : List Item) (out : Outcome) (p
   abbrev Caused : ℕ → (Card → ℕ) → (Device → ℕ) → Type 0
   Caused n k m = HasCauses (λ c u v. IsVerdict r (now.unit.left_since n) ((card_of now c).left_since (k c)) c u v) m (breakdowns_of now) r.trace r.log
 
-  rings-by : ShowsRings r p now → ShowsRings r q now
-  rings-by h = record {
+  side-by : (y : List ℕ) → ShowsSide r p now y → ShowsSide r q now y
+  side-by y h = record {
     spans = h.spans;
-    spans_are = h.spans_are;
-    insertions = λ y left dense. subst (λ (k : Card → ℕ). RingShows insertion_ring (is_sure_insertion r.log h.spans (holder_of r)) (IsInsertion r.log h.spans (holder_of r) (λ c. IsPrevious r (k c) (card_of now c))) (insertions_of (notes_in r)) r.unit y)
-        (λ i c. cards c i) (h.insertions y left dense);
+    are_spans = h.are_spans;
+    odometer = h.odometer;
+    insertions = λ dense. subst (λ (k : Card → ℕ). RingShows insertion_ring (is_sure_insertion r.log h.spans (holder_of r)) (IsInsertion r.log h.spans (holder_of r) (λ c. IsPrevious r (k c) (card_of now c))) (insertions_of (notes_in r)) r.unit y)
+        (λ i c. cards c i) (h.insertions dense);
     places = h.places;
-  }
-
-  events-by : (y : List ℕ) → ShowsEventsOf r p now y → ShowsEventsOf r q now y
-  events-by y h = record {
     sessions = h.sessions;
     are_sessions = λ t f among found accepts. let one = h.are_sessions t f among found accepts in (one.0, subst (λ (n : ℕ). (card_of now f.0.card).left_since n one.0) (cards f.0.card) one.1, one.2);
     tearing = h.tearing;
@@ -65,6 +61,5 @@ module _ (x a b : List ℕ) (start : ℕ) (items : List Item) (out : Outcome) (p
       odometer = h.ends.odometer;
       whole = h.ends.whole;
     };
-    events = λ y left. events-by y (h.events y left);
-    rings = rings-by h.rings;
+    side = record { shows = λ y left. side-by y (h.side.shows y left) };
   }

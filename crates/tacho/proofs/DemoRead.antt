@@ -20,14 +20,13 @@ use Rattle.safety_model.specs.Recording.{Recording, history_of, lost_of}
 use Rattle.safety_model.specs.Unit.{UnitSafe, UnitMarkHolds}
 use Rattle.safety_model.specs.Cards.{CardSafe, Agree}
 use Rattle.safety_model.specs.Safe.{Devices, card_of, breakdowns_of, IsVerdict, WasFound}
-use Rattle.safety_model.specs.Side.{holder_of, notes_in, IsPrevious}
+use Rattle.safety_model.specs.Side.{holder_of, notes_in, IsPrevious, ShowsSide}
 use Rattle.run_rule.specs.Between.{devices}
 use Rattle.run_recorded.specs.Whole.{IsFull}
 use Rattle.log_model.specs.declared.lines.Break.{Break}
 use Rattle.log_model.specs.declared.lines.Break.TheVariants.{Cut, Tear}
 use Rattle.run_outcome.specs.declared.outcome.Outcome.{Outcome}
-use Rattle.run_evented.specs.Evented.{ShowsEventsOf}
-use Rattle.recorder_with_cards.specs.Ends.{recording_of, ShowsRings, EndsTrace}
+use Rattle.recorder_with_cards.specs.Ends.{recording_of, EndsTrace}
 use Rattle.tacho.specs.Anew.{EndsAnew, began_at}
 
 -- a device was read, if at all
@@ -109,17 +108,14 @@ module _ (U V : State) (is : IsRead U V) where
     same-card A = refl
     same-card B = refl
 
-    rings-read : ShowsRings r p (devices U Y Z) → ShowsRings r p (devices V Y Z)
-    rings-read h = record {
+    side-read : (y : List ℕ) → ShowsSide r p (devices U Y Z) y → ShowsSide r p (devices V Y Z) y
+    side-read y h = record {
       spans = h.spans;
-      spans_are = h.spans_are;
-      insertions = λ y left dense. subst (λ (k : Card → State). RingShows insertion_ring (is_sure_insertion r.log h.spans (holder_of r)) (IsInsertion r.log h.spans (holder_of r) (λ c. IsPrevious r (card_of p c).clock (k c))) (insertions_of (notes_in r)) r.unit y)
-          (λ i c. same-card c i) (h.insertions y (now-back y left) dense);
-      places = λ y left dense. h.places y (now-back y left) dense;
-    }
-
-    events-read : (y : List ℕ) → ShowsEventsOf r p (devices U Y Z) y → ShowsEventsOf r p (devices V Y Z) y
-    events-read y h = record {
+      are_spans = h.are_spans;
+      odometer = h.odometer;
+      insertions = λ dense. subst (λ (k : Card → State). RingShows insertion_ring (is_sure_insertion r.log h.spans (holder_of r)) (IsInsertion r.log h.spans (holder_of r) (λ c. IsPrevious r (card_of p c).clock (k c))) (insertions_of (notes_in r)) r.unit y)
+          (λ i c. same-card c i) (h.insertions dense);
+      places = h.places;
       sessions = h.sessions;
       are_sessions = λ t f among found accepts. let one = h.are_sessions t f among found accepts in (one.0, told-read f.0.card one.0 one.1, one.2);
       tearing = h.tearing;
@@ -165,8 +161,7 @@ module _ (U V : State) (is : IsRead U V) where
             whole = λ nothing. let w = h.ends.whole nothing in
                 record { decided = w.decided; unit = λ y left. w.unit y (now-back y left); card = λ c u valid accepted y left. full-read c y (λ on. w.card c u valid accepted y on) left };
           };
-          events = λ y left. events-read y (h.events y (now-back y left));
-          rings = rings-read h.rings;
+          side = record { shows = λ y left. side-read y (h.side.shows y (now-back y left)) };
         }
 
 -- and so it is of what was recorded on new devices
