@@ -116,8 +116,8 @@ image-stores o first due b marks unit holds g travels base is spans stores x on 
 
 module _ (o : Origin) (first : o.found.unit.first ≡ first_of o) (done : List TraceSecond) (v : Values) (d : Devices) (t : Told) (span : List Told) (r : Recorded o done (Lit (t ∷ span)) v d) (earlier : List SpanFrom)
     (are : spans_of (went v.log done).told ≡ map (λ (s : SpanFrom). s.span) earlier ++ (t ∷ span) ∷ []) (stands : StandsOn o v.log v.unfound earlier v.odometer) where
-  abbrev p : Progress
-  p = progress v (Lit (t ∷ span)) r.book
+  abbrev so_far : Progress
+  so_far = progress v (Lit (t ∷ span)) r.book
 
   abbrev on : IsOn o done (t ∷ span) v (carried v r.due r.book r.standing r.brought) d
   on = r.held
@@ -140,9 +140,9 @@ module _ (o : Origin) (first : o.found.unit.first ≡ first_of o) (done : List T
       (subst (λ (n : ℕ). n ≤ HIGHEST_ODOMETER) (sym counted-from) (odometer-low (odometer_at o.recording.unit) r.travel.before r.beside.travels.begins))
       (decided_of (rule_of o) (t ∷ span)) None [] (same ∙ sym (append-nil (decided_of (rule_of o) (t ∷ span)))) (λ m is. none-left m is)
       (minutes_kept (rule_of o) v.log earlier) stands.kept stands.newest stands.stored r.book r.travel
-      (book-numbers (rule_of o) (start_at o) o.from (first_of o) done p r.recorded.followed (t ∷ span) refl refl earlier are)
+      (book-numbers (rule_of o) (start_at o) o.from (first_of o) done so_far r.recorded.followed (t ∷ span) refl refl earlier are)
       (rises o first r.due r.book v.marks d.unit on.powered.lit.unit r.travel)
-      (λ i is. none-left i (sym (book-none (rule_of o) (start_at o) o.from (first_of o) done p r.recorded.followed (t ∷ span) refl refl earlier are) ∙ is))
+      (λ i is. none-left i (sym (book-none (rule_of o) (start_at o) o.from (first_of o) done so_far r.recorded.followed (t ∷ span) refl refl earlier are) ∙ is))
       legs.sure
       (λ leg is. none-left leg (sym legs.none ∙ is)))
       x left

@@ -1,5 +1,5 @@
 -- What a run has stored of odometers, by its own values: between two seconds, at an `off` line, and where power is cut within a second.
-use Rattle.std.proofs.Common.{◌≡◌, ◌∙◌, ℕ, ◌+◌, ◌-◌, ◌<◌, ◌≤◌, Bool, true, false, not, None, List, [], ◌∷◌, ◌++◌, length, map, refl, ap, sym, subst, arith}
+use Rattle.std.proofs.Common.{◌≡◌, ◌∙◌, ℕ, ◌+◌, ◌-◌, ◌<◌, ◌≤◌, Bool, true, false, not, Option, None, List, [], ◌∷◌, ◌++◌, length, map, refl, ap, sym, subst, arith}
 use Rattle.std.specs.List.{AllByRecursion}
 use Rattle.std.proofs.lemmas.List.{map-append, same_from_push}
 use Rattle.trace_model.specs.declared.Action.{Action}
@@ -18,16 +18,18 @@ use Rattle.unit_model.specs.Image.{last_kept, odometer_at}
 use Rattle.unit_rule.specs.Rule.{Started}
 use Rattle.side_model.specs.Odometer.{SpanFrom, HaveBases, MayStore}
 use Rattle.safety_model.specs.Safe.{Devices}
+use Rattle.run_course.specs.Followed.{Progress, Followed}
 use Rattle.run_course.specs.Moments.{and_break}
 use Rattle.run_moments.specs.Telling.{IsLeft, begun_by}
 use Rattle.run_outcome.specs.declared.outcome.Outcome.{Outcome}
-use Rattle.run_recorded.specs.Origin.{Origin, rule_of, first_of}
+use Rattle.run_recorded.specs.Origin.{Origin, rule_of, start_at, first_of}
 use Rattle.run_rings.specs.Spans.{with_second}
 use Rattle.run_ringed.specs.SoFar.{HasMoreBreaks}
 use Rattle.run_ringed.specs.Steps.{spans_cut}
 use Rattle.run_ringed.specs.Stored.{StandsOn, StoresOn, StoresOff}
 use Rattle.run_ringed.proofs.Bases.{stored-bases}
 use Rattle.run_within.specs.Recorded.{Values, Recorded}
+use Rattle.run_within.specs.Within.{CutWithin}
 use Rattle.run_acts.specs.declared.run.Run.{Run}
 use Rattle.run_acts.specs.declared.run.Power.{Power}
 use Rattle.run_acts.specs.declared.run.Power.TheVariants.{Lit, Due, Lost}
@@ -84,33 +86,41 @@ module _ (o : Origin) (done : List TraceSecond) (run : Run) (out : Outcome) (d :
 
 -- ---- POWER IS CUT within a second, which began so
 
-module _ (o : Origin) (done : List TraceSecond) (s : TraceSecond) (at : Phase) (waits : List Visit) (rest : List Minute) (old : Run) (before : Outcome) (d : Devices) (w : RunWithin o done s at waits rest old before d) where
-  begun-early : AllByRecursion (λ (b : Break). second_of b < s.number) w.within.b.run.log.breaks
-  begun-early = subst (λ (n : ℕ). AllByRecursion (λ (b : Break). second_of b < n) w.within.b.run.log.breaks) (sym w.within.moment.number) (lines-early o done w.within.b.run w.within.began.followed w.within.b.span w.within.lit)
+-- from the record of the seconds before it
+module _ (o : Origin) (first : o.found.unit.first ≡ first_of o) (done : List TraceSecond) (s : TraceSecond) (p : Progress) (f : Followed (rule_of o) (start_at o) o.from (first_of o) done p) (span : List Told) (lit : p.supply ≡ IsLit span) (number : s.number ≡ p.next)
+    (at : Phase) (waits : List Visit) (speed : Option ℕ) (v : Values) (e : Devices) (c : CutWithin o done s at waits speed v e) (left_actions : List Action) (left : IsLeft s at left_actions) where
+  begun-early : AllByRecursion (λ (b : Break). second_of b < s.number) p.log.breaks
+  begun-early = subst (λ (n : ℕ). AllByRecursion (λ (b : Break). second_of b < n) p.log.breaks) (sym number) (lines-early o done p f span lit)
 
-  module _ (later : Phase) (run : Run) (out : Outcome) (e : Devices) (fails : RunFails o done s later run out e) (lit : run.power ≡ Lit) (left_actions : List Action) (left : IsLeft s later left_actions) where
-    -- the log with the cut that is told next
-    abbrev cut : RunLog
-    cut = and_break (log_of out) (cut_at s.number true (begun_by s later))
+  went-cut : went (and_break v.log (cut_at s.number true (begun_by s at))) done ≡ went c.b.run.log done
+  went-cut =
+      let by = goes o done s at waits speed v e c left_actions left in
+      let g = c.began.followed in
+      let next = g.next in
+      went-later c.b.run.log (and_break v.log (cut_at s.number true (begun_by s at))) c.b.run.next by.breaks.0 by.breaks.1 by.breaks.2 by.finds.0 by.finds.1 by.finds.2 o.from done g.order (omega (arith, next))
 
-    abbrev v : Values
-    v = record (values_of run out) { cabin = fails.cabin; odometer = fails.odometer }
+  -- the spans and the second are as they were by the log as it began
+  pub cut-stored : v.unfound ≡ p.unfound → (base : ℕ) → v.odometer ≡ base → HasMoreBreaks p.log v.log → went (and_break v.log (cut_at s.number true (begun_by s at))) done ≡ went p.log done →
+      (spans : List SpanFrom) → map (λ (x : SpanFrom). x.span) spans ≡ spans_of (went p.log done).told → (t : Told) → t.lit ≡ true → t.starts ≡ not (went p.log done).before.running →
+      StoresOn o p.log p.unfound base (with_second spans base t) → StoresOff o (and_break v.log (cut_at s.number true (begun_by s at))) v.unfound (spans_cut spans base (and_break v.log (cut_at s.number true (begun_by s at))) done s) e
+  cut-stored unfound base is more behind spans are t is_lit starts h =
+      let went_same : went p.log done ≡ went c.b.run.log done = sym behind ∙ went-cut in
+      subst (λ (n : ℕ). StoresOff o (and_break v.log (cut_at s.number true (begun_by s at))) v.unfound (spans_cut spans n (and_break v.log (cut_at s.number true (begun_by s at))) done s) e) is
+      (stored-cut o first done s at waits speed v e c left_actions left spans (are ∙ ap (λ (g : Went). spans_of g.told) went_same) t is_lit (starts ∙ ap (λ (g : Went). not g.before.running) went_same)
+      p.log p.unfound begun-early f.unfound more unfound
+      (subst (λ (n : ℕ). StoresOn o p.log p.unfound n (with_second spans n t)) (sym is) h))
 
-    went-cut : went cut done ≡ went fails.within.b.run.log done
-    went-cut =
-        let by = goes o done s later fails.waits None v e fails.within left_actions left in
-        let f = fails.within.began.followed in
-        let next = f.next in
-        went-later fails.within.b.run.log cut fails.within.b.run.next by.breaks.0 by.breaks.1 by.breaks.2 by.finds.0 by.finds.1 by.finds.2 o.from done f.order (omega (arith, next))
+-- the unit failed in a call
+module _ (o : Origin) (done : List TraceSecond) (s : TraceSecond) (at : Phase) (waits : List Visit) (rest : List Minute) (old : Run) (before : Outcome) (d : Devices) (w : RunWithin o done s at waits rest old before d)
+    (later : Phase) (run : Run) (out : Outcome) (e : Devices) (fails : RunFails o done s later run out e) (lit : run.power ≡ Lit) (left_actions : List Action) (left : IsLeft s later left_actions) where
+  -- the log with the cut that is told next
+  abbrev cut : RunLog
+  cut = and_break (log_of out) (cut_at s.number true (begun_by s later))
 
-    -- the spans and the second are as they were by the log as it began
-    pub run-cut : run.unfound ≡ old.unfound → (base : ℕ) → run.keeper.odometer ≡ base → HasMoreBreaks w.within.b.run.log (log_of out) → went cut done ≡ went w.within.b.run.log done →
-        (spans : List SpanFrom) → map (λ (x : SpanFrom). x.span) spans ≡ spans_of (went w.within.b.run.log done).told → (t : Told) → t.lit ≡ true → t.starts ≡ not (went w.within.b.run.log done).before.running →
-        StoresOn o w.within.b.run.log w.within.b.run.unfound base (with_second spans base t) → StoresOff o cut run.unfound (spans_cut spans base cut done s) e
-    run-cut unfound base is more behind spans are t is_lit starts h =
-        let same : fails.odometer ≡ base = fails.counted lit ∙ is in
-        let went_same : went w.within.b.run.log done ≡ went fails.within.b.run.log done = sym behind ∙ went-cut in
-        subst (λ (n : ℕ). StoresOff o cut run.unfound (spans_cut spans n cut done s) e) same
-        (stored-cut o (found-first o w.origin) done s later fails.waits None v e fails.within left_actions left spans (are ∙ ap (λ (g : Went). spans_of g.told) went_same) t is_lit (starts ∙ ap (λ (g : Went). not g.before.running) went_same)
-        w.within.b.run.log w.within.b.run.unfound begun-early w.within.began.followed.unfound more (unfound ∙ w.within.unfound)
-        (subst (λ (n : ℕ). StoresOn o w.within.b.run.log w.within.b.run.unfound n (with_second spans n t)) (sym same) h))
+  pub run-cut : run.unfound ≡ old.unfound → (base : ℕ) → run.keeper.odometer ≡ base → HasMoreBreaks w.within.b.run.log (log_of out) → went cut done ≡ went w.within.b.run.log done →
+      (spans : List SpanFrom) → map (λ (x : SpanFrom). x.span) spans ≡ spans_of (went w.within.b.run.log done).told → (t : Told) → t.lit ≡ true → t.starts ≡ not (went w.within.b.run.log done).before.running →
+      StoresOn o w.within.b.run.log w.within.b.run.unfound base (with_second spans base t) → StoresOff o cut run.unfound (spans_cut spans base cut done s) e
+  run-cut unfound base is more behind spans are t is_lit starts h =
+      cut-stored o (found-first o w.origin) done s w.within.b.run w.within.began.followed w.within.b.span w.within.lit w.within.moment.number
+      later fails.waits None (record (values_of run out) { cabin = fails.cabin; odometer = fails.odometer }) e fails.within left_actions left
+      (unfound ∙ w.within.unfound) base (fails.counted lit ∙ is) more behind spans are t is_lit starts h
