@@ -51,7 +51,7 @@ use Rattle.run_brought.specs.Accounts.{so_far}
 use Rattle.run_moments.specs.Telling.{IsMore}
 use Rattle.run_told.specs.Told.{AreFoundCards, IsHeldDark, IsPowerless}
 use Rattle.run_told.proofs.Opened.{opened-wait, opened-powerless}
-use Rattle.run_recorded.specs.Origin.{Origin, rule_of, first_of}
+use Rattle.run_recorded.specs.Origin.{Origin, rule_of}
 use Rattle.run_recorded.specs.Ends.{recording_by, EndsRun}
 use Rattle.run_recorded.specs.Seconds.{empty_log}
 use Rattle.run_recorded.proofs.Ends.{ends-run}
@@ -79,11 +79,11 @@ use Rattle.run_acts.specs.declared.run.Power.{Power}
 use Rattle.run_acts.specs.declared.run.Power.TheVariants.{Lit, Due, Lost}
 use Rattle.run_acts.specs.Power.{is_lit}
 use Rattle.run_acts.specs.Recording.{log_of, values_of, IsOrigin, Supplies, RunRecorded}
+use Rattle.run_acts.proofs.StoredRun.{end-stores}
 use Rattle.run_acts.specs.Evented.{RunEvented}
 use Rattle.run_acts.specs.Ringing.{seating_of}
 use Rattle.run_acts.specs.RunRinged.{seats_of, RunRinged}
 use Rattle.run_acts.proofs.Numbers.{own-long}
-use Rattle.run_acts.proofs.StoredRun.{run-stores, run-bases}
 use Rattle.recorder_with_cards.specs.Ends.{BeginAs, recorded_with, recording_of, opened_with, origin_of, MayRecord, EndsTrace}
 use Rattle.recorder_with_cards.proofs.Waiting.{first-second}
 use Rattle.recorder_with_cards.proofs.SideShown.{side-shown}
@@ -180,18 +180,15 @@ module _ (x a b : List ℕ) (start : ℕ) (items : List Item) (began now : Devic
       ss : List TraceSecond
       ss = seconds_of start items
 
-      -- what each image has stored, and what each span began with, by the power
-      stores : (p : Power) → run.power ≡ p → Stores (is_lit p) o (log_of out) run.unfound run.keeper.odometer h.spans now →
-          ((y : List ℕ) → now.unit.may_leave y → MayStore (rule_of o) (odometer_at o.recording.unit) (first_of o) h.spans (last_kept y) (odometer_at y)) × HaveBases (rule_of o) (log_of out) (odometer_at o.recording.unit) (first_of o) [] h.spans
-      stores Lit is v = (run-stores o ss run out now h.evented.recorded is h.spans h.ringed.spans_are v, run-bases o ss run out now h.evented.recorded is h.spans h.ringed.spans_are v)
-      stores Due is v = (v.stores, v.bases)
-      stores Lost is v = (v.stores, v.bases)
+      -- with which odometer each span began, and what each image has stored
+      stores : HaveBases (rule_of o) (log_of out) (odometer_at x) (last_kept x) [] h.spans × ((y : List ℕ) → now.unit.may_leave y → MayStore (rule_of o) (odometer_at x) (last_kept x) h.spans (last_kept y) (odometer_at y))
+      stores = end-stores o ss run out now h.evented.recorded h.spans h.ringed.spans_are h.stored
 
       shows : (y : List ℕ) → now.unit.may_leave y → ShowsSide r began now y
       shows y left =
           side-shown r began now y may.decodes
           (events-shown began now o (seconds_of start items) (log_of out) run.unfound run.next h.evented.recorded.supply h.evented.evented r refl images refl refl clocks y left)
-          h.spans (record { spans_are = h.ringed.spans_are; bases = (stores run.power refl h.stored).1 }) ((stores run.power refl h.stored).0 y left)
+          h.spans (record { spans_are = h.ringed.spans_are; bases = stores.0 }) (stores.1 y left)
           (rings-shown began now o (log_of out) h.spans (notes_in (log_of out) (seconds_of start items)) (seats_of run) h.ringed.ringed r refl images refl refl clocks y left)
 
 -- ---- as the run begins

@@ -26,13 +26,14 @@ use Rattle.run_recorded.specs.Origin.{Origin, rule_of, start_at, first_of}
 use Rattle.run_rings.specs.Spans.{with_second}
 use Rattle.run_ringed.specs.SoFar.{HasMoreBreaks}
 use Rattle.run_ringed.specs.Steps.{spans_cut}
-use Rattle.run_ringed.specs.Stored.{StandsOn, StoresOn, StoresOff}
+use Rattle.run_ringed.specs.Stored.{StandsOn, StoresOn, StoresOff, Stores}
 use Rattle.run_ringed.proofs.Bases.{stored-bases}
 use Rattle.run_within.specs.Recorded.{Values, Recorded}
 use Rattle.run_within.specs.Within.{CutWithin}
 use Rattle.run_acts.specs.declared.run.Run.{Run}
 use Rattle.run_acts.specs.declared.run.Power.{Power}
 use Rattle.run_acts.specs.declared.run.Power.TheVariants.{Lit, Due, Lost}
+use Rattle.run_acts.specs.Power.{is_lit}
 use Rattle.run_acts.specs.Recording.{log_of, values_of, Supplies, IsOrigin, RunRecorded, RunWithin, RunFails}
 use Rattle.run_course.proofs.Logs.{went-later}
 use Rattle.run_within.proofs.Cutting.{goes}
@@ -83,6 +84,27 @@ module _ (o : Origin) (done : List TraceSecond) (run : Run) (out : Outcome) (d :
       subst (λ (l : List SpanFrom). StoresOff o (and_break (log_of out) (cut_at (run.next - 1) false run.begun)) run.unfound l d)
       (sym (cuts h.earlier run.keeper.odometer h.span h.are ∙ ap (λ (sp : List Told). h.earlier ++ record { base = run.keeper.odometer; span = cut_last sp } ∷ []) same.1))
       (lit-off o (found-first o r.origin) done (values_of run out) d span-is.0 span-is.1 recorded-so h.earlier are-so h.stands)
+
+-- ---- AT THE END, by the power: with which odometer each span began, and what each image has stored
+
+pub end-stores : (o : Origin) (done : List TraceSecond) (run : Run) (out : Outcome) (d : Devices) → RunRecorded o done run out d → (spans : List SpanFrom) → map (λ (s : SpanFrom). s.span) spans ≡ spans_of (went (log_of out) done).told →
+    Stores (is_lit run.power) o (log_of out) run.unfound run.keeper.odometer spans d →
+    HaveBases (rule_of o) (log_of out) (odometer_at o.recording.unit) (first_of o) [] spans
+    × ((x : List ℕ) → d.unit.may_leave x → MayStore (rule_of o) (odometer_at o.recording.unit) (first_of o) spans (last_kept x) (odometer_at x))
+end-stores o done run out d r spans are h = by run.power refl
+  where
+    by : (p : Power) → run.power ≡ p →
+        HaveBases (rule_of o) (log_of out) (odometer_at o.recording.unit) (first_of o) [] spans
+        × ((x : List ℕ) → d.unit.may_leave x → MayStore (rule_of o) (odometer_at o.recording.unit) (first_of o) spans (last_kept x) (odometer_at x))
+    by Lit is =
+        let on : StoresOn o (log_of out) run.unfound run.keeper.odometer spans = subst (λ (p : Power). Stores (is_lit p) o (log_of out) run.unfound run.keeper.odometer spans d) is h in
+        (run-bases o done run out d r is spans are on, run-stores o done run out d r is spans are on)
+    by Due is =
+        let off : StoresOff o (log_of out) run.unfound spans d = subst (λ (p : Power). Stores (is_lit p) o (log_of out) run.unfound run.keeper.odometer spans d) is h in
+        (off.bases, off.stores)
+    by Lost is =
+        let off : StoresOff o (log_of out) run.unfound spans d = subst (λ (p : Power). Stores (is_lit p) o (log_of out) run.unfound run.keeper.odometer spans d) is h in
+        (off.bases, off.stores)
 
 -- ---- POWER IS CUT within a second, which began so
 
