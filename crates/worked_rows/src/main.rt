@@ -6,8 +6,6 @@
 #![tactic(auto)]
 
 mod card;
-#[cfg(test)]
-mod run;
 mod unit;
 
 use card::show_cards;

@@ -3,7 +3,7 @@ ghost use Rattle.std.specs.Prelude.{IfOk};
 ghost use Rattle.tach_media.specs.MemMedium.{memory_state};
 ghost use Rattle.unit_model.specs.Image.{IsUnit};
 
-use crate::run::devices::{Stops, new_devices, record};
+use crate::devices::{Stops, new_devices, record};
 use link_frames::{End, write_frame};
 use link_service::serve;
 use std::alloc::{AllocError, Global};

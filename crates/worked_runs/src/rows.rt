@@ -1,6 +1,6 @@
 //! Worked runs.
-use crate::run::devices::{Devices, Stops, calls_of, card, new_devices, record};
-use crate::run::reading::{told_by_card, told_by_unit};
+use crate::devices::{Devices, Stops, calls_of, card, new_devices, record};
+use crate::reading::{told_by_card, told_by_unit};
 use activity_codec::Slot;
 use card_layout::{Fid, LARGEST_IMAGE};
 use recorder_with_cards::{Break, Find, Mark, Outcome, Verdict};

@@ -4,7 +4,7 @@ ghost use Rattle.tach_media.specs.MemMedium.{memory_state};
 ghost use Rattle.unit_model.specs.Image.{IsUnit};
 ghost use Rattle.unit_model.specs.declared.layout.TheConstants.{IMAGE_SIZE};
 
-use crate::run::alone::{new_image, record, unit_with};
+use crate::alone::{new_image, record, unit_with};
 use std::alloc::Global;
 use std::test::*;
 use tach_media::{Failed, Medium, MemMedium, Memory};

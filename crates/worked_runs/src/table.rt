@@ -3,8 +3,8 @@
 ghost use Rattle.tach_media.specs.MemMedium.{memory_state};
 ghost use Rattle.unit_model.specs.Image.{IsUnit};
 
-use crate::run::devices::{Devices, Stops, calls_of, new_devices, record};
-use crate::run::reading::{Told, told_by_card, told_by_unit};
+use crate::devices::{Devices, Stops, calls_of, new_devices, record};
+use crate::reading::{Told, told_by_card, told_by_unit};
 use recorder_with_cards::{Mark, Outcome};
 use run_model::Device;
 use std::alloc::{AllocError, Global};
