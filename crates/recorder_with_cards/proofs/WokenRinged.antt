@@ -365,7 +365,7 @@ module _ (o : Origin) (done : List TraceSecond) (s : TraceSecond) (b : Beginning
   stored : StoresOn o log mid.unfound mid.keeper.odometer (with_second spans mid.keeper.odometer t)
   stored = stored-first o log mid.unfound mid.keeper.odometer spans t w.rings.ringed.second.lit (w.rings.ringed.second.starts ∙ ap not w.waking.waking.starts) stands
 
-  here_ : RunWithin o done s (In 0) waits [] mid out d
+  abbrev here_ : RunWithin o done s (In 0) waits [] mid out d
   here_ = within-of o done s b waits untold mid out d w.waking
 
   is-begun : b ≡ here_.within.b

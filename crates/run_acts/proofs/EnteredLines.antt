@@ -46,8 +46,8 @@ pub values-as : (k v : Keeper) (out after : Outcome) (unfound next begun : ℕ) 
 values-as k v out after unfound next begun minutes one two = ap (λ (q : Keeper). values_with q after unfound next begun minutes) one ∙ ap (λ (o : Outcome). values_with k o unfound next begun minutes) two
 
 -- with these lines
-abbrev pub lined : (breaks : List Break) (refused : List Refused) (finds : List Find) (marks : List Mark) (cabin : Cabin) (unfound next begun : ℕ) (minutes : Kept) → Values
-lined breaks refused finds marks cabin unfound next begun minutes = record {
+abbrev pub lined : (breaks : List Break) (refused : List Refused) (finds : List Find) (marks : List Mark) (cabin : Cabin) (unfound next begun : ℕ) (minutes : Kept) (odometer : ℕ) → Values
+lined breaks refused finds marks cabin unfound next begun minutes odometer = record {
   log = record { breaks = breaks; refused = refused; finds = finds };
   marks = marks;
   cabin = cabin;
@@ -55,11 +55,12 @@ lined breaks refused finds marks cabin unfound next begun minutes = record {
   next = next;
   begun = begun;
   minutes = minutes;
+  odometer = odometer;
 }
 
-pub lined-as : (breaks breaks' : List Break) (refused : List Refused) (finds finds' : List Find) (marks marks' : List Mark) (cabin : Cabin) (unfound next begun : ℕ) (minutes : Kept) → breaks ≡ breaks' → finds ≡ finds' → marks ≡ marks' →
-    lined breaks refused finds marks cabin unfound next begun minutes ≡ lined breaks' refused finds' marks' cabin unfound next begun minutes
-lined-as breaks breaks' refused finds finds' marks marks' cabin unfound next begun minutes one two three =
-    ap (λ (l : List Break). lined l refused finds marks cabin unfound next begun minutes) one
-    ∙ ap (λ (l : List Find). lined breaks' refused l marks cabin unfound next begun minutes) two
-    ∙ ap (λ (l : List Mark). lined breaks' refused finds' l cabin unfound next begun minutes) three
+pub lined-as : (breaks breaks' : List Break) (refused : List Refused) (finds finds' : List Find) (marks marks' : List Mark) (cabin : Cabin) (unfound next begun : ℕ) (minutes : Kept) (odometer : ℕ) → breaks ≡ breaks' → finds ≡ finds' → marks ≡ marks' →
+    lined breaks refused finds marks cabin unfound next begun minutes odometer ≡ lined breaks' refused finds' marks' cabin unfound next begun minutes odometer
+lined-as breaks breaks' refused finds finds' marks marks' cabin unfound next begun minutes odometer one two three =
+    ap (λ (l : List Break). lined l refused finds marks cabin unfound next begun minutes odometer) one
+    ∙ ap (λ (l : List Find). lined breaks' refused l marks cabin unfound next begun minutes odometer) two
+    ∙ ap (λ (l : List Mark). lined breaks' refused finds' l cabin unfound next begun minutes odometer) three

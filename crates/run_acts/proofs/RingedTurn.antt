@@ -2,7 +2,7 @@
 use Rattle.std.proofs.Common.{◌≡◌, ◌∙◌, ◌⊎◌, inl, inr, ⊎_elim, ℕ, zero, suc, ◌+◌, ◌-◌, ◌/◌, ◌%◌, ◌<◌, ◌≤◌, Bool, true, false, not, Option, Some, None, option_map, List, [], ◌∷◌, ◌++◌, All, length, refl, ap, sym, subst, arith, append_assoc, append-nil}
 use Rattle.std.specs.Prelude.{nat_lt}
 use Rattle.std.specs.List.{AllByRecursion}
-use Rattle.std.proofs.lemmas.Bool.Decides.{nat_tests}
+use Rattle.std.proofs.lemmas.Bool.{lt-ltb}
 use Rattle.std.proofs.lemmas.List.Elements.{All-nil, All-cons}
 use Rattle.trace_model.specs.declared.Card.{Card}
 use Rattle.trace_model.specs.declared.Card.TheVariants.{A, B}
@@ -307,7 +307,7 @@ module _ {U A0 B0 : State} {chip_a chip_b : CardState} (n speed begun : ℕ) (ol
     same-cut : TellSameTo log (and_break kept_log (cut_at L.number true (length L.actions))) L.number (length L.actions)
     same-cut = record {
       begun = λ k lt. ap (λ (q : Option ℕ). begins q k) uncut;
-      begun_later = λ k lt. ap (λ (q : Option ℕ). begins q k) (cut-is kept_log L.number (length L.actions) kept-uncut) ∙ (let yes : nat_lt k (length L.actions) ≡ true = grind (arith, nat_tests) in yes);
+      begun_later = λ k lt. ap (λ (q : Option ℕ). begins q k) (cut-is kept_log L.number (length L.actions) kept-uncut) ∙ lt-ltb k (length L.actions) lt;
       torn = λ k slot le. cut-torn kept_log L.number (length L.actions) kept-uncut (In k) slot ∙ told.torn (In k) slot refl;
       found = λ k slot le. cut-found kept_log L.number (length L.actions) kept-uncut (In k) slot ∙ told.found (In k) slot;
     }
@@ -420,19 +420,19 @@ module _ {U A0 B0 : State} {chip_a chip_b : CardState} (n speed begun : ℕ) (ol
 
     -- those behind it go on, up to the last
     module _ (c : ℕ) (x : IsTurned o done s (suc c) T.decided T.fed.minutes (values_of old before) d r.within) where
-      B : BehindFirst o done s (values_of old before) d
-      B = x.behind (omega arith)
+      after_one : BehindFirst o done s (values_of old before) d
+      after_one = x.behind (omega arith)
 
-      next-one : B.values.next ≡ s.number + 1
-      next-one = let at_ = B.next in let number = now.number in omega (arith, at_, number)
+      next-one : after_one.values.next ≡ s.number + 1
+      next-one = let at_ = after_one.next in let number = now.number in omega (arith, at_, number)
 
       goes : (i : ℕ) → IsGoing (went log_ ((done ++ s ∷ []) ++ driven i (s.number + 1) s.speed [])).before
       goes i =
-          let followed = B.recorded.recorded.followed in
-          let p : Progress = progress B.values (IsLit (B.told ∷ B.span)) B.recorded.book in
-          let told = quiet-are-told (rule_of o) (start_at o) o.from (first_of o) (done ++ s ∷ []) p followed B.told B.span refl i s.speed in
-          subst (λ (l : RunLog). IsGoing (went l ((done ++ s ∷ []) ++ driven i (s.number + 1) s.speed [])).before) B.log
-          (subst (λ (u : ℕ). IsGoing (went B.values.log ((done ++ s ∷ []) ++ driven i u s.speed [])).before) next-one
+          let followed = after_one.recorded.recorded.followed in
+          let p : Progress = progress after_one.values (IsLit (after_one.told ∷ after_one.span)) after_one.recorded.book in
+          let told = quiet-are-told (rule_of o) (start_at o) o.from (first_of o) (done ++ s ∷ []) p followed after_one.told after_one.span refl i s.speed in
+          subst (λ (l : RunLog). IsGoing (went l ((done ++ s ∷ []) ++ driven i (s.number + 1) s.speed [])).before) after_one.log
+          (subst (λ (u : ℕ). IsGoing (went after_one.values.log ((done ++ s ∷ []) ++ driven i u s.speed [])).before) next-one
           (subst (λ (g_ : Went). IsGoing g_.before) (sym told) followed.power))
 
       done-is : (done ++ s ∷ []) ++ driven c (s.number + 1) s.speed [] ≡ done ++ s ∷ driven c (s.number + 1) s.speed []
@@ -449,7 +449,7 @@ module _ {U A0 B0 : State} {chip_a chip_b : CardState} (n speed begun : ℕ) (ol
       goes-l = subst (λ (ss : List TraceSecond). IsGoing (went log_ ss).before) done-is (goes c)
 
       power-l : has_power (went log_ (done ++ s ∷ driven c (s.number + 1) s.speed [])).before (last_of (suc c) s) ≡ true
-      power-l = lit-power (B.told ∷ []) (went log_ (done ++ s ∷ driven c (s.number + 1) s.speed [])).before (last_of (suc c) s) (s.number + suc c) goes-l refl refl
+      power-l = lit-power (after_one.told ∷ []) (went log_ (done ++ s ∷ driven c (s.number + 1) s.speed [])).before (last_of (suc c) s) (s.number + suc c) goes-l refl refl
 
       several-ringed : suc c ≡ n - 1 → TurnedRings o (before_last (suc c) s done ++ last_of (suc c) s ∷ []) (passed n begun new) after e
       several-ringed is =

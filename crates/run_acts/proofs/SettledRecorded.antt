@@ -142,7 +142,7 @@ module _ {U A0 B0 : State} {chip_a chip_b : CardState} (old : Run) (before : Out
       goes = record {
         origin = r.origin;
         lit = r.lit;
-        within = k.0.within;
+        within = subst (λ (m : ℕ). Within o done s (In n) waits None [] (record (values_of new after) { odometer = m }) e) (sym odometer) k.0.within;
         odometer = odometer ∙ r.odometer ∙ ap (λ (b : Beginning). odometer_after (odometer_at o.recording.unit) b.travel.before) (sym k.0.began);
       };
       began = k.0.began;

@@ -136,11 +136,12 @@ module _ (old : Run) (before : Outcome) (minutes : Kept) (keeper : Keeper) (watc
         let V : Values = values_of (passed n begun between) told in
         let before_ : List ℕ = x.b.travel.before in
         let r = second-over o done s U e x in
-        let there : RecordedFrom o (done ++ s ∷ []) (IsLit (p.first ∷ p.rest)) (record V { next = suc next; begun = length s.actions }) e before_ =
-        subst (λ (ss : List Second). RecordedFrom o (done ++ s ∷ []) (IsLit ss) (record V { next = suc next; begun = length s.actions }) e before_) p.is r in
+        let there : RecordedFrom o (done ++ s ∷ []) (IsLit (p.first ∷ p.rest)) (record V { next = suc next; begun = length s.actions; odometer = old.keeper.odometer }) e before_ =
+        subst (λ (ss : List Second). RecordedFrom o (done ++ s ∷ []) (IsLit ss) (record V { next = suc next; begun = length s.actions; odometer = old.keeper.odometer }) e before_) p.is r in
         let so : RecordedFrom o (done ++ s ∷ []) (IsLit (p.first ∷ p.rest)) V e before_ =
-        subst (λ (m : ℕ). RecordedFrom o (done ++ s ∷ []) (IsLit (p.first ∷ p.rest)) (record V { next = m; begun = begun }) e before_) later
-        (subst (λ (b : ℕ). RecordedFrom o (done ++ s ∷ []) (IsLit (p.first ∷ p.rest)) (record V { next = suc next; begun = b }) e before_) actions there) in
+        subst (λ (k : ℕ). RecordedFrom o (done ++ s ∷ []) (IsLit (p.first ∷ p.rest)) (record V { odometer = k }) e before_) (sym odometer)
+        (subst (λ (m : ℕ). RecordedFrom o (done ++ s ∷ []) (IsLit (p.first ∷ p.rest)) (record V { next = m; begun = begun; odometer = old.keeper.odometer }) e before_) later
+        (subst (λ (b : ℕ). RecordedFrom o (done ++ s ∷ []) (IsLit (p.first ∷ p.rest)) (record V { next = suc next; begun = b; odometer = old.keeper.odometer }) e before_) actions there)) in
         record {
           origin = origin;
           supply = IsLit (p.first ∷ p.rest);
@@ -158,9 +159,10 @@ module _ (old : Run) (before : Outcome) (minutes : Kept) (keeper : Keeper) (watc
           origin = origin;
           supply = IsLost;
           powers = tt;
-          recorded = subst (λ (m : ℕ). R (V (old.next + n - 1) begun m)) later
+          recorded = subst (λ (k : ℕ). R (record (V (old.next + n - 1) begun (old.next + n)) { odometer = k })) (sym odometer)
+              (subst (λ (m : ℕ). R (V (old.next + n - 1) begun m)) later
               (subst (λ (b : ℕ). R (V (old.next + n - 1) b (suc next))) actions
-              (subst (λ (m : ℕ). R (V m (length s.actions) (suc next))) number (cut-recorded o done s Keeping [] (Some s.speed) U e x [] refl)));
+              (subst (λ (m : ℕ). R (V m (length s.actions) (suc next))) number (cut-recorded o done s Keeping [] (Some s.speed) U e x [] refl))));
           odometer = λ on. absurd (cc);
         }
 
