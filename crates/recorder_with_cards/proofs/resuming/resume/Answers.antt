@@ -1116,6 +1116,9 @@ returns-in_err-accept_anew-2-clause-ringed g c =
     subst (λ (f : Bool). RingsWoken f (log_of out) o done s spans two (log_of out2) (devices V2 X2 Y2)) failed
     (woken-rings o done s woke.0 (waiting_in Driver first_card ++ others) both_slots spans t mid out (devices W X Y) starts (log_of out) log0 stands (is_err c.accept_anew-2.result) two out2 (devices V2 X2 Y2) two_ringed (λ f. subst (λ (q : Bool). GoesOnOrCut q o done s (In 0) [] two out2 (devices V2 X2 Y2)) f second) (ap (λ (r : Run). r.power) c.accept_anew-2.ensures.only ∙ ap (λ (r : Run). r.power) c.accept_anew.ensures.only ∙ begun.power) (ap (λ (r : Run). r.unfound) c.accept_anew-2.ensures.only ∙ ap (λ (r : Run). r.unfound) c.accept_anew.ensures.only) (λ well_two. (both well_two).odometer ∙ sym woke.1.odometer))
 
+never-true : false ≡ true → ⊥
+never-true bad = cc
+
 pub returns-then-is_first-clause-ringed : goal.returns-then-is_first-clause-ringed
 returns-then-is_first-clause-ringed g c =
     let fine : is_err c.accept_anew-2.result ≡ false = search rules in
@@ -1195,7 +1198,7 @@ returns-then-is_first-clause-ringed g c =
     let both = codriver-on o done s woke.0 second_card one out1 (devices V1 X1 Y1) behind_one.waking refl bare_too c.moment-at.result now c.args.speed (is_err c.accept_anew-2.result) two out2 c.accept_anew-2.ensures.accepted (devices V2 X2 Y2)
     (λ none P. same-devices P g.M.Medium.state g.C.Chip.state g.D.Chip.state c.accept_anew.new.unit c.accept_anew-2.new.unit c.accept_anew.new.card_a c.accept_anew-2.new.card_a c.accept_anew.new.card_b c.accept_anew-2.new.card_b (c.accept_anew-2.ensures.still none)) time recorded_two fine in
     woken-rings o done s woke.0 (waiting_in Driver first_card ++ others) both_slots spans t mid out (devices W X Y) starts (log_of out) log0 stands false two out2 (devices V2 X2 Y2) (subst (λ (f : Bool). RingsGoOn f o done s woke.0 [] two (log_of out2) spans t (devices V2 X2 Y2)) fine two_ringed)
-    (λ never. absurd (let bad : false ≡ true = never in cc)) (ap (λ (r : Run). r.power) c.accept_anew-2.ensures.only ∙ ap (λ (r : Run). r.power) c.accept_anew.ensures.only ∙ begun.power) (ap (λ (r : Run). r.unfound) c.accept_anew-2.ensures.only ∙ ap (λ (r : Run). r.unfound) c.accept_anew.ensures.only) (λ well_two. both.odometer ∙ sym woke.1.odometer)
+    (λ never. absurd (never-true never)) (ap (λ (r : Run). r.power) c.accept_anew-2.ensures.only ∙ ap (λ (r : Run). r.power) c.accept_anew.ensures.only ∙ begun.power) (ap (λ (r : Run). r.unfound) c.accept_anew-2.ensures.only ∙ ap (λ (r : Run). r.unfound) c.accept_anew.ensures.only) (λ well_two. both.odometer ∙ sym woke.1.odometer)
 
 pub returns-clause-ringed : goal.returns-clause-ringed
 returns-clause-ringed g c =
