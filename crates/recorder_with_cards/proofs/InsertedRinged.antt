@@ -16,7 +16,7 @@ use Rattle.log_model.specs.Log.{RunLog, In, same_phase, cut_in, found_in, is_acc
 use Rattle.log_model.specs.Slots.{refusal}
 use Rattle.log_model.specs.Course.{Told, Before, Visit, begins, went}
 use Rattle.side_model.specs.Odometer.{SpanFrom, odometer_at}
-use Rattle.side_model.specs.Noted.{Note}
+use Rattle.side_model.specs.Noted.{Note, Accepts}
 use Rattle.safety_model.specs.Safe.{Devices}
 use Rattle.unit_rule.specs.Odometer.{odometer_by}
 use Rattle.run_outcome.specs.declared.outcome.Outcome.{Outcome}
@@ -42,7 +42,7 @@ use Rattle.recorder_with_cards.proofs.RingsHere.{here-then, here-more, goes-to, 
 
 -- nothing is noted of a card that is not accepted
 none-noted : (u : ℕ) (slot : Slot) (card : Card) (vs : List Verdict) → filter is_accepting vs ≡ [] → accepts_by u slot card vs ≡ []
-none-noted u slot card vs none = ap (λ (l : List Verdict). map {B = Note} _ l) none
+none-noted u slot card vs none = ap (λ (l : List Verdict). map (λ (v : Verdict). Accepts (record { second = u; slot = slot; card = card })) l) none
 
 module _ (o : Origin) (done : List TraceSecond) (s : TraceSecond) (front rest : List Action) (slot : Slot) (card : Card) (are : s.actions ≡ front ++ Insert slot card ∷ rest) (old : Run) (before : Outcome) (d : Devices) (w : RunWithin o done s (In (length front)) [] [] old before d)
     (spans : List SpanFrom) (t : Told) (rings : RingsWithin o done s w.within.b.run.log front old (log_of before) spans t d) (allowed : refusal (course_in w.within.b done s (In (length front)) (log_of before)).slots s.speed (Insert slot card) ≡ None)

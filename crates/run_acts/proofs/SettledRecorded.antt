@@ -27,7 +27,7 @@ use Rattle.run_outcome.specs.Lines.{Listed}
 use Rattle.run_outcome.specs.declared.outcome.Outcome.{Outcome}
 use Rattle.run_recorded.specs.Origin.{Origin}
 use Rattle.run_within.specs.Recorded.{Values}
-use Rattle.run_within.specs.Within.{Beginning, Within}
+use Rattle.run_within.specs.Within.{Beginning, Within, CutWithin}
 use Rattle.run_keeping.specs.declared.keeper.Keeper.{Keeper}
 use Rattle.run_keeping.specs.declared.keeper.Moment.{Moment}
 use Rattle.run_keeping.specs.Minutes.{Reach, IsReach, or_nobody, present_at}
@@ -138,18 +138,20 @@ module _ {U A0 B0 : State} {chip_a chip_b : CardState} (old : Run) (before : Out
         booked.0
 
     so : (f : Bool) → IsKeptTo f o done s q decided (told_of old before) (told_of new after) v d e w → SettlesTo f o done s (In n) waits w.b w.from (w.from + length decided) old new before after e
-    so false k = record {
-      goes = record {
-        origin = r.origin;
-        lit = r.lit;
-        within = subst (λ (m : ℕ). Within o done s (In n) waits None [] (record (values_of new after) { odometer = m }) e) (sym odometer) k.0.within;
-        odometer = odometer ∙ r.odometer ∙ ap (λ (b : Beginning). odometer_after (odometer_at o.recording.unit) b.travel.before) (sym k.0.began);
-      };
-      began = k.0.began;
-      from = k.0.from ∙ end;
-      leave = λ slot card l some. leaving-later (log_of after) (went w.b.run.log done).before s (In n) w.from (w.from + length decided) (s.number / 60) (s.number / 60) keeper.cabin slot card (let to = end in omega (arith, to)) (sym end) (k.1 slot card l some);
-    }
-    so true k = k
+    so false k =
+        subst (λ (m : ℕ). (x : Within o done s (In n) waits None [] (record (values_of new after) { odometer = m }) e) → x.b ≡ w.b → x.from ≡ w.from + length decided → SettlesTo false o done s (In n) waits w.b w.from (w.from + length decided) old new before after e) odometer
+        (λ (x : Within o done s (In n) waits None [] (values_of new after) e) (began : x.b ≡ w.b) (from : x.from ≡ w.from + length decided). record {
+          goes = record {
+            origin = r.origin;
+            lit = r.lit;
+            within = x;
+            odometer = odometer ∙ r.odometer ∙ ap (λ (b : Beginning). odometer_after (odometer_at o.recording.unit) b.travel.before) (sym began);
+          };
+          began = began;
+          from = from ∙ end;
+          leave = λ slot card l some. leaving-later (log_of after) (went w.b.run.log done).before s (In n) w.from (w.from + length decided) (s.number / 60) (s.number / 60) keeper.cabin slot card (let to = end in omega (arith, to)) (sym end) (k.1 slot card l some);
+        }) k.0.within k.0.began k.0.from
+    so true k = subst (λ (m : ℕ). CutWithin o done s (In n) waits None (record (values_of new after) { odometer = m }) e) (sym odometer) k
 
     pub settling-so : SettlesTo failed o done s (In n) waits w.b w.from (w.from + length decided) old new before after e
     settling-so = so failed kept

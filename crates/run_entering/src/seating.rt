@@ -163,6 +163,13 @@ fn note_entered<M: Medium, C: Chip, D: Chip>(
     note_unclosed(keeper, crew, entering.at.second, session, unit)
 }
 
+// What a card told fills the fields of its insertion.
+fn fills_its_fields(look: CardLook)
+    ensures sized { FitsInsertion look }
+{
+    let _ = look;
+}
+
 // A card that is found to be accepted: that is told, the entries that were owed to it are marked, and it is seated.
 pub(crate) fn take_in<M: Medium, C: Chip, D: Chip>(
     keeper: &mut Keeper,
@@ -206,6 +213,7 @@ pub(crate) fn take_in<M: Medium, C: Chip, D: Chip>(
     ensures later { IsLater (C.state card.old) (C.state card.new) }
 {
     let look = entered.look;
+    fills_its_fields(look);
     let replayed = entered.replayed;
     find(entering, Verdict::Accepted { replayed }, &mut outcome.finds);
     let clock = card.clock();

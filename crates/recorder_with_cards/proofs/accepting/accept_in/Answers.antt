@@ -43,7 +43,7 @@ returns-in-A-clause-ringed g c = λ room.
     subst (λ (card : Card). RingsJudged c.args.slot card c.args.at (is_err c.accept_here.result) c.args.run.now c.accept_here.new.run c.args.outcome.now c.accept_here.new.outcome d e) (sym c.in-A.is)
     (λ o done s n waits fewer at next spans now counted time.
     let sp = next.goes.within.sp in let stands = next.goes.within.minutes in
-    c.accept_here.ensures.ringed room o done s n waits fewer at next spans (c.odometer_now.ensures.value next.goes.within.sp next.goes.within.minutes ∙ now) counted time)
+    c.accept_here.ensures.ringed room o done s n waits fewer at next spans (c.odometer_now-odometer.ensures.value next.goes.within.sp next.goes.within.minutes ∙ now) counted time)
 
 pub returns-in-B-clause-ringed : goal.returns-in-B-clause-ringed
 returns-in-B-clause-ringed g c = λ room.
@@ -52,7 +52,7 @@ returns-in-B-clause-ringed g c = λ room.
     subst (λ (card : Card). RingsJudged c.args.slot card c.args.at (is_err c.accept_here-in-B.result) c.args.run.now c.accept_here-in-B.new.run c.args.outcome.now c.accept_here-in-B.new.outcome d e) (sym c.in-B.is)
     (λ o done s n waits fewer at next spans now counted time.
     let sp = next.goes.within.sp in let stands = next.goes.within.minutes in
-    c.accept_here-in-B.ensures.ringed room o done s n waits fewer at next spans (c.odometer_now.ensures.value next.goes.within.sp next.goes.within.minutes ∙ now) counted time)
+    c.accept_here-in-B.ensures.ringed room o done s n waits fewer at next spans (c.odometer_now-odometer.ensures.value next.goes.within.sp next.goes.within.minutes ∙ now) counted time)
 
 -- ---- what holds of the devices after any calls
 

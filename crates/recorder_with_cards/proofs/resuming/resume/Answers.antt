@@ -1,4 +1,4 @@
-use Rattle.std.proofs.Common.{rules, ◌≡◌, ◌∙◌, inl, inr, ℕ, ◌+◌, ◌-◌, ◌*◌, ◌/◌, ◌<◌, ◌^◌, suc, ◌≤◌, ◌==◌, Bool, true, false, Option, None, List, [], ◌∷◌, ◌++◌, length, refl, ap, sym, subst, arith}
+use Rattle.std.proofs.Common.{rules, ◌≡◌, ◌∙◌, inl, inr, ℕ, ◌+◌, ◌-◌, ◌*◌, ◌/◌, ◌<◌, ◌^◌, suc, ◌≤◌, ◌==◌, Bool, true, false, Option, None, option_map, List, [], ◌∷◌, ◌++◌, length, refl, ap, sym, subst, arith}
 use Rattle.std.specs.Prelude.{is_err}
 use Rattle.tach_media.specs.Medium.{HasCause}
 use Rattle.tach_media.proofs.Runs.{on_ok, ok_gives, cause_after}
@@ -1034,7 +1034,9 @@ returns-in_err-accept_anew-clause-ringed g c = λ room o origin done s supply v 
     (woken-rings o done s woke.0 (waiting_in Driver first_card ++ others) both_slots spans t mid out (devices W X Y) starts (log_of out) log0 stands (is_err c.accept_anew.result) one out1 (devices V1 X1 Y1) one_ringed (λ f. first.1 f) (ap (λ (r : Run). r.power) c.accept_anew.ensures.only ∙ begun.power) (ap (λ (r : Run). r.unfound) c.accept_anew.ensures.only) (λ well. (first.0 well).odometer ∙ sym woke.1.odometer))
 
 pub returns-in_err-accept_anew-2-clause-ringed : goal.returns-in_err-accept_anew-2-clause-ringed
-returns-in_err-accept_anew-2-clause-ringed g c = λ room o origin done s supply v r may number given values spans seats ringed counted off time.
+returns-in_err-accept_anew-2-clause-ringed g c =
+    let failed : is_err c.accept_anew-2.result ≡ is_err c.from_residual-in_err-accept_anew-2.result = search rules in
+    λ room o origin done s supply v r may number given values spans seats ringed counted off time.
     let run = c.args.run.now in
     let out = c.args.outcome.now in
     let mid : Run = c.begin_span.new.self in
@@ -1111,12 +1113,16 @@ returns-in_err-accept_anew-2-clause-ringed g c = λ room o origin done s supply 
     (λ none P. same-devices P g.M.Medium.state g.C.Chip.state g.D.Chip.state c.accept_anew.new.unit c.accept_anew-2.new.unit c.accept_anew.new.card_a c.accept_anew-2.new.card_a c.accept_anew.new.card_b c.accept_anew-2.new.card_b (c.accept_anew-2.ensures.still none)) time recorded_two well_two in
     let second = codriver-judged o done s woke.0 second_card one out1 (devices V1 X1 Y1) behind_one.waking refl bare_too c.moment-at.result now c.args.speed (is_err c.accept_anew-2.result) two out2 c.accept_anew-2.ensures.accepted (devices V2 X2 Y2)
     (λ none P. same-devices P g.M.Medium.state g.C.Chip.state g.D.Chip.state c.accept_anew.new.unit c.accept_anew-2.new.unit c.accept_anew.new.card_a c.accept_anew-2.new.card_a c.accept_anew.new.card_b c.accept_anew-2.new.card_b (c.accept_anew-2.ensures.still none)) time recorded_two in
-    let failed : is_err c.accept_anew-2.result ≡ is_err c.from_residual-in_err-accept_anew-2.result = search rules in
     subst (λ (f : Bool). RingsWoken f (log_of out) o done s spans two (log_of out2) (devices V2 X2 Y2)) failed
     (woken-rings o done s woke.0 (waiting_in Driver first_card ++ others) both_slots spans t mid out (devices W X Y) starts (log_of out) log0 stands (is_err c.accept_anew-2.result) two out2 (devices V2 X2 Y2) two_ringed (λ f. subst (λ (q : Bool). GoesOnOrCut q o done s (In 0) [] two out2 (devices V2 X2 Y2)) f second) (ap (λ (r : Run). r.power) c.accept_anew-2.ensures.only ∙ ap (λ (r : Run). r.power) c.accept_anew.ensures.only ∙ begun.power) (ap (λ (r : Run). r.unfound) c.accept_anew-2.ensures.only ∙ ap (λ (r : Run). r.unfound) c.accept_anew.ensures.only) (λ well_two. (both well_two).odometer ∙ sym woke.1.odometer))
 
+never-true : false ≡ true → ⊥
+never-true bad = cc
+
 pub returns-then-is_first-clause-ringed : goal.returns-then-is_first-clause-ringed
-returns-then-is_first-clause-ringed g c = λ room o origin done s supply v r may number given values spans seats ringed counted off time.
+returns-then-is_first-clause-ringed g c =
+    let fine : is_err c.accept_anew-2.result ≡ false = search rules in
+    λ room o origin done s supply v r may number given values spans seats ringed counted off time.
     let run = c.args.run.now in
     let out = c.args.outcome.now in
     let mid : Run = c.begin_span.new.self in
@@ -1189,14 +1195,15 @@ returns-then-is_first-clause-ringed g c = λ room o origin done s supply v r may
     codriver-ringed o done s woke.0 second_card one out1 (devices V1 X1 Y1) spans t behind_one refl bare_too c.moment-at.result now c.args.speed (is_err c.accept_anew-2.result) two out2 c.accept_anew-2.ensures.accepted (devices V2 X2 Y2)
     (λ none P. same-devices P g.M.Medium.state g.C.Chip.state g.D.Chip.state c.accept_anew.new.unit c.accept_anew-2.new.unit c.accept_anew.new.card_a c.accept_anew-2.new.card_a c.accept_anew.new.card_b c.accept_anew-2.new.card_b (c.accept_anew-2.ensures.still none)) time recorded_two
     (c.accept_anew-2.ensures.ringed (omega (arith, room, few, few_too, none_waits, waits_none, marks, same_room))) in
-    let fine : is_err c.accept_anew-2.result ≡ false = search rules in
     let both = codriver-on o done s woke.0 second_card one out1 (devices V1 X1 Y1) behind_one.waking refl bare_too c.moment-at.result now c.args.speed (is_err c.accept_anew-2.result) two out2 c.accept_anew-2.ensures.accepted (devices V2 X2 Y2)
     (λ none P. same-devices P g.M.Medium.state g.C.Chip.state g.D.Chip.state c.accept_anew.new.unit c.accept_anew-2.new.unit c.accept_anew.new.card_a c.accept_anew-2.new.card_a c.accept_anew.new.card_b c.accept_anew-2.new.card_b (c.accept_anew-2.ensures.still none)) time recorded_two fine in
     woken-rings o done s woke.0 (waiting_in Driver first_card ++ others) both_slots spans t mid out (devices W X Y) starts (log_of out) log0 stands false two out2 (devices V2 X2 Y2) (subst (λ (f : Bool). RingsGoOn f o done s woke.0 [] two (log_of out2) spans t (devices V2 X2 Y2)) fine two_ringed)
-    (λ never. absurd (let bad : false ≡ true = never in cc)) (ap (λ (r : Run). r.power) c.accept_anew-2.ensures.only ∙ ap (λ (r : Run). r.power) c.accept_anew.ensures.only ∙ begun.power) (ap (λ (r : Run). r.unfound) c.accept_anew-2.ensures.only ∙ ap (λ (r : Run). r.unfound) c.accept_anew.ensures.only) (λ well_two. both.odometer ∙ sym woke.1.odometer)
+    (λ never. absurd (never-true never)) (ap (λ (r : Run). r.power) c.accept_anew-2.ensures.only ∙ ap (λ (r : Run). r.power) c.accept_anew.ensures.only ∙ begun.power) (ap (λ (r : Run). r.unfound) c.accept_anew-2.ensures.only ∙ ap (λ (r : Run). r.unfound) c.accept_anew.ensures.only) (λ well_two. both.odometer ∙ sym woke.1.odometer)
 
 pub returns-clause-ringed : goal.returns-clause-ringed
-returns-clause-ringed g c = λ room o origin done s supply v r may number given values spans seats ringed counted off time.
+returns-clause-ringed g c =
+    let fine : is_err c.accept_anew-2.result ≡ false = search rules in
+    λ room o origin done s supply v r may number given values spans seats ringed counted off time.
     let V3 : State = g.M.Medium.state c.note_gap.new.unit in
     let X3 : State = g.C.Chip.state c.note_gap.new.card_a in
     let Y3 : State = g.D.Chip.state c.note_gap.new.card_b in
@@ -1273,7 +1280,6 @@ returns-clause-ringed g c = λ room o origin done s supply v r may number given 
     codriver-ringed o done s woke.0 second_card one out1 (devices V1 X1 Y1) spans t behind_one refl bare_too c.moment-at.result now c.args.speed (is_err c.accept_anew-2.result) two out2 c.accept_anew-2.ensures.accepted (devices V2 X2 Y2)
     (λ none P. same-devices P g.M.Medium.state g.C.Chip.state g.D.Chip.state c.accept_anew.new.unit c.accept_anew-2.new.unit c.accept_anew.new.card_a c.accept_anew-2.new.card_a c.accept_anew.new.card_b c.accept_anew-2.new.card_b (c.accept_anew-2.ensures.still none)) time_two recorded_two
     (c.accept_anew-2.ensures.ringed (omega (arith, room, few, few_too, none_waits, waits_none, marks, same_room))) in
-    let fine : is_err c.accept_anew-2.result ≡ false = search rules in
     let both = codriver-on o done s woke.0 second_card one out1 (devices V1 X1 Y1) behind_one.waking refl bare_too c.moment-at.result now c.args.speed (is_err c.accept_anew-2.result) two out2 c.accept_anew-2.ensures.accepted (devices V2 X2 Y2)
     (λ none P. same-devices P g.M.Medium.state g.C.Chip.state g.D.Chip.state c.accept_anew.new.unit c.accept_anew-2.new.unit c.accept_anew.new.card_a c.accept_anew-2.new.card_a c.accept_anew.new.card_b c.accept_anew-2.new.card_b (c.accept_anew-2.ensures.still none)) time_two recorded_two fine in
     let x = within-of o done s woke.0 [] [] two out2 (devices V2 X2 Y2) both in
