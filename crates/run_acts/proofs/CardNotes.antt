@@ -86,12 +86,12 @@ place-noted app entry cut X Y whole run =
 
 -- no note
 pub on-none : (failed : Bool) (session : Option Accepted) (X : State) → NotesOn failed session session [] X X
-on-none failed None X = refl
+on-none failed None X = λ c left. left
 on-none failed (Some a) X = λ c left. (c, left, shows-nothing a.session.application (failed || not true) c c (λ kind. refl))
 
 -- none yet
 pub on-unbegun : (session after : Option Accepted) (events : List CardEvent) (X : State) → NotesOn true session after events X X
-on-unbegun None after events X = refl
+on-unbegun None after events X = λ c left. left
 on-unbegun (Some a) after events X = λ c left. (c, left, shows-unbegun a.session.application events c c (λ kind. refl))
 
 -- by the sizes of its session
@@ -149,7 +149,7 @@ on-other failed seat event card session after X other same =
 -- the card of a seat that is not accepted has no session
 pub bare-seat : (cards : Cards) (seat : Option Seat) (event : CardEvent) (a : IsKnown cards.a) (b : IsKnown cards.b) → number_of_seat cards seat ≡ None → (card : Card) (X : State) → NotesOn false (session_of cards card) (session_of cards card) (on_seat seat event card) X X
 bare-seat cards seat event a b unnamed card X = by_test (is_card seat card)
-    (λ is. subst (λ (o : Option Accepted). NotesOn false o o (on_seat seat event card) X X) (sym (bare seat card unnamed is)) refl)
+    (λ is. subst (λ (o : Option Accepted). NotesOn false o o (on_seat seat event card) X X) (sym (bare seat card unnamed is)) (λ c left. left))
     (λ is. on-other false seat event card (session_of cards card) (session_of cards card) X is refl)
   where
     same : (c d : Card) → same_card c d ≡ true → c ≡ d
@@ -285,11 +285,11 @@ module _ (from : ℕ) (old between new : Run) (at at2 : Moment) (breaks told aft
           → (is_some a ≡ true → on_seat (seat_in old.keeper.cabin.slots.seats Driver) event card ++ on_seat (seat_in between.keeper.cabin.slots.seats CoDriver) event card ≡ event ∷ [])
           → NotesOn false a b (on_seat (seat_in old.keeper.cabin.slots.seats Driver) event card) X M → NotesOn false b c (on_seat (seat_in between.keeper.cabin.slots.seats CoDriver) event card) M Y
           → NotesOn failed a c (event ∷ []) X Y
-      by None None c X M Y goes next one first later = later ∙ first
+      by None None c X M Y goes next one first later = λ x left. first x (later x left)
       by None (Some b) c X M Y goes next one first later = absurd (⊎_elim (λ is. let wrong : Some b ≡ None = is in cc) (λ is. let wrong : Some b ≡ None = is in cc) goes)
       by (Some a) None (Some c) X M Y goes next one first later = absurd (⊎_elim (λ is. let wrong : Some c ≡ None = is in cc) (λ is. let wrong : Some c ≡ None = is in cc) next)
       by (Some a) None None X M Y goes next one first later = λ x left.
-          let was = first x (subst (λ (S : State). S.may_leave x) later left) in (
+          let was = first x (later x left) in (
             was.0,
             was.1,
             subst (λ (b : Bool). ShowsMore a.session.application (event ∷ []) b was.0 x) (sym (always-cut failed))

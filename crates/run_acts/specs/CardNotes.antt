@@ -14,10 +14,10 @@ use Rattle.run_crew.specs.declared.cards.Cards.{Cards}
 use Rattle.run_crew.specs.Cards.{session_of}
 use Rattle.run_entering.specs.CardEvents.{NotesOnCard}
 
--- A CARD BEHIND SOME NOTES: without a session it is as it was; else these events are noted on it, and where the unit failed, or it has fallen, they
+-- A CARD BEHIND SOME NOTES: without a session it may leave no image that it might not have left before; else these events are noted on it, and where the unit failed, or it has fallen, they
 -- may have been cut short.
 abbrev pub NotesOn : (failed : Bool) → (session after : Option Accepted) → List CardEvent → (card card_after : State) → Type 0
-NotesOn failed None after events card card_after = card_after ≡ card
+NotesOn failed None after events card card_after = (c : List ℕ) → card_after.may_leave c → card.may_leave c
 NotesOn failed (Some a) after events card card_after = NotesOnCard a.session.application events (failed || not (is_some after)) card card_after
 
 -- so is each card
