@@ -1,5 +1,5 @@
 -- How a card that was judged ended, over plain states.
-use Rattle.std.proofs.Common.{◌≡◌, ◌∙◌, inl, inr, ℕ, ◌+◌, ◌^◌, ◌<◌, ◌≤◌, Bool, true, false, Option, Some, None, IfSome, List, [], ◌∷◌, ◌++◌, refl, ap, sym, subst, arith}
+use Rattle.std.proofs.Common.{◌≡◌, ◌∙◌, inl, inr, ⊎_elim, ℕ, ◌+◌, ◌^◌, ◌<◌, ◌≤◌, Bool, true, false, Option, Some, None, IfSome, List, [], ◌∷◌, ◌++◌, length, refl, ap, sym, subst, arith}
 use Rattle.std.specs.Prelude.{Result, Ok, Err}
 use Rattle.activity_codec.specs.declared.entries.Entry.{Entry}
 use Rattle.tach_media.specs.Medium.{State, IsCoherent, LeavesOnly, Unchanged, HasCause, HasBroken, broken_by, revivable}
@@ -9,6 +9,7 @@ use Rattle.tacho_types.specs.declared.texts.Registration.{Registration}
 use Rattle.card_layout.specs.declared.files.Application.{Application}
 use Rattle.card_layout.specs.declared.files.Fid.{Fid}
 use Rattle.card_layout.specs.Application.{application_in, first_bad_field}
+use Rattle.card_layout.specs.Files.{image_size_of}
 use Rattle.card_image.specs.Fields.{session_time, end_mark}
 use Rattle.card_image.specs.Own.{own_sizes}
 use Rattle.card_image.specs.Judging.{IsValid}
@@ -34,6 +35,7 @@ use Rattle.run_entering.specs.Noted.{HasNoted, IsOnUnit, IsComing, IsOnCard, IsC
 use Rattle.run_entering.specs.Entered.{IsEnding, IsNew, IsClock, IsPlace, IsTold, IsFound, IsFoundIn, IsWay, IsLeft, IsEntry, IsTaken, IsJudgedSo, HasEntered, writes_behind}
 use Rattle.run_entering.proofs.Notes.{not_cut, one-note, no-notes, notes-read, notes-then, notes-after, notes-as}
 use Rattle.run_entering.proofs.Accepted.{kept-broken, fell-broken}
+use Rattle.run_entering.proofs.CardBrought.{IsSitting, only-left, brought-by}
 
 outcome-lines : (o : Outcome) (breaks : Listed Break) (finds : Listed Find) → record o { breaks = breaks } ≡ record o { breaks = with_lines [] breaks; finds = with_lines [] o.finds }
 outcome-lines o breaks finds = ap (λ (l : Listed Break). record o { breaks = l }) (no-lines breaks) ∙ ap (λ (l : Listed Find). record o { breaks = with_lines [] breaks; finds = l }) (no-lines o.finds)
@@ -191,8 +193,8 @@ module _ (e : Entering) (k : Keeper) (noted : ℕ) (o : Outcome) (U X M : State)
     ending-woken (Seated entered t entry) is = (is.0, is.1, clock-woken t is.2)
     ending-woken (Lost entered t entry) is = (is.0, is.1, clock-woken t is.2, is.3)
 
-    pub entered-judged : IfSome M.image (λ x. own_sizes x ≡ app) → (ending : Ending) → Ended ending → HasEntered e failed k v noted noted_after o p U W X Y (Judged app ending)
-    entered-judged sized ending j = record {
+    pub entered-judged : IfSome M.image (λ x. own_sizes x ≡ app) → image_size_of app ≤ M.size → IsCoherent Y → (ending : Ending) → (IsSitting ending → Y.works ≡ true) → Ended ending → HasEntered e failed k v noted noted_after o p U W X Y (Judged app ending)
+    entered-judged sized fits after ending sits j = record {
       is = ending-woken ending j.is;
       left = j.left;
       notes = j.notes;
@@ -205,6 +207,15 @@ module _ (e : Entering) (k : Keeper) (noted : ℕ) (o : Outcome) (U X M : State)
           ));
       moments = if_told U.image _ (λ u told. goes_on (from_reads leaves) ((noted-on u told ending j).moments) (λ x y c was is here. (y, revived whole leaves y is, here)));
       broken = let few : falls_of ending ≤ 0 + falls_of ending = omega arith in fewer_broken few (both_broken (woken-broken false cause) j.broken);
+      shows = if_told U.image _ (λ u told c left.
+          let noted = noted-on u told ending j in
+          let here : (y : List ℕ) × (M.image ≡ Some y) = ⊎_elim (λ before. (c, whole.only c cause.works before)) (λ one. (one.0, one.1)) (noted.moments.now c left) in
+          let long : image_size_of app ≤ length here.0 = let all = whole.sized here.0 here.1 in omega (arith, fits, all) in (
+            here.0,
+            revived whole leaves here.0 here.1,
+            at_image (λ (l : List ℕ). own_sizes l ≡ app) here.1 sized,
+            brought-by app k.memory.registration e failed u here.0 M Y whole after cause.works here.1 long ending sits noted c left,
+          ));
     }
       where
         noted-on : (u : List ℕ) → U.image ≡ Some u → (ending : Ending) → Ended ending
@@ -228,6 +239,7 @@ module _ (e : Entering) (k : Keeper) (noted : ℕ) (o : Outcome) (U X M : State)
         ));
     moments = if_told U.image _ (λ u told. from_reads leaves);
     broken = woken-broken false cause;
+    shows = if_told U.image _ (λ u told c left. only-left leaves c left);
   }
     where
       same-image : (y z : List ℕ) → M.image ≡ Some y → M.image ≡ Some z → z ≡ y
@@ -248,4 +260,5 @@ module _ (e : Entering) (k : Keeper) (noted : ℕ) (o : Outcome) (U X M : State)
     found = if_told X.image _ (λ x is. (x, before.is_left x is, tt, λ well. absurd (not_cut well)));
     moments = if_told U.image _ (λ u told. from_reads leaves);
     broken = woken-broken true cause;
+    shows = if_told U.image _ (λ u told c left. only-left leaves c left);
   }

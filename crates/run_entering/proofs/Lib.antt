@@ -1,6 +1,10 @@
 pub mod Seats
 pub mod Notes
 pub mod Accepted
+pub mod CardTables
+pub mod CardRows
+pub mod CardInserted
+pub mod CardBrought
 pub mod InTime
 pub mod Judged
 pub mod Carried

@@ -25,6 +25,7 @@ use Rattle.run_keeping.specs.declared.keeper.Keeper.{Keeper}
 use Rattle.run_keeping.specs.Keeping.{with_lines}
 use Rattle.run_entering.specs.declared.lines.Entering.{Entering}
 use Rattle.run_entering.specs.Entering.{Ending, Unfit, Ahead, Fell, Unasked, Unnoted, Seated, Lost, Way, Unread, Unsized, Judged, ending_of, measured, seated, fallen, fallen_breaks, taken_as, falls_of, count_of, cabin_by, outcome_by, noted_by, and_one}
+use Rattle.run_entering.specs.CardBrought.{BringsOnCard}
 use Rattle.run_entering.specs.Noted.{HasNoted, IsOnUnit, IsComing, IsOnCard, IsComingOnCard, AreDone, AreBeingDone, AreOnCard, AreComingOnCard, Shows, moving_event, moving_on_card, moved_notes, seat_notes, notes_with, notes_by, card_notes_by, card_notes_behind, is_cut}
 
 -- a card that told these sizes goes by them; of another the field is the first bad one
@@ -187,3 +188,5 @@ pub record HasEntered (e : Entering) (failed : Bool) (k v : Keeper) (noted noted
       × (is_cut (ending_of way) failed ≡ false → IfSome unit.image (λ u. IfSome card_after.image (AreOnCard way k.memory.registration e u y))))
   pub moments : IfSome unit.image (λ u. LeavesOnly card card_after (λ x c. (y : List ℕ) × card.may_leave y × AreComingOnCard way k.memory.registration e u y c))
   pub broken : HasBroken card card_after (falls_of (ending_of way))
+  -- and which events the card shows
+  pub shows : IfSome unit.image (λ u. BringsOnCard way k.memory.registration e failed card card_after)

@@ -1,4 +1,6 @@
 pub mod Entering
 pub mod Noted
+pub mod CardEvents
+pub mod CardBrought
 pub mod Entered
 pub mod Told

@@ -3,10 +3,12 @@
 #![tactic(auto)]
 
 mod entering;
+mod laws;
 mod lines;
 mod noting;
 mod seating;
 mod waking;
 
 pub use entering::accept;
+pub use laws::{notes_on_a_card_go_on, the_events_of_a_card};
 pub use lines::Entering;

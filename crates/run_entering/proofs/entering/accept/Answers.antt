@@ -2,6 +2,7 @@ use Rattle.std.proofs.Common.{arith, inl, ◌≡◌, ◌∙◌, ◌≤◌, ℕ, 
 use Rattle.std.specs.Prelude.{is_err, Result, Err}
 use Rattle.card_layout.specs.declared.files.Application.{Application}
 use Rattle.card_layout.specs.Application.{place_of_field}
+use Rattle.card_layout.proofs.Sizes.{largest_image}
 use Rattle.run_crew.specs.declared.cabin.Cabin.{Cabin}
 use Rattle.run_crew.specs.Cards.{known_of}
 use Rattle.run_crew.specs.Cabin.{with_sizes_of, torn_out}
@@ -18,6 +19,7 @@ use Rattle.run_entering.proofs.Carried.{noted-carried, found-fallen}
 use Rattle.run_entering.proofs.Booked.{torn-carried, still-bare, woken-may, woken-untouched, woken-timed, woken-known}
 use Rattle.run_entering.proofs.InTime.{woken-early}
 use Rattle.run_entering.proofs.Notes.{fault-noted}
+use Rattle.run_entering.proofs.CardBrought.{sits-works}
 use Rattle.run_entering.proofs.Judged.{entered-judged, entered-unsized, entered-unread}
 use Rattle.run_entering.proofs.Seats.{unsized-ready}
 use Rattle.run_keeping.proofs.Later.{state-then, state-revived}
@@ -67,11 +69,13 @@ returns-in-Ok-sizes-clause-entered g c =
     let Y = g.C.Chip.state c.accept_by.new.card in
     let failed = is_err c.accept_by.result in
     let ended = c.accept_by.ensures.ended in
+    let measured_ = subst (λ (r : Result Application ℕ). IsMeasured r (g.C.Chip.card c.wake.new.card) M) c.in-Ok-sizes.is c.in-Ok.ensures.measured in
     let kept = c.measure-2.ensures.kept ∙ ap (λ (s : Result Application ℕ). with_sizes_of e.which s k.cabin) c.in-Ok-sizes.is in
     let j = subst (λ (b : Cabin). IsJudgedSo app e failed (record k { cabin = b }) c.accept_by.new.keeper c.args.noted.now c.accept_by.new.noted c.args.outcome.now c.accept_by.new.outcome U W M Y ended.0) kept ended.1 in (
       Judged app ended.0,
       entered-judged e k c.args.noted.now c.args.outcome.now U X M (g.met.C.Chip.coherent c.wake.new.card) c.wake.ensures.leaves c.wake.ensures.clock c.in-Ok.ensures.cause app failed c.accept_by.new.keeper
-          c.accept_by.new.noted c.accept_by.new.outcome W Y (subst (λ (r : Result Application ℕ). IsMeasured r (g.C.Chip.card c.wake.new.card) M) c.in-Ok-sizes.is c.in-Ok.ensures.measured).2 ended.0 j,
+          c.accept_by.new.noted c.accept_by.new.outcome W Y measured_.2 (let most = largest_image app measured_.0.good in let size = measured_.0.size in omega (arith, most, size)) (g.met.C.Chip.coherent c.accept_by.new.card) ended.0
+          (sits-works e (record k { cabin = with_sizes_of e.which (Ok app) k.cabin }) c.accept_by.new.keeper c.args.noted.now ended.0 (g.C.Chip.card c.accept_by.new.card) Y j.left.keeper c.accept_by.ensures.card) j,
       λ f w m low. woken-known e k (Ok app) U X M Z (g.met.M.Medium.coherent c.args.unit.now) (g.met.C.Chip.coherent c.args.card.now) c.wake.ensures.leaves c.wake.ensures.clock c.requires.bare ended.0 failed c.accept_by.new.keeper W Y f w m ((subst (λ (b : Cabin). BooksJudged ended.0 e failed (record k { cabin = b }) c.accept_by.new.keeper U W M Y Z) kept ended.2) f (with_standing e.which Out w) (woken-may e k (Ok app) U X M Z (g.met.M.Medium.coherent c.args.unit.now) (g.met.C.Chip.coherent c.args.card.now) c.wake.ensures.leaves c.wake.ensures.clock c.requires.bare f w m) (out-now e.which w) low),
     )
 
