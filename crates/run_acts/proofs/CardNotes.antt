@@ -31,6 +31,7 @@ use Rattle.run_crew.specs.Cabin.{Stands, AreTwo, SitsThere, torn_out, left_from,
 use Rattle.run_outcome.specs.Lines.{Listed}
 use Rattle.run_keeping.specs.declared.keeper.Moment.{Moment}
 use Rattle.run_keeping.specs.Keeping.{CardReady}
+use Rattle.run_keeping.proofs.CardEvents.{events-run}
 use Rattle.safety_model.specs.Safe.{Devices, card_of}
 use Rattle.unit_memory.specs.declared.format.Identity.{Identity}
 use Rattle.unit_notes.specs.declared.unit_event.UnitEvent.{UnitEvent}
@@ -39,7 +40,7 @@ use Rattle.event_model.specs.declared.kinds.TheConstants.{POWER_INTERRUPTION, SE
 use Rattle.run_entering.specs.CardEvents.{ShowsMore, NotesOnCard, IsPlain}
 use Rattle.run_entering.proofs.CardTables.{all-shown, all-showing}
 use Rattle.run_entering.proofs.CardInserted.{shows-nothing, shows-unbegun, shows-whole, shows-by}
-use Rattle.run_entering.proofs.CardBrought.{shows-both, shows-first, events-run, notes-still}
+use Rattle.run_entering.proofs.CardBrought.{shows-both, shows-first, notes-still}
 use Rattle.run_acts.specs.declared.run.Run.{Run}
 use Rattle.run_acts.specs.Acting.{noted_run, IsNotedOn, IsNotedIn}
 use Rattle.run_acts.specs.CardNotes.{NotesOn, NotesOnCards, on_seat}

@@ -9,7 +9,7 @@ use Rattle.tacho_types.specs.declared.texts.Registration.{Registration}
 use Rattle.card_layout.specs.declared.files.Application.{Application}
 use Rattle.card_layout.specs.Files.{image_size_of, place_of}
 use Rattle.card_records.specs.declared.card_event.CardEvent.{CardEvent}
-use Rattle.card_image.specs.Fields.{file, file_bytes}
+use Rattle.card_image.specs.Fields.{file}
 use Rattle.card_session.proofs.InsertingUse.{use_inside}
 use Rattle.device_steps.specs.Entering.{owed_on}
 use Rattle.event_model.specs.declared.kinds.TheConstants.{INSERTION_WHILE_DRIVING, SESSION_NOT_CLOSED}
@@ -21,9 +21,10 @@ use Rattle.run_crew.specs.Cards.{known_of}
 use Rattle.run_crew.specs.Cabin.{with_accepted}
 use Rattle.run_keeping.specs.declared.keeper.Keeper.{Keeper}
 use Rattle.run_keeping.specs.Keeping.{CardReady}
+use Rattle.run_keeping.specs.CardEvents.{LeavesEvents}
 use Rattle.run_entering.specs.Entering.{Ending, Unfit, Ahead, Fell, Unasked, Unnoted, Seated, Lost, cabin_by, and_one}
 use Rattle.run_entering.specs.Noted.{HasNoted, IsOnCard, IsComingOnCard, CardNote, PutIn, Shows, AreDone, AreBeingDone, moving_event, moving_on_card, card_notes_by, is_cut}
-use Rattle.run_entering.specs.CardEvents.{events_in, with_event, all_noted, AreBeingNoted, of_type, ShowsMore, NotesOnCard, LeavesEvents, unclosed_on}
+use Rattle.run_entering.specs.CardEvents.{events_in, with_event, all_noted, AreBeingNoted, of_type, ShowsMore, NotesOnCard, unclosed_on}
 use Rattle.run_entering.specs.CardBrought.{moving_on, brought_on, is_cut_short}
 use Rattle.run_entering.proofs.CardTables.{all-shown, all-showing, same-file}
 use Rattle.run_entering.proofs.CardInserted.{same-image, shows-nothing, shows-unbegun, shows-whole, inserted-shown, inserting-shown}
@@ -200,10 +201,6 @@ notes-then app es fs cut X M Y first next c left =
     let two = next c left in
     let one = first two.0 two.1 in
     (one.0, one.1, shows-both app es fs cut one.0 two.0 c one.2 two.2)
-
--- calls whose moments have the events of the image before leave them
-pub events-run : (app : Application) (X Y : State) → IsCoherent X → (R : List ℕ → List ℕ → Type 0) → LeavesOnly X Y R → ((x c : List ℕ) → X.image ≡ Some x → R x c → file_bytes app 0x0502 c ≡ file_bytes app 0x0502 x) → LeavesEvents app X Y
-events-run app X Y whole R run step c left = ⊎_elim (λ was. (c, was, refl)) (λ one. (one.0, whole.is_left one.0 one.1, step one.0 c one.1 one.2)) (run.now c left)
 
 -- calls that leave the events
 pub notes-still : (app : Application) (cut : Bool) (X Y : State) → LeavesEvents app X Y → NotesOnCard app [] cut X Y

@@ -9,7 +9,7 @@ use Rattle.gated_ring.specs.Ring.{entry_at}
 use Rattle.card_records.specs.declared.card_event.CardEvent.{CardEvent}
 use Rattle.card_records.specs.Events.{event_widths, event_bytes}
 use Rattle.card_records.specs.Rings.{event_ring}
-use Rattle.card_image.specs.Fields.{file_bytes, current_use, session_time}
+use Rattle.card_image.specs.Fields.{current_use, session_time}
 use Rattle.card_session.specs.Inserting.{unclosed}
 use Rattle.event_model.specs.declared.kinds.TheConstants.{INSERTION_WHILE_DRIVING, SESSION_NOT_CLOSED, POWER_INTERRUPTION}
 use Rattle.event_model.specs.Places.{earliest}
@@ -82,10 +82,6 @@ ShowsMore app events cut x c = (kind : ℕ) → ShowsThese cut (events_in app ki
 -- THESE EVENTS ARE NOTED ON A CARD: so it is of each image that it may leave, and one that it might have left before
 abbrev pub NotesOnCard : Application → List CardEvent → (cut : Bool) → (old new : State) → Type 0
 NotesOnCard app events cut old new = (c : List ℕ) → new.may_leave c → (x : List ℕ) × old.may_leave x × ShowsMore app events cut x c
-
--- CALLS LEAVE THE EVENTS of a card as they are: each image that it may leave behind them has those of one before
-abbrev pub LeavesEvents : Application → (old new : State) → Type 0
-LeavesEvents app old new = (c : List ℕ) → new.may_leave c → (x : List ℕ) × old.may_leave x × (file_bytes app 0x0502 c ≡ file_bytes app 0x0502 x)
 
 -- the types of which a run notes events on cards
 abbrev pub IsOnCards : ℕ → Type 0

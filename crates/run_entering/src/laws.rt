@@ -12,8 +12,9 @@ ghost use Rattle.card_image.specs.Fields.{file_bytes};
 ghost use Rattle.card_session.specs.Sessions.{Session};
 ghost use Rattle.card_session.specs.Cards.{IsCardKeeping, IsCardClosing};
 ghost use Rattle.card_session.specs.Inserting.{IsCardInserted, IsCardInserting};
+ghost use Rattle.run_keeping.specs.CardEvents.{LeavesEvents};
 ghost use Rattle.run_entering.specs.Noted.{AreDone, AreBeingDone};
-ghost use Rattle.run_entering.specs.CardEvents.{ShowsMore, NotesOnCard, LeavesEvents, IsPlain, unclosed_on};
+ghost use Rattle.run_entering.specs.CardEvents.{ShowsMore, NotesOnCard, IsPlain, unclosed_on};
 
 use tach_media::Chip;
 
