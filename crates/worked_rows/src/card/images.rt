@@ -156,27 +156,18 @@ fn newest_record(alloc: Global) -> Result<Vec<u8>, Memory> {
     Ok(bytes)
 }
 
-/// The largest card, full: of days, of which the newest has a word at each minute, and of vehicles. Its session was left open at
-/// this second.
-pub fn largest(alloc: Global, last_use: u32) -> Result<Vec<u8>, Memory>
-    ensures { IfOk result (λ image. vec_len image ≡ LARGEST_IMAGE) }
-{
-    let mut string = Vec::new(alloc);
-    for day in 1..=BEFORE {
-        string.extend_from_slice(&record(day))?;
-    }
-    string.extend_from_slice(&newest_record(alloc)?)?;
+// The largest card with this string, whose newest day begins at a place, and a vehicle. Its session was left open at this second.
+fn with_days(alloc: Global, string: &[u8], newest: u32, last_use: u32) -> Result<Vec<u8>, Memory> {
     let mut image = vec![in alloc; 0u8; SIZE]?;
-    if string.len() != 13770 {
+    if string.len() > 13776 {
         return Err(Memory);
     }
     let sizes = &mut image[33..43];
     sizes.copy_from_slice(&LARGEST);
-    // the newest day stands behind the others, 14 bytes each
     let pointer = &mut image[LARGEST_DAYS + 2..LARGEST_DAYS + 4];
-    pointer.copy_from_slice(&[0x2A, 0x7E]);
-    let days = &mut image[LARGEST_DAYS + 4..LARGEST_DAYS + 4 + 13770];
-    days.copy_from_slice(&string);
+    pointer.copy_from_slice(&[(newest / 256 % 256) as u8, (newest % 256) as u8]);
+    let days = &mut image[LARGEST_DAYS + 4..LARGEST_DAYS + 4 + string.len()];
+    days.copy_from_slice(string);
     let entry = &mut image[LARGEST_VEHICLES + 2..LARGEST_VEHICLES + 33];
     entry.copy_from_slice(&VEHICLE);
     let seconds = &mut image[LARGEST_VEHICLES + 12..LARGEST_VEHICLES + 16];
@@ -189,4 +180,24 @@ pub fn largest(alloc: Global, last_use: u32) -> Result<Vec<u8>, Memory>
     let session = &mut image[LARGEST_CURRENT_USE..LARGEST_CURRENT_USE + 4];
     session.copy_from_slice(&[0, 0, 0, 1]);
     Ok(image)
+}
+
+/// The largest card, full of days, of which the newest has a word at each minute. Its session was left open at this second.
+pub fn largest(alloc: Global, last_use: u32) -> Result<Vec<u8>, Memory> {
+    let mut string = Vec::new(alloc);
+    for day in 1..=BEFORE {
+        string.extend_from_slice(&record(day))?;
+    }
+    string.extend_from_slice(&newest_record(alloc)?)?;
+    // the newest day stands behind the others, 14 bytes each
+    with_days(alloc, &string, 14 * BEFORE, last_use)
+}
+
+/// The same with days of one word each, as many as the largest string holds.
+pub fn most_days(alloc: Global, last_use: u32) -> Result<Vec<u8>, Memory> {
+    let mut string = Vec::new(alloc);
+    for day in 1..=984 {
+        string.extend_from_slice(&record(day))?;
+    }
+    with_days(alloc, &string, 14 * 983, last_use)
 }

@@ -97,7 +97,7 @@ pub fn card(alloc: Global, image: Vec<u8>) -> Result<Counted<SimCard<MemMedium>>
     if image.len() != SIZE {
         return Err(Memory);
     }
-    let medium = MemMedium::new(alloc, image, 64, 4096, Vec::new(alloc))?;
+    let medium = MemMedium::new(alloc, image, 2048, 16384, Vec::new(alloc))?;
     Ok(Counted::new(SimCard::new(medium)))
 }
 

@@ -5,7 +5,7 @@ ghost use Rattle.card_layout.specs.Files.{image_size_of};
 ghost use Rattle.card_commands.specs.Ports.{writable_of};
 ghost use Rattle.tach_media.specs.Medium.{LiesInside};
 
-use crate::card::images::{blank, full, largest, two_days};
+use crate::card::images::{blank, full, largest, most_days, two_days};
 use crate::card::keeping::{Figures, Stopped, VEHICLE, card, insertion, new_day, word};
 use activity_codec::{Activity, Entry, Owed, Slot};
 use card_commands::{Port, SimCard};
@@ -199,9 +199,9 @@ fn four() -> Owed
     Owed::from([first, second, third, last])
 }
 
-// What an insertion takes of the largest full card whose session was left open at this second, with four owed entries.
-fn inserted(alloc: Global, last_use: u32) -> Result<Figures, Fail> {
-    let mut card = card(alloc, largest(alloc, last_use)?)?;
+// What an insertion takes of a card with this image, with four owed entries.
+fn inserted(alloc: Global, image: Vec<u8>) -> Result<Figures, Fail> {
+    let mut card = card(alloc, image)?;
     if card.size() < 24959 {
         return Err(Fail::from("no card"));
     }
@@ -218,10 +218,24 @@ fn an_insertion_takes_few_commands(rt: HostRuntime) -> Result<(), Fail> {
     let alloc = rt.alloc();
     // in the first minute of its newest day, in its middle, and in the last one, up to which each minute has a word
     let newest = AFTER - 1440;
-    let early = inserted(alloc, 60 * newest)?;
-    let middle = inserted(alloc, 60 * (newest + 720))?;
-    let late = inserted(alloc, 60 * (newest + 1439))?;
+    let early = inserted(alloc, largest(alloc, 60 * newest)?)?;
+    let middle = inserted(alloc, largest(alloc, 60 * (newest + 720))?)?;
+    let late = inserted(alloc, largest(alloc, 60 * (newest + 1439))?)?;
     for figures in [early, middle, late] {
+        assert!(rt; figures.commands <= MOST_AT_INSERTION, "{figures:?}");
+    }
+    Ok(())
+}
+
+#[test]
+fn an_insertion_reads_the_days_that_go_in_blocks(rt: HostRuntime) -> Result<(), Fail> {
+    let alloc = rt.alloc();
+    // 400 days go, all 778 of them, and 984, the most that a string holds
+    let newest = AFTER - 1440;
+    let some = inserted(alloc, largest(alloc, 60 * (newest - 400 * 1440))?)?;
+    let all = inserted(alloc, largest(alloc, 60 * 1439)?)?;
+    let most = inserted(alloc, most_days(alloc, 60 * 1439)?)?;
+    for figures in [some, all, most] {
         assert!(rt; figures.commands <= MOST_AT_INSERTION, "{figures:?}");
     }
     Ok(())
