@@ -15,6 +15,3 @@ pub use behind::date_of;
 pub use fault::{BadFile, InsertFault};
 pub use files::{Judged, judge_image};
 pub use looking::{CardLook, judge, look};
-
-#[cfg(test)]
-mod tests;

@@ -13,6 +13,3 @@ mod walk;
 pub use days::Days;
 pub use fault::DaysFault;
 pub use head::{DayHead, Tail};
-
-#[cfg(test)]
-mod tests;

@@ -27,6 +27,3 @@ pub use mending::mend;
 pub use on_card::keep_on_card;
 pub use on_unit::keep_on_unit;
 pub use owing::owe;
-
-#[cfg(test)]
-mod tests;

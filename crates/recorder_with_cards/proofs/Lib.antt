@@ -31,6 +31,8 @@ pub mod Judged
 pub mod ActsRecorded
 pub mod Waiting
 pub mod SecondsRecorded
+pub mod Written
+pub mod WrittenRows
 pub mod Promised
 pub mod Later
 pub mod WakeNoted

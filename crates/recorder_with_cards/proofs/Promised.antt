@@ -69,6 +69,7 @@ use Rattle.run_acts.specs.Evented.{RunEvented}
 use Rattle.run_acts.proofs.Numbers.{own-long}
 use Rattle.recorder_with_cards.specs.Ends.{BeginAs, recorded_with, recording_of, opened_with, origin_of, MayRecord, EndsTrace}
 use Rattle.recorder_with_cards.proofs.Waiting.{first-second}
+use Rattle.recorder_with_cards.proofs.Written.{are-written}
 
 -- what holds of either card
 pub both : (P : Card → Type 0) → P A → P B → (c : Card) → P c
@@ -147,6 +148,7 @@ module _ (x a b : List ℕ) (start : ℕ) (items : List Item) (began now : Devic
     ends = ends-so (seconds_of start items) h.recorded.supply (values_of run out) h.recorded.recorded unit_whole card_whole found may.decodes;
     events = events-shown began now o (seconds_of start items) (log_of out) run.unfound run.next h.recorded.supply h.evented (recording_of x a b start items out) refl
         (both (λ c. card_image (recording_of x a b start items out) c ≡ card_image o.recording c) refl refl) refl refl (both (λ c. (found_of o.found c).began ≡ (card_of began c).clock) refl refl);
+    written = are-written o (seconds_of start items) h.recorded.supply (values_of run out) began now h.recorded.recorded (found-by r0 (seconds_of start items) (log_of out) (found_in r0 began) began found);
   }
 
 -- ---- as the run begins

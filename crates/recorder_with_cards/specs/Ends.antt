@@ -19,6 +19,7 @@ use Rattle.run_opening.specs.Opening.{IsAsItWas}
 use Rattle.run_opening.specs.declared.fault.RunFault.{RunFault}
 use Rattle.run_outcome.specs.declared.outcome.Outcome.{Outcome}
 use Rattle.run_acts.specs.Recording.{log_of}
+use Rattle.recorder_with_cards.specs.Written.{AreWritten}
 
 -- each device began with this image alone, and those of the cards are bytes
 pub record BeginAs (unit card_a card_b : List ℕ) (began : Devices) : Type 0 where
@@ -56,12 +57,13 @@ pub record MayRecord (unit card_a card_b : List ℕ) (start : ℕ) : Type 0 wher
   pub later : last_kept unit < start / 60
   pub numbers : IsOwnValid card_a → IsOwnValid card_b → own_number card_a ≢ own_number card_b
 
--- WHAT A RUN PROMISES that was recorded: it could begin, the crash-safety theorem holds of it, and every image that a stop may leave of the unit
--- shows its events and faults.
+-- WHAT A RUN PROMISES that was recorded: it could begin, the crash-safety theorem holds of it, every image that a stop may leave of the unit
+-- shows its events and faults, and every image of a card that was valid has been written so.
 pub record EndsTrace (unit card_a card_b : List ℕ) (start : ℕ) (items : List Item) (out : Outcome) (began now : Devices) : Type 0 where
   pub may : MayBegin (recording_of unit card_a card_b start items out)
   pub ends : EndsRun (recording_of unit card_a card_b start items out) out.marks.items began now
   pub events : (x : List ℕ) → now.unit.may_leave x → ShowsEventsOf (recording_of unit card_a card_b start items out) began now x
+  pub written : AreWritten (recording_of unit card_a card_b start items out) now
 
 -- OR IT WAS KEPT FROM BEING RECORDED: by these images, or a call that has failed in the opening; each device is as it was.
 pub record IsKeptFrom (unit card_a card_b : List ℕ) (start : ℕ) (began now : Devices) (fault : RunFault) : Type 0 where

@@ -10,6 +10,3 @@ pub use fault::RunFault;
 pub use on_card::judge_card;
 pub use on_unit::{OpenedUnit, judge_clock, judge_unit, load};
 pub use opening::{Opened, judge};
-
-#[cfg(test)]
-mod tests;

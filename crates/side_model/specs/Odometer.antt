@@ -1,5 +1,5 @@
 -- The odometer of a run (profile): what was stored at a power-on, and the speeds since.
-use Rattle.std.specs.Prelude.{◌≡◌, ℕ, ◌+◌, ◌*◌, ◌/◌, min, Bool, Option, Some, None, List, [], ◌∷◌, ◌++◌, map, filter, sum, Contains, nat_eq, nat_lt, if◌then◌else◌}
+use Rattle.std.specs.Prelude.{◌≡◌, ℕ, ◌+◌, ◌*◌, ◌/◌, min, Bool, false, Option, Some, None, List, [], ◌∷◌, ◌++◌, map, filter, sum, Contains, nat_eq, nat_lt, if◌then◌else◌}
 use Rattle.std.specs.List.{list_any}
 use Rattle.minute_model.specs.declared.Rule.{Rule}
 use Rattle.minute_model.specs.declared.Minute.{Minute}
@@ -7,9 +7,10 @@ use Rattle.minute_model.specs.Activity.{last}
 use Rattle.unit_model.specs.declared.layout.TheConstants.{HIGHEST_ODOMETER}
 use Rattle.log_model.specs.Log.{RunLog, kept_after}
 use Rattle.log_model.specs.Course.{Told}
-use Rattle.log_model.specs.Spans.{spans_of, seconds_in}
+use Rattle.log_model.specs.Spans.{spans_of, seconds_in, first_in}
 use Rattle.history_model.specs.History.{settlings_of, decided_of, cut_second}
 use Rattle.history_model.specs.Completeness.{deciding_of}
+use Rattle.side_model.specs.Done.{has_failed_in}
 
 -- a power span, and the odometer that was stored when it began, in kilometres
 pub record SpanFrom : Type 0 where
@@ -60,12 +61,18 @@ last_second [] = None
 last_second (s ∷ []) = last s.span
 last_second (s ∷ next ∷ spans) = last_second (next ∷ spans)
 
--- each of these spans, behind the others, begins with what the unit may store then; the first with the start's odometer
+-- A SPAN BEGINS, behind these, with an odometer that the unit may store after some last-kept minute: the one that was found, but where a
+-- call failed in its first second. The unit may not have been read then, and so it is not known what was kept.
+pub record BeginsFrom (rule : Rule) (log : RunLog) (start start_kept : ℕ) (earlier : List SpanFrom) (s : SpanFrom) : Type 0 where
+  pub kept : ℕ
+  pub found : has_failed_in log (first_in s.span) ≡ false → kept ≡ found_kept log start_kept (last_second earlier)
+  pub stored : MayStore rule start start_kept earlier kept s.base
+
+-- so does each of these spans, behind the others
 abbrev pub HaveBases : Rule → RunLog → (start start_kept : ℕ) → (earlier spans : List SpanFrom) → Type 0
 HaveBases rule log start start_kept earlier [] = Unit {0}
 HaveBases rule log start start_kept earlier (s ∷ spans) =
-    MayStore rule start start_kept earlier (found_kept log start_kept (last_second earlier)) s.base
-    × HaveBases rule log start start_kept (earlier ++ s ∷ []) spans
+    BeginsFrom rule log start start_kept earlier s × HaveBases rule log start start_kept (earlier ++ s ∷ []) spans
 
 -- the power spans of a run, each with the odometer that it began with
 pub record AreSpansFrom (rule : Rule) (log : RunLog) (told : List Told) (start start_kept : ℕ) (spans : List SpanFrom) : Type 0 where

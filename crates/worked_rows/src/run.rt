@@ -4,6 +4,7 @@ mod devices;
 mod downloads;
 mod events;
 mod formats;
+mod openings;
 mod reading;
 mod rows;
 mod table;

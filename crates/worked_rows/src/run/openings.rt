@@ -1,10 +1,10 @@
 //! Openings over a unit and two cards in memory.
-use super::*;
 use card_commands::SimCard;
 use card_files::{CardIdentity, blank_card};
 use card_layout::{Application, LARGEST_IMAGE};
 use run_crew::Known;
 use run_model::Device;
+use run_opening::{RunFault, judge};
 use std::alloc::{AllocError, Global};
 use std::test::Fail;
 use tach_media::{AbsentChip, Chip, Left, Medium, MemMedium, Memory, Stop};

@@ -4,8 +4,8 @@ ghost use Rattle.card_layout.specs.Application.{IsApplication};
 ghost use Rattle.card_layout.specs.Files.{image_size_of};
 ghost use Rattle.card_judge.specs.Judged.{TellsSizes};
 
-use super::*;
 use card_files::{CardIdentity, blank_card, image_size, read_application};
+use card_judge::{CardLook, InsertFault, Judged, judge, look};
 use card_layout::{Application, Fid};
 use card_records::Vehicle;
 use std::alloc::Global;

@@ -1,7 +1,7 @@
 ghost use Rattle.std.specs.Prelude.{◌≡◌, ◌≤◌, IfOk, length};
 
-use crate::{DayHead, Days, DaysFault};
 use card_layout::Range;
+use cyclic_days::{DayHead, Days, DaysFault};
 use std::alloc::Global;
 use std::test::Fail;
 use tach_media::{Left, Medium, MemMedium, Memory, Stop};

@@ -9,12 +9,12 @@ ghost use Rattle.unit_model.specs.Image.{IsUnit};
 ghost use Rattle.unit_journal.specs.Image.{Agrees};
 ghost use Rattle.owed_model.specs.Rows.{HasRow};
 
-use super::*;
 use activity_codec::{Activity, Entry, Pick, Slot};
 use card_commands::{PortFault, SimCard, read_sizes};
 use card_files::{CardIdentity, blank_card};
 use card_layout::{Application, LARGEST, LARGEST_IMAGE};
 use card_session::{CardSession, Kept};
+use device_steps::{NotEntered, begin, enter, keep_on_card, keep_on_unit, leave, mend};
 use std::alloc::{AllocError, Global};
 use std::rt::HostRuntime;
 use std::test::Fail;

@@ -1,0 +1,30 @@
+-- A worked row: what three entries and a withdrawal make of a new card.
+use Rattle.std.proofs.Common.{◌≡◌, ◌+◌, ◌*◌, ℕ, List, [], ◌∷◌, Option, Some, None, refl}
+use Rattle.activity_codec.specs.declared.values.Activity.TheVariants.{Work}
+use Rattle.activity_codec.specs.declared.entries.Entry.{Entry}
+use Rattle.card_records.specs.declared.vehicle.Vehicle.{Vehicle}
+use Rattle.card_session.specs.Books.{Book}
+use Rattle.card_session.proofs.Rows.{midnight, day, this_vehicle, using, work}
+use Rattle.card_steps.specs.Deeds.{EntryKept, Keep, Close, Step, Done, MadeBy, kept_in}
+
+-- the keep of a minute of the day, with this odometer and so many km behind the one before
+abbrev keep : (odometer km minute : ℕ) → Step
+keep odometer km minute = Done (Keep (record { entry = work minute; registration = this_vehicle; odometer = odometer; km = km }))
+
+-- 10:00, 10:01 and, behind a gap, 10:03; then the card is withdrawn with work selected
+abbrev steps : List Step
+steps = keep 100 0 600 ∷ keep 101 1 601 ∷ keep 103 2 603 ∷ Done (Close Work) ∷ []
+
+abbrev written : (km : ℕ) → List ℕ → Option Vehicle → Book
+written km words vehicle = record { days = day km words ∷ []; vehicle = vehicle }
+
+entries : kept_in steps ≡ work 600 ∷ work 601 ∷ work 603 ∷ []
+entries = refl
+
+-- the day has 3 km and five words, the last of which closes; the vehicle was used from 10:00 to 10:04, over 3 km
+made : MadeBy 5544 steps (record { days = []; vehicle = None }) (written 3 (0x2000 ∷ 0x1258 ∷ 0x225A ∷ 0x125B ∷ 0x325C ∷ []) (using 103 604))
+made = (
+  written 0 (0x2000 ∷ 0x1258 ∷ []) (using 100 600),
+  refl,
+  (written 1 (0x2000 ∷ 0x1258 ∷ []) (using 101 601), refl, (written 3 (0x2000 ∷ 0x1258 ∷ 0x225A ∷ 0x125B ∷ []) (using 103 603), refl, (written 3 (0x2000 ∷ 0x1258 ∷ 0x225A ∷ 0x125B ∷ 0x325C ∷ []) (using 103 604), refl, refl))),
+)
