@@ -18,7 +18,7 @@ pub mod Inside
 pub mod Lists
 pub mod Matching
 pub mod Mending
-pub mod Newest
+pub mod Rears
 pub mod OneWrite
 pub mod Places
 pub mod Putting

@@ -5,3 +5,4 @@ pub mod Heads
 pub mod Held
 pub mod Plans
 pub mod Loading
+pub mod Rears

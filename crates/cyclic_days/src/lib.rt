@@ -7,6 +7,7 @@ mod days;
 mod fault;
 mod head;
 mod load;
+mod rear;
 mod tail;
 mod walk;
 

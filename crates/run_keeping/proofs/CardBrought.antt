@@ -45,10 +45,11 @@ use Rattle.run_crew.specs.declared.cards.Accepted.{Accepted}
 use Rattle.run_crew.specs.declared.cards.Cards.{Cards}
 use Rattle.run_rule.specs.Found.{CardFound, Found, found_of, unit_seen, AnyKept}
 use Rattle.run_rule.specs.Cards.{brought_by, CardMarksHold}
-use Rattle.run_strung.specs.Strung.{IsHeld}
+use Rattle.run_strung.specs.Strung.{IsHeld, HasSameHolder}
 use Rattle.run_told.specs.Told.{AreFoundCards, IsOn, GoesOwing}
 use Rattle.run_told.proofs.Parts.{both_of, as-steps, of-steps, left-one, told-one}
-use Rattle.run_told.proofs.OnCards.{own-valid, valid-own, valid-on, own-number-still}
+use Rattle.run_told.proofs.Holders.{card-file}
+use Rattle.run_told.proofs.OnCards.{own-valid, valid-own, valid-on, own-holder-still, then-holder}
 use Rattle.run_keeping.specs.Keeping.{Fate, Still, Has, Fell, marks_by}
 use Rattle.run_keeping.specs.Books.{standing_by}
 use Rattle.run_keeping.specs.Owing.{CardOwing}
@@ -160,19 +161,19 @@ module _ (f : Found) (cards : Cards) (found : AreFoundCards f cards) (c : Card) 
       (keep_valid s.application sound x (fits x told) (own-valid s.application x sizes (one.valid x (whole.counts_now g.began x rule.dark.later there))) (opened-here x told) (days_there s x knows) s.registration odometer (grown s.odometer odometer) e y
       (asked_at s x e.minute late knows) k.card)) one.valid
 
-  same-number : (x y : List ℕ) → X.may_leave x → IsCardKeeping s e odometer x y → own_number y ≡ own_number x
-  same-number x y there k =
+  same-holder : (x y : List ℕ) → X.may_leave x → IsCardKeeping s e odometer x y → HasSameHolder x y
+  same-holder x y there k =
       let sizes : own_sizes x ≡ s.application = is x there ∙ sym on.sizes in
-      own-number-still s.application x y sizes (sizes-same s.application _ x y k.card ∙ sizes) (keep-number s.application _ x y k.card)
+      own-holder-still s.application x y sizes (sizes-same s.application _ x y k.card ∙ sizes) (keep-number s.application _ x y k.card) (card-file s.application _ x y k.card)
 
   number-now : (x : List ℕ) → Y.may_leave x → own_number x ≡ g.number
   number-now y left = ⊎_elim (held.number y)
-      (λ here. let there = whole.is_left here.0 here.1 in same-number here.0 y there here.2 ∙ held.number here.0 there)
+      (λ here. let there = whole.is_left here.0 here.1 in (same-holder here.0 y there here.2).number ∙ held.number here.0 there)
       (keeping.now y left)
 
-  number-since : (x : List ℕ) → Y.left_since g.began x → own_number x ≡ own_number g.image
-  number-since y left = ⊎_elim (held.still y)
-      (λ here. let there = whole.is_left here.0 here.1 in same-number here.0 y there here.2 ∙ held.still here.0 (whole.counts_now g.began here.0 rule.dark.later there))
+  holder-since : (x : List ℕ) → Y.left_since g.began x → HasSameHolder g.image x
+  holder-since y left = ⊎_elim (held.still y)
+      (λ here. let there = whole.is_left here.0 here.1 in then-holder g.image here.0 y (held.still here.0 (whole.counts_now g.began here.0 rule.dark.later there)) (same-holder here.0 y there here.2))
       (keeping.since g.began y rule.dark.later left)
 
   brought-now : (k : ℕ) → Contains ks k → HasBrought f.card_a.number f.card_b.number c k U Y
@@ -191,7 +192,7 @@ module _ (f : Found) (cards : Cards) (found : AreFoundCards f cards) (c : Card) 
     rule = of-steps f found.two c b (Torn on.time e.minute e.minute) [] [] U Y ((at-the-end true (λ well. absurd (cc))).torn refl);
     valid = valid-now;
     brought = brought-now;
-    held = record { tells = run.tells ∙ held.tells; now = each-after.now; since = each-after.since; number = number-now; still = number-since };
+    held = record { tells = run.tells ∙ held.tells; now = each-after.now; since = each-after.since; number = number-now; still = holder-since };
     goes = record { has = brought_by c g.start b; all = append-nil (brought_by c g.start b); goes = tt };
     hold = same-marks g c b marks Y (moment-hold g c b marks e X Y whole low views one.hold);
   }
@@ -221,7 +222,7 @@ module _ (f : Found) (cards : Cards) (found : AreFoundCards f cards) (c : Card) 
       rule = of-steps f found.two c b (In on.time e.minute) [] [] U Y ((at-the-end false (λ well. ends)).kept refl);
       valid = valid-now;
       brought = brought-now;
-      held = record { tells = run.tells ∙ held.tells; now = each-after.now; since = each-after.since; number = number-now; still = number-since };
+      held = record { tells = run.tells ∙ held.tells; now = each-after.now; since = each-after.since; number = number-now; still = holder-since };
       goes = record {
         has = brought_by c g.start b;
         all = append-nil (brought_by c g.start b);

@@ -81,7 +81,7 @@ module _ (f : Found) (c : Card) (b : Book) (z : Standing) (unit card : State) (s
       kept = λ x left. subst (λ (es : List Entry). KeepsOf g.image (es ++ counted_to (own_view x).mark lies) (own_view x).held) (sym s.entries) (s.held.since x left).1;
       valid = s.valid;
       sizes = λ x left. (s.held.since x left).0;
-      number = s.held.still;
+      number = λ x left. (s.held.still x left).number;
       rises = s.rises;
     };
     comes = goes;

@@ -4,6 +4,7 @@ use Rattle.trace_model.specs.declared.Card.{Card}
 use Rattle.tach_media.specs.Medium.{State}
 use Rattle.card_layout.specs.Application.{IsApplication}
 use Rattle.card_retention.specs.Retains.{Rise}
+use Rattle.card_image.specs.Fields.{file_bytes}
 use Rattle.card_image.specs.Own.{own_view, own_sizes, own_number, IsOwnValid}
 use Rattle.card_steps.specs.Since.{HoldsSince}
 use Rattle.card_steps.specs.Each.{KeepsSince}
@@ -14,15 +15,24 @@ use Rattle.joint_rule.specs.Marked.{of_card}
 use Rattle.run_rule.specs.Found.{CardFound, Found, found_of, unit_seen, AnyKept}
 use Rattle.run_rule.specs.Cards.{brought_by}
 
+-- the file Identification of a card's image
+abbrev pub identification_of : List ℕ → List ℕ
+identification_of x = file_bytes (own_sizes x) 0x0520 x
+
+-- it is the card of the same holder still: its number, and its file Identification
+pub record HasSameHolder (start x : List ℕ) : Type 0 where
+  pub number : own_number x ≡ own_number start
+  pub identification : identification_of x ≡ identification_of start
+
 -- THE STRING OF A CARD, which tells its images: each that a stop may leave now holds it, and an entry may come behind its newest minute as
--- the card stands; and each since the start keeps it. The card has its number still.
+-- the card stands; and each since the start keeps it. The card has its number and its holder still.
 pub record IsHeld (f : CardFound) (c : Card) (b : Book) (z : Standing) (card : State) : Type 0 where
   pub tells : is_some card.image ≡ true
   pub now : (x : List ℕ) → card.may_leave x →
       (own_sizes x ≡ own_sizes f.image) × HoldsSince (own_sizes f.image) f.image (brought_by c f.start b) (suc (max f.start.word (since z (own_view x).newest))) x
   pub since : (x : List ℕ) → card.left_since f.began x → (own_sizes x ≡ own_sizes f.image) × KeepsSince f.image (brought_by c f.start b) x
   pub number : (x : List ℕ) → card.may_leave x → own_number x ≡ f.number
-  pub still : (x : List ℕ) → card.left_since f.began x → own_number x ≡ own_number f.image
+  pub still : (x : List ℕ) → card.left_since f.began x → HasSameHolder f.image x
 
 -- So its string is held; each image since the start is valid; the entries rise. Nothing of a minute is half kept, and the rule that joins
 -- unit and card holds.

@@ -75,10 +75,11 @@ use Rattle.run_rule.specs.Found.{CardFound, Found, found_of, unit_seen, AnyKept}
 use Rattle.run_rule.specs.Cards.{brought_by, IsCardHeld}
 use Rattle.run_rule.specs.Between.{Carried}
 use Rattle.run_rule.proofs.OwedRises.{owed-rises}
-use Rattle.run_strung.specs.Strung.{IsHeld}
+use Rattle.run_strung.specs.Strung.{IsHeld, HasSameHolder}
 use Rattle.run_told.specs.Told.{HasFoundSo, AreFoundCards, IsPutIn, IsPowered, IsPowerless, arranged, card_marks, with_marks}
 use Rattle.run_told.proofs.Parts.{both_of, as-steps, of-steps, told-one, CardLit, off-of, UnitLit, AreParts, MarksLit, parts-of, powered-of, powerless-of, brought-on}
-use Rattle.run_told.proofs.OnCards.{valid-own, valid-or, no-marks, number-own, own-number-still, Rises, rises-run, none-falls, marks-on, brought-card, bound_of, held-on, held-read, valid-on}
+use Rattle.run_told.proofs.Holders.{inserting-file}
+use Rattle.run_told.proofs.OnCards.{valid-own, valid-or, no-marks, number-own, own-holder-still, Rises, rises-run, none-falls, marks-on, brought-card, bound_of, held-on, held-read, valid-on}
 use Rattle.run_told.proofs.StringMore.{mark-own}
 use Rattle.run_told.proofs.Power.{follow-of}
 use Rattle.run_told.proofs.Opened.{owed-none}
@@ -180,8 +181,9 @@ module _ (f : Found) (b : Book) (c : Card) (u x : List ℕ) (sound : IsApplicati
   same-sizes : (y : List ℕ) → IsCardInserting app registration odometer given now x y → own_sizes y ≡ own_sizes x
   same-sizes y moment = own-sizes-same app x y (inserting_keeps app registration odometer now given long x y (omega (arith, use_inside app, fits)) moment).0
 
-  same-number : (y : List ℕ) → IsCardInserting app registration odometer given now x y → own_number y ≡ own_number x
-  same-number y moment = own-number-still app x y is-sizes (same-sizes y moment ∙ is-sizes) (number_again app registration odometer now given long x y (omega (arith, use_inside app, fits)) moment)
+  same-holder : (y : List ℕ) → IsCardInserting app registration odometer given now x y → HasSameHolder x y
+  same-holder y moment = own-holder-still app x y is-sizes (same-sizes y moment ∙ is-sizes) (number_again app registration odometer now given long x y (omega (arith, use_inside app, fits)) moment)
+      (inserting-file app registration odometer now given long x y (omega (arith, use_inside app, fits)) moment)
 
   new-view : (y : List ℕ) → IsCardInserting app registration odometer given now x y → own_view y ≡ card_view app y
   new-view y moment = own-is app y (same-sizes y moment ∙ is-sizes)
@@ -349,7 +351,7 @@ module _ (f : Found) (w : Carried) (c : Card) (U V X Y : State) (two : f.card_a.
               sizes-at y (moment-at a y t m) ∙ sizes,
               put-holds f w.book c u x sound registration long odometer now few fits sizes (one.held.number x there) valid unit.none sure meets (one.held.now x there).1 are y (moment-at a y t m),
             ))
-            (λ a y t m. same-number f w.book c u x sound registration long odometer now few fits sizes (one.held.number x there) valid unit.none sure meets (one.held.now x there).1 y (moment-at a y t m) ∙ ap own_number (this a t)) whole one.held;
+            (λ a y t m. subst (λ (l : List ℕ). HasSameHolder l y) (this a t) (same-holder f w.book c u x sound registration long odometer now few fits sizes (one.held.number x there) valid unit.none sure meets (one.held.now x there).1 y (moment-at a y t m))) whole one.held;
         valid = valid-on (found_of f c).began (IsCardInserting (own_sizes (found_of f c).image) registration odometer (owed_on (own_sizes (found_of f c).image) u x) now) X Y one.rule.dark.later run
             (λ a y t m. valid-own (own_sizes (found_of f c).image) y (sizes-at y (moment-at a y t m) ∙ sizes)
             (put-valid f w.book c u x sound registration long odometer now few fits sizes (one.held.number x there) valid unit.none sure meets (one.held.now x there).1 are y (moment-at a y t m))) one.valid;

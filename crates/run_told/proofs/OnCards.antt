@@ -11,7 +11,7 @@ use Rattle.card_layout.specs.declared.files.Fid.{Fid}
 use Rattle.card_layout.specs.Application.{IsApplication}
 use Rattle.card_image.specs.View.{CardView}
 use Rattle.card_image.specs.Judging.{IsValid}
-use Rattle.card_image.specs.Fields.{card_number}
+use Rattle.card_image.specs.Fields.{card_number, file_bytes}
 use Rattle.card_image.specs.Own.{own_view, own_sizes, own_number, own_bad_file, IsOwnValid}
 use Rattle.card_steps.specs.Since.{HoldsSince}
 use Rattle.card_steps.proofs.Kept.{holds_kept}
@@ -26,10 +26,11 @@ use Rattle.unit_rule.specs.Rule.{Started}
 use Rattle.unit_rule.specs.Marks.{Holds}
 use Rattle.run_rule.specs.Found.{CardFound, Found, found_of, unit_seen, AnyKept}
 use Rattle.run_rule.specs.Cards.{brought_by, IsCardHeld, CardMarksHold}
-use Rattle.run_strung.specs.Strung.{IsHeld}
+use Rattle.run_strung.specs.Strung.{IsHeld, HasSameHolder}
 use Rattle.run_brought.specs.Stays.{NoMarkFalls}
 use Rattle.run_brought.proofs.Stays.{stays, adds-none}
 use Rattle.run_told.proofs.Parts.{left-one}
+use Rattle.run_told.proofs.Holders.{HaveSameFile}
 
 -- ---- validity by the card's own sizes
 
@@ -48,6 +49,19 @@ number-own app x is = ap (λ (a : Application). card_number a x) is
 
 pub own-number-still : (app : Application) (x n : List ℕ) → own_sizes x ≡ app → own_sizes n ≡ app → card_number app n ≡ card_number app x → own_number n ≡ own_number x
 own-number-still app x n is is_then same = number-own app n is_then ∙ same ∙ sym (number-own app x is)
+
+-- and its holder
+pub own-holder-still : (app : Application) (x n : List ℕ) → own_sizes x ≡ app → own_sizes n ≡ app → card_number app n ≡ card_number app x → HaveSameFile app x n → HasSameHolder x n
+own-holder-still app x n is is_then same same_file = record {
+  number = own-number-still app x n is is_then same;
+  identification = ap (λ (a : Application). file_bytes a 0x0520 n) is_then ∙ same_file ∙ sym (ap (λ (a : Application). file_bytes a 0x0520 x) is);
+}
+
+pub same-holder : (start : List ℕ) → HasSameHolder start start
+same-holder start = record { number = refl; identification = refl }
+
+pub then-holder : (start x n : List ℕ) → HasSameHolder start x → HasSameHolder x n → HasSameHolder start n
+then-holder start x n first next = record { number = next.number ∙ first.number; identification = next.identification ∙ first.identification }
 
 pub valid-or : (x : List ℕ) → IsOwnValid x ⊎ (IsOwnValid x → ⊥)
 valid-or x = by (own_bad_file x) refl
@@ -114,15 +128,15 @@ module _ (f : CardFound) (c : Card) (b : Book) (sound : IsApplication (own_sizes
   Holds_at z x = (own_sizes x ≡ own_sizes f.image) × HoldsSince (own_sizes f.image) f.image (brought_by c f.start b) (bound_of f z x) x
 
   pub held-on : (y z : Standing) (R : List ℕ → List ℕ → Type 0) (X Y : State) → f.began ≤ X.clock → LeavesOnly X Y R → ((x : List ℕ) → X.may_leave x → Holds_at y x → Holds_at z x) → ((x n : List ℕ) → X.image ≡ Some x → R x n → Holds_at y x → Holds_at z n)
-      → ((x n : List ℕ) → X.image ≡ Some x → R x n → own_number n ≡ own_number x)
+      → ((x n : List ℕ) → X.image ≡ Some x → R x n → HasSameHolder x n)
       → IsCoherent X → IsHeld f c b y X → IsHeld f c b z Y
   held-on y z R X Y began run still made same whole h = record {
     tells = run.tells ∙ h.tells;
     now = λ n there. ⊎_elim (λ was. still n was (h.now n was)) (λ one. made one.0 n one.1 one.2 (h.now one.0 (whole.is_left one.0 one.1))) (run.now n there);
     since = λ n left. ⊎_elim (h.since n)
         (λ one. let is = made one.0 n one.1 one.2 (h.now one.0 (whole.is_left one.0 one.1)) in (is.0, holds_kept (own_sizes f.image) sound f.image n refl is.0 (brought_by c f.start b) (bound_of f z n) is.1)) (run.since f.began n began left);
-    number = λ n there. ⊎_elim (h.number n) (λ one. same one.0 n one.1 one.2 ∙ h.number one.0 (whole.is_left one.0 one.1)) (run.now n there);
-    still = λ n left. ⊎_elim (h.still n) (λ one. same one.0 n one.1 one.2 ∙ h.still one.0 (whole.counts_now f.began one.0 began (whole.is_left one.0 one.1))) (run.since f.began n began left);
+    number = λ n there. ⊎_elim (h.number n) (λ one. (same one.0 n one.1 one.2).number ∙ h.number one.0 (whole.is_left one.0 one.1)) (run.now n there);
+    still = λ n left. ⊎_elim (h.still n) (λ one. then-holder f.image one.0 n (h.still one.0 (whole.counts_now f.began one.0 began (whole.is_left one.0 one.1))) (same one.0 n one.1 one.2)) (run.since f.began n began left);
   }
 
 -- a card that was only read

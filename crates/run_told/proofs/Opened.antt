@@ -34,10 +34,10 @@ use Rattle.run_rule.specs.Cards.{brought_by}
 use Rattle.run_rule.specs.Between.{IsCarried}
 use Rattle.run_rule.specs.Opening.{BeginsAs, IsLookedAt, carried_first}
 use Rattle.run_rule.proofs.OwedRises.{owed-rises}
-use Rattle.run_strung.specs.Strung.{IsHeld}
+use Rattle.run_strung.specs.Strung.{IsHeld, HasSameHolder}
 use Rattle.run_told.specs.Told.{IsHeldDark, IsPowerless}
 use Rattle.run_told.proofs.Parts.{held-dark}
-use Rattle.run_told.proofs.OnCards.{own-valid, bound_of}
+use Rattle.run_told.proofs.OnCards.{own-valid, same-holder, bound_of}
 use Rattle.run_told.proofs.Power.{follow-of}
 use Rattle.run_told.proofs.StringMore.{mark-own}
 
@@ -114,7 +114,7 @@ module _ (f : Found) (c : Card) (u x : List ℕ) (card : State) (whole : IsCoher
     since = λ y left. subst (λ (k : List ℕ). (own_sizes k ≡ own_sizes (found_of f c).image) × KeepsSince (found_of f c).image (brought_by c (found_of f c).start not_begun) k) (sym (only y left))
         (same-sizes, holds_kept (own_sizes (found_of f c).image) (subst (λ (i : List ℕ). IsApplication (own_sizes i)) (sym looked.image) sound) (found_of f c).image x refl same-sizes (brought_by c (found_of f c).start not_begun) (bound_of (found_of f c) Out x) found-starts);
     number = λ y there. ap own_number (only-now y there) ∙ sym number;
-    still = λ y left. ap own_number (only y left ∙ sym looked.image);
+    still = λ y left. subst (HasSameHolder (found_of f c).image) (looked.image ∙ sym (only y left)) (same-holder (found_of f c).image);
   }
 
   pub opened-wait : IsHeldDark (found_of f c) c not_begun Out card

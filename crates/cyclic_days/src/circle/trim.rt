@@ -1,16 +1,18 @@
 ghost use Rattle.std.specs.Prelude.{◌≡◌, ◌≤◌, ◌<◌, ◌+◌, ◌*◌, List, length, IfOk, OnOk, IfSome, is_err, option_map, true, [], ◌≢◌};
 ghost use Rattle.card_model.specs.declared.lengths.TheConstants.{DAYS_MOST};
-ghost use Rattle.tach_media.specs.Medium.{LeavesOnly, Reads, HasCause, LiesInside, IsPartlyWritten, IsSettled, last_count, put, bytes_at};
+ghost use Rattle.tach_media.specs.Medium.{LeavesOnly, Reads, HasCause, LiesInside, IsPartlyWritten, IsSettled, last_count, put};
 ghost use Rattle.card_model.specs.Days.{Day};
-ghost use Rattle.card_model.specs.Bytes.{number, two_bytes};
+ghost use Rattle.card_model.specs.Bytes.{two_bytes};
 ghost use Rattle.card_model.specs.Changes.{early, until, date_of, cut};
-ghost use Rattle.card_model.specs.Image.{Holds, IsAt, IsPointer, IsStringShape, at, spot};
+ghost use Rattle.card_model.specs.Image.{Holds, IsAt, IsPointer, IsStringShape, at};
 ghost use Rattle.cyclic_days.specs.Moments.{FileFitsIn};
+ghost use Rattle.cyclic_days.specs.Rears.{IsRear, LiesOn};
 ghost use Rattle.cyclic_days.specs.Steps.{SettlesIfSettled};
-ghost use Rattle.cyclic_days.specs.Trim.{IsWithoutLast, IsLosingLast, IsTrimming, IsTrimmed, WritesOrReads, newest_later, IsCutLast, IsCuttingLast, IsTrim, IsTrimMoment, WritesWhereDays};
+ghost use Rattle.cyclic_days.specs.Trim.{IsWithoutLast, IsLosingLast, IsTrimming, IsTrimmed, WritesOrReads, IsCutLast, IsCuttingLast, IsTrim, IsTrimMoment, WritesWhereDays};
 
 use super::Circle;
-use crate::bytes::{read_two, write_two};
+use crate::bytes::write_two;
+use crate::rear::Rear;
 use card_model::lengths::DAYS_MOST;
 use tach_media::{Failed, Medium};
 
@@ -29,57 +31,33 @@ impl Circle {
         write_two(medium, self.base + 2, n)
     }
 
-    // Drops the newest day.
-    fn drop_newest<M: Medium>(&self, medium: &mut M) -> Result<(), Failed>
+    // Drops the newest day, as it was read. What stands at the newest end then.
+    fn drop_newest<M: Medium>(&self, medium: &mut M, rear: Rear) -> Result<Rear, Failed>
         requires fits { FileFitsIn self.now (M.state medium.old) }
         requires writable { LiesInside (M.state medium.old).writable self.now.base (4 + self.now.size) }
-        ensures shape { IsStringShape self.now }
+        requires shape { IsStringShape self.now }
+        requires lies { LiesOn self.now rear }
+        requires known { IfSome (M.state medium.old).image (IsRear self.now rear) }
         ensures shortened { OnOk result (IfSome (M.state medium.old).image (λ x. IfSome (M.state medium.new).image (IsWithoutLast self.now x))) }
         ensures moments { LeavesOnly (M.state medium.old) (M.state medium.new) (IsLosingLast self.now) }
         ensures settled { OnOk result ((M.state medium.new).clock < last_count → IsSettled (M.state medium.new)) }
         ensures cause { HasCause (M.state medium.old) (M.state medium.new) (is_err result) }
         ensures most { (M.state medium.new).clock ≤ (M.state medium.old).clock + 1 }
+        ensures lies { IfOk result (LiesOn self.now) }
+        ensures known { IfOk result (λ v. IfSome (M.state medium.new).image (IsRear self.now v)) }
     {
-        let newest = self.newest(medium)?;
-        let oldest = self.oldest(medium)?;
-        if oldest == newest {
-            return self.put_two(medium, self.spot(newest, 2), 0);
+        if rear.oldest == rear.newest {
+            self.put_two(medium, self.spot(rear.newest, 2), 0)?;
+            return self.rear(medium);
         }
-        let len = self.previous_at(medium, newest)?;
-        self.put_newest(medium, self.back(newest, len))
+        let len = Self::day_len(rear.head.previous as u32);
+        let newest = self.back(rear.newest, len);
+        self.put_newest(medium, newest)?;
+        self.rear_at(medium, rear.oldest, newest, rear.block)
     }
 
-    // The date of the day at a place.
-    fn date_at<M: Medium>(&self, medium: &mut M, place: u32) -> Result<u32, Failed>
-        requires fits { FileFitsIn self.now (M.state medium.old) }
-        requires pointer { IsPointer self.now.size place }
-        ensures date { IfOk result (λ n. IfSome (M.state medium.old).image (λ x. n ≡ 65536 * number (bytes_at x (at self.now (spot self.now.size place 4)) 2)
-            + number (bytes_at x (at self.now (spot self.now.size place 6)) 2))) }
-        ensures reads { Reads (M.state medium.old) (M.state medium.new) (is_err result) }
-    {
-        let field = self.base + 4 + self.spot(place, 4);
-        let high = read_two(medium, field)?;
-        let field = self.base + 4 + self.spot(place, 6);
-        let low = read_two(medium, field)?;
-        Ok(high * 65536 + low)
-    }
-
-    // Whether there is a newest day, and it is later than a date.
-    fn is_later<M: Medium>(&self, medium: &mut M, date: u64) -> Result<bool, Failed>
-        requires fits { FileFitsIn self.now (M.state medium.old) }
-        ensures shape { IsStringShape self.now }
-        ensures later { IfOk result (λ later. IfSome (M.state medium.old).image (λ x. (days : List Day) → Holds self.now x days → later ≡ newest_later date days)) }
-        ensures reads { Reads (M.state medium.old) (M.state medium.new) (is_err result) }
-    {
-        let newest = self.newest(medium)?;
-        if self.len_at(medium, newest)? == 0 {
-            return Ok(false);
-        }
-        Ok(self.date_at(medium, newest)? as u64 > date)
-    }
-
-    // Drops the days later than a date, the newest first. A stop at a moment of the call leaves a list between the days
-    // before and those up to the date.
+    // Drops the days later than a date, the newest first, each by a write of its own; their heads are read in blocks. A stop
+    // at a moment of the call leaves a list between the days before and those up to the date.
     pub(crate) fn drop_later<M: Medium>(&self, medium: &mut M, date: u64) -> Result<(), Failed>
         requires fits { FileFitsIn self.now (M.state medium.old) }
         requires writable { LiesInside (M.state medium.old).writable self.now.base (4 + self.now.size) }
@@ -93,11 +71,12 @@ impl Circle {
         ensures writes { IfSome (M.state medium.old).image (λ x. (days : List Day) → Holds self.now x days → (M.state medium.new).clock + length (until date days) ≤ (M.state medium.old).clock + (length days + 1)) }
         ensures drops { OnOk result (IfSome (M.state medium.old).image (λ x. (days : List Day) → Holds self.now x days → (M.state medium.new).clock + length (until date days) ≤ (M.state medium.old).clock + length days)) }
     {
-        let mut later = self.is_later(medium, date)?;
+        let mut rear = self.rear(medium)?;
+        let mut later = rear.is_later(date);
         let mut count: u32 = 0;
         while later && count < DAYS_MOST {
-            self.drop_newest(medium)?;
-            later = self.is_later(medium, date)?;
+            rear = self.drop_newest(medium, rear)?;
+            later = rear.is_later(date);
             count += 1;
         }
         Ok(())

@@ -1,35 +1,26 @@
-use Rattle.std.proofs.Common.{◌≡◌, ◌+◌, List, [], ℕ, inl, false, Option, IfSome, arith, refl, sym, ◌∙◌, subst}
+use Rattle.std.proofs.Common.{◌≡◌, ◌+◌, List, [], ℕ, inl, false, IfSome, arith, sym, ◌∙◌}
 use Rattle.tach_media.specs.Medium.{Reads}
-use Rattle.tach_media.proofs.Runs.{goes_on, goes_same, at_image, where_told, told_too, cause_after}
+use Rattle.tach_media.proofs.Runs.{goes_on, at_image, where_told, told_too, cause_after}
 use Rattle.card_model.specs.Days.{Day}
 use Rattle.card_model.specs.Image.{Holds}
 use Rattle.cyclic_days.specs.Trim.{IsTrimming, IsTrimmed, IsWithoutLast, newest_later}
-use Rattle.cyclic_days.proofs.Settling.{none_later, then_reads}
+use Rattle.cyclic_days.proofs.Rears.{later_told}
+use Rattle.cyclic_days.proofs.Settling.{none_later}
 use Rattle.cyclic_days.proofs.Told.{if_told, from_told, through_both}
 use Rattle.cyclic_days.proofs.Trimming.{trimming_then, trimming_one, trimming_part, trimming_fewer, ends_trimmed, too_many, until_short, drops_few}
 use Rattle.cyclic_days.proofs.circle.Circle.drop_later.Goals as goal
 
-pub returns-in_err-drop_newest-clause-moments : goal.returns-in_err-drop_newest-clause-moments
-returns-in_err-drop_newest-clause-moments g c =
+pub returns-in_err-rear-2-clause-moments : goal.returns-in_err-rear-2-clause-moments
+returns-in_err-rear-2-clause-moments g c =
     let r = c.args.self.now in
     let date = c.args.date in
     let i = c.loop-later.count in
     let inv = c.loop-later.invariant in
+    let later = later_told (g.M.Medium.state c.loop-later.medium).image r inv.shape (λ x is. omega (arith, c.requires.fits, inv.moments.size, (g.met.M.Medium.coherent c.loop-later.medium).sized x is)) c.loop-later.rear date c.loop-later.later inv.later inv.known in
     goes_on inv.moments c.drop_newest.ensures.moments (λ x y d was is step.
     trimming_fewer r date (i + 0) x d (trimming_then r date i 0 x y d
     (at_image (IsTrimming r date i x) is (at_image (λ x. IfSome (g.M.Medium.state c.loop-later.medium).image (IsTrimming r date i x)) was inv.made))
-    (trimming_part r date y d (λ days h. sym (at_image (λ y. (days : List Day) → Holds r y days → c.loop-later.later ≡ newest_later date days) is inv.later days h) ∙ c.loop-later-test.true) step)))
-
-pub returns-in_err-later-2-clause-moments : goal.returns-in_err-later-2-clause-moments
-returns-in_err-later-2-clause-moments g c =
-    let r = c.args.self.now in
-    let date = c.args.date in
-    let i = c.loop-later.count in
-    let inv = c.loop-later.invariant in
-    goes_same (goes_on inv.moments c.drop_newest.ensures.moments (λ x y d was is step.
-    trimming_fewer r date (i + 0) x d (trimming_then r date i 0 x y d
-    (at_image (IsTrimming r date i x) is (at_image (λ x. IfSome (g.M.Medium.state c.loop-later.medium).image (IsTrimming r date i x)) was inv.made))
-    (trimming_part r date y d (λ days h. sym (at_image (λ y. (days : List Day) → Holds r y days → c.loop-later.later ≡ newest_later date days) is inv.later days h) ∙ c.loop-later-test.true) step)))) c.in_err-later-2.ensures.reads.leaves
+    (trimming_part r date y d (λ days h. sym (at_image (λ y. (days : List Day) → Holds r y days → c.loop-later.later ≡ newest_later date days) is later days h) ∙ c.loop-later-test.true) step)))
 
 pub loop-later-preserved : goal.loop-later-preserved
 loop-later-preserved g c =
@@ -37,24 +28,26 @@ loop-later-preserved g c =
     let date = c.args.date in
     let i = c.loop-later.count in
     let inv = c.loop-later.invariant in
-    let again = c.in_ok-later-2.ensures in
+    let again = c.in_ok-rear-2.ensures in
+    let later = later_told (g.M.Medium.state c.loop-later.medium).image r inv.shape (λ x is. omega (arith, c.requires.fits, inv.moments.size, (g.met.M.Medium.coherent c.loop-later.medium).sized x is)) c.loop-later.rear date c.loop-later.later inv.later inv.known in
     record {
       few = omega (arith, c.if-count-lt-DAYS_MOST.true);
-      most = omega (arith, inv.most, c.drop_newest.ensures.most, again.reads.clock);
+      most = omega (arith, inv.most, c.drop_newest.ensures.most);
       shape = inv.shape;
-      cause = cause_after (cause_after inv.cause c.in_ok-drop_newest.ensures.cause) again.reads.cause;
-      made = subst (λ (o : Option (List ℕ)). IfSome (g.M.Medium.state c.args.medium.now).image (λ x. IfSome o (IsTrimming r date (i + 1) x))) (sym (again.reads.same refl))
-          (through_both (g.M.Medium.state c.args.medium.now).image (g.M.Medium.state c.loop-later.medium).image (g.M.Medium.state c.drop_newest.new.medium).image (IsTrimming r date i) (IsWithoutLast r) (IsTrimming r date (i + 1))
-          inv.moments.tells inv.made c.in_ok-drop_newest.ensures.shortened (λ x y z was is a b. trimming_then r date i 1 x y z a
-          (trimming_one r date y z (λ days h. sym (at_image (λ y. (days : List Day) → Holds r y days → c.loop-later.later ≡ newest_later date days) is inv.later days h) ∙ c.loop-later-test.true) b)));
-      moments = goes_same (goes_on inv.moments c.drop_newest.ensures.moments (λ x y d was is step.
+      cause = cause_after inv.cause again.cause;
+      made = through_both (g.M.Medium.state c.args.medium.now).image (g.M.Medium.state c.loop-later.medium).image (g.M.Medium.state c.drop_newest.new.medium).image (IsTrimming r date i) (IsWithoutLast r) (IsTrimming r date (i + 1))
+          inv.moments.tells inv.made again.shortened (λ x y z was is a b. trimming_then r date i 1 x y z a
+          (trimming_one r date y z (λ days h. sym (at_image (λ y. (days : List Day) → Holds r y days → c.loop-later.later ≡ newest_later date days) is later days h) ∙ c.loop-later-test.true) b));
+      moments = goes_on inv.moments c.drop_newest.ensures.moments (λ x y d was is step.
           trimming_fewer r date (i + 0) x d (trimming_then r date i 0 x y d
           (at_image (IsTrimming r date i x) is (at_image (λ x. IfSome (g.M.Medium.state c.loop-later.medium).image (IsTrimming r date i x)) was inv.made))
-          (trimming_part r date y d (λ days h. sym (at_image (λ y. (days : List Day) → Holds r y days → c.loop-later.later ≡ newest_later date days) is inv.later days h) ∙ c.loop-later-test.true) step)))) again.reads.leaves;
-      settled = then_reads (inl c.in_ok-drop_newest.ensures.settled) again.reads;
+          (trimming_part r date y d (λ days h. sym (at_image (λ y. (days : List Day) → Holds r y days → c.loop-later.later ≡ newest_later date days) is later days h) ∙ c.loop-later-test.true) step)));
+      settled = inl again.settled;
       empty = if_told (g.M.Medium.state c.args.medium.now).image _ (λ x was h. absurd (none_later r date c.loop-later.later c.loop-later-test.true x was h
-          (at_image (λ x. Holds r x [] → Reads (g.M.Medium.state c.args.medium.now) (g.M.Medium.state c.loop-later.medium) false) was inv.empty h) inv.later));
-      later = subst (λ (o : Option (List ℕ)). IfSome o (λ y. (days : List Day) → Holds r y days → c.in_ok-later-2.later ≡ newest_later date days)) (sym (again.reads.same refl)) again.later;
+          (at_image (λ x. Holds r x [] → Reads (g.M.Medium.state c.args.medium.now) (g.M.Medium.state c.loop-later.medium) false) was inv.empty h) later));
+      lies = again.lies;
+      known = again.known;
+      later = c.is_later-later-in-loop-later.ensures;
     }
 
 pub returns-else-count-lt-DAYS_MOST-clause-trimmed : goal.returns-else-count-lt-DAYS_MOST-clause-trimmed
@@ -73,31 +66,25 @@ returns-after-loop-later-clause-trimmed g c =
     let date = c.args.date in
     let i = c.loop-later.count in
     let inv = c.loop-later.invariant in
+    let later = later_told (g.M.Medium.state c.loop-later.medium).image r inv.shape (λ x is. omega (arith, c.requires.fits, inv.moments.size, (g.met.M.Medium.coherent c.loop-later.medium).sized x is)) c.loop-later.rear date c.loop-later.later inv.later inv.known in
     where_told (g.M.Medium.state c.args.medium.now).image _ (IsTrimmed r date) (λ x y was is.
     ends_trimmed r date i x y (at_image (IsTrimming r date i x) is (at_image (λ x. IfSome (g.M.Medium.state c.loop-later.medium).image (IsTrimming r date i x)) was inv.made))
-    (λ days kept h s k. sym (at_image (λ y. (days : List Day) → Holds r y days → c.loop-later.later ≡ newest_later date days) is inv.later kept k) ∙ c.loop-later-test.false))
+    (λ days kept h s k. sym (at_image (λ y. (days : List Day) → Holds r y days → c.loop-later.later ≡ newest_later date days) is later kept k) ∙ c.loop-later-test.false))
 
-pub returns-in_err-drop_newest-clause-empty : goal.returns-in_err-drop_newest-clause-empty
-returns-in_err-drop_newest-clause-empty g c =
+pub returns-in_err-rear-2-clause-empty : goal.returns-in_err-rear-2-clause-empty
+returns-in_err-rear-2-clause-empty g c =
     let r = c.args.self.now in
     let date = c.args.date in
     let inv = c.loop-later.invariant in
+    let later = later_told (g.M.Medium.state c.loop-later.medium).image r inv.shape (λ x is. omega (arith, c.requires.fits, inv.moments.size, (g.met.M.Medium.coherent c.loop-later.medium).sized x is)) c.loop-later.rear date c.loop-later.later inv.later inv.known in
     if_told (g.M.Medium.state c.args.medium.now).image _ (λ x was h. absurd (none_later r date c.loop-later.later c.loop-later-test.true x was h
-    (at_image (λ x. Holds r x [] → Reads (g.M.Medium.state c.args.medium.now) (g.M.Medium.state c.loop-later.medium) false) was inv.empty h) inv.later))
+    (at_image (λ x. Holds r x [] → Reads (g.M.Medium.state c.args.medium.now) (g.M.Medium.state c.loop-later.medium) false) was inv.empty h) later))
 
-pub returns-in_err-later-2-clause-empty : goal.returns-in_err-later-2-clause-empty
-returns-in_err-later-2-clause-empty g c =
-    let r = c.args.self.now in
-    let date = c.args.date in
-    let inv = c.loop-later.invariant in
-    if_told (g.M.Medium.state c.args.medium.now).image _ (λ x was h. absurd (none_later r date c.loop-later.later c.loop-later-test.true x was h
-    (at_image (λ x. Holds r x [] → Reads (g.M.Medium.state c.args.medium.now) (g.M.Medium.state c.loop-later.medium) false) was inv.empty h) inv.later))
+pub returns-in_err-rear-clause-writes : goal.returns-in_err-rear-clause-writes
+returns-in_err-rear-clause-writes g c = if_told (g.M.Medium.state c.args.medium.now).image _ (λ x was days h. omega (arith, c.in_err-rear.ensures.reads.clock, until_short c.args.date days))
 
-pub returns-in_err-later-clause-writes : goal.returns-in_err-later-clause-writes
-returns-in_err-later-clause-writes g c = if_told (g.M.Medium.state c.args.medium.now).image _ (λ x was days h. omega (arith, c.in_err-later.ensures.reads.clock, until_short c.args.date days))
-
-pub returns-in_err-drop_newest-clause-writes : goal.returns-in_err-drop_newest-clause-writes
-returns-in_err-drop_newest-clause-writes g c =
+pub returns-in_err-rear-2-clause-writes : goal.returns-in_err-rear-2-clause-writes
+returns-in_err-rear-2-clause-writes g c =
     let inv = c.loop-later.invariant in
     if_told (g.M.Medium.state c.args.medium.now).image _ (λ x was days h.
     let now = told_too (g.M.Medium.state c.args.medium.now).image (g.M.Medium.state c.loop-later.medium).image x (sym inv.moments.tells) was in
@@ -105,20 +92,6 @@ returns-in_err-drop_newest-clause-writes g c =
       arith,
       inv.most,
       c.drop_newest.ensures.most,
-      drops_few c.args.self.now c.args.date c.loop-later.count x now.0
-          (at_image (IsTrimming c.args.self.now c.args.date c.loop-later.count x) now.1 (at_image (λ x. IfSome (g.M.Medium.state c.loop-later.medium).image (IsTrimming c.args.self.now c.args.date c.loop-later.count x)) was inv.made)) days h,
-    ))
-
-pub returns-in_err-later-2-clause-writes : goal.returns-in_err-later-2-clause-writes
-returns-in_err-later-2-clause-writes g c =
-    let inv = c.loop-later.invariant in
-    if_told (g.M.Medium.state c.args.medium.now).image _ (λ x was days h.
-    let now = told_too (g.M.Medium.state c.args.medium.now).image (g.M.Medium.state c.loop-later.medium).image x (sym inv.moments.tells) was in
-    omega (
-      arith,
-      inv.most,
-      c.drop_newest.ensures.most,
-      c.in_err-later-2.ensures.reads.clock,
       drops_few c.args.self.now c.args.date c.loop-later.count x now.0
           (at_image (IsTrimming c.args.self.now c.args.date c.loop-later.count x) now.1 (at_image (λ x. IfSome (g.M.Medium.state c.loop-later.medium).image (IsTrimming c.args.self.now c.args.date c.loop-later.count x)) was inv.made)) days h,
     ))

@@ -1,9 +1,9 @@
-use Rattle.std.proofs.Common.{◌≡◌, ◌≤◌, ◌+◌, ◌-◌, List, [], false}
+use Rattle.std.proofs.Common.{◌≡◌, ◌≤◌, ◌+◌, ◌-◌, [], false}
 use Rattle.std.specs.Prelude.{IfSome}
 use Rattle.tach_media.specs.Medium.{LeavesOnly, Reads, HasCause}
-use Rattle.card_model.specs.Days.{Day}
 use Rattle.card_model.specs.Image.{IsStringShape, Holds}
-use Rattle.cyclic_days.specs.Trim.{IsTrimming, WritesOrReads, newest_later}
+use Rattle.cyclic_days.specs.Rears.{head_later, IsRear, LiesOn}
+use Rattle.cyclic_days.specs.Trim.{IsTrimming, WritesOrReads}
 use Rattle.cyclic_days.proofs.circle.Circle.drop_later.Given as goal
 
 abbrev pub invariant-loop-later : goal.invariant-loop-later
@@ -19,7 +19,9 @@ invariant-loop-later g l =
       moments : LeavesOnly before now (IsTrimming l.self l.date 0);
       settled : WritesOrReads before now;
       empty : IfSome before.image (λ x. Holds l.self x [] → Reads before now false);
-      later : IfSome now.image (λ y. (days : List Day) → Holds l.self y days → l.later ≡ newest_later l.date days);
+      lies : LiesOn l.self l.rear;
+      known : IfSome now.image (IsRear l.self l.rear);
+      later : l.later ≡ head_later l.date l.rear.head;
     }
 
 abbrev pub decreases-loop-later : goal.decreases-loop-later
