@@ -14,6 +14,7 @@ use Rattle.card_session.specs.Sessions.{Session, KnowsCard, book_of}
 use Rattle.card_session.specs.Moments.{IsBook}
 use Rattle.card_session.specs.Cards.{IsCard, days_and_vehicles}
 use Rattle.card_session.specs.Parts.{DoesPart, IsPartDone, IsPartMoment}
+use Rattle.card_session.proofs.Older.{keeps_then}
 
 -- ---- causes
 
@@ -121,13 +122,14 @@ part_none s {S} {R} same = record {
 
 -- what is said of the days and the vehicles, and of a card that is like another
 pub card_as : (app : Application) (P Q : List Day → Option Vehicle → Type 0) (x c : List ℕ) → ((ds : List Day) (v : Option Vehicle) → P ds v → Q ds v) → IsCard app P x c → IsCard app Q x c
-card_as app P Q x c weaker is = record { outside = is.outside; holds = is.holds; points = is.points; told = weaker (book_of app c).days (book_of app c).vehicle is.told }
+card_as app P Q x c weaker is = record { outside = is.outside; holds = is.holds; points = is.points; older = is.older; told = weaker (book_of app c).days (book_of app c).vehicle is.told }
 
 pub card_then : (app : Application) (P Q : List Day → Option Vehicle → Type 0) (x y c : List ℕ) → IsCard app P x y → IsCard app Q y c → IsCard app Q x c
 card_then app P Q x y c first next = record {
   outside = outside_then (day_string app).base (days_and_vehicles app) x y c first.outside next.outside;
   holds = next.holds;
   points = next.points;
+  older = keeps_then app x y c first.older next.older;
   told = next.told;
 }
 

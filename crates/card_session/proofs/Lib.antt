@@ -1,3 +1,5 @@
+pub mod RingOrder
+pub mod Older
 pub mod Composing
 pub mod OnCard
 pub mod Following

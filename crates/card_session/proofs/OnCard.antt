@@ -17,10 +17,12 @@ use Rattle.tach_media.proofs.Ranges.{lies_part}
 use Rattle.gated_ring.proofs.Places.{place_high}
 use Rattle.gated_ring.proofs.Orders.{Each}
 use Rattle.gated_ring.proofs.Listing.{indices_below}
-use Rattle.gated_ring.proofs.Elsewhere.{points_elsewhere, indices_elsewhere, entry_elsewhere, newest_elsewhere}
+use Rattle.gated_ring.proofs.Elsewhere.{points_elsewhere, indices_elsewhere, entry_elsewhere, newest_elsewhere, list_elsewhere, dense_elsewhere}
 use Rattle.card_image.specs.Fields.{day_string, vehicle_ring, vehicle_at, newest_vehicle, last_of, card_days}
 use Rattle.card_session.specs.Sessions.{MayKeep, book_of}
 use Rattle.card_session.specs.Cards.{IsCard, days_and_vehicles}
+use Rattle.card_session.proofs.Older.{keeps_same}
+use Rattle.card_session.specs.Vehicles.{KeepsVehicles}
 
 -- ---- where they lie
 
@@ -111,6 +113,7 @@ module _ (app : Application) (sound : IsApplication app) (x : List ℕ) (fits : 
             outside = outside_wider (day_string app).base (days_and_vehicles app) (day_string app).base (4 + (day_string app).size) x c outside (omega arith) (omega arith);
             holds = subst (λ (ds : List Day). Holds (day_string app) c ds) (sym are) holds;
             points = points_still;
+            older = keeps_same app x c (list_elsewhere (vehicle_ring app) (ring_shape app sound) x c ring_same known) (dense_elsewhere (vehicle_ring app) (ring_shape app sound) x c ring_same known);
             told = subst (λ (v : Option Vehicle). P (book_of app c).days v) (sym vehicle_still) (subst (λ (ds : List Day). P ds (book_of app x).vehicle) (sym are) told);
           }
 
@@ -126,11 +129,12 @@ module _ (app : Application) (sound : IsApplication app) (x : List ℕ) (fits : 
       pub string_still : bytes_at c (day_string app).base (4 + (day_string app).size) ≡ bytes_at x (day_string app).base (4 + (day_string app).size)
       string_still = string_same
 
-      pub vehicles_written : (P : List Day → Option Vehicle → Type 0) → Holds (day_string app) x (book_of app x).days → PointsInside (vehicle_ring app) c → P (book_of app x).days (book_of app c).vehicle → IsCard app P x c
-      vehicles_written P holds points told = record {
+      pub vehicles_written : (P : List Day → Option Vehicle → Type 0) → Holds (day_string app) x (book_of app x).days → PointsInside (vehicle_ring app) c → KeepsVehicles app x c → P (book_of app x).days (book_of app c).vehicle → IsCard app P x c
+      vehicles_written P holds points older told = record {
         outside = outside_wider (day_string app).base (days_and_vehicles app) (vehicle_ring app).base (ring_size (vehicle_ring app)) x c outside (omega (arith, ring_behind app)) (omega (arith, ring_behind app));
         holds = subst (λ (ds : List Day). Holds (day_string app) c ds) (sym days_still) (holds_elsewhere (day_string app) x c string_same (book_of app x).days holds);
         points = points;
+        older = older;
         told = subst (λ (ds : List Day). P ds (book_of app c).vehicle) (sym days_still) told;
       }
 

@@ -34,6 +34,8 @@ use Rattle.card_session.specs.Moments.{IsBook}
 use Rattle.card_session.specs.Cards.{IsCard}
 use Rattle.card_session.specs.Parts.{DoesPart, IsPartDone, IsPartMoment, AnyBook, SameButVehicle}
 use Rattle.card_session.proofs.OnCard.{newest_told, days_still, string_still, vehicles_written, ring_inside, ring_shape}
+use Rattle.card_session.proofs.Older.{keeps_still, keeps_set, keeps_extended, keeps_step}
+use Rattle.card_session.specs.Vehicles.{KeepsVehicles}
 
 -- ---- fields of a vehicle entry that are written
 
@@ -144,20 +146,23 @@ module _ (s t : Session) (value : IsValue s) (same : SameButVehicle s t) (old ne
     set_points : (x y : List ℕ) → KnowsCard s x → IsSet ring i offset bytes x y → PointsInside ring y
     set_points x y knows is = subst (λ (n : ℕ). n < ring.count) (sym is.pointer_is) knows.points
 
+    set_older : (x y : List ℕ) → KnowsCard s x → IsSet ring i offset bytes x y → KeepsVehicles app x y
+    set_older x y knows is = keeps_set app x y i offset bytes knows.points (newest_at x knows) is
+
     pub set_part : (failed ≡ false → IfSome old.image (λ x. IfSome new.image (IsSet ring i offset bytes x))) → LeavesOnly old new (OrUnwritten (IsSet ring i offset bytes)) → HasCause old new failed
         → DoesPart old new failed (IsPartDone s t AnyBook with_field) (IsPartMoment s AnyBook IsSettingField)
     set_part set moments cause = record {
       done = λ fine. where_told old.image new.image _ (λ x y was is knows any.
           let one = at_image (λ y. IsSet ring i offset bytes x y) is (at_image (λ x. IfSome new.image (IsSet ring i offset bytes x)) was (set fine)) in
           let now = set_vehicle x y was knows one in (
-            vehicles_written app value.sizes x (fits x was) y (set_outside x y knows one) (IsBook (with_field (book_of app x))) (holds_at x knows) (set_points x y knows one) (refl, now),
+            vehicles_written app value.sizes x (fits x was) y (set_outside x y knows one) (IsBook (with_field (book_of app x))) (holds_at x knows) (set_points x y knows one) (set_older x y knows one) (refl, now),
             known x y was knows (set_outside x y knows one) (set_points x y knows one) (subst (λ (o : Option ℕ). IsNewest ring y o) (sym still) (newest_set ring i offset bytes x y knows.points one s.newest knows.newest)) (vehicle ∙ ap (option_map u) knows.vehicle ∙ sym now),
           ));
       leaves = weaken moments (λ x c was is knows any.
           ⊎_elim
           (λ unwritten. subst (λ (l : List ℕ). IsCard app (IsSettingField (book_of app x)) x l) (sym unwritten)
-          (vehicles_written app value.sizes x (fits x was) x (outside_same ring.base (ring_size ring) x) (IsSettingField (book_of app x)) (holds_at x knows) knows.points (refl, inl refl)))
-          (λ set. vehicles_written app value.sizes x (fits x was) c (set_outside x c knows set) (IsSettingField (book_of app x)) (holds_at x knows) (set_points x c knows set) (refl, inr (set_vehicle x c was knows set)))
+          (vehicles_written app value.sizes x (fits x was) x (outside_same ring.base (ring_size ring) x) (IsSettingField (book_of app x)) (holds_at x knows) knows.points (keeps_still app x) (refl, inl refl)))
+          (λ set. vehicles_written app value.sizes x (fits x was) c (set_outside x c knows set) (IsSettingField (book_of app x)) (holds_at x knows) (set_points x c knows set) (set_older x c knows set) (refl, inr (set_vehicle x c was knows set)))
           is);
       cause = inl cause;
     }
@@ -210,12 +215,12 @@ module _ (s t : Session) (value : IsValue s) (same : SameButVehicle s t) (old ne
           let at : index ≡ taken ring x = at_image (λ x. PointsInside ring x → index ≡ taken ring x) was (placed fine) knows.points in
           let last : IsNewest ring y (Some (taken ring x)) = newest_added ring head x y knows.points (one.list knows.points) in
           let vehicle = new_vehicle x y was knows.points last (one.list knows.points).entry in (
-            vehicles_written app value.sizes x (fits x was) y one.outside (IsBook (with_new (book_of app x))) (holds_at x knows) (one.points knows.points) (refl, vehicle),
+            vehicles_written app value.sizes x (fits x was) y one.outside (IsBook (with_new (book_of app x))) (holds_at x knows) (one.points knows.points) (keeps_extended app x y knows.points head (one.list knows.points) (one.dense knows.points)) (refl, vehicle),
             known x y was knows one.outside (one.points knows.points) (subst (λ (o : Option ℕ). IsNewest ring y o) (sym (newest fine ∙ ap (λ (n : ℕ). Some n) at)) last) (now ∙ sym vehicle),
           ));
       leaves = weaken moments (λ x c was is knows any.
           let step = is.step knows.points in
-          vehicles_written app value.sizes x (fits x was) c is.outside (IsAddingNew (book_of app x)) (holds_at x knows) step.points (refl, at_step x c was knows step));
+          vehicles_written app value.sizes x (fits x was) c is.outside (IsAddingNew (book_of app x)) (holds_at x knows) step.points (keeps_step app x c knows.points head step) (refl, at_step x c was knows step));
       cause = inl cause;
     }
 

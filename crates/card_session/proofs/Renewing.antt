@@ -439,7 +439,7 @@ module _ (app : Application) (sound : IsApplication app) (x : List ℕ) (fits : 
             (close_newest app.activity sound.string_least (book_of app c) (book_are app sound c fine low) Rest (book_may app sound c fine low) (book_of app w).days (book_of app w).vehicle shutting.holds.ordered shutting.told))
 
         shut_renews : (w : List ℕ) → IsShut app c w → Renews app z w
-        shut_renews w shut = shutting_renews w (record { outside = shut.outside; holds = shut.holds; points = shut.points; told = inr shut.told })
+        shut_renews w shut = shutting_renews w (record { outside = shut.outside; holds = shut.holds; points = shut.points; older = shut.older; told = inr shut.told })
 
         use_renews : (w v : List ℕ) → IsShut app c w → Same app w v → Renews app z v
         use_renews w v shut side = renews_then app z w v (shut_renews w shut) (renews_beside app sound w v side.0 side.1 shut.points)
@@ -546,7 +546,7 @@ module _ (app : Application) (sound : IsApplication app) (x : List ℕ) (fits : 
         (renews_by app y z (close_newest app.activity sound.string_least (book_of app y) still.holds.ordered Rest y_may (book_of app z).days (book_of app z).vehicle card.holds.ordered card.told))
 
     shut_renew : (z : List ℕ) → IsShut app y z → Renews app x z
-    shut_renew z card = words_renew z (record { outside = card.outside; holds = card.holds; points = card.points; told = inr card.told })
+    shut_renew z card = words_renew z (record { outside = card.outside; holds = card.holds; points = card.points; older = card.older; told = inr card.told })
 
     shut_room : (z : List ℕ) → IsShut app y z → place_of app (file 0x0507) + 19 ≤ length z
     shut_room z card = omega (arith, use_inside app, fits, still.outside.same_length, card.outside.same_length)

@@ -380,10 +380,10 @@ module _ (app : Application) (sound : IsApplication app) (x : List ℕ) (fits : 
     shut_book : (z : List ℕ) → IsShutting app y z → book_of app z ≡ book_of app x
     shut_book z card =
         let is = closed_still app.activity (book_of app y) (shut_told y same_book) (book_of app z).days (book_of app z).vehicle card.told in
-        told_book app (book_of app y) y z (record { outside = card.outside; holds = card.holds; points = card.points; told = is }) ∙ same_book
+        told_book app (book_of app y) y z (record { outside = card.outside; holds = card.holds; points = card.points; older = card.older; told = is }) ∙ same_book
 
     closing : (z : List ℕ) → IsShut app y z → IsShutting app y z
-    closing z card = record { outside = card.outside; holds = card.holds; points = card.points; told = inr card.told }
+    closing z card = record { outside = card.outside; holds = card.holds; points = card.points; older = card.older; told = inr card.told }
 
     use_still : (z w : List ℕ) → IsShut app y z → Same app z w → GoesOn app slack covered from c w
     use_still z w card beside = goes_beside app sound z w beside.0 beside.1 card.points slack covered from c (goes_told z (shut_book z (closing z card)))
@@ -425,7 +425,7 @@ module _ (app : Application) (sound : IsApplication app) (x : List ℕ) (fits : 
     still_left : Leaves y
     still_left =
         close_leaves app sound x slack covered from c least goes Rest next y later before
-        (record { outside = still.outside; holds = still.holds; points = still.points; told = inl (still.told.1, inl still.told.0) })
+        (record { outside = still.outside; holds = still.holds; points = still.points; older = still.older; told = inl (still.told.1, inl still.told.0) })
 
     closing_left : (z : List ℕ) → IsShutting app y z → Leaves z
     closing_left z card = ⊎_elim

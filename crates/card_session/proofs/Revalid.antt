@@ -272,7 +272,7 @@ module _ (app : Application) (sound : IsApplication app) (z : List ℕ) (fine : 
         (close_strict app.activity sound.string_least (book_of app z) book_are Rest book_may book_strict (book_of app w).days (book_of app w).vehicle card.holds.ordered card.told)
 
     pub shut_fine : IsShut app z w → Fine app w
-    shut_fine card = shutting_fine (record { outside = card.outside; holds = card.holds; points = card.points; told = inr card.told })
+    shut_fine card = shutting_fine (record { outside = card.outside; holds = card.holds; points = card.points; older = card.older; told = inr card.told })
 
     pub shut_low : IsShut app z w → Low app w
     shut_low card = low_told app w (closed app.activity Rest (book_of app z)) (told_book app (closed app.activity Rest (book_of app z)) z w card) (closed_low app.activity sound.string_least (book_of app z) book_are Rest book_may book_low)

@@ -308,7 +308,7 @@ module _ (app : Application) (sound : IsApplication app) (x : List ℕ) (fits : 
 
         use_shows : (w v : List ℕ) → IsShut app c w → Same app w v → All_shown v
         use_shows w v shut side =
-            shows_beside app sound w v side.0 side.1 shut.points more (shutting_shows w (record { outside = shut.outside; holds = shut.holds; points = shut.points; told = inr shut.told }))
+            shows_beside app sound w v side.0 side.1 shut.points more (shutting_shows w (record { outside = shut.outside; holds = shut.holds; points = shut.points; older = shut.older; told = inr shut.told }))
 
         room : (w : List ℕ) → IsShut app c w → place_of app (file 0x0507) + 19 ≤ length w
         room w shut = omega (arith, use_inside app, noted_fits app sound x fits registration long odometer now owed ordered valid open_ y still z card c noted, shut.outside.same_length)
@@ -348,7 +348,7 @@ module _ (app : Application) (sound : IsApplication app) (x : List ℕ) (fits : 
 
     opened_shown : (z w : List ℕ) → IsShut app y z → Same app z w → ShowsEntries app all w
     opened_shown z w shut side =
-        shows_beside app sound z w side.0 side.1 shut.points all (words_shown z (record { outside = shut.outside; holds = shut.holds; points = shut.points; told = inr shut.told }))
+        shows_beside app sound z w side.0 side.1 shut.points all (words_shown z (record { outside = shut.outside; holds = shut.holds; points = shut.points; older = shut.older; told = inr shut.told }))
 
     shut_room : (z : List ℕ) → IsShut app y z → place_of app (file 0x0507) + 19 ≤ length z
     shut_room z shut = omega (arith, use_inside app, fits, still.outside.same_length, shut.outside.same_length)

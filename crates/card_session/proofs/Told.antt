@@ -28,6 +28,7 @@ use Rattle.card_session.proofs.Composing.{part_of, part_none, card_as}
 use Rattle.card_session.proofs.OnCard.{newest_told}
 use Rattle.card_session.proofs.Following.{gap_told, day_told, change_told, km_is}
 use Rattle.card_session.proofs.Preparing.{gap_asks, gap_makes, gap_moments, change_asks, change_makes, change_moments, day_asks, day_makes, day_moments}
+use Rattle.card_session.proofs.Older.{keeps_still}
 
 -- ---- values
 
@@ -86,6 +87,7 @@ module _ (s : Session) (value : IsValue s) (t : Session) where
       outside = outside_same (day_string app).base (days_and_vehicles app) x;
       holds = subst (λ (q : StringShape). Holds q x (Days x)) value.days knows.days.holds;
       points = knows.points;
+      older = keeps_still app x;
       told = (refl, refl);
     },
     subst (λ (u : Session). KnowsCard u x) (sym is) knows,

@@ -115,7 +115,7 @@ module _ (app : Application) (sound : IsApplication app) (x : List ℕ) (fits : 
       moved : IsBook (closed app.activity Rest (book_of app x)) (book_of app y).days (book_of app y).vehicle → IsValid app y
       moved book =
           let is : book_of app y ≡ closed app.activity Rest (book_of app x) =
-          told_book app (closed app.activity Rest (book_of app x)) x1 y (record { outside = card.outside; holds = card.holds; points = card.points; told = book }) in
+          told_book app (closed app.activity Rest (book_of app x)) x1 y (record { outside = card.outside; holds = card.holds; points = card.points; older = card.older; told = book }) in
           fine_low app x y valid same.0 same.1 y_fine
           (low_told app y (closed app.activity Rest (book_of app x)) is (closed_low app.activity sound.string_least (book_of app x) are Rest may x_low))
 

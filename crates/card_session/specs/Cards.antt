@@ -15,17 +15,19 @@ use Rattle.card_image.specs.Judging.{IsValid}
 use Rattle.card_session.specs.Books.{Book, with_entry, closed}
 use Rattle.card_session.specs.Sessions.{Session, IsSession, book_of}
 use Rattle.card_session.specs.Moments.{IsBook, IsKeepMoment, IsCloseMoment}
+use Rattle.card_session.specs.Vehicles.{KeepsVehicles}
 
 -- how many bytes the days and the vehicle entries have, which stand one after the other
 abbrev pub days_and_vehicles : Application → ℕ
 days_and_vehicles app = 4 + (day_string app).size + ring_size (vehicle_ring app)
 
 -- Outside the days and the vehicle entries nothing differs; the string holds its days, the pointer of the vehicle entries is an
--- index; and the days and the newest vehicle entry are so.
+-- index; the vehicle entries go on from those of before; and the days and the newest vehicle entry are so.
 pub record IsCard (app : Application) (P : List Day → Option Vehicle → Type 0) (x c : List ℕ) : Type 0 where
   pub outside : SameOutside (day_string app).base (days_and_vehicles app) x c
   pub holds : Holds (day_string app) c (book_of app c).days
   pub points : PointsInside (vehicle_ring app) c
+  pub older : KeepsVehicles app x c
   pub told : P (book_of app c).days (book_of app c).vehicle
 
 -- the km that an entry adds: none at a session's first

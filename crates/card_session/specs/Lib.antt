@@ -2,6 +2,7 @@ pub mod Books
 pub mod Telling
 pub mod Sessions
 pub mod Moments
+pub mod Vehicles
 pub mod Cards
 pub mod Parts
 pub mod Inserting

@@ -11,12 +11,14 @@ use Rattle.card_layout.specs.Files.{place_of, image_size_of}
 use Rattle.card_records.specs.declared.vehicle.Vehicle.{Vehicle}
 use Rattle.card_retention.specs.Shown.{AllUpTo, is_open}
 use Rattle.gated_ring.specs.Ring.{PointsInside}
+use Rattle.gated_ring.proofs.Elsewhere.{list_elsewhere, dense_elsewhere}
 use Rattle.card_image.specs.Fields.{file, vehicle_ring, last_use_of, end_mark}
 use Rattle.card_image.specs.Beside.{HaveSameDays, HaveSameVehicles}
 use Rattle.card_session.specs.Books.{Book, mark_of, with_entry, closed, closed_days, last_used}
 use Rattle.card_session.specs.Sessions.{Session, book_of}
 use Rattle.card_session.specs.Moments.{IsBook, IsKeepMoment, IsCloseMoment}
 use Rattle.card_session.specs.Cards.{IsCard, IsCardKept, IsCardKeeping, IsCardClosed, IsCardClosing, ended, grown}
+use Rattle.card_session.specs.Vehicles.{KeepsVehicles}
 use Rattle.card_session.specs.Inserting.{Follow, lacked, with_cut, with_owed, IsReplaying, repaired, IsRepairMoment, IsStill, IsRepaired, IsRepairing, IsNoted, IsNoting, IsShut, IsShutting, InsertingClosed, InsertingOpen}
 use Rattle.card_session.proofs.Composing.{book_is, told_book}
 use Rattle.card_session.proofs.InsertingBooks.{lacked_follow}
@@ -25,6 +27,8 @@ use Rattle.card_session.proofs.InsertingUse.{use_inside}
 use Rattle.card_session.proofs.InsertingOpen.{opening_same, reopening_same}
 use Rattle.card_session.proofs.InsertingAgain.{noted_keeps}
 use Rattle.card_session.proofs.Marks.{mark_told}
+use Rattle.card_session.proofs.Older.{keeps_same, keeps_still, keeps_then}
+use Rattle.card_session.proofs.OnCard.{ring_shape}
 use Rattle.card_session.proofs.Preparing.{used_at}
 use Rattle.card_session.proofs.Stopping.{before_use, ended_same}
 use Rattle.card_steps.specs.Deeds.{EntryKept, Deed, Keep, Close, Cut, Step, Done, Broken, Makes, MadeBy, kept_by, kept_in, IsMadeOf, IsMade}
@@ -208,31 +212,44 @@ module _ (size : ℕ) (start : Book) where
 -- ---- OF A CARD
 
 pub made_start : (app : Application) (image : List ℕ) → IsMade app image [] image
-made_start app image = record { steps = []; kept = refl; made = refl }
+made_start app image = record { deeds = record { steps = []; kept = refl; made = refl }; vehicles = keeps_still app image }
 
-pub made_same : (app : Application) (image : List ℕ) (more : List Entry) (x y : List ℕ) → book_of app y ≡ book_of app x → IsMade app image more x → IsMade app image more y
-made_same app image more x y same m = same_made app.activity (book_of app image) more (book_of app x) (book_of app y) same m
+-- after a step from one image to another
+made_on : (app : Application) (image : List ℕ) (more es : List Entry) (x y : List ℕ) → IsMade app image more x → KeepsVehicles app x y → IsMadeOf app.activity (book_of app image) es (book_of app y) → IsMade app image es y
+made_on app image more es x y m keeps deeds = record { deeds = deeds; vehicles = keeps_then app image x y m.vehicles keeps }
+
+pub made_same : (app : Application) (image : List ℕ) (more : List Entry) (x y : List ℕ) → book_of app y ≡ book_of app x → KeepsVehicles app x y → IsMade app image more x → IsMade app image more y
+made_same app image more x y same keeps m = made_on app image more more x y m keeps (same_made app.activity (book_of app image) more (book_of app x) (book_of app y) same m.deeds)
+
+-- what leaves the vehicle entries
+pub beside_vehicles : (app : Application) → IsApplication app → (x y : List ℕ) → PointsInside (vehicle_ring app) x → HaveSameVehicles app x y → KeepsVehicles app x y
+beside_vehicles app sound x y points same = keeps_same app x y (list_elsewhere (vehicle_ring app) (ring_shape app sound) x y same points) (dense_elsewhere (vehicle_ring app) (ring_shape app sound) x y same points)
 
 -- a keep
 module _ (s : Session) (image : List ℕ) (more : List Entry) (e : Entry) (odometer : ℕ) (x y : List ℕ) (m : IsMade s.application image more x) (keeping : IsCardKeeping s e odometer x y) where
   pub keep_stopped : IsMade s.application image more y
-  keep_stopped = keep_broken s.application.activity (book_of s.application image) s.registration odometer (grown s.odometer odometer) e (book_of s.application x) more m (book_of s.application y) keeping.card.told
+  keep_stopped = made_on s.application image more more x y m keeping.card.older
+      (keep_broken s.application.activity (book_of s.application image) s.registration odometer (grown s.odometer odometer) e (book_of s.application x) more m.deeds (book_of s.application y) keeping.card.told)
 
   pub keep_made : end_mark s.application x < e.minute → end_mark s.application y ≡ e.minute → IsMade s.application image (more ++ e ∷ []) y
   keep_made late at = ⊎_elim
       (λ old. absurd (omega (arith, late, at, old, mark_told s.application x, mark_told s.application y)))
-      (λ done. keep_done s.application.activity (book_of s.application image) s.registration odometer (grown s.odometer odometer) e (book_of s.application x) more m (book_of s.application y) done)
+      (λ done. made_on s.application image more (more ++ e ∷ []) x y m keeping.card.older
+      (keep_done s.application.activity (book_of s.application image) s.registration odometer (grown s.odometer odometer) e (book_of s.application x) more m.deeds (book_of s.application y) done))
       (keep_sides s.application.activity (book_of s.application image) s.registration odometer (grown s.odometer odometer) e (book_of s.application x) (book_of s.application y) keeping.card.told)
 
 -- a withdrawal
 pub close_made : (s : Session) (act : Activity) (image : List ℕ) (more : List Entry) (x y : List ℕ) → IsApplication s.application → image_size_of s.application ≤ length x → IsMade s.application image more x → IsCardClosing s act x y → IsMade s.application image more y
-close_made s act image more x y sound fits m (inl card) = closing_made s.application.activity (book_of s.application image) act (book_of s.application x) (book_of s.application y) more card.told m
+close_made s act image more x y sound fits m (inl card) =
+    made_on s.application image more more x y m card.older (closing_made s.application.activity (book_of s.application image) act (book_of s.application x) (book_of s.application y) more card.told m.deeds)
 close_made s act image more x y sound fits m (inr done) =
     let k : List ℕ = done.before in
     let side = ended_same s.application sound k (omega (arith, fits, done.card.outside.same_length)) done.card.points in
     let same : book_of s.application y ≡ book_of s.application k = ap (book_of s.application) done.session ∙ same_book s.application sound k (ended s.application k) done.card.points side.0 side.1 in
-    made_same s.application image more k y same
-    (closing_made s.application.activity (book_of s.application image) act (book_of s.application x) (book_of s.application k) more (inr done.card.told) m)
+    let keeps : KeepsVehicles s.application k y = subst (KeepsVehicles s.application k) (sym done.session) (beside_vehicles s.application sound k (ended s.application k) done.card.points side.1) in
+    made_same s.application image more k y same keeps
+    (made_on s.application image more more x k m done.card.older
+    (closing_made s.application.activity (book_of s.application image) act (book_of s.application x) (book_of s.application k) more (inr done.card.told) m.deeds))
 
 -- of some entries the first are kept, up to a card's end mark, and the others come behind it
 pub record PartedAt (app : Application) (image : List ℕ) (more es : List Entry) (y : List ℕ) : Type 0 where
@@ -256,26 +273,34 @@ module _ (app : Application) (sound : IsApplication app) (registration : Registr
   beside : (y z : List ℕ) → PointsInside (vehicle_ring app) y → HaveSameDays app y z → HaveSameVehicles app y z → book_of app z ≡ book_of app y
   beside y z points days vehicles = same_book app sound y z points days vehicles
 
+  -- a step more, from the card as it was
+  on : (y z : List ℕ) → KeepsVehicles app x y → KeepsVehicles app y z → KeepsVehicles app x z
+  on y z first next = keeps_then app x y z first next
+
   still_book : (y : List ℕ) → IsStill app x y → book_of app y ≡ book_of app x
   still_book y still = told_book app (book_of app x) x y still
 
   -- of a card without a session
   module _ (y : List ℕ) (still : IsStill app x y) where
     shut_made : (z : List ℕ) → IsShutting app y z → IsMade app image more z
-    shut_made z card = closing_made app.activity start_book Rest (book_of app y) (book_of app z) more card.told (made_same app image more x y (still_book y still) m)
+    shut_made z card =
+        let was = made_same app image more x y (still_book y still) still.older m in
+        made_on app image more more y z was card.older (closing_made app.activity start_book Rest (book_of app y) (book_of app z) more card.told was.deeds)
 
     room_left : (z : List ℕ) → IsShut app y z → place_of app (file 0x0507) + 19 ≤ length z
     room_left z card = omega (arith, use_inside app, fits, still.outside.same_length, card.outside.same_length)
 
     shut_done : (z : List ℕ) → IsShut app y z → IsMade app image more z
-    shut_done z card = closing_made app.activity start_book Rest (book_of app y) (book_of app z) more (inr card.told) (made_same app image more x y (still_book y still) m)
+    shut_done z card =
+        let was = made_same app image more x y (still_book y still) still.older m in
+        made_on app image more more y z was card.older (closing_made app.activity start_book Rest (book_of app y) (book_of app z) more (inr card.told) was.deeds)
 
   pub closed_made : (y : List ℕ) → InsertingClosed app registration now x y → IsMade app image more y
-  closed_made y (inl still) = made_same app image more x y (still_book y still) m
+  closed_made y (inl still) = made_same app image more x y (still_book y still) still.older m
   closed_made y (inr (x1, still, inl shutting)) = shut_made x1 still y shutting
   closed_made y (inr (x1, still, inr (x2, shut, opening))) =
       let side = opening_same app registration now long x2 y (room_left x1 still x2 shut) opening in
-      made_same app image more x2 y (beside x2 y shut.points side.0 side.1) (shut_done x1 still x2 shut)
+      made_same app image more x2 y (beside x2 y shut.points side.0 side.1) (beside_vehicles app sound x2 y shut.points side.1) (shut_done x1 still x2 shut)
 
   -- of one whose session was left open
   module _ (odometer : ℕ) (owed : List Entry) (ordered : Follow 1439 owed) where
@@ -293,18 +318,19 @@ module _ (app : Application) (sound : IsApplication app) (registration : Registr
 
     still_parts : (y : List ℕ) → IsStill app x y → Parts y
     still_parts y still =
-        none_done app.activity start_book (book_of app x) (book_of app y) more lacks (ap (λ (k : Book). mark_of k) (still_book y still)) (lacked_follow 1439 mark owed ordered) (made_same app image more x y (still_book y still) m)
+        none_done app.activity start_book (book_of app x) (book_of app y) more lacks (ap (λ (k : Book). mark_of k) (still_book y still)) (lacked_follow 1439 mark owed ordered)
+        (same_made app.activity start_book more (book_of app x) (book_of app y) (still_book y still) m.deeds)
 
     module _ (y : List ℕ) (still : IsStill app x y) where
       repairing_parts : (z : List ℕ) → IsRepairing app registration odometer owed y z → Parts z
-      repairing_parts z card = repair_parted app.activity start_book registration odometer owed ordered (book_of app x) more m (book_of app z)
+      repairing_parts z card = repair_parted app.activity start_book registration odometer owed ordered (book_of app x) more m.deeds (book_of app z)
           (subst (λ (k : Book). IsRepairMoment app.activity registration odometer owed k (book_of app z).days (book_of app z).vehicle) (still_book y still) card.told)
 
       module _ (z : List ℕ) (card : IsRepaired app registration odometer owed y z) where
         repaired_all : All_there z
         repaired_all = whole_same app.activity start_book mark more lacks (repaired app.activity registration odometer owed (book_of app x)) (book_of app z)
             (told_book app (repaired app.activity registration odometer owed (book_of app y)) y z card ∙ ap (repaired app.activity registration odometer owed) (still_book y still))
-            (repair_whole app.activity start_book registration odometer owed ordered (book_of app x) more m)
+            (repair_whole app.activity start_book registration odometer owed ordered (book_of app x) more m.deeds)
 
         noting_all : (w : List ℕ) → IsNoting app now z w → All_there w
         noting_all w noting =
@@ -340,6 +366,16 @@ module _ (app : Application) (sound : IsApplication app) (registration : Registr
         let side = reopening_same app registration now long x4 y (room x1 still x2 mended x3 noted x4 shut) reopening in
         all_parts y (whole_same app.activity start_book mark more lacks (book_of app x4) (book_of app y) (beside x4 y shut.points side.0 side.1) (shut_all x1 still x2 mended x3 noted x4 shut))
 
+    open_vehicles : (y : List ℕ) → InsertingOpen app registration odometer owed now x y → KeepsVehicles app x y
+    open_vehicles y (inl still) = still.older
+    open_vehicles y (inr (x1, still, inl repairing)) = on x1 y still.older repairing.older
+    open_vehicles y (inr (x1, still, inr (x2, mended, inl noting))) = on x2 y (on x1 x2 still.older mended.older) (beside_vehicles app sound x2 y mended.points (noting_same app now x2 y noting).1)
+    open_vehicles y (inr (x1, still, inr (x2, mended, inr (x3, noted, inl shutting)))) =
+        on x3 y (on x2 x3 (on x1 x2 still.older mended.older) (beside_vehicles app sound x2 x3 mended.points (noted_same app now x2 x3 noted).1)) shutting.older
+    open_vehicles y (inr (x1, still, inr (x2, mended, inr (x3, noted, inr (x4, shut, reopening))))) =
+        let side = reopening_same app registration now long x4 y (room x1 still x2 mended x3 noted x4 shut) reopening in
+        on x4 y (on x3 x4 (on x2 x3 (on x1 x2 still.older mended.older) (beside_vehicles app sound x2 x3 mended.points (noted_same app now x2 x3 noted).1)) shut.older) (beside_vehicles app sound x4 y shut.points side.1)
+
     pub open_parted : (y : List ℕ) → InsertingOpen app registration odometer owed now x y → PartedAt app image more (lacked (end_mark app x) owed) y
     open_parted y inserting =
         let p = open_parts y inserting in
@@ -349,5 +385,5 @@ module _ (app : Application) (sound : IsApplication app) (registration : Registr
           split = ap (λ (n : ℕ). lacked n owed) (mark_told app x) ∙ p.split;
           up = subst (λ (n : ℕ). AllUpTo n p.done) (sym (mark_told app y)) p.up;
           behind = subst (λ (n : ℕ). Follow n p.rest) (sym (mark_told app y)) p.behind;
-          made = p.made;
+          made = made_on app image more (more ++ p.done) x y m (open_vehicles y inserting) p.made;
         }

@@ -8,6 +8,7 @@ use Rattle.card_session.specs.Books.{Book, mark_of, with_entry, closed}
 use Rattle.card_session.specs.Sessions.{book_of}
 use Rattle.card_session.specs.Moments.{IsKeepMoment, IsCloseMoment}
 use Rattle.card_session.specs.Inserting.{with_cut, IsCutting}
+use Rattle.card_session.specs.Vehicles.{KeepsVehicles}
 
 -- an entry that is kept: in which vehicle, with which odometer value, and how many km behind the one before
 pub record EntryKept : Type 0 where
@@ -67,6 +68,7 @@ pub record IsMadeOf (size : ℕ) (start : Book) (more : List Entry) (b : Book) :
   pub made : MadeBy size steps start b
 
 -- THE DAYS of a card, with their words and distances, AND ITS NEWEST VEHICLE ENTRY are those that the keeps of these entries make of an
--- image at the start.
-abbrev pub IsMade : Application → (image : List ℕ) → (more : List Entry) → (x : List ℕ) → Type 0
-IsMade app image more x = IsMadeOf app.activity (book_of app image) more (book_of app x)
+-- image at the start; and its older vehicle entries go on from those of that image.
+pub record IsMade (app : Application) (image : List ℕ) (more : List Entry) (x : List ℕ) : Type 0 where
+  pub deeds : IsMadeOf app.activity (book_of app image) more (book_of app x)
+  pub vehicles : KeepsVehicles app image x

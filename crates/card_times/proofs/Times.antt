@@ -116,7 +116,7 @@ module _ (app : Application) where
     pub ended-whole : (act : Activity) (x before y : List ℕ) → image_size_of app ≤ length x → IsCard app (IsBook (closed app.activity act (book_of app x))) x before → y ≡ ended app before → IsWhole (last_use app x) (last_use app y)
     ended-whole act x before y fits card is =
         whole-then (last_use app x) (last_use app before) (last_use app y)
-        (at-closing act x before (record { outside = card.outside; holds = card.holds; points = card.points; told = inr card.told }))
+        (at-closing act x before (record { outside = card.outside; holds = card.holds; points = card.points; older = card.older; told = inr card.told }))
         (subst (λ (l : List ℕ). IsWhole (last_use app before) (last_use app l)) (sym is)
         (beside-whole before (ended app before) card.points (ended_same app sound before (omega (arith, fits, card.outside.same_length)) card.points).1))
 

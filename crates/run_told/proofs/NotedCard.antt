@@ -26,6 +26,8 @@ use Rattle.card_session.specs.Books.{Book}
 use Rattle.card_session.specs.Sessions.{Session, IsSession, IsOpenBook, newest_in, book_of}
 use Rattle.card_session.proofs.OnCard.{ring_shape}
 use Rattle.card_steps.specs.Since.{GoesSince}
+use Rattle.card_session.specs.Vehicles.{KeepsVehicles}
+use Rattle.card_steps.proofs.Deeds.{beside_vehicles}
 use Rattle.card_steps.proofs.Since.{goes_still}
 use Rattle.device_steps.specs.CardNotes.{IsNote}
 use Rattle.device_steps.proofs.CardNoted.{Leaves, left}
@@ -105,6 +107,9 @@ module _ (app : Application) (sound : IsApplication app) (x : List ℕ) (valid :
   pub note-book : book_of app c ≡ book_of app x
   note-book = book-same app sound x c (pointer-passes (vehicle_ring app) x (valid-passes app x valid).vehicles) leaves.vehicles leaves.days
 
+  pub note-vehicles : KeepsVehicles app x c
+  note-vehicles = beside_vehicles app sound x c (pointer-passes (vehicle_ring app) x (valid-passes app x valid).vehicles) leaves.vehicles
+
   pub note-session_time : session_time app c ≡ session_time app x
   note-session_time = session_same app x c leaves.session
 
@@ -112,7 +117,7 @@ module _ (app : Application) (sound : IsApplication app) (x : List ℕ) (valid :
   note-number = number_same app x c leaves.sizes (note-identification app x c note)
 
   pub note-goes : (image : List ℕ) → (more : _) → (next : ℕ) → GoesSince app image more next x → GoesSince app image more next c
-  note-goes image more next goes = goes_still app image x c note-book more next goes
+  note-goes image more next goes = goes_still app image x c note-book note-vehicles more next goes
 
 -- ---- a card that would be valid, were its session ended
 

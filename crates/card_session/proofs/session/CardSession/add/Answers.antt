@@ -7,7 +7,7 @@ use Rattle.card_session.specs.Sessions.{Session, IsValue, MayKeep}
 use Rattle.card_session.proofs.OnCard.{string_in}
 use Rattle.card_session.proofs.OnDays.{add_part}
 use Rattle.card_session.specs.Parts.{DoesPart, IsPartDone, IsPartMoment, TakesSome, with_some, IsAdding}
-use Rattle.card_session.proofs.Told.{session, days_else}
+use Rattle.card_session.proofs.Told.{session, days_else, none_part}
 use Rattle.card_session.proofs.session.CardSession.add.Goals as goal
 
 pub add_change-requires-clause-fits : goal.add_change-requires-clause-fits
@@ -29,3 +29,13 @@ returns-in-Some-clause-part g c =
     (add_part s t c.self.invariant (days_else i.application i.days i.vehicles i.newest i.vehicle i.registration i.minute i.odometer s refl c.add_change.new.self)
     old new (is_err r) (subst (λ (p : Application). MayKeep p old) (ap (λ (u : Session). u.application) (sym c.self.view_is)) c.requires.card) (g.met.M.Medium.coherent c.args.port.now) c.in-Some.word
     e.shape (λ fine. ok_gives r e.changed fine) (λ fine. ok_gives r e.knows fine) e.moments e.cause))
+
+pub returns-in-None-clause-part : goal.returns-in-None-clause-part
+returns-in-None-clause-part g c =
+    let i = c.self.inside in
+    let old = g.M.Medium.state c.args.port.now in
+    let s : Session = session i.application i.days i.vehicles i.newest i.vehicle i.registration i.minute i.odometer in
+    let size = c.args.self.now.application.activity in
+    subst (λ (o : Option ℕ). DoesPart old old false (IsPartDone c.args.self.now c.args.self.now (TakesSome o) (with_some size o)) (IsPartMoment c.args.self.now (TakesSome o) (IsAdding size o))) (sym c.in-None.is)
+    (subst (λ (u : Session). DoesPart old old false (IsPartDone u u (TakesSome None) (with_some u.application.activity None)) (IsPartMoment u (TakesSome None) (IsAdding u.application.activity None))) c.self.view_is
+    (none_part s c.self.invariant s refl old))
