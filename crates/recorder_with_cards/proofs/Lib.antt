@@ -57,4 +57,5 @@ pub mod OffRings
 pub mod SecondsRinged
 pub mod BegunRinged
 pub mod SideShown
+pub mod KeptAfter
 pub mod WokenStored
