@@ -58,4 +58,5 @@ pub mod SecondsRinged
 pub mod BegunRinged
 pub mod SideShown
 pub mod KeptAfter
+pub mod KeptRows
 pub mod WokenStored
