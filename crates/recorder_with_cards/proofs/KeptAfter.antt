@@ -154,11 +154,11 @@ last-lit spans t lit front span are = by t.starts refl
     by : (b : Bool) → t.starts ≡ b → last span ≡ Some t
     by true starts =
         let same = same_from_push front spans span (t ∷ []) (sym are ∙ spans-new spans t lit starts) in
-        ap last same.1
+        ap (λ (l : List Told). last l) same.1
     by false goes =
         let r = go-last spans t in
         let same = same_from_push front r.0 span r.1 (sym are ∙ spans-on spans t lit goes ∙ r.2) in
-        ap last same.1 ∙ r.3
+        ap (λ (l : List Told). last l) same.1 ∙ r.3
 
 both-true : (a b : Bool) → (a && b) ≡ true → (a ≡ true) × (b ≡ true)
 both-true true b is = (refl, is)
