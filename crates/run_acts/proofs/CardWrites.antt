@@ -57,11 +57,10 @@ module _ (app : Application) (entry : PlaceEntry) (X Y : State) where
   pub place-well : IsCoherent X → IsCoherent Y → X.works ≡ true → Y.works ≡ true → LeavesOnly X Y (IsNotingPlace app entry)
       → IfSome X.image (λ x. PointsInside (place_ring app) x → IfSome Y.image (IsPlaceNoted app entry x)) → HasPlace app entry X Y
   place-well whole after works well run noted c left =
-      let R : List ℕ → List ℕ → Type 0 = IsNotingPlace app entry in
-      let was = image-before X Y R whole after works well run c left in (
+      let was = image-before X Y (IsNotingPlace app entry) whole after works well run c left in (
         was.0,
         whole.is_left was.0 was.1,
-        λ points. at_image (IsPlaceNoted app entry was.0) (image-then X Y R whole after works well run c left)
+        λ points. at_image (IsPlaceNoted app entry was.0) (image-then X Y (IsNotingPlace app entry) whole after works well run c left)
             (at_image (λ (x : List ℕ). PointsInside (place_ring app) x → IfSome Y.image (IsPlaceNoted app entry x)) was.1 noted points),
       )
 
