@@ -104,6 +104,10 @@ module _ (U V : State) (is : IsRead U V) where
     told-read A y h = h
     told-read B y h = h
 
+    told-back : (c : Card) (y : List ℕ) → (card_of (devices V Y Z) c).left_since (card_of p c).clock y → (card_of (devices U Y Z) c).left_since (card_of p c).clock y
+    told-back A y h = h
+    told-back B y h = h
+
     card-back : (c : Card) (y : List ℕ) → (card_of (devices V Y Z) c).may_leave y → (card_of (devices U Y Z) c).may_leave y
     card-back A y h = h
     card-back B y h = h
@@ -167,6 +171,8 @@ module _ (U V : State) (is : IsRead U V) where
           };
           side = record { shows = λ y left. side-read y (h.side.shows y (now-back y left)) };
           written = λ c valid y left. h.written c valid y (card-back c y left);
+          dense = record { insertions = λ dense y left. h.dense.insertions dense y (now-back y left); places = λ dense y left. h.dense.places dense y (now-back y left) };
+          holders = λ c valid y left. h.holders c valid y (told-back c y left);
         }
 
 -- and so it is of what was recorded on new devices
