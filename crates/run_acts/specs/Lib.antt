@@ -24,3 +24,4 @@ pub mod Ringing
 pub mod RunRinged
 pub mod CardNotes
 pub mod OnCards
+pub mod CardWrites
