@@ -16,6 +16,7 @@ use Rattle.run_told.proofs.Putting.{out-now}
 use Rattle.run_entering.specs.declared.waking.TheConstants.{UNTOLD}
 use Rattle.run_entering.specs.Told.{BooksJudged, BooksEntered}
 use Rattle.run_entering.proofs.Carried.{noted-carried, found-fallen}
+use Rattle.run_entering.proofs.Opening.{does-read}
 use Rattle.run_entering.proofs.Booked.{torn-carried, still-bare, woken-may, woken-untouched, woken-timed, woken-known}
 use Rattle.run_entering.proofs.InTime.{woken-early}
 use Rattle.run_entering.proofs.Notes.{fault-noted}
@@ -48,6 +49,7 @@ returns-in_default-clause-entered g c =
         told = tt;
         timed = λ valid. woken-timed e k (Err UNTOLD) U X M Z (g.met.M.Medium.coherent c.args.unit.now) (g.met.C.Chip.coherent c.args.card.now) c.wake.ensures.leaves c.wake.ensures.clock c.requires.bare f w m;
         untouched = λ same. inl (woken-untouched e k (Err UNTOLD) U X M Z (g.met.M.Medium.coherent c.args.unit.now) (g.met.C.Chip.coherent c.args.card.now) c.wake.ensures.leaves c.wake.ensures.clock c.requires.bare f w m same);
+        opens = λ valid. tt;
       },
     )
 
@@ -109,6 +111,7 @@ returns-in-Err-clause-entered g c =
         told = tt;
         timed = λ valid. woken-timed e k (Err field) U X M Z (g.met.M.Medium.coherent c.args.unit.now) (g.met.C.Chip.coherent c.args.card.now) c.wake.ensures.leaves c.wake.ensures.clock c.requires.bare f w m;
         untouched = λ same. inl (woken-untouched e k (Err field) U X M Z (g.met.M.Medium.coherent c.args.unit.now) (g.met.C.Chip.coherent c.args.card.now) c.wake.ensures.leaves c.wake.ensures.clock c.requires.bare f w m same);
+        opens = λ valid. does-read (own_sizes (found_of f e.which).image) X M c.wake.ensures.leaves;
       },
     ) in
     (Unsized field, r.0, r.1)
