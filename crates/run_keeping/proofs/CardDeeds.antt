@@ -132,8 +132,8 @@ does-insert app sound vehicle long now some few odometer owed X Y whole after wo
     let here = shows x (whole.is_left x was.1) in
     let fits : image_size_of app ≤ length x = omega (arith, size, whole.sized x was.1) in (
       inserted-book app sound vehicle long now some few odometer owed x fits y done
-      ∙ ap (λ (u : Bool). made_by app.activity (opens u vehicle odometer (lacked (mark_of (book_of app x)) owed)) (book_of app x)) here.1
-      ∙ ap (λ (c : Book). made_by app.activity (opens used vehicle odometer (lacked (mark_of c) owed)) c) here.0,
+          ∙ ap (λ (u : Bool). made_by app.activity (opens u vehicle odometer (lacked (mark_of (book_of app x)) owed)) (book_of app x)) here.1
+          ∙ ap (λ (c : Book). made_by app.activity (opens used vehicle odometer (lacked (mark_of c) owed)) c) here.0,
       inserted-used app sound vehicle long now some few odometer owed x fits y done,
     )
 

@@ -227,8 +227,7 @@ module _ (ds : List Minute) (i : ℕ) (low : i < length ds) (at : Moment) (t u v
           powered = behind.0;
           told = ap (λ (ms : List Mark). (marks_after here m.minute r (record { items = ms; room = 0 })).items) before.0.told ∙ sym (ap (λ (q : Told). q.marks.items) minute.2);
           early = λ c n at. let lt = before.0.early c n at in omega (arith, lt, late);
-        } in
-        (
+        } in (
           (booked, behind.1),
           timed-then f d e g ahead.1 all.1,
           keep-then f (kepts_on k (map (λ (y : Done). y.minute) so.done)) (kept_on here (minute_of m k)) (kepts_on k (map (λ (y : Done). y.minute) (so.done ++ x ∷ []))) k.cabin.cards u.keeper.cabin.cards v.keeper.cabin.cards d e g

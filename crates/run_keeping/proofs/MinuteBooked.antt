@@ -250,8 +250,7 @@ module _ (m : KeptMinute) (present : Present) (says : TellsPresent m present) (t
         let lit = subst (λ (b : Bool). IsBroughtOrCut b f (w2 w) (but_to present.driver (owes_minute i)) k2.cabin.cards (devices V1 X1 Y1)) well here.0 in
         let next = other f (w2 w) (but_to present.driver (owes_minute i)) (found2 f w start g leg may gone odometer (short time))
         (may-bring f w i present.codriver (kept_in m CoDriver) (w2 w) (but_to present.driver (owes_minute i)) refl may.comes owes-codriver (λ c is. says-some m present says two c (inr (this-codriver c is)))
-        (λ c is. ap (λ (a : Bool). if a then standing_by fe i.minute (w.standing c) else w.standing c) (not-driver c is))) lit.0 lit.1 (has-time present.codriver (devices V2 X2 Y2) time) in
-        (
+        (λ c is. ap (λ (a : Bool). if a then standing_by fe i.minute (w.standing c) else w.standing c) (not-driver c is))) lit.0 lit.1 (has-time present.codriver (devices V2 X2 Y2) time) in (
           next.0,
           timed-at f U V X Y (devices V2 X2 Y2) (timed-then f (devices V X Y) (devices V1 X1 Y1) (devices V2 X2 Y2) here.1 next.1),
           subst (λ (q : Cards). AllKeep f (kept_on present m) q k3.cabin.cards (devices U X Y) (devices V2 X2 Y2)) same

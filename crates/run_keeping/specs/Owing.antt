@@ -104,7 +104,7 @@ BooksCard c said fate cards cards_after unit card card_after = (f : Found) (w : 
     → IsOwnValid (found_of f c).image → IsPresent (found_of f c).start (w.standing c) said.entry.minute
     → CardOwing f c w.book (w.standing c) (w.brought c) w.marks (said.entry ∷ []) (session_of cards c) unit card
     → CardOwing f c w.book (standing_by fate said.entry.minute (w.standing c)) (w.brought c) (w.marks ++ marks_by fate (Some c) said.entry.minute) [] (session_of cards_after c) unit card_after × StaysOn (found_of f c) card card_after
-        × KeepsOn (found_of f c) (said ∷ []) (session_of cards c) (session_of cards_after c) card card_after
+    × KeepsOn (found_of f c) (said ∷ []) (session_of cards c) (session_of cards_after c) card card_after
 
 -- the clock of the card that was present does not stand at its last value
 abbrev pub HasTime : Option Card → Devices → Type 0
