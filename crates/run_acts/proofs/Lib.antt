@@ -46,6 +46,8 @@ pub mod NotedOn
 pub mod ActsNoted
 pub mod Numbers
 pub mod FallEvented
+pub mod Stays
+pub mod AllStay
 pub mod NoteRecorded
 pub mod Pulled
 pub mod Closed

@@ -38,6 +38,7 @@ use Rattle.run_keeping.specs.declared.keeper.Keeper.{Keeper}
 use Rattle.run_keeping.specs.declared.keeper.Moment.{Moment}
 use Rattle.run_keeping.specs.Keeping.{with_lines}
 use Rattle.run_keeping.specs.Minutes.{Told, Reach, Whole, Short, IsReach, present_at}
+use Rattle.run_keeping.specs.Deeds.{AllKeep, kepts_on}
 use Rattle.run_keeping.specs.Books.{HaveTime, AreTimedOn}
 use Rattle.run_acts.specs.Rounds.{Point, IsPoint, told_values, keeping_of, moment_of}
 use Rattle.run_acts.specs.RoundLaws.{KeepsSo, HaveBrokenOff, carried_at}
@@ -99,6 +100,7 @@ module _ (old : Run) (before : Outcome) (minutes : Kept) (keeper : Keeper) (watc
     u = told_of between told
 
     booked : IsTurnBooked o.found (odometer_at o.recording.unit) (carried_at o done s q decided t v d w) old.keeper failed reach (all_travelled w.ds w.b.travel) u e × AreTimedOn o.found d e
+        × (failed ≡ false → AllKeep o.found (kepts_on t.keeper decided) t.keeper.cabin.cards u.keeper.cabin.cards d e)
     booked = books o.found (carried_at o done s q decided t v d w) (odometer_at o.recording.unit) (all_travelled w.ds w.b.travel) (may-book o done s q decided t v d w few (are-over o done s decided t v d w)) w.travels
         (stored ∙ ap (odometer_after (odometer_at o.recording.unit)) (sym (travelled-earlier w.ds w.b.travel))) time
 

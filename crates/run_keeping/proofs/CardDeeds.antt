@@ -153,16 +153,22 @@ module _ (s : Session) (act : Activity) (sound : IsApplication s.application) (x
       ap (λ (l : List ℕ). is_used s.application l) done.session
       ∙ ap (λ (n : ℕ). not (nat_eq n 0)) (session_ends s.application k (omega (arith, fits, done.card.outside.same_length)))
 
-pub does-close : (s : Session) (act : Activity) (X Y : State) → IsApplication s.application → IsCoherent X → IsCoherent Y → Y.works ≡ true → is_some Y.image ≡ is_some X.image → image_size_of s.application ≤ X.size → IfSome X.image (IsSession s)
-    → IfSome X.image (λ x. IfSome Y.image (λ y. IsSession s x → IsCardClosed s act x y)) → ClosesOn s.application act X Y
-does-close s act X Y sound whole after works tells size session shut b used shows y left =
-    let told : Y.image ≡ Some y = after.only y works left in
-    let was = told_too Y.image X.image y tells told in
+pub does-close : (s : Session) (act : Activity) (X Y : State) → IsApplication s.application → IsCoherent X → image_size_of s.application ≤ X.size → IfSome X.image (IsSession s)
+    → ((y : List ℕ) → Y.may_leave y → (x : List ℕ) × (X.image ≡ Some x) × (IsSession s x → IsCardClosed s act x y)) → ClosesOn s.application act X Y
+does-close s act X Y sound whole size session shut b used shows y left =
+    let was = shut y left in
     let x : List ℕ = was.0 in
-    let done : IsCardClosed s act x y = at_image (λ (y : List ℕ). IsSession s x → IsCardClosed s act x y) told
-    (at_image (λ (x : List ℕ). IfSome Y.image (λ y. IsSession s x → IsCardClosed s act x y)) was.1 shut) (at_image (IsSession s) was.1 session) in
+    let done : IsCardClosed s act x y = was.2 (at_image (IsSession s) was.1 session) in
     let here = shows x (whole.is_left x was.1) in
     let fits : image_size_of s.application ≤ length x = omega (arith, size, whole.sized x was.1) in (
       shut-book s act sound x y fits done ∙ ap (closed s.application.activity act) here.0,
       shut-used s act sound x y fits done,
     )
+
+-- a call that did not fail leaves that image alone
+pub closed-alone : (s : Session) (act : Activity) (X Y : State) → IsCoherent Y → Y.works ≡ true → is_some Y.image ≡ is_some X.image → IfSome X.image (λ x. IfSome Y.image (λ y. IsSession s x → IsCardClosed s act x y))
+    → (y : List ℕ) → Y.may_leave y → (x : List ℕ) × (X.image ≡ Some x) × (IsSession s x → IsCardClosed s act x y)
+closed-alone s act X Y after works tells shut y left =
+    let told : Y.image ≡ Some y = after.only y works left in
+    let was = told_too Y.image X.image y tells told in
+    (was.0, was.1, at_image (λ (y : List ℕ). IsSession s was.0 → IsCardClosed s act was.0 y) told (at_image (λ (x : List ℕ). IfSome Y.image (λ y. IsSession s x → IsCardClosed s act x y)) was.1 shut))

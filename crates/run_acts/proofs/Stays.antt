@@ -1,0 +1,158 @@
+-- The stays of a card, over what each call makes of it.
+use Rattle.std.proofs.Common.{◌≡◌, ◌∙◌, ℕ, Bool, true, false, List, [], ◌∷◌, ◌++◌, append_assoc, Option, Some, None, refl, ap, sym, subst}
+use Rattle.std.specs.Prelude.{not, is_some}
+use Rattle.std.proofs.lemmas.List.{append-nil}
+use Rattle.activity_codec.specs.declared.values.Activity.{Activity}
+use Rattle.activity_codec.specs.declared.entries.Entry.{Entry}
+use Rattle.tach_media.specs.Medium.{State}
+use Rattle.tacho_types.specs.declared.numbers.Odometer.{Odometer}
+use Rattle.tacho_types.specs.declared.texts.Registration.{Registration}
+use Rattle.card_layout.specs.declared.files.Application.{Application}
+use Rattle.card_image.specs.Own.{own_sizes}
+use Rattle.card_session.specs.declared.session.Kept.{Kept}
+use Rattle.card_session.specs.Books.{Book, mark_of}
+use Rattle.card_session.specs.Inserting.{lacked}
+use Rattle.card_steps.specs.Deeds.{Deed, Close}
+use Rattle.run_crew.specs.declared.cards.Accepted.{Accepted}
+use Rattle.run_rule.specs.Found.{CardFound}
+use Rattle.run_keeping.specs.CardDeeds.{made_by, ShowsBook, DoesOn, keeps, last_odometer, opens, OpensOn, ClosesOn}
+use Rattle.run_keeping.specs.Deeds.{KeepsOn}
+use Rattle.run_keeping.proofs.CardDeeds.{made-append, keeps-append, last-append}
+use Rattle.run_acts.specs.Stays.{Stay, Shown, closes, deeds_of, after_stay, after_stays, start_shown, GoesIn, StaysIn, HasStays}
+
+stays-append : (size : ℕ) (ss ts : List Stay) (p : Shown) → after_stays size (ss ++ ts) p ≡ after_stays size ts (after_stays size ss p)
+stays-append size [] ts p = refl
+stays-append size (s ∷ ss) ts p = stays-append size ss ts (after_stay size s p)
+
+module _ (f : CardFound) where
+  abbrev app : Application
+  app = own_sizes f.image
+
+  abbrev size : ℕ
+  size = app.activity
+
+  abbrev at : List Stay → Shown
+  at ss = after_stays size ss (start_shown f.image)
+
+  abbrev Shows : Shown → State → Type 0
+  Shows p X = ShowsBook app p.book p.used X
+
+  -- one more behind some
+  behind : (front : List Stay) (s : Stay) → at (front ++ s ∷ []) ≡ after_stay size s (at front)
+  behind front s = stays-append size front (s ∷ []) (start_shown f.image)
+
+  -- what the deeds of a stay make is that of its parts
+  parts : (s : Stay) (p : Shown) → made_by size (deeds_of p.used p.book s) p.book
+      ≡ made_by size (closes s.closed) (made_by size (keeps s.vehicle None s.kepts) (made_by size (opens p.used s.vehicle s.odometer (lacked (mark_of p.book) s.owed)) p.book))
+  parts s p =
+      let first : List Deed = opens p.used s.vehicle s.odometer (lacked (mark_of p.book) s.owed) in
+      made-append size first (keeps s.vehicle None s.kepts ++ closes s.closed) p.book ∙ made-append size (keeps s.vehicle None s.kepts) (closes s.closed) (made_by size first p.book)
+
+  -- nothing is done on it
+  pub stays-still : (s : Option Accepted) (X Y : State) → DoesOn app [] X Y → HasStays f s X → HasStays f s Y
+  stays-still s X Y does h = record { stays = h.stays; shows = does (at h.stays).book (at h.stays).used h.shows; goes = h.goes }
+
+  -- it has no session any more
+  pub stays-gone : (s : Option Accepted) (X : State) → HasStays f s X → HasStays f None X
+  stays-gone s X h = record { stays = h.stays; shows = h.shows; goes = tt }
+
+  -- it keeps some minutes
+  module _ (ks : List Kept) (a b : Accepted) (X Y : State) (on : KeepsOn f ks (Some a) (Some b) X Y) (h : HasStays f (Some a) X) where
+    abbrev g : GoesIn h.stays a
+    g = h.goes
+
+    abbrev kept_stay : Stay
+    kept_stay = record g.stay { kepts = g.stay.kepts ++ ks }
+
+    abbrev before : Shown
+    before = at g.front
+
+    abbrev opened : Book
+    opened = made_by size (opens before.used g.stay.vehicle g.stay.odometer (lacked (mark_of before.book) g.stay.owed)) before.book
+
+    was : Shows (after_stay size g.stay before) X
+    was = subst (λ (p : Shown). Shows p X) (ap at g.are ∙ behind g.front g.stay) h.shows
+
+    -- where it is not closed
+    abbrev open_closes : List Deed
+    open_closes = closes g.stay.closed
+
+    was-book : made_by size (deeds_of before.used before.book g.stay) before.book ≡ made_by size (keeps g.stay.vehicle None g.stay.kepts) opened
+    was-book = parts g.stay before ∙ ap (λ (o : Option Activity). made_by size (closes o) (made_by size (keeps g.stay.vehicle None g.stay.kepts) opened)) g.still
+
+    now-book : made_by size (deeds_of before.used before.book kept_stay) before.book
+        ≡ made_by size (keeps g.stay.vehicle (last_odometer None g.stay.kepts) ks) (made_by size (keeps g.stay.vehicle None g.stay.kepts) opened)
+    now-book =
+        parts kept_stay before ∙ ap (λ (o : Option Activity). made_by size (closes o) (made_by size (keeps g.stay.vehicle None (g.stay.kepts ++ ks)) opened)) g.still
+        ∙ ap (λ (ds : List Deed). made_by size ds opened) (keeps-append g.stay.vehicle None g.stay.kepts ks)
+        ∙ made-append size (keeps g.stay.vehicle None g.stay.kepts) (keeps g.stay.vehicle (last_odometer None g.stay.kepts) ks) opened
+
+    same-keeps : keeps a.session.registration a.session.odometer ks ≡ keeps g.stay.vehicle (last_odometer None g.stay.kepts) ks
+    same-keeps = ap (λ (r : Registration). keeps r a.session.odometer ks) g.vehicle ∙ ap (λ (o : Option Odometer). keeps g.stay.vehicle o ks) g.odometer
+
+    made : Shows (after_stay size kept_stay before) Y
+    made = subst (λ (c : Book). ShowsBook app c (not (is_some g.stay.closed)) Y)
+        (ap (λ (ds : List Deed). made_by size ds (made_by size (deeds_of before.used before.book g.stay) before.book)) same-keeps
+        ∙ ap (made_by size (keeps g.stay.vehicle (last_odometer None g.stay.kepts) ks)) was-book ∙ sym now-book)
+        (on.2 (after_stay size g.stay before).book (after_stay size g.stay before).used was)
+
+    pub stays-keep : HasStays f (Some b) Y
+    stays-keep = record {
+      stays = g.front ++ kept_stay ∷ [];
+      shows = subst (λ (p : Shown). Shows p Y) (sym (behind g.front kept_stay)) made;
+      goes = record {
+        front = g.front;
+        stay = kept_stay;
+        are = refl;
+        still = g.still;
+        vehicle = on.0 ∙ g.vehicle;
+        odometer = on.1 ∙ ap (λ (o : Option Odometer). last_odometer o ks) g.odometer ∙ sym (last-append None g.stay.kepts ks);
+      };
+    }
+
+  -- it is put in, and accepted
+  module _ (vehicle : Registration) (odometer : ℕ) (owed : List Entry) (s : Option Accepted) (a : Accepted) (X Y : State) (is : a.session.registration ≡ vehicle) (fresh : a.session.odometer ≡ None) (on : OpensOn app vehicle odometer owed X Y) (h : HasStays f s X) where
+    abbrev new_stay : Stay
+    new_stay = record { vehicle = vehicle; odometer = odometer; owed = owed; kepts = []; closed = None }
+
+    new-book : made_by size (deeds_of (at h.stays).used (at h.stays).book new_stay) (at h.stays).book
+        ≡ made_by size (opens (at h.stays).used vehicle odometer (lacked (mark_of (at h.stays).book) owed)) (at h.stays).book
+    new-book = parts new_stay (at h.stays)
+
+    pub stays-open : HasStays f (Some a) Y
+    stays-open = record {
+      stays = h.stays ++ new_stay ∷ [];
+      shows = subst (λ (p : Shown). Shows p Y) (sym (behind h.stays new_stay))
+          (subst (λ (c : Book). ShowsBook app c true Y) (sym new-book) (on (at h.stays).book (at h.stays).used h.shows));
+      goes = record { front = h.stays; stay = new_stay; are = refl; still = refl; vehicle = is; odometer = fresh };
+    }
+
+  -- it is withdrawn
+  module _ (act : Activity) (a : Accepted) (X Y : State) (on : ClosesOn app act X Y) (h : HasStays f (Some a) X) where
+    abbrev last_stay : Stay
+    last_stay = h.goes.stay
+
+    abbrev closed_stay : Stay
+    closed_stay = record last_stay { closed = Some act }
+
+    abbrev earlier : Shown
+    earlier = at h.goes.front
+
+    abbrev begun : Book
+    begun = made_by size (opens earlier.used last_stay.vehicle last_stay.odometer (lacked (mark_of earlier.book) last_stay.owed)) earlier.book
+
+    open-book : made_by size (deeds_of earlier.used earlier.book last_stay) earlier.book ≡ made_by size (keeps last_stay.vehicle None last_stay.kepts) begun
+    open-book = parts last_stay earlier ∙ ap (λ (o : Option Activity). made_by size (closes o) (made_by size (keeps last_stay.vehicle None last_stay.kepts) begun)) h.goes.still
+
+    stood : Shows (after_stay size last_stay earlier) X
+    stood = subst (λ (p : Shown). Shows p X) (ap at h.goes.are ∙ behind h.goes.front last_stay) h.shows
+
+    pub stays-close : HasStays f None Y
+    stays-close = record {
+      stays = h.goes.front ++ closed_stay ∷ [];
+      shows = subst (λ (p : Shown). Shows p Y) (sym (behind h.goes.front closed_stay))
+          (subst (λ (c : Book). ShowsBook app c false Y)
+          (ap (made_by size (Close act ∷ [])) open-book ∙ sym (parts closed_stay earlier))
+          (on (after_stay size last_stay earlier).book (after_stay size last_stay earlier).used stood));
+      goes = tt;
+    }
