@@ -88,6 +88,8 @@ use Rattle.recorder_with_cards.specs.Ends.{BeginAs, recorded_with, recording_of,
 use Rattle.recorder_with_cards.proofs.Waiting.{first-second}
 use Rattle.recorder_with_cards.proofs.SideShown.{side-shown}
 use Rattle.recorder_with_cards.proofs.Written.{are-written}
+use Rattle.run_acts.specs.Stays.{HasStays, ShowsStays}
+use Rattle.run_acts.proofs.Stays.{stays-start}
 
 -- what holds of either card
 pub both : (P : Card → Type 0) → P A → P B → (c : Card) → P c
@@ -166,6 +168,10 @@ module _ (x a b : List ℕ) (start : ℕ) (items : List Item) (began now : Devic
     ends = ends-so (seconds_of start items) h.evented.recorded.supply (values_of run out) h.evented.recorded.recorded unit_whole card_whole found may.decodes;
     side = record { shows = shows };
     written = are-written o (seconds_of start items) h.evented.recorded.supply (values_of run out) began now h.evented.recorded.recorded (found-by r0 (seconds_of start items) (log_of out) (found_in r0 began) began found);
+    stays = λ none c valid.
+        let of_image : (found_of o.found c).image ≡ card_image r c = found.image c ∙ sym (images c) in
+        let h_ = h.evented.recorded.stay none c (subst IsOwnValid (sym of_image) valid) in
+        subst (λ (i : List ℕ). ShowsStays i (card_of now c)) of_image (record { stays = h_.stays; shows = h_.shows });
   }
     where
       r : Recording
@@ -312,6 +318,8 @@ module _ (x a b : List ℕ) (start : ℕ) (began now : Devices) (opened : Opened
         travels = travels;
       });
       odometer = λ lit. absurd (let bad : Due ≡ Lit = sym due ∙ lit in cc);
+      stay = λ none c valid. subst (λ (s : Option Accepted). HasStays (found_of f c) s (card_of now c)) (sym (bare c))
+          (stays-start (found_of f c) (card_of now c) (λ y left. untouched c y ((whole c).counts_now (found_of f c).began y (there.clocks c) left)));
     }
 
     only_unit : (y : List ℕ) → now.unit.may_leave y → y ≡ x

@@ -1,6 +1,6 @@
 -- The stays of both cards, over what each call makes of them and of the log.
-use Rattle.std.proofs.Common.{◌≡◌, ◌⊎◌, ◌∙◌, inl, inr, ⊎_elim, ℕ, ◌≤◌, Bool, true, false, List, [], ◌∷◌, ◌++◌, append_assoc, Option, Some, None, refl, ap, sym, subst}
-use Rattle.std.specs.Prelude.{not, ◌&&◌, filter, is_some, if◌then◌else◌}
+use Rattle.std.proofs.Common.{◌≡◌, ◌⊎◌, ◌∙◌, inl, inr, ⊎_elim, ℕ, suc, zero, ◌≤◌, Bool, true, false, List, [], ◌∷◌, ◌++◌, append_assoc, Option, Some, None, refl, ap, sym, subst}
+use Rattle.std.specs.Prelude.{not, ◌&&◌, filter, map, is_some, if◌then◌else◌}
 use Rattle.std.proofs.lemmas.List.{append-nil}
 use Rattle.std.proofs.lemmas.List.Elements.{filter-append}
 use Rattle.activity_codec.specs.declared.values.Slot.{Slot}
@@ -11,12 +11,13 @@ use Rattle.tach_media.specs.Medium.{State}
 use Rattle.log_model.specs.Log.{RunLog}
 use Rattle.log_model.specs.Causes.{is_cut, has_failed}
 use Rattle.log_model.specs.declared.lines.Break.{Break}
+use Rattle.log_model.specs.declared.lines.Break.TheVariants.{Cut, Tear}
+use Rattle.unit_course.specs.Lines.{cut_at, with_kept, found_from}
 use Rattle.card_image.specs.Own.{own_sizes, IsOwnValid}
 use Rattle.card_session.specs.declared.session.Kept.{Kept}
 use Rattle.joint_rule.specs.Views.{other}
 use Rattle.safety_model.specs.Safe.{Devices, card_of}
 use Rattle.slot_machine.specs.declared.seats.Present.{Present}
-use Rattle.run_course.specs.Moments.{cut_at}
 use Rattle.run_crew.specs.declared.cards.Accepted.{Accepted}
 use Rattle.run_crew.specs.declared.cards.Cards.{Cards}
 use Rattle.run_crew.specs.declared.cabin.Cabin.{Cabin}
@@ -182,3 +183,34 @@ reach-told decided at t u (Short xs m round) is = absurd is
 reach-told decided at t u (Whole xs) is =
     subst (Reached t) (sym is.2)
     (let lines = lines-by t.keeper at xs t in record { more = lines.0; lines = lines.1; stay = λ c none some. sessions-stay t.keeper at xs t c none some })
+
+-- ---- what was kept is found
+
+map-cuts : (k : ℕ) (bs : List Break) → filter failed_cut (map (with_kept k) bs) ≡ [] → filter failed_cut bs ≡ []
+map-cuts k [] none = refl
+map-cuts k (Cut s old true begun ∷ bs) none = absurd (cc)
+map-cuts k (Cut s old false begun ∷ bs) none = map-cuts k bs none
+map-cuts k (Tear s slot failed begun late ∷ bs) none = map-cuts k bs none
+
+map-tears : (k : ℕ) (bs : List Break) → filter failed_tear (map (with_kept k) bs) ≡ [] → filter failed_tear bs ≡ []
+map-tears k [] none = refl
+map-tears k (Cut s old failed begun ∷ bs) none = map-tears k bs none
+map-tears k (Tear s slot true begun late ∷ bs) none = absurd (cc)
+map-tears k (Tear s slot false begun late ∷ bs) none = map-tears k bs none
+
+found-cuts : (i k : ℕ) (bs : List Break) → filter failed_cut (found_from i k bs) ≡ [] → filter failed_cut bs ≡ []
+found-cuts zero k bs none = map-cuts k bs none
+found-cuts (suc i) k [] none = refl
+found-cuts (suc i) k (Cut s old true begun ∷ bs) none = absurd (cc)
+found-cuts (suc i) k (Cut s old false begun ∷ bs) none = found-cuts i k bs none
+found-cuts (suc i) k (Tear s slot failed begun late ∷ bs) none = found-cuts i k bs none
+
+found-tears : (i k : ℕ) (bs : List Break) → filter failed_tear (found_from i k bs) ≡ [] → filter failed_tear bs ≡ []
+found-tears zero k bs none = map-tears k bs none
+found-tears (suc i) k [] none = refl
+found-tears (suc i) k (Cut s old failed begun ∷ bs) none = found-tears i k bs none
+found-tears (suc i) k (Tear s slot true begun late ∷ bs) none = absurd (cc)
+found-tears (suc i) k (Tear s slot false begun late ∷ bs) none = found-tears i k bs none
+
+pub found-none : (i k : ℕ) (log : RunLog) → NothingFailed (record log { breaks = found_from i k log.breaks }) → NothingFailed log
+found-none i k log none = (found-cuts i k log.breaks none.0, found-tears i k log.breaks none.1)

@@ -84,7 +84,7 @@ use Rattle.card_layout.specs.declared.files.Application.{Application}
 use Rattle.run_crew.specs.Cards.{with_session}
 use Rattle.run_keeping.specs.CardDeeds.{ClosesOn}
 use Rattle.run_keeping.proofs.CardDeeds.{does-close}
-use Rattle.run_acts.specs.Stays.{ClosesSo, HasStays}
+use Rattle.run_acts.specs.Stays.{ClosesOnCard, HasStays}
 use Rattle.run_acts.proofs.Stays.{stays-close}
 use Rattle.run_acts.proofs.AllStay.{all-one, no-tear, mine-left, others-left}
 
@@ -143,7 +143,7 @@ module _ {C : Type 0} (state : C → State) (c : Card) (slot : Slot) (at : Momen
         (λ valid. closed-timed o.found carries run.keeper.cabin.cards c U (state x) (state y) Z w.within.found whole size a closes.0 has w.within.powered closes.1 valid)
 
     -- what is made of the card
-    stays-closed : ClosesSo (Some a) (state x) (state y) → IsOwnValid (found_of o.found c).image → HasStays (found_of o.found c) (Some a) (state x) → HasStays (found_of o.found c) None (state y)
+    stays-closed : ClosesOnCard (Some a) (state x) (state y) → IsOwnValid (found_of o.found c).image → HasStays (found_of o.found c) (Some a) (state x) → HasStays (found_of o.found c) None (state y)
     stays-closed shut valid h =
         let one : CardLit o.found carries.book (carries.standing c) (carries.brought c) (Some a) c U (state x) =
         subst (λ (q : Option Accepted). CardLit o.found carries.book (carries.standing c) (carries.brought c) q c U (state x)) has ((parts-of o.found carries run.keeper.cabin.cards c U (state x) Z w.within.powered).mine valid) in
@@ -157,7 +157,7 @@ module _ {C : Type 0} (state : C → State) (c : Card) (slot : Slot) (at : Momen
     called = record { low = s.number / 60; leaving = leaving (ap is_some has); is_now = from; goes = goes; travels = travels }
 
     -- it is closed
-    closed : ClosesSo (Some a) (state x) (state y) → (b : Bool) → failed ≡ b → IsPoweredOrOff b o.found (carried_closed Closed c carries) (with_session c None run.keeper.cabin.cards) e → GoesOnOrFails b o done s (In n) [] (with_cabin (with_session_of c None run.keeper.cabin) run) told e w.within.b
+    closed : ClosesOnCard (Some a) (state x) (state y) → (b : Bool) → failed ≡ b → IsPoweredOrOff b o.found (carried_closed Closed c carries) (with_session c None run.keeper.cabin.cards) e → GoesOnOrFails b o done s (In n) [] (with_cabin (with_session_of c None run.keeper.cabin) run) told e w.within.b
     closed shut false is powered = goes-as o done s (In n) (In n) [] [] [] run (with_cabin (with_session_of c None run.keeper.cabin) run) told told d e w.within.from w refl refl (session-closed d e o done s (In n) v w.within slot c called powered)
         (all-one o c (log_of told) (log_of told) run.keeper.cabin.cards (with_session c None run.keeper.cabin.cards) U V (state x) (state y) Z (λ none. none) (others-left c run.keeper.cabin.cards)
         (λ none valid h. subst (λ (q : Option Accepted). HasStays (found_of o.found c) q (state y)) (sym (mine-left c run.keeper.cabin.cards))
@@ -200,7 +200,7 @@ module _ {C : Type 0} (state : C → State) (c : Card) (slot : Slot) (at : Momen
     }
 
   -- SO IT IS RECORDED, whatever became of it
-  pub closed-recorded : (new : Run) (after : Listed Break) (closing : Closing) → (closing ≡ Closed → ClosesSo (session_of run.keeper.cabin.cards c) (state x) (state y)) → IsClosed c slot at run new told.breaks after closing → HasBroken (state x) (state y) (closed_falls closing) → GoesOnOrFails failed o done s (In n) [] new (record told { breaks = after }) (arranged c V (state y) Z) w.within.b
+  pub closed-recorded : (new : Run) (after : Listed Break) (closing : Closing) → (closing ≡ Closed → ClosesOnCard (session_of run.keeper.cabin.cards c) (state x) (state y)) → IsClosed c slot at run new told.breaks after closing → HasBroken (state x) (state y) (closed_falls closing) → GoesOnOrFails failed o done s (In n) [] new (record told { breaks = after }) (arranged c V (state y) Z) w.within.b
   closed-recorded new after closing shut is broken =
       subst (λ (r : Run). GoesOnOrFails failed o done s (In n) [] r (record told { breaks = after }) e w.within.b) (sym is.run)
       (subst (λ (l : Listed Break). GoesOnOrFails failed o done s (In n) [] (with_cabin (closed_cabin closing c at.second run.keeper.cabin) run) (record told { breaks = l }) e w.within.b) (sym is.told)
@@ -209,7 +209,7 @@ module _ {C : Type 0} (state : C → State) (c : Card) (slot : Slot) (at : Momen
       powered : (closing : Closing) → IsClosingOf (session_of run.keeper.cabin.cards c) closing → IsPoweredOrOff failed o.found (carried_closed closing c carries) (closed_cabin closing c at.second run.keeper.cabin).cards e
       powered closing how = closed-any state o.found carries c at.second run.keeper.cabin U V Z x y w.within.found unit_whole whole size w.within.powered left still unit failed cause.works closing how
 
-      by : (q : Option Accepted) → session_of run.keeper.cabin.cards c ≡ q → (closing : Closing) → (closing ≡ Closed → ClosesSo (session_of run.keeper.cabin.cards c) (state x) (state y)) → IsClosingOf (session_of run.keeper.cabin.cards c) closing → HasBroken (state x) (state y) (closed_falls closing) →
+      by : (q : Option Accepted) → session_of run.keeper.cabin.cards c ≡ q → (closing : Closing) → (closing ≡ Closed → ClosesOnCard (session_of run.keeper.cabin.cards c) (state x) (state y)) → IsClosingOf (session_of run.keeper.cabin.cards c) closing → HasBroken (state x) (state y) (closed_falls closing) →
           GoesOnOrFails failed o done s (In n) [] (with_cabin (closed_cabin closing c at.second run.keeper.cabin) run) (record told { breaks = with_lines (closed_breaks closing slot at) told.breaks }) e w.within.b
       by None has Bare shut how broke_ =
           subst (λ (q : Cards). GoesOnOrFails failed o done s (In n) [] (with_cabin (record run.keeper.cabin { cards = q }) run) (record told { breaks = with_lines [] told.breaks }) e w.within.b) (sym (session-unset c run.keeper.cabin.cards has))
@@ -220,7 +220,7 @@ module _ {C : Type 0} (state : C → State) (c : Card) (slot : Slot) (at : Momen
       by (Some a) has Bare shut how broke_ = absurd (subst (λ (q : Option Accepted). IsClosingOf q Bare) has how)
       by (Some a) has Closed shut how broke_ =
           subst (λ (l : Listed Break). GoesOnOrFails failed o done s (In n) [] (with_cabin (with_session_of c None run.keeper.cabin) run) (record told { breaks = l }) e w.within.b) (no-lines told.breaks)
-          (closed a has (subst (λ (q : Option Accepted). ClosesSo q (state x) (state y)) has (shut refl)) failed refl (powered Closed how))
+          (closed a has (subst (λ (q : Option Accepted). ClosesOnCard q (state x) (state y)) has (shut refl)) failed refl (powered Closed how))
       by (Some a) has Fell shut how broke_ = fell a has broke_ failed refl (powered Fell how)
 
   -- ---- its events

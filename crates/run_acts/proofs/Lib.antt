@@ -48,6 +48,7 @@ pub mod Numbers
 pub mod FallEvented
 pub mod Stays
 pub mod AllStay
+pub mod EnteredStays
 pub mod NoteRecorded
 pub mod Pulled
 pub mod Closed

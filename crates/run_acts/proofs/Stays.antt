@@ -11,11 +11,12 @@ use Rattle.card_layout.specs.declared.files.Application.{Application}
 use Rattle.card_image.specs.Own.{own_sizes}
 use Rattle.card_session.specs.declared.session.Kept.{Kept}
 use Rattle.card_session.specs.Books.{Book, mark_of}
+use Rattle.card_session.specs.Sessions.{book_of}
 use Rattle.card_session.specs.Inserting.{lacked}
 use Rattle.card_steps.specs.Deeds.{Deed, Close}
 use Rattle.run_crew.specs.declared.cards.Accepted.{Accepted}
 use Rattle.run_rule.specs.Found.{CardFound}
-use Rattle.run_keeping.specs.CardDeeds.{made_by, ShowsBook, DoesOn, keeps, last_odometer, opens, OpensOn, ClosesOn}
+use Rattle.run_keeping.specs.CardDeeds.{made_by, is_used, ShowsBook, DoesOn, keeps, last_odometer, opens, OpensOn, ClosesOn}
 use Rattle.run_keeping.specs.Deeds.{KeepsOn}
 use Rattle.run_keeping.proofs.CardDeeds.{made-append, keeps-append, last-append}
 use Rattle.run_acts.specs.Stays.{Stay, Shown, closes, deeds_of, after_stay, after_stays, start_shown, GoesIn, StaysIn, HasStays}
@@ -47,6 +48,10 @@ module _ (f : CardFound) where
   parts s p =
       let first : List Deed = opens p.used s.vehicle s.odometer (lacked (mark_of p.book) s.owed) in
       made-append size first (keeps s.vehicle None s.kepts ++ closes s.closed) p.book ∙ made-append size (keeps s.vehicle None s.kepts) (closes s.closed) (made_by size first p.book)
+
+  -- at the start
+  pub stays-start : (X : State) → ((y : List ℕ) → X.may_leave y → y ≡ f.image) → HasStays f None X
+  stays-start X only = record { stays = []; shows = λ y left. (ap (book_of app) (only y left), ap (is_used app) (only y left)); goes = tt }
 
   -- nothing is done on it
   pub stays-still : (s : Option Accepted) (X Y : State) → DoesOn app [] X Y → HasStays f s X → HasStays f s Y

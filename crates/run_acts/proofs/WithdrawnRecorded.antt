@@ -53,7 +53,7 @@ use Rattle.run_acts.specs.Evented.{EventsGoOn, EventsSettling, IsUntold}
 use Rattle.run_acts.proofs.FallEvented.{left-over}
 use Rattle.run_acts.proofs.RingedLines.{SatIn}
 use Rattle.run_acts.proofs.Closed.{closed-recorded, closed-evented}
-use Rattle.run_acts.specs.Stays.{ClosesSo}
+use Rattle.run_acts.specs.Stays.{ClosesOnCard}
 
 -- the moment of an action
 abbrev pub acting_at : ℕ → ℕ → Moment
@@ -102,7 +102,7 @@ module _ (o : Origin) (done : List TraceSecond) (s : TraceSecond) (front rest : 
       LeavesOnly U V LeavesJournal → (failed : Bool) → HasCause U V failed → (state x).breakdowns ≤ (state y).breakdowns → (span : Span) → StandsFor between.minutes span → end_of span ≡ between.next →
       RecordsSettling decided (acting_at s.number (suc (length front))) false (left_run slot s.number run) between before told d (arranged c U (state x) Z) → HaveTime (arranged c U (state x) Z) →
       (at : Moment) (ms : List Minute) (t : Told) → AreKept at ms t (told_of between told) → session_of t.keeper.cabin.cards c ≡ session_of run.keeper.cabin.cards c →
-      (new : Run) (after : Listed Break) (closing : Closing) → (closing ≡ Closed → ClosesSo (session_of between.keeper.cabin.cards c) (state x) (state y)) → IsClosed c slot (acting_at s.number (suc (length front))) between new told.breaks after closing → HasBroken (state x) (state y) (closed_falls closing) →
+      (new : Run) (after : Listed Break) (closing : Closing) → (closing ≡ Closed → ClosesOnCard (session_of between.keeper.cabin.cards c) (state x) (state y)) → IsClosed c slot (acting_at s.number (suc (length front))) between new told.breaks after closing → HasBroken (state x) (state y) (closed_falls closing) →
       GoesOnOrFails failed o done s (In (suc (length front))) [] new (record told { breaks = after }) (arranged c V (state y) Z) w.within.b
   closing-recorded state U V Z x y unit_whole whole size closes still unit failed cause rise span stands_ ends records time at ms t kept same new after closing shut is broken =
       let kept_all : IsSettledIn o done s (In (suc (length front))) [] gone.within.b gone.within.from (gone.within.from + length decided) (left_run slot s.number run) between before told (arranged c U (state x) Z) =

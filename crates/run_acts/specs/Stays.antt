@@ -77,12 +77,17 @@ pub record HasStays (f : CardFound) (session : Option Accepted) (card : State) :
       (after_stays (own_sizes f.image).activity stays (start_shown f.image)).used card
   pub goes : StaysIn stays session
 
+-- so it is once the run is over, of a card with this image at the start
+pub record ShowsStays (image : List ℕ) (card : State) : Type 0 where
+  pub stays : List Stay
+  pub shows : ShowsBook (own_sizes image) (after_stays (own_sizes image).activity stays (start_shown image)).book (after_stays (own_sizes image).activity stays (start_shown image)).used card
+
 -- so does each card that was valid, where no call has failed
 abbrev pub AllStay : Origin → RunLog → Cards → Devices → Type 0
 AllStay o log cards d = NothingFailed log → (c : Card) → IsOwnValid (found_of o.found c).image → HasStays (found_of o.found c) (session_of cards c) (card_of d c)
 
 -- A CARD IS CLOSED where its session was, with this activity: each image that it may leave is its image before, closed
-abbrev pub ClosesSo : (session : Option Accepted) → (card card_after : State) → Type 0
-ClosesSo None card card_after = ⊥
-ClosesSo (Some a) card card_after =
+abbrev pub ClosesOnCard : (session : Option Accepted) → (card card_after : State) → Type 0
+ClosesOnCard None card card_after = ⊥
+ClosesOnCard (Some a) card card_after =
     (act : Activity) × ((c : List ℕ) → card_after.may_leave c → (x : List ℕ) × (card.image ≡ Some x) × (IsSession a.session x → IsCardClosed a.session act x c))
