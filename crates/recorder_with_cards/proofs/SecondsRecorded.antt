@@ -1,5 +1,5 @@
 -- What seconds of a run leave of the record: without power, of an `off` line, and one after another.
-use Rattle.std.proofs.Common.{◌≡◌, ◌∙◌, ℕ, zero, suc, ◌+◌, ◌-◌, ◌%◌, ◌<◌, ◌≤◌, Bool, true, false, List, [], ◌∷◌, ◌++◌, length, map, refl, ap, sym, subst, arith, append_assoc}
+use Rattle.std.proofs.Common.{◌≡◌, ◌∙◌, ℕ, zero, suc, ◌+◌, ◌-◌, ◌%◌, ◌<◌, ◌≤◌, Bool, true, false, List, [], ◌∷◌, ◌++◌, length, map, refl, ap, sym, subst, arith, append_assoc, None, inr}
 use Rattle.std.specs.Prelude.{◌==◌, Result, Ok, Err}
 use Rattle.std.proofs.lemmas.List.{append-nil}
 use Rattle.std.proofs.lemmas.Bool.Decides.{nat_tests}
@@ -31,6 +31,9 @@ use Rattle.run_acts.specs.Turning.{IsTurnOf}
 use Rattle.run_acts.specs.Recording.{values_of, Supplies, RunRecorded, InSecond}
 use Rattle.recorder_with_cards.specs.Acting.{IsItemActed, AreActed}
 use Rattle.recorder_with_cards.specs.Recorded.{Inside, Between, action_of, actions_in, HasBegunBy, HasRunBy}
+use Rattle.trace_model.specs.declared.Card.{Card}
+use Rattle.trace_model.specs.declared.Card.TheVariants.{A, B}
+use Rattle.run_crew.specs.Cards.{session_of}
 use Rattle.run_acts.specs.Stays.{AllStay}
 use Rattle.run_acts.proofs.AllStay.{all-gone, fewer-none}
 
@@ -138,15 +141,16 @@ module _ (o : Origin) (done : List TraceSecond) (old : Run) (before : Outcome) (
         stay = stays;
       }
 
-      -- what is made of the cards: without power no card has a session
+      -- without power no card has a session
+      bare-off : (c : Card) → session_of (with_power_lost (old.next - 1) old.keeper.cabin).cards c ≡ None
+      bare-off A = refl
+      bare-off B = refl
+
+      -- what is made of the cards
       off-stay : (lit : Bool) → AllStay o (log_of (told_off lit old before)) (off_as lit (suc n) old).keeper.cabin.cards d
       off-stay false = λ none. h.stay (fewer-none (log_of before) [] none)
       off-stay true = all-gone o (log_of before) (log_of (told_off true old before)) old.keeper.cabin.cards (with_power_lost (old.next - 1) old.keeper.cabin).cards d
           (λ none. fewer-none (log_of before) (off_cut true (old.next - 1) old.begun) none) (λ c. inr (bare-off c)) h.stay
-
-      bare-off : (c : Card) → session_of (with_power_lost (old.next - 1) old.keeper.cabin).cards c ≡ None
-      bare-off A = refl
-      bare-off B = refl
 
       plain : Recorded o (done ++ dark (suc n) old.next) IsDue (off_values (suc n) (values_of old before)) d → Recorded o (done ++ dark (suc n) old.next) IsDue (values_of (off_as false (suc n) old) (told_off false old before)) d
       plain r = subst (λ (bs : List Break). Recorded o (done ++ dark (suc n) old.next) IsDue (values_of (off_as false (suc n) old) (record before { breaks = record { items = bs; room = before.breaks.room } })) d) (sym (append-nil before.breaks.items)) r
