@@ -34,6 +34,7 @@ use Rattle.recorder_with_cards.specs.Recorded.{Inside, Between, action_of, actio
 use Rattle.trace_model.specs.declared.Card.{Card}
 use Rattle.trace_model.specs.declared.Card.TheVariants.{A, B}
 use Rattle.run_crew.specs.Cards.{session_of}
+use Rattle.run_crew.specs.Cabin.{with_power_lost}
 use Rattle.run_acts.specs.Stays.{AllStay}
 use Rattle.run_acts.proofs.AllStay.{all-gone, fewer-none}
 

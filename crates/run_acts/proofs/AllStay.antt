@@ -52,7 +52,7 @@ front-none p xs ys none = by (filter p xs) (sym (filter-append p xs ys) ∙ none
   where
     by : (zs : List Break) → zs ++ filter p ys ≡ [] → zs ≡ []
     by [] is = refl
-    by (z ∷ zs) is = cc
+    by (z ∷ zs) is = absurd (cc)
 
 back-none : (p : Break → Bool) (xs ys : List Break) → filter p (xs ++ ys) ≡ [] → filter p ys ≡ []
 back-none p xs ys none = by (filter p xs) (sym (filter-append p xs ys) ∙ none)
@@ -144,7 +144,7 @@ fate-stays Fell (Some k) second cabin c up some = absurd (cc)
 no-fall : (fate : Fate) (slot : Slot) (at : Moment) → filter failed_tear (breaks_by fate slot at) ≡ [] → has_fallen fate ≡ false
 no-fall Still slot at none = refl
 no-fall (Has a n) slot at none = refl
-no-fall Fell slot at none = cc
+no-fall Fell slot at none = absurd (cc)
 
 module _ (k : Keeper) (at : Moment) where
   -- behind some rounds there are lines more

@@ -32,14 +32,14 @@ module _ (f : CardFound) where
   abbrev size : ℕ
   size = app.activity
 
-  abbrev at : List Stay → Shown
-  at ss = after_stays size ss (start_shown f.image)
+  abbrev shown_by : List Stay → Shown
+  shown_by ss = after_stays size ss (start_shown f.image)
 
   abbrev Shows : Shown → State → Type 0
   Shows p X = ShowsBook app p.book p.used X
 
   -- one more behind some
-  behind : (front : List Stay) (s : Stay) → at (front ++ s ∷ []) ≡ after_stay size s (at front)
+  behind : (front : List Stay) (s : Stay) → shown_by (front ++ s ∷ []) ≡ after_stay size s (shown_by front)
   behind front s = stays-append size front (s ∷ []) (start_shown f.image)
 
   -- what the deeds of a stay make is that of its parts
@@ -49,13 +49,13 @@ module _ (f : CardFound) where
       let first : List Deed = opens p.used s.vehicle s.odometer (lacked (mark_of p.book) s.owed) in
       made-append size first (keeps s.vehicle None s.kepts ++ closes s.closed) p.book ∙ made-append size (keeps s.vehicle None s.kepts) (closes s.closed) (made_by size first p.book)
 
-  -- at the start
+  -- shown_by the start
   pub stays-start : (X : State) → ((y : List ℕ) → X.may_leave y → y ≡ f.image) → HasStays f None X
   stays-start X only = record { stays = []; shows = λ y left. (ap (book_of app) (only y left), ap (is_used app) (only y left)); goes = tt }
 
   -- nothing is done on it
   pub stays-still : (s : Option Accepted) (X Y : State) → DoesOn app [] X Y → HasStays f s X → HasStays f s Y
-  stays-still s X Y does h = record { stays = h.stays; shows = does (at h.stays).book (at h.stays).used h.shows; goes = h.goes }
+  stays-still s X Y does h = record { stays = h.stays; shows = does (shown_by h.stays).book (shown_by h.stays).used h.shows; goes = h.goes }
 
   -- it has no session any more
   pub stays-gone : (s : Option Accepted) (X : State) → HasStays f s X → HasStays f None X
@@ -70,17 +70,13 @@ module _ (f : CardFound) where
     kept_stay = record g.stay { kepts = g.stay.kepts ++ ks }
 
     abbrev before : Shown
-    before = at g.front
+    before = shown_by g.front
 
     abbrev opened : Book
     opened = made_by size (opens before.used g.stay.vehicle g.stay.odometer (lacked (mark_of before.book) g.stay.owed)) before.book
 
     was : Shows (after_stay size g.stay before) X
-    was = subst (λ (p : Shown). Shows p X) (ap at g.are ∙ behind g.front g.stay) h.shows
-
-    -- where it is not closed
-    abbrev open_closes : List Deed
-    open_closes = closes g.stay.closed
+    was = subst (λ (p : Shown). Shows p X) (ap shown_by g.are ∙ behind g.front g.stay) h.shows
 
     was-book : made_by size (deeds_of before.used before.book g.stay) before.book ≡ made_by size (keeps g.stay.vehicle None g.stay.kepts) opened
     was-book = parts g.stay before ∙ ap (λ (o : Option Activity). made_by size (closes o) (made_by size (keeps g.stay.vehicle None g.stay.kepts) opened)) g.still
@@ -120,15 +116,15 @@ module _ (f : CardFound) where
     abbrev new_stay : Stay
     new_stay = record { vehicle = vehicle; odometer = odometer; owed = owed; kepts = []; closed = None }
 
-    new-book : made_by size (deeds_of (at h.stays).used (at h.stays).book new_stay) (at h.stays).book
-        ≡ made_by size (opens (at h.stays).used vehicle odometer (lacked (mark_of (at h.stays).book) owed)) (at h.stays).book
-    new-book = parts new_stay (at h.stays)
+    new-book : made_by size (deeds_of (shown_by h.stays).used (shown_by h.stays).book new_stay) (shown_by h.stays).book
+        ≡ made_by size (opens (shown_by h.stays).used vehicle odometer (lacked (mark_of (shown_by h.stays).book) owed)) (shown_by h.stays).book
+    new-book = parts new_stay (shown_by h.stays)
 
     pub stays-open : HasStays f (Some a) Y
     stays-open = record {
       stays = h.stays ++ new_stay ∷ [];
       shows = subst (λ (p : Shown). Shows p Y) (sym (behind h.stays new_stay))
-          (subst (λ (c : Book). ShowsBook app c true Y) (sym new-book) (on (at h.stays).book (at h.stays).used h.shows));
+          (subst (λ (c : Book). ShowsBook app c true Y) (sym new-book) (on (shown_by h.stays).book (shown_by h.stays).used h.shows));
       goes = record { front = h.stays; stay = new_stay; are = refl; still = refl; vehicle = is; odometer = fresh };
     }
 
@@ -141,7 +137,7 @@ module _ (f : CardFound) where
     closed_stay = record last_stay { closed = Some act }
 
     abbrev earlier : Shown
-    earlier = at h.goes.front
+    earlier = shown_by h.goes.front
 
     abbrev begun : Book
     begun = made_by size (opens earlier.used last_stay.vehicle last_stay.odometer (lacked (mark_of earlier.book) last_stay.owed)) earlier.book
@@ -150,7 +146,7 @@ module _ (f : CardFound) where
     open-book = parts last_stay earlier ∙ ap (λ (o : Option Activity). made_by size (closes o) (made_by size (keeps last_stay.vehicle None last_stay.kepts) begun)) h.goes.still
 
     stood : Shows (after_stay size last_stay earlier) X
-    stood = subst (λ (p : Shown). Shows p X) (ap at h.goes.are ∙ behind h.goes.front last_stay) h.shows
+    stood = subst (λ (p : Shown). Shows p X) (ap shown_by h.goes.are ∙ behind h.goes.front last_stay) h.shows
 
     pub stays-close : HasStays f None Y
     stays-close = record {
