@@ -49,7 +49,7 @@ module _ (f : CardFound) where
       let first : List Deed = opens p.used s.vehicle s.odometer (lacked (mark_of p.book) s.owed) in
       made-append size first (keeps s.vehicle None s.kepts ++ closes s.closed) p.book ∙ made-append size (keeps s.vehicle None s.kepts) (closes s.closed) (made_by size first p.book)
 
-  -- shown_by the start
+  -- at the start
   pub stays-start : (X : State) → ((y : List ℕ) → X.may_leave y → y ≡ f.image) → HasStays f None X
   stays-start X only = record { stays = []; shows = λ y left. (ap (book_of app) (only y left), ap (is_used app) (only y left)); goes = tt }
 
