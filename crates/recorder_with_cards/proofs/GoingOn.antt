@@ -67,14 +67,14 @@ starts-of o origin B = origin.start B
 -- WITH POWER
 module _ (o : Origin) (origin : IsOrigin o) (done : List TraceSecond) (s : TraceSecond) (run : Run) (out : Outcome) (d : Devices) (U : State) (chip_a chip_b : CardState) (X Y : State) (lit : run.power ≡ Lit) (number : s.number ≡ run.next) (given : s.has_power ≡ true) (low : first_second ≤ run.next)
     (going : IsLit ((run.next - 1) / 60) run U chip_a chip_b X Y) where
-  module _ (t : Told) (span : List Told) (r : Recorded o done (IsLitBy (t ∷ span)) (values_of run out) d) (odometer : run.keeper.odometer ≡ odometer_after (odometer_at o.recording.unit) r.travel.before) (stay : AllStay o (log_of out) run.keeper.cabin.cards d) where
+  module _ (t : Told) (span : List Told) (r : Recorded o done (IsLitBy (t ∷ span)) (values_of run out) d) (odometer : run.keeper.odometer ≡ odometer_after (odometer_at o.recording.unit) r.travel.before) (stay : AllStay o (log_of out) run.keeper.memory.registration run.keeper.cabin.cards d) where
     abbrev from : ℕ
     from = undecided_from o (t ∷ span) (values_of run out)
 
     from-is : ungiven_of going.span ≡ from
     from-is = same-undecided run.minutes going.span (span_at (rule_of o) run.next (t ∷ span)) going.stands r.held.minutes
 
-    on : (cabin : Cabin) (first : ℕ) → AllStay o (log_of out) cabin.cards d → GoesOn o done s (In 0) [] None [] (record (values_of run out) { cabin = cabin }) d (begun_behind o done (t ∷ span) (values_of run out) d r) first →
+    on : (cabin : Cabin) (first : ℕ) → AllStay o (log_of out) run.keeper.memory.registration cabin.cards d → GoesOn o done s (In 0) [] None [] (record (values_of run out) { cabin = cabin }) d (begun_behind o done (t ∷ span) (values_of run out) d r) first →
         (w : RunWithin o done s (In 0) [] [] (record run { keeper = record run.keeper { cabin = cabin } }) out d) × (w.within.b ≡ begun_behind o done (t ∷ span) (values_of run out) d r)
     on cabin first stays h = (
       record {
@@ -107,7 +107,7 @@ module _ (o : Origin) (origin : IsOrigin o) (done : List TraceSecond) (s : Trace
   abbrev Goes : Supply → Type 0
   Goes supply = (w : RunWithin o done s (In 0) [] [] (minute_over run) out d) × (book : Book) × (w.within.b.run ≡ progress (values_of run out) supply book) × (begins_with w.within.b.span ≡ false)
 
-  by-supply : (supply : Supply) → Supplies Lit supply → (r : Recorded o done supply (values_of run out) d) → run.keeper.odometer ≡ odometer_after (odometer_at o.recording.unit) r.travel.before → AllStay o (log_of out) run.keeper.cabin.cards d → Goes supply
+  by-supply : (supply : Supply) → Supplies Lit supply → (r : Recorded o done supply (values_of run out) d) → run.keeper.odometer ≡ odometer_after (odometer_at o.recording.unit) r.travel.before → AllStay o (log_of out) run.keeper.memory.registration run.keeper.cabin.cards d → Goes supply
   by-supply (IsLitBy (t ∷ span)) h r odometer stay =
       let g = by t span r odometer stay (nat_eq (run.next % 60) 0) refl in
       (g.0, r.book, ap (λ (b : Beginning). b.run) g.1, ap (λ (b : Beginning). begins_with b.span) g.1)

@@ -46,7 +46,7 @@ found-by o origin = record { first = ap (λ (u : Started). u.first) origin.unit;
 
 -- the second goes on, or power is about to be cut
 pub judged-by : (failed : Bool) (o : Origin) (done : List TraceSecond) (s : TraceSecond) (n : ℕ) (waits fewer : List Visit) (old new : Run) (before after : Outcome) (d e : Devices) (w : RunWithin o done s (In n) waits [] old before d) →
-    new.power ≡ Lit → new.keeper.odometer ≡ old.keeper.odometer → GoesOnOrIsCut failed o done s n waits fewer (values_of old before) (values_of new after) d e w.within → (failed ≡ false → AllStay o (log_of after) new.keeper.cabin.cards e) → JudgedTo failed o done s n waits fewer old new before after d e w
+    new.power ≡ Lit → new.keeper.odometer ≡ old.keeper.odometer → GoesOnOrIsCut failed o done s n waits fewer (values_of old before) (values_of new after) d e w.within → (failed ≡ false → AllStay o (log_of after) new.keeper.memory.registration new.keeper.cabin.cards e) → JudgedTo failed o done s n waits fewer old new before after d e w
 judged-by false o done s n waits fewer old new before after d e w lit odometer h stay = record {
   goes = record {
     origin = w.origin;

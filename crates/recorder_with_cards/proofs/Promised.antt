@@ -88,7 +88,7 @@ use Rattle.recorder_with_cards.specs.Ends.{BeginAs, recorded_with, recording_of,
 use Rattle.recorder_with_cards.proofs.Waiting.{first-second}
 use Rattle.recorder_with_cards.proofs.SideShown.{side-shown}
 use Rattle.recorder_with_cards.proofs.Written.{are-written}
-use Rattle.run_acts.specs.Stays.{HasStays, ShowsStays}
+use Rattle.run_acts.specs.Stays.{registration_in, HasStays, ShowsStays}
 use Rattle.run_acts.proofs.Stays.{stays-start}
 
 -- what holds of either card
@@ -170,8 +170,9 @@ module _ (x a b : List ℕ) (start : ℕ) (items : List Item) (began now : Devic
     written = are-written o (seconds_of start items) h.evented.recorded.supply (values_of run out) began now h.evented.recorded.recorded (found-by r0 (seconds_of start items) (log_of out) (found_in r0 began) began found);
     stays = λ none c valid.
         let of_image : (found_of o.found c).image ≡ card_image r c = found.image c ∙ sym (images c) in
-        let h_ = h.evented.recorded.stay none c (subst IsOwnValid (sym of_image) valid) in
-        subst (λ (i : List ℕ). ShowsStays i (card_of now c)) of_image (record { stays = h_.stays; shows = h_.shows });
+        let all = h.evented.recorded.stay none in
+        let h_ = all.1 c (subst IsOwnValid (sym of_image) valid) in
+        subst (λ (i : List ℕ). ShowsStays x i (card_of now c)) of_image (record { vehicle = run.keeper.memory.registration; says = all.0; stays = h_.stays; shows = h_.shows });
   }
     where
       r : Recording
@@ -296,8 +297,9 @@ module _ (x a b : List ℕ) (start : ℕ) (began now : Devices) (opened : Opened
         (λ y left. ready.begins.unit.only y (unit_whole.counts_now now.unit.clock y (omega arith) left))
 
     starts-recorded : (run : Run) (out : Outcome) → run.power ≡ Due → run.next ≡ start → run.begun ≡ 0 → run.unfound ≡ 0 → run.keeper.cabin.slots ≡ nothing_yet → ((c : Card) → known_in run.keeper.cabin.cards c ≡ known_of opened c) →
-        ((c : Card) → session_of run.keeper.cabin.cards c ≡ None) → out.breaks.items ≡ [] → out.refused.items ≡ [] → out.finds.items ≡ [] → out.marks.items ≡ [] → RunRecorded first-o [] run out now
-    starts-recorded run out due next begun unfound slots same bare breaks refused finds marks = record {
+        ((c : Card) → session_of run.keeper.cabin.cards c ≡ None) → out.breaks.items ≡ [] → out.refused.items ≡ [] → out.finds.items ≡ [] → out.marks.items ≡ [] → run.keeper.memory.registration.0 ≡ registration_in x →
+        RunRecorded first-o [] run out now
+    starts-recorded run out due next begun unfound slots same bare breaks refused finds marks registered = record {
       origin = is-origin;
       supply = IsDue;
       powers = subst (λ (p : Power). Supplies p IsDue) (sym due) tt;
@@ -318,8 +320,8 @@ module _ (x a b : List ℕ) (start : ℕ) (began now : Devices) (opened : Opened
         travels = travels;
       });
       odometer = λ lit. absurd (let bad : Due ≡ Lit = sym due ∙ lit in cc);
-      stay = λ none c valid. subst (λ (s : Option Accepted). HasStays (found_of f c) s (card_of now c)) (sym (bare c))
-          (stays-start (found_of f c) (card_of now c) (λ y left. untouched c y ((whole c).counts_now (found_of f c).began y (there.clocks c) left)));
+      stay = λ none. (registered, λ c valid. subst (λ (s : Option Accepted). HasStays (found_of f c) run.keeper.memory.registration s (card_of now c)) (sym (bare c))
+          (stays-start (found_of f c) run.keeper.memory.registration (card_of now c) (λ y left. untouched c y ((whole c).counts_now (found_of f c).began y (there.clocks c) left))));
     }
 
     only_unit : (y : List ℕ) → now.unit.may_leave y → y ≡ x
@@ -341,7 +343,7 @@ module _ (x a b : List ℕ) (start : ℕ) (began now : Devices) (opened : Opened
     }
       where
         r : RunRecorded first-o [] run out now
-        r = starts-recorded run out due next begun unfound slots same bare breaks refused finds marks
+        r = starts-recorded run out due next begun unfound slots same bare breaks refused finds marks (ap (λ (i : Identity). i.registration.0) memory ∙ ready.memory.registration)
 
         log : log_of out ≡ empty_log
         log = ap (λ bs. record { breaks = bs; refused = out.refused.items; finds = out.finds.items }) breaks ∙ ap (λ rs. record { breaks = []; refused = rs; finds = out.finds.items }) refused ∙ ap (λ fs. record { breaks = []; refused = []; finds = fs }) finds

@@ -83,7 +83,7 @@ use Rattle.recorder_with_cards.proofs.Read.{unit-tells, image-of, at-image}
 use Rattle.recorder_with_cards.proofs.StoredCalls.{mend-stays}
 use Rattle.run_acts.specs.Stays.{AllStay}
 use Rattle.run_recorded.specs.Whole.{NothingFailed}
-use Rattle.run_acts.proofs.AllStay.{all-unit, found-none}
+use Rattle.run_acts.proofs.AllStay.{all-unit, all-of, found-none}
 
 -- ---- a run at its power-on
 
@@ -93,7 +93,7 @@ pub record RunWaking (o : Origin) (done : List TraceSecond) (s : TraceSecond) (b
   pub lit : run.power ≡ Lit
   pub waking : IsWaking o done s b (values_of run out) d waits untold
   pub odometer : run.keeper.odometer ≡ odometer_after (odometer_at o.recording.unit) b.travel.before
-  pub stay : AllStay o (log_of out) run.keeper.cabin.cards d
+  pub stay : AllStay o (log_of out) run.keeper.memory.registration run.keeper.cabin.cards d
 
 abbrev pub within-of : (o : Origin) (done : List TraceSecond) (s : TraceSecond) (b : Beginning) (waits : List Visit) (untold : List Slot) (run : Run) (out : Outcome) (d : Devices) → RunWaking o done s b waits untold run out d → RunWithin o done s (In 0) waits [] run out d
 within-of o done s b waits untold run out d w = record {
@@ -196,7 +196,7 @@ module _ (o : Origin) (origin : IsOrigin o) (done : List TraceSecond) (s : Trace
   as-read P = subst P kept-is
 
   -- it was mended, and a span has begun
-  module _ (well : failed ≡ false) (journal : Notes) (agrees : IfSome W.image (Agrees journal)) (new : Run) (begun : IsSpanBegun old new journal) (after : IsCoherent W) (stay : AllStay o v.log v.cabin.cards (devices U X Y)) where
+  module _ (well : failed ≡ false) (journal : Notes) (agrees : IfSome W.image (Agrees journal)) (new : Run) (begun : IsSpanBegun old new journal) (after : IsCoherent W) (stay : AllStay o v.log old.keeper.memory.registration v.cabin.cards (devices U X Y)) where
     next : old.next ≡ v.next
     next = ap (λ (x : Values). x.next) values
 
@@ -252,10 +252,11 @@ module _ (o : Origin) (origin : IsOrigin o) (done : List TraceSecond) (s : Trace
         (power-wakes d e o done s supply v r may number given (last_kept has-image.0) new.minutes back))
 
     -- what was made of the cards: they are not called
-    stays-behind : AllStay o (log_of out) new.keeper.cabin.cards e
+    stays-behind : AllStay o (log_of out) new.keeper.memory.registration new.keeper.cabin.cards e
     stays-behind =
-        subst (λ (c : Cabin). AllStay o (log_of out) c.cards e) kept-cabin
-        (λ none. all-unit o v.log v.cabin.cards U W X Y stay (found-none v.unfound j.kept v.log (subst (λ (l : RunLog). NothingFailed l) (ap (λ (x : Values). x.log) values) none)))
+        all-of o (log_of out) old.keeper.memory.registration new.keeper.memory.registration new.keeper.cabin.cards e (ap (λ (k : Keeper). k.memory.registration) begun.keeper)
+        (subst (λ (c : Cabin). AllStay o (log_of out) old.keeper.memory.registration c.cards e) kept-cabin
+        (λ none. all-unit o v.log old.keeper.memory.registration v.cabin.cards U W X Y stay (found-none v.unfound j.kept v.log (subst (λ (l : RunLog). NothingFailed l) (ap (λ (x : Values). x.log) values) none))))
 
     pub awake : (begins : Beginning) × RunWaking o done s begins (waiting_in Driver (card_in new.keeper.cabin.slots.seats.driver) ++ waiting_in CoDriver (card_in new.keeper.cabin.slots.seats.codriver)) both_slots new out (devices W X Y)
     awake = (b, record { origin = origin; lit = begun.power; waking = wakes; odometer = odometer; stay = stays-behind })

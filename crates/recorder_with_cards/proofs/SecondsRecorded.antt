@@ -132,7 +132,7 @@ module _ (o : Origin) (done : List TraceSecond) (old : Run) (before : Outcome) (
       (subst (λ (l : Listed Break). RunRecorded o (done ++ dark (suc n) old.next) (off_run (suc n) old) (record before { breaks = l }) d) (sym told)
       (by old.power refl h.supply h.powers h.recorded))
     where
-      due : (r : Run) (out : Outcome) → AllStay o (log_of out) r.keeper.cabin.cards d → r.power ≡ Due → Recorded o (done ++ dark (suc n) old.next) IsDue (values_of r out) d → RunRecorded o (done ++ dark (suc n) old.next) r out d
+      due : (r : Run) (out : Outcome) → AllStay o (log_of out) r.keeper.memory.registration r.keeper.cabin.cards d → r.power ≡ Due → Recorded o (done ++ dark (suc n) old.next) IsDue (values_of r out) d → RunRecorded o (done ++ dark (suc n) old.next) r out d
       due r out stays is recorded = record {
         origin = h.origin;
         supply = IsDue;
@@ -148,9 +148,9 @@ module _ (o : Origin) (done : List TraceSecond) (old : Run) (before : Outcome) (
       bare-off B = refl
 
       -- what is made of the cards
-      off-stay : (lit : Bool) → AllStay o (log_of (told_off lit old before)) (off_as lit (suc n) old).keeper.cabin.cards d
+      off-stay : (lit : Bool) → AllStay o (log_of (told_off lit old before)) old.keeper.memory.registration (off_as lit (suc n) old).keeper.cabin.cards d
       off-stay false = λ none. h.stay (fewer-none (log_of before) [] none)
-      off-stay true = all-gone o (log_of before) (log_of (told_off true old before)) old.keeper.cabin.cards (with_power_lost (old.next - 1) old.keeper.cabin).cards d
+      off-stay true = all-gone o (log_of before) (log_of (told_off true old before)) old.keeper.memory.registration old.keeper.cabin.cards (with_power_lost (old.next - 1) old.keeper.cabin).cards d
           (λ none. fewer-none (log_of before) (off_cut true (old.next - 1) old.begun) none) (λ c. inr (bare-off c)) h.stay
 
       plain : Recorded o (done ++ dark (suc n) old.next) IsDue (off_values (suc n) (values_of old before)) d → Recorded o (done ++ dark (suc n) old.next) IsDue (values_of (off_as false (suc n) old) (told_off false old before)) d

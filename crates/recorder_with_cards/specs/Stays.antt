@@ -12,4 +12,4 @@ use Rattle.run_acts.specs.Stays.{ShowsStays}
 -- inserted, kept its minutes, each with so many km as the odometer has grown since the one before, and was withdrawn with an activity, or was
 -- not; and a session that was left open was cut at its end mark, and got the entries that the card lacked, as the next stay began.
 abbrev pub HasAllStays : Recording → Devices → Type 0
-HasAllStays r now = NothingFailed r.log → (c : Card) → IsOwnValid (card_image r c) → ShowsStays (card_image r c) (card_of now c)
+HasAllStays r now = NothingFailed r.log → (c : Card) → IsOwnValid (card_image r c) → ShowsStays r.unit (card_image r c) (card_of now c)

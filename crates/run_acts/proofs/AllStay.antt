@@ -8,6 +8,7 @@ use Rattle.activity_codec.specs.declared.values.Slot.TheVariants.{Driver, CoDriv
 use Rattle.trace_model.specs.declared.Card.{Card}
 use Rattle.trace_model.specs.declared.Card.TheVariants.{A, B}
 use Rattle.tach_media.specs.Medium.{State}
+use Rattle.tacho_types.specs.declared.texts.Registration.{Registration}
 use Rattle.log_model.specs.Log.{RunLog}
 use Rattle.log_model.specs.Causes.{is_cut, has_failed}
 use Rattle.log_model.specs.declared.lines.Break.{Break}
@@ -95,38 +96,51 @@ module _ (o : Origin) where
   f c = found_of o.found c
 
   -- the unit alone differs
-  pub all-unit : (log : RunLog) (cards : Cards) (U V X Y : State) → AllStay o log cards (devices U X Y) → AllStay o log cards (devices V X Y)
-  all-unit log cards U V X Y all none A = all none A
-  all-unit log cards U V X Y all none B = all none B
+  pub all-unit : (log : RunLog) (r : Registration) (cards : Cards) (U V X Y : State) → AllStay o log r cards (devices U X Y) → AllStay o log r cards (devices V X Y)
+  all-unit log r cards U V X Y all none = ((all none).0, λ c valid. by c valid)
+    where
+      by : (c : Card) → IsOwnValid (f c).image → HasStays (f c) r (session_of cards c) (card_of (devices V X Y) c)
+      by A valid = (all none).1 A valid
+      by B valid = (all none).1 B valid
+
+  -- the vehicle is the same
+  pub all-of : (log : RunLog) (r new : Registration) (cards : Cards) (d : Devices) → new ≡ r → AllStay o log r cards d → AllStay o log new cards d
+  all-of log r new cards d same all = subst (λ (v : Registration). AllStay o log v cards d) (sym same) all
 
   -- each session is as it was, or gone
-  pub all-gone : (log later : RunLog) (cards after : Cards) (d : Devices) → (NothingFailed later → NothingFailed log) → ((c : Card) → (session_of after c ≡ session_of cards c) ⊎ (session_of after c ≡ None)) → AllStay o log cards d → AllStay o later after d
-  all-gone log later cards after d fewer gone all none c valid =
-      let h = all (fewer none) c valid in
+  pub all-gone : (log later : RunLog) (r : Registration) (cards after : Cards) (d : Devices) → (NothingFailed later → NothingFailed log) → ((c : Card) → (session_of after c ≡ session_of cards c) ⊎ (session_of after c ≡ None)) → AllStay o log r cards d → AllStay o later r after d
+  all-gone log later r cards after d fewer gone all none = ((all (fewer none)).0, λ c valid.
+      let h = (all (fewer none)).1 c valid in
       ⊎_elim
-      (λ same. subst (λ (s : Option Accepted). HasStays (f c) s (card_of d c)) (sym same) h)
-      (λ out. subst (λ (s : Option Accepted). HasStays (f c) s (card_of d c)) (sym out) (stays-gone (f c) (session_of cards c) (card_of d c) h))
-      (gone c)
+      (λ same. subst (λ (s : Option Accepted). HasStays (f c) r s (card_of d c)) (sym same) h)
+      (λ out. subst (λ (s : Option Accepted). HasStays (f c) r s (card_of d c)) (sym out) (stays-gone (f c) r (session_of cards c) (card_of d c) h))
+      (gone c))
 
   -- a call that is about one card, and the unit
-  pub all-one : (c : Card) (log later : RunLog) (cards after : Cards) (U V X Y Z : State) → (NothingFailed later → NothingFailed log) → session_of after (other c) ≡ session_of cards (other c)
-      → (NothingFailed later → IsOwnValid (f c).image → HasStays (f c) (session_of cards c) X → HasStays (f c) (session_of after c) Y) → AllStay o log cards (arranged c U X Z) → AllStay o later after (arranged c V Y Z)
-  all-one A log later cards after U V X Y Z fewer same own all none A valid = own none valid (all (fewer none) A valid)
-  all-one A log later cards after U V X Y Z fewer same own all none B valid = subst (λ (s : Option Accepted). HasStays (f B) s Z) (sym same) (all (fewer none) B valid)
-  all-one B log later cards after U V X Y Z fewer same own all none A valid = subst (λ (s : Option Accepted). HasStays (f A) s Z) (sym same) (all (fewer none) A valid)
-  all-one B log later cards after U V X Y Z fewer same own all none B valid = own none valid (all (fewer none) B valid)
+  pub all-one : (c : Card) (log later : RunLog) (r : Registration) (cards after : Cards) (U V X Y Z : State) → (NothingFailed later → NothingFailed log) → session_of after (other c) ≡ session_of cards (other c)
+      → (NothingFailed later → IsOwnValid (f c).image → HasStays (f c) r (session_of cards c) X → HasStays (f c) r (session_of after c) Y) → AllStay o log r cards (arranged c U X Z) → AllStay o later r after (arranged c V Y Z)
+  all-one A log later r cards after U V X Y Z fewer same own all none = ((all (fewer none)).0, λ c valid. by c valid)
+    where
+      by : (c : Card) → IsOwnValid (f c).image → HasStays (f c) r (session_of after c) (card_of (arranged A V Y Z) c)
+      by A valid = own none valid ((all (fewer none)).1 A valid)
+      by B valid = subst (λ (s : Option Accepted). HasStays (f B) r s Z) (sym same) ((all (fewer none)).1 B valid)
+  all-one B log later r cards after U V X Y Z fewer same own all none = ((all (fewer none)).0, λ c valid. by c valid)
+    where
+      by : (c : Card) → IsOwnValid (f c).image → HasStays (f c) r (session_of after c) (card_of (arranged B V Y Z) c)
+      by A valid = subst (λ (s : Option Accepted). HasStays (f A) r s Z) (sym same) ((all (fewer none)).1 A valid)
+      by B valid = own none valid ((all (fewer none)).1 B valid)
 
   -- minutes are kept
-  one-kept : (c : Card) (ks : List Kept) (s t : Option Accepted) (X Y : State) → (is_some s ≡ true → is_some t ≡ true) → KeepsOn (f c) ks s t X Y → HasStays (f c) s X → HasStays (f c) t Y
-  one-kept c ks None None X Y some on h = stays-still (f c) None X Y on h
-  one-kept c ks None (Some b) X Y some on h = absurd on
-  one-kept c ks (Some a) None X Y some on h = let no = some refl in absurd (cc)
-  one-kept c ks (Some a) (Some b) X Y some on h = stays-keep (f c) ks a b X Y on h
+  one-kept : (r : Registration) (c : Card) (ks : List Kept) (s t : Option Accepted) (X Y : State) → (is_some s ≡ true → is_some t ≡ true) → KeepsOn (f c) ks s t X Y → HasStays (f c) r s X → HasStays (f c) r t Y
+  one-kept r c ks None None X Y some on h = stays-still (f c) r None X Y on h
+  one-kept r c ks None (Some b) X Y some on h = absurd on
+  one-kept r c ks (Some a) None X Y some on h = let no = some refl in absurd (cc)
+  one-kept r c ks (Some a) (Some b) X Y some on h = stays-keep (f c) r ks a b X Y on h
 
-  pub all-kept : (log later : RunLog) (ks : Card → List Kept) (cards after : Cards) (d e : Devices) → (NothingFailed later → NothingFailed log) → (NothingFailed later → (c : Card) → is_some (session_of cards c) ≡ true → is_some (session_of after c) ≡ true)
-      → AllKeep o.found ks cards after d e → AllStay o log cards d → AllStay o later after e
-  all-kept log later ks cards after d e fewer some keep all none c valid =
-      one-kept c (ks c) (session_of cards c) (session_of after c) (card_of d c) (card_of e c) (some none c) (keep c valid) (all (fewer none) c valid)
+  pub all-kept : (log later : RunLog) (r : Registration) (ks : Card → List Kept) (cards after : Cards) (d e : Devices) → (NothingFailed later → NothingFailed log) → (NothingFailed later → (c : Card) → is_some (session_of cards c) ≡ true → is_some (session_of after c) ≡ true)
+      → AllKeep o.found ks cards after d e → AllStay o log r cards d → AllStay o later r after e
+  all-kept log later r ks cards after d e fewer some keep all none = ((all (fewer none)).0, λ c valid.
+      one-kept r c (ks c) (session_of cards c) (session_of after c) (card_of d c) (card_of e c) (some none c) (keep c valid) ((all (fewer none)).1 c valid))
 
 -- ---- a session that is gone has its line
 
@@ -172,17 +186,23 @@ module _ (k : Keeper) (at : Moment) where
       sessions-stay xs next c none
       (fate-stays x.round.codriver present.codriver at.second (cabin_by x.round.driver present.driver at.second t.keeper.cabin) c two (fate-stays x.round.driver present.driver at.second t.keeper.cabin c one some))
 
+-- what the unit remembers of its vehicle stays
+memory-by : (k : Keeper) (at : Moment) (xs : List Done) (t : Told) → (told_by k at xs t).keeper.memory.registration ≡ t.keeper.memory.registration
+memory-by k at [] t = refl
+memory-by k at (x ∷ xs) t = memory-by k at xs (told_after (present_at k.cabin x.minute.minute) x.minute.minute at x.round t)
+
 -- what a keeping that did not fail leaves: lines more, and each session where none of them tells of a failed call
 pub record Reached (t u : Told) : Type 0 where
   pub more : List Break
   pub lines : u.breaks.items ≡ t.breaks.items ++ more
   pub stay : (c : Card) → filter failed_tear u.breaks.items ≡ [] → is_some (session_of t.keeper.cabin.cards c) ≡ true → is_some (session_of u.keeper.cabin.cards c) ≡ true
+  pub registered : u.keeper.memory.registration ≡ t.keeper.memory.registration
 
 pub reach-told : (decided : List Minute) (at : Moment) (t u : Told) (reach : Reach) → IsReach decided at false t u reach → Reached t u
 reach-told decided at t u (Short xs m round) is = absurd is
 reach-told decided at t u (Whole xs) is =
     subst (Reached t) (sym is.2)
-    (let lines = lines-by t.keeper at xs t in record { more = lines.0; lines = lines.1; stay = λ c none some. sessions-stay t.keeper at xs t c none some })
+    (let lines = lines-by t.keeper at xs t in record { more = lines.0; lines = lines.1; stay = λ c none some. sessions-stay t.keeper at xs t c none some; registered = memory-by t.keeper at xs t })
 
 -- ---- what was kept is found
 

@@ -143,14 +143,14 @@ module _ {C : Type 0} (state : C → State) (c : Card) (slot : Slot) (at : Momen
         (λ valid. closed-timed o.found carries run.keeper.cabin.cards c U (state x) (state y) Z w.within.found whole size a closes.0 has w.within.powered closes.1 valid)
 
     -- what is made of the card
-    stays-closed : ClosesOnCard (Some a) (state x) (state y) → IsOwnValid (found_of o.found c).image → HasStays (found_of o.found c) (Some a) (state x) → HasStays (found_of o.found c) None (state y)
+    stays-closed : ClosesOnCard (Some a) (state x) (state y) → IsOwnValid (found_of o.found c).image → HasStays (found_of o.found c) run.keeper.memory.registration (Some a) (state x) → HasStays (found_of o.found c) run.keeper.memory.registration None (state y)
     stays-closed shut valid h =
         let one : CardLit o.found carries.book (carries.standing c) (carries.brought c) (Some a) c U (state x) =
         subst (λ (q : Option Accepted). CardLit o.found carries.book (carries.standing c) (carries.brought c) q c U (state x)) has ((parts-of o.found carries run.keeper.cabin.cards c U (state x) Z w.within.powered).mine valid) in
         let on : IsOn (found_of o.found c) one.goes.has (carries.standing c) a.session (state x) = one.goes.goes in
         let sound : IsApplication a.session.application = subst IsApplication (sym on.sizes) (w.within.found.sizes c valid) in
         let most = largest_image a.session.application sound in
-        stays-close (found_of o.found c) shut.0 a (state x) (state y)
+        stays-close (found_of o.found c) run.keeper.memory.registration shut.0 a (state x) (state y)
         (subst (λ (p : Application). ClosesOn p shut.0 (state x) (state y)) on.sizes (does-close a.session shut.0 (state x) (state y) sound whole (omega (arith, most, size)) on.session shut.1)) h
 
     called : IsCalledLeaving o done s (In n) v d e w.within slot c
@@ -159,9 +159,9 @@ module _ {C : Type 0} (state : C → State) (c : Card) (slot : Slot) (at : Momen
     -- it is closed
     closed : ClosesOnCard (Some a) (state x) (state y) → (b : Bool) → failed ≡ b → IsPoweredOrOff b o.found (carried_closed Closed c carries) (with_session c None run.keeper.cabin.cards) e → GoesOnOrFails b o done s (In n) [] (with_cabin (with_session_of c None run.keeper.cabin) run) told e w.within.b
     closed shut false is powered = goes-as o done s (In n) (In n) [] [] [] run (with_cabin (with_session_of c None run.keeper.cabin) run) told told d e w.within.from w refl refl (session-closed d e o done s (In n) v w.within slot c called powered)
-        (all-one o c (log_of told) (log_of told) run.keeper.cabin.cards (with_session c None run.keeper.cabin.cards) U V (state x) (state y) Z (λ none. none) (others-left c run.keeper.cabin.cards)
-        (λ none valid h. subst (λ (q : Option Accepted). HasStays (found_of o.found c) q (state y)) (sym (mine-left c run.keeper.cabin.cards))
-        (stays-closed a has shut valid (subst (λ (q : Option Accepted). HasStays (found_of o.found c) q (state x)) has h))) w.stay)
+        (all-one o c (log_of told) (log_of told) run.keeper.memory.registration run.keeper.cabin.cards (with_session c None run.keeper.cabin.cards) U V (state x) (state y) Z (λ none. none) (others-left c run.keeper.cabin.cards)
+        (λ none valid h. subst (λ (q : Option Accepted). HasStays (found_of o.found c) run.keeper.memory.registration q (state y)) (sym (mine-left c run.keeper.cabin.cards))
+        (stays-closed a has shut valid (subst (λ (q : Option Accepted). HasStays (found_of o.found c) run.keeper.memory.registration q (state x)) has h))) w.stay)
     closed shut true is powerless = record {
       waits = [];
       cabin = with_session_of c None run.keeper.cabin;

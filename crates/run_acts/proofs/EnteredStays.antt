@@ -25,7 +25,7 @@ use Rattle.run_entering.proofs.Carried.{has-session}
 use Rattle.run_acts.specs.Recording.{log_of}
 use Rattle.run_acts.specs.Stays.{HasStays, AllStay}
 use Rattle.run_acts.proofs.Stays.{stays-still, stays-open}
-use Rattle.run_acts.proofs.AllStay.{all-one, fewer-none, no-tear, mine-left}
+use Rattle.run_acts.proofs.AllStay.{all-of, all-one, fewer-none, no-tear, mine-left}
 
 -- its session behind
 abbrev session_by : Ending → (noted : ℕ) → Option Accepted
@@ -56,9 +56,9 @@ module _ (o : Origin) (e : Entering) (failed : Bool) (well : failed ≡ false) (
 
   -- of a card that was judged
   own-judged : (ending : Ending) (app : Application) → IsEnding ending app k.memory.registration e failed U.image X Y → OpensSo ending k.memory.registration e f X Y → NothingFailed (record (log_of out) { breaks = (log_of out).breaks ++ breaks_by ending e })
-      → HasStays f None X → HasStays f (session_by ending noted) Y
-  own-judged (Unfit fid place) app is opens none h = stays-still f None X Y opens h
-  own-judged (Ahead stored) app is opens none h = stays-still f None X Y opens h
+      → HasStays f k.memory.registration None X → HasStays f k.memory.registration (session_by ending noted) Y
+  own-judged (Unfit fid place) app is opens none h = stays-still f k.memory.registration None X Y opens h
+  own-judged (Ahead stored) app is opens none h = stays-still f k.memory.registration None X Y opens h
   own-judged Fell app is opens none h = no-tear (log_of out) e.slot e.at none
   own-judged Unasked app is opens none h = fails is
   own-judged (Unnoted entered clock) app is opens none h = fails is.0
@@ -67,19 +67,23 @@ module _ (o : Origin) (e : Entering) (failed : Bool) (well : failed ≡ false) (
   own-judged (Lost entered clock entry) app is opens none h = no-tear (log_of out) e.slot e.at none
 
   own : (way : Way) → IsWay way k.memory.registration e failed U.image X Y → OpensSo (ending_of way) k.memory.registration e f X Y → NothingFailed (record (log_of out) { breaks = (log_of out).breaks ++ breaks_by (ending_of way) e })
-      → HasStays f None X → HasStays f (session_by (ending_of way) noted) Y
+      → HasStays f k.memory.registration None X → HasStays f k.memory.registration (session_by (ending_of way) noted) Y
   own Unread is opens none h = no-tear (log_of out) e.slot e.at none
-  own (Unsized field) is opens none h = stays-still f None X Y opens h
+  own (Unsized field) is opens none h = stays-still f k.memory.registration None X Y opens h
   own (Judged app ending) is opens none h = own-judged ending app is opens none h
 
+  registered : (way : Way) → HasEntered e failed k v noted noted_after out after U W X Y way → v.memory.registration ≡ k.memory.registration
+  registered way entered = ap (λ (q : Keeper). q.memory.registration) entered.left.keeper
+
   pub entered-stays : (way : Way) (w : Carried) → HasEntered e failed k v noted noted_after out after U W X Y way → IsEnteredOn (ending_of way) e failed k v U W X Y Z o.found w → session_of k.cabin.cards e.which ≡ None
-      → session_of v.cabin.cards (other e.which) ≡ session_of k.cabin.cards (other e.which) → AllStay o (log_of out) k.cabin.cards (arranged e.which U X Z) → AllStay o (log_of after) v.cabin.cards (arranged e.which W Y Z)
+      → session_of v.cabin.cards (other e.which) ≡ session_of k.cabin.cards (other e.which) → AllStay o (log_of out) k.memory.registration k.cabin.cards (arranged e.which U X Z) → AllStay o (log_of after) v.memory.registration v.cabin.cards (arranged e.which W Y Z)
   entered-stays way w entered known bare others all =
       let lines : NothingFailed (log_of after) → NothingFailed (record (log_of out) { breaks = (log_of out).breaks ++ breaks_by (ending_of way) e }) =
       (λ none. subst (λ (p : Outcome). NothingFailed (log_of p)) entered.left.outcome none) in
       let session : session_of v.cabin.cards e.which ≡ session_by (ending_of way) noted =
       ap (λ (q : Keeper). session_of q.cabin.cards e.which) entered.left.keeper
       ∙ sessions-by (ending_of way) e noted (measured way e k).cabin (session-sized e.which e.which (sizes_by way) k.cabin.cards ∙ bare) in
-      all-one o e.which (log_of out) (log_of after) k.cabin.cards v.cabin.cards U W X Y Z (λ none. fewer-none (log_of out) (breaks_by (ending_of way) e) (lines none)) others
-      (λ none valid h. subst (λ (s : Option Accepted). HasStays f s Y) (sym session)
-      (own way entered.is (known.opens valid) (lines none) (subst (λ (s : Option Accepted). HasStays f s X) bare h))) all
+      all-of o (log_of after) k.memory.registration v.memory.registration v.cabin.cards (arranged e.which W Y Z) (registered way entered)
+      (all-one o e.which (log_of out) (log_of after) k.memory.registration k.cabin.cards v.cabin.cards U W X Y Z (λ none. fewer-none (log_of out) (breaks_by (ending_of way) e) (lines none)) others
+      (λ none valid h. subst (λ (s : Option Accepted). HasStays f k.memory.registration s Y) (sym session)
+      (own way entered.is (known.opens valid) (lines none) (subst (λ (s : Option Accepted). HasStays f k.memory.registration s X) bare h))) all)

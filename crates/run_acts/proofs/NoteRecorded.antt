@@ -214,7 +214,7 @@ module _ (o : Origin) (cards : Cards) {R S : List ℕ → List ℕ → Type 0} w
 
 -- THE RUN GOES ON, where the record does
 pub run-on : (o : Origin) (done : List TraceSecond) (s : TraceSecond) (at next : Phase) (waits fewer : List Visit) (rest more : List Minute) (run new : Run) (out after : Outcome) (d e : Devices) (first : ℕ) → (w : RunWithin o done s at waits rest run out d) →
-    new.power ≡ run.power → new.keeper.odometer ≡ run.keeper.odometer → GoesOn o done s next fewer None more (values_of new after) e w.within.b first → AllStay o (log_of after) new.keeper.cabin.cards e → RunWithin o done s next fewer more new after e
+    new.power ≡ run.power → new.keeper.odometer ≡ run.keeper.odometer → GoesOn o done s next fewer None more (values_of new after) e w.within.b first → AllStay o (log_of after) new.keeper.memory.registration new.keeper.cabin.cards e → RunWithin o done s next fewer more new after e
 run-on o done s at next waits fewer rest more run new out after d e first w power odometer g stay = record {
   origin = w.origin;
   lit = power ∙ w.lit;
@@ -225,7 +225,7 @@ run-on o done s at next waits fewer rest more run new out after d e first w powe
 
 -- as it began
 pub goes-as : (o : Origin) (done : List TraceSecond) (s : TraceSecond) (at next : Phase) (waits fewer : List Visit) (rest : List Minute) (run new : Run) (out after : Outcome) (d e : Devices) (first : ℕ) → (w : RunWithin o done s at waits rest run out d) →
-    new.power ≡ run.power → new.keeper.odometer ≡ run.keeper.odometer → GoesOn o done s next fewer None [] (values_of new after) e w.within.b first → AllStay o (log_of after) new.keeper.cabin.cards e → RunGoesOn o done s next fewer new after e w.within.b
+    new.power ≡ run.power → new.keeper.odometer ≡ run.keeper.odometer → GoesOn o done s next fewer None [] (values_of new after) e w.within.b first → AllStay o (log_of after) new.keeper.memory.registration new.keeper.cabin.cards e → RunGoesOn o done s next fewer new after e w.within.b
 unfolding run-on
 goes-as o done s at next waits fewer rest run new out after d e first w power odometer g stay = record {
   goes = run-on o done s at next waits fewer rest [] run new out after d e first w power odometer g stay;
@@ -287,7 +287,7 @@ module _ (o : Origin) (done : List TraceSecond) (s : TraceSecond) (n : ℕ) (run
         powered = noted-powered o.found noted-carries run.keeper.cabin.cards U V X Y w.within.found whole w.within.powered unit cause.works;
         travels = travelled-noted (odometer_at o.recording.unit) noted-carries.book (all_travelled w.within.ds w.within.b.travel) w.within.travels whole unit;
       }))
-      (all-unit o (log_of out) run.keeper.cabin.cards U V X Y w.stay)
+      (all-unit o (log_of out) run.keeper.memory.registration run.keeper.cabin.cards U V X Y w.stay)
   unit-recorded true cause = record {
     waits = [];
     cabin = run.keeper.cabin;
@@ -413,8 +413,8 @@ module _ (c : Card) (slot : Slot) (at : Moment) (run : Run) (breaks : Listed Bre
     still : HasCause X Y false → (b : Bool) → failed ≡ b → IsPoweredOrOff b o.found carries run.keeper.cabin.cards e → GoesOnOrFails b o done s (In at.begun) [] run (record out { breaks = breaks }) e w.within.b
     still on_card false is powered = goes-as o done s (In at.begun) (In at.begun) [] [] [] run run (record out { breaks = breaks }) (record out { breaks = breaks }) d e w.within.from w refl refl
         (call-recorded d e o done s (In at.begun) [] None [] v w.within (record { goes = goes on_card.breakdowns; powered = powered; travels = travels }))
-        (all-one o c (log_of (record out { breaks = breaks })) (log_of (record out { breaks = breaks })) run.keeper.cabin.cards run.keeper.cabin.cards U V X Y Z (λ none. none) refl
-        (λ none valid h. stays-still (found_of o.found c) (session_of run.keeper.cabin.cards c) X Y (noted-does o.found carries run.keeper.cabin.cards run.keeper.cabin.cards c U X Y Z w.within.found unit_whole whole later size a value has w.within.powered card valid) h) w.stay)
+        (all-one o c (log_of (record out { breaks = breaks })) (log_of (record out { breaks = breaks })) run.keeper.memory.registration run.keeper.cabin.cards run.keeper.cabin.cards U V X Y Z (λ none. none) refl
+        (λ none valid h. stays-still (found_of o.found c) run.keeper.memory.registration (session_of run.keeper.cabin.cards c) X Y (noted-does o.found carries run.keeper.cabin.cards run.keeper.cabin.cards c U X Y Z w.within.found unit_whole whole later size a value has w.within.powered card valid) h) w.stay)
     still on_card true is powerless = record {
       waits = [];
       cabin = run.keeper.cabin;

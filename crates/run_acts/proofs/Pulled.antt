@@ -34,7 +34,7 @@ module _ (d : Devices) (slot : Slot) (begun speed : ℕ) (run : Run) (out : Outc
       (subst (λ (k : ℕ). RunGoesOn o done s (In k) [] (with_cabin (torn_out card s.number run.keeper.cabin) run) (record out { breaks = with_lines (Tear s.number slot false k false ∷ []) out.breaks }) d w.within.b) (sym n)
       (goes-as o done s (In (length front)) (In (suc (length front))) [] [] [] run (with_cabin (torn_out card s.number run.keeper.cabin) run) out (record out { breaks = with_lines (Tear s.number slot false (suc (length front)) false ∷ []) out.breaks }) d d w.within.from w refl refl
       (pulled-out d o done s (values_of run out) front slot card rest are w.within is low stands)
-      (all-gone o (log_of out) (log_of (record out { breaks = with_lines (Tear s.number slot false (suc (length front)) false ∷ []) out.breaks })) run.keeper.cabin.cards (with_session card None run.keeper.cabin.cards) d
+      (all-gone o (log_of out) (log_of (record out { breaks = with_lines (Tear s.number slot false (suc (length front)) false ∷ []) out.breaks })) run.keeper.memory.registration run.keeper.cabin.cards (with_session card None run.keeper.cabin.cards) d
       (λ none. fewer-none (log_of out) (Tear s.number slot false (suc (length front)) false ∷ []) none) (left-or-gone card run.keeper.cabin.cards) w.stay)))
 
   pub pulled-recorded : RecordsAction (Pull slot) begun speed false run (pulled_run (card_in (seat_in run.keeper.cabin.slots.seats slot)) run.next run) out

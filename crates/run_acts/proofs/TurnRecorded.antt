@@ -59,7 +59,7 @@ use Rattle.run_acts.proofs.Turned.{turn-decides, turn-most}
 use Rattle.log_model.specs.declared.lines.Break.{Break}
 use Rattle.run_recorded.specs.Whole.{NothingFailed}
 use Rattle.run_acts.specs.Stays.{AllStay}
-use Rattle.run_acts.proofs.AllStay.{all-kept, fewer-none, no-cut, reach-told}
+use Rattle.run_acts.proofs.AllStay.{all-of, all-kept, fewer-none, no-cut, reach-told}
 
 -- a span that goes on has a second
 pub record IsPushed (xs : List Second) (x : Second) : Type 0 where
@@ -90,7 +90,7 @@ module _ (old : Run) (before : Outcome) (minutes : Kept) (keeper : Keeper) (watc
       (lit : old.power ≡ Lit) (some : 0 < n) (time : HaveTime e)
       (o : Origin) (origin : IsOrigin o) (done : List TraceSecond) (s : TraceSecond) (next gone : ℕ) (w : Within o done s Keeping [] (Some s.speed) decided (record (values_of old before) { minutes = minutes; next = next; begun = gone }) d)
       (number : s.number ≡ old.next + n - 1) (next_is : next ≡ old.next + n - 1) (actions : length s.actions ≡ begun) (stored : old.keeper.odometer ≡ odometer_after (odometer_at o.recording.unit) w.b.travel.before)
-      (few : s.number / 60 ≤ w.from + 4) (low : w.from + length decided ≤ s.number / 60) (stay : AllStay o (log_of before) old.keeper.cabin.cards d) where
+      (few : s.number / 60 ≤ w.from + 4) (low : w.from + length decided ≤ s.number / 60) (stay : AllStay o (log_of before) old.keeper.memory.registration old.keeper.cabin.cards d) where
     abbrev q : Point
     q = keeping_of s
 
@@ -136,14 +136,15 @@ module _ (old : Run) (before : Outcome) (minutes : Kept) (keeper : Keeper) (watc
     U = told_values u v
 
     -- what is made of the cards
-    turned-stay : failed ≡ false → (r : Reach) → IsReach decided (moment_of s q) false t u r → AllStay o (log_of told) keeper.cabin.cards e
+    turned-stay : failed ≡ false → (r : Reach) → IsReach decided (moment_of s q) false t u r → AllStay o (log_of told) keeper.memory.registration keeper.cabin.cards e
     turned-stay well r is_ =
         let how = reach-told decided (moment_of s q) t u r is_ in
-        all-kept o (log_of before) (log_of told) (kepts_on old.keeper decided) old.keeper.cabin.cards keeper.cabin.cards d e
-        (λ none. fewer-none (log_of before) how.more (subst (λ (bs : List Break). NothingFailed (record (log_of before) { breaks = bs })) how.lines none)) (λ none c some_. how.stay c none.1 some_) (booked.2 well) stay
+        all-of o (log_of told) old.keeper.memory.registration keeper.memory.registration keeper.cabin.cards e how.registered
+        (all-kept o (log_of before) (log_of told) old.keeper.memory.registration (kepts_on old.keeper decided) old.keeper.cabin.cards keeper.cabin.cards d e
+        (λ none. fewer-none (log_of before) how.more (subst (λ (bs : List Break). NothingFailed (record (log_of before) { breaks = bs })) how.lines none)) (λ none c some_. how.stay c none.1 some_) (booked.2 well) stay)
 
     -- all is kept
-    over-now : (x : Within o done s Keeping [] (Some s.speed) [] U e) → x.b ≡ w.b → AllStay o (log_of told) keeper.cabin.cards e → RunRecorded o (done ++ s ∷ []) (passed n begun between) told e
+    over-now : (x : Within o done s Keeping [] (Some s.speed) [] U e) → x.b ≡ w.b → AllStay o (log_of told) keeper.memory.registration keeper.cabin.cards e → RunRecorded o (done ++ s ∷ []) (passed n begun between) told e
     over-now x same stays =
         let p = pushed x.b.span (next_told U.log done s) in
         let V : Values = values_of (passed n begun between) told in

@@ -72,7 +72,7 @@ pub record RunRecorded (o : Origin) (done : List TraceSecond) (run : Run) (out :
   pub powers : Supplies run.power supply
   pub recorded : Recorded o done supply (values_of run out) d
   pub odometer : run.power ≡ Lit → run.keeper.odometer ≡ odometer_after (odometer_at o.recording.unit) recorded.travel.before
-  pub stay : AllStay o (log_of out) run.keeper.cabin.cards d
+  pub stay : AllStay o (log_of out) run.keeper.memory.registration run.keeper.cabin.cards d
 
 -- WITHIN A SECOND, while there is power
 pub record RunWithin (o : Origin) (done : List TraceSecond) (s : TraceSecond) (at : Phase) (waits : List Visit) (rest : List Minute) (run : Run) (out : Outcome) (d : Devices) : Type 0 where
@@ -80,7 +80,7 @@ pub record RunWithin (o : Origin) (done : List TraceSecond) (s : TraceSecond) (a
   pub lit : run.power ≡ Lit
   pub within : Within o done s at waits None rest (values_of run out) d
   pub odometer : run.keeper.odometer ≡ odometer_after (odometer_at o.recording.unit) within.b.travel.before
-  pub stay : AllStay o (log_of out) run.keeper.cabin.cards d
+  pub stay : AllStay o (log_of out) run.keeper.memory.registration run.keeper.cabin.cards d
 
 -- POWER COMES with the second behind these: by the log it was not on as they ended
 abbrev pub ComesPower : List TraceSecond → Outcome → Type 0
@@ -91,7 +91,7 @@ pub record RunCut (o : Origin) (done : List TraceSecond) (s : TraceSecond) (run 
   pub origin : IsOrigin o
   pub lost : run.power ≡ Lost
   pub recorded : Recorded o (done ++ s ∷ []) IsLost (passed_values s (values_of run out)) d
-  pub stay : AllStay o (log_of out) run.keeper.cabin.cards d
+  pub stay : AllStay o (log_of out) run.keeper.memory.registration run.keeper.cabin.cards d
 
 -- IN A SECOND to which the trace gives power, behind so many of its actions: it goes on, or power was cut in it
 abbrev pub InSecondBy : (lit : Bool) → Origin → List TraceSecond → TraceSecond → (n : ℕ) → Run → Outcome → Devices → Type 0

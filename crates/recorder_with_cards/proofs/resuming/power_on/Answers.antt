@@ -64,7 +64,7 @@ returns-in-Ok-clause-recorded g c = λ room o done s now rec has time.
       powers = rec.powers;
       recorded = read;
       odometer = λ lit. absurd (let bad : false ≡ true = sym c.requires.dark ∙ ap is_lit lit in cc);
-      stay = all-unit o (log_of out) run.keeper.cabin.cards U V X Y rec.stay;
+      stay = all-unit o (log_of out) run.keeper.memory.registration run.keeper.cabin.cards U V X Y rec.stay;
     }) has time
 
 pub returns-in-Err-BadUnit-clause-recorded : goal.returns-in-Err-BadUnit-clause-recorded
@@ -124,7 +124,7 @@ returns-in-Ok-clause-evented g c = λ room o done s now all has time.
         powers = rec.powers;
         recorded = read;
         odometer = λ lit. absurd (let bad : false ≡ true = sym c.requires.dark ∙ ap is_lit lit in cc);
-        stay = all-unit o (log_of out) run.keeper.cabin.cards U V X Y rec.stay;
+        stay = all-unit o (log_of out) run.keeper.memory.registration run.keeper.cabin.cards U V X Y rec.stay;
       };
       evented = events-stay (devices U X Y) (devices V X Y) o done (log_of out) run.unfound run.next rec.supply all.evented (read-says U V c.load.ensures.leaves) left;
       limit = all.limit;
@@ -195,7 +195,7 @@ returns-in-Ok-clause-ringed g c = λ room o done s now all has time.
           powers = rec.powers;
           recorded = read;
           odometer = λ lit. absurd (let bad : false ≡ true = sym c.requires.dark ∙ ap is_lit lit in cc);
-          stay = all-unit o (log_of out) run.keeper.cabin.cards U V X Y rec.stay;
+          stay = all-unit o (log_of out) run.keeper.memory.registration run.keeper.cabin.cards U V X Y rec.stay;
         };
         evented = events-stay (devices U X Y) (devices V X Y) o done (log_of out) run.unfound run.next rec.supply all.evented.evented (read-says U V c.load.ensures.leaves) left;
         limit = all.evented.limit;
