@@ -8,7 +8,7 @@ use Rattle.run_recorded.specs.Whole.{NothingFailed}
 use Rattle.run_acts.specs.Stays.{ShowsStays}
 
 -- WHERE NO CALL FAILED each image that a stop may leave at the end of a card that was valid has exactly those days, with their words and
--- distances, and that newest vehicle entry, that its stays in the slots make of its image at the start, one after another: in each it was
+-- distances, and that newest vehicle entry, that its stays in the slots of the vehicle that the unit's image says make of its image at the start: in each it was
 -- inserted, kept its minutes, each with so many km as the odometer has grown since the one before, and was withdrawn with an activity, or was
 -- not; and a session that was left open was cut at its end mark, and got the entries that the card lacked, as the next stay began.
 abbrev pub HasAllStays : Recording → Devices → Type 0
