@@ -86,8 +86,9 @@ use Rattle.run_acts.specs.RunRinged.{seats_of, RunRinged}
 use Rattle.run_acts.proofs.Numbers.{own-long}
 use Rattle.recorder_with_cards.specs.Ends.{BeginAs, recorded_with, recording_of, opened_with, origin_of, MayRecord, EndsTrace}
 use Rattle.recorder_with_cards.proofs.Waiting.{first-second}
-use Rattle.recorder_with_cards.proofs.SideShown.{side-shown}
-use Rattle.recorder_with_cards.proofs.Written.{are-written}
+use Rattle.recorder_with_cards.proofs.SideShown.{insertions-inside, places-inside, side-shown}
+use Rattle.recorder_with_cards.proofs.Written.{are-written, keep-holders}
+use Rattle.recorder_with_cards.proofs.KeptAfter.{end-kept}
 use Rattle.run_acts.specs.Stays.{registration_in, HasStays, ShowsStays}
 use Rattle.run_acts.proofs.Stays.{stays-start}
 
@@ -173,6 +174,12 @@ module _ (x a b : List ℕ) (start : ℕ) (items : List Item) (began now : Devic
         let all = h.evented.recorded.stay none in
         let h_ = all.1 c (subst IsOwnValid (sym of_image) valid) in
         subst (λ (i : List ℕ). ShowsStays x i (card_of now c)) of_image (record { vehicle = run.keeper.memory.registration; says = all.0; stays = h_.stays; shows = h_.shows });
+    kept = end-kept o ss run out now h.evented.recorded h.spans h.ringed.spans_are h.stored;
+    dense = record {
+      insertions = λ dense y left. (h.ringed.ringed.insertions (record { points = insertions-inside x may.decodes; dense = dense }) y left).shows.carries.dense;
+      places = λ dense y left. (h.ringed.ringed.places (record { points = places-inside x may.decodes; dense = dense }) y left).carries.dense;
+    };
+    holders = keep-holders o (seconds_of start items) h.evented.recorded.supply (values_of run out) began now h.evented.recorded.recorded (found-by r0 (seconds_of start items) (log_of out) (found_in r0 began) began found);
   }
     where
       r : Recording

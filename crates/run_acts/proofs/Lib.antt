@@ -29,6 +29,7 @@ pub mod Leaving
 pub mod Cabins
 pub mod Withdrawn
 pub mod Bare
+pub mod Broken
 pub mod Past
 pub mod Standing
 pub mod Due
@@ -75,3 +76,4 @@ pub mod Stored
 pub mod StoredRun
 pub mod CardNotes
 pub mod OnCards
+pub mod CardWrites

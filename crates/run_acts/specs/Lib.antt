@@ -12,6 +12,7 @@ pub mod Room
 pub mod Turning
 pub mod Booked
 pub mod Stays
+pub mod Broken
 pub mod Recording
 pub mod Noting
 pub mod Settling
@@ -24,3 +25,4 @@ pub mod Ringing
 pub mod RunRinged
 pub mod CardNotes
 pub mod OnCards
+pub mod CardWrites
