@@ -3,6 +3,8 @@ use Rattle.std.specs.Prelude.{is_err, Result, Err}
 use Rattle.card_layout.specs.declared.files.Application.{Application}
 use Rattle.card_layout.specs.Application.{place_of_field}
 use Rattle.card_layout.proofs.Sizes.{largest_image}
+use Rattle.card_image.specs.Own.{own_sizes}
+use Rattle.run_rule.specs.Found.{found_of}
 use Rattle.run_crew.specs.declared.cabin.Cabin.{Cabin}
 use Rattle.run_crew.specs.Cards.{known_of}
 use Rattle.run_crew.specs.Cabin.{with_sizes_of, torn_out}
