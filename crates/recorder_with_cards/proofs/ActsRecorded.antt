@@ -37,6 +37,7 @@ use Rattle.run_acts.specs.Power.{is_lit, cut_run}
 use Rattle.run_acts.specs.Recording.{values_of, IsOrigin, RunWithin, RunCut, InSecondBy, InSecond, RunFails, RunGoesOn, IsNow, RecordsAction}
 use Rattle.recorder_with_cards.specs.Acting.{IsSelected}
 use Rattle.recorder_with_cards.specs.Recorded.{Inside, ActsBy}
+use Rattle.run_acts.proofs.AllStay.{no-cut}
 
 -- ---- with power, or cut
 
@@ -80,7 +81,7 @@ module _ (o : Origin) (done : List TraceSecond) (s : TraceSecond) (speed : ℕ) 
       let g = refusal-recorded d o done s (values_of run before) front a rest are h.within fault (refuses (Some fault) is) in
       subst (λ (x : Outcome). RunGoesOn o done s (In (suc (length front))) [] run x d h.within.b) (sym told)
       (subst (λ (u : ℕ). RunGoesOn o done s (In (suc (length front))) [] run (record before { refused = with_lines (record { second = u; fault = fault } ∷ []) before.refused }) d h.within.b) now.number
-      (record { goes = record { origin = h.origin; lit = h.lit; within = g.within; odometer = same-odometer g.within.b g.began }; began = g.began }))
+      (record { goes = record { origin = h.origin; lit = h.lit; within = g.within; odometer = same-odometer g.within.b g.began; stay = h.stay }; began = g.began }))
 
   -- an activity is selected
   pub selected : (slot : Slot) (pick : Pick) → a ≡ Select slot pick → refusal (logged run.keeper.cabin.slots.seats) speed a ≡ None → (new : Run) → IsSelected (Select slot pick) run new
@@ -91,7 +92,7 @@ module _ (o : Origin) (done : List TraceSecond) (s : TraceSecond) (speed : ℕ) 
       let g = selection-recorded d o done s (values_of run before) front slot pick rest (subst (λ (x : Action). s.actions ≡ front ++ x ∷ rest) is are) w
       (subst (λ (x : Action). refusal c.slots s.speed x ≡ None) is (refuses None allowed)) new.minutes (picks.1 w.sp w.minutes) in
       subst (λ (r : Run). RunGoesOn o done s (In (suc (length front))) [] r before d h.within.b) (sym picks.0)
-      (record { goes = record { origin = h.origin; lit = h.lit; within = g.within; odometer = same-odometer g.within.b g.began }; began = g.began })
+      (record { goes = record { origin = h.origin; lit = h.lit; within = g.within; odometer = same-odometer g.within.b g.began; stay = h.stay }; began = g.began })
 
 -- ---- the unit has failed: power is cut
 
@@ -112,6 +113,7 @@ cut o done s begun rest run new out after d origin number left fails is told =
       lost = refl;
       recorded = subst (λ (cabin : Cabin). Recorded o (done ++ s ∷ []) IsLost
           (passed_values s (record (values_of run (record out { breaks = with_lines (cut_at s.number true begun ∷ []) out.breaks })) { cabin = cabin })) d) fails.same r;
+      stay = λ none. no-cut (log_of out) s.number begun none;
     })))
 
 -- ---- some actions, and then others

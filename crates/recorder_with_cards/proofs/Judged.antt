@@ -17,7 +17,7 @@ use Rattle.run_acts.specs.Entered.{IsFoundBy, GoesOnOrIsCut}
 use Rattle.run_within.specs.Within.{Beginning}
 use Rattle.run_acts.specs.declared.run.Run.{Run}
 use Rattle.run_acts.specs.declared.run.Power.TheVariants.{Lit}
-use Rattle.run_acts.specs.Recording.{IsOrigin, values_of, RunWithin}
+use Rattle.run_acts.specs.Recording.{log_of, IsOrigin, values_of, RunWithin}
 use Rattle.activity_codec.specs.declared.values.Slot.{Slot}
 use Rattle.unit_model.specs.Image.{IsUnit, odometer_at}
 use Rattle.unit_notes.specs.declared.unit_event.UnitEvent.{UnitEvent}
@@ -34,6 +34,7 @@ use Rattle.recorder_with_cards.proofs.EnteredEvents.{entered-noted}
 use Rattle.recorder_with_cards.specs.Accepting.{IsAccepted}
 use Rattle.recorder_with_cards.specs.Judged.{JudgedTo}
 use Rattle.recorder_with_cards.specs.Noting.{IsJudgedNoting, NotesAnew}
+use Rattle.run_acts.specs.Stays.{AllStay}
 
 -- its clock is not at its last value
 pub mine-time : (which : Card) (unit mine others : State) → HaveTime (arranged which unit mine others) → mine.clock < last_count
@@ -45,18 +46,19 @@ found-by o origin = record { first = ap (λ (u : Started). u.first) origin.unit;
 
 -- the second goes on, or power is about to be cut
 pub judged-by : (failed : Bool) (o : Origin) (done : List TraceSecond) (s : TraceSecond) (n : ℕ) (waits fewer : List Visit) (old new : Run) (before after : Outcome) (d e : Devices) (w : RunWithin o done s (In n) waits [] old before d) →
-    new.power ≡ Lit → new.keeper.odometer ≡ old.keeper.odometer → GoesOnOrIsCut failed o done s n waits fewer (values_of old before) (values_of new after) d e w.within → JudgedTo failed o done s n waits fewer old new before after d e w
-judged-by false o done s n waits fewer old new before after d e w lit odometer h = record {
+    new.power ≡ Lit → new.keeper.odometer ≡ old.keeper.odometer → GoesOnOrIsCut failed o done s n waits fewer (values_of old before) (values_of new after) d e w.within → (failed ≡ false → AllStay o (log_of after) new.keeper.memory.registration new.keeper.cabin.cards e) → JudgedTo failed o done s n waits fewer old new before after d e w
+judged-by false o done s n waits fewer old new before after d e w lit odometer h stay = record {
   goes = record {
     origin = w.origin;
     lit = lit;
     within = h.within;
     odometer = odometer ∙ w.odometer ∙ ap (λ (b : Beginning). odometer_after (odometer_at o.recording.unit) b.travel.before) (sym h.began);
+    stay = stay refl;
   };
   began = h.began;
   from = h.from;
 }
-judged-by true o done s n waits fewer old new before after d e w lit odometer h = record { waits = h.left; cabin = h.cabin; same = h.same; odometer = new.keeper.odometer; counted = λ power. refl; within = h.within }
+judged-by true o done s n waits fewer old new before after d e w lit odometer h stay = record { waits = h.left; cabin = h.cabin; same = h.same; odometer = new.keeper.odometer; counted = λ power. refl; within = h.within }
 
 -- ---- what is noted
 

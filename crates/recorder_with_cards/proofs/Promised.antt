@@ -89,6 +89,8 @@ use Rattle.recorder_with_cards.proofs.Waiting.{first-second}
 use Rattle.recorder_with_cards.proofs.SideShown.{insertions-inside, places-inside, side-shown}
 use Rattle.recorder_with_cards.proofs.Written.{are-written, keep-holders}
 use Rattle.recorder_with_cards.proofs.KeptAfter.{end-kept}
+use Rattle.run_acts.specs.Stays.{registration_in, HasStays, ShowsStays}
+use Rattle.run_acts.proofs.Stays.{stays-start}
 
 -- what holds of either card
 pub both : (P : Card → Type 0) → P A → P B → (c : Card) → P c
@@ -167,6 +169,11 @@ module _ (x a b : List ℕ) (start : ℕ) (items : List Item) (began now : Devic
     ends = ends-so (seconds_of start items) h.evented.recorded.supply (values_of run out) h.evented.recorded.recorded unit_whole card_whole found may.decodes;
     side = record { shows = shows };
     written = are-written o (seconds_of start items) h.evented.recorded.supply (values_of run out) began now h.evented.recorded.recorded (found-by r0 (seconds_of start items) (log_of out) (found_in r0 began) began found);
+    stays = λ none c valid.
+        let of_image : (found_of o.found c).image ≡ card_image r c = found.image c ∙ sym (images c) in
+        let all = h.evented.recorded.stay none in
+        let h_ = all.1 c (subst IsOwnValid (sym of_image) valid) in
+        subst (λ (i : List ℕ). ShowsStays x i (card_of now c)) of_image (record { vehicle = run.keeper.memory.registration; says = all.0; stays = h_.stays; shows = h_.shows });
     kept = end-kept o ss run out now h.evented.recorded h.spans h.ringed.spans_are h.stored;
     dense = record {
       insertions = λ dense y left. (h.ringed.ringed.insertions (record { points = insertions-inside x may.decodes; dense = dense }) y left).shows.carries.dense;
@@ -297,8 +304,9 @@ module _ (x a b : List ℕ) (start : ℕ) (began now : Devices) (opened : Opened
         (λ y left. ready.begins.unit.only y (unit_whole.counts_now now.unit.clock y (omega arith) left))
 
     starts-recorded : (run : Run) (out : Outcome) → run.power ≡ Due → run.next ≡ start → run.begun ≡ 0 → run.unfound ≡ 0 → run.keeper.cabin.slots ≡ nothing_yet → ((c : Card) → known_in run.keeper.cabin.cards c ≡ known_of opened c) →
-        ((c : Card) → session_of run.keeper.cabin.cards c ≡ None) → out.breaks.items ≡ [] → out.refused.items ≡ [] → out.finds.items ≡ [] → out.marks.items ≡ [] → RunRecorded first-o [] run out now
-    starts-recorded run out due next begun unfound slots same bare breaks refused finds marks = record {
+        ((c : Card) → session_of run.keeper.cabin.cards c ≡ None) → out.breaks.items ≡ [] → out.refused.items ≡ [] → out.finds.items ≡ [] → out.marks.items ≡ [] → run.keeper.memory.registration.0 ≡ registration_in x →
+        RunRecorded first-o [] run out now
+    starts-recorded run out due next begun unfound slots same bare breaks refused finds marks registered = record {
       origin = is-origin;
       supply = IsDue;
       powers = subst (λ (p : Power). Supplies p IsDue) (sym due) tt;
@@ -319,6 +327,8 @@ module _ (x a b : List ℕ) (start : ℕ) (began now : Devices) (opened : Opened
         travels = travels;
       });
       odometer = λ lit. absurd (let bad : Due ≡ Lit = sym due ∙ lit in cc);
+      stay = λ none. (registered, λ c valid. subst (λ (s : Option Accepted). HasStays (found_of f c) run.keeper.memory.registration s (card_of now c)) (sym (bare c))
+          (stays-start (found_of f c) run.keeper.memory.registration (card_of now c) (λ y left. untouched c y ((whole c).counts_now (found_of f c).began y (there.clocks c) left))));
     }
 
     only_unit : (y : List ℕ) → now.unit.may_leave y → y ≡ x
@@ -340,7 +350,7 @@ module _ (x a b : List ℕ) (start : ℕ) (began now : Devices) (opened : Opened
     }
       where
         r : RunRecorded first-o [] run out now
-        r = starts-recorded run out due next begun unfound slots same bare breaks refused finds marks
+        r = starts-recorded run out due next begun unfound slots same bare breaks refused finds marks (ap (λ (i : Identity). i.registration.0) memory ∙ ready.memory.registration)
 
         log : log_of out ≡ empty_log
         log = ap (λ bs. record { breaks = bs; refused = out.refused.items; finds = out.finds.items }) breaks ∙ ap (λ rs. record { breaks = []; refused = rs; finds = out.finds.items }) refused ∙ ap (λ fs. record { breaks = []; refused = []; finds = fs }) finds

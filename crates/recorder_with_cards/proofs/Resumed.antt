@@ -81,6 +81,9 @@ use Rattle.recorder_with_cards.specs.Accepting.{IsBare, IsAccepted, IsAnew}
 use Rattle.recorder_with_cards.specs.Judged.{moment_in, RunNext, RunBehind, JudgedTo, JudgesSo, JudgesAnew}
 use Rattle.recorder_with_cards.proofs.Read.{unit-tells, image-of, at-image}
 use Rattle.recorder_with_cards.proofs.StoredCalls.{mend-stays}
+use Rattle.run_acts.specs.Stays.{AllStay}
+use Rattle.run_recorded.specs.Whole.{NothingFailed}
+use Rattle.run_acts.proofs.AllStay.{all-unit, all-of, found-none}
 
 -- ---- a run at its power-on
 
@@ -90,6 +93,7 @@ pub record RunWaking (o : Origin) (done : List TraceSecond) (s : TraceSecond) (b
   pub lit : run.power ≡ Lit
   pub waking : IsWaking o done s b (values_of run out) d waits untold
   pub odometer : run.keeper.odometer ≡ odometer_after (odometer_at o.recording.unit) b.travel.before
+  pub stay : AllStay o (log_of out) run.keeper.memory.registration run.keeper.cabin.cards d
 
 abbrev pub within-of : (o : Origin) (done : List TraceSecond) (s : TraceSecond) (b : Beginning) (waits : List Visit) (untold : List Slot) (run : Run) (out : Outcome) (d : Devices) → RunWaking o done s b waits untold run out d → RunWithin o done s (In 0) waits [] run out d
 within-of o done s b waits untold run out d w = record {
@@ -97,6 +101,7 @@ within-of o done s b waits untold run out d w = record {
   lit = w.lit;
   within = w.waking.within;
   odometer = w.odometer ∙ ap (λ (x : Beginning). odometer_after (odometer_at o.recording.unit) x.travel.before) (sym w.waking.began);
+  stay = w.stay;
 }
 
 -- ---- who waits
@@ -191,7 +196,7 @@ module _ (o : Origin) (origin : IsOrigin o) (done : List TraceSecond) (s : Trace
   as-read P = subst P kept-is
 
   -- it was mended, and a span has begun
-  module _ (well : failed ≡ false) (journal : Notes) (agrees : IfSome W.image (Agrees journal)) (new : Run) (begun : IsSpanBegun old new journal) (after : IsCoherent W) where
+  module _ (well : failed ≡ false) (journal : Notes) (agrees : IfSome W.image (Agrees journal)) (new : Run) (begun : IsSpanBegun old new journal) (after : IsCoherent W) (stay : AllStay o v.log old.keeper.memory.registration v.cabin.cards (devices U X Y)) where
     next : old.next ≡ v.next
     next = ap (λ (x : Values). x.next) values
 
@@ -246,8 +251,15 @@ module _ (o : Origin) (origin : IsOrigin o) (done : List TraceSecond) (s : Trace
         (subst (λ (x : Values). IsWaking o done s b x e (fresh true (slots_of v done)).entered both_slots) (sym are-begun)
         (power-wakes d e o done s supply v r may number given (last_kept has-image.0) new.minutes back))
 
+    -- what was made of the cards: they are not called
+    stays-behind : AllStay o (log_of out) new.keeper.memory.registration new.keeper.cabin.cards e
+    stays-behind =
+        all-of o (log_of out) old.keeper.memory.registration new.keeper.memory.registration new.keeper.cabin.cards e (ap (λ (k : Keeper). k.memory.registration) begun.keeper)
+        (subst (λ (c : Cabin). AllStay o (log_of out) old.keeper.memory.registration c.cards e) kept-cabin
+        (λ none. all-unit o v.log old.keeper.memory.registration v.cabin.cards U W X Y stay (found-none v.unfound j.kept v.log (subst (λ (l : RunLog). NothingFailed l) (ap (λ (x : Values). x.log) values) none))))
+
     pub awake : (begins : Beginning) × RunWaking o done s begins (waiting_in Driver (card_in new.keeper.cabin.slots.seats.driver) ++ waiting_in CoDriver (card_in new.keeper.cabin.slots.seats.codriver)) both_slots new out (devices W X Y)
-    awake = (b, record { origin = origin; lit = begun.power; waking = wakes; odometer = odometer })
+    awake = (b, record { origin = origin; lit = begun.power; waking = wakes; odometer = odometer; stay = stays-behind })
 
     -- how it began
     pub awake-is : (awake.0.run ≡ found_again j.kept (progress v supply r.book)) × (awake.0.span ≡ []) × HaveLeftMore o d e
@@ -361,6 +373,7 @@ module _ (o : Origin) (done : List TraceSecond) (s : TraceSecond) (b : Beginning
         lit = on.goes.lit;
         waking = record { within = on.goes.within; began = began; starts = w.waking.starts; is_now = on.from ∙ w.waking.is_now; none = none };
         odometer = on.goes.odometer ∙ ap (λ (x : Beginning). odometer_after (odometer_at o.recording.unit) x.travel.before) began;
+        stay = on.goes.stay;
       }
 
 -- the driver's is the next
@@ -392,6 +405,7 @@ driver-judged o done s b None rest old before d w once is bare at now speed fail
         lit = w.lit;
         waking = record { within = w.waking.within; began = w.waking.began; starts = w.waking.starts; is_now = w.waking.is_now; none = λ slot there. w.waking.none slot (one-of-both slot there) };
         odometer = w.odometer;
+        stay = w.stay;
       }))),
   λ fails. absurd (let bad : true ≡ false = sym fails ∙ judges in cc),
 )
@@ -475,6 +489,7 @@ codriver-on o done s b None old before d w is bare at now speed failed new after
       lit = w.lit;
       waking = record { within = w.waking.within; began = w.waking.began; starts = w.waking.starts; is_now = w.waking.is_now; none = λ slot there. absurd (omega (arith, there.1)) };
       odometer = w.odometer;
+      stay = w.stay;
     })))
 codriver-on o done s b (Some card) old before d w is bare at now speed failed new after anew e still time judges well =
     let waits : List Visit = waiting_in CoDriver (Some card) in

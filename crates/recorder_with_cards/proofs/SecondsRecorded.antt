@@ -1,5 +1,5 @@
 -- What seconds of a run leave of the record: without power, of an `off` line, and one after another.
-use Rattle.std.proofs.Common.{◌≡◌, ◌∙◌, ℕ, zero, suc, ◌+◌, ◌-◌, ◌%◌, ◌<◌, ◌≤◌, Bool, true, false, List, [], ◌∷◌, ◌++◌, length, map, refl, ap, sym, subst, arith, append_assoc}
+use Rattle.std.proofs.Common.{◌≡◌, ◌∙◌, ℕ, zero, suc, ◌+◌, ◌-◌, ◌%◌, ◌<◌, ◌≤◌, Bool, true, false, List, [], ◌∷◌, ◌++◌, length, map, refl, ap, sym, subst, arith, append_assoc, None, inr}
 use Rattle.std.specs.Prelude.{◌==◌, Result, Ok, Err}
 use Rattle.std.proofs.lemmas.List.{append-nil}
 use Rattle.std.proofs.lemmas.Bool.Decides.{nat_tests}
@@ -31,6 +31,12 @@ use Rattle.run_acts.specs.Turning.{IsTurnOf}
 use Rattle.run_acts.specs.Recording.{values_of, Supplies, RunRecorded, InSecond}
 use Rattle.recorder_with_cards.specs.Acting.{IsItemActed, AreActed}
 use Rattle.recorder_with_cards.specs.Recorded.{Inside, Between, action_of, actions_in, HasBegunBy, HasRunBy}
+use Rattle.trace_model.specs.declared.Card.{Card}
+use Rattle.trace_model.specs.declared.Card.TheVariants.{A, B}
+use Rattle.run_crew.specs.Cards.{session_of}
+use Rattle.run_crew.specs.Cabin.{with_power_lost}
+use Rattle.run_acts.specs.Stays.{AllStay}
+use Rattle.run_acts.proofs.AllStay.{all-gone, fewer-none}
 
 -- ---- a second without power
 
@@ -115,6 +121,7 @@ module _ (o : Origin) (done : List TraceSecond) (old : Run) (before : Outcome) (
         powers = subst (λ (p : Power). Supplies p IsLost) (sym lost.0) tt;
         recorded = on;
         odometer = λ lit. absurd (let bad : Lost ≡ Lit = sym lost.0 ∙ lit in cc);
+        stay = h.stay;
       }))
 
   -- AN `off` LINE
@@ -125,14 +132,26 @@ module _ (o : Origin) (done : List TraceSecond) (old : Run) (before : Outcome) (
       (subst (λ (l : Listed Break). RunRecorded o (done ++ dark (suc n) old.next) (off_run (suc n) old) (record before { breaks = l }) d) (sym told)
       (by old.power refl h.supply h.powers h.recorded))
     where
-      due : (r : Run) (out : Outcome) → r.power ≡ Due → Recorded o (done ++ dark (suc n) old.next) IsDue (values_of r out) d → RunRecorded o (done ++ dark (suc n) old.next) r out d
-      due r out is recorded = record {
+      due : (r : Run) (out : Outcome) → AllStay o (log_of out) r.keeper.memory.registration r.keeper.cabin.cards d → r.power ≡ Due → Recorded o (done ++ dark (suc n) old.next) IsDue (values_of r out) d → RunRecorded o (done ++ dark (suc n) old.next) r out d
+      due r out stays is recorded = record {
         origin = h.origin;
         supply = IsDue;
         powers = subst (λ (p : Power). Supplies p IsDue) (sym is) tt;
         recorded = recorded;
         odometer = λ lit. absurd (let bad : Due ≡ Lit = sym is ∙ lit in cc);
+        stay = stays;
       }
+
+      -- without power no card has a session
+      bare-off : (c : Card) → session_of (with_power_lost (old.next - 1) old.keeper.cabin).cards c ≡ None
+      bare-off A = refl
+      bare-off B = refl
+
+      -- what is made of the cards
+      off-stay : (lit : Bool) → AllStay o (log_of (told_off lit old before)) old.keeper.memory.registration (off_as lit (suc n) old).keeper.cabin.cards d
+      off-stay false = λ none. h.stay (fewer-none (log_of before) [] none)
+      off-stay true = all-gone o (log_of before) (log_of (told_off true old before)) old.keeper.memory.registration old.keeper.cabin.cards (with_power_lost (old.next - 1) old.keeper.cabin).cards d
+          (λ none. fewer-none (log_of before) (off_cut true (old.next - 1) old.begun) none) (λ c. inr (bare-off c)) h.stay
 
       plain : Recorded o (done ++ dark (suc n) old.next) IsDue (off_values (suc n) (values_of old before)) d → Recorded o (done ++ dark (suc n) old.next) IsDue (values_of (off_as false (suc n) old) (told_off false old before)) d
       plain r = subst (λ (bs : List Break). Recorded o (done ++ dark (suc n) old.next) IsDue (values_of (off_as false (suc n) old) (record before { breaks = record { items = bs; room = before.breaks.room } })) d) (sym (append-nil before.breaks.items)) r
@@ -144,15 +163,15 @@ module _ (o : Origin) (done : List TraceSecond) (old : Run) (before : Outcome) (
         where
           so : (p : Power) (s : Supply) → Supplies p s → Recorded o done s (values_of old before) d → RunRecorded o (done ++ dark (suc n) old.next) (off_as (is_lit p) (suc n) old) (told_off (is_lit p) old before) d
           so Lit (IsLit []) powers r = absurd powers
-          so Lit (IsLit (t ∷ span)) powers r = due (off_as true (suc n) old) (told_off true old before) refl (off-cut-recorded d o done t span (values_of old before) r n)
+          so Lit (IsLit (t ∷ span)) powers r = due (off_as true (suc n) old) (told_off true old before) (off-stay true) refl (off-cut-recorded d o done t span (values_of old before) r n)
           so Lit IsDue powers r = absurd powers
           so Lit IsLost powers r = absurd powers
           so Due (IsLit span) powers r = absurd powers
-          so Due IsDue powers r = due (off_as false (suc n) old) (told_off false old before) refl (plain (off-recorded d o done IsDue (values_of old before) r tt n))
+          so Due IsDue powers r = due (off_as false (suc n) old) (told_off false old before) (off-stay false) refl (plain (off-recorded d o done IsDue (values_of old before) r tt n))
           so Due IsLost powers r = absurd powers
           so Lost (IsLit span) powers r = absurd powers
           so Lost IsDue powers r = absurd powers
-          so Lost IsLost powers r = due (off_as false (suc n) old) (told_off false old before) refl (plain (off-recorded d o done IsLost (values_of old before) r tt n))
+          so Lost IsLost powers r = due (off_as false (suc n) old) (told_off false old before) (off-stay false) refl (plain (off-recorded d o done IsLost (values_of old before) r tt n))
 
 -- ---- a second has begun
 

@@ -80,6 +80,13 @@ use Rattle.run_acts.proofs.RoundFaults.{none-added}
 use Rattle.run_acts.proofs.FallEvented.{call-evented, begins-now, leaving-out, leaving-falls}
 use Rattle.run_acts.proofs.Withdrawn.{closed-any}
 use Rattle.run_acts.proofs.NoteRecorded.{goes-as, any-evented, card-goes, unit-any, unit-of, to-unit, card-rose, rose-by, rose-on}
+use Rattle.card_layout.specs.declared.files.Application.{Application}
+use Rattle.run_crew.specs.Cards.{with_session}
+use Rattle.run_keeping.specs.CardDeeds.{ClosesOn}
+use Rattle.run_keeping.proofs.CardDeeds.{does-close}
+use Rattle.run_acts.specs.Stays.{ClosesOnCard, HasStays}
+use Rattle.run_acts.proofs.Stays.{stays-close}
+use Rattle.run_acts.proofs.AllStay.{all-one, no-tear, mine-left, others-left}
 
 -- when a card was last used, behind the closing of its session
 closed-timed : (f : Found) (w : Carried) (cards : Cards) (c : Card) (U X Y Z : State) → AreFoundCards f cards → IsCoherent X → LARGEST_IMAGE ≤ X.size → (a : Accepted) (act : Activity) → session_of cards c ≡ Some a → IsPowered f w cards (arranged c U X Z) →
@@ -135,13 +142,27 @@ module _ {C : Type 0} (state : C → State) (c : Card) (slot : Slot) (at : Momen
     goes = card-goes o run.keeper.cabin.cards c U V (state x) (state y) Z began w.within.there (ap is_some has) unit closes.1 cause.breakdowns more
         (λ valid. closed-timed o.found carries run.keeper.cabin.cards c U (state x) (state y) Z w.within.found whole size a closes.0 has w.within.powered closes.1 valid)
 
+    -- what is made of the card
+    stays-closed : ClosesOnCard (Some a) (state x) (state y) → IsOwnValid (found_of o.found c).image → HasStays (found_of o.found c) run.keeper.memory.registration (Some a) (state x) → HasStays (found_of o.found c) run.keeper.memory.registration None (state y)
+    stays-closed shut valid h =
+        let one : CardLit o.found carries.book (carries.standing c) (carries.brought c) (Some a) c U (state x) =
+        subst (λ (q : Option Accepted). CardLit o.found carries.book (carries.standing c) (carries.brought c) q c U (state x)) has ((parts-of o.found carries run.keeper.cabin.cards c U (state x) Z w.within.powered).mine valid) in
+        let on : IsOn (found_of o.found c) one.goes.has (carries.standing c) a.session (state x) = one.goes.goes in
+        let sound : IsApplication a.session.application = subst IsApplication (sym on.sizes) (w.within.found.sizes c valid) in
+        let most = largest_image a.session.application sound in
+        stays-close (found_of o.found c) run.keeper.memory.registration shut.0 a (state x) (state y)
+        (subst (λ (p : Application). ClosesOn p shut.0 (state x) (state y)) on.sizes (does-close a.session shut.0 (state x) (state y) sound whole (omega (arith, most, size)) on.session shut.1)) h
+
     called : IsCalledLeaving o done s (In n) v d e w.within slot c
     called = record { low = s.number / 60; leaving = leaving (ap is_some has); is_now = from; goes = goes; travels = travels }
 
     -- it is closed
-    closed : (b : Bool) → failed ≡ b → IsPoweredOrOff b o.found (carried_closed Closed c carries) (with_session c None run.keeper.cabin.cards) e → GoesOnOrFails b o done s (In n) [] (with_cabin (with_session_of c None run.keeper.cabin) run) told e w.within.b
-    closed false is powered = goes-as o done s (In n) (In n) [] [] [] run (with_cabin (with_session_of c None run.keeper.cabin) run) told told d e w.within.from w refl refl (session-closed d e o done s (In n) v w.within slot c called powered)
-    closed true is powerless = record {
+    closed : ClosesOnCard (Some a) (state x) (state y) → (b : Bool) → failed ≡ b → IsPoweredOrOff b o.found (carried_closed Closed c carries) (with_session c None run.keeper.cabin.cards) e → GoesOnOrFails b o done s (In n) [] (with_cabin (with_session_of c None run.keeper.cabin) run) told e w.within.b
+    closed shut false is powered = goes-as o done s (In n) (In n) [] [] [] run (with_cabin (with_session_of c None run.keeper.cabin) run) told told d e w.within.from w refl refl (session-closed d e o done s (In n) v w.within slot c called powered)
+        (all-one o c (log_of told) (log_of told) run.keeper.memory.registration run.keeper.cabin.cards (with_session c None run.keeper.cabin.cards) U V (state x) (state y) Z (λ none. none) (others-left c run.keeper.cabin.cards)
+        (λ none valid h. subst (λ (q : Option Accepted). HasStays (found_of o.found c) run.keeper.memory.registration q (state y)) (sym (mine-left c run.keeper.cabin.cards))
+        (stays-closed a has shut valid (subst (λ (q : Option Accepted). HasStays (found_of o.found c) run.keeper.memory.registration q (state x)) has h))) w.stay)
+    closed shut true is powerless = record {
       waits = [];
       cabin = with_session_of c None run.keeper.cabin;
       same = refl;
@@ -166,6 +187,7 @@ module _ {C : Type 0} (state : C → State) (c : Card) (slot : Slot) (at : Momen
     fell broken false is powered = goes-as o done s (In n) (In n) [] [] [] run (with_cabin (torn_out c at.second (with_session_of c None run.keeper.cabin)) run) told (record told { breaks = with_lines (tear_of slot at ∷ []) told.breaks }) d e w.within.from w refl refl
         (subst (λ (u : ℕ). GoesOn o done s (In n) [] None [] (fallen_values (tear_of slot at) c u v) e w.within.b w.within.from) (sym second)
         (leaving-torn d e o done s (In n) v w.within slot c called (tear_of slot at) tear-here (record { more = goes.breakdowns; broke = card-rose c U V (state x) (state y) Z (rose-by (state x).breakdowns (state y).breakdowns broken.breakdowns) }) powered))
+        (λ none. no-tear (log_of told) slot at none)
     fell broken true is powerless = record {
       waits = [];
       cabin = torn_out c at.second (with_session_of c None run.keeper.cabin);
@@ -178,28 +200,28 @@ module _ {C : Type 0} (state : C → State) (c : Card) (slot : Slot) (at : Momen
     }
 
   -- SO IT IS RECORDED, whatever became of it
-  pub closed-recorded : (new : Run) (after : Listed Break) (closing : Closing) → IsClosed c slot at run new told.breaks after closing → HasBroken (state x) (state y) (closed_falls closing) → GoesOnOrFails failed o done s (In n) [] new (record told { breaks = after }) (arranged c V (state y) Z) w.within.b
-  closed-recorded new after closing is broken =
+  pub closed-recorded : (new : Run) (after : Listed Break) (closing : Closing) → (closing ≡ Closed → ClosesOnCard (session_of run.keeper.cabin.cards c) (state x) (state y)) → IsClosed c slot at run new told.breaks after closing → HasBroken (state x) (state y) (closed_falls closing) → GoesOnOrFails failed o done s (In n) [] new (record told { breaks = after }) (arranged c V (state y) Z) w.within.b
+  closed-recorded new after closing shut is broken =
       subst (λ (r : Run). GoesOnOrFails failed o done s (In n) [] r (record told { breaks = after }) e w.within.b) (sym is.run)
       (subst (λ (l : Listed Break). GoesOnOrFails failed o done s (In n) [] (with_cabin (closed_cabin closing c at.second run.keeper.cabin) run) (record told { breaks = l }) e w.within.b) (sym is.told)
-      (by (session_of run.keeper.cabin.cards c) refl closing is.is broken))
+      (by (session_of run.keeper.cabin.cards c) refl closing shut is.is broken))
     where
       powered : (closing : Closing) → IsClosingOf (session_of run.keeper.cabin.cards c) closing → IsPoweredOrOff failed o.found (carried_closed closing c carries) (closed_cabin closing c at.second run.keeper.cabin).cards e
       powered closing how = closed-any state o.found carries c at.second run.keeper.cabin U V Z x y w.within.found unit_whole whole size w.within.powered left still unit failed cause.works closing how
 
-      by : (q : Option Accepted) → session_of run.keeper.cabin.cards c ≡ q → (closing : Closing) → IsClosingOf (session_of run.keeper.cabin.cards c) closing → HasBroken (state x) (state y) (closed_falls closing) →
+      by : (q : Option Accepted) → session_of run.keeper.cabin.cards c ≡ q → (closing : Closing) → (closing ≡ Closed → ClosesOnCard (session_of run.keeper.cabin.cards c) (state x) (state y)) → IsClosingOf (session_of run.keeper.cabin.cards c) closing → HasBroken (state x) (state y) (closed_falls closing) →
           GoesOnOrFails failed o done s (In n) [] (with_cabin (closed_cabin closing c at.second run.keeper.cabin) run) (record told { breaks = with_lines (closed_breaks closing slot at) told.breaks }) e w.within.b
-      by None has Bare how broke_ =
+      by None has Bare shut how broke_ =
           subst (λ (q : Cards). GoesOnOrFails failed o done s (In n) [] (with_cabin (record run.keeper.cabin { cards = q }) run) (record told { breaks = with_lines [] told.breaks }) e w.within.b) (sym (session-unset c run.keeper.cabin.cards has))
           (subst (λ (l : Listed Break). GoesOnOrFails failed o done s (In n) [] run (record told { breaks = l }) e w.within.b) (no-lines told.breaks)
           (subst (λ (z : C). GoesOnOrFails failed o done s (In n) [] run told (arranged c V (state z) Z) w.within.b) (sym (still has)) (unit-any c o done s n run told U V (state x) Z unit_whole unit span stands ends w failed cause)))
-      by None has Closed how broke_ = absurd (subst (λ (q : Option Accepted). IsClosingOf q Closed) has how)
-      by None has Fell how broke_ = absurd (subst (λ (q : Option Accepted). IsClosingOf q Fell) has how)
-      by (Some a) has Bare how broke_ = absurd (subst (λ (q : Option Accepted). IsClosingOf q Bare) has how)
-      by (Some a) has Closed how broke_ =
+      by None has Closed shut how broke_ = absurd (subst (λ (q : Option Accepted). IsClosingOf q Closed) has how)
+      by None has Fell shut how broke_ = absurd (subst (λ (q : Option Accepted). IsClosingOf q Fell) has how)
+      by (Some a) has Bare shut how broke_ = absurd (subst (λ (q : Option Accepted). IsClosingOf q Bare) has how)
+      by (Some a) has Closed shut how broke_ =
           subst (λ (l : Listed Break). GoesOnOrFails failed o done s (In n) [] (with_cabin (with_session_of c None run.keeper.cabin) run) (record told { breaks = l }) e w.within.b) (no-lines told.breaks)
-          (closed a has failed refl (powered Closed how))
-      by (Some a) has Fell how broke_ = fell a has broke_ failed refl (powered Fell how)
+          (closed a has (subst (λ (q : Option Accepted). ClosesOnCard q (state x) (state y)) has (shut refl)) failed refl (powered Closed how))
+      by (Some a) has Fell shut how broke_ = fell a has broke_ failed refl (powered Fell how)
 
   -- ---- its events
 

@@ -47,6 +47,9 @@ pub mod NotedOn
 pub mod ActsNoted
 pub mod Numbers
 pub mod FallEvented
+pub mod Stays
+pub mod AllStay
+pub mod EnteredStays
 pub mod NoteRecorded
 pub mod Pulled
 pub mod Closed

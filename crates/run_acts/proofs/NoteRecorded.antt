@@ -74,7 +74,10 @@ use Rattle.run_acts.specs.Noting.{carried_noted, IsNoteRecorded}
 use Rattle.run_acts.proofs.Cabins.{noted_cabin}
 use Rattle.run_acts.proofs.Apart.{some-one}
 use Rattle.run_acts.proofs.Asked.{allowed-in}
-use Rattle.run_acts.proofs.NotedOn.{noted-books, noted-timed}
+use Rattle.run_acts.specs.Stays.{AllStay}
+use Rattle.run_acts.proofs.Stays.{stays-still}
+use Rattle.run_acts.proofs.AllStay.{all-unit, all-one, no-tear}
+use Rattle.run_acts.proofs.NotedOn.{noted-books, noted-timed, noted-does}
 use Rattle.log_model.specs.Log.{RunLog}
 use Rattle.log_model.specs.Slots.{other_slot}
 use Rattle.log_model.specs.Course.{went}
@@ -211,20 +214,21 @@ module _ (o : Origin) (cards : Cards) {R S : List ℕ → List ℕ → Type 0} w
 
 -- THE RUN GOES ON, where the record does
 pub run-on : (o : Origin) (done : List TraceSecond) (s : TraceSecond) (at next : Phase) (waits fewer : List Visit) (rest more : List Minute) (run new : Run) (out after : Outcome) (d e : Devices) (first : ℕ) → (w : RunWithin o done s at waits rest run out d) →
-    new.power ≡ run.power → new.keeper.odometer ≡ run.keeper.odometer → GoesOn o done s next fewer None more (values_of new after) e w.within.b first → RunWithin o done s next fewer more new after e
-run-on o done s at next waits fewer rest more run new out after d e first w power odometer g = record {
+    new.power ≡ run.power → new.keeper.odometer ≡ run.keeper.odometer → GoesOn o done s next fewer None more (values_of new after) e w.within.b first → AllStay o (log_of after) new.keeper.memory.registration new.keeper.cabin.cards e → RunWithin o done s next fewer more new after e
+run-on o done s at next waits fewer rest more run new out after d e first w power odometer g stay = record {
   origin = w.origin;
   lit = power ∙ w.lit;
   within = g.within;
   odometer = odometer ∙ w.odometer ∙ ap (λ (b : Beginning). odometer_after (odometer_at o.recording.unit) b.travel.before) (sym g.began);
+  stay = stay;
 }
 
 -- as it began
 pub goes-as : (o : Origin) (done : List TraceSecond) (s : TraceSecond) (at next : Phase) (waits fewer : List Visit) (rest : List Minute) (run new : Run) (out after : Outcome) (d e : Devices) (first : ℕ) → (w : RunWithin o done s at waits rest run out d) →
-    new.power ≡ run.power → new.keeper.odometer ≡ run.keeper.odometer → GoesOn o done s next fewer None [] (values_of new after) e w.within.b first → RunGoesOn o done s next fewer new after e w.within.b
+    new.power ≡ run.power → new.keeper.odometer ≡ run.keeper.odometer → GoesOn o done s next fewer None [] (values_of new after) e w.within.b first → AllStay o (log_of after) new.keeper.memory.registration new.keeper.cabin.cards e → RunGoesOn o done s next fewer new after e w.within.b
 unfolding run-on
-goes-as o done s at next waits fewer rest run new out after d e first w power odometer g = record {
-  goes = run-on o done s at next waits fewer rest [] run new out after d e first w power odometer g;
+goes-as o done s at next waits fewer rest run new out after d e first w power odometer g stay = record {
+  goes = run-on o done s at next waits fewer rest [] run new out after d e first w power odometer g stay;
   began = g.began;
 }
 
@@ -283,6 +287,7 @@ module _ (o : Origin) (done : List TraceSecond) (s : TraceSecond) (n : ℕ) (run
         powered = noted-powered o.found noted-carries run.keeper.cabin.cards U V X Y w.within.found whole w.within.powered unit cause.works;
         travels = travelled-noted (odometer_at o.recording.unit) noted-carries.book (all_travelled w.within.ds w.within.b.travel) w.within.travels whole unit;
       }))
+      (all-unit o (log_of out) run.keeper.memory.registration run.keeper.cabin.cards U V X Y w.stay)
   unit-recorded true cause = record {
     waits = [];
     cabin = run.keeper.cabin;
@@ -408,6 +413,8 @@ module _ (c : Card) (slot : Slot) (at : Moment) (run : Run) (breaks : Listed Bre
     still : HasCause X Y false → (b : Bool) → failed ≡ b → IsPoweredOrOff b o.found carries run.keeper.cabin.cards e → GoesOnOrFails b o done s (In at.begun) [] run (record out { breaks = breaks }) e w.within.b
     still on_card false is powered = goes-as o done s (In at.begun) (In at.begun) [] [] [] run run (record out { breaks = breaks }) (record out { breaks = breaks }) d e w.within.from w refl refl
         (call-recorded d e o done s (In at.begun) [] None [] v w.within (record { goes = goes on_card.breakdowns; powered = powered; travels = travels }))
+        (all-one o c (log_of (record out { breaks = breaks })) (log_of (record out { breaks = breaks })) run.keeper.memory.registration run.keeper.cabin.cards run.keeper.cabin.cards U V X Y Z (λ none. none) refl
+        (λ none valid h. stays-still (found_of o.found c) run.keeper.memory.registration (session_of run.keeper.cabin.cards c) X Y (noted-does o.found carries run.keeper.cabin.cards run.keeper.cabin.cards c U X Y Z w.within.found unit_whole whole later size a value has w.within.powered card valid) h) w.stay)
     still on_card true is powerless = record {
       waits = [];
       cabin = run.keeper.cabin;
@@ -451,6 +458,7 @@ module _ (c : Card) (slot : Slot) (at : Moment) (run : Run) (breaks : Listed Bre
     fell on_card broken false is powered = goes-as o done s (In at.begun) (In at.begun) [] [] [] run (with_cabin (torn_out c at.second run.keeper.cabin) run) (record out { breaks = breaks }) (record out { breaks = with_lines (tear_of slot at ∷ []) breaks }) d e w.within.from w refl refl
         (subst (λ (n : ℕ). GoesOn o done s (In at.begun) [] None [] (torn_values (tear_of slot at) (torn_out c n run.keeper.cabin) v) e w.within.b w.within.from) (sym here)
         (seated-torn d e o done s (In at.begun) v w.within slot c (tear_of slot at) (called on_card broken) powered))
+        (λ none. no-tear (log_of (record out { breaks = breaks })) slot at none)
     fell on_card broken true is powerless = record {
       waits = [];
       cabin = torn_out c at.second run.keeper.cabin;
@@ -616,7 +624,7 @@ place-told o done s slot ending country region begun speed run out d now front r
     subst (λ (k : ℕ). RunGoesOn o done s (In k) [] run out d w.within.b) (sym n)
     (goes-as o done s (In (length front)) (In (suc (length front))) [] [] [] run run out out d d w.within.from w refl refl
     (place-recorded d o done s (values_of run out) front slot ending country region rest are w.within
-    (allowed-in o done s (In (length front)) [] None [] (values_of run out) d w.within speed (Place slot ending country region) now.speed_is allowed)))
+    (allowed-in o done s (In (length front)) [] None [] (values_of run out) d w.within speed (Place slot ending country region) now.speed_is allowed)) w.stay)
 
 -- a note on the unit, whichever card a call is about
 pub unit-any : (c : Card) (o : Origin) (done : List TraceSecond) (s : TraceSecond) (n : ℕ) (run : Run) (out : Outcome) (U V X Z : State) → IsCoherent U → LeavesOnly U V LeavesJournal → (span : Span) → StandsFor run.minutes span → end_of span ≡ run.next →

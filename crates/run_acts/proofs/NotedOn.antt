@@ -33,6 +33,8 @@ use Rattle.run_acts.specs.Behind.{IsPoweredOrOff}
 use Rattle.run_acts.specs.Noting.{carried_noted, BooksNoted}
 use Rattle.run_acts.proofs.Cabins.{noted_cabin}
 use Rattle.run_acts.proofs.Withdrawn.{noted-here, noted-cut}
+use Rattle.run_keeping.specs.CardDeeds.{DoesOn}
+use Rattle.run_entering.proofs.Opening.{does-note}
 
 -- a call that went well was made on what works
 worked : (b : Bool) → (b ≡ false → false ≡ true) → b ≡ true
@@ -65,6 +67,14 @@ module _ (f : Found) (w : Carried) (cards after : Cards) (c : Card) (U X Y Z : S
       (if_told X.image (IsValid (own_sizes (found_of f c).image)) (λ x is.
       let there = whole.is_left x is in
       own-valid (own_sizes (found_of f c).image) x (one.held.now x there).0 (one.valid x (whole.counts_now (found_of f c).began x one.rule.dark.later there)))) (by-own valid)
+
+  -- and what it shows beside has not
+  pub noted-does : IsOwnValid (found_of f c).image → DoesOn (own_sizes (found_of f c).image) [] X Y
+  noted-does valid =
+      let one = mine valid in
+      does-note (own_sizes (found_of f c).image) (found.sizes c valid) X Y whole (λ x is.
+      let there = whole.is_left x is in
+      own-valid (own_sizes (found_of f c).image) x (one.held.now x there).0 (one.valid x (whole.counts_now (found_of f c).began x one.rule.dark.later there))) (by-own valid)
 
   -- it is noted
   stays : HasCause X Y false → IsPowered f w cards (arranged c U Y Z)

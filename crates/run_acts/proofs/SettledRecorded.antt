@@ -31,6 +31,7 @@ use Rattle.run_within.specs.Within.{Beginning, Within, CutWithin}
 use Rattle.run_keeping.specs.declared.keeper.Keeper.{Keeper}
 use Rattle.run_keeping.specs.declared.keeper.Moment.{Moment}
 use Rattle.run_keeping.specs.Minutes.{Reach, IsReach, or_nobody, present_at}
+use Rattle.run_keeping.specs.Deeds.{AllKeep, kepts_on}
 use Rattle.run_keeping.specs.Books.{HaveTime, AreTimedOn}
 use Rattle.run_keeping.specs.Decided.{EndsAll, BooksAll}
 use Rattle.run_acts.specs.Rounds.{Point, IsPoint, settling_at}
@@ -46,6 +47,10 @@ use Rattle.run_acts.specs.Recording.{log_of, values_of, RunWithin}
 use Rattle.run_acts.specs.Settling.{settled_run, SettlesTo}
 use Rattle.run_acts.proofs.GoesOn.{goes-on, unit-rose}
 use Rattle.run_acts.proofs.Settled.{settled-ungiven, settled-decides}
+use Rattle.log_model.specs.declared.lines.Break.{Break}
+use Rattle.run_recorded.specs.Whole.{NothingFailed}
+use Rattle.run_acts.specs.Stays.{AllStay}
+use Rattle.run_acts.proofs.AllStay.{all-of, all-kept, fewer-none, reach-told}
 
 -- ---- two spans for which the same minutes stand
 pub same-ungiven : (minutes : Kept) (a b : Span) → StandsFor minutes a → StandsFor minutes b → ungiven_of a ≡ ungiven_of b
@@ -117,6 +122,7 @@ module _ {U A0 B0 : State} {chip_a chip_b : CardState} (old : Run) (before : Out
     over = over-so o done s q decided (told_of old before) v d w (let to = end in omega (arith, to))
 
     pub booked : EndsAll o.found (odometer_at o.recording.unit) (carried_at o done s q decided (told_of old before) v d w) old.keeper failed reach (all_travelled w.ds w.b.travel) (told_of new after) e × AreTimedOn o.found d e
+        × (failed ≡ false → AllKeep o.found (kepts_on old.keeper decided) old.keeper.cabin.cards keeper.cabin.cards d e)
     booked = books o.found (carried_at o done s q decided (told_of old before) v d w) (odometer_at o.recording.unit) (all_travelled w.ds w.b.travel)
         (may-book o done s q decided (told_of old before) v d w few over) w.travels
         (r.odometer ∙ ap (odometer_after (odometer_at o.recording.unit)) (sym (travelled-earlier w.ds w.b.travel))) time
@@ -137,8 +143,17 @@ module _ {U A0 B0 : State} {chip_a chip_b : CardState} (old : Run) (before : Out
         (unit-rose o (carried_at o done s q decided (told_of old before) v d w) failed old.keeper.cabin.cards keeper.cabin.cards d e w.powered w.there devices booked.1)
         booked.0
 
-    so : (f : Bool) → IsKeptTo f o done s q decided (told_of old before) (told_of new after) v d e w → SettlesTo f o done s (In n) waits w.b w.from (w.from + length decided) old new before after e
-    so false k =
+    -- what is made of the cards
+    settled-stay : failed ≡ false → AllStay o (log_of after) keeper.memory.registration keeper.cabin.cards e
+    settled-stay well =
+        let all = subst (λ (b : Bool). IsReach decided at b (told_of old before) (told_of new after) reach) well is in
+        let how = reach-told decided at (told_of old before) (told_of new after) reach all in
+        all-of o (log_of after) old.keeper.memory.registration keeper.memory.registration keeper.cabin.cards e how.registered
+        (all-kept o (log_of before) (log_of after) old.keeper.memory.registration (kepts_on old.keeper decided) old.keeper.cabin.cards keeper.cabin.cards d e
+        (λ none. fewer-none (log_of before) how.more (subst (λ (bs : List Break). NothingFailed (record (log_of before) { breaks = bs })) how.lines none)) (λ none c some_. how.stay c none.1 some_) (booked.2 well) r.stay)
+
+    so : (f : Bool) → failed ≡ f → IsKeptTo f o done s q decided (told_of old before) (told_of new after) v d e w → SettlesTo f o done s (In n) waits w.b w.from (w.from + length decided) old new before after e
+    so false well k =
         subst (λ (m : ℕ). (x : Within o done s (In n) waits None [] (record (values_of new after) { odometer = m }) e) → x.b ≡ w.b → x.from ≡ w.from + length decided → SettlesTo false o done s (In n) waits w.b w.from (w.from + length decided) old new before after e) odometer
         (λ (x : Within o done s (In n) waits None [] (values_of new after) e) (began : x.b ≡ w.b) (from : x.from ≡ w.from + length decided). record {
           goes = record {
@@ -146,12 +161,13 @@ module _ {U A0 B0 : State} {chip_a chip_b : CardState} (old : Run) (before : Out
             lit = r.lit;
             within = x;
             odometer = odometer ∙ r.odometer ∙ ap (λ (b : Beginning). odometer_after (odometer_at o.recording.unit) b.travel.before) (sym began);
+            stay = settled-stay well;
           };
           began = began;
           from = from ∙ end;
           leave = λ slot card l some. leaving-later (log_of after) (went w.b.run.log done).before s (In n) w.from (w.from + length decided) (s.number / 60) (s.number / 60) keeper.cabin slot card (let to = end in omega (arith, to)) (sym end) (k.1 slot card l some);
         }) k.0.within k.0.began k.0.from
-    so true k = subst (λ (m : ℕ). CutWithin o done s (In n) waits None (record (values_of new after) { odometer = m }) e) (sym odometer) k
+    so true bad k = subst (λ (m : ℕ). CutWithin o done s (In n) waits None (record (values_of new after) { odometer = m }) e) (sym odometer) k
 
     pub settling-so : SettlesTo failed o done s (In n) waits w.b w.from (w.from + length decided) old new before after e
-    settling-so = so failed kept
+    settling-so = so failed refl kept

@@ -13,6 +13,7 @@ use Rattle.run_told.proofs.Noted.{noted-powered, noted-powerless}
 use Rattle.run_told.proofs.Travelled.{travelled-noted}
 use Rattle.run_keeping.specs.declared.keeper.Moment.{Moment}
 use Rattle.run_keeping.specs.Minutes.{Done, Reach, Whole, Short, Told, IsReach}
+use Rattle.run_keeping.specs.Deeds.{AllKeep, kepts_on}
 use Rattle.run_keeping.specs.Books.{AreBooked, HaveTime, AreTimedOn}
 use Rattle.run_keeping.specs.Decided.{BooksAll, carried_by}
 use Rattle.run_acts.specs.Booked.{IsTurnReach, BooksTurn}
@@ -40,6 +41,10 @@ module _ (decided : List Minute) (at : Moment) (t u : Told) (d : Devices) (U V X
   cards-same f timed A = timed A
   cards-same f timed B = timed B
 
+  cards-keep : (f : Found) → AllKeep f (kepts_on t.keeper decided) t.keeper.cabin.cards u.keeper.cabin.cards d (devices U X Y) → AllKeep f (kepts_on t.keeper decided) t.keeper.cabin.cards u.keeper.cabin.cards d (devices V X Y)
+  cards-keep f all A = all A
+  cards-keep f all B = all B
+
   pub turn-noted : (reach : Reach) → IsReach decided at false t u reach → BooksAll decided false reach t u d (devices U X Y) → (failed : Bool) → V.works ≡ not failed
       → (r : Reach) × IsTurnReach decided at failed t u r × BooksTurn decided failed r t u d (devices V X Y)
   turn-noted (Short xs m round) is books failed works = absurd is
@@ -48,7 +53,7 @@ module _ (decided : List Minute) (at : Moment) (t u : Told) (d : Devices) (U V X
     is,
     λ f w start g may gone stored time.
         let booked = books f w start g may gone stored (earlier time) in
-        ((noted-booked f (carried_by t.keeper xs w) booked.0.0 works, travelled-noted start (carried_by t.keeper xs w).book (all_travelled (map (λ (x : Done). x.minute) xs) g) booked.0.1 whole run), cards-same f booked.1),
+        ((noted-booked f (carried_by t.keeper xs w) booked.0.0 works, travelled-noted start (carried_by t.keeper xs w).book (all_travelled (map (λ (x : Done). x.minute) xs) g) booked.0.1 whole run), cards-same f booked.1, λ well. cards-keep f (booked.2 refl)),
   )
   turn-noted (Whole xs) is books true works = (
     Whole xs,
@@ -60,5 +65,6 @@ module _ (decided : List Minute) (at : Moment) (t u : Told) (d : Devices) (U V X
             travelled-noted start (carried_by t.keeper xs w).book (all_travelled (map (λ (x : Done). x.minute) xs) g) booked.0.1 whole run,
           ),
           cards-same f booked.1,
+          λ well. absurd (cc),
         ),
   )

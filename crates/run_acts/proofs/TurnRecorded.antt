@@ -38,6 +38,7 @@ use Rattle.run_keeping.specs.declared.keeper.Keeper.{Keeper}
 use Rattle.run_keeping.specs.declared.keeper.Moment.{Moment}
 use Rattle.run_keeping.specs.Keeping.{with_lines}
 use Rattle.run_keeping.specs.Minutes.{Told, Reach, Whole, Short, IsReach, present_at}
+use Rattle.run_keeping.specs.Deeds.{AllKeep, kepts_on}
 use Rattle.run_keeping.specs.Books.{HaveTime, AreTimedOn}
 use Rattle.run_acts.specs.Rounds.{Point, IsPoint, told_values, keeping_of, moment_of}
 use Rattle.run_acts.specs.RoundLaws.{KeepsSo, HaveBrokenOff, carried_at}
@@ -55,6 +56,10 @@ use Rattle.run_acts.specs.Turning.{IsLitTurn, told_of, late_moment, cut_where, c
 use Rattle.run_acts.proofs.GoesOn.{goes-on, unit-rose}
 use Rattle.run_acts.proofs.SettledRecorded.{same-ungiven, two-present}
 use Rattle.run_acts.proofs.Turned.{turn-decides, turn-most}
+use Rattle.log_model.specs.declared.lines.Break.{Break}
+use Rattle.run_recorded.specs.Whole.{NothingFailed}
+use Rattle.run_acts.specs.Stays.{AllStay}
+use Rattle.run_acts.proofs.AllStay.{all-of, all-kept, fewer-none, no-cut, reach-told}
 
 -- a span that goes on has a second
 pub record IsPushed (xs : List Second) (x : Second) : Type 0 where
@@ -85,7 +90,7 @@ module _ (old : Run) (before : Outcome) (minutes : Kept) (keeper : Keeper) (watc
       (lit : old.power ≡ Lit) (some : 0 < n) (time : HaveTime e)
       (o : Origin) (origin : IsOrigin o) (done : List TraceSecond) (s : TraceSecond) (next gone : ℕ) (w : Within o done s Keeping [] (Some s.speed) decided (record (values_of old before) { minutes = minutes; next = next; begun = gone }) d)
       (number : s.number ≡ old.next + n - 1) (next_is : next ≡ old.next + n - 1) (actions : length s.actions ≡ begun) (stored : old.keeper.odometer ≡ odometer_after (odometer_at o.recording.unit) w.b.travel.before)
-      (few : s.number / 60 ≤ w.from + 4) (low : w.from + length decided ≤ s.number / 60) where
+      (few : s.number / 60 ≤ w.from + 4) (low : w.from + length decided ≤ s.number / 60) (stay : AllStay o (log_of before) old.keeper.memory.registration old.keeper.cabin.cards d) where
     abbrev q : Point
     q = keeping_of s
 
@@ -99,6 +104,7 @@ module _ (old : Run) (before : Outcome) (minutes : Kept) (keeper : Keeper) (watc
     u = told_of between told
 
     pub booked : IsTurnBooked o.found (odometer_at o.recording.unit) (carried_at o done s q decided t v d w) old.keeper failed reach (all_travelled w.ds w.b.travel) u e × AreTimedOn o.found d e
+        × (failed ≡ false → AllKeep o.found (kepts_on t.keeper decided) t.keeper.cabin.cards u.keeper.cabin.cards d e)
     booked = books o.found (carried_at o done s q decided t v d w) (odometer_at o.recording.unit) (all_travelled w.ds w.b.travel) (may-book o done s q decided t v d w few (are-over o done s decided t v d w)) w.travels
         (stored ∙ ap (odometer_after (odometer_at o.recording.unit)) (sym (travelled-earlier w.ds w.b.travel))) time
 
@@ -129,9 +135,17 @@ module _ (old : Run) (before : Outcome) (minutes : Kept) (keeper : Keeper) (watc
     abbrev U : Values
     U = told_values u v
 
+    -- what is made of the cards
+    turned-stay : failed ≡ false → (r : Reach) → IsReach decided (moment_of s q) false t u r → AllStay o (log_of told) keeper.memory.registration keeper.cabin.cards e
+    turned-stay well r is_ =
+        let how = reach-told decided (moment_of s q) t u r is_ in
+        all-of o (log_of told) old.keeper.memory.registration keeper.memory.registration keeper.cabin.cards e how.registered
+        (all-kept o (log_of before) (log_of told) old.keeper.memory.registration (kepts_on old.keeper decided) old.keeper.cabin.cards keeper.cabin.cards d e
+        (λ none. fewer-none (log_of before) how.more (subst (λ (bs : List Break). NothingFailed (record (log_of before) { breaks = bs })) how.lines none)) (λ none c some_. how.stay c none.1 some_) (booked.2 well) stay)
+
     -- all is kept
-    over-now : (x : Within o done s Keeping [] (Some s.speed) [] U e) → x.b ≡ w.b → RunRecorded o (done ++ s ∷ []) (passed n begun between) told e
-    over-now x same =
+    over-now : (x : Within o done s Keeping [] (Some s.speed) [] U e) → x.b ≡ w.b → AllStay o (log_of told) keeper.memory.registration keeper.cabin.cards e → RunRecorded o (done ++ s ∷ []) (passed n begun between) told e
+    over-now x same stays =
         let p = pushed x.b.span (next_told U.log done s) in
         let V : Values = values_of (passed n begun between) told in
         let before_ : List ℕ = x.b.travel.before in
@@ -148,6 +162,7 @@ module _ (old : Run) (before : Outcome) (minutes : Kept) (keeper : Keeper) (watc
           powers = subst (λ (pw : Power). Supplies pw (IsLit (p.first ∷ p.rest))) (sym lit) tt;
           recorded = so.recorded;
           odometer = λ on. odometer ∙ stored ∙ ap (odometer_after (odometer_at o.recording.unit)) (ap (λ (b : Beginning). b.travel.before) (sym same) ∙ sym so.travelled_before);
+          stay = stays;
         }
 
     -- or power is cut
@@ -164,11 +179,12 @@ module _ (old : Run) (before : Outcome) (minutes : Kept) (keeper : Keeper) (watc
               (subst (λ (b : ℕ). R (V (old.next + n - 1) b (suc next))) actions
               (subst (λ (m : ℕ). R (V m (length s.actions) (suc next))) number (cut-recorded o done s Keeping [] (Some s.speed) U e x [] refl))));
           odometer = λ on. absurd (cc);
+          stay = λ none. no-cut (log_of told) (old.next + n - 1) begun none;
         }
 
     by : (f : Bool) (r : Reach) → failed ≡ f → IsTurnReach decided (moment_of s q) f t u r → IsTurnBooked o.found (odometer_at o.recording.unit) (carried_at o done s q decided t v d w) old.keeper f r (all_travelled w.ds w.b.travel) u e →
         RunRecorded o (done ++ s ∷ []) (passed n begun (cut_where f (old.next + n - 1) between)) (cut_breaks f (old.next + n - 1) begun told) e
-    by false (Whole xs) same is_ b = let k = keeping-recorded d e o done s q decided t u v w keeps false (Whole xs) is_ off (λ no. absurd (cc)) b in over-now k.0.within k.0.began
+    by false (Whole xs) same is_ b = let k = keeping-recorded d e o done s q decided t u v w keeps false (Whole xs) is_ off (λ no. absurd (cc)) b in over-now k.0.within k.0.began (turned-stay same (Whole xs) is_)
     by true (Whole xs) same is_ b = cut-now (note-fails d e o done s q decided t u v w keeps low xs is_ off (rose same) b.0 b.1)
     by false (Short xs m round) same is_ b = absurd is_
     by true (Short xs m round) same is_ b = cut-now (keeping-recorded d e o done s q decided t u v w keeps true (Short xs m round) is_ off (λ yes_. rose same) b)
@@ -263,7 +279,7 @@ module _ {U A0 B0 : State} {chip_a chip_b : CardState} (n speed begun : ℕ) (ol
         (subst (λ (x : Outcome). RunRecorded o (D ++ L ∷ []) (passed n begun (cut_where T.failed (old.next + n - 1) here)) x e) after-is
         (turn-core old before T.fed.minutes T.between.keeper T.between.watch T.told.marks T.told.breaks n begun T.failed T.decided h.1 d e reach-is books-is h.4 h.5 (two-present (ungiven_of g.span) None old.keeper.cabin g.cabin)
         lit some time o r.origin D L next gone w num (omega (arith, next_is, is, some)) acts (r.odometer ∙ ap (odometer_after (odometer_at o.recording.unit)) (sym travel))
-        (omega (arith, from, first, few, same)) (omega (arith, from, first, end, same))))
+        (omega (arith, from, first, few, same)) (omega (arith, from, first, end, same)) r.stay))
 
     -- where the unit failed in its keeping: its record as power is about to be cut
     pub fails-last : (c : ℕ) → c ≡ n - 1 → (D : List TraceSecond) (L : TraceSecond) (next gone : ℕ) → L.number ≡ s.number + c → next ≡ old.next + c → length L.actions ≡ begun →
@@ -279,7 +295,7 @@ module _ {U A0 B0 : State} {chip_a chip_b : CardState} (n speed begun : ℕ) (ol
         let same : L.number / 60 ≡ old.next / 60 = ap (λ (m : ℕ). m / 60) num ∙ day in
         turn-fails old before T.fed.minutes T.between.keeper T.between.watch T.told.marks T.told.breaks n begun T.failed T.decided h.1 d e reach-is books-is h.4 h.5 (two-present (ungiven_of g.span) None old.keeper.cabin g.cabin)
         lit some time o r.origin D L next gone w num (omega (arith, next_is, is, some)) acts (r.odometer ∙ ap (odometer_after (odometer_at o.recording.unit)) (sym travel))
-        (omega (arith, from, first, few, same)) (omega (arith, from, first, end, same)) on
+        (omega (arith, from, first, few, same)) (omega (arith, from, first, end, same)) r.stay on
 
     -- what its keeping leaves of when cards were used, and of their events
     pub timed-last : (c : ℕ) → c ≡ n - 1 → (D : List TraceSecond) (L : TraceSecond) (next gone : ℕ) → L.number ≡ s.number + c → next ≡ old.next + c → length L.actions ≡ begun →
@@ -294,7 +310,7 @@ module _ {U A0 B0 : State} {chip_a chip_b : CardState} (n speed begun : ℕ) (ol
         let same : L.number / 60 ≡ old.next / 60 = ap (λ (m : ℕ). m / 60) num ∙ day in
         (booked old before T.fed.minutes T.between.keeper T.between.watch T.told.marks T.told.breaks n begun T.failed T.decided h.1 d e reach-is books-is h.4 h.5 (two-present (ungiven_of g.span) None old.keeper.cabin g.cabin)
         lit some time o r.origin D L next gone w num (omega (arith, next_is, is, some)) acts (r.odometer ∙ ap (odometer_after (odometer_at o.recording.unit)) (sym travel))
-        (omega (arith, from, first, few, same)) (omega (arith, from, first, end, same))).1
+        (omega (arith, from, first, few, same)) (omega (arith, from, first, end, same)) r.stay).1
 
     by-count : (c : ℕ) → c ≡ n - 1 → IsTurned o done s c T.decided T.fed.minutes (values_of old before) d r.within → RunRecorded o (before_last c s done ++ last_of c s ∷ []) (passed n begun new) after e
     by-count zero is x = by-last zero is done s (old.next + 0) x.begun (last-number zero s) refl (last-actions zero begun s actions (λ lt. none (omega (arith, lt, is)))) x.fed x.travelled_before x.from
@@ -318,6 +334,7 @@ module _ (n speed begun : ℕ) (old : Run) (before : Outcome) (d : Devices) (som
     powers = subst (λ (pw : Power). Supplies pw IsLost) (sym r.lost) tt;
     recorded = subst (λ (m : ℕ). Recorded o done_ IsLost (V m begun) d) is (subst (λ (b : ℕ). Recorded o done_ IsLost (V next b) d) at rec);
     odometer = λ on. absurd (let clash : Lost ≡ Lit = sym r.lost ∙ on in cc);
+    stay = r.stay;
   }
 
   by-more : (c : ℕ) → c ≡ n - 1 → RunRecorded o (done ++ s ∷ driven c (s.number + 1) speed []) (passed n begun old) before d

@@ -11,6 +11,7 @@ use Rattle.run_outcome.specs.declared.outcome.Outcome.{Outcome}
 use Rattle.run_keeping.specs.declared.keeper.Keeper.{Keeper}
 use Rattle.run_keeping.specs.declared.keeper.Moment.{Moment}
 use Rattle.run_keeping.specs.Minutes.{Done, Reach, Whole, Short, Told, IsReach}
+use Rattle.run_keeping.specs.Deeds.{AllKeep, kepts_on}
 use Rattle.run_keeping.specs.Books.{AreBooked, HaveTime, AreTimedOn}
 use Rattle.run_keeping.specs.Decided.{MayBookAll, EndsAll, carried_by}
 use Rattle.run_acts.specs.declared.run.Run.{Run}
@@ -29,10 +30,10 @@ IsTurnBooked f start w k false (Whole xs) g u e = AreBooked f (carried_by k xs w
 IsTurnBooked f start w k true (Whole xs) g u e = IsPowerless f (carried_by k xs w) e × HasTravelled start (carried_by k xs w).book (all_travelled (map (λ (x : Done). x.minute) xs) g) e.unit
 IsTurnBooked f start w k failed (Short xs m round) g u e = EndsAll f start w k failed (Short xs m round) g u e
 
--- A TURN'S MINUTES WERE TO BE KEPT, and it came so far: so they are booked.
+-- A TURN'S MINUTES WERE TO BE KEPT, and it came so far: so they are booked, and the cards keep them.
 abbrev pub BooksTurn : List Minute → (failed : Bool) → Reach → (t u : Told) → (d e : Devices) → Type 0
 BooksTurn decided failed reach t u d e = (f : Found) (w : Carried) (start : ℕ) (g : Travel) → MayBookAll f w decided t d → HasTravelled start w.book g d.unit → t.keeper.odometer ≡ odometer_after start g.before → HaveTime e
-    → IsTurnBooked f start w t.keeper failed reach g u e × AreTimedOn f d e
+    → IsTurnBooked f start w t.keeper failed reach g u e × AreTimedOn f d e × (failed ≡ false → AllKeep f (kepts_on t.keeper decided) t.keeper.cabin.cards u.keeper.cabin.cards d e)
 
 -- N SECONDS WITH POWER, booked: by how they went, and how far their minutes came; and unit and cards go on
 abbrev pub IsBookedTurn : (n speed begun : ℕ) → (old new : Run) → (before after : Outcome) → (d e : Devices) → Type 0

@@ -11,6 +11,7 @@ pub mod Going
 pub mod Room
 pub mod Turning
 pub mod Booked
+pub mod Stays
 pub mod Broken
 pub mod Recording
 pub mod Noting

@@ -30,6 +30,7 @@ use Rattle.run_acts.specs.declared.run.Run.{Run}
 use Rattle.run_acts.specs.declared.run.Power.{Power}
 use Rattle.run_acts.specs.declared.run.Power.TheVariants.{Lit, Due, Lost}
 use Rattle.run_acts.specs.Power.{is_lit}
+use Rattle.run_acts.specs.Stays.{AllStay}
 
 -- the log of an outcome
 abbrev pub log_of : Outcome → RunLog
@@ -63,13 +64,15 @@ pub record IsOrigin (o : Origin) : Type 0 where
   pub long : (c : Card) → IsOwnValid (card_image o.recording c) → length (own_number (card_image o.recording c)) ≡ 18
   pub bytes : (c : Card) → All (λ n. n < 256) (card_image o.recording c)
 
--- BETWEEN TWO SECONDS, behind these: all is recorded, and the odometer that minutes are counted from is that at the last power-on.
+-- BETWEEN TWO SECONDS, behind these: all is recorded, and the odometer that minutes are counted from is that at the last power-on; and each card
+-- shows exactly what its stays make of it, where no call failed.
 pub record RunRecorded (o : Origin) (done : List TraceSecond) (run : Run) (out : Outcome) (d : Devices) : Type 0 where
   pub origin : IsOrigin o
   pub supply : Supply
   pub powers : Supplies run.power supply
   pub recorded : Recorded o done supply (values_of run out) d
   pub odometer : run.power ≡ Lit → run.keeper.odometer ≡ odometer_after (odometer_at o.recording.unit) recorded.travel.before
+  pub stay : AllStay o (log_of out) run.keeper.memory.registration run.keeper.cabin.cards d
 
 -- WITHIN A SECOND, while there is power
 pub record RunWithin (o : Origin) (done : List TraceSecond) (s : TraceSecond) (at : Phase) (waits : List Visit) (rest : List Minute) (run : Run) (out : Outcome) (d : Devices) : Type 0 where
@@ -77,6 +80,7 @@ pub record RunWithin (o : Origin) (done : List TraceSecond) (s : TraceSecond) (a
   pub lit : run.power ≡ Lit
   pub within : Within o done s at waits None rest (values_of run out) d
   pub odometer : run.keeper.odometer ≡ odometer_after (odometer_at o.recording.unit) within.b.travel.before
+  pub stay : AllStay o (log_of out) run.keeper.memory.registration run.keeper.cabin.cards d
 
 -- POWER COMES with the second behind these: by the log it was not on as they ended
 abbrev pub ComesPower : List TraceSecond → Outcome → Type 0
@@ -87,6 +91,7 @@ pub record RunCut (o : Origin) (done : List TraceSecond) (s : TraceSecond) (run 
   pub origin : IsOrigin o
   pub lost : run.power ≡ Lost
   pub recorded : Recorded o (done ++ s ∷ []) IsLost (passed_values s (values_of run out)) d
+  pub stay : AllStay o (log_of out) run.keeper.memory.registration run.keeper.cabin.cards d
 
 -- IN A SECOND to which the trace gives power, behind so many of its actions: it goes on, or power was cut in it
 abbrev pub InSecondBy : (lit : Bool) → Origin → List TraceSecond → TraceSecond → (n : ℕ) → Run → Outcome → Devices → Type 0

@@ -22,7 +22,8 @@ ghost use Rattle.minute_rules.specs.Kept.{StandsFor};
 ghost use Rattle.run_keeping.specs.Later.{IsLater, AreLater};
 ghost use Rattle.run_rule.specs.Between.{devices};
 ghost use Rattle.run_keeping.specs.Minutes.{Told, Reach, IsReach};
-ghost use Rattle.run_acts.specs.Acting.{Closing, IsClosed, closed_falls, IsWithdrawn, left_run, pulled_run, pulled_breaks, told_of};
+ghost use Rattle.run_acts.specs.Stays.{ClosesOnCard};
+ghost use Rattle.run_acts.specs.Acting.{Closing, Closed, IsClosed, closed_falls, IsWithdrawn, left_run, pulled_run, pulled_breaks, told_of};
 ghost use Rattle.trace_model.specs.declared.Action.TheVariants.{Withdraw};
 ghost use Rattle.run_acts.specs.Recording.{RecordsAction};
 ghost use Rattle.run_acts.specs.Noting.{SaysNoMore, NotesClosing, NotesWithdrawing};
@@ -126,7 +127,8 @@ fn close<M: Medium, C: Chip>(
     requires minute { run.old.keeper.cabin.slots.minute ≤ at.second / 60 }
     requires second { at.second ≢ 0 }
     requires room { length breaks.old.items + tears_of (session_of run.old.keeper.cabin.cards which) ≤ breaks.old.room }
-    ensures closed { (closing : Closing) × IsClosed which slot at run.old run.new breaks.old breaks.new closing × HasBroken (C.state card.old) (C.state card.new) (closed_falls closing) }
+    ensures closed { (closing : Closing) × IsClosed which slot at run.old run.new breaks.old breaks.new closing × HasBroken (C.state card.old) (C.state card.new) (closed_falls closing)
+        × (closing ≡ Closed → ClosesOnCard (session_of run.old.keeper.cabin.cards which) (C.state card.old) (C.state card.new)) }
     ensures events { NotesClosing which slot at (is_err result) run.old run.new breaks.old breaks.new (devices (M.state unit.old) (C.state card.old) (C.state card.old)) (devices (M.state unit.new) (C.state card.new) (C.state card.new)) }
     ensures journal { LeavesOnly (M.state unit.old) (M.state unit.new) LeavesJournal }
     ensures rings { is_some (M.state unit.old).image ≡ true → ClosesSo which slot at (is_err result) run.old run.new breaks.old breaks.new (M.state unit.old) (M.state unit.new) }

@@ -1,5 +1,5 @@
 -- What is carried of a card that enters: as it is revived, judged, turned away, torn out or taken in.
-use Rattle.std.proofs.Common.{max, ◌+◌, ◌++◌, append-nil, ◌≡◌, ◌⊎◌, ◌∙◌, inl, inr, ⊎_elim, ℕ, ◌/◌, ◌^◌, ◌<◌, ◌≤◌, Bool, true, false, Option, Some, None, IfSome, List, [], ◌∷◌, length, refl, ap, sym, subst, arith}
+use Rattle.std.proofs.Common.{max, ◌+◌, ◌++◌, append-nil, ◌≡◌, ◌≢◌, ◌⊎◌, ◌∙◌, inl, inr, ⊎_elim, ℕ, ◌/◌, ◌^◌, ◌<◌, ◌≤◌, Bool, true, false, Option, Some, None, IfSome, List, [], ◌∷◌, length, refl, ap, sym, subst, arith}
 use Rattle.std.specs.Prelude.{Result, Ok, Err, IsOk, IfOk}
 use Rattle.activity_codec.specs.declared.entries.Entry.{Entry}
 use Rattle.trace_model.specs.declared.Card.{Card}
@@ -32,7 +32,7 @@ use Rattle.joint_rule.specs.Rules.{Out, Meets, Shows, IsEntered}
 use Rattle.unit_notes.specs.Journal.{LeavesJournal}
 use Rattle.device_steps.specs.declared.entering.Entered.{Entered}
 use Rattle.device_steps.specs.declared.entering.NotEntered.{NotEntered}
-use Rattle.device_steps.specs.Entering.{owed_on, IsAccepted, IsEntering}
+use Rattle.device_steps.specs.Entering.{owed_on, card_failed, IsAccepted, IsEntering}
 use Rattle.run_crew.specs.declared.cards.Accepted.{Accepted}
 use Rattle.run_crew.specs.declared.cards.Cards.{Cards}
 use Rattle.run_crew.specs.Cards.{session_of, with_session, with_sizes}
@@ -51,6 +51,9 @@ use Rattle.run_keeping.specs.declared.keeper.Keeper.{Keeper}
 use Rattle.run_entering.specs.declared.lines.Entering.{Entering}
 use Rattle.run_entering.specs.Entering.{Ending, Unfit, Ahead, Fell, Unasked, Unnoted, Seated, Lost, taken_as, fallen, most_owed}
 use Rattle.run_entering.specs.Told.{IsCarriedOn, IsTakenOn, TimesOn, IsToldSo, IsToldOf, MayHaveWritten, IsEnteredOn, MaySeat, MayEnter, BooksTaken, carried_judged}
+use Rattle.run_keeping.specs.CardDeeds.{DoesOn, OpensOn}
+use Rattle.run_keeping.proofs.CardDeeds.{does-insert}
+use Rattle.run_entering.proofs.Opening.{does-read, read-alone, opens-as, opens-woken}
 use Rattle.run_entering.proofs.Carried.{noted-carried, found-fallen}
 
 -- the cards have the sessions that they had
@@ -126,9 +129,13 @@ module _ (app : Application) (e : Entering) (k : Keeper) (U V X M Z : State) (un
       inserting-timed (found_of f e.which).image (found_of f e.which).began X M m.began whole timed app (subst IsApplication (sym (own valid)) (m.found.sizes e.which valid)) size told registration long odometer e.at.second (owed_on app u.0)
       (at_image (λ (u : List ℕ). LeavesOnly X M (λ x c. IsCardInserting app registration odometer (owed_on app u x) e.at.second x c)) u.1 enters.moments)
 
+  -- one that no call wrote shows what it showed
+  read-does : (MayWrite answer → ⊥) → DoesOn (own_sizes (found_of f e.which).image) [] X M
+  read-does never = does-read (own_sizes (found_of f e.which).image) X M (read-alone app e.at.second X M answer never enters.refused)
+
   -- the unit failed as it was asked
   pub unasked-known : (MayWrite answer → ⊥) → IsEnteredOn Unasked e true k k U V X M Z f w
-  unasked-known never = record { taken = judged-powerless; found = m.found; told = tt; timed = put-timed; untouched = λ same. ⊎_elim (λ still. inl still) (λ written. absurd (never written.1)) (untouched-by same) }
+  unasked-known never = record { taken = judged-powerless; found = m.found; told = tt; timed = put-timed; untouched = λ same. ⊎_elim (λ still. inl still) (λ written. absurd (never written.1)) (untouched-by same); opens = λ valid. tt }
 
   -- it is turned away, which is noted
   module _ (failed : Bool) (W : State) (works : V.works ≡ true) (run : LeavesOnly V W LeavesJournal) (cause : HasCause V W failed) where
@@ -136,10 +143,10 @@ module _ (app : Application) (e : Entering) (k : Keeper) (U V X M Z : State) (un
     refused-carried = noted-carried e.which f w k.cabin.cards V W M Z failed m.found unit_after (judged-powered works) run cause
 
     pub unfit-known : (fid : Fid) (place : ℕ) → (MayWrite answer → ⊥) → IsEnteredOn (Unfit fid place) e failed k k U W X M Z f w
-    unfit-known fid place never = record { taken = refused-carried; found = m.found; told = tt; timed = put-timed; untouched = λ same. ⊎_elim (λ still. inl still) (λ written. absurd (never written.1)) (untouched-by same) }
+    unfit-known fid place never = record { taken = refused-carried; found = m.found; told = tt; timed = put-timed; untouched = λ same. ⊎_elim (λ still. inl still) (λ written. absurd (never written.1)) (untouched-by same); opens = λ valid. read-does never }
 
     pub ahead-known : (stored : ℕ) → (MayWrite answer → ⊥) → IsEnteredOn (Ahead stored) e failed k k U W X M Z f w
-    ahead-known stored never = record { taken = refused-carried; found = m.found; told = tt; timed = put-timed; untouched = λ same. ⊎_elim (λ still. inl still) (λ written. absurd (never written.1)) (untouched-by same) }
+    ahead-known stored never = record { taken = refused-carried; found = m.found; told = tt; timed = put-timed; untouched = λ same. ⊎_elim (λ still. inl still) (λ written. absurd (never written.1)) (untouched-by same); opens = λ valid. read-does never }
 
     -- or a call on it failed
     pub fell-known : (v : Keeper) → v ≡ fallen true e k → IsEnteredOn Fell e failed k v U W X M Z f w
@@ -149,6 +156,7 @@ module _ (app : Application) (e : Entering) (k : Keeper) (U V X M Z : State) (un
       told = tt;
       timed = put-timed;
       untouched = λ same. ⊎_elim (λ still. inl still) (λ written. inr (written.0, tt)) (untouched-by same);
+      opens = λ valid. tt;
     }
 
   -- or it is taken in
@@ -264,16 +272,28 @@ module _ (app : Application) (e : Entering) (k : Keeper) (U V X M Z : State) (un
           };
         }
 
-    pub taken-known : (fell : Bool) (entry : Option ℕ) (failed : Bool) (v : Keeper) (W Y : State) → X.works ≡ true → V.works ≡ true → M.clock < last_count → length entered.owed.items ≤ most_owed → BooksTaken entered (taken_as fell entered M.clock entry) e failed k v V W M Y Z
+    -- a session is opened on it
+    taken-opens : e.at.second ≢ 0 → OpensOn app registration odometer entered.owed.items X M
+    taken-opens some =
+        let u = told-one U.image (parts-of f w k.cabin.cards e.which U X Z m.powered).unit.tells in
+        let moments = at_image (λ (u : List ℕ). LeavesOnly X M (λ x c. IsCardInserting app registration odometer (owed_on app u x) e.at.second x c)) u.1 enters.moments in
+        let cause = subst (λ (r : Result Entered NotEntered). HasCause X M (card_failed r)) ok enters.cause in
+        let took = subst (λ (r : Result Entered NotEntered). IfOk r (λ e_. IsAccepted app registration odometer e.at.second U.image X.image M.image e_.look e_.owed.items e_.session e_.replayed)) ok enters.accepted in
+        does-insert app (subst IsApplication (sym (own valid)) (m.found.sizes e.which valid)) registration long e.at.second some few odometer entered.owed.items X M whole after cause.works moments.tells size took.inserted
+
+    pub taken-known : (fell : Bool) (entry : Option ℕ) (failed : Bool) (v : Keeper) (W Y : State) → registration ≡ k.memory.registration → odometer ≡ e.odometer.0 → e.at.second ≢ 0 → X.works ≡ true → V.works ≡ true → M.clock < last_count → length entered.owed.items ≤ most_owed → BooksTaken entered (taken_as fell entered M.clock entry) e failed k v V W M Y Z
         → IsEnteredOn (taken_as fell entered M.clock entry) e failed k v U W X Y Z f w
-    taken-known fell entry failed v W Y X_works works low most books =
+    taken-known fell entry failed v W Y vehicle reading some X_works works low most books =
         let behind = books f (with_marks (card_marks e.which M.clock entered.owed.items) w) (may-seat works low) in
         record {
           taken = subst (λ (x : Carried). IsTakenOn (taken_as fell entered M.clock entry) failed e k.journal.kept f x v.cabin.cards (arranged e.which W Y Z)) (sym (judged-as fell entered M.clock entry e w)) behind.0;
           found = behind.1;
-          timed = λ valid timed. behind.2 (put-timed valid timed);
+          timed = λ valid timed. behind.2.0 (put-timed valid timed);
           told = told-as fell entered M.clock entry f w e U X (told-so X_works works low most);
           untouched = λ same. inr (valid, written-as fell entered M.clock entry);
+          opens = λ valid. opens-as fell entered M.clock entry k.memory.registration e (found_of f e.which) X M Y
+              (subst (λ (p : Application). OpensOn p k.memory.registration e.odometer.0 entered.owed.items X M) (own valid)
+              (subst (λ (r : Registration). OpensOn app r e.odometer.0 entered.owed.items X M) vehicle (subst (λ (n : ℕ). OpensOn app registration n entered.owed.items X M) reading (taken-opens some)))) behind.2.1;
         }
 
 -- ---- A CARD ENTERS: it is revived, and its sizes are known
@@ -335,4 +355,4 @@ module _ (e : Entering) (k : Keeper) (sizes : Result Application ℕ) (U X M Z :
   -- and what was known of it behind that is so behind all
   pub woken-known : (ending : Ending) (failed : Bool) (v : Keeper) (W Y : State) (f : Found) (w : Carried) → MayEnter f w k.cabin.cards e U X Z
       → IsEnteredOn ending e failed (record k { cabin = with_sizes_of e.which sizes k.cabin }) v U W M Y Z f (with_standing e.which Out w) → IsEnteredOn ending e failed k v U W X Y Z f (with_standing e.which Out w)
-  woken-known ending failed v W Y f w m r = record { taken = r.taken; found = r.found; told = told-woken ending f (with_standing e.which Out w) r.told; timed = λ valid timed. r.timed valid (woken-timed f w m timed); untouched = λ same. r.untouched (woken-untouched f w m same) }
+  woken-known ending failed v W Y f w m r = record { taken = r.taken; found = r.found; told = told-woken ending f (with_standing e.which Out w) r.told; timed = λ valid timed. r.timed valid (woken-timed f w m timed); untouched = λ same. r.untouched (woken-untouched f w m same); opens = λ valid. opens-woken ending k.memory.registration e (found_of f e.which) X M Y run (r.opens valid) }

@@ -49,7 +49,9 @@ use Rattle.run_keeping.specs.declared.keeper.Keeper.{Keeper}
 use Rattle.run_entering.specs.declared.lines.Entering.{Entering}
 use Rattle.run_entering.specs.Entering.{and_one, seated, fallen, taken_as}
 use Rattle.run_entering.specs.Entered.{IsSeatedBy}
-use Rattle.run_entering.specs.Told.{IsCarriedOn, IsTakenOn, MaySeat, MayNote, BooksSeat, BooksNotes, BooksTaken, TimesOn, TimesNotes, with_brought, carried_row, carried_seated, fallen_carried}
+use Rattle.run_keeping.specs.CardDeeds.{DoesOn}
+use Rattle.run_entering.proofs.Opening.{does-note}
+use Rattle.run_entering.specs.Told.{IsCarriedOn, IsTakenOn, MaySeat, MayNote, BooksSeat, BooksNotes, BooksTaken, TimesOn, IsNotedBeside, TimesNotes, with_brought, carried_row, carried_seated, fallen_carried}
 
 -- ---- a note on the unit
 
@@ -200,14 +202,23 @@ module _ (f : Found) (w : Carried) (app : Application) (a : Accepted) (e : Enter
     moved-kept works well room = noted-on f w k.cabin.cards e.which V X Y Z m.found after before behind a m.value m.has on-card is-note works well.works (subst (λ (p : Application). image_size_of p ≤ X.size) on-sizes room)
 
     -- it was last used as before
-    pub moved-timed : TimesOn f e.which X Y
-    moved-timed timed =
+    moved-times : TimesOn f e.which X Y
+    moved-times timed =
         let one = (parts-of f w k.cabin.cards e.which U X Z m.powered).mine m.valid in
         noting-timed (found_of f e.which).image (found_of f e.which).began X Y one.rule.dark.later before timed (own_sizes (found_of f e.which).image) (m.found.sizes e.which m.valid)
         (if_told X.image (λ x. own_sizes x ≡ own_sizes (found_of f e.which).image) (λ x is. (one.held.now x (before.is_left x is)).0))
         (if_told X.image (IsValid (own_sizes (found_of f e.which).image)) (λ x is.
         own-valid (own_sizes (found_of f e.which).image) x (one.held.now x (before.is_left x is)).0 (one.valid x (before.counts_now (found_of f e.which).began x one.rule.dark.later (before.is_left x is)))))
         is-note
+
+    moved-does : DoesOn (own_sizes (found_of f e.which).image) [] X Y
+    moved-does =
+        let one = (parts-of f w k.cabin.cards e.which U X Z m.powered).mine m.valid in
+        does-note (own_sizes (found_of f e.which).image) (m.found.sizes e.which m.valid) X Y before (λ x is.
+        own-valid (own_sizes (found_of f e.which).image) x (one.held.now x (before.is_left x is)).0 (one.valid x (before.counts_now (found_of f e.which).began x one.rule.dark.later (before.is_left x is)))) is-note
+
+    pub moved-timed : IsNotedBeside f e.which X Y
+    moved-timed = (moved-times, moved-does)
 
     -- the card failed: it is torn out, and the fault is noted
     pub moved-torn : (failed : Bool) (v : Keeper) (W : State) → v ≡ fallen true e k → LeavesOnly V W LeavesJournal → HasCause V W failed → IsCarriedOn failed f (fallen_carried true e a.session.minute w) v.cabin.cards (arranged e.which W Y Z)

@@ -7,5 +7,6 @@ pub mod CardInserted
 pub mod CardBrought
 pub mod InTime
 pub mod Judged
+pub mod Opening
 pub mod Carried
 pub mod Booked

@@ -1,9 +1,10 @@
 -- What an acceptance leaves of what is carried, over devices that tell their images (profile).
-use Rattle.std.specs.Prelude.{List, ◌++◌, max, ◌≡◌, ◌⊎◌, ℕ, ◌/◌, ◌<◌, ◌≤◌, Bool, true, false, Option, Some, IfSome, is_some, ◌∷◌, length, if◌then◌else◌}
+use Rattle.std.specs.Prelude.{List, ◌++◌, max, ◌≡◌, ◌⊎◌, ℕ, ◌/◌, ◌<◌, ◌≤◌, Bool, true, false, Option, Some, IfSome, is_some, [], ◌∷◌, length, if◌then◌else◌}
 use Rattle.trace_model.specs.declared.Card.{Card}
 use Rattle.tach_media.specs.Medium.{State, LeavesOnly, Unchanged, last_count}
 use Rattle.tacho_types.specs.CardNumber.{card_number_bytes}
-use Rattle.card_image.specs.Own.{own_view, IsOwnValid}
+use Rattle.tacho_types.specs.declared.texts.Registration.{Registration}
+use Rattle.card_image.specs.Own.{own_view, own_sizes, IsOwnValid}
 use Rattle.history_model.specs.Book.{Book}
 use Rattle.history_model.specs.Presence.{trimmed_by}
 use Rattle.card_session.specs.Sessions.{Session, IsValue}
@@ -20,6 +21,7 @@ use Rattle.run_rule.specs.Cards.{IsUntouched, brought_by}
 use Rattle.run_rule.specs.Between.{Carried}
 use Rattle.run_told.specs.Told.{AreFoundCards, IsPutIn, IsPowered, IsPowerless, HasFoundSo, for_card, arranged, with_standing, with_acceptance, card_marks, with_marks}
 use Rattle.run_keeping.specs.declared.keeper.Keeper.{Keeper}
+use Rattle.run_keeping.specs.CardDeeds.{DoesOn, OpensOn}
 use Rattle.device_steps.specs.declared.entering.Entered.{Entered}
 use Rattle.run_entering.specs.declared.lines.Entering.{Entering}
 use Rattle.run_entering.specs.Entering.{Ending, Unfit, Ahead, Fell, Unasked, Unnoted, Seated, Lost, Way, ending_of, most_owed}
@@ -76,9 +78,13 @@ BooksNotes app e failed k v fell before after =
 abbrev pub TimesOn : Found → Card → (card card_after : State) → Type 0
 TimesOn f c card card_after = AreTimedSince (found_of f c).image (found_of f c).began card → AreTimedSince (found_of f c).image (found_of f c).began card_after
 
+-- and beside its events and places it shows what it showed
+abbrev pub IsNotedBeside : Found → Card → (card card_after : State) → Type 0
+IsNotedBeside f c card card_after = TimesOn f c card card_after × DoesOn (own_sizes (found_of f c).image) [] card card_after
+
 abbrev pub TimesNotes : Application → Entering → Keeper → (before : Devices) → (card card_after : State) → Type 0
 TimesNotes app e k before card card_after =
-    (f : Found) (w : Carried) (a : Accepted) → MayNote f w k.cabin.cards e app a before → TimesOn f e.which card card_after
+    (f : Found) (w : Carried) (a : Accepted) → MayNote f w k.cabin.cards e app a before → IsNotedBeside f e.which card card_after
 
 -- where the unit failed as the row was begun, it is not accepted yet; but nothing is owed to it any more
 abbrev pub carried_row : (failed : Bool) → Session → Entering → (kept : ℕ) → Carried → Carried
@@ -106,7 +112,7 @@ IsTakenOn (Lost entered clock entry) failed e kept f w cards d = IsCarriedOn fai
 abbrev pub BooksTaken : Entered → Ending → Entering → (failed : Bool) → (k v : Keeper) → (unit unit_after card card_after others : State) → Type 0
 BooksTaken entered ending e failed k v unit unit_after card card_after others =
     (f : Found) (w : Carried) → MaySeat f w k e entered.look entered.session unit card others
-    → IsTakenOn ending failed e k.journal.kept f w v.cabin.cards (arranged e.which unit_after card_after others) × AreFoundCards f v.cabin.cards × TimesOn f e.which card card_after
+    → IsTakenOn ending failed e k.journal.kept f w v.cabin.cards (arranged e.which unit_after card_after others) × AreFoundCards f v.cabin.cards × IsNotedBeside f e.which card card_after
 
 -- ---- a card that is judged
 
@@ -173,8 +179,19 @@ IsEarly e before after = LeavesOnly before after Unchanged ⊎ IfSome before.ima
 abbrev pub WasInTime : Entering → (before after : State) → Type 0
 WasInTime e before after = LeavesOnly before after Unchanged ⊎ IfSome before.image (λ x. (y : List ℕ) × before.may_leave y × ((own_view y).stored ≤ e.at.second))
 
+-- WHAT AN ENDING MAKES OF THE CARD, which it found in this vehicle: a session is opened on one that is accepted; one that is turned away shows
+-- what it showed; and nothing is said where a call failed.
+abbrev pub OpensSo : Ending → Registration → Entering → CardFound → (card card_after : State) → Type 0
+OpensSo (Unfit fid place) vehicle e f card card_after = DoesOn (own_sizes f.image) [] card card_after
+OpensSo (Ahead stored) vehicle e f card card_after = DoesOn (own_sizes f.image) [] card card_after
+OpensSo Fell vehicle e f card card_after = Unit {0}
+OpensSo Unasked vehicle e f card card_after = Unit {0}
+OpensSo (Unnoted entered clock) vehicle e f card card_after = Unit {0}
+OpensSo (Seated entered clock entry) vehicle e f card card_after = OpensOn (own_sizes f.image) vehicle e.odometer.0 entered.owed.items card card_after
+OpensSo (Lost entered clock entry) vehicle e f card card_after = Unit {0}
+
 -- WHAT IS KNOWN BEHIND AN ENDING, of what was carried as the card was judged: what is carried, what was found of the cards, what a find tells;
--- that the card is as it was, or was valid and may have been written; and of a valid one when it was last used.
+-- that the card is as it was, or was valid and may have been written; and of a valid one when it was last used, and what was made of it.
 pub record IsEnteredOn (ending : Ending) (e : Entering) (failed : Bool) (k v : Keeper) (unit unit_after card card_after others : State) (f : Found) (w : Carried) : Type 0 where
   pub taken : IsTakenOn ending failed e k.journal.kept f (carried_judged ending e w) v.cabin.cards (arranged e.which unit_after card_after others)
   pub found : AreFoundCards f v.cabin.cards
@@ -182,6 +199,7 @@ pub record IsEnteredOn (ending : Ending) (e : Entering) (failed : Bool) (k v : K
   pub timed : IsOwnValid (found_of f e.which).image → TimesOn f e.which card card_after
   pub untouched : IsUntouched (found_of f e.which) card
       → IsUntouched (found_of f e.which) card_after ⊎ (IsOwnValid (found_of f e.which).image × MayHaveWritten ending)
+  pub opens : IsOwnValid (found_of f e.which).image → OpensSo ending k.memory.registration e (found_of f e.which) card card_after
 
 -- A CARD WAS JUDGED, which stands as one that is not accepted: what is known behind it. No clock is at its last value.
 abbrev pub BooksJudged : Ending → Entering → (failed : Bool) → (k v : Keeper) → (unit unit_after card card_after others : State) → Type 0

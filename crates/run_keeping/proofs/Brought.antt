@@ -31,6 +31,8 @@ use Rattle.run_told.proofs.Noted.{noted-with, go-unit}
 use Rattle.run_keeping.specs.declared.keeper.Keeper.{Keeper}
 use Rattle.run_keeping.specs.Keeping.{Fate, Still, Has, Fell, cabin_by, marks_by}
 use Rattle.run_keeping.specs.Books.{StaysOn, AreTimedOn, standing_by}
+use Rattle.run_keeping.specs.Deeds.{KeepsOn, AllKeep, kept_for}
+use Rattle.run_keeping.proofs.Deeds.{keep-by, keep-none}
 use Rattle.run_keeping.proofs.CardEvents.{stays-self}
 use Rattle.run_keeping.specs.Owing.{CardOwing, BooksCard, HasTime, BooksBrought, IsBroughtOrCut, carried_brought, but_to}
 use Rattle.run_keeping.proofs.MarksOn.{unit-none, others-hold}
@@ -249,6 +251,9 @@ module _ (c : Card) (said : Kept) (fate : Fate) (k v : Cabin) (second : ℕ) (U 
         behind-note-of c f (carried_brought fate (Some c) said.entry.minute w) (but_to (Some c) owes) v.cards U V Y Z (subst (AreFoundCards f) (sym same) (found-session f c session k.cards found)) whole
             (brought-lit f w owes k.cards c fate said.entry.minute session U X Y Z lit one) behind run failed works,
         timed-by f c U V X Y Z card.1,
+        subst (λ (q : Cards). AllKeep f (kept_for (Some c) said) k.cards q (arranged c U X Z) (arranged c V Y Z)) (sym same)
+            (keep-by f c said k.cards session U V X Y Z
+            (subst (λ (o : Option Accepted). KeepsOn (found_of f c) (said ∷ []) (session_of k.cards c) o X Y) (ap (λ (q : Cards). session_of q c) same ∙ session-set c session k.cards) card.2)),
       )
 
 -- no card was present
@@ -256,4 +261,5 @@ pub nobody-booked : (said : Kept) (cards : Cards) (d : Devices) → BooksBrought
 nobody-booked said cards d = λ f w owes found may lit go time. (
   (subst (λ (ms : List Mark). IsLitOwing f (record w { marks = ms }) owes d) (sym (append-nil w.marks)) lit, record { held = go.held; goes = go.goes }),
   λ c valid. stays-self (found_of f c) (card_of d c),
+  keep-none f cards d,
 )

@@ -28,6 +28,9 @@ use Rattle.run_keeping.specs.Keeping.{Still, Has, Fell, CardReady, marks_by}
 use Rattle.run_keeping.specs.Books.{StaysOn, standing_by}
 use Rattle.run_keeping.specs.Owing.{CardOwing, BooksCard}
 use Rattle.run_keeping.proofs.CardEvents.{events-keeping, stays-self}
+use Rattle.run_keeping.specs.Deeds.{KeepsOn}
+use Rattle.run_keeping.proofs.CardDeeds.{does-none}
+use Rattle.run_keeping.proofs.Deeds.{keeps-has}
 use Rattle.run_keeping.proofs.CardBrought.{card-still, card-fell, card-has}
 
 pub session-set : (c : Card) (s : Option Accepted) (cards : Cards) → session_of (with_session c s cards) c ≡ s
@@ -79,6 +82,7 @@ module _ (c : Card) (said : Kept) (cards : Cards) (U X : State) where
         (card-still f c w.book (w.standing c) (w.brought c) w.marks (said.entry ∷ []) said.entry.minute U X present
         (subst (λ (o : Option Accepted). CardOwing f c w.book (w.standing c) (w.brought c) w.marks (said.entry ∷ []) o U X) gone one)),
     stays-self (found_of f c) X,
+    subst (λ (o : Option Accepted). KeepsOn (found_of f c) (said ∷ []) o o X X) (sym gone) (does-none (own_sizes (found_of f c).image) X),
   )
 
   module _ (behind : Cards) (Y : State) (chip : CardState) (a : Accepted) (unit : IsCoherent U) (whole : IsCoherent X) (after : IsCoherent Y) (some : session_of cards c ≡ Some a) (ready : CardReady (known_of cards c) chip X) (may : IsBehind cards said.entry.minute (Some c))
@@ -100,15 +104,20 @@ module _ (c : Card) (said : Kept) (cards : Cards) (U X : State) where
           subst (λ (o : Option Accepted). CardOwing f c w.book (standing_by Fell said.entry.minute (w.standing c)) (w.brought c) (w.marks ++ marks_by Fell (Some c) said.entry.minute) [] o U Y) (sym gone)
               (card-fell f cards found c w.due w.book (w.standing c) (w.brought c) w.marks a said.entry said.odometer.0 U X Y unit whole after tells h none valid present before fits late run),
           timed-of f c w.book (w.standing c) (w.brought c) w.marks (said.entry ∷ []) a U X Y said.entry said.odometer.0 whole before run,
+          subst (λ (o : Option Accepted). KeepsOn (found_of f c) (said ∷ []) o (session_of behind c) X Y) (sym some) (subst (λ (o : Option Accepted). KeepsOn (found_of f c) (said ∷ []) (Some a) o X Y) (sym gone) tt),
         )
 
     -- it has the entry
     pub booked-has : (t : Accepted) (n : ℕ) → session_of behind c ≡ Some t → Y.works ≡ true → t.session.application ≡ a.session.application → t.session.minute ≡ said.entry.minute
+        → t.session.registration ≡ a.session.registration → t.session.odometer ≡ Some said.odometer
         → IfSome X.image (λ x. IfSome Y.image (λ y. IsSession a.session x → IsCardKept a.session t.session said.entry said.odometer.0 x y)) → (Y.clock < last_count → IsSettled Y) → n ≡ Y.clock → BooksCard c said (Has t n) cards behind U X Y
-    booked-has t n is works sizes at kept settles clock = λ f w found tells h none time valid present one.
+    booked-has t n is works sizes at vehicle odometer kept settles clock = λ f w found tells h none time valid present one.
         let before = subst (λ (o : Option Accepted). CardOwing f c w.book (w.standing c) (w.brought c) w.marks (said.entry ∷ []) o U X) some one in (
           subst (λ (o : Option Accepted). CardOwing f c w.book (standing_by (Has t n) said.entry.minute (w.standing c)) (w.brought c) (w.marks ++ marks_by (Has t n) (Some c) said.entry.minute) [] o U Y) (sym is)
               (card-has f cards found c w.due w.book (w.standing c) (w.brought c) w.marks a said.entry said.odometer.0 U X Y unit whole after tells h none valid present before fits late run
               t works sizes at kept (settles time) n clock),
           timed-of f c w.book (w.standing c) (w.brought c) w.marks (said.entry ∷ []) a U X Y said.entry said.odometer.0 whole before run,
+          subst (λ (o : Option Accepted). KeepsOn (found_of f c) (said ∷ []) o (session_of behind c) X Y) (sym some)
+              (subst (λ (o : Option Accepted). KeepsOn (found_of f c) (said ∷ []) (Some a) o X Y) (sym is)
+              (keeps-has (found_of f c) said a t X Y before.goes.goes.sizes vehicle odometer whole after works run.tells before.goes.goes.session kept)),
         )

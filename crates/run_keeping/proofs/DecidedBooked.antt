@@ -24,12 +24,15 @@ use Rattle.run_keeping.specs.declared.keeper.Keeper.{Keeper}
 use Rattle.run_keeping.specs.declared.keeper.Moment.{Moment}
 use Rattle.run_keeping.specs.Keeping.{Fate, Still, Has, Fell, TellsPresent, cabin_by}
 use Rattle.run_keeping.specs.Minutes.{Round, Told, Done, Reach, Whole, Short, IsRound, IsMinute, IsReach, IsLast, AreRounds, AreDue, told_after, told_by, cabin_after, marks_after, kept_of, minute_of, present_at}
+use Rattle.run_keeping.specs.Deeds.{AllKeep, kept_on, kepts_on}
+use Rattle.run_keeping.proofs.Deeds.{keep-none, keep-then, kepts-snoc}
 use Rattle.run_keeping.specs.Books.{AreBooked, AreTimedOn, HaveTime, MayBook, MayCome, BooksMinute, carried_after, fate_of, standing_by}
 use Rattle.run_keeping.specs.Faults.{last_faults, faults_of, faults_to, NotesFaults}
 use Rattle.run_keeping.specs.Decided.{MayBookAll, BooksAll, carried_by, decided_minute}
 use Rattle.run_keeping.proofs.Brought.{cards-by, found-session}
 use Rattle.run_keeping.proofs.CardEvents.{stays-self}
 use Rattle.run_keeping.proofs.MinuteBooked.{timed-then}
+use Rattle.run_keeping.proofs.MinuteBegun.{clash}
 use Rattle.run_keeping.proofs.Faults.{notes-none, more-noted, last-noted}
 use Rattle.run_keeping.proofs.Decided.{no_minute, this, front, whole, all-here}
 
@@ -123,14 +126,23 @@ pub record Booked (ds : List Minute) (i : ℕ) (at : Moment) (t u : Told) (d e :
   pub told : u ≡ told_by t.keeper at done t
   pub books : (f : Found) (w : Carried) (start : ℕ) (g : Travel) → MayBookAll f w ds t d → HasTravelled start w.book g d.unit → t.keeper.odometer ≡ odometer_after start g.before → HaveTime e
       → (AreBooked f (carried_by t.keeper done w) u.keeper.cabin.cards u.marks.items e × HasTravelled start (carried_by t.keeper done w).book (all_travelled (map (λ (x : Done). x.minute) done) g) e.unit) × AreTimedOn f d e
+      × AllKeep f (kepts_on t.keeper (map (λ (x : Done). x.minute) done)) t.keeper.cabin.cards u.keeper.cabin.cards d e
   pub noted : NotesFaults false (faults_of t.keeper at done t) d.unit e.unit
 
 pub none-booked : (ds : List Minute) (at : Moment) (t : Told) (d : Devices) → Booked ds 0 at t t d d
-none-booked ds at t d = record { done = []; are = refl; rounds = tt; told = refl; books = λ f w start g may gone stored time. ((may.booked, gone), λ c valid. stays-self (found_of f c) (card_of d c)); noted = notes-none false d.unit }
+none-booked ds at t d = record { done = []; are = refl; rounds = tt; told = refl; books = λ f w start g may gone stored time. ((may.booked, gone), (λ c valid. stays-self (found_of f c) (card_of d c)), keep-none f t.keeper.cabin.cards d); noted = notes-none false d.unit }
 
 -- all of them
 pub all-booked : (ds : List Minute) (i : ℕ) → length ds ≤ i → (at : Moment) (t u : Told) (d e : Devices) → Booked ds i at t u d e → (reach : Reach) × IsReach ds at false t u reach × BooksAll ds false reach t u d e × NotesFaults false (faults_to t.keeper at reach t) d.unit e.unit
-all-booked ds i over at t u d e so = (Whole so.done, (sym (take_all i ds over) ∙ so.are, so.rounds, so.told), so.books, so.noted)
+all-booked ds i over at t u d e so =
+    let are : ds ≡ map (λ (x : Done). x.minute) so.done = sym (take_all i ds over) ∙ so.are in (
+      Whole so.done,
+      (are, so.rounds, so.told),
+      λ f w start g may gone stored time.
+          let all = so.books f w start g may gone stored time in
+          (all.0, all.1, λ well. subst (λ (ms : List Minute). AllKeep f (kepts_on t.keeper ms) t.keeper.cabin.cards u.keeper.cabin.cards d e) (sym are) all.2),
+      so.noted,
+    )
 
 module _ (ds : List Minute) (i : ℕ) (low : i < length ds) (at : Moment) (t u v : Told) (d e g : Devices) (kept : ℕ) (due : AreDue kept ds) (day : 1440 ≤ (this ds i low).minute) (p : Present) (km : KeptMinute) (cards : p ≡ present_at t.keeper.cabin (this ds i low).minute)
     (is : km ≡ kept_of t.keeper.odometer (this ds i low) p) (A B C D : State) (earlier : HaveTime g → HaveTime e) (so : Booked ds i at t u d e) where
@@ -169,6 +181,7 @@ module _ (ds : List Minute) (i : ℕ) (low : i < length ds) (at : Moment) (t u v
     so_far = all_travelled (map (λ (x : Done). x.minute) so.done) travel
 
     was : (AreBooked f (carried_by k so.done w) u.keeper.cabin.cards u.marks.items e × HasTravelled start (carried_by k so.done w).book so_far e.unit) × AreTimedOn f d e
+        × AllKeep f (kepts_on k (map (λ (x : Done). x.minute) so.done)) k.cabin.cards u.keeper.cabin.cards d e
     was = so.books f w start travel may gone stored (earlier time)
 
     may-here : MayBook f (carried_by k so.done w) here (minute_of m k) u e
@@ -201,6 +214,7 @@ module _ (ds : List Minute) (i : ℕ) (low : i < length ds) (at : Moment) (t u v
 
     next : (f : Found) (w : Carried) (start : ℕ) (travel : Travel) → MayBookAll f w ds t d → HasTravelled start w.book travel d.unit → t.keeper.odometer ≡ odometer_after start travel.before → HaveTime g
         → (AreBooked f (carried_next w) v.keeper.cabin.cards v.marks.items g × HasTravelled start (carried_next w).book (travelled m.travelled (all_travelled (map (λ (x : Done). x.minute) so.done) travel)) g.unit) × AreTimedOn f d g
+        × AllKeep f (kepts_on k (map (λ (x : Done). x.minute) (so.done ++ x ∷ []))) k.cabin.cards v.keeper.cabin.cards d g
     next f w start travel may gone stored time =
         let ahead = was f w start travel may gone stored time in
         let before = ahead.0 in
@@ -213,8 +227,12 @@ module _ (ds : List Minute) (i : ℕ) (low : i < length ds) (at : Moment) (t u v
           powered = behind.0;
           told = ap (λ (ms : List Mark). (marks_after here m.minute r (record { items = ms; room = 0 })).items) before.0.told ∙ sym (ap (λ (q : Told). q.marks.items) minute.2);
           early = λ c n at. let lt = before.0.early c n at in omega (arith, lt, late);
-        } in
-        ((booked, behind.1), timed-then f d e g ahead.1 all.1)
+        } in (
+          (booked, behind.1),
+          timed-then f d e g ahead.1 all.1,
+          keep-then f (kepts_on k (map (λ (y : Done). y.minute) so.done)) (kept_on here (minute_of m k)) (kepts_on k (map (λ (y : Done). y.minute) (so.done ++ x ∷ []))) k.cabin.cards u.keeper.cabin.cards v.keeper.cabin.cards d e g
+              (λ c. kepts-snoc k (map (λ (y : Done). y.minute) so.done) m c ∙ ap (λ (ms : List Minute). kepts_on k ms c) (sym (map-append (λ (y : Done). y.minute) so.done (x ∷ [])))) ahead.2 (all.2 refl),
+        )
 
     more-booked : Booked ds (i + 1) at t v d g
     more-booked = record {
@@ -229,7 +247,7 @@ module _ (ds : List Minute) (i : ℕ) (low : i < length ds) (at : Moment) (t u v
           let booked : AreBooked f (carried_by k (so.done ++ x ∷ []) w) v.keeper.cabin.cards v.marks.items g = subst (λ (q : Carried). AreBooked f q v.keeper.cabin.cards v.marks.items g) carried behind.0 in
           let far : HasTravelled start (carried_by k (so.done ++ x ∷ []) w).book (all_travelled (map (λ (y : Done). y.minute) (so.done ++ x ∷ [])) travel) g.unit = subst (λ (legs : Travel). HasTravelled start (carried_by k (so.done ++ x ∷ []) w).book legs g.unit) (sym (travel-snoc so.done x travel))
           (subst (λ (q : Carried). HasTravelled start q.book (travelled m.travelled (all_travelled (map (λ (y : Done). y.minute) so.done) travel)) g.unit) carried behind.1) in
-          ((booked, far), all.1);
+          ((booked, far), all.1, all.2);
       noted = more-noted k at so.done x t u p d.unit e.unit g.unit cards so.told so.noted noted;
     }
 
@@ -249,6 +267,6 @@ module _ (ds : List Minute) (i : ℕ) (low : i < length ds) (at : Moment) (t u v
     λ f w start travel may gone stored time.
         let all = books-here true round books f (carried_by k so.done w) start (all_travelled (map (λ (x : Done). x.minute) so.done) travel) m.travelled
         (may-here f w start travel may gone stored time) (was f w start travel may gone stored time).0.1 (odometer-here f w start travel may gone stored time) time in
-        (all.0, timed-then f d e g (was f w start travel may gone stored time).1 all.1),
+        (all.0, timed-then f d e g (was f w start travel may gone stored time).1 all.1, λ well. clash well),
     last-noted k at so.done m.minute round t u p d.unit e.unit g.unit cards so.told so.noted noted,
   )

@@ -22,6 +22,18 @@ use Rattle.event_model.specs.declared.kinds.TheConstants.{CARD_FAULT}
 pub no-lines : {T : Type 0} (l : Listed T) → l ≡ with_lines [] l
 no-lines l = ap (λ items. record { items = items; room = l.room }) (sym (append-nil l.items))
 
+-- no card was present
+pub nobody-brought : (kept : Kept) (at : Moment) (k : Keeper) (marks : Listed Mark) (breaks : Listed Break) (U X : State) → IsBrought None kept at false k k marks marks breaks breaks Still U U X X
+nobody-brought kept at k marks breaks U X = record {
+  is = tt;
+  on_card = tt;
+  keeper = refl;
+  marked = no-lines marks;
+  told = no-lines breaks;
+  only = λ bad. absurd (cc);
+  noted = λ well. where_told U.image U.image (IsFaultNoted Still at.second (crew_of k.cabin)) (λ x y is here. tt);
+}
+
 module _ (which : Card) (kept : Kept) (at : Moment) (k v : Keeper) (marks : Listed Mark) (breaks : Listed Break) (U V X Y : State) where
   -- the card has the entry
   pub has-brought : (before after : Accepted) (clock : ℕ) (marks_after : Listed Mark) → session_of k.cabin.cards which ≡ Some before → GoesOnWith before after kept → clock ≡ Y.clock → HasCause X Y false

@@ -12,6 +12,8 @@ pub mod MinuteBegun
 pub mod MarksOn
 pub mod CardBrought
 pub mod CardEvents
+pub mod CardDeeds
+pub mod Deeds
 pub mod CardBooked
 pub mod Brought
 pub mod MinuteBooked

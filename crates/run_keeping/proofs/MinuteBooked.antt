@@ -35,6 +35,8 @@ use Rattle.run_keeping.specs.declared.keeper.Keeper.{Keeper}
 use Rattle.run_keeping.specs.Keeping.{Fate, Still, TellsPresent, entry_in, kept_in, cabin_by, is_this}
 use Rattle.run_keeping.specs.Minutes.{Round, Told, unit_mark}
 use Rattle.run_keeping.proofs.CardEvents.{stays-then}
+use Rattle.run_keeping.specs.Deeds.{AllKeep, kept_for, kept_on}
+use Rattle.run_keeping.proofs.Deeds.{kept-both, keep-at, keep-then}
 use Rattle.run_keeping.specs.Books.{history_minute, standing_by, carried_after, MayCome, MayBook, HaveTime, IsBooked, AreTimedOn, BooksMinute}
 use Rattle.run_keeping.specs.Owing.{owes_minute, but_to, carried_kept, carried_brought, HasTime, MayBring, IsBroughtOrCut, BooksBrought, BooksOwed}
 use Rattle.run_keeping.proofs.Counts.{apart-turned}
@@ -188,6 +190,7 @@ module _ (m : KeptMinute) (present : Present) (says : TellsPresent m present) (t
     has = owed f w start g leg (record { booked = may.booked; comes = may.comes }) gone odometer time
 
     first : HasTime present.driver (devices V1 X1 Y1) → IsBroughtOrCut failed1 f (w2 w) (but_to present.driver (owes_minute i)) k2.cabin.cards (devices V1 X1 Y1) × AreTimedOn f (devices V X Y) (devices V1 X1 Y1)
+        × AllKeep f (kept_for present.driver (kept_in m Driver)) k1.cabin.cards k2.cabin.cards (devices V X Y) (devices V1 X1 Y1)
     first card = one f (w1 w) (owes_minute i) found1
         (may-bring f w i present.driver (kept_in m Driver) (w1 w) (owes_minute i) refl may.comes owes-driver (λ c is. says-some m present says two c (inl (this-driver c is))) (λ c is. refl)) has.0 has.1 card
 
@@ -207,6 +210,7 @@ module _ (m : KeptMinute) (present : Present) (says : TellsPresent m present) (t
       ∙ carried-both present i round w two in (
         (subst (λ (v : Carried). IsPowerless f v (devices V1 X1 Y1)) is cut, travelled-noted start (kept i w.book) (travelled leg g) (has f w start g leg may gone odometer short).2 whole run),
         timed-at f U V X Y (devices V1 X1 Y1) here.1,
+        λ well. clash well,
       )
 
   module _ (well : failed1 ≡ false) (failed : Bool) (fd : Fate) (k3 : Keeper) (by2 : k3 ≡ record k2 { cabin = cabin_by fd present.codriver second k2.cabin }) (V2 X2 Y2 : State)
@@ -240,13 +244,20 @@ module _ (m : KeptMinute) (present : Present) (says : TellsPresent m present) (t
 
     behind : (f : Found) (w : Carried) (start : ℕ) (g : Travel) (leg : ℕ) → MayBook f w present m (told-of k ms bs) (devices U X Y) → HasTravelled start w.book g U → m.odometer.0 ≡ odometer_by (odometer_after start g.before) leg → HaveTime (devices V2 X2 Y2)
         → IsBroughtOrCut failed f (w3 w) (but_to present.codriver (but_to present.driver (owes_minute i))) k3.cabin.cards (devices V2 X2 Y2) × AreTimedOn f (devices U X Y) (devices V2 X2 Y2)
+        × AllKeep f (kept_on present m) k.cabin.cards k3.cabin.cards (devices U X Y) (devices V2 X2 Y2)
     behind f w start g leg may gone odometer time =
         let here = first f w start g leg may gone odometer (short time) (time-first time present.driver refl) in
         let lit = subst (λ (b : Bool). IsBroughtOrCut b f (w2 w) (but_to present.driver (owes_minute i)) k2.cabin.cards (devices V1 X1 Y1)) well here.0 in
         let next = other f (w2 w) (but_to present.driver (owes_minute i)) (found2 f w start g leg may gone odometer (short time))
         (may-bring f w i present.codriver (kept_in m CoDriver) (w2 w) (but_to present.driver (owes_minute i)) refl may.comes owes-codriver (λ c is. says-some m present says two c (inr (this-codriver c is)))
-        (λ c is. ap (λ (a : Bool). if a then standing_by fe i.minute (w.standing c) else w.standing c) (not-driver c is))) lit.0 lit.1 (has-time present.codriver (devices V2 X2 Y2) time) in
-        (next.0, timed-at f U V X Y (devices V2 X2 Y2) (timed-then f (devices V X Y) (devices V1 X1 Y1) (devices V2 X2 Y2) here.1 next.1))
+        (λ c is. ap (λ (a : Bool). if a then standing_by fe i.minute (w.standing c) else w.standing c) (not-driver c is))) lit.0 lit.1 (has-time present.codriver (devices V2 X2 Y2) time) in (
+          next.0,
+          timed-at f U V X Y (devices V2 X2 Y2) (timed-then f (devices V X Y) (devices V1 X1 Y1) (devices V2 X2 Y2) here.1 next.1),
+          subst (λ (q : Cards). AllKeep f (kept_on present m) q k3.cabin.cards (devices U X Y) (devices V2 X2 Y2)) same
+              (keep-at f (kept_on present m) k1.cabin.cards k3.cabin.cards U V X Y (devices V2 X2 Y2)
+              (keep-then f (kept_for present.driver (kept_in m Driver)) (kept_for present.codriver (kept_in m CoDriver)) (kept_on present m) k1.cabin.cards k2.cabin.cards k3.cabin.cards (devices V X Y) (devices V1 X1 Y1) (devices V2 X2 Y2)
+              (λ c. kept-both present m c (apart-both present.driver present.codriver two c)) here.2 next.2)),
+        )
 
     -- all that there is to it
     pub booked-whole : (ms3 : Listed Mark) (bs3 : Listed Break) (round : Round) → round.clock ≡ V.clock → round.driver ≡ fe → round.codriver ≡ fd → BooksMinute present m failed (Some round) (told-of k ms bs) (told-of k3 ms3 bs3) (devices U X Y) (devices V2 X2 Y2)
@@ -258,7 +269,7 @@ module _ (m : KeptMinute) (present : Present) (says : TellsPresent m present) (t
         let found3 = found-by f fd present.codriver second k2 k3 by2 (found2 f w start g leg may gone odometer (short time)) in
         let first_gone = travelled-noted start (kept i w.book) (travelled leg g) (has f w start g leg may gone odometer (short time)).2 whole1 run1 in
         let all = behind f w start g leg may gone odometer time in
-        (by f w start g leg found3 round is failed all.0 (travelled-noted start (kept i w.book) (travelled leg g) first_gone whole2 run2), all.1)
+        (by f w start g leg found3 round is failed all.0 (travelled-noted start (kept i w.book) (travelled leg g) first_gone whole2 run2), all.1, λ well. all.2)
       where
         by : (f : Found) (w : Carried) (start : ℕ) (g : Travel) (leg : ℕ) → AreFoundCards f k3.cabin.cards → (round : Round) → w3 w ≡ carried_after present i round w → (b : Bool)
             → IsBroughtOrCut b f (w3 w) (but_to present.codriver (but_to present.driver (owes_minute i))) k3.cabin.cards (devices V2 X2 Y2) → HasTravelled start (kept i w.book) (travelled leg g) V2

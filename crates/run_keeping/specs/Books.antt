@@ -18,6 +18,7 @@ use Rattle.run_rule.specs.Found.{CardFound, Found, found_of}
 use Rattle.run_rule.specs.Between.{Carried}
 use Rattle.run_told.specs.Told.{AreFoundCards, IsPowered, IsPowerless, AreEarly}
 use Rattle.run_keeping.specs.CardEvents.{LeavesEvents}
+use Rattle.run_keeping.specs.Deeds.{AllKeep, kept_on}
 use Rattle.run_keeping.specs.Keeping.{Fate, Still, Has, Fell, is_this}
 use Rattle.run_keeping.specs.Minutes.{Round, Told, marks_after}
 
@@ -115,7 +116,8 @@ StaysOn f old new = IsTimedOn f old new × LeavesEvents (own_sizes f.image) old 
 abbrev pub AreTimedOn : Found → (d e : Devices) → Type 0
 AreTimedOn f d e = (c : Card) → IsOwnValid (found_of f c).image → StaysOn (found_of f c) (card_of d c) (card_of e c)
 
--- A MINUTE WAS TO BE KEPT, whose odometer is that of the start and of what was travelled up to it, and this came of it: so it is booked.
+-- A MINUTE WAS TO BE KEPT, whose odometer is that of the start and of what was travelled up to it, and this came of it: so it is booked, and
+-- the cards keep it.
 abbrev pub BooksMinute : Present → KeptMinute → (failed : Bool) → Option Round → (t u : Told) → (d e : Devices) → Type 0
 BooksMinute present m failed round t u d e = (f : Found) (w : Carried) (start : ℕ) (g : Travel) (leg : ℕ) → MayBook f w present m t d → HasTravelled start w.book g d.unit → m.odometer.0 ≡ odometer_by (odometer_after start g.before) leg → HaveTime e
-    → IsBooked f start w present (history_minute present m) g leg failed round u.keeper.cabin.cards e × AreTimedOn f d e
+    → IsBooked f start w present (history_minute present m) g leg failed round u.keeper.cabin.cards e × AreTimedOn f d e × (failed ≡ false → AllKeep f (kept_on present m) t.keeper.cabin.cards u.keeper.cabin.cards d e)

@@ -12,6 +12,7 @@ use Rattle.run_rule.specs.Found.{Found, found_of}
 use Rattle.run_rule.specs.Between.{Carried}
 use Rattle.run_keeping.specs.declared.keeper.Keeper.{Keeper}
 use Rattle.run_keeping.specs.Minutes.{Round, Done, Reach, Whole, Short, Told, present_at, minute_of}
+use Rattle.run_keeping.specs.Deeds.{AllKeep, kepts_on}
 use Rattle.run_keeping.specs.Books.{AreBooked, AreTimedOn, HaveTime, IsCutIn, carried_after, history_minute}
 
 -- a decided minute as the history has it: with the cards that were present in it, as the slots remember
@@ -49,7 +50,8 @@ EndsAll f start w k false (Short xs m round) g u e = ⊥
 EndsAll f start w k true (Whole xs) g u e = ⊥
 EndsAll f start w k true (Short xs m round) g u e = IsCutSo f start k m round (carried_by k xs w) (all_travelled (map (λ (x : Done). x.minute) xs) g) e
 
--- DECIDED MINUTES WERE TO BE KEPT, counted from the odometer that was found when power came last, and it came so far: so they are booked.
+-- DECIDED MINUTES WERE TO BE KEPT, counted from the odometer that was found when power came last, and it came so far: so they are booked, and the
+-- cards keep them.
 abbrev pub BooksAll : List Minute → (failed : Bool) → Reach → (t u : Told) → (d e : Devices) → Type 0
 BooksAll decided failed reach t u d e = (f : Found) (w : Carried) (start : ℕ) (g : Travel) → MayBookAll f w decided t d → HasTravelled start w.book g d.unit → t.keeper.odometer ≡ odometer_after start g.before → HaveTime e
-    → EndsAll f start w t.keeper failed reach g u e × AreTimedOn f d e
+    → EndsAll f start w t.keeper failed reach g u e × AreTimedOn f d e × (failed ≡ false → AllKeep f (kepts_on t.keeper decided) t.keeper.cabin.cards u.keeper.cabin.cards d e)

@@ -1,6 +1,8 @@
 pub mod Keeping
 pub mod Minutes
 pub mod CardEvents
+pub mod CardDeeds
+pub mod Deeds
 pub mod Books
 pub mod Owing
 pub mod Decided

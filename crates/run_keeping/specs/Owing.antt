@@ -26,6 +26,7 @@ use Rattle.run_strung.specs.Strung.{IsHeld}
 use Rattle.run_told.specs.Told.{GoesOwing, AreFoundCards, AllGo, owes_nothing, IsLitWith, IsLitOwing, IsPowerless}
 use Rattle.run_keeping.specs.Keeping.{Fate, is_this, marks_by}
 use Rattle.run_keeping.specs.Minutes.{Told, unit_mark}
+use Rattle.run_keeping.specs.Deeds.{KeepsOn, AllKeep, kept_for}
 use Rattle.run_keeping.specs.Books.{MayBook, IsLeftOff, StaysOn, AreTimedOn, history_minute, standing_by}
 
 -- an entry more is put, for the card that was present
@@ -103,6 +104,7 @@ BooksCard c said fate cards cards_after unit card card_after = (f : Found) (w : 
     → IsOwnValid (found_of f c).image → IsPresent (found_of f c).start (w.standing c) said.entry.minute
     → CardOwing f c w.book (w.standing c) (w.brought c) w.marks (said.entry ∷ []) (session_of cards c) unit card
     → CardOwing f c w.book (standing_by fate said.entry.minute (w.standing c)) (w.brought c) (w.marks ++ marks_by fate (Some c) said.entry.minute) [] (session_of cards_after c) unit card_after × StaysOn (found_of f c) card card_after
+    × KeepsOn (found_of f c) (said ∷ []) (session_of cards c) (session_of cards_after c) card card_after
 
 -- the clock of the card that was present does not stand at its last value
 abbrev pub HasTime : Option Card → Devices → Type 0
@@ -112,4 +114,4 @@ HasTime (Some c) d = (card_of d c).clock < last_count
 -- AN ENTRY WAS TO BE BROUGHT to a card, of which this became (`bring`)
 abbrev pub BooksBrought : Option Card → Kept → (failed : Bool) → Fate → (cards cards_after : Cards) → (d e : Devices) → Type 0
 BooksBrought present said failed fate cards cards_after d e = (f : Found) (w : Carried) (owes : Card → List Entry) → AreFoundCards f cards → MayBring f present said w owes → IsLitOwing f w owes d → AllGo f w owes cards d → HasTime present e
-    → IsBroughtOrCut failed f (carried_brought fate present said.entry.minute w) (but_to present owes) cards_after e × AreTimedOn f d e
+    → IsBroughtOrCut failed f (carried_brought fate present said.entry.minute w) (but_to present owes) cards_after e × AreTimedOn f d e × AllKeep f (kept_for present said) cards cards_after d e

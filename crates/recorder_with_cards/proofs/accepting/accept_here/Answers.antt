@@ -30,6 +30,8 @@ use Rattle.recorder_with_cards.proofs.EnteredEvented.{judged-evented}
 use Rattle.recorder_with_cards.proofs.NoSession.{seat-answers}
 use Rattle.recorder_with_cards.proofs.EnteredRings.{accept-writes}
 use Rattle.recorder_with_cards.proofs.EnteredRinged.{judged-ringed}
+use Rattle.run_acts.proofs.EnteredFacts.{known}
+use Rattle.run_acts.proofs.EnteredStays.{entered-stays}
 use Rattle.recorder_with_cards.proofs.accepting.accept_here.Goals as goal
 
 pub returns-clause-beside : goal.returns-clause-beside
@@ -163,6 +165,10 @@ returns-clause-recorded g c = λ room o done s n waits fewer at next time.
     } in
     judged-by failed o done s n waits fewer run new c.args.outcome.now c.accept-answer.new.outcome (arranged e.which U X Y) (arranged e.which V Z Y) next.goes c.requires.lit (ap (λ (q : Keeper). q.odometer) w.1.left.keeper)
     (entered-recorded o done s n waits fewer e run.keeper c.args.outcome.now run.unfound run.next run.begun run.minutes U X Y next.goes.within may failed c.accept-answer.new.keeper run.noted c.accept-answer.new.noted c.accept-answer.new.outcome V Z sound w.0 gone)
+    (λ well. entered-stays o e failed well run.keeper c.accept-answer.new.keeper run.noted c.accept-answer.new.noted c.args.outcome.now c.accept-answer.new.outcome U V X Z Y w.0 _ w.1
+    (known o done s n waits fewer e run.keeper c.args.outcome.now run.unfound run.next run.begun run.minutes U X Y next.goes.within may failed c.accept-answer.new.keeper run.noted c.accept-answer.new.noted c.accept-answer.new.outcome V Z w.0 gone sound) sits.1
+    (others-session e.which run.keeper.cabin.cards c.accept-answer.new.keeper.cabin.cards
+    (comes-of e run.keeper c.accept-answer.new.keeper run.noted c.accept-answer.new.noted c.args.outcome.now c.accept-answer.new.outcome _ _ _ _ _ (ungiven_of h.span) h.cabin c.requires.seat (omega arith) w.0 w.1.is w.1.left).others) next.goes.stay)
 
 -- ---- its events
 

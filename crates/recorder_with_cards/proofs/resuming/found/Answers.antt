@@ -37,6 +37,7 @@ use Rattle.recorder_with_cards.proofs.WakeNoted.{as-read}
 use Rattle.run_keeping.proofs.Later.{later-same}
 use Rattle.run_acts.proofs.Broken.{broke-found, broke-then}
 use Rattle.run_acts.proofs.Uncut.{uncut-broke, cut-broke}
+use Rattle.run_acts.proofs.AllStay.{all-of}
 use Rattle.recorder_with_cards.proofs.resuming.found.Goals as goal
 
 pub cut-requires-clause-room : goal.cut-requires-clause-room
@@ -94,9 +95,10 @@ returns-then-is_err-clause-recorded g c = λ room o done s now rec has time.
     let e : Devices = devices (g.M.Medium.state c.resume.new.unit) (g.C.Chip.state c.resume.new.card_a) (g.D.Chip.state c.resume.new.card_b) in
     let kept = c.last_kept-kept.ensures.kept in
     let values = learned run c.learn.new.self out c.learn.new.breaks c.last_kept-kept.result c.learn.ensures.run c.learn.ensures.breaks c.learn.ensures.same ∙ ap (λ (k : ℕ). read_values k (values_of run out)) kept in
+    let stay = all-of o (log_of out) run.keeper.memory.registration c.learn.new.self.keeper.memory.registration run.keeper.cabin.cards (devices U X Y) (ap (λ (r : Run). r.keeper.memory.registration) c.learn.ensures.run) rec.stay in
     let same = ap (λ (r : Run). bare_seats r.keeper.cabin.slots.seats) c.learn.ensures.run in
     let next : mid.next ≡ run.next = c.resume.ensures.next ∙ ap (λ (r : Run). r.next) c.learn.ensures.run in
-    let resumed = c.resume.ensures.recorded (omega (arith, room, same)) o rec.origin done s rec.supply (values_of run out) rec.recorded may now.number now.given values time in
+    let resumed = c.resume.ensures.recorded (omega (arith, room, same)) o rec.origin done s rec.supply (values_of run out) rec.recorded stay may now.number now.given values time in
     let cut = cut o done s 0 s.actions mid c.cut.new.self c.resume.new.outcome (record c.resume.new.outcome { breaks = c.cut.new.breaks }) e rec.origin (now.number ∙ sym next) ([], refl, refl)
     (subst (λ (f : Bool). GoesOnOrCut f o done s (In 0) [] mid c.resume.new.outcome e) (sym c.is_err.ensures.value ∙ c.if-is_err.true) resumed) c.cut.ensures.run (ap (λ (l : Listed Break). record c.resume.new.outcome { breaks = l }) c.cut.ensures.breaks) in
     cut-in o done s c.cut.new.self (record c.resume.new.outcome { breaks = c.cut.new.breaks }) e 0 cut
@@ -113,9 +115,10 @@ returns-clause-recorded g c = λ room o done s now rec has time.
     let e : Devices = devices (g.M.Medium.state c.resume.new.unit) (g.C.Chip.state c.resume.new.card_a) (g.D.Chip.state c.resume.new.card_b) in
     let kept = c.last_kept-kept.ensures.kept in
     let values = learned run c.learn.new.self out c.learn.new.breaks c.last_kept-kept.result c.learn.ensures.run c.learn.ensures.breaks c.learn.ensures.same ∙ ap (λ (k : ℕ). read_values k (values_of run out)) kept in
+    let stay = all-of o (log_of out) run.keeper.memory.registration c.learn.new.self.keeper.memory.registration run.keeper.cabin.cards (devices U X Y) (ap (λ (r : Run). r.keeper.memory.registration) c.learn.ensures.run) rec.stay in
     let same = ap (λ (r : Run). bare_seats r.keeper.cabin.slots.seats) c.learn.ensures.run in
     let next : mid.next ≡ run.next = c.resume.ensures.next ∙ ap (λ (r : Run). r.next) c.learn.ensures.run in
-    let resumed = c.resume.ensures.recorded (omega (arith, room, same)) o rec.origin done s rec.supply (values_of run out) rec.recorded may now.number now.given values time in
+    let resumed = c.resume.ensures.recorded (omega (arith, room, same)) o rec.origin done s rec.supply (values_of run out) rec.recorded stay may now.number now.given values time in
     let well : is_err c.resume.result ≡ false = sym c.is_err.ensures.value ∙ c.if-is_err.false in
     let lit : mid.power ≡ Lit = ok_gives c.resume.result c.resume.ensures.power well in
     subst (λ (b : Bool). InSecondBy b o done s 0 mid c.resume.new.outcome e) (sym (ap is_lit lit)) (subst (λ (f : Bool). GoesOnOrCut f o done s (In 0) [] mid c.resume.new.outcome e) well resumed)
@@ -152,11 +155,12 @@ returns-then-is_err-clause-evented g c = λ room o done s now all has time.
     let e : Devices = devices (g.M.Medium.state c.resume.new.unit) (g.C.Chip.state c.resume.new.card_a) (g.D.Chip.state c.resume.new.card_b) in
     let kept = c.last_kept-kept.ensures.kept in
     let values = learned run c.learn.new.self out c.learn.new.breaks c.last_kept-kept.result c.learn.ensures.run c.learn.ensures.breaks c.learn.ensures.same ∙ ap (λ (k : ℕ). read_values k (values_of run out)) kept in
+    let stay = all-of o (log_of out) run.keeper.memory.registration c.learn.new.self.keeper.memory.registration run.keeper.cabin.cards (devices U X Y) (ap (λ (r : Run). r.keeper.memory.registration) c.learn.ensures.run) rec.stay in
     let same = ap (λ (r : Run). bare_seats r.keeper.cabin.slots.seats) c.learn.ensures.run in
     let next : mid.next ≡ run.next = c.resume.ensures.next ∙ ap (λ (r : Run). r.next) c.learn.ensures.run in
     let limit = ap (λ (r : Run). r.keeper.memory.limit) c.learn.ensures.run ∙ all.limit in
-    let resumed = c.resume.ensures.recorded (omega (arith, room, same)) o rec.origin done s rec.supply (values_of run out) rec.recorded may now.number now.given values time in
-    let woken = c.resume.ensures.evented (omega (arith, room, same)) o rec.origin done s rec.supply (values_of run out) rec.recorded may now.number now.given now.speed_is values all.evented limit time in
+    let resumed = c.resume.ensures.recorded (omega (arith, room, same)) o rec.origin done s rec.supply (values_of run out) rec.recorded stay may now.number now.given values time in
+    let woken = c.resume.ensures.evented (omega (arith, room, same)) o rec.origin done s rec.supply (values_of run out) rec.recorded stay may now.number now.given now.speed_is values all.evented limit time in
     let failed : is_err c.resume.result ≡ true = sym c.is_err.ensures.value ∙ c.if-is_err.true in
     let told = ap (λ (l : Listed Break). record c.resume.new.outcome { breaks = l }) c.cut.ensures.breaks in
     let cut_is = cut o done s 0 s.actions mid c.cut.new.self c.resume.new.outcome (record c.resume.new.outcome { breaks = c.cut.new.breaks }) e rec.origin (now.number ∙ sym next) ([], refl, refl)
@@ -177,11 +181,12 @@ returns-clause-evented g c = λ room o done s now all has time.
     let e : Devices = devices (g.M.Medium.state c.resume.new.unit) (g.C.Chip.state c.resume.new.card_a) (g.D.Chip.state c.resume.new.card_b) in
     let kept = c.last_kept-kept.ensures.kept in
     let values = learned run c.learn.new.self out c.learn.new.breaks c.last_kept-kept.result c.learn.ensures.run c.learn.ensures.breaks c.learn.ensures.same ∙ ap (λ (k : ℕ). read_values k (values_of run out)) kept in
+    let stay = all-of o (log_of out) run.keeper.memory.registration c.learn.new.self.keeper.memory.registration run.keeper.cabin.cards (devices U X Y) (ap (λ (r : Run). r.keeper.memory.registration) c.learn.ensures.run) rec.stay in
     let same = ap (λ (r : Run). bare_seats r.keeper.cabin.slots.seats) c.learn.ensures.run in
     let next : mid.next ≡ run.next = c.resume.ensures.next ∙ ap (λ (r : Run). r.next) c.learn.ensures.run in
     let limit = ap (λ (r : Run). r.keeper.memory.limit) c.learn.ensures.run ∙ all.limit in
-    let resumed = c.resume.ensures.recorded (omega (arith, room, same)) o rec.origin done s rec.supply (values_of run out) rec.recorded may now.number now.given values time in
-    let woken = c.resume.ensures.evented (omega (arith, room, same)) o rec.origin done s rec.supply (values_of run out) rec.recorded may now.number now.given now.speed_is values all.evented limit time in
+    let resumed = c.resume.ensures.recorded (omega (arith, room, same)) o rec.origin done s rec.supply (values_of run out) rec.recorded stay may now.number now.given values time in
+    let woken = c.resume.ensures.evented (omega (arith, room, same)) o rec.origin done s rec.supply (values_of run out) rec.recorded stay may now.number now.given now.speed_is values all.evented limit time in
     let well : is_err c.resume.result ≡ false = sym c.is_err.ensures.value ∙ c.if-is_err.false in
     in-evented_lit o done s mid c.resume.new.outcome e 0 (subst (λ (f : Bool). EventsWoken f (log_of (record out { breaks = c.learn.new.breaks })) o done s mid c.resume.new.outcome e) well woken).0
 
@@ -217,11 +222,12 @@ returns-then-is_err-clause-ringed g c = λ room o done s now all has time.
     let e : Devices = devices (g.M.Medium.state c.resume.new.unit) (g.C.Chip.state c.resume.new.card_a) (g.D.Chip.state c.resume.new.card_b) in
     let kept = c.last_kept-kept.ensures.kept in
     let values = learned run c.learn.new.self out c.learn.new.breaks c.last_kept-kept.result c.learn.ensures.run c.learn.ensures.breaks c.learn.ensures.same ∙ ap (λ (k : ℕ). read_values k (values_of run out)) kept in
+    let stay = all-of o (log_of out) run.keeper.memory.registration c.learn.new.self.keeper.memory.registration run.keeper.cabin.cards (devices U X Y) (ap (λ (r : Run). r.keeper.memory.registration) c.learn.ensures.run) rec.stay in
     let same = ap (λ (r : Run). bare_seats r.keeper.cabin.slots.seats) c.learn.ensures.run in
     let next : mid.next ≡ run.next = c.resume.ensures.next ∙ ap (λ (r : Run). r.next) c.learn.ensures.run in
     let limit = ap (λ (r : Run). r.keeper.memory.limit) c.learn.ensures.run ∙ all.evented.limit in
-    let resumed = c.resume.ensures.recorded (omega (arith, room, same)) o rec.origin done s rec.supply (values_of run out) rec.recorded may now.number now.given values time in
-    let woken = c.resume.ensures.evented (omega (arith, room, same)) o rec.origin done s rec.supply (values_of run out) rec.recorded may now.number now.given now.speed_is values all.evented.evented limit time in
+    let resumed = c.resume.ensures.recorded (omega (arith, room, same)) o rec.origin done s rec.supply (values_of run out) rec.recorded stay may now.number now.given values time in
+    let woken = c.resume.ensures.evented (omega (arith, room, same)) o rec.origin done s rec.supply (values_of run out) rec.recorded stay may now.number now.given now.speed_is values all.evented.evented limit time in
     let began : RunLog = log_of (record out { breaks = c.learn.new.breaks }) in
     let log : began ≡ found_log run.unfound c.last_kept-kept.result (log_of out) = ap (λ (l : Listed Break). log_of (record out { breaks = l })) c.learn.ensures.breaks in
     let noted = ap (λ (r : Run). r.noted) c.learn.ensures.run in
@@ -229,7 +235,7 @@ returns-then-is_err-clause-ringed g c = λ room o done s now all has time.
     let ringed : RingedBehind o done began s.number all.spans (seats_of run) (devices U X Y) = subst (λ (l : RunLog). RingedBehind o done l s.number all.spans (seats_of run) (devices U X Y)) (sym log)
     (learned-ringed o done (log_of out) run.unfound c.last_kept-kept.result run.next s.number rec.recorded.recorded.followed.order now.number all.spans (seats_of run) (devices U X Y) all.ringed) in
     let off : StoresOff o (log_of out) run.unfound all.spans (devices U X Y) = subst (λ (b : Bool). Stores b o (log_of out) run.unfound run.keeper.odometer all.spans (devices U X Y)) c.requires.dark all.stored in
-    let rungs = c.resume.ensures.ringed (omega (arith, room, same)) o rec.origin done s rec.supply (values_of run out) rec.recorded may now.number now.given values all.spans (seats_of run) ringed (omega (arith, counted, noted)) off time in
+    let rungs = c.resume.ensures.ringed (omega (arith, room, same)) o rec.origin done s rec.supply (values_of run out) rec.recorded stay may now.number now.given values all.spans (seats_of run) ringed (omega (arith, counted, noted)) off time in
     let failed : is_err c.resume.result ≡ true = sym c.is_err.ensures.value ∙ c.if-is_err.true in
     let told = ap (λ (l : Listed Break). record c.resume.new.outcome { breaks = l }) c.cut.ensures.breaks in
     let cut_is = cut o done s 0 s.actions mid c.cut.new.self c.resume.new.outcome (record c.resume.new.outcome { breaks = c.cut.new.breaks }) e rec.origin (now.number ∙ sym next) ([], refl, refl)
@@ -250,10 +256,11 @@ returns-clause-ringed g c = λ room o done s now all has time.
     let e : Devices = devices (g.M.Medium.state c.resume.new.unit) (g.C.Chip.state c.resume.new.card_a) (g.D.Chip.state c.resume.new.card_b) in
     let kept = c.last_kept-kept.ensures.kept in
     let values = learned run c.learn.new.self out c.learn.new.breaks c.last_kept-kept.result c.learn.ensures.run c.learn.ensures.breaks c.learn.ensures.same ∙ ap (λ (k : ℕ). read_values k (values_of run out)) kept in
+    let stay = all-of o (log_of out) run.keeper.memory.registration c.learn.new.self.keeper.memory.registration run.keeper.cabin.cards (devices U X Y) (ap (λ (r : Run). r.keeper.memory.registration) c.learn.ensures.run) rec.stay in
     let same = ap (λ (r : Run). bare_seats r.keeper.cabin.slots.seats) c.learn.ensures.run in
     let next : mid.next ≡ run.next = c.resume.ensures.next ∙ ap (λ (r : Run). r.next) c.learn.ensures.run in
     let limit = ap (λ (r : Run). r.keeper.memory.limit) c.learn.ensures.run ∙ all.evented.limit in
-    let woken = c.resume.ensures.evented (omega (arith, room, same)) o rec.origin done s rec.supply (values_of run out) rec.recorded may now.number now.given now.speed_is values all.evented.evented limit time in
+    let woken = c.resume.ensures.evented (omega (arith, room, same)) o rec.origin done s rec.supply (values_of run out) rec.recorded stay may now.number now.given now.speed_is values all.evented.evented limit time in
     let began : RunLog = log_of (record out { breaks = c.learn.new.breaks }) in
     let log : began ≡ found_log run.unfound c.last_kept-kept.result (log_of out) = ap (λ (l : Listed Break). log_of (record out { breaks = l })) c.learn.ensures.breaks in
     let noted = ap (λ (r : Run). r.noted) c.learn.ensures.run in
@@ -261,7 +268,7 @@ returns-clause-ringed g c = λ room o done s now all has time.
     let ringed : RingedBehind o done began s.number all.spans (seats_of run) (devices U X Y) = subst (λ (l : RunLog). RingedBehind o done l s.number all.spans (seats_of run) (devices U X Y)) (sym log)
     (learned-ringed o done (log_of out) run.unfound c.last_kept-kept.result run.next s.number rec.recorded.recorded.followed.order now.number all.spans (seats_of run) (devices U X Y) all.ringed) in
     let off : StoresOff o (log_of out) run.unfound all.spans (devices U X Y) = subst (λ (b : Bool). Stores b o (log_of out) run.unfound run.keeper.odometer all.spans (devices U X Y)) c.requires.dark all.stored in
-    let rungs = c.resume.ensures.ringed (omega (arith, room, same)) o rec.origin done s rec.supply (values_of run out) rec.recorded may now.number now.given values all.spans (seats_of run) ringed (omega (arith, counted, noted)) off time in
+    let rungs = c.resume.ensures.ringed (omega (arith, room, same)) o rec.origin done s rec.supply (values_of run out) rec.recorded stay may now.number now.given values all.spans (seats_of run) ringed (omega (arith, counted, noted)) off time in
     let well : is_err c.resume.result ≡ false = sym c.is_err.ensures.value ∙ c.if-is_err.false in
     lit-woken o done s mid c.resume.new.outcome e began all.spans (subst (λ (f : Bool). EventsWoken f began o done s mid c.resume.new.outcome e) well woken)
     (subst (λ (f : Bool). RingsWoken f began o done s all.spans mid (log_of c.resume.new.outcome) e) well rungs)

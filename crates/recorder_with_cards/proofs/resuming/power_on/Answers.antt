@@ -33,6 +33,7 @@ use Rattle.run_acts.proofs.Standing.{cut-at}
 use Rattle.tach_media.proofs.Runs.{on_ok, ok_gives}
 use Rattle.recorder_with_cards.proofs.WakeNoted.{read-says, read-noted, read-then}
 use Rattle.run_keeping.proofs.Later.{state-revived, later-then, later-of-unit}
+use Rattle.run_acts.proofs.AllStay.{all-unit}
 use Rattle.run_acts.proofs.Broken.{broke-none, broke-once, broke-then}
 use Rattle.recorder_with_cards.proofs.resuming.power_on.Goals as goal
 
@@ -63,6 +64,7 @@ returns-in-Ok-clause-recorded g c = λ room o done s now rec has time.
       powers = rec.powers;
       recorded = read;
       odometer = λ lit. absurd (let bad : false ≡ true = sym c.requires.dark ∙ ap is_lit lit in cc);
+      stay = all-unit o (log_of out) run.keeper.memory.registration run.keeper.cabin.cards U V X Y rec.stay;
     }) has time
 
 pub returns-in-Err-BadUnit-clause-recorded : goal.returns-in-Err-BadUnit-clause-recorded
@@ -122,6 +124,7 @@ returns-in-Ok-clause-evented g c = λ room o done s now all has time.
         powers = rec.powers;
         recorded = read;
         odometer = λ lit. absurd (let bad : false ≡ true = sym c.requires.dark ∙ ap is_lit lit in cc);
+        stay = all-unit o (log_of out) run.keeper.memory.registration run.keeper.cabin.cards U V X Y rec.stay;
       };
       evented = events-stay (devices U X Y) (devices V X Y) o done (log_of out) run.unfound run.next rec.supply all.evented (read-says U V c.load.ensures.leaves) left;
       limit = all.limit;
@@ -192,6 +195,7 @@ returns-in-Ok-clause-ringed g c = λ room o done s now all has time.
           powers = rec.powers;
           recorded = read;
           odometer = λ lit. absurd (let bad : false ≡ true = sym c.requires.dark ∙ ap is_lit lit in cc);
+          stay = all-unit o (log_of out) run.keeper.memory.registration run.keeper.cabin.cards U V X Y rec.stay;
         };
         evented = events-stay (devices U X Y) (devices V X Y) o done (log_of out) run.unfound run.next rec.supply all.evented.evented (read-says U V c.load.ensures.leaves) left;
         limit = all.evented.limit;

@@ -273,7 +273,7 @@ returns-clause-none g c = on_ok c.note_gap.result (λ well.
 -- ---- WHAT IS RECORDED
 
 pub returns-in_err-mend-clause-recorded : goal.returns-in_err-mend-clause-recorded
-returns-in_err-mend-clause-recorded g c = λ room o origin done s supply v r may number given values time.
+returns-in_err-mend-clause-recorded g c = λ room o origin done s supply v r stay may number given values time.
     let U : State = g.M.Medium.state c.args.unit.now in
     let X : State = g.C.Chip.state c.args.card_a.now in
     let Y : State = g.D.Chip.state c.args.card_b.now in
@@ -286,7 +286,7 @@ returns-in_err-mend-clause-recorded g c = λ room o origin done s supply v r may
     W true c.mend.ensures.moments c.mend.ensures.tells bad.cause c.mend.ensures.holds bad.first bad.second c.args.run.now c.args.outcome.now values refl c.requires.dark)
 
 pub returns-in_err-accept_anew-clause-recorded : goal.returns-in_err-accept_anew-clause-recorded
-returns-in_err-accept_anew-clause-recorded g c = λ room o origin done s supply v r may number given values time.
+returns-in_err-accept_anew-clause-recorded g c = λ room o origin done s supply v r stay may number given values time.
     let run = c.args.run.now in
     let mid : Run = c.begin_span.new.self in
     let begun = c.begin_span.ensures.begun in
@@ -297,7 +297,7 @@ returns-in_err-accept_anew-clause-recorded g c = λ room o origin done s supply 
     let ok = c.in_ok-mend.ensures in
     let loaded = c.requires.loaded in
     let woke = awake o origin done s supply v U X Y r may number given (g.met.M.Medium.coherent c.args.unit.now) (wholes-of U X Y (g.met.C.Chip.coherent c.args.card_a.now) (g.met.D.Chip.coherent c.args.card_b.now)) loaded.works c.args.journal (kept-of c.args.journal U.image loaded.found)
-    W false c.mend.ensures.moments c.mend.ensures.tells ok.cause c.mend.ensures.holds ok.first ok.second run c.args.outcome.now values refl c.mend.new.journal ok.agrees mid begun (g.met.M.Medium.coherent c.mend.new.unit) in
+    W false c.mend.ensures.moments c.mend.ensures.tells ok.cause c.mend.ensures.holds ok.first ok.second run c.args.outcome.now values refl c.mend.new.journal ok.agrees mid begun (g.met.M.Medium.coherent c.mend.new.unit) stay in
     let dark = c.requires.going.dark c.requires.dark in
     let cards = run.keeper.cabin.cards in
     let cabin = ap (λ (k : Keeper). k.cabin) begun.keeper in
@@ -317,7 +317,7 @@ returns-in_err-accept_anew-clause-recorded g c = λ room o origin done s supply 
     subst (λ (f : Bool). GoesOnOrCut f o done s (In 0) [] one c.accept_anew.new.outcome (devices V1 X1 Y1)) failed (first.1 fails)
 
 pub returns-in_err-accept_anew-2-clause-recorded : goal.returns-in_err-accept_anew-2-clause-recorded
-returns-in_err-accept_anew-2-clause-recorded g c = λ room o origin done s supply v r may number given values time.
+returns-in_err-accept_anew-2-clause-recorded g c = λ room o origin done s supply v r stay may number given values time.
     let run = c.args.run.now in
     let mid : Run = c.begin_span.new.self in
     let begun = c.begin_span.ensures.begun in
@@ -328,7 +328,7 @@ returns-in_err-accept_anew-2-clause-recorded g c = λ room o origin done s suppl
     let ok = c.in_ok-mend.ensures in
     let loaded = c.requires.loaded in
     let woke = awake o origin done s supply v U X Y r may number given (g.met.M.Medium.coherent c.args.unit.now) (wholes-of U X Y (g.met.C.Chip.coherent c.args.card_a.now) (g.met.D.Chip.coherent c.args.card_b.now)) loaded.works c.args.journal (kept-of c.args.journal U.image loaded.found)
-    W false c.mend.ensures.moments c.mend.ensures.tells ok.cause c.mend.ensures.holds ok.first ok.second run c.args.outcome.now values refl c.mend.new.journal ok.agrees mid begun (g.met.M.Medium.coherent c.mend.new.unit) in
+    W false c.mend.ensures.moments c.mend.ensures.tells ok.cause c.mend.ensures.holds ok.first ok.second run c.args.outcome.now values refl c.mend.new.journal ok.agrees mid begun (g.met.M.Medium.coherent c.mend.new.unit) stay in
     let dark = c.requires.going.dark c.requires.dark in
     let cards = run.keeper.cabin.cards in
     let cabin = ap (λ (k : Keeper). k.cabin) begun.keeper in
@@ -365,7 +365,7 @@ returns-in_err-accept_anew-2-clause-recorded g c = λ room o origin done s suppl
     subst (λ (f : Bool). GoesOnOrCut f o done s (In 0) [] two c.accept_anew-2.new.outcome (devices V2 X2 Y2)) (fails ∙ failed) second
 
 pub returns-then-is_first-clause-recorded : goal.returns-then-is_first-clause-recorded
-returns-then-is_first-clause-recorded g c = λ room o origin done s supply v r may number given values time.
+returns-then-is_first-clause-recorded g c = λ room o origin done s supply v r stay may number given values time.
     let run = c.args.run.now in
     let mid : Run = c.begin_span.new.self in
     let begun = c.begin_span.ensures.begun in
@@ -376,7 +376,7 @@ returns-then-is_first-clause-recorded g c = λ room o origin done s supply v r m
     let ok = c.in_ok-mend.ensures in
     let loaded = c.requires.loaded in
     let woke = awake o origin done s supply v U X Y r may number given (g.met.M.Medium.coherent c.args.unit.now) (wholes-of U X Y (g.met.C.Chip.coherent c.args.card_a.now) (g.met.D.Chip.coherent c.args.card_b.now)) loaded.works c.args.journal (kept-of c.args.journal U.image loaded.found)
-    W false c.mend.ensures.moments c.mend.ensures.tells ok.cause c.mend.ensures.holds ok.first ok.second run c.args.outcome.now values refl c.mend.new.journal ok.agrees mid begun (g.met.M.Medium.coherent c.mend.new.unit) in
+    W false c.mend.ensures.moments c.mend.ensures.tells ok.cause c.mend.ensures.holds ok.first ok.second run c.args.outcome.now values refl c.mend.new.journal ok.agrees mid begun (g.met.M.Medium.coherent c.mend.new.unit) stay in
     let dark = c.requires.going.dark c.requires.dark in
     let cards = run.keeper.cabin.cards in
     let cabin = ap (λ (k : Keeper). k.cabin) begun.keeper in
@@ -412,7 +412,7 @@ returns-then-is_first-clause-recorded g c = λ room o origin done s supply v r m
     subst (λ (f : Bool). GoesOnOrCut f o done s (In 0) [] two c.accept_anew-2.new.outcome (devices V2 X2 Y2)) fine second
 
 pub returns-clause-recorded : goal.returns-clause-recorded
-returns-clause-recorded g c = λ room o origin done s supply v r may number given values time.
+returns-clause-recorded g c = λ room o origin done s supply v r stay may number given values time.
     let V3 : State = g.M.Medium.state c.note_gap.new.unit in
     let X3 : State = g.C.Chip.state c.note_gap.new.card_a in
     let Y3 : State = g.D.Chip.state c.note_gap.new.card_b in
@@ -430,7 +430,7 @@ returns-clause-recorded g c = λ room o origin done s supply v r may number give
     let ok = c.in_ok-mend.ensures in
     let loaded = c.requires.loaded in
     let woke = awake o origin done s supply v U X Y r may number given (g.met.M.Medium.coherent c.args.unit.now) (wholes-of U X Y (g.met.C.Chip.coherent c.args.card_a.now) (g.met.D.Chip.coherent c.args.card_b.now)) loaded.works c.args.journal (kept-of c.args.journal U.image loaded.found)
-    W false c.mend.ensures.moments c.mend.ensures.tells ok.cause c.mend.ensures.holds ok.first ok.second run c.args.outcome.now values refl c.mend.new.journal ok.agrees mid begun (g.met.M.Medium.coherent c.mend.new.unit) in
+    W false c.mend.ensures.moments c.mend.ensures.tells ok.cause c.mend.ensures.holds ok.first ok.second run c.args.outcome.now values refl c.mend.new.journal ok.agrees mid begun (g.met.M.Medium.coherent c.mend.new.unit) stay in
     let dark = c.requires.going.dark c.requires.dark in
     let cards = run.keeper.cabin.cards in
     let cabin = ap (λ (k : Keeper). k.cabin) begun.keeper in
@@ -612,7 +612,7 @@ returns-clause-noted g c =
 -- ---- WHAT IS NOTED, beside what is recorded
 
 pub returns-in_err-mend-clause-evented : goal.returns-in_err-mend-clause-evented
-returns-in_err-mend-clause-evented g c = λ room o origin done s supply v r may number given speed_is values evented limit time.
+returns-in_err-mend-clause-evented g c = λ room o origin done s supply v r stay may number given speed_is values evented limit time.
     let U : State = g.M.Medium.state c.args.unit.now in
     let X : State = g.C.Chip.state c.args.card_a.now in
     let Y : State = g.D.Chip.state c.args.card_b.now in
@@ -632,7 +632,7 @@ returns-in_err-mend-clause-evented g c = λ room o origin done s supply v r may 
     (sym (ap (λ (x : Values). x.unfound) values)) (sym (ap (λ (x : Values). x.next) values)) limit)
 
 pub returns-in_err-accept_anew-clause-evented : goal.returns-in_err-accept_anew-clause-evented
-returns-in_err-accept_anew-clause-evented g c = λ room o origin done s supply v r may number given speed_is values evented limit time.
+returns-in_err-accept_anew-clause-evented g c = λ room o origin done s supply v r stay may number given speed_is values evented limit time.
     let run = c.args.run.now in
     let mid : Run = c.begin_span.new.self in
     let begun = c.begin_span.ensures.begun in
@@ -644,9 +644,9 @@ returns-in_err-accept_anew-clause-evented g c = λ room o origin done s supply v
     let ok = c.in_ok-mend.ensures in
     let loaded = c.requires.loaded in
     let woke = awake o origin done s supply v U X Y r may number given (g.met.M.Medium.coherent c.args.unit.now) (wholes-of U X Y (g.met.C.Chip.coherent c.args.card_a.now) (g.met.D.Chip.coherent c.args.card_b.now)) loaded.works c.args.journal (kept-of c.args.journal U.image loaded.found)
-    W false c.mend.ensures.moments c.mend.ensures.tells ok.cause c.mend.ensures.holds ok.first ok.second run c.args.outcome.now values refl c.mend.new.journal ok.agrees mid begun (g.met.M.Medium.coherent c.mend.new.unit) in
+    W false c.mend.ensures.moments c.mend.ensures.tells ok.cause c.mend.ensures.holds ok.first ok.second run c.args.outcome.now values refl c.mend.new.journal ok.agrees mid begun (g.met.M.Medium.coherent c.mend.new.unit) stay in
     let is = awake-is o origin done s supply v U X Y r may number given (g.met.M.Medium.coherent c.args.unit.now) (wholes-of U X Y (g.met.C.Chip.coherent c.args.card_a.now) (g.met.D.Chip.coherent c.args.card_b.now)) loaded.works c.args.journal (kept-of c.args.journal U.image loaded.found)
-    W false c.mend.ensures.moments c.mend.ensures.tells ok.cause c.mend.ensures.holds ok.first ok.second run c.args.outcome.now values refl c.mend.new.journal ok.agrees mid begun (g.met.M.Medium.coherent c.mend.new.unit) in
+    W false c.mend.ensures.moments c.mend.ensures.tells ok.cause c.mend.ensures.holds ok.first ok.second run c.args.outcome.now values refl c.mend.new.journal ok.agrees mid begun (g.met.M.Medium.coherent c.mend.new.unit) stay in
     let quiet = says c.args.journal U W X Y (g.met.M.Medium.coherent c.args.unit.now) c.mend.ensures.moments in
     let dark = c.requires.going.dark c.requires.dark in
     let cards = run.keeper.cabin.cards in
@@ -679,7 +679,7 @@ returns-in_err-accept_anew-clause-evented g c = λ room o origin done s supply v
     (woken-fails o done s woke.0.run Waking one out1 (devices V1 X1 Y1) (log_of c.args.outcome.now) (subst (λ (f : Bool). EventsGoOn f o done s woke.0.run (In 0) Waking (log_of out1) (devices V1 X1 Y1)) fails one_evented) unfound_one next_one limit_one)
 
 pub returns-in_err-accept_anew-2-clause-evented : goal.returns-in_err-accept_anew-2-clause-evented
-returns-in_err-accept_anew-2-clause-evented g c = λ room o origin done s supply v r may number given speed_is values evented limit time.
+returns-in_err-accept_anew-2-clause-evented g c = λ room o origin done s supply v r stay may number given speed_is values evented limit time.
     let run = c.args.run.now in
     let mid : Run = c.begin_span.new.self in
     let begun = c.begin_span.ensures.begun in
@@ -691,9 +691,9 @@ returns-in_err-accept_anew-2-clause-evented g c = λ room o origin done s supply
     let ok = c.in_ok-mend.ensures in
     let loaded = c.requires.loaded in
     let woke = awake o origin done s supply v U X Y r may number given (g.met.M.Medium.coherent c.args.unit.now) (wholes-of U X Y (g.met.C.Chip.coherent c.args.card_a.now) (g.met.D.Chip.coherent c.args.card_b.now)) loaded.works c.args.journal (kept-of c.args.journal U.image loaded.found)
-    W false c.mend.ensures.moments c.mend.ensures.tells ok.cause c.mend.ensures.holds ok.first ok.second run c.args.outcome.now values refl c.mend.new.journal ok.agrees mid begun (g.met.M.Medium.coherent c.mend.new.unit) in
+    W false c.mend.ensures.moments c.mend.ensures.tells ok.cause c.mend.ensures.holds ok.first ok.second run c.args.outcome.now values refl c.mend.new.journal ok.agrees mid begun (g.met.M.Medium.coherent c.mend.new.unit) stay in
     let is = awake-is o origin done s supply v U X Y r may number given (g.met.M.Medium.coherent c.args.unit.now) (wholes-of U X Y (g.met.C.Chip.coherent c.args.card_a.now) (g.met.D.Chip.coherent c.args.card_b.now)) loaded.works c.args.journal (kept-of c.args.journal U.image loaded.found)
-    W false c.mend.ensures.moments c.mend.ensures.tells ok.cause c.mend.ensures.holds ok.first ok.second run c.args.outcome.now values refl c.mend.new.journal ok.agrees mid begun (g.met.M.Medium.coherent c.mend.new.unit) in
+    W false c.mend.ensures.moments c.mend.ensures.tells ok.cause c.mend.ensures.holds ok.first ok.second run c.args.outcome.now values refl c.mend.new.journal ok.agrees mid begun (g.met.M.Medium.coherent c.mend.new.unit) stay in
     let quiet = says c.args.journal U W X Y (g.met.M.Medium.coherent c.args.unit.now) c.mend.ensures.moments in
     let dark = c.requires.going.dark c.requires.dark in
     let cards = run.keeper.cabin.cards in
@@ -754,7 +754,7 @@ returns-in_err-accept_anew-2-clause-evented g c = λ room o origin done s supply
     (woken-fails o done s woke.0.run Waking two out2 (devices V2 X2 Y2) (log_of c.args.outcome.now) (subst (λ (f : Bool). EventsGoOn f o done s woke.0.run (In 0) Waking (log_of out2) (devices V2 X2 Y2)) fails two_evented) unfound_two next_two limit_two)
 
 pub returns-then-is_first-clause-evented : goal.returns-then-is_first-clause-evented
-returns-then-is_first-clause-evented g c = λ room o origin done s supply v r may number given speed_is values evented limit time.
+returns-then-is_first-clause-evented g c = λ room o origin done s supply v r stay may number given speed_is values evented limit time.
     let run = c.args.run.now in
     let mid : Run = c.begin_span.new.self in
     let begun = c.begin_span.ensures.begun in
@@ -766,9 +766,9 @@ returns-then-is_first-clause-evented g c = λ room o origin done s supply v r ma
     let ok = c.in_ok-mend.ensures in
     let loaded = c.requires.loaded in
     let woke = awake o origin done s supply v U X Y r may number given (g.met.M.Medium.coherent c.args.unit.now) (wholes-of U X Y (g.met.C.Chip.coherent c.args.card_a.now) (g.met.D.Chip.coherent c.args.card_b.now)) loaded.works c.args.journal (kept-of c.args.journal U.image loaded.found)
-    W false c.mend.ensures.moments c.mend.ensures.tells ok.cause c.mend.ensures.holds ok.first ok.second run c.args.outcome.now values refl c.mend.new.journal ok.agrees mid begun (g.met.M.Medium.coherent c.mend.new.unit) in
+    W false c.mend.ensures.moments c.mend.ensures.tells ok.cause c.mend.ensures.holds ok.first ok.second run c.args.outcome.now values refl c.mend.new.journal ok.agrees mid begun (g.met.M.Medium.coherent c.mend.new.unit) stay in
     let is = awake-is o origin done s supply v U X Y r may number given (g.met.M.Medium.coherent c.args.unit.now) (wholes-of U X Y (g.met.C.Chip.coherent c.args.card_a.now) (g.met.D.Chip.coherent c.args.card_b.now)) loaded.works c.args.journal (kept-of c.args.journal U.image loaded.found)
-    W false c.mend.ensures.moments c.mend.ensures.tells ok.cause c.mend.ensures.holds ok.first ok.second run c.args.outcome.now values refl c.mend.new.journal ok.agrees mid begun (g.met.M.Medium.coherent c.mend.new.unit) in
+    W false c.mend.ensures.moments c.mend.ensures.tells ok.cause c.mend.ensures.holds ok.first ok.second run c.args.outcome.now values refl c.mend.new.journal ok.agrees mid begun (g.met.M.Medium.coherent c.mend.new.unit) stay in
     let quiet = says c.args.journal U W X Y (g.met.M.Medium.coherent c.args.unit.now) c.mend.ensures.moments in
     let dark = c.requires.going.dark c.requires.dark in
     let cards = run.keeper.cabin.cards in
@@ -841,7 +841,7 @@ returns-then-is_first-clause-evented g c = λ room o origin done s supply v r ma
     (log_of c.args.outcome.now) (ap (λ (b : Beginning). b.run.log) both.waking.began ∙ ap (λ (q : Progress). q.log) is.0 ∙ sym (ap (λ (x : Values). x.log) values))
 
 pub returns-clause-evented : goal.returns-clause-evented
-returns-clause-evented g c = λ room o origin done s supply v r may number given speed_is values evented limit time.
+returns-clause-evented g c = λ room o origin done s supply v r stay may number given speed_is values evented limit time.
     let V3 : State = g.M.Medium.state c.note_gap.new.unit in
     let X3 : State = g.C.Chip.state c.note_gap.new.card_a in
     let Y3 : State = g.D.Chip.state c.note_gap.new.card_b in
@@ -857,9 +857,9 @@ returns-clause-evented g c = λ room o origin done s supply v r may number given
     let ok = c.in_ok-mend.ensures in
     let loaded = c.requires.loaded in
     let woke = awake o origin done s supply v U X Y r may number given (g.met.M.Medium.coherent c.args.unit.now) (wholes-of U X Y (g.met.C.Chip.coherent c.args.card_a.now) (g.met.D.Chip.coherent c.args.card_b.now)) loaded.works c.args.journal (kept-of c.args.journal U.image loaded.found)
-    W false c.mend.ensures.moments c.mend.ensures.tells ok.cause c.mend.ensures.holds ok.first ok.second run c.args.outcome.now values refl c.mend.new.journal ok.agrees mid begun (g.met.M.Medium.coherent c.mend.new.unit) in
+    W false c.mend.ensures.moments c.mend.ensures.tells ok.cause c.mend.ensures.holds ok.first ok.second run c.args.outcome.now values refl c.mend.new.journal ok.agrees mid begun (g.met.M.Medium.coherent c.mend.new.unit) stay in
     let is = awake-is o origin done s supply v U X Y r may number given (g.met.M.Medium.coherent c.args.unit.now) (wholes-of U X Y (g.met.C.Chip.coherent c.args.card_a.now) (g.met.D.Chip.coherent c.args.card_b.now)) loaded.works c.args.journal (kept-of c.args.journal U.image loaded.found)
-    W false c.mend.ensures.moments c.mend.ensures.tells ok.cause c.mend.ensures.holds ok.first ok.second run c.args.outcome.now values refl c.mend.new.journal ok.agrees mid begun (g.met.M.Medium.coherent c.mend.new.unit) in
+    W false c.mend.ensures.moments c.mend.ensures.tells ok.cause c.mend.ensures.holds ok.first ok.second run c.args.outcome.now values refl c.mend.new.journal ok.agrees mid begun (g.met.M.Medium.coherent c.mend.new.unit) stay in
     let quiet = says c.args.journal U W X Y (g.met.M.Medium.coherent c.args.unit.now) c.mend.ensures.moments in
     let dark = c.requires.going.dark c.requires.dark in
     let cards = run.keeper.cabin.cards in
@@ -947,7 +947,7 @@ returns-clause-evented g c = λ room o origin done s supply v r may number given
 -- ---- the rings
 
 pub returns-in_err-mend-clause-ringed : goal.returns-in_err-mend-clause-ringed
-returns-in_err-mend-clause-ringed g c = λ room o origin done s supply v r may number given values spans seats ringed counted off time.
+returns-in_err-mend-clause-ringed g c = λ room o origin done s supply v r stay may number given values spans seats ringed counted off time.
     let U : State = g.M.Medium.state c.args.unit.now in
     let X : State = g.C.Chip.state c.args.card_a.now in
     let Y : State = g.D.Chip.state c.args.card_b.now in
@@ -979,7 +979,7 @@ returns-in_err-mend-clause-ringed g c = λ room o origin done s supply v r may n
     )
 
 pub returns-in_err-accept_anew-clause-ringed : goal.returns-in_err-accept_anew-clause-ringed
-returns-in_err-accept_anew-clause-ringed g c = λ room o origin done s supply v r may number given values spans seats ringed counted off time.
+returns-in_err-accept_anew-clause-ringed g c = λ room o origin done s supply v r stay may number given values spans seats ringed counted off time.
     let run = c.args.run.now in
     let out = c.args.outcome.now in
     let mid : Run = c.begin_span.new.self in
@@ -992,9 +992,9 @@ returns-in_err-accept_anew-clause-ringed g c = λ room o origin done s supply v 
     let ok = c.in_ok-mend.ensures in
     let loaded = c.requires.loaded in
     let woke = awake o origin done s supply v U X Y r may number given (g.met.M.Medium.coherent c.args.unit.now) (wholes-of U X Y (g.met.C.Chip.coherent c.args.card_a.now) (g.met.D.Chip.coherent c.args.card_b.now)) loaded.works c.args.journal (kept-of c.args.journal U.image loaded.found)
-    W false c.mend.ensures.moments c.mend.ensures.tells ok.cause c.mend.ensures.holds ok.first ok.second run c.args.outcome.now values refl c.mend.new.journal ok.agrees mid begun (g.met.M.Medium.coherent c.mend.new.unit) in
+    W false c.mend.ensures.moments c.mend.ensures.tells ok.cause c.mend.ensures.holds ok.first ok.second run c.args.outcome.now values refl c.mend.new.journal ok.agrees mid begun (g.met.M.Medium.coherent c.mend.new.unit) stay in
     let is = awake-is o origin done s supply v U X Y r may number given (g.met.M.Medium.coherent c.args.unit.now) (wholes-of U X Y (g.met.C.Chip.coherent c.args.card_a.now) (g.met.D.Chip.coherent c.args.card_b.now)) loaded.works c.args.journal (kept-of c.args.journal U.image loaded.found)
-    W false c.mend.ensures.moments c.mend.ensures.tells ok.cause c.mend.ensures.holds ok.first ok.second run c.args.outcome.now values refl c.mend.new.journal ok.agrees mid begun (g.met.M.Medium.coherent c.mend.new.unit) in
+    W false c.mend.ensures.moments c.mend.ensures.tells ok.cause c.mend.ensures.holds ok.first ok.second run c.args.outcome.now values refl c.mend.new.journal ok.agrees mid begun (g.met.M.Medium.coherent c.mend.new.unit) stay in
     let dark = c.requires.going.dark c.requires.dark in
     let cards = run.keeper.cabin.cards in
     let cabin = ap (λ (k : Keeper). k.cabin) begun.keeper in
@@ -1021,7 +1021,7 @@ returns-in_err-accept_anew-clause-ringed g c = λ room o origin done s supply v 
     let kept_now : c.mend.new.journal.kept ≡ k = ap (λ (j : Notes). j.kept) c.in_ok-mend.ensures.notes in
     let stands : StandsOn o (log_of out) mid.unfound spans mid.keeper.odometer = subst (λ (n : ℕ). StandsOn o (log_of out) n spans mid.keeper.odometer) (sym begun.unfound)
     (awake-stands o origin done s supply v U X Y r may number given (g.met.M.Medium.coherent c.args.unit.now) (wholes-of U X Y (g.met.C.Chip.coherent c.args.card_a.now) (g.met.D.Chip.coherent c.args.card_b.now)) loaded.works c.args.journal (kept-of c.args.journal U.image loaded.found)
-    W false c.mend.ensures.moments c.mend.ensures.tells ok.cause c.mend.ensures.holds ok.first ok.second run c.args.outcome.now values refl c.mend.new.journal ok.agrees mid begun (g.met.M.Medium.coherent c.mend.new.unit) kept_now spans are off) in
+    W false c.mend.ensures.moments c.mend.ensures.tells ok.cause c.mend.ensures.holds ok.first ok.second run c.args.outcome.now values refl c.mend.new.journal ok.agrees mid begun (g.met.M.Medium.coherent c.mend.new.unit) stay kept_now spans are off) in
     let recorded_one = c.accept_anew.ensures.recorded (omega (arith, room, few)) in
     let one_ringed : RingsGoOn (is_err c.accept_anew.result) o done s woke.0 [] one (log_of out1) spans t (devices V1 X1 Y1) =
     driver-ringed o done s woke.0 first_card others mid out (devices W X Y) spans t starts (woke.1.waking.none CoDriver (in-both CoDriver)) once refl bare c.moment-at.result now c.args.speed (is_err c.accept_anew.result) one out1 c.accept_anew.ensures.accepted (devices V1 X1 Y1)
@@ -1036,7 +1036,7 @@ returns-in_err-accept_anew-clause-ringed g c = λ room o origin done s supply v 
 pub returns-in_err-accept_anew-2-clause-ringed : goal.returns-in_err-accept_anew-2-clause-ringed
 returns-in_err-accept_anew-2-clause-ringed g c =
     let failed : is_err c.accept_anew-2.result ≡ is_err c.from_residual-in_err-accept_anew-2.result = search rules in
-    λ room o origin done s supply v r may number given values spans seats ringed counted off time.
+    λ room o origin done s supply v r stay may number given values spans seats ringed counted off time.
     let run = c.args.run.now in
     let out = c.args.outcome.now in
     let mid : Run = c.begin_span.new.self in
@@ -1049,9 +1049,9 @@ returns-in_err-accept_anew-2-clause-ringed g c =
     let ok = c.in_ok-mend.ensures in
     let loaded = c.requires.loaded in
     let woke = awake o origin done s supply v U X Y r may number given (g.met.M.Medium.coherent c.args.unit.now) (wholes-of U X Y (g.met.C.Chip.coherent c.args.card_a.now) (g.met.D.Chip.coherent c.args.card_b.now)) loaded.works c.args.journal (kept-of c.args.journal U.image loaded.found)
-    W false c.mend.ensures.moments c.mend.ensures.tells ok.cause c.mend.ensures.holds ok.first ok.second run c.args.outcome.now values refl c.mend.new.journal ok.agrees mid begun (g.met.M.Medium.coherent c.mend.new.unit) in
+    W false c.mend.ensures.moments c.mend.ensures.tells ok.cause c.mend.ensures.holds ok.first ok.second run c.args.outcome.now values refl c.mend.new.journal ok.agrees mid begun (g.met.M.Medium.coherent c.mend.new.unit) stay in
     let is = awake-is o origin done s supply v U X Y r may number given (g.met.M.Medium.coherent c.args.unit.now) (wholes-of U X Y (g.met.C.Chip.coherent c.args.card_a.now) (g.met.D.Chip.coherent c.args.card_b.now)) loaded.works c.args.journal (kept-of c.args.journal U.image loaded.found)
-    W false c.mend.ensures.moments c.mend.ensures.tells ok.cause c.mend.ensures.holds ok.first ok.second run c.args.outcome.now values refl c.mend.new.journal ok.agrees mid begun (g.met.M.Medium.coherent c.mend.new.unit) in
+    W false c.mend.ensures.moments c.mend.ensures.tells ok.cause c.mend.ensures.holds ok.first ok.second run c.args.outcome.now values refl c.mend.new.journal ok.agrees mid begun (g.met.M.Medium.coherent c.mend.new.unit) stay in
     let dark = c.requires.going.dark c.requires.dark in
     let cards = run.keeper.cabin.cards in
     let cabin = ap (λ (k : Keeper). k.cabin) begun.keeper in
@@ -1078,7 +1078,7 @@ returns-in_err-accept_anew-2-clause-ringed g c =
     let kept_now : c.mend.new.journal.kept ≡ k = ap (λ (j : Notes). j.kept) c.in_ok-mend.ensures.notes in
     let stands : StandsOn o (log_of out) mid.unfound spans mid.keeper.odometer = subst (λ (n : ℕ). StandsOn o (log_of out) n spans mid.keeper.odometer) (sym begun.unfound)
     (awake-stands o origin done s supply v U X Y r may number given (g.met.M.Medium.coherent c.args.unit.now) (wholes-of U X Y (g.met.C.Chip.coherent c.args.card_a.now) (g.met.D.Chip.coherent c.args.card_b.now)) loaded.works c.args.journal (kept-of c.args.journal U.image loaded.found)
-    W false c.mend.ensures.moments c.mend.ensures.tells ok.cause c.mend.ensures.holds ok.first ok.second run c.args.outcome.now values refl c.mend.new.journal ok.agrees mid begun (g.met.M.Medium.coherent c.mend.new.unit) kept_now spans are off) in
+    W false c.mend.ensures.moments c.mend.ensures.tells ok.cause c.mend.ensures.holds ok.first ok.second run c.args.outcome.now values refl c.mend.new.journal ok.agrees mid begun (g.met.M.Medium.coherent c.mend.new.unit) stay kept_now spans are off) in
     let recorded_one = c.accept_anew.ensures.recorded (omega (arith, room, few)) in
     let one_ringed : RingsGoOn (is_err c.accept_anew.result) o done s woke.0 [] one (log_of out1) spans t (devices V1 X1 Y1) =
     driver-ringed o done s woke.0 first_card others mid out (devices W X Y) spans t starts (woke.1.waking.none CoDriver (in-both CoDriver)) once refl bare c.moment-at.result now c.args.speed (is_err c.accept_anew.result) one out1 c.accept_anew.ensures.accepted (devices V1 X1 Y1)
@@ -1122,7 +1122,7 @@ never-true bad = cc
 pub returns-then-is_first-clause-ringed : goal.returns-then-is_first-clause-ringed
 returns-then-is_first-clause-ringed g c =
     let fine : is_err c.accept_anew-2.result ≡ false = search rules in
-    λ room o origin done s supply v r may number given values spans seats ringed counted off time.
+    λ room o origin done s supply v r stay may number given values spans seats ringed counted off time.
     let run = c.args.run.now in
     let out = c.args.outcome.now in
     let mid : Run = c.begin_span.new.self in
@@ -1135,9 +1135,9 @@ returns-then-is_first-clause-ringed g c =
     let ok = c.in_ok-mend.ensures in
     let loaded = c.requires.loaded in
     let woke = awake o origin done s supply v U X Y r may number given (g.met.M.Medium.coherent c.args.unit.now) (wholes-of U X Y (g.met.C.Chip.coherent c.args.card_a.now) (g.met.D.Chip.coherent c.args.card_b.now)) loaded.works c.args.journal (kept-of c.args.journal U.image loaded.found)
-    W false c.mend.ensures.moments c.mend.ensures.tells ok.cause c.mend.ensures.holds ok.first ok.second run c.args.outcome.now values refl c.mend.new.journal ok.agrees mid begun (g.met.M.Medium.coherent c.mend.new.unit) in
+    W false c.mend.ensures.moments c.mend.ensures.tells ok.cause c.mend.ensures.holds ok.first ok.second run c.args.outcome.now values refl c.mend.new.journal ok.agrees mid begun (g.met.M.Medium.coherent c.mend.new.unit) stay in
     let is = awake-is o origin done s supply v U X Y r may number given (g.met.M.Medium.coherent c.args.unit.now) (wholes-of U X Y (g.met.C.Chip.coherent c.args.card_a.now) (g.met.D.Chip.coherent c.args.card_b.now)) loaded.works c.args.journal (kept-of c.args.journal U.image loaded.found)
-    W false c.mend.ensures.moments c.mend.ensures.tells ok.cause c.mend.ensures.holds ok.first ok.second run c.args.outcome.now values refl c.mend.new.journal ok.agrees mid begun (g.met.M.Medium.coherent c.mend.new.unit) in
+    W false c.mend.ensures.moments c.mend.ensures.tells ok.cause c.mend.ensures.holds ok.first ok.second run c.args.outcome.now values refl c.mend.new.journal ok.agrees mid begun (g.met.M.Medium.coherent c.mend.new.unit) stay in
     let dark = c.requires.going.dark c.requires.dark in
     let cards = run.keeper.cabin.cards in
     let cabin = ap (λ (k : Keeper). k.cabin) begun.keeper in
@@ -1164,7 +1164,7 @@ returns-then-is_first-clause-ringed g c =
     let kept_now : c.mend.new.journal.kept ≡ k = ap (λ (j : Notes). j.kept) c.in_ok-mend.ensures.notes in
     let stands : StandsOn o (log_of out) mid.unfound spans mid.keeper.odometer = subst (λ (n : ℕ). StandsOn o (log_of out) n spans mid.keeper.odometer) (sym begun.unfound)
     (awake-stands o origin done s supply v U X Y r may number given (g.met.M.Medium.coherent c.args.unit.now) (wholes-of U X Y (g.met.C.Chip.coherent c.args.card_a.now) (g.met.D.Chip.coherent c.args.card_b.now)) loaded.works c.args.journal (kept-of c.args.journal U.image loaded.found)
-    W false c.mend.ensures.moments c.mend.ensures.tells ok.cause c.mend.ensures.holds ok.first ok.second run c.args.outcome.now values refl c.mend.new.journal ok.agrees mid begun (g.met.M.Medium.coherent c.mend.new.unit) kept_now spans are off) in
+    W false c.mend.ensures.moments c.mend.ensures.tells ok.cause c.mend.ensures.holds ok.first ok.second run c.args.outcome.now values refl c.mend.new.journal ok.agrees mid begun (g.met.M.Medium.coherent c.mend.new.unit) stay kept_now spans are off) in
     let recorded_one = c.accept_anew.ensures.recorded (omega (arith, room, few)) in
     let one_ringed : RingsGoOn (is_err c.accept_anew.result) o done s woke.0 [] one (log_of out1) spans t (devices V1 X1 Y1) =
     driver-ringed o done s woke.0 first_card others mid out (devices W X Y) spans t starts (woke.1.waking.none CoDriver (in-both CoDriver)) once refl bare c.moment-at.result now c.args.speed (is_err c.accept_anew.result) one out1 c.accept_anew.ensures.accepted (devices V1 X1 Y1)
@@ -1203,7 +1203,7 @@ returns-then-is_first-clause-ringed g c =
 pub returns-clause-ringed : goal.returns-clause-ringed
 returns-clause-ringed g c =
     let fine : is_err c.accept_anew-2.result ≡ false = search rules in
-    λ room o origin done s supply v r may number given values spans seats ringed counted off time.
+    λ room o origin done s supply v r stay may number given values spans seats ringed counted off time.
     let V3 : State = g.M.Medium.state c.note_gap.new.unit in
     let X3 : State = g.C.Chip.state c.note_gap.new.card_a in
     let Y3 : State = g.D.Chip.state c.note_gap.new.card_b in
@@ -1220,9 +1220,9 @@ returns-clause-ringed g c =
     let ok = c.in_ok-mend.ensures in
     let loaded = c.requires.loaded in
     let woke = awake o origin done s supply v U X Y r may number given (g.met.M.Medium.coherent c.args.unit.now) (wholes-of U X Y (g.met.C.Chip.coherent c.args.card_a.now) (g.met.D.Chip.coherent c.args.card_b.now)) loaded.works c.args.journal (kept-of c.args.journal U.image loaded.found)
-    W false c.mend.ensures.moments c.mend.ensures.tells ok.cause c.mend.ensures.holds ok.first ok.second run c.args.outcome.now values refl c.mend.new.journal ok.agrees mid begun (g.met.M.Medium.coherent c.mend.new.unit) in
+    W false c.mend.ensures.moments c.mend.ensures.tells ok.cause c.mend.ensures.holds ok.first ok.second run c.args.outcome.now values refl c.mend.new.journal ok.agrees mid begun (g.met.M.Medium.coherent c.mend.new.unit) stay in
     let is = awake-is o origin done s supply v U X Y r may number given (g.met.M.Medium.coherent c.args.unit.now) (wholes-of U X Y (g.met.C.Chip.coherent c.args.card_a.now) (g.met.D.Chip.coherent c.args.card_b.now)) loaded.works c.args.journal (kept-of c.args.journal U.image loaded.found)
-    W false c.mend.ensures.moments c.mend.ensures.tells ok.cause c.mend.ensures.holds ok.first ok.second run c.args.outcome.now values refl c.mend.new.journal ok.agrees mid begun (g.met.M.Medium.coherent c.mend.new.unit) in
+    W false c.mend.ensures.moments c.mend.ensures.tells ok.cause c.mend.ensures.holds ok.first ok.second run c.args.outcome.now values refl c.mend.new.journal ok.agrees mid begun (g.met.M.Medium.coherent c.mend.new.unit) stay in
     let dark = c.requires.going.dark c.requires.dark in
     let cards = run.keeper.cabin.cards in
     let cabin = ap (λ (k : Keeper). k.cabin) begun.keeper in
@@ -1249,7 +1249,7 @@ returns-clause-ringed g c =
     let kept_now : c.mend.new.journal.kept ≡ k = ap (λ (j : Notes). j.kept) c.in_ok-mend.ensures.notes in
     let stands : StandsOn o (log_of out) mid.unfound spans mid.keeper.odometer = subst (λ (n : ℕ). StandsOn o (log_of out) n spans mid.keeper.odometer) (sym begun.unfound)
     (awake-stands o origin done s supply v U X Y r may number given (g.met.M.Medium.coherent c.args.unit.now) (wholes-of U X Y (g.met.C.Chip.coherent c.args.card_a.now) (g.met.D.Chip.coherent c.args.card_b.now)) loaded.works c.args.journal (kept-of c.args.journal U.image loaded.found)
-    W false c.mend.ensures.moments c.mend.ensures.tells ok.cause c.mend.ensures.holds ok.first ok.second run c.args.outcome.now values refl c.mend.new.journal ok.agrees mid begun (g.met.M.Medium.coherent c.mend.new.unit) kept_now spans are off) in
+    W false c.mend.ensures.moments c.mend.ensures.tells ok.cause c.mend.ensures.holds ok.first ok.second run c.args.outcome.now values refl c.mend.new.journal ok.agrees mid begun (g.met.M.Medium.coherent c.mend.new.unit) stay kept_now spans are off) in
     let recorded_one = c.accept_anew.ensures.recorded (omega (arith, room, few)) in
     let one_ringed : RingsGoOn (is_err c.accept_anew.result) o done s woke.0 [] one (log_of out1) spans t (devices V1 X1 Y1) =
     driver-ringed o done s woke.0 first_card others mid out (devices W X Y) spans t starts (woke.1.waking.none CoDriver (in-both CoDriver)) once refl bare c.moment-at.result now c.args.speed (is_err c.accept_anew.result) one out1 c.accept_anew.ensures.accepted (devices V1 X1 Y1)

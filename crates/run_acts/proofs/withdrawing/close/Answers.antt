@@ -21,6 +21,8 @@ use Rattle.run_keeping.specs.Keeping.{UnitReady, CardReady, HasItsRow, fault_of}
 use Rattle.run_keeping.proofs.Sessions.{number-set}
 use Rattle.run_acts.specs.declared.run.Run.{Run}
 use Rattle.run_acts.proofs.Noted.{noted-ready, noted-row}
+use Rattle.run_keeping.proofs.CardDeeds.{closed-alone}
+use Rattle.run_acts.specs.Stays.{ClosesOnCard}
 use Rattle.run_acts.specs.Acting.{Fell, IsClosingOf, Bare, Closed}
 use Rattle.run_acts.proofs.Cabins.{session-known, twice-ready}
 use Rattle.event_model.specs.declared.kinds.TheConstants.{CARD_FAULT}
@@ -54,6 +56,50 @@ returns-in-Ok-leave-clause-rows g c = λ card h.
     noted-row (g.met.M.Medium.coherent c.args.unit.now) (g.met.M.Medium.coherent c.note_withdrawal.new.unit) c.note_withdrawal.ensures.journal c.args.run.now.keeper c.requires.ready c.close.new.self.cards card
     (record { number = h.number; told = told; row = h.row }))
 
+-- it has no session
+pub returns-in_default-clause-closed : goal.returns-in_default-clause-closed
+returns-in_default-clause-closed g c =
+    let run = c.args.run.now in
+    let none : session_of run.keeper.cabin.cards c.args.which ≡ None = sym c.close.ensures.session ∙ none-there c.close.result c.in_default.not-Some in (
+      Bare,
+      record {
+        is = subst (λ (o : Option Accepted). IsClosingOf o Bare) (sym none) tt;
+        run = ap (λ (b : Cabin). record run { keeper = record run.keeper { cabin = b } }) c.close.ensures.kept;
+        told = no-lines c.args.breaks.now;
+      },
+      none_broken (g.C.Chip.state c.args.card.now),
+      λ is. absurd (cc),
+    )
+
+-- a card with a session has told its sizes
+pub returns-in_default-sizes-clause-closed : goal.returns-in_default-sizes-clause-closed
+returns-in_default-sizes-clause-closed g c =
+    let cards = c.args.run.now.keeper.cabin.cards in
+    let some : session_of cards c.args.which ≡ Some c.in-Some.accepted = sym c.in-Some.ensures.session in
+    let gone = no-session c.args.which cards (g.C.Chip.card c.args.card.now) (g.C.Chip.state c.args.card.now) c.requires.card (λ app is. c.in_default-sizes.not-Ok app (ap (λ (q : Known). q.sizes) c.of.ensures ∙ is)) in
+    let bad : Some c.in-Some.accepted ≡ None = sym some ∙ gone in
+    absurd (cc)
+
+-- it is closed
+pub returns-in-Ok-leave-clause-closed : goal.returns-in-Ok-leave-clause-closed
+returns-in-Ok-leave-clause-closed g c =
+    let run = c.args.run.now in
+    let X = g.C.Chip.state c.args.card.now in
+    let Y = g.C.Chip.state c.leave.new.card in
+    let act : Activity = activity_of c.selected-selected.result in
+    let none : 0 ≤ 0 + broken_by X.works false = omega arith in
+    let some : session_of run.keeper.cabin.cards c.args.which ≡ Some c.in-Some.accepted = sym c.in-Some.ensures.session in (
+      Closed,
+      record {
+        is = subst (λ (o : Option Accepted). IsClosingOf o Closed) (sym some) tt;
+        run = ap (λ (b : Cabin). record run { keeper = record run.keeper { cabin = b } }) c.close.ensures.kept;
+        told = no-lines c.args.breaks.now;
+      },
+      fewer_broken none (call_broken false (none_broken X) c.in-Ok-leave.ensures.cause),
+      λ is. subst (λ (o : Option Accepted). ClosesOnCard o X Y) (sym some)
+          (act, closed-alone c.in-Some.accepted.session act X Y (g.met.C.Chip.coherent c.leave.new.card) c.in-Ok-leave.ensures.cause.works c.leave.ensures.moments.tells c.in-Ok-leave.ensures.closed),
+    )
+
 pub returns-in-Err-clause-closed : goal.returns-in-Err-clause-closed
 returns-in-Err-clause-closed g c =
     let run = c.args.run.now in
@@ -69,6 +115,7 @@ returns-in-Err-clause-closed g c =
         told = c.tear.ensures.told;
       },
       fewer_broken one (call_broken true (none_broken X) c.in-Err.ensures.cause),
+      λ is. absurd (cc),
     )
 
 pub returns-in-Err-clause-stands : goal.returns-in-Err-clause-stands

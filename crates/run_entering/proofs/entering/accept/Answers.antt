@@ -3,6 +3,8 @@ use Rattle.std.specs.Prelude.{is_err, Result, Err}
 use Rattle.card_layout.specs.declared.files.Application.{Application}
 use Rattle.card_layout.specs.Application.{place_of_field}
 use Rattle.card_layout.proofs.Sizes.{largest_image}
+use Rattle.card_image.specs.Own.{own_sizes}
+use Rattle.run_rule.specs.Found.{found_of}
 use Rattle.run_crew.specs.declared.cabin.Cabin.{Cabin}
 use Rattle.run_crew.specs.Cards.{known_of}
 use Rattle.run_crew.specs.Cabin.{with_sizes_of, torn_out}
@@ -16,6 +18,7 @@ use Rattle.run_told.proofs.Putting.{out-now}
 use Rattle.run_entering.specs.declared.waking.TheConstants.{UNTOLD}
 use Rattle.run_entering.specs.Told.{BooksJudged, BooksEntered}
 use Rattle.run_entering.proofs.Carried.{noted-carried, found-fallen}
+use Rattle.run_entering.proofs.Opening.{does-read}
 use Rattle.run_entering.proofs.Booked.{torn-carried, still-bare, woken-may, woken-untouched, woken-timed, woken-known}
 use Rattle.run_entering.proofs.InTime.{woken-early}
 use Rattle.run_entering.proofs.Notes.{fault-noted}
@@ -48,6 +51,7 @@ returns-in_default-clause-entered g c =
         told = tt;
         timed = λ valid. woken-timed e k (Err UNTOLD) U X M Z (g.met.M.Medium.coherent c.args.unit.now) (g.met.C.Chip.coherent c.args.card.now) c.wake.ensures.leaves c.wake.ensures.clock c.requires.bare f w m;
         untouched = λ same. inl (woken-untouched e k (Err UNTOLD) U X M Z (g.met.M.Medium.coherent c.args.unit.now) (g.met.C.Chip.coherent c.args.card.now) c.wake.ensures.leaves c.wake.ensures.clock c.requires.bare f w m same);
+        opens = λ valid. tt;
       },
     )
 
@@ -109,6 +113,7 @@ returns-in-Err-clause-entered g c =
         told = tt;
         timed = λ valid. woken-timed e k (Err field) U X M Z (g.met.M.Medium.coherent c.args.unit.now) (g.met.C.Chip.coherent c.args.card.now) c.wake.ensures.leaves c.wake.ensures.clock c.requires.bare f w m;
         untouched = λ same. inl (woken-untouched e k (Err field) U X M Z (g.met.M.Medium.coherent c.args.unit.now) (g.met.C.Chip.coherent c.args.card.now) c.wake.ensures.leaves c.wake.ensures.clock c.requires.bare f w m same);
+        opens = λ valid. does-read (own_sizes (found_of f e.which).image) X M c.wake.ensures.leaves;
       },
     ) in
     (Unsized field, r.0, r.1)

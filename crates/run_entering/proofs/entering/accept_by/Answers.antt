@@ -30,7 +30,7 @@ returns-in-Ok-clause-ended g c =
       taken_as t.0 c.in-Ok.entered M.clock t.1,
       judged-taken c.args.app e k c.args.noted.now c.args.outcome.now U V X M c.in-Ok.entered enters c.enter.ensures.leaves.later (is_err c.take_in.result) c.take_in.new.keeper c.take_in.new.noted c.take_in.new.outcome
           (g.M.Medium.state c.take_in.new.unit) (g.C.Chip.state c.take_in.new.card) c.take_in.ensures.low c.take_in.ensures.sized t.0 t.1 t.2 t.3,
-      λ f w m out low. taken-known c.args.app e k U V X M Z (g.met.M.Medium.coherent c.args.unit.now) (g.met.M.Medium.coherent c.enter.new.unit) (g.met.C.Chip.coherent c.args.card.now) (g.met.C.Chip.coherent c.enter.new.card) c.requires.bare c.requires.sized (omega (arith, largest_image c.args.app c.requires.port.good, c.requires.port.size)) k.memory.registration long e.odometer.0 (omega (arith, c.requires.last)) (Ok c.in-Ok.entered) enters f w m out c.in-Ok.entered refl t.0 t.1 (is_err c.take_in.result) c.take_in.new.keeper (g.M.Medium.state c.take_in.new.unit) (g.C.Chip.state c.take_in.new.card) c.requires.works (enters.unit.cause refl).works (let later = t.3.later in omega (arith, later, low)) c.take_in.ensures.most t.4,
+      λ f w m out low. taken-known c.args.app e k U V X M Z (g.met.M.Medium.coherent c.args.unit.now) (g.met.M.Medium.coherent c.enter.new.unit) (g.met.C.Chip.coherent c.args.card.now) (g.met.C.Chip.coherent c.enter.new.card) c.requires.bare c.requires.sized (omega (arith, largest_image c.args.app c.requires.port.good, c.requires.port.size)) k.memory.registration long e.odometer.0 (omega (arith, c.requires.last)) (Ok c.in-Ok.entered) enters f w m out c.in-Ok.entered refl t.0 t.1 (is_err c.take_in.result) c.take_in.new.keeper (g.M.Medium.state c.take_in.new.unit) (g.C.Chip.state c.take_in.new.card) refl refl c.requires.second c.requires.works (enters.unit.cause refl).works (let later = t.3.later in omega (arith, later, low)) c.take_in.ensures.most t.4,
     )
 
 pub returns-in-Err-UnitFailed-clause-ended : goal.returns-in-Err-UnitFailed-clause-ended

@@ -2,6 +2,7 @@ use Rattle.std.proofs.Common.{◌≡◌, arith, Bool, true, false, rules, refl, 
 use Rattle.std.specs.Prelude.{is_err}
 use Rattle.run_told.specs.Told.{arranged}
 use Rattle.run_entering.specs.Told.{BooksNotes}
+use Rattle.run_entering.proofs.Opening.{beside-none}
 use Rattle.run_entering.proofs.Carried.{noted-carried, unclosed-carried}
 use Rattle.run_entering.specs.Entered.{IsNotedOn}
 use Rattle.run_entering.proofs.Notes.{unclosed-noted}
@@ -88,13 +89,13 @@ returns-clause-card g c = elim c.if-entering-gt0.branch [
 pub returns-then-session-eq0-clause-timed : goal.returns-then-session-eq0-clause-timed
 returns-then-session-eq0-clause-timed g c = elim c.if-entering-gt0.branch [
   | then-entering-gt0+in_ok-note_moving w ↦ rw w.card-is w.in_ok-note_moving.ensures.timed
-  | else-entering-gt0 w ↦ rw w.card-is (λ f wc a may timed. timed)
+  | else-entering-gt0 w ↦ rw w.card-is (λ f wc a may. beside-none f c.args.entering.which (g.C.Chip.state c.args.card.now))
 ]
 
 pub returns-clause-timed : goal.returns-clause-timed
 returns-clause-timed g c = elim c.if-entering-gt0.branch [
   | then-entering-gt0+in_ok-note_moving w ↦ rw w.card-is w.in_ok-note_moving.ensures.timed
-  | else-entering-gt0 w ↦ rw w.card-is (λ f wc a may timed. timed)
+  | else-entering-gt0 w ↦ rw w.card-is (λ f wc a may. beside-none f c.args.entering.which (g.C.Chip.state c.args.card.now))
 ]
 
 pub returns-then-session-eq0-clause-more : goal.returns-then-session-eq0-clause-more

@@ -4,6 +4,7 @@ use Rattle.event_model.specs.declared.kinds.TheConstants.{INSERTION_WHILE_DRIVIN
 use Rattle.tach_media.proofs.Runs.{ok_gives}
 use Rattle.run_entering.specs.Noted.{IsOnUnit, IsComing, event_of}
 use Rattle.run_entering.specs.Entered.{IsMoved}
+use Rattle.run_entering.proofs.Opening.{beside-none}
 use Rattle.run_entering.proofs.Notes.{not_cut, one-note, fault-noted}
 use Rattle.card_layout.proofs.Sizes.{largest_image}
 use Rattle.run_told.specs.Told.{arranged}
@@ -61,7 +62,7 @@ returns-in-Err-clause-noted g c =
 -- ---- when the card was last used
 
 pub returns-in_err-note_driving-clause-timed : goal.returns-in_err-note_driving-clause-timed
-returns-in_err-note_driving-clause-timed g c = λ f w a m timed. timed
+returns-in_err-note_driving-clause-timed g c = λ f w a m. beside-none f c.args.entering.which (g.C.Chip.state c.args.card.now)
 
 pub returns-in-Ok-clause-timed : goal.returns-in-Ok-clause-timed
 returns-in-Ok-clause-timed g c = λ f w a m. booked.moved-timed f w c.args.app a c.args.entering c.args.keeper.now (g.M.Medium.state c.args.unit.now) (g.M.Medium.state c.note_driving.new.unit) (g.C.Chip.state c.args.card.now) (g.D.Chip.state c.args.others.now) m (g.met.M.Medium.coherent c.args.unit.now) c.note_driving.ensures.journal c.in_ok-note_driving.ensures.cause (g.met.M.Medium.coherent c.note_driving.new.unit) (g.met.C.Chip.coherent c.args.card.now) (g.C.Chip.state c.note_event_on.new.card) (g.met.C.Chip.coherent c.note_event_on.new.card) c.on_card-event.result c.note_event_on.ensures.moments

@@ -5,6 +5,7 @@ use Rattle.run_entering.specs.Entering.{and_marks, last_of, taken_as}
 use Rattle.run_entering.specs.Entered.{IsEntry, IsTaken}
 use Rattle.run_told.specs.Told.{arranged}
 use Rattle.run_entering.specs.Told.{BooksTaken}
+use Rattle.run_entering.proofs.Opening.{beside-none}
 use Rattle.run_entering.proofs.Carried.{taken-row, seat-found, taken-notes}
 use Rattle.run_entering.proofs.Accepted.{taken-cut, taken-on}
 use Rattle.run_entering.proofs.Seats.{if-any, seated-ready, seated-minute}
@@ -34,7 +35,7 @@ returns-in_err-seat-clause-ended g c =
       λ f w m. (
         taken-row entered X.clock e k.journal.kept f w c.seat.new.keeper.cabin.cards (arranged e.which V X Z) s.0 (c.in_err-seat.ensures.booked f w m),
         seat-found entered.look entered.session e true k c.seat.new.keeper c.args.noted.now c.seat.new.noted U.image s.0 s.1.by f m.named m.found,
-        λ timed. timed,
+        beside-none f e.which X,
       ),
     )
 

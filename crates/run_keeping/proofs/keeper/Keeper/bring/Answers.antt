@@ -1,4 +1,4 @@
-use Rattle.std.proofs.Common.{rules, ◌≡◌, ◌∙◌, Bool, Option, Some, ap, sym, subst}
+use Rattle.std.proofs.Common.{rules, ◌≡◌, ◌∙◌, Bool, false, Option, Some, None, ap, sym, subst}
 use Rattle.std.specs.Prelude.{is_err}
 use Rattle.trace_model.specs.declared.Card.{Card}
 use Rattle.trace_model.specs.declared.Card.TheVariants.{A, B}
@@ -6,11 +6,28 @@ use Rattle.tach_media.specs.Medium.{State, LeavesOnly}
 use Rattle.run_crew.specs.Cabin.{crew_of}
 use Rattle.run_rule.specs.Between.{devices}
 use Rattle.run_keeping.specs.declared.keeper.Keeper.{Keeper}
-use Rattle.run_keeping.specs.Keeping.{Fate, IsBrought, IsNotingFault, state_at}
+use Rattle.run_keeping.specs.Keeping.{Fate, Still, IsBrought, IsNotingFault, state_at}
 use Rattle.run_keeping.specs.Owing.{BooksBrought}
-use Rattle.run_keeping.proofs.Brought.{brought-booked}
+use Rattle.tach_media.proofs.Runs.{starts}
+use Rattle.run_keeping.proofs.Fates.{nobody-brought}
+use Rattle.run_keeping.proofs.Brought.{brought-booked, nobody-booked}
 use Rattle.run_keeping.proofs.Later.{state-by, later-same, later-of-a, later-of-b}
 use Rattle.run_keeping.proofs.keeper.Keeper.bring.Goals as goal
+
+pub returns-in-None-clause-brought : goal.returns-in-None-clause-brought
+returns-in-None-clause-brought g c =
+    let k = c.args.self.now in
+    let U = g.M.Medium.state c.args.unit.now in
+    let X = g.C.Chip.state c.args.card_a.now in
+    let Z = g.D.Chip.state c.args.card_b.now in
+    let is : c.args.present ≡ None = c.in-None.is in
+    subst (λ (o : Option Card). (fate : Fate) × IsBrought o c.args.kept.now c.args.at false k k c.args.marks.now c.args.marks.now c.args.breaks.now c.args.breaks.now fate U U (state_at o X Z) (state_at o X Z)
+    × LeavesOnly U U (IsNotingFault fate c.args.at.second (crew_of k.cabin)) × BooksBrought o c.args.kept.now false fate k.cabin.cards k.cabin.cards (devices U X Z) (devices U X Z)) (sym is) (
+      Still,
+      nobody-brought c.args.kept.now c.args.at k c.args.marks.now c.args.breaks.now U X,
+      starts U (IsNotingFault Still c.args.at.second (crew_of k.cabin)),
+      nobody-booked c.args.kept.now k.cabin.cards (devices U X Z),
+    )
 
 pub returns-in-Some-A-clause-brought : goal.returns-in-Some-A-clause-brought
 returns-in-Some-A-clause-brought g c =

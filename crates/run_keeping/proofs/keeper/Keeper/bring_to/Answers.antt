@@ -94,7 +94,7 @@ returns-clause-brought g c =
       starts (g.M.Medium.state c.args.unit.now) (IsNotingFault (Has after c.clock.result) c.args.at.second (crew_of (record { slots = k.cabin.slots; cards = c.set_session.new.self }))),
       booked-has c.args.which c.args.kept.now k.cabin.cards (g.M.Medium.state c.args.unit.now) (g.C.Chip.state c.args.card.now) c.set_session.new.self (g.C.Chip.state c.keep_on_card.new.card) (g.C.Chip.card c.args.card.now) c.in-Some.accepted
           (g.met.M.Medium.coherent c.args.unit.now) (g.met.C.Chip.coherent c.args.card.now) (g.met.C.Chip.coherent c.keep_on_card.new.card) (sym c.in-Some.ensures.taken) c.requires.card c.requires.behind c.keep_on_card.ensures.moments
-          after c.clock.result (ap (λ (q : Cards). session_of q c.args.which) cards ∙ session-set c.args.which (Some after) k.cabin.cards) cause.works c.keep_on_card.ensures.same.0 last.0
+          after c.clock.result (ap (λ (q : Cards). session_of q c.args.which) cards ∙ session-set c.args.which (Some after) k.cabin.cards) cause.works c.keep_on_card.ensures.same.0 last.0 c.keep_on_card.ensures.same.1 last.1
           (ok_gives c.keep_on_card.result c.keep_on_card.ensures.kept well) (ok_gives c.keep_on_card.result c.keep_on_card.ensures.settled well) c.clock.ensures,
     )
 

@@ -45,7 +45,7 @@ returns-in_err-commit-clause-kept g c =
     × NotesFaults f (last_faults p c.args.at round k.cabin) U V) failed (
       None,
       (refl, told-same c.commit.new.self k c.commit.new.marks c.args.marks.now c.args.breaks.now c.args.breaks.now keeper same.1 refl),
-      λ says. λ f w start v leg may gone odometer time. (c.in_err-commit.ensures.booked says f w start v leg (record { booked = may.booked; comes = may.comes }) gone odometer time.unit, timed-at f U V X Y (devices V X Y) (λ card valid. stays-self (found_of f card) (card_of (devices V X Y) card))),
+      λ says. λ f w start v leg may gone odometer time. (c.in_err-commit.ensures.booked says f w start v leg (record { booked = may.booked; comes = may.comes }) gone odometer time.unit, timed-at f U V X Y (devices V X Y) (λ card valid. stays-self (found_of f card) (card_of (devices V X Y) card)), λ well. absurd (cc)),
       c.in_err-commit.ensures.quiet,
     )
 

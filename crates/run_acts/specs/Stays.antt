@@ -1,0 +1,101 @@
+-- What a card shows of its stays in a run in which no call failed (profile): its days, with their words and distances, and its newest vehicle
+-- entry, exactly.
+use Rattle.std.specs.Prelude.{◌≡◌, ℕ, ◌++◌, Bool, not, Option, Some, None, List, [], ◌∷◌, is_some}
+use Rattle.activity_codec.specs.declared.values.Activity.{Activity}
+use Rattle.activity_codec.specs.declared.entries.Entry.{Entry}
+use Rattle.trace_model.specs.declared.Card.{Card}
+use Rattle.tach_media.specs.Medium.{State, bytes_at}
+use Rattle.tacho_types.specs.declared.texts.Registration.{Registration}
+use Rattle.unit_model.specs.declared.layout.TheConstants.{REGISTRATION}
+use Rattle.log_model.specs.Log.{RunLog}
+use Rattle.card_image.specs.Own.{own_sizes, IsOwnValid}
+use Rattle.card_session.specs.declared.session.Kept.{Kept}
+use Rattle.card_session.specs.Books.{Book, mark_of}
+use Rattle.card_session.specs.Sessions.{IsSession, book_of}
+use Rattle.card_session.specs.Cards.{IsCardClosed}
+use Rattle.card_session.specs.Inserting.{lacked}
+use Rattle.card_steps.specs.Deeds.{Deed, Close}
+use Rattle.safety_model.specs.Safe.{Devices, card_of}
+use Rattle.run_crew.specs.declared.cards.Accepted.{Accepted}
+use Rattle.run_crew.specs.declared.cards.Cards.{Cards}
+use Rattle.run_crew.specs.Cards.{session_of}
+use Rattle.run_rule.specs.Found.{CardFound, found_of}
+use Rattle.run_recorded.specs.Origin.{Origin}
+use Rattle.run_recorded.specs.Whole.{NothingFailed}
+use Rattle.run_keeping.specs.CardDeeds.{made_by, is_used, ShowsBook, keeps, last_odometer, opens}
+
+-- the registration of the vehicle, as the image of its unit says
+abbrev pub registration_in : List ℕ → List ℕ
+registration_in unit = bytes_at unit REGISTRATION.place REGISTRATION.size
+
+-- A STAY of a card in the vehicle: from its insertion, where that had this odometer value, and so much was owed to it, with the minutes that it
+-- kept, to its withdrawal with an activity; or it was not withdrawn.
+pub record Stay : Type 0 where
+  pub odometer : ℕ
+  pub owed : List Entry
+  pub kepts : List Kept
+  pub closed : Option Activity
+
+abbrev pub closes : Option Activity → List Deed
+closes None = []
+closes (Some act) = Close act ∷ []
+
+-- what is done on the card in it
+abbrev pub deeds_of : Registration → (used : Bool) → Book → Stay → List Deed
+deeds_of vehicle used b s = opens used vehicle s.odometer (lacked (mark_of b) s.owed) ++ (keeps vehicle None s.kepts ++ closes s.closed)
+
+-- a book, and whether a session is open with it
+pub record Shown : Type 0 where
+  pub book : Book
+  pub used : Bool
+
+-- behind a stay, and behind some
+abbrev pub after_stay : Registration → (size : ℕ) → Stay → Shown → Shown
+after_stay vehicle size s p = record { book = made_by size (deeds_of vehicle p.used p.book s) p.book; used = not (is_some s.closed) }
+
+abbrev pub after_stays : Registration → (size : ℕ) → List Stay → Shown → Shown
+after_stays vehicle size [] p = p
+after_stays vehicle size (s ∷ ss) p = after_stays vehicle size ss (after_stay vehicle size s p)
+
+-- at the start
+abbrev pub start_shown : List ℕ → Shown
+start_shown image = record { book = book_of (own_sizes image) image; used = is_used (own_sizes image) image }
+
+-- A CARD IN ITS SLOT goes on in the last of its stays: its session is of the vehicle, and has the odometer value of the last minute kept in it.
+pub record GoesIn (vehicle : Registration) (stays : List Stay) (a : Accepted) : Type 0 where
+  pub front : List Stay
+  pub stay : Stay
+  pub are : stays ≡ front ++ stay ∷ []
+  pub still : stay.closed ≡ None
+  pub registered : a.session.registration ≡ vehicle
+  pub odometer : a.session.odometer ≡ last_odometer None stay.kepts
+
+abbrev pub StaysIn : Registration → List Stay → Option Accepted → Type 0
+StaysIn vehicle stays None = Unit {0}
+StaysIn vehicle stays (Some a) = GoesIn vehicle stays a
+
+-- EACH IMAGE THAT A CARD MAY LEAVE shows exactly what its stays in the vehicle make of the image at the start.
+pub record HasStays (f : CardFound) (vehicle : Registration) (session : Option Accepted) (card : State) : Type 0 where
+  pub stays : List Stay
+  pub shows : ShowsBook (own_sizes f.image) (after_stays vehicle (own_sizes f.image).activity stays (start_shown f.image)).book
+      (after_stays vehicle (own_sizes f.image).activity stays (start_shown f.image)).used card
+  pub goes : StaysIn vehicle stays session
+
+-- so it is once the run is over, of a card with this image at the start, in the vehicle that this image of its unit says
+pub record ShowsStays (unit image : List ℕ) (card : State) : Type 0 where
+  pub vehicle : Registration
+  pub says : vehicle.0 ≡ registration_in unit
+  pub stays : List Stay
+  pub shows : ShowsBook (own_sizes image) (after_stays vehicle (own_sizes image).activity stays (start_shown image)).book
+      (after_stays vehicle (own_sizes image).activity stays (start_shown image)).used card
+
+-- so does each card that was valid, where no call has failed, in the vehicle of the run
+abbrev pub AllStay : Origin → RunLog → Registration → Cards → Devices → Type 0
+AllStay o log vehicle cards d = NothingFailed log
+    → (vehicle.0 ≡ registration_in o.recording.unit) × ((c : Card) → IsOwnValid (found_of o.found c).image → HasStays (found_of o.found c) vehicle (session_of cards c) (card_of d c))
+
+-- A CARD IS CLOSED where its session was, with this activity: each image that it may leave is its image before, closed
+abbrev pub ClosesOnCard : (session : Option Accepted) → (card card_after : State) → Type 0
+ClosesOnCard None card card_after = ⊥
+ClosesOnCard (Some a) card card_after =
+    (act : Activity) × ((c : List ℕ) → card_after.may_leave c → (x : List ℕ) × (card.image ≡ Some x) × (IsSession a.session x → IsCardClosed a.session act x c))
