@@ -327,8 +327,11 @@ module _ (x a b : List ℕ) (start : ℕ) (began now : Devices) (opened : Opened
         travels = travels;
       });
       odometer = λ lit. absurd (let bad : Due ≡ Lit = sym due ∙ lit in cc);
-      stay = λ none. (registered, λ c valid. subst (λ (s : Option Accepted). HasStays (found_of f c) run.keeper.memory.registration s (card_of now c)) (sym (bare c))
-          (stays-start (found_of f c) run.keeper.memory.registration (card_of now c) (λ y left. untouched c y ((whole c).counts_now (found_of f c).began y (there.clocks c) left))));
+      stay = λ none. (
+        registered,
+        λ c valid. subst (λ (s : Option Accepted). HasStays (found_of f c) run.keeper.memory.registration s (card_of now c)) (sym (bare c))
+            (stays-start (found_of f c) run.keeper.memory.registration (card_of now c) (λ y left. untouched c y ((whole c).counts_now (found_of f c).began y (there.clocks c) left))),
+      );
     }
 
     only_unit : (y : List ℕ) → now.unit.may_leave y → y ≡ x
