@@ -161,7 +161,7 @@ module _ {C : Type 0} (state : C → State) (c : Card) (slot : Slot) (at : Momen
     closed shut false is powered = goes-as o done s (In n) (In n) [] [] [] run (with_cabin (with_session_of c None run.keeper.cabin) run) told told d e w.within.from w refl refl (session-closed d e o done s (In n) v w.within slot c called powered)
         (all-one o c (log_of told) (log_of told) run.keeper.memory.registration run.keeper.cabin.cards (with_session c None run.keeper.cabin.cards) U V (state x) (state y) Z (λ none. none) (others-left c run.keeper.cabin.cards)
         (λ none valid h. subst (λ (q : Option Accepted). HasStays (found_of o.found c) run.keeper.memory.registration q (state y)) (sym (mine-left c run.keeper.cabin.cards))
-        (stays-closed a has shut valid (subst (λ (q : Option Accepted). HasStays (found_of o.found c) run.keeper.memory.registration q (state x)) has h))) w.stay)
+        (stays-closed shut valid (subst (λ (q : Option Accepted). HasStays (found_of o.found c) run.keeper.memory.registration q (state x)) has h))) w.stay)
     closed shut true is powerless = record {
       waits = [];
       cabin = with_session_of c None run.keeper.cabin;

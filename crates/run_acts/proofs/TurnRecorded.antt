@@ -90,7 +90,7 @@ module _ (old : Run) (before : Outcome) (minutes : Kept) (keeper : Keeper) (watc
       (lit : old.power ≡ Lit) (some : 0 < n) (time : HaveTime e)
       (o : Origin) (origin : IsOrigin o) (done : List TraceSecond) (s : TraceSecond) (next gone : ℕ) (w : Within o done s Keeping [] (Some s.speed) decided (record (values_of old before) { minutes = minutes; next = next; begun = gone }) d)
       (number : s.number ≡ old.next + n - 1) (next_is : next ≡ old.next + n - 1) (actions : length s.actions ≡ begun) (stored : old.keeper.odometer ≡ odometer_after (odometer_at o.recording.unit) w.b.travel.before)
-      (few : s.number / 60 ≤ w.from + 4) (low : w.from + length decided ≤ s.number / 60) (stay : AllStay o (log_of before) old.keeper.memory.registration old.keeper.cabin.cards d) where
+      (few : s.number / 60 ≤ w.from + 4) (low : w.from + length decided ≤ s.number / 60) where
     abbrev q : Point
     q = keeping_of s
 
@@ -136,8 +136,8 @@ module _ (old : Run) (before : Outcome) (minutes : Kept) (keeper : Keeper) (watc
     U = told_values u v
 
     -- what is made of the cards
-    turned-stay : failed ≡ false → (r : Reach) → IsReach decided (moment_of s q) false t u r → AllStay o (log_of told) keeper.memory.registration keeper.cabin.cards e
-    turned-stay well r is_ =
+    turned-stay : AllStay o (log_of before) old.keeper.memory.registration old.keeper.cabin.cards d → failed ≡ false → (r : Reach) → IsReach decided (moment_of s q) false t u r → AllStay o (log_of told) keeper.memory.registration keeper.cabin.cards e
+    turned-stay stay well r is_ =
         let how = reach-told decided (moment_of s q) t u r is_ in
         all-of o (log_of told) old.keeper.memory.registration keeper.memory.registration keeper.cabin.cards e how.registered
         (all-kept o (log_of before) (log_of told) old.keeper.memory.registration (kepts_on old.keeper decided) old.keeper.cabin.cards keeper.cabin.cards d e
@@ -182,12 +182,12 @@ module _ (old : Run) (before : Outcome) (minutes : Kept) (keeper : Keeper) (watc
           stay = λ none. no-cut (log_of told) (old.next + n - 1) begun none;
         }
 
-    by : (f : Bool) (r : Reach) → failed ≡ f → IsTurnReach decided (moment_of s q) f t u r → IsTurnBooked o.found (odometer_at o.recording.unit) (carried_at o done s q decided t v d w) old.keeper f r (all_travelled w.ds w.b.travel) u e →
+    by : AllStay o (log_of before) old.keeper.memory.registration old.keeper.cabin.cards d → (f : Bool) (r : Reach) → failed ≡ f → IsTurnReach decided (moment_of s q) f t u r → IsTurnBooked o.found (odometer_at o.recording.unit) (carried_at o done s q decided t v d w) old.keeper f r (all_travelled w.ds w.b.travel) u e →
         RunRecorded o (done ++ s ∷ []) (passed n begun (cut_where f (old.next + n - 1) between)) (cut_breaks f (old.next + n - 1) begun told) e
-    by false (Whole xs) same is_ b = let k = keeping-recorded d e o done s q decided t u v w keeps false (Whole xs) is_ off (λ no. absurd (cc)) b in over-now k.0.within k.0.began (turned-stay same (Whole xs) is_)
-    by true (Whole xs) same is_ b = cut-now (note-fails d e o done s q decided t u v w keeps low xs is_ off (rose same) b.0 b.1)
-    by false (Short xs m round) same is_ b = absurd is_
-    by true (Short xs m round) same is_ b = cut-now (keeping-recorded d e o done s q decided t u v w keeps true (Short xs m round) is_ off (λ yes_. rose same) b)
+    by stay false (Whole xs) same is_ b = let k = keeping-recorded d e o done s q decided t u v w keeps false (Whole xs) is_ off (λ no. absurd (cc)) b in over-now k.0.within k.0.began (turned-stay stay same (Whole xs) is_)
+    by stay true (Whole xs) same is_ b = cut-now (note-fails d e o done s q decided t u v w keeps low xs is_ off (rose same) b.0 b.1)
+    by stay false (Short xs m round) same is_ b = absurd is_
+    by stay true (Short xs m round) same is_ b = cut-now (keeping-recorded d e o done s q decided t u v w keeps true (Short xs m round) is_ off (λ yes_. rose same) b)
 
     -- where the unit failed: the record as power is about to be cut
     fails-by : (f : Bool) (r : Reach) → failed ≡ f → IsTurnReach decided (moment_of s q) f t u r → IsTurnBooked o.found (odometer_at o.recording.unit) (carried_at o done s q decided t v d w) old.keeper f r (all_travelled w.ds w.b.travel) u e →
@@ -199,8 +199,8 @@ module _ (old : Run) (before : Outcome) (minutes : Kept) (keeper : Keeper) (watc
     pub turn-fails : failed ≡ true → CutWithin o done s Keeping [] (Some s.speed) U e
     turn-fails on = fails-by failed reach refl turn-reach booked.0 on
 
-    pub turn-core : RunRecorded o (done ++ s ∷ []) (passed n begun (cut_where failed (old.next + n - 1) between)) (cut_breaks failed (old.next + n - 1) begun told) e
-    turn-core = by failed reach refl turn-reach booked.0
+    pub turn-core : AllStay o (log_of before) old.keeper.memory.registration old.keeper.cabin.cards d → RunRecorded o (done ++ s ∷ []) (passed n begun (cut_where failed (old.next + n - 1) between)) (cut_breaks failed (old.next + n - 1) begun told) e
+    turn-core stay = by stay failed reach refl turn-reach booked.0
 
 -- ---- the last of some seconds
 pub last-actions : (c begun : ℕ) (s : TraceSecond) → length s.actions ≡ begun → (0 < c → s.actions ≡ []) → length (last_of c s).actions ≡ begun
@@ -295,7 +295,7 @@ module _ {U A0 B0 : State} {chip_a chip_b : CardState} (n speed begun : ℕ) (ol
         let same : L.number / 60 ≡ old.next / 60 = ap (λ (m : ℕ). m / 60) num ∙ day in
         turn-fails old before T.fed.minutes T.between.keeper T.between.watch T.told.marks T.told.breaks n begun T.failed T.decided h.1 d e reach-is books-is h.4 h.5 (two-present (ungiven_of g.span) None old.keeper.cabin g.cabin)
         lit some time o r.origin D L next gone w num (omega (arith, next_is, is, some)) acts (r.odometer ∙ ap (odometer_after (odometer_at o.recording.unit)) (sym travel))
-        (omega (arith, from, first, few, same)) (omega (arith, from, first, end, same)) r.stay on
+        (omega (arith, from, first, few, same)) (omega (arith, from, first, end, same)) on
 
     -- what its keeping leaves of when cards were used, and of their events
     pub timed-last : (c : ℕ) → c ≡ n - 1 → (D : List TraceSecond) (L : TraceSecond) (next gone : ℕ) → L.number ≡ s.number + c → next ≡ old.next + c → length L.actions ≡ begun →
@@ -310,7 +310,7 @@ module _ {U A0 B0 : State} {chip_a chip_b : CardState} (n speed begun : ℕ) (ol
         let same : L.number / 60 ≡ old.next / 60 = ap (λ (m : ℕ). m / 60) num ∙ day in
         (booked old before T.fed.minutes T.between.keeper T.between.watch T.told.marks T.told.breaks n begun T.failed T.decided h.1 d e reach-is books-is h.4 h.5 (two-present (ungiven_of g.span) None old.keeper.cabin g.cabin)
         lit some time o r.origin D L next gone w num (omega (arith, next_is, is, some)) acts (r.odometer ∙ ap (odometer_after (odometer_at o.recording.unit)) (sym travel))
-        (omega (arith, from, first, few, same)) (omega (arith, from, first, end, same)) r.stay).1
+        (omega (arith, from, first, few, same)) (omega (arith, from, first, end, same))).1
 
     by-count : (c : ℕ) → c ≡ n - 1 → IsTurned o done s c T.decided T.fed.minutes (values_of old before) d r.within → RunRecorded o (before_last c s done ++ last_of c s ∷ []) (passed n begun new) after e
     by-count zero is x = by-last zero is done s (old.next + 0) x.begun (last-number zero s) refl (last-actions zero begun s actions (λ lt. none (omega (arith, lt, is)))) x.fed x.travelled_before x.from
