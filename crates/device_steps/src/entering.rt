@@ -134,7 +134,16 @@ fn enter_as<M: Medium, C: Medium>(
     ensures most { (C.state card.new).clock ≤ (C.state card.old).clock + (DAYS_MOST + 84) }
 {
     match journal.ask(unit, &look.number, look.session, look.newest_minute, spared) {
-        Ok(asked) => insert_by(card, app, now, registration, odometer, look, asked.owed, asked.row),
+        Ok(asked) => insert_by(
+            card,
+            app,
+            now,
+            registration,
+            odometer,
+            look,
+            asked.owed,
+            asked.row,
+        ),
         Err(Failed) => Err(NotEntered::UnitFailed),
     }
 }
@@ -166,7 +175,17 @@ fn enter_by<M: Medium, C: Medium>(
     ensures most { (C.state card.new).clock ≤ (C.state card.old).clock + (DAYS_MOST + 84) }
 {
     match look(card, app) {
-        Ok(look) => enter_as(unit, journal, card, app, now, registration, odometer, look, spared),
+        Ok(look) => enter_as(
+            unit,
+            journal,
+            card,
+            app,
+            now,
+            registration,
+            odometer,
+            look,
+            spared,
+        ),
         Err(fault) => Err(refused_by(fault)),
     }
 }
@@ -227,5 +246,14 @@ pub fn enter<M: Medium, C: Chip, D: Chip>(
 {
     let _bytes = length_of(registration);
     let mut port = Port::resume(&mut *card, app);
-    enter_by(unit, journal, &mut port, &app, now, registration, odometer, spared)
+    enter_by(
+        unit,
+        journal,
+        &mut port,
+        &app,
+        now,
+        registration,
+        odometer,
+        spared,
+    )
 }

@@ -9,7 +9,9 @@ ghost use Rattle.owed_model.specs.Rows.{entry_word, cell_pieces, row_pieces, put
 ghost use Rattle.owed_rows.specs.Searching.{IsSane};
 
 use super::Journal;
-use owed_rows::{Asked, Entry, Owed, ask, begin_owed, begin_owed_at, has_row, owed, put_owed, put_owed_at};
+use owed_rows::{
+    Asked, Entry, Owed, ask, begin_owed, begin_owed_at, has_row, owed, put_owed, put_owed_at,
+};
 use tach_media::{Failed, Medium};
 use tacho_types::{FullCardNumber, write_card_number};
 
