@@ -1,5 +1,6 @@
 -- The unit over a note: it is the same, what the journal knows is so still, and each row is there; and what might be left of a device.
 use Rattle.std.proofs.Common.{◌≡◌, ◌∙◌, ⊎_elim, ℕ, ◌-◌, ◌<◌, ◌≤◌, true, Option, List, IfSome, ap, subst, sym, arith}
+use Rattle.std.specs.Prelude.{Result}
 use Rattle.byte_fields.proofs.Images.{part_in}
 use Rattle.tach_media.specs.Medium.{State, IsCoherent, LeavesOnly, bytes_at}
 use Rattle.tach_media.proofs.Runs.{at_image, if_told}
@@ -13,10 +14,14 @@ use Rattle.unit_journal.proofs.Beside.{agrees_beside}
 use Rattle.unit_notes.specs.Journal.{KeepsJournal, LeavesJournal}
 use Rattle.unit_notes.proofs.Journals.{same_journal}
 use Rattle.trace_model.specs.declared.Card.{Card}
+use Rattle.trace_model.specs.declared.Card.TheVariants.{A, B}
+use Rattle.card_layout.specs.declared.files.Application.{Application}
 use Rattle.tacho_types.specs.CardNumber.{card_number_bytes}
+use Rattle.run_crew.specs.declared.cards.Accepted.{Accepted}
 use Rattle.run_crew.specs.declared.cards.Cards.{Cards}
-use Rattle.run_crew.specs.Cards.{known_of}
+use Rattle.run_crew.specs.Cards.{known_of, with_session, with_sizes}
 use Rattle.run_keeping.specs.Keeping.{HasLeftMore, HasItsRow}
+use Rattle.run_keeping.proofs.Sessions.{number-set, row-set}
 
 -- a card of which number and row are known as before has its row still
 pub has-row : (old new : Cards) (U V : State) (card : Card) → (known_of new card).number ≡ (known_of old card).number → (known_of new card).row ≡ (known_of old card).row
@@ -27,6 +32,16 @@ has-row old new U V card number row still h = record {
   low = subst (λ (k : ℕ). k < 8) (sym row) h.low;
   row = subst (λ (k : ℕ). IfSome V.image (IsRowAt k (card_number_bytes h.number))) (sym row) (still (known_of old card).row (card_number_bytes h.number) h.row);
 }
+
+-- so it has where a session begins or ends, or it tells its sizes
+pub row-beside : (c : Card) (s : Option Accepted) (cards : Cards) (U : State) (card : Card) → HasItsRow cards U card → HasItsRow (with_session c s cards) U card
+row-beside c s cards U card h = has-row cards (with_session c s cards) U U card (number-set c card s cards) (row-set c card s cards) (λ r n at. at) h
+
+pub row-measured : (c : Card) (sizes : Result Application ℕ) (cards : Cards) (U : State) (card : Card) → HasItsRow cards U card → HasItsRow (with_sizes c sizes cards) U card
+row-measured A sizes cards U A h = record { number = h.number; told = h.told; low = h.low; row = h.row }
+row-measured A sizes cards U B h = record { number = h.number; told = h.told; low = h.low; row = h.row }
+row-measured B sizes cards U A h = record { number = h.number; told = h.told; low = h.low; row = h.row }
+row-measured B sizes cards U B h = record { number = h.number; told = h.told; low = h.low; row = h.row }
 
 -- it is a unit still
 pub unit-stays : {U V : State} {R : List ℕ → List ℕ → Type 0} → LeavesOnly U V R → IsUnit U → IsUnit V
