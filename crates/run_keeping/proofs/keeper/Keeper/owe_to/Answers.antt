@@ -3,7 +3,9 @@ use Rattle.owed_model.specs.Rows.{IsPutting}
 use Rattle.tacho_types.specs.CardNumber.{card_number_bytes}
 use Rattle.tacho_types.specs.declared.card_number.FullCardNumber.{FullCardNumber}
 use Rattle.run_notes.specs.Entries.{number_or_no_card}
+use Rattle.tach_media.proofs.Runs.{on_ok, ok_gives}
 use Rattle.run_crew.specs.declared.cards.Known.{Known}
+use Rattle.run_crew.specs.Cards.{known_of}
 use Rattle.trace_model.specs.declared.Card.{Card}
 use Rattle.run_keeping.specs.Keeping.{HasItsRow}
 use Rattle.run_keeping.proofs.EntryPut.{row-known, books-put-a, books-put-b}
@@ -53,3 +55,21 @@ pub owe-requires-in-B-clause-row : goal.owe-requires-in-B-clause-row
 owe-requires-in-B-clause-row g c =
     (row-known c.args.self.now.cabin.cards (g.M.Medium.state c.args.unit.now) c.in-Some.card c.of-known.result.now c.number_or_zeros-number.result
     (subst (λ (o : Option Card). IfSome o (HasItsRow c.args.self.now.cabin.cards (g.M.Medium.state c.args.unit.now))) c.in-Some.is c.requires.row) c.of-known.ensures c.number_or_zeros-number.ensures).1
+
+pub returns-in-A-clause-rows : goal.returns-in-A-clause-rows
+returns-in-A-clause-rows g c = λ card h.
+    on_ok c.owe.result (λ well. record {
+      number = h.number;
+      told = h.told;
+      low = h.low;
+      row = ok_gives c.owe.result (c.owe.ensures.rows (known_of c.args.self.now.cabin.cards card).row (card_number_bytes h.number) h.row) well;
+    })
+
+pub returns-in-B-clause-rows : goal.returns-in-B-clause-rows
+returns-in-B-clause-rows g c = λ card h.
+    on_ok c.owe-in-B.result (λ well. record {
+      number = h.number;
+      told = h.told;
+      low = h.low;
+      row = ok_gives c.owe-in-B.result (c.owe-in-B.ensures.rows (known_of c.args.self.now.cabin.cards card).row (card_number_bytes h.number) h.row) well;
+    })
