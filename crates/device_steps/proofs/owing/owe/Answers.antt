@@ -12,7 +12,7 @@ pub returns-clause-mine : goal.returns-clause-mine
 returns-clause-mine g c = λ r s due b marks z named h late some present rule.
     owed-mine r c.args.which _ named c.args.entry.now some (g.met.M.Medium.coherent c.args.unit.now) _ c.requires.agrees s due b marks h late (c.put_owed_at.ensures.moments (card_number_bytes c.args.number.now) c.requires.row) (g.C.Chip.state c.args.mine.now) z rule _ present
     (λ well. put r c.args.which _ named c.args.entry.now some (g.met.M.Medium.coherent c.args.unit.now) _ c.requires.agrees s due b marks h late (c.put_owed_at.ensures.moments (card_number_bytes c.args.number.now) c.requires.row) (g.C.Chip.state c.args.mine.now) z rule
-    (g.met.M.Medium.coherent c.put_owed_at.new.unit) (worked well c.put_owed_at.ensures.cause).0 (row-there _ _ _ c.requires.row) (ok_gives _ (c.put_owed_at.ensures.put (card_number_bytes c.args.number.now) c.requires.row) well) (worked well c.put_owed_at.ensures.cause).1)
+    (g.met.M.Medium.coherent c.put_owed_at.new.unit) (worked well c.put_owed_at.ensures.cause).0 (row-there (g.M.Medium.state c.args.unit.now).image c.args.row (card_number_bytes c.args.number.now) c.requires.row) (ok_gives _ (c.put_owed_at.ensures.put (card_number_bytes c.args.number.now) c.requires.row) well) (worked well c.put_owed_at.ensures.cause).1)
 
 pub returns-clause-other : goal.returns-clause-other
 returns-clause-other g c = λ r s due b marks y z m d named h late some rule others.
