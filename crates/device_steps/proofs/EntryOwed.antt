@@ -11,7 +11,7 @@ use Rattle.tach_media.proofs.Runs.{at_image, weaken}
 use Rattle.gated_ring.specs.Ring.{PointsInside}
 use Rattle.unit_model.specs.Image.{day_ring}
 use Rattle.owed_model.specs.Owed.{Row, row_view}
-use Rattle.owed_model.specs.Rows.{IsPutting as IsPuttingRow, IsPut as IsPutRow, HasRow}
+use Rattle.owed_model.specs.Rows.{IsPutting as IsPuttingRow, IsPut as IsPutRow, HasRow, IsRowAt}
 use Rattle.unit_journal.specs.declared.notes.Notes.{Notes}
 use Rattle.unit_journal.specs.Image.{Agrees}
 use Rattle.log_model.specs.declared.lines.Mark.{Mark}
@@ -44,12 +44,17 @@ worked {old} {new} {failed} well cause = (cause.works ∙ ap not well, by old.wo
     by true is = is
     by false is = absurd (let bad = cause.broken is in cc)
 
--- each number has its row still
-pub row-still : {T E : Type 0} (result : Result T E) (o p : Option (List ℕ)) (number : List ℕ) (e : Entry) → is_some p ≡ is_some o → OnOk result (IfSome o (λ x. IfSome p (IsPutRow number e x))) → (n : List ℕ) → IfSome o (HasRow n) → OnOk result (IfSome p (HasRow n))
-row-still (Ok t) (Some x) (Some y) number e same said n has = (has.0, said.putting.indices n ∙ has.1)
-row-still (Ok t) None (Some y) number e same said n has = absurd (cc)
-row-still (Ok t) o None number e same said n has = tt
-row-still (Err f) o p number e same said n has = tt
+-- a row that is known by its index is one
+pub row-there : (o : Option (List ℕ)) (r : ℕ) (n : List ℕ) → IfSome o (IsRowAt r n) → IfSome o (HasRow n)
+row-there None r n at = tt
+row-there (Some x) r n at = (r, at)
+
+-- each row is whose it was
+pub row-still : {T E : Type 0} (result : Result T E) (o p : Option (List ℕ)) (number : List ℕ) (e : Entry) → is_some p ≡ is_some o → OnOk result (IfSome o (λ x. IfSome p (IsPutRow number e x))) → (r : ℕ) (n : List ℕ) → IfSome o (IsRowAt r n) → OnOk result (IfSome p (IsRowAt r n))
+row-still (Ok t) (Some x) (Some y) number e same said r n at = said.putting.indices n ∙ at
+row-still (Ok t) None (Some y) number e same said r n at = absurd (cc)
+row-still (Ok t) o None number e same said r n at = tt
+row-still (Err f) o p number e same said r n at = tt
 
 -- the unit's rule, whatever the cards
 pub owed-holds : (s : Started) {U V : State} (due : ℕ) (b : Book) (marks : List Mark) (number : List ℕ) (e : Entry) → IsCoherent U → LeavesOnly U V (IsPuttingRow number e) → Holds s due b marks U → Holds s due b marks V

@@ -9,7 +9,7 @@ use Rattle.byte_fields.proofs.Images.{part_in}
 use Rattle.tach_media.specs.Medium.{State, IsCoherent, IsSettled, LeavesOnly, bytes_at, last_count}
 use Rattle.unit_model.specs.Days.{UnitMinute}
 use Rattle.owed_model.specs.Owed.{rows_in, row_index}
-use Rattle.owed_model.specs.Rows.{HasRow}
+use Rattle.owed_model.specs.Rows.{IsRowAt}
 use Rattle.unit_journal.specs.declared.kept.KeptMinute.{KeptMinute}
 use Rattle.unit_journal.specs.Kept.{kept_minute}
 use Rattle.unit_journal.specs.Image as journal
@@ -37,12 +37,12 @@ use Rattle.device_steps.specs.Rule.{Both, opened, number_of, unit_seen, AnyStrin
 rows-same : (x y : List ℕ) → journal.SameBesides x y → rows_in y ≡ rows_in x
 rows-same x y s = sym (part_in y 572 452 52 384 (omega arith)) ∙ ap (λ (l : List ℕ). bytes_at l 52 384) s.between ∙ part_in x 572 452 52 384 (omega arith)
 
--- so each number has its row still
-pub rows-kept : {T E : Type 0} (result : Result T E) (o p : Option (List ℕ)) (k : UnitMinute) → is_some p ≡ is_some o → OnOk result (IfSome o (λ x. IfSome p (journal.IsKept k x))) → (n : List ℕ) → IfSome o (HasRow n) → OnOk result (IfSome p (HasRow n))
-rows-kept (Ok t) (Some x) (Some y) k same said n has = (has.0, ap (λ (rows : List ℕ). row_index n rows) (rows-same x y said.outside) ∙ has.1)
-rows-kept (Ok t) None (Some y) k same said n has = absurd (cc)
-rows-kept (Ok t) o None k same said n has = tt
-rows-kept (Err f) o p k same said n has = tt
+-- so each row is whose it was
+pub rows-kept : {T E : Type 0} (result : Result T E) (o p : Option (List ℕ)) (k : UnitMinute) → is_some p ≡ is_some o → OnOk result (IfSome o (λ x. IfSome p (journal.IsKept k x))) → (r : ℕ) (n : List ℕ) → IfSome o (IsRowAt r n) → OnOk result (IfSome p (IsRowAt r n))
+rows-kept (Ok t) (Some x) (Some y) k same said r n at = ap (λ (rows : List ℕ). row_index n rows) (rows-same x y said.outside) ∙ at
+rows-kept (Ok t) None (Some y) k same said r n at = absurd (cc)
+rows-kept (Ok t) o None k same said r n at = tt
+rows-kept (Err f) o p k same said r n at = tt
 
 pub same_minute : (k : KeptMinute) (i : HistoryMinute) → kept_minute k ≡ seen_by_unit i → 1440 ≤ k.minute → 1440 ≤ i.minute
 same_minute k i is low = let same : k.minute ≡ i.minute = ap (λ (m : UnitMinute). m.minute) is in omega (arith, low, same)

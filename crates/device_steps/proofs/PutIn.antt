@@ -31,6 +31,7 @@ use Rattle.card_session.proofs.InsertingBooks.{trimmed_low}
 use Rattle.joint_rule.specs.Views.{counts, is_session}
 use Rattle.joint_rule.proofs.OwedView.{owed-seen}
 use Rattle.owed_model.specs.Owed.{owed_to, row_view}
+use Rattle.owed_model.specs.Rows.{IsRowFor}
 use Rattle.owed_rows.specs.Searching.{IsSane}
 use Rattle.unit_model.specs.Image.{last_kept}
 use Rattle.device_steps.proofs.EntryOwed.{worked}
@@ -46,6 +47,18 @@ refuses fault = Err (of_card fault)
 
 abbrev pub answers : InsertFault → Result CardLook InsertFault
 answers fault = Err fault
+
+-- ---- the row that is told
+
+pub row-entered : (r : Result Entered NotEntered) (look : CardLook) (row : ℕ) (es : List Entry) (o : Option (List ℕ)) (spared : Option (List ℕ)) → IfOk r (λ e. e.row ≡ row) → IfOk r (λ e. (e.look ≡ look) × (e.owed.items ≡ es)) → IfSome o (IsRowFor row (card_number_bytes look.number) spared)
+    → IfOk r (λ e. IfSome o (IsRowFor e.row (card_number_bytes e.look.number) spared))
+row-entered (Ok e) look row es o spared is looked at =
+    subst (λ (k : ℕ). IfSome o (IsRowFor k (card_number_bytes e.look.number) spared)) (sym is) (subst (λ (l : CardLook). IfSome o (IsRowFor row (card_number_bytes l.number) spared)) (sym looked.0) at)
+row-entered (Err f) look row es o spared is looked at = tt
+
+pub row-low : (r : Result Entered NotEntered) (row : ℕ) → IfOk r (λ e. e.row ≡ row) → row < 8 → IfOk r (λ e. e.row < 8)
+row-low (Ok e) row is low = subst (λ (k : ℕ). k < 8) (sym is) low
+row-low (Err f) row is low = tt
 
 -- ---- what is owed may be put on a card
 

@@ -8,8 +8,8 @@ use Rattle.tach_media.specs.Medium.{State, IsCoherent, LeavesOnly}
 use Rattle.tach_media.proofs.Runs.{at_image, weaken}
 use Rattle.gated_ring.specs.Ring.{PointsInside}
 use Rattle.unit_model.specs.Image.{day_ring}
-use Rattle.owed_model.specs.Owed.{OwedRow, rows_in, row_in, row_index, row_of}
-use Rattle.owed_model.specs.Rows.{IsRowBeginning, IsRowBegun, HasRow}
+use Rattle.owed_model.specs.Rows.{IsRowBeginning, IsRowBegun, IsRowAt}
+use Rattle.owed_model.proofs.Known.{index_spared}
 use Rattle.unit_journal.specs.declared.notes.Notes.{Notes}
 use Rattle.unit_journal.specs.Image.{Agrees}
 use Rattle.log_model.specs.declared.lines.Mark.{Mark}
@@ -30,21 +30,13 @@ use Rattle.device_steps.specs.Rule.{Both, opened, number_of, unit_seen, AnyStrin
 pub begun-holds : (s : Started) {U V : State} (due : ℕ) (b : Book) (marks : List Mark) (number : List ℕ) (session : ℕ) (spared : Option (List ℕ)) → IsCoherent U → LeavesOnly U V (IsRowBeginning number session spared) → Holds s due b marks U → Holds s due b marks V
 begun-holds s {U} {V} due b marks number session spared whole run h = holds-elsewhere s due b marks h whole (IsRowBeginning number session spared) run (λ x c is. (rows-elsewhere x c is.outside, rows-issued x c is.outside, is.decodes))
 
--- a row that another image has too
-same-row : (n x y : List ℕ) → row_of n y ≡ row_of n x → HasRow n x → HasRow n y
-same-row n x y same has = by (row_index n (rows_in y)) refl (same ∙ ap (λ (o : Option ℕ). option_map (row_in (rows_in x)) o) has.1)
-  where
-    by : (o : Option ℕ) → row_index n (rows_in y) ≡ o → option_map (row_in (rows_in y)) o ≡ Some (row_in (rows_in x) has.0) → HasRow n y
-    by (Some r) is found = (r, is)
-    by None is found = absurd (cc)
-
--- the spared number has its row still
+-- the spared number's row is where it was
 pub row-spared : {T E : Type 0} (result : Result T E) (o p : Option (List ℕ)) (number : List ℕ) (session : ℕ) (spared : Option (List ℕ)) → is_some p ≡ is_some o → OnOk result (IfSome o (λ x. IfSome p (IsRowBegun number session spared x)))
-    → (n : List ℕ) → spared ≡ Some n → n ≢ number → IfSome o (HasRow n) → OnOk result (IfSome p (HasRow n))
-row-spared (Ok t) (Some x) (Some y) number session spared same said n at apart has = same-row n x y (said.beginning.spares n apart at) has
-row-spared (Ok t) None (Some y) number session spared same said n at apart has = absurd (cc)
-row-spared (Ok t) o None number session spared same said n at apart has = tt
-row-spared (Err f) o p number session spared same said n at apart has = tt
+    → (r : ℕ) (n : List ℕ) → spared ≡ Some n → IfSome o (IsRowAt r n) → OnOk result (IfSome p (IsRowAt r n))
+row-spared (Ok t) (Some x) (Some y) number session spared same said r n is at = index_spared number n session x y (subst (λ (s : Option (List ℕ)). IsRowBegun number session s x y) is said) r at
+row-spared (Ok t) None (Some y) number session spared same said r n is at = absurd (cc)
+row-spared (Ok t) o None number session spared same said r n is at = tt
+row-spared (Err f) o p number session spared same said r n is at = tt
 
 module _ (r : Both) (c : Card) (number : List ℕ) (named : number ≡ number_of r c) (spared : Option (List ℕ)) (others : spared ≡ Some (number_of r (other c))) (session : ℕ) {U V : State} (whole : IsCoherent U) (j : Notes) (agrees : IfSome U.image (Agrees j)) (run : LeavesOnly U V (IsRowBeginning number session spared)) where
   known : (x : List ℕ) → U.image ≡ Some x → PointsInside day_ring x

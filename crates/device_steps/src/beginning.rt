@@ -5,7 +5,7 @@ ghost use Rattle.tach_media.specs.Medium.{HasCause, LeavesOnly};
 ghost use Rattle.tacho_types.specs.CardNumber.{card_number_bytes};
 ghost use Rattle.unit_model.specs.Image.{IsUnit};
 ghost use Rattle.unit_journal.specs.Image.{Agrees};
-ghost use Rattle.owed_model.specs.Rows.{HasRow, IsRowBegun, IsRowBeginning};
+ghost use Rattle.owed_model.specs.Rows.{IsRowAt, IsRowFor, IsRowBegun, IsRowBeginning};
 ghost use Rattle.log_model.specs.declared.lines.Mark.{Mark};
 ghost use Rattle.history_model.specs.Book.{Book};
 ghost use Rattle.joint_rule.specs.Device.{LeavesViews};
@@ -22,7 +22,7 @@ use trace_model::Card;
 use unit_journal::Journal;
 
 /// Begins the row of a card that was inserted, whose session began then. The row of the number that is spared stays: the other card's,
-/// where that has one.
+/// where that has one. It is the row which `enter` told, and nothing is read.
 ///
 /// # Errors
 ///
@@ -35,16 +35,19 @@ pub fn begin<M: Medium, C: Chip, D: Chip>(
     which: Card,
     number: &FullCardNumber,
     session: u32,
+    row: u32,
     spared: Option<&FullCardNumber>,
 ) -> Result<(), Failed>
     requires unit { IsUnit (M.state unit.old) }
     requires agrees { IfSome (M.state unit.old).image (Agrees journal.old) }
     requires session { 0 < session }
+    requires low { row < 8 }
+    requires row { IfSome (M.state unit.old).image (IsRowFor row (card_number_bytes number.now) (option_map (λ s. card_number_bytes s.now) spared.entry)) }
     ensures unit { IsUnit (M.state unit.new) }
     ensures same { journal.new ≡ journal.old }
     ensures agrees { OnOk result (IfSome (M.state unit.new).image (Agrees journal.old)) }
-    ensures row { OnOk result (IfSome (M.state unit.new).image (HasRow (card_number_bytes number.now))) }
-    ensures spares { (n : List ℕ) → option_map (λ s. card_number_bytes s.now) spared.entry ≡ Some n → n ≢ card_number_bytes number.now → IfSome (M.state unit.old).image (HasRow n) → OnOk result (IfSome (M.state unit.new).image (HasRow n)) }
+    ensures row { OnOk result (IfSome (M.state unit.new).image (IsRowAt row (card_number_bytes number.now))) }
+    ensures spares { (r : ℕ) (n : List ℕ) → option_map (λ s. card_number_bytes s.now) spared.entry ≡ Some n → IfSome (M.state unit.old).image (IsRowAt r n) → OnOk result (IfSome (M.state unit.new).image (IsRowAt r n)) }
     ensures holds { (s : Started) (due : ℕ) (b : Book) (marks : List Mark) → Holds s due b marks (M.state unit.old) → Holds s due b marks (M.state unit.new) }
     ensures mine { (r : Both) (s : Started) (due : ℕ) (b : Book) (marks : List Mark) (newest : ℕ) → card_number_bytes number.now ≡ number_of r which → Holds s due b marks (M.state unit.old) → due ≤ session / 60 → CardHolds r which b Out [] [] (M.state unit.old) (C.state mine.now) → IsEntered (opened r which).start (opened r which).began session newest (card_seen (C.state mine.now))
         → IsRowTaken r which b session newest (is_err result) (M.state unit.new) (C.state mine.now) }
@@ -57,5 +60,5 @@ pub fn begin<M: Medium, C: Chip, D: Chip>(
     ensures tells { is_some (M.state unit.new).image ≡ is_some (M.state unit.old).image }
     ensures cause { HasCause (M.state unit.old) (M.state unit.new) (is_err result) }
 {
-    journal.begin_owed(unit, number, session, spared)
+    journal.begin_owed_at(unit, row, number, session)
 }

@@ -4,7 +4,7 @@ ghost use Rattle.trace_model.specs.declared.Card.{Card};
 ghost use Rattle.tach_media.specs.Medium.{HasCause, LeavesOnly};
 ghost use Rattle.unit_model.specs.declared.layout.TheConstants.{HIGHEST_ODOMETER, LAST_MINUTE};
 ghost use Rattle.unit_model.specs.Image.{IsUnit};
-ghost use Rattle.owed_model.specs.Rows.{HasRow};
+ghost use Rattle.owed_model.specs.Rows.{IsRowAt};
 ghost use Rattle.unit_journal.specs.Image.{Agrees, IsKeeping as IsKeepingImage};
 ghost use Rattle.unit_journal.specs.Kept.{kept_minute};
 ghost use Rattle.log_model.specs.declared.lines.Mark.{Mark};
@@ -58,7 +58,7 @@ pub fn commit<M: Medium, C: Chip, D: Chip>(
         → HasTravelled start b g (M.state unit.old) → kept.now.odometer.0 ≡ odometer_by (odometer_after start g.before) leg → HasGone start b g i leg (is_err result) (M.state unit.new) }
     ensures moments { LeavesOnly (M.state unit.old) (M.state unit.new) (IsKeepingImage (kept_minute kept.now) kept.now.odometer.0) }
     ensures keeps { (t : ℕ) (x : List ℕ) → t ≤ (M.state unit.old).clock → (M.state unit.old).left_since t x → (M.state unit.new).left_since t x }
-    ensures rows { (n : List ℕ) → IfSome (M.state unit.old).image (HasRow n) → OnOk result (IfSome (M.state unit.new).image (HasRow n)) }
+    ensures rows { (r : ℕ) (n : List ℕ) → IfSome (M.state unit.old).image (IsRowAt r n) → OnOk result (IfSome (M.state unit.new).image (IsRowAt r n)) }
     ensures clock { (M.state unit.old).clock ≤ (M.state unit.new).clock }
     ensures tells { is_some (M.state unit.new).image ≡ is_some (M.state unit.old).image }
     ensures cause { HasCause (M.state unit.old) (M.state unit.new) (is_err result) }

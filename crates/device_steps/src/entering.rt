@@ -1,7 +1,8 @@
 //! A card is put into a slot.
-ghost use Rattle.std.specs.Prelude.{◌≡◌, ◌<◌, ◌≤◌, ◌+◌, ◌/◌, ◌^◌, ℕ, length, true, false, None, List, [], IfOk, IfSome, is_some};
+ghost use Rattle.std.specs.Prelude.{◌≡◌, ◌<◌, ◌≤◌, ◌+◌, ◌/◌, ◌^◌, ℕ, length, true, false, None, List, [], IfOk, IfSome, is_some, option_map};
 ghost use Rattle.activity_codec.specs.declared.entries.Entry.{Entry};
 ghost use Rattle.tach_media.specs.Medium.{LeavesOnly};
+ghost use Rattle.tacho_types.specs.CardNumber.{card_number_bytes};
 ghost use Rattle.card_commands.specs.Ports.{IsPort};
 ghost use Rattle.card_layout.specs.Application.{IsApplication};
 ghost use Rattle.card_model.specs.declared.lengths.TheConstants.{DAYS_MOST};
@@ -9,6 +10,7 @@ ghost use Rattle.card_judge.specs.Judged.{TellsSizes, IsLook};
 ghost use Rattle.card_session.specs.declared.words.TheConstants.{LATEST_MINUTE};
 ghost use Rattle.card_session.specs.Inserting.{MayInsert, AreOwed};
 ghost use Rattle.unit_model.specs.Image.{IsUnit};
+ghost use Rattle.owed_model.specs.Rows.{IsRowFor};
 ghost use Rattle.unit_journal.specs.Image.{Agrees};
 ghost use Rattle.log_model.specs.declared.lines.Mark.{Mark};
 ghost use Rattle.history_model.specs.Book.{Book};
@@ -26,18 +28,20 @@ use card_judge::{CardLook, InsertFault, look};
 use card_layout::{Application, Fid};
 use card_session::CardSession;
 use tach_media::{Chip, Failed, Medium};
-use tacho_types::{Odometer, Registration, TimeReal};
+use tacho_types::{FullCardNumber, Odometer, Registration, TimeReal};
 use trace_model::Card;
 use unit_journal::Journal;
 
-/// A card that was put in and is accepted: what it told before, the entries that were owed to it, its session, and how many of these
-/// entries were put on it, which are the last ones.
+/// A card that was put in and is accepted: what it told before, the entries that were owed to it, its session, how many of these
+/// entries were put on it, which are the last ones, and which row of the unit is to be its.
 #[derive(Drop)]
 pub struct Entered {
     pub look: CardLook,
     pub owed: Owed,
     pub session: CardSession,
     pub replayed: u8,
+    /// The row of the unit that is begun for it.
+    pub row: u32,
 }
 
 /// Why a card that was put in is not accepted.
@@ -73,6 +77,7 @@ fn insert_by<C: Medium>(
     odometer: Odometer,
     look: CardLook,
     owed: Owed,
+    row: u32,
 ) -> Result<Entered, NotEntered>
     requires sizes { IsApplication app.now }
     requires card { MayInsert app.now (C.state card.old) }
@@ -82,6 +87,7 @@ fn insert_by<C: Medium>(
     requires fits { odometer.0 < 2 ^ 24 }
     requires owed { AreOwed now.0 owed.items }
     ensures inserted { IsInsertedWith app.now registration.now odometer.0 now.0 owed.items look (C.state card.old) (C.state card.new) result }
+    ensures row { IfOk result (λ e. e.row ≡ row) }
     ensures leaves { LeavesOnly (C.state card.old) (C.state card.new) Anything }
     ensures in_time { IsInTime app.now now.0 (C.state card.old) (C.state card.new) }
     ensures most { (C.state card.new).clock ≤ (C.state card.old).clock + (DAYS_MOST + 84) }
@@ -92,6 +98,7 @@ fn insert_by<C: Medium>(
             owed,
             session: inserted.session,
             replayed: inserted.replayed,
+            row,
         }),
         Err(fault) => Err(refused_by(fault)),
     }
@@ -107,6 +114,7 @@ fn enter_as<M: Medium, C: Medium>(
     registration: &Registration,
     odometer: Odometer,
     look: CardLook,
+    spared: Option<&FullCardNumber>,
 ) -> Result<Entered, NotEntered>
     requires unit { IsUnit (M.state unit.old) }
     requires agrees { IfSome (M.state unit.old).image (Agrees journal.now) }
@@ -119,12 +127,23 @@ fn enter_as<M: Medium, C: Medium>(
     requires last { now.0 / 60 < LATEST_MINUTE }
     requires fits { odometer.0 < 2 ^ 24 }
     ensures enters { IsEntering app.now registration.now odometer.0 now.0 (M.state unit.old) (M.state unit.new) (C.state card.old) (C.state card.new) result }
+    ensures row { IfOk result (λ e. IfSome (M.state unit.old).image (IsRowFor e.row (card_number_bytes e.look.number) (option_map (λ s. card_number_bytes s.now) spared.entry))) }
+    ensures low { IfOk result (λ e. e.row < 8) }
     ensures leaves { LeavesOnly (C.state card.old) (C.state card.new) Anything }
     ensures in_time { IsInTime app.now now.0 (C.state card.old) (C.state card.new) }
     ensures most { (C.state card.new).clock ≤ (C.state card.old).clock + (DAYS_MOST + 84) }
 {
-    match journal.owed(unit, &look.number, look.session, look.newest_minute) {
-        Ok(owed) => insert_by(card, app, now, registration, odometer, look, owed),
+    match journal.ask(unit, &look.number, look.session, look.newest_minute, spared) {
+        Ok(asked) => insert_by(
+            card,
+            app,
+            now,
+            registration,
+            odometer,
+            look,
+            asked.owed,
+            asked.row,
+        ),
         Err(Failed) => Err(NotEntered::UnitFailed),
     }
 }
@@ -138,6 +157,7 @@ fn enter_by<M: Medium, C: Medium>(
     now: TimeReal,
     registration: &Registration,
     odometer: Odometer,
+    spared: Option<&FullCardNumber>,
 ) -> Result<Entered, NotEntered>
     requires unit { IsUnit (M.state unit.old) }
     requires agrees { IfSome (M.state unit.old).image (Agrees journal.now) }
@@ -148,12 +168,24 @@ fn enter_by<M: Medium, C: Medium>(
     requires last { now.0 / 60 < LATEST_MINUTE }
     requires fits { odometer.0 < 2 ^ 24 }
     ensures enters { IsEntering app.now registration.now odometer.0 now.0 (M.state unit.old) (M.state unit.new) (C.state card.old) (C.state card.new) result }
+    ensures row { IfOk result (λ e. IfSome (M.state unit.old).image (IsRowFor e.row (card_number_bytes e.look.number) (option_map (λ s. card_number_bytes s.now) spared.entry))) }
+    ensures low { IfOk result (λ e. e.row < 8) }
     ensures leaves { LeavesOnly (C.state card.old) (C.state card.new) Anything }
     ensures in_time { IsInTime app.now now.0 (C.state card.old) (C.state card.new) }
     ensures most { (C.state card.new).clock ≤ (C.state card.old).clock + (DAYS_MOST + 84) }
 {
     match look(card, app) {
-        Ok(look) => enter_as(unit, journal, card, app, now, registration, odometer, look),
+        Ok(look) => enter_as(
+            unit,
+            journal,
+            card,
+            app,
+            now,
+            registration,
+            odometer,
+            look,
+            spared,
+        ),
         Err(fault) => Err(refused_by(fault)),
     }
 }
@@ -167,7 +199,8 @@ fn length_of(registration: &Registration) -> usize
 }
 
 /// Puts in a card of these sizes: it is judged, the entries that the unit owes to it are put on it, and a session is opened. The
-/// row of its number is not begun yet: that comes behind the note of the insertion (`begin`).
+/// row of its number is told, while the row of the number that is spared is another's, and not begun yet: that comes behind the note of the
+/// insertion (`begin`).
 ///
 /// # Errors
 ///
@@ -184,6 +217,7 @@ pub fn enter<M: Medium, C: Chip, D: Chip>(
     now: TimeReal,
     registration: &Registration,
     odometer: Odometer,
+    spared: Option<&FullCardNumber>,
 ) -> Result<Entered, NotEntered>
     requires unit { IsUnit (M.state unit.old) }
     requires agrees { IfSome (M.state unit.old).image (Agrees journal.now) }
@@ -193,6 +227,8 @@ pub fn enter<M: Medium, C: Chip, D: Chip>(
     requires last { now.0 / 60 < LATEST_MINUTE }
     requires fits { odometer.0 < 2 ^ 24 }
     ensures enters { IsEntering app registration.now odometer.0 now.0 (M.state unit.old) (M.state unit.new) (C.state card.old) (C.state card.new) result }
+    ensures row { IfOk result (λ e. IfSome (M.state unit.old).image (IsRowFor e.row (card_number_bytes e.look.number) (option_map (λ s. card_number_bytes s.now) spared.entry))) }
+    ensures low { IfOk result (λ e. e.row < 8) }
     ensures holds { (s : Started) (due : ℕ) (b : Book) (marks : List Mark) → Holds s due b marks (M.state unit.old) → Holds s due b marks (M.state unit.new) }
     ensures other { (r : Both) (b : Book) (z : Standing) (m d : List Entry) → CardHolds r (other which) b z m d (M.state unit.old) (D.state others.now) → CardHolds r (other which) b z m d (M.state unit.new) (D.state others.now) }
     ensures mine { (r : Both) (s : Started) (due : ℕ) (b : Book) (marks : List Mark) → Holds s due b marks (M.state unit.old) → b.maybe ≡ None → due ≤ now.0 / 60 → is_some (M.state unit.old).image ≡ true → is_some (C.state card.old).image ≡ true
@@ -210,5 +246,14 @@ pub fn enter<M: Medium, C: Chip, D: Chip>(
 {
     let _bytes = length_of(registration);
     let mut port = Port::resume(&mut *card, app);
-    enter_by(unit, journal, &mut port, &app, now, registration, odometer)
+    enter_by(
+        unit,
+        journal,
+        &mut port,
+        &app,
+        now,
+        registration,
+        odometer,
+        spared,
+    )
 }

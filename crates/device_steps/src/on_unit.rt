@@ -7,7 +7,7 @@ ghost use Rattle.cyclic_days.specs.Steps.{IsIdle};
 ghost use Rattle.unit_model.specs.declared.layout.TheConstants.{HIGHEST_ODOMETER, LAST_MINUTE};
 ghost use Rattle.unit_model.specs.Image.{IsUnit};
 ghost use Rattle.unit_journal.specs.Image.{Agrees};
-ghost use Rattle.owed_model.specs.Rows.{HasRow};
+ghost use Rattle.owed_model.specs.Rows.{IsRowAt};
 ghost use Rattle.log_model.specs.declared.lines.Mark.{Mark};
 ghost use Rattle.history_model.specs.Minutes.{HistoryMinute};
 ghost use Rattle.history_model.specs.Book.{Book};
@@ -34,11 +34,12 @@ fn owe_some<M: Medium, C: Chip, D: Chip>(
     others: &D,
     which: Card,
     number: &FullCardNumber,
+    row: u32,
     entry: Option<Entry>,
 ) -> Result<(), Failed>
     requires unit { IsUnit (M.state unit.old) }
     requires agrees { IfSome (M.state unit.old).image (Agrees journal.old) }
-    requires row { IfSome entry (λ e. IfSome (M.state unit.old).image (HasRow (card_number_bytes number.now))) }
+    requires row { IfSome entry (λ e. (row < 8) × IfSome (M.state unit.old).image (IsRowAt row (card_number_bytes number.now))) }
     ensures unit { IsUnit (M.state unit.new) }
     ensures same { journal.new ≡ journal.old }
     ensures agrees { OnOk result (IfSome (M.state unit.new).image (Agrees journal.old)) }
@@ -49,14 +50,14 @@ fn owe_some<M: Medium, C: Chip, D: Chip>(
     ensures other { (r : Both) (s : Started) (due : ℕ) (b : Book) (marks : List Mark) (y z : Standing) (m d : List Entry) → card_number_bytes number.now ≡ number_of r which → Holds s due b marks (M.state unit.old)
         → IfSome entry (λ e. (due ≤ e.minute) × (1440 ≤ e.minute)) → CardHolds r which b y [] [] (M.state unit.old) (C.state mine.now) → CardHolds r (other which) b z m d (M.state unit.old) (D.state others.now)
         → IsKeptUp r (other which) b z m d (is_err result) (M.state unit.new) (D.state others.now) }
-    ensures rows { (n : List ℕ) → IfSome (M.state unit.old).image (HasRow n) → OnOk result (IfSome (M.state unit.new).image (HasRow n)) }
+    ensures rows { (r : ℕ) (n : List ℕ) → IfSome (M.state unit.old).image (IsRowAt r n) → OnOk result (IfSome (M.state unit.new).image (IsRowAt r n)) }
     ensures clock { (M.state unit.old).clock ≤ (M.state unit.new).clock }
     ensures tells { is_some (M.state unit.new).image ≡ is_some (M.state unit.old).image }
     ensures cause { HasCause (M.state unit.old) (M.state unit.new) (is_err result) ⊎ ((is_err result ≡ false) × IsIdle (M.state unit.old) (M.state unit.new)) }
 {
     match entry {
         None => Ok(()),
-        Some(entry) => owe(unit, journal, mine, others, which, number, &entry),
+        Some(entry) => owe(unit, journal, mine, others, which, number, row, &entry),
     }
 }
 
@@ -74,16 +75,18 @@ pub fn keep_on_unit<M: Medium, C: Chip, D: Chip>(
     second: &D,
     one: Card,
     one_number: &FullCardNumber,
+    one_row: u32,
     one_entry: Option<Entry>,
     two: Card,
     two_number: &FullCardNumber,
+    two_row: u32,
     two_entry: Option<Entry>,
     minute: &KeptMinute,
 ) -> Result<(), Failed>
     requires unit { IsUnit (M.state unit.old) }
     requires agrees { IfSome (M.state unit.old).image (Agrees journal.old) }
-    requires one_row { IfSome one_entry (λ e. IfSome (M.state unit.old).image (HasRow (card_number_bytes one_number.now))) }
-    requires two_row { IfSome two_entry (λ e. IfSome (M.state unit.old).image (HasRow (card_number_bytes two_number.now))) }
+    requires first_row { IfSome one_entry (λ e. (one_row < 8) × IfSome (M.state unit.old).image (IsRowAt one_row (card_number_bytes one_number.now))) }
+    requires second_row { IfSome two_entry (λ e. (two_row < 8) × IfSome (M.state unit.old).image (IsRowAt two_row (card_number_bytes two_number.now))) }
     requires low { 1440 ≤ minute.now.minute }
     requires later { journal.old.kept < minute.now.minute }
     requires small { minute.now.minute ≤ LAST_MINUTE }
@@ -92,7 +95,7 @@ pub fn keep_on_unit<M: Medium, C: Chip, D: Chip>(
     ensures notes { OnOk result ((journal.new.kept ≡ minute.now.minute) × (journal.new.odometer ≡ minute.now.odometer.0)) }
     ensures same { OnErr result (journal.new ≡ journal.old) }
     ensures agrees { OnOk result (IfSome (M.state unit.new).image (Agrees journal.new)) }
-    ensures rows { (n : List ℕ) → IfSome (M.state unit.old).image (HasRow n) → OnOk result (IfSome (M.state unit.new).image (HasRow n)) }
+    ensures rows { (r : ℕ) (n : List ℕ) → IfSome (M.state unit.old).image (IsRowAt r n) → OnOk result (IfSome (M.state unit.new).image (IsRowAt r n)) }
     ensures kept { (k : Known) (y z : Standing) (i : HistoryMinute) → AreBetween k one two (card_number_bytes one_number.now) (card_number_bytes two_number.now) y z (M.state unit.old) (C.state first.now) (D.state second.now)
         → IfSome one_entry (λ e. 1440 ≤ e.minute) → IfSome two_entry (λ e. 1440 ≤ e.minute) → SaysBoth k one two i minute.now one_entry two_entry y z → (M.state unit.new).clock < last_count
         → OnOk result (AreOwed (known_after k i (M.state unit.new).clock) one two one_entry two_entry y z (M.state unit.new) (C.state first.now) (D.state second.now)) }
@@ -103,7 +106,11 @@ pub fn keep_on_unit<M: Medium, C: Chip, D: Chip>(
     ensures tells { is_some (M.state unit.new).image ≡ is_some (M.state unit.old).image }
     ensures cause { HasCause (M.state unit.old) (M.state unit.new) (is_err result) }
 {
-    owe_some(unit, journal, first, second, one, one_number, one_entry)?;
-    owe_some(unit, journal, second, first, two, two_number, two_entry)?;
+    owe_some(
+        unit, journal, first, second, one, one_number, one_row, one_entry,
+    )?;
+    owe_some(
+        unit, journal, second, first, two, two_number, two_row, two_entry,
+    )?;
     commit(unit, journal, first, second, minute)
 }

@@ -1,10 +1,10 @@
 //! The entry of a minute is put among those owed to its card.
-ghost use Rattle.std.specs.Prelude.{◌≡◌, ◌≤◌, ℕ, None, List, [], ◌∷◌, OnOk, IfSome, is_some, is_err};
+ghost use Rattle.std.specs.Prelude.{◌≡◌, ◌≤◌, ◌<◌, ℕ, None, List, [], ◌∷◌, OnOk, IfSome, is_some, is_err};
 ghost use Rattle.tach_media.specs.Medium.{HasCause, LeavesOnly};
 ghost use Rattle.tacho_types.specs.CardNumber.{card_number_bytes};
 ghost use Rattle.unit_model.specs.Image.{IsUnit};
 ghost use Rattle.unit_journal.specs.Image.{Agrees};
-ghost use Rattle.owed_model.specs.Rows.{HasRow, IsPutting as IsPuttingRow};
+ghost use Rattle.owed_model.specs.Rows.{IsRowAt, IsPutting as IsPuttingRow};
 ghost use Rattle.log_model.specs.declared.lines.Mark.{Mark};
 ghost use Rattle.history_model.specs.Book.{Book};
 ghost use Rattle.joint_rule.specs.Rules.{Standing, IsPresent};
@@ -24,7 +24,7 @@ use trace_model::Card;
 use unit_journal::Journal;
 
 /// Puts the entry of the minute that comes next among those that are owed to a card which was accepted, in the slot or torn out
-/// since. Its number has a row.
+/// since. The row of its number is the one at this index: nothing is read.
 ///
 /// # Errors
 ///
@@ -36,11 +36,13 @@ pub fn owe<M: Medium, C: Chip, D: Chip>(
     others: &D,
     which: Card,
     number: &FullCardNumber,
+    row: u32,
     entry: &Entry,
 ) -> Result<(), Failed>
     requires unit { IsUnit (M.state unit.old) }
     requires agrees { IfSome (M.state unit.old).image (Agrees journal.old) }
-    requires row { IfSome (M.state unit.old).image (HasRow (card_number_bytes number.now)) }
+    requires low { row < 8 }
+    requires row { IfSome (M.state unit.old).image (IsRowAt row (card_number_bytes number.now)) }
     ensures unit { IsUnit (M.state unit.new) }
     ensures same { journal.new ≡ journal.old }
     ensures agrees { OnOk result (IfSome (M.state unit.new).image (Agrees journal.old)) }
@@ -56,10 +58,10 @@ pub fn owe<M: Medium, C: Chip, D: Chip>(
     ensures travelled { (start : ℕ) (b : Book) (g : Travel) → HasTravelled start b g (M.state unit.old) → HasTravelled start b g (M.state unit.new) }
     ensures moments { LeavesOnly (M.state unit.old) (M.state unit.new) (IsPuttingRow (card_number_bytes number.now) entry.now) }
     ensures keeps { (t : ℕ) (x : List ℕ) → t ≤ (M.state unit.old).clock → (M.state unit.old).left_since t x → (M.state unit.new).left_since t x }
-    ensures rows { (n : List ℕ) → IfSome (M.state unit.old).image (HasRow n) → OnOk result (IfSome (M.state unit.new).image (HasRow n)) }
+    ensures rows { (r : ℕ) (n : List ℕ) → IfSome (M.state unit.old).image (IsRowAt r n) → OnOk result (IfSome (M.state unit.new).image (IsRowAt r n)) }
     ensures clock { (M.state unit.old).clock ≤ (M.state unit.new).clock }
     ensures tells { is_some (M.state unit.new).image ≡ is_some (M.state unit.old).image }
     ensures cause { HasCause (M.state unit.old) (M.state unit.new) (is_err result) }
 {
-    journal.put_owed(unit, number, entry)
+    journal.put_owed_at(unit, row, entry)
 }

@@ -27,7 +27,7 @@ use Rattle.owed_model.proofs.Pieces.{IsApart, puts_apart, partway_apart, IsApart
 some_is : (a b : ℕ) → Some a ≡ Some b → a ≡ b
 some_is a b is = cc
 
-eq_cases : (a b : ℕ) → (a ≡ b) ⊎ (a ≢ b)
+pub eq_cases : (a b : ℕ) → (a ≡ b) ⊎ (a ≢ b)
 eq_cases a b = ⊎_elim (λ less. inr (λ is. absurd (omega (arith, less, is)))) (λ not_less. ⊎_elim (λ more. inr (λ is. absurd (omega (arith, more, is)))) (λ not_more. inl (omega (arith, not_less, not_more))) (cases_lt b a)) (cases_lt a b)
 
 -- an image in which one row may have changed

@@ -4,4 +4,5 @@ pub mod Taking
 pub mod Mending
 pub mod Pieces
 pub mod Beginning
+pub mod Known
 mod Worked

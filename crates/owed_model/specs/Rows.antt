@@ -100,6 +100,14 @@ pub record IsPut (number : List ℕ) (e : Entry) (x y : List ℕ) : Type 0 where
 abbrev pub HasRow : (number image : List ℕ) → Type 0
 HasRow number x = (r : ℕ) × (row_index number (rows_in x) ≡ Some r)
 
+-- the row of a number is the one at this index
+abbrev pub IsRowAt : (row : ℕ) → (number image : List ℕ) → Type 0
+IsRowAt r number x = row_index number (rows_in x) ≡ Some r
+
+-- the row that is begun for a number, while another one is spared, is the one at this index
+abbrev pub IsRowFor : (row : ℕ) → (number : List ℕ) → (spared : Option (List ℕ)) → (image : List ℕ) → Type 0
+IsRowFor r number spared x = begun_index number spared (rows_in x) ≡ Some r
+
 -- a row of this session whose cells are empty; their words stay
 abbrev pub emptied : ℕ → OwedRow → OwedRow
 emptied session row = record { session = session; cells = map (λ c. record { minute = 0; word = c.word }) row.cells }

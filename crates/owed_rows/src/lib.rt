@@ -7,5 +7,5 @@ mod rows;
 mod writing;
 
 pub use activity_codec::{Entry, Owed};
-pub use owing::{has_row, owed};
-pub use writing::{begin_owed, put_owed};
+pub use owing::{Asked, ask, has_row, owed};
+pub use writing::{begin_owed, begin_owed_at, put_owed, put_owed_at};

@@ -5,13 +5,20 @@ ghost use Rattle.gated_ring.specs.Ring.{number_at};
 ghost use Rattle.tach_media.specs.Medium.{Reads};
 ghost use Rattle.unit_model.specs.Image.{IsUnit, last_kept};
 ghost use Rattle.owed_model.specs.Owed.{rows_in, row_in, cell_in, entry_of, placed, counts, owed_of, owed_to};
-ghost use Rattle.owed_model.specs.Rows.{HasRow};
+ghost use Rattle.owed_model.specs.Rows.{HasRow, IsRowFor};
 ghost use Rattle.owed_rows.specs.Searching.{with_owed, IsSane};
 
-use crate::rows::{number_at, read_rows, row_index, session_in};
+use crate::rows::{begun_row, number_at, read_rows, row_index, session_in};
 use activity_codec::{Entry, Owed, decode_change};
 use tach_media::{Failed, Medium};
 use unit_model::layout::{CELL_SIZE, CELL_WORD, CELLS, OWED_ROW_SIZE, ROW_CELLS};
+
+/// What is asked as a card is put in: the entries that are owed to it, and the row that is begun for it.
+#[derive(Drop)]
+pub struct Asked {
+    pub owed: Owed,
+    pub row: u32,
+}
 
 // How many entries from the front on are earlier than a minute.
 fn place_for(entries: &[Entry], minute: u32) -> usize
@@ -133,6 +140,29 @@ pub fn owed<M: Medium>(
 {
     let rows = read_rows(unit)?;
     Ok(owed_in(&rows, row_index(&rows, number), session, after, kept))
+}
+
+/// The same, and which row is begun for the number, while the row of another one is spared: in one read.
+pub fn ask<M: Medium>(
+    unit: &mut M,
+    kept: u32,
+    number: &[u8],
+    session: u32,
+    after: u32,
+    spared: Option<&[u8]>,
+) -> Result<Asked, Failed>
+    requires unit { IsUnit (M.state unit.old) }
+    requires kept { IfSome (M.state unit.old).image (λ x. kept ≡ last_kept x) }
+    ensures sane { IfOk result (λ a. IsSane after kept a.owed.items) }
+    ensures owed { IfOk result (λ a. IfSome (M.state unit.old).image (λ x. a.owed.items ≡ owed_to x number.now session after)) }
+    ensures row { IfOk result (λ a. IfSome (M.state unit.old).image (IsRowFor a.row number.now (option_map (λ s. s.now) spared.entry))) }
+    ensures low { IfOk result (λ a. a.row < 8) }
+    ensures reads { Reads (M.state unit.old) (M.state unit.new) (is_err result) }
+{
+    let rows = read_rows(unit)?;
+    let owed = owed_in(&rows, row_index(&rows, number), session, after, kept);
+    let row = begun_row(&rows, number, spared);
+    Ok(Asked { owed, row })
 }
 
 /// Whether a number has a row.

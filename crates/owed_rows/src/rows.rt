@@ -1,5 +1,5 @@
 //! The bytes of all rows, read in one read, and what stands in them.
-ghost use Rattle.std.specs.Prelude.{◌≡◌, ◌≤◌, ◌<◌, ◌+◌, ◌*◌, ◌==◌, length, IfOk, IfSome, is_err, not, ◌&&◌, nat_eq, option_map};
+ghost use Rattle.std.specs.Prelude.{◌≡◌, ◌≤◌, ◌<◌, ◌+◌, ◌*◌, ◌==◌, Some, length, IfOk, IfSome, is_err, not, ◌&&◌, nat_eq, option_map};
 ghost use Rattle.unit_model.specs.declared.layout.TheConstants.{OWED};
 ghost use Rattle.std.specs.Cmp.Lexicographic.{pointwise};
 ghost use Rattle.tach_media.specs.Medium.{Reads};
@@ -163,4 +163,16 @@ pub fn begun_index(rows: &[u8], number: &[u8], spared: Option<&[u8]>) -> Option<
         return Some(row);
     }
     least(rows, spared_index(rows, spared))
+}
+
+/// The same row, which there always is.
+pub fn begun_row(rows: &[u8], number: &[u8], spared: Option<&[u8]>) -> u32
+    requires sized { length rows.now ≡ OWED.size }
+    ensures row { begun_index number.now (option_map (λ s. s.now) spared.entry) rows.now ≡ Some result }
+    ensures below { result < 8 }
+{
+    match begun_index(rows, number, spared) {
+        Some(row) => row,
+        None => unreachable!(),
+    }
 }

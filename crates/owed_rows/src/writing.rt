@@ -1,12 +1,12 @@
-ghost use Rattle.std.specs.Prelude.{◌≡◌, ◌≢◌, ◌≤◌, ◌<◌, ◌+◌, length, min, IfOk, OnOk, IfSome, is_err, option_map};
+ghost use Rattle.std.specs.Prelude.{◌≡◌, ◌≢◌, ◌≤◌, ◌<◌, ◌+◌, ℕ, Option, List, length, min, IfOk, OnOk, IfSome, is_err, option_map};
 ghost use Rattle.unit_model.specs.declared.layout.TheConstants.{IMAGE_SIZE};
 ghost use Rattle.std.specs.Option.{ForSome};
 ghost use Rattle.tach_media.specs.Medium.{LeavesOnly, HasCause, StaysSettled, IsSettled, last_count};
-ghost use Rattle.write_plan.specs.Plan.{PutsBy, more, none};
+ghost use Rattle.write_plan.specs.Plan.{PutsAll, PutsBy, more, none};
 ghost use Rattle.unit_model.specs.Image.{IsUnit};
 ghost use Rattle.unit_model.specs.Days.{word_minute};
 ghost use Rattle.owed_model.specs.Owed.{rows_in};
-ghost use Rattle.owed_model.specs.Rows.{entry_word, pieces_into, putting, pieces_at, beginning, HasRow, IsPut, IsPutting, IsRowBegun, IsRowBeginning};
+ghost use Rattle.owed_model.specs.Rows.{entry_word, cell_pieces, row_pieces, pieces_into, putting, pieces_at, beginning, HasRow, IsRowAt, IsRowFor, IsPut, IsPutting, IsRowBegun, IsRowBeginning};
 
 use crate::rows::{begun_index, read_rows, row_index};
 use activity_codec::{Change, Entry, encode_change};
@@ -93,6 +93,31 @@ pub fn put_owed<M: Medium>(unit: &mut M, number: &[u8], entry: &Entry) -> Result
     write_entry(unit, number, entry.minute, entry_word(entry))
 }
 
+// Writes an entry into a row.
+fn write_into<M: Medium>(unit: &mut M, row: u32, minute: u32, word: u16) -> Result<(), Failed>
+    requires unit { IsUnit (M.state unit.old) }
+    requires row { row < 8 }
+    ensures puts { PutsAll (M.state unit.old) (M.state unit.new) (is_err result) (cell_pieces row minute word) }
+    ensures minute { minute < 4294967296 }
+    ensures word { word < 65536 }
+{
+    let plan = putting(Some(row), minute, word);
+    put_pieces(unit, &plan)
+}
+
+/// Puts an entry into the row at an index, in its cell. Nothing is read: whose row it is was found before (`ask`).
+pub fn put_owed_at<M: Medium>(unit: &mut M, row: u32, entry: &Entry) -> Result<(), Failed>
+    requires unit { IsUnit (M.state unit.old) }
+    requires low { row < 8 }
+    ensures puts { PutsAll (M.state unit.old) (M.state unit.new) (is_err result) (cell_pieces row entry.now.minute (entry_word entry.now)) }
+    ensures put { (number : List ℕ) → IfSome (M.state unit.old).image (IsRowAt row number) → OnOk result (IfSome (M.state unit.old).image (λ x. IfSome (M.state unit.new).image (IsPut number entry.now x))) }
+    ensures moments { (number : List ℕ) → IfSome (M.state unit.old).image (IsRowAt row number) → LeavesOnly (M.state unit.old) (M.state unit.new) (IsPutting number entry.now) }
+    ensures settled { OnOk result ((M.state unit.new).clock < last_count → IsSettled (M.state unit.new)) }
+    ensures cause { HasCause (M.state unit.old) (M.state unit.new) (is_err result) }
+{
+    write_into(unit, row, entry.minute, entry_word(entry))
+}
+
 // Reads the rows, and begins one for a number.
 fn write_row<M: Medium>(
     unit: &mut M,
@@ -128,4 +153,42 @@ pub fn begin_owed<M: Medium>(
     ensures cause { HasCause (M.state unit.old) (M.state unit.new) (is_err result) }
 {
     write_row(unit, number, session, spared)
+}
+
+// Begins a row for a number.
+fn write_row_at<M: Medium>(
+    unit: &mut M,
+    row: u32,
+    number: &[u8],
+    session: u32,
+) -> Result<(), Failed>
+    requires unit { IsUnit (M.state unit.old) }
+    requires row { row < 8 }
+    requires number { length number.now ≡ 18 }
+    ensures puts { PutsAll (M.state unit.old) (M.state unit.new) (is_err result) (row_pieces row number.now session) }
+    ensures session { session < 4294967296 }
+{
+    let plan = beginning(Some(row), number, session);
+    put_pieces(unit, &plan)
+}
+
+/// Begins the row at an index for a number, with a session time and without an entry. Nothing is read: that it is the row which is begun for
+/// this number, while another one is spared, was found before (`ask`).
+pub fn begin_owed_at<M: Medium>(
+    unit: &mut M,
+    row: u32,
+    number: &[u8],
+    session: u32,
+) -> Result<(), Failed>
+    requires unit { IsUnit (M.state unit.old) }
+    requires low { row < 8 }
+    requires number { length number.now ≡ 18 }
+    requires session { 0 < session }
+    ensures puts { PutsAll (M.state unit.old) (M.state unit.new) (is_err result) (row_pieces row number.now session) }
+    ensures begun { (spared : Option (List ℕ)) → IfSome (M.state unit.old).image (IsRowFor row number.now spared) → OnOk result (IfSome (M.state unit.old).image (λ x. IfSome (M.state unit.new).image (IsRowBegun number.now session spared x))) }
+    ensures moments { (spared : Option (List ℕ)) → IfSome (M.state unit.old).image (IsRowFor row number.now spared) → LeavesOnly (M.state unit.old) (M.state unit.new) (IsRowBeginning number.now session spared) }
+    ensures settled { OnOk result ((M.state unit.new).clock < last_count → IsSettled (M.state unit.new)) }
+    ensures cause { HasCause (M.state unit.old) (M.state unit.new) (is_err result) }
+{
+    write_row_at(unit, row, number, session)
 }

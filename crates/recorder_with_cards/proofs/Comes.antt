@@ -90,30 +90,30 @@ module _ (slot : Slot) (which : Card) (second noted : ℕ) (cabin : Cabin) where
     count = omega arith;
   }
 
-  module _ (number : FullCardNumber) (accepted : Accepted) (after : ℕ) (has : HasEntry after accepted) (more : noted ≤ after) (bare : session_of cabin.cards which ≡ None)
+  module _ (number : FullCardNumber) (row : ℕ) (accepted : Accepted) (after : ℕ) (has : HasEntry after accepted) (more : noted ≤ after) (bare : session_of cabin.cards which ≡ None)
       (seat : seat_in cabin.slots.seats slot ≡ Some (record { card = which; newest = None })) where
     abbrev new : Cabin
-    new = with_accepted slot which number accepted cabin
+    new = with_accepted slot which number row accepted cabin
 
-    seated-known : (c : Card) → known_of (with_accepted slot c number accepted cabin).cards (other c) ≡ known_of cabin.cards (other c)
+    seated-known : (c : Card) → known_of (with_accepted slot c number row accepted cabin).cards (other c) ≡ known_of cabin.cards (other c)
     seated-known A = refl
     seated-known B = refl
 
-    seated-session : (c : Card) → session_of (with_accepted slot c number accepted cabin).cards c ≡ Some accepted
+    seated-session : (c : Card) → session_of (with_accepted slot c number row accepted cabin).cards c ≡ Some accepted
     seated-session A = refl
     seated-session B = refl
 
-    seated-other : (s : Slot) (c : Card) → seat_in (with_accepted s c number accepted cabin).slots.seats (other_slot s) ≡ seat_in cabin.slots.seats (other_slot s)
+    seated-other : (s : Slot) (c : Card) → seat_in (with_accepted s c number row accepted cabin).slots.seats (other_slot s) ≡ seat_in cabin.slots.seats (other_slot s)
     seated-other Driver c = refl
     seated-other CoDriver c = refl
 
-    seated-falls : (s : Slot) (c : Card) → seat_in cabin.slots.seats s ≡ Some (record { card = c; newest = None }) → session_of cabin.cards c ≡ None → falls_of (with_accepted s c number accepted cabin) ≤ falls_of cabin
+    seated-falls : (s : Slot) (c : Card) → seat_in cabin.slots.seats s ≡ Some (record { card = c; newest = None }) → session_of cabin.cards c ≡ None → falls_of (with_accepted s c number row accepted cabin) ≤ falls_of cabin
     seated-falls Driver A at none = let x = ap bare_count at in let y = ap tears_of none in omega (arith, x, y)
     seated-falls Driver B at none = let x = ap bare_count at in let y = ap tears_of none in omega (arith, x, y)
     seated-falls CoDriver A at none = let x = ap bare_count at in let y = ap tears_of none in omega (arith, x, y)
     seated-falls CoDriver B at none = let x = ap bare_count at in let y = ap tears_of none in omega (arith, x, y)
 
-    seated-there : (s : Slot) (c : Card) → is_card (seat_in (with_accepted s c number accepted cabin).slots.seats s) c ≡ true
+    seated-there : (s : Slot) (c : Card) → is_card (seat_in (with_accepted s c number row accepted cabin).slots.seats s) c ≡ true
     seated-there Driver A = refl
     seated-there Driver B = refl
     seated-there CoDriver A = refl
@@ -242,10 +242,10 @@ module _ (e : Entering) (k v : Keeper) (noted after : ℕ) (o p : Outcome) (regi
   by-ending sizes app (Unnoted entered clock) is = comes-still e.slot e.which e.at.second noted (with_sizes_of e.which sizes k.cabin) (told-session e.slot e.at.second noted after sizes k.cabin e.which ∙ bare)
   by-ending sizes app Fell is = comes-torn e.slot e.which e.at.second noted (with_sizes_of e.which sizes k.cabin) (told-fell e.slot e.at.second noted after sizes k.cabin e.which fell) sits
   by-ending sizes app (Seated entered clock entry) is =
-      comes-seated e.slot e.which e.at.second noted (with_sizes_of e.which sizes k.cabin) entered.look.number (record { session = entered.session; entry = entry; noted = and_one noted }) (and_one noted) (is.0.0, omega arith) (omega arith)
+      comes-seated e.slot e.which e.at.second noted (with_sizes_of e.which sizes k.cabin) entered.look.number entered.row (record { session = entered.session; entry = entry; noted = and_one noted }) (and_one noted) (is.0.0, omega arith) (omega arith)
       (told-session e.slot e.at.second noted after sizes k.cabin e.which ∙ bare) (seats-now sizes)
   by-ending sizes app (Lost entered clock entry) is =
-      comes-lost e.slot e.which e.at.second noted (with_sizes_of e.which sizes k.cabin) entered.look.number (record { session = entered.session; entry = entry; noted = and_one noted }) (and_one noted) (is.0.0, omega arith) (omega arith)
+      comes-lost e.slot e.which e.at.second noted (with_sizes_of e.which sizes k.cabin) entered.look.number entered.row (record { session = entered.session; entry = entry; noted = and_one noted }) (and_one noted) (is.0.0, omega arith) (omega arith)
       (told-session e.slot e.at.second noted after sizes k.cabin e.which ∙ bare) (seats-now sizes) sits.1
 
   by-way : (way : Way) → IsWay way registration e failed unit card card_after → Comes e.slot e.which e.at.second noted (noted_by (ending_of way) noted) k.cabin (cabin_by (ending_of way) e noted (measured way e k).cabin) (lines_of (ending_of way))

@@ -26,11 +26,11 @@ use Rattle.recorder_with_cards.specs.EnteredTold.{events_by, IsLow, cabin_of, Ar
 use Rattle.recorder_with_cards.proofs.EnteredAdds.{ending-told}
 
 -- ---- what is known of another card stays
-beside-known : (c x : Card) (cards : Cards) (a : Option Accepted) (n : FullCardNumber) → same_card x c ≡ false → accepted_number (known_of (with_session c a (with_number c n cards)) x) ≡ accepted_number (known_of cards x)
-beside-known A A cards a n apart = let wrong : true ≡ false = apart in cc
-beside-known A B cards a n apart = refl
-beside-known B A cards a n apart = refl
-beside-known B B cards a n apart = let wrong : true ≡ false = apart in cc
+beside-known : (c x : Card) (cards : Cards) (a : Option Accepted) (n : FullCardNumber) (row : ℕ) → same_card x c ≡ false → accepted_number (known_of (with_session c a (with_number c n row cards)) x) ≡ accepted_number (known_of cards x)
+beside-known A A cards a n row apart = let wrong : true ≡ false = apart in cc
+beside-known A B cards a n row apart = refl
+beside-known B A cards a n row apart = refl
+beside-known B B cards a n row apart = let wrong : true ≡ false = apart in cc
 
 beside-gone : (c x : Card) (cards : Cards) → same_card x c ≡ false → accepted_number (known_of (with_session c None cards) x) ≡ accepted_number (known_of cards x)
 beside-gone A A cards apart = let wrong : true ≡ false = apart in cc
@@ -38,13 +38,13 @@ beside-gone A B cards apart = refl
 beside-gone B A cards apart = refl
 beside-gone B B cards apart = let wrong : true ≡ false = apart in cc
 
-own-known : (c : Card) (cards : Cards) (a : Accepted) (n : FullCardNumber) → accepted_number (known_of (with_session c (Some a) (with_number c n cards)) c) ≡ Some n
-own-known A cards a n = refl
-own-known B cards a n = refl
+own-known : (c : Card) (cards : Cards) (a : Accepted) (n : FullCardNumber) (row : ℕ) → accepted_number (known_of (with_session c (Some a) (with_number c n row cards)) c) ≡ Some n
+own-known A cards a n row = refl
+own-known B cards a n row = refl
 
-seat-beside : (c : Card) (seat : Option Seat) (cards : Cards) (a : Option Accepted) (n : FullCardNumber) → is_card seat c ≡ false → number_of_seat (with_session c a (with_number c n cards)) seat ≡ number_of_seat cards seat
-seat-beside c None cards a n apart = refl
-seat-beside c (Some seat) cards a n apart = beside-known c seat.card cards a n apart
+seat-beside : (c : Card) (seat : Option Seat) (cards : Cards) (a : Option Accepted) (n : FullCardNumber) (row : ℕ) → is_card seat c ≡ false → number_of_seat (with_session c a (with_number c n row cards)) seat ≡ number_of_seat cards seat
+seat-beside c None cards a n row apart = refl
+seat-beside c (Some seat) cards a n row apart = beside-known c seat.card cards a n row apart
 
 seat-gone : (c : Card) (seat : Option Seat) (cards : Cards) → is_card seat c ≡ false → number_of_seat (with_session c None cards) seat ≡ number_of_seat cards seat
 seat-gone c None cards apart = refl
@@ -55,15 +55,15 @@ itself A = refl
 itself B = refl
 
 -- ---- WITH IT
-with-named : (number : Card → List ℕ) (cabin : Cabin) (crew : events.Crew) → IsCrewOf number crew (crew_of cabin) → (slot : Slot) (card : Card) (a : Accepted) (n : FullCardNumber) → card_number_bytes n ≡ number card →
-    is_card (seat_in cabin.slots.seats (other_slot slot)) card ≡ false → IsCrewOf number (events.with_card slot (Some card) crew) (crew_of (with_accepted slot card n a cabin))
-with-named number cabin crew base Driver card a n is apart = record {
-  driver = ap (λ (q : Option FullCardNumber). card_number_bytes (number_or_no_card q)) (own-known card cabin.cards a n) ∙ is;
-  codriver = ap (λ (q : Option FullCardNumber). card_number_bytes (number_or_no_card q)) (seat-beside card cabin.slots.seats.codriver cabin.cards (Some a) n apart) ∙ base.codriver;
+with-named : (number : Card → List ℕ) (cabin : Cabin) (crew : events.Crew) → IsCrewOf number crew (crew_of cabin) → (slot : Slot) (card : Card) (a : Accepted) (n : FullCardNumber) (row : ℕ) → card_number_bytes n ≡ number card →
+    is_card (seat_in cabin.slots.seats (other_slot slot)) card ≡ false → IsCrewOf number (events.with_card slot (Some card) crew) (crew_of (with_accepted slot card n row a cabin))
+with-named number cabin crew base Driver card a n row is apart = record {
+  driver = ap (λ (q : Option FullCardNumber). card_number_bytes (number_or_no_card q)) (own-known card cabin.cards a n row) ∙ is;
+  codriver = ap (λ (q : Option FullCardNumber). card_number_bytes (number_or_no_card q)) (seat-beside card cabin.slots.seats.codriver cabin.cards (Some a) n row apart) ∙ base.codriver;
 }
-with-named number cabin crew base CoDriver card a n is apart = record {
-  driver = ap (λ (q : Option FullCardNumber). card_number_bytes (number_or_no_card q)) (seat-beside card cabin.slots.seats.driver cabin.cards (Some a) n apart) ∙ base.driver;
-  codriver = ap (λ (q : Option FullCardNumber). card_number_bytes (number_or_no_card q)) (own-known card cabin.cards a n) ∙ is;
+with-named number cabin crew base CoDriver card a n row is apart = record {
+  driver = ap (λ (q : Option FullCardNumber). card_number_bytes (number_or_no_card q)) (seat-beside card cabin.slots.seats.driver cabin.cards (Some a) n row apart) ∙ base.driver;
+  codriver = ap (λ (q : Option FullCardNumber). card_number_bytes (number_or_no_card q)) (own-known card cabin.cards a n row) ∙ is;
 }
 
 -- ---- WITHOUT IT
@@ -94,13 +94,13 @@ twice : (slot : Slot) (own : Option Card) (crew : events.Crew) → events.with_c
 twice Driver own crew = refl
 twice CoDriver own crew = refl
 
-seat-then : (slot : Slot) (card : Card) (n : FullCardNumber) (a : Accepted) (cabin : Cabin) → is_card (seat_in (with_accepted slot card n a cabin).slots.seats slot) card ≡ true
-seat-then Driver card n a cabin = itself card
-seat-then CoDriver card n a cabin = itself card
+seat-then : (slot : Slot) (card : Card) (n : FullCardNumber) (row : ℕ) (a : Accepted) (cabin : Cabin) → is_card (seat_in (with_accepted slot card n row a cabin).slots.seats slot) card ≡ true
+seat-then Driver card n row a cabin = itself card
+seat-then CoDriver card n row a cabin = itself card
 
-other-then : (slot : Slot) (card : Card) (n : FullCardNumber) (a : Accepted) (cabin : Cabin) → is_card (seat_in cabin.slots.seats (other_slot slot)) card ≡ false → is_card (seat_in (with_accepted slot card n a cabin).slots.seats (other_slot slot)) card ≡ false
-other-then Driver card n a cabin apart = apart
-other-then CoDriver card n a cabin apart = apart
+other-then : (slot : Slot) (card : Card) (n : FullCardNumber) (row : ℕ) (a : Accepted) (cabin : Cabin) → is_card (seat_in cabin.slots.seats (other_slot slot)) card ≡ false → is_card (seat_in (with_accepted slot card n row a cabin).slots.seats (other_slot slot)) card ≡ false
+other-then Driver card n row a cabin apart = apart
+other-then CoDriver card n row a cabin apart = apart
 
 -- an accepted card has told its number
 abbrev pub IsNumbered : Ending → List ℕ → Type 0
@@ -133,13 +133,13 @@ module _ (number : Card → List ℕ) (second : ℕ) (low : second < 2 ^ 32) (e 
     without_it = subst (λ (c : Cabin). IsCrewOf number bare (crew_of (torn_out e.which e.at.second c))) (sym is) left-so;
   }
 
-  accepted-so : (ending : Ending) (n : FullCardNumber) (a : Accepted) → cabin_of ending e noted cabin ≡ with_accepted e.slot e.which n a cabin → card_number_bytes n ≡ number e.which → AreNamed number ending e noted cabin bare with_it bare
-  accepted-so ending n a is named = record {
+  accepted-so : (ending : Ending) (n : FullCardNumber) (row : ℕ) (a : Accepted) → cabin_of ending e noted cabin ≡ with_accepted e.slot e.which n row a cabin → card_number_bytes n ≡ number e.which → AreNamed number ending e noted cabin bare with_it bare
+  accepted-so ending n row a is named = record {
     at_first = at-first;
-    with_it = subst (λ (c : Cabin). IsCrewOf number with_it (crew_of c)) (sym is) (with-named number cabin crew base e.slot e.which a n named apart);
+    with_it = subst (λ (c : Cabin). IsCrewOf number with_it (crew_of c)) (sym is) (with-named number cabin crew base e.slot e.which a n row named apart);
     without_it = subst (λ (c : Cabin). IsCrewOf number bare (crew_of (torn_out e.which e.at.second c))) (sym is)
-        (subst (λ (k : events.Crew). IsCrewOf number k (crew_of (torn_out e.which e.at.second (with_accepted e.slot e.which n a cabin)))) (twice e.slot (Some e.which) crew)
-        (gone-named number (with_accepted e.slot e.which n a cabin) with_it (with-named number cabin crew base e.slot e.which a n named apart) e.slot e.which e.at.second (seat-then e.slot e.which n a cabin) (other-then e.slot e.which n a cabin apart)));
+        (subst (λ (k : events.Crew). IsCrewOf number k (crew_of (torn_out e.which e.at.second (with_accepted e.slot e.which n row a cabin)))) (twice e.slot (Some e.which) crew)
+        (gone-named number (with_accepted e.slot e.which n row a cabin) with_it (with-named number cabin crew base e.slot e.which a n row named apart) e.slot e.which e.at.second (seat-then e.slot e.which n row a cabin) (other-then e.slot e.which n row a cabin apart)));
   }
 
   -- ITS NOTES TELL these events
@@ -150,6 +150,6 @@ module _ (number : Card → List ℕ) (second : ℕ) (low : second < 2 ^ 32) (e 
   ending-tells Unasked small named = ending-told number second low e at Unasked noted cabin bare bare bare small (still Unasked refl)
   ending-tells (Unnoted entered clock) small named = ending-told number second low e at (Unnoted entered clock) noted cabin bare bare bare small (still (Unnoted entered clock) refl)
   ending-tells (Seated entered clock entry) small named =
-      ending-told number second low e at (Seated entered clock entry) noted cabin bare with_it bare small (accepted-so (Seated entered clock entry) entered.look.number (record { session = entered.session; entry = entry; noted = and_one noted }) refl named)
+      ending-told number second low e at (Seated entered clock entry) noted cabin bare with_it bare small (accepted-so (Seated entered clock entry) entered.look.number entered.row (record { session = entered.session; entry = entry; noted = and_one noted }) refl named)
   ending-tells (Lost entered clock entry) small named =
-      ending-told number second low e at (Lost entered clock entry) noted cabin bare with_it bare small (accepted-so (Lost entered clock entry) entered.look.number (record { session = entered.session; entry = entry; noted = and_one noted }) refl named)
+      ending-told number second low e at (Lost entered clock entry) noted cabin bare with_it bare small (accepted-so (Lost entered clock entry) entered.look.number entered.row (record { session = entered.session; entry = entry; noted = and_one noted }) refl named)

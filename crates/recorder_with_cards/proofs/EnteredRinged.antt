@@ -98,12 +98,12 @@ none-behind : (n : ℕ) (a : Accepted) → a.noted ≡ n → option_map (seating
 none-behind n a is = let none : n - a.noted ≡ 0 = omega (arith, is) in ap (λ (k : ℕ). Some (record { index = a.entry; behind = k })) none
 
 -- IT IS SEATED with its insertion
-seated-seats : (which : Card) (slot : Slot) (number : FullCardNumber) (a : Accepted) (sizes : Result Application ℕ) (cabin : Cabin) (noted : ℕ) → a.noted ≡ and_one noted → noted + 1 ≤ 2 ^ 64 - 1 → ((c : Card) → IfSome (session_of cabin.cards c) (λ b. b.noted ≤ noted)) →
-    AreSeatedWith which a.entry (seats_in noted cabin.cards) (seats_in (and_one noted) (with_accepted slot which number a (with_sizes_of which sizes cabin)).cards)
-seated-seats A slot number a sizes cabin noted own few others A = inr (refl, none-behind (and_one noted) a own)
-seated-seats A slot number a sizes cabin noted own few others B = inl (refl, more-behind noted few (session_of cabin.cards B) (others B))
-seated-seats B slot number a sizes cabin noted own few others A = inl (refl, more-behind noted few (session_of cabin.cards A) (others A))
-seated-seats B slot number a sizes cabin noted own few others B = inr (refl, none-behind (and_one noted) a own)
+seated-seats : (which : Card) (slot : Slot) (number : FullCardNumber) (row : ℕ) (a : Accepted) (sizes : Result Application ℕ) (cabin : Cabin) (noted : ℕ) → a.noted ≡ and_one noted → noted + 1 ≤ 2 ^ 64 - 1 → ((c : Card) → IfSome (session_of cabin.cards c) (λ b. b.noted ≤ noted)) →
+    AreSeatedWith which a.entry (seats_in noted cabin.cards) (seats_in (and_one noted) (with_accepted slot which number row a (with_sizes_of which sizes cabin)).cards)
+seated-seats A slot number row a sizes cabin noted own few others A = inr (refl, none-behind (and_one noted) a own)
+seated-seats A slot number row a sizes cabin noted own few others B = inl (refl, more-behind noted few (session_of cabin.cards B) (others B))
+seated-seats B slot number row a sizes cabin noted own few others A = inl (refl, more-behind noted few (session_of cabin.cards A) (others A))
+seated-seats B slot number row a sizes cabin noted own few others B = inr (refl, none-behind (and_one noted) a own)
 
 -- ---- BY WHAT BECAME OF IT
 
@@ -153,7 +153,7 @@ module _ (o : Origin) (d later : Devices) (e : Entering) (u : ℕ) (spans : List
     inserts = told.1;
     writes = writes;
     now = seats_in (and_one noted) (cabin_by (Seated entered clock entry) e noted (with_sizes_of e.which sizes cabin)).cards;
-    seated = seated-seats e.which e.slot entered.look.number (record { session = entered.session; entry = entry; noted = and_one noted }) sizes cabin noted refl told.0 others;
+    seated = seated-seats e.which e.slot entered.look.number entered.row (record { session = entered.session; entry = entry; noted = and_one noted }) sizes cabin noted refl told.0 others;
     fewer_sit = λ c. inl refl;
   })
   ending-rings true (Seated entered clock entry) told writes =
@@ -167,7 +167,7 @@ module _ (o : Origin) (d later : Devices) (e : Entering) (u : ℕ) (spans : List
     inserts = told.1;
     writes = writes;
     now = seats_in (and_one noted) (cabin_by (Seated entered clock entry) e noted (with_sizes_of e.which sizes cabin)).cards;
-    seated = seated-seats e.which e.slot entered.look.number (record { session = entered.session; entry = entry; noted = and_one noted }) sizes cabin noted refl told.0 others;
+    seated = seated-seats e.which e.slot entered.look.number entered.row (record { session = entered.session; entry = entry; noted = and_one noted }) sizes cabin noted refl told.0 others;
     fewer_sit = torn-seats (and_one noted) e.which e.at.second (cabin_by (Seated entered clock entry) e noted (with_sizes_of e.which sizes cabin));
   })
   ending-rings true (Lost entered clock entry) told writes =

@@ -117,11 +117,11 @@ module _ (unit unit_after : State) (before : IsCoherent unit) (behind : IsCohere
   by-way card card_after e k v noted noted_after o p (Judged app Unasked) h = others-leave [] tt h.notes
   by-way card card_after e k v noted noted_after o p (Judged app (Unnoted entered clock)) h = inserted-maybe (insertion_of entered.look e) [] tt h.notes
   by-way card card_after e k v noted noted_after o p (Judged app (Seated entered clock entry)) h =
-      inserted-at entry (insertion_of entered.look e) (row_of entered.look e (measured (Judged app (Seated entered clock entry)) e k).cabin ∷ notes_with false entered.look.session e (seated entered.look entered.session entry noted e (measured (Judged app (Seated entered clock entry)) e k).cabin))
-      (tt, with-others false entered.look.session e (seated entered.look entered.session entry noted e (measured (Judged app (Seated entered clock entry)) e k).cabin)) h.is.0 h.notes
+      inserted-at entry (insertion_of entered.look e) (row_of entered.look e (measured (Judged app (Seated entered clock entry)) e k).cabin ∷ notes_with false entered.look.session e (seated entered.look entered.session entered.row entry noted e (measured (Judged app (Seated entered clock entry)) e k).cabin))
+      (tt, with-others false entered.look.session e (seated entered.look entered.session entered.row entry noted e (measured (Judged app (Seated entered clock entry)) e k).cabin)) h.is.0 h.notes
   by-way card card_after e k v noted noted_after o p (Judged app (Lost entered clock entry)) h =
-      inserted-at entry (insertion_of entered.look e) (row_of entered.look e (measured (Judged app (Lost entered clock entry)) e k).cabin ∷ notes_with true entered.look.session e (seated entered.look entered.session entry noted e (measured (Judged app (Lost entered clock entry)) e k).cabin))
-      (tt, with-others true entered.look.session e (seated entered.look entered.session entry noted e (measured (Judged app (Lost entered clock entry)) e k).cabin)) h.is.0 h.notes
+      inserted-at entry (insertion_of entered.look e) (row_of entered.look e (measured (Judged app (Lost entered clock entry)) e k).cabin ∷ notes_with true entered.look.session e (seated entered.look entered.session entered.row entry noted e (measured (Judged app (Lost entered clock entry)) e k).cabin))
+      (tt, with-others true entered.look.session e (seated entered.look entered.session entered.row entry noted e (measured (Judged app (Lost entered clock entry)) e k).cabin)) h.is.0 h.notes
 
 pub accept-writes : (unit unit_after card card_after : State) → IsCoherent unit → IsCoherent unit_after → AcceptWrites unit unit_after card card_after
 accept-writes unit unit_after card card_after before behind e failed k v noted noted_after o p way tells cause h = by-way unit unit_after before behind failed tells cause card card_after e k v noted noted_after o p way h

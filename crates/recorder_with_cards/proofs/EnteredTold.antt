@@ -168,11 +168,11 @@ module _ (number : Card → List ℕ) (second : ℕ) (low : second < 2 ^ 32) whe
     events-told Unasked noted cabin before accepted left small named = tt
     events-told (Unnoted entered clock) noted cabin before accepted left small named = tt
     events-told (Seated entered clock entry) noted cabin before accepted left small named =
-        let now : Cabin = seated entered.look entered.session entry noted e cabin in
+        let now : Cabin = seated entered.look entered.session entered.row entry noted e cabin in
         tell-append (moving_notes e now) (unclosed_notes entered.look.session e now) (moving_events e.speed e.at.second accepted) (unclosed_events entered.look.session e.at.second accepted)
         (moving-told now accepted named.with_it) (unclosed-told entered.look.session now accepted small named.with_it)
     events-told (Lost entered clock entry) noted cabin before accepted left small named =
-        let now : Cabin = seated entered.look entered.session entry noted e cabin in
+        let now : Cabin = seated entered.look entered.session entered.row entry noted e cabin in
         tell-append (moving_notes e now) (fault_of e now ∷ unclosed_notes entered.look.session e now) (moving_events e.speed e.at.second accepted)
         (noted_with CARD_FAULT e.at.second e.at.second left ∷ unclosed_events entered.look.session e.at.second accepted)
         (moving-told now accepted named.with_it) (fault-told now left named.without_it, unclosed-told entered.look.session now accepted small named.with_it)

@@ -14,7 +14,8 @@ use Rattle.run_outcome.specs.declared.outcome.Outcome.{Outcome}
 use Rattle.run_keeping.specs.declared.keeper.Moment.{Moment}
 use Rattle.run_keeping.specs.Keeping.{CardReady, with_lines}
 use Rattle.run_keeping.proofs.Counts.{lines-length}
-use Rattle.run_keeping.proofs.Sessions.{number-set}
+use Rattle.run_keeping.proofs.Sessions.{number-set, row-set}
+use Rattle.run_keeping.proofs.Units.{has-row}
 use Rattle.run_acts.specs.declared.run.Run.{Run}
 use Rattle.run_acts.specs.Going.{CardAt, IsHeld, IsLit}
 use Rattle.run_acts.specs.Room.{falls_of, Takes}
@@ -60,7 +61,7 @@ module _ {U A0 B0 : State} {chip_a chip_b : CardState} (run : Run) (second : ℕ
       let u = g.ready.unit_ready in
       cabin-going (run.next / 60) run (pulled_run (Some card) second run) (torn_out card second run.keeper.cabin) refl None None g (record { is_unit = u.is_unit; works = u.works; agrees = u.agrees })
       (bare-a card run.keeper.cabin.cards g.ready.card_a) (bare-b card run.keeper.cabin.cards g.ready.card_b)
-      (λ c h. record { number = h.number; told = number-set card c None run.keeper.cabin.cards ∙ h.told; row = h.row })
+      (λ c h. has-row run.keeper.cabin.cards (pulled_run (Some card) second run).keeper.cabin.cards U U c (number-set card c None run.keeper.cabin.cards) (row-set card c None run.keeper.cabin.cards) (λ r n at. at) h)
       (torn-past card second run.keeper.cabin) (stands (ungiven_of g.span) None g.cabin) (torn-sessions card second run.keeper.cabin)
 
 pub pulled-takes : (o : Option Card) (run : Run) (slot : Slot) (at : Moment) (before : Outcome) (from : ℕ) (leaving : Option Card) → card_in (seat_in run.keeper.cabin.slots.seats slot) ≡ o → Stands from leaving run.keeper.cabin

@@ -52,8 +52,8 @@ cabin_of (Ahead stored) e noted cabin = cabin
 cabin_of Fell e noted cabin = cabin
 cabin_of Unasked e noted cabin = cabin
 cabin_of (Unnoted entered clock) e noted cabin = cabin
-cabin_of (Seated entered clock entry) e noted cabin = seated entered.look entered.session entry noted e cabin
-cabin_of (Lost entered clock entry) e noted cabin = seated entered.look entered.session entry noted e cabin
+cabin_of (Seated entered clock entry) e noted cabin = seated entered.look entered.session entered.row entry noted e cabin
+cabin_of (Lost entered clock entry) e noted cabin = seated entered.look entered.session entered.row entry noted e cabin
 
 -- the time that an ending tells fits its field
 abbrev pub IsLow : Ending → Type 0

@@ -68,18 +68,18 @@ brought-first A kept had = Contains-append_left (kept ∷ []) (had A) kept (Cont
 brought-first B kept had = Contains-append_left (kept ∷ []) (had B) kept (Contains-push [] kept)
 
 -- which cards have a session
-seated-sessions : (c x : Card) (number : FullCardNumber) (a : Session) (sizes : Result Application ℕ) (cards : Cards) → is_some (session_of (with_session c (Some a) (with_number c number (with_sizes c sizes cards))) x) ≡ true →
+seated-sessions : (c x : Card) (number : FullCardNumber) (row : ℕ) (a : Session) (sizes : Result Application ℕ) (cards : Cards) → is_some (session_of (with_session c (Some a) (with_number c number row (with_sizes c sizes cards))) x) ≡ true →
     (is_some (session_of cards x) ≡ true) ⊎ (x ≡ c)
-seated-sessions A A number a sizes cards some = inr refl
-seated-sessions A B number a sizes cards some = inl some
-seated-sessions B A number a sizes cards some = inl some
-seated-sessions B B number a sizes cards some = inr refl
+seated-sessions A A number row a sizes cards some = inr refl
+seated-sessions A B number row a sizes cards some = inl some
+seated-sessions B A number row a sizes cards some = inl some
+seated-sessions B B number row a sizes cards some = inr refl
 
-old-lost : (c : Card) (number : FullCardNumber) (a : Session) (sizes : Result Application ℕ) (cards : Cards) → AreOld cards (with_session c None (with_session c (Some a) (with_number c number (with_sizes c sizes cards))))
-old-lost A number a sizes cards A some = absurd (cc)
-old-lost A number a sizes cards B some = some
-old-lost B number a sizes cards A some = some
-old-lost B number a sizes cards B some = absurd (cc)
+old-lost : (c : Card) (number : FullCardNumber) (row : ℕ) (a : Session) (sizes : Result Application ℕ) (cards : Cards) → AreOld cards (with_session c None (with_session c (Some a) (with_number c number row (with_sizes c sizes cards))))
+old-lost A number row a sizes cards A some = absurd (cc)
+old-lost A number row a sizes cards B some = some
+old-lost B number row a sizes cards A some = some
+old-lost B number row a sizes cards B some = absurd (cc)
 
 -- the slot in which a card was put
 slot-put : (slot : Slot) (card : Card) (newest : Option ℕ) (kept : SlotsKept) → is_card (seat_in kept.seats (other_slot slot)) card ≡ false → slot_with (put_in slot card newest kept).seats card ≡ Some slot
@@ -160,7 +160,7 @@ module _ (o : Origin) (done : List TraceSecond) (s : TraceSecond) (n : ℕ) (wai
 
   module _ (entry : ℕ) (sizes : Result Application ℕ) where
     abbrev here : Cabin
-    here = (seated entered.look entered.session entry noted e (with_sizes_of e.which sizes k.cabin))
+    here = (seated entered.look entered.session entered.row entry noted e (with_sizes_of e.which sizes k.cabin))
 
     abbrev a : Session
     a = record { session = entered.session; entry = entry; noted = and_one noted }
@@ -174,60 +174,60 @@ module _ (o : Origin) (done : List TraceSecond) (s : TraceSecond) (n : ℕ) (wai
     own-stands : IsSeated o.found z e.which s.number
     own-stands = (told.valid, (entered.session.minute, for-own e.which (IsIn e.at.second entered.session.minute) (for_card e.which Out w.standing) ∙ ap (λ (u : ℕ). IsIn u entered.session.minute) (now-is o done s n waits fewer e k out unfound next_ begun minutes U X Z w m)))
 
-    module _ (found : AreFoundCards o.found ((seated entered.look entered.session entry noted e (with_sizes_of e.which sizes k.cabin))).cards) where
-      seated-judged : IsJudged o done s (In n) waits fewer (values_with k out unfound next_ begun minutes) (arranged e.which U X Z) (arranged e.which W Y Z) w e.which (find_of e (Accepted entered.replayed)) (out.marks.items ++ card_marks e.which clock entered.owed.items) (seated entered.look entered.session entry noted e (with_sizes_of e.which sizes k.cabin)) (for_card e.which (k.journal.kept ∷ w.brought e.which) w.brought)
-      seated-judged = taken-judged (seated entered.look entered.session entry noted e (with_sizes_of e.which sizes k.cabin)) refl found (λ x some. seated-sessions e.which x entered.look.number a sizes k.cabin.cards some)
+    module _ (found : AreFoundCards o.found ((seated entered.look entered.session entered.row entry noted e (with_sizes_of e.which sizes k.cabin))).cards) where
+      seated-judged : IsJudged o done s (In n) waits fewer (values_with k out unfound next_ begun minutes) (arranged e.which U X Z) (arranged e.which W Y Z) w e.which (find_of e (Accepted entered.replayed)) (out.marks.items ++ card_marks e.which clock entered.owed.items) (seated entered.look entered.session entered.row entry noted e (with_sizes_of e.which sizes k.cabin)) (for_card e.which (k.journal.kept ∷ w.brought e.which) w.brought)
+      seated-judged = taken-judged (seated entered.look entered.session entered.row entry noted e (with_sizes_of e.which sizes k.cabin)) refl found (λ x some. seated-sessions e.which x entered.look.number entered.row a sizes k.cabin.cards some)
 
-      seated-goes : (b : Bool) → failed ≡ b → IsTakenOn (Seated entered clock entry) b e k.journal.kept o.found (with_marks (card_marks e.which clock entered.owed.items) (with_standing e.which Out (before o done s n waits fewer e k out unfound next_ begun minutes U X Z w m))) ((seated entered.look entered.session entry noted e (with_sizes_of e.which sizes k.cabin))).cards (arranged e.which W Y Z)
-          → GoesOnOrIsCut b o done s n waits fewer (values_with k out unfound next_ begun minutes) (judged_values (find_of e (Accepted entered.replayed)) (out.marks.items ++ card_marks e.which clock entered.owed.items) (seated entered.look entered.session entry noted e (with_sizes_of e.which sizes k.cabin)) (values_with k out unfound next_ begun minutes)) (arranged e.which U X Z) (arranged e.which W Y Z) w
-      seated-goes false is powered = judged-so (arranged e.which U X Z) (arranged e.which W Y Z) o done s (In n) waits fewer (values_with k out unfound next_ begun minutes) w e.which (find_of e (Accepted entered.replayed)) (out.marks.items ++ card_marks e.which clock entered.owed.items) (seated entered.look entered.session entry noted e (with_sizes_of e.which sizes k.cabin)) (for_card e.which (k.journal.kept ∷ w.brought e.which) w.brought) z seated-judged (record { powered = powered; others = others-stand; stands = λ accepts. own-stands })
+      seated-goes : (b : Bool) → failed ≡ b → IsTakenOn (Seated entered clock entry) b e k.journal.kept o.found (with_marks (card_marks e.which clock entered.owed.items) (with_standing e.which Out (before o done s n waits fewer e k out unfound next_ begun minutes U X Z w m))) ((seated entered.look entered.session entered.row entry noted e (with_sizes_of e.which sizes k.cabin))).cards (arranged e.which W Y Z)
+          → GoesOnOrIsCut b o done s n waits fewer (values_with k out unfound next_ begun minutes) (judged_values (find_of e (Accepted entered.replayed)) (out.marks.items ++ card_marks e.which clock entered.owed.items) (seated entered.look entered.session entered.row entry noted e (with_sizes_of e.which sizes k.cabin)) (values_with k out unfound next_ begun minutes)) (arranged e.which U X Z) (arranged e.which W Y Z) w
+      seated-goes false is powered = judged-so (arranged e.which U X Z) (arranged e.which W Y Z) o done s (In n) waits fewer (values_with k out unfound next_ begun minutes) w e.which (find_of e (Accepted entered.replayed)) (out.marks.items ++ card_marks e.which clock entered.owed.items) (seated entered.look entered.session entered.row entry noted e (with_sizes_of e.which sizes k.cabin)) (for_card e.which (k.journal.kept ∷ w.brought e.which) w.brought) z seated-judged (record { powered = powered; others = others-stand; stands = λ accepts. own-stands })
       seated-goes true is powerless = record {
         left = fewer;
-        cabin = (seated entered.look entered.session entry noted e (with_sizes_of e.which sizes k.cabin));
+        cabin = (seated entered.look entered.session entered.row entry noted e (with_sizes_of e.which sizes k.cabin));
         same = refl;
         within = ⊎_elim
-            (λ out_. taken-fails (seated entered.look entered.session entry noted e (with_sizes_of e.which sizes k.cabin)) refl found (λ x some. seated-sessions e.which x entered.look.number a sizes k.cabin.cards some) (for_card e.which Out w.standing) is out_)
-            (λ in_. taken-fails (seated entered.look entered.session entry noted e (with_sizes_of e.which sizes k.cabin)) refl found (λ x some. seated-sessions e.which x entered.look.number a sizes k.cabin.cards some) z is in_)
+            (λ out_. taken-fails (seated entered.look entered.session entered.row entry noted e (with_sizes_of e.which sizes k.cabin)) refl found (λ x some. seated-sessions e.which x entered.look.number entered.row a sizes k.cabin.cards some) (for_card e.which Out w.standing) is out_)
+            (λ in_. taken-fails (seated entered.look entered.session entered.row entry noted e (with_sizes_of e.which sizes k.cabin)) refl found (λ x some. seated-sessions e.which x entered.look.number entered.row a sizes k.cabin.cards some) z is in_)
             powerless;
       }
 
-      pub seated-so : values_with k' out' unfound next_ begun minutes ≡ judged_values (find_of e (Accepted entered.replayed)) (out.marks.items ++ card_marks e.which clock entered.owed.items) (seated entered.look entered.session entry noted e (with_sizes_of e.which sizes k.cabin)) (values_with k out unfound next_ begun minutes)
-          → IsTakenOn (Seated entered clock entry) failed e k.journal.kept o.found (with_marks (card_marks e.which clock entered.owed.items) (with_standing e.which Out (before o done s n waits fewer e k out unfound next_ begun minutes U X Z w m))) ((seated entered.look entered.session entry noted e (with_sizes_of e.which sizes k.cabin))).cards (arranged e.which W Y Z)
+      pub seated-so : values_with k' out' unfound next_ begun minutes ≡ judged_values (find_of e (Accepted entered.replayed)) (out.marks.items ++ card_marks e.which clock entered.owed.items) (seated entered.look entered.session entered.row entry noted e (with_sizes_of e.which sizes k.cabin)) (values_with k out unfound next_ begun minutes)
+          → IsTakenOn (Seated entered clock entry) failed e k.journal.kept o.found (with_marks (card_marks e.which clock entered.owed.items) (with_standing e.which Out (before o done s n waits fewer e k out unfound next_ begun minutes U X Z w m))) ((seated entered.look entered.session entered.row entry noted e (with_sizes_of e.which sizes k.cabin))).cards (arranged e.which W Y Z)
           → GoesOnOrIsCut failed o done s n waits fewer (values_with k out unfound next_ begun minutes) (values_with k' out' unfound next_ begun minutes) (arranged e.which U X Z) (arranged e.which W Y Z) w
       seated-so same taken_ = subst (λ (v : Values). GoesOnOrIsCut failed o done s n waits fewer (values_with k out unfound next_ begun minutes) v (arranged e.which U X Z) (arranged e.which W Y Z) w) (sym same) (seated-goes failed refl taken_)
 
     -- ---- and torn out since
 
-    module _ (found_in_ : AreFoundCards o.found ((seated entered.look entered.session entry noted e (with_sizes_of e.which sizes k.cabin))).cards) (found : AreFoundCards o.found (torn_out e.which e.at.second (seated entered.look entered.session entry noted e (with_sizes_of e.which sizes k.cabin))).cards) (broken : HasBroken X Y 1) where
+    module _ (found_in_ : AreFoundCards o.found ((seated entered.look entered.session entered.row entry noted e (with_sizes_of e.which sizes k.cabin))).cards) (found : AreFoundCards o.found (torn_out e.which e.at.second (seated entered.look entered.session entered.row entry noted e (with_sizes_of e.which sizes k.cabin))).cards) (broken : HasBroken X Y 1) where
       abbrev y : Card → Standing
       y = for_card e.which (Torn e.at.second entered.session.minute (e.at.second / 60)) (for_card e.which (IsIn e.at.second entered.session.minute) (for_card e.which Out w.standing))
 
       others-left : (x : Card) → (x ≡ e.which → ⊥) → y x ≡ w.standing x
       others-left x apart = for-other e.which x (Torn e.at.second entered.session.minute (e.at.second / 60)) z apart ∙ others-stand x apart
 
-      is-lost : IsLostSo o done s (In n) waits fewer (values_with k out unfound next_ begun minutes) (arranged e.which U X Z) (arranged e.which W Y Z) w e.which (find_of e (Accepted entered.replayed)) (seated entered.look entered.session entry noted e (with_sizes_of e.which sizes k.cabin)) (torn_out e.which e.at.second (seated entered.look entered.session entry noted e (with_sizes_of e.which sizes k.cabin))) (tear_of e.slot e.at)
+      is-lost : IsLostSo o done s (In n) waits fewer (values_with k out unfound next_ begun minutes) (arranged e.which U X Z) (arranged e.which W Y Z) w e.which (find_of e (Accepted entered.replayed)) (seated entered.look entered.session entered.row entry noted e (with_sizes_of e.which sizes k.cabin)) (torn_out e.which e.at.second (seated entered.look entered.session entered.row entry noted e (with_sizes_of e.which sizes k.cabin))) (tear_of e.slot e.at)
       is-lost = record {
         accepts = refl;
         torn_here = (n, false, ap (tear_of e.slot) m.moment, refl, w.moment.is, λ late. absurd (cc));
         broke = broke-once o done s n waits fewer e k out unfound next_ begun minutes U X Z w m failed k' noted noted' out' W Y way g sound broken;
-        slots_are = ap (λ (slot : Option Slot). left_from slot e.at.second ((seated entered.look entered.session entry noted e (with_sizes_of e.which sizes k.cabin))).slots) (slot-put e.slot e.which (Some entered.session.minute) k.cabin.slots m.elsewhere) ∙ ap (λ (u : ℕ). taken e.slot u ((seated entered.look entered.session entry noted e (with_sizes_of e.which sizes k.cabin))).slots) (now-is o done s n waits fewer e k out unfound next_ begun minutes U X Z w m);
+        slots_are = ap (λ (slot : Option Slot). left_from slot e.at.second ((seated entered.look entered.session entered.row entry noted e (with_sizes_of e.which sizes k.cabin))).slots) (slot-put e.slot e.which (Some entered.session.minute) k.cabin.slots m.elsewhere) ∙ ap (λ (u : ℕ). taken e.slot u ((seated entered.look entered.session entered.row entry noted e (with_sizes_of e.which sizes k.cabin))).slots) (now-is o done s n waits fewer e k out unfound next_ begun minutes U X Z w m);
         found = found;
-        sessions = old-lost e.which entered.look.number a sizes k.cabin.cards;
+        sessions = old-lost e.which entered.look.number entered.row a sizes k.cabin.cards;
       }
 
-      lost-goes : (b : Bool) → failed ≡ b → IsTakenOn (Lost entered clock entry) b e k.journal.kept o.found (with_marks (card_marks e.which clock entered.owed.items) (with_standing e.which Out (before o done s n waits fewer e k out unfound next_ begun minutes U X Z w m))) (torn_out e.which e.at.second (seated entered.look entered.session entry noted e (with_sizes_of e.which sizes k.cabin))).cards (arranged e.which W Y Z)
-          → GoesOnOrIsCut b o done s n waits fewer (values_with k out unfound next_ begun minutes) (lost_values (find_of e (Accepted entered.replayed)) (tear_of e.slot e.at) (out.marks.items ++ card_marks e.which clock entered.owed.items) (seated entered.look entered.session entry noted e (with_sizes_of e.which sizes k.cabin)) (torn_out e.which e.at.second (seated entered.look entered.session entry noted e (with_sizes_of e.which sizes k.cabin))) (values_with k out unfound next_ begun minutes)) (arranged e.which U X Z) (arranged e.which W Y Z) w
-      lost-goes false is powered = card-lost (arranged e.which U X Z) (arranged e.which W Y Z) o done s (In n) waits fewer (values_with k out unfound next_ begun minutes) w e.which (find_of e (Accepted entered.replayed)) (out.marks.items ++ card_marks e.which clock entered.owed.items) (seated entered.look entered.session entry noted e (with_sizes_of e.which sizes k.cabin)) (torn_out e.which e.at.second (seated entered.look entered.session entry noted e (with_sizes_of e.which sizes k.cabin))) (for_card e.which (k.journal.kept ∷ w.brought e.which) w.brought) (tear_of e.slot e.at) y (seated-judged found_in_) is-lost
+      lost-goes : (b : Bool) → failed ≡ b → IsTakenOn (Lost entered clock entry) b e k.journal.kept o.found (with_marks (card_marks e.which clock entered.owed.items) (with_standing e.which Out (before o done s n waits fewer e k out unfound next_ begun minutes U X Z w m))) (torn_out e.which e.at.second (seated entered.look entered.session entered.row entry noted e (with_sizes_of e.which sizes k.cabin))).cards (arranged e.which W Y Z)
+          → GoesOnOrIsCut b o done s n waits fewer (values_with k out unfound next_ begun minutes) (lost_values (find_of e (Accepted entered.replayed)) (tear_of e.slot e.at) (out.marks.items ++ card_marks e.which clock entered.owed.items) (seated entered.look entered.session entered.row entry noted e (with_sizes_of e.which sizes k.cabin)) (torn_out e.which e.at.second (seated entered.look entered.session entered.row entry noted e (with_sizes_of e.which sizes k.cabin))) (values_with k out unfound next_ begun minutes)) (arranged e.which U X Z) (arranged e.which W Y Z) w
+      lost-goes false is powered = card-lost (arranged e.which U X Z) (arranged e.which W Y Z) o done s (In n) waits fewer (values_with k out unfound next_ begun minutes) w e.which (find_of e (Accepted entered.replayed)) (out.marks.items ++ card_marks e.which clock entered.owed.items) (seated entered.look entered.session entered.row entry noted e (with_sizes_of e.which sizes k.cabin)) (torn_out e.which e.at.second (seated entered.look entered.session entered.row entry noted e (with_sizes_of e.which sizes k.cabin))) (for_card e.which (k.journal.kept ∷ w.brought e.which) w.brought) (tear_of e.slot e.at) y (seated-judged found_in_) is-lost
           (record { powered = powered; others = others-left })
       lost-goes true is powerless = record {
         left = fewer;
-        cabin = torn_out e.which e.at.second (seated entered.look entered.session entry noted e (with_sizes_of e.which sizes k.cabin));
+        cabin = torn_out e.which e.at.second (seated entered.look entered.session entered.row entry noted e (with_sizes_of e.which sizes k.cabin));
         same = refl;
-        within = losing-fails (arranged e.which U X Z) (arranged e.which W Y Z) o done s (In n) waits fewer (values_with k out unfound next_ begun minutes) w e.which (find_of e (Accepted entered.replayed)) (out.marks.items ++ card_marks e.which clock entered.owed.items) (seated entered.look entered.session entry noted e (with_sizes_of e.which sizes k.cabin)) (torn_out e.which e.at.second (seated entered.look entered.session entry noted e (with_sizes_of e.which sizes k.cabin))) (for_card e.which (k.journal.kept ∷ w.brought e.which) w.brought) (tear_of e.slot e.at) (seated-judged found_in_) is-lost
+        within = losing-fails (arranged e.which U X Z) (arranged e.which W Y Z) o done s (In n) waits fewer (values_with k out unfound next_ begun minutes) w e.which (find_of e (Accepted entered.replayed)) (out.marks.items ++ card_marks e.which clock entered.owed.items) (seated entered.look entered.session entered.row entry noted e (with_sizes_of e.which sizes k.cabin)) (torn_out e.which e.at.second (seated entered.look entered.session entered.row entry noted e (with_sizes_of e.which sizes k.cabin))) (for_card e.which (k.journal.kept ∷ w.brought e.which) w.brought) (tear_of e.slot e.at) (seated-judged found_in_) is-lost
             (record { standing = y; powerless = powerless; broke = unit-broke o done s n waits fewer e k out unfound next_ begun minutes U X Z w m failed k' noted noted' out' W Y way g sound is; no_keeping = λ keeping. not-keeping n keeping });
       }
 
-      pub lost-since : values_with k' out' unfound next_ begun minutes ≡ lost_values (find_of e (Accepted entered.replayed)) (tear_of e.slot e.at) (out.marks.items ++ card_marks e.which clock entered.owed.items) (seated entered.look entered.session entry noted e (with_sizes_of e.which sizes k.cabin)) (torn_out e.which e.at.second (seated entered.look entered.session entry noted e (with_sizes_of e.which sizes k.cabin))) (values_with k out unfound next_ begun minutes)
-          → IsTakenOn (Lost entered clock entry) failed e k.journal.kept o.found (with_marks (card_marks e.which clock entered.owed.items) (with_standing e.which Out (before o done s n waits fewer e k out unfound next_ begun minutes U X Z w m))) (torn_out e.which e.at.second (seated entered.look entered.session entry noted e (with_sizes_of e.which sizes k.cabin))).cards (arranged e.which W Y Z)
+      pub lost-since : values_with k' out' unfound next_ begun minutes ≡ lost_values (find_of e (Accepted entered.replayed)) (tear_of e.slot e.at) (out.marks.items ++ card_marks e.which clock entered.owed.items) (seated entered.look entered.session entered.row entry noted e (with_sizes_of e.which sizes k.cabin)) (torn_out e.which e.at.second (seated entered.look entered.session entered.row entry noted e (with_sizes_of e.which sizes k.cabin))) (values_with k out unfound next_ begun minutes)
+          → IsTakenOn (Lost entered clock entry) failed e k.journal.kept o.found (with_marks (card_marks e.which clock entered.owed.items) (with_standing e.which Out (before o done s n waits fewer e k out unfound next_ begun minutes U X Z w m))) (torn_out e.which e.at.second (seated entered.look entered.session entered.row entry noted e (with_sizes_of e.which sizes k.cabin))).cards (arranged e.which W Y Z)
           → GoesOnOrIsCut failed o done s n waits fewer (values_with k out unfound next_ begun minutes) (values_with k' out' unfound next_ begun minutes) (arranged e.which U X Z) (arranged e.which W Y Z) w
       lost-since same taken_ = subst (λ (v : Values). GoesOnOrIsCut failed o done s n waits fewer (values_with k out unfound next_ begun minutes) v (arranged e.which U X Z) (arranged e.which W Y Z) w) (sym same) (lost-goes failed refl taken_)

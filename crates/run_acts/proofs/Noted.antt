@@ -2,16 +2,15 @@
 use Rattle.std.proofs.Common.{◌≡◌, ◌∙◌, false, true, refl}
 use Rattle.tach_media.specs.Medium.{State, IsCoherent, LeavesOnly}
 use Rattle.trace_model.specs.declared.Card.{Card}
-use Rattle.tacho_types.specs.CardNumber.{card_number_bytes}
 use Rattle.unit_notes.specs.Journal.{LeavesJournal}
 use Rattle.run_crew.specs.declared.cards.Cards.{Cards}
 use Rattle.run_keeping.specs.declared.keeper.Keeper.{Keeper}
 use Rattle.run_keeping.specs.Keeping.{UnitReady, HasItsRow}
-use Rattle.run_keeping.proofs.Units.{unit-stays, agrees-noted, row-noted}
+use Rattle.run_keeping.proofs.Units.{unit-stays, agrees-noted, has-row, row-noted}
 
 module _ {U V : State} (before : IsCoherent U) (after : IsCoherent V) (run : LeavesOnly U V LeavesJournal) (k : Keeper) (ready : UnitReady k U) where
   pub noted-ready : V.works ≡ true → UnitReady k V
   noted-ready works = record { is_unit = unit-stays run ready.is_unit; works = works; agrees = agrees-noted before after ready.works run k.journal ready.agrees }
 
   pub noted-row : (cards : Cards) (card : Card) → HasItsRow cards U card → HasItsRow cards V card
-  noted-row cards card h = record { number = h.number; told = h.told; row = row-noted before after ready.works run (card_number_bytes h.number) h.row }
+  noted-row cards card h = has-row cards cards U V card refl refl (row-noted before after ready.works run) h

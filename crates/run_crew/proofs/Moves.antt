@@ -155,36 +155,36 @@ measure-stands cabin B sizes from leaving bare h =
 
 -- ---- a card is accepted
 
-module _ (cabin : Cabin) (card : Card) (number : FullCardNumber) (accepted : Accepted) (from : ℕ) (early : cabin.slots.minute ≤ from)
+module _ (cabin : Cabin) (card : Card) (number : FullCardNumber) (row : ℕ) (accepted : Accepted) (from : ℕ) (early : cabin.slots.minute ≤ from)
     (sizes : (known_of cabin.cards card).sizes ≡ Ok accepted.session.application) (h : Stands from None cabin) where
-  known_now : (c : Card) → IsKnown (known_of (with_session card (Some accepted) (with_number card number cabin.cards)) c)
+  known_now : (c : Card) → IsKnown (known_of (with_session card (Some accepted) (with_number card number row cabin.cards)) c)
   known_now c = by card c sizes
     where
-      by : (k c : Card) → (known_of cabin.cards k).sizes ≡ Ok accepted.session.application → IsKnown (known_of (with_session k (Some accepted) (with_number k number cabin.cards)) c)
+      by : (k c : Card) → (known_of cabin.cards k).sizes ≡ Ok accepted.session.application → IsKnown (known_of (with_session k (Some accepted) (with_number k number row cabin.cards)) c)
       by A A sizes = record { sized = sizes; numbered = refl }
       by A B sizes = h.b
       by B A sizes = h.a
       by B B sizes = record { sized = sizes; numbered = refl }
 
-  same_but : SameBut card cabin.cards (with_session card (Some accepted) (with_number card number cabin.cards))
-  same_but c off = session_apart card c (Some accepted) (with_number card number cabin.cards) off ∙ session_named card c number cabin.cards
+  same_but : SameBut card cabin.cards (with_session card (Some accepted) (with_number card number row cabin.cards))
+  same_but c off = session_apart card c (Some accepted) (with_number card number row cabin.cards) off ∙ session_named card c number row cabin.cards
 
-  answers_now : AnswersTo from (Some accepted.session.minute) (session_of (with_session card (Some accepted) (with_number card number cabin.cards)) card)
+  answers_now : AnswersTo from (Some accepted.session.minute) (session_of (with_session card (Some accepted) (with_number card number row cabin.cards)) card)
   answers_now =
       let le : accepted.session.minute ≤ accepted.session.minute = omega arith in
-      subst (λ (s : Option Accepted). AnswersTo from (Some accepted.session.minute) s) (sym (session_set card (Some accepted) (with_number card number cabin.cards))) (inl le)
+      subst (λ (s : Option Accepted). AnswersTo from (Some accepted.session.minute) s) (sym (session_set card (Some accepted) (with_number card number row cabin.cards))) (inl le)
 
   -- no minute that has ended is to be kept any more
-  past_now : All (EndedStands from cabin.slots.minute (with_session card (Some accepted) (with_number card number cabin.cards))) cabin.slots.past
-  past_now = All-weaker (EndedStands from cabin.slots.minute cabin.cards) (EndedStands from cabin.slots.minute (with_session card (Some accepted) (with_number card number cabin.cards)))
+  past_now : All (EndedStands from cabin.slots.minute (with_session card (Some accepted) (with_number card number row cabin.cards))) cabin.slots.past
+  past_now = All-weaker (EndedStands from cabin.slots.minute cabin.cards) (EndedStands from cabin.slots.minute (with_session card (Some accepted) (with_number card number row cabin.cards)))
       (λ e was. let over = was.over in record { over = over; driver = λ late. absurd (omega (arith, over, late, early)); codriver = λ late. absurd (omega (arith, over, late, early)); apart = was.apart })
       cabin.slots.past h.past
 
   -- where a card has its session from
-  old_or_new : (c : Card) → is_some (session_of (with_session card (Some accepted) (with_number card number cabin.cards)) c) ≡ true → (same_card card c ≡ true) ⊎ (is_some (session_of cabin.cards c) ≡ true)
+  old_or_new : (c : Card) → is_some (session_of (with_session card (Some accepted) (with_number card number row cabin.cards)) c) ≡ true → (same_card card c ≡ true) ⊎ (is_some (session_of cabin.cards c) ≡ true)
   old_or_new c some = by card c some
     where
-      by : (k c : Card) → is_some (session_of (with_session k (Some accepted) (with_number k number cabin.cards)) c) ≡ true → (same_card k c ≡ true) ⊎ (is_some (session_of cabin.cards c) ≡ true)
+      by : (k c : Card) → is_some (session_of (with_session k (Some accepted) (with_number k number row cabin.cards)) c) ≡ true → (same_card k c ≡ true) ⊎ (is_some (session_of cabin.cards c) ≡ true)
       by A A some = inl refl
       by A B some = inr some
       by B A some = inr some
@@ -194,12 +194,12 @@ module _ (cabin : Cabin) (card : Card) (number : FullCardNumber) (accepted : Acc
   seated o c is = ap (λ (o : Option Seat). is_card o c) is
 
   pub accept-stands : (slot : Slot) → seat_in cabin.slots.seats slot ≡ Some (record { card = card; newest = None }) → is_card (seat_in cabin.slots.seats (other_slot slot)) card ≡ false
-      → KnowsNewest (put_in slot card (Some accepted.session.minute) cabin.slots) → Stands from None (with_accepted slot card number accepted cabin)
+      → KnowsNewest (put_in slot card (Some accepted.session.minute) cabin.slots) → Stands from None (with_accepted slot card number row accepted cabin)
   accept-stands Driver seat off newest = record {
     a = known_now A;
     b = known_now B;
     driver = answers_now;
-    codriver = seat_apart from card cabin.cards (with_session card (Some accepted) (with_number card number cabin.cards)) same_but cabin.slots.seats.codriver off h.codriver;
+    codriver = seat_apart from card cabin.cards (with_session card (Some accepted) (with_number card number row cabin.cards)) same_but cabin.slots.seats.codriver off h.codriver;
     apart = two_first card cabin.slots.seats.codriver off;
     only = λ c some. sits c (old_or_new c some);
     left = tt;
@@ -218,7 +218,7 @@ module _ (cabin : Cabin) (card : Card) (number : FullCardNumber) (accepted : Acc
   accept-stands CoDriver seat off newest = record {
     a = known_now A;
     b = known_now B;
-    driver = seat_apart from card cabin.cards (with_session card (Some accepted) (with_number card number cabin.cards)) same_but cabin.slots.seats.driver off h.driver;
+    driver = seat_apart from card cabin.cards (with_session card (Some accepted) (with_number card number row cabin.cards)) same_but cabin.slots.seats.driver off h.driver;
     codriver = answers_now;
     apart = two_second card cabin.slots.seats.driver off;
     only = λ c some. sits c (old_or_new c some);

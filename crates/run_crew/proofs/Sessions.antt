@@ -44,11 +44,11 @@ session_apart B B s cards e = absurd (cc)
 session_apart A B s cards e = refl
 session_apart B A s cards e = refl
 
-pub session_named : (c d : Card) (n : FullCardNumber) (cards : Cards) → session_of (with_number c n cards) d ≡ session_of cards d
-session_named A A n cards = refl
-session_named A B n cards = refl
-session_named B A n cards = refl
-session_named B B n cards = refl
+pub session_named : (c d : Card) (n : FullCardNumber) (row : ℕ) (cards : Cards) → session_of (with_number c n row cards) d ≡ session_of cards d
+session_named A A n row cards = refl
+session_named A B n row cards = refl
+session_named B A n row cards = refl
+session_named B B n row cards = refl
 
 pub sized_of : (cards : Cards) (c : Card) (old : Accepted) → session_of cards c ≡ Some old → IsKnown cards.a → IsKnown cards.b → (known_of cards c).sizes ≡ Ok old.session.application
 sized_of cards A old is a b = subst (λ (o : Option Accepted). IfSome o (λ x. cards.a.sizes ≡ Ok x.session.application)) is a.sized

@@ -24,11 +24,11 @@ use Rattle.run_crew.specs.Cards.{known_of, session_of, with_session, with_number
 abbrev pub with_card_in : Slot → Card → Cabin → Cabin
 with_card_in slot card cabin = record cabin { slots = put_in slot card None cabin.slots }
 
--- it is accepted there with this session, and has told this number
-abbrev pub with_accepted : Slot → Card → FullCardNumber → Accepted → Cabin → Cabin
-with_accepted slot card number accepted cabin = record {
+-- it is accepted there with this session, has told this number, and this row of the unit is begun for it
+abbrev pub with_accepted : Slot → Card → FullCardNumber → (row : ℕ) → Accepted → Cabin → Cabin
+with_accepted slot card number row accepted cabin = record {
   slots = put_in slot card (Some accepted.session.minute) cabin.slots;
-  cards = with_session card (Some accepted) (with_number card number cabin.cards);
+  cards = with_session card (Some accepted) (with_number card number row cabin.cards);
 }
 
 -- a card has told these sizes, or a bad field

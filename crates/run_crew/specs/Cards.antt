@@ -28,10 +28,10 @@ abbrev pub with_sizes : Card → Result Application ℕ → Cards → Cards
 with_sizes A sizes cards = record cards { a = record cards.a { sizes = sizes } }
 with_sizes B sizes cards = record cards { b = record cards.b { sizes = sizes } }
 
--- it told this number
-abbrev pub with_number : Card → FullCardNumber → Cards → Cards
-with_number A number cards = record cards { a = record cards.a { number = Some number } }
-with_number B number cards = record cards { b = record cards.b { number = Some number } }
+-- it told this number, and this row of the unit is begun for it
+abbrev pub with_number : Card → FullCardNumber → (row : ℕ) → Cards → Cards
+with_number A number row cards = record cards { a = record cards.a { number = Some number; row = row } }
+with_number B number row cards = record cards { b = record cards.b { number = Some number; row = row } }
 
 -- its number, while it is accepted
 abbrev pub accepted_number : Known → Option FullCardNumber

@@ -55,17 +55,25 @@ impl Cabin {
         self.cards.measure(card, sizes);
     }
 
-    /// The card of a slot is accepted there, with a session by the sizes that are known of it; it has told this number.
-    pub fn accept(&mut self, slot: Slot, card: Card, number: FullCardNumber, accepted: Accepted)
+    /// The card of a slot is accepted there, with a session by the sizes that are known of it; it has told this number, and this row of the
+    /// unit is begun for it.
+    pub fn accept(
+        &mut self,
+        slot: Slot,
+        card: Card,
+        number: FullCardNumber,
+        row: u32,
+        accepted: Accepted,
+    )
         requires seat { seat_in self.old.slots.seats slot ≡ Some (record { card = card; newest = None }) }
         requires elsewhere { is_card (seat_in self.old.slots.seats (other_slot slot)) card ≡ false }
         requires sizes { (known_of self.old.cards card).sizes ≡ Ok accepted.session.application }
-        ensures kept { self.new ≡ with_accepted slot card number accepted self.old }
+        ensures kept { self.new ≡ with_accepted slot card number row accepted self.old }
         ensures stands { (from : ℕ) → self.old.slots.minute ≤ from → Stands from None self.old → Stands from None self.new }
     {
         let newest = accepted.session.newest_minute();
         self.slots.put(slot, card, Some(newest));
-        self.cards.name(card, number);
+        self.cards.name(card, number, row);
         self.cards.set_session(card, Some(accepted));
     }
 

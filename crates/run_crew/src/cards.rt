@@ -23,6 +23,8 @@ pub struct Known {
     pub sizes: Result<Application, u8>,
     /// The card number that it told last, if it was valid.
     pub number: Option<FullCardNumber>,
+    /// The row of the unit that was begun for it last: what is owed to it stands there, also where it was torn out since.
+    pub row: u32,
     /// Its session, from its acceptance until it leaves its slot or power is lost.
     pub accepted: Option<Accepted>,
 }
@@ -96,13 +98,19 @@ impl Cards {
         }
     }
 
-    /// A card has told this number.
-    pub fn name(&mut self, card: Card, number: FullCardNumber)
-        ensures { self.new ≡ with_number card number self.old }
+    /// A card has told this number, and this row of the unit is begun for it.
+    pub fn name(&mut self, card: Card, number: FullCardNumber, row: u32)
+        ensures { self.new ≡ with_number card number row self.old }
     {
         match card {
-            Card::A => self.a.number = Some(number),
-            Card::B => self.b.number = Some(number),
+            Card::A => {
+                self.a.number = Some(number);
+                self.a.row = row;
+            }
+            Card::B => {
+                self.b.number = Some(number);
+                self.b.row = row;
+            }
         }
     }
 }

@@ -189,7 +189,7 @@ module _ (app : Application) (e : Entering) (entered : Entered) (clock : ℕ) (k
   taken-outcome true entry breaks told = outcome-as o marks breaks finds _ _ _ marked told found
 
   -- the unit failed as it was seated
-  pub taken-cut : (v : Keeper) (noted_after : ℕ) (U V X : State) (entry : Option ℕ) → IsSeated entered.look entered.session e true k v noted noted_after U V entry
+  pub taken-cut : (v : Keeper) (noted_after : ℕ) (U V X : State) (entry : Option ℕ) → IsSeated entered.look entered.session entered.row e true k v noted noted_after U V entry
       → IsEntry entry true U.image × IsTaken app e true k v noted noted_after o (record o { marks = marks; finds = finds }) U V X X (taken_as false entered clock entry)
   taken-cut v noted_after U V X None s = (
     refl,
@@ -207,7 +207,7 @@ module _ (app : Application) (e : Entering) (entered : Entered) (clock : ℕ) (k
     s.by.0,
     record {
       left = record { keeper = s.by.1; count = s.by.2; outcome = outcome-as o marks o.breaks finds _ _ _ marked (no-lines o.breaks) found };
-      notes = notes-cut IsOnUnit IsComing (notes_with false entered.look.session e (seated entered.look entered.session entry noted e k.cabin)) s.notes;
+      notes = notes-cut IsOnUnit IsComing (notes_with false entered.look.session e (seated entered.look entered.session entered.row entry noted e k.cabin)) s.notes;
       on_card = λ u. notes-unbegun (IsOnCard app k.memory.registration e u) (IsComingOnCard app k.memory.registration e u) (moving_on_card k.memory.registration e) X;
       broken = none_broken X;
       later = omega arith;
@@ -218,7 +218,7 @@ module _ (app : Application) (e : Entering) (entered : Entered) (clock : ℕ) (k
 
   -- it is seated, and more is noted
   seated-taken : (fell failed : Bool) (v : Keeper) (noted_after : ℕ) (breaks : Listed Break) (U V W X Y : State) (entry : ℕ) → noted_after ≡ and_one noted → HasNoted IsOnUnit IsComing (seat_notes entered.look e k.cabin (Some entry)) false U V
-      → IsNotedOn app entered.look.session e failed (record k { cabin = seated entered.look entered.session entry noted e k.cabin }) v o.breaks breaks V W X Y fell
+      → IsNotedOn app entered.look.session e failed (record k { cabin = seated entered.look entered.session entered.row entry noted e k.cabin }) v o.breaks breaks V W X Y fell
       → IsTaken app e failed k v noted noted_after o (record o { marks = marks; breaks = breaks; finds = finds }) U W X Y (taken_as fell entered clock (Some entry))
   seated-taken false failed v noted_after breaks U V W X Y entry counted seat m = record {
     left = record { keeper = m.keeper; count = counted; outcome = taken-outcome false entry breaks m.told };
@@ -239,7 +239,7 @@ module _ (app : Application) (e : Entering) (entered : Entered) (clock : ℕ) (k
     moves = λ falls. m.moves refl;
   }
 
-  pub taken-on : (fell failed : Bool) (k1 v : Keeper) (noted_after : ℕ) (breaks : Listed Break) (U V W X Y : State) (entry : Option ℕ) → IsSeated entered.look entered.session e false k k1 noted noted_after U V entry
+  pub taken-on : (fell failed : Bool) (k1 v : Keeper) (noted_after : ℕ) (breaks : Listed Break) (U V W X Y : State) (entry : Option ℕ) → IsSeated entered.look entered.session entered.row e false k k1 noted noted_after U V entry
       → IsNotedOn app entered.look.session e failed k1 v o.breaks breaks V W X Y fell
       → IsEntry entry failed U.image × IsTaken app e failed k v noted noted_after o (record o { marks = marks; breaks = breaks; finds = finds }) U W X Y (taken_as fell entered clock entry)
   taken-on fell failed k1 v noted_after breaks U V W X Y None s m = absurd (not_failed s.by.0)

@@ -188,7 +188,7 @@ sits-works e k v noted (Unnoted entered clock) chip Y is ready sitting = absurd 
 sits-works e k v noted (Seated entered clock entry) chip Y is ready sitting =
     at e.which (subst (λ (w : Keeper). CardReady (known_of w.cabin.cards e.which) chip Y) is ready)
   where
-    at : (card : Card) → CardReady (known_of (with_accepted e.slot card entered.look.number (record { session = entered.session; entry = entry; noted = and_one noted }) k.cabin).cards card) chip Y → Y.works ≡ true
+    at : (card : Card) → CardReady (known_of (with_accepted e.slot card entered.look.number entered.row (record { session = entered.session; entry = entry; noted = and_one noted }) k.cabin).cards card) chip Y → Y.works ≡ true
     at A now = now.works
     at B now = now.works
 sits-works e k v noted (Lost entered clock entry) chip Y is ready sitting = absurd sitting

@@ -74,33 +74,33 @@ found-same f cards after same found = record {
 }
 
 -- a card that is accepted told the number that it had
-pub found-seated : (f : Found) (slot : Slot) (which : Card) (number : FullCardNumber) (accepted : Accepted) (cabin : Cabin) → card_number_bytes number ≡ (found_of f which).number → AreFoundCards f cabin.cards → AreFoundCards f (with_accepted slot which number accepted cabin).cards
-found-seated f slot A number accepted cabin is found = record { two = found.two; named = named; told = told; sizes = found.sizes; entries = found.entries }
+pub found-seated : (f : Found) (slot : Slot) (which : Card) (number : FullCardNumber) (row : ℕ) (accepted : Accepted) (cabin : Cabin) → card_number_bytes number ≡ (found_of f which).number → AreFoundCards f cabin.cards → AreFoundCards f (with_accepted slot which number row accepted cabin).cards
+found-seated f slot A number row accepted cabin is found = record { two = found.two; named = named; told = told; sizes = found.sizes; entries = found.entries }
   where
-    named : (c : Card) → IsOwnValid (found_of f c).image → IfSome (known_of (with_accepted slot A number accepted cabin).cards c).number (λ n. card_number_bytes n ≡ (found_of f c).number)
+    named : (c : Card) → IsOwnValid (found_of f c).image → IfSome (known_of (with_accepted slot A number row accepted cabin).cards c).number (λ n. card_number_bytes n ≡ (found_of f c).number)
     named A valid = is
     named B valid = found.named B valid
 
-    told : (c : Card) → IsOwnValid (found_of f c).image → is_some (known_of (with_accepted slot A number accepted cabin).cards c).number ≡ true
+    told : (c : Card) → IsOwnValid (found_of f c).image → is_some (known_of (with_accepted slot A number row accepted cabin).cards c).number ≡ true
     told A valid = refl
     told B valid = found.told B valid
-found-seated f slot B number accepted cabin is found = record { two = found.two; named = named; told = told; sizes = found.sizes; entries = found.entries }
+found-seated f slot B number row accepted cabin is found = record { two = found.two; named = named; told = told; sizes = found.sizes; entries = found.entries }
   where
-    named : (c : Card) → IsOwnValid (found_of f c).image → IfSome (known_of (with_accepted slot B number accepted cabin).cards c).number (λ n. card_number_bytes n ≡ (found_of f c).number)
+    named : (c : Card) → IsOwnValid (found_of f c).image → IfSome (known_of (with_accepted slot B number row accepted cabin).cards c).number (λ n. card_number_bytes n ≡ (found_of f c).number)
     named A valid = found.named A valid
     named B valid = is
 
-    told : (c : Card) → IsOwnValid (found_of f c).image → is_some (known_of (with_accepted slot B number accepted cabin).cards c).number ≡ true
+    told : (c : Card) → IsOwnValid (found_of f c).image → is_some (known_of (with_accepted slot B number row accepted cabin).cards c).number ≡ true
     told A valid = found.told A valid
     told B valid = refl
 
-pub has-session : (slot : Slot) (which : Card) (number : FullCardNumber) (accepted : Accepted) (cabin : Cabin) → session_of (with_accepted slot which number accepted cabin).cards which ≡ Some accepted
-has-session slot A number accepted cabin = refl
-has-session slot B number accepted cabin = refl
+pub has-session : (slot : Slot) (which : Card) (number : FullCardNumber) (row : ℕ) (accepted : Accepted) (cabin : Cabin) → session_of (with_accepted slot which number row accepted cabin).cards which ≡ Some accepted
+has-session slot A number row accepted cabin = refl
+has-session slot B number row accepted cabin = refl
 
-pub others-session : (slot : Slot) (which : Card) (number : FullCardNumber) (accepted : Accepted) (cabin : Cabin) → session_of (with_accepted slot which number accepted cabin).cards (other which) ≡ session_of cabin.cards (other which)
-others-session slot A number accepted cabin = refl
-others-session slot B number accepted cabin = refl
+pub others-session : (slot : Slot) (which : Card) (number : FullCardNumber) (row : ℕ) (accepted : Accepted) (cabin : Cabin) → session_of (with_accepted slot which number row accepted cabin).cards (other which) ≡ session_of cabin.cards (other which)
+others-session slot A number row accepted cabin = refl
+others-session slot B number row accepted cabin = refl
 
 -- the number of the other card is spared
 pub spared-number : (f : Found) (cards : Cards) (c : Card) → AreFoundCards f cards → IsOwnValid (found_of f c).image → option_map (λ (s : FullCardNumber). card_number_bytes s) (known_of cards c).number ≡ Some (found_of f c).number
@@ -138,7 +138,7 @@ module _ (f : Found) (w : Carried) (cards : Cards) (c : Card) (U X Z : State) (f
 
 -- ---- A CARD IS SEATED: its insertion was noted, and its row is begun
 
-module _ (f : Found) (w : Carried) (k : Keeper) (e : Entering) (look : CardLook) (session : Session) (entry noted : ℕ) (U V W X Z : State) (m : MaySeat f w k e look session U X Z) (whole : IsCoherent U) (middle : IsCoherent V) (run : LeavesOnly U V LeavesJournal) (cause : HasCause U V false)
+module _ (f : Found) (w : Carried) (k : Keeper) (e : Entering) (look : CardLook) (session : Session) (row entry noted : ℕ) (U V W X Z : State) (m : MaySeat f w k e look session U X Z) (whole : IsCoherent U) (middle : IsCoherent V) (run : LeavesOnly U V LeavesJournal) (cause : HasCause U V false)
     (spared : Option (List ℕ)) (same : spared ≡ option_map (λ (s : FullCardNumber). card_number_bytes s) (known_of k.cabin.cards (other e.which)).number) (failed : Bool) (began : HasCause V W failed) (tells : is_some W.image ≡ is_some V.image)
     (holds : (s : Started) (due : ℕ) (b : Book) (marks : List Mark) → Holds s due b marks V → Holds s due b marks W)
     (mine : (r : Both) (s : Started) (due : ℕ) (b : Book) (marks : List Mark) (newest : ℕ) → card_number_bytes look.number ≡ number_of r e.which → Holds s due b marks V → due ≤ e.at.second / 60 → CardHolds r e.which b Out [] [] V X → IsEntered (opened r e.which).start (opened r e.which).began e.at.second newest (card_seen X)
@@ -153,13 +153,13 @@ module _ (f : Found) (w : Carried) (k : Keeper) (e : Entering) (look : CardLook)
   spares : IsOwnValid (found_of f (other e.which)).image → spared ≡ Some (found_of f (other e.which)).number
   spares valid = same ∙ spared-number f k.cabin.cards (other e.which) m.found valid
 
-  pub seat-carried : (kept : ℕ) → IsCarriedOn failed f (carried_row failed session e kept w) (seated look session entry noted e k.cabin).cards (arranged e.which W X Z)
+  pub seat-carried : (kept : ℕ) → IsCarriedOn failed f (carried_row failed session e kept w) (seated look session row entry noted e k.cabin).cards (arranged e.which W X Z)
   seat-carried kept = by failed refl
     where
-      by : (b : Bool) → failed ≡ b → IsCarriedOn b f (carried_row b session e kept w) (seated look session entry noted e k.cabin).cards (arranged e.which W X Z)
+      by : (b : Bool) → failed ≡ b → IsCarriedOn b f (carried_row b session e kept w) (seated look session row entry noted e k.cabin).cards (arranged e.which W X Z)
       by false well = begun-powered f w k.cabin.cards e.which V W X Z m.found middle e.at.second accepted m.valid m.out m.put noted-so m.late (card_number_bytes look.number) spared failed holds mine others tells m.named spares
-          well (began.works ∙ ap not well) kept (seated look session entry noted e k.cabin).cards (found-seated f e.slot e.which look.number accepted k.cabin m.named m.found)
-          (has-session e.slot e.which look.number accepted k.cabin) (others-session e.slot e.which look.number accepted k.cabin)
+          well (began.works ∙ ap not well) kept (seated look session row entry noted e k.cabin).cards (found-seated f e.slot e.which look.number row accepted k.cabin m.named m.found)
+          (has-session e.slot e.which look.number row accepted k.cabin) (others-session e.slot e.which look.number row accepted k.cabin)
       by true bad = begun-powerless f (with_brought e.which kept w) k.cabin.cards e.which V W X Z m.found middle e.at.second accepted m.valid m.out m.put
           (brought-powered f w k.cabin.cards e.which V X Z m.found e.at.second session.minute m.put.entered m.late noted-so kept) m.late (card_number_bytes look.number) spared failed holds mine others tells m.named spares
 
@@ -242,11 +242,11 @@ unclosed-carried app e k v fell U V W X Y Z failed is whole books run cause = λ
     noted-carried e.which f (fallen_carried fell e a.session.minute w) v.cabin.cards V W Y Z failed (found-fallen fell f e k v is m.found) whole (books f w a m) run cause
 
 -- what was found of the cards is so still where one is seated, or is not
-pub seat-found : (look : CardLook) (session : Session) (e : Entering) (failed : Bool) (k v : Keeper) (noted noted_after : ℕ) (unit : Option (List ℕ)) (entry : Option ℕ) → IsSeatedBy look session e failed k v noted noted_after unit entry → (f : Found) → card_number_bytes look.number ≡ (found_of f e.which).number
+pub seat-found : (look : CardLook) (session : Session) (row : ℕ) (e : Entering) (failed : Bool) (k v : Keeper) (noted noted_after : ℕ) (unit : Option (List ℕ)) (entry : Option ℕ) → IsSeatedBy look session row e failed k v noted noted_after unit entry → (f : Found) → card_number_bytes look.number ≡ (found_of f e.which).number
     → AreFoundCards f k.cabin.cards → AreFoundCards f v.cabin.cards
-seat-found look session e failed k v noted noted_after unit None s f named found = subst (λ (q : Keeper). AreFoundCards f q.cabin.cards) (sym s.1) found
-seat-found look session e failed k v noted noted_after unit (Some entry) s f named found =
-    subst (λ (q : Keeper). AreFoundCards f q.cabin.cards) (sym s.1) (found-seated f e.slot e.which look.number (record { session = session; entry = entry; noted = and_one noted }) k.cabin named found)
+seat-found look session row e failed k v noted noted_after unit None s f named found = subst (λ (q : Keeper). AreFoundCards f q.cabin.cards) (sym s.1) found
+seat-found look session row e failed k v noted noted_after unit (Some entry) s f named found =
+    subst (λ (q : Keeper). AreFoundCards f q.cabin.cards) (sym s.1) (found-seated f e.slot e.which look.number row (record { session = session; entry = entry; noted = and_one noted }) k.cabin named found)
 
 -- ---- A CARD IS TAKEN IN
 
@@ -270,22 +270,22 @@ not_failed e = cc
 
 module _ (app : Application) (e : Entering) (entered : Entered) (clock : ℕ) (k : Keeper) (noted : ℕ) (fell failed : Bool) (k1 v : Keeper) (noted_after : ℕ) (U V W X Y Z : State) where
   -- it is seated, and noted on
-  pub taken-notes : v ≡ fallen fell e k1 → (entry : Option ℕ) → IsSeatedBy entered.look entered.session e false k k1 noted noted_after U.image entry → entered.session.application ≡ app → BooksSeat entered.look entered.session e false k k1 U V X Z → IsValue entered.session
+  pub taken-notes : v ≡ fallen fell e k1 → (entry : Option ℕ) → IsSeatedBy entered.look entered.session entered.row e false k k1 noted noted_after U.image entry → entered.session.application ≡ app → BooksSeat entered.look entered.session e false k k1 U V X Z → IsValue entered.session
       → BooksNotes app e failed k1 v fell (arranged e.which V X Z) (arranged e.which W Y Z)
       → TimesNotes app e k1 (arranged e.which V X Z) X Y → BooksTaken entered (taken_as fell entered clock entry) e failed k v U W X Y Z
   taken-notes is None s sizes seat value notes times = absurd (not_failed s.0)
   taken-notes is (Some entry) s sizes seat value notes times = λ f w m.
       let a : Accepted = record { session = entered.session; entry = entry; noted = and_one noted } in
       let may : MayNote f (carried_seated entered.session e k.journal.kept w) k1.cabin.cards e app a (arranged e.which V X Z) = record {
-        found = subst (λ (q : Keeper). AreFoundCards f q.cabin.cards) (sym s.1) (found-seated f e.slot e.which entered.look.number a k.cabin m.named m.found);
+        found = subst (λ (q : Keeper). AreFoundCards f q.cabin.cards) (sym s.1) (found-seated f e.slot e.which entered.look.number entered.row a k.cabin m.named m.found);
         powered = seat f w m;
         valid = m.valid;
-        has = subst (λ (q : Keeper). session_of q.cabin.cards e.which ≡ Some a) (sym s.1) (has-session e.slot e.which entered.look.number a k.cabin);
+        has = subst (λ (q : Keeper). session_of q.cabin.cards e.which ≡ Some a) (sym s.1) (has-session e.slot e.which entered.look.number entered.row a k.cabin);
         value = value;
         sizes = sizes;
         stands = stands-at e.which (In e.at.second entered.session.minute) w.standing;
       } in (
         lost-or-seated fell failed entered clock entry e k.journal.kept f w v.cabin.cards (arranged e.which W Y Z) (notes f (carried_seated entered.session e k.journal.kept w) a may),
-        found-fallen fell f e k1 v is (seat-found entered.look entered.session e false k k1 noted noted_after U.image (Some entry) s f m.named m.found),
+        found-fallen fell f e k1 v is (seat-found entered.look entered.session entered.row e false k k1 noted noted_after U.image (Some entry) s f m.named m.found),
         times f (carried_seated entered.session e k.journal.kept w) a may,
       )

@@ -1,14 +1,13 @@
 -- The rows of the cards behind an acceptance.
-use Rattle.std.proofs.Common.{◌≡◌, ◌≢◌, ◌⊎◌, inl, inr, ⊎_elim, ℕ, ◌<◌, Option, Some, None, IfSome, Bool, true, List, [], ◌∷◌, drop, get_or, refl, ap, subst, sym, ◌∙◌, arith}
+use Rattle.std.proofs.Common.{◌≡◌, ℕ, ◌<◌, Option, Some, None, IfSome, Bool, true, List, [], ◌∷◌, refl, ap, subst, sym, ◌∙◌, arith}
 use Rattle.std.specs.Prelude.{◌≤◌, option_map, is_some, Result, Ok, Err}
-use Rattle.std.proofs.lemmas.Bool.{cases_lt}
 use Rattle.activity_codec.specs.declared.values.Slot.{Slot}
 use Rattle.trace_model.specs.declared.Card.{Card}
 use Rattle.trace_model.specs.declared.Card.TheVariants.{A, B}
 use Rattle.tach_media.specs.Medium.{State}
 use Rattle.tacho_types.specs.CardNumber.{card_number_bytes}
 use Rattle.tacho_types.specs.declared.card_number.FullCardNumber.{FullCardNumber}
-use Rattle.owed_model.specs.Rows.{HasRow}
+use Rattle.owed_model.specs.Rows.{IsRowAt}
 use Rattle.joint_rule.specs.Views.{other}
 use Rattle.run_crew.specs.declared.cards.Accepted.{Accepted}
 use Rattle.run_crew.specs.declared.cards.Known.{Known}
@@ -27,37 +26,18 @@ use Rattle.run_keeping.specs.Keeping.{HasItsRow, CardReady}
 use Rattle.run_entering.specs.declared.lines.Entering.{Entering}
 use Rattle.run_entering.specs.Entered.{IsSeatedBy}
 
-same-number : (a b : ℕ) → (a ≡ b) ⊎ (a ≢ b)
-same-number a b = ⊎_elim (λ less. inr (λ is. absurd (omega (arith, less, is)))) (λ not_less. ⊎_elim (λ more. inr (λ is. absurd (omega (arith, more, is)))) (λ not_more. inl (omega (arith, not_less, not_more))) (cases_lt b a)) (cases_lt a b)
+-- where a card is seated, it has the row that was begun, and the other one, whose number is spared, has its row still
+pub rows-seated : (slot : Slot) (which card : Card) (number : FullCardNumber) (row : ℕ) (accepted : Accepted) (cabin : Cabin) (U V : State) → row < 8 → IfSome V.image (IsRowAt row (card_number_bytes number))
+    → ((r : ℕ) (n : List ℕ) → option_map (λ (s : FullCardNumber). card_number_bytes s) (known_of cabin.cards (other which)).number ≡ Some n → IfSome U.image (IsRowAt r n) → IfSome V.image (IsRowAt r n))
+    → HasItsRow cabin.cards U card → HasItsRow (with_accepted slot which number row accepted cabin).cards V card
+rows-seated slot A A number row accepted cabin U V low mine spares h = record { number = number; told = refl; low = low; row = mine }
+rows-seated slot B B number row accepted cabin U V low mine spares h = record { number = number; told = refl; low = low; row = mine }
+rows-seated slot A B number row accepted cabin U V low mine spares h = record { number = h.number; told = h.told; low = h.low; row = spares cabin.cards.b.row (card_number_bytes h.number) (ap (λ (o : Option FullCardNumber). option_map (λ (s : FullCardNumber). card_number_bytes s) o) h.told) h.row }
+rows-seated slot B A number row accepted cabin U V low mine spares h = record { number = h.number; told = h.told; low = h.low; row = spares cabin.cards.a.row (card_number_bytes h.number) (ap (λ (o : Option FullCardNumber). option_map (λ (s : FullCardNumber). card_number_bytes s) o) h.told) h.row }
 
-same-list : (xs ys : List ℕ) → (xs ≡ ys) ⊎ (xs ≢ ys)
-same-list [] [] = inl refl
-same-list [] (y ∷ ys) = inr (λ is. cc)
-same-list (x ∷ xs) [] = inr (λ is. cc)
-same-list (x ∷ xs) (y ∷ ys) =
-    ⊎_elim (λ same. ⊎_elim (λ rest. inl (λ t. same t ∷ rest t)) (λ differ. inr (λ is. differ (ap (λ (l : List ℕ). drop 1 l) is))) (same-list xs ys))
-    (λ differ. inr (λ is. differ (ap (λ (l : List ℕ). get_or l 0 0) is))) (same-number x y)
-
--- a card that was told a number has its row still, be it the same number
-spared : (number : FullCardNumber) (told : Option FullCardNumber) (U V : State) → IfSome V.image (HasRow (card_number_bytes number))
-    → ((n : List ℕ) → option_map (λ (s : FullCardNumber). card_number_bytes s) told ≡ Some n → n ≢ card_number_bytes number → IfSome U.image (HasRow n) → IfSome V.image (HasRow n))
-    → (mine : FullCardNumber) → told ≡ Some mine → IfSome U.image (HasRow (card_number_bytes mine)) → IfSome V.image (HasRow (card_number_bytes mine))
-spared number told U V row spares mine is had =
-    ⊎_elim (λ same. subst (λ (n : List ℕ). IfSome V.image (HasRow n)) (sym same) row)
-    (λ differ. spares (card_number_bytes mine) (ap (λ (o : Option FullCardNumber). option_map (λ (s : FullCardNumber). card_number_bytes s) o) is) differ had)
-    (same-list (card_number_bytes mine) (card_number_bytes number))
-
-pub rows-seated : (slot : Slot) (which card : Card) (number : FullCardNumber) (accepted : Accepted) (cabin : Cabin) (U V : State) → IfSome V.image (HasRow (card_number_bytes number))
-    → ((n : List ℕ) → option_map (λ (s : FullCardNumber). card_number_bytes s) (known_of cabin.cards (other which)).number ≡ Some n → n ≢ card_number_bytes number → IfSome U.image (HasRow n) → IfSome V.image (HasRow n))
-    → HasItsRow cabin.cards U card → HasItsRow (with_accepted slot which number accepted cabin).cards V card
-rows-seated slot A A number accepted cabin U V row spares h = record { number = number; told = refl; row = row }
-rows-seated slot B B number accepted cabin U V row spares h = record { number = number; told = refl; row = row }
-rows-seated slot A B number accepted cabin U V row spares h = record { number = h.number; told = h.told; row = spared number cabin.cards.b.number U V row spares h.number h.told h.row }
-rows-seated slot B A number accepted cabin U V row spares h = record { number = h.number; told = h.told; row = spared number cabin.cards.a.number U V row spares h.number h.told h.row }
-
-pub row-seated : (slot : Slot) (which : Card) (number : FullCardNumber) (accepted : Accepted) (cabin : Cabin) (V : State) → IfSome V.image (HasRow (card_number_bytes number)) → HasItsRow (with_accepted slot which number accepted cabin).cards V which
-row-seated slot A number accepted cabin V row = record { number = number; told = refl; row = row }
-row-seated slot B number accepted cabin V row = record { number = number; told = refl; row = row }
+pub row-seated : (slot : Slot) (which : Card) (number : FullCardNumber) (row : ℕ) (accepted : Accepted) (cabin : Cabin) (V : State) → row < 8 → IfSome V.image (IsRowAt row (card_number_bytes number)) → HasItsRow (with_accepted slot which number row accepted cabin).cards V which
+row-seated slot A number row accepted cabin V low mine = record { number = number; told = refl; low = low; row = mine }
+row-seated slot B number row accepted cabin V low mine = record { number = number; told = refl; low = low; row = mine }
 
 -- ---- the card may be called
 
@@ -92,26 +72,26 @@ bare-ready : (which : Card) (cabin : Cabin) (app : Application) (chip : CardStat
 bare-ready A cabin app chip card none sizes port = bare-known cabin.cards.a app chip card none sizes port
 bare-ready B cabin app chip card none sizes port = bare-known cabin.cards.b app chip card none sizes port
 
-card-seated : (slot : Slot) (which : Card) (number : FullCardNumber) (accepted : Accepted) (cabin : Cabin) (app : Application) (chip : CardState) (card : State) → (known_of cabin.cards which).sizes ≡ Ok app → accepted.session.application ≡ app → IsPort app None chip card → card.works ≡ true
-    → CardReady (known_of (with_accepted slot which number accepted cabin).cards which) chip card
-card-seated slot A number accepted cabin app chip card sizes session port works = record {
+card-seated : (slot : Slot) (which : Card) (number : FullCardNumber) (row : ℕ) (accepted : Accepted) (cabin : Cabin) (app : Application) (chip : CardState) (card : State) → (known_of cabin.cards which).sizes ≡ Ok app → accepted.session.application ≡ app → IsPort app None chip card → card.works ≡ true
+    → CardReady (known_of (with_accepted slot which number row accepted cabin).cards which) chip card
+card-seated slot A number row accepted cabin app chip card sizes session port works = record {
   is_known = record { sized = sizes ∙ ap (λ (a : Application). Ok a) (sym session); numbered = refl };
-  port = ready-by (record cabin.cards.a { number = Some number; accepted = Some accepted }) app chip card sizes port;
+  port = ready-by (record cabin.cards.a { number = Some number; row = row; accepted = Some accepted }) app chip card sizes port;
   works = works;
 }
-card-seated slot B number accepted cabin app chip card sizes session port works = record {
+card-seated slot B number row accepted cabin app chip card sizes session port works = record {
   is_known = record { sized = sizes ∙ ap (λ (a : Application). Ok a) (sym session); numbered = refl };
-  port = ready-by (record cabin.cards.b { number = Some number; accepted = Some accepted }) app chip card sizes port;
+  port = ready-by (record cabin.cards.b { number = Some number; row = row; accepted = Some accepted }) app chip card sizes port;
   works = works;
 }
 
-module _ (look : CardLook) (session : Session) (e : Entering) (failed : Bool) (k v : Keeper) (noted noted_after : ℕ) (unit : Option (List ℕ)) where
-  pub seated-ready : (entry : Option ℕ) (app : Application) (chip : CardState) (card : State) → IsSeatedBy look session e failed k v noted noted_after unit entry → session_of k.cabin.cards e.which ≡ None → (known_of k.cabin.cards e.which).sizes ≡ Ok app → session.application ≡ app
+module _ (look : CardLook) (session : Session) (row : ℕ) (e : Entering) (failed : Bool) (k v : Keeper) (noted noted_after : ℕ) (unit : Option (List ℕ)) where
+  pub seated-ready : (entry : Option ℕ) (app : Application) (chip : CardState) (card : State) → IsSeatedBy look session row e failed k v noted noted_after unit entry → session_of k.cabin.cards e.which ≡ None → (known_of k.cabin.cards e.which).sizes ≡ Ok app → session.application ≡ app
       → IsPort app None chip card → card.works ≡ true → CardReady (known_of v.cabin.cards e.which) chip card
   seated-ready None app chip card s none sizes by port works = subst (λ (q : Keeper). CardReady (known_of q.cabin.cards e.which) chip card) (sym s.1) (bare-ready e.which k.cabin app chip card none sizes port)
-  seated-ready (Some entry) app chip card s none sizes by port works = subst (λ (q : Keeper). CardReady (known_of q.cabin.cards e.which) chip card) (sym s.1) (card-seated e.slot e.which look.number _ k.cabin app chip card sizes by port works)
+  seated-ready (Some entry) app chip card s none sizes by port works = subst (λ (q : Keeper). CardReady (known_of q.cabin.cards e.which) chip card) (sym s.1) (card-seated e.slot e.which look.number row _ k.cabin app chip card sizes by port works)
 
-  pub seated-minute : (entry : Option ℕ) → IsSeatedBy look session e failed k v noted noted_after unit entry → v.cabin.slots.minute ≡ k.cabin.slots.minute
+  pub seated-minute : (entry : Option ℕ) → IsSeatedBy look session row e failed k v noted noted_after unit entry → v.cabin.slots.minute ≡ k.cabin.slots.minute
   seated-minute None s = ap (λ (q : Keeper). q.cabin.slots.minute) s.1
   seated-minute (Some entry) s = ap (λ (q : Keeper). q.cabin.slots.minute) s.1
 

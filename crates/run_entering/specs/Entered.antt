@@ -109,15 +109,15 @@ pub record IsLeft (ending : Ending) (e : Entering) (k v : Keeper) (noted noted_a
   pub outcome : p ≡ outcome_by ending e o
 
 -- a card is accepted by the insertion with this index; where there is none the unit failed as it noted it, and nothing else has changed
-abbrev pub IsSeatedBy : CardLook → Session → Entering → (failed : Bool) → (k v : Keeper) → (noted noted_after : ℕ) → (unit : Option (List ℕ)) → Option ℕ → Type 0
-IsSeatedBy look session e failed k v noted noted_after unit None = (failed ≡ true) × (v ≡ k) × (noted_after ≡ noted)
-IsSeatedBy look session e failed k v noted noted_after unit (Some entry) =
-    IsPlace entry unit × (v ≡ record k { cabin = seated look session entry noted e k.cabin }) × (noted_after ≡ and_one noted)
+abbrev pub IsSeatedBy : CardLook → Session → (row : ℕ) → Entering → (failed : Bool) → (k v : Keeper) → (noted noted_after : ℕ) → (unit : Option (List ℕ)) → Option ℕ → Type 0
+IsSeatedBy look session row e failed k v noted noted_after unit None = (failed ≡ true) × (v ≡ k) × (noted_after ≡ noted)
+IsSeatedBy look session row e failed k v noted noted_after unit (Some entry) =
+    IsPlace entry unit × (v ≡ record k { cabin = seated look session row entry noted e k.cabin }) × (noted_after ≡ and_one noted)
 
 -- it is seated so, and that is noted
-pub record IsSeated (look : CardLook) (session : Session) (e : Entering) (failed : Bool) (k v : Keeper) (noted noted_after : ℕ) (unit unit_after : State)
+pub record IsSeated (look : CardLook) (session : Session) (row : ℕ) (e : Entering) (failed : Bool) (k v : Keeper) (noted noted_after : ℕ) (unit unit_after : State)
     (entry : Option ℕ) : Type 0 where
-  pub by : IsSeatedBy look session e failed k v noted noted_after unit.image entry
+  pub by : IsSeatedBy look session row e failed k v noted noted_after unit.image entry
   pub notes : HasNoted IsOnUnit IsComing (seat_notes look e k.cabin entry) failed unit unit_after
 
 -- That the vehicle moves was noted: on the unit, and on the card, which was torn out, or was not.

@@ -135,9 +135,9 @@ noted_by (Seated entered clock entry) noted = and_one noted
 noted_by (Lost entered clock entry) noted = and_one noted
 
 -- the card is accepted in its slot
-abbrev pub seated : CardLook → Session → (entry noted : ℕ) → Entering → Cabin → Cabin
-seated look session entry noted e cabin =
-    with_accepted e.slot e.which look.number (record { session = session; entry = entry; noted = and_one noted }) cabin
+abbrev pub seated : CardLook → Session → (row entry noted : ℕ) → Entering → Cabin → Cabin
+seated look session row entry noted e cabin =
+    with_accepted e.slot e.which look.number row (record { session = session; entry = entry; noted = and_one noted }) cabin
 
 abbrev pub cabin_by : Ending → Entering → (noted : ℕ) → Cabin → Cabin
 cabin_by (Unfit fid place) e noted cabin = cabin
@@ -145,8 +145,8 @@ cabin_by (Ahead stored) e noted cabin = cabin
 cabin_by Fell e noted cabin = torn_out e.which e.at.second cabin
 cabin_by Unasked e noted cabin = cabin
 cabin_by (Unnoted entered clock) e noted cabin = cabin
-cabin_by (Seated entered clock entry) e noted cabin = seated entered.look entered.session entry noted e cabin
-cabin_by (Lost entered clock entry) e noted cabin = torn_out e.which e.at.second (seated entered.look entered.session entry noted e cabin)
+cabin_by (Seated entered clock entry) e noted cabin = seated entered.look entered.session entered.row entry noted e cabin
+cabin_by (Lost entered clock entry) e noted cabin = torn_out e.which e.at.second (seated entered.look entered.session entered.row entry noted e cabin)
 
 -- ---- how it ends
 

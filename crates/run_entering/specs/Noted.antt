@@ -103,9 +103,9 @@ notes_by Fell e noted cabin = fault_of e cabin ∷ []
 notes_by Unasked e noted cabin = []
 notes_by (Unnoted entered clock) e noted cabin = seat_notes entered.look e cabin None
 notes_by (Seated entered clock entry) e noted cabin =
-    seat_notes entered.look e cabin (Some entry) ++ notes_with false entered.look.session e (seated entered.look entered.session entry noted e cabin)
+    seat_notes entered.look e cabin (Some entry) ++ notes_with false entered.look.session e (seated entered.look entered.session entered.row entry noted e cabin)
 notes_by (Lost entered clock entry) e noted cabin =
-    seat_notes entered.look e cabin (Some entry) ++ notes_with true entered.look.session e (seated entered.look entered.session entry noted e cabin)
+    seat_notes entered.look e cabin (Some entry) ++ notes_with true entered.look.session e (seated entered.look entered.session entered.row entry noted e cabin)
 
 -- ---- on the card
 

@@ -19,7 +19,7 @@ ghost use Rattle.run_entering.specs.Entering.{Ending, Way, Unfit, Ahead, outcome
 ghost use Rattle.run_entering.specs.Noted.{HasNoted, IsOnUnit, IsComing, notes_by};
 ghost use Rattle.run_entering.specs.Entered.{IsJudgedSo, HasEntered};
 
-use crate::lines::{Entering, find};
+use crate::lines::{Entering, find, other_card};
 use crate::noting::{note_not_valid, note_overlap};
 use crate::seating::take_in;
 use crate::waking::{UNTOLD, place_of_field, wake};
@@ -131,6 +131,7 @@ fn accept_by<M: Medium, C: Chip, D: Chip>(
 {
     let registration = keeper.memory.identity().registration;
     let now = TimeReal(entering.at.second);
+    let spared = keeper.cabin.cards.of(other_card(entering.which)).number;
     match enter(
         unit,
         &keeper.journal,
@@ -141,6 +142,7 @@ fn accept_by<M: Medium, C: Chip, D: Chip>(
         now,
         &registration,
         entering.odometer,
+        spared.as_ref(),
     ) {
         Ok(entered) => take_in(
             keeper, noted, entering, app, entered, unit, card, others, outcome,

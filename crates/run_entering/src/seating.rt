@@ -1,7 +1,10 @@
 //! A card that is found to be accepted is so: its insertion is noted, its row begins, and what comes with it is noted.
-ghost use Rattle.std.specs.Prelude.{◌≡◌, ◌≢◌, ℕ, ◌+◌, ◌/◌, ◌<◌, ◌≤◌, ◌^◌, Bool, true, false, Option, Some, None, Ok, IfSome, OnOk, length, is_some, is_err};
+ghost use Rattle.std.specs.Prelude.{◌≡◌, ◌≢◌, ℕ, ◌+◌, ◌/◌, ◌<◌, ◌≤◌, ◌^◌, Bool, true, false, Option, Some, None, Ok, IfSome, OnOk, length, is_some, is_err, option_map};
 ghost use Rattle.trace_model.specs.declared.Card.{Card};
 ghost use Rattle.tach_media.specs.Medium.{HasCause};
+ghost use Rattle.tacho_types.specs.CardNumber.{card_number_bytes};
+ghost use Rattle.owed_model.specs.Rows.{IsRowFor};
+ghost use Rattle.joint_rule.specs.Views.{other};
 ghost use Rattle.card_commands.specs.Ports.{IsPort};
 ghost use Rattle.slot_machine.specs.Calls.{seat_in, is_card};
 ghost use Rattle.log_model.specs.Slots.{other_slot};
@@ -30,13 +33,14 @@ use run_outcome::{Lines, Outcome};
 use tach_media::{Chip, Failed, Medium};
 use unit_notes::UnitNotes;
 
-// The unit notes the insertion of a card, which is accepted in its slot, and its row begins.
+// The unit notes the insertion of a card, which is accepted in its slot, and its row, which was told before, begins.
 fn seat<M: Medium, C: Chip, D: Chip>(
     keeper: &mut Keeper,
     noted: &mut u64,
     entering: Entering,
     look: &CardLook,
     session: CardSession,
+    row: u32,
     unit: &mut M,
     card: &C,
     others: &D,
@@ -47,7 +51,9 @@ fn seat<M: Medium, C: Chip, D: Chip>(
     requires sizes { (known_of keeper.old.cabin.cards entering.which).sizes ≡ Ok session.application }
     requires second { entering.at.second ≢ 0 }
     requires fits { entering.odometer.0 < 2 ^ 24 }
-    ensures seated { (entry : Option ℕ) × IsSeated look.now session entering (is_err result) keeper.old keeper.new noted.old noted.new (M.state unit.old) (M.state unit.new) entry }
+    requires low { row < 8 }
+    requires row { IfSome (M.state unit.old).image (IsRowFor row (card_number_bytes look.now.number) (option_map (λ n. card_number_bytes n) (known_of keeper.old.cabin.cards (other entering.which)).number)) }
+    ensures seated { (entry : Option ℕ) × IsSeated look.now session row entering (is_err result) keeper.old keeper.new noted.old noted.new (M.state unit.old) (M.state unit.new) entry }
     ensures value { IsValue session }
     ensures booked { BooksSeat look.now session entering (is_err result) keeper.old keeper.new (M.state unit.old) (M.state unit.new) (C.state card.now) (D.state others.now) }
     ensures ready { OnOk result (UnitReady keeper.new (M.state unit.new)) }
@@ -69,7 +75,7 @@ fn seat<M: Medium, C: Chip, D: Chip>(
     };
     keeper
         .cabin
-        .accept(entering.slot, entering.which, look.number, accepted);
+        .accept(entering.slot, entering.which, look.number, row, accepted);
     begin(
         unit,
         &mut keeper.journal,
@@ -78,6 +84,7 @@ fn seat<M: Medium, C: Chip, D: Chip>(
         entering.which,
         &look.number,
         begin_second,
+        row,
         spared.as_ref(),
     )
 }
@@ -195,6 +202,8 @@ pub(crate) fn take_in<M: Medium, C: Chip, D: Chip>(
     requires works { (C.state card.old).works ≡ true }
     requires breaks { length outcome.old.breaks.items < outcome.old.breaks.room }
     requires finds { length outcome.old.finds.items < outcome.old.finds.room }
+    requires low { entered.row < 8 }
+    requires row { IfSome (M.state unit.old).image (IsRowFor entered.row (card_number_bytes entered.look.number) (option_map (λ n. card_number_bytes n) (known_of keeper.old.cabin.cards (other entering.which)).number)) }
     ensures marks { (outcome.new.marks.room ≡ outcome.old.marks.room) × (length outcome.new.marks.items ≤ length outcome.old.marks.items + most_owed) }
     ensures ended { (fell : Bool) × (entry : Option ℕ) × IsEntry entry (is_err result) (M.state unit.old).image
         × IsTaken app entering (is_err result) keeper.old keeper.new noted.old noted.new outcome.old outcome.new (M.state unit.old) (M.state unit.new) (C.state card.old) (C.state card.new) (taken_as fell entered (C.state card.old).clock entry)
@@ -230,6 +239,7 @@ pub(crate) fn take_in<M: Medium, C: Chip, D: Chip>(
         entering,
         &look,
         entered.session,
+        entered.row,
         unit,
         card,
         others,

@@ -6,6 +6,7 @@ use Rattle.trace_model.specs.declared.Card.TheVariants.{A, B}
 use Rattle.tach_media.specs.Medium.{State, IsCoherent, HasCause}
 use Rattle.tacho_types.specs.declared.card_number.FullCardNumber.{FullCardNumber}
 use Rattle.tacho_types.specs.CardNumber.{card_number_bytes}
+use Rattle.owed_model.specs.Rows.{IsRowAt}
 use Rattle.log_model.specs.declared.lines.Mark.{Mark}
 use Rattle.card_image.specs.Own.{IsOwnValid}
 use Rattle.history_model.specs.Presence.{CardStart}
@@ -20,6 +21,7 @@ use Rattle.device_steps.specs.Rule.{Both, opened, number_of, CardHolds, IsKeptUp
 use Rattle.device_steps.proofs.EntryOwed.{worked}
 use Rattle.run_notes.specs.Entries.{number_or_no_card}
 use Rattle.run_crew.specs.declared.cards.Cards.{Cards}
+use Rattle.run_crew.specs.declared.cards.Known.{Known}
 use Rattle.run_crew.specs.Cards.{known_of}
 use Rattle.run_rule.specs.Found.{Found, found_of, unit_seen, AnyKept}
 use Rattle.run_rule.specs.Between.{Carried, devices}
@@ -51,6 +53,14 @@ number-told None n number is said = absurd (empty is)
   where
     empty : None ≡ Some n → ⊥
     empty e = cc
+
+-- its row in the unit is the one that is known
+pub row-known : (cards : Cards) (U : State) (c : Card) (known : Known) (number : FullCardNumber) → HasItsRow cards U c → known ≡ known_of cards c → number ≡ number_or_no_card known.number → (known.row < 8) × IfSome U.image (IsRowAt known.row (card_number_bytes number))
+row-known cards U c known number h is named =
+    let same : number ≡ h.number = named ∙ ap (λ (k : Known). number_or_no_card k.number) is ∙ ap number_or_no_card h.told in (
+      subst (λ (k : Known). k.row < 8) (sym is) h.low,
+      subst (λ (k : Known). IfSome U.image (IsRowAt k.row (card_number_bytes number))) (sym is) (subst (λ (n : FullCardNumber). IfSome U.image (IsRowAt (known_of cards c).row (card_number_bytes n))) (sym same) h.row),
+    )
 
 -- where it is put
 put-here : (c : Card) (e : Entry) (puts : Card → List Entry) → and_put (Some c) e puts c ≡ e ∷ []

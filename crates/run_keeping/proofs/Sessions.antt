@@ -26,6 +26,12 @@ number-set A B s cards = refl
 number-set B A s cards = refl
 number-set B B s cards = refl
 
+pub row-set : (c d : Card) (s : Option Accepted) (cards : Cards) → (known_of (with_session c s cards) d).row ≡ (known_of cards d).row
+row-set A A s cards = refl
+row-set A B s cards = refl
+row-set B A s cards = refl
+row-set B B s cards = refl
+
 -- ---- minutes that are not to be kept any more
 
 module _ (from n : ℕ) (le : from ≤ n) where

@@ -14,7 +14,7 @@ use Rattle.card_session.specs.declared.session.Kept.{Kept}
 use Rattle.tacho_types.specs.CardNumber.{card_number_bytes}
 use Rattle.tacho_types.specs.declared.card_number.FullCardNumber.{FullCardNumber}
 use Rattle.unit_model.specs.Image.{IsUnit}
-use Rattle.owed_model.specs.Rows.{HasRow}
+use Rattle.owed_model.specs.Rows.{IsRowAt}
 use Rattle.unit_journal.specs.Image.{Agrees}
 use Rattle.unit_journal.specs.declared.kept.KeptMinute.{KeptMinute}
 use Rattle.unit_journal.specs.Kept.{is_crew}
@@ -52,11 +52,12 @@ pub record CardReady (known : Known) (chip : CardState) (card : State) : Type 0 
   pub port : (app : Application) → known.sizes ≡ Ok app → IsPort app None chip card
   pub works : IfSome known.accepted (λ accepted. card.works ≡ true)
 
--- a card has told its number, and has its row in the unit
+-- a card has told its number, and its row in the unit is the one that is known
 pub record HasItsRow (cards : Cards) (unit : State) (card : Card) : Type 0 where
   pub number : FullCardNumber
   pub told : (known_of cards card).number ≡ Some number
-  pub row : IfSome unit.image (HasRow (card_number_bytes number))
+  pub low : (known_of cards card).row < 8
+  pub row : IfSome unit.image (IsRowAt (known_of cards card).row (card_number_bytes number))
 
 -- so have those that were present in a minute
 pub record HaveRows (cards : Cards) (unit : State) (present : Present) : Type 0 where

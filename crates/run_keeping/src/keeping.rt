@@ -6,7 +6,6 @@ ghost use Rattle.cyclic_days.specs.Steps.{IsIdle};
 ghost use Rattle.card_session.specs.declared.words.TheConstants.{LATEST_MINUTE};
 ghost use Rattle.unit_model.specs.declared.layout.TheConstants.{HIGHEST_ODOMETER};
 ghost use Rattle.unit_model.specs.Image.{IsUnit};
-ghost use Rattle.owed_model.specs.Rows.{HasRow};
 ghost use Rattle.unit_journal.specs.Image.{Agrees};
 ghost use Rattle.run_crew.specs.Cabin.{Stands, MayBeKept, AreTwo};
 ghost use Rattle.trace_model.specs.declared.Card.{Card};
@@ -78,7 +77,9 @@ impl Keeper {
         let Some(card) = present else {
             return Ok(());
         };
-        let number = number_or_zeros(self.cabin.cards.of(card).number);
+        let known = self.cabin.cards.of(card);
+        let number = number_or_zeros(known.number);
+        let row = known.row;
         match card {
             Card::A => owe(
                 unit,
@@ -87,6 +88,7 @@ impl Keeper {
                 card_b,
                 card,
                 &number,
+                row,
                 entry,
             ),
             Card::B => owe(
@@ -96,6 +98,7 @@ impl Keeper {
                 card_a,
                 card,
                 &number,
+                row,
                 entry,
             ),
         }

@@ -59,7 +59,7 @@ valid-sizes x valid = by (first_bad_field (application_in x)) refl
         absurd (let no = sym pass ∙ bad in cc)
 
 -- a card with a bad field is not valid
-pub told-bad : (x : List ℕ) (field : ℕ) → first_bad_field (application_in x) ≡ Some field → IsTold x (record { sizes = Err field; number = None; accepted = None })
+pub told-bad : (x : List ℕ) (field : ℕ) → first_bad_field (application_in x) ≡ Some field → IsTold x (record { sizes = Err field; number = None; row = 0; accepted = None })
 told-bad x field bad = record {
   sizes = sym (ap (λ (o : Option ℕ). sizes_by o (own_sizes x)) bad);
   number = by (own_bad_file x) refl;
@@ -83,14 +83,14 @@ module _ (app : Application) (x : List ℕ) (judged : IsJudged (application_in x
   judged-own : first_bad_file app x ≡ own_bad_file x
   judged-own = ap (λ (a : Application). first_bad_file a x) own ∙ sym (own-judged x)
 
-  pub told-valid : (l : CardLook) → image_size_of app ≤ length x → IsLook app x l → IsTold x (record { sizes = Ok app; number = Some l.number; accepted = None })
+  pub told-valid : (l : CardLook) → image_size_of app ≤ length x → IsLook app x l → IsTold x (record { sizes = Ok app; number = Some l.number; row = 0; accepted = None })
   told-valid l fits look = record {
     sizes = told-ok;
     number = ap Some (look.number ∙ ap card_number_of number-own) ∙ sym (ap (λ (o : Option (Fid × ℕ)). number_by o (card_number_of (own_number x))) (sym judged-own ∙ look.valid));
     bytes = number_told app x l fits look ∙ number-own;
   }
 
-  pub told-invalid : (fid : Fid) (place : ℕ) → first_bad_file app x ≡ Some (fid, place) → IsTold x (record { sizes = Ok app; number = None; accepted = None })
+  pub told-invalid : (fid : Fid) (place : ℕ) → first_bad_file app x ≡ Some (fid, place) → IsTold x (record { sizes = Ok app; number = None; row = 0; accepted = None })
   told-invalid fid place bad = record {
     sizes = told-ok;
     number = sym (ap (λ (o : Option (Fid × ℕ)). number_by o (card_number_of (own_number x))) (sym judged-own ∙ bad));
@@ -132,21 +132,21 @@ found-by known app on old new none sizes port same told = record {
 
 module _ (app : Application) (on : CardState) (old new : State) (whole : IsCoherent old) (good : IsApplication app) (size : LARGEST_IMAGE ≤ old.size) (port : IsPort app None on new)
     (same : new.image ≡ old.image) (judged : IfSome old.image (λ x. IsJudged (application_in x) (Ok app))) where
-  pub found-valid : (l : CardLook) → IfSome old.image (λ x. IsLook app x l) → IsFoundOn (record { sizes = Ok app; number = Some l.number; accepted = None }) on new
-  found-valid l look = found-by (record { sizes = Ok app; number = Some l.number; accepted = None }) app on old new refl refl port same
-      (both_told old.image (λ x. IsTold x (record { sizes = Ok app; number = Some l.number; accepted = None })) judged look
+  pub found-valid : (l : CardLook) → IfSome old.image (λ x. IsLook app x l) → IsFoundOn (record { sizes = Ok app; number = Some l.number; row = 0; accepted = None }) on new
+  found-valid l look = found-by (record { sizes = Ok app; number = Some l.number; row = 0; accepted = None }) app on old new refl refl port same
+      (both_told old.image (λ x. IsTold x (record { sizes = Ok app; number = Some l.number; row = 0; accepted = None })) judged look
       (λ x is j at. told-valid app x j l (let sized = whole.sized x is in omega (arith, largest_image app good, size, sized)) at))
 
-  pub found-invalid : (fid : Fid) (place : ℕ) → IfSome old.image (λ x. first_bad_file app x ≡ Some (fid, place)) → IsFoundOn (record { sizes = Ok app; number = None; accepted = None }) on new
-  found-invalid fid place bad = found-by (record { sizes = Ok app; number = None; accepted = None }) app on old new refl refl port same
-      (both_told old.image (λ x. IsTold x (record { sizes = Ok app; number = None; accepted = None })) judged bad (λ x is j at. told-invalid app x j fid place at))
+  pub found-invalid : (fid : Fid) (place : ℕ) → IfSome old.image (λ x. first_bad_file app x ≡ Some (fid, place)) → IsFoundOn (record { sizes = Ok app; number = None; row = 0; accepted = None }) on new
+  found-invalid fid place bad = found-by (record { sizes = Ok app; number = None; row = 0; accepted = None }) app on old new refl refl port same
+      (both_told old.image (λ x. IsTold x (record { sizes = Ok app; number = None; row = 0; accepted = None })) judged bad (λ x is j at. told-invalid app x j fid place at))
 
 -- and one that has a bad field
-pub found-bad : (field : ℕ) (on : CardState) (old new : State) → new.image ≡ old.image → IfSome old.image (λ x. first_bad_field (application_in x) ≡ Some field) → IsFoundOn (record { sizes = Err field; number = None; accepted = None }) on new
+pub found-bad : (field : ℕ) (on : CardState) (old new : State) → new.image ≡ old.image → IfSome old.image (λ x. first_bad_field (application_in x) ≡ Some field) → IsFoundOn (record { sizes = Err field; number = None; row = 0; accepted = None }) on new
 found-bad field on old new same bad = record {
   none = refl;
   port = λ app is. absurd (let no : (let sizes : Result Application ℕ = Err field in sizes) ≡ Ok app = is in cc);
   sized = λ some. absurd (cc);
-  told = subst (λ (o : Option (List ℕ)). IfSome o (λ x. IsTold x (record { sizes = Err field; number = None; accepted = None }))) (sym same)
-      (from_told old.image (λ x. first_bad_field (application_in x) ≡ Some field) (λ x. IsTold x (record { sizes = Err field; number = None; accepted = None })) bad (λ x is at. told-bad x field at));
+  told = subst (λ (o : Option (List ℕ)). IfSome o (λ x. IsTold x (record { sizes = Err field; number = None; row = 0; accepted = None }))) (sym same)
+      (from_told old.image (λ x. first_bad_field (application_in x) ≡ Some field) (λ x. IsTold x (record { sizes = Err field; number = None; row = 0; accepted = None })) bad (λ x is at. told-bad x field at));
 }

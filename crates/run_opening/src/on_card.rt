@@ -17,11 +17,12 @@ use tach_media::{Chip, Failed};
 
 // A card that is not valid, of which this is known.
 fn without_number(sizes: Result<Application, u8>) -> Known
-    ensures { result ≡ record { sizes = sizes; number = None; accepted = None } }
+    ensures { result ≡ record { sizes = sizes; number = None; row = 0; accepted = None } }
 {
     Known {
         sizes,
         number: None,
+        row: 0,
         accepted: None,
     }
 }
@@ -37,6 +38,7 @@ fn known_by<C: Chip>(card: &mut C, app: Application) -> Result<Known, Failed>
         Ok(look) => Ok(Known {
             sizes: Ok(app),
             number: Some(look.number),
+            row: 0,
             accepted: None,
         }),
         Err(InsertFault::Failed) => Err(Failed),

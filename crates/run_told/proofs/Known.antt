@@ -26,11 +26,11 @@ pub session-other : (c : Card) (s : Option Accepted) (cards : Cards) → session
 session-other A s cards = refl
 session-other B s cards = refl
 
-pub session-numbered : (c d : Card) (n : FullCardNumber) (cards : Cards) → session_of (with_number c n cards) d ≡ session_of cards d
-session-numbered A A n cards = refl
-session-numbered A B n cards = refl
-session-numbered B A n cards = refl
-session-numbered B B n cards = refl
+pub session-numbered : (c d : Card) (n : FullCardNumber) (row : ℕ) (cards : Cards) → session_of (with_number c n row cards) d ≡ session_of cards d
+session-numbered A A n row cards = refl
+session-numbered A B n row cards = refl
+session-numbered B A n row cards = refl
+session-numbered B B n row cards = refl
 
 pub session-sized : (c d : Card) (sizes : Result Application ℕ) (cards : Cards) → session_of (with_sizes c sizes cards) d ≡ session_of cards d
 session-sized A A sizes cards = refl
@@ -69,23 +69,23 @@ found-sizes f c sizes cards = found-still f cards (with_sizes c sizes cards) (sa
     same B B = refl
 
 -- and where one tells its own
-pub found-number : (f : Found) (c : Card) (n : FullCardNumber) (cards : Cards) → (IsOwnValid (found_of f c).image → card_number_bytes n ≡ (found_of f c).number) → AreFoundCards f cards → AreFoundCards f (with_number c n cards)
-found-number f A n cards own found = record { two = found.two; named = named; told = told; sizes = found.sizes; entries = found.entries }
+pub found-number : (f : Found) (c : Card) (n : FullCardNumber) (row : ℕ) (cards : Cards) → (IsOwnValid (found_of f c).image → card_number_bytes n ≡ (found_of f c).number) → AreFoundCards f cards → AreFoundCards f (with_number c n row cards)
+found-number f A n row cards own found = record { two = found.two; named = named; told = told; sizes = found.sizes; entries = found.entries }
   where
-    named : (c : Card) → IsOwnValid (found_of f c).image → IfSome (known_of (with_number A n cards) c).number (λ n. card_number_bytes n ≡ (found_of f c).number)
+    named : (c : Card) → IsOwnValid (found_of f c).image → IfSome (known_of (with_number A n row cards) c).number (λ n. card_number_bytes n ≡ (found_of f c).number)
     named A valid = own valid
     named B valid = found.named B valid
 
-    told : (c : Card) → IsOwnValid (found_of f c).image → is_some (known_of (with_number A n cards) c).number ≡ true
+    told : (c : Card) → IsOwnValid (found_of f c).image → is_some (known_of (with_number A n row cards) c).number ≡ true
     told A valid = refl
     told B valid = found.told B valid
-found-number f B n cards own found = record { two = found.two; named = named; told = told; sizes = found.sizes; entries = found.entries }
+found-number f B n row cards own found = record { two = found.two; named = named; told = told; sizes = found.sizes; entries = found.entries }
   where
-    named : (c : Card) → IsOwnValid (found_of f c).image → IfSome (known_of (with_number B n cards) c).number (λ n. card_number_bytes n ≡ (found_of f c).number)
+    named : (c : Card) → IsOwnValid (found_of f c).image → IfSome (known_of (with_number B n row cards) c).number (λ n. card_number_bytes n ≡ (found_of f c).number)
     named A valid = found.named A valid
     named B valid = own valid
 
-    told : (c : Card) → IsOwnValid (found_of f c).image → is_some (known_of (with_number B n cards) c).number ≡ true
+    told : (c : Card) → IsOwnValid (found_of f c).image → is_some (known_of (with_number B n row cards) c).number ≡ true
     told A valid = found.told A valid
     told B valid = refl
 

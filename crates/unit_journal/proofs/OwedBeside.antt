@@ -26,6 +26,10 @@ told_after (Some x) (Some y) A R H same before said all = all x y before said
 pub begun_there : (number : List ℕ) (session : ℕ) (spared : Option (List ℕ)) (x y : List ℕ) → IsRowBegun number session spared x y → HasRow number y
 begun_there number session spared x y is = let some = begun_is number spared (rows_in x) in (some.0, is.index ∙ some.1.0)
 
+-- what follows of a number, by other names of its bytes
+pub by_number : (P Q : List ℕ → Type 0) {n m : List ℕ} → n ≡ m → (P n → Q n) → P m → Q m
+by_number P Q {n} {m} is goes said = subst Q is (goes (subst P (sym is) said))
+
 -- what is said of a number and a spared one, by other names of their bytes
 pub as_both : (P : List ℕ → Option (List ℕ) → Type 0) {n m : List ℕ} {s t : Option (List ℕ)} → n ≡ m → s ≡ t → P n s → P m t
 as_both P {n} {m} {s} {t} number spared said = subst (λ (o : Option (List ℕ)). P m o) spared (subst (λ (l : List ℕ). P l s) number said)

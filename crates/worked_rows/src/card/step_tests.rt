@@ -7,7 +7,7 @@ ghost use Rattle.card_judge.specs.Judged.{TellsSizes};
 ghost use Rattle.card_session.specs.declared.words.TheConstants.{LATEST_MINUTE};
 ghost use Rattle.unit_model.specs.Image.{IsUnit};
 ghost use Rattle.unit_journal.specs.Image.{Agrees};
-ghost use Rattle.owed_model.specs.Rows.{HasRow};
+ghost use Rattle.owed_model.specs.Rows.{IsRowAt};
 
 use activity_codec::{Activity, Entry, Pick, Slot};
 use card_commands::{PortFault, SimCard, read_sizes};
@@ -76,13 +76,14 @@ impl From<NotEntered> for Stopped {
     }
 }
 
-/// A card in its slot: the unit's journal, the sizes by which the card goes, its number, its session, and how many entries were put
-/// on it as it came in.
+/// A card in its slot: the unit's journal, the sizes by which the card goes, its number and its row, its session, and how many entries were
+/// put on it as it came in.
 #[derive(Drop)]
 struct Drive {
     journal: Journal,
     app: Application,
     number: FullCardNumber,
+    row: u32,
     session: CardSession,
     replayed: u8,
 }
@@ -187,7 +188,7 @@ fn put_in<M: Medium, C: Chip, D: Chip>(
     requires fits { odometer < 2 ^ 24 }
     ensures unit { IsUnit (M.state unit.new) }
     ensures agrees { IfOk result (λ d. IfSome (M.state unit.new).image (Agrees d.journal)) }
-    ensures row { IfOk result (λ d. IfSome (M.state unit.new).image (HasRow (card_number_bytes d.number))) }
+    ensures row { IfOk result (λ d. (d.row < 8) × IfSome (M.state unit.new).image (IsRowAt d.row (card_number_bytes d.number))) }
     ensures port { IfOk result (λ d. IsPort d.app None (C.card card.new) (C.state card.new)) }
     ensures sizes { IfOk result (λ d. d.session.application ≡ d.app) }
 {
@@ -206,8 +207,10 @@ fn put_in<M: Medium, C: Chip, D: Chip>(
         TimeReal(second),
         &REGISTRATION,
         Odometer(odometer),
+        None,
     )?;
     let number = entered.look.number;
+    let row = entered.row;
     begin(
         unit,
         &mut journal,
@@ -216,12 +219,14 @@ fn put_in<M: Medium, C: Chip, D: Chip>(
         Card::A,
         &number,
         second,
+        row,
         None,
     )?;
     Ok(Drive {
         journal,
         app,
         number,
+        row,
         session: entered.session,
         replayed: entered.replayed,
     })
@@ -237,7 +242,7 @@ fn keep<M: Medium, C: Chip, D: Chip>(
 ) -> Result<(), Stopped>
     requires unit { IsUnit (M.state unit.old) }
     requires agrees { IfSome (M.state unit.old).image (Agrees drive.old.journal) }
-    requires row { IfSome (M.state unit.old).image (HasRow (card_number_bytes drive.old.number)) }
+    requires row { (drive.old.row < 8) × IfSome (M.state unit.old).image (IsRowAt drive.old.row (card_number_bytes drive.old.number)) }
     requires port { IsPort drive.old.app None (C.card card.old) (C.state card.old) }
     requires sizes { drive.old.session.application ≡ drive.old.app }
     requires low { 1440 ≤ step.now.minute }
@@ -245,7 +250,7 @@ fn keep<M: Medium, C: Chip, D: Chip>(
     requires odometer { step.now.odometer ≤ 9999999 }
     ensures unit { IsUnit (M.state unit.new) }
     ensures agrees { OnOk result (IfSome (M.state unit.new).image (Agrees drive.new.journal)) }
-    ensures row { OnOk result (IfSome (M.state unit.new).image (HasRow (card_number_bytes drive.new.number))) }
+    ensures row { OnOk result ((drive.new.row < 8) × IfSome (M.state unit.new).image (IsRowAt drive.new.row (card_number_bytes drive.new.number))) }
     ensures port { OnOk result (IsPort drive.new.app None (C.card card.new) (C.state card.new)) }
     ensures sizes { OnOk result (drive.new.session.application ≡ drive.new.app) }
 {
@@ -262,9 +267,11 @@ fn keep<M: Medium, C: Chip, D: Chip>(
         other,
         Card::A,
         &drive.number,
+        drive.row,
         said,
         Card::B,
         &OTHER,
+        0,
         None,
         &minute,
     )?;
@@ -286,7 +293,7 @@ fn bring<M: Medium, C: Chip>(
     requires low { 1440 ≤ step.now.minute }
     requires small { step.now.minute ≤ LATEST_MINUTE }
     requires odometer { step.now.odometer ≤ 9999999 }
-    ensures same { (drive.new.journal ≡ drive.old.journal) × (drive.new.number ≡ drive.old.number) × (drive.new.app ≡ drive.old.app) }
+    ensures same { (drive.new.journal ≡ drive.old.journal) × (drive.new.number ≡ drive.old.number) × (drive.new.row ≡ drive.old.row) × (drive.new.app ≡ drive.old.app) }
     ensures port { IsPort drive.old.app None (C.card card.new) (C.state card.new) }
     ensures sizes { drive.new.session.application ≡ drive.old.app }
 {

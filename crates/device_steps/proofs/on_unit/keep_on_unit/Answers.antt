@@ -125,7 +125,7 @@ pub owe_some-requires-2-clause-agrees : goal.owe_some-requires-2-clause-agrees
 owe_some-requires-2-clause-agrees g c = subst (λ (j : Notes). IfSome (g.M.Medium.state c.owe_some.new.unit).image (Agrees j)) (sym c.in_ok-owe_some.ensures.same) c.in_ok-owe_some.ensures.agrees
 
 pub owe_some-requires-2-clause-row : goal.owe_some-requires-2-clause-row
-owe_some-requires-2-clause-row g c = row_on c.args.two_entry c.requires.two_row (λ has. c.in_ok-owe_some.ensures.rows (card_number_bytes c.args.two_number.now) has)
+owe_some-requires-2-clause-row g c = row_on c.args.two_entry c.requires.second_row (λ has. (has.0, c.in_ok-owe_some.ensures.rows c.args.two_row (card_number_bytes c.args.two_number.now) has.1))
 
 pub commit-requires-clause-agrees : goal.commit-requires-clause-agrees
 commit-requires-clause-agrees g c = subst (λ (j : Notes). IfSome (g.M.Medium.state c.owe_some-2.new.unit).image (Agrees j)) (sym c.in_ok-owe_some-2.ensures.same) c.in_ok-owe_some-2.ensures.agrees
@@ -135,7 +135,7 @@ commit-requires-clause-later g c = subst (λ (j : Notes). j.kept < c.args.minute
 
 -- the rest
 pub returns-clause-rows : goal.returns-clause-rows
-returns-clause-rows g c = λ n has. c.commit.ensures.rows n (c.in_ok-owe_some-2.ensures.rows n (c.in_ok-owe_some.ensures.rows n has))
+returns-clause-rows g c = λ r n has. c.commit.ensures.rows r n (c.in_ok-owe_some-2.ensures.rows r n (c.in_ok-owe_some.ensures.rows r n has))
 
 pub returns-clause-same : goal.returns-clause-same
 returns-clause-same g c = on_err_if c.commit.result (λ bad. same_after c.commit.result bad c.commit.ensures.same ∙ c.in_ok-owe_some-2.ensures.same ∙ c.in_ok-owe_some.ensures.same)

@@ -1,6 +1,8 @@
-use Rattle.std.proofs.Common.{◌≡◌, ◌≤◌, inl, inr, false, List, [], ◌∷◌, Option, Some, IfSome, is_err, refl, sym, subst}
+use Rattle.std.proofs.Common.{◌≡◌, ◌<◌, ◌≤◌, inl, inr, false, List, [], ◌∷◌, Option, Some, IfSome, is_err, refl, sym, subst}
 use Rattle.std.specs.Prelude.{option_to_list}
 use Rattle.activity_codec.specs.declared.entries.Entry.{Entry}
+use Rattle.tacho_types.specs.CardNumber.{card_number_bytes}
+use Rattle.owed_model.specs.Rows.{IsRowAt}
 use Rattle.card_session.proofs.Composing.{idle}
 use Rattle.joint_rule.specs.Rules.{IsPresent}
 use Rattle.joint_rule.specs.Views.{other}
@@ -32,3 +34,11 @@ returns-in-Some-clause-other g c = λ r s due b marks y z m d named h says mine 
 
 pub returns-in-Some-clause-cause : goal.returns-in-Some-clause-cause
 returns-in-Some-clause-cause g c = inl c.owe.ensures.cause
+
+pub owe-requires-clause-low : goal.owe-requires-clause-low
+owe-requires-clause-low g c =
+    (subst (λ (o : Option Entry). IfSome o (λ e. (c.args.row < 8) × IfSome (g.M.Medium.state c.args.unit.now).image (IsRowAt c.args.row (card_number_bytes c.args.number.now)))) c.in-Some.is c.requires.row).0
+
+pub owe-requires-clause-row : goal.owe-requires-clause-row
+owe-requires-clause-row g c =
+    (subst (λ (o : Option Entry). IfSome o (λ e. (c.args.row < 8) × IfSome (g.M.Medium.state c.args.unit.now).image (IsRowAt c.args.row (card_number_bytes c.args.number.now)))) c.in-Some.is c.requires.row).1

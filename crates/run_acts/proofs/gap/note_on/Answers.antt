@@ -12,7 +12,8 @@ use Rattle.run_crew.specs.Cabin.{Stands, torn_out, crew_of}
 use Rattle.run_keeping.specs.declared.keeper.Keeper.{Keeper}
 use Rattle.run_keeping.specs.declared.keeper.Moment.{Moment}
 use Rattle.run_keeping.specs.Keeping.{CardReady, HasItsRow, UnitReady, tear_of, with_lines}
-use Rattle.run_keeping.proofs.Sessions.{number-set, torn-stands}
+use Rattle.run_keeping.proofs.Sessions.{number-set, row-set, torn-stands}
+use Rattle.run_keeping.proofs.Units.{has-row}
 use Rattle.run_keeping.proofs.CardBooked.{no-session, none-there}
 use Rattle.run_keeping.proofs.Fates.{no-lines}
 use Rattle.run_acts.proofs.Apart.{not-both, session-back, torn-apart, noted-sizes, ready-again, session-works, fell-broken, well-broken}
@@ -83,7 +84,9 @@ returns-then-is_err-clause-moments g c =
 pub returns-then-is_err-clause-rows : goal.returns-then-is_err-clause-rows
 returns-then-is_err-clause-rows g c = λ card h.
     let cards = c.args.run.now.keeper.cabin.cards in
-    c.tear.ensures.rows card (record { number = h.number; told = ap (λ (q : Cards). (known_of q card).number) c.take.ensures.left ∙ number-set c.args.which card None cards ∙ h.told; row = h.row })
+    c.tear.ensures.rows card (has-row cards c.take.new.self (g.M.Medium.state c.args.unit.now) (g.M.Medium.state c.args.unit.now) card
+    (ap (λ (q : Cards). (known_of q card).number) c.take.ensures.left ∙ number-set c.args.which card None cards)
+    (ap (λ (q : Cards). (known_of q card).row) c.take.ensures.left ∙ row-set c.args.which card None cards) (λ r n at. at) h)
 
 pub returns-then-is_err-clause-stands : goal.returns-then-is_err-clause-stands
 returns-then-is_err-clause-stands g c = λ from leaving h.

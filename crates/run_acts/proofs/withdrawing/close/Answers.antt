@@ -18,7 +18,8 @@ use Rattle.run_crew.specs.Cards.{known_of, session_of, with_session}
 use Rattle.run_crew.specs.Cabin.{torn_out, crew_of}
 use Rattle.run_keeping.specs.declared.keeper.Keeper.{Keeper}
 use Rattle.run_keeping.specs.Keeping.{UnitReady, CardReady, HasItsRow, fault_of}
-use Rattle.run_keeping.proofs.Sessions.{number-set}
+use Rattle.run_keeping.proofs.Sessions.{number-set, row-set}
+use Rattle.run_keeping.proofs.Units.{has-row}
 use Rattle.run_acts.specs.declared.run.Run.{Run}
 use Rattle.run_acts.proofs.Noted.{noted-ready, noted-row}
 use Rattle.run_keeping.proofs.CardDeeds.{closed-alone}
@@ -52,9 +53,10 @@ pub returns-in-Ok-leave-clause-rows : goal.returns-in-Ok-leave-clause-rows
 returns-in-Ok-leave-clause-rows g c = λ card h.
     on_ok c.note_withdrawal.result (λ well.
     let cards = c.args.run.now.keeper.cabin.cards in
-    let told = ap (λ (b : Cabin). (known_of b.cards card).number) c.close.ensures.kept ∙ number-set c.args.which card None cards ∙ h.told in
     noted-row (g.met.M.Medium.coherent c.args.unit.now) (g.met.M.Medium.coherent c.note_withdrawal.new.unit) c.note_withdrawal.ensures.journal c.args.run.now.keeper c.requires.ready c.close.new.self.cards card
-    (record { number = h.number; told = told; row = h.row }))
+    (has-row cards c.close.new.self.cards (g.M.Medium.state c.args.unit.now) (g.M.Medium.state c.args.unit.now) card
+    (ap (λ (b : Cabin). (known_of b.cards card).number) c.close.ensures.kept ∙ number-set c.args.which card None cards)
+    (ap (λ (b : Cabin). (known_of b.cards card).row) c.close.ensures.kept ∙ row-set c.args.which card None cards) (λ r n at. at) h))
 
 -- it has no session
 pub returns-in_default-clause-closed : goal.returns-in_default-clause-closed

@@ -8,7 +8,8 @@ use Rattle.run_rule.specs.Found.{found_of}
 use Rattle.run_crew.specs.declared.cabin.Cabin.{Cabin}
 use Rattle.run_crew.specs.Cards.{known_of}
 use Rattle.run_crew.specs.Cabin.{with_sizes_of, torn_out}
-use Rattle.run_keeping.specs.Keeping.{CardReady}
+use Rattle.run_keeping.specs.Keeping.{CardReady, HasItsRow}
+use Rattle.run_keeping.proofs.Units.{row-measured}
 use Rattle.run_entering.specs.Entering.{Unread, Unsized, Judged, Unfit, APPLICATION_FILE, outcome_by}
 use Rattle.run_entering.specs.Noted.{HasNoted, IsOnUnit, IsComing, fault_of, notes_by}
 use Rattle.run_entering.specs.Entered.{IsMeasured, IsJudgedSo, HasEntered}
@@ -176,3 +177,20 @@ returns-in-Ok-sizes-clause-later g c = let same = c.wake.ensures.clock in state-
 
 pub returns-in-Err-clause-later : goal.returns-in-Err-clause-later
 returns-in-Err-clause-later g c = let same = c.wake.ensures.clock in state-revived (g.C.Chip.state c.args.card.now) (g.C.Chip.state c.wake.new.card) _ (omega (arith, same)) c.in-Ok.ensures.cause
+
+-- ---- each card that has its row has it still
+
+pub returns-in_default-clause-rows : goal.returns-in_default-clause-rows
+returns-in_default-clause-rows g c = λ card h.
+    let U = g.M.Medium.state c.args.unit.now in
+    c.tear.ensures.rows card (subst (λ (b : Cabin). HasItsRow b.cards U card) (sym c.measure.ensures.kept) (row-measured c.args.entering.which (Err UNTOLD) c.args.keeper.now.cabin.cards U card h))
+
+pub returns-in-Ok-sizes-clause-rows : goal.returns-in-Ok-sizes-clause-rows
+returns-in-Ok-sizes-clause-rows g c = λ card h.
+    let U = g.M.Medium.state c.args.unit.now in
+    c.accept_by.ensures.rows card (subst (λ (b : Cabin). HasItsRow b.cards U card) (sym c.measure-2.ensures.kept) (row-measured c.args.entering.which c.in-Ok.sizes c.args.keeper.now.cabin.cards U card h))
+
+pub returns-in-Err-clause-rows : goal.returns-in-Err-clause-rows
+returns-in-Err-clause-rows g c = λ card h.
+    let U = g.M.Medium.state c.args.unit.now in
+    c.refuse.ensures.rows card (subst (λ (b : Cabin). HasItsRow b.cards U card) (sym c.measure-2.ensures.kept) (row-measured c.args.entering.which c.in-Ok.sizes c.args.keeper.now.cabin.cards U card h))

@@ -1,4 +1,9 @@
-use Rattle.std.proofs.Common.{◌≡◌, ◌<◌, ◌≤◌, ◌/◌, ◌^◌, ℕ, Bool, true, false, rules, arith, length, Option, None, Ok, refl, sym, subst}
+use Rattle.std.proofs.Common.{◌≡◌, ◌<◌, ◌≤◌, ◌/◌, ◌^◌, ℕ, Bool, true, false, rules, arith, length, Option, None, Ok, List, IfSome, option_map, refl, sym, subst}
+use Rattle.tacho_types.specs.CardNumber.{card_number_bytes}
+use Rattle.tacho_types.specs.declared.card_number.FullCardNumber.{FullCardNumber}
+use Rattle.owed_model.specs.Rows.{IsRowFor}
+use Rattle.joint_rule.specs.Views.{other}
+use Rattle.run_crew.specs.Cards.{known_of}
 use Rattle.std.specs.Prelude.{is_err, Result, Err}
 use Rattle.unit_memory.specs.declared.format.Identity.{Identity}
 use Rattle.device_steps.specs.declared.entering.Entered.{Entered}
@@ -202,3 +207,17 @@ returns-in-Err-NotValid-clause-later g c = state-by (g.C.Chip.state c.args.card.
 
 pub returns-in-Err-TimeOverlap-clause-later : goal.returns-in-Err-TimeOverlap-clause-later
 returns-in-Err-TimeOverlap-clause-later g c = state-by (g.C.Chip.state c.args.card.now) (g.C.Chip.state c.enter.new.card) _ c.enter.ensures.leaves.later c.in-Err-TimeOverlap.ensures.enters.cause
+
+-- ---- the row that is told
+
+pub take_in-requires-clause-row : goal.take_in-requires-clause-row
+take_in-requires-clause-row g c =
+    let entered = c.in-Ok.entered in
+    let number = card_number_bytes entered.look.number in
+    let told = option_map (λ (s : FullCardNumber). card_number_bytes s) (known_of c.args.keeper.now.cabin.cards (other c.args.entering.which)).number in
+    let spared : option_map (λ s. card_number_bytes s.now) c.as_ref.result ≡ told = search rules in
+    subst (λ (o : Option (List ℕ)). IfSome o (IsRowFor entered.row number told)) (sym (c.in-Ok.ensures.enters.unit.same refl))
+    (subst (λ (o : Option (List ℕ)). IfSome (g.M.Medium.state c.args.unit.now).image (IsRowFor entered.row number o)) spared c.in-Ok.ensures.row)
+
+pub take_in-requires-clause-low : goal.take_in-requires-clause-low
+take_in-requires-clause-low g c = c.in-Ok.ensures.low

@@ -34,7 +34,7 @@ returns-in_err-seat-clause-ended g c =
       t.1,
       λ f w m. (
         taken-row entered X.clock e k.journal.kept f w c.seat.new.keeper.cabin.cards (arranged e.which V X Z) s.0 (c.in_err-seat.ensures.booked f w m),
-        seat-found entered.look entered.session e true k c.seat.new.keeper c.args.noted.now c.seat.new.noted U.image s.0 s.1.by f m.named m.found,
+        seat-found entered.look entered.session entered.row e true k c.seat.new.keeper c.args.noted.now c.seat.new.noted U.image s.0 s.1.by f m.named m.found,
         beside-none f e.which X,
       ),
     )
@@ -66,12 +66,12 @@ returns-clause-ended g c =
 pub returns-in_err-seat-clause-card : goal.returns-in_err-seat-clause-card
 returns-in_err-seat-clause-card g c =
     let s = c.in_err-seat.ensures.seated in
-    seated-ready c.args.entered.look c.args.entered.session c.args.entering true c.args.keeper.now c.seat.new.keeper c.args.noted.now c.seat.new.noted (g.M.Medium.state c.args.unit.now).image s.0 c.args.app (g.C.Chip.card c.args.card.now) (g.C.Chip.state c.args.card.now) s.1.by c.requires.bare c.requires.sizes c.requires.session c.requires.port c.requires.works
+    seated-ready c.args.entered.look c.args.entered.session c.args.entered.row c.args.entering true c.args.keeper.now c.seat.new.keeper c.args.noted.now c.seat.new.noted (g.M.Medium.state c.args.unit.now).image s.0 c.args.app (g.C.Chip.card c.args.card.now) (g.C.Chip.state c.args.card.now) s.1.by c.requires.bare c.requires.sizes c.requires.session c.requires.port c.requires.works
 
 pub note_entered-requires-clause-card : goal.note_entered-requires-clause-card
 note_entered-requires-clause-card g c =
     let s = c.in_ok-seat.ensures.seated in
-    seated-ready c.args.entered.look c.args.entered.session c.args.entering false c.args.keeper.now c.seat.new.keeper c.args.noted.now c.seat.new.noted (g.M.Medium.state c.args.unit.now).image s.0 c.args.app (g.C.Chip.card c.args.card.now) (g.C.Chip.state c.args.card.now) s.1.by c.requires.bare c.requires.sizes c.requires.session c.requires.port c.requires.works
+    seated-ready c.args.entered.look c.args.entered.session c.args.entered.row c.args.entering false c.args.keeper.now c.seat.new.keeper c.args.noted.now c.seat.new.noted (g.M.Medium.state c.args.unit.now).image s.0 c.args.app (g.C.Chip.card c.args.card.now) (g.C.Chip.state c.args.card.now) s.1.by c.requires.bare c.requires.sizes c.requires.session c.requires.port c.requires.works
 
 pub returns-clause-row : goal.returns-clause-row
 returns-clause-row g c = if-any _ (c.note_entered.ensures.rows c.args.entering.which c.in_ok-seat.ensures.row)
@@ -79,7 +79,7 @@ returns-clause-row g c = if-any _ (c.note_entered.ensures.rows c.args.entering.w
 pub returns-clause-stands : goal.returns-clause-stands
 returns-clause-stands g c = λ from le s.
     let t = c.in_ok-seat.ensures.seated in
-    let same = seated-minute c.args.entered.look c.args.entered.session c.args.entering false c.args.keeper.now c.seat.new.keeper c.args.noted.now c.seat.new.noted (g.M.Medium.state c.args.unit.now).image t.0 t.1.by in
+    let same = seated-minute c.args.entered.look c.args.entered.session c.args.entered.row c.args.entering false c.args.keeper.now c.seat.new.keeper c.args.noted.now c.seat.new.noted (g.M.Medium.state c.args.unit.now).image t.0 t.1.by in
     c.note_entered.ensures.stands from (subst (λ (m : ℕ). m ≤ from) (sym same) le) (c.in_ok-seat.ensures.stands from le s)
 
 pub returns-in_err-seat-clause-more : goal.returns-in_err-seat-clause-more

@@ -12,7 +12,8 @@ use Rattle.run_crew.proofs.Moves.{kept-stands}
 use Rattle.run_keeping.specs.declared.keeper.Keeper.{Keeper}
 use Rattle.run_crew.specs.declared.cards.Known.{Known}
 use Rattle.run_keeping.specs.Owing.{BooksCard}
-use Rattle.run_keeping.specs.Keeping.{Still, Has, Fell, IsNotingFault, with_lines}
+use Rattle.run_keeping.specs.Keeping.{HasItsRow, Still, Has, Fell, IsNotingFault, with_lines}
+use Rattle.run_keeping.proofs.Units.{row-beside}
 use Rattle.run_keeping.proofs.Sessions.{session-twice, stands-later, torn-stands}
 use Rattle.run_keeping.proofs.Fates.{has-brought, fell-brought, still-brought}
 use Rattle.run_keeping.proofs.CardBooked.{session-set, no-session, none-there, session-unset, booked-still, booked-fell, booked-has}
@@ -135,3 +136,23 @@ returns-then-is_err-clause-later g c = state-by (g.C.Chip.state c.args.card.now)
 
 pub returns-clause-later : goal.returns-clause-later
 returns-clause-later g c = state-by (g.C.Chip.state c.args.card.now) (g.C.Chip.state c.keep_on_card.new.card) (is_err c.keep_on_card.result) c.keep_on_card.ensures.moments.later c.keep_on_card.ensures.cause
+
+-- ---- each card that has its row has it still
+
+pub returns-in_default-take-clause-rows : goal.returns-in_default-take-clause-rows
+returns-in_default-take-clause-rows g c = λ card h.
+    let U = g.M.Medium.state c.args.unit.now in
+    subst (λ (q : Cards). HasItsRow q U card) (sym c.take.ensures.left) (row-beside c.args.which None c.args.self.now.cabin.cards U card h)
+
+pub returns-then-is_err-clause-rows : goal.returns-then-is_err-clause-rows
+returns-then-is_err-clause-rows g c = λ card h.
+    let U = g.M.Medium.state c.args.unit.now in
+    c.tear.ensures.rows card (subst (λ (q : Cards). HasItsRow q U card) (sym c.take.ensures.left) (row-beside c.args.which None c.args.self.now.cabin.cards U card h))
+
+pub returns-clause-rows : goal.returns-clause-rows
+returns-clause-rows g c = λ card h.
+    let U = g.M.Medium.state c.args.unit.now in
+    let k = c.args.self.now in
+    let after : Accepted = record { session = c.keep_on_card.new.session; entry = c.in-Some.accepted.entry; noted = c.in-Some.accepted.noted } in
+    let cards = c.set_session.ensures ∙ ap (λ (q : Cards). with_session c.args.which (Some after) q) c.take.ensures.left ∙ session-twice c.args.which None (Some after) k.cabin.cards in
+    subst (λ (q : Cards). HasItsRow q U card) (sym cards) (row-beside c.args.which (Some after) k.cabin.cards U card h)

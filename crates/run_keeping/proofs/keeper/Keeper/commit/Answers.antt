@@ -2,6 +2,8 @@ use Rattle.std.proofs.Common.{rules, ◌≡◌, ◌∙◌, Bool, true, false, []
 use Rattle.std.specs.Prelude.{is_err}
 use Rattle.activity_codec.specs.declared.values.Slot.TheVariants.{Driver, CoDriver}
 use Rattle.card_session.specs.declared.session.Kept.{Kept}
+use Rattle.tacho_types.specs.CardNumber.{card_number_bytes}
+use Rattle.run_crew.specs.Cards.{known_of}
 use Rattle.run_rule.specs.Between.{devices}
 use Rattle.run_keeping.specs.declared.keeper.Keeper.{Keeper}
 use Rattle.run_keeping.specs.Keeping.{HasItsRow, entry_in}
@@ -142,3 +144,9 @@ returns-clause-quiet g c =
     let n = c.args.minute.now.odometer.0 in
     notes-then [] [] false U U1 V c.in_ok-owe_to.ensures.quiet (notes-then [] [] false U1 U2 V c.in_ok-owe_to-2.ensures.quiet
     (notes-nothing false U2 V (IsKeeping km n) (g.met.M.Medium.coherent c.owe_to-2.new.unit) (g.met.M.Medium.coherent c.commit.new.unit) c.in_ok-commit.ensures.moments (λ x y h. keeping-nothing km n x y h)))
+
+-- each card that has its row has it still
+pub returns-clause-rows : goal.returns-clause-rows
+returns-clause-rows g c = λ card h.
+    let two = c.in_ok-owe_to-2.ensures.rows card (c.in_ok-owe_to.ensures.rows card h) in
+    record { number = two.number; told = two.told; low = two.low; row = c.in_ok-commit.ensures.rows (known_of c.owe_to-2.new.self.cabin.cards card).row (card_number_bytes two.number) two.row }
