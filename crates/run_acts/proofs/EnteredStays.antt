@@ -43,7 +43,7 @@ sessions-by (Ahead stored) e noted cabin bare = bare
 sessions-by Fell e noted cabin bare = mine-left e.which cabin.cards
 sessions-by Unasked e noted cabin bare = bare
 sessions-by (Unnoted entered clock) e noted cabin bare = bare
-sessions-by (Seated entered clock entry) e noted cabin bare = has-session e.slot e.which entered.look.number (record { session = entered.session; entry = entry; noted = and_one noted }) cabin
+sessions-by (Seated entered clock entry) e noted cabin bare = has-session e.slot e.which entered.look.number entered.row (record { session = entered.session; entry = entry; noted = and_one noted }) cabin
 sessions-by (Lost entered clock entry) e noted cabin bare =
     mine-left e.which (cabin_by (Seated entered clock entry) e noted cabin).cards
 
