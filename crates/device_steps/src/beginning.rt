@@ -42,7 +42,7 @@ pub fn begin<M: Medium, C: Chip, D: Chip>(
     requires agrees { IfSome (M.state unit.old).image (Agrees journal.old) }
     requires session { 0 < session }
     requires low { row < 8 }
-    requires row { IfSome (M.state unit.old).image (IsRowFor row (card_number_bytes number.now) (option_map (λ s. card_number_bytes s.now) spared.entry)) }
+    requires row { IfSome (M.state unit.old).image (IsRowFor row (card_number_bytes number.now) (option_map (λ s. card_number_bytes s.now) spared)) }
     ensures unit { IsUnit (M.state unit.new) }
     ensures same { journal.new ≡ journal.old }
     ensures agrees { OnOk result (IfSome (M.state unit.new).image (Agrees journal.old)) }
