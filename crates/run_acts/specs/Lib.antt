@@ -23,3 +23,4 @@ pub mod Ringing
 pub mod RunRinged
 pub mod CardNotes
 pub mod OnCards
+pub mod RunCards

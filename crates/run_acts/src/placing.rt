@@ -22,6 +22,7 @@ ghost use Rattle.run_acts.specs.CardNotes.{NotesOn, NotesOnCards};
 ghost use Rattle.run_rings.specs.Same.{LeavesRings};
 ghost use Rattle.run_acts.specs.Ringing.{WritesPlace};
 ghost use Rattle.run_acts.specs.RunRinged.{RingsPlace};
+ghost use Rattle.run_acts.specs.RunCards.{CardsPlace};
 ghost use Rattle.run_acts.specs.declared.run.Power.TheVariants.{Lit};
 ghost use Rattle.run_acts.specs.Going.{first_second, end_of_seconds, IsHeld, IsLit};
 ghost use Rattle.run_acts.specs.Room.{falls_of};
@@ -86,6 +87,8 @@ pub fn note_place<M: Medium, C: Chip, D: Chip>(
     ensures evented { EventsPlace slot at (is_err result) run.old run.new breaks.old breaks.new (devices (M.state unit.old) (C.state card_a.old) (D.state card_b.old)) (devices (M.state unit.new) (C.state card_a.new) (D.state card_b.new)) }
     ensures recorded { IsPlaceRecorded slot at (is_err result) run.old run.new breaks.old breaks.new (devices (M.state unit.old) (C.state card_a.old) (D.state card_b.old)) (devices (M.state unit.new) (C.state card_a.new) (D.state card_b.new)) }
     ensures rings { is_some (M.state unit.old).image ≡ true → WritesPlace (number_of_seat run.old.keeper.cabin.cards (seat_in run.old.keeper.cabin.slots.seats slot)) entry.now (is_err result) (M.state unit.old) (M.state unit.new) }
+    // The cards show the events of their second so far.
+    ensures cards { CardsPlace slot at (is_err result) run.old breaks.old breaks.new (devices (M.state unit.old) (C.state card_a.old) (D.state card_b.old)) (devices (M.state unit.new) (C.state card_a.new) (D.state card_b.new)) }
     // What was noted of insertions and places goes on with it.
     ensures ringed { RingsPlace slot entry.now at (is_err result) run.old run.new breaks.old breaks.new (devices (M.state unit.old) (C.state card_a.old) (D.state card_b.old)) (devices (M.state unit.new) (C.state card_a.new) (D.state card_b.new)) }
     ensures only { run.new ≡ record run.old { keeper = run.new.keeper } }

@@ -30,6 +30,7 @@ ghost use Rattle.run_acts.specs.ActsEvented.{EventsWithdrawal};
 ghost use Rattle.run_acts.specs.Behind.{BooksWithdrawn};
 ghost use Rattle.run_acts.specs.Ringing.{WithdrawsSo, ClosesSo, WritesWithdrawal};
 ghost use Rattle.run_acts.specs.RunRinged.{RingsWithdrawal};
+ghost use Rattle.run_acts.specs.RunCards.{CardsWithdrawal};
 
 use crate::run::Run;
 use crate::settling::settle;
@@ -81,6 +82,8 @@ pub fn withdraw<M: Medium, C: Chip, D: Chip>(
     ensures rings { is_some (M.state unit.old).image ≡ true → WithdrawsSo (card_in (seat_in run.old.keeper.cabin.slots.seats slot)) slot at (is_err result) run.old run.new outcome.old outcome.new (M.state unit.old) (M.state unit.new) }
     // What was noted of insertions and places goes on with it.
     ensures ringed { RingsWithdrawal slot at (is_err result) run.old run.new outcome.old outcome.new (devices (M.state unit.old) (C.state card_a.old) (D.state card_b.old)) (devices (M.state unit.new) (C.state card_a.new) (D.state card_b.new)) }
+    // Each card shows its events still.
+    ensures cards { CardsWithdrawal slot at (is_err result) run.old outcome.old outcome.new (devices (M.state unit.old) (C.state card_a.old) (D.state card_b.old)) (devices (M.state unit.new) (C.state card_a.new) (D.state card_b.new)) }
     ensures held { IsHeld (run.new.next / 60) run.new (M.state unit.new) (C.card card_a.new) (D.card card_b.new) (C.state card_a.new) (D.state card_b.new) }
     ensures going { OnOk result (IsLit (run.new.next / 60) run.new (M.state unit.new) (C.card card_a.new) (D.card card_b.new) (C.state card_a.new) (D.state card_b.new)) }
     ensures takes { Takes 0 0 0 run.old run.new outcome.old outcome.new }

@@ -61,6 +61,7 @@ use Rattle.run_acts.proofs.RingedPlace.{IsThere, who-enters, place-goes}
 use Rattle.run_acts.proofs.RingedSecond.{left-after}
 use Rattle.run_acts.specs.CardNotes.{NotesOn}
 use Rattle.run_acts.proofs.CardNotes.{on-none, both-cards}
+use Rattle.run_acts.proofs.CardActs.{place-cards}
 use Rattle.run_acts.proofs.placing.note_place.Goals as goal
 
 pub note_place_in-requires-clause-ready : goal.note_place_in-requires-clause-ready
@@ -683,3 +684,73 @@ returns-in-B-clause-card_events g c =
     (card_of (devices (g.M.Medium.state c.args.unit.now) X (g.D.Chip.state c.args.card_b.now)) card) (card_of (devices (g.M.Medium.state c.note_place_in-in-B.new.unit) X (g.D.Chip.state c.note_place_in-in-B.new.card)) card))
     (subst (λ (o : Option Accepted). NotesOn false (session_of run.keeper.cabin.cards A) o [] X X) (sym (ap (λ (k : Known). k.accepted) known)) (on-none false (session_of run.keeper.cabin.cards A) X))
     c.note_place_in-in-B.ensures.card_events
+
+-- ---- the cards go on
+
+pub returns-in_default-clause-cards : goal.returns-in_default-clause-cards
+returns-in_default-clause-cards g c = λ late ending country region speed before is o done s here front rest are n allowed vehicle w cards time.
+    let cabin = c.args.run.now.keeper.cabin in
+    let lit = c.requires.going in
+    no-entering cabin.cards (seat_in cabin.slots.seats c.args.slot) (who-enters (ungiven_of lit.span) cabin lit.cabin c.args.slot speed ending country region allowed)
+    (no-number cabin.cards (seat_in cabin.slots.seats c.args.slot) c.card.result c.card.ensures c.in_default.not-Some)
+
+pub returns-in_default-number_in-clause-cards : goal.returns-in_default-number_in-clause-cards
+returns-in_default-number_in-clause-cards g c = λ late ending country region speed before is o done s here front rest are n allowed vehicle w cards time.
+    let cabin = c.args.run.now.keeper.cabin in
+    let lit = c.requires.going in
+    no-entering cabin.cards (seat_in cabin.slots.seats c.args.slot) (who-enters (ungiven_of lit.span) cabin lit.cabin c.args.slot speed ending country region allowed)
+    (sym c.number_in.ensures ∙ none-given c.number_in.result c.in_default-number_in.not-Some)
+
+pub returns-in_err-note_place-clause-cards : goal.returns-in_err-note_place-clause-cards
+returns-in_err-note_place-clause-cards g c =
+    let run = c.args.run.now in
+    let breaks : Listed Break = c.args.breaks.now in
+    let U = g.M.Medium.state c.args.unit.now in
+    let V = g.M.Medium.state c.note_place.new.unit in
+    let A0 = g.C.Chip.state c.args.card_a.now in
+    let B0 = g.D.Chip.state c.args.card_b.now in
+    let none : breaks ≡ with_lines [] breaks = ap (λ (bs : List Break). record breaks { items = bs }) (sym (append-nil breaks.items)) in
+    place-cards c.args.slot c.args.at (is_err c.from_residual.result) false run run breaks breaks (devices U A0 B0) (devices V A0 B0) c.requires.at none (returns-in_err-note_place-clause-card_events g c)
+    (record { unit = c.note_place.ensures.journal.keeps; card_a = λ t x le at. at; card_b = λ t x le at. at })
+
+pub returns-in-A-clause-cards : goal.returns-in-A-clause-cards
+returns-in-A-clause-cards g c =
+    let run = c.args.run.now in
+    let number = c.in-Some-number_in.number in
+    let e = c.note_place_in.ensures in
+    let U = g.M.Medium.state c.args.unit.now in
+    let V = g.M.Medium.state c.note_place.new.unit in
+    let W = g.M.Medium.state c.note_place_in.new.unit in
+    let A0 = g.C.Chip.state c.args.card_a.now in
+    let B0 = g.D.Chip.state c.args.card_b.now in
+    let Y = g.C.Chip.state c.note_place_in.new.card in
+    let there : card_in (seat_in run.keeper.cabin.slots.seats c.args.slot) ≡ Some A = cc in
+    let told : number_of_seat run.keeper.cabin.cards (seat_in run.keeper.cabin.slots.seats c.args.slot) ≡ Some number = cc in
+    let some = numbered-session run.keeper.cabin.cards (seat_in run.keeper.cabin.slots.seats c.args.slot) A number there told in
+    place-cards c.args.slot c.args.at (is_err c.note_place_in.result) e.noted.0 run c.note_place_in.new.run c.args.breaks.now c.note_place_in.new.breaks (devices U A0 B0) (devices W Y B0) c.requires.at e.noted.1.told (returns-in-A-clause-card_events g c)
+    (record {
+      unit = left-after U V W c.note_place.ensures.journal.keeps c.note_place.ensures.journal.later e.journal.keeps;
+      card_a = some-left (session_of run.keeper.cabin.cards A) (λ a. IsNote a.session.application) A0 Y some e.moments;
+      card_b = λ t x le at. at;
+    })
+
+pub returns-in-B-clause-cards : goal.returns-in-B-clause-cards
+returns-in-B-clause-cards g c =
+    let run = c.args.run.now in
+    let number = c.in-Some-number_in.number in
+    let e = c.note_place_in-in-B.ensures in
+    let U = g.M.Medium.state c.args.unit.now in
+    let V = g.M.Medium.state c.note_place.new.unit in
+    let W = g.M.Medium.state c.note_place_in-in-B.new.unit in
+    let A0 = g.C.Chip.state c.args.card_a.now in
+    let B0 = g.D.Chip.state c.args.card_b.now in
+    let Y = g.D.Chip.state c.note_place_in-in-B.new.card in
+    let there : card_in (seat_in run.keeper.cabin.slots.seats c.args.slot) ≡ Some B = cc in
+    let told : number_of_seat run.keeper.cabin.cards (seat_in run.keeper.cabin.slots.seats c.args.slot) ≡ Some number = cc in
+    let some = numbered-session run.keeper.cabin.cards (seat_in run.keeper.cabin.slots.seats c.args.slot) B number there told in
+    place-cards c.args.slot c.args.at (is_err c.note_place_in-in-B.result) e.noted.0 run c.note_place_in-in-B.new.run c.args.breaks.now c.note_place_in-in-B.new.breaks (devices U A0 B0) (devices W A0 Y) c.requires.at e.noted.1.told (returns-in-B-clause-card_events g c)
+    (record {
+      unit = left-after U V W c.note_place.ensures.journal.keeps c.note_place.ensures.journal.later e.journal.keeps;
+      card_a = λ t x le at. at;
+      card_b = some-left (session_of run.keeper.cabin.cards B) (λ a. IsNote a.session.application) B0 Y some e.moments;
+    })
