@@ -55,7 +55,7 @@ gap-off : (log : RunLog) (spans : List (List Seen)) (x : Seen) → (x.told.lit �
 gap-off log spans x (inl off) = ap (λ (b : Bool). cond b (cond x.told.starts (gap_before as_accepted log spans x) []) []) off
 gap-off log spans x (inr goes) = ap (λ (b : Bool). cond x.told.lit (cond b (gap_before as_accepted log spans x) []) []) goes ∙ same x.told.lit
   where
-    same : (b : Bool) → cond b [] [] ≡ ([] {A = Event})
+    same : (b : Bool) → cond {A = List Event} b [] [] ≡ []
     same true = refl
     same false = refl
 

@@ -30,7 +30,7 @@ use Rattle.run_evented.proofs.Bringing.{before-as}
 use Rattle.run_rings.specs.Notes.{TellSameTo, course_behind}
 use Rattle.run_recorded.specs.Origin.{Origin}
 use Rattle.run_recorded.specs.Beside.{HaveLeftMore}
-use Rattle.run_acts.specs.OnCards.{as_accepted, accepted_in, accepted_on, unclosed_by, events_by, moving_at, moved_in, gaps_on, enters, falls, is_sure_in, are_sure_on, NotesThem, StillShows, AreUses}
+use Rattle.run_acts.specs.OnCards.{as_accepted, accepted_in, accepted_on, unclosed_by, events_by, accepts, moving_at, movings, moved_in, gaps_on, enters, falls, is_sure_in, are_sure_on, NotesThem, StillShows, AreUses}
 use Rattle.run_acts.specs.RunCards.{vehicle_in, sizes_in, CardShown, CardsShown, CardsBehind, so_far, seen_behind, gap_behind, CardsIn, CardsWaking, StillShow}
 use Rattle.run_acts.proofs.OnCards.{flat-one, gaps-append}
 use Rattle.run_acts.proofs.CardCourse.{Finding, findings, IsQuiet, IsPutIn, quiet-same, quiet-then, both-quiet, acted-quiet, acted-puts, behind-more, behind-same, cut-quiet, powered-quiet, PutsNone}
@@ -120,9 +120,6 @@ module _ (was : Before) (s : TraceSecond) where
       (λ slot. ap (λ (fs : List Finding). first_card (filter (is_now slot) fs)) q.found ∙ accepted-others slot k.found (map (λ (w : Verdict). (v, w)) verdicts) (later-findings v n verdicts is))
 
 -- the seconds of these acceptances, and none of another card
-abbrev pub accepts : ℕ → List Verdict → List ℕ
-accepts u verdicts = flat_map (λ (w : Verdict). cond (is_accepting w) (u ∷ []) []) verdicts
-
 pub accepted-mine : (c : Card) (u : ℕ) (v : Visit) (verdicts : List Verdict) → same_card v.card c ≡ true → flat_map (λ (f : Finding). cond (same_card f.0.card c && is_accepting f.1) (u ∷ []) []) (map (λ (w : Verdict). (v, w)) verdicts) ≡ accepts u verdicts
 accepted-mine c u v [] mine = refl
 accepted-mine c u v (w ∷ verdicts) mine = (λ i. cond (mine i && is_accepting w) (u ∷ []) [] ++ accepted-mine c u v verdicts mine i)
@@ -133,12 +130,9 @@ accepted-other c u v (w ∷ verdicts) other = (λ i. cond (other i && is_accepti
 
 pub flat-append : {X Y : Type 0} (h : X → List Y) (xs ys : List X) → flat_map h (xs ++ ys) ≡ flat_map h xs ++ flat_map h ys
 flat-append h [] ys = refl
-flat-append h (x ∷ xs) ys = ap (λ (l : List _). h x ++ l) (flat-append h xs ys) ∙ sym (append_assoc (h x) (flat_map h xs) (flat_map h ys))
+flat-append h (x ∷ xs) ys = (λ i. h x ++ flat-append h xs ys i) ∙ sym (append_assoc (h x) (flat_map h xs) (flat_map h ys))
 
 -- those of a moving vehicle
-abbrev pub movings : Card → Registration → (speed : ℕ) → List ℕ → List CardEvent
-movings c own speed us = cond (nat_lt 0 speed) (map (moving_at c own) us) []
-
 movings-append : (c : Card) (own : Registration) (speed : ℕ) (us vs : List ℕ) → movings c own speed (us ++ vs) ≡ movings c own speed us ++ movings c own speed vs
 movings-append c own speed us vs = by (nat_lt 0 speed) us
   where

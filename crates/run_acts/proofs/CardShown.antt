@@ -164,7 +164,7 @@ plain-moved c own (x ∷ xs) h = (λ i. one (nat_lt 0 x.told.second.speed) i ++ 
 
 flat-both : {X Y : Type 0} (h : X → List Y) (xs ys : List X) → flat_map h (xs ++ ys) ≡ flat_map h xs ++ flat_map h ys
 flat-both h [] ys = refl
-flat-both h (x ∷ xs) ys = ap (λ (l : List _). h x ++ l) (flat-both h xs ys) ∙ sym (append_assoc (h x) (flat_map h xs) (flat_map h ys))
+flat-both h (x ∷ xs) ys = (λ i. h x ++ flat-both h xs ys i) ∙ sym (append_assoc (h x) (flat_map h xs) (flat_map h ys))
 
 -- SECONDS MORE in which it is not accepted
 pub plain-on : (o : Origin) (c : Card) (log later : RunLog) (gaps now : List Event) (seen xs : List Seen) (d e : Devices) → CardShown o c log gaps seen d → KeepsFailed log later → AllByRecursion (IsPlainSeen c) xs

@@ -1,5 +1,5 @@
 -- Calls that leave the events of cards: minutes are kept, a place is noted, a session is closed.
-use Rattle.std.proofs.Common.{◌≡◌, ◌∙◌, ◌⊎◌, inl, inr, ⊎_elim, ℕ, ◌+◌, ◌≤◌, Bool, true, false, Option, Some, None, IfSome, List, [], ◌∷◌, ◌++◌, length, refl, sym, ap, subst, arith}
+use Rattle.std.proofs.Common.{◌≡◌, ◌∙◌, ◌⊎◌, inl, inr, ⊎_elim, ℕ, ◌+◌, ◌≤◌, Bool, true, false, not, ◌||◌, is_some, Option, Some, None, IfSome, List, [], ◌∷◌, ◌++◌, length, refl, sym, ap, subst, arith}
 use Rattle.activity_codec.specs.declared.values.Activity.{Activity}
 use Rattle.trace_model.specs.declared.Card.{Card}
 use Rattle.trace_model.specs.declared.Card.TheVariants.{A, B}
@@ -50,7 +50,7 @@ file-still app X Y leaves y left =
     (was.0, was.1, λ kind. same-file app was.0 y was.2 kind)
 
 -- the image that a card had as it was found is that of the start
-valid-found : (o : Origin) → IsOrigin o → (c : Card) → IsOwnValid (card_image o.recording c) → IsOwnValid (found_of o.found c).image
+pub valid-found : (o : Origin) → IsOrigin o → (c : Card) → IsOwnValid (card_image o.recording c) → IsOwnValid (found_of o.found c).image
 valid-found o origin c valid = subst IsOwnValid (sym (origin.image c)) valid
 
 -- one after another
@@ -86,7 +86,7 @@ place-still o done s at waits rest run out d e w after notes c valid = by (sessi
     by None is n = λ y left. (y, n y left, λ kind. refl)
     by (Some a) is n = λ y left.
         let was = n y left in
-        (was.0, was.1, λ kind. subst (λ (app : Application). events_in app kind y ≡ events_in app kind was.0) (session-sizes o done s at waits rest run out d w c valid a is) (none-shown a.session.application _ was.0 y was.2 kind))
+        (was.0, was.1, λ kind. subst (λ (app : Application). events_in app kind y ≡ events_in app kind was.0) (session-sizes o done s at waits rest run out d w c valid a is) (none-shown a.session.application (false || not (is_some (session_of after c))) was.0 y was.2 kind))
 
 -- A SESSION IS CLOSED, or was about to be
 closes-still : (o : Origin) (w : Carried) (cards : Cards) (c : Card) (U X Z : State) (Y : State) → IsOrigin o → AreFoundCards o.found cards → IsCoherent X → LARGEST_IMAGE ≤ X.size → (a : Accepted) (act : Activity) → session_of cards c ≡ Some a → IsPowered o.found w cards (arranged c U X Z) →

@@ -12,7 +12,7 @@ use Rattle.log_model.specs.Causes.{second_of}
 use Rattle.log_model.specs.Log.{RunLog, Phase, In, Keeping, cut_in}
 use Rattle.log_model.specs.Course.{Visit, Told, Before, Went, begins, has_power, went, second_told}
 use Rattle.log_model.proofs.Growth.{went-more}
-use Rattle.safety_model.specs.Safe.{Devices}
+use Rattle.safety_model.specs.Safe.{Devices, card_of}
 use Rattle.unit_course.specs.Lines.{cut_at}
 use Rattle.unit_course.specs.Followed.{Lit as IsLit}
 use Rattle.run_course.specs.Moments.{and_break}
@@ -37,7 +37,7 @@ use Rattle.run_acts.specs.Booked.{IsBookedTurn}
 use Rattle.run_acts.specs.Going.{end_of_seconds, IsGoingOn}
 use Rattle.run_acts.specs.Recording.{log_of, values_of, IsOrigin, IsNow, RunWithin, RunCut}
 use Rattle.run_acts.specs.Turning.{late_moment, told_of, cut_breaks, IsLitTurn}
-use Rattle.run_acts.specs.RunCards.{CardsBehind, CardsIn, StillShow}
+use Rattle.run_acts.specs.RunCards.{sizes_in, CardsBehind, CardsIn, StillShow}
 use Rattle.run_acts.proofs.OnCards.{still-same}
 use Rattle.run_acts.proofs.TurnRecorded.{last-actions, last-number, turned, timed-last}
 use Rattle.run_acts.proofs.RingedLines.{AreTears, TellsBeside, TellsTears, tears-beside, kept-tells, up-to-tells}
@@ -60,7 +60,7 @@ lines-later o done s at waits speed rest v d w lines later is here some =
     }
 
 stay-self : (o : Origin) (d : Devices) → StillShow o d d
-stay-self o d c valid = still-same _ _
+stay-self o d c valid = still-same (sizes_in o c) (card_of d c)
 
 abbrev quiet : (number speed : ℕ) → TraceSecond
 quiet number speed = record { number = number; has_power = true; speed = speed; actions = [] }

@@ -21,12 +21,12 @@ use Rattle.run_recorded.specs.Origin.{Origin}
 use Rattle.run_recorded.specs.Beside.{HaveLeftMore}
 use Rattle.run_evented.specs.Evented.{images_in}
 use Rattle.run_ringed.specs.Waking.{IsFoundAnew}
-use Rattle.run_acts.specs.OnCards.{as_accepted, unclosed_by, events_by, accepted_in, accepted_on, moved_in, gaps_on, enters, falls, is_sure_in, are_sure_on, NotesThem, StillShows, AreUses}
+use Rattle.run_acts.specs.OnCards.{as_accepted, unclosed_by, events_by, accepts, movings, accepted_in, accepted_on, moved_in, gaps_on, enters, falls, is_sure_in, are_sure_on, NotesThem, StillShows, AreUses}
 use Rattle.run_acts.specs.RunCards.{vehicle_in, sizes_in, CardShown, so_far, seen_behind, gap_behind, CardsIn, CardsWaking, StillShow}
 use Rattle.run_acts.proofs.OnCards.{flat-one, gaps-append}
 use Rattle.run_acts.proofs.CardCourse.{Finding, findings, sitting_at, IsPowered, powered-as}
 use Rattle.run_acts.proofs.CardShown.{KeepsFailed, Follows, card-more, goes-on, moved-same, sure-on, sure-last}
-use Rattle.run_acts.proofs.CardSecond.{any-more, flat-append, accepts, accepted-mine, accepted-other, movings, judged-on}
+use Rattle.run_acts.proofs.CardSecond.{any-more, flat-append, accepted-mine, accepted-other, judged-on}
 use Rattle.run_acts.proofs.CardEnds.{no-findings}
 
 -- the cards of both slots that were torn out then

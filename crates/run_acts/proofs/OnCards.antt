@@ -84,7 +84,7 @@ events-append kind g m u g' m' u' = by (kind == POWER_INTERRUPTION) (kind == INS
 pub events-none : (kind : ℕ) → events_by kind [] [] [] ≡ []
 events-none kind = by (kind == POWER_INTERRUPTION) (kind == INSERTION_WHILE_DRIVING) (kind == SESSION_NOT_CLOSED)
   where
-    by : (p q r : Bool) → cond p [] (cond q [] (cond r [] [])) ≡ ([] {A = CardEvent})
+    by : (p q r : Bool) → cond {A = List CardEvent} p [] (cond q [] (cond r [] [])) ≡ []
     by true q r = refl
     by false true r = refl
     by false false true = refl
@@ -119,7 +119,7 @@ still-then app x y z first next c left =
 -- ---- one second more
 
 pub flat-one : {X Y : Type 0} (h : X → List Y) (xs : List X) (x : X) → flat_map h (xs ++ x ∷ []) ≡ flat_map h xs ++ h x
-flat-one h xs x = flat_map-append h xs (x ∷ []) ∙ ap (λ (ys : List _). flat_map h xs ++ ys) (append-nil (h x))
+flat-one h xs x = flat_map-append h xs (x ∷ []) ∙ (λ i. flat_map h xs ++ append-nil (h x) i)
 
 pub gaps-append : (c : Card) (own : Registration) (es fs : List Event) → gaps_on c own (es ++ fs) ≡ gaps_on c own es ++ gaps_on c own fs
 gaps-append c own es fs =

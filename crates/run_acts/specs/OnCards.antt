@@ -12,6 +12,7 @@ use Rattle.card_records.specs.declared.current_use.CurrentUse.{CurrentUse}
 use Rattle.card_image.specs.Fields.{current_use}
 use Rattle.card_image.specs.Own.{own_sizes}
 use Rattle.card_session.specs.Inserting.{unclosed}
+use Rattle.log_model.specs.declared.lines.Verdict.{Verdict}
 use Rattle.log_model.specs.Log.{RunLog, is_accepting}
 use Rattle.log_model.specs.Slots.{same_card}
 use Rattle.event_model.specs.declared.kinds.TheConstants.{INSERTION_WHILE_DRIVING, SESSION_NOT_CLOSED, POWER_INTERRUPTION}
@@ -48,6 +49,10 @@ abbrev pub events_by : (kind : ℕ) → (gaps moved unclosed : List CardEvent) �
 events_by kind gaps moved unclosed =
     if kind == POWER_INTERRUPTION then gaps else (if kind == INSERTION_WHILE_DRIVING then moved else (if kind == SESSION_NOT_CLOSED then unclosed else []))
 
+-- a card of which this is found in a second, in this order, is accepted so often
+abbrev pub accepts : (second : ℕ) → List Verdict → List ℕ
+accepts u verdicts = flat_map (λ v. if is_accepting v then u ∷ [] else []) verdicts
+
 module _ (c : Card) where
   -- the seconds in which it was accepted, one for each acceptance
   abbrev pub accepted_in : Seen → List ℕ
@@ -61,8 +66,11 @@ module _ (c : Card) (own : Registration) where
   abbrev pub moving_at : (second : ℕ) → CardEvent
   moving_at u = record { kind = INSERTION_WHILE_DRIVING; begin = record { 0 = u }; end = record { 0 = u }; registration = own }
 
+  abbrev pub movings : (speed : ℕ) → (seconds : List ℕ) → List CardEvent
+  movings speed us = if nat_lt 0 speed then map moving_at us else []
+
   abbrev pub moved_in : Seen → List CardEvent
-  moved_in x = if nat_lt 0 x.told.second.speed then map moving_at (accepted_in c x) else []
+  moved_in x = movings x.told.second.speed (accepted_in c x)
 
   -- interruptions at which it was accepted
   abbrev pub gap_entry : Event → CardEvent
