@@ -29,6 +29,7 @@ pub mod Leaving
 pub mod Cabins
 pub mod Withdrawn
 pub mod Bare
+pub mod Broken
 pub mod Past
 pub mod Standing
 pub mod Due
@@ -81,3 +82,4 @@ pub mod CardWaking
 pub mod CardStays
 pub mod CardTurn
 pub mod CardActs
+pub mod CardWrites

@@ -62,6 +62,8 @@ use Rattle.run_acts.proofs.RingedSecond.{left-after}
 use Rattle.run_acts.specs.CardNotes.{NotesOn}
 use Rattle.run_acts.proofs.CardNotes.{on-none, both-cards}
 use Rattle.run_acts.proofs.CardActs.{place-cards}
+use Rattle.run_acts.specs.CardWrites.{PlaceOn}
+use Rattle.run_acts.proofs.CardWrites.{place-unit, place-bare, place-any, seat-bare}
 use Rattle.run_acts.proofs.placing.note_place.Goals as goal
 
 pub note_place_in-requires-clause-ready : goal.note_place_in-requires-clause-ready
@@ -754,3 +756,54 @@ returns-in-B-clause-cards g c =
       card_a = λ t x le at. at;
       card_b = some-left (session_of run.keeper.cabin.cards B) (λ a. IsNote a.session.application) B0 Y some e.moments;
     })
+
+-- ---- the place on the card
+
+none-in : (o : Option Card) → ((card : Card) → o ≡ Some card → ⊥) → o ≡ None
+none-in None never = refl
+none-in (Some card) never = absurd (never card refl)
+
+pub returns-in_default-clause-on_card : goal.returns-in_default-clause-on_card
+returns-in_default-clause-on_card g c = λ card there.
+    let none : card_in (seat_in c.args.run.now.keeper.cabin.slots.seats c.args.slot) ≡ None = sym c.card.ensures ∙ none-in c.card.result c.in_default.not-Some in
+    absurd (let wrong : None ≡ Some card = sym none ∙ there in cc)
+
+pub returns-in_default-number_in-clause-on_card : goal.returns-in_default-number_in-clause-on_card
+returns-in_default-number_in-clause-on_card g c = λ card there.
+    let run = c.args.run.now in
+    let cards = run.keeper.cabin.cards in
+    let d = devices (g.M.Medium.state c.args.unit.now) (g.C.Chip.state c.args.card_a.now) (g.D.Chip.state c.args.card_b.now) in
+    let unnamed : number_of_seat cards (seat_in run.keeper.cabin.slots.seats c.args.slot) ≡ None = sym c.number_in.ensures ∙ none-given c.number_in.result c.in_default-number_in.not-Some in
+    place-bare c.args.entry.now (card_of d card) (card_of d card) (session_of cards card) (session_of cards card) false
+    (seat-bare cards (seat_in run.keeper.cabin.slots.seats c.args.slot) card c.requires.going.ready.card_a.is_known c.requires.going.ready.card_b.is_known unnamed there)
+
+pub returns-in_err-note_place-clause-on_card : goal.returns-in_err-note_place-clause-on_card
+returns-in_err-note_place-clause-on_card g c = λ card there.
+    let run = c.args.run.now in
+    let s = session_of run.keeper.cabin.cards card in
+    let d = devices (g.M.Medium.state c.args.unit.now) (g.C.Chip.state c.args.card_a.now) (g.D.Chip.state c.args.card_b.now) in
+    let e = devices (g.M.Medium.state c.note_place.new.unit) (g.C.Chip.state c.args.card_a.now) (g.D.Chip.state c.args.card_b.now) in
+    let failed : true ≡ is_err c.from_residual.result = search rules in
+    subst (λ (b : Bool). PlaceOn s s b c.args.entry.now (card_of d card) (card_of e card)) failed (place-unit c.args.entry.now (card_of d card) (card_of e card) s s)
+
+pub returns-in-A-clause-on_card : goal.returns-in-A-clause-on_card
+returns-in-A-clause-on_card g c = λ card there.
+    let run = c.args.run.now in
+    let new : Run = c.note_place_in.new.run in
+    let seat : card_in (seat_in run.keeper.cabin.slots.seats c.args.slot) ≡ Some A = cc in
+    let is : A ≡ card = cc in
+    let d = devices (g.M.Medium.state c.args.unit.now) (g.C.Chip.state c.args.card_a.now) (g.D.Chip.state c.args.card_b.now) in
+    let e = devices (g.M.Medium.state c.note_place_in.new.unit) (g.C.Chip.state c.note_place_in.new.card) (g.D.Chip.state c.args.card_b.now) in
+    subst (λ (k : Card). PlaceOn (session_of run.keeper.cabin.cards k) (session_of new.keeper.cabin.cards k) (is_err c.note_place_in.result) c.args.entry.now (card_of d k) (card_of e k)) is
+    (place-any c.args.entry.now (g.C.Chip.state c.args.card_a.now) (g.C.Chip.state c.note_place_in.new.card) (session_of run.keeper.cabin.cards A) (session_of new.keeper.cabin.cards A) (is_err c.note_place_in.result) c.note_place_in.ensures.on_card)
+
+pub returns-in-B-clause-on_card : goal.returns-in-B-clause-on_card
+returns-in-B-clause-on_card g c = λ card there.
+    let run = c.args.run.now in
+    let new : Run = c.note_place_in-in-B.new.run in
+    let seat : card_in (seat_in run.keeper.cabin.slots.seats c.args.slot) ≡ Some B = cc in
+    let is : B ≡ card = cc in
+    let d = devices (g.M.Medium.state c.args.unit.now) (g.C.Chip.state c.args.card_a.now) (g.D.Chip.state c.args.card_b.now) in
+    let e = devices (g.M.Medium.state c.note_place_in-in-B.new.unit) (g.C.Chip.state c.args.card_a.now) (g.D.Chip.state c.note_place_in-in-B.new.card) in
+    subst (λ (k : Card). PlaceOn (session_of run.keeper.cabin.cards k) (session_of new.keeper.cabin.cards k) (is_err c.note_place_in-in-B.result) c.args.entry.now (card_of d k) (card_of e k)) is
+    (place-any c.args.entry.now (g.D.Chip.state c.args.card_b.now) (g.D.Chip.state c.note_place_in-in-B.new.card) (session_of run.keeper.cabin.cards B) (session_of new.keeper.cabin.cards B) (is_err c.note_place_in-in-B.result) c.note_place_in-in-B.ensures.on_card)

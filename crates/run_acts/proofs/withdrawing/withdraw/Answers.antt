@@ -61,6 +61,8 @@ use Rattle.run_acts.proofs.RingedClosed.{settling-ringed, closing-ringed, gone-t
 use Rattle.run_acts.specs.RunCards.{CardsSettling, StillShow}
 use Rattle.run_acts.proofs.CardStays.{shows-then}
 use Rattle.run_acts.proofs.CardActs.{TellsLines, settled-lines, closed-lines, quiet-goes}
+use Rattle.run_acts.specs.CardWrites.{ShutsBehind, WithdrawsShut}
+use Rattle.run_acts.proofs.CardWrites.{withdrawn-shut}
 use Rattle.run_acts.proofs.withdrawing.withdraw.Goals as goal
 
 -- ---- it has left its slot
@@ -1072,3 +1074,77 @@ returns-in-B-clause-cards g c = λ late speed o done s now front rest are n allo
     let t : TellsLines (acting_at s.number (suc (length front))) c.args.outcome.now (record told { breaks = c.close-in-B.new.breaks }) = subst (λ (m : Moment). TellsLines m c.args.outcome.now (record told { breaks = c.close-in-B.new.breaks })) moment
     (closed-lines c.args.at c.args.outcome.now told c.close-in-B.new.breaks k.0 c.args.slot (settled-lines c.args.at false (with_cabin c.leave.new.self run) between c.args.outcome.now told c.in_ok-settle.ensures.settled) k.1.told) in
     quiet-goes o done s front rest (Withdraw c.args.slot) are run c.args.outcome.now D E w tt t.lines (log_of (record told { breaks = c.close-in-B.new.breaks })) t.are t.tears left (shows-then o D M E first next) cards (is_err c.close-in-B.result)
+
+-- ---- the card is closed
+
+pub returns-in_default-clause-shut : goal.returns-in_default-clause-shut
+returns-in_default-clause-shut g c = λ card there.
+    let none : card_in (seat_in c.args.run.now.keeper.cabin.slots.seats c.args.slot) ≡ None = sym c.card.ensures ∙ none-there c.card.result c.in_default.not-Some in
+    absurd (let wrong : None ≡ Some card = sym none ∙ there in cc)
+
+pub returns-in_err-settle-clause-shut : goal.returns-in_err-settle-clause-shut
+returns-in_err-settle-clause-shut g c = λ card there.
+    let run = c.args.run.now in
+    let failed : true ≡ is_err c.from_residual.result = search rules in
+    inl (
+      sym failed,
+      subst (λ (b : Cabin). IsSettled c.args.at true (with_cabin b run) c.settle.new.run c.args.outcome.now c.settle.new.outcome) c.leave.ensures.kept c.in_err-settle.ensures.settled,
+    )
+
+pub returns-in-A-clause-shut : goal.returns-in-A-clause-shut
+returns-in-A-clause-shut g c = λ card there.
+    let run = c.args.run.now in
+    let seat : card_in (seat_in run.keeper.cabin.slots.seats c.args.slot) ≡ Some A = cc in
+    let is : A ≡ card = cc in
+    let U1 = g.M.Medium.state c.settle.new.unit in
+    let V = g.M.Medium.state c.close.new.unit in
+    let X = g.C.Chip.state c.settle.new.card_a in
+    let Y = g.C.Chip.state c.close.new.card in
+    let Z = g.D.Chip.state c.settle.new.card_b in
+    let D = devices (g.M.Medium.state c.args.unit.now) (g.C.Chip.state c.args.card_a.now) (g.D.Chip.state c.args.card_b.now) in
+    let E = devices V Y Z in
+    let e = c.close.ensures in
+    let n = e.shut in
+    let b = c.in_ok-settle.ensures.booked in
+    let after : Outcome = record c.settle.new.outcome { breaks = c.close.new.breaks } in
+    subst (λ (k : Card). WithdrawsShut k c.args.slot c.args.at (is_err c.close.result) run c.close.new.run c.args.outcome.now after D E) is
+    (inr (subst (λ (left : Cabin). ShutsBehind A c.args.slot c.args.at (told_of (with_cabin left run) c.args.outcome.now) run c.close.new.run after D E) c.leave.ensures.kept (record {
+      decided = b.0;
+      given = b.2;
+      between = c.settle.new.run;
+      told = c.settle.new.outcome;
+      closing = n.closing;
+      closed = n.closed;
+      act = n.act;
+      selected = n.selected;
+      shut = withdrawn-shut A U1 V X Y Z e.journal e.clock_card n.closing b.0 c.args.at (told_of (with_cabin c.leave.new.self run) c.args.outcome.now) (told_of c.settle.new.run c.settle.new.outcome) D n.act n.closes b.1 b.3 b.4;
+    })))
+
+pub returns-in-B-clause-shut : goal.returns-in-B-clause-shut
+returns-in-B-clause-shut g c = λ card there.
+    let run = c.args.run.now in
+    let seat : card_in (seat_in run.keeper.cabin.slots.seats c.args.slot) ≡ Some B = cc in
+    let is : B ≡ card = cc in
+    let U1 = g.M.Medium.state c.settle.new.unit in
+    let V = g.M.Medium.state c.close-in-B.new.unit in
+    let X = g.D.Chip.state c.settle.new.card_b in
+    let Y = g.D.Chip.state c.close-in-B.new.card in
+    let Z = g.C.Chip.state c.settle.new.card_a in
+    let D = devices (g.M.Medium.state c.args.unit.now) (g.C.Chip.state c.args.card_a.now) (g.D.Chip.state c.args.card_b.now) in
+    let E = devices V Z Y in
+    let e = c.close-in-B.ensures in
+    let n = e.shut in
+    let b = c.in_ok-settle.ensures.booked in
+    let after : Outcome = record c.settle.new.outcome { breaks = c.close-in-B.new.breaks } in
+    subst (λ (k : Card). WithdrawsShut k c.args.slot c.args.at (is_err c.close-in-B.result) run c.close-in-B.new.run c.args.outcome.now after D E) is
+    (inr (subst (λ (left : Cabin). ShutsBehind B c.args.slot c.args.at (told_of (with_cabin left run) c.args.outcome.now) run c.close-in-B.new.run after D E) c.leave.ensures.kept (record {
+      decided = b.0;
+      given = b.2;
+      between = c.settle.new.run;
+      told = c.settle.new.outcome;
+      closing = n.closing;
+      closed = n.closed;
+      act = n.act;
+      selected = n.selected;
+      shut = withdrawn-shut B U1 V X Y Z e.journal e.clock_card n.closing b.0 c.args.at (told_of (with_cabin c.leave.new.self run) c.args.outcome.now) (told_of c.settle.new.run c.settle.new.outcome) D n.act n.closes b.1 b.3 b.4;
+    })))
