@@ -240,7 +240,7 @@ module _ (o : Origin) (done : List TraceSecond) (s : TraceSecond) (n : ℕ) (wai
 
     sizes-are : (x : List ℕ) → X.may_leave x → own_sizes x ≡ sizes_in o e.which
     sizes-are x at =
-        (w.powered.go.held e.which (valid-found o origin e.which valid)).now x (mine-back e.which U X Z (λ (q : State). q.may_leave x) at) .0
+        ((w.powered.go.held e.which (valid-found o origin e.which valid)).now x (mine-back e.which U X Z (λ (q : State). q.may_leave x) at)).0
         ∙ ap own_sizes (origin.image e.which)
 
     -- an image that the card may leave now

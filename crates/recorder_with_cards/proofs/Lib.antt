@@ -60,3 +60,4 @@ pub mod SideShown
 pub mod KeptAfter
 pub mod KeptRows
 pub mod WokenStored
+pub mod EnteredCards
