@@ -21,13 +21,14 @@ use Rattle.log_model.specs.declared.lines.Break.{Break}
 use Rattle.log_model.specs.declared.lines.SlotFault.{SlotFault}
 use Rattle.log_model.specs.declared.lines.Verdict.{Verdict}
 use Rattle.log_model.specs.Causes.{second_of}
-use Rattle.log_model.specs.Log.{RunLog, Phase, In, same_phase, cut_in, is_torn_in, found_in, is_accepting, has_failed_in}
+use Rattle.log_model.specs.Log.{RunLog, Phase, In, same_phase, cut_in, is_torn_in, found_in, is_accepting}
 use Rattle.log_model.specs.Slots.{Sitting, in_slot, refusal, same_card}
 use Rattle.log_model.specs.Course.{Course, Before, Moved, Visit, visits, leaves, with_slot, carried_out, answered, moved_by, slot_told, both_told, begins, acted, card_in, went}
 use Rattle.safety_model.specs.Recording.{card_image}
 use Rattle.safety_model.specs.Safe.{Devices, card_of}
 use Rattle.run_outcome.specs.declared.outcome.Outcome.{Outcome}
 use Rattle.run_keeping.specs.declared.keeper.Moment.{Moment}
+use Rattle.side_model.specs.Done.{has_failed_in}
 use Rattle.run_recorded.specs.Origin.{Origin}
 use Rattle.run_recorded.specs.Beside.{HaveLeftMore}
 use Rattle.run_evented.specs.Evented.{images_in}
@@ -230,15 +231,15 @@ module _ (o : Origin) (done : List TraceSecond) (s : TraceSecond) (front rest : 
           × NotesThem (sizes_in o c) (λ kind. is_sure_in c kind cut x) (λ kind. events_by kind [] (movings c (vehicle_in o) s.speed (accepts s.number vs)) (unclosed_by more (accepts s.number vs))) (card_of d c) (card_of e c)) (sym found)
           ([], tt, λ y at. let now = still c valid y at in (now.0, now.1, λ kind sure. now.2 kind ∙ ap (all_noted (events_in (sizes_in o c) kind now.0)) (sym (nothing kind (nat_lt 0 s.speed))))))
     where
+      empty : (q8 q5 q6 : Bool) → cond {A = List CardEvent} q8 [] (cond q5 [] (cond q6 [] [])) ≡ []
+      empty true q5 q6 = refl
+      empty false true q6 = refl
+      empty false false true = refl
+      empty false false false = refl
+
       nothing : (kind : ℕ) (l : Bool) → events_by kind [] (cond {A = List CardEvent} l [] []) [] ≡ []
-      nothing kind true = by (kind == POWER_INTERRUPTION) (kind == INSERTION_WHILE_DRIVING) (kind == SESSION_NOT_CLOSED)
-        where
-          by : (q8 q5 q6 : Bool) → cond {A = List CardEvent} q8 [] (cond q5 [] (cond q6 [] [])) ≡ []
-          by true q5 q6 = refl
-          by false true q6 = refl
-          by false false true = refl
-          by false false false = refl
-      nothing kind false = nothing kind true
+      nothing kind true = empty (kind == POWER_INTERRUPTION) (kind == INSERTION_WHILE_DRIVING) (kind == SESSION_NOT_CLOSED)
+      nothing kind false = empty (kind == POWER_INTERRUPTION) (kind == INSERTION_WHILE_DRIVING) (kind == SESSION_NOT_CLOSED)
 
   -- ---- or the card is judged
   module _ (failed : Bool) (after : Outcome) (f : Devices) (j : IsJudgedOnCards failed o s (suc (length front)) slot card told after e f) where

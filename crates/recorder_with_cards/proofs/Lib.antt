@@ -61,3 +61,5 @@ pub mod KeptAfter
 pub mod KeptRows
 pub mod WokenStored
 pub mod EnteredCards
+pub mod InsertedCards
+pub mod Vehicle

@@ -139,15 +139,15 @@ is_of c f = same_card f.0.card c
 
 first-among : (c : Card) (q : Finding → Bool) (fs : List Finding) → is_card (first_card (filter q fs)) c ≡ true → list_any (is_of c) fs ≡ true
 first-among c q [] is = absurd (let wrong : false ≡ true = is in cc)
-first-among c q (f ∷ fs) is = by (q f) is
+first-among c q (f ∷ fs) is = by (q f) is (first-among c q fs)
   where
     or-right : (b : Bool) → list_any (is_of c) fs ≡ true → (b || list_any (is_of c) fs) ≡ true
     or-right true h = refl
     or-right false h = h
 
-    by : (b : Bool) → is_card (first_card (cond b (f ∷ filter q fs) (filter q fs))) c ≡ true → (same_card f.0.card c || list_any (is_of c) fs) ≡ true
-    by true h = ap (λ (t : Bool). t || list_any (is_of c) fs) h
-    by false h = or-right (same_card f.0.card c) (first-among c q fs h)
+    by : (b : Bool) → is_card (first_card (cond b (f ∷ filter q fs) (filter q fs))) c ≡ true → (is_card (first_card (filter q fs)) c ≡ true → list_any (is_of c) fs ≡ true) → (same_card f.0.card c || list_any (is_of c) fs) ≡ true
+    by true h rest = ap (λ (t : Bool). t || list_any (is_of c) fs) h
+    by false h rest = or-right (same_card f.0.card c) (rest h)
 
 any-split : {X : Type 0} (p : X → Bool) (xs ys : List X) → list_any p (xs ++ ys) ≡ true → (list_any p xs ≡ true) ⊎ (list_any p ys ≡ true)
 any-split p [] ys is = inr is
@@ -159,11 +159,11 @@ any-split p (x ∷ xs) ys is = by (p x) is (any-split p xs ys)
 
 any-right : {X : Type 0} (p : X → Bool) (xs ys : List X) → list_any p ys ≡ true → list_any p (xs ++ ys) ≡ true
 any-right p [] ys is = is
-any-right p (x ∷ xs) ys is = by (p x)
+any-right p (x ∷ xs) ys is = by (p x) (any-right p xs ys is)
   where
-    by : (b : Bool) → (b || list_any p (xs ++ ys)) ≡ true
-    by true = refl
-    by false = any-right p xs ys is
+    by : (b : Bool) → list_any p (xs ++ ys) ≡ true → (b || list_any p (xs ++ ys)) ≡ true
+    by true rest = refl
+    by false rest = rest
 
 of-visit : (c : Card) (v : Visit) (verdicts : List Verdict) → list_any (is_of c) (map (λ (w : Verdict). (v, w)) verdicts) ≡ true → same_card v.card c ≡ true
 of-visit c v [] is = absurd (let wrong : false ≡ true = is in cc)
