@@ -62,4 +62,6 @@ pub mod KeptRows
 pub mod WokenStored
 pub mod EnteredCards
 pub mod InsertedCards
-pub mod Vehicle
+pub mod HereDone
+pub mod CardsHeld
+pub mod ActsCards

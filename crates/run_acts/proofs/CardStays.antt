@@ -108,7 +108,7 @@ closes-still o w cards c U X Z Y origin found whole size a act has p run valid y
 pub closing-still : {C : Type 0} (state : C → State) (o : Origin) (done : List TraceSecond) (s : TraceSecond) (at : Phase) (waits : List Visit) (rest : List Minute) (run : Run) (out : Outcome) (c : Card) (U V Z : State) (x y : C) → RunWithin o done s at waits rest run out (arranged c U (state x) Z) →
     IsCoherent (state x) → LARGEST_IMAGE ≤ (state x).size → IfSome (session_of run.keeper.cabin.cards c) (λ s. (act : Activity) × LeavesOnly (state x) (state y) (λ i n. IsSession s.session i → IsCardClosing s.session act i n)) →
     (session_of run.keeper.cabin.cards c ≡ None → y ≡ x) → StillShow o (arranged c U (state x) Z) (arranged c V (state y) Z)
-closing-still state o done s at waits rest run out c U V Z x y w whole size left still q0 valid =
+closing-still {C = C} state o done s at waits rest run out c U V Z x y w whole size left still q0 valid =
     each c U V (state x) (state y) Z (λ (q : Card) (a b : State). IsOwnValid (card_image o.recording q) → StillShows (sizes_in o q) a b)
     (λ v. by v (session_of run.keeper.cabin.cards c) refl left) (λ v. still-same (sizes_in o (other c)) Z) q0 valid
   where

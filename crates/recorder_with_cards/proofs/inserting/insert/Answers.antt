@@ -49,7 +49,7 @@ use Rattle.recorder_with_cards.proofs.EnteredRings.{writes-behind}
 use Rattle.run_keeping.proofs.Later.{later-then}
 use Rattle.run_acts.specs.RunCards.{vehicle_in, StillShow, CardsSettling, CardsGoOn}
 use Rattle.recorder_with_cards.proofs.InsertedCards.{unsettled-cards, inserted-cards}
-use Rattle.recorder_with_cards.proofs.Vehicle.{up-to-memory}
+use Rattle.recorder_with_cards.proofs.Staying.{settled-watched}
 use Rattle.recorder_with_cards.proofs.inserting.insert.Goals as goal
 
 pub settle-requires-clause-held : goal.settle-requires-clause-held
@@ -422,7 +422,7 @@ returns-clause-cards g c = λ late room o done s now front rest actions begun al
     let left = more-left o d e (within.within.powered.lit.unit.unit_holds [] []).later within.within.there.clocks c.settle.ensures.keeps in
     let still : StillShow o d e = shows o done s (length front) (entering_by (length front) (Insert c.args.slot c.args.card)) at
     (waits-within c.args.slot c.args.card c.args.at c.args.speed run out d o done s now front rest actions c.requires.at begun late allowed within mid told false settles v.0 v.1) before in
-    let own : mid.keeper.memory.registration ≡ vehicle_in o = ap (λ m. m.registration) (up-to-memory c.args.at settles.decided false (told_of put out) (told_of mid told) settles.kept) ∙ vehicle in
+    let own : mid.keeper.memory.registration ≡ vehicle_in o = ap (λ m. m.registration) (settled-watched c.args.at false put mid out told settles).memory ∙ vehicle in
     let j = next-cards c.args.slot c.args.card c.args.at c.args.speed run out d o done s now front rest actions c.requires.at begun late allowed within mid told false settles q.0 q.1 e records before refl seat
     (is_err c.accept_in.result) c.accept_in.new.outcome last (c.accept_in.ensures.cards (omega (arith, room, marks, rooms, was))) own time in
     inserted-cards o done s front rest c.args.slot c.args.card actions run out d within cards fine told e lines.lines log tears left still (is_err c.accept_in.result) c.accept_in.new.outcome last j
