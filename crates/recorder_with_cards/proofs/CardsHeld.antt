@@ -61,8 +61,8 @@ module _ (o : Origin) (done : List TraceSecond) (s : TraceSecond) (at : Phase) (
       ∙ (λ i. cond (seen_behind w.b.run.log done s front v.log).told.lit (cond (seen_behind w.b.run.log done s front v.log).told.starts
       (before-same as_accepted w.b.run.log v.log s.number kept (seen_spans (seen_of w.b.run.log done)) (seen_behind w.b.run.log done s front v.log) (seen_behind w.b.run.log done s front v.log) refl (λ slot. refl) low i) []) [])
 
-  same : (gap_events as_accepted v.log done ++ gap_behind v.log done s front v.log, seen_of v.log done ++ seen_behind v.log done s front v.log ∷ [])
-      ≡ (gap_events as_accepted w.b.run.log done ++ gap_behind w.b.run.log done s front v.log, seen_of w.b.run.log done ++ seen_behind w.b.run.log done s front v.log ∷ [])
+  same : ◌≡◌ {A = List Event × List Seen} (gap_events as_accepted v.log done ++ gap_behind v.log done s front v.log, seen_of v.log done ++ seen_behind v.log done s front v.log ∷ [])
+      (gap_events as_accepted w.b.run.log done ++ gap_behind w.b.run.log done s front v.log, seen_of w.b.run.log done ++ seen_behind w.b.run.log done s front v.log ∷ [])
   same = λ i. (gaps-are i ++ gap-is i, seen-is i ++ now-is i ∷ [])
 
   pub to-began : CardsIn o done s v.log front v.log d → CardsIn o done s w.b.run.log front v.log d

@@ -382,8 +382,8 @@ module _ (o : Origin) (done : List TraceSecond) (s : TraceSecond) (n : ℕ) (wai
         let same : c ≡ e.which = same-is e.which c is in
         subst (λ (q : Card). BringsNow o q s.number s.speed Clear (found_in (log_of out') s.number (In n) e.slot) (arranged e.which U X Z) (arranged e.which W Y Z)) (sym same)
         (own-brings (subst (λ (q : Card). IsOwnValid (card_image o.recording q)) same valid));
-    beside = λ c valid other. each e.which U W X Y Z (λ (q : Card) (a b : State). same_card e.which q ≡ false → StillShows (sizes_in o q) a b)
-        (λ apart. absurd (let clash : true ≡ false = sym (same-self e.which) ∙ apart in cc)) (λ apart. still-same (sizes_in o (other e.which)) Z) c other;
+    beside = λ c valid away. each e.which U W X Y Z (λ (q : Card) (a b : State). same_card e.which q ≡ false → StillShows (sizes_in o q) a b)
+        (λ apart. absurd (let clash : true ≡ false = sym (same-self e.which) ∙ apart in cc)) (λ apart. still-same (sizes_in o (other e.which)) Z) c away;
     others = tells.others;
     here = subst (λ (l : RunLog). TellsHere (log_of out) l s.number) (sym log-is) (subst (λ (u : ℕ). TellsHere (log_of out) (log_with (ending_of way) e (log_of out)) u) second (ending-here (ending_of way) e (log_of out)));
     cut = tells.cut;

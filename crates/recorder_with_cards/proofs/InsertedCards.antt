@@ -56,7 +56,7 @@ use Rattle.recorder_with_cards.proofs.RingsHere.{here-then, here-more, goes-to, 
 abbrev pub mine : Card → List Visit → Bool
 mine c vs = list_any (λ (v : Visit). same_card v.card c) vs
 
-any-behind : (c : Card) (xs ys : List Visit) → mine c ys ≡ true → mine c (xs ++ ys) ≡ true
+pub any-behind : (c : Card) (xs ys : List Visit) → mine c ys ≡ true → mine c (xs ++ ys) ≡ true
 any-behind c [] ys is = is
 any-behind c (x ∷ xs) ys is = ap (λ (b : Bool). same_card x.card c || b) (any-behind c xs ys is) ∙ by (same_card x.card c)
   where
