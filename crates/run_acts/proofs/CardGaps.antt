@@ -342,9 +342,10 @@ IsSureHere c log later x = has_failed_in log (number_of x) ≡ true → has_card
 
 sure-here : (c : Card) (log later : RunLog) → ((u : ℕ) → has_failed_in log u ≡ true → has_failed_in later u ≡ true) → (xs : List Seen) → AllByRecursion (MayMeet c) xs → are_sure_on c POWER_INTERRUPTION later xs ≡ true → AllByRecursion (IsSureHere c log later) xs
 sure-here c log later keeps [] all sure = tt
-sure-here c log later keeps (x ∷ xs) all sure =
-    ( (λ failed met. unsure-met c later x (all.0 met) (keeps (number_of x) failed) (and-first (is_sure_in c POWER_INTERRUPTION later x) (are_sure_on c POWER_INTERRUPTION later xs) sure)),
-      sure-here c log later keeps xs all.1 (and-second (is_sure_in c POWER_INTERRUPTION later x) (are_sure_on c POWER_INTERRUPTION later xs) sure))
+sure-here c log later keeps (x ∷ xs) all sure = (
+  (λ failed met. unsure-met c later x (all.0 met) (keeps (number_of x) failed) (and-first (is_sure_in c POWER_INTERRUPTION later x) (are_sure_on c POWER_INTERRUPTION later xs) sure)),
+  sure-here c log later keeps xs all.1 (and-second (is_sure_in c POWER_INTERRUPTION later x) (are_sure_on c POWER_INTERRUPTION later xs) sure),
+)
 
 -- an interruption without the card
 none-with : (c : Card) (own : Registration) (log : RunLog) (span next : List Seen) (x : Seen) → (has_card (crew_at x) c ≡ true → ⊥) → gaps_on c own (gap_event as_accepted log span (x ∷ next)) ≡ []

@@ -151,12 +151,13 @@ pub judged-on : (o : Origin) (c : Card) (log later : RunLog) (gaps now : List Ev
     → NotesThem (sizes_in o c) (λ kind. is_sure_in c kind later y) (λ kind. events_by kind [] (movings c (vehicle_in o) y.told.second.speed us) (unclosed_by more us)) (card_of d c) (card_of e c)
     → CardShown o c later now (front ++ y ∷ []) e
 judged-on o c log later gaps now front x y d e h keeps f us accepted gap left more are notes =
-    card-more o c log later gaps now (front ++ x ∷ []) (front ++ y ∷ []) d e [] (movings c (vehicle_in o) y.told.second.speed us) us more h
-    ( flat-one (accepted_in c) front y ∙ ap (λ (ns : List ℕ). accepted_on c front ++ ns) accepted ∙ sym (append_assoc (accepted_on c front) (accepted_in c x) us) ∙ ap (λ (ns : List ℕ). ns ++ us) (sym (flat-one (accepted_in c) front x)),
+    card-more o c log later gaps now (front ++ x ∷ []) (front ++ y ∷ []) d e [] (movings c (vehicle_in o) y.told.second.speed us) us more h (
+      flat-one (accepted_in c) front y ∙ ap (λ (ns : List ℕ). accepted_on c front ++ ns) accepted ∙ sym (append_assoc (accepted_on c front) (accepted_in c x) us) ∙ ap (λ (ns : List ℕ). ns ++ us) (sym (flat-one (accepted_in c) front x)),
       flat-one (moved_in c (vehicle_in o)) front y ∙ ap (λ (es : List CardEvent). flat_map (moved_in c (vehicle_in o)) front ++ es) moved
-      ∙ sym (append_assoc (flat_map (moved_in c (vehicle_in o)) front) (moved_in c (vehicle_in o) x) (movings c (vehicle_in o) y.told.second.speed us))
-      ∙ ap (λ (es : List CardEvent). es ++ movings c (vehicle_in o) y.told.second.speed us) (sym (flat-one (moved_in c (vehicle_in o)) front x)),
-      λ sure. gap ∙ sym (append-nil (gaps_on c (vehicle_in o) gaps)))
+          ∙ sym (append_assoc (flat_map (moved_in c (vehicle_in o)) front) (moved_in c (vehicle_in o) x) (movings c (vehicle_in o) y.told.second.speed us))
+          ∙ ap (λ (es : List CardEvent). es ++ movings c (vehicle_in o) y.told.second.speed us) (sym (flat-one (moved_in c (vehicle_in o)) front x)),
+      λ sure. gap ∙ sym (append-nil (gaps_on c (vehicle_in o) gaps)),
+    )
     (λ kind sure. sure-on c kind log later front x y keeps f sure) left are
     (λ z there. let was = notes z there in (was.0, was.1, λ kind sure. was.2 kind (sure-last c kind later front y sure)))
   where
@@ -196,9 +197,9 @@ module _ (o : Origin) (done : List TraceSecond) (s : TraceSecond) (began : RunLo
       → refusal (course_behind later (went began done).before s front).slots s.speed (Insert slot card) ≡ None → HaveLeftMore o d e
       → ((c : Card) → IsOwnValid (card_image o.recording c) → same_card card c ≡ false → StillShows (sizes_in o c) (card_of d c) (card_of e c))
       → ((c : Card) → IsOwnValid (card_image o.recording c) → same_card card c ≡ true → enters c (seen_behind began done s (front ++ Insert slot card ∷ []) later) ≡ true →
-          (more : List CurrentUse) × AreUses (images_in o e c) more (accepts s.number (found_in later s.number (In (length front + 1)) slot))
-          × NotesThem (sizes_in o c) (λ kind. is_sure_in c kind later (seen_behind began done s (front ++ Insert slot card ∷ []) later))
-          (λ kind. events_by kind [] (movings c (vehicle_in o) s.speed (accepts s.number (found_in later s.number (In (length front + 1)) slot))) (unclosed_by more (accepts s.number (found_in later s.number (In (length front + 1)) slot)))) (card_of d c) (card_of e c))
+      (more : List CurrentUse) × AreUses (images_in o e c) more (accepts s.number (found_in later s.number (In (length front + 1)) slot))
+      × NotesThem (sizes_in o c) (λ kind. is_sure_in c kind later (seen_behind began done s (front ++ Insert slot card ∷ []) later))
+      (λ kind. events_by kind [] (movings c (vehicle_in o) s.speed (accepts s.number (found_in later s.number (In (length front + 1)) slot))) (unclosed_by more (accepts s.number (found_in later s.number (In (length front + 1)) slot)))) (card_of d c) (card_of e c))
       → CardsIn o done s began (front ++ Insert slot card ∷ []) later e
   put-shown front slot card log later d e h keeps same begun allowed left others mine c valid = by (same_card card c) refl
     where

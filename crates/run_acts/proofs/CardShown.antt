@@ -139,10 +139,11 @@ pub goes-on : (o : Origin) (c : Card) (log later : RunLog) (gaps now : List Even
     → accepted_in c y ≡ accepted_in c x → gaps_on c (vehicle_in o) now ≡ gaps_on c (vehicle_in o) gaps → ((z : List ℕ) → images_in o d c z → images_in o e c z) → StillShows (sizes_in o c) (card_of d c) (card_of e c)
     → CardShown o c later now (front ++ y ∷ []) e
 goes-on o c log later gaps now front x y d e h keeps f accepted gap left still =
-    card-stays o c log later gaps now (front ++ x ∷ []) (front ++ y ∷ []) d e h
-    ( flat-one (accepted_in c) front y ∙ ap (λ (us : List ℕ). accepted_on c front ++ us) accepted ∙ sym (flat-one (accepted_in c) front x) ∙ sym (append-nil (accepted_on c (front ++ x ∷ []))),
+    card-stays o c log later gaps now (front ++ x ∷ []) (front ++ y ∷ []) d e h (
+      flat-one (accepted_in c) front y ∙ ap (λ (us : List ℕ). accepted_on c front ++ us) accepted ∙ sym (flat-one (accepted_in c) front x) ∙ sym (append-nil (accepted_on c (front ++ x ∷ []))),
       flat-one (moved_in c (vehicle_in o)) front y ∙ ap (λ (es : List CardEvent). flat_map (moved_in c (vehicle_in o)) front ++ es) (moved-same c (vehicle_in o) x y f.speed accepted) ∙ sym (flat-one (moved_in c (vehicle_in o)) front x) ∙ sym (append-nil (flat_map (moved_in c (vehicle_in o)) (front ++ x ∷ []))),
-      λ sure. gap ∙ sym (append-nil (gaps_on c (vehicle_in o) gaps)))
+      λ sure. gap ∙ sym (append-nil (gaps_on c (vehicle_in o) gaps)),
+    )
     (λ kind sure. sure-on c kind log later front x y keeps f sure) left still
 
 -- ---- seconds in which it is not accepted
@@ -171,8 +172,9 @@ pub plain-on : (o : Origin) (c : Card) (log later : RunLog) (gaps now : List Eve
     → (are_sure_on c POWER_INTERRUPTION later (seen ++ xs) ≡ true → gaps_on c (vehicle_in o) now ≡ gaps_on c (vehicle_in o) gaps) → ((z : List ℕ) → images_in o d c z → images_in o e c z) → StillShows (sizes_in o c) (card_of d c) (card_of e c)
     → CardShown o c later now (seen ++ xs) e
 plain-on o c log later gaps now seen xs d e h keeps plain gap left still =
-    card-stays o c log later gaps now seen (seen ++ xs) d e h
-    ( flat-both (accepted_in c) seen xs ∙ ap (λ (us : List ℕ). accepted_on c seen ++ us) (plain-accepted c xs plain),
+    card-stays o c log later gaps now seen (seen ++ xs) d e h (
+      flat-both (accepted_in c) seen xs ∙ ap (λ (us : List ℕ). accepted_on c seen ++ us) (plain-accepted c xs plain),
       flat-both (moved_in c (vehicle_in o)) seen xs ∙ ap (λ (es : List CardEvent). flat_map (moved_in c (vehicle_in o)) seen ++ es) (plain-moved c (vehicle_in o) xs plain),
-      λ sure. gap sure ∙ sym (append-nil (gaps_on c (vehicle_in o) gaps)))
+      λ sure. gap sure ∙ sym (append-nil (gaps_on c (vehicle_in o) gaps)),
+    )
     (λ kind sure. sure-log c kind log later seen keeps (sure-front c kind later seen xs sure)) left still

@@ -100,9 +100,12 @@ closes-still o w cards c U X Z Y origin found whole size a act has p run valid y
     ⊎_elim
     (λ before. (y, before, λ kind. refl))
     (λ (x, is, closes).
-    let long = whole.sized x is in
-    (x, whole.is_left x is, λ kind. subst (λ (app : Application). events_in app kind y ≡ events_in app kind x) sizes
-    (closing-shown a.session act x y (omega (arith, fits, size, long, use_inside a.session.application)) (closes (at_image (IsSession a.session) is on.session)) kind)))
+    let long = whole.sized x is in (
+      x,
+      whole.is_left x is,
+      λ kind. subst (λ (app : Application). events_in app kind y ≡ events_in app kind x) sizes
+          (closing-shown a.session act x y (omega (arith, fits, size, long, use_inside a.session.application)) (closes (at_image (IsSession a.session) is on.session)) kind),
+    ))
     (run.now y left)
 
 pub closing-still : {C : Type 0} (state : C → State) (o : Origin) (done : List TraceSecond) (s : TraceSecond) (at : Phase) (waits : List Visit) (rest : List Minute) (run : Run) (out : Outcome) (c : Card) (U V Z : State) (x y : C) → RunWithin o done s at waits rest run out (arranged c U (state x) Z) →

@@ -167,8 +167,8 @@ module _ (o : Origin) (done : List TraceSecond) (s : TraceSecond) (began log lat
   pub waking-judged : CardsWaking o done s began log d → (slot : Slot) (q : Sitting) → in_slot (went began done).before.slots slot ≡ Some q → (verdicts : List Verdict) → IsFoundAnew log later s.number slot verdicts
       → ((c : Card) → IsOwnValid (card_image o.recording c) → same_card q.card c ≡ false → StillShows (sizes_in o c) (card_of d c) (card_of e c))
       → ((c : Card) → IsOwnValid (card_image o.recording c) → same_card q.card c ≡ true → enters c (seen_behind began done s [] later) ≡ true →
-          (more : List CurrentUse) × AreUses (images_in o e c) more (accepts s.number verdicts)
-          × NotesThem (sizes_in o c) (λ kind. is_sure_in c kind later (seen_behind began done s [] later)) (λ kind. events_by kind [] (movings c (vehicle_in o) s.speed (accepts s.number verdicts)) (unclosed_by more (accepts s.number verdicts))) (card_of d c) (card_of e c))
+      (more : List CurrentUse) × AreUses (images_in o e c) more (accepts s.number verdicts)
+      × NotesThem (sizes_in o c) (λ kind. is_sure_in c kind later (seen_behind began done s [] later)) (λ kind. events_by kind [] (movings c (vehicle_in o) s.speed (accepts s.number verdicts)) (unclosed_by more (accepts s.number verdicts))) (card_of d c) (card_of e c))
       → CardsWaking o done s began later e
   waking-judged h slot q sits verdicts found others mine c valid = by (same_card q.card c) refl
     where
@@ -201,13 +201,14 @@ module _ (o : Origin) (done : List TraceSecond) (s : TraceSecond) (began log lat
       → CardsIn o done s began [] later e
   gap-noted h same notes c valid =
       card-more o c log later (gap_events as_accepted began done) (gap_events as_accepted began done ++ gap_behind began done s [] later) (seen_of began done ++ seen_behind began done s [] log ∷ []) (seen_of began done ++ seen_behind began done s [] later ∷ []) d e
-      (gaps_on c (vehicle_in o) (gap_behind began done s [] later)) [] [] [] (h c valid)
-      ( flat-one (accepted_in c) (seen_of began done) (seen_behind began done s [] later) ∙ ap (λ (us : List ℕ). accepted_on c (seen_of began done) ++ us) accepted ∙ sym (flat-one (accepted_in c) (seen_of began done) (seen_behind began done s [] log))
-        ∙ sym (append-nil (accepted_on c (seen_of began done ++ seen_behind began done s [] log ∷ []))),
+      (gaps_on c (vehicle_in o) (gap_behind began done s [] later)) [] [] [] (h c valid) (
+        flat-one (accepted_in c) (seen_of began done) (seen_behind began done s [] later) ∙ ap (λ (us : List ℕ). accepted_on c (seen_of began done) ++ us) accepted ∙ sym (flat-one (accepted_in c) (seen_of began done) (seen_behind began done s [] log))
+            ∙ sym (append-nil (accepted_on c (seen_of began done ++ seen_behind began done s [] log ∷ []))),
         flat-one (moved_in c (vehicle_in o)) (seen_of began done) (seen_behind began done s [] later)
-        ∙ ap (λ (es : List CardEvent). flat_map (moved_in c (vehicle_in o)) (seen_of began done) ++ es) (moved-same c (vehicle_in o) (seen_behind began done s [] log) (seen_behind began done s [] later) refl accepted)
-        ∙ sym (flat-one (moved_in c (vehicle_in o)) (seen_of began done) (seen_behind began done s [] log)) ∙ sym (append-nil (flat_map (moved_in c (vehicle_in o)) (seen_of began done ++ seen_behind began done s [] log ∷ []))),
-        λ sure. gaps-append c (vehicle_in o) (gap_events as_accepted began done) (gap_behind began done s [] later))
+            ∙ ap (λ (es : List CardEvent). flat_map (moved_in c (vehicle_in o)) (seen_of began done) ++ es) (moved-same c (vehicle_in o) (seen_behind began done s [] log) (seen_behind began done s [] later) refl accepted)
+            ∙ sym (flat-one (moved_in c (vehicle_in o)) (seen_of began done) (seen_behind began done s [] log)) ∙ sym (append-nil (flat_map (moved_in c (vehicle_in o)) (seen_of began done ++ seen_behind began done s [] log ∷ []))),
+        λ sure. gaps-append c (vehicle_in o) (gap_events as_accepted began done) (gap_behind began done s [] later),
+      )
       (λ kind sure. sure-on c kind log later (seen_of began done) (seen_behind began done s [] log) (seen_behind began done s [] later) keeps (follows-powered log later (went began done).before s off torn c) sure)
       (left.card c) tt
       (λ z there. let was_ = notes c valid z there in (was_.0, was_.1, λ kind sure. was_.2 kind (sure-last c kind later (seen_of began done) (seen_behind began done s [] later) sure)))
