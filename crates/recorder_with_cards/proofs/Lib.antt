@@ -65,3 +65,6 @@ pub mod InsertedCards
 pub mod HereDone
 pub mod CardsHeld
 pub mod ActsCards
+pub mod WokenCards
+pub mod GapCards
+pub mod GapOnCard

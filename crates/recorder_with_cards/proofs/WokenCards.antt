@@ -59,7 +59,7 @@ unfolding is_torn_in
 torn-more log later u p slot more is = ap (list_any (tears_here u p slot)) more.1 ∙ any-more (tears_here u p slot) log.breaks more.0 is
 
 -- a card that falls at a power-on is torn out
-torn-sitting : (log : RunLog) (was : Before) (s : TraceSecond) (c : Card) (slot : Slot) (x : Sitting) → was.running ≡ false → in_slot was.slots slot ≡ Some x → same_card x.card c ≡ true → is_torn_in log s.number (In 0) slot ≡ true → mine c (course_powered log was s).torn ≡ true
+pub torn-sitting : (log : RunLog) (was : Before) (s : TraceSecond) (c : Card) (slot : Slot) (x : Sitting) → was.running ≡ false → in_slot was.slots slot ≡ Some x → same_card x.card c ≡ true → is_torn_in log s.number (In 0) slot ≡ true → mine c (course_powered log was s).torn ≡ true
 torn-sitting log was s c slot x off sits own torn = ap (mine c) (powered-as log was s off).torn ∙ at slot sits torn
   where
     one : (sl : Slot) → mine c (sitting_at sl (Some x)) ≡ true
