@@ -1,5 +1,5 @@
 -- The interruption of power that ends now, on the cards: who is accepted as it is noted was accepted at the power-on; and who was, and is not, fell.
-use Rattle.std.proofs.Common.{◌≡◌, ◌∙◌, ◌⊎◌, inl, inr, ⊎_elim, ℕ, zero, suc, ◌≤◌, Bool, true, false, cond, not, ◌||◌, ◌&&◌, Option, Some, None, is_some, List, [], ◌∷◌, ◌++◌, map, length, refl, ap, sym, subst, arith}
+use Rattle.std.proofs.Common.{◌≡◌, ◌∙◌, ◌⊎◌, inl, inr, ⊎_elim, ℕ, zero, suc, ◌≤◌, Bool, true, false, cond, not, ◌||◌, ◌&&◌, Option, Some, None, IfSome, is_some, List, [], ◌∷◌, ◌++◌, map, length, refl, ap, sym, subst, arith}
 use Rattle.std.specs.Prelude.{filter, flat_map, option_map}
 use Rattle.std.specs.List.{list_any}
 use Rattle.activity_codec.specs.declared.values.Slot.{Slot}
@@ -7,15 +7,15 @@ use Rattle.activity_codec.specs.declared.values.Slot.TheVariants.{Driver, CoDriv
 use Rattle.trace_model.specs.declared.Card.{Card}
 use Rattle.trace_model.specs.declared.Card.TheVariants.{A, B}
 use Rattle.trace_model.specs.Trace.{TraceSecond}
-use Rattle.event_model.specs.Events.{Seen, Tearing, seen_by, accepted_card, accepted_at, first_card, standing, torn_at}
+use Rattle.event_model.specs.Events.{Crew, Event, Seen, Tearing, seen_by, seen_of, seen_spans, noted_with, accepted_card, accepted_at, first_card, standing, torn_at}
 use Rattle.log_model.specs.declared.lines.Verdict.{Verdict}
 use Rattle.log_model.specs.Log.{RunLog, Phase, In, is_torn_in, found_in, is_accepting}
 use Rattle.log_model.specs.Slots.{Sitting, in_slot, same_card}
 use Rattle.log_model.specs.Course.{Course, Visit, Before, has_power, went}
-use Rattle.side_model.specs.Done.{course_powered}
+use Rattle.side_model.specs.Done.{course_powered, has_failed_in}
 use Rattle.slot_machine.specs.declared.seats.Seat.{Seat}
 use Rattle.slot_machine.specs.Calls.{seat_in, card_in, is_card as sits_card}
-use Rattle.safety_model.specs.Safe.{Devices}
+use Rattle.safety_model.specs.Safe.{Devices, card_of}
 use Rattle.run_crew.specs.declared.cards.Cards.{Cards}
 use Rattle.run_crew.specs.declared.cards.Accepted.{Accepted}
 use Rattle.run_crew.specs.Cards.{session_of}
@@ -30,16 +30,30 @@ use Rattle.run_recorded.specs.Origin.{Origin, start_at}
 use Rattle.run_within.specs.Within.{told_before, course_in}
 use Rattle.run_within.proofs.Pulling.{sitting-now}
 use Rattle.run_within.proofs.Seats.{seat-tells}
-use Rattle.run_evented.specs.SoFar.{AreBare}
+use Rattle.run_evented.specs.SoFar.{AreBare, interruption}
 use Rattle.run_evented.proofs.Brought.{SameBefore, found-now}
 use Rattle.run_evented.proofs.Stood.{acceptance, stands-as, accepted-as, accepted-are}
 use Rattle.run_acts.specs.declared.run.Run.{Run}
 use Rattle.run_acts.specs.Recording.{log_of, values_of, RunWithin}
-use Rattle.run_acts.specs.OnCards.{is_card, has_card, as_accepted}
-use Rattle.run_acts.specs.RunCards.{seen_behind}
+use Rattle.tacho_types.specs.declared.texts.Registration.{Registration}
+use Rattle.card_image.specs.Own.{IsOwnValid}
+use Rattle.card_records.specs.declared.card_event.CardEvent.{CardEvent}
+use Rattle.event_model.specs.declared.entries.Span.{Span}
+use Rattle.event_model.specs.declared.kinds.TheConstants.{POWER_INTERRUPTION}
+use Rattle.safety_model.specs.Recording.{card_image}
+use Rattle.run_events.specs.Seconds.{gap_before}
+use Rattle.run_recorded.specs.Beside.{HaveLeftMore}
+use Rattle.run_acts.specs.CardNotes.{NotesOn, NotesOnCards, gap_on}
+use Rattle.run_acts.specs.OnCards.{is_card, has_card, as_accepted, enters, falls, gap_entry, gaps_on}
+use Rattle.run_acts.specs.RunCards.{vehicle_in, sizes_in, so_far, seen_behind, gap_behind, CardsIn, CardsWaking}
 use Rattle.run_acts.proofs.CardCourse.{Finding, findings, sitting_at, powered-as}
 use Rattle.run_acts.proofs.CardSecond.{is_now, standing-is}
+use Rattle.run_acts.proofs.CardShown.{KeepsFailed}
+use Rattle.run_acts.proofs.CardStays.{session-sizes}
+use Rattle.run_acts.proofs.CardWaking.{follows-powered, found-same as found-still, sits-enters, gap-noted}
 use Rattle.run_acts.proofs.RingedSecond.{power-here}
+use Rattle.recorder_with_cards.proofs.GapEvented.{gap_events as gap_list}
+use Rattle.recorder_with_cards.proofs.GapOnCard.{gap-noted-on}
 use Rattle.recorder_with_cards.proofs.InsertedCards.{mine}
 use Rattle.recorder_with_cards.proofs.WokenCards.{torn-sitting}
 
@@ -180,3 +194,78 @@ module _ (o : Origin) (done : List TraceSecond) (s : TraceSecond) (run : Run) (o
       either : (b : Bool) → is_card (standing as_accepted (seen_behind w.within.b.run.log done s [] (log_of out)) Driver) c ≡ b → mine c (course_powered (log_of out) (went w.within.b.run.log done).before s).torn ≡ true
       either true driver = at Driver driver
       either false driver = at CoDriver (sym (ap (λ (b : Bool). b || is_card (standing as_accepted (seen_behind w.within.b.run.log done s [] (log_of out)) CoDriver) c) driver) ∙ is)
+
+  -- who was accepted entered
+  met-enters : (c : Card) → has_card (record { driver = standing as_accepted (seen_behind w.within.b.run.log done s [] (log_of out)) Driver; codriver = standing as_accepted (seen_behind w.within.b.run.log done s [] (log_of out)) CoDriver }) c ≡ true
+      → enters c (so_far (went w.within.b.run.log done).before s (course_powered (log_of out) (went w.within.b.run.log done).before s)) ≡ true
+  met-enters c is = either (is_card (standing as_accepted (seen_behind w.within.b.run.log done s [] (log_of out)) Driver) c) refl
+    where
+      sitter : (b : Bool) (q : Option Sitting) → is_card (acceptance b q) c ≡ true → (z : Sitting) × (q ≡ Some z) × (same_card z.card c ≡ true)
+      sitter b None is = absurd (let wrong : false ≡ true = is in cc)
+      sitter true (Some z) is = (z, refl, is)
+      sitter false (Some z) is = absurd (let wrong : false ≡ true = is in cc)
+
+      at : (slot : Slot) → is_card (standing as_accepted (seen_behind w.within.b.run.log done s [] (log_of out)) slot) c ≡ true → enters c (so_far (went w.within.b.run.log done).before s (course_powered (log_of out) (went w.within.b.run.log done).before s)) ≡ true
+      at slot met =
+          let are = accepted-are (log_of out) (went w.within.b.run.log done).before s power up off bare slot in
+          let z = sitter (list_any is_accepting (cond (not (went w.within.b.run.log done).before.running) (found_in (log_of out) s.number (In 0) slot) [])) (in_slot (went w.within.b.run.log done).before.slots slot)
+          (sym (ap (λ (q : Option Card). is_card q c) are) ∙ sym (ap (λ (q : Option Card). is_card q c) (accepted-same slot)) ∙ met) in
+          sits-enters (log_of out) (log_of out) (went w.within.b.run.log done).before s off (λ sl told. told) c slot z.0 z.1 z.2
+
+      either : (b : Bool) → is_card (standing as_accepted (seen_behind w.within.b.run.log done s [] (log_of out)) Driver) c ≡ b → enters c (so_far (went w.within.b.run.log done).before s (course_powered (log_of out) (went w.within.b.run.log done).before s)) ≡ true
+      either true driver = at Driver driver
+      either false driver = at CoDriver (sym (ap (λ (b : Bool). b || is_card (standing as_accepted (seen_behind w.within.b.run.log done s [] (log_of out)) CoDriver) c) driver) ∙ is)
+
+  sized : (c : Card) → IsOwnValid (card_image o.recording c) → (q : Option Accepted) → session_of run.keeper.cabin.cards c ≡ q → IfSome q (λ a. a.session.application ≡ sizes_in o c)
+  sized c valid None is = tt
+  sized c valid (Some a) is = session-sizes o done s (In 0) [] [] run out d w c valid a is
+
+  -- THE INTERRUPTION IS NOTED on the cards
+  module _ (later : RunLog) (same : (slot : Slot) → found_in later s.number (In 0) slot ≡ found_in (log_of out) s.number (In 0) slot) (torn : (slot : Slot) → is_torn_in (log_of out) s.number (In 0) slot ≡ true → is_torn_in later s.number (In 0) slot ≡ true) where
+    abbrev z : Seen
+    z = seen_behind w.within.b.run.log done s [] later
+
+    abbrev crew : Crew
+    crew = record { driver = standing as_accepted (seen_behind w.within.b.run.log done s [] later) Driver; codriver = standing as_accepted (seen_behind w.within.b.run.log done s [] later) CoDriver }
+
+    stand : (slot : Slot) → standing as_accepted (seen_behind w.within.b.run.log done s [] later) slot ≡ standing as_accepted (seen_behind w.within.b.run.log done s [] (log_of out)) slot
+    stand slot =
+        standing-is (seen_behind w.within.b.run.log done s [] later) slot
+        ∙ ap (λ (fs : List Finding). first_card (filter (is_now slot) fs)) (found-still (log_of out) later (went w.within.b.run.log done).before s off torn same)
+        ∙ sym (standing-is (seen_behind w.within.b.run.log done s [] (log_of out)) slot)
+
+    crew-same : (c : Card) → has_card crew c ≡ has_card (record { driver = standing as_accepted (seen_behind w.within.b.run.log done s [] (log_of out)) Driver; codriver = standing as_accepted (seen_behind w.within.b.run.log done s [] (log_of out)) CoDriver }) c
+    crew-same c = λ i. is_card (stand Driver i) c || is_card (stand CoDriver i) c
+
+    before-list : (spans : List (List Seen)) → gap_before as_accepted w.within.b.run.log spans (seen_behind w.within.b.run.log done s [] later) ≡ interruption w.within.b.run.log spans s.number crew
+    before-list [] = refl
+    before-list (span ∷ []) = refl
+    before-list (span ∷ next ∷ spans) = before-list (next ∷ spans)
+
+    of-list : (c : Card) (own : Registration) (gap : Option Span) → gaps_on c own (gap_list gap crew) ≡ cond (has_card crew c) (gap_on gap own) []
+    of-list c own None = by (has_card crew c)
+      where
+        by : (b : Bool) → [] ≡ cond {A = List CardEvent} b [] []
+        by true = refl
+        by false = refl
+    of-list c own (Some gap) = by (has_card crew c)
+      where
+        by : (b : Bool) → map (gap_entry c own) (cond b (noted_with POWER_INTERRUPTION gap.begin gap.end crew ∷ []) []) ≡ cond b (gap_on (Some gap) own) []
+        by true = refl
+        by false = refl
+
+    pub gap-cards : (e : Devices) → HaveLeftMore o d e → KeepsFailed (log_of out) later → CardsWaking o done s w.within.b.run.log (log_of out) d → (failed : Bool) (after : Cards) (own : Registration) → own ≡ vehicle_in o → (gap : Option Span) →
+        interruption w.within.b.run.log (seen_spans (seen_of w.within.b.run.log done)) s.number crew ≡ gap_list gap crew → (failed ≡ true → has_failed_in later s.number ≡ true) →
+        ((c : Card) → is_some (session_of run.keeper.cabin.cards c) ≡ true → is_some (session_of after c) ≡ false → falls c (seen_behind w.within.b.run.log done s [] later) ≡ true) →
+        NotesOnCards failed run.keeper.cabin.cards after (λ card. gap_on gap own) d e → CardsIn o done s w.within.b.run.log [] later e
+    gap-cards e left keeps cards failed after own vehicle gap list fails fell notes =
+        gap-noted o done s w.within.b.run.log (log_of out) later d e off torn keeps left cards same
+        (λ c valid.
+            let follows = follows-powered (log_of out) later (went w.within.b.run.log done).before s off torn c in
+            let are : gaps_on c (vehicle_in o) (gap_behind w.within.b.run.log done s [] later) ≡ cond (has_card crew c) (gap_on gap (vehicle_in o)) [] =
+            ap (λ (r : Bool). gaps_on c (vehicle_in o) (cond (not r) (gap_before as_accepted w.within.b.run.log (seen_spans (seen_of w.within.b.run.log done)) (seen_behind w.within.b.run.log done s [] later)) [])) off
+            ∙ ap (gaps_on c (vehicle_in o)) (before-list (seen_spans (seen_of w.within.b.run.log done)) ∙ list) ∙ of-list c (vehicle_in o) gap in
+            gap-noted-on (sizes_in o c) c (vehicle_in o) later (seen_behind w.within.b.run.log done s [] later) (gap_behind w.within.b.run.log done s [] later) gap failed (card_of d c) (card_of e c) (ap not off) (has_card crew c)
+            (λ has. follows.entered (met-enters c (sym (crew-same c) ∙ has))) are fails (session_of run.keeper.cabin.cards c) (session_of after c)
+            (λ some. crew-same c ∙ session-met c some) (λ none has. follows.torn (lost-torn c none (sym (crew-same c) ∙ has))) (fell c) (sized c valid (session_of run.keeper.cabin.cards c) refl)
+            (subst (λ (r : Registration). NotesOn failed (session_of run.keeper.cabin.cards c) (session_of after c) (gap_on gap r) (card_of d c) (card_of e c)) vehicle (notes c)))
