@@ -45,6 +45,8 @@ use Rattle.run_acts.specs.Settling.{settled_run, RecordsSettling, SettlesTo, IsS
 use Rattle.recorder_with_cards.specs.Accepting.{put_run}
 use Rattle.recorder_with_cards.specs.Judged.{moment_in, RunNext, JudgesSo, IsInTurn, EventsJudged}
 use Rattle.recorder_with_cards.specs.JudgedRings.{RingsJudged, IsJudgedInRings}
+use Rattle.recorder_with_cards.specs.JudgedCards.{CardsJudged, IsJudgedOnCards}
+use Rattle.run_acts.specs.RunCards.{vehicle_in}
 use Rattle.recorder_with_cards.proofs.ActsRecorded.{refuses}
 use Rattle.recorder_with_cards.proofs.Resumed.{judged-as}
 
@@ -164,6 +166,11 @@ module _ (slot : Slot) (card : Card) (at : Moment) (speed : ℕ) (old : Run) (be
             IsJudgedInRings judged_failed o s (suc (length front)) slot card spans mid new told after e later
         next-judged spans odometer counted judged_failed new after later judges end =
             judges o done s (suc n) waits [] at-is next spans (odometer on.goes (on.began ∙ put.goes.began)) counted end
+
+        -- what it brings the card of events
+        pub next-cards : (judged_failed : Bool) (after : Outcome) (later : Devices) → CardsJudged slot card at speed judged_failed mid told after e later → mid.keeper.memory.registration ≡ vehicle_in o → HaveTime later →
+            IsJudgedOnCards judged_failed o s (suc (length front)) slot card told after e later
+        next-cards judged_failed after later judges vehicle end = judges o done s (suc n) waits [] at-is now.speed_is next vehicle end
 
   -- ---- ITS EVENTS
 

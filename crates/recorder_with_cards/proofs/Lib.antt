@@ -60,3 +60,11 @@ pub mod SideShown
 pub mod KeptAfter
 pub mod KeptRows
 pub mod WokenStored
+pub mod EnteredCards
+pub mod InsertedCards
+pub mod HereDone
+pub mod CardsHeld
+pub mod ActsCards
+pub mod WokenCards
+pub mod GapCards
+pub mod GapOnCard

@@ -42,7 +42,7 @@ up-to-memory decided at true t u short =
     let before = kept-memory at short.front t short.between short.kept in
     ⊎_elim (λ still. ap (λ (x : Told). x.keeper.memory) still ∙ before) (λ last. ap (λ (x : Told). x.keeper.memory) last.2 ∙ before) short.last
 
-settled-watched : (at : Moment) (failed : Bool) (old new : Run) (before after : Outcome) → IsSettled at failed old new before after → StaysWatched old new
+pub settled-watched : (at : Moment) (failed : Bool) (old new : Run) (before after : Outcome) → IsSettled at failed old new before after → StaysWatched old new
 settled-watched at failed old new before after is = record {
   watch = ap (λ (r : Run). r.watch) is.only;
   memory = up-to-memory is.decided at failed (told_of old before) (told_of new after) is.kept;

@@ -16,6 +16,8 @@ ghost use Rattle.run_acts.specs.Room.{HasRoomWithin, Takes};
 ghost use Rattle.run_acts.specs.Recording.{RecordsAction};
 ghost use Rattle.run_acts.specs.Evented.{EventsAction};
 ghost use Rattle.run_acts.specs.RunRinged.{RingsAction};
+ghost use Rattle.run_acts.specs.RunCards.{CardsAction};
+ghost use Rattle.recorder_with_cards.specs.Carded.{CardsActions};
 ghost use Rattle.recorder_with_cards.specs.Acting.{put_count, refusal_lines, refused_by, IsSelected, IsFine, StaysIn, moment_of, IsDone, IsActedBy, IsActed, IsItemActed, AreActed, CallsNone};
 ghost use Rattle.recorder_with_cards.specs.Recorded.{action_of, actions_in, RingsActions};
 ghost use Rattle.recorder_with_cards.specs.EnteredRings.{RingsDone};
@@ -57,6 +59,7 @@ pub(crate) fn act_all<M: Medium, C: Chip, D: Chip>(
     requires room { HasRoomWithin run.old outcome.old 1 0 (insertions_in from to items.now) (to - from) }
     ensures acted { AreActed has_power speed 0 (between from to items.now) run.old run.new outcome.old outcome.new }
     ensures ringed { has_power ≡ true → length (actions_in (between from to items.now)) ≡ to - from → to - from ≤ largest_number → RingsActions (actions_in (between from to items.now)) (to - from) speed run.old run.new outcome.old outcome.new (devices (M.state unit.old) (C.state card_a.old) (D.state card_b.old)) (devices (M.state unit.new) (C.state card_a.new) (D.state card_b.new)) }
+    ensures cards { has_power ≡ true → length (actions_in (between from to items.now)) ≡ to - from → to - from ≤ largest_number → CardsActions (actions_in (between from to items.now)) (to - from) speed run.old run.new outcome.old outcome.new (devices (M.state unit.old) (C.state card_a.old) (D.state card_b.old)) (devices (M.state unit.new) (C.state card_a.new) (D.state card_b.new)) }
     ensures still { is_lit run.old.power ≡ false → (is_lit run.new.power ≡ false) × (unit.new ≡ unit.old) × (card_a.new ≡ card_a.old) × (card_b.new ≡ card_b.old) }
     ensures time { HaveTime (devices (M.state unit.new) (C.state card_a.new) (D.state card_b.new)) → HaveTime (devices (M.state unit.old) (C.state card_a.old) (D.state card_b.old)) }
     ensures later { AreLater (devices (M.state unit.old) (C.state card_a.old) (D.state card_b.old)) (devices (M.state unit.new) (C.state card_a.new) (D.state card_b.new)) }
@@ -99,6 +102,7 @@ fn act_item<M: Medium, C: Chip, D: Chip>(
     requires room { HasRoomWithin run.old outcome.old 1 0 (insertion_count item.now) 1 }
     ensures acted { IsItemActed item.now has_power (is_lit run.old.power) begun speed run.old run.new outcome.old outcome.new }
     ensures ringed { has_power ≡ true → RingsActions (action_of item.now) begun speed run.old run.new outcome.old outcome.new (devices (M.state unit.old) (C.state card_a.old) (D.state card_b.old)) (devices (M.state unit.new) (C.state card_a.new) (D.state card_b.new)) }
+    ensures cards { has_power ≡ true → CardsActions (action_of item.now) begun speed run.old run.new outcome.old outcome.new (devices (M.state unit.old) (C.state card_a.old) (D.state card_b.old)) (devices (M.state unit.new) (C.state card_a.new) (D.state card_b.new)) }
     ensures still { is_lit run.old.power ≡ false → (is_lit run.new.power ≡ false) × (unit.new ≡ unit.old) × (card_a.new ≡ card_a.old) × (card_b.new ≡ card_b.old) }
     ensures time { HaveTime (devices (M.state unit.new) (C.state card_a.new) (D.state card_b.new)) → HaveTime (devices (M.state unit.old) (C.state card_a.old) (D.state card_b.old)) }
     ensures later { AreLater (devices (M.state unit.old) (C.state card_a.old) (D.state card_b.old)) (devices (M.state unit.new) (C.state card_a.new) (D.state card_b.new)) }
@@ -136,6 +140,7 @@ fn act<M: Medium, C: Chip, D: Chip>(
     requires room { HasRoomWithin run.old outcome.old 1 0 (put_count action) 1 }
     ensures acted { IsActed has_power (is_lit run.old.power) action begun speed run.old run.new outcome.old outcome.new }
     ensures ringed { has_power ≡ true → RingsActions (action ∷ []) begun speed run.old run.new outcome.old outcome.new (devices (M.state unit.old) (C.state card_a.old) (D.state card_b.old)) (devices (M.state unit.new) (C.state card_a.new) (D.state card_b.new)) }
+    ensures cards { has_power ≡ true → CardsActions (action ∷ []) begun speed run.old run.new outcome.old outcome.new (devices (M.state unit.old) (C.state card_a.old) (D.state card_b.old)) (devices (M.state unit.new) (C.state card_a.new) (D.state card_b.new)) }
     ensures still { (has_power ≡ true → is_lit run.old.power ≡ true → CallsNone (refusal (logged run.old.keeper.cabin.slots.seats) speed action) action) → (unit.new ≡ unit.old) × (card_a.new ≡ card_a.old) × (card_b.new ≡ card_b.old) }
     ensures time { HaveTime (devices (M.state unit.new) (C.state card_a.new) (D.state card_b.new)) → HaveTime (devices (M.state unit.old) (C.state card_a.old) (D.state card_b.old)) }
     ensures later { AreLater (devices (M.state unit.old) (C.state card_a.old) (D.state card_b.old)) (devices (M.state unit.new) (C.state card_a.new) (D.state card_b.new)) }
@@ -177,6 +182,7 @@ fn act_lit<M: Medium, C: Chip, D: Chip>(
     requires room { HasRoomWithin run.old outcome.old 1 0 (put_count action) 1 }
     ensures acted { IsActedBy (refusal (logged run.old.keeper.cabin.slots.seats) speed action) action begun speed run.old run.new outcome.old outcome.new }
     ensures ringed { RingsActions (action ∷ []) begun speed run.old run.new outcome.old outcome.new (devices (M.state unit.old) (C.state card_a.old) (D.state card_b.old)) (devices (M.state unit.new) (C.state card_a.new) (D.state card_b.new)) }
+    ensures cards { CardsActions (action ∷ []) begun speed run.old run.new outcome.old outcome.new (devices (M.state unit.old) (C.state card_a.old) (D.state card_b.old)) (devices (M.state unit.new) (C.state card_a.new) (D.state card_b.new)) }
     ensures still { CallsNone (refusal (logged run.old.keeper.cabin.slots.seats) speed action) action → (unit.new ≡ unit.old) × (card_a.new ≡ card_a.old) × (card_b.new ≡ card_b.old) }
     ensures time { HaveTime (devices (M.state unit.new) (C.state card_a.new) (D.state card_b.new)) → HaveTime (devices (M.state unit.old) (C.state card_a.old) (D.state card_b.old)) }
     ensures later { AreLater (devices (M.state unit.old) (C.state card_a.old) (D.state card_b.old)) (devices (M.state unit.new) (C.state card_a.new) (D.state card_b.new)) }
@@ -231,6 +237,7 @@ fn carry_out<M: Medium, C: Chip, D: Chip>(
     ensures evented { EventsAction action begun speed (is_err result) run.old run.new outcome.old outcome.new (devices (M.state unit.old) (C.state card_a.old) (D.state card_b.old)) (devices (M.state unit.new) (C.state card_a.new) (D.state card_b.new)) }
     ensures recorded { RecordsAction action begun speed (is_err result) run.old run.new outcome.old outcome.new (devices (M.state unit.old) (C.state card_a.old) (D.state card_b.old)) (devices (M.state unit.new) (C.state card_a.new) (D.state card_b.new)) }
     ensures ringed { RingsAction action begun speed (is_err result) run.old run.new outcome.old outcome.new (devices (M.state unit.old) (C.state card_a.old) (D.state card_b.old)) (devices (M.state unit.new) (C.state card_a.new) (D.state card_b.new)) }
+    ensures cards { CardsAction action begun speed (is_err result) run.old outcome.old outcome.new (devices (M.state unit.old) (C.state card_a.old) (D.state card_b.old)) (devices (M.state unit.new) (C.state card_a.new) (D.state card_b.new)) }
     ensures events { NotesDone action (moment_of begun run.old) speed (is_err result) run.old run.new outcome.old outcome.new (devices (M.state unit.old) (C.state card_a.old) (D.state card_b.old)) (devices (M.state unit.new) (C.state card_a.new) (D.state card_b.new)) }
     ensures rings { is_some (M.state unit.old).image ≡ true → RingsDone action (moment_of begun run.old) speed (is_err result) run.old run.new outcome.old outcome.new (M.state unit.old) (M.state unit.new) }
     ensures still { CallsNone None action → (unit.new ≡ unit.old) × (card_a.new ≡ card_a.old) × (card_b.new ≡ card_b.old) }

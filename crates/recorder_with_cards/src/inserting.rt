@@ -13,6 +13,7 @@ ghost use Rattle.recorder_with_cards.specs.EnteredRings.{RingsInserting};
 ghost use Rattle.run_acts.specs.Recording.{RecordsAction};
 ghost use Rattle.run_acts.specs.Evented.{EventsAction};
 ghost use Rattle.run_acts.specs.RunRinged.{RingsAction};
+ghost use Rattle.run_acts.specs.RunCards.{CardsAction};
 ghost use Rattle.run_outcome.specs.declared.outcome.TheConstants.{MOST_OWED};
 ghost use Rattle.run_rule.specs.Between.{devices};
 ghost use Rattle.trace_model.specs.declared.Action.TheVariants.{Insert};
@@ -61,6 +62,8 @@ pub(crate) fn insert<M: Medium, C: Chip, D: Chip>(
     ensures recorded { at.late ≡ false → length outcome.old.marks.items + 3 * run.old.minutes.owing + MOST_OWED ≤ outcome.old.marks.room → RecordsAction (Insert slot card) at.begun speed (is_err result) run.old run.new outcome.old outcome.new (devices (M.state unit.old) (C.state card_a.old) (D.state card_b.old)) (devices (M.state unit.new) (C.state card_a.new) (D.state card_b.new)) }
     ensures evented { at.late ≡ false → length outcome.old.marks.items + 3 * run.old.minutes.owing + MOST_OWED ≤ outcome.old.marks.room → EventsAction (Insert slot card) at.begun speed (is_err result) run.old run.new outcome.old outcome.new (devices (M.state unit.old) (C.state card_a.old) (D.state card_b.old)) (devices (M.state unit.new) (C.state card_a.new) (D.state card_b.new)) }
     ensures ringed { at.late ≡ false → length outcome.old.marks.items + 3 * run.old.minutes.owing + MOST_OWED ≤ outcome.old.marks.room → RingsAction (Insert slot card) at.begun speed (is_err result) run.old run.new outcome.old outcome.new (devices (M.state unit.old) (C.state card_a.old) (D.state card_b.old)) (devices (M.state unit.new) (C.state card_a.new) (D.state card_b.new)) }
+    // What the cards show of their events goes on with that.
+    ensures cards { at.late ≡ false → length outcome.old.marks.items + 3 * run.old.minutes.owing + MOST_OWED ≤ outcome.old.marks.room → CardsAction (Insert slot card) at.begun speed (is_err result) run.old outcome.old outcome.new (devices (M.state unit.old) (C.state card_a.old) (D.state card_b.old)) (devices (M.state unit.new) (C.state card_a.new) (D.state card_b.new)) }
     ensures rings { is_some (M.state unit.old).image ≡ true → RingsInserting slot card at speed (is_err result) run.old run.new outcome.old outcome.new (M.state unit.old) (M.state unit.new) }
     ensures noted { NotesInserting slot card at speed (is_err result) run.old run.new outcome.old outcome.new (devices (M.state unit.old) (C.state card_a.old) (D.state card_b.old)) (devices (M.state unit.new) (C.state card_a.new) (D.state card_b.new)) }
     ensures clock { (M.state unit.old).clock ≤ (M.state unit.new).clock }

@@ -13,6 +13,7 @@ use Rattle.run_rings.proofs.Same.{rings-left}
 use Rattle.recorder_with_cards.specs.EnteredRings.{RingsAnew}
 use Rattle.recorder_with_cards.specs.JudgedRings.{RingsJudgedAnew}
 use Rattle.run_keeping.proofs.Later.{later-same}
+use Rattle.recorder_with_cards.specs.JudgedCards.{CardsAnew}
 use Rattle.recorder_with_cards.proofs.accepting.accept_anew.Goals as goal
 
 pub returns-clause-takes : goal.returns-clause-takes
@@ -98,3 +99,21 @@ returns-in_default-clause-later g c = later-same (devices (g.M.Medium.state c.ar
 
 pub returns-clause-later : goal.returns-clause-later
 returns-clause-later g c = c.accept_in.ensures.later
+
+-- ---- its events on the card
+
+pub returns-clause-cards : goal.returns-clause-cards
+returns-clause-cards g c = λ room.
+    let seat = seat_in c.args.run.now.keeper.cabin.slots.seats c.args.slot in
+    let is : card_in seat ≡ Some c.in-Some.card = sym c.card.ensures ∙ c.in-Some.is in
+    let one = bare-one seat c.in-Some.card is c.requires.bare in
+    let d : Devices = devices (g.M.Medium.state c.args.unit.now) (g.C.Chip.state c.args.card_a.now) (g.D.Chip.state c.args.card_b.now) in
+    let e : Devices = devices (g.M.Medium.state c.accept_in.new.unit) (g.C.Chip.state c.accept_in.new.card_a) (g.D.Chip.state c.accept_in.new.card_b) in
+    subst (λ (q : Option Card). CardsAnew q c.args.slot c.args.at c.args.speed (is_err c.accept_in.result) c.args.run.now c.args.outcome.now c.accept_in.new.outcome d e) (sym is)
+    (c.accept_in.ensures.cards (omega (arith, room, one)))
+
+pub returns-in_default-clause-cards : goal.returns-in_default-clause-cards
+returns-in_default-clause-cards g c = λ room.
+    let none : card_in (seat_in c.args.run.now.keeper.cabin.slots.seats c.args.slot) ≡ None = search rules in
+    let d : Devices = devices (g.M.Medium.state c.args.unit.now) (g.C.Chip.state c.args.card_a.now) (g.D.Chip.state c.args.card_b.now) in
+    subst (λ (q : Option Card). CardsAnew q c.args.slot c.args.at c.args.speed false c.args.run.now c.args.outcome.now c.args.outcome.now d d) (sym none) tt

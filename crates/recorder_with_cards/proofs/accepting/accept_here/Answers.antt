@@ -12,7 +12,7 @@ use Rattle.run_keeping.specs.declared.keeper.Keeper.{Keeper}
 use Rattle.run_keeping.specs.Keeping.{CardReady, HasItsRow, HaveRows}
 use Rattle.run_keeping.proofs.Units.{unit-stays}
 use Rattle.run_outcome.specs.declared.outcome.Outcome.{Outcome}
-use Rattle.run_entering.specs.Entering.{ending_of, breaks_by, finds_by}
+use Rattle.run_entering.specs.Entering.{ending_of, measured, breaks_by, finds_by}
 use Rattle.run_acts.specs.Going.{CardAt}
 use Rattle.run_acts.proofs.Kept.{owing-sum}
 use Rattle.recorder_with_cards.specs.Accepting.{HasEntry, IsAccepted}
@@ -32,6 +32,8 @@ use Rattle.recorder_with_cards.proofs.EnteredRings.{accept-writes}
 use Rattle.recorder_with_cards.proofs.EnteredRinged.{judged-ringed}
 use Rattle.run_acts.proofs.EnteredFacts.{known}
 use Rattle.run_acts.proofs.EnteredStays.{entered-stays}
+use Rattle.run_entering.proofs.CardBrought.{sits-works}
+use Rattle.recorder_with_cards.proofs.EnteredCards.{judged-cards}
 use Rattle.recorder_with_cards.proofs.accepting.accept_here.Goals as goal
 
 pub returns-clause-beside : goal.returns-clause-beside
@@ -287,3 +289,44 @@ returns-clause-ringed g c = λ room o done s n waits fewer at next spans odomete
 
 pub returns-clause-later : goal.returns-clause-later
 returns-clause-later g c = c.accept-answer.ensures.later
+
+-- ---- its events on the card
+
+pub returns-clause-cards : goal.returns-clause-cards
+returns-clause-cards g c = λ room o done s n waits fewer at speed next vehicle time.
+    let run = c.args.run.now in
+    let e = c.args.entering in
+    let h = c.requires.going in
+    let w = c.accept-answer.ensures.entered in
+    let U : State = g.M.Medium.state c.args.unit.now in
+    let V : State = g.M.Medium.state c.accept-answer.new.unit in
+    let X : State = g.C.Chip.state c.args.card.now in
+    let Z : State = g.C.Chip.state c.accept-answer.new.card in
+    let Y : State = g.D.Chip.state c.args.others.now in
+    let failed : Bool = is_err c.accept-answer.result in
+    let sits = seat-answers (ungiven_of h.span) run.keeper.cabin e.slot e.which h.cabin c.requires.seat in
+    let may : MayJudge o done s n waits fewer e run.keeper c.args.outcome.now run.unfound run.next run.begun run.minutes U X Y next.goes.within = record {
+      origin = found-by o next.goes.origin;
+      moment = at;
+      last = let second = c.requires.at in let small = c.requires.small in omega (arith, second, small);
+      next_ = next.next;
+      none = next.none;
+      order = next.order;
+      ready = h.ready.unit_ready;
+      seat = c.requires.seat;
+      elsewhere = sits.0;
+      bare = sits.1;
+      room = room;
+    } in
+    let gone : HasGone e failed run.keeper c.accept-answer.new.keeper run.noted c.accept-answer.new.noted c.args.outcome.now c.accept-answer.new.outcome U V X Z Y w.0 =
+    record { entered = w.1; books = w.2; cause = c.accept-answer.ensures.cause; more = c.accept-answer.ensures.more; in_time = c.accept-answer.ensures.in_time } in
+    let sound : AreSound U V X Z = record {
+      time = mine-time e.which V Z Y time;
+      unit_before = g.met.M.Medium.coherent c.args.unit.now;
+      unit_behind = g.met.M.Medium.coherent c.accept-answer.new.unit;
+      card_before = g.met.C.Chip.coherent c.args.card.now;
+      card_behind = g.met.C.Chip.coherent c.accept-answer.new.card;
+    } in
+    judged-cards o done s n waits fewer e run.keeper c.args.outcome.now run.unfound run.next run.begun run.minutes U X Y next.goes.within may next.goes.origin vehicle speed
+    failed c.accept-answer.new.keeper run.noted c.accept-answer.new.noted c.accept-answer.new.outcome V Z w.0 gone sound
+    (sits-works e (measured w.0 e run.keeper) c.accept-answer.new.keeper run.noted (ending_of w.0) (g.C.Chip.card c.accept-answer.new.card) Z w.1.left.keeper c.accept-answer.ensures.card)

@@ -6,6 +6,7 @@ use Rattle.run_rule.specs.Between.{devices}
 use Rattle.recorder_with_cards.specs.Judged.{JudgesSo, EventsJudged}
 use Rattle.recorder_with_cards.specs.JudgedRings.{RingsJudged}
 use Rattle.run_keeping.proofs.Later.{state-by, later-of-a, later-of-b}
+use Rattle.recorder_with_cards.specs.JudgedCards.{CardsJudged}
 use Rattle.recorder_with_cards.proofs.accepting.accept_in.Goals as goal
 
 pub returns-in-A-clause-recorded : goal.returns-in-A-clause-recorded
@@ -61,3 +62,17 @@ returns-in-A-clause-later g c = later-of-a (g.M.Medium.state c.args.unit.now) (g
 
 pub returns-in-B-clause-later : goal.returns-in-B-clause-later
 returns-in-B-clause-later g c = later-of-b (g.M.Medium.state c.args.unit.now) (g.M.Medium.state c.accept_here-in-B.new.unit) (g.C.Chip.state c.args.card_a.now) (g.D.Chip.state c.args.card_b.now) (g.D.Chip.state c.accept_here-in-B.new.card) (state-by (g.M.Medium.state c.args.unit.now) (g.M.Medium.state c.accept_here-in-B.new.unit) _ c.accept_here-in-B.ensures.clock c.accept_here-in-B.ensures.cause) c.accept_here-in-B.ensures.later
+
+-- ---- its events on the card
+
+pub returns-in-A-clause-cards : goal.returns-in-A-clause-cards
+returns-in-A-clause-cards g c = λ room.
+    let d : Devices = devices (g.M.Medium.state c.args.unit.now) (g.C.Chip.state c.args.card_a.now) (g.D.Chip.state c.args.card_b.now) in
+    let e : Devices = devices (g.M.Medium.state c.accept_here.new.unit) (g.C.Chip.state c.accept_here.new.card) (g.D.Chip.state c.args.card_b.now) in
+    subst (λ (card : Card). CardsJudged c.args.slot card c.args.at c.args.speed (is_err c.accept_here.result) c.args.run.now c.args.outcome.now c.accept_here.new.outcome d e) (sym c.in-A.is) (c.accept_here.ensures.cards room)
+
+pub returns-in-B-clause-cards : goal.returns-in-B-clause-cards
+returns-in-B-clause-cards g c = λ room.
+    let d : Devices = devices (g.M.Medium.state c.args.unit.now) (g.C.Chip.state c.args.card_a.now) (g.D.Chip.state c.args.card_b.now) in
+    let e : Devices = devices (g.M.Medium.state c.accept_here-in-B.new.unit) (g.C.Chip.state c.args.card_a.now) (g.D.Chip.state c.accept_here-in-B.new.card) in
+    subst (λ (card : Card). CardsJudged c.args.slot card c.args.at c.args.speed (is_err c.accept_here-in-B.result) c.args.run.now c.args.outcome.now c.accept_here-in-B.new.outcome d e) (sym c.in-B.is) (c.accept_here-in-B.ensures.cards room)

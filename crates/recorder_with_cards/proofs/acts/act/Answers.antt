@@ -8,6 +8,7 @@ use Rattle.recorder_with_cards.proofs.RingsHeld.{ringed-over}
 use Rattle.recorder_with_cards.proofs.Allowed.{lit-refused}
 use Rattle.run_keeping.proofs.Later.{later-same}
 use Rattle.run_acts.proofs.Broken.{broke-none}
+use Rattle.recorder_with_cards.proofs.CardsHeld.{carded-over}
 use Rattle.recorder_with_cards.proofs.acts.act.Goals as goal
 
 pub returns-clause-none : goal.returns-clause-none
@@ -94,3 +95,16 @@ returns-then-not-is_lit-clause-broke g c = broke-none c.args.outcome.now.breaks.
 
 pub returns-clause-broke : goal.returns-clause-broke
 returns-clause-broke g c = c.act_lit.ensures.broke
+
+-- ---- what the cards show
+
+pub returns-then-not-has_power-clause-cards : goal.returns-then-not-has_power-clause-cards
+returns-then-not-has_power-clause-cards g c = λ power. absurd (let no : false ≡ true = sym c.if-not-has_power.true ∙ power in cc)
+
+pub returns-then-not-is_lit-clause-cards : goal.returns-then-not-is_lit-clause-cards
+returns-then-not-is_lit-clause-cards g c = λ power o done s now front rest are begun in_ time.
+    let dark : is_lit c.args.run.now.power ≡ false = sym c.is_lit.ensures ∙ c.if-not-is_lit.true in
+    carded-over o done s c.args.run.now c.args.outcome.now (devices (g.M.Medium.state c.args.unit.now) (g.C.Chip.state c.args.card_a.now) (g.D.Chip.state c.args.card_b.now)) (length front) c.args.begun dark in_
+
+pub returns-clause-cards : goal.returns-clause-cards
+returns-clause-cards g c = λ power. c.act_lit.ensures.cards

@@ -20,6 +20,7 @@ use Rattle.recorder_with_cards.proofs.Rooms.{room-less}
 use Rattle.recorder_with_cards.proofs.Counted.{none-in, first-in}
 use Rattle.run_keeping.proofs.Later.{later-same, later-then}
 use Rattle.run_acts.proofs.Broken.{broke-none, broke-then}
+use Rattle.recorder_with_cards.specs.Carded.{InSecondCarded, CardsActions}
 use Rattle.recorder_with_cards.proofs.acts.act_all.Goals as goal
 
 pub act_item-requires-clause-room : goal.act_item-requires-clause-room
@@ -41,6 +42,10 @@ loop-i-init g c = record {
       let d : Devices = devices (g.M.Medium.state c.args.unit.now) (g.C.Chip.state c.args.card_a.now) (g.D.Chip.state c.args.card_b.now) in
       subst (λ (xs : List Action). RingsActions xs (c.args.from - c.args.from) c.args.speed c.args.run.now c.args.run.now c.args.outcome.now c.args.outcome.now d d) (sym (ap actions_in (between-none c.args.from c.args.items.now)))
       (no-action InSecondRinged (c.args.from - c.args.from) c.args.speed c.args.run.now c.args.outcome.now d);
+  cards = λ power many few.
+      let d : Devices = devices (g.M.Medium.state c.args.unit.now) (g.C.Chip.state c.args.card_a.now) (g.D.Chip.state c.args.card_b.now) in
+      subst (λ (xs : List Action). CardsActions xs (c.args.from - c.args.from) c.args.speed c.args.run.now c.args.run.now c.args.outcome.now c.args.outcome.now d d) (sym (ap actions_in (between-none c.args.from c.args.items.now)))
+      (no-action InSecondCarded (c.args.from - c.args.from) c.args.speed c.args.run.now c.args.outcome.now d);
   still = λ dark. (dark, refl, refl, refl);
   time = λ h. h;
   later = later-same (devices (g.M.Medium.state c.args.unit.now) (g.C.Chip.state c.args.card_a.now) (g.D.Chip.state c.args.card_b.now));
@@ -84,6 +89,25 @@ loop-i-preserved g c =
           (subst (λ (xs : List Action). RingsActions xs c.number_of.result c.args.speed c.args.run.now c.act_item.new.run c.args.outcome.now c.act_item.new.outcome d f) (sym more)
           (actions-then InSecondRinged so (action_of item) (i - from) c.number_of.result c.args.speed c.args.run.now c.loop-i.run c.act_item.new.run c.args.outcome.now c.loop-i.outcome c.act_item.new.outcome d m f
           (omega (arith, number, now)) v.next e.time (v.ringed power before (omega (arith, few, low))) (e.ringed power)));
+      cards = λ power many few.
+          let i : ℕ = c.loop-i.i in
+          let from : ℕ = c.args.from in
+          let low : from ≤ i = c.loop-i.auto.i in
+          let item = c.get.result.now in
+          let so = actions_in (between from i items) in
+          let more = actions-more items from i item low c.get.ensures in
+          let parts = few-actions items from i item low c.get.ensures in
+          let one = one-action item in
+          let before : length so ≡ i - from = omega (arith, parts.0, parts.1, one, many, low) in
+          let now : length (action_of item) ≡ 1 = omega (arith, parts.0, parts.1, one, many, low) in
+          let number : c.number_of.result ≡ i - from + 1 = let n = c.number_of.ensures in omega (arith, n, few, low) in
+          let d : Devices = devices (g.M.Medium.state c.args.unit.now) (g.C.Chip.state c.args.card_a.now) (g.D.Chip.state c.args.card_b.now) in
+          let m : Devices = devices (g.M.Medium.state c.loop-i.unit) (g.C.Chip.state c.loop-i.card_a) (g.D.Chip.state c.loop-i.card_b) in
+          let f : Devices = devices (g.M.Medium.state c.act_item.new.unit) (g.C.Chip.state c.act_item.new.card_a) (g.D.Chip.state c.act_item.new.card_b) in
+          subst (λ (n : ℕ). CardsActions (actions_in (between from (i + 1) items)) n c.args.speed c.args.run.now c.act_item.new.run c.args.outcome.now c.act_item.new.outcome d f) (let same : c.number_of.result ≡ i + 1 - from = omega (arith, number, low) in same)
+          (subst (λ (xs : List Action). CardsActions xs c.number_of.result c.args.speed c.args.run.now c.act_item.new.run c.args.outcome.now c.act_item.new.outcome d f) (sym more)
+          (actions-then InSecondCarded so (action_of item) (i - from) c.number_of.result c.args.speed c.args.run.now c.loop-i.run c.act_item.new.run c.args.outcome.now c.loop-i.outcome c.act_item.new.outcome d m f
+          (omega (arith, number, now)) v.next e.time (v.cards power before (omega (arith, few, low))) (e.cards power)));
       still = λ dark.
           let was = v.still dark in
           let now = e.still was.0 in
@@ -130,6 +154,16 @@ returns-clause-ringed g c =
     subst (λ (n : ℕ). c.args.has_power ≡ true → length (actions_in (between c.args.from n c.args.items.now)) ≡ n - c.args.from → n - c.args.from ≤ largest_number
     → RingsActions (actions_in (between c.args.from n c.args.items.now)) (n - c.args.from) c.args.speed c.args.run.now c.loop-i.run c.args.outcome.now c.loop-i.outcome (devices (g.M.Medium.state c.args.unit.now) (g.C.Chip.state c.args.card_a.now) (g.D.Chip.state c.args.card_b.now)) (devices (g.M.Medium.state c.loop-i.unit) (g.C.Chip.state c.loop-i.card_a) (g.D.Chip.state c.loop-i.card_b)))
     (let same : c.loop-i.i ≡ c.args.to = omega (arith, end, some) in same) c.loop-i.invariant.ringed
+
+-- ---- what the cards show
+
+pub returns-clause-cards : goal.returns-clause-cards
+returns-clause-cards g c =
+    let end : c.args.to ≤ c.loop-i.i = c.loop-i-test.false in
+    let some : c.loop-i.i ≤ c.args.to = c.loop-i.auto.i-end c.requires.first in
+    subst (λ (n : ℕ). c.args.has_power ≡ true → length (actions_in (between c.args.from n c.args.items.now)) ≡ n - c.args.from → n - c.args.from ≤ largest_number
+    → CardsActions (actions_in (between c.args.from n c.args.items.now)) (n - c.args.from) c.args.speed c.args.run.now c.loop-i.run c.args.outcome.now c.loop-i.outcome (devices (g.M.Medium.state c.args.unit.now) (g.C.Chip.state c.args.card_a.now) (g.D.Chip.state c.args.card_b.now)) (devices (g.M.Medium.state c.loop-i.unit) (g.C.Chip.state c.loop-i.card_a) (g.D.Chip.state c.loop-i.card_b)))
+    (let same : c.loop-i.i ≡ c.args.to = omega (arith, end, some) in same) c.loop-i.invariant.cards
 
 -- ---- how often the unit broke down
 

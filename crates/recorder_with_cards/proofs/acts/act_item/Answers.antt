@@ -12,6 +12,7 @@ use Rattle.run_acts.specs.RunRinged.{InSecondRinged}
 use Rattle.recorder_with_cards.proofs.ActsRecorded.{no-action}
 use Rattle.recorder_with_cards.proofs.Allowed.{count-is}
 use Rattle.run_acts.proofs.Broken.{broke-none}
+use Rattle.recorder_with_cards.specs.Carded.{InSecondCarded, CardsActions}
 use Rattle.recorder_with_cards.proofs.acts.act_item.Goals as goal
 
 pub returns-in-Act-clause-room : goal.returns-in-Act-clause-room
@@ -61,3 +62,19 @@ returns-in-Run-clause-broke g c = broke-none c.args.outcome.now.breaks.items {ol
 
 pub returns-in-Off-clause-broke : goal.returns-in-Off-clause-broke
 returns-in-Off-clause-broke g c = broke-none c.args.outcome.now.breaks.items {old = (g.M.Medium.state c.args.unit.now)} {new = (g.M.Medium.state c.args.unit.now)} (omega arith)
+
+-- ---- what the cards show
+
+pub returns-in-Act-clause-cards : goal.returns-in-Act-clause-cards
+returns-in-Act-clause-cards g c = λ power.
+    subst (λ (xs : List Action). CardsActions xs c.args.begun c.args.speed c.args.run.now c.act.new.run c.args.outcome.now c.act.new.outcome (devices (g.M.Medium.state c.args.unit.now) (g.C.Chip.state c.args.card_a.now) (g.D.Chip.state c.args.card_b.now)) (devices (g.M.Medium.state c.act.new.unit) (g.C.Chip.state c.act.new.card_a) (g.D.Chip.state c.act.new.card_b))) (sym (ap action_of c.in-Act.is)) (c.act.ensures.cards power)
+
+pub returns-in-Run-clause-cards : goal.returns-in-Run-clause-cards
+returns-in-Run-clause-cards g c = λ power.
+    let d : Devices = devices (g.M.Medium.state c.args.unit.now) (g.C.Chip.state c.args.card_a.now) (g.D.Chip.state c.args.card_b.now) in
+    subst (λ (xs : List Action). CardsActions xs c.args.begun c.args.speed c.args.run.now c.args.run.now c.args.outcome.now c.args.outcome.now d d) (sym (ap action_of c.in-Run.is)) (no-action InSecondCarded c.args.begun c.args.speed c.args.run.now c.args.outcome.now d)
+
+pub returns-in-Off-clause-cards : goal.returns-in-Off-clause-cards
+returns-in-Off-clause-cards g c = λ power.
+    let d : Devices = devices (g.M.Medium.state c.args.unit.now) (g.C.Chip.state c.args.card_a.now) (g.D.Chip.state c.args.card_b.now) in
+    subst (λ (xs : List Action). CardsActions xs c.args.begun c.args.speed c.args.run.now c.args.run.now c.args.outcome.now c.args.outcome.now d d) (sym (ap action_of c.in-Off.is)) (no-action InSecondCarded c.args.begun c.args.speed c.args.run.now c.args.outcome.now d)

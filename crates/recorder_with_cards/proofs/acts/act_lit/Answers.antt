@@ -1,4 +1,4 @@
-use Rattle.std.proofs.Common.{rules, ◌≡◌, ◌∙◌, ℕ, ◌+◌, ◌/◌, ◌<◌, ◌≤◌, ◌∷◌, [], ◌++◌, List, Bool, true, false, Option, None, length, refl, ap, sym, subst, arith, append_assoc, length-append}
+use Rattle.std.proofs.Common.{rules, ◌≡◌, ◌∙◌, ℕ, ◌+◌, ◌/◌, ◌<◌, ◌≤◌, ◌∷◌, [], ◌++◌, List, Bool, true, false, Option, None, length, take, refl, ap, sym, subst, arith, append_assoc, length-append}
 use Rattle.std.proofs.lemmas.Grind.{common_steps}
 use Rattle.std.specs.Prelude.{is_err, suc}
 use Rattle.tach_media.proofs.Runs.{ok_gives}
@@ -39,6 +39,12 @@ use Rattle.run_keeping.proofs.Later.{later-same}
 use Rattle.run_acts.proofs.Broken.{broke-none}
 use Rattle.run_acts.proofs.Uncut.{uncut-broke, cut-broke}
 use Rattle.recorder_with_cards.proofs.Uncut.{done-uncut}
+use Rattle.run_course.specs.Moments.{and_break}
+use Rattle.run_acts.specs.RunCards.{CardsBehind, CardsIn, CardsGoOn}
+use Rattle.recorder_with_cards.proofs.RingsHeld.{ringed-cut}
+use Rattle.recorder_with_cards.proofs.HereDone.{TellsMoreOf, done-of}
+use Rattle.recorder_with_cards.proofs.CardsHeld.{carded-lit, in-carded_lit, in-carded_cut}
+use Rattle.recorder_with_cards.proofs.ActsCards.{refused-cards, cards-on, cards-now, cut-later, cut-cards}
 use Rattle.recorder_with_cards.proofs.acts.act_lit.Goals as goal
 
 -- ---- the unit failed: power is lost
@@ -239,3 +245,99 @@ returns-then-is_err-clause-broke g c =
 
 pub returns-else-is_err-clause-broke : goal.returns-else-is_err-clause-broke
 returns-else-is_err-clause-broke g c = uncut-broke _ _ (g.M.Medium.state c.args.unit.now) (g.M.Medium.state c.carry_out.new.unit) (is_err c.carry_out.result) c.carry_out.ensures.cause (sym c.is_err.ensures.value ∙ c.if-is_err.false) (done-uncut c.args.action _ c.args.speed _ _ _ _ _ c.carry_out.ensures.done)
+
+-- ---- what the cards show
+
+pub returns-in-Err-clause-cards : goal.returns-in-Err-clause-cards
+returns-in-Err-clause-cards g c = λ o done s now front rest are begun in_ time.
+    let here : suc (length front) ≡ c.args.begun = omega (arith, begun) in
+    let run = c.args.run.now in
+    let out = c.args.outcome.now in
+    let d : Devices = devices (g.M.Medium.state c.args.unit.now) (g.C.Chip.state c.args.card_a.now) (g.D.Chip.state c.args.card_b.now) in
+    let told : Outcome = record out { refused = c.refuse.new.refused } in
+    let told_is : told ≡ record out { refused = with_lines (record { second = run.next; fault = c.in-Err.fault } ∷ []) out.refused } = ap (λ (l : Listed Refused). record out { refused = l }) c.refuse.ensures in
+    let h = carded-lit o done s run out d (length front) (ap is_lit c.requires.lit) in_ in
+    let w = h.ringed.evented.within in
+    let low = c.requires.going.low in
+    let number = now.number in
+    let some : 0 < s.number = omega (arith, low, number) in
+    let more : List Action = front ++ c.args.action ∷ [] in
+    let many : length more ≡ suc (length front) = let long = length-append front (c.args.action ∷ []) in omega (arith, long) in
+    let r = returns-in-Err-clause-ringed g c o done s now front rest are begun (in-ringed_lit o done s run out d (length front) h.ringed) time in
+    let cards = refused-cards o done s c.args.speed run out d now front c.args.action rest are w (cards-now o done s run out d front (c.args.action ∷ rest) are some w h.cards) c.in-Err.fault (sym c.in-Err.ensures) told told_is in
+    in-carded_lit o done s run told d c.args.begun (record {
+      ringed = ringed-lit o done s run told d c.args.begun (ap is_lit c.requires.lit) r;
+      vehicle = h.vehicle;
+      cards = subst (λ (n : ℕ). CardsIn o done s (log_of told) (take n s.actions) (log_of told) d) here
+          (cards-on o done s (suc (length front)) run told d more rest w.within.b (are ∙ sym (append_assoc front (c.args.action ∷ []) rest)) many some
+          (refused o done s c.args.speed run out d now front c.args.action rest are w c.in-Err.fault (sym c.in-Err.ensures) told told_is) cards);
+    })
+
+pub returns-then-is_err-clause-cards : goal.returns-then-is_err-clause-cards
+returns-then-is_err-clause-cards g c =
+    let allowed : refusal (logged c.args.run.now.keeper.cabin.slots.seats) c.args.speed c.args.action ≡ None = first_of (search rules, grind (arith, common_steps)) in
+    λ o done s now front rest are begun in_ time.
+    let run = c.args.run.now in
+    let out = c.args.outcome.now in
+    let mid : Run = c.carry_out.new.run in
+    let told : Outcome = c.carry_out.new.outcome in
+    let d : Devices = devices (g.M.Medium.state c.args.unit.now) (g.C.Chip.state c.args.card_a.now) (g.D.Chip.state c.args.card_b.now) in
+    let e : Devices = devices (g.M.Medium.state c.carry_out.new.unit) (g.C.Chip.state c.carry_out.new.card_a) (g.D.Chip.state c.carry_out.new.card_b) in
+    let failed : is_err c.carry_out.result ≡ true = sym c.is_err.ensures.value ∙ c.if-is_err.true in
+    let here : c.args.begun ≡ suc (length front) = omega (arith, begun) in
+    let h = carded-lit o done s run out d (length front) (ap is_lit c.requires.lit) in_ in
+    let w = h.ringed.evented.within in
+    let low = c.requires.going.low in
+    let number = now.number in
+    let some : 0 < s.number = omega (arith, low, number) in
+    let more : List Action = front ++ c.args.action ∷ [] in
+    let many : length more ≡ c.args.begun = let long = length-append front (c.args.action ∷ []) in omega (arith, long, here) in
+    let r = returns-then-is_err-clause-ringed g c o done s now front rest are begun (in-ringed_lit o done s run out d (length front) h.ringed) time in
+    let fails = subst (λ (b : Bool). GoesOnOrFails b o done s (In c.args.begun) [] mid told e w.within.b) failed (c.carry_out.ensures.recorded o done s now front rest are here allowed w time) in
+    let rings = subst (λ (b : Bool). RingsGoOn b o done s w.within.b more mid (log_of told) h.ringed.spans h.ringed.told e) failed
+    (c.carry_out.ensures.ringed o done s now front rest are here allowed w h.ringed.spans h.ringed.told (at-front o done s run out d front (c.args.action ∷ rest) are h.ringed) time) in
+    let cards = subst (λ (b : Bool). CardsGoOn b o done s w.within.b.run.log more (log_of told) e) failed
+    (c.carry_out.ensures.cards o done s now front rest are here allowed h.vehicle w (cards-now o done s run out d front (c.args.action ∷ rest) are some w h.cards) time) in
+    let stays = c.carry_out.ensures.stays in
+    let after : Outcome = record told { breaks = c.cut.new.breaks } in
+    let is_after : after ≡ record told { breaks = with_lines (cut_at mid.next true c.args.begun ∷ []) told.breaks } = ap (λ (l : Listed Break). record told { breaks = l }) c.cut.ensures.breaks in
+    let log : with_cut (log_of told) s more ≡ log_of after =
+        ap (λ (n : ℕ). and_break (log_of told) (cut_at s.number true n)) many ∙ ap (λ (u : ℕ). and_break (log_of told) (cut_at u true c.args.begun)) (now.number ∙ sym stays.next) ∙ sym (ap log_of is_after) in
+    let lines = subst (λ (u : ℕ). TellsMoreOf u out.breaks.items told.breaks.items) (sym now.number) (done-of c.args.action (moment_of c.args.begun run) c.args.speed (is_err c.carry_out.result) run mid out told c.carry_out.ensures.done) in
+    let watched = done-watched c.args.action (moment_of c.args.begun run) c.args.speed (is_err c.carry_out.result) run mid out told c.carry_out.ensures.done in
+    let shown = cut-cards o done s (length front) run out d e w told more rest (are ∙ sym (append_assoc front (c.args.action ∷ []) rest)) (cut-later o done s (length front) run out d w told more lines rings.behind some) fails.within.moment.up_to.uncut cards in
+    in-carded_cut o done s c.cut.new.self after e c.args.begun (record {
+      ringed = ringed-cut o done s c.cut.new.self after e c.args.begun (ap (λ (q : Run). is_lit q.power) c.cut.ensures.run) r;
+      vehicle = ap (λ (q : Run). q.keeper.memory.registration) c.cut.ensures.run ∙ ap (λ m. m.registration) watched.memory ∙ h.vehicle;
+      cards = subst (λ (l : RunLog). CardsBehind o (done ++ s ∷ []) l e) log shown;
+    })
+
+pub returns-else-is_err-clause-cards : goal.returns-else-is_err-clause-cards
+returns-else-is_err-clause-cards g c =
+    let allowed : refusal (logged c.args.run.now.keeper.cabin.slots.seats) c.args.speed c.args.action ≡ None = first_of (search rules, grind (arith, common_steps)) in
+    λ o done s now front rest are begun in_ time.
+    let run = c.args.run.now in
+    let out = c.args.outcome.now in
+    let mid : Run = c.carry_out.new.run in
+    let told : Outcome = c.carry_out.new.outcome in
+    let d : Devices = devices (g.M.Medium.state c.args.unit.now) (g.C.Chip.state c.args.card_a.now) (g.D.Chip.state c.args.card_b.now) in
+    let e : Devices = devices (g.M.Medium.state c.carry_out.new.unit) (g.C.Chip.state c.carry_out.new.card_a) (g.D.Chip.state c.carry_out.new.card_b) in
+    let well : is_err c.carry_out.result ≡ false = sym c.is_err.ensures.value ∙ c.if-is_err.false in
+    let here : c.args.begun ≡ suc (length front) = omega (arith, begun) in
+    let h = carded-lit o done s run out d (length front) (ap is_lit c.requires.lit) in_ in
+    let w = h.ringed.evented.within in
+    let low = c.requires.going.low in
+    let number = now.number in
+    let some : 0 < s.number = omega (arith, low, number) in
+    let more : List Action = front ++ c.args.action ∷ [] in
+    let many : length more ≡ c.args.begun = let long = length-append front (c.args.action ∷ []) in omega (arith, long, here) in
+    let r = returns-else-is_err-clause-ringed g c o done s now front rest are begun (in-ringed_lit o done s run out d (length front) h.ringed) time in
+    let goes = subst (λ (b : Bool). GoesOnOrFails b o done s (In c.args.begun) [] mid told e w.within.b) well (c.carry_out.ensures.recorded o done s now front rest are here allowed w time) in
+    let cards = subst (λ (b : Bool). CardsGoOn b o done s w.within.b.run.log more (log_of told) e) well
+    (c.carry_out.ensures.cards o done s now front rest are here allowed h.vehicle w (cards-now o done s run out d front (c.args.action ∷ rest) are some w h.cards) time) in
+    let watched = done-watched c.args.action (moment_of c.args.begun run) c.args.speed (is_err c.carry_out.result) run mid out told c.carry_out.ensures.done in
+    in-carded_lit o done s mid told e c.args.begun (record {
+      ringed = ringed-lit o done s mid told e c.args.begun (ap is_lit (c.carry_out.ensures.stays.power ∙ c.requires.lit)) r;
+      vehicle = ap (λ m. m.registration) watched.memory ∙ h.vehicle;
+      cards = cards-on o done s c.args.begun mid told e more rest w.within.b (are ∙ sym (append_assoc front (c.args.action ∷ []) rest)) many some goes cards;
+    })

@@ -38,6 +38,8 @@ use Rattle.run_rings.proofs.Same.{rings-left}
 use Rattle.recorder_with_cards.specs.EnteredRings.{IsPlaceNow, RingsDone}
 use Rattle.run_acts.proofs.NotedEvents.{same-noted}
 use Rattle.recorder_with_cards.specs.Noting.{NotesDone}
+use Rattle.run_acts.specs.RunCards.{CardsAction}
+use Rattle.recorder_with_cards.proofs.ActsCards.{selected-cards, pulled-cards}
 use Rattle.recorder_with_cards.proofs.acts.carry_out.Goals as goal
 
 pub insert-requires-clause-elsewhere : goal.insert-requires-clause-elsewhere
@@ -442,3 +444,58 @@ returns-in-Place-clause-events g c =
     let e = devices (g.M.Medium.state c.note_place.new.unit) (g.C.Chip.state c.note_place.new.card_a) (g.D.Chip.state c.note_place.new.card_b) in
     subst (λ (a : Action). NotesDone a (moment_of c.args.begun run) c.args.speed (is_err c.note_place.result) run c.note_place.new.run o after d e) (sym c.in-Place.is)
     (subst (λ (m : Moment). NotesDone (Place c.in-Place.slot c.in-Place.ending c.in-Place.country c.in-Place.region) m c.args.speed (is_err c.note_place.result) run c.note_place.new.run o after d e) c.moment-at.ensures c.note_place.ensures.events)
+
+-- ---- what the cards show
+
+pub returns-in-Select-clause-cards : goal.returns-in-Select-clause-cards
+returns-in-Select-clause-cards g c =
+    let run = c.args.run.now in
+    let o = c.args.outcome.now in
+    let d : Devices = devices (g.M.Medium.state c.args.unit.now) (g.C.Chip.state c.args.card_a.now) (g.D.Chip.state c.args.card_b.now) in
+    subst (λ (a : Action). CardsAction a c.args.begun c.args.speed false run o o d d) (sym c.in-Select.is) (selected-cards d c.in-Select.slot c.in-Select.pick c.args.begun c.args.speed run o)
+
+pub returns-in-Tear-clause-cards : goal.returns-in-Tear-clause-cards
+returns-in-Tear-clause-cards g c =
+    let run = c.args.run.now in
+    let o = c.args.outcome.now in
+    let d : Devices = devices (g.M.Medium.state c.args.unit.now) (g.C.Chip.state c.args.card_a.now) (g.D.Chip.state c.args.card_b.now) in
+    let card = card_in (seat_in run.keeper.cabin.slots.seats c.in-Tear.slot) in
+    let told : c.pull.new.breaks ≡ with_lines (pulled_breaks card c.in-Tear.slot (moment_of c.args.begun run)) o.breaks = c.pull.ensures.breaks ∙ ap (λ (m : Moment). with_lines (pulled_breaks card c.in-Tear.slot m) o.breaks) c.moment-at.ensures in
+    subst (λ (a : Action). CardsAction a c.args.begun c.args.speed false run o (record o { breaks = c.pull.new.breaks }) d d) (sym c.in-Tear.is)
+    (subst (λ (l : Listed Break). CardsAction (Tear c.in-Tear.slot) c.args.begun c.args.speed false run o (record o { breaks = l }) d d) (sym told)
+    (pulled-cards d c.in-Tear.slot c.args.begun c.args.speed run o))
+
+pub returns-in-Insert-clause-cards : goal.returns-in-Insert-clause-cards
+returns-in-Insert-clause-cards g c =
+    let run = c.args.run.now in
+    let o = c.args.outcome.now in
+    let d : Devices = devices (g.M.Medium.state c.args.unit.now) (g.C.Chip.state c.args.card_a.now) (g.D.Chip.state c.args.card_b.now) in
+    let e : Devices = devices (g.M.Medium.state c.insert.new.unit) (g.C.Chip.state c.insert.new.card_a) (g.D.Chip.state c.insert.new.card_b) in
+    let late = ap (λ (m : Moment). m.late) c.moment-at.ensures in
+    let lit = c.requires.going.lit (ap is_lit c.requires.lit) in
+    let room = put-room run o (put_count c.args.action) 0 c.requires.lit (few-wait (run.next / 60) run lit) c.requires.room in
+    subst (λ (a : Action). CardsAction a c.args.begun c.args.speed (is_err c.insert.result) run o c.insert.new.outcome d e) (sym c.in-Insert.is)
+    (subst (λ (n : ℕ). CardsAction (Insert c.in-Insert.slot c.in-Insert.card) n c.args.speed (is_err c.insert.result) run o c.insert.new.outcome d e) (ap (λ (m : Moment). m.begun) c.moment-at.ensures)
+    (c.insert.ensures.cards late room))
+
+pub returns-in-Withdraw-clause-cards : goal.returns-in-Withdraw-clause-cards
+returns-in-Withdraw-clause-cards g c =
+    let run = c.args.run.now in
+    let o = c.args.outcome.now in
+    let d : Devices = devices (g.M.Medium.state c.args.unit.now) (g.C.Chip.state c.args.card_a.now) (g.D.Chip.state c.args.card_b.now) in
+    let e : Devices = devices (g.M.Medium.state c.withdraw.new.unit) (g.C.Chip.state c.withdraw.new.card_a) (g.D.Chip.state c.withdraw.new.card_b) in
+    let late = ap (λ (m : Moment). m.late) c.moment-at.ensures in
+    subst (λ (a : Action). CardsAction a c.args.begun c.args.speed (is_err c.withdraw.result) run o c.withdraw.new.outcome d e) (sym c.in-Withdraw.is)
+    (subst (λ (n : ℕ). CardsAction (Withdraw c.in-Withdraw.slot) n c.args.speed (is_err c.withdraw.result) run o c.withdraw.new.outcome d e) (ap (λ (m : Moment). m.begun) c.moment-at.ensures)
+    (c.withdraw.ensures.cards late c.args.speed))
+
+pub returns-in-Place-clause-cards : goal.returns-in-Place-clause-cards
+returns-in-Place-clause-cards g c =
+    let run = c.args.run.now in
+    let o = c.args.outcome.now in
+    let d : Devices = devices (g.M.Medium.state c.args.unit.now) (g.C.Chip.state c.args.card_a.now) (g.D.Chip.state c.args.card_b.now) in
+    let e : Devices = devices (g.M.Medium.state c.note_place.new.unit) (g.C.Chip.state c.note_place.new.card_a) (g.D.Chip.state c.note_place.new.card_b) in
+    let late = ap (λ (m : Moment). m.late) c.moment-at.ensures in
+    subst (λ (a : Action). CardsAction a c.args.begun c.args.speed (is_err c.note_place.result) run o (record o { breaks = c.note_place.new.breaks }) d e) (sym c.in-Place.is)
+    (subst (λ (n : ℕ). CardsAction (Place c.in-Place.slot c.in-Place.ending c.in-Place.country c.in-Place.region) n c.args.speed (is_err c.note_place.result) run o (record o { breaks = c.note_place.new.breaks }) d e) (ap (λ (m : Moment). m.begun) c.moment-at.ensures)
+    (c.note_place.ensures.cards late c.in-Place.ending c.in-Place.country c.in-Place.region c.args.speed o refl))

@@ -33,7 +33,7 @@ use Rattle.run_acts.proofs.RingedLines.{AreTears, up-to-tells}
 use Rattle.run_acts.proofs.RingedSecond.{more-left}
 use Rattle.run_acts.proofs.RingedClosed.{fewer-seats}
 use Rattle.recorder_with_cards.proofs.ActsRecorded.{refuses}
-use Rattle.recorder_with_cards.proofs.Inserted.{at-is, unsettled, inserted, next-judged, unsettled-evented, inserted-evented}
+use Rattle.recorder_with_cards.proofs.Inserted.{at-is, unsettled, inserted, waiting as waits-within, next-judged, next-cards, unsettled-evented, inserted-evented}
 use Rattle.recorder_with_cards.proofs.InsertedRinged.{unsettled-ringed, inserted-ringed, odometer-mid}
 use Rattle.tach_media.specs.Medium.{State}
 use Rattle.run_acts.specs.NotedEvents.{NotesEvents}
@@ -47,6 +47,9 @@ use Rattle.recorder_with_cards.specs.EnteredRings.{RingsInserting}
 use Rattle.run_acts.proofs.Ringing.{settling-leaves}
 use Rattle.recorder_with_cards.proofs.EnteredRings.{writes-behind}
 use Rattle.run_keeping.proofs.Later.{later-then}
+use Rattle.run_acts.specs.RunCards.{vehicle_in, StillShow, CardsSettling, CardsGoOn}
+use Rattle.recorder_with_cards.proofs.InsertedCards.{unsettled-cards, inserted-cards}
+use Rattle.recorder_with_cards.proofs.Staying.{settled-watched}
 use Rattle.recorder_with_cards.proofs.inserting.insert.Goals as goal
 
 pub settle-requires-clause-held : goal.settle-requires-clause-held
@@ -362,3 +365,64 @@ returns-in_err-settle-clause-later g c = c.settle.ensures.later
 
 pub returns-clause-later : goal.returns-clause-later
 returns-clause-later g c = later-then (devices (g.M.Medium.state c.args.unit.now) (g.C.Chip.state c.args.card_a.now) (g.D.Chip.state c.args.card_b.now)) (devices (g.M.Medium.state c.settle.new.unit) (g.C.Chip.state c.settle.new.card_a) (g.D.Chip.state c.settle.new.card_b)) (devices (g.M.Medium.state c.accept_in.new.unit) (g.C.Chip.state c.accept_in.new.card_a) (g.D.Chip.state c.accept_in.new.card_b)) c.settle.ensures.later c.accept_in.ensures.later
+
+-- ---- its events on the card
+
+pub returns-in_err-settle-clause-cards : goal.returns-in_err-settle-clause-cards
+returns-in_err-settle-clause-cards g c = λ late room o done s now front rest actions begun allowed vehicle within cards time.
+    let run = c.args.run.now in
+    let out = c.args.outcome.now in
+    let put : Run = put_run c.args.slot c.args.card run in
+    let mid : Run = c.settle.new.run in
+    let told : Outcome = c.settle.new.outcome in
+    let d : Devices = devices (g.M.Medium.state c.args.unit.now) (g.C.Chip.state c.args.card_a.now) (g.D.Chip.state c.args.card_b.now) in
+    let e : Devices = devices (g.M.Medium.state c.settle.new.unit) (g.C.Chip.state c.settle.new.card_a) (g.D.Chip.state c.settle.new.card_b) in
+    let settles : IsSettled c.args.at true put mid out told = subst (λ (b : Cabin). IsSettled c.args.at true (with_cabin b run) mid out told) c.put_in.ensures.kept c.in_err-settle.ensures.settled in
+    let lines = up-to-tells c.args.at settles.decided true (told_of put out) (told_of mid told) settles.kept in
+    let at = at-is c.args.slot c.args.card c.args.at c.args.speed run out d o done s now front rest actions c.requires.at begun late allowed within in
+    let v = c.in_err-settle.ensures.cards in
+    let shows = subst (λ (b : Cabin). CardsSettling v.0 c.args.at (with_cabin b run) mid out d e) c.put_in.ensures.kept v.2 in
+    let still : StillShow o d e = shows o done s (length front) (entering_by (length front) (Insert c.args.slot c.args.card)) at
+    (waits-within c.args.slot c.args.card c.args.at c.args.speed run out d o done s now front rest actions c.requires.at begun late allowed within mid told true settles v.0 v.1) time in
+    let goes = unsettled-cards o done s front rest c.args.slot c.args.card actions run out d within cards (refuses o done s c.args.speed run out d now front (Insert c.args.slot c.args.card) rest actions within None allowed)
+    told e lines.lines (ap log_of settles.outcome ∙ ap (λ (bs : List Break). record (log_of out) { breaks = bs }) lines.are) (subst (λ (m : Moment). AreTears m lines.lines) at lines.tears)
+    (more-left o d e (within.within.powered.lit.unit.unit_holds [] []).later within.within.there.clocks c.settle.ensures.keeps) still in
+    let failed : true ≡ is_err c.from_residual.result = search rules in
+    subst (λ (f : Bool). CardsGoOn f o done s within.within.b.run.log (front ++ Insert c.args.slot c.args.card ∷ []) (log_of told) e) failed goes
+
+pub returns-clause-cards : goal.returns-clause-cards
+returns-clause-cards g c = λ late room o done s now front rest actions begun allowed vehicle within cards time.
+    let run = c.args.run.now in
+    let out = c.args.outcome.now in
+    let h = c.requires.going in
+    let put : Run = put_run c.args.slot c.args.card run in
+    let mid : Run = c.settle.new.run in
+    let told : Outcome = c.settle.new.outcome in
+    let d : Devices = devices (g.M.Medium.state c.args.unit.now) (g.C.Chip.state c.args.card_a.now) (g.D.Chip.state c.args.card_b.now) in
+    let e : Devices = devices (g.M.Medium.state c.settle.new.unit) (g.C.Chip.state c.settle.new.card_a) (g.D.Chip.state c.settle.new.card_b) in
+    let last : Devices = devices (g.M.Medium.state c.accept_in.new.unit) (g.C.Chip.state c.accept_in.new.card_a) (g.D.Chip.state c.accept_in.new.card_b) in
+    let q = c.in_ok-settle.ensures.recorded in
+    let v = c.in_ok-settle.ensures.cards in
+    let stands = subst (λ (b : Cabin). Stands (ungiven_of h.span) None b) c.put_in.ensures.kept (c.put_in.ensures.stands (ungiven_of h.span) h.cabin) in
+    let bare = subst (λ (b : Cabin). IsBareIn b c.args.slot) (sym c.put_in.ensures.kept) (put-bare c.args.slot c.args.card run.keeper.cabin (ungiven_of h.span) stands) in
+    let seat = (c.in_ok-settle.ensures.bare c.args.slot bare).0 ∙ ap (λ (b : Cabin). seat_in b.slots.seats c.args.slot) c.put_in.ensures.kept ∙ seat-put c.args.slot c.args.card run.keeper.cabin in
+    let settles : IsSettled c.args.at false put mid out told = subst (λ (b : Cabin). IsSettled c.args.at false (with_cabin b run) mid out told) c.put_in.ensures.kept c.in_ok-settle.ensures.settled in
+    let u = (subst (λ (b : Cabin). Takes 0 0 0 (with_cabin b run) mid out told) c.put_in.ensures.kept c.settle.ensures.takes) in
+    let marks = u.marks in
+    let rooms = u.rooms.0 in
+    let was = ap (λ (p : Power). waiting p run.minutes.owing) c.requires.lit in
+    let records = subst (λ (b : Cabin). RecordsSettling q.0 c.args.at false (with_cabin b run) mid out told d e) c.put_in.ensures.kept q.2 in
+    let shows = subst (λ (b : Cabin). CardsSettling v.0 c.args.at (with_cabin b run) mid out d e) c.put_in.ensures.kept v.2 in
+    let before = time-before e last c.accept_in.ensures.clock c.accept_in.ensures.clock_a c.accept_in.ensures.clock_b time in
+    let lines = up-to-tells c.args.at settles.decided false (told_of put out) (told_of mid told) settles.kept in
+    let at = at-is c.args.slot c.args.card c.args.at c.args.speed run out d o done s now front rest actions c.requires.at begun late allowed within in
+    let fine = refuses o done s c.args.speed run out d now front (Insert c.args.slot c.args.card) rest actions within None allowed in
+    let log : log_of told ≡ record (log_of out) { breaks = (log_of out).breaks ++ lines.lines } = ap log_of settles.outcome ∙ ap (λ (bs : List Break). record (log_of out) { breaks = bs }) lines.are in
+    let tears = subst (λ (m : Moment). AreTears m lines.lines) at lines.tears in
+    let left = more-left o d e (within.within.powered.lit.unit.unit_holds [] []).later within.within.there.clocks c.settle.ensures.keeps in
+    let still : StillShow o d e = shows o done s (length front) (entering_by (length front) (Insert c.args.slot c.args.card)) at
+    (waits-within c.args.slot c.args.card c.args.at c.args.speed run out d o done s now front rest actions c.requires.at begun late allowed within mid told false settles v.0 v.1) before in
+    let own : mid.keeper.memory.registration ≡ vehicle_in o = ap (λ m. m.registration) (settled-watched c.args.at false put mid out told settles).memory ∙ vehicle in
+    let j = next-cards c.args.slot c.args.card c.args.at c.args.speed run out d o done s now front rest actions c.requires.at begun late allowed within mid told false settles q.0 q.1 e records before refl seat
+    (is_err c.accept_in.result) c.accept_in.new.outcome last (c.accept_in.ensures.cards (omega (arith, room, marks, rooms, was))) own time in
+    inserted-cards o done s front rest c.args.slot c.args.card actions run out d within cards fine told e lines.lines log tears left still (is_err c.accept_in.result) c.accept_in.new.outcome last j
