@@ -2,52 +2,28 @@ ghost use Rattle.std.specs.Prelude.{IfOk, ◌≡◌, ◌+◌, ◌*◌, ◌<◌, 
 ghost use Rattle.tach_media.specs.MemMedium.{memory_state};
 ghost use Rattle.unit_model.specs.Image.{IsUnit};
 
+use crate::reading::held_by_unit;
+use crate::units::{M0, Room, T0, new_image, stops, unit_with};
 use recorder::{Break, Lines, Mark, Outcome, Refused, RunFault, SlotFault, is_for_unit, run_trace};
 use run_model::Device;
-use std::alloc::{AllocError, Global};
+use std::alloc::Global;
 use std::process::Abort;
 use std::rt::HostRuntime;
 use std::test::Fail;
 use tach_media::{AbsentChip, Left, Medium, MemMedium, MemSource, Memory, Stop};
-use tacho_types::TimeReal;
 use trace_text::{Form, TraceFault, read_trace};
-use unit_journal::Journal;
-use unit_model::layout::IMAGE_SIZE;
 
-/// 2010-03-01 00:00, and its minute.
-const T0: u32 = 1267401600;
-
-const M0: u32 = 21123360;
-
-/// A unit with this image, with room for so many writes, whose calls stop so.
-pub fn unit_with(
-    alloc: Global,
-    image: Vec<u8>,
-    writes: u32,
-    stops: Vec<Stop>,
-) -> Result<MemMedium, Memory>
-    ensures { IfOk result (λ unit. IsUnit (memory_state unit.log unit.counts)) }
-{
-    if image.len() != IMAGE_SIZE as usize {
-        return Err(Memory);
-    }
-    MemMedium::new(alloc, image, writes, 40000000, stops)
-}
-
-/// The image of a new unit.
-pub fn new_image(alloc: Global) -> Result<Vec<u8>, AllocError> {
-    let mut image = vec![in alloc; 0u8; IMAGE_SIZE as usize]?;
-    if image.len() > 3 {
-        image[3] = 1;
-    }
-    Ok(image)
-}
+/// The room of a unit's log.
+pub const ROOM: Room = Room {
+    writes: 400000,
+    bytes: 40000000,
+};
 
 /// A new unit, whose calls stop so.
 fn new_unit(alloc: Global, stops: Vec<Stop>) -> Result<MemMedium, Memory>
     ensures { IfOk result (λ unit. IsUnit (memory_state unit.log unit.counts)) }
 {
-    unit_with(alloc, new_image(alloc)?, 400000, stops)
+    unit_with(alloc, new_image(alloc, 0)?, ROOM, stops)
 }
 
 /// Records a trace, which has no line for a card, on a unit.
@@ -74,55 +50,6 @@ pub fn record<U: Medium>(
     Ok((ended, outcome))
 }
 
-/// What a unit that works again holds: the last-kept minute, the odometer, and the words of the day of a second.
-#[derive(Drop)]
-struct Held {
-    kept: u32,
-    odometer: u32,
-    words: Vec<u16>,
-}
-
-fn what_is_held<U: Medium>(alloc: Global, unit: &mut U, second: u32) -> Result<Held, Fail> {
-    if unit.size() != IMAGE_SIZE {
-        return Err(Fail::from("no unit"));
-    }
-    unit.revive()?;
-    if unit.size() != IMAGE_SIZE {
-        return Err(Fail::from("no unit"));
-    }
-    let Ok(journal) = Journal::load(unit) else {
-        return Err(Fail::from("not loaded"));
-    };
-    let words = words_on(alloc, &journal, unit, second)?;
-    Ok(Held {
-        kept: journal.last_kept(),
-        odometer: journal.odometer().0,
-        words,
-    })
-}
-
-/// The words of the day of a second.
-fn words_on<U: Medium>(
-    alloc: Global,
-    journal: &Journal,
-    unit: &mut U,
-    second: u32,
-) -> Result<Vec<u16>, Fail> {
-    let mut words = Vec::new(alloc);
-    if unit.size() != IMAGE_SIZE {
-        return Err(Fail::from("no unit"));
-    }
-    if let Some(day) = journal.find(unit, TimeReal(second / 86400 * 86400))? {
-        for index in 0..day.words {
-            if unit.size() != IMAGE_SIZE {
-                return Err(Fail::from("no unit"));
-            }
-            words.push(journal.word(unit, &day, index)?)?;
-        }
-    }
-    Ok(words)
-}
-
 #[test]
 fn a_drive_is_kept(rt: HostRuntime) -> Result<(), Fail> {
     let alloc = rt.alloc();
@@ -136,7 +63,7 @@ fn a_drive_is_kept(rt: HostRuntime) -> Result<(), Fail> {
     assert_eq!(rt; outcome.marks.get(57).minute, M0 + 57);
     let (again, _) = record(alloc, text, &mut unit)?;
     assert_eq!(rt; again, Err(RunFault::ClockBack(M0 + 57, T0)));
-    let held = what_is_held(alloc, &mut unit, T0)?;
+    let held = held_by_unit(alloc, &mut unit, T0)?;
     assert_eq!(rt; held.kept, M0 + 57);
     assert_eq!(rt; held.odometer, 47);
     assert!(rt; held.words.as_slice() == [0x2000u16, 0xA000, 0x3801, 0xA801].as_slice());
@@ -154,7 +81,7 @@ fn a_gap_stands_as_rest(rt: HostRuntime) -> Result<(), Fail> {
     )?;
     assert_eq!(rt; ended, Ok(()));
     assert_eq!(rt; outcome.marks.len(), 6);
-    let held = what_is_held(alloc, &mut unit, T0)?;
+    let held = held_by_unit(alloc, &mut unit, T0)?;
     assert_eq!(rt; held.kept, M0 + 17);
     assert!(rt;
         held.words.as_slice() == [0x3800u16, 0xA800, 0x2003, 0xA003, 0x380F, 0xA80F].as_slice()
@@ -182,16 +109,20 @@ fn an_off_line_at_the_beginning_is_no_cut(rt: HostRuntime) -> Result<(), Fail> {
 #[test]
 fn the_longest_trace_is_kept(rt: HostRuntime) -> Result<(), Fail> {
     let alloc = rt.alloc();
-    let mut unit = unit_with(alloc, new_image(alloc)?, 4000000, Vec::new(alloc))?;
+    let room = Room {
+        writes: 4000000,
+        bytes: 40000000,
+    };
+    let mut unit = unit_with(alloc, new_image(alloc, 0)?, room, Vec::new(alloc))?;
     let (ended, outcome) = record(alloc, b"start 1267401600\nrun 34560000 0", &mut unit)?;
     assert_eq!(rt; ended, Ok(()));
     assert_eq!(rt; outcome.marks.len(), 575998);
-    let newest = what_is_held(alloc, &mut unit, T0 + 34560000 - 86400)?;
+    let newest = held_by_unit(alloc, &mut unit, T0 + 34560000 - 86400)?;
     assert_eq!(rt; newest.kept, M0 + 575997);
     assert_eq!(rt; newest.words.len(), 2);
-    let lost = what_is_held(alloc, &mut unit, T0 + 33 * 86400)?;
+    let lost = held_by_unit(alloc, &mut unit, T0 + 33 * 86400)?;
     assert_eq!(rt; lost.words.len(), 0);
-    let oldest = what_is_held(alloc, &mut unit, T0 + 34 * 86400)?;
+    let oldest = held_by_unit(alloc, &mut unit, T0 + 34 * 86400)?;
     assert_eq!(rt; oldest.words.len(), 2);
     Ok(())
 }
@@ -201,25 +132,6 @@ fn calls_of_the_opening(alloc: Global) -> Result<u64, Fail> {
     let mut unit = new_unit(alloc, Vec::new(alloc))?;
     let _ = record(alloc, b"start 1267401600", &mut unit)?;
     Ok(unit.calls())
-}
-
-/// So many stops, the first of this call, and each next one of a call so many later, and by so many more each time.
-fn stops(
-    alloc: Global,
-    count: u32,
-    first: u64,
-    mut step: u64,
-    more: u64,
-    left: Left,
-) -> Result<Vec<Stop>, AllocError> {
-    let mut stops = Vec::new(alloc);
-    let mut call = first;
-    for _ in 0..count {
-        stops.push(Stop { call, left })?;
-        call = call.saturating_add(step);
-        step = step.saturating_add(more);
-    }
-    Ok(stops)
 }
 
 /// Whether a cut tells the marks before it, and none behind it: of those in an earlier minute it found the last, or a later one.
@@ -278,6 +190,44 @@ fn stops_after_a_write(rt: HostRuntime) -> Result<(), Fail> {
 #[test]
 fn torn_writes(rt: HostRuntime) -> Result<(), Fail> {
     stop_often(&rt, Left::Torn(0x55))
+}
+
+/// Each call of forty minutes, from the end of the opening to the last one, fails in a run of its own, and that is a cut, behind which no power-on
+/// comes in the last second alone; the unit can be recorded on again.
+fn stop_each(rt: &(impl Abort + AllocGlobal), left: Left) -> Result<(), Fail> {
+    let alloc = rt.alloc();
+    let text = b"start 1267401600\nrun 1200 50\nrun 1200 0\n";
+    let mut whole = new_unit(alloc, Vec::new(alloc))?;
+    let (ended, _) = record(alloc, text, &mut whole)?;
+    assert_eq!(rt; ended, Ok(()));
+    let from = calls_of_the_opening(alloc)?;
+    assert!(rt; from < whole.calls());
+    let last = Break::Cut {
+        second: T0 + 2399,
+        kept: 0,
+        failed: true,
+        begun: 0,
+    };
+    for call in from..whole.calls() {
+        let mut unit = new_unit(alloc, stops(alloc, 1, call, 1, 0, left)?)?;
+        let (ended, outcome) = record(alloc, text, &mut unit)?;
+        assert_eq!(rt; ended, Ok(()));
+        assert_eq!(rt; outcome.breaks.len(), 1);
+        let cut = *outcome.breaks.get(0);
+        assert!(rt; is_right(&outcome.marks, &cut) || cut == last, "{call}");
+        let (again, more) = record(alloc, b"start 1267404300\nrun 300 10", &mut unit)?;
+        assert_eq!(rt; again, Ok(()));
+        assert_eq!(rt; more.marks.len(), 3);
+    }
+    Ok(())
+}
+
+#[test]
+fn each_call_stops(rt: HostRuntime) -> Result<(), Fail> {
+    for left in [Left::Before, Left::After, Left::Torn(0xFF)] {
+        stop_each(&rt, left)?;
+    }
+    Ok(())
 }
 
 #[test]

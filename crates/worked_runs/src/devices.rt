@@ -4,26 +4,24 @@ ghost use Rattle.tach_media.specs.MemMedium.{memory_state};
 ghost use Rattle.card_layout.specs.declared.files.TheConstants.{LARGEST_IMAGE};
 ghost use Rattle.unit_model.specs.Image.{IsUnit};
 
+use crate::units::{NUMBER_A, NUMBER_B, Room, card_image, card_with, new_image, unit_with};
 use card_commands::SimCard;
-use card_files::{CardIdentity, blank_card};
 use card_layout::{LARGEST, LARGEST_IMAGE};
 use recorder_with_cards::{Outcome, RunFault, run_trace};
+use run_model::Device;
 use std::alloc::{AllocError, Global};
 use std::test::Fail;
 use tach_media::{Chip, Medium, MemMedium, MemSource, Memory, Stop};
-use tacho_types::{Name36, Nation};
 use trace_text::{Form, read_trace};
-use unit_model::layout::IMAGE_SIZE;
 
-/// The numbers of the two cards.
-pub const NUMBER_A: &[u8; 16] = b"DEMO000000000000";
+/// The room of each device's log.
+pub const ROOM: Room = Room {
+    writes: 20000,
+    bytes: 400000,
+};
 
-pub const NUMBER_B: &[u8; 16] = b"DEMO000000000100";
-
-/// The room of each device's log: so many writes, with so many bytes.
-const WRITES: u32 = 20000;
-
-const WRITTEN: u32 = 400000;
+/// The limit of the vehicle, in km/h.
+pub const LIMIT: u8 = 90;
 
 /// A unit and two cards.
 #[derive(Drop)]
@@ -50,49 +48,28 @@ impl Stops {
             card_b: Vec::new(alloc),
         }
     }
-}
 
-/// The image of a new unit, of a vehicle with a limit of 90 km/h.
-fn new_image(alloc: Global) -> Result<Vec<u8>, AllocError> {
-    let mut image = vec![in alloc; 0u8; IMAGE_SIZE as usize]?;
-    if image.len() > 36 {
-        image[3] = 1;
-        image[36] = 90;
+    /// One stop, of a call of this device.
+    pub fn one(alloc: Global, device: Device, stop: Stop) -> Result<Stops, AllocError> {
+        let mut stops = Stops::none(alloc);
+        match device {
+            Device::Unit => stops.unit.push(stop)?,
+            Device::CardA => stops.card_a.push(stop)?,
+            Device::CardB => stops.card_b.push(stop)?,
+        }
+        Ok(stops)
     }
-    Ok(image)
 }
 
-/// A new unit, whose calls stop so.
-fn new_unit(alloc: Global, stops: Vec<Stop>) -> Result<MemMedium, Memory>
-    ensures { IfOk result (λ unit. IsUnit (memory_state unit.log unit.counts)) }
-{
-    let image = new_image(alloc)?;
-    if image.len() != IMAGE_SIZE as usize {
-        return Err(Memory);
-    }
-    MemMedium::new(alloc, image, WRITES, WRITTEN, stops)
-}
-
-/// The image of a new card of the largest sizes, with this number.
-pub fn card_image(alloc: Global, number: &[u8; 16]) -> Result<Vec<u8>, Memory> {
-    let identity = CardIdentity {
-        state: Nation(13),
-        number: *number,
-        surname: Name36(*b"\x01MUSTERMANN                         "),
-        first: Name36(*b"\x01HEIKE                              "),
-    };
-    blank_card(alloc, &identity, &LARGEST)
-}
-
-/// A card with this image, whose calls stop so.
-pub fn card(alloc: Global, image: Vec<u8>, stops: Vec<Stop>) -> Result<SimCard<MemMedium>, Memory>
+/// A new card of the largest sizes with this number, whose calls stop so.
+fn new_card(
+    alloc: Global,
+    number: &[u8; 16],
+    stops: Vec<Stop>,
+) -> Result<SimCard<MemMedium>, Memory>
     ensures { IfOk result (λ card. LARGEST_IMAGE ≤ (memory_state card.medium.log card.medium.counts).size) }
 {
-    if image.len() != LARGEST_IMAGE as usize {
-        return Err(Memory);
-    }
-    let medium = MemMedium::new(alloc, image, WRITES, WRITTEN, stops)?;
-    Ok(SimCard::new(medium))
+    card_with(alloc, card_image(alloc, number, &LARGEST)?, ROOM, stops)
 }
 
 /// New devices, whose calls stop so.
@@ -102,9 +79,9 @@ pub fn new_devices(alloc: Global, stops: Stops) -> Result<Devices, Memory>
     ensures card_b { IfOk result (λ d. LARGEST_IMAGE ≤ (memory_state d.card_b.medium.log d.card_b.medium.counts).size) }
 {
     Ok(Devices {
-        unit: new_unit(alloc, stops.unit)?,
-        card_a: card(alloc, card_image(alloc, NUMBER_A)?, stops.card_a)?,
-        card_b: card(alloc, card_image(alloc, NUMBER_B)?, stops.card_b)?,
+        unit: unit_with(alloc, new_image(alloc, LIMIT)?, ROOM, stops.unit)?,
+        card_a: new_card(alloc, NUMBER_A, stops.card_a)?,
+        card_b: new_card(alloc, NUMBER_B, stops.card_b)?,
     })
 }
 
@@ -133,11 +110,22 @@ pub fn record<U: Medium, C: Chip>(
 }
 
 /// How many calls of each device there were.
-#[derive(Clone, Copy, Debug, PartialEq, Eq)]
+#[derive(Clone, Copy)]
 pub struct Calls {
     pub unit: u64,
     pub card_a: u64,
     pub card_b: u64,
+}
+
+impl Calls {
+    /// Those of this device.
+    pub fn of(&self, device: Device) -> u64 {
+        match device {
+            Device::Unit => self.unit,
+            Device::CardA => self.card_a,
+            Device::CardB => self.card_b,
+        }
+    }
 }
 
 /// How many calls a run makes where none is stopped.

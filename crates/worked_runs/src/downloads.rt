@@ -1,18 +1,14 @@
 //! Downloads of units that have recorded: as many calls as the loader's frames alone ask for.
-ghost use Rattle.std.specs.Prelude.{IfOk};
-ghost use Rattle.tach_media.specs.MemMedium.{memory_state};
-ghost use Rattle.unit_model.specs.Image.{IsUnit};
-
 use crate::devices::{Stops, new_devices, record};
+use crate::units::{NO_ROOM, image_of, unit_with};
 use link_frames::{End, write_frame};
 use link_service::serve;
 use std::alloc::{AllocError, Global};
 use std::process::Abort;
 use std::rt::HostRuntime;
 use std::test::Fail;
-use tach_media::{Medium, MemMedium, MemSink, MemSource, Memory};
+use tach_media::{MemSink, MemSource};
 use unit_download::{Passed, Wire, download};
-use unit_model::layout::IMAGE_SIZE;
 
 /// An hour of driving with a card.
 const HOUR: &[u8] = b"start 1267401600\ninsert driver a\nrun 60 0\nrun 3540 50\n";
@@ -45,22 +41,7 @@ fn recorded(alloc: Global, text: &[u8]) -> Result<Vec<u8>, Fail> {
     if ended.is_err() {
         return Err(Fail::from("a run without a stop"));
     }
-    let mut image = vec![in alloc; 0u8; IMAGE_SIZE as usize]?;
-    if d.unit.size() < IMAGE_SIZE || image.len() != IMAGE_SIZE as usize {
-        return Err(Fail::from("no unit"));
-    }
-    d.unit.read_at(0, image.as_mut_slice())?;
-    Ok(image)
-}
-
-/// A unit with this image.
-fn unit_with(alloc: Global, image: Vec<u8>) -> Result<MemMedium, Memory>
-    ensures { IfOk result (λ unit. IsUnit (memory_state unit.log unit.counts)) }
-{
-    if image.len() != IMAGE_SIZE as usize {
-        return Err(Memory);
-    }
-    MemMedium::new(alloc, image, 0, 0, Vec::new(alloc))
+    image_of(alloc, &mut d.unit)
 }
 
 /// The frames of one side, as the link has them.
@@ -84,7 +65,7 @@ fn asks_by_its_frames_alone(
 ) -> Result<(), Fail> {
     let alloc = rt.alloc();
     let image = recorded(alloc, text)?;
-    let mut unit = unit_with(alloc, image.clone()?)?;
+    let mut unit = unit_with(alloc, image.clone()?, NO_ROOM, Vec::new(alloc))?;
     let mut sink = MemSink::new(Vec::with_capacity(alloc, 4096)?, Vec::new(alloc));
     let mut wire = Wire::new(alloc);
     let loaded = download(alloc, &mut sink, &mut unit, &mut wire);
@@ -93,7 +74,7 @@ fn asks_by_its_frames_alone(
     let heard = line_of(alloc, wire.frames(), End::Loader)?;
     let mut source = MemSource::new(heard, Vec::new(alloc));
     let mut answers = MemSink::new(Vec::with_capacity(alloc, 8192)?, Vec::new(alloc));
-    let mut other = unit_with(alloc, image)?;
+    let mut other = unit_with(alloc, image, NO_ROOM, Vec::new(alloc))?;
     let served = serve(&mut source, &mut answers, &mut other);
     assert!(rt; served.is_ok());
     let told = line_of(alloc, wire.frames(), End::Unit)?;

@@ -4,7 +4,8 @@ ghost use Rattle.tach_media.specs.MemMedium.{memory_state};
 ghost use Rattle.unit_model.specs.Image.{IsUnit};
 ghost use Rattle.unit_model.specs.declared.layout.TheConstants.{IMAGE_SIZE};
 
-use crate::alone::{new_image, record, unit_with};
+use crate::alone::{ROOM, record};
+use crate::units::{new_image, unit_with};
 use std::alloc::Global;
 use std::test::*;
 use tach_media::{Failed, Medium, MemMedium, Memory};
@@ -22,11 +23,7 @@ const FIRST_GAP: u32 = 2390534;
 fn limited_unit(alloc: Global) -> Result<MemMedium, Memory>
     ensures { IfOk result (λ unit. IsUnit (memory_state unit.log unit.counts)) }
 {
-    let mut image = new_image(alloc)?;
-    if image.len() > 36 {
-        image[36] = 90;
-    }
-    unit_with(alloc, image, 400000, Vec::new(alloc))
+    unit_with(alloc, new_image(alloc, 90)?, ROOM, Vec::new(alloc))
 }
 
 /// So many bytes of a unit.

@@ -1,13 +1,14 @@
 //! A unit that is made new, whatever stops it: the old one, one of version 0, or the whole new one.
-ghost use Rattle.std.specs.Prelude.{◌≡◌, IfOk, vec_len};
+ghost use Rattle.std.specs.Prelude.{IfOk};
 ghost use Rattle.tach_media.specs.MemMedium.{memory_state};
 ghost use Rattle.unit_model.specs.Image.{IsUnit};
 
-use std::alloc::{AllocError, Global};
+use crate::units::{Room, image_of, unit_with};
+use std::alloc::Global;
 use std::process::Abort;
 use std::rt::HostRuntime;
 use std::test::Fail;
-use tach_media::{Failed, Left, Medium, MemMedium, Memory, Stop};
+use tach_media::{Failed, Left, MemMedium, Memory, Stop};
 use tacho_types::Registration;
 use unit_memory::{Identity, format_unit};
 use unit_model::layout::IMAGE_SIZE;
@@ -25,30 +26,18 @@ const FRONT: [u8; 37] = *b"\x00\x00\x00\x01TACHODEMO00000001\x0D\x01DEMO        
 /// How many writes make a unit new.
 const WRITES: u64 = 612;
 
-/// So many of a byte.
-fn filled(alloc: Global, byte: u8, count: usize) -> Result<Vec<u8>, AllocError>
-    ensures { IfOk result (λ bytes. vec_len bytes ≡ count) }
-{
-    Ok(vec![in alloc; byte; count]?)
-}
+/// Room for these.
+const ROOM: Room = Room {
+    writes: 700,
+    bytes: IMAGE_SIZE + 256,
+};
 
 /// A unit in memory, each byte of which is 1. Its calls stop so.
 fn unit_of_ones(alloc: Global, stops: Vec<Stop>) -> Result<MemMedium, Memory>
     ensures { IfOk result (λ unit. IsUnit (memory_state unit.log unit.counts)) }
 {
-    let ones = filled(alloc, 1, IMAGE_SIZE as usize)?;
-    MemMedium::new(alloc, ones, 700, IMAGE_SIZE + 256, stops)
-}
-
-/// The image of a unit that works again.
-fn left<U: Medium>(alloc: Global, unit: &mut U) -> Result<Vec<u8>, Fail> {
-    let mut image = filled(alloc, 0, IMAGE_SIZE as usize)?;
-    unit.revive()?;
-    if unit.size() < IMAGE_SIZE {
-        return Err(Failed)?;
-    }
-    unit.read_at(0, image.as_mut_slice())?;
-    Ok(image)
+    let ones = vec![in alloc; 1u8; IMAGE_SIZE as usize]?;
+    unit_with(alloc, ones, ROOM, stops)
 }
 
 /// What a stop may leave of a unit.
@@ -78,35 +67,27 @@ fn a_unit_is_made_new(rt: HostRuntime) -> Result<(), Fail> {
     let made = format_unit(&mut unit, &VEHICLE);
     assert_eq!(rt; made, Ok(()));
     assert_eq!(rt; unit.calls(), WRITES);
-    let image = left(alloc, &mut unit)?;
+    let image = image_of(alloc, &mut unit)?;
     assert!(rt; is_kind(image.as_slice(), Image::New));
     Ok(())
 }
 
 /// That a unit of ones that stops so leaves an image of this kind.
-fn leaves(
-    rt: &(impl Abort + AllocGlobal),
-    call: u64,
-    left_of_it: Left,
-    kind: Image,
-) -> Result<(), Fail> {
+fn leaves(rt: &(impl Abort + AllocGlobal), call: u64, left: Left, kind: Image) -> Result<(), Fail> {
     let alloc = rt.alloc();
-    let stop = Stop {
-        call,
-        left: left_of_it,
-    };
+    let stop = Stop { call, left };
     let mut unit = unit_of_ones(alloc, vec![in alloc; stop]?)?;
     let made = format_unit(&mut unit, &VEHICLE);
     assert_eq!(rt; made, Err(Failed));
-    let image = left(alloc, &mut unit)?;
+    let image = image_of(alloc, &mut unit)?;
     assert!(rt; is_kind(image.as_slice(), kind));
     Ok(())
 }
 
 /// That a stop leaves a unit of version 0 at each write but the first and the last, which write the version.
-fn leaves_version_zero(rt: &(impl Abort + AllocGlobal), left_of_it: Left) -> Result<(), Fail> {
+fn leaves_version_zero(rt: &(impl Abort + AllocGlobal), left: Left) -> Result<(), Fail> {
     for call in 1..WRITES - 1 {
-        leaves(rt, call, left_of_it, Image::VersionZero)?;
+        leaves(rt, call, left, Image::VersionZero)?;
     }
     Ok(())
 }

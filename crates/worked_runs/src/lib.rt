@@ -20,3 +20,5 @@ mod reading;
 mod rows;
 #[cfg(test)]
 mod table;
+#[cfg(test)]
+mod units;

@@ -1,18 +1,15 @@
 //! Openings over a unit and two cards in memory.
+use crate::units::{NO_ROOM, NUMBER_A, NUMBER_B, T0, card_image, card_with, new_image, unit_with};
 use card_commands::SimCard;
-use card_files::{CardIdentity, blank_card};
 use card_layout::{Application, LARGEST_IMAGE};
 use run_crew::Known;
 use run_model::Device;
 use run_opening::{RunFault, judge};
-use std::alloc::{AllocError, Global};
+use std::alloc::Global;
 use std::test::Fail;
 use tach_media::{AbsentChip, Chip, Left, Medium, MemMedium, Memory, Stop};
-use tacho_types::{FullCardNumber, Name36, Nation};
+use tacho_types::{FullCardNumber, Nation};
 use unit_model::layout::IMAGE_SIZE;
-
-/// 2010-03-01 00:00.
-const START: u32 = 1267401600;
 
 const SMALLEST: Application = Application {
     structure: 0,
@@ -26,9 +23,6 @@ const SMALLEST: Application = Application {
 /// Where the pointer to the newest vehicle stands on such a card.
 const VEHICLES: usize = 7031;
 
-/// The size of a card's image.
-const SIZE: usize = LARGEST_IMAGE as usize;
-
 /// The number of a card.
 const fn number(of: &[u8; 16]) -> FullCardNumber {
     FullCardNumber {
@@ -37,10 +31,6 @@ const fn number(of: &[u8; 16]) -> FullCardNumber {
         number: *of,
     }
 }
-
-const FIRST: &[u8; 16] = b"DEMO000000000000";
-
-const SECOND: &[u8; 16] = b"DEMO000000000100";
 
 /// What is told of a card: the length of its string of days, or the first bad field of its sizes; and its number.
 #[derive(Clone, Copy, Debug, PartialEq, Eq)]
@@ -89,51 +79,19 @@ fn opening<M: Medium, C: Chip, D: Chip>(
     })
 }
 
-/// The image of a new unit.
-fn new_image(alloc: Global) -> Result<Vec<u8>, AllocError> {
-    let mut image = vec![in alloc; 0u8; IMAGE_SIZE as usize]?;
-    if image.len() > 3 {
-        image[3] = 1;
-    }
-    Ok(image)
-}
-
 /// A unit with this image, whose calls stop so.
 fn unit(alloc: Global, image: Vec<u8>, stops: Vec<Stop>) -> Result<MemMedium, Memory> {
-    if image.len() != IMAGE_SIZE as usize {
-        return Err(Memory);
-    }
-    MemMedium::new(alloc, image, 0, 0, stops)
-}
-
-/// The image of a new card with this number.
-fn card_image(alloc: Global, of: &[u8; 16]) -> Result<Vec<u8>, Memory> {
-    let identity = CardIdentity {
-        state: Nation(13),
-        number: *of,
-        surname: Name36(*b"\x01MUSTERMANN                         "),
-        first: Name36(*b"\x01HEIKE                              "),
-    };
-    let blank = blank_card(alloc, &identity, &SMALLEST)?;
-    let mut image = vec![in alloc; 0u8; SIZE]?;
-    if blank.len() <= image.len() {
-        let front = &mut image[..blank.len()];
-        front.copy_from_slice(&blank);
-    }
-    Ok(image)
+    unit_with(alloc, image, NO_ROOM, stops)
 }
 
 /// A card with this image, whose calls stop so.
 fn card(alloc: Global, image: Vec<u8>, stops: Vec<Stop>) -> Result<SimCard<MemMedium>, Memory> {
-    if image.len() != SIZE {
-        return Err(Memory);
-    }
-    Ok(SimCard::new(MemMedium::new(alloc, image, 0, 0, stops)?))
+    card_with(alloc, image, NO_ROOM, stops)
 }
 
-/// A new card with this number.
+/// A new card of the smallest sizes with this number.
 fn new_card(alloc: Global, of: &[u8; 16]) -> Result<SimCard<MemMedium>, Memory> {
-    card(alloc, card_image(alloc, of)?, Vec::new(alloc))
+    card(alloc, card_image(alloc, of, &SMALLEST)?, Vec::new(alloc))
 }
 
 /// A card that is told to have this number.
@@ -147,20 +105,16 @@ fn numbered(of: &[u8; 16]) -> Told {
 #[test]
 fn a_unit_and_two_cards(rt: HostRuntime) -> Result<(), Fail> {
     let alloc = rt.alloc();
-    let mut image = new_image(alloc)?;
-    if image.len() > 40 {
-        image[36] = 90;
-    }
-    let mut unit = unit(alloc, image, Vec::new(alloc))?;
-    let mut a = new_card(alloc, FIRST)?;
-    let mut b = new_card(alloc, SECOND)?;
+    let mut unit = unit(alloc, new_image(alloc, 90)?, Vec::new(alloc))?;
+    let mut a = new_card(alloc, NUMBER_A)?;
+    let mut b = new_card(alloc, NUMBER_B)?;
     let seen = Seen {
         kept: 0,
         limit: 90,
-        a: numbered(FIRST),
-        b: numbered(SECOND),
+        a: numbered(NUMBER_A),
+        b: numbered(NUMBER_B),
     };
-    assert_eq!(rt; opening(&mut unit, &mut a, &mut b, START)?, Ok(seen));
+    assert_eq!(rt; opening(&mut unit, &mut a, &mut b, T0)?, Ok(seen));
     assert_eq!(rt; (unit.clock(), a.clock(), b.clock()), (0, 0, 0));
     Ok(())
 }
@@ -168,11 +122,11 @@ fn a_unit_and_two_cards(rt: HostRuntime) -> Result<(), Fail> {
 #[test]
 fn one_card_in_both(rt: HostRuntime) -> Result<(), Fail> {
     let alloc = rt.alloc();
-    let mut unit = unit(alloc, new_image(alloc)?, Vec::new(alloc))?;
-    let mut a = new_card(alloc, FIRST)?;
-    let mut b = new_card(alloc, FIRST)?;
-    let same = Err(RunFault::SameCard(number(FIRST)));
-    assert_eq!(rt; opening(&mut unit, &mut a, &mut b, START)?, same);
+    let mut unit = unit(alloc, new_image(alloc, 0)?, Vec::new(alloc))?;
+    let mut a = new_card(alloc, NUMBER_A)?;
+    let mut b = new_card(alloc, NUMBER_A)?;
+    let same = Err(RunFault::SameCard(number(NUMBER_A)));
+    assert_eq!(rt; opening(&mut unit, &mut a, &mut b, T0)?, same);
     Ok(())
 }
 
@@ -180,14 +134,18 @@ fn one_card_in_both(rt: HostRuntime) -> Result<(), Fail> {
 #[test]
 fn cards_that_are_not_valid(rt: HostRuntime) -> Result<(), Fail> {
     let alloc = rt.alloc();
-    let mut unit = unit(alloc, new_image(alloc)?, Vec::new(alloc))?;
-    let mut zeros = card(alloc, vec![in alloc; 0u8; SIZE]?, Vec::new(alloc))?;
-    let mut image = card_image(alloc, FIRST)?;
+    let mut unit = unit(alloc, new_image(alloc, 0)?, Vec::new(alloc))?;
+    let mut zeros = card(
+        alloc,
+        vec![in alloc; 0u8; LARGEST_IMAGE as usize]?,
+        Vec::new(alloc),
+    )?;
+    let mut image = card_image(alloc, NUMBER_A, &SMALLEST)?;
     if image.len() > VEHICLES + 1 {
         image[VEHICLES + 1] = 84;
     }
     let mut damaged = card(alloc, image, Vec::new(alloc))?;
-    let mut whole = new_card(alloc, FIRST)?;
+    let mut whole = new_card(alloc, NUMBER_A)?;
     let of_zeros = Told {
         string: Err(1),
         number: None,
@@ -202,19 +160,13 @@ fn cards_that_are_not_valid(rt: HostRuntime) -> Result<(), Fail> {
         a: of_zeros,
         b: of_damaged,
     };
-    assert_eq!(rt;
-        opening(&mut unit, &mut zeros, &mut damaged, START)?,
-        Ok(seen)
-    );
+    assert_eq!(rt; opening(&mut unit, &mut zeros, &mut damaged, T0)?, Ok(seen));
     let seen = Seen {
         a: of_damaged,
-        b: numbered(FIRST),
+        b: numbered(NUMBER_A),
         ..seen
     };
-    assert_eq!(rt;
-        opening(&mut unit, &mut damaged, &mut whole, START)?,
-        Ok(seen)
-    );
+    assert_eq!(rt; opening(&mut unit, &mut damaged, &mut whole, T0)?, Ok(seen));
     Ok(())
 }
 
@@ -222,10 +174,10 @@ fn cards_that_are_not_valid(rt: HostRuntime) -> Result<(), Fail> {
 #[test]
 fn the_clock(rt: HostRuntime) -> Result<(), Fail> {
     let alloc = rt.alloc();
-    let mut unit = unit(alloc, new_image(alloc)?, Vec::new(alloc))?;
+    let mut unit = unit(alloc, new_image(alloc, 0)?, Vec::new(alloc))?;
     let mut absent = AbsentChip::new(LARGEST_IMAGE);
-    let mut a = new_card(alloc, FIRST)?;
-    let mut b = new_card(alloc, SECOND)?;
+    let mut a = new_card(alloc, NUMBER_A)?;
+    let mut b = new_card(alloc, NUMBER_B)?;
     let back = Err(RunFault::ClockBack(0, 59));
     assert_eq!(rt; opening(&mut unit, &mut absent, &mut b, 59)?, back);
     assert!(rt; opening(&mut unit, &mut a, &mut b, 60)?.is_ok());
@@ -235,13 +187,13 @@ fn the_clock(rt: HostRuntime) -> Result<(), Fail> {
 #[test]
 fn a_unit_that_does_not_decode(rt: HostRuntime) -> Result<(), Fail> {
     let alloc = rt.alloc();
-    let mut image = new_image(alloc)?;
+    let mut image = new_image(alloc, 0)?;
     if image.len() > 3 {
         image[3] = 2;
     }
     let mut unit = unit(alloc, image, Vec::new(alloc))?;
     let mut absent = AbsentChip::new(LARGEST_IMAGE);
-    let mut b = new_card(alloc, SECOND)?;
+    let mut b = new_card(alloc, NUMBER_B)?;
     let bad = Err(RunFault::BadUnit(0));
     assert_eq!(rt; opening(&mut unit, &mut absent, &mut b, 0)?, bad);
     Ok(())
@@ -255,24 +207,32 @@ fn devices_that_fail_once(rt: HostRuntime) -> Result<(), Fail> {
         call: 2,
         left: Left::Before,
     };
-    let mut unit = unit(alloc, new_image(alloc)?, vec![in alloc; stop]?)?;
-    let mut a = card(alloc, card_image(alloc, FIRST)?, vec![in alloc; stop]?)?;
-    let mut b = card(alloc, card_image(alloc, SECOND)?, vec![in alloc; stop]?)?;
+    let mut unit = unit(alloc, new_image(alloc, 0)?, vec![in alloc; stop]?)?;
+    let mut a = card(
+        alloc,
+        card_image(alloc, NUMBER_A, &SMALLEST)?,
+        vec![in alloc; stop]?,
+    )?;
+    let mut b = card(
+        alloc,
+        card_image(alloc, NUMBER_B, &SMALLEST)?,
+        vec![in alloc; stop]?,
+    )?;
     for device in [Device::Unit, Device::CardA, Device::CardB] {
         let failed = Err(RunFault::MediumFault(device));
-        assert_eq!(rt; opening(&mut unit, &mut a, &mut b, START)?, failed);
+        assert_eq!(rt; opening(&mut unit, &mut a, &mut b, T0)?, failed);
     }
-    assert!(rt; opening(&mut unit, &mut a, &mut b, START)?.is_ok());
+    assert!(rt; opening(&mut unit, &mut a, &mut b, T0)?.is_ok());
     Ok(())
 }
 
 #[test]
 fn a_card_that_is_absent(rt: HostRuntime) -> Result<(), Fail> {
     let alloc = rt.alloc();
-    let mut unit = unit(alloc, new_image(alloc)?, Vec::new(alloc))?;
-    let mut a = new_card(alloc, FIRST)?;
+    let mut unit = unit(alloc, new_image(alloc, 0)?, Vec::new(alloc))?;
+    let mut a = new_card(alloc, NUMBER_A)?;
     let mut absent = AbsentChip::new(LARGEST_IMAGE);
     let failed = Err(RunFault::MediumFault(Device::CardB));
-    assert_eq!(rt; opening(&mut unit, &mut a, &mut absent, START)?, failed);
+    assert_eq!(rt; opening(&mut unit, &mut a, &mut absent, T0)?, failed);
     Ok(())
 }

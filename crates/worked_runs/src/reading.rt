@@ -1,7 +1,6 @@
 //! What a unit and a card that are read again tell of a day.
 ghost use Rattle.std.specs.Prelude.{◌≡◌, ◌≤◌, ◌<◌, ◌+◌};
 ghost use Rattle.card_layout.specs.declared.files.TheConstants.{LARGEST_IMAGE};
-ghost use Rattle.unit_model.specs.Image.{IsUnit};
 
 use card_commands::Port;
 use card_layout::LARGEST_IMAGE;
@@ -43,11 +42,18 @@ fn bytes<const N: usize, M: Medium>(medium: &mut M, place: u32) -> Result<[u8; N
     Ok(out)
 }
 
-/// What a unit that works again tells of the day of a second.
-pub fn told_by_unit<U: Medium>(alloc: Global, unit: &mut U, second: u32) -> Result<Told, Fail>
-    requires { IsUnit (U.state unit.old) }
-{
-    let mut words = Vec::new(alloc);
+/// What a unit that works again holds: the last-kept minute, the odometer, and the words of the day of a second.
+#[derive(Drop)]
+pub struct Held {
+    pub kept: u32,
+    pub odometer: u32,
+    pub words: Vec<u16>,
+}
+
+pub fn held_by_unit<U: Medium>(alloc: Global, unit: &mut U, second: u32) -> Result<Held, Fail> {
+    if unit.size() != IMAGE_SIZE {
+        return Err(Fail::from("no unit"));
+    }
     unit.revive()?;
     if unit.size() != IMAGE_SIZE {
         return Err(Fail::from("no unit"));
@@ -55,6 +61,22 @@ pub fn told_by_unit<U: Medium>(alloc: Global, unit: &mut U, second: u32) -> Resu
     let Ok(journal) = Journal::load(unit) else {
         return Err(Fail::from("not loaded"));
     };
+    let words = words_on(alloc, &journal, unit, second)?;
+    Ok(Held {
+        kept: journal.last_kept(),
+        odometer: journal.odometer().0,
+        words,
+    })
+}
+
+/// The words of the day of a second.
+fn words_on<U: Medium>(
+    alloc: Global,
+    journal: &Journal,
+    unit: &mut U,
+    second: u32,
+) -> Result<Vec<u16>, Fail> {
+    let mut words = Vec::new(alloc);
     if unit.size() != IMAGE_SIZE {
         return Err(Fail::from("no unit"));
     }
@@ -66,9 +88,15 @@ pub fn told_by_unit<U: Medium>(alloc: Global, unit: &mut U, second: u32) -> Resu
             words.push(journal.word(unit, &day, index)?)?;
         }
     }
+    Ok(words)
+}
+
+/// What it tells of that day.
+pub fn told_by_unit<U: Medium>(alloc: Global, unit: &mut U, second: u32) -> Result<Told, Fail> {
+    let held = held_by_unit(alloc, unit, second)?;
     Ok(Told {
-        words,
-        last: journal.last_kept(),
+        words: held.words,
+        last: held.kept,
     })
 }
 

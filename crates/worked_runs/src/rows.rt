@@ -1,6 +1,7 @@
 //! Worked runs.
-use crate::devices::{Devices, Stops, calls_of, card, new_devices, record};
+use crate::devices::{Devices, ROOM, Stops, calls_of, new_devices, record};
 use crate::reading::{told_by_card, told_by_unit};
+use crate::units::{M0, T0, card_with};
 use activity_codec::Slot;
 use card_layout::{Fid, LARGEST_IMAGE};
 use recorder_with_cards::{Break, Find, Mark, Outcome, Verdict};
@@ -10,11 +11,6 @@ use std::process::Abort;
 use std::rt::HostRuntime;
 use std::test::Fail;
 use tach_media::{Chip, Left, Stop};
-
-/// 2010-03-01 00:00, and its minute.
-const T0: u32 = 1267401600;
-
-const M0: u32 = 21123360;
 
 /// How many minutes a device has acknowledged.
 fn marks_of(outcome: &Outcome, device: Device) -> usize {
@@ -65,7 +61,7 @@ fn a_card_of_zeros(rt: HostRuntime) -> Result<(), Fail> {
     let alloc = rt.alloc();
     let mut d = new_devices(alloc, Stops::none(alloc))?;
     let zeros = vec![in alloc; 0u8; LARGEST_IMAGE as usize]?;
-    d.card_a = card(alloc, zeros, Vec::new(alloc))?;
+    d.card_a = card_with(alloc, zeros, ROOM, Vec::new(alloc))?;
     let text = b"start 1267401600\ninsert driver a\nrun 240 0\n";
     let (ended, outcome) = record(alloc, text, &mut d.unit, &mut d.card_a, &mut d.card_b)?;
     assert_eq!(rt; ended, Ok(()));
@@ -99,8 +95,7 @@ fn torn_in_keeping(rt: &(impl Abort + AllocGlobal), left: Left) -> Result<(), Fa
         b"start 1267401600\ninsert driver a\nrun 60 0\nrun 300 50\ninsert driver a\nrun 60 0\n";
     assert!(rt; from < to);
     for call in from..to {
-        let mut stops = Stops::none(alloc);
-        stops.card_a.push(Stop { call, left })?;
+        let stops = Stops::one(alloc, Device::CardA, Stop { call, left })?;
         let mut d = new_devices(alloc, stops)?;
         let (ended, outcome) = record(alloc, text, &mut d.unit, &mut d.card_a, &mut d.card_b)?;
         assert_eq!(rt; ended, Ok(()));
@@ -144,11 +139,8 @@ fn a_unit_that_is_stopped_behind_a_write(rt: HostRuntime) -> Result<(), Fail> {
     let text = b"start 1267401600\ninsert driver a\nrun 60 0\nrun 300 50\n";
     assert!(rt; from < to);
     for call in from..to {
-        let mut stops = Stops::none(alloc);
-        stops.unit.push(Stop {
-            call,
-            left: Left::After,
-        })?;
+        let left = Left::After;
+        let stops = Stops::one(alloc, Device::Unit, Stop { call, left })?;
         let mut d = new_devices(alloc, stops)?;
         let (ended, outcome) = record(alloc, text, &mut d.unit, &mut d.card_a, &mut d.card_b)?;
         assert_eq!(rt; ended, Ok(()));
