@@ -34,7 +34,7 @@ use Rattle.run_acts.specs.declared.run.Run.{Run}
 use Rattle.run_acts.specs.declared.run.Power.{Power}
 use Rattle.run_acts.specs.declared.run.Power.TheVariants.{Lit, Lost}
 use Rattle.run_acts.specs.Power.{is_lit, cut_run}
-use Rattle.run_acts.specs.Recording.{values_of, IsOrigin, RunWithin, RunCut, InSecondBy, InSecond, RunFails, RunGoesOn, IsNow, RecordsAction}
+use Rattle.run_acts.specs.Recording.{log_of, values_of, IsOrigin, RunWithin, RunCut, InSecondBy, InSecond, RunFails, RunGoesOn, IsNow, RecordsAction}
 use Rattle.recorder_with_cards.specs.Acting.{IsSelected}
 use Rattle.recorder_with_cards.specs.Recorded.{Inside, ActsBy}
 use Rattle.run_acts.proofs.AllStay.{no-cut}

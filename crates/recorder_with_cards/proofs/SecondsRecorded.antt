@@ -28,7 +28,7 @@ use Rattle.run_acts.specs.declared.run.Power.{Power}
 use Rattle.run_acts.specs.declared.run.Power.TheVariants.{Lit, Due, Lost}
 use Rattle.run_acts.specs.Power.{is_lit, has_power, darkened, off_run, off_cut, passed}
 use Rattle.run_acts.specs.Turning.{IsTurnOf}
-use Rattle.run_acts.specs.Recording.{values_of, Supplies, RunRecorded, InSecond}
+use Rattle.run_acts.specs.Recording.{log_of, values_of, Supplies, RunRecorded, InSecond}
 use Rattle.recorder_with_cards.specs.Acting.{IsItemActed, AreActed}
 use Rattle.recorder_with_cards.specs.Recorded.{Inside, Between, action_of, actions_in, HasBegunBy, HasRunBy}
 use Rattle.trace_model.specs.declared.Card.{Card}

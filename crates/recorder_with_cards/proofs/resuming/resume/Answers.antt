@@ -979,7 +979,9 @@ returns-in_err-mend-clause-ringed g c = λ room o origin done s supply v r stay 
     )
 
 pub returns-in_err-accept_anew-clause-ringed : goal.returns-in_err-accept_anew-clause-ringed
-returns-in_err-accept_anew-clause-ringed g c = λ room o origin done s supply v r stay may number given values spans seats ringed counted off time.
+returns-in_err-accept_anew-clause-ringed g c =
+    let failed : is_err c.accept_anew.result ≡ is_err c.from_residual-in_err-accept_anew.result = search rules in
+    λ room o origin done s supply v r stay may number given values spans seats ringed counted off time.
     let run = c.args.run.now in
     let out = c.args.outcome.now in
     let mid : Run = c.begin_span.new.self in
@@ -1029,13 +1031,13 @@ returns-in_err-accept_anew-clause-ringed g c = λ room o origin done s supply v 
     (c.accept_anew.ensures.ringed (omega (arith, room, few))) in
     let first = driver-judged o done s woke.0 first_card others mid c.args.outcome.now (devices W X Y) woke.1 once refl bare c.moment-at.result now c.args.speed (is_err c.accept_anew.result) one out1 c.accept_anew.ensures.accepted (devices V1 X1 Y1)
     (λ none P. same-devices P g.M.Medium.state g.C.Chip.state g.D.Chip.state c.mend.new.unit c.accept_anew.new.unit c.args.card_a.now c.accept_anew.new.card_a c.args.card_b.now c.accept_anew.new.card_b (c.accept_anew.ensures.still none)) time recorded_one in
-    let failed : is_err c.accept_anew.result ≡ is_err c.from_residual-in_err-accept_anew.result = search rules in
     subst (λ (f : Bool). RingsWoken f (log_of out) o done s spans one (log_of out1) (devices V1 X1 Y1)) failed
     (woken-rings o done s woke.0 (waiting_in Driver first_card ++ others) both_slots spans t mid out (devices W X Y) starts (log_of out) log0 stands (is_err c.accept_anew.result) one out1 (devices V1 X1 Y1) one_ringed (λ f. first.1 f) (ap (λ (r : Run). r.power) c.accept_anew.ensures.only ∙ begun.power) (ap (λ (r : Run). r.unfound) c.accept_anew.ensures.only) (λ well. (first.0 well).odometer ∙ sym woke.1.odometer))
 
 pub returns-in_err-accept_anew-2-clause-ringed : goal.returns-in_err-accept_anew-2-clause-ringed
 returns-in_err-accept_anew-2-clause-ringed g c =
     let failed : is_err c.accept_anew-2.result ≡ is_err c.from_residual-in_err-accept_anew-2.result = search rules in
+    let well : is_err c.accept_anew.result ≡ false = search rules in
     λ room o origin done s supply v r stay may number given values spans seats ringed counted off time.
     let run = c.args.run.now in
     let out = c.args.outcome.now in
@@ -1086,7 +1088,6 @@ returns-in_err-accept_anew-2-clause-ringed g c =
     (c.accept_anew.ensures.ringed (omega (arith, room, few))) in
     let first = driver-judged o done s woke.0 first_card others mid c.args.outcome.now (devices W X Y) woke.1 once refl bare c.moment-at.result now c.args.speed (is_err c.accept_anew.result) one out1 c.accept_anew.ensures.accepted (devices V1 X1 Y1)
     (λ none P. same-devices P g.M.Medium.state g.C.Chip.state g.D.Chip.state c.mend.new.unit c.accept_anew.new.unit c.args.card_a.now c.accept_anew.new.card_a c.args.card_b.now c.accept_anew.new.card_b (c.accept_anew.ensures.still none)) (time-before (devices V1 X1 Y1) (devices (g.M.Medium.state c.accept_anew-2.new.unit) (g.C.Chip.state c.accept_anew-2.new.card_a) (g.D.Chip.state c.accept_anew-2.new.card_b)) c.accept_anew-2.ensures.clock c.accept_anew-2.ensures.clock_a c.accept_anew-2.ensures.clock_b time) recorded_one in
-    let well : is_err c.accept_anew.result ≡ false = search rules in
     let two : Run = c.accept_anew-2.new.run in
     let out2 : Outcome = c.accept_anew-2.new.outcome in
     let V2 : State = g.M.Medium.state c.accept_anew-2.new.unit in
@@ -1122,6 +1123,7 @@ never-true bad = cc
 pub returns-then-is_first-clause-ringed : goal.returns-then-is_first-clause-ringed
 returns-then-is_first-clause-ringed g c =
     let fine : is_err c.accept_anew-2.result ≡ false = search rules in
+    let well : is_err c.accept_anew.result ≡ false = search rules in
     λ room o origin done s supply v r stay may number given values spans seats ringed counted off time.
     let run = c.args.run.now in
     let out = c.args.outcome.now in
@@ -1172,7 +1174,6 @@ returns-then-is_first-clause-ringed g c =
     (c.accept_anew.ensures.ringed (omega (arith, room, few))) in
     let first = driver-judged o done s woke.0 first_card others mid c.args.outcome.now (devices W X Y) woke.1 once refl bare c.moment-at.result now c.args.speed (is_err c.accept_anew.result) one out1 c.accept_anew.ensures.accepted (devices V1 X1 Y1)
     (λ none P. same-devices P g.M.Medium.state g.C.Chip.state g.D.Chip.state c.mend.new.unit c.accept_anew.new.unit c.args.card_a.now c.accept_anew.new.card_a c.args.card_b.now c.accept_anew.new.card_b (c.accept_anew.ensures.still none)) (time-before (devices V1 X1 Y1) (devices (g.M.Medium.state c.accept_anew-2.new.unit) (g.C.Chip.state c.accept_anew-2.new.card_a) (g.D.Chip.state c.accept_anew-2.new.card_b)) c.accept_anew-2.ensures.clock c.accept_anew-2.ensures.clock_a c.accept_anew-2.ensures.clock_b time) recorded_one in
-    let well : is_err c.accept_anew.result ≡ false = search rules in
     let two : Run = c.accept_anew-2.new.run in
     let out2 : Outcome = c.accept_anew-2.new.outcome in
     let V2 : State = g.M.Medium.state c.accept_anew-2.new.unit in
@@ -1203,6 +1204,7 @@ returns-then-is_first-clause-ringed g c =
 pub returns-clause-ringed : goal.returns-clause-ringed
 returns-clause-ringed g c =
     let fine : is_err c.accept_anew-2.result ≡ false = search rules in
+    let well : is_err c.accept_anew.result ≡ false = search rules in
     λ room o origin done s supply v r stay may number given values spans seats ringed counted off time.
     let V3 : State = g.M.Medium.state c.note_gap.new.unit in
     let X3 : State = g.C.Chip.state c.note_gap.new.card_a in
@@ -1257,7 +1259,6 @@ returns-clause-ringed g c =
     (c.accept_anew.ensures.ringed (omega (arith, room, few))) in
     let first = driver-judged o done s woke.0 first_card others mid c.args.outcome.now (devices W X Y) woke.1 once refl bare c.moment-at.result now c.args.speed (is_err c.accept_anew.result) one out1 c.accept_anew.ensures.accepted (devices V1 X1 Y1)
     (λ none P. same-devices P g.M.Medium.state g.C.Chip.state g.D.Chip.state c.mend.new.unit c.accept_anew.new.unit c.args.card_a.now c.accept_anew.new.card_a c.args.card_b.now c.accept_anew.new.card_b (c.accept_anew.ensures.still none)) (time-before (devices V1 X1 Y1) (devices (g.M.Medium.state c.accept_anew-2.new.unit) (g.C.Chip.state c.accept_anew-2.new.card_a) (g.D.Chip.state c.accept_anew-2.new.card_b)) c.accept_anew-2.ensures.clock c.accept_anew-2.ensures.clock_a c.accept_anew-2.ensures.clock_b time_two) recorded_one in
-    let well : is_err c.accept_anew.result ≡ false = search rules in
     let two : Run = c.accept_anew-2.new.run in
     let out2 : Outcome = c.accept_anew-2.new.outcome in
     let V2 : State = g.M.Medium.state c.accept_anew-2.new.unit in
