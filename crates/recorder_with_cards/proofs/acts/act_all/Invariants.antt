@@ -4,6 +4,7 @@ use Rattle.run_keeping.specs.Books.{HaveTime}
 use Rattle.run_keeping.specs.Later.{AreLater}
 use Rattle.run_acts.specs.Going.{largest_number}
 use Rattle.recorder_with_cards.specs.Recorded.{actions_in, RingsActions}
+use Rattle.recorder_with_cards.specs.Carded.{CardsActions}
 use Rattle.run_acts.specs.Power.{is_lit}
 use Rattle.run_acts.specs.Going.{IsWithin}
 use Rattle.run_acts.specs.Room.{HasRoomWithin}
@@ -18,6 +19,8 @@ invariant-loop-i g l = record {
   acted : AreActed l.has_power l.speed 0 (between l.from l.i l.items) l.fn.run l.run l.fn.outcome l.outcome;
   ringed : l.has_power ≡ true → length (actions_in (between l.from l.i l.items)) ≡ l.i - l.from → l.i - l.from ≤ largest_number
       → RingsActions (actions_in (between l.from l.i l.items)) (l.i - l.from) l.speed l.fn.run l.run l.fn.outcome l.outcome (devices (g.M.Medium.state l.fn.unit) (g.C.Chip.state l.fn.card_a) (g.D.Chip.state l.fn.card_b)) (devices (g.M.Medium.state l.unit) (g.C.Chip.state l.card_a) (g.D.Chip.state l.card_b));
+  cards : l.has_power ≡ true → length (actions_in (between l.from l.i l.items)) ≡ l.i - l.from → l.i - l.from ≤ largest_number
+      → CardsActions (actions_in (between l.from l.i l.items)) (l.i - l.from) l.speed l.fn.run l.run l.fn.outcome l.outcome (devices (g.M.Medium.state l.fn.unit) (g.C.Chip.state l.fn.card_a) (g.D.Chip.state l.fn.card_b)) (devices (g.M.Medium.state l.unit) (g.C.Chip.state l.card_a) (g.D.Chip.state l.card_b));
   still : is_lit l.fn.run.power ≡ false → (is_lit l.run.power ≡ false) × (l.unit ≡ l.fn.unit) × (l.card_a ≡ l.fn.card_a) × (l.card_b ≡ l.fn.card_b);
   time : HaveTime (devices (g.M.Medium.state l.unit) (g.C.Chip.state l.card_a) (g.D.Chip.state l.card_b)) → HaveTime (devices (g.M.Medium.state l.fn.unit) (g.C.Chip.state l.fn.card_a) (g.D.Chip.state l.fn.card_b));
   later : AreLater (devices (g.M.Medium.state l.fn.unit) (g.C.Chip.state l.fn.card_a) (g.D.Chip.state l.fn.card_b)) (devices (g.M.Medium.state l.unit) (g.C.Chip.state l.card_a) (g.D.Chip.state l.card_b));

@@ -24,12 +24,12 @@ use Rattle.run_acts.specs.Room.{falls_of}
 use Rattle.run_acts.proofs.Standing.{cut-at}
 use Rattle.run_acts.proofs.Torn.{cut-falls}
 use Rattle.recorder_with_cards.specs.Acting.{put_count, moment_of, IsDone, IsActedBy, CallsNone}
-use Rattle.recorder_with_cards.proofs.ActsRecorded.{cut, left}
+use Rattle.recorder_with_cards.proofs.ActsRecorded.{cut, left, refused}
 use Rattle.recorder_with_cards.proofs.Allowed.{fine-selected}
 use Rattle.recorder_with_cards.proofs.Rooms.{few-wait, room-cut}
 use Rattle.run_evented.specs.Noting.{Acting}
 use Rattle.run_acts.specs.Evented.{EventsGoOn}
-use Rattle.run_acts.specs.RunRinged.{WithinRinged, RingsGoOn}
+use Rattle.run_acts.specs.RunRinged.{WithinRinged, RingsGoOn, with_cut}
 use Rattle.recorder_with_cards.proofs.ActsEvented.{evented-cuts}
 use Rattle.recorder_with_cards.proofs.RingsHeld.{ringed-lit, in-ringed_lit, in-ringed_cut, at-front}
 use Rattle.recorder_with_cards.proofs.ActsRinged.{ringed-on, ringed-cuts, cut-stores, refused-ringed}
