@@ -1,5 +1,5 @@
 //! A run: the seconds of a trace, one after another.
-ghost use Rattle.std.specs.Prelude.{◌≡◌, ◌⊎◌, ◌+◌, ◌-◌, ◌/◌, ◌^◌, ◌<◌, ◌≤◌, ◌++◌, ℕ, List, true, false, length, is_some, IfErr, OnOk, IsOk};
+ghost use Rattle.std.specs.Prelude.{◌≡◌, ◌⊎◌, ◌+◌, ◌-◌, ◌/◌, ◌^◌, ◌<◌, ◌≤◌, ◌++◌, ℕ, List, [], true, false, length, is_some, IfErr, OnOk, IsOk};
 ghost use Rattle.tach_media.specs.Medium.{LeavesOnly, Unchanged, Rose, HasBroken, last_count};
 ghost use Rattle.log_model.specs.Causes.{cuts, HasCauses};
 ghost use Rattle.trace_model.specs.Trace.{seconds_of};
@@ -93,6 +93,8 @@ pub fn run_trace<U: Medium, C: Chip>(
     ensures finds { outcome.new.finds ≡ outcome.old.finds }
     // Each cut that a failed call made is a breakdown of the unit more.
     ensures broke { HasBroken (U.state unit.old) (U.state unit.new) (length (cuts true (run_log outcome.new))) }
+    // And each breakdown has its cut: where no failed call has cut the power of a run that is recorded, the unit has not broken down.
+    ensures calm { OnOk result (cuts true (run_log outcome.new) ≡ [] → (U.state unit.new).breakdowns ≡ (U.state unit.old).breakdowns) }
     // A run that is recorded began on a unit that decodes, in a later minute than its last-kept one; and what keeps one from being
     // recorded is the unit.
     ensures begun { (x : List ℕ) → StartsAs x (U.state unit.old) → OnOk result (Decodes x × (last_kept x < trace.now.start / 60)) }

@@ -57,4 +57,6 @@ pub mod OffRings
 pub mod SecondsRinged
 pub mod BegunRinged
 pub mod SideShown
+pub mod KeptAfter
+pub mod KeptRows
 pub mod WokenStored

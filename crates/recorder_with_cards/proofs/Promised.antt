@@ -86,8 +86,9 @@ use Rattle.run_acts.specs.RunRinged.{seats_of, RunRinged}
 use Rattle.run_acts.proofs.Numbers.{own-long}
 use Rattle.recorder_with_cards.specs.Ends.{BeginAs, recorded_with, recording_of, opened_with, origin_of, MayRecord, EndsTrace}
 use Rattle.recorder_with_cards.proofs.Waiting.{first-second}
-use Rattle.recorder_with_cards.proofs.SideShown.{side-shown}
-use Rattle.recorder_with_cards.proofs.Written.{are-written}
+use Rattle.recorder_with_cards.proofs.SideShown.{insertions-inside, places-inside, side-shown}
+use Rattle.recorder_with_cards.proofs.Written.{are-written, keep-holders}
+use Rattle.recorder_with_cards.proofs.KeptAfter.{end-kept}
 
 -- what holds of either card
 pub both : (P : Card → Type 0) → P A → P B → (c : Card) → P c
@@ -166,6 +167,12 @@ module _ (x a b : List ℕ) (start : ℕ) (items : List Item) (began now : Devic
     ends = ends-so (seconds_of start items) h.evented.recorded.supply (values_of run out) h.evented.recorded.recorded unit_whole card_whole found may.decodes;
     side = record { shows = shows };
     written = are-written o (seconds_of start items) h.evented.recorded.supply (values_of run out) began now h.evented.recorded.recorded (found-by r0 (seconds_of start items) (log_of out) (found_in r0 began) began found);
+    kept = end-kept o ss run out now h.evented.recorded h.spans h.ringed.spans_are h.stored;
+    dense = record {
+      insertions = λ dense y left. (h.ringed.ringed.insertions (record { points = insertions-inside x may.decodes; dense = dense }) y left).shows.carries.dense;
+      places = λ dense y left. (h.ringed.ringed.places (record { points = places-inside x may.decodes; dense = dense }) y left).carries.dense;
+    };
+    holders = keep-holders o (seconds_of start items) h.evented.recorded.supply (values_of run out) began now h.evented.recorded.recorded (found-by r0 (seconds_of start items) (log_of out) (found_in r0 began) began found);
   }
     where
       r : Recording

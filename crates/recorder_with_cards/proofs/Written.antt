@@ -21,11 +21,13 @@ use Rattle.run_rule.specs.Cards.{brought_by}
 use Rattle.run_rule.specs.Between.{IsFound}
 use Rattle.run_rule.proofs.CardEnd.{started}
 use Rattle.run_brought.proofs.Ends.{ends-follow}
+use Rattle.run_strung.specs.Strung.{HasSameHolder}
 use Rattle.run_told.specs.Told.{sure_of}
 use Rattle.run_recorded.specs.Origin.{Origin, first_of}
 use Rattle.run_recorded.specs.Ends.{recording_by}
 use Rattle.run_within.specs.Recorded.{Values, progress, carried, IsHeldBy, Recorded}
 use Rattle.recorder_with_cards.specs.Written.{IsWritten, AreWritten}
+use Rattle.recorder_with_cards.specs.Still.{KeepTheirHolders}
 
 module _ (r : Recording) (c : Card) (x : List ℕ) where
   -- what is expected, where a book has the front of the history
@@ -84,3 +86,18 @@ module _ (o : Origin) (done : List TraceSecond) (supply : Supply) (v : Values) (
       by (Lit span) on = dark h.book front.0 front.1 _ ((on.powered.go.held c was).now x there)
       by Due off = dark (sure_of h.book) (option_to_list h.book.maybe ++ front.0) (sure-front h.book (history_of r) front.0 front.1) _ ((off.powerless.wait c was).held.now x there)
       by Lost off = dark (sure_of h.book) (option_to_list h.book.maybe ++ front.0) (sure-front h.book (history_of r) front.0 front.1) _ ((off.powerless.wait c was).held.now x there)
+
+  -- and each card is its holder's still
+  pub keep-holders : KeepTheirHolders r began now
+  keep-holders c valid x left = subst (λ (i : List ℕ). HasSameHolder i x) (found.image c) (by supply h.held)
+    where
+      was : IsOwnValid (found_of o.found c).image
+      was = subst IsOwnValid (sym (found.image c)) valid
+
+      since : (card_of now c).left_since (found_of o.found c).began x
+      since = subst (λ (t : ℕ). (card_of now c).left_since t x) (sym (found.clock c)) left
+
+      by : (s : Supply) → IsHeldBy o done s v (carried v h.due h.book h.standing h.brought) now → HasSameHolder (found_of o.found c).image x
+      by (Lit span) on = (on.powered.go.held c was).still x since
+      by Due off = (off.powerless.wait c was).held.still x since
+      by Lost off = (off.powerless.wait c was).held.still x since

@@ -20,6 +20,8 @@ use Rattle.run_opening.specs.declared.fault.RunFault.{RunFault}
 use Rattle.run_outcome.specs.declared.outcome.Outcome.{Outcome}
 use Rattle.run_acts.specs.Recording.{log_of}
 use Rattle.recorder_with_cards.specs.Written.{AreWritten}
+use Rattle.recorder_with_cards.specs.Still.{StayDense, KeepTheirHolders}
+use Rattle.recorder_with_cards.specs.KeptAfter.{TellsKept}
 
 -- each device began with this image alone, and those of the cards are bytes
 pub record BeginAs (unit card_a card_b : List ℕ) (began : Devices) : Type 0 where
@@ -59,12 +61,16 @@ pub record MayRecord (unit card_a card_b : List ℕ) (start : ℕ) : Type 0 wher
 
 -- WHAT A RUN PROMISES that was recorded: it could begin, the crash-safety theorem holds of it, every image that a stop may leave of the unit
 -- shows its auxiliary records, events and faults, insertions with their withdrawals, places, and the odometer, and every image of a card that was
--- valid has been written so.
+-- valid has been written so. What was found kept after its cuts was so. Rings that were dense stay dense, and each valid card
+-- stays its holder's.
 pub record EndsTrace (unit card_a card_b : List ℕ) (start : ℕ) (items : List Item) (out : Outcome) (began now : Devices) : Type 0 where
   pub may : MayBegin (recording_of unit card_a card_b start items out)
   pub ends : EndsRun (recording_of unit card_a card_b start items out) out.marks.items began now
   pub side : Side (recording_of unit card_a card_b start items out) began now
   pub written : AreWritten (recording_of unit card_a card_b start items out) now
+  pub kept : TellsKept (recording_of unit card_a card_b start items out) began.unit.clock now.unit
+  pub dense : StayDense (recording_of unit card_a card_b start items out) now
+  pub holders : KeepTheirHolders (recording_of unit card_a card_b start items out) began now
 
 -- OR IT WAS KEPT FROM BEING RECORDED: by these images, or a call that has failed in the opening; each device is as it was.
 pub record IsKeptFrom (unit card_a card_b : List ℕ) (start : ℕ) (began now : Devices) (fault : RunFault) : Type 0 where

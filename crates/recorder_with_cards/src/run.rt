@@ -1,5 +1,5 @@
 //! A run: the seconds of a trace, one after another.
-ghost use Rattle.std.specs.Prelude.{◌≡◌, ℕ, ◌+◌, ◌-◌, ◌<◌, ◌≤◌, ◌^◌, List, OnOk, IfErr, length, true, false};
+ghost use Rattle.std.specs.Prelude.{◌≡◌, ℕ, ◌+◌, ◌-◌, ◌<◌, ◌≤◌, ◌^◌, List, [], OnOk, IfErr, length, true, false};
 ghost use Rattle.trace_model.specs.Trace.{item_seconds};
 ghost use Rattle.trace_text.specs.Trace.{IsWellFormed};
 ghost use Rattle.trace_text.specs.Line.{InRange};
@@ -12,7 +12,7 @@ ghost use Rattle.run_keeping.specs.Later.{AreLater};
 ghost use Rattle.run_acts.specs.Recording.{log_of};
 ghost use Rattle.log_model.specs.Causes.{cuts};
 ghost use Rattle.tach_media.specs.Medium.{HasBroken};
-ghost use Rattle.run_outcome.specs.Broken.{BreaksDown};
+ghost use Rattle.run_acts.specs.Broken.{TellsBreakdowns};
 ghost use Rattle.run_acts.specs.Going.{largest_number, end_of_seconds, IsGoing};
 ghost use Rattle.run_acts.specs.Room.{HasRoom};
 ghost use Rattle.recorder_with_cards.specs.Items.{between, insertions_in};
@@ -59,6 +59,8 @@ pub fn run_trace<U: Medium, C: Chip>(
     ensures later { AreLater (devices (U.state unit.old) (C.state card_a.old) (C.state card_b.old)) (devices (U.state unit.new) (C.state card_a.new) (C.state card_b.new)) }
     // Each cut that a failed call made is a breakdown of the unit more, whatever it tells.
     ensures broke { HasBroken (U.state unit.old) (U.state unit.new) (length (cuts true (log_of outcome.new))) }
+    // And each breakdown has its cut: where no failed call has cut the power of a run that is recorded, the unit has not broken down.
+    ensures calm { OnOk result (cuts true (log_of outcome.new) ≡ [] → (U.state unit.new).breakdowns ≡ (U.state unit.old).breakdowns) }
 {
     let opened = judge(unit, card_a, card_b, trace.start)?;
     let mut run = Run::new(trace.start, opened);
@@ -117,7 +119,7 @@ fn go_on<M: Medium, C: Chip, D: Chip>(
     ensures gone { HasGone result (item_seconds item) run.old run.new outcome.new (M.state unit.new) (C.card card_a.new) (D.card card_b.new) (C.state card_a.new) (D.state card_b.new) }
     ensures idle { OnOk result (has_seconds item ≡ false → (run.new ≡ run.old) × (outcome.new ≡ outcome.old)) }
     ensures room { (left offs insertions actions : ℕ) → HasRoom run.old outcome.old (item_seconds item + left) (off_count item + offs) (insertions_in from to items.now + insertions) (to - from + actions) → OnOk result (has_seconds item ≡ true → HasRoom run.new outcome.new left offs insertions actions) }
-    ensures broke { BreaksDown outcome.old.breaks.items outcome.new.breaks.items (M.state unit.old) (M.state unit.new) }
+    ensures broke { TellsBreakdowns outcome.old.breaks.items outcome.new.breaks.items (M.state unit.old) (M.state unit.new) }
 {
     match item {
         Item::Act(_) => Ok(()),

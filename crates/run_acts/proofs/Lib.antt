@@ -29,6 +29,7 @@ pub mod Leaving
 pub mod Cabins
 pub mod Withdrawn
 pub mod Bare
+pub mod Broken
 pub mod Past
 pub mod Standing
 pub mod Due
@@ -72,3 +73,13 @@ pub mod Stored
 pub mod StoredRun
 pub mod CardNotes
 pub mod OnCards
+pub mod CardCourse
+pub mod CardShown
+pub mod CardSecond
+pub mod CardGaps
+pub mod CardEnds
+pub mod CardWaking
+pub mod CardStays
+pub mod CardTurn
+pub mod CardActs
+pub mod CardWrites

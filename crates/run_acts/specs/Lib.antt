@@ -11,6 +11,7 @@ pub mod Going
 pub mod Room
 pub mod Turning
 pub mod Booked
+pub mod Broken
 pub mod Recording
 pub mod Noting
 pub mod Settling
@@ -23,3 +24,5 @@ pub mod Ringing
 pub mod RunRinged
 pub mod CardNotes
 pub mod OnCards
+pub mod RunCards
+pub mod CardWrites

@@ -20,10 +20,11 @@ ghost use Rattle.run_acts.specs.Recording.{RecordsTurn};
 ghost use Rattle.run_acts.specs.Faults.{NotesKeeping, NotesTurn};
 ghost use Rattle.run_acts.specs.Evented.{EventsTurn, EventsLitTurn};
 ghost use Rattle.run_acts.specs.RunRinged.{RingsTurn};
+ghost use Rattle.run_acts.specs.RunCards.{CardsTurn};
 ghost use Rattle.run_keeping.specs.Minutes.{Reach};
 ghost use Rattle.run_acts.specs.declared.run.Run.{Run};
 ghost use Rattle.run_keeping.specs.Later.{AreLater};
-ghost use Rattle.run_outcome.specs.Broken.{BreaksDown};
+ghost use Rattle.run_acts.specs.Broken.{TellsBreakdowns};
 ghost use Rattle.run_rule.specs.Between.{devices};
 
 use crate::feeding::feed;
@@ -57,6 +58,8 @@ pub fn turn<M: Medium, C: Chip, D: Chip>(
     ensures evented { EventsTurn n speed begun run.old run.new outcome.old outcome.new (devices (M.state unit.old) (C.state card_a.old) (D.state card_b.old)) (devices (M.state unit.new) (C.state card_a.new) (D.state card_b.new)) }
     // And the rings show what they noted.
     ensures ringed { RingsTurn n speed begun run.old run.new outcome.old outcome.new (devices (M.state unit.old) (C.state card_a.old) (D.state card_b.old)) (devices (M.state unit.new) (C.state card_a.new) (D.state card_b.new)) }
+    // And each card shows the events that they brought it.
+    ensures cards { CardsTurn n speed begun run.old run.new outcome.old outcome.new (devices (M.state unit.old) (C.state card_a.old) (D.state card_b.old)) (devices (M.state unit.new) (C.state card_a.new) (D.state card_b.new)) }
     ensures recorded { RecordsTurn n speed begun run.old run.new outcome.old outcome.new (devices (M.state unit.old) (C.state card_a.old) (D.state card_b.old)) (devices (M.state unit.new) (C.state card_a.new) (D.state card_b.new)) }
     ensures clock { (M.state unit.old).clock ≤ (M.state unit.new).clock }
     ensures clock_a { (C.state card_a.old).clock ≤ (C.state card_a.new).clock }
@@ -70,7 +73,7 @@ pub fn turn<M: Medium, C: Chip, D: Chip>(
     ensures refused { outcome.new.refused ≡ outcome.old.refused }
     ensures finds { outcome.new.finds ≡ outcome.old.finds }
     ensures later { AreLater (devices (M.state unit.old) (C.state card_a.old) (D.state card_b.old)) (devices (M.state unit.new) (C.state card_a.new) (D.state card_b.new)) }
-    ensures broke { BreaksDown outcome.old.breaks.items outcome.new.breaks.items (M.state unit.old) (M.state unit.new) }
+    ensures broke { TellsBreakdowns outcome.old.breaks.items outcome.new.breaks.items (M.state unit.old) (M.state unit.new) }
 {
     if !run.is_lit() {
         run.pass(n, begun);
@@ -112,7 +115,7 @@ fn lit_turn<M: Medium, C: Chip, D: Chip>(
     ensures refused { outcome.new.refused ≡ outcome.old.refused }
     ensures finds { outcome.new.finds ≡ outcome.old.finds }
     ensures later { AreLater (devices (M.state unit.old) (C.state card_a.old) (D.state card_b.old)) (devices (M.state unit.new) (C.state card_a.new) (D.state card_b.new)) }
-    ensures broke { BreaksDown outcome.old.breaks.items outcome.new.breaks.items (M.state unit.old) (M.state unit.new) }
+    ensures broke { TellsBreakdowns outcome.old.breaks.items outcome.new.breaks.items (M.state unit.old) (M.state unit.new) }
 {
     let decided = feed(&mut run.minutes, n, speed);
     let at = Moment {

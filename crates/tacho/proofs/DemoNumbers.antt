@@ -15,6 +15,8 @@ use Rattle.safety_model.specs.Side.{holder_of, notes_in, IsPrevious, ShowsSide}
 use Rattle.unit_model.specs.Image.{recorded}
 use Rattle.run_outcome.specs.declared.outcome.Outcome.{Outcome}
 use Rattle.recorder_with_cards.specs.Ends.{recording_of, EndsTrace}
+use Rattle.recorder_with_cards.specs.Still.{KeepsHolder}
+use Rattle.recorder_with_cards.specs.KeptAfter.{TellsKept}
 
 module _ (x a b : List ℕ) (start : ℕ) (items : List Item) (out : Outcome) (p q now : Devices) (unit : p.unit.clock ≡ q.unit.clock) (cards : (c : Card) → (card_of p c).clock ≡ (card_of q c).clock) (broken : (device : Device) → breakdowns_of p device ≡ breakdowns_of q device) where
   abbrev r : Recording
@@ -63,4 +65,7 @@ module _ (x a b : List ℕ) (start : ℕ) (items : List Item) (out : Outcome) (p
     };
     side = record { shows = λ y left. side-by y (h.side.shows y left) };
     written = h.written;
+    kept = subst (λ (n : ℕ). TellsKept r n now.unit) unit h.kept;
+    dense = h.dense;
+    holders = λ c. subst (λ (n : ℕ). KeepsHolder r c n (card_of now c)) (cards c) (h.holders c);
   }

@@ -16,7 +16,8 @@ use Rattle.unit_model.specs.Image.{recorded}
 use Rattle.message_model.specs.Records.{insertion_ring}
 use Rattle.side_model.specs.Noted.{insertions_of}
 use Rattle.side_model.specs.Rings.{RingShows, IsInsertion, is_sure_insertion}
-use Rattle.safety_model.specs.Recording.{Recording, history_of, lost_of}
+use Rattle.log_model.specs.Spans.{spans_of}
+use Rattle.safety_model.specs.Recording.{Recording, told_of, history_of, lost_of}
 use Rattle.safety_model.specs.Unit.{UnitSafe, UnitMarkHolds}
 use Rattle.safety_model.specs.Cards.{CardSafe, Agree}
 use Rattle.safety_model.specs.Safe.{Devices, card_of, breakdowns_of, IsVerdict, WasFound}
@@ -27,6 +28,7 @@ use Rattle.log_model.specs.declared.lines.Break.{Break}
 use Rattle.log_model.specs.declared.lines.Break.TheVariants.{Cut, Tear}
 use Rattle.run_outcome.specs.declared.outcome.Outcome.{Outcome}
 use Rattle.recorder_with_cards.specs.Ends.{recording_of, EndsTrace}
+use Rattle.recorder_with_cards.proofs.KeptAfter.{more-found}
 use Rattle.tacho.specs.Anew.{EndsAnew, began_at}
 
 -- a device was read, if at all
@@ -104,6 +106,10 @@ module _ (U V : State) (is : IsRead U V) where
     told-read A y h = h
     told-read B y h = h
 
+    told-back : (c : Card) (y : List ℕ) → (card_of (devices V Y Z) c).left_since (card_of p c).clock y → (card_of (devices U Y Z) c).left_since (card_of p c).clock y
+    told-back A y h = h
+    told-back B y h = h
+
     card-back : (c : Card) (y : List ℕ) → (card_of (devices V Y Z) c).may_leave y → (card_of (devices U Y Z) c).may_leave y
     card-back A y h = h
     card-back B y h = h
@@ -167,6 +173,9 @@ module _ (U V : State) (is : IsRead U V) where
           };
           side = record { shows = λ y left. side-read y (h.side.shows y (now-back y left)) };
           written = λ c valid y left. h.written c valid y (card-back c y left);
+          kept = more-found (U.left_since p.unit.clock) (V.left_since p.unit.clock) (λ y left. is.leaves.keeps p.unit.clock y before left) r.log (spans_of (told_of r)) h.kept;
+          dense = record { insertions = λ dense y left. h.dense.insertions dense y (now-back y left); places = λ dense y left. h.dense.places dense y (now-back y left) };
+          holders = λ c valid y left. h.holders c valid y (told-back c y left);
         }
 
 -- and so it is of what was recorded on new devices

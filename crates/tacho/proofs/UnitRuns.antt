@@ -78,6 +78,7 @@ module _ (old new : Outside) (outcome : Outcome) (start : ℕ) (items : List Ite
     finds_bad_unit = λ s is x place told starts sound bad. absurd (sound.unit of_unit.1);
     finds_clock_back = λ s is x told starts sound decodes back. absurd (sound.unit of_unit.1);
     broke = broke;
+    calm = λ no. absurd no;
     early = λ s is told ref. record { by = (run.MediumFault device); is = refl; when = on-read (run.MediumFault device) when s is told };
     unbroken = λ s is x told starts sound counts. unbroken-log (run_log outcome) (refused x starts.alone starts.clock).2.breaks;
     whole = λ s is x told starts sound counts no. absurd no;
@@ -97,6 +98,7 @@ module _ (old new : Outside) (outcome : Outcome) (start : ℕ) (items : List Ite
         finds_bad_unit = λ s is x p told starts sound found. let e : Some place ≡ Some p = sym (bad x starts) ∙ found in let f : place ≡ p = cc in ap BadUnit f;
         finds_clock_back = λ s is x told starts sound decodes back. absurd (none-bad x place decodes (bad x starts));
         broke = broke;
+        calm = λ no. absurd no;
         early = λ s is told ref. record { by = (run.BadUnit place); is = refl; when = on-read (run.BadUnit place) when s is told };
         unbroken = λ s is x told starts sound counts. unbroken-log (run_log outcome) (refused x starts.alone starts.clock).2.breaks;
         whole = λ s is x told starts sound counts no. absurd no;
@@ -128,6 +130,7 @@ module _ (old new : Outside) (outcome : Outcome) (start : ℕ) (items : List Ite
             let kept_is = (found x starts).1 in let w = (at x starts).0 in
             ap (λ (k : ℕ). ClockBack k second) (sym kept_is) ∙ ap (ClockBack (last_kept x)) (w ∙ same);
         broke = broke;
+        calm = λ no. absurd no;
         early = λ s is told ref. record { by = (run.ClockBack kept second); is = refl; when = on-read (run.ClockBack kept second) when s is told };
         unbroken = λ s is x told starts sound counts. unbroken-log (run_log outcome) (refused x starts.alone starts.clock).2.breaks;
         whole = λ s is x told starts sound counts no. absurd no;
@@ -171,9 +174,9 @@ pub unit-run : (old new : Outside) (outcome : Outcome) (start : ℕ) (items : Li
     → ((x : List ℕ) → StartsAs x old.unit → new.unit.clock < last_count → IsRecorded x start items old.unit.clock outcome new.unit)
     → ((x : List ℕ) → StartsAs x old.unit → new.unit.clock < last_count → IsCaused old new start items outcome)
     → ((x : List ℕ) → StartsAs x old.unit → Decodes x × (last_kept x < start / 60))
-    → HasBroken old.unit new.unit (length (cuts true (run_log outcome))) → Rose old.unit.faults new.unit.faults ⊎ (new.unit.breakdowns ≡ old.unit.breakdowns) → new.card_a.memory ≡ old.card_a.memory → new.card_b.memory ≡ old.card_b.memory
+    → HasBroken old.unit new.unit (length (cuts true (run_log outcome))) → (cuts true (run_log outcome) ≡ [] → new.unit.breakdowns ≡ old.unit.breakdowns) → Rose old.unit.faults new.unit.faults ⊎ (new.unit.breakdowns ≡ old.unit.breakdowns) → new.card_a.memory ≡ old.card_a.memory → new.card_b.memory ≡ old.card_b.memory
     → (fault : Fault) → IsRun fault → (fault ≡ WriteFault → Rose old.sink.faults new.sink.faults) → EndsOnUnit old new outcome fault
-unit-run old new outcome start items for_unit is_read recorded caused begun broke unit_unbroken same_a same_b fault ran rose = record {
+unit-run old new outcome start items for_unit is_read recorded caused begun broke calm unit_unbroken same_a same_b fault ran rose = record {
   for_unit = λ s is told. subst IsForUnit (is_read told.text s is told.told told.trace).1 for_unit;
   only = λ device is. absurd (subst IsRun is ran);
   run = λ s is x told starts done. of_trace s is x (is_read told.text s is told.told told.trace) (recorded x starts.alone starts.clock);
@@ -185,6 +188,7 @@ unit-run old new outcome start items for_unit is_read recorded caused begun brok
   finds_bad_unit = λ s is x place told starts sound bad. absurd (none-bad x place (begun x starts.alone).0 bad);
   finds_clock_back = λ s is x told starts sound decodes back. absurd (not_back s x (is_read told.text s is told.told told.trace).0 (begun x starts.alone).1 back);
   broke = broke;
+  calm = λ done. calm;
   early = λ s is told ref. absurd (refused-no-run fault ref ran);
   unbroken = λ s is x told starts sound counts. unbroken_as x starts sound counts;
   whole = λ s is x told starts sound counts done cards. there s is x (of_trace s is x (is_read told.text s is told.told told.trace) (recorded x starts.alone starts.clock)) (unbroken_as x starts sound counts).0 cards;

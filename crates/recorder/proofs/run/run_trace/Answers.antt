@@ -52,7 +52,9 @@ use Rattle.run_outcome.proofs.Items.{seconds-here, offs-here}
 use Rattle.recorder.proofs.Items.{each-at, room-less, room-behind, waiting-most, total-parts}
 use Rattle.recorder.proofs.Standing.{may-show}
 use Rattle.recorder.proofs.Turning.{booked-at, goes-then}
-use Rattle.run_outcome.proofs.Broken.{broke-none, broke-then, broke-all, rose-by}
+use Rattle.run_outcome.proofs.Broken.{rose-by}
+use Rattle.run_outcome.proofs.Broken as counts
+use Rattle.recorder.proofs.Broken.{broke-none, broke-then, broke-all, calm-all}
 use Rattle.recorder.proofs.run.run_trace.Goals as goal
 
 -- what no card brings
@@ -100,7 +102,7 @@ loop-i-init g c =
       };
       unfound = let u = c.new-run.ensures.unfound in omega (arith, u);
       goes_on = record { clock = let k = c.judge.ensures.clock in omega (arith, k); tells = run.tells; faults = c.judge.ensures.faults; breakdowns = c.judge.ensures.breakdowns; unbroken = inr (c.in_ok-opened.ensures.cause.unbroken refl) };
-      broke = broke-none c.args.outcome.now.breaks.items c.judge.ensures.breakdowns;
+      broke = broke-none c.args.outcome.now.breaks.items (c.in_ok-opened.ensures.cause.unbroken refl);
       waits = waits-none c.args.trace.now.items;
       finds = refl;
       began = λ x starts.
@@ -308,7 +310,7 @@ returns-in_err-item-clause-broke g c =
 
 pub returns-in_err-opened-clause-broke : goal.returns-in_err-opened-clause-broke
 returns-in_err-opened-clause-broke g c =
-    broke-all (run_log c.args.outcome.now) (ap (λ (l : Listed Break). l.items) c.requires.reserved.breaks) c.judge.ensures.faults (broke-none c.args.outcome.now.breaks.items c.judge.ensures.breakdowns)
+    counts.broke-all (run_log c.args.outcome.now) (ap (λ (l : Listed Break). l.items) c.requires.reserved.breaks) c.judge.ensures.faults (counts.broke-none c.args.outcome.now.breaks.items c.judge.ensures.breakdowns)
 
 -- ---- whatever the unit tells
 
@@ -328,3 +330,6 @@ returns-in_err-item-clause-early g c =
 
 pub returns-clause-unbroken : goal.returns-clause-unbroken
 returns-clause-unbroken g c = c.loop-i.invariant.goes_on.unbroken
+
+pub returns-clause-calm : goal.returns-clause-calm
+returns-clause-calm g c = calm-all (run_log c.loop-i.outcome) (ap (λ (l : Listed Break). l.items) c.requires.reserved.breaks) c.loop-i.invariant.broke

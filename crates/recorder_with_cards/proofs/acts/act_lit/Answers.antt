@@ -36,7 +36,7 @@ use Rattle.recorder_with_cards.proofs.ActsRinged.{ringed-on, ringed-cuts, cut-st
 use Rattle.run_keeping.specs.Keeping.{with_lines}
 use Rattle.recorder_with_cards.proofs.Staying.{done-watched}
 use Rattle.run_keeping.proofs.Later.{later-same}
-use Rattle.run_outcome.proofs.Broken.{broke-none}
+use Rattle.run_acts.proofs.Broken.{broke-none}
 use Rattle.run_acts.proofs.Uncut.{uncut-broke, cut-broke}
 use Rattle.recorder_with_cards.proofs.Uncut.{done-uncut}
 use Rattle.recorder_with_cards.proofs.acts.act_lit.Goals as goal
@@ -238,4 +238,4 @@ returns-then-is_err-clause-broke g c =
     cut-broke _ _ _ _ _ (g.M.Medium.state c.args.unit.now) (g.M.Medium.state c.carry_out.new.unit) (is_err c.carry_out.result) (c.requires.going.lit (ap is_lit c.requires.lit)).ready.unit_ready.works c.carry_out.ensures.cause (sym c.is_err.ensures.value ∙ c.if-is_err.true) (done-uncut c.args.action _ c.args.speed _ _ _ _ _ c.carry_out.ensures.done) (ap (λ (l : Listed Break). l.items) c.cut.ensures.breaks)
 
 pub returns-else-is_err-clause-broke : goal.returns-else-is_err-clause-broke
-returns-else-is_err-clause-broke g c = uncut-broke _ _ (g.M.Medium.state c.args.unit.now) (g.M.Medium.state c.carry_out.new.unit) (is_err c.carry_out.result) c.carry_out.ensures.cause (done-uncut c.args.action _ c.args.speed _ _ _ _ _ c.carry_out.ensures.done)
+returns-else-is_err-clause-broke g c = uncut-broke _ _ (g.M.Medium.state c.args.unit.now) (g.M.Medium.state c.carry_out.new.unit) (is_err c.carry_out.result) c.carry_out.ensures.cause (sym c.is_err.ensures.value ∙ c.if-is_err.false) (done-uncut c.args.action _ c.args.speed _ _ _ _ _ c.carry_out.ensures.done)

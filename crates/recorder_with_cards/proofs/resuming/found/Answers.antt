@@ -35,7 +35,7 @@ use Rattle.recorder_with_cards.proofs.Read.{may-of, unit-tells, image-of, at-ima
 use Rattle.recorder_with_cards.specs.Noting.{NotesWaking}
 use Rattle.recorder_with_cards.proofs.WakeNoted.{as-read}
 use Rattle.run_keeping.proofs.Later.{later-same}
-use Rattle.run_outcome.proofs.Broken.{broke-found, broke-then}
+use Rattle.run_acts.proofs.Broken.{broke-found, broke-then}
 use Rattle.run_acts.proofs.Uncut.{uncut-broke, cut-broke}
 use Rattle.recorder_with_cards.proofs.resuming.found.Goals as goal
 
@@ -329,4 +329,4 @@ returns-then-is_err-clause-broke g c =
     (cut-broke _ _ _ _ _ (g.M.Medium.state c.args.unit.now) (g.M.Medium.state c.resume.new.unit) (is_err c.resume.result) c.requires.loaded.works c.resume.ensures.cause (sym c.is_err.ensures.value ∙ c.if-is_err.true) c.resume.ensures.uncut (ap (λ (l : Listed Break). l.items) c.cut.ensures.breaks))
 
 pub returns-clause-broke : goal.returns-clause-broke
-returns-clause-broke g c = broke-then (broke-found _ _ {old = (g.M.Medium.state c.args.unit.now)} {new = (g.M.Medium.state c.args.unit.now)} (ap (λ (l : Listed Break). l.items) c.learn.ensures.breaks) (omega arith)) (uncut-broke _ _ (g.M.Medium.state c.args.unit.now) (g.M.Medium.state c.resume.new.unit) (is_err c.resume.result) c.resume.ensures.cause c.resume.ensures.uncut)
+returns-clause-broke g c = broke-then (broke-found _ _ {old = (g.M.Medium.state c.args.unit.now)} {new = (g.M.Medium.state c.args.unit.now)} (ap (λ (l : Listed Break). l.items) c.learn.ensures.breaks) (omega arith)) (uncut-broke _ _ (g.M.Medium.state c.args.unit.now) (g.M.Medium.state c.resume.new.unit) (is_err c.resume.result) c.resume.ensures.cause (sym c.is_err.ensures.value ∙ c.if-is_err.false) c.resume.ensures.uncut)

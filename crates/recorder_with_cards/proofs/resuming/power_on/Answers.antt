@@ -33,7 +33,7 @@ use Rattle.run_acts.proofs.Standing.{cut-at}
 use Rattle.tach_media.proofs.Runs.{on_ok, ok_gives}
 use Rattle.recorder_with_cards.proofs.WakeNoted.{read-says, read-noted, read-then}
 use Rattle.run_keeping.proofs.Later.{state-revived, later-then, later-of-unit}
-use Rattle.run_outcome.proofs.Broken.{broke-none, broke-once, broke-then}
+use Rattle.run_acts.proofs.Broken.{broke-none, broke-once, broke-then}
 use Rattle.recorder_with_cards.proofs.resuming.power_on.Goals as goal
 
 pub returns-in-Err-Failed-clause-going : goal.returns-in-Err-Failed-clause-going
@@ -293,10 +293,12 @@ returns-in-Err-Failed-clause-later g c = later-of-unit (g.M.Medium.state c.args.
 -- ---- how often the unit broke down
 
 pub returns-in-Ok-clause-broke : goal.returns-in-Ok-clause-broke
-returns-in-Ok-clause-broke g c = broke-then (broke-none c.args.outcome.now.breaks.items {old = (g.M.Medium.state c.args.unit.now)} {new = (g.M.Medium.state c.load.new.unit)} c.load.ensures.cause.breakdowns) c.found.ensures.broke
+returns-in-Ok-clause-broke g c = broke-then (broke-none c.args.outcome.now.breaks.items {old = (g.M.Medium.state c.args.unit.now)} {new = (g.M.Medium.state c.load.new.unit)} (c.in-Ok.ensures.cause.unbroken refl)) c.found.ensures.broke
 
 pub returns-in-Err-BadUnit-clause-broke : goal.returns-in-Err-BadUnit-clause-broke
-returns-in-Err-BadUnit-clause-broke g c = broke-none c.args.outcome.now.breaks.items {old = (g.M.Medium.state c.args.unit.now)} {new = (g.M.Medium.state c.load.new.unit)} c.load.ensures.cause.breakdowns
+returns-in-Err-BadUnit-clause-broke g c =
+    let cause = rw c.in-Err-BadUnit.field-0-is at c.in-Err-BadUnit.ensures.cause in
+    broke-none c.args.outcome.now.breaks.items {old = (g.M.Medium.state c.args.unit.now)} {new = (g.M.Medium.state c.load.new.unit)} (cause.unbroken refl)
 
 pub returns-in-Err-Failed-clause-broke : goal.returns-in-Err-Failed-clause-broke
 returns-in-Err-Failed-clause-broke g c =

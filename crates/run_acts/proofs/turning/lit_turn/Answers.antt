@@ -388,7 +388,7 @@ returns-then-is_err-clause-broke g c =
     (sym c.is_err.ensures.value ∙ c.if-is_err.true) (turn-uncut _ _ _ _ _ _ _ _ _ c.keep_turn-kept.ensures.kept) (ap (λ (l : Listed Break). l.items) c.cut.ensures.breaks)
 
 pub returns-else-is_err-clause-broke : goal.returns-else-is_err-clause-broke
-returns-else-is_err-clause-broke g c = uncut-broke _ _ (g.M.Medium.state c.args.unit.now) (g.M.Medium.state c.keep_turn-kept.new.unit) (is_err c.keep_turn-kept.result) c.keep_turn-kept.ensures.cause (turn-uncut _ _ _ _ _ _ _ _ _ c.keep_turn-kept.ensures.kept)
+returns-else-is_err-clause-broke g c = uncut-broke _ _ (g.M.Medium.state c.args.unit.now) (g.M.Medium.state c.keep_turn-kept.new.unit) (is_err c.keep_turn-kept.result) c.keep_turn-kept.ensures.cause (sym c.is_err.ensures.value ∙ c.if-is_err.false) (turn-uncut _ _ _ _ _ _ _ _ _ c.keep_turn-kept.ensures.kept)
 
 -- ---- the events
 

@@ -25,7 +25,7 @@ returns-then-is_for_unit-clause-ends g c =
     ends-run _ _ c.run_trace.new.outcome c.print_outcome.result e.end e.finds_bad_line e.finds_too_long
     (λ fault ran rose. inr (inl (unit-run _ _ c.run_trace.new.outcome c.in-Ok.trace.start c.in-Ok.trace.items (c.is_for_unit.ensures.for_unit c.if-is_for_unit.true) e.reads
     (λ x alone clock cards. f.followed cards x alone clock (omega (arith, e.few)))
-    (λ x alone clock. f.causes x alone clock (omega (arith, e.few))) f.begun f.broke f.unbroken (ap g.C.Chip.state f.card_a) (ap g.C.Chip.state f.card_b) fault ran rose)))
+    (λ x alone clock. f.causes x alone clock (omega (arith, e.few))) f.begun f.broke f.calm f.unbroken (ap g.C.Chip.state f.card_a) (ap g.C.Chip.state f.card_b) fault ran rose)))
     c.print_outcome.ensures.ok c.print_outcome.ensures.err c.print_outcome.ensures.cause
 
 pub returns-in-Err-record_with_cards-clause-ends : goal.returns-in-Err-record_with_cards-clause-ends
@@ -46,7 +46,7 @@ returns-clause-ends g c =
     let f = c.in_default-record_with_cards.ensures in
     ends-run _ _ c.run_trace-2.new.outcome c.print_outcome-2.result e.end e.finds_bad_line e.finds_too_long
     (λ fault ran rose. inr (inr (cards-run _ _ c.run_trace-2.new.outcome c.in-Ok.trace.start c.in-Ok.trace.items (c.is_for_unit.ensures.card c.if-is_for_unit.false) f.later f.broke e.reads
-    (λ x a b begins clocks. f.recorded x a b begins clocks (omega (arith, e.few))) f.begun fault ran rose)))
+    (λ x a b begins clocks. f.recorded x a b begins clocks (omega (arith, e.few))) f.begun f.calm fault ran rose)))
     c.print_outcome-2.ensures.ok c.print_outcome-2.ensures.err c.print_outcome-2.ensures.cause
 
 -- ---- the cause of a refusal

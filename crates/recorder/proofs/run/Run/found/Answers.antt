@@ -15,7 +15,7 @@ use Rattle.log_model.specs.declared.lines.Break.{Break}
 use Rattle.run_outcome.specs.Lines.{Listed, cut_at, found_from}
 use Rattle.recorder.specs.declared.run.Run.{Run}
 use Rattle.recorder.proofs.Turning.{booked-at, lost-booked}
-use Rattle.run_outcome.proofs.Broken.{broke-found, broke-once, broke-then}
+use Rattle.recorder.proofs.Broken.{broke-found, broke-once, broke-then}
 use Rattle.recorder.proofs.Turning.{goes-none}
 use Rattle.std.proofs.lemmas.Grind.{common_steps}
 use Rattle.std.specs.Prelude.{IfErr}
@@ -95,7 +95,7 @@ returns-then-is_err-clause-broke g c = broke-then
     (c.resume.ensures.cause.breaks c.requires.loaded.works (sym c.is_err.ensures.value ∙ c.if-is_err.true)))
 
 pub returns-clause-broke : goal.returns-clause-broke
-returns-clause-broke g c = broke-found _ _ (ap (λ (l : Listed Break). l.items) c.find.ensures) c.resume.ensures.cause.breakdowns
+returns-clause-broke g c = broke-found _ _ (ap (λ (l : Listed Break). l.items) c.find.ensures) (c.resume.ensures.cause.unbroken (sym c.is_err.ensures.value ∙ c.if-is_err.false))
 
 pub returns-clause-even : goal.returns-clause-even
 returns-clause-even g c = λ speed lit. fresh-goes c.begin_span.new.self.watch c.begin_span.ensures.watch.stand speed

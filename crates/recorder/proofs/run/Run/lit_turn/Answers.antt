@@ -11,7 +11,7 @@ use Rattle.log_model.specs.declared.lines.Break.{Break}
 use Rattle.run_outcome.specs.Lines.{Listed, cut_at}
 use Rattle.recorder.specs.Keeping.{AreDue, kept_after, AreFrom, due_after, kept_all, IsBrokenOff, AreAllMarked}
 use Rattle.recorder.proofs.Turning.{turn-decides, turn-end, turn-low, turn-room, turn-room_lit, turn-room_lost, turn-stands, turn-kept, turn-broken, turn-unnoted, break-lit, break-lost}
-use Rattle.run_outcome.proofs.Broken.{broke-none, broke-once}
+use Rattle.recorder.proofs.Broken.{broke-none, broke-once}
 use Rattle.event_notes.specs.declared.watch.Watch.{Watch}
 use Rattle.recorder.specs.declared.run.Power.TheVariants.{Lit, Lost}
 use Rattle.recorder.specs.Watching.{IsTurnBrokenOff, IsTurnWatched, GoesAt}
@@ -164,7 +164,7 @@ returns-in-Err-clause-booked g c = λ s b t h below.
     all
 
 pub returns-in-Ok-clause-broke : goal.returns-in-Ok-clause-broke
-returns-in-Ok-clause-broke g c = broke-none c.args.outcome.now.breaks.items c.in-Ok.ensures.cause.breakdowns
+returns-in-Ok-clause-broke g c = broke-none c.args.outcome.now.breaks.items (c.in-Ok.ensures.cause.unbroken refl)
 
 pub returns-in-Err-clause-broke : goal.returns-in-Err-clause-broke
 returns-in-Err-clause-broke g c =

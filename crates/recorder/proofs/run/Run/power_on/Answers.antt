@@ -14,7 +14,7 @@ use Rattle.log_model.specs.declared.lines.Break.{Break}
 use Rattle.run_outcome.specs.Lines.{Listed}
 use Rattle.recorder.specs.Booked.{Booked, due_of}
 use Rattle.recorder.proofs.Turning.{lost-booked, left-decodes}
-use Rattle.run_outcome.proofs.Broken.{broke-none, broke-once, broke-then}
+use Rattle.recorder.proofs.Broken.{broke-none, broke-once, broke-then}
 use Rattle.recorder.specs.declared.run.Power.TheVariants.{Lit, Lost}
 use Rattle.recorder.proofs.Watching.{noted-by-reads, mended-behind, dark-goes}
 use Rattle.recorder.proofs.Turning.{goes-then, goes-revived}
@@ -73,10 +73,12 @@ returns-in-Err-Failed-clause-booked g c = λ s b t marks h told.
     )
 
 pub returns-in-Ok-clause-broke : goal.returns-in-Ok-clause-broke
-returns-in-Ok-clause-broke g c = broke-then (broke-none c.args.breaks.now.items c.load.ensures.breakdowns) c.found.ensures.broke
+returns-in-Ok-clause-broke g c = broke-then (broke-none c.args.breaks.now.items (c.in-Ok.ensures.cause.unbroken refl)) c.found.ensures.broke
 
 pub returns-in-Err-BadUnit-clause-broke : goal.returns-in-Err-BadUnit-clause-broke
-returns-in-Err-BadUnit-clause-broke g c = broke-none c.args.breaks.now.items c.load.ensures.breakdowns
+returns-in-Err-BadUnit-clause-broke g c =
+    let cause = rw c.in-Err-BadUnit.field-0-is at c.in-Err-BadUnit.ensures.cause in
+    broke-none c.args.breaks.now.items (cause.unbroken refl)
 
 pub returns-in-Err-Failed-clause-broke : goal.returns-in-Err-Failed-clause-broke
 returns-in-Err-Failed-clause-broke g c =

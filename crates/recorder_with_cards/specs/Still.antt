@@ -1,0 +1,27 @@
+-- What a run with cards leaves as it was (profile): a ring of the unit that is dense, and the holder of a card.
+use Rattle.std.specs.Prelude.{List, ℕ}
+use Rattle.trace_model.specs.declared.Card.{Card}
+use Rattle.tach_media.specs.Medium.{State}
+use Rattle.gated_ring.specs.Ring.{Shape, IsDense}
+use Rattle.message_model.specs.Records.{insertion_ring, unit_place_ring}
+use Rattle.card_image.specs.Own.{IsOwnValid}
+use Rattle.safety_model.specs.Recording.{Recording, card_image}
+use Rattle.safety_model.specs.Safe.{Devices, card_of}
+use Rattle.run_strung.specs.Strung.{HasSameHolder}
+
+-- a ring that was dense at the start is dense in each image of the unit that a stop may leave
+abbrev pub StaysDense : Shape → (start : List ℕ) → (now : Devices) → Type 0
+StaysDense ring start now = IsDense ring start → (x : List ℕ) → now.unit.may_leave x → IsDense ring x
+
+-- THE RINGS of insertions and places STAY DENSE, so that of the next run is said again what they show.
+pub record StayDense (r : Recording) (now : Devices) : Type 0 where
+  pub insertions : StaysDense insertion_ring r.unit now
+  pub places : StaysDense unit_place_ring r.unit now
+
+-- each image that a card might have left since a clock has the number and the file Identification of the start, where that was valid
+abbrev pub KeepsHolder : Recording → Card → (since : ℕ) → State → Type 0
+KeepsHolder r c since card = IsOwnValid (card_image r c) → (x : List ℕ) → card.left_since since x → HasSameHolder (card_image r c) x
+
+-- EACH CARD IS ITS HOLDER'S STILL.
+abbrev pub KeepTheirHolders : Recording → (began now : Devices) → Type 0
+KeepTheirHolders r began now = (c : Card) → KeepsHolder r c (card_of began c).clock (card_of now c)
