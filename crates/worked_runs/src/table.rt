@@ -1,21 +1,22 @@
-//! Each call of each device of an hour is stopped, in a run of its own: two cards are exchanged, one of them is torn out and put in again, and
-//! the power is cut. All that was acknowledged is there; and behind one more run the cards have what the unit tells of their slots.
+//! Each call of each device of an hour is stopped, in a run of its own, and many calls of all devices in longer runs: two cards are exchanged, one
+//! of them is torn out and put in again, and the power is cut. All that was acknowledged is there; and behind one more run the cards have what the
+//! unit tells of their slots.
 ghost use Rattle.tach_media.specs.MemMedium.{memory_state};
 ghost use Rattle.unit_model.specs.Image.{IsUnit};
 
 use crate::devices::{Devices, ROOM, Stops, calls_of, new_devices, record};
 use crate::reading::{Told, told_by_card, told_by_unit};
-use crate::units::{M0, T0, image_of, unit_with};
+use crate::units::{M0, T0, image_of, stops, unit_with};
 use recorder_with_cards::{Break, Mark, Outcome};
 use run_model::Device;
-use std::alloc::Global;
+use std::alloc::{AllocError, Global};
 use std::process::Abort;
 use std::rt::HostRuntime;
 use std::test::Fail;
 use tach_media::{Left, Stop};
 
 /// The minutes of both runs lie in the first so many of the day.
-const MINUTES: u16 = 80;
+const MINUTES: u16 = 130;
 
 /// The opening of a run alone.
 const START: &[u8] = b"start 1267401600\n";
@@ -46,8 +47,32 @@ withdraw codriver
 run 240 0
 ";
 
-/// Ten minutes later both come again, and are withdrawn.
-const SECOND: &[u8] = b"start 1267405800
+/// The same in 23 minutes, without the first line.
+const BLOCK: &[u8] = b"insert driver a
+insert codriver b
+select driver work
+run 240 0
+run 240 50
+run 60 0
+withdraw driver
+withdraw codriver
+insert driver b
+insert codriver a
+run 180 40
+tear codriver
+run 60 0
+insert codriver a
+run 240 30
+off 120
+run 120 60
+run 60 0
+withdraw driver
+withdraw codriver
+run 60 0
+";
+
+/// Two hours behind the first second both come again, and are withdrawn.
+const SECOND: &[u8] = b"start 1267408800
 insert driver a
 insert codriver b
 run 300 0
@@ -118,6 +143,15 @@ impl AllTold {
     }
 }
 
+/// Four of these blocks.
+fn blocks(alloc: Global) -> Result<Vec<u8>, AllocError> {
+    let mut text = START.to_vec(alloc)?;
+    for _ in 0..4 {
+        text.extend_from_slice(BLOCK)?;
+    }
+    Ok(text)
+}
+
 /// How many breaks a failed call made.
 fn failed_breaks(outcome: &Outcome) -> usize {
     let mut count = 0;
@@ -133,12 +167,11 @@ fn failed_breaks(outcome: &Outcome) -> usize {
     count
 }
 
-/// Both runs, with this stop in the first.
-fn stop_once(rt: &impl Abort, alloc: Global, device: Device, stop: Stop) -> Result<(), Fail> {
-    let mut d = new_devices(alloc, Stops::one(alloc, device, stop)?)?;
-    let (ended, outcome) = record(alloc, HOUR, &mut d.unit, &mut d.card_a, &mut d.card_b)?;
+/// Both runs, with these stops in the first; what that one tells.
+fn run_both(rt: &impl Abort, alloc: Global, text: &[u8], stops: Stops) -> Result<Outcome, Fail> {
+    let mut d = new_devices(alloc, stops)?;
+    let (ended, outcome) = record(alloc, text, &mut d.unit, &mut d.card_a, &mut d.card_b)?;
     assert_eq!(rt; ended, Ok(()));
-    assert_eq!(rt; failed_breaks(&outcome), 1);
     let image = image_of(alloc, &mut d.unit)?;
     let told = told_by_all(alloc, &mut d)?;
     assert!(rt; told.hold_all(&outcome));
@@ -148,7 +181,7 @@ fn stop_once(rt: &impl Abort, alloc: Global, device: Device, stop: Stop) -> Resu
     assert_eq!(rt; (more.breaks.len(), more.refused.len()), (0, 0));
     let told = told_by_all(alloc, &mut d)?;
     assert!(rt; told.hold_all(&outcome) && told.hold_all(&more) && told.agree());
-    Ok(())
+    Ok(outcome)
 }
 
 /// Each of these calls of a device.
@@ -162,7 +195,9 @@ fn stop_calls(
 ) -> Result<(), Fail> {
     assert!(rt; from < to);
     for call in from..to {
-        stop_once(rt, alloc, device, Stop { call, left })?;
+        let stops = Stops::one(alloc, device, Stop { call, left })?;
+        let outcome = run_both(rt, alloc, HOUR, stops)?;
+        assert!(rt; failed_breaks(&outcome) == 1, "{call}");
     }
     Ok(())
 }
@@ -181,6 +216,36 @@ fn stop_each(rt: &(impl Abort + AllocGlobal), left: Left) -> Result<(), Fail> {
             whole.of(device),
             left,
         )?;
+    }
+    Ok(())
+}
+
+/// Runs in which 17 calls of the devices are stopped, seven calls later each time.
+fn stop_often(rt: &(impl Abort + AllocGlobal), left: Left) -> Result<(), Fail> {
+    let alloc = rt.alloc();
+    let text = blocks(alloc)?;
+    let opening = calls_of(alloc, START)?;
+    for round in 0..8u64 {
+        let later = 7 * round;
+        let unit = opening.unit.saturating_add(later);
+        let card_a = opening.card_a.saturating_add(later);
+        let card_b = opening.card_b.saturating_add(2 * later);
+        let step = opening.unit.saturating_add(97);
+        let stops = Stops {
+            unit: stops(alloc, 6, unit, step, 1, left)?,
+            card_a: stops(alloc, 6, card_a, 150, 1, left)?,
+            card_b: stops(alloc, 5, card_b, 160, 1, left)?,
+        };
+        let outcome = run_both(rt, alloc, &text, stops)?;
+        assert!(rt; outcome.breaks.len() >= 17);
+    }
+    Ok(())
+}
+
+#[test]
+fn many_stops_in_a_run(rt: HostRuntime) -> Result<(), Fail> {
+    for left in [Left::Before, Left::After, Left::Torn(0x55)] {
+        stop_often(&rt, left)?;
     }
     Ok(())
 }
