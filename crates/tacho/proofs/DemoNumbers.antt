@@ -65,6 +65,7 @@ module _ (x a b : List ℕ) (start : ℕ) (items : List Item) (out : Outcome) (p
     };
     side = record { shows = λ y left. side-by y (h.side.shows y left) };
     written = h.written;
+    stays = h.stays;
     kept = subst (λ (n : ℕ). TellsKept r n now.unit) unit h.kept;
     dense = h.dense;
     holders = λ c. subst (λ (n : ℕ). KeepsHolder r c n (card_of now c)) (cards c) (h.holders c);

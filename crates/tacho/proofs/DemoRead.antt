@@ -17,7 +17,7 @@ use Rattle.message_model.specs.Records.{insertion_ring}
 use Rattle.side_model.specs.Noted.{insertions_of}
 use Rattle.side_model.specs.Rings.{RingShows, IsInsertion, is_sure_insertion}
 use Rattle.log_model.specs.Spans.{spans_of}
-use Rattle.safety_model.specs.Recording.{Recording, told_of, history_of, lost_of}
+use Rattle.safety_model.specs.Recording.{Recording, card_image, told_of, history_of, lost_of}
 use Rattle.safety_model.specs.Unit.{UnitSafe, UnitMarkHolds}
 use Rattle.safety_model.specs.Cards.{CardSafe, Agree}
 use Rattle.safety_model.specs.Safe.{Devices, card_of, breakdowns_of, IsVerdict, WasFound}
@@ -27,6 +27,7 @@ use Rattle.run_recorded.specs.Whole.{IsFull}
 use Rattle.log_model.specs.declared.lines.Break.{Break}
 use Rattle.log_model.specs.declared.lines.Break.TheVariants.{Cut, Tear}
 use Rattle.run_outcome.specs.declared.outcome.Outcome.{Outcome}
+use Rattle.run_acts.specs.Stays.{ShowsStays}
 use Rattle.recorder_with_cards.specs.Ends.{recording_of, EndsTrace}
 use Rattle.recorder_with_cards.proofs.KeptAfter.{more-found}
 use Rattle.tacho.specs.Anew.{EndsAnew, began_at}
@@ -173,6 +174,7 @@ module _ (U V : State) (is : IsRead U V) where
           };
           side = record { shows = λ y left. side-read y (h.side.shows y (now-back y left)) };
           written = λ c valid y left. h.written c valid y (card-back c y left);
+          stays = λ none c valid. subst (λ (s : State). ShowsStays r.unit (card_image r c) s) (same-card c) (h.stays none c valid);
           kept = more-found (U.left_since p.unit.clock) (V.left_since p.unit.clock) (λ y left. is.leaves.keeps p.unit.clock y before left) r.log (spans_of (told_of r)) h.kept;
           dense = record { insertions = λ dense y left. h.dense.insertions dense y (now-back y left); places = λ dense y left. h.dense.places dense y (now-back y left) };
           holders = λ c valid y left. h.holders c valid y (told-back c y left);
