@@ -282,11 +282,12 @@ module _ (o : Origin) (done : List TraceSecond) (s : TraceSecond) (n : ℕ) (wai
     plain : (vs : List Verdict) → accepts s.number vs ≡ [] → ((y : List ℕ) → Y.may_leave y → (x : List ℕ) × X.may_leave x × ((kind : ℕ) → (Clear ⊎ NotesNone kind s.speed) → events_in (sizes_in o e.which) kind y ≡ events_in (sizes_in o e.which) kind x))
         → BringsNow o e.which s.number s.speed Clear vs (arranged e.which U X Z) (arranged e.which W Y Z)
     plain vs none same = brings vs [] (subst (AreUses (images_in o (arranged e.which W Y Z) e.which) []) (sym none) tt) (λ y at.
-        let was = same y at in
-        ( was.0,
+        let was = same y at in (
+          was.0,
           was.1,
           (λ clear kind. was.2 kind (inl clear) ∙ sym (ap (all_noted (events_in (sizes_in o e.which) kind was.0)) (ap (λ (us : List ℕ). events_by kind [] (movings e.which (vehicle_in o) s.speed us) (unclosed_by [] us)) none ∙ nothing-told e.which (vehicle_in o) s.speed kind))),
-          (λ kind quiet. was.2 kind (inr quiet))))
+          (λ kind quiet. was.2 kind (inr quiet)),
+        ))
 
     -- what an image shows where the events of its ending were cut short, or none are noted
     module _ (a : Application) (x y : List ℕ) (sizes : own_sizes x ≡ a) (at : X.may_leave x) where
@@ -331,18 +332,20 @@ module _ (o : Origin) (done : List TraceSecond) (s : TraceSecond) (n : ℕ) (wai
     by-way (Judged a Unasked) is so b = plain [] refl (λ y at. let was = b y at in (was.0, was.1, λ kind h. subst (λ (p : Application). events_in p kind y ≡ events_in p kind was.0) (app-is a was.0 y was.2 was.1) (was.3 kind)))
     by-way (Judged a (Unnoted entered clock)) is so b =
         let one = b now-left.0 now-left.2 in
-        brings (verdict.Accepted entered.replayed ∷ []) (current_use (own_sizes one.0) one.0 ∷ []) ((one.0, since one.0 one.1, refl), tt) (λ y at. let was = b y at in
-        ( was.0,
+        brings (verdict.Accepted entered.replayed ∷ []) (current_use (own_sizes one.0) one.0 ∷ []) ((one.0, since one.0 one.1, refl), tt) (λ y at. let was = b y at in (
+          was.0,
           was.1,
           (λ clear kind. absurd (let clash : true ≡ false = sym so.0 ∙ clear.0 in cc)),
-          (λ kind quiet. quiet-one a was.0 y was.2 was.1 true kind (was.3 kind) quiet)))
+          (λ kind quiet. quiet-one a was.0 y was.2 was.1 true kind (was.3 kind) quiet),
+        ))
     by-way (Judged a (Lost entered clock entry)) is so b =
         let one = b now-left.0 now-left.2 in
-        brings (verdict.Accepted entered.replayed ∷ []) (current_use (own_sizes one.0) one.0 ∷ []) ((one.0, since one.0 one.1, refl), tt) (λ y at. let was = b y at in
-        ( was.0,
+        brings (verdict.Accepted entered.replayed ∷ []) (current_use (own_sizes one.0) one.0 ∷ []) ((one.0, since one.0 one.1, refl), tt) (λ y at. let was = b y at in (
+          was.0,
           was.1,
           (λ clear kind. absurd (torn-then (Lost entered clock entry) (ap ending_of is) ((log_of out).finds ++ finds_by (Lost entered clock entry) e) refl clear)),
-          (λ kind quiet. quiet-both a was.0 y was.2 was.1 true kind (was.3 kind) quiet)))
+          (λ kind quiet. quiet-both a was.0 y was.2 was.1 true kind (was.3 kind) quiet),
+        ))
     by-way (Judged a (Seated entered clock entry)) is so b = by failed refl b
       where
         one_ : (f : Bool) → BringsOnCard (Judged a (Seated entered clock entry)) k.memory.registration e f X Y → (x : List ℕ) × X.may_leave x × (own_sizes x ≡ a) × ShowsMore a (brought_on (Seated entered clock entry) a k.memory.registration e x) (is_cut_short (Seated entered clock entry) f) x now-left.0
@@ -357,19 +360,21 @@ module _ (o : Origin) (done : List TraceSecond) (s : TraceSecond) (n : ℕ) (wai
         by : (f : Bool) → failed ≡ f → BringsOnCard (Judged a (Seated entered clock entry)) k.memory.registration e f X Y → BringsNow o e.which s.number s.speed Clear (verdict.Accepted entered.replayed ∷ []) (arranged e.which U X Z) (arranged e.which W Y Z)
         by true fails h =
             let one = one_ true h in
-            brings (verdict.Accepted entered.replayed ∷ []) (current_use (own_sizes one.0) one.0 ∷ []) ((one.0, since one.0 one.1, refl), tt) (λ y at. let was = h y at in
-            ( was.0,
+            brings (verdict.Accepted entered.replayed ∷ []) (current_use (own_sizes one.0) one.0 ∷ []) ((one.0, since one.0 one.1, refl), tt) (λ y at. let was = h y at in (
+              was.0,
               was.1,
               (λ clear kind. absurd (let clash : true ≡ false = sym fails ∙ clear.0 in cc)),
-              (λ kind quiet. quiet-both a was.0 y was.2 was.1 true kind (was.3 kind) quiet)))
+              (λ kind quiet. quiet-both a was.0 y was.2 was.1 true kind (was.3 kind) quiet),
+            ))
         by false fine h =
             let one = one_ false h in
             brings (verdict.Accepted entered.replayed ∷ []) (current_use (own_sizes one.0) one.0 ∷ []) ((one.0, since one.0 one.1, refl), tt) (λ y at.
-            subst (λ (z : List ℕ). Step Clear (current_use (own_sizes one.0) one.0 ∷ []) (s.number ∷ []) z) (only y at)
-            ( one.0,
+            subst (λ (z : List ℕ). Step Clear (current_use (own_sizes one.0) one.0 ∷ []) (s.number ∷ []) z) (only y at) (
+              one.0,
               one.1,
               (λ clear kind. whole-both a one.0 now-left.0 one.2 one.1 kind (one.3 kind)),
-              (λ kind quiet. quiet-both a one.0 now-left.0 one.2 one.1 false kind (one.3 kind) quiet)))
+              (λ kind quiet. quiet-both a one.0 now-left.0 one.2 one.1 false kind (one.3 kind) quiet),
+            ))
 
     own-brings : BringsNow o e.which s.number s.speed Clear (found_in (log_of out') s.number (In n) e.slot) (arranged e.which U X Z) (arranged e.which W Y Z)
     own-brings =

@@ -261,11 +261,11 @@ module _ (o : Origin) (done : List TraceSecond) (s : TraceSecond) (run : Run) (o
     gap-cards e left keeps cards failed after own vehicle gap list fails fell notes =
         gap-noted o done s w.within.b.run.log (log_of out) later d e off torn keeps left cards same
         (λ c valid.
-            let follows = follows-powered (log_of out) later (went w.within.b.run.log done).before s off torn c in
-            let are : gaps_on c (vehicle_in o) (gap_behind w.within.b.run.log done s [] later) ≡ cond (has_card crew c) (gap_on gap (vehicle_in o)) [] =
-            ap (λ (r : Bool). gaps_on c (vehicle_in o) (cond (not r) (gap_before as_accepted w.within.b.run.log (seen_spans (seen_of w.within.b.run.log done)) (seen_behind w.within.b.run.log done s [] later)) [])) off
-            ∙ ap (gaps_on c (vehicle_in o)) (before-list (seen_spans (seen_of w.within.b.run.log done)) ∙ list) ∙ of-list c (vehicle_in o) gap in
-            gap-noted-on (sizes_in o c) c (vehicle_in o) later (seen_behind w.within.b.run.log done s [] later) (gap_behind w.within.b.run.log done s [] later) gap failed (card_of d c) (card_of e c) (ap not off) (has_card crew c)
-            (λ has. follows.entered (met-enters c (sym (crew-same c) ∙ has))) are fails (session_of run.keeper.cabin.cards c) (session_of after c)
-            (λ some. crew-same c ∙ session-met c some) (λ none has. follows.torn (lost-torn c none (sym (crew-same c) ∙ has))) (fell c) (sized c valid (session_of run.keeper.cabin.cards c) refl)
-            (subst (λ (r : Registration). NotesOn failed (session_of run.keeper.cabin.cards c) (session_of after c) (gap_on gap r) (card_of d c) (card_of e c)) vehicle (notes c)))
+        let follows = follows-powered (log_of out) later (went w.within.b.run.log done).before s off torn c in
+        let are : gaps_on c (vehicle_in o) (gap_behind w.within.b.run.log done s [] later) ≡ cond (has_card crew c) (gap_on gap (vehicle_in o)) [] =
+        ap (λ (r : Bool). gaps_on c (vehicle_in o) (cond (not r) (gap_before as_accepted w.within.b.run.log (seen_spans (seen_of w.within.b.run.log done)) (seen_behind w.within.b.run.log done s [] later)) [])) off
+        ∙ ap (gaps_on c (vehicle_in o)) (before-list (seen_spans (seen_of w.within.b.run.log done)) ∙ list) ∙ of-list c (vehicle_in o) gap in
+        gap-noted-on (sizes_in o c) c (vehicle_in o) later (seen_behind w.within.b.run.log done s [] later) (gap_behind w.within.b.run.log done s [] later) gap failed (card_of d c) (card_of e c) (ap not off) (has_card crew c)
+        (λ has. follows.entered (met-enters c (sym (crew-same c) ∙ has))) are fails (session_of run.keeper.cabin.cards c) (session_of after c)
+        (λ some. crew-same c ∙ session-met c some) (λ none has. follows.torn (lost-torn c none (sym (crew-same c) ∙ has))) (fell c) (sized c valid (session_of run.keeper.cabin.cards c) refl)
+        (subst (λ (r : Registration). NotesOn failed (session_of run.keeper.cabin.cards c) (session_of after c) (gap_on gap r) (card_of d c) (card_of e c)) vehicle (notes c)))

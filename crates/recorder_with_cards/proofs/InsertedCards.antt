@@ -114,8 +114,8 @@ put-torn log s n slot card c k own begun allowed torn =
         let begun_ : Course = carried_out n (Insert CoDriver card) k in
         let mid : Course = slot_told log s.number (In (n + 1)) moves Driver begun_ in
         let sits : visits (In (n + 1)) CoDriver mid.slots ≡ record { phase = In (n + 1); slot = CoDriver; card = card } ∷ [] =
-            ap (λ (q : Option Sitting). map (λ (x : Card). record { phase = In (n + 1); slot = CoDriver; card = x }) (card_in q))
-            (still-codriver log s.number (In (n + 1)) moves Driver begun_ (is_torn_in log s.number (In (n + 1)) Driver) (list_any is_accepting (verdicts log s.number (In (n + 1)) moves Driver begun_)) refl) in
+        ap (λ (q : Option Sitting). map (λ (x : Card). record { phase = In (n + 1); slot = CoDriver; card = x }) (card_in q))
+        (still-codriver log s.number (In (n + 1)) moves Driver begun_ (is_torn_in log s.number (In (n + 1)) Driver) (list_any is_accepting (verdicts log s.number (In (n + 1)) moves Driver begun_)) refl) in
         ap (mine c) (torn-told_ log s.number (In (n + 1)) moves CoDriver mid is) ∙ any-behind c mid.torn (visits (In (n + 1)) CoDriver mid.slots) (ap (mine c) sits ∙ only CoDriver)
 
 -- ---- what is noted of a card that enters, type by type
@@ -226,10 +226,10 @@ module _ (o : Origin) (done : List TraceSecond) (s : TraceSecond) (front rest : 
       (ap (λ (q : Course). refusal q.slots s.speed (Insert slot card)) (course-cut (log_of before) (log_of told) s front rest (Insert slot card) are uncut more-told same-told uncut-told was) ∙ allowed)
       left (λ c valid other. still c valid)
       (λ c valid own entered.
-          let x : Seen = seen_behind w.within.b.run.log done s (front ++ Insert slot card ∷ []) cut in
-          subst (λ (vs : List Verdict). (more : List CurrentUse) × AreUses (images_in o e c) more (accepts s.number vs)
-          × NotesThem (sizes_in o c) (λ kind. is_sure_in c kind cut x) (λ kind. events_by kind [] (movings c (vehicle_in o) s.speed (accepts s.number vs)) (unclosed_by more (accepts s.number vs))) (card_of d c) (card_of e c)) (sym found)
-          ([], tt, λ y at. let now = still c valid y at in (now.0, now.1, λ kind sure. now.2 kind ∙ ap (all_noted (events_in (sizes_in o c) kind now.0)) (sym (nothing kind (nat_lt 0 s.speed))))))
+      let x : Seen = seen_behind w.within.b.run.log done s (front ++ Insert slot card ∷ []) cut in
+      subst (λ (vs : List Verdict). (more : List CurrentUse) × AreUses (images_in o e c) more (accepts s.number vs)
+      × NotesThem (sizes_in o c) (λ kind. is_sure_in c kind cut x) (λ kind. events_by kind [] (movings c (vehicle_in o) s.speed (accepts s.number vs)) (unclosed_by more (accepts s.number vs))) (card_of d c) (card_of e c)) (sym found)
+      ([], tt, λ y at. let now = still c valid y at in (now.0, now.1, λ kind sure. now.2 kind ∙ ap (all_noted (events_in (sizes_in o c) kind now.0)) (sym (nothing kind (nat_lt 0 s.speed))))))
     where
       empty : (q8 q5 q6 : Bool) → cond {A = List CardEvent} q8 [] (cond q5 [] (cond q6 [] [])) ≡ []
       empty true q5 q6 = refl
@@ -273,17 +273,18 @@ module _ (o : Origin) (done : List TraceSecond) (s : TraceSecond) (front rest : 
     in-log later lines_ same begun allowed_ found torn fails =
         put-shown o done s w.within.b.run.log front slot card (log_of told) later e f settled-on (failed-more (log_of told) later lines_) same begun allowed_ j.left j.beside
         (λ c valid own entered.
-            let x : Seen = seen_behind w.within.b.run.log done s (front ++ Insert slot card ∷ []) later in
-            let b = j.own c valid own in
-            let verdicts_ : found_in later s.number (In (length front + 1)) slot ≡ found_in (log_of after) s.number (In (suc (length front))) slot = ap (λ (k : ℕ). found_in later s.number (In k) slot) longer ∙ found in
-            subst (λ (vs : List Verdict). (more : List CurrentUse) × AreUses (images_in o f c) more (accepts s.number vs)
-            × NotesThem (sizes_in o c) (λ kind. is_sure_in c kind later x) (λ kind. events_by kind [] (movings c (vehicle_in o) s.speed (accepts s.number vs)) (unclosed_by more (accepts s.number vs))) (card_of e c) (card_of f c)) (sym verdicts_)
-            ( b.uses,
-              b.are,
-              judged-them (sizes_in o c) (vehicle_in o) c later x failed (is_torn_in (log_of after) s.number (In (suc (length front))) slot) (accepts s.number (found_in (log_of after) s.number (In (suc (length front))) slot)) b.uses (card_of e c) (card_of f c) entered fails
+        let x : Seen = seen_behind w.within.b.run.log done s (front ++ Insert slot card ∷ []) later in
+        let b = j.own c valid own in
+        let verdicts_ : found_in later s.number (In (length front + 1)) slot ≡ found_in (log_of after) s.number (In (suc (length front))) slot = ap (λ (k : ℕ). found_in later s.number (In k) slot) longer ∙ found in
+        subst (λ (vs : List Verdict). (more : List CurrentUse) × AreUses (images_in o f c) more (accepts s.number vs)
+        × NotesThem (sizes_in o c) (λ kind. is_sure_in c kind later x) (λ kind. events_by kind [] (movings c (vehicle_in o) s.speed (accepts s.number vs)) (unclosed_by more (accepts s.number vs))) (card_of e c) (card_of f c)) (sym verdicts_) (
+          b.uses,
+          b.are,
+          judged-them (sizes_in o c) (vehicle_in o) c later x failed (is_torn_in (log_of after) s.number (In (suc (length front))) slot) (accepts s.number (found_in (log_of after) s.number (In (suc (length front))) slot)) b.uses (card_of e c) (card_of f c) entered fails
               (λ is. ap (λ (q : Course). mine c q.torn) (behind-more later was s front (Insert slot card))
               ∙ put-torn later s (length front) slot card c (course_behind later was s front) own begun allowed_ (ap (λ (k : ℕ). is_torn_in later s.number (In k) slot) longer ∙ torn ∙ is))
-              (λ y at. let was_ = b.notes y at in (was_.0, was_.1, was_.2, was_.3)) ))
+              (λ y at. let was_ = b.notes y at in (was_.0, was_.1, was_.2, was_.3)),
+        ))
 
     by : (b : Bool) → failed ≡ b → CardsGoOn b o done s w.within.b.run.log (front ++ Insert slot card ∷ []) (log_of after) f
     by false is = in-log (log_of after) more-after same-after goes.begun
@@ -291,8 +292,8 @@ module _ (o : Origin) (done : List TraceSecond) (s : TraceSecond) (front rest : 
         refl refl (λ fails. absurd (let clash : true ≡ false = sym fails ∙ is in cc))
     by true is =
         let cuts : IsCutIn w.within.b.run.log (log_of told) (with_cut (log_of after) s (front ++ Insert slot card ∷ [])) done s front (Insert slot card) rest =
-            is-cut (log_of told) (log_of after) s front rest (Insert slot card) are uncut-told more-after same-after uncut-after o done (In (length front)) [] None [] (values_of old before) d w.within
-            (here-then (log_of before) (log_of told) (log_of after) s.number here-told j.here) in
+        is-cut (log_of told) (log_of after) s front rest (Insert slot card) are uncut-told more-after same-after uncut-after o done (In (length front)) [] None [] (values_of old before) d w.within
+        (here-then (log_of before) (log_of told) (log_of after) s.number here-told j.here) in
         in-log (with_cut (log_of after) s (front ++ Insert slot card ∷ [])) cuts.goes.lines cuts.goes.same cuts.goes.begun
         (ap (λ (q : Course). refusal q.slots s.speed (Insert slot card)) (course-cut (log_of told) (log_of after) s front rest (Insert slot card) are uncut-told more-after same-after uncut-after was) ∙ allowed-told)
         (cut-found (log_of after) s.number (length (front ++ Insert slot card ∷ [])) uncut-after (In (suc (length front))) slot)

@@ -99,13 +99,14 @@ module _ (o : Origin) (done : List TraceSecond) (s : TraceSecond) (slot : Slot) 
       (anew-by (log_of before) later s.number slot (found_in (log_of after) s.number (In 0) slot) first own_none (found (other_slot slot) ∙ j.others) (found slot))
       (λ c valid other. j.beside c valid (ap (λ (k : Card). same_card k c) (sym card_is) ∙ other))
       (λ c valid own entered.
-          let x : Seen = seen_behind began done s [] later in
-          let b = j.own c valid (ap (λ (k : Card). same_card k c) (sym card_is) ∙ own) in
-          ( b.uses,
-            b.are,
-            judged-them (sizes_in o c) (vehicle_in o) c later x failed (is_torn_in (log_of after) s.number (In 0) slot) (accepts s.number (found_in (log_of after) s.number (In 0) slot)) b.uses (card_of d c) (card_of e c) entered fails
+      let x : Seen = seen_behind began done s [] later in
+      let b = j.own c valid (ap (λ (k : Card). same_card k c) (sym card_is) ∙ own) in (
+        b.uses,
+        b.are,
+        judged-them (sizes_in o c) (vehicle_in o) c later x failed (is_torn_in (log_of after) s.number (In 0) slot) (accepts s.number (found_in (log_of after) s.number (In 0) slot)) b.uses (card_of d c) (card_of e c) entered fails
             (λ is. torn-sitting later (went began done).before s c slot q off sits own (torn ∙ is))
-            (λ y at. let was_ = b.notes y at in (was_.0, was_.1, was_.2, was_.3)) ))
+            (λ y at. let was_ = b.notes y at in (was_.0, was_.1, was_.2, was_.3)),
+      ))
 
   -- the second goes on, or the cut is told next
   pub slot-cards : failed ≡ false → CardsWaking o done s began (log_of after) e

@@ -302,7 +302,7 @@ returns-then-is_err-clause-cards g c =
     let after : Outcome = record told { breaks = c.cut.new.breaks } in
     let is_after : after ≡ record told { breaks = with_lines (cut_at mid.next true c.args.begun ∷ []) told.breaks } = ap (λ (l : Listed Break). record told { breaks = l }) c.cut.ensures.breaks in
     let log : with_cut (log_of told) s more ≡ log_of after =
-        ap (λ (n : ℕ). and_break (log_of told) (cut_at s.number true n)) many ∙ ap (λ (u : ℕ). and_break (log_of told) (cut_at u true c.args.begun)) (now.number ∙ sym stays.next) ∙ sym (ap log_of is_after) in
+    ap (λ (n : ℕ). and_break (log_of told) (cut_at s.number true n)) many ∙ ap (λ (u : ℕ). and_break (log_of told) (cut_at u true c.args.begun)) (now.number ∙ sym stays.next) ∙ sym (ap log_of is_after) in
     let lines = subst (λ (u : ℕ). TellsMoreOf u out.breaks.items told.breaks.items) (sym now.number) (done-of c.args.action (moment_of c.args.begun run) c.args.speed (is_err c.carry_out.result) run mid out told c.carry_out.ensures.done) in
     let watched = done-watched c.args.action (moment_of c.args.begun run) c.args.speed (is_err c.carry_out.result) run mid out told c.carry_out.ensures.done in
     let shown = cut-cards o done s (length front) run out d e w told more rest (are ∙ sym (append_assoc front (c.args.action ∷ []) rest)) (cut-later o done s (length front) run out d w told more lines rings.behind some) fails.within.moment.up_to.uncut cards in
