@@ -4,7 +4,7 @@ use Rattle.std.specs.Prelude.{is_err, suc}
 use Rattle.tach_media.proofs.Runs.{ok_gives}
 use Rattle.trace_model.specs.declared.Action.{Action}
 use Rattle.trace_model.specs.Trace.{TraceSecond}
-use Rattle.log_model.specs.Log.{In}
+use Rattle.log_model.specs.Log.{RunLog, In}
 use Rattle.log_model.specs.declared.lines.Break.{Break}
 use Rattle.log_model.specs.declared.lines.Refused.{Refused}
 use Rattle.log_model.specs.declared.lines.SlotFault.{SlotFault}
