@@ -85,9 +85,10 @@ use-high app = omega arith
 
 pub place-noted : (app : Application) (entry : PlaceEntry) (cut : Bool) (X Y : State) → IsCoherent X → LeavesOnly X Y (IsNotingPlace app entry) → NotesOnCard app [] cut X Y
 place-noted app entry cut X Y whole run =
-    notes-still app cut X Y (events-run app X Y whole (IsNotingPlace app entry) run (λ x c is moment.
-    ( part_before (place_ring app).base (ring_size (place_ring app)) (place_of app (file 0x0502)) (size_of app (file 0x0502)) x c moment.outside (events-low app),
-      part_after (place_ring app).base (ring_size (place_ring app)) (place_of app (file 0x0507)) (size_of app (file 0x0507)) x c moment.outside (use-high app) )))
+    notes-still app cut X Y (events-run app X Y whole (IsNotingPlace app entry) run (λ x c is moment. (
+      part_before (place_ring app).base (ring_size (place_ring app)) (place_of app (file 0x0502)) (size_of app (file 0x0502)) x c moment.outside (events-low app),
+      part_after (place_ring app).base (ring_size (place_ring app)) (place_of app (file 0x0507)) (size_of app (file 0x0507)) x c moment.outside (use-high app),
+    )))
 
 -- ---- of a card by its session
 

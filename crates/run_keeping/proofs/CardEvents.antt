@@ -31,9 +31,10 @@ pub events-keeping : (app : Application) (X Y : State) → IsCoherent X → (s :
 events-keeping app X Y whole s e odometer sizes session run =
     events-run app X Y whole (λ x y. IsSession s x → IsCardKeeping s e odometer x y) run (λ x c is moment.
     let moved = (moment (at_image (IsSession s) is session)).card in
-    subst (λ (a : Application). (file_bytes a 0x0502 c ≡ file_bytes a 0x0502 x) × (file_bytes a 0x0507 c ≡ file_bytes a 0x0507 x)) sizes
-    ( events_same s.application (IsKeepMoment s.application.activity s.registration odometer (grown s.odometer odometer) e (book_of s.application x)) x c moved,
-      current_same s.application (IsKeepMoment s.application.activity s.registration odometer (grown s.odometer odometer) e (book_of s.application x)) x c moved))
+    subst (λ (a : Application). (file_bytes a 0x0502 c ≡ file_bytes a 0x0502 x) × (file_bytes a 0x0507 c ≡ file_bytes a 0x0507 x)) sizes (
+      events_same s.application (IsKeepMoment s.application.activity s.registration odometer (grown s.odometer odometer) e (book_of s.application x)) x c moved,
+      current_same s.application (IsKeepMoment s.application.activity s.registration odometer (grown s.odometer odometer) e (book_of s.application x)) x c moved,
+    ))
 
 -- of a card as it was found
 pub stays-self : (f : CardFound) (X : State) → StaysOn f X X
