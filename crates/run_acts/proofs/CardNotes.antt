@@ -13,7 +13,7 @@ use Rattle.tach_media.proofs.Runs.{at_image}
 use Rattle.chip_model.specs.declared.command.CardState.{CardState}
 use Rattle.card_layout.specs.declared.files.Application.{Application}
 use Rattle.card_records.specs.declared.card_event.CardEvent.{CardEvent}
-use Rattle.byte_fields.proofs.Images.{part_before}
+use Rattle.byte_fields.proofs.Images.{part_before, part_after}
 use Rattle.tacho_types.specs.declared.places.PlaceEntry.{PlaceEntry}
 use Rattle.tacho_types.specs.declared.card_number.FullCardNumber.{FullCardNumber}
 use Rattle.card_layout.specs.Files.{files_of, place_of, size_of}
@@ -78,10 +78,17 @@ events-low : (app : Application) → place_of app (file 0x0502) + size_of app (f
 unfolding files_of
 events-low app = omega arith
 
+-- and the current use
+use-high : (app : Application) → (place_ring app).base + ring_size (place_ring app) ≤ place_of app (file 0x0507)
+unfolding files_of
+use-high app = omega arith
+
 pub place-noted : (app : Application) (entry : PlaceEntry) (cut : Bool) (X Y : State) → IsCoherent X → LeavesOnly X Y (IsNotingPlace app entry) → NotesOnCard app [] cut X Y
 place-noted app entry cut X Y whole run =
-    notes-still app cut X Y (events-run app X Y whole (IsNotingPlace app entry) run (λ x c is moment.
-    part_before (place_ring app).base (ring_size (place_ring app)) (place_of app (file 0x0502)) (size_of app (file 0x0502)) x c moment.outside (events-low app)))
+    notes-still app cut X Y (events-run app X Y whole (IsNotingPlace app entry) run (λ x c is moment. (
+      part_before (place_ring app).base (ring_size (place_ring app)) (place_of app (file 0x0502)) (size_of app (file 0x0502)) x c moment.outside (events-low app),
+      part_after (place_ring app).base (ring_size (place_ring app)) (place_of app (file 0x0507)) (size_of app (file 0x0507)) x c moment.outside (use-high app),
+    )))
 
 -- ---- of a card by its session
 
