@@ -35,7 +35,7 @@ use Rattle.card_session.specs.Cards.{IsCard}
 use Rattle.card_session.specs.Parts.{DoesPart, IsPartDone, IsPartMoment, AnyBook, SameButVehicle}
 use Rattle.card_session.proofs.OnCard.{newest_told, days_still, string_still, vehicles_written, ring_inside, ring_shape}
 use Rattle.card_session.proofs.Older.{keeps_still, keeps_set, keeps_extended, keeps_step}
-use Rattle.card_session.specs.Vehicles.{KeepsVehicles}
+use Rattle.card_session.specs.Vehicles.{StaysInUse, IsFresh, KeepsVehicles}
 
 -- ---- fields of a vehicle entry that are written
 
@@ -121,7 +121,7 @@ module _ (s t : Session) (value : IsValue s) (same : SameButVehicle s t) (old ne
 
   -- SET A FIELD of the newest vehicle entry
   module _ (i offset : ℕ) (bytes : List ℕ) (u : Vehicle → Vehicle) (here : s.newest ≡ Some i) (still : t.newest ≡ s.newest) (vehicle : t.vehicle ≡ option_map u s.vehicle)
-      (makes : (e : List ℕ) → length e ≡ 31 → vehicle_of (put offset bytes e) ≡ u (vehicle_of e)) where
+      (makes : (e : List ℕ) → length e ≡ 31 → vehicle_of (put offset bytes e) ≡ u (vehicle_of e)) (stays : (v : Vehicle) → StaysInUse v (u v)) where
     abbrev with_field : Book → Book
     with_field b = record { days = b.days; vehicle = option_map u b.vehicle }
 
@@ -146,8 +146,11 @@ module _ (s t : Session) (value : IsValue s) (same : SameButVehicle s t) (old ne
     set_points : (x y : List ℕ) → KnowsCard s x → IsSet ring i offset bytes x y → PointsInside ring y
     set_points x y knows is = subst (λ (n : ℕ). n < ring.count) (sym is.pointer_is) knows.points
 
-    set_older : (x y : List ℕ) → KnowsCard s x → IsSet ring i offset bytes x y → KeepsVehicles app x y
-    set_older x y knows is = keeps_set app x y i offset bytes knows.points (newest_at x knows) is
+    set_older : (x y : List ℕ) → old.image ≡ Some x → KnowsCard s x → IsSet ring i offset bytes x y → KeepsVehicles app x y
+    set_older x y was knows is =
+        let newest = newest_at x knows in
+        let len : length (entry_at ring x i) ≡ 31 = part_length x (place_of ring i) 31 (omega (arith, fits x was, ring_inside app, place_high ring i newest.below)) in
+        keeps_set app x y i offset bytes knows.points newest is (subst (λ (w : Vehicle). StaysInUse (vehicle_of (entry_at ring x i)) w) (sym (makes (entry_at ring x i) len)) (stays (vehicle_of (entry_at ring x i))))
 
     pub set_part : (failed ≡ false → IfSome old.image (λ x. IfSome new.image (IsSet ring i offset bytes x))) → LeavesOnly old new (OrUnwritten (IsSet ring i offset bytes)) → HasCause old new failed
         → DoesPart old new failed (IsPartDone s t AnyBook with_field) (IsPartMoment s AnyBook IsSettingField)
@@ -155,14 +158,14 @@ module _ (s t : Session) (value : IsValue s) (same : SameButVehicle s t) (old ne
       done = λ fine. where_told old.image new.image _ (λ x y was is knows any.
           let one = at_image (λ y. IsSet ring i offset bytes x y) is (at_image (λ x. IfSome new.image (IsSet ring i offset bytes x)) was (set fine)) in
           let now = set_vehicle x y was knows one in (
-            vehicles_written app value.sizes x (fits x was) y (set_outside x y knows one) (IsBook (with_field (book_of app x))) (holds_at x knows) (set_points x y knows one) (set_older x y knows one) (refl, now),
+            vehicles_written app value.sizes x (fits x was) y (set_outside x y knows one) (IsBook (with_field (book_of app x))) (holds_at x knows) (set_points x y knows one) (set_older x y was knows one) (refl, now),
             known x y was knows (set_outside x y knows one) (set_points x y knows one) (subst (λ (o : Option ℕ). IsNewest ring y o) (sym still) (newest_set ring i offset bytes x y knows.points one s.newest knows.newest)) (vehicle ∙ ap (option_map u) knows.vehicle ∙ sym now),
           ));
       leaves = weaken moments (λ x c was is knows any.
           ⊎_elim
           (λ unwritten. subst (λ (l : List ℕ). IsCard app (IsSettingField (book_of app x)) x l) (sym unwritten)
           (vehicles_written app value.sizes x (fits x was) x (outside_same ring.base (ring_size ring) x) (IsSettingField (book_of app x)) (holds_at x knows) knows.points (keeps_still app x) (refl, inl refl)))
-          (λ set. vehicles_written app value.sizes x (fits x was) c (set_outside x c knows set) (IsSettingField (book_of app x)) (holds_at x knows) (set_points x c knows set) (set_older x c knows set) (refl, inr (set_vehicle x c was knows set)))
+          (λ set. vehicles_written app value.sizes x (fits x was) c (set_outside x c knows set) (IsSettingField (book_of app x)) (holds_at x knows) (set_points x c knows set) (set_older x c was knows set) (refl, inr (set_vehicle x c was knows set)))
           is);
       cause = inl cause;
     }
@@ -174,7 +177,7 @@ module _ (s t : Session) (value : IsValue s) (same : SameButVehicle s t) (old ne
         set_part (subst (λ (k : Shape). failed ≡ false → IfSome old.image (λ x. IfSome new.image (IsSet k i offset bytes x))) is set) (subst (λ (k : Shape). LeavesOnly old new (OrUnwritten (IsSet k i offset bytes))) is moments) cause
 
   -- A NEW ENTRY
-  module _ (index : ℕ) (v : Vehicle) (head : List ℕ) (len : length head ≡ 31) (spelled : vehicle_of head ≡ v) (now : t.vehicle ≡ Some v) where
+  module _ (index : ℕ) (v : Vehicle) (head : List ℕ) (len : length head ≡ 31) (spelled : vehicle_of head ≡ v) (begins : IsFresh v) (now : t.vehicle ≡ Some v) where
     abbrev with_new : Book → Book
     with_new b = record { days = b.days; vehicle = Some v }
 
@@ -184,12 +187,20 @@ module _ (s t : Session) (value : IsValue s) (same : SameButVehicle s t) (old ne
     two : 2 ≤ ring.count
     two = omega (arith, value.sizes.vehicles_least)
 
-    new_vehicle : (x y : List ℕ) → old.image ≡ Some x → PointsInside ring x → IsNewest ring y (Some (taken ring x)) → entry_at ring y (taken ring x) ≡ with_head ring x (taken ring x) head → (book_of app y).vehicle ≡ Some v
-    new_vehicle x y was points newest entry =
+    -- all of the entry is new
+    head_whole : (x : List ℕ) → old.image ≡ Some x → PointsInside ring x → with_head ring x (taken ring x) head ≡ head
+    head_whole x was points =
         let below = taken_below ring x points in
         let none : drop (length head) (entry_at ring x (taken ring x)) ≡ [] = drop_all (length head) (entry_at ring x (taken ring x)) (omega (arith, len, part_length x (place_of ring (taken ring x)) 31 (omega (arith, fits x was, ring_inside app, place_high ring (taken ring x) below)))) in
+        ap (λ (l : List ℕ). head ++ l) none ∙ append-nil head
+
+    fresh_at : (x : List ℕ) → old.image ≡ Some x → PointsInside ring x → IsFresh (vehicle_of (with_head ring x (taken ring x) head))
+    fresh_at x was points = subst IsFresh (sym (ap vehicle_of (head_whole x was points) ∙ spelled)) begins
+
+    new_vehicle : (x y : List ℕ) → old.image ≡ Some x → PointsInside ring x → IsNewest ring y (Some (taken ring x)) → entry_at ring y (taken ring x) ≡ with_head ring x (taken ring x) head → (book_of app y).vehicle ≡ Some v
+    new_vehicle x y was points newest entry =
         newest_told app y (Some (taken ring x)) newest
-        ∙ ap (λ (l : List ℕ). Some (vehicle_of l)) (entry ∙ ap (λ (l : List ℕ). head ++ l) none ∙ append-nil head)
+        ∙ ap (λ (l : List ℕ). Some (vehicle_of l)) (entry ∙ head_whole x was points)
         ∙ ap (λ (w : Vehicle). Some w) spelled
 
     old_vehicle : (x c : List ℕ) → KnowsCard s x → (o : Option ℕ) → s.newest ≡ o → IsNewest ring c o → ((i : ℕ) → o ≡ Some i → entry_at ring c i ≡ entry_at ring x i) → (book_of app c).vehicle ≡ (book_of app x).vehicle
@@ -215,12 +226,12 @@ module _ (s t : Session) (value : IsValue s) (same : SameButVehicle s t) (old ne
           let at : index ≡ taken ring x = at_image (λ x. PointsInside ring x → index ≡ taken ring x) was (placed fine) knows.points in
           let last : IsNewest ring y (Some (taken ring x)) = newest_added ring head x y knows.points (one.list knows.points) in
           let vehicle = new_vehicle x y was knows.points last (one.list knows.points).entry in (
-            vehicles_written app value.sizes x (fits x was) y one.outside (IsBook (with_new (book_of app x))) (holds_at x knows) (one.points knows.points) (keeps_extended app x y knows.points head (one.list knows.points) (one.dense knows.points)) (refl, vehicle),
+            vehicles_written app value.sizes x (fits x was) y one.outside (IsBook (with_new (book_of app x))) (holds_at x knows) (one.points knows.points) (keeps_extended app x y knows.points head (one.list knows.points) (one.dense knows.points) (fresh_at x was knows.points)) (refl, vehicle),
             known x y was knows one.outside (one.points knows.points) (subst (λ (o : Option ℕ). IsNewest ring y o) (sym (newest fine ∙ ap (λ (n : ℕ). Some n) at)) last) (now ∙ sym vehicle),
           ));
       leaves = weaken moments (λ x c was is knows any.
           let step = is.step knows.points in
-          vehicles_written app value.sizes x (fits x was) c is.outside (IsAddingNew (book_of app x)) (holds_at x knows) step.points (keeps_step app x c knows.points head step) (refl, at_step x c was knows step));
+          vehicles_written app value.sizes x (fits x was) c is.outside (IsAddingNew (book_of app x)) (holds_at x knows) step.points (keeps_step app x c knows.points head step (fresh_at x was knows.points)) (refl, at_step x c was knows step));
       cause = inl cause;
     }
 
