@@ -52,43 +52,43 @@ kept-nothing u = refl
 
 -- a cut of this second, and of another
 kept-here : (second kept : ℕ) (failed : Bool) (begun : ℕ) (bs : List Break) (u : ℕ) → nat_eq second u ≡ true → kept_after (log_of (Cut second kept failed begun ∷ bs)) u ≡ kept
-kept-here second kept failed begun bs u yes = kept-first (Cut second kept failed begun) bs u ∙ rw yes refl
+kept-here second kept failed begun bs u is = kept-first (Cut second kept failed begun) bs u ∙ rw is refl
 
 kept-there : (second kept : ℕ) (failed : Bool) (begun : ℕ) (bs : List Break) (u : ℕ) → nat_eq second u ≡ false → kept_after (log_of (Cut second kept failed begun ∷ bs)) u ≡ kept_after (log_of bs) u
-kept-there second kept failed begun bs u no = kept-first (Cut second kept failed begun) bs u ∙ rw no refl
+kept-there second kept failed begun bs u is = kept-first (Cut second kept failed begun) bs u ∙ rw is refl
 
 tells-here : (second kept : ℕ) (failed : Bool) (begun : ℕ) (bs : List Break) (u : ℕ) → nat_eq second u ≡ true → tells_cut u (Cut second kept failed begun ∷ bs) ≡ true
-tells-here second kept failed begun bs u yes = rw yes refl
+tells-here second kept failed begun bs u is = rw is refl
 
 tells-there : (second kept : ℕ) (failed : Bool) (begun : ℕ) (bs : List Break) (u : ℕ) → nat_eq second u ≡ false → tells_cut u (Cut second kept failed begun ∷ bs) ≡ tells_cut u bs
-tells-there second kept failed begun bs u no = rw no refl
+tells-there second kept failed begun bs u is = rw is refl
 
 -- it was found what was kept,
 found-kept : (unit : List ℕ → Type 0) (n : ℕ) (bs : List Break) (u : ℕ) → AreFound unit n bs → tells_cut u (take n bs) ≡ true → WasKept unit (kept_after (log_of bs) u)
-found-kept unit zero bs u h tells = absurd (let no : false ≡ true = tells in cc)
-found-kept unit (suc n) [] u h tells = absurd (let no : false ≡ true = tells in cc)
-found-kept unit (suc n) (Cut second kept failed begun ∷ bs) u h tells = by (nat_eq second u) refl
+found-kept unit zero bs u h tells = absurd (let bad : false ≡ true = tells in cc)
+found-kept unit (suc n) [] u h tells = absurd (let bad : false ≡ true = tells in cc)
+found-kept unit (suc n) (Cut second kept failed begun ∷ bs) u h tells = by (nat_eq second u) refl (λ rest. found-kept unit n bs u h.1 rest)
   where
-    by : (b : Bool) → nat_eq second u ≡ b → WasKept unit (kept_after (log_of (Cut second kept failed begun ∷ bs)) u)
-    by true yes = (h.0.0, h.0.1, h.0.2 ∙ sym (kept-here second kept failed begun bs u yes))
-    by false no = subst (WasKept unit) (sym (kept-there second kept failed begun bs u no)) (found-kept unit n bs u h.1 (sym (tells-there second kept failed begun (take n bs) u no) ∙ tells))
+    by : (b : Bool) → nat_eq second u ≡ b → (tells_cut u (take n bs) ≡ true → WasKept unit (kept_after (log_of bs) u)) → WasKept unit (kept_after (log_of (Cut second kept failed begun ∷ bs)) u)
+    by true is later = (h.0.0, h.0.1, h.0.2 ∙ sym (kept-here second kept failed begun bs u is))
+    by false is later = subst (WasKept unit) (sym (kept-there second kept failed begun bs u is)) (later (sym (tells-there second kept failed begun (take n bs) u is) ∙ tells))
 found-kept unit (suc n) (Tear second slot failed begun late ∷ bs) u h tells = subst (WasKept unit) (sym (kept-first (Tear second slot failed begun late) bs u)) (found-kept unit n bs u h.1 tells)
 
 -- or not
 unfound-kept : (unit : List ℕ → Type 0) (n : ℕ) (bs : List Break) (u : ℕ) → AreFound unit n bs → tells_cut u (take n bs) ≡ false → kept_after (log_of bs) u ≡ 0
 unfound-kept unit zero [] u h none = kept-nothing u
-unfound-kept unit zero (Cut second kept failed begun ∷ bs) u h none = by (nat_eq second u) refl
+unfound-kept unit zero (Cut second kept failed begun ∷ bs) u h none = by (nat_eq second u) refl (unfound-kept unit zero bs u h.1 none)
   where
-    by : (b : Bool) → nat_eq second u ≡ b → kept_after (log_of (Cut second kept failed begun ∷ bs)) u ≡ 0
-    by true yes = kept-here second kept failed begun bs u yes ∙ h.0
-    by false no = kept-there second kept failed begun bs u no ∙ unfound-kept unit zero bs u h.1 none
+    by : (b : Bool) → nat_eq second u ≡ b → kept_after (log_of bs) u ≡ 0 → kept_after (log_of (Cut second kept failed begun ∷ bs)) u ≡ 0
+    by true is later = kept-here second kept failed begun bs u is ∙ h.0
+    by false is later = kept-there second kept failed begun bs u is ∙ later
 unfound-kept unit zero (Tear second slot failed begun late ∷ bs) u h none = kept-first (Tear second slot failed begun late) bs u ∙ unfound-kept unit zero bs u h.1 none
 unfound-kept unit (suc n) [] u h none = kept-nothing u
-unfound-kept unit (suc n) (Cut second kept failed begun ∷ bs) u h none = by (nat_eq second u) refl
+unfound-kept unit (suc n) (Cut second kept failed begun ∷ bs) u h none = by (nat_eq second u) refl (λ rest. unfound-kept unit n bs u h.1 rest)
   where
-    by : (b : Bool) → nat_eq second u ≡ b → kept_after (log_of (Cut second kept failed begun ∷ bs)) u ≡ 0
-    by true yes = absurd (let no : true ≡ false = sym (tells-here second kept failed begun (take n bs) u yes) ∙ none in cc)
-    by false no = kept-there second kept failed begun bs u no ∙ unfound-kept unit n bs u h.1 (sym (tells-there second kept failed begun (take n bs) u no) ∙ none)
+    by : (b : Bool) → nat_eq second u ≡ b → (tells_cut u (take n bs) ≡ false → kept_after (log_of bs) u ≡ 0) → kept_after (log_of (Cut second kept failed begun ∷ bs)) u ≡ 0
+    by true is later = absurd (let bad : true ≡ false = sym (tells-here second kept failed begun (take n bs) u is) ∙ none in cc)
+    by false is later = kept-there second kept failed begun bs u is ∙ later (sym (tells-there second kept failed begun (take n bs) u is) ∙ none)
 unfound-kept unit (suc n) (Tear second slot failed begun late ∷ bs) u h none = kept-first (Tear second slot failed begun late) bs u ∙ unfound-kept unit n bs u h.1 none
 
 -- ---- span by span
@@ -154,18 +154,18 @@ last-lit spans t lit front span are = by t.starts refl
     by : (b : Bool) → t.starts ≡ b → last span ≡ Some t
     by true starts =
         let same = same_from_push front spans span (t ∷ []) (sym are ∙ spans-new spans t lit starts) in
-        ap last same.1
+        ap (λ (l : List Told). last l) same.1
     by false goes =
         let r = go-last spans t in
         let same = same_from_push front r.0 span r.1 (sym are ∙ spans-on spans t lit goes ∙ r.2) in
-        ap last same.1 ∙ r.3
+        ap (λ (l : List Told). last l) same.1 ∙ r.3
 
 both-true : (a b : Bool) → (a && b) ≡ true → (a ≡ true) × (b ≡ true)
 both-true true b is = (refl, is)
-both-true false b is = absurd (let no : false ≡ true = is in cc)
+both-true false b is = absurd (let bad : false ≡ true = is in cc)
 
 not-true : (b : Bool) → not b ≡ true → b ≡ false
-not-true true is = absurd (let no : false ≡ true = is in cc)
+not-true true is = absurd (let bad : false ≡ true = is in cc)
 not-true false is = refl
 
 running-uncut : (log : RunLog) (done front : List TraceSecond) (s : TraceSecond) → done ≡ front ++ s ∷ [] → (went log done).before.running ≡ true → (earlier : List (List Told)) (span : List Told) → spans_of (went log done).told ≡ earlier ++ span ∷ [] →

@@ -32,4 +32,4 @@ none_may_be_told unit = (inr (refl, tt), tt)
 -- and no minute
 pub a_minute_that_none_found_is_refused : (unit : List ℕ → Type 0) → AreFoundAfter unit told_77 (span_at 65 ∷ []) → ⊥
 unfolding kept_after
-a_minute_that_none_found_is_refused unit h = ⊎_elim (λ found. let no = found.1 in omega (arith, no)) (λ none. let no : 77 ≡ 0 = none.0 in omega (arith, no)) h.0
+a_minute_that_none_found_is_refused unit h = ⊎_elim (λ found. let few = found.1 in omega (arith, few)) (λ none. let same : 77 ≡ 0 = none.0 in omega (arith, same)) h.0

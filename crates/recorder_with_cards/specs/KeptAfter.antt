@@ -19,7 +19,7 @@ WasKept unit k = (x : List ℕ) × unit x × (last_kept x ≡ k)
 -- failed: none has loaded the unit.
 abbrev pub IsFoundAfter : (unit : List ℕ → Type 0) → RunLog → (later : List (List Told)) → (second : ℕ) → Type 0
 IsFoundAfter unit log later u = (WasKept unit (kept_after log u) × (0 < length later))
-    ⊎ ((kept_after log u ≡ 0) × AllByRecursion (λ span. has_failed_in log (first_in span) ≡ true) later)
+    ⊎ ((kept_after log u ≡ 0) × AllByRecursion (λ (span : List Told). has_failed_in log (first_in span) ≡ true) later)
 
 -- so it is after each span that ended with a cut
 abbrev pub AreFoundAfter : (unit : List ℕ → Type 0) → RunLog → (spans : List (List Told)) → Type 0

@@ -73,3 +73,13 @@ pub mod Stored
 pub mod StoredRun
 pub mod CardNotes
 pub mod OnCards
+pub mod CardCourse
+pub mod CardShown
+pub mod CardSecond
+pub mod CardGaps
+pub mod CardEnds
+pub mod CardWaking
+pub mod CardStays
+pub mod CardTurn
+pub mod CardActs
+pub mod CardWrites

@@ -53,7 +53,7 @@ closed-none Bare c second cabin = session_set c None cabin.cards
 closed-none Closed c second cabin = session_set c None cabin.cards
 closed-none Fell c second cabin = session_set c None (with_session c None cabin.cards)
 
-closed-tears : (closing : Closing) (slot : Slot) (at : Moment) → AreTears at (closed_breaks closing slot at)
+pub closed-tears : (closing : Closing) (slot : Slot) (at : Moment) → AreTears at (closed_breaks closing slot at)
 closed-tears Bare slot at = tt
 closed-tears Closed slot at = tt
 closed-tears Fell slot at = ((slot, refl), tt)

@@ -98,7 +98,7 @@ module _ (old : Run) (before : Outcome) (minutes : Kept) (keeper : Keeper) (watc
     abbrev u : Told
     u = told_of between told
 
-    booked : IsTurnBooked o.found (odometer_at o.recording.unit) (carried_at o done s q decided t v d w) old.keeper failed reach (all_travelled w.ds w.b.travel) u e × AreTimedOn o.found d e
+    pub booked : IsTurnBooked o.found (odometer_at o.recording.unit) (carried_at o done s q decided t v d w) old.keeper failed reach (all_travelled w.ds w.b.travel) u e × AreTimedOn o.found d e
     booked = books o.found (carried_at o done s q decided t v d w) (odometer_at o.recording.unit) (all_travelled w.ds w.b.travel) (may-book o done s q decided t v d w few (are-over o done s decided t v d w)) w.travels
         (stored ∙ ap (odometer_after (odometer_at o.recording.unit)) (sym (travelled-earlier w.ds w.b.travel))) time
 
@@ -280,6 +280,21 @@ module _ {U A0 B0 : State} {chip_a chip_b : CardState} (n speed begun : ℕ) (ol
         turn-fails old before T.fed.minutes T.between.keeper T.between.watch T.told.marks T.told.breaks n begun T.failed T.decided h.1 d e reach-is books-is h.4 h.5 (two-present (ungiven_of g.span) None old.keeper.cabin g.cabin)
         lit some time o r.origin D L next gone w num (omega (arith, next_is, is, some)) acts (r.odometer ∙ ap (odometer_after (odometer_at o.recording.unit)) (sym travel))
         (omega (arith, from, first, few, same)) (omega (arith, from, first, end, same)) on
+
+    -- what its keeping leaves of when cards were used, and of their events
+    pub timed-last : (c : ℕ) → c ≡ n - 1 → (D : List TraceSecond) (L : TraceSecond) (next gone : ℕ) → L.number ≡ s.number + c → next ≡ old.next + c → length L.actions ≡ begun →
+        (w : Within o D L Keeping [] (Some L.speed) T.decided (record (values_of old before) { minutes = T.fed.minutes; next = next; begun = gone }) d) → w.b.travel.before ≡ r.within.b.travel.before → w.from ≡ r.within.from → AreTimedOn o.found d e
+    timed-last c is D L next gone number next_is acts w travel from =
+        let at = now.number in
+        let num : L.number ≡ old.next + n - 1 = omega (arith, number, is, at, some) in
+        let first = from-is in
+        let few = g.ended.few in
+        let end = ends-by in
+        let day : (old.next + n - 1) / 60 ≡ old.next / 60 = omega (arith, minute, some) in
+        let same : L.number / 60 ≡ old.next / 60 = ap (λ (m : ℕ). m / 60) num ∙ day in
+        (booked old before T.fed.minutes T.between.keeper T.between.watch T.told.marks T.told.breaks n begun T.failed T.decided h.1 d e reach-is books-is h.4 h.5 (two-present (ungiven_of g.span) None old.keeper.cabin g.cabin)
+        lit some time o r.origin D L next gone w num (omega (arith, next_is, is, some)) acts (r.odometer ∙ ap (odometer_after (odometer_at o.recording.unit)) (sym travel))
+        (omega (arith, from, first, few, same)) (omega (arith, from, first, end, same))).1
 
     by-count : (c : ℕ) → c ≡ n - 1 → IsTurned o done s c T.decided T.fed.minutes (values_of old before) d r.within → RunRecorded o (before_last c s done ++ last_of c s ∷ []) (passed n begun new) after e
     by-count zero is x = by-last zero is done s (old.next + 0) x.begun (last-number zero s) refl (last-actions zero begun s actions (λ lt. none (omega (arith, lt, is)))) x.fed x.travelled_before x.from

@@ -24,3 +24,5 @@ pub mod Ringing
 pub mod RunRinged
 pub mod CardNotes
 pub mod OnCards
+pub mod RunCards
+pub mod CardWrites

@@ -9,16 +9,15 @@ use Rattle.tacho_types.specs.declared.texts.Registration.{Registration}
 use Rattle.card_layout.specs.declared.files.Application.{Application}
 use Rattle.card_records.specs.declared.card_event.CardEvent.{CardEvent}
 use Rattle.card_records.specs.declared.current_use.CurrentUse.{CurrentUse}
+use Rattle.card_image.specs.Fields.{current_use}
+use Rattle.card_image.specs.Own.{own_sizes}
 use Rattle.card_session.specs.Inserting.{unclosed}
 use Rattle.log_model.specs.declared.lines.Verdict.{Verdict}
-use Rattle.log_model.specs.declared.lines.Verdict.TheVariants.{Accepted, NotValid, TimeOverlap}
-use Rattle.log_model.specs.Log.{RunLog}
+use Rattle.log_model.specs.Log.{RunLog, is_accepting}
 use Rattle.log_model.specs.Slots.{same_card}
-use Rattle.log_model.specs.Course.{Visit}
 use Rattle.event_model.specs.declared.kinds.TheConstants.{INSERTION_WHILE_DRIVING, SESSION_NOT_CLOSED, POWER_INTERRUPTION}
-use Rattle.event_model.specs.Events.{Event, Crew, Seen, Tearing, number_of, seen_of, seen_spans, gap_events}
+use Rattle.event_model.specs.Events.{Event, Crew, Seen, Tearing, number_of, seen_of, gap_events}
 use Rattle.side_model.specs.Done.{has_failed_in}
-use Rattle.run_events.specs.Seconds.{gap_by, seen_next}
 use Rattle.run_entering.specs.CardEvents.{events_in, all_noted}
 
 -- a card is one of a crew
@@ -29,21 +28,49 @@ is_card (Some card) c = same_card card c
 abbrev pub has_card : Crew → Card → Bool
 has_card crew c = is_card crew.driver c || is_card crew.codriver c
 
-module _ (c : Card) (own : Registration) (found_open : ℕ → Visit → CurrentUse) where
-  -- ---- which events they are
+-- ---- which events they are
 
-  -- What a find of the card brings on it, where `found_open` tells the use that was found on it by second and visit: an insertion of a moving
-  -- vehicle, which is this one; or that a session was not closed, from its time, with its vehicle.
-  abbrev pub brought_on : (kind : ℕ) → Seen → Visit → Verdict → List CardEvent
-  brought_on kind x v (NotValid fid place) = []
-  brought_on kind x v (TimeOverlap stored now) = []
-  brought_on kind x v (Accepted replayed) =
-      if kind == INSERTION_WHILE_DRIVING && nat_lt 0 x.told.second.speed
-      then record { kind = INSERTION_WHILE_DRIVING; begin = record { 0 = number_of x }; end = record { 0 = number_of x }; registration = own } ∷ []
-      else (if kind == SESSION_NOT_CLOSED && nat_lt 0 (found_open (number_of x) v).session.0 then unclosed (found_open (number_of x) v) (number_of x) ∷ [] else [])
+-- a card that was accepted at a power-on counts as one of its crew; where it was torn out as the interruption was noted nothing is sure of it
+abbrev pub as_accepted : Tearing
+as_accepted = record { by_gap = λ u slot. true; driver_first = λ u n. true }
 
-  abbrev pub found_on : (kind : ℕ) → Seen → List CardEvent
-  found_on kind x = flat_map (λ f. if same_card f.0.card c then brought_on kind x f.0 f.1 else []) x.told.course.found
+-- At each acceptance, in these seconds, this use was found on the card: where its session was open that was not closed, from its time, with its
+-- vehicle.
+abbrev pub unclosed_at : CurrentUse → (second : ℕ) → List CardEvent
+unclosed_at current u = if nat_lt 0 current.session.0 then unclosed current u ∷ [] else []
+
+abbrev pub unclosed_by : List CurrentUse → (seconds : List ℕ) → List CardEvent
+unclosed_by [] us = []
+unclosed_by (current ∷ uses) [] = []
+unclosed_by (current ∷ uses) (u ∷ us) = unclosed_at current u ++ unclosed_by uses us
+
+-- those of a type among these
+abbrev pub events_by : (kind : ℕ) → (gaps moved unclosed : List CardEvent) → List CardEvent
+events_by kind gaps moved unclosed =
+    if kind == POWER_INTERRUPTION then gaps else (if kind == INSERTION_WHILE_DRIVING then moved else (if kind == SESSION_NOT_CLOSED then unclosed else []))
+
+-- a card of which this is found in a second, in this order, is accepted so often
+abbrev pub accepts : (second : ℕ) → List Verdict → List ℕ
+accepts u verdicts = flat_map (λ v. if is_accepting v then u ∷ [] else []) verdicts
+
+module _ (c : Card) where
+  -- the seconds in which it was accepted, one for each acceptance
+  abbrev pub accepted_in : Seen → List ℕ
+  accepted_in x = flat_map (λ f. if same_card f.0.card c && is_accepting f.1 then number_of x ∷ [] else []) x.told.course.found
+
+  abbrev pub accepted_on : List Seen → List ℕ
+  accepted_on seen = flat_map accepted_in seen
+
+module _ (c : Card) (own : Registration) where
+  -- each acceptance in which the vehicle moves, which is this one
+  abbrev pub moving_at : (second : ℕ) → CardEvent
+  moving_at u = record { kind = INSERTION_WHILE_DRIVING; begin = record { 0 = u }; end = record { 0 = u }; registration = own }
+
+  abbrev pub movings : (speed : ℕ) → (seconds : List ℕ) → List CardEvent
+  movings speed us = if nat_lt 0 speed then map moving_at us else []
+
+  abbrev pub moved_in : Seen → List CardEvent
+  moved_in x = movings x.told.second.speed (accepted_in c x)
 
   -- interruptions at which it was accepted
   abbrev pub gap_entry : Event → CardEvent
@@ -52,19 +79,20 @@ module _ (c : Card) (own : Registration) (found_open : ℕ → Visit → Current
   abbrev pub gaps_on : List Event → List CardEvent
   gaps_on events = map gap_entry (filter (λ e. has_card e.at_begin c) events)
 
-  -- THE EVENTS OF A TYPE ON THE CARD in a run, in order of time: none of other types
-  abbrev pub events_on : (kind : ℕ) → Tearing → RunLog → List TraceSecond → List CardEvent
-  events_on kind t log ss = if kind == POWER_INTERRUPTION then gaps_on (gap_events t log ss) else flat_map (found_on kind) (seen_of log ss)
+  -- THE EVENTS OF A TYPE ON THE CARD in a run, in order of time, where these uses were found on it: none of other types
+  abbrev pub events_on : List CurrentUse → (kind : ℕ) → RunLog → List TraceSecond → List CardEvent
+  events_on uses kind log ss = events_by kind (gaps_on (gap_events as_accepted log ss)) (flat_map moved_in (seen_of log ss)) (unclosed_by uses (accepted_on c (seen_of log ss)))
 
-  -- those of one second behind these power spans
-  abbrev pub second_on : (kind : ℕ) → Tearing → RunLog → List (List Seen) → Seen → List CardEvent
-  second_on kind t log spans x = if kind == POWER_INTERRUPTION then gaps_on (gap_by t log spans x) else found_on kind x
-
+module _ (c : Card) where
   -- ---- which of them are sure
 
   -- it entered a slot in a second, or met power there
   abbrev pub enters : Seen → Bool
   enters x = list_any (λ v. same_card v.card c) x.told.course.entered
+
+  -- a call on it failed in a second
+  abbrev pub falls : Seen → Bool
+  falls x = list_any (λ v. same_card v.card c) x.told.course.torn
 
   -- as it enters an event of this type may be noted
   abbrev pub may_note : (kind : ℕ) → Seen → Bool
@@ -72,7 +100,7 @@ module _ (c : Card) (own : Registration) (found_open : ℕ → Visit → Current
 
   -- no call on it or on the unit failed in a second
   abbrev pub is_clear : RunLog → Seen → Bool
-  is_clear log x = not (has_failed_in log (number_of x)) && not (list_any (λ v. same_card v.card c) x.told.course.torn)
+  is_clear log x = not (has_failed_in log (number_of x)) && not (falls x)
 
   -- those of a type are sure of a second, and of several
   abbrev pub is_sure_in : (kind : ℕ) → RunLog → Seen → Bool
@@ -81,14 +109,33 @@ module _ (c : Card) (own : Registration) (found_open : ℕ → Visit → Current
   abbrev pub are_sure_on : (kind : ℕ) → RunLog → List Seen → Bool
   are_sure_on kind log seen = list_all (is_sure_in kind log) seen
 
-  -- ---- how far it shows them
+-- ---- how far it shows them
 
-  -- WHAT A CARD SHOWS behind these seconds: each image that it may leave, of each type whose events are sure, those that it had at the start with those of the run
-  abbrev pub ShowsOn : Application → (start : List ℕ) → Tearing → RunLog → List TraceSecond → State → Type 0
-  ShowsOn app start t log done card = (x : List ℕ) → card.may_leave x → (kind : ℕ) → are_sure_on kind log (seen_of log done) ≡ true
-      → events_in app kind x ≡ all_noted (events_in app kind start) (events_on kind t log done)
+-- Each image that a card may leave shows these events, of each type whose events are sure, on those that it had at the start.
+abbrev pub ShowsThem : Application → (start : List ℕ) → (sure : ℕ → Bool) → (events : ℕ → List CardEvent) → State → Type 0
+ShowsThem app start sure events card = (x : List ℕ) → card.may_leave x → (kind : ℕ) → sure kind ≡ true → events_in app kind x ≡ all_noted (events_in app kind start) (events kind)
 
-  -- A SECOND NOTES ITS EVENTS on the card, of each type whose events are sure of it
-  abbrev pub NotesSecond : Application → Tearing → RunLog → List TraceSecond → TraceSecond → (old new : State) → Type 0
-  NotesSecond app t log done s old new = (y : List ℕ) → new.may_leave y → (x : List ℕ) × old.may_leave x
-      × ((kind : ℕ) → is_sure_in kind log (seen_next log done s) ≡ true → events_in app kind y ≡ all_noted (events_in app kind x) (second_on kind t log (seen_spans (seen_of log done)) (seen_next log done s)))
+-- WHAT A CARD SHOWS behind these seconds: each image that it may leave, of each type whose events are sure, those that it had at the start with those
+-- of the run
+abbrev pub ShowsOn : Card → Registration → List CurrentUse → Application → (start : List ℕ) → RunLog → List TraceSecond → State → Type 0
+ShowsOn c own uses app start log done card = ShowsThem app start (λ kind. are_sure_on c kind log (seen_of log done)) (λ kind. events_on c own uses kind log done) card
+
+-- These events more are noted on a card, of each type whose events are sure: so it is of each image that it may leave, and one that it might have left
+-- before.
+abbrev pub NotesThem : Application → (sure : ℕ → Bool) → (events : ℕ → List CardEvent) → (old new : State) → Type 0
+NotesThem app sure events old new = (y : List ℕ) → new.may_leave y → (x : List ℕ) × old.may_leave x × ((kind : ℕ) → sure kind ≡ true → events_in app kind y ≡ all_noted (events_in app kind x) (events kind))
+
+-- Calls leave the events of a card, of every type.
+abbrev pub StillShows : Application → (old new : State) → Type 0
+StillShows app old new = (y : List ℕ) → new.may_leave y → (x : List ℕ) × old.may_leave x × ((kind : ℕ) → events_in app kind y ≡ events_in app kind x)
+
+-- one of its images told this use
+abbrev pub IsUse : (images : List ℕ → Type 0) → CurrentUse → Type 0
+IsUse images current = (y : List ℕ) × images y × (current_use (own_sizes y) y ≡ current)
+
+-- ONE FOR EACH of these acceptances
+abbrev pub AreUses : (images : List ℕ → Type 0) → List CurrentUse → (seconds : List ℕ) → Type 0
+AreUses images [] [] = Unit {0}
+AreUses images [] (u ∷ us) = ⊥
+AreUses images (current ∷ uses) [] = ⊥
+AreUses images (current ∷ uses) (u ∷ us) = IsUse images current × AreUses images uses us

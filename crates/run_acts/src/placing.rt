@@ -19,9 +19,12 @@ ghost use Rattle.device_steps.specs.CardNotes.{IsNote};
 ghost use Rattle.run_acts.specs.Noting.{IsPlaceRecorded, NotesFall, NotesPlace};
 ghost use Rattle.run_acts.specs.ActsEvented.{EventsPlace};
 ghost use Rattle.run_acts.specs.CardNotes.{NotesOn, NotesOnCards};
+ghost use Rattle.run_acts.specs.CardWrites.{PlaceOn};
+ghost use Rattle.safety_model.specs.Safe.{card_of};
 ghost use Rattle.run_rings.specs.Same.{LeavesRings};
 ghost use Rattle.run_acts.specs.Ringing.{WritesPlace};
 ghost use Rattle.run_acts.specs.RunRinged.{RingsPlace};
+ghost use Rattle.run_acts.specs.RunCards.{CardsPlace};
 ghost use Rattle.run_acts.specs.declared.run.Power.TheVariants.{Lit};
 ghost use Rattle.run_acts.specs.Going.{first_second, end_of_seconds, IsHeld, IsLit};
 ghost use Rattle.run_acts.specs.Room.{falls_of};
@@ -82,10 +85,15 @@ pub fn note_place<M: Medium, C: Chip, D: Chip>(
     requires breaks { length breaks.old.items + falls_of run.old.keeper.cabin ≤ breaks.old.room }
     ensures placed { (fell : Bool) × IsPlaced (card_in (seat_in run.old.keeper.cabin.slots.seats slot)) slot at run.old run.new breaks.old breaks.new fell }
     ensures card_events { NotesOnCards false run.old.keeper.cabin.cards run.new.keeper.cabin.cards (λ card. []) (devices (M.state unit.old) (C.state card_a.old) (D.state card_b.old)) (devices (M.state unit.new) (C.state card_a.new) (D.state card_b.new)) }
+    // The place stands on the card, where that was not torn out.
+    ensures on_card { (card : Card) → card_in (seat_in run.old.keeper.cabin.slots.seats slot) ≡ Some card → PlaceOn (session_of run.old.keeper.cabin.cards card) (session_of run.new.keeper.cabin.cards card) (is_err result) entry.now
+        (card_of (devices (M.state unit.old) (C.state card_a.old) (D.state card_b.old)) card) (card_of (devices (M.state unit.new) (C.state card_a.new) (D.state card_b.new)) card) }
     ensures events { NotesPlace (card_in (seat_in run.old.keeper.cabin.slots.seats slot)) slot at (is_err result) run.old run.new breaks.old breaks.new (devices (M.state unit.old) (C.state card_a.old) (D.state card_b.old)) (devices (M.state unit.new) (C.state card_a.new) (D.state card_b.new)) }
     ensures evented { EventsPlace slot at (is_err result) run.old run.new breaks.old breaks.new (devices (M.state unit.old) (C.state card_a.old) (D.state card_b.old)) (devices (M.state unit.new) (C.state card_a.new) (D.state card_b.new)) }
     ensures recorded { IsPlaceRecorded slot at (is_err result) run.old run.new breaks.old breaks.new (devices (M.state unit.old) (C.state card_a.old) (D.state card_b.old)) (devices (M.state unit.new) (C.state card_a.new) (D.state card_b.new)) }
     ensures rings { is_some (M.state unit.old).image ≡ true → WritesPlace (number_of_seat run.old.keeper.cabin.cards (seat_in run.old.keeper.cabin.slots.seats slot)) entry.now (is_err result) (M.state unit.old) (M.state unit.new) }
+    // The cards show the events of their second so far.
+    ensures cards { CardsPlace slot at (is_err result) run.old breaks.old breaks.new (devices (M.state unit.old) (C.state card_a.old) (D.state card_b.old)) (devices (M.state unit.new) (C.state card_a.new) (D.state card_b.new)) }
     // What was noted of insertions and places goes on with it.
     ensures ringed { RingsPlace slot entry.now at (is_err result) run.old run.new breaks.old breaks.new (devices (M.state unit.old) (C.state card_a.old) (D.state card_b.old)) (devices (M.state unit.new) (C.state card_a.new) (D.state card_b.new)) }
     ensures only { run.new ≡ record run.old { keeper = run.new.keeper } }
@@ -133,6 +141,7 @@ fn note_place_in<M: Medium, C: Chip>(
     requires room { length breaks.old.items < breaks.old.room }
     ensures noted { (fell : Bool) × IsNotedOn which slot at run.old run.new breaks.old breaks.new fell × HasBroken (C.state card.old) (C.state card.new) (falls_by fell) × HasCause (C.state card.old) (C.state card.new) fell }
     ensures card_events { NotesOn false (session_of run.old.keeper.cabin.cards which) (session_of run.new.keeper.cabin.cards which) [] (C.state card.old) (C.state card.new) }
+    ensures on_card { PlaceOn (session_of run.old.keeper.cabin.cards which) (session_of run.new.keeper.cabin.cards which) false entry.now (C.state card.old) (C.state card.new) }
     ensures events { NotesFall (λ fell. IsNotedOn which slot at run.old run.new breaks.old breaks.new fell) at.second (is_err result) run.new (devices (M.state unit.old) (C.state card.old) (C.state card.old)) (devices (M.state unit.new) (C.state card.new) (C.state card.new)) }
     ensures rings { LeavesRings (M.state unit.old) (M.state unit.new) }
     ensures journal { LeavesOnly (M.state unit.old) (M.state unit.new) LeavesJournal }

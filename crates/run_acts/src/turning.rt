@@ -20,6 +20,7 @@ ghost use Rattle.run_acts.specs.Recording.{RecordsTurn};
 ghost use Rattle.run_acts.specs.Faults.{NotesKeeping, NotesTurn};
 ghost use Rattle.run_acts.specs.Evented.{EventsTurn, EventsLitTurn};
 ghost use Rattle.run_acts.specs.RunRinged.{RingsTurn};
+ghost use Rattle.run_acts.specs.RunCards.{CardsTurn};
 ghost use Rattle.run_keeping.specs.Minutes.{Reach};
 ghost use Rattle.run_acts.specs.declared.run.Run.{Run};
 ghost use Rattle.run_keeping.specs.Later.{AreLater};
@@ -57,6 +58,8 @@ pub fn turn<M: Medium, C: Chip, D: Chip>(
     ensures evented { EventsTurn n speed begun run.old run.new outcome.old outcome.new (devices (M.state unit.old) (C.state card_a.old) (D.state card_b.old)) (devices (M.state unit.new) (C.state card_a.new) (D.state card_b.new)) }
     // And the rings show what they noted.
     ensures ringed { RingsTurn n speed begun run.old run.new outcome.old outcome.new (devices (M.state unit.old) (C.state card_a.old) (D.state card_b.old)) (devices (M.state unit.new) (C.state card_a.new) (D.state card_b.new)) }
+    // And each card shows the events that they brought it.
+    ensures cards { CardsTurn n speed begun run.old run.new outcome.old outcome.new (devices (M.state unit.old) (C.state card_a.old) (D.state card_b.old)) (devices (M.state unit.new) (C.state card_a.new) (D.state card_b.new)) }
     ensures recorded { RecordsTurn n speed begun run.old run.new outcome.old outcome.new (devices (M.state unit.old) (C.state card_a.old) (D.state card_b.old)) (devices (M.state unit.new) (C.state card_a.new) (D.state card_b.new)) }
     ensures clock { (M.state unit.old).clock ≤ (M.state unit.new).clock }
     ensures clock_a { (C.state card_a.old).clock ≤ (C.state card_a.new).clock }

@@ -30,6 +30,8 @@ ghost use Rattle.run_acts.specs.ActsEvented.{EventsWithdrawal};
 ghost use Rattle.run_acts.specs.Behind.{BooksWithdrawn};
 ghost use Rattle.run_acts.specs.Ringing.{WithdrawsSo, ClosesSo, WritesWithdrawal};
 ghost use Rattle.run_acts.specs.RunRinged.{RingsWithdrawal};
+ghost use Rattle.run_acts.specs.RunCards.{CardsWithdrawal};
+ghost use Rattle.run_acts.specs.CardWrites.{ShutsSo, WithdrawsShut};
 
 use crate::run::Run;
 use crate::settling::settle;
@@ -81,6 +83,10 @@ pub fn withdraw<M: Medium, C: Chip, D: Chip>(
     ensures rings { is_some (M.state unit.old).image ≡ true → WithdrawsSo (card_in (seat_in run.old.keeper.cabin.slots.seats slot)) slot at (is_err result) run.old run.new outcome.old outcome.new (M.state unit.old) (M.state unit.new) }
     // What was noted of insertions and places goes on with it.
     ensures ringed { RingsWithdrawal slot at (is_err result) run.old run.new outcome.old outcome.new (devices (M.state unit.old) (C.state card_a.old) (D.state card_b.old)) (devices (M.state unit.new) (C.state card_a.new) (D.state card_b.new)) }
+    // Each card shows its events still.
+    ensures cards { CardsWithdrawal slot at (is_err result) run.old outcome.old outcome.new (devices (M.state unit.old) (C.state card_a.old) (D.state card_b.old)) (devices (M.state unit.new) (C.state card_a.new) (D.state card_b.new)) }
+    // The card is closed with what is selected then.
+    ensures shut { (card : Card) → card_in (seat_in run.old.keeper.cabin.slots.seats slot) ≡ Some card → WithdrawsShut card slot at (is_err result) run.old run.new outcome.old outcome.new (devices (M.state unit.old) (C.state card_a.old) (D.state card_b.old)) (devices (M.state unit.new) (C.state card_a.new) (D.state card_b.new)) }
     ensures held { IsHeld (run.new.next / 60) run.new (M.state unit.new) (C.card card_a.new) (D.card card_b.new) (C.state card_a.new) (D.state card_b.new) }
     ensures going { OnOk result (IsLit (run.new.next / 60) run.new (M.state unit.new) (C.card card_a.new) (D.card card_b.new) (C.state card_a.new) (D.state card_b.new)) }
     ensures takes { Takes 0 0 0 run.old run.new outcome.old outcome.new }
@@ -125,6 +131,7 @@ fn close<M: Medium, C: Chip>(
     ensures journal { LeavesOnly (M.state unit.old) (M.state unit.new) LeavesJournal }
     ensures rings { is_some (M.state unit.old).image ≡ true → ClosesSo which slot at (is_err result) run.old run.new breaks.old breaks.new (M.state unit.old) (M.state unit.new) }
     ensures left { IfSome (session_of run.old.keeper.cabin.cards which) (λ s. (act : Activity) × LeavesOnly (C.state card.old) (C.state card.new) (λ x c. IsSession s.session x → IsCardClosing s.session act x c)) }
+    ensures shut { ShutsSo which slot at run.old run.new breaks.old breaks.new (C.state card.old) (C.state card.new) }
     ensures bare { session_of run.old.keeper.cabin.cards which ≡ None → card.new ≡ card.old }
     ensures unit { IsUnit (M.state unit.new) }
     ensures ready { OnOk result (UnitReady run.new.keeper (M.state unit.new)) }

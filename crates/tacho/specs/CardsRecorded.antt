@@ -93,7 +93,7 @@ pub record EndsWithCards (old new : Outside) (outcome : Outcome) (fault : Fault)
   pub early : (start : ℕ) (items : List Item) → IsTold old start items → IsRefusal fault → IsNotRecorded start (devices_of old) (devices_of new) outcome fault
   -- Each cut that a failed call made is a breakdown of the unit more.
   pub broke : HasBroken old.unit new.unit (length (cuts true (log_of outcome)))
-  -- And each breakdown has its cut: where the trace was recorded and no failed call has cut the power, the unit has not broken down.
+  -- And where the trace was recorded and no failed call has cut the power, the unit has not broken down.
   pub calm : IsRun fault → cuts true (log_of outcome) ≡ [] → new.unit.breakdowns ≡ old.unit.breakdowns
   -- Where nothing failed, no call has cut the power or torn out a card.
   pub unbroken : (start : ℕ) (items : List Item) (unit card_a card_b : List ℕ) → StartWith unit card_a card_b start items old new → AreSound old new

@@ -105,7 +105,7 @@ pub record EndsOnUnit (old new : Outside) (outcome : Outcome) (fault : Fault) : 
   pub early : (start : ℕ) (items : List Item) → IsTold old start items → IsRefusal fault → IsNotRecorded start old.unit new.unit outcome fault
   -- Each cut that a failed call made is a breakdown of the unit more.
   pub broke : HasBroken old.unit new.unit (length (cuts true (run_log outcome)))
-  -- And each breakdown has its cut: where the trace was recorded and no failed call has cut the power, the unit has not broken down.
+  -- And where the trace was recorded and no failed call has cut the power, the unit has not broken down.
   pub calm : IsRun fault → cuts true (run_log outcome) ≡ [] → new.unit.breakdowns ≡ old.unit.breakdowns
   -- Where nothing failed, no call has cut the power.
   pub unbroken : (start : ℕ) (items : List Item) (x : List ℕ) → IsTold old start items → Starts x old.unit new.unit → IsSound old new → HaveCounts old

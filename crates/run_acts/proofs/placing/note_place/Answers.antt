@@ -61,6 +61,9 @@ use Rattle.run_acts.proofs.RingedPlace.{IsThere, who-enters, place-goes}
 use Rattle.run_acts.proofs.RingedSecond.{left-after}
 use Rattle.run_acts.specs.CardNotes.{NotesOn}
 use Rattle.run_acts.proofs.CardNotes.{on-none, both-cards}
+use Rattle.run_acts.proofs.CardActs.{place-cards}
+use Rattle.run_acts.specs.CardWrites.{PlaceOn}
+use Rattle.run_acts.proofs.CardWrites.{place-unit, place-bare, place-any, seat-bare}
 use Rattle.run_acts.proofs.placing.note_place.Goals as goal
 
 pub note_place_in-requires-clause-ready : goal.note_place_in-requires-clause-ready
@@ -683,3 +686,124 @@ returns-in-B-clause-card_events g c =
     (card_of (devices (g.M.Medium.state c.args.unit.now) X (g.D.Chip.state c.args.card_b.now)) card) (card_of (devices (g.M.Medium.state c.note_place_in-in-B.new.unit) X (g.D.Chip.state c.note_place_in-in-B.new.card)) card))
     (subst (λ (o : Option Accepted). NotesOn false (session_of run.keeper.cabin.cards A) o [] X X) (sym (ap (λ (k : Known). k.accepted) known)) (on-none false (session_of run.keeper.cabin.cards A) X))
     c.note_place_in-in-B.ensures.card_events
+
+-- ---- the cards go on
+
+pub returns-in_default-clause-cards : goal.returns-in_default-clause-cards
+returns-in_default-clause-cards g c = λ late ending country region speed before is o done s here front rest are n allowed vehicle w cards time.
+    let cabin = c.args.run.now.keeper.cabin in
+    let lit = c.requires.going in
+    no-entering cabin.cards (seat_in cabin.slots.seats c.args.slot) (who-enters (ungiven_of lit.span) cabin lit.cabin c.args.slot speed ending country region allowed)
+    (no-number cabin.cards (seat_in cabin.slots.seats c.args.slot) c.card.result c.card.ensures c.in_default.not-Some)
+
+pub returns-in_default-number_in-clause-cards : goal.returns-in_default-number_in-clause-cards
+returns-in_default-number_in-clause-cards g c = λ late ending country region speed before is o done s here front rest are n allowed vehicle w cards time.
+    let cabin = c.args.run.now.keeper.cabin in
+    let lit = c.requires.going in
+    no-entering cabin.cards (seat_in cabin.slots.seats c.args.slot) (who-enters (ungiven_of lit.span) cabin lit.cabin c.args.slot speed ending country region allowed)
+    (sym c.number_in.ensures ∙ none-given c.number_in.result c.in_default-number_in.not-Some)
+
+pub returns-in_err-note_place-clause-cards : goal.returns-in_err-note_place-clause-cards
+returns-in_err-note_place-clause-cards g c =
+    let run = c.args.run.now in
+    let breaks : Listed Break = c.args.breaks.now in
+    let U = g.M.Medium.state c.args.unit.now in
+    let V = g.M.Medium.state c.note_place.new.unit in
+    let A0 = g.C.Chip.state c.args.card_a.now in
+    let B0 = g.D.Chip.state c.args.card_b.now in
+    let none : breaks ≡ with_lines [] breaks = ap (λ (bs : List Break). record breaks { items = bs }) (sym (append-nil breaks.items)) in
+    place-cards c.args.slot c.args.at (is_err c.from_residual.result) false run run breaks breaks (devices U A0 B0) (devices V A0 B0) c.requires.at none (returns-in_err-note_place-clause-card_events g c)
+    (record { unit = c.note_place.ensures.journal.keeps; card_a = λ t x le at. at; card_b = λ t x le at. at })
+
+pub returns-in-A-clause-cards : goal.returns-in-A-clause-cards
+returns-in-A-clause-cards g c =
+    let run = c.args.run.now in
+    let number = c.in-Some-number_in.number in
+    let e = c.note_place_in.ensures in
+    let U = g.M.Medium.state c.args.unit.now in
+    let V = g.M.Medium.state c.note_place.new.unit in
+    let W = g.M.Medium.state c.note_place_in.new.unit in
+    let A0 = g.C.Chip.state c.args.card_a.now in
+    let B0 = g.D.Chip.state c.args.card_b.now in
+    let Y = g.C.Chip.state c.note_place_in.new.card in
+    let there : card_in (seat_in run.keeper.cabin.slots.seats c.args.slot) ≡ Some A = cc in
+    let told : number_of_seat run.keeper.cabin.cards (seat_in run.keeper.cabin.slots.seats c.args.slot) ≡ Some number = cc in
+    let some = numbered-session run.keeper.cabin.cards (seat_in run.keeper.cabin.slots.seats c.args.slot) A number there told in
+    place-cards c.args.slot c.args.at (is_err c.note_place_in.result) e.noted.0 run c.note_place_in.new.run c.args.breaks.now c.note_place_in.new.breaks (devices U A0 B0) (devices W Y B0) c.requires.at e.noted.1.told (returns-in-A-clause-card_events g c)
+    (record {
+      unit = left-after U V W c.note_place.ensures.journal.keeps c.note_place.ensures.journal.later e.journal.keeps;
+      card_a = some-left (session_of run.keeper.cabin.cards A) (λ a. IsNote a.session.application) A0 Y some e.moments;
+      card_b = λ t x le at. at;
+    })
+
+pub returns-in-B-clause-cards : goal.returns-in-B-clause-cards
+returns-in-B-clause-cards g c =
+    let run = c.args.run.now in
+    let number = c.in-Some-number_in.number in
+    let e = c.note_place_in-in-B.ensures in
+    let U = g.M.Medium.state c.args.unit.now in
+    let V = g.M.Medium.state c.note_place.new.unit in
+    let W = g.M.Medium.state c.note_place_in-in-B.new.unit in
+    let A0 = g.C.Chip.state c.args.card_a.now in
+    let B0 = g.D.Chip.state c.args.card_b.now in
+    let Y = g.D.Chip.state c.note_place_in-in-B.new.card in
+    let there : card_in (seat_in run.keeper.cabin.slots.seats c.args.slot) ≡ Some B = cc in
+    let told : number_of_seat run.keeper.cabin.cards (seat_in run.keeper.cabin.slots.seats c.args.slot) ≡ Some number = cc in
+    let some = numbered-session run.keeper.cabin.cards (seat_in run.keeper.cabin.slots.seats c.args.slot) B number there told in
+    place-cards c.args.slot c.args.at (is_err c.note_place_in-in-B.result) e.noted.0 run c.note_place_in-in-B.new.run c.args.breaks.now c.note_place_in-in-B.new.breaks (devices U A0 B0) (devices W A0 Y) c.requires.at e.noted.1.told (returns-in-B-clause-card_events g c)
+    (record {
+      unit = left-after U V W c.note_place.ensures.journal.keeps c.note_place.ensures.journal.later e.journal.keeps;
+      card_a = λ t x le at. at;
+      card_b = some-left (session_of run.keeper.cabin.cards B) (λ a. IsNote a.session.application) B0 Y some e.moments;
+    })
+
+-- ---- the place on the card
+
+none-in : (o : Option Card) → ((card : Card) → o ≡ Some card → ⊥) → o ≡ None
+none-in None never = refl
+none-in (Some card) never = absurd (never card refl)
+
+pub returns-in_default-clause-on_card : goal.returns-in_default-clause-on_card
+returns-in_default-clause-on_card g c = λ card there.
+    let none : card_in (seat_in c.args.run.now.keeper.cabin.slots.seats c.args.slot) ≡ None = sym c.card.ensures ∙ none-in c.card.result c.in_default.not-Some in
+    absurd (let wrong : None ≡ Some card = sym none ∙ there in cc)
+
+pub returns-in_default-number_in-clause-on_card : goal.returns-in_default-number_in-clause-on_card
+returns-in_default-number_in-clause-on_card g c = λ card there.
+    let run = c.args.run.now in
+    let cards = run.keeper.cabin.cards in
+    let d = devices (g.M.Medium.state c.args.unit.now) (g.C.Chip.state c.args.card_a.now) (g.D.Chip.state c.args.card_b.now) in
+    let unnamed : number_of_seat cards (seat_in run.keeper.cabin.slots.seats c.args.slot) ≡ None = sym c.number_in.ensures ∙ none-given c.number_in.result c.in_default-number_in.not-Some in
+    place-bare c.args.entry.now (card_of d card) (card_of d card) (session_of cards card) (session_of cards card) false
+    (seat-bare cards (seat_in run.keeper.cabin.slots.seats c.args.slot) card c.requires.going.ready.card_a.is_known c.requires.going.ready.card_b.is_known unnamed there)
+
+pub returns-in_err-note_place-clause-on_card : goal.returns-in_err-note_place-clause-on_card
+returns-in_err-note_place-clause-on_card g c = λ card there.
+    let run = c.args.run.now in
+    let s = session_of run.keeper.cabin.cards card in
+    let d = devices (g.M.Medium.state c.args.unit.now) (g.C.Chip.state c.args.card_a.now) (g.D.Chip.state c.args.card_b.now) in
+    let e = devices (g.M.Medium.state c.note_place.new.unit) (g.C.Chip.state c.args.card_a.now) (g.D.Chip.state c.args.card_b.now) in
+    let failed : true ≡ is_err c.from_residual.result = search rules in
+    subst (λ (b : Bool). PlaceOn s s b c.args.entry.now (card_of d card) (card_of e card)) failed (place-unit c.args.entry.now (card_of d card) (card_of e card) s s)
+
+pub returns-in-A-clause-on_card : goal.returns-in-A-clause-on_card
+returns-in-A-clause-on_card g c = λ card there.
+    let run = c.args.run.now in
+    let new : Run = c.note_place_in.new.run in
+    let seat : card_in (seat_in run.keeper.cabin.slots.seats c.args.slot) ≡ Some A = cc in
+    let is : A ≡ card = cc in
+    let d = devices (g.M.Medium.state c.args.unit.now) (g.C.Chip.state c.args.card_a.now) (g.D.Chip.state c.args.card_b.now) in
+    let e = devices (g.M.Medium.state c.note_place_in.new.unit) (g.C.Chip.state c.note_place_in.new.card) (g.D.Chip.state c.args.card_b.now) in
+    subst (λ (k : Card). PlaceOn (session_of run.keeper.cabin.cards k) (session_of new.keeper.cabin.cards k) (is_err c.note_place_in.result) c.args.entry.now (card_of d k) (card_of e k)) is
+    (place-any c.args.entry.now (g.C.Chip.state c.args.card_a.now) (g.C.Chip.state c.note_place_in.new.card) (session_of run.keeper.cabin.cards A) (session_of new.keeper.cabin.cards A) (is_err c.note_place_in.result) c.note_place_in.ensures.on_card)
+
+pub returns-in-B-clause-on_card : goal.returns-in-B-clause-on_card
+returns-in-B-clause-on_card g c = λ card there.
+    let run = c.args.run.now in
+    let new : Run = c.note_place_in-in-B.new.run in
+    let seat : card_in (seat_in run.keeper.cabin.slots.seats c.args.slot) ≡ Some B = cc in
+    let is : B ≡ card = cc in
+    let d = devices (g.M.Medium.state c.args.unit.now) (g.C.Chip.state c.args.card_a.now) (g.D.Chip.state c.args.card_b.now) in
+    let e = devices (g.M.Medium.state c.note_place_in-in-B.new.unit) (g.C.Chip.state c.args.card_a.now) (g.D.Chip.state c.note_place_in-in-B.new.card) in
+    subst (λ (k : Card). PlaceOn (session_of run.keeper.cabin.cards k) (session_of new.keeper.cabin.cards k) (is_err c.note_place_in-in-B.result) c.args.entry.now (card_of d k) (card_of e k)) is
+    (place-any c.args.entry.now (g.D.Chip.state c.args.card_b.now) (g.D.Chip.state c.note_place_in-in-B.new.card) (session_of run.keeper.cabin.cards B) (session_of new.keeper.cabin.cards B) (is_err c.note_place_in-in-B.result) c.note_place_in-in-B.ensures.on_card)

@@ -23,6 +23,9 @@ use Rattle.unit_notes.specs.Noting.{IsNotingEvent}
 use Rattle.run_rings.proofs.Same.{rings-left, rings-moments, table-outside}
 use Rattle.run_acts.specs.CardNotes.{NotesOn}
 use Rattle.run_acts.proofs.CardNotes.{on-session, place-noted}
+use Rattle.run_keeping.proofs.CardBooked.{session-set}
+use Rattle.run_acts.specs.CardWrites.{PlaceOn}
+use Rattle.run_acts.proofs.CardWrites.{place-well, place-fell, place-on}
 use Rattle.run_acts.proofs.placing.note_place_in.Goals as goal
 
 pub note_place_on-requires-clause-port : goal.note_place_on-requires-clause-port
@@ -207,3 +210,28 @@ returns-clause-card_events g c =
     subst (λ (q : Cards). NotesOn false (session_of before c.args.which) (session_of q c.args.which) [] X Y) (sym cards)
     (on-session c.args.which before c.in-Ok.app (g.C.Chip.card c.args.card.now) X Y (session_of before c.args.which) [] c.requires.card sizes c.requires.session
     (place-noted c.in-Ok.app c.args.entry.now (not (is_some (session_of before c.args.which))) X Y (g.met.C.Chip.coherent c.args.card.now) c.note_place_on.ensures.moments))
+
+-- ---- the place on the card
+
+pub returns-then-is_err-clause-on_card : goal.returns-then-is_err-clause-on_card
+returns-then-is_err-clause-on_card g c =
+    let run = c.args.run.now in
+    let cards = run.keeper.cabin.cards in
+    let cabin = ap (λ (k : Keeper). k.cabin) c.tear.ensures.keeper ∙ torn-apart c.args.which c.args.at.second run.keeper.cabin c.take.new.self c.take.ensures.left in
+    let gone : session_of c.tear.new.self.cabin.cards c.args.which ≡ None = ap (λ (b : Cabin). session_of b.cards c.args.which) cabin ∙ session-set c.args.which None cards in
+    place-fell c.args.entry.now (g.C.Chip.state c.args.card.now) (g.C.Chip.state c.note_place_on.new.card) (session_of cards c.args.which) (session_of c.tear.new.self.cabin.cards c.args.which) false gone
+
+pub returns-clause-on_card : goal.returns-clause-on_card
+returns-clause-on_card g c =
+    let run = c.args.run.now in
+    let before = run.keeper.cabin.cards in
+    let X = g.C.Chip.state c.args.card.now in
+    let Y = g.C.Chip.state c.note_place_on.new.card in
+    let sizes : (known_of before c.args.which).sizes ≡ Ok c.in-Ok.app = cc in
+    let well : is_err c.note_place_on.result ≡ false = sym c.is_err.ensures.value ∙ c.if-is_err.false in
+    let cause = subst (λ (b : Bool). HasCause X Y b) well c.note_place_on.ensures.cause in
+    let works = session-works c.args.which before (g.C.Chip.card c.args.card.now) X c.requires.card c.requires.session in
+    let cards = c.set_session.ensures ∙ ap (λ (q : Cards). with_session c.args.which (Some c.in-Some.accepted) q) c.take.ensures.left ∙ session-back c.args.which c.in-Some.accepted run.keeper.cabin.cards (sym c.in-Some.ensures.taken) in
+    let has = place-well c.in-Ok.app c.args.entry.now X Y (g.met.C.Chip.coherent c.args.card.now) (g.met.C.Chip.coherent c.note_place_on.new.card) works cause.works c.note_place_on.ensures.moments (ok_gives c.note_place_on.result c.note_place_on.ensures.noted well) in
+    subst (λ (q : Cards). PlaceOn (session_of before c.args.which) (session_of q c.args.which) false c.args.entry.now X Y) (sym cards)
+    (place-on c.args.entry.now X Y c.args.which before c.in-Ok.app (g.C.Chip.card c.args.card.now) (session_of before c.args.which) c.requires.card sizes has)

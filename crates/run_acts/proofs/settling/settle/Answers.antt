@@ -1,4 +1,4 @@
-use Rattle.std.proofs.Common.{rules, ◌≡◌, ◌∙◌, ℕ, ◌+◌, ◌-◌, ◌*◌, ◌/◌, ◌<◌, ◌≤◌, Bool, List, Option, All, length, refl, ap, sym, subst, arith}
+use Rattle.std.proofs.Common.{suc, rules, ◌≡◌, ◌∙◌, ℕ, ◌+◌, ◌-◌, ◌*◌, ◌/◌, ◌<◌, ◌≤◌, Bool, List, Option, All, length, refl, ap, sym, subst, arith}
 use Rattle.std.specs.Prelude.{is_err}
 use Rattle.tach_media.proofs.Runs.{on_ok, ok_gives}
 use Rattle.minute_model.specs.declared.Minute.{Minute}
@@ -13,9 +13,11 @@ use Rattle.run_acts.specs.Acting.{told_of}
 use Rattle.run_acts.proofs.Settled.{settled-ungiven, settled-later, settled-decides}
 use Rattle.run_acts.proofs.Bare.{all-bare}
 use Rattle.run_acts.proofs.GoesOn.{same-left}
-use Rattle.run_acts.proofs.SettledRecorded.{settling-so}
+use Rattle.run_acts.proofs.SettledRecorded.{settling-so, booked}
 use Rattle.run_acts.proofs.SettledEvented.{settling-events}
+use Rattle.safety_model.specs.Safe.{Devices}
 use Rattle.run_rule.specs.Between.{devices}
+use Rattle.run_acts.proofs.CardStays.{timed-still}
 use Rattle.run_acts.proofs.settling.settle.Goals as goal
 
 pub keep_all-requires-clause-due : goal.keep_all-requires-clause-due
@@ -165,6 +167,33 @@ returns-clause-recorded g c =
             card_b = record { keeps = k.b_keeps; clock = k.clock_b; tells = k.tells_b; more = k.more_b; broken = k.b_broken; bare = λ none. same-left (g.D.Chip.state c.args.card_b.now) (g.D.Chip.state c.keep_all.new.card_b) (ap g.D.Chip.state (k.b_bare none)) };
           })
           o done s n waits some here r time,
+    )
+
+-- ---- which events the cards show
+
+pub returns-clause-cards : goal.returns-clause-cards
+returns-clause-cards g c =
+    let h = c.requires.going in
+    let k = c.keep_all.ensures in
+    let old = c.args.run.now in
+    let items = c.settle-decided.result.items in
+    let d : Devices = devices (g.M.Medium.state c.args.unit.now) (g.C.Chip.state c.args.card_a.now) (g.D.Chip.state c.args.card_b.now) in
+    let e : Devices = devices (g.M.Medium.state c.keep_all.new.unit) (g.C.Chip.state c.keep_all.new.card_a) (g.D.Chip.state c.keep_all.new.card_b) in
+    let b = rw c.as_slice.ensures.value at k.booked in (
+      items,
+      c.settle-decided.ensures.given,
+      λ o done s n waits here r time. timed-still o r.origin d e
+          (booked old c.args.outcome.now c.settle-decided.new.self c.keep_all.new.self c.keep_all.new.marks c.keep_all.new.breaks c.args.at (is_err c.keep_all.result) items d e
+          h.0 h.1 c.requires.small (c.settle-decided.ensures.settled h.1.span h.1.stands) (c.settle-decided.ensures.given h.1.span h.1.stands) k.same.1 b.0 b.1 b.2
+          (record {
+            cause = k.cause;
+            keeps = k.unit_keeps;
+            tells = k.tells;
+            clock = k.clock;
+            card_a = record { keeps = k.a_keeps; clock = k.clock_a; tells = k.tells_a; more = k.more_a; broken = k.a_broken; bare = λ none. same-left (g.C.Chip.state c.args.card_a.now) (g.C.Chip.state c.keep_all.new.card_a) (ap g.C.Chip.state (k.a_bare none)) };
+            card_b = record { keeps = k.b_keeps; clock = k.clock_b; tells = k.tells_b; more = k.more_b; broken = k.b_broken; bare = λ none. same-left (g.D.Chip.state c.args.card_b.now) (g.D.Chip.state c.keep_all.new.card_b) (ap g.D.Chip.state (k.b_bare none)) };
+          })
+          o done s (suc n) waits (omega arith) here r time).1,
     )
 
 -- ---- which faults are noted

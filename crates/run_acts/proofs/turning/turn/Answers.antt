@@ -27,6 +27,8 @@ use Rattle.run_recorded.specs.Origin.{Origin}
 use Rattle.run_acts.specs.RunRinged.{RunRinged, RingsWithin, WithinRinged, CutRinged, InSecondRingedBy, TurnedRings}
 use Rattle.run_acts.proofs.Ringing.{turn-leaves}
 use Rattle.run_acts.proofs.RingedTurn.{dark-ringed, seconds-ringed}
+use Rattle.run_acts.specs.RunCards.{CardsAtBy}
+use Rattle.run_acts.proofs.CardTurn.{dark-cards, seconds-shown}
 use Rattle.run_acts.proofs.turning.turn.Goals as goal
 
 -- ---- without power
@@ -209,3 +211,28 @@ returns-clause-ringed g c = λ o done s now actions behind within time.
     (seconds-ringed c.args.n c.args.speed c.args.begun run c.lit_turn.new.run before after d e (c.requires.going.lit lit) r.evented.within.lit c.requires.some c.requires.minute c.requires.small c.lit_turn.ensures.booked leaves
     o done s now actions (λ more. (behind (omega (arith, more))).0) r.evented.within time r.spans r.told within_all r.stored) in
     ringed-of o seconds c.pass-2.new.self after e events rings
+
+-- ---- which events the cards show
+
+pub returns-then-not-is_lit-clause-cards : goal.returns-then-not-is_lit-clause-cards
+returns-then-not-is_lit-clause-cards g c = λ o done s now actions none there time.
+    let run = c.args.run.now in
+    let before = c.args.outcome.now in
+    let d : Devices = devices (g.M.Medium.state c.args.unit.now) (g.C.Chip.state c.args.card_a.now) (g.D.Chip.state c.args.card_b.now) in
+    let dark : is_lit run.power ≡ false = sym c.is_lit.ensures ∙ c.if-not-is_lit.true in
+    let r : CardsAtBy false o done s c.args.begun run before d = subst (λ (b : Bool). CardsAtBy b o done s c.args.begun run before d) dark there in
+    dark-cards c.args.n c.args.speed run before d c.requires.some c.requires.minute o done s now r.0 r.1
+
+pub returns-clause-cards : goal.returns-clause-cards
+returns-clause-cards g c = λ o done s now actions none there time.
+    let run = c.args.run.now in
+    let before = c.args.outcome.now in
+    let after = c.lit_turn.new.outcome in
+    let d : Devices = devices (g.M.Medium.state c.args.unit.now) (g.C.Chip.state c.args.card_a.now) (g.D.Chip.state c.args.card_b.now) in
+    let e : Devices = devices (g.M.Medium.state c.lit_turn.new.unit) (g.C.Chip.state c.lit_turn.new.card_a) (g.D.Chip.state c.lit_turn.new.card_b) in
+    let lit : is_lit run.power ≡ true = sym c.is_lit.ensures ∙ c.if-not-is_lit.false in
+    let at : CardsAtBy true o done s c.args.begun run before d = subst (λ (b : Bool). CardsAtBy b o done s c.args.begun run before d) lit there in
+    let r : CardsAtBy true o done s (length s.actions) run before d = subst (λ (k : ℕ). CardsAtBy true o done s k run before d) (sym actions) at in
+    let low : 0 < run.next = let first = c.requires.going.low in omega (arith, first) in
+    seconds-shown c.args.n c.args.speed c.args.begun run c.lit_turn.new.run before after d e (c.requires.going.lit lit) r.0.lit c.requires.some c.requires.minute c.requires.small low c.lit_turn.ensures.booked
+    o done s now actions (λ more. none (omega (arith, more))) r.0 time r.1

@@ -34,6 +34,8 @@ use Rattle.unit_notes.specs.Noting.{IsNotingEvent}
 use Rattle.run_rings.proofs.Same.{rings-left, rings-moments, table-outside}
 use Rattle.run_acts.specs.Ringing.{ClosesRings}
 use Rattle.run_keeping.proofs.Later.{state-same, state-by}
+use Rattle.run_acts.specs.CardWrites.{ClosesCard}
+use Rattle.run_acts.proofs.CardWrites.{closes-well}
 use Rattle.run_acts.proofs.withdrawing.close.Goals as goal
 
 pub returns-in-Ok-leave-clause-ready : goal.returns-in-Ok-leave-clause-ready
@@ -240,3 +242,65 @@ returns-in-Ok-leave-clause-later g c = state-by (g.C.Chip.state c.args.card.now)
 
 pub returns-in-Err-clause-later : goal.returns-in-Err-clause-later
 returns-in-Err-clause-later g c = state-by (g.C.Chip.state c.args.card.now) (g.C.Chip.state c.leave.new.card) (is_err c.leave.result) c.leave.ensures.moments.later c.leave.ensures.cause
+
+-- ---- the card is closed
+
+pub returns-in_default-clause-shut : goal.returns-in_default-clause-shut
+returns-in_default-clause-shut g c =
+    let run = c.args.run.now in
+    let none : session_of run.keeper.cabin.cards c.args.which ≡ None = sym c.close.ensures.session ∙ none-there c.close.result c.in_default.not-Some in
+    record {
+      closing = Bare;
+      closed = record {
+        is = subst (λ (o : Option Accepted). IsClosingOf o Bare) (sym none) tt;
+        run = ap (λ (b : Cabin). record run { keeper = record run.keeper { cabin = b } }) c.close.ensures.kept;
+        told = no-lines c.args.breaks.now;
+      };
+      act = activity_of c.selected-selected.result;
+      selected = c.selected-selected.ensures;
+      closes = tt;
+    }
+
+pub returns-in_default-sizes-clause-shut : goal.returns-in_default-sizes-clause-shut
+returns-in_default-sizes-clause-shut g c =
+    let cards = c.args.run.now.keeper.cabin.cards in
+    let some : session_of cards c.args.which ≡ Some c.in-Some.accepted = sym c.in-Some.ensures.session in
+    let gone = no-session c.args.which cards (g.C.Chip.card c.args.card.now) (g.C.Chip.state c.args.card.now) c.requires.card (λ app is. c.in_default-sizes.not-Ok app (ap (λ (q : Known). q.sizes) c.of.ensures ∙ is)) in
+    absurd (let wrong : None ≡ Some c.in-Some.accepted = sym gone ∙ some in cc)
+
+pub returns-in-Ok-leave-clause-shut : goal.returns-in-Ok-leave-clause-shut
+returns-in-Ok-leave-clause-shut g c =
+    let run = c.args.run.now in
+    let X = g.C.Chip.state c.args.card.now in
+    let Y = g.C.Chip.state c.leave.new.card in
+    let some : session_of run.keeper.cabin.cards c.args.which ≡ Some c.in-Some.accepted = sym c.in-Some.ensures.session in
+    let works : X.works ≡ true = subst (λ (o : Option Accepted). IfSome o (λ a. X.works ≡ true)) (sym (session-known run.keeper.cabin.cards c.args.which) ∙ some) c.requires.card.works in
+    let act : Activity = activity_of c.selected-selected.result in
+    record {
+      closing = Closed;
+      closed = record {
+        is = subst (λ (o : Option Accepted). IsClosingOf o Closed) (sym some) tt;
+        run = ap (λ (b : Cabin). record run { keeper = record run.keeper { cabin = b } }) c.close.ensures.kept;
+        told = no-lines c.args.breaks.now;
+      };
+      act = act;
+      selected = c.selected-selected.ensures;
+      closes = subst (λ (o : Option Accepted). ClosesCard Closed o act X Y) (sym some)
+          (closes-well c.in-Some.accepted act X Y (λ x n. IsSession c.in-Some.accepted.session x → IsCardClosing c.in-Some.accepted.session act x n) (g.met.C.Chip.coherent c.args.card.now) (g.met.C.Chip.coherent c.leave.new.card) works c.in-Ok-leave.ensures.cause.works c.leave.ensures.moments c.in-Ok-leave.ensures.closed);
+    }
+
+pub returns-in-Err-clause-shut : goal.returns-in-Err-clause-shut
+returns-in-Err-clause-shut g c =
+    let run = c.args.run.now in
+    let some : session_of run.keeper.cabin.cards c.args.which ≡ Some c.in-Some.accepted = sym c.in-Some.ensures.session in
+    record {
+      closing = Fell;
+      closed = record {
+        is = subst (λ (o : Option Accepted). IsClosingOf o Fell) (sym some) tt;
+        run = ap (λ (k : Keeper). record run { keeper = k }) (c.tear.ensures.keeper ∙ ap (λ (b : Cabin). record run.keeper { cabin = torn_out c.args.which c.args.at.second b }) c.close.ensures.kept);
+        told = c.tear.ensures.told;
+      };
+      act = activity_of c.selected-selected.result;
+      selected = c.selected-selected.ensures;
+      closes = tt;
+    }

@@ -34,7 +34,7 @@ use Rattle.log_model.specs.Log.{In}
 use Rattle.run_acts.specs.Recording.{RunFails, GoesOnOrFails, GoesOnOrCut, log_of}
 use Rattle.run_acts.specs.Settling.{RecordsSettling}
 use Rattle.run_acts.proofs.Asked.{withdraws-one}
-use Rattle.run_acts.proofs.WithdrawnRecorded.{acting_at, moment-is, settling-cut, closing-recorded, settled-evented, closing-evented, untorn-then, sat-there}
+use Rattle.run_acts.proofs.WithdrawnRecorded.{acting_at, moment-is, settling-cut, closing-recorded, settled-evented, closing-evented, untorn-then, sat-there, settled-still, closed-still}
 use Rattle.run_acts.specs.Faults.{NotesSettling}
 use Rattle.run_acts.specs.Noting.{NotesClosing, NotesWithdrawing, closed_events}
 use Rattle.run_acts.proofs.NotedEvents.{same-noted, noted-any}
@@ -58,6 +58,11 @@ use Rattle.run_acts.proofs.Settled.{settled-decides}
 use Rattle.run_acts.proofs.SettledRecorded.{same-ungiven}
 use Rattle.run_acts.proofs.RingedSecond.{left-after, more-left}
 use Rattle.run_acts.proofs.RingedClosed.{settling-ringed, closing-ringed, gone-told}
+use Rattle.run_acts.specs.RunCards.{CardsSettling, StillShow}
+use Rattle.run_acts.proofs.CardStays.{shows-then}
+use Rattle.run_acts.proofs.CardActs.{TellsLines, settled-lines, closed-lines, quiet-goes}
+use Rattle.run_acts.specs.CardWrites.{ShutsBehind, WithdrawsShut}
+use Rattle.run_acts.proofs.CardWrites.{withdrawn-shut}
 use Rattle.run_acts.proofs.withdrawing.withdraw.Goals as goal
 
 -- ---- it has left its slot
@@ -953,3 +958,193 @@ returns-in-B-clause-ringed g c = λ late speed o done s now front rest are n all
     (sat-there o done s front rest c.args.slot are speed now.speed_is B run between c.args.outcome.now told D w there allowed minutes r.0 (r.1 w.within.sp w.within.minutes) had)
     (subst (λ (low : ℕ). All (λ (m : Minute). low ≤ m.minute) kept.decided) (sym from_is) later) had none)
     (is_err c.close-in-B.result) writes
+
+-- ---- which events the cards show
+
+here-cards : (decided : List Minute) (slot : Slot) (at here : Moment) (run between : Run) (before : Outcome) (left : Cabin) (d e : Devices) → left ≡ with_slot_left slot at.second run.keeper.cabin → at ≡ here →
+    CardsSettling decided at (with_cabin left run) between before d e → CardsSettling decided here (left_run slot here.second run) between before d e
+here-cards decided slot at here run between before left d e is moment settles =
+    subst (λ (m : Moment). CardsSettling decided m (left_run slot m.second run) between before d e) moment
+    (subst (λ (b : Cabin). CardsSettling decided at (with_cabin b run) between before d e) is settles)
+
+pub returns-in_default-clause-cards : goal.returns-in_default-clause-cards
+returns-in_default-clause-cards g c = λ late speed o done s now front rest are n allowed vehicle w cards time.
+    let seats = c.args.run.now.keeper.cabin.slots.seats in
+    let none : card_in (seat_in seats c.args.slot) ≡ None = sym c.card.ensures ∙ none-there c.card.result c.in_default.not-Some in
+    absurd (withdraws-one seats c.args.slot speed allowed none)
+
+pub returns-in_err-settle-clause-cards : goal.returns-in_err-settle-clause-cards
+returns-in_err-settle-clause-cards g c = λ late speed o done s now front rest are n allowed vehicle w cards time.
+    let run = c.args.run.now in
+    let there : card_in (seat_in run.keeper.cabin.slots.seats c.args.slot) ≡ Some c.in-Some.card = cc in
+    let D : Devices = devices (g.M.Medium.state c.args.unit.now) (g.C.Chip.state c.args.card_a.now) (g.D.Chip.state c.args.card_b.now) in
+    let E : Devices = devices (g.M.Medium.state c.settle.new.unit) (g.C.Chip.state c.settle.new.card_a) (g.D.Chip.state c.settle.new.card_b) in
+    let moment = moment-is c.args.at s.number (suc (length front)) (c.requires.at ∙ sym now.number) n late in
+    let v = c.in_err-settle.ensures.cards in
+    let still : StillShow o D E =
+    settled-still o done s front rest c.args.slot are speed now.speed_is c.in-Some.card run c.settle.new.run c.args.outcome.now c.settle.new.outcome D w there allowed (c.in_err-settle.ensures.settled.minutes w.within.sp w.within.minutes) v.0 (v.1 w.within.sp w.within.minutes) E
+    (here-cards v.0 c.args.slot c.args.at (acting_at s.number (suc (length front))) run c.settle.new.run c.args.outcome.now c.leave.new.self D E c.leave.ensures.kept moment v.2) time in
+    let left = more-left o D E (w.within.powered.lit.unit.unit_holds [] []).later w.within.there.clocks c.settle.ensures.keeps in
+    let t : TellsLines (acting_at s.number (suc (length front))) c.args.outcome.now c.settle.new.outcome = subst (λ (m : Moment). TellsLines m c.args.outcome.now c.settle.new.outcome) moment
+    (settled-lines c.args.at true (with_cabin c.leave.new.self run) c.settle.new.run c.args.outcome.now c.settle.new.outcome c.in_err-settle.ensures.settled) in
+    quiet-goes o done s front rest (Withdraw c.args.slot) are run c.args.outcome.now D E w tt t.lines (log_of c.settle.new.outcome) t.are t.tears left still cards (is_err c.from_residual.result)
+
+pub returns-in-A-clause-cards : goal.returns-in-A-clause-cards
+returns-in-A-clause-cards g c = λ late speed o done s now front rest are n allowed vehicle w cards time.
+    let run = c.args.run.now in
+    let there : card_in (seat_in run.keeper.cabin.slots.seats c.args.slot) ≡ Some A = cc in
+    let U = g.M.Medium.state c.args.unit.now in
+    let A0 = g.C.Chip.state c.args.card_a.now in
+    let B0 = g.D.Chip.state c.args.card_b.now in
+    let D : Devices = devices U A0 B0 in
+    let between : Run = c.settle.new.run in
+    let told : Outcome = c.settle.new.outcome in
+    let U1 = g.M.Medium.state c.settle.new.unit in
+    let V = g.M.Medium.state c.close.new.unit in
+    let A1 = g.C.Chip.state c.settle.new.card_a in
+    let B1 = g.D.Chip.state c.settle.new.card_b in
+    let X = g.C.Chip.state c.settle.new.card_a in
+    let Y = g.C.Chip.state c.close.new.card in
+    let Z = B1 in
+    let M : Devices = devices U1 A1 B1 in
+    let E : Devices = devices V Y B1 in
+    let moment = moment-is c.args.at s.number (suc (length front)) (c.requires.at ∙ sym now.number) n late in
+    let r = c.in_ok-settle.ensures.recorded in
+    let v = c.in_ok-settle.ensures.cards in
+    let e = c.close.ensures in
+    let mid = time-before A U1 V X Y Z e.journal.later e.clock_card time in
+    let minutes = c.in_ok-settle.ensures.settled.minutes w.within.sp w.within.minutes in
+    let records = here-settled r.0 false c.args.slot c.args.at (acting_at s.number (suc (length front))) run between c.args.outcome.now told c.leave.new.self D M c.leave.ensures.kept moment r.2 in
+    let first : StillShow o D M =
+    settled-still o done s front rest c.args.slot are speed now.speed_is A run between c.args.outcome.now told D w there allowed minutes v.0 (v.1 w.within.sp w.within.minutes) M
+    (here-cards v.0 c.args.slot c.args.at (acting_at s.number (suc (length front))) run between c.args.outcome.now c.leave.new.self D M c.leave.ensures.kept moment v.2) mid in
+    let next : StillShow o M E =
+    closed-still o done s front rest c.args.slot are speed now.speed_is A run between c.args.outcome.now told D w there allowed minutes r.0 (r.1 w.within.sp w.within.minutes) g.C.Chip.state U1 V Z c.settle.new.card_a c.close.new.card
+    (g.met.C.Chip.coherent c.settle.new.card_a) c.settle.ensures.held.card_a.size e.left e.bare records mid in
+    let keeps = c.settle.ensures.keeps in
+    let left = more-left o D E (w.within.powered.lit.unit.unit_holds [] []).later w.within.there.clocks (record {
+      unit = left-after U U1 V keeps.unit c.settle.ensures.clock e.journal.keeps;
+      card_a = left-after A0 A1 Y keeps.card_a c.settle.ensures.clock_a (closing-left g.C.Chip.state c.settle.new.card_a c.close.new.card (session_of between.keeper.cabin.cards A) e.left e.bare);
+      card_b = keeps.card_b;
+    }) in
+    let k = e.closed in
+    let t : TellsLines (acting_at s.number (suc (length front))) c.args.outcome.now (record told { breaks = c.close.new.breaks }) = subst (λ (m : Moment). TellsLines m c.args.outcome.now (record told { breaks = c.close.new.breaks })) moment
+    (closed-lines c.args.at c.args.outcome.now told c.close.new.breaks k.0 c.args.slot (settled-lines c.args.at false (with_cabin c.leave.new.self run) between c.args.outcome.now told c.in_ok-settle.ensures.settled) k.1.told) in
+    quiet-goes o done s front rest (Withdraw c.args.slot) are run c.args.outcome.now D E w tt t.lines (log_of (record told { breaks = c.close.new.breaks })) t.are t.tears left (shows-then o D M E first next) cards (is_err c.close.result)
+
+pub returns-in-B-clause-cards : goal.returns-in-B-clause-cards
+returns-in-B-clause-cards g c = λ late speed o done s now front rest are n allowed vehicle w cards time.
+    let run = c.args.run.now in
+    let there : card_in (seat_in run.keeper.cabin.slots.seats c.args.slot) ≡ Some B = cc in
+    let U = g.M.Medium.state c.args.unit.now in
+    let A0 = g.C.Chip.state c.args.card_a.now in
+    let B0 = g.D.Chip.state c.args.card_b.now in
+    let D : Devices = devices U A0 B0 in
+    let between : Run = c.settle.new.run in
+    let told : Outcome = c.settle.new.outcome in
+    let U1 = g.M.Medium.state c.settle.new.unit in
+    let V = g.M.Medium.state c.close-in-B.new.unit in
+    let A1 = g.C.Chip.state c.settle.new.card_a in
+    let B1 = g.D.Chip.state c.settle.new.card_b in
+    let X = g.D.Chip.state c.settle.new.card_b in
+    let Y = g.D.Chip.state c.close-in-B.new.card in
+    let Z = A1 in
+    let M : Devices = devices U1 A1 B1 in
+    let E : Devices = devices V A1 Y in
+    let moment = moment-is c.args.at s.number (suc (length front)) (c.requires.at ∙ sym now.number) n late in
+    let r = c.in_ok-settle.ensures.recorded in
+    let v = c.in_ok-settle.ensures.cards in
+    let e = c.close-in-B.ensures in
+    let mid = time-before B U1 V X Y Z e.journal.later e.clock_card time in
+    let minutes = c.in_ok-settle.ensures.settled.minutes w.within.sp w.within.minutes in
+    let records = here-settled r.0 false c.args.slot c.args.at (acting_at s.number (suc (length front))) run between c.args.outcome.now told c.leave.new.self D M c.leave.ensures.kept moment r.2 in
+    let first : StillShow o D M =
+    settled-still o done s front rest c.args.slot are speed now.speed_is B run between c.args.outcome.now told D w there allowed minutes v.0 (v.1 w.within.sp w.within.minutes) M
+    (here-cards v.0 c.args.slot c.args.at (acting_at s.number (suc (length front))) run between c.args.outcome.now c.leave.new.self D M c.leave.ensures.kept moment v.2) mid in
+    let next : StillShow o M E =
+    closed-still o done s front rest c.args.slot are speed now.speed_is B run between c.args.outcome.now told D w there allowed minutes r.0 (r.1 w.within.sp w.within.minutes) g.D.Chip.state U1 V Z c.settle.new.card_b c.close-in-B.new.card
+    (g.met.D.Chip.coherent c.settle.new.card_b) c.settle.ensures.held.card_b.size e.left e.bare records mid in
+    let keeps = c.settle.ensures.keeps in
+    let left = more-left o D E (w.within.powered.lit.unit.unit_holds [] []).later w.within.there.clocks (record {
+      unit = left-after U U1 V keeps.unit c.settle.ensures.clock e.journal.keeps;
+      card_b = left-after B0 B1 Y keeps.card_b c.settle.ensures.clock_b (closing-left g.D.Chip.state c.settle.new.card_b c.close-in-B.new.card (session_of between.keeper.cabin.cards B) e.left e.bare);
+      card_a = keeps.card_a;
+    }) in
+    let k = e.closed in
+    let t : TellsLines (acting_at s.number (suc (length front))) c.args.outcome.now (record told { breaks = c.close-in-B.new.breaks }) = subst (λ (m : Moment). TellsLines m c.args.outcome.now (record told { breaks = c.close-in-B.new.breaks })) moment
+    (closed-lines c.args.at c.args.outcome.now told c.close-in-B.new.breaks k.0 c.args.slot (settled-lines c.args.at false (with_cabin c.leave.new.self run) between c.args.outcome.now told c.in_ok-settle.ensures.settled) k.1.told) in
+    quiet-goes o done s front rest (Withdraw c.args.slot) are run c.args.outcome.now D E w tt t.lines (log_of (record told { breaks = c.close-in-B.new.breaks })) t.are t.tears left (shows-then o D M E first next) cards (is_err c.close-in-B.result)
+
+-- ---- the card is closed
+
+pub returns-in_default-clause-shut : goal.returns-in_default-clause-shut
+returns-in_default-clause-shut g c = λ card there.
+    let none : card_in (seat_in c.args.run.now.keeper.cabin.slots.seats c.args.slot) ≡ None = sym c.card.ensures ∙ none-there c.card.result c.in_default.not-Some in
+    absurd (let wrong : None ≡ Some card = sym none ∙ there in cc)
+
+pub returns-in_err-settle-clause-shut : goal.returns-in_err-settle-clause-shut
+returns-in_err-settle-clause-shut g c = λ card there.
+    let run = c.args.run.now in
+    let failed : true ≡ is_err c.from_residual.result = search rules in
+    inl (
+      sym failed,
+      subst (λ (b : Cabin). IsSettled c.args.at true (with_cabin b run) c.settle.new.run c.args.outcome.now c.settle.new.outcome) c.leave.ensures.kept c.in_err-settle.ensures.settled,
+    )
+
+pub returns-in-A-clause-shut : goal.returns-in-A-clause-shut
+returns-in-A-clause-shut g c = λ card there.
+    let run = c.args.run.now in
+    let seat : card_in (seat_in run.keeper.cabin.slots.seats c.args.slot) ≡ Some A = cc in
+    let is : A ≡ card = cc in
+    let U1 = g.M.Medium.state c.settle.new.unit in
+    let V = g.M.Medium.state c.close.new.unit in
+    let X = g.C.Chip.state c.settle.new.card_a in
+    let Y = g.C.Chip.state c.close.new.card in
+    let Z = g.D.Chip.state c.settle.new.card_b in
+    let D = devices (g.M.Medium.state c.args.unit.now) (g.C.Chip.state c.args.card_a.now) (g.D.Chip.state c.args.card_b.now) in
+    let E = devices V Y Z in
+    let e = c.close.ensures in
+    let n = e.shut in
+    let b = c.in_ok-settle.ensures.booked in
+    let after : Outcome = record c.settle.new.outcome { breaks = c.close.new.breaks } in
+    subst (λ (k : Card). WithdrawsShut k c.args.slot c.args.at (is_err c.close.result) run c.close.new.run c.args.outcome.now after D E) is
+    (inr (subst (λ (left : Cabin). ShutsBehind A c.args.slot c.args.at (told_of (with_cabin left run) c.args.outcome.now) run c.close.new.run after D E) c.leave.ensures.kept (record {
+      decided = b.0;
+      given = b.2;
+      between = c.settle.new.run;
+      told = c.settle.new.outcome;
+      closing = n.closing;
+      closed = n.closed;
+      act = n.act;
+      selected = n.selected;
+      shut = withdrawn-shut A U1 V X Y Z e.journal e.clock_card n.closing b.0 c.args.at (told_of (with_cabin c.leave.new.self run) c.args.outcome.now) (told_of c.settle.new.run c.settle.new.outcome) D n.act n.closes b.1 b.3 b.4;
+    })))
+
+pub returns-in-B-clause-shut : goal.returns-in-B-clause-shut
+returns-in-B-clause-shut g c = λ card there.
+    let run = c.args.run.now in
+    let seat : card_in (seat_in run.keeper.cabin.slots.seats c.args.slot) ≡ Some B = cc in
+    let is : B ≡ card = cc in
+    let U1 = g.M.Medium.state c.settle.new.unit in
+    let V = g.M.Medium.state c.close-in-B.new.unit in
+    let X = g.D.Chip.state c.settle.new.card_b in
+    let Y = g.D.Chip.state c.close-in-B.new.card in
+    let Z = g.C.Chip.state c.settle.new.card_a in
+    let D = devices (g.M.Medium.state c.args.unit.now) (g.C.Chip.state c.args.card_a.now) (g.D.Chip.state c.args.card_b.now) in
+    let E = devices V Z Y in
+    let e = c.close-in-B.ensures in
+    let n = e.shut in
+    let b = c.in_ok-settle.ensures.booked in
+    let after : Outcome = record c.settle.new.outcome { breaks = c.close-in-B.new.breaks } in
+    subst (λ (k : Card). WithdrawsShut k c.args.slot c.args.at (is_err c.close-in-B.result) run c.close-in-B.new.run c.args.outcome.now after D E) is
+    (inr (subst (λ (left : Cabin). ShutsBehind B c.args.slot c.args.at (told_of (with_cabin left run) c.args.outcome.now) run c.close-in-B.new.run after D E) c.leave.ensures.kept (record {
+      decided = b.0;
+      given = b.2;
+      between = c.settle.new.run;
+      told = c.settle.new.outcome;
+      closing = n.closing;
+      closed = n.closed;
+      act = n.act;
+      selected = n.selected;
+      shut = withdrawn-shut B U1 V X Y Z e.journal e.clock_card n.closing b.0 c.args.at (told_of (with_cabin c.leave.new.self run) c.args.outcome.now) (told_of c.settle.new.run c.settle.new.outcome) D n.act n.closes b.1 b.3 b.4;
+    })))
