@@ -11,7 +11,6 @@ pub mod Going
 pub mod Room
 pub mod Turning
 pub mod Booked
-pub mod Broken
 pub mod Recording
 pub mod Noting
 pub mod Settling
