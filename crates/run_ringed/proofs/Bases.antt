@@ -391,7 +391,7 @@ module _ (o : Origin) (log later : RunLog) (unfound : ℕ) (spans : List SpanFro
 may-none : (rule : Rule) (start first kept odometer : ℕ) → MayStore rule start first [] kept odometer → kept ≡ first
 may-none rule start first kept _ (OfStart is) = is
 may-none rule start first kept _ (OfKept s d at among is) = absurd (omega (arith, at.1))
-may-none rule start first kept _ (OfCut s d at among cut) = absurd (omega (arith, at.1))
+may-none rule start first kept _ (OfCut s d at among cut late) = absurd (omega (arith, at.1))
 
 module _ (o : Origin) (log : RunLog) (unfound k : ℕ) where
   abbrev found_ : RunLog

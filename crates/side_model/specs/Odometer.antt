@@ -1,5 +1,5 @@
 -- The odometer of a run (profile): what was stored at a power-on, and the speeds since.
-use Rattle.std.specs.Prelude.{◌≡◌, ◌⊎◌, ℕ, ◌+◌, ◌*◌, ◌/◌, ◌≤◌, min, Bool, false, Option, Some, None, List, [], ◌∷◌, ◌++◌, All, map, filter, sum, Contains, nat_eq, nat_lt, nat_le, if◌then◌else◌}
+use Rattle.std.specs.Prelude.{◌≡◌, ◌⊎◌, ℕ, ◌+◌, ◌*◌, ◌/◌, ◌<◌, ◌≤◌, min, Bool, false, Option, Some, None, List, [], ◌∷◌, ◌++◌, All, map, filter, sum, Contains, nat_eq, nat_lt, nat_le, if◌then◌else◌}
 use Rattle.std.specs.List.{list_any}
 use Rattle.minute_model.specs.declared.Rule.{Rule}
 use Rattle.minute_model.specs.declared.Minute.{Minute}
@@ -43,12 +43,12 @@ abbrev pub IsBeingKept : Rule → List Told → ℕ → Type 0
 IsBeingKept rule span m = cut_second (last span) ≡ Some (deciding_of rule (settlings_of span) m)
 
 -- What a unit stores whose last-kept minute is this, after these spans: the start's odometer where it kept no minute since; that of
--- its last-kept minute; or that of a minute that a cut's second was keeping.
+-- its last-kept minute; or that of a later minute that a cut's second was keeping.
 pub data MayStore (rule : Rule) (start start_kept : ℕ) (spans : List SpanFrom) (kept : ℕ) : ℕ → Type 0 where
   OfStart : kept ≡ start_kept → MayStore rule start start_kept spans kept start
   OfKept : (s : SpanFrom) (d : Minute) → Contains spans s → Contains (decided_of rule s.span) d → d.minute ≡ kept →
       MayStore rule start start_kept spans kept (odometer_at_end d.minute s)
-  OfCut : (s : SpanFrom) (d : Minute) → Contains spans s → Contains (decided_of rule s.span) d → IsBeingKept rule s.span d.minute →
+  OfCut : (s : SpanFrom) (d : Minute) → Contains spans s → Contains (decided_of rule s.span) d → IsBeingKept rule s.span d.minute → kept < d.minute →
       MayStore rule start start_kept spans kept (odometer_at_end d.minute s)
 
 -- what was found kept after the last of these spans; at first what was kept at the start
