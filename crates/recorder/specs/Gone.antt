@@ -10,7 +10,7 @@ use Rattle.recorder.specs.Opening.{IsRefused, IsFoundLater}
 use Rattle.recorder.specs.Going.{IsGoing}
 use Rattle.recorder.specs.Standing.{Began, Travel}
 use Rattle.recorder.specs.Booked.{Booked, GoesOn}
-use Rattle.recorder.specs.Broken.{TellsBreakdowns}
+use Rattle.run_outcome.specs.Broken.{BreaksDown}
 
 -- A run went on by so many seconds, or a power-on has refused the unit: no failed call does, nor a unit that tells its image.
 pub record HasGone (result : Result (Unit {0}) RunFault) (seconds : ℕ) (old new : Run) (before after : Outcome) (prior unit : State) : Type 0 where
@@ -21,7 +21,7 @@ pub record HasGone (result : Result (Unit {0}) RunFault) (seconds : ℕ) (old ne
   pub is_unit : IsUnit unit
   pub finds : after.finds ≡ before.finds
   pub goes_on : GoesOn prior unit
-  pub broke : TellsBreakdowns before.breaks.items after.breaks.items prior unit
+  pub broke : BreaksDown before.breaks.items after.breaks.items prior unit
   -- where the unit and its marks are as a book says, they are so again, by a book that goes on
   pub booked : (s : Began) (b : Book) (g : Travel) → Booked s old b g before.marks.items prior → is_some prior.image ≡ true → unit.clock < last_count
       → IsOk result × ((c : Book) × (h : Travel) × Booked s new c h after.marks.items unit)

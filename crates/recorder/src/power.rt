@@ -8,7 +8,7 @@ ghost use Rattle.history_model.specs.Book.{Book};
 ghost use Rattle.log_model.specs.declared.lines.Mark.{Mark};
 ghost use Rattle.recorder.specs.Standing.{Began, Travel, odometer_after, Stands};
 ghost use Rattle.recorder.specs.Booked.{Booked, GoesOn};
-ghost use Rattle.recorder.specs.Broken.{TellsBreakdowns};
+ghost use Rattle.run_outcome.specs.Broken.{BreaksDown};
 ghost use Rattle.recorder.specs.Steps.{IsPoweredOn, IsMendedOn, IsSecondBegun};
 ghost use Rattle.recorder.specs.Going.{first_second, end_of_seconds, IsGoing, HasMarkRoom, HasBreakRoom, cuts_from, cuts_within};
 ghost use Rattle.recorder.specs.declared.run.Power.TheVariants.{Lit, Due, Lost};
@@ -107,7 +107,7 @@ impl Run {
         ensures unfound { OnOk result (self.new.unfound ≤ length breaks.new.items) }
         ensures unit { IsUnit (M.state unit.new) }
         ensures goes_on { GoesOn (M.state unit.old) (M.state unit.new) }
-        ensures broke { TellsBreakdowns breaks.old.items breaks.new.items (M.state unit.old) (M.state unit.new) }
+        ensures broke { BreaksDown breaks.old.items breaks.new.items (M.state unit.old) (M.state unit.new) }
         ensures booked { (s : Began) (b : Book) (g : Travel) (marks : List Mark) → Booked s self.old b g marks (M.state unit.old) → is_some (M.state unit.old).image ≡ true
             → IsOk result × IsSecondBegun s self.old self.new breaks.old.items breaks.new.items b g marks (M.state unit.old) (M.state unit.new) }
     {
@@ -139,7 +139,7 @@ impl Run {
         ensures unfound { OnOk result (self.new.unfound ≤ length breaks.new.items) }
         ensures unit { IsUnit (M.state unit.new) }
         ensures goes_on { GoesOn (M.state unit.old) (M.state unit.new) }
-        ensures broke { TellsBreakdowns breaks.old.items breaks.new.items (M.state unit.old) (M.state unit.new) }
+        ensures broke { BreaksDown breaks.old.items breaks.new.items (M.state unit.old) (M.state unit.new) }
         ensures booked { (s : Began) (b : Book) (g : Travel) (marks : List Mark) → Booked s self.old b g marks (M.state unit.old) → is_some (M.state unit.old).image ≡ true
             → IsOk result × IsPoweredOn s self.old self.new breaks.old.items breaks.new.items b g marks (M.state unit.old) (M.state unit.new) }
     {
@@ -176,7 +176,7 @@ impl Run {
         ensures unfound { OnOk result (self.new.unfound ≤ length breaks.new.items) }
         ensures unit { IsUnit (M.state unit.new) }
         ensures goes_on { GoesOn (M.state unit.old) (M.state unit.new) }
-        ensures broke { TellsBreakdowns breaks.old.items breaks.new.items (M.state unit.old) (M.state unit.new) }
+        ensures broke { BreaksDown breaks.old.items breaks.new.items (M.state unit.old) (M.state unit.new) }
         ensures booked { (s : Began) (b : Book) (g : Travel) (marks : List Mark) → Stands s (self.old.next / 60) b g marks (M.state unit.old) → b.maybe ≡ None → journal.odometer ≡ odometer_after s.odometer g.before → HasFound journal (M.state unit.old)
             → IsOk result × IsMendedOn s self.old self.new breaks.old.items breaks.new.items journal.kept b g marks (M.state unit.old) (M.state unit.new) }
     {

@@ -69,7 +69,7 @@ impl Run {
     ghost use Rattle.recorder.specs.Power.{is_lit};
     ghost use Rattle.recorder.specs.Gone.{HasGone};
     ghost use Rattle.recorder.specs.Booked.{Booked, GoesOn};
-    ghost use Rattle.recorder.specs.Broken.{TellsBreakdowns};
+    ghost use Rattle.run_outcome.specs.Broken.{BreaksDown};
     ghost use Rattle.recorder.specs.Steps.{IsTurn, IsLitTurn};
     ghost use Rattle.recorder.specs.Recorded.{Recorded};
     ghost use Rattle.trace_model.specs.Trace.{TraceSecond, driven};
@@ -259,7 +259,7 @@ impl Run {
         ensures refused { outcome.new.refused ≡ outcome.old.refused }
         ensures finds { outcome.new.finds ≡ outcome.old.finds }
         ensures goes_on { GoesOn (M.state unit.old) (M.state unit.new) }
-        ensures broke { TellsBreakdowns outcome.old.breaks.items outcome.new.breaks.items (M.state unit.old) (M.state unit.new) }
+        ensures broke { BreaksDown outcome.old.breaks.items outcome.new.breaks.items (M.state unit.old) (M.state unit.new) }
         ensures booked { (s : Began) (b : Book) (g : Travel) → Booked s self.old b g outcome.old.marks.items (M.state unit.old) → (M.state unit.new).clock < last_count
             → IsTurn s self.old self.new outcome.old.breaks.items outcome.new.breaks.items n speed begun b g outcome.old.marks.items outcome.new.marks.items (M.state unit.old) (M.state unit.new) }
     {
@@ -296,7 +296,7 @@ impl Run {
         ensures refused { outcome.new.refused ≡ outcome.old.refused }
         ensures finds { outcome.new.finds ≡ outcome.old.finds }
         ensures goes_on { GoesOn (M.state unit.old) (M.state unit.new) }
-        ensures broke { TellsBreakdowns outcome.old.breaks.items outcome.new.breaks.items (M.state unit.old) (M.state unit.new) }
+        ensures broke { BreaksDown outcome.old.breaks.items outcome.new.breaks.items (M.state unit.old) (M.state unit.new) }
         ensures booked { (s : Began) (b : Book) (g : Travel) → Booked s self.old b g outcome.old.marks.items (M.state unit.old) → (M.state unit.new).clock < last_count
             → IsLitTurn s self.old self.new outcome.old.breaks.items outcome.new.breaks.items n speed begun b g outcome.old.marks.items outcome.new.marks.items (M.state unit.old) (M.state unit.new) }
     {

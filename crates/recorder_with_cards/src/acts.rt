@@ -7,7 +7,7 @@ ghost use Rattle.slot_machine.specs.Calls.{logged};
 ghost use Rattle.run_keeping.specs.Keeping.{with_lines};
 ghost use Rattle.run_keeping.specs.Books.{HaveTime};
 ghost use Rattle.run_keeping.specs.Later.{AreLater};
-ghost use Rattle.run_acts.specs.Broken.{TellsBreakdowns};
+ghost use Rattle.run_outcome.specs.Broken.{BreaksDown};
 ghost use Rattle.run_rule.specs.Between.{devices};
 ghost use Rattle.run_acts.specs.declared.run.Power.TheVariants.{Lit};
 ghost use Rattle.run_acts.specs.Power.{is_lit};
@@ -68,7 +68,7 @@ pub(crate) fn act_all<M: Medium, C: Chip, D: Chip>(
     ensures unfound { run.new.unfound ≡ run.old.unfound }
     ensures room { (left offs insertions actions : ℕ) → HasRoomWithin run.old outcome.old (1 + left) offs (insertions_in from to items.now + insertions) (to - from + actions) → HasRoomWithin run.new outcome.new (1 + left) offs insertions actions }
     ensures breaks { length outcome.old.breaks.items ≤ length outcome.new.breaks.items }
-    ensures broke { TellsBreakdowns outcome.old.breaks.items outcome.new.breaks.items (M.state unit.old) (M.state unit.new) }
+    ensures broke { BreaksDown outcome.old.breaks.items outcome.new.breaks.items (M.state unit.old) (M.state unit.new) }
 {
     for i in from..to {
         act_item(
@@ -112,7 +112,7 @@ fn act_item<M: Medium, C: Chip, D: Chip>(
     ensures unfound { run.new.unfound ≡ run.old.unfound }
     ensures room { (left offs insertions actions : ℕ) → HasRoomWithin run.old outcome.old (1 + left) offs (insertion_count item.now + insertions) (1 + actions) → HasRoomWithin run.new outcome.new (1 + left) offs insertions actions }
     ensures breaks { length outcome.old.breaks.items ≤ length outcome.new.breaks.items }
-    ensures broke { TellsBreakdowns outcome.old.breaks.items outcome.new.breaks.items (M.state unit.old) (M.state unit.new) }
+    ensures broke { BreaksDown outcome.old.breaks.items outcome.new.breaks.items (M.state unit.old) (M.state unit.new) }
 {
     match item {
         Item::Act(action) => act(
@@ -154,7 +154,7 @@ fn act<M: Medium, C: Chip, D: Chip>(
     ensures unfound { run.new.unfound ≡ run.old.unfound }
     ensures room { (left offs insertions actions : ℕ) → HasRoomWithin run.old outcome.old (1 + left) offs (put_count action + insertions) (1 + actions) → HasRoomWithin run.new outcome.new (1 + left) offs insertions actions }
     ensures breaks { length outcome.old.breaks.items ≤ length outcome.new.breaks.items }
-    ensures broke { TellsBreakdowns outcome.old.breaks.items outcome.new.breaks.items (M.state unit.old) (M.state unit.new) }
+    ensures broke { BreaksDown outcome.old.breaks.items outcome.new.breaks.items (M.state unit.old) (M.state unit.new) }
 {
     if !has_power {
         run.refuse(SlotFault::NoPower, &mut outcome.refused);
@@ -194,7 +194,7 @@ fn act_lit<M: Medium, C: Chip, D: Chip>(
     ensures unfound { run.new.unfound ≡ run.old.unfound }
     ensures room { (left offs insertions actions : ℕ) → HasRoomWithin run.old outcome.old (1 + left) offs (put_count action + insertions) (1 + actions) → HasRoomWithin run.new outcome.new (1 + left) offs insertions actions }
     ensures breaks { length outcome.old.breaks.items ≤ length outcome.new.breaks.items }
-    ensures broke { TellsBreakdowns outcome.old.breaks.items outcome.new.breaks.items (M.state unit.old) (M.state unit.new) }
+    ensures broke { BreaksDown outcome.old.breaks.items outcome.new.breaks.items (M.state unit.old) (M.state unit.new) }
 {
     if let Err(fault) = may(run, action, speed) {
         run.refuse(fault, &mut outcome.refused);

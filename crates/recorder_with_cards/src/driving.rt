@@ -3,7 +3,7 @@ ghost use Rattle.std.specs.Prelude.{◌≡◌, ℕ, ◌+◌, ◌-◌, ◌%◌, �
 ghost use Rattle.run_rule.specs.Between.{devices};
 ghost use Rattle.run_keeping.specs.Books.{HaveTime};
 ghost use Rattle.run_keeping.specs.Later.{AreLater};
-ghost use Rattle.run_acts.specs.Broken.{TellsBreakdowns};
+ghost use Rattle.run_outcome.specs.Broken.{BreaksDown};
 ghost use Rattle.run_acts.specs.Going.{largest_number, end_of_seconds, IsGoing};
 ghost use Rattle.run_acts.specs.Room.{HasRoom};
 ghost use Rattle.recorder_with_cards.specs.Items.{between, insertions_in};
@@ -43,7 +43,7 @@ pub(crate) fn drive<M: Medium, C: Chip, D: Chip>(
     ensures later { AreLater (devices (M.state unit.old) (C.state card_a.old) (D.state card_b.old)) (devices (M.state unit.new) (C.state card_a.new) (D.state card_b.new)) }
     ensures gone { HasGone result seconds run.old run.new outcome.new (M.state unit.new) (C.card card_a.new) (D.card card_b.new) (C.state card_a.new) (D.state card_b.new) }
     ensures room { (left offs insertions actions : ℕ) → HasRoom run.old outcome.old (seconds + left) offs (insertions_in from to items.now + insertions) (to - from + actions) → OnOk result (HasRoom run.new outcome.new left offs insertions actions) }
-    ensures broke { TellsBreakdowns outcome.old.breaks.items outcome.new.breaks.items (M.state unit.old) (M.state unit.new) }
+    ensures broke { BreaksDown outcome.old.breaks.items outcome.new.breaks.items (M.state unit.old) (M.state unit.new) }
 {
     let has_power = begin_second(run, speed, unit, card_a, card_b, outcome)?;
     act_all(
@@ -73,7 +73,7 @@ fn drive_on<M: Medium, C: Chip, D: Chip>(
     ensures later { AreLater (devices (M.state unit.old) (C.state card_a.old) (D.state card_b.old)) (devices (M.state unit.new) (C.state card_a.new) (D.state card_b.new)) }
     ensures gone { HasGone result seconds run.old run.new outcome.new (M.state unit.new) (C.card card_a.new) (D.card card_b.new) (C.state card_a.new) (D.state card_b.new) }
     ensures room { (left offs insertions actions : ℕ) → HasRoom run.old outcome.old (seconds + left) offs insertions actions → OnOk result (HasRoom run.new outcome.new left offs insertions actions) }
-    ensures broke { TellsBreakdowns outcome.old.breaks.items outcome.new.breaks.items (M.state unit.old) (M.state unit.new) }
+    ensures broke { BreaksDown outcome.old.breaks.items outcome.new.breaks.items (M.state unit.old) (M.state unit.new) }
 {
     let mut left = seconds;
     while left > 0 {
@@ -105,7 +105,7 @@ fn step<M: Medium, C: Chip, D: Chip>(
     ensures later { AreLater (devices (M.state unit.old) (C.state card_a.old) (D.state card_b.old)) (devices (M.state unit.new) (C.state card_a.new) (D.state card_b.new)) }
     ensures gone { HasGone result n run.old run.new outcome.new (M.state unit.new) (C.card card_a.new) (D.card card_b.new) (C.state card_a.new) (D.state card_b.new) }
     ensures room { (left offs insertions actions : ℕ) → HasRoom run.old outcome.old (n + left) offs insertions actions → OnOk result (HasRoom run.new outcome.new left offs insertions actions) }
-    ensures broke { TellsBreakdowns outcome.old.breaks.items outcome.new.breaks.items (M.state unit.old) (M.state unit.new) }
+    ensures broke { BreaksDown outcome.old.breaks.items outcome.new.breaks.items (M.state unit.old) (M.state unit.new) }
 {
     begin_second(run, speed, unit, card_a, card_b, outcome)?;
     turn(run, n, speed, 0, unit, card_a, card_b, outcome);

@@ -5,8 +5,7 @@ ghost use Rattle.unit_model.specs.Image.{IsUnit};
 ghost use Rattle.run_opening.specs.Units.{IsLoaded};
 ghost use Rattle.run_acts.specs.declared.run.Power.TheVariants.{Lit};
 ghost use Rattle.run_keeping.specs.Later.{AreLater};
-ghost use Rattle.run_outcome.specs.Broken.{failed_cuts};
-ghost use Rattle.run_acts.specs.Broken.{TellsBreakdowns};
+ghost use Rattle.run_outcome.specs.Broken.{failed_cuts, BreaksDown};
 ghost use Rattle.run_acts.specs.Power.{is_lit, has_power, minute_over};
 ghost use Rattle.run_acts.specs.Going.{end_of_seconds, IsHeld, IsLit, IsAt, IsGoing, IsWithin, IsFoundLater};
 ghost use Rattle.run_acts.specs.Room.{HasRoom, HasRoomWithin, falls_of, bare_seats};
@@ -59,7 +58,7 @@ pub(crate) fn begin_second<M: Medium, C: Chip, D: Chip>(
     ensures clock_b { (D.state card_b.old).clock ≤ (D.state card_b.new).clock }
     ensures refused { outcome.new.refused ≡ outcome.old.refused }
     ensures later { AreLater (devices (M.state unit.old) (C.state card_a.old) (D.state card_b.old)) (devices (M.state unit.new) (C.state card_a.new) (D.state card_b.new)) }
-    ensures broke { TellsBreakdowns outcome.old.breaks.items outcome.new.breaks.items (M.state unit.old) (M.state unit.new) }
+    ensures broke { BreaksDown outcome.old.breaks.items outcome.new.breaks.items (M.state unit.old) (M.state unit.new) }
 {
     if !run.has_power() {
         return Ok(false);
@@ -102,7 +101,7 @@ fn power_on<M: Medium, C: Chip, D: Chip>(
     ensures clock_b { (D.state card_b.old).clock ≤ (D.state card_b.new).clock }
     ensures refused { outcome.new.refused ≡ outcome.old.refused }
     ensures later { AreLater (devices (M.state unit.old) (C.state card_a.old) (D.state card_b.old)) (devices (M.state unit.new) (C.state card_a.new) (D.state card_b.new)) }
-    ensures broke { TellsBreakdowns outcome.old.breaks.items outcome.new.breaks.items (M.state unit.old) (M.state unit.new) }
+    ensures broke { BreaksDown outcome.old.breaks.items outcome.new.breaks.items (M.state unit.old) (M.state unit.new) }
 {
     match load(unit) {
         Ok(journal) => found(run, journal, speed, unit, card_a, card_b, outcome),
@@ -146,7 +145,7 @@ fn found<M: Medium, C: Chip, D: Chip>(
     ensures clock_b { (D.state card_b.old).clock ≤ (D.state card_b.new).clock }
     ensures refused { outcome.new.refused ≡ outcome.old.refused }
     ensures later { AreLater (devices (M.state unit.old) (C.state card_a.old) (D.state card_b.old)) (devices (M.state unit.new) (C.state card_a.new) (D.state card_b.new)) }
-    ensures broke { TellsBreakdowns outcome.old.breaks.items outcome.new.breaks.items (M.state unit.old) (M.state unit.new) }
+    ensures broke { BreaksDown outcome.old.breaks.items outcome.new.breaks.items (M.state unit.old) (M.state unit.new) }
 {
     let kept = journal.last_kept();
     run.learn(kept, &mut outcome.breaks);

@@ -12,7 +12,7 @@ ghost use Rattle.run_keeping.specs.Later.{AreLater};
 ghost use Rattle.run_acts.specs.Recording.{log_of};
 ghost use Rattle.log_model.specs.Causes.{cuts};
 ghost use Rattle.tach_media.specs.Medium.{HasBroken};
-ghost use Rattle.run_acts.specs.Broken.{TellsBreakdowns};
+ghost use Rattle.run_outcome.specs.Broken.{BreaksDown};
 ghost use Rattle.run_acts.specs.Going.{largest_number, end_of_seconds, IsGoing};
 ghost use Rattle.run_acts.specs.Room.{HasRoom};
 ghost use Rattle.recorder_with_cards.specs.Items.{between, insertions_in};
@@ -119,7 +119,7 @@ fn go_on<M: Medium, C: Chip, D: Chip>(
     ensures gone { HasGone result (item_seconds item) run.old run.new outcome.new (M.state unit.new) (C.card card_a.new) (D.card card_b.new) (C.state card_a.new) (D.state card_b.new) }
     ensures idle { OnOk result (has_seconds item ≡ false → (run.new ≡ run.old) × (outcome.new ≡ outcome.old)) }
     ensures room { (left offs insertions actions : ℕ) → HasRoom run.old outcome.old (item_seconds item + left) (off_count item + offs) (insertions_in from to items.now + insertions) (to - from + actions) → OnOk result (has_seconds item ≡ true → HasRoom run.new outcome.new left offs insertions actions) }
-    ensures broke { TellsBreakdowns outcome.old.breaks.items outcome.new.breaks.items (M.state unit.old) (M.state unit.new) }
+    ensures broke { BreaksDown outcome.old.breaks.items outcome.new.breaks.items (M.state unit.old) (M.state unit.new) }
 {
     match item {
         Item::Act(_) => Ok(()),

@@ -29,7 +29,6 @@ pub mod Leaving
 pub mod Cabins
 pub mod Withdrawn
 pub mod Bare
-pub mod Broken
 pub mod Past
 pub mod Standing
 pub mod Due

@@ -3,7 +3,7 @@ use Rattle.std.proofs.Common.{◌≡◌, ◌⊎◌, inl, inr, ⊎_elim, ℕ, zer
 use Rattle.std.specs.Prelude.{option_map, option_to_list}
 use Rattle.std.specs.List.{AllByRecursion}
 use Rattle.std.proofs.lemmas.List.{map-append, same_from_push, length-append}
-use Rattle.std.proofs.lemmas.List.Elements.{Contains-append_left, Contains-append_right, Contains-append_cases, Contains-push, Contains-push_cases}
+use Rattle.std.proofs.lemmas.List.Elements.{All-nil, All-cons, Contains-append_left, Contains-append_right, Contains-append_cases, Contains-push, Contains-push_cases}
 use Rattle.std.proofs.lemmas.List.Sums.{fold-append}
 use Rattle.tach_media.specs.Medium.{State}
 use Rattle.trace_model.specs.declared.Action.{Action}
@@ -91,6 +91,9 @@ module _ (o : Origin) (first : o.found.unit.first ≡ first_of o) (due : ℕ) (b
   rises : Rising (first_of o) b.sure
   rises = rising-front (first_of o) b.sure (option_to_list b.maybe) (subst (λ (n : ℕ). Rising n (all b)) first (holds.unit_holds [] []).order.now.rising)
 
+  rises-all : Rising (first_of o) (all b)
+  rises-all = subst (λ (n : ℕ). Rising n (all b)) first (holds.unit_holds [] []).order.now.rising
+
   shows : (x : List ℕ) → unit.may_leave x → (shown : ShowsOdometer (odometer_at o.recording.unit) b g x) → MayShow (first_of o) b g (last_kept x) shown.leg
   shows x on shown =
       let held = (holds.unit_holds [] []).now (unit_view [] [] x) (x, on, refl) in
@@ -141,7 +144,7 @@ module _ (o : Origin) (first : o.found.unit.first ≡ first_of o) (done : List T
       (decided_of (rule_of o) (t ∷ span)) None [] (same ∙ sym (append-nil (decided_of (rule_of o) (t ∷ span)))) (λ m is. none-left m is)
       (minutes_kept (rule_of o) v.log earlier) stands.kept stands.newest stands.stored r.book r.travel
       (book-numbers (rule_of o) (start_at o) o.from (first_of o) done so_far r.recorded.followed (t ∷ span) refl refl earlier are)
-      (rises o first r.due r.book v.marks d.unit on.powered.lit.unit r.travel)
+      (rises o first r.due r.book v.marks d.unit on.powered.lit.unit r.travel) (λ m is. none-left m is)
       (λ i is. none-left i (sym (book-none (rule_of o) (start_at o) o.from (first_of o) done so_far r.recorded.followed (t ∷ span) refl refl earlier are) ∙ is))
       legs.sure
       (λ leg is. none-left leg (sym legs.none ∙ is)))
@@ -186,6 +189,23 @@ kept-none (i ∷ is) b none = kept-none is (record b { sure = b.sure ++ i ∷ []
 maybe-of : (start : Start) (told : List Told) (past : List HistoryMinute) (l : Option Minute) (b : Book) → b.maybe ≡ None → (i : HistoryMinute) → (broken_at (option_map {T = Minute} (seated start told past) l) b).maybe ≡ Some i → (d : Minute) × (l ≡ Some d) × (d.minute ≡ i.minute)
 maybe-of start told past None b none i is = no-maybe i (sym none ∙ is)
 maybe-of start told past (Some d) b none i is = let same : seated start told past d ≡ i = cc in (d, refl, ap (λ (x : HistoryMinute). x.minute) same)
+
+-- the last of minutes that rise is later than the others
+rising-last : (first : ℕ) (xs : List HistoryMinute) (i : HistoryMinute) → Rising first (xs ++ i ∷ []) → (first < i.minute) × All (λ (j : HistoryMinute). j.minute < i.minute) xs
+rising-last first [] i h = (h.0, All-nil (λ (j : HistoryMinute). j.minute < i.minute))
+rising-last first (x ∷ xs) i h =
+    let rest = rising-last x.minute xs i h.1 in
+    let low = h.0 in
+    let high = rest.0 in
+    (omega (arith, low, high), All-cons (λ (j : HistoryMinute). j.minute < i.minute) x xs rest.0 rest.1)
+
+-- so is the one of which the keeping was broken off
+later-of : (first : ℕ) (start : Start) (told : List Told) (past : List HistoryMinute) (l : Option Minute) (b : Book) → Rising first (all (broken_at (option_map {T = Minute} (seated start told past) l) b)) → (d : Minute) → l ≡ Some d →
+    (first < d.minute) × All (λ (i : HistoryMinute). i.minute < d.minute) (broken_at (option_map {T = Minute} (seated start told past) l) b).sure
+later-of first start told past None b rises d is = no-maybe d is
+later-of first start told past (Some x) b rises d is =
+    let same : x ≡ d = cc in
+    subst (λ (y : Minute). (first < y.minute) × All (λ (i : HistoryMinute). i.minute < y.minute) b.sure) same (rising-last first b.sure (seated start told past x) rises)
 
 stranded-sure : (l : Option Minute) (g : Travel) → (stranded_at l g).sure ≡ g.sure
 stranded-sure None g = refl
@@ -388,6 +408,7 @@ module _ (o : Origin) (first : o.found.unit.first ≡ first_of o) (done : List T
       parts w.lost more (decided-so ∙ sym (append_assoc (decided_of (rule_of o) w.b.span) w.ds (option_to_list w.lost ++ more))) lost-now
       (minutes_kept (rule_of o) p.log gone.earlier) gone.stands.kept gone.stands.newest gone.stands.stored book travel book-are
       (rises o first w.due book v.marks d.unit w.powerless.carried.unit travel)
+      (later-of (first_of o) (start_at o) (told_before w.b done) (p.book.sure ++ w.new) w.lost (kept_all w.new p.book) (rises-all o first w.due book v.marks d.unit w.powerless.carried.unit travel))
       (maybe-of (start_at o) (told_before w.b done) (p.book.sure ++ w.new) w.lost (kept_all w.new p.book) (kept-none w.new p.book none-before))
       (stranded-sure w.lost (all_travelled w.ds w.b.travel) ∙ travelled-all (decided_of (rule_of o) w.b.span) w.ds w.b.travel was-shut.sure)
       (stranded-maybe w.lost (all_travelled w.ds w.b.travel) (travelled-none w.ds w.b.travel was-shut.none)))

@@ -9,10 +9,8 @@ use Rattle.log_model.specs.declared.lines.Break.{Break}
 use Rattle.slot_machine.specs.Calls.{seat_in, card_in}
 use Rattle.tach_media.specs.Medium.{State, HasCause}
 use Rattle.run_outcome.specs.Lines.{Listed, cut_at}
-use Rattle.run_outcome.specs.Broken.{failed_cuts}
-use Rattle.run_outcome.proofs.Broken.{cuts-behind}
-use Rattle.run_acts.specs.Broken.{TellsBreakdowns}
-use Rattle.run_acts.proofs.Broken.{broke-same, broke-once, broke-then}
+use Rattle.run_outcome.specs.Broken.{failed_cuts, BreaksDown}
+use Rattle.run_outcome.proofs.Broken.{cuts-behind, broke-same, broke-once, broke-then}
 use Rattle.run_outcome.specs.declared.outcome.Outcome.{Outcome}
 use Rattle.run_keeping.specs.declared.keeper.Moment.{Moment}
 use Rattle.run_keeping.specs.Keeping.{Fate, Still, Has, Fell as FellThen, breaks_by, with_lines}
@@ -27,12 +25,12 @@ pub more-uncut : (xs ys : List Break) → failed_cuts ys ≡ 0 → failed_cuts (
 more-uncut xs ys zero_cuts = let all = cuts-behind xs ys in omega (arith, all, zero_cuts)
 
 -- so no breakdown is told, where no call has failed
-pub uncut-broke : (before after : List Break) (old new : State) (failed : Bool) → HasCause old new failed → failed ≡ false → failed_cuts after ≡ failed_cuts before → TellsBreakdowns before after old new
+pub uncut-broke : (before after : List Break) (old new : State) (failed : Bool) → HasCause old new failed → failed ≡ false → failed_cuts after ≡ failed_cuts before → BreaksDown before after old new
 uncut-broke before after old new failed cause well same = broke-same {before = before} {after = after} {old = old} {new = new} same (cause.unbroken well)
 
 -- or a failed call broke the unit down, and is told as a cut behind them
 pub cut-broke : (before between after : List Break) (second begun : ℕ) (old new : State) (failed : Bool) → old.works ≡ true → HasCause old new failed → failed ≡ true → failed_cuts between ≡ failed_cuts before
-    → after ≡ between ++ cut_at second true begun ∷ [] → TellsBreakdowns before after old new
+    → after ≡ between ++ cut_at second true begun ∷ [] → BreaksDown before after old new
 cut-broke before between after second begun old new failed works cause failing same is =
     broke-then (broke-same {before = before} {after = between} {old = old} {new = old} same refl)
     (broke-once {before = between} {after = after} second begun {old = old} {new = new} is (cause.breaks works failing))

@@ -12,7 +12,6 @@ pub mod Room
 pub mod Turning
 pub mod Booked
 pub mod Stays
-pub mod Broken
 pub mod Recording
 pub mod Noting
 pub mod Settling

@@ -24,7 +24,7 @@ ghost use Rattle.run_acts.specs.RunCards.{CardsTurn};
 ghost use Rattle.run_keeping.specs.Minutes.{Reach};
 ghost use Rattle.run_acts.specs.declared.run.Run.{Run};
 ghost use Rattle.run_keeping.specs.Later.{AreLater};
-ghost use Rattle.run_acts.specs.Broken.{TellsBreakdowns};
+ghost use Rattle.run_outcome.specs.Broken.{BreaksDown};
 ghost use Rattle.run_rule.specs.Between.{devices};
 
 use crate::feeding::feed;
@@ -73,7 +73,7 @@ pub fn turn<M: Medium, C: Chip, D: Chip>(
     ensures refused { outcome.new.refused ≡ outcome.old.refused }
     ensures finds { outcome.new.finds ≡ outcome.old.finds }
     ensures later { AreLater (devices (M.state unit.old) (C.state card_a.old) (D.state card_b.old)) (devices (M.state unit.new) (C.state card_a.new) (D.state card_b.new)) }
-    ensures broke { TellsBreakdowns outcome.old.breaks.items outcome.new.breaks.items (M.state unit.old) (M.state unit.new) }
+    ensures broke { BreaksDown outcome.old.breaks.items outcome.new.breaks.items (M.state unit.old) (M.state unit.new) }
 {
     if !run.is_lit() {
         run.pass(n, begun);
@@ -115,7 +115,7 @@ fn lit_turn<M: Medium, C: Chip, D: Chip>(
     ensures refused { outcome.new.refused ≡ outcome.old.refused }
     ensures finds { outcome.new.finds ≡ outcome.old.finds }
     ensures later { AreLater (devices (M.state unit.old) (C.state card_a.old) (D.state card_b.old)) (devices (M.state unit.new) (C.state card_a.new) (D.state card_b.new)) }
-    ensures broke { TellsBreakdowns outcome.old.breaks.items outcome.new.breaks.items (M.state unit.old) (M.state unit.new) }
+    ensures broke { BreaksDown outcome.old.breaks.items outcome.new.breaks.items (M.state unit.old) (M.state unit.new) }
 {
     let decided = feed(&mut run.minutes, n, speed);
     let at = Moment {

@@ -1,5 +1,5 @@
 -- How often a unit broke down, by the cuts that its calls made (profile).
-use Rattle.std.specs.Prelude.{ℕ, ◌+◌, ◌-◌, ◌≤◌, min, true, List, length}
+use Rattle.std.specs.Prelude.{◌≡◌, ℕ, ◌+◌, ◌-◌, ◌≤◌, min, true, List, length}
 use Rattle.tach_media.specs.Medium.{State, last_count}
 use Rattle.log_model.specs.declared.lines.Break.{Break}
 use Rattle.unit_course.specs.Caused.{cuts_by}
@@ -8,7 +8,9 @@ use Rattle.unit_course.specs.Caused.{cuts_by}
 abbrev pub failed_cuts : List Break → ℕ
 failed_cuts breaks = length (cuts_by true breaks)
 
--- each such cut more is a breakdown of the unit more, or their count stands at its last value
+-- Each such cut more is a breakdown of the unit more, or their count stands at its last value; and where no cut is told more, the unit has not
+-- broken down any more.
 pub record BreaksDown (before after : List Break) (old new : State) : Type 0 where
   pub few : failed_cuts before ≤ failed_cuts after
   pub broke : min (old.breakdowns + (failed_cuts after - failed_cuts before)) last_count ≤ new.breakdowns
+  pub calm : failed_cuts after ≡ failed_cuts before → new.breakdowns ≡ old.breakdowns

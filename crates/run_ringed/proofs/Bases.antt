@@ -154,38 +154,47 @@ module _ (log : RunLog) (unfound : ℕ) (later : RunLog) (unfound_later : ℕ) (
       by true is = absurd (let bad : true ≡ false = sym (goes.failed u is) ∙ none in cc)
 
   -- a span began so, still
-  begins-on : (rule : Rule) (start first : ℕ) (pre : List SpanFrom) (s : SpanFrom) → FoundSame first pre → BeginsFrom rule log start first pre s → BeginsFrom rule later start first pre s
-  begins-on rule start first pre s same h = record { kept = h.kept; found = λ none. h.found (not-failed (first_in s.span) none) ∙ sym same; stored = h.stored }
+  begins-on : (rule : Rule) (start first : ℕ) (pre : List SpanFrom) (s : SpanFrom) → FoundSame first pre → AllByRecursion (IsFoundEnd log unfound) pre → BeginsFrom rule log start first pre s → BeginsFrom rule later start first pre s
+  begins-on rule start first pre s same before h = record {
+    kept = h.kept;
+    found = λ none. h.found (not-failed (first_in s.span) none) ∙ sym same;
+    newest = λ none. subst (λ (ms : List ℕ). IsNewest first ms h.kept) (sym (minutes-on rule pre before)) (h.newest (not-failed (first_in s.span) none));
+    stored = h.stored;
+  }
 
   -- in its first second a call failed: nothing is said of what was kept
   begins-failed : (rule : Rule) (start first : ℕ) (pre : List SpanFrom) (s : SpanFrom) → has_failed_in log (first_in s.span) ≡ true → BeginsFrom rule log start first pre s → BeginsFrom rule later start first pre s
-  begins-failed rule start first pre s failed h = record { kept = h.kept; found = λ none. absurd (let bad : true ≡ false = sym (goes.failed (first_in s.span) failed) ∙ none in cc); stored = h.stored }
+  begins-failed rule start first pre s failed h = record { kept = h.kept; found = λ none. absurd (let bad : true ≡ false = sym (goes.failed (first_in s.span) failed) ∙ none in cc); newest = λ none. absurd (let bad : true ≡ false = sym (goes.failed (first_in s.span) failed) ∙ none in cc); stored = h.stored }
 
   all-failed : (rule : Rule) (start first : ℕ) (pre xs : List SpanFrom) → AllByRecursion (λ (s : SpanFrom). has_failed_in log (first_in s.span) ≡ true) xs → HaveBases rule log start first pre xs → HaveBases rule later start first pre xs
   all-failed rule start first pre [] failed h = tt
   all-failed rule start first pre (s ∷ xs) failed h = (begins-failed rule start first pre s failed.0 h.0, all-failed rule start first (pre ++ s ∷ []) xs failed.1 h.1)
 
-  pub bases-on : (rule : Rule) (start first : ℕ) (pre xs : List SpanFrom) → FoundSame first pre → AllByRecursion (IsFoundEnd log unfound) xs → HaveBases rule log start first pre xs → HaveBases rule later start first pre xs
-  bases-on rule start first pre [] same ends h = tt
-  bases-on rule start first pre (s ∷ xs) same ends h = (begins-on rule start first pre s same h.0, bases-on rule start first (pre ++ s ∷ []) xs (same-behind first pre s ends.0) ends.1 h.1)
+  -- these may be added to those that have ended so
+  ended-more : (pre : List SpanFrom) (s : SpanFrom) → AllByRecursion (IsFoundEnd log unfound) pre → IsFoundEnd log unfound s → AllByRecursion (IsFoundEnd log unfound) (pre ++ s ∷ [])
+  ended-more pre s before end = all-append (IsFoundEnd log unfound) pre (s ∷ []) before (end, tt)
+
+  pub bases-on : (rule : Rule) (start first : ℕ) (pre xs : List SpanFrom) → FoundSame first pre → AllByRecursion (IsFoundEnd log unfound) pre → AllByRecursion (IsFoundEnd log unfound) xs → HaveBases rule log start first pre xs → HaveBases rule later start first pre xs
+  bases-on rule start first pre [] same before ends h = tt
+  bases-on rule start first pre (s ∷ xs) same before ends h = (begins-on rule start first pre s same before h.0, bases-on rule start first (pre ++ s ∷ []) xs (same-behind first pre s ends.0) (ended-more pre s before ends.0) ends.1 h.1)
 
   -- and those since the unit was read
-  bases-since : (rule : Rule) (start first : ℕ) (pre xs : List SpanFrom) (span : SpanFrom) (unread : List SpanFrom) → FoundSame first pre → AllByRecursion (IsFoundEnd log unfound) xs → AllByRecursion (λ (s : SpanFrom). has_failed_in log (first_in s.span) ≡ true) unread →
+  bases-since : (rule : Rule) (start first : ℕ) (pre xs : List SpanFrom) (span : SpanFrom) (unread : List SpanFrom) → FoundSame first pre → AllByRecursion (IsFoundEnd log unfound) pre → AllByRecursion (IsFoundEnd log unfound) xs → AllByRecursion (λ (s : SpanFrom). has_failed_in log (first_in s.span) ≡ true) unread →
       HaveBases rule log start first pre (xs ++ span ∷ unread) → HaveBases rule later start first pre (xs ++ span ∷ unread)
-  bases-since rule start first pre [] span unread same ends failed h = (begins-on rule start first pre span same h.0, all-failed rule start first (pre ++ span ∷ []) unread failed h.1)
-  bases-since rule start first pre (s ∷ xs) span unread same ends failed h = (begins-on rule start first pre s same h.0, bases-since rule start first (pre ++ s ∷ []) xs span unread (same-behind first pre s ends.0) ends.1 failed h.1)
+  bases-since rule start first pre [] span unread same before ends failed h = (begins-on rule start first pre span same before h.0, all-failed rule start first (pre ++ span ∷ []) unread failed h.1)
+  bases-since rule start first pre (s ∷ xs) span unread same before ends failed h = (begins-on rule start first pre s same before h.0, bases-since rule start first (pre ++ s ∷ []) xs span unread (same-behind first pre s ends.0) (ended-more pre s before ends.0) ends.1 failed h.1)
 
   pub bases-off : (rule : Rule) (start first : ℕ) (spans : List SpanFrom) → (spans ≡ []) ⊎ SinceRead log unfound spans → HaveBases rule log start first [] spans → HaveBases rule later start first [] spans
   bases-off rule start first spans since h = ⊎_elim
       (λ (none : spans ≡ []). subst (HaveBases rule later start first []) (sym none) tt)
       (λ (r : SinceRead log unfound spans). subst (HaveBases rule later start first []) (sym r.are)
-      (bases-since rule start first [] r.earlier r.span r.unread refl r.ends r.failed (subst (HaveBases rule log start first []) r.are h)))
+      (bases-since rule start first [] r.earlier r.span r.unread refl tt r.ends r.failed (subst (HaveBases rule log start first []) r.are h)))
       since
 
   pub stands-on : (o : Origin) (earlier : List SpanFrom) (base : ℕ) → StandsOn o log unfound earlier base → StandsOn o later unfound_later earlier base
   stands-on o earlier base h = record {
     ends = ends-on earlier h.ends;
-    bases = bases-on (rule_of o) (odometer_at o.recording.unit) (first_of o) [] earlier refl h.ends h.bases;
+    bases = bases-on (rule_of o) (odometer_at o.recording.unit) (first_of o) [] earlier refl tt h.ends h.bases;
     kept = h.kept;
     found = h.found ∙ sym (found-on (first_of o) [] earlier refl h.ends);
     stored = h.stored;
@@ -255,7 +264,7 @@ stored-first o log unfound base spans t lit on h = record { earlier = spans; spa
 pub stored-bases : (o : Origin) (log : RunLog) (unfound base : ℕ) (spans : List SpanFrom) → StoresOn o log unfound base spans → HaveBases (rule_of o) log (odometer_at o.recording.unit) (first_of o) [] spans
 stored-bases o log unfound base spans h =
     subst (HaveBases (rule_of o) log (odometer_at o.recording.unit) (first_of o) []) (sym h.are)
-    (bases-push (rule_of o) log (odometer_at o.recording.unit) (first_of o) [] h.earlier (record { base = base; span = h.span }) h.stands.bases (record { kept = h.stands.kept; found = λ none. h.stands.found; stored = h.stands.stored }))
+    (bases-push (rule_of o) log (odometer_at o.recording.unit) (first_of o) [] h.earlier (record { base = base; span = h.span }) h.stands.bases (record { kept = h.stands.kept; found = λ none. h.stands.found; newest = λ none. h.stands.newest; stored = h.stands.stored }))
 
 -- ---- POWER IS LOST
 
@@ -268,7 +277,7 @@ stored-ends o log later unfound earlier base span u d le more h cut tells absent
     let goes = more-breaks log later unfound le more in
     let now = stands-on log unfound later unfound goes o earlier base h in
     record {
-      bases = bases-push (rule_of o) later (odometer_at o.recording.unit) (first_of o) [] earlier (record { base = base; span = span }) now.bases (record { kept = now.kept; found = λ none. now.found; stored = now.stored });
+      bases = bases-push (rule_of o) later (odometer_at o.recording.unit) (first_of o) [] earlier (record { base = base; span = span }) now.bases (record { kept = now.kept; found = λ none. now.found; newest = λ none. now.newest; stored = now.stored });
       since = inr (record {
         earlier = earlier;
         span = record { base = base; span = span };
@@ -361,7 +370,7 @@ module _ (o : Origin) (log later : RunLog) (unfound : ℕ) (spans : List SpanFro
 
   pub stored-unread : StoresOff o later unfound (spans ++ record { base = odometer_at x; span = t ∷ [] } ∷ []) d
   stored-unread = record {
-    bases = bases-push (rule_of o) later (odometer_at o.recording.unit) (first_of o) [] spans new now.bases (record { kept = last_kept x; found = λ none. absurd (let bad : true ≡ false = sym has ∙ none in cc); stored = now.stores x on });
+    bases = bases-push (rule_of o) later (odometer_at o.recording.unit) (first_of o) [] spans new now.bases (record { kept = last_kept x; found = λ none. absurd (let bad : true ≡ false = sym has ∙ none in cc); newest = λ none. absurd (let bad : true ≡ false = sym has ∙ none in cc); stored = now.stores x on });
     since = inr (⊎_elim
         (λ (none : spans ≡ []). record { earlier = []; span = new; unread = []; are = ap (λ (l : List SpanFrom). l ++ new ∷ []) none; ends = tt; unknown = (new-end, tt); failed = tt })
         (λ (r : SinceRead later unfound spans). record {
@@ -382,7 +391,7 @@ module _ (o : Origin) (log later : RunLog) (unfound : ℕ) (spans : List SpanFro
 may-none : (rule : Rule) (start first kept odometer : ℕ) → MayStore rule start first [] kept odometer → kept ≡ first
 may-none rule start first kept _ (OfStart is) = is
 may-none rule start first kept _ (OfKept s d at among is) = absurd (omega (arith, at.1))
-may-none rule start first kept _ (OfCut s d at among cut) = absurd (omega (arith, at.1))
+may-none rule start first kept _ (OfCut s d at among cut late) = absurd (omega (arith, at.1))
 
 module _ (o : Origin) (log : RunLog) (unfound k : ℕ) where
   abbrev found_ : RunLog

@@ -184,13 +184,14 @@ odometer-of rule base span d at =
 pub may-more : (rule : Rule) (start first : ℕ) (xs ys : List SpanFrom) (kept odometer : ℕ) → ((s : SpanFrom) → Contains xs s → Contains ys s) → MayStore rule start first xs kept odometer → MayStore rule start first ys kept odometer
 may-more rule start first xs ys kept _ goes (OfStart is) = OfStart is
 may-more rule start first xs ys kept _ goes (OfKept s d at among is) = OfKept s d (goes s at) among is
-may-more rule start first xs ys kept _ goes (OfCut s d at among cut) = OfCut s d (goes s at) among cut
+may-more rule start first xs ys kept _ goes (OfCut s d at among cut late) = OfCut s d (goes s at) among cut late
 
 -- WHAT AN IMAGE HAS STORED: `parts` are the minutes of the last span that are kept, `lost` the one of which the keeping was broken off.
 module _ (rule : Rule) (start first : ℕ) (earlier : List SpanFrom) (base : ℕ) (span : List Told) (low : base ≤ HIGHEST_ODOMETER) (parts : List Minute) (lost : Option Minute) (rest : List Minute)
     (are : decided_of rule span ≡ parts ++ (option_to_list lost ++ rest)) (cut : (d : Minute) → lost ≡ Some d → IsBeingKept rule span d.minute)
     (before : List ℕ) (newest : ℕ) (last_one : IsNewest first before newest) (begins : MayStore rule start first earlier newest base)
     (b : Book) (g : Travel) (sure : numbers b.sure ≡ before ++ map (λ (d : Minute). d.minute) parts) (rises : Rising first b.sure)
+    (later : (d : Minute) → lost ≡ Some d → (first < d.minute) × All (λ (i : HistoryMinute). i.minute < d.minute) b.sure)
     (maybe : (i : HistoryMinute) → b.maybe ≡ Some i → (d : Minute) × (lost ≡ Some d) × (d.minute ≡ i.minute))
     (leg_sure : g.sure ≡ travelled_by parts) (leg_maybe : (leg : ℕ) → g.maybe ≡ Some leg → (d : Minute) × (lost ≡ Some d) × (leg ≡ d.travelled)) where
   abbrev here : SpanFrom
@@ -216,9 +217,9 @@ module _ (rule : Rule) (start first : ℕ) (earlier : List SpanFrom) (base : ℕ
       subst (λ (n : ℕ). MayStore rule start first spans kept n) (sym (ap (odometer_by base) same ∙ odometer-of rule base span d at)) (OfKept here d here-in at is)
 
   -- or of the one of which the keeping was broken off
-  of-lost : (kept leg : ℕ) (d : Minute) → lost ≡ Some d → leg ≡ d.travelled → MayStore rule start first spans kept (odometer_by base leg)
-  of-lost kept leg d is same =
-      subst (λ (n : ℕ). MayStore rule start first spans kept n) (sym (ap (odometer_by base) same ∙ odometer-of rule base span d (lost-in d is))) (OfCut here d here-in (lost-in d is) (cut d is))
+  of-lost : (kept leg : ℕ) (d : Minute) → lost ≡ Some d → kept < d.minute → leg ≡ d.travelled → MayStore rule start first spans kept (odometer_by base leg)
+  of-lost kept leg d is late same =
+      subst (λ (n : ℕ). MayStore rule start first spans kept n) (sym (ap (odometer_by base) same ∙ odometer-of rule base span d (lost-in d is))) (OfCut here d here-in (lost-in d is) (cut d is) late)
 
   -- or the one with which the span began
   of-begin : (kept leg : ℕ) → newest ≡ kept → leg ≡ 0 → MayStore rule start first spans kept (odometer_by base leg)
@@ -253,10 +254,21 @@ module _ (rule : Rule) (start first : ℕ) (earlier : List SpanFrom) (base : ℕ
         (one-newest first ((before ++ map (λ (d : Minute). d.minute) ps) ++ d.minute ∷ []) d.minute kept up (last-newest first (before ++ map (λ (d : Minute). d.minute) ps) d.minute up) (subst (λ (ms : List ℕ). IsNewest first ms kept) same is-newest))
         (leg_is ∙ travelled_by-push ps d)
 
+    -- the one of which the keeping was broken off is later
+    below : (d : Minute) → lost ≡ Some d → kept < d.minute
+    below d is =
+        let late = later d is in
+        let low = late.0 in
+        ⊎_elim (λ (same : kept ≡ first). omega (arith, same, low))
+        (λ (m : (i : HistoryMinute) × Contains b.sure i × (i.minute ≡ kept)).
+        let at = All-contains (λ (i : HistoryMinute). i.minute < d.minute) b.sure m.0 late.1 m.1 in
+        let same = m.2 in
+        omega (arith, at, same)) mark
+
     by-sure : MayStore rule start first spans kept (odometer_by base leg)
     by-sure = ⊎_elim
         (λ (is : leg ≡ g.sure). of-sure parts (at-end parts) refl (is ∙ leg_sure))
-        (λ (is : g.maybe ≡ Some leg). let l = leg_maybe leg is in of-lost kept leg l.0 l.1 l.2)
+        (λ (is : g.maybe ≡ Some leg). let l = leg_maybe leg is in of-lost kept leg l.0 l.1 (below l.0 l.1) l.2)
         shown.side
 
   -- or it is the one of which the keeping was broken off, and its mark is there

@@ -12,6 +12,7 @@ use Rattle.history_model.specs.History.{decided_of, cut_second, limit_by}
 use Rattle.unit_course.specs.Lines.{tells_cut}
 use Rattle.side_model.specs.Done.{has_failed_in}
 use Rattle.side_model.specs.Odometer.{SpanFrom, MayStore, found_kept, last_second, HaveBases}
+pub use Rattle.side_model.specs.Odometer.{limited, minutes_kept, IsNewest}
 use Rattle.safety_model.specs.Safe.{Devices}
 use Rattle.run_recorded.specs.Origin.{Origin, rule_of, first_of}
 
@@ -29,23 +30,6 @@ pub record IsOpenEnd (log : RunLog) (unfound : ℕ) (s : SpanFrom) : Type 0 wher
   pub cut : cut_second (last s.span) ≡ Some second
   pub told : tells_cut second log.breaks ≡ true
   pub unknown : tells_cut second (take unfound log.breaks) ≡ false
-
--- ---- what was kept
-
--- the numbers of some minutes up to a limit, or all without one
-abbrev pub limited : Option ℕ → List ℕ → List ℕ
-limited None ms = ms
-limited (Some k) ms = filter (λ m. nat_le m k) ms
-
--- the minutes of these spans that were kept, each span's up to what was found kept after its cut
-abbrev pub minutes_kept : Rule → RunLog → List SpanFrom → List ℕ
-minutes_kept rule log [] = []
-minutes_kept rule log (s ∷ spans) = limited (limit_by log (cut_second (last s.span))) (map (λ (d : Minute). d.minute) (decided_of rule s.span)) ++ minutes_kept rule log spans
-
--- the last of some minutes, or where there is none the one before them
-pub record IsNewest (first : ℕ) (ms : List ℕ) (k : ℕ) : Type 0 where
-  pub among : (k ≡ first) ⊎ Contains ms k
-  pub highest : All (λ m. m ≤ k) ms
 
 -- ---- with power
 

@@ -52,9 +52,7 @@ use Rattle.run_outcome.proofs.Items.{seconds-here, offs-here}
 use Rattle.recorder.proofs.Items.{each-at, room-less, room-behind, waiting-most, total-parts}
 use Rattle.recorder.proofs.Standing.{may-show}
 use Rattle.recorder.proofs.Turning.{booked-at, goes-then}
-use Rattle.run_outcome.proofs.Broken.{rose-by}
-use Rattle.run_outcome.proofs.Broken as counts
-use Rattle.recorder.proofs.Broken.{broke-none, broke-then, broke-all, calm-all}
+use Rattle.run_outcome.proofs.Broken.{broke-none, broke-then, broke-all, broke-nothing, calm-all, rose-by}
 use Rattle.recorder.proofs.run.run_trace.Goals as goal
 
 -- what no card brings
@@ -309,8 +307,7 @@ returns-in_err-item-clause-broke g c =
     broke-all (run_log c.item.new.outcome) (ap (λ (l : Listed Break). l.items) c.requires.reserved.breaks) more.faults (broke-then c.loop-i.invariant.broke c.in_err-item.ensures.gone.broke)
 
 pub returns-in_err-opened-clause-broke : goal.returns-in_err-opened-clause-broke
-returns-in_err-opened-clause-broke g c =
-    counts.broke-all (run_log c.args.outcome.now) (ap (λ (l : Listed Break). l.items) c.requires.reserved.breaks) c.judge.ensures.faults (counts.broke-none c.args.outcome.now.breaks.items c.judge.ensures.breakdowns)
+returns-in_err-opened-clause-broke g c = broke-nothing (run_log c.args.outcome.now) (ap (λ (l : Listed Break). l.items) c.requires.reserved.breaks) c.judge.ensures.faults c.judge.ensures.breakdowns
 
 -- ---- whatever the unit tells
 

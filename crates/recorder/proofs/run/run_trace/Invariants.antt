@@ -10,7 +10,7 @@ use Rattle.history_model.specs.Book.{Book}
 use Rattle.recorder.specs.Going.{largest_number, IsGoing}
 use Rattle.recorder.specs.Turn.{HasRoom}
 use Rattle.run_outcome.specs.Room.{offs}
-use Rattle.recorder.specs.Broken.{TellsBreakdowns}
+use Rattle.run_outcome.specs.Broken.{BreaksDown}
 use Rattle.recorder.specs.Booked.{Booked, GoesOn, StartsAs, begun_with, Travel}
 use Rattle.recorder.proofs.run.run_trace.Given as goal
 
@@ -22,7 +22,7 @@ invariant-loop-i g l = record {
   room : HasRoom l.run l.outcome (total_seconds (drop l.i l.trace.items)) (offs (drop l.i l.trace.items)) (length l.trace.items - l.first);
   unfound : l.run.unfound ≤ length l.outcome.breaks.items;
   goes_on : GoesOn (g.U.Medium.state l.fn.unit) (g.U.Medium.state l.unit);
-  broke : TellsBreakdowns l.fn.outcome.breaks.items l.outcome.breaks.items (g.U.Medium.state l.fn.unit) (g.U.Medium.state l.unit);
+  broke : BreaksDown l.fn.outcome.breaks.items l.outcome.breaks.items (g.U.Medium.state l.fn.unit) (g.U.Medium.state l.unit);
   waits : Waits l.trace.items l.first l.i;
   finds : l.outcome.finds ≡ l.fn.outcome.finds;
   began : (x : List ℕ) → StartsAs x (g.U.Medium.state l.fn.unit) → Decodes x × (last_kept x < l.trace.start / 60);

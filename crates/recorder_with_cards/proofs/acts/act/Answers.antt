@@ -7,8 +7,8 @@ use Rattle.run_rule.specs.Between.{devices}
 use Rattle.recorder_with_cards.proofs.RingsHeld.{ringed-over}
 use Rattle.recorder_with_cards.proofs.Allowed.{lit-refused}
 use Rattle.run_keeping.proofs.Later.{later-same}
-use Rattle.run_acts.proofs.Broken.{broke-none}
 use Rattle.recorder_with_cards.proofs.CardsHeld.{carded-over}
+use Rattle.run_outcome.proofs.Broken.{broke-none}
 use Rattle.recorder_with_cards.proofs.acts.act.Goals as goal
 
 pub returns-clause-none : goal.returns-clause-none

@@ -19,8 +19,8 @@ use Rattle.recorder_with_cards.proofs.Acted.{between-none, between-more, acted-m
 use Rattle.recorder_with_cards.proofs.Rooms.{room-less}
 use Rattle.recorder_with_cards.proofs.Counted.{none-in, first-in}
 use Rattle.run_keeping.proofs.Later.{later-same, later-then}
-use Rattle.run_acts.proofs.Broken.{broke-none, broke-then}
 use Rattle.recorder_with_cards.specs.Carded.{InSecondCarded, CardsActions}
+use Rattle.run_outcome.proofs.Broken.{broke-none, broke-then}
 use Rattle.recorder_with_cards.proofs.acts.act_all.Goals as goal
 
 pub act_item-requires-clause-room : goal.act_item-requires-clause-room

@@ -10,7 +10,7 @@ use Rattle.run_acts.specs.Going.{IsWithin}
 use Rattle.run_acts.specs.Room.{HasRoomWithin}
 use Rattle.recorder_with_cards.specs.Acting.{AreActed}
 use Rattle.recorder_with_cards.specs.Items.{between, insertions_in}
-use Rattle.run_acts.specs.Broken.{TellsBreakdowns}
+use Rattle.run_outcome.specs.Broken.{BreaksDown}
 use Rattle.recorder_with_cards.proofs.acts.act_all.Given as goal
 
 abbrev pub invariant-loop-i : goal.invariant-loop-i
@@ -24,7 +24,7 @@ invariant-loop-i g l = record {
   still : is_lit l.fn.run.power ≡ false → (is_lit l.run.power ≡ false) × (l.unit ≡ l.fn.unit) × (l.card_a ≡ l.fn.card_a) × (l.card_b ≡ l.fn.card_b);
   time : HaveTime (devices (g.M.Medium.state l.unit) (g.C.Chip.state l.card_a) (g.D.Chip.state l.card_b)) → HaveTime (devices (g.M.Medium.state l.fn.unit) (g.C.Chip.state l.fn.card_a) (g.D.Chip.state l.fn.card_b));
   later : AreLater (devices (g.M.Medium.state l.fn.unit) (g.C.Chip.state l.fn.card_a) (g.D.Chip.state l.fn.card_b)) (devices (g.M.Medium.state l.unit) (g.C.Chip.state l.card_a) (g.D.Chip.state l.card_b));
-  broke : TellsBreakdowns l.fn.outcome.breaks.items l.outcome.breaks.items (g.M.Medium.state l.fn.unit) (g.M.Medium.state l.unit);
+  broke : BreaksDown l.fn.outcome.breaks.items l.outcome.breaks.items (g.M.Medium.state l.fn.unit) (g.M.Medium.state l.unit);
   dark : l.has_power ≡ false → is_lit l.run.power ≡ false;
   next : l.run.next ≡ l.fn.run.next;
   unfound : l.run.unfound ≡ l.fn.run.unfound;

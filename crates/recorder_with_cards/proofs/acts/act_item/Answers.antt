@@ -11,8 +11,8 @@ use Rattle.recorder_with_cards.specs.Recorded.{action_of, RingsActions}
 use Rattle.run_acts.specs.RunRinged.{InSecondRinged}
 use Rattle.recorder_with_cards.proofs.ActsRecorded.{no-action}
 use Rattle.recorder_with_cards.proofs.Allowed.{count-is}
-use Rattle.run_acts.proofs.Broken.{broke-none}
 use Rattle.recorder_with_cards.specs.Carded.{InSecondCarded, CardsActions}
+use Rattle.run_outcome.proofs.Broken.{broke-none}
 use Rattle.recorder_with_cards.proofs.acts.act_item.Goals as goal
 
 pub returns-in-Act-clause-room : goal.returns-in-Act-clause-room

@@ -36,7 +36,7 @@ use Rattle.recorder_with_cards.proofs.ActsRinged.{ringed-on, ringed-cuts, cut-st
 use Rattle.run_keeping.specs.Keeping.{with_lines}
 use Rattle.recorder_with_cards.proofs.Staying.{done-watched}
 use Rattle.run_keeping.proofs.Later.{later-same}
-use Rattle.run_acts.proofs.Broken.{broke-none}
+use Rattle.run_outcome.proofs.Broken.{broke-none}
 use Rattle.run_acts.proofs.Uncut.{uncut-broke, cut-broke}
 use Rattle.recorder_with_cards.proofs.Uncut.{done-uncut}
 use Rattle.run_course.specs.Moments.{and_break}

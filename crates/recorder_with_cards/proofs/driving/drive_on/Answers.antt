@@ -11,7 +11,7 @@ use Rattle.run_acts.specs.Evented.{LastAt}
 use Rattle.run_acts.specs.RunRinged.{RunRinged}
 use Rattle.recorder_with_cards.proofs.SecondsEvented.{last-more}
 use Rattle.run_keeping.proofs.Later.{later-same, later-then}
-use Rattle.run_acts.proofs.Broken.{broke-none, broke-then}
+use Rattle.run_outcome.proofs.Broken.{broke-none, broke-then}
 use Rattle.recorder_with_cards.proofs.driving.drive_on.Goals as goal
 
 pub loop-left-init : goal.loop-left-init

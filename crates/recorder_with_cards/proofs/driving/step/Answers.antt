@@ -17,7 +17,7 @@ use Rattle.recorder_with_cards.proofs.Rooms.{room-less}
 use Rattle.run_acts.specs.RunRinged.{RunRinged, InSecondRinged}
 use Rattle.recorder_with_cards.proofs.SecondsRinged.{dark-ringed}
 use Rattle.run_keeping.proofs.Later.{later-then}
-use Rattle.run_acts.proofs.Broken.{broke-then}
+use Rattle.run_outcome.proofs.Broken.{broke-then}
 use Rattle.recorder_with_cards.proofs.driving.step.Goals as goal
 
 pub begin_second-requires-clause-room : goal.begin_second-requires-clause-room

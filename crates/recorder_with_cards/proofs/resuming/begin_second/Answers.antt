@@ -12,7 +12,7 @@ use Rattle.tach_media.specs.Medium.{State}
 use Rattle.run_rule.specs.Between.{devices}
 use Rattle.recorder_with_cards.proofs.GoingOn.{marks-due}
 use Rattle.run_keeping.proofs.Later.{later-same}
-use Rattle.run_acts.proofs.Broken.{broke-none}
+use Rattle.run_outcome.proofs.Broken.{broke-none}
 use Rattle.run_acts.specs.RunRinged.{InSecondRingedBy, InSecondRinged}
 use Rattle.recorder_with_cards.proofs.BegunRinged.{lit-ringed}
 use Rattle.recorder_with_cards.proofs.resuming.begin_second.Goals as goal

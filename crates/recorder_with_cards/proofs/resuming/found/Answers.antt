@@ -35,7 +35,7 @@ use Rattle.recorder_with_cards.proofs.Read.{may-of, unit-tells, image-of, at-ima
 use Rattle.recorder_with_cards.specs.Noting.{NotesWaking}
 use Rattle.recorder_with_cards.proofs.WakeNoted.{as-read}
 use Rattle.run_keeping.proofs.Later.{later-same}
-use Rattle.run_acts.proofs.Broken.{broke-found, broke-then}
+use Rattle.run_outcome.proofs.Broken.{broke-found, broke-then}
 use Rattle.run_acts.proofs.Uncut.{uncut-broke, cut-broke}
 use Rattle.run_acts.proofs.AllStay.{all-of}
 use Rattle.recorder_with_cards.proofs.resuming.found.Goals as goal

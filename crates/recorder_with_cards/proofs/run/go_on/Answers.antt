@@ -25,7 +25,7 @@ use Rattle.recorder_with_cards.proofs.Rooms.{room-less}
 use Rattle.recorder_with_cards.specs.Gone.{has_seconds, HasGone}
 use Rattle.recorder_with_cards.proofs.Dark.{cut-room, off-room, unfound-same}
 use Rattle.run_keeping.proofs.Later.{later-same}
-use Rattle.run_acts.proofs.Broken.{broke-none, broke-behind}
+use Rattle.run_outcome.proofs.Broken.{broke-none, broke-behind}
 use Rattle.recorder_with_cards.proofs.Uncut.{off-uncut}
 use Rattle.recorder_with_cards.proofs.run.go_on.Goals as goal
 

@@ -46,8 +46,7 @@ use Rattle.recorder_with_cards.proofs.Start.{if-err, none-yet, no-falls, no-seat
 use Rattle.run_keeping.proofs.Later.{later-then}
 use Rattle.recorder_with_cards.proofs.Later.{state-as-it-was}
 use Rattle.run_acts.specs.Recording.{log_of}
-use Rattle.run_outcome.proofs.Broken as counts
-use Rattle.run_acts.proofs.Broken.{broke-none, broke-then, broke-all, calm-all}
+use Rattle.run_outcome.proofs.Broken.{broke-none, broke-then, broke-all, broke-nothing, calm-all}
 use Rattle.recorder_with_cards.proofs.run.run_trace.Goals as goal
 
 -- ---- the opening
@@ -269,7 +268,7 @@ returns-in_err-go_on-clause-broke g c =
     broke-all (log_of c.go_on.new.outcome) (ap (λ (l : Listed Break). l.items) c.requires.reserved.breaks) (omega (arith, was, more)) (broke-then c.loop-i.invariant.broke c.in_err-go_on.ensures.broke)
 
 pub returns-in_err-opened-clause-broke : goal.returns-in_err-opened-clause-broke
-returns-in_err-opened-clause-broke g c = counts.broke-all (log_of c.args.outcome.now) (ap (λ (l : Listed Break). l.items) c.requires.reserved.breaks) c.judge.ensures.unit.faults (counts.broke-none c.args.outcome.now.breaks.items {old = (g.U.Medium.state c.args.unit.now)} {new = (g.U.Medium.state c.judge.new.unit)} c.judge.ensures.unit.breakdowns)
+returns-in_err-opened-clause-broke g c = broke-nothing (log_of c.args.outcome.now) (ap (λ (l : Listed Break). l.items) c.requires.reserved.breaks) c.judge.ensures.unit.faults c.judge.ensures.unit.breakdowns
 
 pub returns-clause-calm : goal.returns-clause-calm
 returns-clause-calm g c = calm-all (log_of c.loop-i.outcome) (ap (λ (l : Listed Break). l.items) c.requires.reserved.breaks) c.loop-i.invariant.broke

@@ -13,7 +13,7 @@ use Rattle.run_acts.specs.Recording.{InSecondBy, RunWithin, RunCut, RunRecorded}
 use Rattle.run_acts.proofs.TurnRecorded.{turn-lit, turn-dark}
 use Rattle.run_acts.proofs.Room.{room-dark}
 use Rattle.run_keeping.proofs.Later.{later-same}
-use Rattle.run_acts.proofs.Broken.{broke-none}
+use Rattle.run_outcome.proofs.Broken.{broke-none}
 use Rattle.unit_course.specs.Followed.{Lost as IsLost}
 use Rattle.run_evented.specs.Noting.{Acting}
 use Rattle.run_acts.specs.declared.run.Power.{Power}

@@ -16,7 +16,7 @@ use Rattle.recorder.proofs.Items.{room-less}
 use Rattle.recorder.proofs.Stepping.{begun-book, turn-book, on-ok}
 use Rattle.recorder.proofs.Turning.{goes-then}
 use Rattle.std.proofs.lemmas.Grind.{common_steps}
-use Rattle.recorder.proofs.Broken.{broke-then}
+use Rattle.run_outcome.proofs.Broken.{broke-then}
 use Rattle.recorder.proofs.run.Run.drive.Goals as goal
 
 pub turn-requires-clause-going : goal.turn-requires-clause-going

@@ -6,7 +6,7 @@ use Rattle.recorder.proofs.Recording.{plain-parts}
 use Rattle.recorder.specs.Turn.{HasRoom}
 use Rattle.recorder.proofs.Turning.{goes-then, goes-none}
 use Rattle.std.proofs.lemmas.Grind.{common_steps}
-use Rattle.recorder.proofs.Broken.{broke-none, broke-then}
+use Rattle.run_outcome.proofs.Broken.{broke-none, broke-then}
 use Rattle.recorder.proofs.run.Run.drive_on.Goals as goal
 
 pub loop-left-preserved : goal.loop-left-preserved

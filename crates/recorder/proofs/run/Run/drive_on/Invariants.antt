@@ -6,7 +6,7 @@ use Rattle.history_model.specs.Book.{Book}
 use Rattle.recorder.specs.Standing.{Began, Travel}
 use Rattle.recorder.specs.Going.{IsGoing}
 use Rattle.recorder.specs.Turn.{HasRoom}
-use Rattle.recorder.specs.Broken.{TellsBreakdowns}
+use Rattle.run_outcome.specs.Broken.{BreaksDown}
 use Rattle.recorder.specs.Booked.{Booked, GoesOn}
 use Rattle.recorder.specs.Recorded.{Recorded}
 use Rattle.recorder.specs.Watching.{GoesOnAt}
@@ -21,7 +21,7 @@ invariant-loop-left g l = record {
   unfound : l.self.unfound ≤ length l.outcome.breaks.items;
   even : GoesOnAt l.self l.speed;
   goes_on : GoesOn (g.M.Medium.state l.fn.unit) (g.M.Medium.state l.unit);
-  broke : TellsBreakdowns l.fn.outcome.breaks.items l.outcome.breaks.items (g.M.Medium.state l.fn.unit) (g.M.Medium.state l.unit);
+  broke : BreaksDown l.fn.outcome.breaks.items l.outcome.breaks.items (g.M.Medium.state l.fn.unit) (g.M.Medium.state l.unit);
   booked : (s : Began) (b : Book) (t : Travel) → Booked s l.fn.self b t l.fn.outcome.marks.items (g.M.Medium.state l.fn.unit) → is_some (g.M.Medium.state l.fn.unit).image ≡ true → (g.M.Medium.state l.unit).clock < last_count →
       (c : Book) × (h : Travel) × Booked s l.self c h l.outcome.marks.items (g.M.Medium.state l.unit);
   finds : l.outcome.finds ≡ l.fn.outcome.finds;

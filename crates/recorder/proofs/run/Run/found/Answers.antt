@@ -15,7 +15,7 @@ use Rattle.log_model.specs.declared.lines.Break.{Break}
 use Rattle.run_outcome.specs.Lines.{Listed, cut_at, found_from}
 use Rattle.recorder.specs.declared.run.Run.{Run}
 use Rattle.recorder.proofs.Turning.{booked-at, lost-booked}
-use Rattle.recorder.proofs.Broken.{broke-found, broke-once, broke-then}
+use Rattle.run_outcome.proofs.Broken.{broke-found, broke-once, broke-then}
 use Rattle.recorder.proofs.Turning.{goes-none}
 use Rattle.std.proofs.lemmas.Grind.{common_steps}
 use Rattle.std.specs.Prelude.{IfErr}

@@ -12,7 +12,8 @@ use Rattle.recorder.specs.declared.run.Run.{Run}
 use Rattle.recorder.specs.Power.{is_lit, off_cut}
 use Rattle.recorder.specs.Gone.{HasGone}
 use Rattle.recorder.proofs.Turning.{goes-none, off-going}
-use Rattle.recorder.proofs.Broken.{broke-none, broke-off}
+use Rattle.run_outcome.proofs.Broken.{broke-none}
+use Rattle.recorder.proofs.Broken.{broke-off}
 use Rattle.recorder.proofs.run.Run.item.Goals as goal
 
 pub returns-in-Act-clause-recorded : goal.returns-in-Act-clause-recorded

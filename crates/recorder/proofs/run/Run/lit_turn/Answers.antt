@@ -11,7 +11,7 @@ use Rattle.log_model.specs.declared.lines.Break.{Break}
 use Rattle.run_outcome.specs.Lines.{Listed, cut_at}
 use Rattle.recorder.specs.Keeping.{AreDue, kept_after, AreFrom, due_after, kept_all, IsBrokenOff, AreAllMarked}
 use Rattle.recorder.proofs.Turning.{turn-decides, turn-end, turn-low, turn-room, turn-room_lit, turn-room_lost, turn-stands, turn-kept, turn-broken, turn-unnoted, break-lit, break-lost}
-use Rattle.recorder.proofs.Broken.{broke-none, broke-once}
+use Rattle.run_outcome.proofs.Broken.{broke-none, broke-once}
 use Rattle.event_notes.specs.declared.watch.Watch.{Watch}
 use Rattle.recorder.specs.declared.run.Power.TheVariants.{Lit, Lost}
 use Rattle.recorder.specs.Watching.{IsTurnBrokenOff, IsTurnWatched, GoesAt}

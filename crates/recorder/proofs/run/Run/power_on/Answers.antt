@@ -14,7 +14,7 @@ use Rattle.log_model.specs.declared.lines.Break.{Break}
 use Rattle.run_outcome.specs.Lines.{Listed}
 use Rattle.recorder.specs.Booked.{Booked, due_of}
 use Rattle.recorder.proofs.Turning.{lost-booked, left-decodes}
-use Rattle.recorder.proofs.Broken.{broke-none, broke-once, broke-then}
+use Rattle.run_outcome.proofs.Broken.{broke-none, broke-once, broke-then}
 use Rattle.recorder.specs.declared.run.Power.TheVariants.{Lit, Lost}
 use Rattle.recorder.proofs.Watching.{noted-by-reads, mended-behind, dark-goes}
 use Rattle.recorder.proofs.Turning.{goes-then, goes-revived}

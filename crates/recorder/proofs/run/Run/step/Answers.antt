@@ -14,7 +14,7 @@ use Rattle.recorder.proofs.Courses.{none-last}
 use Rattle.recorder.proofs.Beginning.{begun-room}
 use Rattle.recorder.proofs.Stepping.{begun-book, turn-book}
 use Rattle.std.proofs.lemmas.Grind.{common_steps}
-use Rattle.recorder.proofs.Broken.{broke-then}
+use Rattle.run_outcome.proofs.Broken.{broke-then}
 use Rattle.recorder.proofs.Turning.{goes-then}
 use Rattle.recorder.proofs.run.Run.step.Goals as goal
 

@@ -1,6 +1,6 @@
 use Rattle.std.proofs.Common.{◌≡◌, inl, inr, ◌+◌, true, false, refl, ap, sym, ◌∙◌, arith}
 use Rattle.recorder.proofs.Turning.{dark-booked}
-use Rattle.recorder.proofs.Broken.{broke-none}
+use Rattle.run_outcome.proofs.Broken.{broke-none}
 use Rattle.recorder.specs.declared.run.Run.{Run}
 use Rattle.recorder.specs.Power.{is_lit}
 use Rattle.recorder.proofs.Watching.{still-noted, dark-goes}
