@@ -85,8 +85,8 @@ pub fn new_devices(alloc: Global, stops: Stops) -> Result<Devices, Memory>
     })
 }
 
-/// Records a trace, and tells how that ended.
-pub fn record<U: Medium, C: Chip>(
+/// Records a trace on these devices, and tells how that ended.
+fn record<U: Medium, C: Chip>(
     alloc: Global,
     text: &[u8],
     unit: &mut U,
@@ -107,6 +107,26 @@ pub fn record<U: Medium, C: Chip>(
     }
     let ended = run_trace(&trace, unit, card_a, card_b, &mut outcome);
     Ok((ended, outcome))
+}
+
+impl Devices {
+    /// Records a trace, and tells how that ended.
+    pub fn record(
+        &mut self,
+        alloc: Global,
+        text: &[u8],
+    ) -> Result<(Result<(), RunFault>, Outcome), Fail>
+        requires { IsUnit (memory_state self.old.unit.log self.old.unit.counts) }
+        ensures { IsUnit (memory_state self.new.unit.log self.new.unit.counts) }
+    {
+        record(
+            alloc,
+            text,
+            &mut self.unit,
+            &mut self.card_a,
+            &mut self.card_b,
+        )
+    }
 }
 
 /// How many calls of each device there were.
@@ -131,7 +151,7 @@ impl Calls {
 /// How many calls a run makes where none is stopped.
 pub fn calls_of(alloc: Global, text: &[u8]) -> Result<Calls, Fail> {
     let mut d = new_devices(alloc, Stops::none(alloc))?;
-    let (ended, _) = record(alloc, text, &mut d.unit, &mut d.card_a, &mut d.card_b)?;
+    let (ended, _) = d.record(alloc, text)?;
     if ended.is_err() {
         return Err(Fail::from("a run without a stop"));
     }

@@ -1,5 +1,5 @@
 //! Downloads of units that have recorded: as many calls as the loader's frames alone ask for.
-use crate::devices::{Stops, new_devices, record};
+use crate::devices::{Stops, new_devices};
 use crate::units::{NO_ROOM, image_of, unit_with};
 use link_frames::{End, write_frame};
 use link_service::serve;
@@ -37,7 +37,7 @@ withdraw codriver
 /// The image of a unit that has recorded a trace.
 fn recorded(alloc: Global, text: &[u8]) -> Result<Vec<u8>, Fail> {
     let mut d = new_devices(alloc, Stops::none(alloc))?;
-    let (ended, _) = record(alloc, text, &mut d.unit, &mut d.card_a, &mut d.card_b)?;
+    let (ended, _) = d.record(alloc, text)?;
     if ended.is_err() {
         return Err(Fail::from("a run without a stop"));
     }

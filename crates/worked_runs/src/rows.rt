@@ -1,5 +1,5 @@
 //! Worked runs.
-use crate::devices::{Devices, ROOM, Stops, calls_of, new_devices, record};
+use crate::devices::{Devices, ROOM, Stops, calls_of, new_devices};
 use crate::reading::{told_by_card, told_by_unit};
 use crate::units::{M0, T0, card_with};
 use activity_codec::Slot;
@@ -41,7 +41,7 @@ fn a_driver(rt: HostRuntime) -> Result<(), Fail> {
     let alloc = rt.alloc();
     let mut d = new_devices(alloc, Stops::none(alloc))?;
     let text = b"start 1267401600\ninsert driver a\nrun 60 0\nrun 3540 50\n";
-    let (ended, outcome) = record(alloc, text, &mut d.unit, &mut d.card_a, &mut d.card_b)?;
+    let (ended, outcome) = d.record(alloc, text)?;
     assert_eq!(rt; ended, Ok(()));
     assert_eq!(rt; marks_of(&outcome, Device::Unit), 58);
     assert_eq!(rt; marks_of(&outcome, Device::CardA), 58);
@@ -63,7 +63,7 @@ fn a_card_of_zeros(rt: HostRuntime) -> Result<(), Fail> {
     let zeros = vec![in alloc; 0u8; LARGEST_IMAGE as usize]?;
     d.card_a = card_with(alloc, zeros, ROOM, Vec::new(alloc))?;
     let text = b"start 1267401600\ninsert driver a\nrun 240 0\n";
-    let (ended, outcome) = record(alloc, text, &mut d.unit, &mut d.card_a, &mut d.card_b)?;
+    let (ended, outcome) = d.record(alloc, text)?;
     assert_eq!(rt; ended, Ok(()));
     assert_eq!(rt; outcome.finds.len(), 1);
     let find = Find {
@@ -97,7 +97,7 @@ fn torn_in_keeping(rt: &(impl Abort + AllocGlobal), left: Left) -> Result<(), Fa
     for call in from..to {
         let stops = Stops::one(alloc, Device::CardA, Stop { call, left })?;
         let mut d = new_devices(alloc, stops)?;
-        let (ended, outcome) = record(alloc, text, &mut d.unit, &mut d.card_a, &mut d.card_b)?;
+        let (ended, outcome) = d.record(alloc, text)?;
         assert_eq!(rt; ended, Ok(()));
         let tear = Break::Tear {
             second: T0 + 239,
@@ -142,7 +142,7 @@ fn a_unit_that_is_stopped_behind_a_write(rt: HostRuntime) -> Result<(), Fail> {
         let left = Left::After;
         let stops = Stops::one(alloc, Device::Unit, Stop { call, left })?;
         let mut d = new_devices(alloc, stops)?;
-        let (ended, outcome) = record(alloc, text, &mut d.unit, &mut d.card_a, &mut d.card_b)?;
+        let (ended, outcome) = d.record(alloc, text)?;
         assert_eq!(rt; ended, Ok(()));
         let found = u8::from(call == to - 1);
         let cut = Break::Cut {

@@ -4,7 +4,7 @@
 ghost use Rattle.tach_media.specs.MemMedium.{memory_state};
 ghost use Rattle.unit_model.specs.Image.{IsUnit};
 
-use crate::devices::{Devices, ROOM, Stops, calls_of, new_devices, record};
+use crate::devices::{Devices, ROOM, Stops, calls_of, new_devices};
 use crate::reading::{Told, told_by_card, told_by_unit};
 use crate::units::{M0, T0, image_of, stops, unit_with};
 use recorder_with_cards::{Break, Mark, Outcome};
@@ -170,13 +170,13 @@ fn failed_breaks(outcome: &Outcome) -> usize {
 /// Both runs, with these stops in the first; what that one tells.
 fn run_both(rt: &impl Abort, alloc: Global, text: &[u8], stops: Stops) -> Result<Outcome, Fail> {
     let mut d = new_devices(alloc, stops)?;
-    let (ended, outcome) = record(alloc, text, &mut d.unit, &mut d.card_a, &mut d.card_b)?;
+    let (ended, outcome) = d.record(alloc, text)?;
     assert_eq!(rt; ended, Ok(()));
     let image = image_of(alloc, &mut d.unit)?;
     let told = told_by_all(alloc, &mut d)?;
     assert!(rt; told.hold_all(&outcome));
     d.unit = unit_with(alloc, image, ROOM, Vec::new(alloc))?;
-    let (again, more) = record(alloc, SECOND, &mut d.unit, &mut d.card_a, &mut d.card_b)?;
+    let (again, more) = d.record(alloc, SECOND)?;
     assert_eq!(rt; again, Ok(()));
     assert_eq!(rt; (more.breaks.len(), more.refused.len()), (0, 0));
     let told = told_by_all(alloc, &mut d)?;
