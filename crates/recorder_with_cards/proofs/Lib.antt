@@ -68,3 +68,7 @@ pub mod ActsCards
 pub mod WokenCards
 pub mod GapCards
 pub mod GapOnCard
+pub mod WakesCards
+pub mod GapShown
+pub mod OffCards
+pub mod SecondsCards

@@ -55,7 +55,8 @@ use Rattle.run_recorded.specs.Origin.{Origin, rule_of}
 use Rattle.run_recorded.specs.Ends.{recording_by, EndsRun}
 use Rattle.run_recorded.specs.Seconds.{empty_log}
 use Rattle.run_recorded.proofs.Ends.{ends-run}
-use Rattle.run_evented.specs.Evented.{limit_in, Evented}
+use Rattle.event_model.specs.Events.{Seen, seen_of}
+use Rattle.run_evented.specs.Evented.{limit_in, images_in, Evented}
 use Rattle.run_evented.proofs.Ends.{nothing-noted, events-shown}
 use Rattle.run_ringed.specs.Ringed.{Seating, Ringed, notes_in}
 use Rattle.run_ringed.specs.SoFar.{AreEarlier, RingedBehind}
@@ -83,7 +84,11 @@ use Rattle.run_acts.proofs.StoredRun.{end-stores}
 use Rattle.run_acts.specs.Evented.{RunEvented}
 use Rattle.run_acts.specs.Ringing.{seating_of}
 use Rattle.run_acts.specs.RunRinged.{seats_of, RunRinged}
+use Rattle.run_acts.specs.OnCards.{accepted_on, ShowsOn, AreUses}
+use Rattle.run_acts.specs.RunCards.{vehicle_of, vehicle_in, sizes_in}
+use Rattle.run_acts.proofs.OnCards.{start-shown}
 use Rattle.run_acts.proofs.Numbers.{own-long}
+use Rattle.recorder_with_cards.specs.Carded.{RunCarded}
 use Rattle.recorder_with_cards.specs.Ends.{BeginAs, recorded_with, recording_of, opened_with, origin_of, MayRecord, EndsTrace}
 use Rattle.recorder_with_cards.proofs.Waiting.{first-second}
 use Rattle.recorder_with_cards.proofs.SideShown.{insertions-inside, places-inside, side-shown}
@@ -158,9 +163,9 @@ module _ (x a b : List ℕ) (start : ℕ) (items : List Item) (began now : Devic
       ends-run o done (progress v supply h.book) h.travel v.marks (carried v h.due h.book h.standing h.brought) began now h.recorded (found-by r0 done v.log (found_in r0 began) began found)
       (is-carried done v (carried v h.due h.book h.standing h.brought) supply h.held) refl refl h.beside unit_whole card_whole decodes refl
 
-  pub promised : (run : Run) (out : Outcome) → RunRinged o (seconds_of start items) run out now → IsCoherent now.unit → ((c : Card) → IsCoherent (card_of now c)) → MayRecord x a b start → IsFound r0 (found_in r0 began) began →
+  pub promised : (run : Run) (out : Outcome) → RunCarded o (seconds_of start items) run out now → IsCoherent now.unit → ((c : Card) → IsCoherent (card_of now c)) → MayRecord x a b start → IsFound r0 (found_in r0 began) began →
       EndsTrace x a b start items out began now
-  promised run out h unit_whole card_whole may found = record {
+  promised run out carded unit_whole card_whole may found = record {
     may = record {
       decodes = may.decodes;
       clock = λ s is. let number = first-second start items s is in let later = may.later in omega (arith, number, later);
@@ -180,8 +185,18 @@ module _ (x a b : List ℕ) (start : ℕ) (items : List Item) (began now : Devic
       places = λ dense y left. (h.ringed.ringed.places (record { points = places-inside x may.decodes; dense = dense }) y left).carries.dense;
     };
     holders = keep-holders o (seconds_of start items) h.evented.recorded.supply (values_of run out) began now h.evented.recorded.recorded (found-by r0 (seconds_of start items) (log_of out) (found_in r0 began) began found);
+    cards = λ c valid.
+        let one = carded.cards c (subst IsOwnValid (images c) valid) in
+        record {
+          uses = one.uses;
+          are = subst (λ (n : ℕ). AreUses ((card_of now c).left_since n) one.uses (accepted_on c (seen_of r.log r.trace))) (clocks c) one.are;
+          shows = subst (λ (i : List ℕ). ShowsOn c (vehicle_of x) one.uses (own_sizes i) i r.log r.trace (card_of now c)) (sym (images c)) one.shows;
+        };
   }
     where
+      h : RunRinged o (seconds_of start items) run out now
+      h = carded.ringed
+
       r : Recording
       r = recording_of x a b start items out
 
@@ -210,6 +225,10 @@ module _ (x a b : List ℕ) (start : ℕ) (items : List Item) (began now : Devic
 no-spans : (log : RunLog) → spans_of (went log []).told ≡ []
 unfolding went spans_of
 no-spans log = refl
+
+no-seen : (log : RunLog) → seen_of log [] ≡ []
+unfolding seen_of went
+no-seen log = refl
 
 no-notes : (log : RunLog) → notes_in log [] ≡ []
 unfolding done_of notes_of
@@ -378,3 +397,17 @@ module _ (x a b : List ℕ) (start : ℕ) (began now : Devices) (opened : Opened
           early = subst (AreEarlier n) (sym (no-notes log)) tt;
           ringed = subst (λ (notes : List Note). Ringed first-o log [] notes seats now) (sym (no-notes log)) (fewer-sit now first-o log [] [] (λ c. None) seats (none-noted now first-o log [] only_unit) (λ c. inl (none c)));
         }
+
+    -- and its cards show what they held
+    pub starts-carded : (run : Run) (out : Outcome) → run.power ≡ Due → run.next ≡ start → run.begun ≡ 0 → run.unfound ≡ 0 → run.keeper.memory ≡ opened.unit.memory → run.keeper.cabin.slots ≡ nothing_yet →
+        ((c : Card) → known_in run.keeper.cabin.cards c ≡ known_of opened c) → ((c : Card) → session_of run.keeper.cabin.cards c ≡ None) → out.breaks.items ≡ [] → out.refused.items ≡ [] → out.finds.items ≡ [] → out.marks.items ≡ [] →
+        run.noted ≡ 0 → RunCarded first-o [] run out now
+    starts-carded run out due next begun unfound memory slots same bare breaks refused finds marks noted = record {
+      ringed = starts-ringed run out due next begun unfound memory slots same bare breaks refused finds marks noted;
+      vehicle = ap (λ (bs : List ℕ). record { 0 = bs }) (ap (λ (i : Identity). i.registration.0) memory ∙ ready.memory.registration);
+      cards = λ c valid. record {
+        uses = [];
+        are = subst (λ (seen : List Seen). AreUses (images_in first-o now c) [] (accepted_on c seen)) (sym (no-seen (log_of out))) tt;
+        shows = start-shown c (vehicle_in first-o) (sizes_in first-o c) (card_image first-o.recording c) (log_of out) (card_of now c) (λ y left. only c y ((whole c).counts_now (found_of f c).began y (there.clocks c) left));
+      };
+    }
