@@ -1,6 +1,6 @@
 -- The interruption that ends as power is back, on the cards of a run: it is noted, or the unit failed in that; and where no span was before there is none.
-use Rattle.std.proofs.Common.{◌≡◌, ◌∙◌, ◌⊎◌, inl, inr, ⊎_elim, ℕ, suc, ◌+◌, ◌<◌, ◌≤◌, Bool, true, false, cond, not, ◌||◌, ◌&&◌, nat_eq, Option, Some, None, is_some, List, [], ◌∷◌, ◌++◌, length, refl, ap, sym, subst, arith, append-nil, append_assoc}
-use Rattle.std.specs.List.{AllByRecursion, list_any}
+use Rattle.std.proofs.Common.{◌≡◌, ◌∙◌, ◌⊎◌, ⊎_elim, ℕ, ◌+◌, ◌<◌, ◌≤◌, Bool, true, false, not, ◌||◌, ◌&&◌, nat_eq, Option, Some, None, is_some, List, [], ◌∷◌, ◌++◌, refl, ap, sym, subst, arith, append-nil, append_assoc}
+use Rattle.std.specs.List.{AllByRecursion}
 use Rattle.std.proofs.lemmas.Bool.Decides.{nat_tests}
 use Rattle.activity_codec.specs.declared.values.Slot.{Slot}
 use Rattle.activity_codec.specs.declared.values.Slot.TheVariants.{Driver, CoDriver}
@@ -15,19 +15,19 @@ use Rattle.log_model.specs.declared.lines.Break.{Break}
 use Rattle.log_model.specs.declared.lines.Find.{Find}
 use Rattle.log_model.specs.Causes.{second_of}
 use Rattle.log_model.specs.Log.{RunLog, Phase, In, cut_in, is_torn_in, found_in, tears_here}
-use Rattle.log_model.specs.Slots.{Sitting, in_slot, same_card}
-use Rattle.log_model.specs.Course.{Visit, fresh, unmoved, went}
+use Rattle.log_model.specs.Slots.{in_slot, same_card}
+use Rattle.log_model.specs.Course.{fresh, unmoved, went}
 use Rattle.side_model.specs.Done.{has_failed_in}
-use Rattle.slot_machine.specs.declared.seats.Seat.{Seat}
-use Rattle.slot_machine.specs.Calls.{seat_in, card_in, is_card as sits_card}
+use Rattle.slot_machine.specs.Calls.{seat_in, card_in}
 use Rattle.tacho_types.specs.declared.texts.Registration.{Registration}
 use Rattle.safety_model.specs.Safe.{Devices, card_of}
 use Rattle.unit_course.specs.Followed.{Supply, MayPower}
+use Rattle.unit_course.specs.Lines.{cut_at}
 use Rattle.run_crew.specs.declared.cards.Cards.{Cards}
 use Rattle.run_crew.specs.declared.cards.Accepted.{Accepted}
 use Rattle.run_crew.specs.declared.cabin.Cabin.{Cabin}
 use Rattle.run_crew.specs.Cards.{session_of, with_session}
-use Rattle.run_crew.specs.Cabin.{Stands, SitsThere}
+use Rattle.run_crew.specs.Cabin.{Stands}
 use Rattle.run_course.specs.Followed.{Progress, Followed}
 use Rattle.run_course.specs.Moments.{and_break}
 use Rattle.run_course.specs.Seconds.{GoesOnBy}
@@ -40,7 +40,6 @@ use Rattle.run_recorded.specs.Origin.{Origin, rule_of, start_at, first_of}
 use Rattle.run_recorded.specs.Beside.{HaveLeftMore}
 use Rattle.run_recorded.specs.Seconds.{found_again}
 use Rattle.run_within.specs.Recorded.{Values, Recorded, progress}
-use Rattle.run_within.specs.Within.{Beginning}
 use Rattle.run_within.proofs.Pulling.{sitting-now}
 use Rattle.run_within.proofs.Seats.{card-seated}
 use Rattle.run_evented.specs.Evented.{NotesNothing, Evented}
@@ -56,12 +55,12 @@ use Rattle.run_acts.specs.Recording.{log_of, values_of, RunWithin}
 use Rattle.run_acts.specs.RunRinged.{with_cut}
 use Rattle.run_acts.specs.OnCards.{falls}
 use Rattle.run_acts.specs.RunCards.{vehicle_in, seen_behind, CardsBehind, CardsIn, CardsWaking}
-use Rattle.run_acts.proofs.RingedSecond.{cut-torn, cut-found, cut-failed}
+use Rattle.run_acts.proofs.RingedSecond.{cut-found, cut-failed}
 use Rattle.recorder_with_cards.specs.JudgedRings.{TellsHere}
 use Rattle.recorder_with_cards.specs.CardsWoken.{CardsWoken}
 use Rattle.recorder_with_cards.proofs.RingsHere.{here-then, here-cut}
 use Rattle.recorder_with_cards.proofs.GapEvented.{gap_events as gap_list, gap-is, driver-gone}
-use Rattle.recorder_with_cards.proofs.GapCards.{seated-card, same-self, gap-cards}
+use Rattle.recorder_with_cards.proofs.GapCards.{same-self, gap-cards}
 use Rattle.recorder_with_cards.proofs.ActsCards.{cut-cards}
 use Rattle.recorder_with_cards.proofs.WokenCards.{torn-more, torn-sitting}
 use Rattle.recorder_with_cards.proofs.WokenEvented.{q-list, q-none, q-some}
@@ -284,7 +283,7 @@ module _ (o : Origin) (done : List TraceSecond) (s : TraceSecond) (run : Run) (o
       let cut : RunLog = with_cut (log_of (record out { breaks = after })) s [] in
       cut-cards o done s 0 run out d e w (record out { breaks = after }) [] s.actions refl
       (waking-later o done s (In 0) [] None [] (values_of run out) d w.within cut (here-then (log_of out) (log_of (record out { breaks = after })) cut s.number tells (here-cut (log_of (record out { breaks = after })) s [])) some) free
-      (shown cut (_ ∷ [], refl) (λ slot. cut-found (log_of (record out { breaks = after })) s.number 0 free (In 0) slot) (λ f. cut-failed (log_of (record out { breaks = after })) s.number 0 free))
+      (shown cut (cut_at s.number true 0 ∷ [], refl) (λ slot. cut-found (log_of (record out { breaks = after })) s.number 0 free (In 0) slot) (λ f. cut-failed (log_of (record out { breaks = after })) s.number 0 free))
 
   pub gap-shown : GapOn failed o done s w.within.b.run.log (log_of (record out { breaks = after })) e
   gap-shown = by failed refl

@@ -1,5 +1,5 @@
 -- The last second turns out to be a cut's, as an `off` line says: what the cards show of their events stays.
-use Rattle.std.proofs.Common.{◌≡◌, ◌∙◌, ℕ, suc, ◌+◌, ◌-◌, ◌<◌, ◌≤◌, Bool, true, false, cond, not, ◌&&◌, ◌||◌, Option, Some, None, is_some, option_map, List, [], ◌∷◌, ◌++◌, length, refl, ap, sym, subst, arith}
+use Rattle.std.proofs.Common.{◌≡◌, ◌∙◌, ℕ, ◌+◌, ◌-◌, ◌<◌, ◌≤◌, Bool, true, false, cond, not, ◌&&◌, ◌||◌, is_some, List, [], ◌∷◌, ◌++◌, length, refl, ap, sym, subst, arith}
 use Rattle.std.specs.Prelude.{filter, flat_map}
 use Rattle.std.specs.List.{AllByRecursion, list_any}
 use Rattle.activity_codec.specs.declared.values.Slot.{Slot}
@@ -8,11 +8,11 @@ use Rattle.trace_model.specs.declared.Card.{Card}
 use Rattle.trace_model.specs.Trace.{TraceSecond}
 use Rattle.minute_model.specs.declared.Rule.{Rule}
 use Rattle.history_model.specs.Presence.{Start}
-use Rattle.event_model.specs.Events.{Event, Seen, number_of, seen_of, seen_spans, gap_events, gaps_between, last_number, first_card}
+use Rattle.event_model.specs.Events.{Seen, number_of, seen_of, seen_spans, gap_events, gaps_between, last_number, first_card}
 use Rattle.log_model.specs.declared.lines.Break.{Break}
-use Rattle.log_model.specs.Log.{RunLog, Phase, Keeping, cut_in, is_torn_in, kept_after, is_accepting}
-use Rattle.log_model.specs.Slots.{Sitting, same_card, in_slot}
-use Rattle.log_model.specs.Course.{Told, Before, Course, Visit, Went, has_power, second_told, went, with_slot, leaves, visits, slot_told, both_told, unmoved, all_acted, cut_told, lit_course}
+use Rattle.log_model.specs.Log.{RunLog, Keeping, cut_in, is_torn_in, kept_after, is_accepting}
+use Rattle.log_model.specs.Slots.{same_card}
+use Rattle.log_model.specs.Course.{Told, Before, Course, Visit, Went, has_power, second_told, went, leaves, visits, slot_told, both_told, unmoved, all_acted, cut_told, lit_course}
 use Rattle.side_model.specs.Done.{course_powered}
 use Rattle.unit_course.specs.Lines.{cut_at}
 use Rattle.unit_course.specs.Followed.{Lit}
@@ -21,9 +21,8 @@ use Rattle.run_course.specs.Moments.{and_break}
 use Rattle.run_course.specs.Followed.{Progress, Followed, HadActions}
 use Rattle.run_course.proofs.Lookups.{break-more}
 use Rattle.run_course.proofs.Told.{lit-told}
-use Rattle.run_rings.specs.Notes.{course_behind}
 use Rattle.run_recorded.specs.Origin.{Origin}
-use Rattle.run_events.specs.Seconds.{gap_by, gap_before, seen_next}
+use Rattle.run_events.specs.Seconds.{gap_by, seen_next}
 use Rattle.run_events.specs.Choice.{AreEarlier}
 use Rattle.run_events.proofs.Growing.{seen-more}
 use Rattle.run_events.proofs.Later.{told-number, seen-same}

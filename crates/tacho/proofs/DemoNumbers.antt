@@ -7,8 +7,7 @@ use Rattle.log_model.specs.Causes.{HasCauses}
 use Rattle.message_model.specs.Records.{insertion_ring}
 use Rattle.side_model.specs.Noted.{insertions_of}
 use Rattle.side_model.specs.Rings.{RingShows, IsInsertion, is_sure_insertion}
-use Rattle.card_image.specs.Own.{IsOwnValid}
-use Rattle.safety_model.specs.Recording.{Recording, card_image, history_of, lost_of}
+use Rattle.safety_model.specs.Recording.{Recording, history_of, lost_of}
 use Rattle.safety_model.specs.Unit.{UnitSafe, issued_bytes}
 use Rattle.safety_model.specs.Cards.{CardSafe}
 use Rattle.safety_model.specs.Safe.{Devices, card_of, breakdowns_of, IsVerdict, WasFound}
@@ -71,5 +70,5 @@ module _ (x a b : List ℕ) (start : ℕ) (items : List Item) (out : Outcome) (p
     kept = subst (λ (n : ℕ). TellsKept r n now.unit) unit h.kept;
     dense = h.dense;
     holders = λ c. subst (λ (n : ℕ). KeepsHolder r c n (card_of now c)) (cards c) (h.holders c);
-    cards = λ c. subst (λ (n : ℕ). IsOwnValid (card_image r c) → ShowsItsEvents r c n (card_of now c)) (cards c) (h.cards c);
+    cards = λ c. subst (λ (n : ℕ). ShowsItsEvents r c n (card_of now c)) (cards c) (h.cards c);
   }

@@ -17,7 +17,7 @@ use Rattle.run_crew.specs.Cards.{known_of as known_in}
 use Rattle.run_opening.specs.Begun.{known_of, IsReady}
 use Rattle.run_opening.specs.Begun.{IsRefusedBy as IsRefusedAs}
 use Rattle.run_opening.specs.Cards.{IsFoundOn}
-use Rattle.run_acts.specs.RunCarded.{RunCarded}
+use Rattle.recorder_with_cards.specs.Carded.{RunCarded}
 use Rattle.recorder_with_cards.specs.Ends.{BeginAs, opened_with, origin_of}
 use Rattle.recorder_with_cards.specs.Recorded.{actions_in}
 use Rattle.recorder_with_cards.specs.Items.{between}
