@@ -39,6 +39,7 @@ pub mod Waiting
 pub mod SecondsRecorded
 pub mod Written
 pub mod WrittenRows
+pub mod AtEnd
 pub mod Promised
 pub mod Later
 pub mod WakeNoted

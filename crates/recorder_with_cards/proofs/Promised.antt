@@ -1,5 +1,5 @@
 -- What a run promises, from what was recorded of it; and that nothing is recorded as it begins.
-use Rattle.std.proofs.Common.{◌≡◌, ◌∙◌, inl, ℕ, ◌+◌, ◌-◌, ◌/◌, ◌<◌, ◌≤◌, true, false, Option, Some, None, IfSome, option_map, is_some, Result, Ok, List, [], ◌++◌, length, All, refl, ap, sym, subst, arith}
+use Rattle.std.proofs.Common.{◌≡◌, ◌∙◌, ◌⊎◌, inl, inr, ⊎_elim, ℕ, ◌+◌, ◌-◌, ◌/◌, ◌<◌, ◌≤◌, true, false, Option, Some, None, IfSome, option_map, is_some, Result, Ok, List, [], ◌++◌, length, All, refl, ap, sym, subst, arith}
 use Rattle.trace_model.specs.declared.Card.{Card}
 use Rattle.trace_model.specs.declared.Card.TheVariants.{A, B}
 use Rattle.trace_model.specs.declared.Item.{Item}
@@ -94,7 +94,14 @@ use Rattle.recorder_with_cards.proofs.Waiting.{first-second}
 use Rattle.recorder_with_cards.proofs.SideShown.{insertions-inside, places-inside, side-shown}
 use Rattle.recorder_with_cards.proofs.Written.{are-written, keep-holders}
 use Rattle.recorder_with_cards.proofs.KeptAfter.{end-kept}
-use Rattle.run_acts.specs.Stays.{registration_in, HasStays, ShowsStays}
+use Rattle.run_acts.specs.Stays.{registration_in, AreMerged, open_ones, going_on, HasStays, ShowsStays}
+use Rattle.recorder_with_cards.specs.Stays.{one_more}
+use Rattle.recorder_with_cards.proofs.AtEnd.{goes-at-end}
+use Rattle.run_recorded.specs.Whole.{NothingFailed}
+use Rattle.run_crew.specs.Cabin.{Stands}
+use Rattle.std.specs.Prelude.{filter}
+use Rattle.log_model.specs.Log.{is_accepting}
+use Rattle.log_model.specs.declared.lines.Find.{Find}
 use Rattle.run_acts.proofs.Stays.{stays-start}
 
 -- what holds of either card
@@ -163,9 +170,9 @@ module _ (x a b : List ℕ) (start : ℕ) (items : List Item) (began now : Devic
       ends-run o done (progress v supply h.book) h.travel v.marks (carried v h.due h.book h.standing h.brought) began now h.recorded (found-by r0 done v.log (found_in r0 began) began found)
       (is-carried done v (carried v h.due h.book h.standing h.brought) supply h.held) refl refl h.beside unit_whole card_whole decodes refl
 
-  pub promised : (run : Run) (out : Outcome) → RunCarded o (seconds_of start items) run out now → IsCoherent now.unit → ((c : Card) → IsCoherent (card_of now c)) → MayRecord x a b start → IsFound r0 (found_in r0 began) began →
+  pub promised : (run : Run) (out : Outcome) → RunCarded o (seconds_of start items) run out now → (run.power ≡ Lit → (low : ℕ) × Stands low None run.keeper.cabin) → IsCoherent now.unit → ((c : Card) → IsCoherent (card_of now c)) → MayRecord x a b start → IsFound r0 (found_in r0 began) began →
       EndsTrace x a b start items out began now
-  promised run out carded unit_whole card_whole may found = record {
+  promised run out carded sits unit_whole card_whole may found = record {
     may = record {
       decodes = may.decodes;
       clock = λ s is. let number = first-second start items s is in let later = may.later in omega (arith, number, later);
@@ -174,11 +181,21 @@ module _ (x a b : List ℕ) (start : ℕ) (items : List Item) (began now : Devic
     ends = ends-so (seconds_of start items) h.evented.recorded.supply (values_of run out) h.evented.recorded.recorded unit_whole card_whole found may.decodes;
     side = record { shows = shows };
     written = are-written o (seconds_of start items) h.evented.recorded.supply (values_of run out) began now h.evented.recorded.recorded (found-by r0 (seconds_of start items) (log_of out) (found_in r0 began) began found);
-    stays = λ none c valid.
-        let of_image : (found_of o.found c).image ≡ card_image r c = found.image c ∙ sym (images c) in
+    stays = λ none.
         let all = h.evented.recorded.stay none in
-        let h_ = all.1 c (subst IsOwnValid (sym of_image) valid) in
-        subst (λ (i : List ℕ). ShowsStays x i (card_of now c)) of_image (record { vehicle = run.keeper.memory.registration; says = all.0; stays = h_.stays; shows = h_.shows });
+        record {
+          vehicle = run.keeper.memory.registration;
+          says = all.says;
+          stays = all.stays;
+          told = all.told;
+          owed = all.owed;
+          only = λ c. ⊎_elim (λ none_. inl none_) (λ valid. inr (subst IsOwnValid (of_image c) valid)) (all.only c);
+          shows = λ c valid. subst (λ (i : List ℕ). ShowsStays run.keeper.memory.registration i (all.stays c) (card_of now c)) (of_image c) (own none c valid).shows;
+          ends = λ c valid.
+              let most : open_ones (all.stays c) ≤ length r.log.breaks + going_on (session_of run.keeper.cabin.cards c) = (own none c valid).ends in
+              let one : going_on (session_of run.keeper.cabin.cards c) ≤ one_more c (went r.log r.trace).before.slots = goes-at-end o ss run out now h.evented.recorded sits c in
+              omega (arith, most, one);
+        };
     kept = end-kept o ss run out now h.evented.recorded h.spans h.ringed.spans_are h.stored;
     dense = record {
       insertions = λ dense y left. (h.ringed.ringed.insertions (record { points = insertions-inside x may.decodes; dense = dense }) y left).shows.carries.dense;
@@ -202,6 +219,13 @@ module _ (x a b : List ℕ) (start : ℕ) (items : List Item) (began now : Devic
 
       images : (c : Card) → card_image r c ≡ card_image o.recording c
       images = both (λ c. card_image r c ≡ card_image o.recording c) refl refl
+
+      of_image : (c : Card) → (found_of o.found c).image ≡ card_image r c
+      of_image c = found.image c ∙ sym (images c)
+
+      own : (none : NothingFailed (log_of out)) (c : Card) → IsOwnValid (card_image r c) →
+          HasStays (found_of o.found c) run.keeper.memory.registration (length (log_of out).breaks) ((h.evented.recorded.stay none).stays c) (session_of run.keeper.cabin.cards c) (card_of now c)
+      own none c valid = (h.evented.recorded.stay none).each c (subst IsOwnValid (sym (of_image c)) valid)
 
       clocks : (c : Card) → (found_of o.found c).began ≡ (card_of began c).clock
       clocks = both (λ c. (found_of o.found c).began ≡ (card_of began c).clock) refl refl
@@ -346,11 +370,15 @@ module _ (x a b : List ℕ) (start : ℕ) (began now : Devices) (opened : Opened
         travels = travels;
       });
       odometer = λ lit. absurd (let bad : Due ≡ Lit = sym due ∙ lit in cc);
-      stay = λ none. (
-        registered,
-        λ c valid. subst (λ (s : Option Accepted). HasStays (found_of f c) run.keeper.memory.registration s (card_of now c)) (sym (bare c))
-            (stays-start (found_of f c) run.keeper.memory.registration (card_of now c) (λ y left. untouched c y ((whole c).counts_now (found_of f c).began y (there.clocks c) left))),
-      );
+      stay = λ none. record {
+        says = registered;
+        stays = λ c. [];
+        told = subst (λ (fs : List Find). AreMerged (filter (λ (g : Find). is_accepting g.verdict) fs) [] []) (sym finds) (refl, refl);
+        owed = λ c. tt;
+        only = λ c. inl refl;
+        each = λ c valid. subst (λ (s : Option Accepted). HasStays (found_of f c) run.keeper.memory.registration (length out.breaks.items) [] s (card_of now c)) (sym (bare c))
+            (stays-start (found_of f c) run.keeper.memory.registration (length out.breaks.items) (card_of now c) (λ y left. untouched c y ((whole c).counts_now (found_of f c).began y (there.clocks c) left)));
+      };
     }
 
     only_unit : (y : List ℕ) → now.unit.may_leave y → y ≡ x

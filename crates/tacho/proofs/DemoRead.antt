@@ -175,7 +175,18 @@ module _ (U V : State) (is : IsRead U V) where
           };
           side = record { shows = λ y left. side-read y (h.side.shows y (now-back y left)) };
           written = λ c valid y left. h.written c valid y (card-back c y left);
-          stays = λ none c valid. subst (λ (s : State). ShowsStays r.unit (card_image r c) s) (same-card c) (h.stays none c valid);
+          stays = λ none.
+              let s = h.stays none in
+              record {
+                vehicle = s.vehicle;
+                says = s.says;
+                stays = s.stays;
+                told = s.told;
+                owed = s.owed;
+                only = s.only;
+                shows = λ c valid. subst (λ (x : State). ShowsStays s.vehicle (card_image r c) (s.stays c) x) (same-card c) (s.shows c valid);
+                ends = s.ends;
+              };
           kept = more-found (U.left_since p.unit.clock) (V.left_since p.unit.clock) (λ y left. is.leaves.keeps p.unit.clock y before left) r.log (spans_of (told_of r)) h.kept;
           dense = record { insertions = λ dense y left. h.dense.insertions dense y (now-back y left); places = λ dense y left. h.dense.places dense y (now-back y left) };
           holders = λ c valid y left. h.holders c valid y (told-back c y left);

@@ -37,6 +37,7 @@ use Rattle.run_outcome.specs.Room.{offs, off_count, insertions}
 use Rattle.run_outcome.proofs.Items.{seconds-here, offs-here}
 use Rattle.run_acts.specs.declared.run.Power.{Power}
 use Rattle.run_acts.specs.Power.{is_lit}
+use Rattle.minute_model.specs.Span.{ungiven_of}
 use Rattle.run_acts.specs.Going.{CardAt, IsFoundLater}
 use Rattle.run_acts.specs.Room.{cuts_from, HasRoom}
 use Rattle.recorder_with_cards.specs.Items.{insertions_in}
@@ -223,6 +224,7 @@ returns-clause-recorded g c = λ x a b h time few.
     let told = v.told x a b h in
     promised x a b start items began now c.loop-i.run c.loop-i.outcome
     (subst (λ (is : List Item). RunCarded (origin_of x a b start began) (seconds_of start is) c.loop-i.run c.loop-i.outcome now) whole (v.cards x a b h time few))
+    (λ lit. let on = v.going.lit (ap is_lit lit) in (ungiven_of on.span, on.cabin))
     (g.met.U.Medium.coherent c.loop-i.unit) (both (λ k. IsCoherent (card_of now k)) (g.met.C.Chip.coherent c.loop-i.card_a) (g.met.C.Chip.coherent c.loop-i.card_b)) told.0 told.1
 
 pub returns-clause-begun : goal.returns-clause-begun
