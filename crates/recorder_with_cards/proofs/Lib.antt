@@ -1,5 +1,6 @@
 pub mod EnteredRings
 pub mod EnteredTold
+pub mod CameFirst
 pub mod EnteredAdds
 pub mod EnteredNamed
 pub mod EnteredEvented

@@ -36,7 +36,6 @@ use Rattle.unit_journal.proofs.Beside.{passes_beside}
 use Rattle.unit_memory.specs.declared.format.Identity.{Identity}
 use Rattle.safety_model.specs.Recording.{Recording, card_image, brought}
 use Rattle.safety_model.specs.Safe.{Devices, card_of, breakdowns_of, MayBegin}
-use Rattle.safety_model.specs.Side.{ShowsSide}
 use Rattle.slot_machine.specs.Kept.{nothing_yet}
 use Rattle.run_crew.specs.declared.cards.Accepted.{Accepted}
 use Rattle.run_crew.specs.declared.cards.Known.{Known}
@@ -91,6 +90,7 @@ use Rattle.run_acts.proofs.Numbers.{own-long}
 use Rattle.recorder_with_cards.specs.Carded.{RunCarded}
 use Rattle.recorder_with_cards.specs.Ends.{BeginAs, recorded_with, recording_of, opened_with, origin_of, MayRecord, EndsTrace}
 use Rattle.recorder_with_cards.proofs.Waiting.{first-second}
+use Rattle.recorder_with_cards.specs.Sessions.{TellFirst}
 use Rattle.recorder_with_cards.proofs.SideShown.{insertions-inside, places-inside, side-shown}
 use Rattle.recorder_with_cards.proofs.Written.{are-written, keep-holders}
 use Rattle.recorder_with_cards.proofs.KeptAfter.{end-kept}
@@ -179,7 +179,7 @@ module _ (x a b : List ℕ) (start : ℕ) (items : List Item) (began now : Devic
       numbers = may.numbers;
     };
     ends = ends-so (seconds_of start items) h.evented.recorded.supply (values_of run out) h.evented.recorded.recorded unit_whole card_whole found may.decodes;
-    side = record { shows = shows };
+    side = record { shows = λ y left. (shows y left).shows };
     written = are-written o (seconds_of start items) h.evented.recorded.supply (values_of run out) began now h.evented.recorded.recorded (found-by r0 (seconds_of start items) (log_of out) (found_in r0 began) began found);
     stays = λ none.
         let all = h.evented.recorded.stay none in
@@ -202,6 +202,7 @@ module _ (x a b : List ℕ) (start : ℕ) (items : List Item) (began now : Devic
       places = λ dense y left. (h.ringed.ringed.places (record { points = places-inside x may.decodes; dense = dense }) y left).carries.dense;
     };
     holders = keep-holders o (seconds_of start items) h.evented.recorded.supply (values_of run out) began now h.evented.recorded.recorded (found-by r0 (seconds_of start items) (log_of out) (found_in r0 began) began found);
+    sessions = shows;
     cards = λ c valid.
         let one = carded.cards c (subst IsOwnValid (images c) valid) in
         record {
@@ -237,7 +238,7 @@ module _ (x a b : List ℕ) (start : ℕ) (items : List Item) (began now : Devic
       stores : HaveBases (rule_of o) (log_of out) (odometer_at x) (last_kept x) [] h.spans × ((y : List ℕ) → now.unit.may_leave y → MayStore (rule_of o) (odometer_at x) (last_kept x) h.spans (last_kept y) (odometer_at y))
       stores = end-stores o ss run out now h.evented.recorded h.spans h.ringed.spans_are h.stored
 
-      shows : (y : List ℕ) → now.unit.may_leave y → ShowsSide r began now y
+      shows : TellFirst r began now
       shows y left =
           side-shown r began now y may.decodes
           (events-shown began now o (seconds_of start items) (log_of out) run.unfound run.next h.evented.recorded.supply h.evented.evented r refl images refl refl clocks y left)
