@@ -221,7 +221,7 @@ or-true false t is = is
 tear-told : (log : RunLog) (u : ℕ) (slot : Slot) → is_torn_in (and_break log (tear_of slot (record { second = u; begun = 0; late = false }))) u (In 0) slot ≡ true
 tear-told log u slot =
     (break-more log (tear_of slot (record { second = u; begun = 0; late = false })) u).torn (In 0) slot
-    ∙ or-true (is_torn_in log u (In 0) slot) (tears_here u (In 0) slot (tear_of slot (record { second = u; begun = 0; late = false }))) (λ i. number-same u i && (true && same-slot slot i))
+    ∙ or-true (is_torn_in log u (In 0) slot) (tears_here u (In 0) slot (tear_of slot (record { second = u; begun = 0; late = false }))) (λ i. number-same u i && true && same-slot slot i)
 
 finds-same : (log later : RunLog) → later.finds ≡ log.finds → (u : ℕ) (p : Phase) (slot : Slot) → found_in later u p slot ≡ found_in log u p slot
 unfolding found_in

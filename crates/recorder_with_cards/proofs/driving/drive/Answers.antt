@@ -261,7 +261,9 @@ returns-clause-cards g c = λ many few.
     (c.drive_on.ensures.cards o (done ++ driven 1 old.next c.args.speed acts) (done, s, refl, refl) behind time)
 
 pub returns-in_err-has_power-clause-cards : goal.returns-in_err-has_power-clause-cards
-returns-in_err-has_power-clause-cards g c = λ many few o done r time. absurd (returns-in_err-has_power-clause-ringed g c many few o done r.ringed time)
+returns-in_err-has_power-clause-cards g c = λ many few o done r time.
+    let s : TraceSecond = record { number = c.args.run.now.next; has_power = true; speed = c.args.speed; actions = actions_in (between c.args.from c.args.to c.args.items.now) } in
+    absurd (c.in_err-has_power.ensures.cards o done s (record { number = refl; given = refl; speed_is = refl }) r time)
 
 -- ---- how often the unit broke down
 

@@ -148,7 +148,9 @@ returns-clause-cards g c = λ o done last r time.
     (dark-carded o done old out d0 r c.requires.going.low c.args.n c.args.speed 0 [] c.requires.some none c.requires.minute r3 p3 is told))))
 
 pub returns-in_err-begin_second-clause-cards : goal.returns-in_err-begin_second-clause-cards
-returns-in_err-begin_second-clause-cards g c = λ o done last r time. absurd (returns-in_err-begin_second-clause-ringed g c o done last r.ringed time)
+returns-in_err-begin_second-clause-cards g c = λ o done last r time.
+    let s : TraceSecond = record { number = c.args.run.now.next; has_power = true; speed = c.args.speed; actions = [] } in
+    absurd (c.in_err-begin_second.ensures.cards o done s (record { number = refl; given = refl; speed_is = refl }) r time)
 
 -- ---- how often the unit broke down
 

@@ -180,7 +180,11 @@ returns-then-is_lit-clause-cards g c = λ o done s now rec time.
     })
 
 pub returns-in_err-power_on-clause-cards : goal.returns-in_err-power_on-clause-cards
-returns-in_err-power_on-clause-cards g c = λ o done s now rec time. absurd (returns-in_err-power_on-clause-ringed g c o done s now rec.ringed time)
+returns-in_err-power_on-clause-cards g c = λ o done s now rec time.
+    let run = c.args.run.now in
+    let dark : is_lit run.power ≡ false = sym c.is_lit.ensures ∙ c.if-is_lit.false in
+    let has : has_power run.power run.next ≡ true = sym c.has_power.ensures ∙ c.if-not-has_power.false in
+    absurd (c.in_err-power_on.ensures.cards (marks-due run c.args.outcome.now dark has c.requires.room) o done s now rec has time)
 
 pub returns-clause-cards : goal.returns-clause-cards
 returns-clause-cards g c = λ o done s now rec time.

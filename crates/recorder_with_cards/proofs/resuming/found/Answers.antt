@@ -284,7 +284,21 @@ returns-clause-ringed g c = λ room o done s now all has time.
 -- ---- AND THE EVENTS ON THE CARDS
 
 pub returns-in_err-judge_clock-clause-cards : goal.returns-in_err-judge_clock-clause-cards
-returns-in_err-judge_clock-clause-cards g c = λ room o done s now all has time. absurd (returns-in_err-judge_clock-clause-ringed g c room o done s now all.ringed has time)
+returns-in_err-judge_clock-clause-cards g c = λ room o done s now all has time.
+    let run = c.args.run.now in
+    let out = c.args.outcome.now in
+    let rec = all.ringed.evented.recorded in
+    let U : State = g.M.Medium.state c.args.unit.now in
+    let X : State = g.C.Chip.state c.args.card_a.now in
+    let Y : State = g.D.Chip.state c.args.card_b.now in
+    let may = may-of run.power rec.supply run.next rec.powers c.requires.dark has in
+    let image = image-of U.image (unit-tells o done rec.supply (values_of run out) (devices U X Y) rec.recorded may) in
+    let early = kept-early o done rec.supply (values_of run out) (devices U X Y) rec.recorded may image.0 ((g.met.M.Medium.coherent c.args.unit.now).is_left image.0 image.1) in
+    let is = (at-image (IsFoundBy c.args.journal) U.image image.0 image.1 c.requires.loaded.found).kept in
+    let kept = c.last_kept-kept.ensures.kept in
+    let next = ap (λ (r : Run). r.next) c.learn.ensures.run in
+    let back = c.in_err-judge_clock.ensures.back.1 in
+    absurd (omega (arith, early, is, kept, next, back))
 
 pub returns-then-is_err-clause-cards : goal.returns-then-is_err-clause-cards
 returns-then-is_err-clause-cards g c = λ room o done s now all has time.

@@ -311,7 +311,22 @@ returns-in-Ok-clause-cards g c = λ room o done s now all has time.
     }) has time
 
 pub returns-in-Err-BadUnit-clause-cards : goal.returns-in-Err-BadUnit-clause-cards
-returns-in-Err-BadUnit-clause-cards g c = λ room o done s now all has time. absurd (returns-in-Err-BadUnit-clause-ringed g c room o done s now all.ringed has time)
+returns-in-Err-BadUnit-clause-cards g c = λ room o done s now all has time.
+    let run = c.args.run.now in
+    let out = c.args.outcome.now in
+    let rec = all.ringed.evented.recorded in
+    let U : State = g.M.Medium.state c.args.unit.now in
+    let V : State = g.M.Medium.state c.load.new.unit in
+    let X : State = g.C.Chip.state c.args.card_a.now in
+    let Y : State = g.D.Chip.state c.args.card_b.now in
+    let whole = g.met.M.Medium.coherent c.args.unit.now in
+    let may = may-of run.power rec.supply run.next rec.powers c.requires.dark has in
+    let read = read-on o done rec.supply (values_of run out) (devices U X Y) rec.recorded may V whole c.load.ensures.leaves c.load.ensures.cause.breakdowns in
+    let after = g.met.M.Medium.coherent c.load.new.unit in
+    let image = image-of V.image (unit-tells o done rec.supply (values_of run out) (devices V X Y) read may) in
+    let decodes = unit-decodes o done rec.supply (values_of run out) (devices V X Y) read may after image.0 (after.is_left image.0 image.1) in
+    let bad = rw c.in-Err-BadUnit.field-0-is at c.in-Err-BadUnit.ensures.bad in
+    absurd (not-bad image.0 c.in-Err-BadUnit.place decodes (at-image (λ (x : List ℕ). first_bad_place x ≡ Some c.in-Err-BadUnit.place) V.image image.0 image.1 bad))
 
 pub returns-in-Err-Failed-clause-cards : goal.returns-in-Err-Failed-clause-cards
 returns-in-Err-Failed-clause-cards g c = λ room o done s now all has time.
