@@ -105,7 +105,7 @@ module _ (o : Origin) (e : Entering) (failed : Bool) (well : failed ≡ false) (
   own-judged (Seated entered clock entry) app w is told opens none ss = record {
     now = ss ++ new_stay entered ∷ [];
     lines = more-lines (Seated entered clock entry);
-    told = inr (find_of e (AcceptedWith entered.replayed), (filter-append accepting (log_of out).finds (find_of e (AcceptedWith entered.replayed) ∷ []), founds-more ss (new_stay entered)));
+    told = inr (find_of e (AcceptedWith entered.replayed), filter-append accepting (log_of out).finds (find_of e (AcceptedWith entered.replayed) ∷ []), founds-more ss (new_stay entered));
     owed = λ all. owed-more ss (new_stay entered) all (ap AcceptedWith told.whole);
     only = λ only. inr told.valid;
     shows = λ valid h. stays-open f vehicle (length (log_of out).breaks) (length (log_by (Seated entered clock entry)).breaks) (more-lines (Seated entered clock entry)) ss (find_of e (AcceptedWith entered.replayed)) e.odometer.0 entered.owed.items
