@@ -1,5 +1,5 @@
 -- A card that is judged is as it was at the start, or has come before: in an earlier second, or this one puts it in more than once.
-use Rattle.std.proofs.Common.{◌≡◌, ◌⊎◌, inl, inr, ⊎_elim, ◌∙◌, ℕ, ◌+◌, ◌<◌, ◌≤◌, Bool, true, false, cond, not, ◌||◌, Option, Some, None, List, [], ◌∷◌, ◌++◌, All, Contains, map, filter, take, drop, length, refl, ap, sym, subst, arith, length-append}
+use Rattle.std.proofs.Common.{◌≡◌, ◌⊎◌, inl, inr, ⊎_elim, ◌∙◌, ℕ, ◌+◌, ◌<◌, ◌≤◌, ◌/◌, Bool, true, false, cond, not, ◌||◌, ◌&&◌, nat_le, nat_eq, Option, Some, None, List, [], ◌∷◌, ◌++◌, All, Contains, map, filter, take, drop, length, refl, ap, sym, subst, arith, length-append}
 use Rattle.std.specs.Prelude.{fold, flat_map}
 use Rattle.std.specs.List.{list_any}
 use Rattle.std.proofs.lemmas.Bool.{cases_lt}
@@ -205,7 +205,9 @@ module _ (o : Origin) (done : List TraceSecond) (s : TraceSecond) (n : ℕ) (wai
 
   came-before : MayBeWrittenSo o w.b done (course_in w.b done s (In n) log) waits s.number k.cabin.slots e.which → HasComeBefore told_so_far (done ++ s ∷ []) e.which s.number
   came-before may = ⊎_elim
-      (λ past. let x = some-came e.which _ told_so_far past in earlier x.0 x.1 x.2)
+      (λ past.
+      let x = some-came e.which (λ (t : Told). nat_le t.second.number may.time && nat_eq (t.second.number / 60) (may.time / 60)) told_so_far past in
+      earlier x.0 x.1 x.2)
       (λ now. let less = now.1 in let one_ = waits-one in twice (omega (arith, less, one_)))
       may.entered_then
 
