@@ -78,7 +78,7 @@ module _ (o : Origin) (e : Entering) (failed : Bool) (well : failed ≡ false) (
 
   -- with the other finds of it the same acceptances are told
   none-more : (g : Find) → filter accepting (g ∷ []) ≡ [] → acceptances_told (record (log_of out) { finds = (log_of out).finds ++ g ∷ [] }) ≡ acceptances_told (log_of out)
-  none-more g no = filter-append accepting (log_of out).finds (g ∷ []) ∙ ap (λ (l : List Find). acceptances_told (log_of out) ++ l) no ∙ append-nil (acceptances_told (log_of out))
+  none-more g rejected = filter-append accepting (log_of out).finds (g ∷ []) ∙ ap (λ (l : List Find). acceptances_told (log_of out) ++ l) rejected ∙ append-nil (acceptances_told (log_of out))
 
   more-lines : (ending : Ending) → length (log_of out).breaks ≤ length (log_by ending).breaks
   more-lines ending =
