@@ -1,5 +1,6 @@
 -- What is known of a card's string where each of its images holds it (profile).
-use Rattle.std.specs.Prelude.{◌≡◌, ℕ, suc, max, ◌≤◌, true, None, List, All, is_some}
+use Rattle.std.specs.Prelude.{◌≡◌, ℕ, suc, max, ◌≤◌, true, None, List, [], ◌∷◌, All, is_some}
+use Rattle.std.specs.List.{AllByRecursion}
 use Rattle.trace_model.specs.declared.Card.{Card}
 use Rattle.tach_media.specs.Medium.{State}
 use Rattle.card_layout.specs.Application.{IsApplication}
@@ -19,10 +20,20 @@ use Rattle.run_rule.specs.Cards.{brought_by}
 abbrev pub identification_of : List ℕ → List ℕ
 identification_of x = file_bytes (own_sizes x) 0x0520 x
 
--- it is the card of the same holder still: its number, and its file Identification
+-- THE FILES OF A CARD THAT NO CALL OF A RUN WRITES: ICC, IC, Application_Identification, Faults_Data, Control_Activity_Data, Card_Download,
+-- Identification, Driving_Licence_Info, Specific_Conditions, and the two certificates
+abbrev pub untouched_files : List ℕ
+untouched_files = 0x0002 ∷ 0x0005 ∷ 0x0501 ∷ 0x0503 ∷ 0x0508 ∷ 0x050E ∷ 0x0520 ∷ 0x0521 ∷ 0x0522 ∷ 0xC100 ∷ 0xC108 ∷ []
+
+-- each of them has the bytes of the start
+abbrev pub HasSameFiles : (start x : List ℕ) → Type 0
+HasSameFiles start x = AllByRecursion (λ (fid : ℕ). file_bytes (own_sizes x) fid x ≡ file_bytes (own_sizes start) fid start) untouched_files
+
+-- it is the card of the same holder still: its number, its file Identification, and each other file that no call of a run writes
 pub record HasSameHolder (start x : List ℕ) : Type 0 where
   pub number : own_number x ≡ own_number start
   pub identification : identification_of x ≡ identification_of start
+  pub files : HasSameFiles start x
 
 -- THE STRING OF A CARD, which tells its images: each that a stop may leave now holds it, and an entry may come behind its newest minute as
 -- the card stands; and each since the start keeps it. The card has its number and its holder still.
