@@ -64,7 +64,7 @@ pub record MayRecord (unit card_a card_b : List ℕ) (start : ℕ) : Type 0 wher
 -- shows its auxiliary records, events and faults, insertions with their withdrawals, places, and the odometer, and every image of a card that was
 -- valid has been written so; and where no call failed each of these shows exactly what its stays in the slots make of it. What was found kept
 -- after its cuts was so. Rings that were dense stay dense, and each valid card stays its
--- holder's, and keeps each file that no call writes.
+-- holder's, and keeps all that no call writes.
 pub record EndsTrace (unit card_a card_b : List ℕ) (start : ℕ) (items : List Item) (out : Outcome) (began now : Devices) : Type 0 where
   pub may : MayBegin (recording_of unit card_a card_b start items out)
   pub ends : EndsRun (recording_of unit card_a card_b start items out) out.marks.items began now

@@ -26,11 +26,11 @@ use Rattle.unit_rule.specs.Rule.{Started}
 use Rattle.unit_rule.specs.Marks.{Holds}
 use Rattle.run_rule.specs.Found.{CardFound, Found, found_of, unit_seen, AnyKept}
 use Rattle.run_rule.specs.Cards.{brought_by, IsCardHeld, CardMarksHold}
-use Rattle.run_strung.specs.Strung.{untouched_files, IsHeld, HasSameHolder}
+use Rattle.run_strung.specs.Strung.{HasSameRest, IsHeld, HasSameHolder}
 use Rattle.run_brought.specs.Stays.{NoMarkFalls}
 use Rattle.run_brought.proofs.Stays.{stays, adds-none}
 use Rattle.run_told.proofs.Parts.{left-one}
-use Rattle.run_told.proofs.Holders.{each-of, each-one, each-both, HaveSameFile, HaveSameFiles}
+use Rattle.run_told.proofs.Holders.{HaveSameRest}
 
 -- ---- validity by the card's own sizes
 
@@ -51,26 +51,25 @@ pub own-number-still : (app : Application) (x n : List ℕ) → own_sizes x ≡ 
 own-number-still app x n is is_then same = number-own app n is_then ∙ same ∙ sym (number-own app x is)
 
 -- and its holder
-pub own-holder-still : (app : Application) (x n : List ℕ) → own_sizes x ≡ app → own_sizes n ≡ app → card_number app n ≡ card_number app x → HaveSameFiles app x n → HasSameHolder x n
-own-holder-still app x n is is_then same same_files = record {
+pub own-holder-still : (app : Application) (x n : List ℕ) → own_sizes x ≡ app → own_sizes n ≡ app → card_number app n ≡ card_number app x → HaveSameRest app x n → HasSameHolder x n
+own-holder-still app x n is is_then same alike = record {
   number = own-number-still app x n is is_then same;
-  identification = own 0x0520 same_files.1.1.1.1.1.1.0;
-  files = each-of (λ (fid : ℕ). HaveSameFile app fid x n) (λ (fid : ℕ). file_bytes (own_sizes n) fid n ≡ file_bytes (own_sizes x) fid x) own untouched_files same_files;
+  identification = ap (λ (a : Application). file_bytes a 0x0520 n) is_then ∙ alike.identification ∙ sym (ap (λ (a : Application). file_bytes a 0x0520 x) is);
+  sizes = is_then ∙ sym is;
+  rest = subst (λ (a : Application). HasSameRest a x n) (sym is) alike.rest;
 }
-  where
-    own : (fid : ℕ) → HaveSameFile app fid x n → file_bytes (own_sizes n) fid n ≡ file_bytes (own_sizes x) fid x
-    own fid same_file = ap (λ (a : Application). file_bytes a fid n) is_then ∙ same_file ∙ sym (ap (λ (a : Application). file_bytes a fid x) is)
 
 pub same-holder : (start : List ℕ) → HasSameHolder start start
-same-holder start = record { number = refl; identification = refl; files = each-one (λ (fid : ℕ). file_bytes (own_sizes start) fid start ≡ file_bytes (own_sizes start) fid start) (λ fid. refl) untouched_files }
+same-holder start = record { number = refl; identification = refl; sizes = refl; rest = record { front = refl; faults = refl; behind = λ n. refl } }
 
 pub then-holder : (start x n : List ℕ) → HasSameHolder start x → HasSameHolder x n → HasSameHolder start n
-then-holder start x n first next = record {
-  number = next.number ∙ first.number;
-  identification = next.identification ∙ first.identification;
-  files = each-both (λ (fid : ℕ). file_bytes (own_sizes x) fid x ≡ file_bytes (own_sizes start) fid start) (λ (fid : ℕ). file_bytes (own_sizes n) fid n ≡ file_bytes (own_sizes x) fid x)
-      (λ (fid : ℕ). file_bytes (own_sizes n) fid n ≡ file_bytes (own_sizes start) fid start) (λ fid was now. now ∙ was) untouched_files first.files next.files;
-}
+then-holder start x n first next =
+    let again : HasSameRest (own_sizes start) x n = subst (λ (a : Application). HasSameRest a x n) first.sizes next.rest in record {
+      number = next.number ∙ first.number;
+      identification = next.identification ∙ first.identification;
+      sizes = next.sizes ∙ first.sizes;
+      rest = record { front = again.front ∙ first.rest.front; faults = again.faults ∙ first.rest.faults; behind = λ m. again.behind m ∙ first.rest.behind m };
+    }
 
 pub valid-or : (x : List ℕ) → IsOwnValid x ⊎ (IsOwnValid x → ⊥)
 valid-or x = by (own_bad_file x) refl
