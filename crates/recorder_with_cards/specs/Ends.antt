@@ -23,6 +23,7 @@ use Rattle.recorder_with_cards.specs.Written.{AreWritten}
 use Rattle.recorder_with_cards.specs.Stays.{HasAllStays}
 use Rattle.recorder_with_cards.specs.Still.{StayDense, KeepTheirHolders}
 use Rattle.recorder_with_cards.specs.KeptAfter.{TellsKept}
+use Rattle.recorder_with_cards.specs.Placed.{ShowTheirPlaces}
 
 -- each device began with this image alone, and those of the cards are bytes
 pub record BeginAs (unit card_a card_b : List ℕ) (began : Devices) : Type 0 where
@@ -64,7 +65,7 @@ pub record MayRecord (unit card_a card_b : List ℕ) (start : ℕ) : Type 0 wher
 -- shows its auxiliary records, events and faults, insertions with their withdrawals, places, and the odometer, and every image of a card that was
 -- valid has been written so; and where no call failed each of these shows exactly what its stays in the slots make of it. What was found kept
 -- after its cuts was so. Rings that were dense stay dense, and each valid card stays its
--- holder's, and keeps all that no call writes.
+-- holder's, keeps all that no call writes, and shows the places that were entered by it.
 pub record EndsTrace (unit card_a card_b : List ℕ) (start : ℕ) (items : List Item) (out : Outcome) (began now : Devices) : Type 0 where
   pub may : MayBegin (recording_of unit card_a card_b start items out)
   pub ends : EndsRun (recording_of unit card_a card_b start items out) out.marks.items began now
@@ -74,6 +75,7 @@ pub record EndsTrace (unit card_a card_b : List ℕ) (start : ℕ) (items : List
   pub kept : TellsKept (recording_of unit card_a card_b start items out) began.unit.clock now.unit
   pub dense : StayDense (recording_of unit card_a card_b start items out) now
   pub holders : KeepTheirHolders (recording_of unit card_a card_b start items out) began now
+  pub places : ShowTheirPlaces (recording_of unit card_a card_b start items out) now
 
 -- OR IT WAS KEPT FROM BEING RECORDED: by these images, or a call that has failed in the opening; each device is as it was.
 pub record IsKeptFrom (unit card_a card_b : List ℕ) (start : ℕ) (began now : Devices) (fault : RunFault) : Type 0 where

@@ -69,4 +69,5 @@ module _ (x a b : List ℕ) (start : ℕ) (items : List Item) (out : Outcome) (p
     kept = subst (λ (n : ℕ). TellsKept r n now.unit) unit h.kept;
     dense = h.dense;
     holders = λ c. subst (λ (n : ℕ). KeepsHolder r c n (card_of now c)) (cards c) (h.holders c);
+    places = h.places;
   }
