@@ -28,7 +28,7 @@ use Rattle.card_session.specs.Moments.{IsBook, IsCloseMoment}
 use Rattle.card_session.specs.Inserting.{repaired, IsRepairMoment, During, IsStill, IsRepaired, IsRepairing, IsNoted, IsNoting, IsShut, IsShutting, IsEnded, IsEnding, IsOpening, IsCardInserting, timed, registered}
 use Rattle.card_session.proofs.Ends.{inserted_moment}
 use Rattle.card_session.proofs.InsertingUse.{use_inside}
-use Rattle.joint_rule.specs.Views.{other}
+use Rattle.device_steps.specs.Entering.{owed_on}
 use Rattle.log_model.specs.Log.{In}
 use Rattle.log_model.specs.Course.{Visit}
 use Rattle.safety_model.specs.Recording.{card_image}
@@ -181,10 +181,10 @@ module _ (app : Application) where
   module _ (registration : Registration) (e : Entering) (unit : List ℕ) where
     coming : (notes : List CardNote) (x c : List ℕ) → Room x → AreBeingDone (IsOnCard app registration e unit) (IsComingOnCard app registration e unit) notes x c → Same x c
     coming [] x c room h = absurd h
-    coming (PutIn ∷ notes) x c room (inl moment) = (inserting-stays registration e.odometer.0 e.at.second _ x c room moment).1
+    coming (PutIn ∷ notes) x c room (inl moment) = (inserting-stays registration e.odometer.0 e.at.second (owed_on app unit x) x c room moment).1
     coming (Shows event ∷ notes) x c room (inl moment) = file-ring app x c (event-places app x c event moment)
     coming (PutIn ∷ notes) x c room (inr (z, done, rest)) =
-        let first = inserting-stays registration e.odometer.0 e.at.second _ x z room (inserted_moment app registration e.odometer.0 e.at.second _ x z done) in
+        let first = inserting-stays registration e.odometer.0 e.at.second (owed_on app unit x) x z room (inserted_moment app registration e.odometer.0 e.at.second (owed_on app unit x) x z done) in
         coming notes z c first.0 rest ∙ first.1
     coming (Shows event ∷ notes) x c room (inr (z, done, rest)) =
         let same = done.entry.outside.same_length in
