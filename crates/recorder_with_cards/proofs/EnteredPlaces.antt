@@ -1,5 +1,5 @@
 -- A card is judged: the places of each card stay as they are, whatever becomes of it.
-use Rattle.std.proofs.Common.{◌≡◌, ◌∙◌, ◌⊎◌, inl, inr, ⊎_elim, ℕ, ◌+◌, ◌<◌, ◌≤◌, Bool, Option, Some, None, List, [], ◌∷◌, ◌++◌, length, take, drop, refl, sym, ap, subst, arith}
+use Rattle.std.proofs.Common.{◌≡◌, ◌∙◌, ◌⊎◌, inl, inr, ⊎_elim, ℕ, ◌+◌, ◌≤◌, Bool, Option, None, List, [], ◌∷◌, ◌++◌, length, take, drop, refl, sym, ap, subst, arith}
 use Rattle.std.proofs.lemmas.List.{take-take, drop-take, take_at, length-take-le, length-append}
 use Rattle.byte_fields.proofs.Images.{part_before}
 use Rattle.activity_codec.specs.declared.values.Activity.TheVariants.{Rest}
@@ -13,11 +13,10 @@ use Rattle.minute_rules.specs.Kept.{Kept}
 use Rattle.card_layout.specs.declared.files.Application.{Application}
 use Rattle.card_layout.specs.declared.files.TheConstants.{LARGEST_IMAGE}
 use Rattle.card_layout.specs.Application.{IsApplication}
-use Rattle.card_layout.specs.Files.{files_of, place_of, size_of}
+use Rattle.card_layout.specs.Files.{files_of, place_of}
 use Rattle.card_layout.proofs.Sizes.{largest_image}
 use Rattle.gated_ring.specs.Ring.{size_of as ring_size}
 use Rattle.card_records.specs.declared.vehicle.Vehicle.{Vehicle}
-use Rattle.card_records.specs.Noting.{IsNotingEvent, IsEventNoted}
 use Rattle.card_records.specs.Rings.{file, place_ring}
 use Rattle.card_model.specs.Days.{Day}
 use Rattle.card_image.specs.Own.{own_sizes, IsOwnValid}
@@ -32,13 +31,12 @@ use Rattle.device_steps.specs.Entering.{owed_on}
 use Rattle.log_model.specs.Log.{In}
 use Rattle.log_model.specs.Course.{Visit}
 use Rattle.safety_model.specs.Recording.{card_image}
-use Rattle.safety_model.specs.Safe.{Devices, card_of}
 use Rattle.run_rule.specs.Found.{Found, found_of}
 use Rattle.run_told.specs.Told.{arranged}
 use Rattle.run_told.proofs.Holders.{event-places, noted-places, card-places}
 use Rattle.run_outcome.specs.declared.outcome.Outcome.{Outcome}
 use Rattle.run_recorded.specs.Origin.{Origin}
-use Rattle.run_ringed.specs.OnCards.{places_in, HasSamePlaces, LeavesPlaces, PlacesStay}
+use Rattle.run_ringed.specs.OnCards.{HasSamePlaces, LeavesPlaces, PlacesStay}
 use Rattle.run_keeping.specs.declared.keeper.Keeper.{Keeper}
 use Rattle.run_entering.specs.declared.lines.Entering.{Entering}
 use Rattle.run_entering.specs.Entering.{Way, Unread, Unsized, Judged}
