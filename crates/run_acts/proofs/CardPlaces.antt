@@ -244,7 +244,7 @@ pub place-taken : (o : Origin) (log : RunLog) (p : PlaceNote) (entry : PlaceEntr
     → PlaceIsTaken o log p (place_bytes entry) d e
 place-taken o log p entry fell failed d e told_fell told_failed call others c valid = ⊎_elim
     (λ same. inr (same, subst (Taken o log p entry d e) (alike p.card c same) (λ v y left. by (call v y left)) valid))
-    (λ no. inl (no, λ y left. (y, others c no y left, refl)))
+    (λ apart_. inl (apart_, λ y left. (y, others c apart_ y left, refl)))
     (this-or p.card c)
   where
     alike : (x y : Card) → same_card x y ≡ true → x ≡ y

@@ -225,7 +225,7 @@ module _ (o : Origin) (done : List TraceSecond) (s : TraceSecond) (front rest : 
     ringed = subst (λ (b : ℕ). RingedIn o done s w.within.b.run.log (front ++ a ∷ []) later spans b t (seats_of new) e) (sym same)
         (place-entered d e o done s w.within.b.run.log (log_of before) later front spans run.keeper.odometer t (seats_of run) (seats_of new) rings.ringed
         (goes-to o done s front rest a are v d w.within lines later is tears) slot ending country region x (sits-then o done s front rest a are v d w.within lines later is tears slot x sitting.1) refl
-        (unit_place_bytes number entry) writes long (stands-for later) left (place_bytes entry) (entry-wide entry) stands-on (takes later (λ h. h) (λ no. absurd (let wrong : false ≡ true = no in cc))) fewer);
+        (unit_place_bytes number entry) writes long (stands-for later) left (place_bytes entry) (entry-wide entry) stands-on (takes later (λ h. h) (λ apart_. absurd (let wrong : false ≡ true = apart_ in cc))) fewer);
   }
   place-ringed true new fewer same noted writes takes = record {
     counted = counted-on new noted;
@@ -265,6 +265,6 @@ place-goes slot entry at failed old new breaks after d e card number fell seat n
     sized (Some a) is has sizes = subst (λ (p : Application). PlaceCall fell failed p entry (card_of d card) (card_of e card)) (sizes a is) (call a is)
 
     torn-told : (fell : Bool) (slot : Slot) (at : Moment) (u : ℕ) (log : RunLog) → at.second ≡ u → fell ≡ true → (later : RunLog) → later ≡ record log { breaks = log.breaks ++ noted_breaks fell slot at } → has_call_failed_in later u ≡ true
-    torn-told false slot at u log is no later are = absurd (let wrong : false ≡ true = no in cc)
+    torn-told false slot at u log is apart_ later are = absurd (let wrong : false ≡ true = apart_ in cc)
     torn-told true slot at u log is torn later are =
         subst (λ (l : RunLog). has_call_failed_in l u ≡ true) (sym are) (subst (λ (n : ℕ). has_call_failed_in (record log { breaks = log.breaks ++ noted_breaks true slot at }) n ≡ true) is (tear-failed log slot at))

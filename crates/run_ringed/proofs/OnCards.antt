@@ -163,10 +163,10 @@ module _ (o : Origin) (log : RunLog) (spans : List SpanFrom) (notes : List Note)
   are-more c = ap (places_on c) (places-more notes (Enters p)) ∙ filter-append (λ (q : PlaceNote). same_card q.card c) (places_of notes) (p ∷ [])
 
   other-card : (c : Card) → HasPlaces (image c) → (y : List ℕ) → (card_of e c).may_leave y → same_card p.card c ≡ false → LeavesPlaces (image c) (card_of d c) (card_of e c) → Shows c (front c ++ places_on c (p ∷ [])) y
-  other-card c has y left no leaves =
+  other-card c has y left apart_ leaves =
       let w = leaves y left in
       let was = v c has w.0 w.1 in
-      let none : front c ++ places_on c (p ∷ []) ≡ front c = ap (λ (b : Bool). front c ++ cond b (p ∷ []) []) no ∙ append-nil (front c) in
+      let none : front c ++ places_on c (p ∷ []) ≡ front c = ap (λ (b : Bool). front c ++ cond b (p ∷ []) []) apart_ ∙ append-nil (front c) in
       subst (λ (l : List PlaceNote). Shows c l y) (sym none) (record { more = was.more; carries = carries-same (places_in (image c)) (image c) w.0 was.more was.carries has.shape y w.2; stand = was.stand })
 
   by-image : (c : Card) (x y : List ℕ) → Shows c (front c) x → TakesPlace log p own (image c) x y → Shows c (front c ++ p ∷ []) y
@@ -188,4 +188,4 @@ module _ (o : Origin) (log : RunLog) (spans : List SpanFrom) (notes : List Note)
   pub places-taken : PlacesOnCards o log spans (notes ++ Enters p ∷ []) e
   places-taken c has y left =
       subst (λ (l : List PlaceNote). Shows c l y) (sym (are-more c))
-      (⊎_elim (λ no. other-card c has y left no.0 no.1) (λ same. own-card c has y left same.0 same.1) (taken_ c has.valid))
+      (⊎_elim (λ apart_. other-card c has y left apart_.0 apart_.1) (λ same. own-card c has y left same.0 same.1) (taken_ c has.valid))

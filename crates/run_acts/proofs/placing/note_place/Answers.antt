@@ -633,7 +633,7 @@ returns-in-A-clause-ringed g c =
     })
     (λ a at_. call-of e.noted.0 (is_err c.note_place_in.result) A run c.note_place_in.new.run c.args.slot c.args.at c.args.breaks.now c.note_place_in.new.breaks a c.args.entry.now A0 Y e.noted.1 at_ e.on_card e.places)
     (λ k apart. both-cards (λ k. same_card A k ≡ false → (y : List ℕ) → (card_of (devices W Y B0) k).may_leave y → (card_of (devices U A0 B0) k).may_leave y)
-    (λ (is : true ≡ false). absurd (let wrong : true ≡ false = is in cc)) (λ no y left. left) k apart)
+    (λ (is : true ≡ false). absurd (let wrong : true ≡ false = is in cc)) (λ apart_ y left. left) k apart)
 
 pub returns-in-B-clause-ringed : goal.returns-in-B-clause-ringed
 returns-in-B-clause-ringed g c =
@@ -660,7 +660,7 @@ returns-in-B-clause-ringed g c =
     })
     (λ a at_. call-of e.noted.0 (is_err c.note_place_in-in-B.result) B run c.note_place_in-in-B.new.run c.args.slot c.args.at c.args.breaks.now c.note_place_in-in-B.new.breaks a c.args.entry.now B0 Y e.noted.1 at_ e.on_card e.places)
     (λ k apart. both-cards (λ k. same_card B k ≡ false → (y : List ℕ) → (card_of (devices W A0 Y) k).may_leave y → (card_of (devices U A0 B0) k).may_leave y)
-    (λ no y left. left) (λ (is : true ≡ false). absurd (let wrong : true ≡ false = is in cc)) k apart)
+    (λ apart_ y left. left) (λ (is : true ≡ false). absurd (let wrong : true ≡ false = is in cc)) k apart)
 
 -- ---- the events that the cards show
 
