@@ -42,6 +42,7 @@ use Rattle.run_ringed.specs.Ringed.{Seating}
 use Rattle.run_ringed.specs.SoFar.{RingedBehind, RingedIn}
 use Rattle.run_ringed.specs.Steps.{GoesOnTo, nobody, spans_cut}
 use Rattle.run_ringed.specs.Stored.{StoresOn, StoresOff}
+use Rattle.run_ringed.proofs.OnCards.{places-itself}
 use Rattle.run_ringed.proofs.SoFar.{left-itself}
 use Rattle.run_ringed.proofs.Steps.{passes}
 use Rattle.run_acts.specs.declared.run.Run.{Run}
@@ -116,7 +117,7 @@ passes-by : (d : Devices) (o : Origin) (done : List TraceSecond) (s : TraceSecon
     GoesOnTo log later s front → NotesMore later (went began done).before s front a [] → new.keeper.odometer ≡ run.keeper.odometer → ((c : Card) → (seats_of new c ≡ seats_of run c) ⊎ (seats_of new c ≡ None)) →
     new.noted ≡ run.noted → later.finds ≡ log.finds → RingsWithin o done s began (front ++ a ∷ []) new later spans t d
 passes-by d o done s began log later front a spans t run new rings goes none same fewer noted finds =
-    let on = passes d d o done s began log later front a spans run.keeper.odometer t (seats_of run) (seats_of new) rings.ringed goes none (rings-left d.unit) (left-itself o d) fewer in
+    let on = passes d d o done s began log later front a spans run.keeper.odometer t (seats_of run) (seats_of new) rings.ringed goes none (rings-left d.unit) (left-itself o d) (places-itself o d) fewer in
     record {
       base = subst (λ (n : ℕ). IsLastFrom n (with_second spans n t)) (sym same) rings.base;
       counted = let was = rings.counted in let many = ap (λ (fs : List Find). length fs) finds in omega (arith, was, noted, many);

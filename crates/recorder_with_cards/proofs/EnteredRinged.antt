@@ -11,6 +11,7 @@ use Rattle.tacho_types.specs.declared.card_number.FullCardNumber.{FullCardNumber
 use Rattle.tacho_types.specs.declared.texts.Registration.{Registration}
 use Rattle.minute_rules.specs.Kept.{Kept}
 use Rattle.card_layout.specs.declared.files.Application.{Application}
+use Rattle.card_layout.specs.declared.files.TheConstants.{LARGEST_IMAGE}
 use Rattle.card_image.specs.Own.{own_sizes, IsOwnValid}
 use Rattle.card_judge.specs.declared.looking.CardLook.{CardLook}
 use Rattle.card_judge.specs.Judged.{IsLook}
@@ -41,6 +42,7 @@ use Rattle.run_outcome.specs.declared.outcome.Outcome.{Outcome}
 use Rattle.run_recorded.specs.Origin.{Origin}
 use Rattle.run_recorded.specs.Beside.{HaveLeftMore}
 use Rattle.run_ringed.specs.Ringed.{Seating, one_behind}
+use Rattle.run_ringed.specs.OnCards.{PlacesStay}
 use Rattle.run_ringed.specs.SoFar.{AreFewer}
 use Rattle.run_keeping.specs.declared.keeper.Keeper.{Keeper}
 use Rattle.run_keeping.specs.declared.keeper.Moment.{Moment as KeepingAt}
@@ -59,6 +61,7 @@ use Rattle.recorder_with_cards.specs.JudgedRings.{IsInsertionNow, AreSeatedWith,
 use Rattle.recorder_with_cards.proofs.EnteredAdds.{log_with}
 use Rattle.recorder_with_cards.proofs.EnteredHolder.{insertion-now}
 use Rattle.recorder_with_cards.proofs.EnteredLines.{TellsOf, verdicts_of, ending-tells, ending-here, tells-same}
+use Rattle.recorder_with_cards.proofs.EnteredPlaces.{judged-places}
 use Rattle.recorder_with_cards.proofs.EnteredRings.{accept-writes}
 
 -- ---- where the insertions of the accepted cards stand
@@ -195,11 +198,12 @@ pub record IsRinged (o : Origin) (s : TraceSecond) (n : ℕ) (e : Entering) (spa
   pub cut : cut_in (log_of out') s.number ≡ cut_in (log_of out) s.number
   pub same : (x : ℕ) → n ≡ suc x → TellSameTo (log_of out) (log_of out') s.number x
   pub left : HaveLeftMore o d later
+  pub places : PlacesStay o d later
   pub counted : noted' ≤ length (log_of out').finds
 
 module _ (o : Origin) (done : List TraceSecond) (s : TraceSecond) (n : ℕ) (waits fewer : List Visit) (e : Entering) (k : Keeper) (out : Outcome) (unfound next_ begun : ℕ) (minutes : Kept) (U X Z : State) (w : Within o done s (In n) waits None [] (values_with k out unfound next_ begun minutes) (arranged e.which U X Z)) (m : MayJudge o done s n waits fewer e k out unfound next_ begun minutes U X Z w)
     (origin : IsOrigin o) (small : s.number < 2 ^ 32) (few : e.odometer.0 < 2 ^ 24) (spans : List SpanFrom) (odometer : e.odometer.0 ≡ odometer_at s.number spans) (noted : ℕ) (counted : noted ≤ length (log_of out).finds) (others : (c : Card) → IfSome (session_of k.cabin.cards c) (λ b. b.noted ≤ noted))
-    (failed : Bool) (k' : Keeper) (noted' : ℕ) (out' : Outcome) (W Y : State) (way : Way) (g : HasGone e failed k k' noted noted' out out' U W X Y Z way) (sound : AreSound U W X Y) (told_few : length (log_of out').finds < 2 ^ 64) where
+    (failed : Bool) (k' : Keeper) (noted' : ℕ) (out' : Outcome) (W Y : State) (way : Way) (g : HasGone e failed k k' noted noted' out out' U W X Y Z way) (sound : AreSound U W X Y) (told_few : length (log_of out').finds < 2 ^ 64) (sized : LARGEST_IMAGE ≤ X.size) where
   second : e.at.second ≡ s.number
   second = now-is o done s n waits fewer e k out unfound next_ begun minutes U X Z w m
 
@@ -300,4 +304,4 @@ module _ (o : Origin) (done : List TraceSecond) (s : TraceSecond) (n : ℕ) (wai
 
   -- all of it
   pub judged-ringed : IsRinged o s n e spans noted noted' k k' out out' failed (arranged e.which U X Z) (arranged e.which W Y Z)
-  judged-ringed = record { rings = judged-rings; others = others-found; here = tells-here; cut = tells.cut; same = same-before; left = more; counted = counted-then }
+  judged-ringed = record { rings = judged-rings; others = others-found; here = tells-here; cut = tells.cut; same = same-before; left = more; places = judged-places o done s n waits fewer e k out unfound next_ begun minutes U X Z w m origin failed k' noted noted' out' W Y way g sound sized; counted = counted-then }

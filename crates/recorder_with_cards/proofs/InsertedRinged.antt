@@ -27,6 +27,7 @@ use Rattle.run_rings.specs.Notes.{TellSameTo, NotesMore, accepts_by, course_behi
 use Rattle.run_rings.specs.Spans.{with_second}
 use Rattle.run_rings.proofs.Actions.{insertions}
 use Rattle.run_ringed.specs.Ringed.{StaysInRings}
+use Rattle.run_ringed.specs.OnCards.{PlacesStay}
 use Rattle.run_ringed.specs.SoFar.{RingedBehind, RingedIn, AreFewer, HasMoreBreaks}
 use Rattle.run_ringed.specs.Steps.{GoesOnTo, IsCutIn, nobody, spans_cut}
 use Rattle.run_ringed.proofs.SoFar.{go-on-in}
@@ -47,7 +48,7 @@ none-noted u slot card vs none = ap (λ (l : List Verdict). map (λ (v : Verdict
 module _ (o : Origin) (done : List TraceSecond) (s : TraceSecond) (front rest : List Action) (slot : Slot) (card : Card) (are : s.actions ≡ front ++ Insert slot card ∷ rest) (old : Run) (before : Outcome) (d : Devices) (w : RunWithin o done s (In (length front)) [] [] old before d)
     (spans : List SpanFrom) (t : Told) (rings : RingsWithin o done s w.within.b.run.log front old (log_of before) spans t d) (allowed : refusal (course_in w.within.b done s (In (length front)) (log_of before)).slots s.speed (Insert slot card) ≡ None)
     (mid : Run) (told : Outcome) (e : Devices) (lines : List Break) (log_is : log_of told ≡ record (log_of before) { breaks = before.breaks.items ++ lines }) (tears : AreTears (record { second = s.number; begun = suc (length front); late = false }) lines)
-    (leaves : StaysInRings d e) (left : HaveLeftMore o d e) (fewer : AreFewer (seats_of old) (seats_of mid)) (same_odometer : mid.keeper.odometer ≡ old.keeper.odometer) (same_noted : mid.noted ≡ old.noted) where
+    (leaves : StaysInRings d e) (left : HaveLeftMore o d e) (places : PlacesStay o d e) (fewer : AreFewer (seats_of old) (seats_of mid)) (same_odometer : mid.keeper.odometer ≡ old.keeper.odometer) (same_noted : mid.noted ≡ old.noted) where
   abbrev a : Action
   a = Insert slot card
 
@@ -96,7 +97,7 @@ module _ (o : Origin) (done : List TraceSecond) (s : TraceSecond) (front rest : 
 
   -- the rings as the card is to be judged
   settled-in : RingedIn o done s w.within.b.run.log front (log_of told) spans old.keeper.odometer t (seats_of mid) e
-  settled-in = go-on-in d e o done s w.within.b.run.log front (log_of before) (log_of told) spans old.keeper.odometer t (seats_of old) (seats_of mid) rings.ringed more-told same-told leaves left fewer
+  settled-in = go-on-in d e o done s w.within.b.run.log front (log_of before) (log_of told) spans old.keeper.odometer t (seats_of old) (seats_of mid) rings.ringed more-told same-told leaves left places fewer
 
   -- and so it is as the card is judged
   pub odometer-mid : (waits : List Visit) (x : RunWithin o done s (In (suc (length front))) waits [] mid told e) → x.within.b ≡ w.within.b → odometer_by mid.keeper.odometer (travelled_of x.within.sp) ≡ odometer_at s.number (with_second spans old.keeper.odometer t)
@@ -143,7 +144,7 @@ module _ (o : Origin) (done : List TraceSecond) (s : TraceSecond) (front rest : 
             (action-cut d e o done s w.within.b.run.log (log_of before) cut front (Insert slot card) rest spans old.keeper.odometer t (seats_of old) rings.ringed told-cut
             (notes-none cut told-cut.goes.begun
             (ap (λ c. refusal c.slots s.speed (Insert slot card)) (course-cut (log_of before) (log_of told) s front rest (Insert slot card) are uncut more-told same-told uncut-told was) ∙ allowed)
-            (ap (filter is_accepting) (cut-found_ (log_of told) uncut-told) ∙ ap (filter is_accepting) none-told)) leaves left);
+            (ap (filter is_accepting) (cut-found_ (log_of told) uncut-told) ∙ ap (filter is_accepting) none-told)) leaves left places);
       }
     where
       cut-found_ : (later : RunLog) → cut_in later s.number ≡ None → found_in (with_cut later s (front ++ Insert slot card ∷ [])) s.number (In (suc (length front))) slot ≡ found_in later s.number (In (suc (length front))) slot
@@ -197,9 +198,9 @@ module _ (o : Origin) (done : List TraceSecond) (s : TraceSecond) (front rest : 
       base = subst (λ (b : ℕ). IsLastFrom b (with_second spans b t)) (sym (j.odometer ∙ same_odometer)) rings.base;
       counted = j.counted;
       ringed = subst (λ (b : ℕ). RingedIn o done s w.within.b.run.log (front ++ Insert slot card ∷ []) (log_of after) spans b t (seats_of new) f) (sym (j.odometer ∙ same_odometer)) (⊎_elim
-          (λ p. passes e f o done s w.within.b.run.log (log_of told) (log_of after) front (Insert slot card) spans old.keeper.odometer t (seats_of mid) (seats_of new) settled-in goes (notes-none (log_of after) goes.begun fine-after p.none) p.stays j.left p.fewer_sit)
+          (λ p. passes e f o done s w.within.b.run.log (log_of told) (log_of after) front (Insert slot card) spans old.keeper.odometer t (seats_of mid) (seats_of new) settled-in goes (notes-none (log_of after) goes.begun fine-after p.none) p.stays j.left j.places p.fewer_sit)
           (λ i. card-accepted e f o done s w.within.b.run.log (log_of told) (log_of after) front spans old.keeper.odometer t (seats_of mid) i.now (seats_of new) settled-in goes slot card fine-after i.verdict
-          (ap (λ (k : ℕ). found_in (log_of after) s.number (In k) slot) longer ∙ i.found) i.accepting i.head i.index i.writes i.inserts.long (i.inserts.is (log_of after)) i.seated j.left i.fewer_sit)
+          (ap (λ (k : ℕ). found_in (log_of after) s.number (In k) slot) longer ∙ i.found) i.accepting i.head i.index i.writes i.inserts.long (i.inserts.is (log_of after)) i.seated j.left j.places i.fewer_sit)
           h);
     }
     by true h =
@@ -210,9 +211,9 @@ module _ (o : Origin) (done : List TraceSecond) (s : TraceSecond) (front rest : 
           behind = cuts.behind;
           odometer = j.odometer ∙ same_odometer ∙ w.odometer;
           ringed = subst (λ (b : ℕ). RingedBehind o (done ++ s ∷ []) cut (suc s.number) (spans_cut spans b cut done s) nobody f) (sym (j.odometer ∙ same_odometer)) (⊎_elim
-              (λ p. action-cut e f o done s w.within.b.run.log (log_of told) cut front (Insert slot card) rest spans old.keeper.odometer t (seats_of mid) settled-in cuts (notes-none cut cuts.goes.begun fine-cut (ap (filter is_accepting) found-cut ∙ p.0)) p.1 j.left)
+              (λ p. action-cut e f o done s w.within.b.run.log (log_of told) cut front (Insert slot card) rest spans old.keeper.odometer t (seats_of mid) settled-in cuts (notes-none cut cuts.goes.begun fine-cut (ap (filter is_accepting) found-cut ∙ p.0)) p.1 j.left j.places)
               (λ i. acceptance-is-cut e f o done s w.within.b.run.log (log_of told) cut front rest spans old.keeper.odometer t (seats_of mid) settled-in slot card cuts fine-cut i.verdict
-              (ap (λ (k : ℕ). found_in cut s.number (In k) slot) longer ∙ found-cut ∙ i.found) i.accepting i.head i.writes i.inserts.long (i.inserts.is cut) j.left)
+              (ap (λ (k : ℕ). found_in cut s.number (In k) slot) longer ∙ found-cut ∙ i.found) i.accepting i.head i.writes i.inserts.long (i.inserts.is cut) j.left j.places)
               h);
         }
 

@@ -7,6 +7,7 @@ pub mod EnteredEvented
 pub mod EnteredHolder
 pub mod EnteredLines
 pub mod EnteredRinged
+pub mod EnteredPlaces
 pub mod RingsHere
 pub mod InsertedRinged
 pub mod Spanned

@@ -40,6 +40,7 @@ use Rattle.run_recorded.specs.Origin.{Origin}
 use Rattle.run_ringed.specs.Ringed.{Seating, Ringed, notes_in, noted_next}
 use Rattle.run_ringed.specs.SoFar.{AreEarlier, RingedBehind, AreFewer}
 use Rattle.run_ringed.proofs.Noted.{second-notes}
+use Rattle.run_ringed.proofs.OnCards.{call-failed-more, places-itself}
 use Rattle.run_ringed.proofs.Rings.{fewer-sit, rings-stay}
 use Rattle.run_ringed.proofs.SoFar.{failed-more, goes-alike, left-itself}
 
@@ -173,8 +174,8 @@ module _ (rule : Rule) (start : Start) (from first : ℕ) (p : Progress) (t : To
     off-behind =
         let done : List TraceSecond = front ++ r ∷ [] in
         let ringed : Ringed o later (cut_off spans) (notes_in p.log done) seats d =
-        rings-stay d d o p.log later spans (cut_off spans) (notes_in p.log done) seats v.ringed (rings-left d.unit) (left-itself o d)
-        (goes-alike p.log later spans (cut_off spans) (notes_in p.log done) (failed-more p.log later (cut ∷ [], refl)) (cut-odometer spans)) in
+        rings-stay d d o p.log later spans (cut_off spans) (notes_in p.log done) seats v.ringed (rings-left d.unit) (left-itself o d) (places-itself o d)
+        (goes-alike p.log later spans (cut_off spans) (notes_in p.log done) (failed-more p.log later (cut ∷ [], refl)) (call-failed-more p.log later (cut ∷ [], refl)) (cut-odometer spans)) in
         record {
           spans_are = cut-are spans ∙ ap cut_spans (v.spans_are ∙ f.spans) ∙ cut-spans-last f.ended (t ∷ span) ∙ sym (spans-cut rule start from first done p t span f);
           before = cut-before p.next spans v.before;

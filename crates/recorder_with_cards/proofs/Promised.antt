@@ -9,7 +9,10 @@ use Rattle.card_layout.specs.Application.{IsApplication}
 use Rattle.card_layout.proofs.Sizes.{largest_image}
 use Rattle.card_model.specs.Days.{AreDays}
 use Rattle.card_image.specs.Fields.{card_days}
-use Rattle.card_image.specs.Own.{own_view, own_sizes, own_number, IsOwnValid}
+use Rattle.card_image.specs.Own.{own_view, own_sizes, own_number, own_bad_file, IsOwnValid}
+use Rattle.card_judge.proofs.Copies.{place_shape}
+use Rattle.gated_ring.specs.Ring.{PointsInside, IsDense}
+use Rattle.device_steps.proofs.Passed.{valid-passes, pointer-passes}
 use Rattle.card_times.specs.Times.{IsTimed}
 use Rattle.chip_model.specs.declared.command.CardState.{CardState}
 use Rattle.tacho_types.specs.declared.card_number.FullCardNumber.{FullCardNumber}
@@ -57,11 +60,12 @@ use Rattle.run_recorded.proofs.Ends.{ends-run}
 use Rattle.event_model.specs.Events.{Seen, seen_of}
 use Rattle.run_evented.specs.Evented.{limit_in, images_in, Evented}
 use Rattle.run_evented.proofs.Ends.{nothing-noted, events-shown}
+use Rattle.run_ringed.specs.OnCards.{places_in, HasPlaces}
 use Rattle.run_ringed.specs.Ringed.{Seating, Ringed, notes_in}
 use Rattle.run_ringed.specs.SoFar.{AreEarlier, RingedBehind}
 use Rattle.run_ringed.specs.Stored.{StoresOff, Stores}
 use Rattle.run_ringed.proofs.Rings.{none-noted, fewer-sit}
-use Rattle.run_ringed.proofs.Shown.{rings-shown}
+use Rattle.run_ringed.proofs.Shown.{rings-shown, places-shown}
 use Rattle.run_ringed.proofs.Bases.{stored-start}
 use Rattle.run_within.specs.Recorded.{Values, progress, carried, AreThere, IsHeldBy, Recorded}
 use Rattle.run_within.specs.Going.{MayStart}
@@ -93,6 +97,7 @@ use Rattle.recorder_with_cards.proofs.Waiting.{first-second}
 use Rattle.recorder_with_cards.specs.Sessions.{TellFirst}
 use Rattle.recorder_with_cards.proofs.SideShown.{insertions-inside, places-inside, side-shown}
 use Rattle.recorder_with_cards.proofs.Written.{are-written, keep-holders}
+use Rattle.recorder_with_cards.specs.Placed.{ShowsPlaces}
 use Rattle.recorder_with_cards.proofs.KeptAfter.{end-kept}
 use Rattle.run_acts.specs.Stays.{registration_in, AreMerged, open_ones, going_on, HasStays, ShowsStays}
 use Rattle.recorder_with_cards.specs.Stays.{one_more}
@@ -152,6 +157,11 @@ found-by r done log f began h = record { unit = h.unit; image = image; start = s
 
 -- ---- at the end
 
+-- the pointer of the places of a valid card is an index
+own-points : (x : List ℕ) → IsOwnValid x → PointsInside (places_in x) x
+unfolding own_bad_file
+own-points x valid = pointer-passes (places_in x) x (valid-passes (own_sizes x) x valid).places
+
 module _ (x a b : List ℕ) (start : ℕ) (items : List Item) (began now : Devices) where
   abbrev r0 : Recording
   r0 = opened_with x a b
@@ -202,6 +212,7 @@ module _ (x a b : List ℕ) (start : ℕ) (items : List Item) (began now : Devic
       places = λ dense y left. (h.ringed.ringed.places (record { points = places-inside x may.decodes; dense = dense }) y left).carries.dense;
     };
     holders = keep-holders o (seconds_of start items) h.evented.recorded.supply (values_of run out) began now h.evented.recorded.recorded (found-by r0 (seconds_of start items) (log_of out) (found_in r0 began) began found);
+    places = record { spans = h.spans; are_spans = record { spans_are = h.ringed.spans_are; bases = stores.0 }; shows = shows-places };
     sessions = shows;
     cards = λ c valid.
         let one = carded.cards c (subst IsOwnValid (images c) valid) in
@@ -244,6 +255,16 @@ module _ (x a b : List ℕ) (start : ℕ) (items : List Item) (began now : Devic
           (events-shown began now o (seconds_of start items) (log_of out) run.unfound run.next h.evented.recorded.supply h.evented.evented r refl images refl refl clocks y left)
           h.spans (record { spans_are = h.ringed.spans_are; bases = stores.0 }) (stores.1 y left)
           (rings-shown began now o (log_of out) h.spans (notes_in (log_of out) (seconds_of start items)) (seats_of run) h.ringed.ringed r refl images refl refl clocks y left)
+
+      -- of a card, the pointer of its ring is an index where it was valid
+      shows-places : (c : Card) → IsOwnValid (card_image r c) → IsDense (places_in (card_image r c)) (card_image r c) → (y : List ℕ) → (card_of now c).may_leave y → ShowsPlaces r h.spans c y
+      shows-places c valid dense y left =
+          let good : IsApplication (own_sizes (card_image r c)) = subst (λ (i : List ℕ). IsApplication (own_sizes i)) (of_image c) (h.evented.recorded.recorded.found.sizes c (subst IsOwnValid (sym (of_image c)) valid)) in
+          let has : HasPlaces (card_image r c) = record { valid = valid; shape = place_shape (own_sizes (card_image r c)) good; ring = record { points = own-points (card_image r c) valid; dense = dense } } in
+          record {
+            shows = places-shown began now o (log_of out) h.spans (notes_in (log_of out) (seconds_of start items)) (seats_of run) h.ringed.ringed r images refl refl c has y left;
+            dense = (h.ringed.ringed.on_cards c (subst HasPlaces (images c) has) y left).carries.dense;
+          }
 
 -- ---- as the run begins
 
@@ -424,7 +445,7 @@ module _ (x a b : List ℕ) (start : ℕ) (began now : Devices) (opened : Opened
           spans_are = sym (no-spans log);
           before = tt;
           early = subst (AreEarlier n) (sym (no-notes log)) tt;
-          ringed = subst (λ (notes : List Note). Ringed first-o log [] notes seats now) (sym (no-notes log)) (fewer-sit now first-o log [] [] (λ c. None) seats (none-noted now first-o log [] only_unit) (λ c. inl (none c)));
+          ringed = subst (λ (notes : List Note). Ringed first-o log [] notes seats now) (sym (no-notes log)) (fewer-sit now first-o log [] [] (λ c. None) seats (none-noted now first-o log [] only_unit (λ c y left. only c y ((whole c).counts_now (found_of f c).began y (there.clocks c) left))) (λ c. inl (none c)));
         }
 
     -- and its cards show what they held

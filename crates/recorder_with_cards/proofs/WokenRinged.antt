@@ -6,6 +6,7 @@ use Rattle.std.specs.List.{AllByRecursion, list_any}
 use Rattle.activity_codec.specs.declared.values.Slot.{Slot}
 use Rattle.activity_codec.specs.declared.values.Slot.TheVariants.{Driver, CoDriver}
 use Rattle.trace_model.specs.declared.Card.{Card}
+use Rattle.trace_model.specs.declared.Card.TheVariants.{A, B}
 use Rattle.trace_model.specs.Trace.{TraceSecond}
 use Rattle.tach_media.specs.Medium.{State, IsCoherent, LeavesOnly, Unchanged}
 use Rattle.unit_journal.specs.declared.notes.Notes.{Notes}
@@ -46,14 +47,16 @@ use Rattle.run_recorded.specs.Beside.{HaveLeftMore}
 use Rattle.run_rings.specs.Spans.{with_second}
 use Rattle.run_rings.specs.Same.{HasSameRings, LeavesRings}
 use Rattle.run_rings.proofs.Same.{behind-same, rings-left, rings-moments}
+use Rattle.run_ringed.specs.OnCards.{PlacesStay}
 use Rattle.run_ringed.specs.Ringed.{Seating, StaysInRings, IsInsertionIn}
 use Rattle.run_ringed.specs.SoFar.{RingedBehind, IsSecond, RingedIn, AreFewer, HasMoreBreaks, GoesBehind}
 use Rattle.run_ringed.specs.Steps.{nobody, spans_cut}
 use Rattle.run_ringed.specs.Waking.{NoneFound, IsFoundAnew}
 use Rattle.run_ringed.specs.Stored.{StandsOn, StoresOn, StoresOff}
 use Rattle.run_ringed.proofs.Bases.{stored-first}
+use Rattle.run_ringed.proofs.OnCards.{places-itself}
 use Rattle.run_ringed.proofs.SoFar.{left-itself, go-on-in, cut-ends}
-use Rattle.run_ringed.proofs.Waking.{behind-alike, still-failed, power-begins, passed-anew, accepted-anew, cut-anew}
+use Rattle.run_ringed.proofs.Waking.{behind-alike, still-failed, still-call-failed, power-begins, passed-anew, accepted-anew, cut-anew}
 use Rattle.run_within.specs.Recorded.{Values, Recorded}
 use Rattle.run_within.specs.Within.{Beginning}
 use Rattle.run_within.specs.Waking.{both_slots}
@@ -73,6 +76,11 @@ use Rattle.recorder_with_cards.proofs.Resumed.{RunWaking, within-of, waiting_in,
 use Rattle.recorder_with_cards.proofs.RingsHere.{here-then, here-more, here-cut, goes-behind}
 
 -- ---- calls that write no ring
+
+-- those on the unit alone leave the places of the cards
+pub places-beside : (o : Origin) (U W X Y : State) → PlacesStay o (devices U X Y) (devices W X Y)
+places-beside o U W X Y A valid y left = (y, left, refl)
+places-beside o U W X Y B valid y left = (y, left, refl)
 
 -- images that differ in rows and slots of minutes alone have the same rings
 pub mend-leaves : (j : Notes) (U W : State) → IsCoherent U → LeavesOnly U W (IsMending j) → LeavesRings U W
@@ -171,7 +179,7 @@ module _ (o : Origin) (done : List TraceSecond) (s : TraceSecond) (p : Progress)
         begun_later = λ k lt. absurd (omega (arith, lt));
         torn = λ k slot le. cut-torn p.log s.number 0 none.cut (In k) slot;
         found = λ k slot le. cut-found p.log s.number 0 none.cut (In k) slot;
-      }) (rings-left d.unit) (left-itself o d) (λ c. inl refl) in
+      }) (rings-left d.unit) (left-itself o d) (places-itself o d) (λ c. inl refl) in
       cut-ends d o done s p.log (with_cut p.log s []) [] s.actions spans base t nobody nobody told behind power refl (cut-is p.log s.number 0 none.cut) (λ c. inl refl)
 
 -- power may come with the next second
@@ -186,7 +194,7 @@ pub learned-ringed : (o : Origin) (done : List TraceSecond) (log : RunLog) (i k 
 learned-ringed o done log i k next number order same spans seats d v =
     subst (λ (n : ℕ). RingedBehind o done (found_log i k log) n spans seats d) (sym same)
     (behind-alike d o done log (found_log i k log) next spans seats v
-    (record { same = all-before (λ u. SameAt log (found_log i k log) u) o.from done order (λ u lt. same-found log i k u); went_is = went-found log i k o.from done order }) (λ u has. still-failed log i k u has))
+    (record { same = all-before (λ u. SameAt log (found_log i k log) u) o.from done order (λ u lt. same-found log i k u); went_is = went-found log i k o.from done order }) (λ u has. still-failed log i k u has) (λ u has. still-call-failed log i k u has))
 
 -- ---- A SPAN BEGINS, and its cards are judged one after the other
 
@@ -274,10 +282,10 @@ module _ (o : Origin) (done : List TraceSecond) (s : TraceSecond) (waits fewer :
     counted = j.counted;
     ringed = subst (λ (n : ℕ). RingedIn o done s next.goes.within.b.run.log [] (log_of after) spans n t (seats_of new) e) (sym j.odometer) (⊎_elim
         (λ p. passed-anew d e o done s next.goes.within.b.run.log (log_of before) (log_of after) spans old.keeper.odometer t (seats_of old) (seats_of new) rings.ringed off (here-more (log_of before) (log_of after) s.number j.here) slot (found_in (log_of after) s.number (In 0) slot)
-        (anew-by (log_of before) (log_of after) slot (found_in (log_of after) s.number (In 0) slot) first next.none j.others refl) (inr p.none) p.stays j.left p.fewer_sit)
+        (anew-by (log_of before) (log_of after) slot (found_in (log_of after) s.number (In 0) slot) first next.none j.others refl) (inr p.none) p.stays j.left j.places p.fewer_sit)
         (λ i. accepted-anew d e o done s next.goes.within.b.run.log (log_of before) (log_of after) spans old.keeper.odometer t (seats_of old) i.now (seats_of new) rings.ringed off (here-more (log_of before) (log_of after) s.number j.here) slot sat.0 sat.1 i.verdict
         (anew-by (log_of before) (log_of after) slot (i.verdict ∷ []) first next.none j.others i.found) i.accepting i.head i.index i.writes i.inserts.long (of-sitter (log_of after) i.head (i.inserts.is (log_of after)))
-        (subst (λ (c : Card). AreSeatedWith c i.index (seats_of old) i.now) (sym sat.2) i.seated) j.left i.fewer_sit)
+        (subst (λ (c : Card). AreSeatedWith c i.index (seats_of old) i.now) (sym sat.2) i.seated) j.left j.places i.fewer_sit)
         h);
   }
   by true h =
@@ -291,11 +299,11 @@ module _ (o : Origin) (done : List TraceSecond) (s : TraceSecond) (waits fewer :
             (λ p.
             let passed : RingedIn o done s next.goes.within.b.run.log [] cut spans old.keeper.odometer t nobody e =
             passed-anew d e o done s next.goes.within.b.run.log (log_of before) cut spans old.keeper.odometer t (seats_of old) nobody rings.ringed off cut-more slot (found_in (log_of after) s.number (In 0) slot)
-            (anew-by (log_of before) cut slot (found_in (log_of after) s.number (In 0) slot) first next.none (cut-found_ (other_slot slot) ∙ j.others) (cut-found_ slot)) (inr p.0) p.1 j.left (λ c. inr refl) in
+            (anew-by (log_of before) cut slot (found_in (log_of after) s.number (In 0) slot) first next.none (cut-found_ (other_slot slot) ∙ j.others) (cut-found_ slot)) (inr p.0) p.1 j.left j.places (λ c. inr refl) in
             cut-ends e o done s next.goes.within.b.run.log cut [] s.actions spans old.keeper.odometer t nobody nobody passed behind-cut power-then refl (cut-is (log_of after) s.number 0 uncut) (λ c. inl refl))
             (λ i. cut-anew d e o done s next.goes.within.b.run.log (log_of before) cut spans old.keeper.odometer t (seats_of old) rings.ringed off cut-more slot sat.0 sat.1 i.verdict
             (anew-by (log_of before) cut slot (i.verdict ∷ []) first next.none (cut-found_ (other_slot slot) ∙ j.others) (cut-found_ slot ∙ i.found)) i.accepting behind-cut power-then (cut-is (log_of after) s.number 0 uncut) (cut-failed (log_of after) s.number 0 uncut)
-            i.head i.writes i.inserts.long (of-sitter cut i.head (i.inserts.is cut)) j.left)
+            i.head i.writes i.inserts.long (of-sitter cut i.head (i.inserts.is cut)) j.left j.places)
             h);
       }
 

@@ -22,6 +22,7 @@ use Rattle.run_outcome.specs.declared.outcome.Outcome.{Outcome}
 use Rattle.run_recorded.specs.Origin.{Origin}
 use Rattle.run_recorded.specs.Beside.{HaveLeftMore}
 use Rattle.run_ringed.specs.Ringed.{Seating, one_behind, StaysInRings, WritesRing, IsInsertionIn, IsAddedAt, MayBeAdded}
+use Rattle.run_ringed.specs.OnCards.{PlacesStay}
 use Rattle.run_ringed.specs.SoFar.{AreFewer}
 use Rattle.run_keeping.specs.declared.keeper.Moment.{Moment}
 use Rattle.run_keeping.specs.Minutes.{odometer_by}
@@ -86,6 +87,7 @@ pub record IsJudgedInRings (failed : Bool) (o : Origin) (s : TraceSecond) (n : �
   pub cut : cut_in (log_of after) s.number ≡ cut_in (log_of before) s.number
   pub same : (m : ℕ) → n ≡ suc m → TellSameTo (log_of before) (log_of after) s.number m
   pub left : HaveLeftMore o d e
+  pub places : PlacesStay o d e
   pub odometer : new.keeper.odometer ≡ old.keeper.odometer
   pub counted : new.noted ≤ length (log_of after).finds
 

@@ -184,7 +184,7 @@ bare-seat cards seat event a b unnamed card X = by_test (is_card seat card)
 -- ---- both slots
 
 -- a session is as it was behind a note on a slot's card, or gone
-session-noted : (o : Option Card) (slot : Slot) (at : Moment) (old new : Run) (breaks after : Listed Break) (fell : Bool) → IsNotedIn o slot at old new breaks after fell → (card : Card)
+pub session-noted : (o : Option Card) (slot : Slot) (at : Moment) (old new : Run) (breaks after : Listed Break) (fell : Bool) → IsNotedIn o slot at old new breaks after fell → (card : Card)
     → (session_of new.keeper.cabin.cards card ≡ session_of old.keeper.cabin.cards card) ⊎ (session_of new.keeper.cabin.cards card ≡ None)
 session-noted None slot at old new breaks after fell is card = inl (ap (λ (r : Run). session_of r.keeper.cabin.cards card) is.0)
 session-noted (Some one) slot at old new breaks after fell is card =

@@ -82,6 +82,7 @@ pub mod CardGaps
 pub mod CardEnds
 pub mod CardWaking
 pub mod CardStays
+pub mod CardPlaces
 pub mod CardTurn
 pub mod CardActs
 pub mod CardWrites

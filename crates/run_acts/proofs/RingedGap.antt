@@ -26,6 +26,10 @@ use Rattle.run_recorded.specs.Beside.{HaveLeftMore}
 use Rattle.run_ringed.specs.Ringed.{Ringed, LeavesRings, notes_in}
 use Rattle.run_ringed.specs.SoFar.{RingedBehind, RingedIn, AreFewer, HasMoreBreaks, GoesBehind, notes_so_far}
 use Rattle.run_ringed.specs.Steps.{nobody, spans_cut}
+use Rattle.run_ringed.specs.OnCards.{PlacesStay}
+use Rattle.run_acts.specs.CardNotes.{LeavePlaces}
+use Rattle.run_acts.proofs.CardPlaces.{leave-stay}
+use Rattle.run_ringed.proofs.OnCards.{call-failed-more}
 use Rattle.run_ringed.proofs.Rings.{fewer-sit, rings-stay}
 use Rattle.run_ringed.proofs.SoFar.{failed-more, goes-alike, cut-ends}
 use Rattle.run_acts.specs.declared.run.Run.{Run}
@@ -112,7 +116,7 @@ gap-notes (Some span) at failed old new breaks after (BothSlots driver codriver)
 -- ---- before any action
 
 module _ (o : Origin) (done : List TraceSecond) (s : TraceSecond) (old new : Run) (out : Outcome) (after : Listed Break) (d e : Devices) (w : RunWithin o done s (In 0) [] [] old out d) (comes : ComesPower done out)
-    (n : NotesOn (record { second = s.number; begun = 0; late = false }) old new out.breaks after) (leaves : LeavesRings d.unit e.unit) (left : HaveLeftMore o d e) (spans : List SpanFrom) (t : Told) (rings : RingsWithin o done s w.within.b.run.log [] old (log_of out) spans t d) where
+    (n : NotesOn (record { second = s.number; begun = 0; late = false }) old new out.breaks after) (leaves : LeavesRings d.unit e.unit) (left : HaveLeftMore o d e) (places : PlacesStay o d e) (spans : List SpanFrom) (t : Told) (rings : RingsWithin o done s w.within.b.run.log [] old (log_of out) spans t d) where
   abbrev log : RunLog
   log = log_of out
 
@@ -146,7 +150,7 @@ module _ (o : Origin) (done : List TraceSecond) (s : TraceSecond) (old new : Run
   ringed-by y more found =
       let now : List SpanFrom = with_second spans old.keeper.odometer t in
       let notes : List Note = notes_so_far w.within.b.run.log done log s [] in
-      let stays : Ringed o y now notes (seats_of old) e = rings-stay d e o log y now now notes (seats_of old) rings.ringed.ringed leaves left (goes-alike log y now now notes (failed-more log y more) (λ u. refl)) in
+      let stays : Ringed o y now notes (seats_of old) e = rings-stay d e o log y now now notes (seats_of old) rings.ringed.ringed leaves left places (goes-alike log y now now notes (failed-more log y more) (call-failed-more log y more) (λ u. refl)) in
       record {
         spans_are = rings.ringed.spans_are;
         before = rings.ringed.before;
@@ -190,8 +194,8 @@ module _ (o : Origin) (done : List TraceSecond) (s : TraceSecond) (old new : Run
       }
 
 -- AS THE CALL SAYS IT
-pub note-ringed : (gap : Option Span) (failed : Bool) (old new : Run) (breaks after : Listed Break) (d e : Devices) → (reach : GapReach) × IsGapNoted gap (now_moment old) failed old new breaks after reach → LeavesRings d.unit e.unit → NoteLeaves failed old breaks after d e →
+pub note-ringed : (gap : Option Span) (failed : Bool) (old new : Run) (breaks after : Listed Break) (d e : Devices) → (reach : GapReach) × IsGapNoted gap (now_moment old) failed old new breaks after reach → LeavesRings d.unit e.unit → NoteLeaves failed old breaks after d e → LeavePlaces old.keeper.cabin.cards d e →
     RingsGap failed old new breaks after d e
-note-ringed gap failed old new breaks after d e noted leaves left = λ o done s out w comes spans t rings.
+note-ringed gap failed old new breaks after d e noted leaves left places = λ o done s out w comes spans t rings.
     let here : now_moment old ≡ record { second = s.number; begun = 0; late = false } = ap (λ (u : ℕ). record { second = u; begun = 0; late = false }) (w.within.next ∙ sym w.within.moment.number) in
-    gap-ringed o done s old new (record out { breaks = breaks }) after d e w comes (subst (λ (m : Moment). NotesOn m old new breaks after) here (gap-notes gap (now_moment old) failed old new breaks after noted.0 noted.1)) leaves (left o done s out w comes).0 spans t rings failed
+    gap-ringed o done s old new (record out { breaks = breaks }) after d e w comes (subst (λ (m : Moment). NotesOn m old new breaks after) here (gap-notes gap (now_moment old) failed old new breaks after noted.0 noted.1)) leaves (left o done s out w comes).0 (leave-stay o done s (In 0) [] [] old (record out { breaks = breaks }) d e w places) spans t rings failed

@@ -10,6 +10,8 @@ use Rattle.trace_model.specs.Trace.{TraceSecond}
 use Rattle.tacho_types.specs.CardNumber.{card_number_bytes}
 use Rattle.tacho_types.specs.declared.card_number.FullCardNumber.{FullCardNumber}
 use Rattle.tacho_types.specs.declared.places.PlaceEntry.{PlaceEntry}
+use Rattle.tacho_types.specs.Places.{place_bytes}
+use Rattle.card_layout.specs.declared.files.Application.{Application}
 use Rattle.message_model.specs.Records.{unit_place_ring}
 use Rattle.unit_notes.specs.Entries.{unit_place_bytes}
 use Rattle.card_image.specs.Own.{own_number, IsOwnValid}
@@ -17,12 +19,12 @@ use Rattle.log_model.specs.declared.lines.Break.{Break}
 use Rattle.log_model.specs.declared.lines.SlotFault.{SlotFault}
 use Rattle.log_model.specs.declared.lines.SlotFault.TheVariants.{NoCard}
 use Rattle.log_model.specs.Log.{RunLog, In}
-use Rattle.log_model.specs.Slots.{Sitting, in_slot, is_accepted, refusal}
+use Rattle.log_model.specs.Slots.{Sitting, in_slot, is_accepted, refusal, same_card}
 use Rattle.log_model.specs.Course.{Told}
 use Rattle.side_model.specs.Odometer.{SpanFrom, odometer_at}
 use Rattle.side_model.specs.Noted.{PlaceNote}
 use Rattle.safety_model.specs.Recording.{card_image}
-use Rattle.safety_model.specs.Safe.{Devices}
+use Rattle.safety_model.specs.Safe.{Devices, card_of}
 use Rattle.slot_machine.specs.declared.seats.Seat.{Seat}
 use Rattle.slot_machine.specs.Calls.{Seats, seat_in, card_in, sitting_of, logged}
 use Rattle.run_crew.specs.declared.cards.Accepted.{Accepted}
@@ -42,6 +44,8 @@ use Rattle.run_recorded.specs.Beside.{HaveLeftMore}
 use Rattle.run_ringed.specs.Ringed.{IsPlaceIn, holder_in}
 use Rattle.run_ringed.specs.SoFar.{RingedBehind, RingedIn, AreFewer}
 use Rattle.run_ringed.specs.Steps.{nobody, spans_cut}
+use Rattle.run_ringed.specs.OnCards.{has_call_failed_in, IsPlaceOn, PlaceIsTaken}
+use Rattle.run_ringed.proofs.OnCards.{call-failed, call-failed-more}
 use Rattle.run_ringed.proofs.Bytes.{IsPlaceTold, place-is}
 use Rattle.run_ringed.proofs.Steps.{place-entered, place-is-cut}
 use Rattle.run_within.specs.Recorded.{Values}
@@ -56,6 +60,9 @@ use Rattle.run_acts.specs.Recording.{log_of, values_of, RunWithin}
 use Rattle.run_acts.specs.RunRinged.{seats_of, IsLastFrom, RingsWithin, with_cut, RingsGoOn, RingsPlace}
 use Rattle.run_acts.specs.Ringing.{IsPlaceNow, WritesPlace}
 use Rattle.run_acts.proofs.Cabins.{session-known, noted-sessions}
+use Rattle.unit_course.specs.Lines.{cut_at}
+use Rattle.run_acts.proofs.CardStays.{session-sizes}
+use Rattle.run_acts.proofs.CardPlaces.{PlaceCall, entry-wide, place-taken, tear-failed}
 use Rattle.run_acts.proofs.FallEvented.{known}
 use Rattle.run_acts.proofs.RingedLines.{AreTears, seats-go}
 use Rattle.run_acts.proofs.WithdrawnRecorded.{moment-is}
@@ -197,6 +204,12 @@ module _ (o : Origin) (done : List TraceSecond) (s : TraceSecond) (front rest : 
   stands-for : (log : RunLog) → IsPlaceIn o log now_spans note (unit_place_bytes number entry)
   stands-for log = place-is log now_spans (holder_in o) note number entry (place-told log)
 
+  stands-on : IsPlaceOn now_spans note (place_bytes entry)
+  stands-on = record { entry = entry; bytes = refl; time = now.time ∙ sym next; kind = now.kind; country = now.country_is; region = now.region_is; odometer = odometer-is }
+
+  abbrev log_cut : RunLog
+  log_cut = with_cut later s (front ++ Place slot ending country region ∷ [])
+
   long : length (unit_place_bytes number entry) ≡ unit_place_ring.width
   long = (stands-for later).size
 
@@ -204,16 +217,17 @@ module _ (o : Origin) (done : List TraceSecond) (s : TraceSecond) (front rest : 
   counted-on new same = subst (λ (k : ℕ). k ≤ length later.finds) (sym same) (subst (λ (l : RunLog). run.noted ≤ length l.finds) (sym is) rings.counted)
 
   pub place-ringed : (failed : Bool) (new : Run) → AreFewer (seats_of run) (seats_of new) → new.keeper.odometer ≡ run.keeper.odometer → new.noted ≡ run.noted → WritesPlace (Some number) entry failed d.unit e.unit →
+      ((log : RunLog) → (has_call_failed_in later s.number ≡ true → has_call_failed_in log s.number ≡ true) → (failed ≡ true → has_call_failed_in log s.number ≡ true) → PlaceIsTaken o log note (place_bytes entry) d e) →
       RingsGoOn failed o done s w.within.b (front ++ a ∷ []) new later spans t e
-  place-ringed false new fewer same noted writes = record {
+  place-ringed false new fewer same noted writes takes = record {
     base = subst (λ (b : ℕ). IsLastFrom b (with_second spans b t)) (sym same) rings.base;
     counted = counted-on new noted;
     ringed = subst (λ (b : ℕ). RingedIn o done s w.within.b.run.log (front ++ a ∷ []) later spans b t (seats_of new) e) (sym same)
         (place-entered d e o done s w.within.b.run.log (log_of before) later front spans run.keeper.odometer t (seats_of run) (seats_of new) rings.ringed
         (goes-to o done s front rest a are v d w.within lines later is tears) slot ending country region x (sits-then o done s front rest a are v d w.within lines later is tears slot x sitting.1) refl
-        (unit_place_bytes number entry) writes long (stands-for later) left fewer);
+        (unit_place_bytes number entry) writes long (stands-for later) left (place_bytes entry) (entry-wide entry) stands-on (takes later (λ h. h) (λ apart_. absurd (let wrong : false ≡ true = apart_ in cc))) fewer);
   }
-  place-ringed true new fewer same noted writes = record {
+  place-ringed true new fewer same noted writes takes = record {
     counted = counted-on new noted;
     lines = since-begun o done s (In (length front)) [] None [] v d w.within later (lines, ap (λ (l : RunLog). l.breaks) is);
     behind = (is-cut o done s front rest a are v d w.within lines later is tears).behind;
@@ -221,15 +235,18 @@ module _ (o : Origin) (done : List TraceSecond) (s : TraceSecond) (front rest : 
     ringed = subst (λ (b : ℕ). RingedBehind o (done ++ s ∷ []) (with_cut later s (front ++ a ∷ [])) (suc s.number) (spans_cut spans b (with_cut later s (front ++ a ∷ [])) done s) nobody e) (sym same)
         (place-is-cut d e o done s w.within.b.run.log (log_of before) (with_cut later s (front ++ a ∷ [])) front rest spans run.keeper.odometer t (seats_of run) rings.ringed slot ending country region
         (is-cut o done s front rest a are v d w.within lines later is tears) x (sits-cut o done s front rest a are v d w.within lines later is tears slot x sitting.1) refl
-        (unit_place_bytes number entry) writes long (stands-for (with_cut later s (front ++ a ∷ []))) left);
+        (unit_place_bytes number entry) writes long (stands-for (with_cut later s (front ++ a ∷ []))) left (place_bytes entry) (entry-wide entry) stands-on
+        (takes log_cut (call-failed-more later log_cut (cut_at s.number true (length (front ++ a ∷ [])) ∷ [], refl) s.number) (λ _. call-failed log_cut s.number (is-cut o done s front rest a are v d w.within lines later is tears).failed)));
   }
 
 -- ---- AS THE CALL SAYS IT
 
 pub place-goes : (slot : Slot) (entry : PlaceEntry) (at : Moment) (failed : Bool) (old new : Run) (breaks after : Listed Break) (d e : Devices) (card : Card) (number : FullCardNumber) (fell : Bool) → card_in (seat_in old.keeper.cabin.slots.seats slot) ≡ Some card →
     number_of_seat old.keeper.cabin.cards (seat_in old.keeper.cabin.slots.seats slot) ≡ Some number → is_some (session_of old.keeper.cabin.cards card) ≡ true → (low : ℕ) → Stands low None old.keeper.cabin → at.second ≡ old.next → old.next ≤ end_of_seconds →
-    IsNotedOn card slot at old new breaks after fell → (is_some d.unit.image ≡ true → WritesPlace (Some number) entry failed d.unit e.unit) → AreLeftMore d e → RingsPlace slot entry at failed old new breaks after d e
-place-goes slot entry at failed old new breaks after d e card number fell seat numbered some low stands second small noted writes keeps = λ ending country region now late speed before is o done s here front rest are n allowed w spans t rings time.
+    IsNotedOn card slot at old new breaks after fell → (is_some d.unit.image ≡ true → WritesPlace (Some number) entry failed d.unit e.unit) → AreLeftMore d e →
+    ((a : Accepted) → session_of old.keeper.cabin.cards card ≡ Some a → PlaceCall fell failed a.session.application entry (card_of d card) (card_of e card)) → ((c : Card) → same_card card c ≡ false → (y : List ℕ) → (card_of e c).may_leave y → (card_of d c).may_leave y) →
+    RingsPlace slot entry at failed old new breaks after d e
+place-goes slot entry at failed old new breaks after d e card number fell seat numbered some low stands second small noted writes keeps call others = λ ending country region now late speed before is o done s here front rest are n allowed w spans t rings time.
     let number_is = here.number in
     let moment : at ≡ record { second = s.number; begun = suc (length front); late = false } = moment-is at s.number (suc (length front)) (second ∙ sym here.number) n late in
     let lines : List Break = noted_breaks fell slot at in
@@ -238,3 +255,16 @@ place-goes slot entry at failed old new breaks after d e card number fell seat n
     (subst (λ (m : Moment). AreTears m lines) moment (noted-tears fell slot at))
     (more-left o d e (w.within.powered.lit.unit.unit_holds [] []).later w.within.there.clocks keeps) spans t rings card seat some low stands number numbered entry now here.number (omega (arith, number_is, small))
     failed new (noted-fewer card at.second old new fell noted.run) (noted-odometer card at.second old new fell noted.run) (noted-count card at.second old new fell noted.run) (writes w.within.there.unit)
+    (λ log more cut. place-taken o log (record { second = s.number; card = card; ending = ending; country = country; region = region }) entry fell failed d e
+    (λ torn. more (torn-told fell slot at s.number (log_of before) (second ∙ sym here.number) torn
+    (log_of (record before { breaks = after })) (ap (λ (l : Listed Break). record (log_of before) { breaks = l.items }) (noted.told ∙ ap (λ (l : Listed Break). with_lines lines l) (sym is))))) cut
+    (λ valid. sized (session_of old.keeper.cabin.cards card) refl some (λ a at_. session-sizes o done s (In (length front)) [] [] old before d w card valid a at_)) others)
+  where
+    sized : {app : Application} (q : Option Accepted) → session_of old.keeper.cabin.cards card ≡ q → is_some q ≡ true → ((a : Accepted) → session_of old.keeper.cabin.cards card ≡ Some a → a.session.application ≡ app) → PlaceCall fell failed app entry (card_of d card) (card_of e card)
+    sized None is none sizes = absurd (let wrong : false ≡ true = none in cc)
+    sized (Some a) is has sizes = subst (λ (p : Application). PlaceCall fell failed p entry (card_of d card) (card_of e card)) (sizes a is) (call a is)
+
+    torn-told : (fell : Bool) (slot : Slot) (at : Moment) (u : ℕ) (log : RunLog) → at.second ≡ u → fell ≡ true → (later : RunLog) → later ≡ record log { breaks = log.breaks ++ noted_breaks fell slot at } → has_call_failed_in later u ≡ true
+    torn-told false slot at u log is apart_ later are = absurd (let wrong : false ≡ true = apart_ in cc)
+    torn-told true slot at u log is torn later are =
+        subst (λ (l : RunLog). has_call_failed_in l u ≡ true) (sym are) (subst (λ (n : ℕ). has_call_failed_in (record log { breaks = log.breaks ++ noted_breaks true slot at }) n ≡ true) is (tear-failed log slot at))

@@ -35,6 +35,7 @@ use Rattle.run_recorded.specs.Beside.{HaveLeftMore}
 use Rattle.run_ringed.specs.Ringed.{Seating, LeavesRings, WritesRing, MayBeWithdrawn}
 use Rattle.run_ringed.specs.SoFar.{RingedBehind, RingedIn, AreFewer}
 use Rattle.run_ringed.specs.Steps.{GoesOnTo, IsCutIn, nobody, spans_cut}
+use Rattle.run_ringed.specs.OnCards.{PlacesStay}
 use Rattle.run_ringed.proofs.Steps.{passes, action-cut, card-withdrawn, withdrawal-is-cut}
 use Rattle.run_within.specs.Recorded.{Values}
 use Rattle.run_within.specs.Within.{told_before, course_in}
@@ -69,7 +70,7 @@ none-written q time odometer d e leaves = λ y at.
 
 module _ (o : Origin) (done : List TraceSecond) (s : TraceSecond) (front rest : List Action) (slot : Slot) (are : s.actions ≡ front ++ Withdraw slot ∷ rest) (run : Run) (before : Outcome) (d e : Devices)
     (w : RunWithin o done s (In (length front)) [] [] run before d) (lines : List Break) (later : RunLog) (is : later ≡ record (log_of before) { breaks = (log_of before).breaks ++ lines })
-    (tears : AreTears (record { second = s.number; begun = suc (length front); late = false }) lines) (left : HaveLeftMore o d e) (spans : List SpanFrom) (t : Told) (rings : RingsWithin o done s w.within.b.run.log front run (log_of before) spans t d)
+    (tears : AreTears (record { second = s.number; begun = suc (length front); late = false }) lines) (left : HaveLeftMore o d e) (places : PlacesStay o d e) (spans : List SpanFrom) (t : Told) (rings : RingsWithin o done s w.within.b.run.log front run (log_of before) spans t d)
     (card : Card) (seat : card_in (seat_in run.keeper.cabin.slots.seats slot) ≡ Some card) (low : ℕ) (stands : Stands low None run.keeper.cabin) (speed : ℕ) (now : s.speed ≡ speed)
     (allowed : refusal (logged run.keeper.cabin.slots.seats) speed (Withdraw slot) ≡ None) (small : s.number < 2 ^ 32) where
   abbrev v : Values
@@ -148,7 +149,7 @@ module _ (o : Origin) (done : List TraceSecond) (s : TraceSecond) (front rest : 
     base = subst (λ (b : ℕ). IsLastFrom b (with_second spans b t)) (sym same) rings.base;
     counted = counted-on new noted;
     ringed = subst (λ (b : ℕ). RingedIn o done s w.within.b.run.log (front ++ a ∷ []) later spans b t (seats_of new) e) (sym same)
-        (passes d e o done s w.within.b.run.log (log_of before) later front a spans run.keeper.odometer t (seats_of run) (seats_of new) rings.ringed goes none leaves left fewer);
+        (passes d e o done s w.within.b.run.log (log_of before) later front a spans run.keeper.odometer t (seats_of run) (seats_of new) rings.ringed goes none leaves left places fewer);
   }
 
   pub quiet-torn : (new : Run) → AreFewer (seats_of run) (seats_of new) → new.keeper.odometer ≡ run.keeper.odometer → new.noted ≡ run.noted → LeavesRings d.unit e.unit → is_some (session_of run.keeper.cabin.cards card) ≡ true →
@@ -205,7 +206,7 @@ module _ (o : Origin) (done : List TraceSecond) (s : TraceSecond) (front rest : 
       counted = counted-on new noted;
       ringed = subst (λ (b : ℕ). RingedIn o done s w.within.b.run.log (front ++ a ∷ []) later spans b t (seats_of new) e) (sym same)
           (card-withdrawn d e o done s w.within.b.run.log (log_of before) later front spans run.keeper.odometer t (seats_of run) (seats-then run) (seats_of new) rings.ringed goes slot x (then_ x (sits-some some-session).1) still
-          (ap (λ (n : ℕ). is_torn_in later s.number (In n) slot) longer ∙ untorn) refl (seating_of run.noted session) seat-is entry time odometer refl odometer-is small few-kilometres writes others-stay left (then-fewer new fewer gone));
+          (ap (λ (n : ℕ). is_torn_in later s.number (In n) slot) longer ∙ untorn) refl (seating_of run.noted session) seat-is entry time odometer refl odometer-is small few-kilometres writes others-stay left places (then-fewer new fewer gone));
     }
 
     -- or the unit failed in it: it stands, or does not
@@ -213,11 +214,11 @@ module _ (o : Origin) (done : List TraceSecond) (s : TraceSecond) (front rest : 
         RingedBehind o (done ++ s ∷ []) log_cut (suc s.number) (spans_cut spans run.keeper.odometer log_cut done s) nobody e
     broken-noted untorn writes =
         withdrawal-is-cut d e o done s w.within.b.run.log (log_of before) log_cut front rest spans run.keeper.odometer t (seats_of run) rings.ringed slot cuts x (then-cut x (sits-some some-session).1) still
-        (ap (λ (n : ℕ). is_torn_in log_cut s.number (In n) slot) longer ∙ untorn) refl (seating_of run.noted session) seat-is entry time odometer refl odometer-is small few-kilometres writes left
+        (ap (λ (n : ℕ). is_torn_in log_cut s.number (In n) slot) longer ∙ untorn) refl (seating_of run.noted session) seat-is entry time odometer refl odometer-is small few-kilometres writes left places
 
   -- THE UNIT FAILED, and no withdrawal is written, or this one may be
   cut-quiet : LeavesRings d.unit e.unit → NotesMore log_cut was s front a [] → RingedBehind o (done ++ s ∷ []) log_cut (suc s.number) (spans_cut spans run.keeper.odometer log_cut done s) nobody e
-  cut-quiet leaves none = action-cut d e o done s w.within.b.run.log (log_of before) log_cut front a rest spans run.keeper.odometer t (seats_of run) rings.ringed cuts none leaves left
+  cut-quiet leaves none = action-cut d e o done s w.within.b.run.log (log_of before) log_cut front a rest spans run.keeper.odometer t (seats_of run) rings.ringed cuts none leaves left places
 
   pub cut-leaves : IfSome (session_of run.keeper.cabin.cards card) (λ q. q.entry < insertion_ring.count) → LeavesRings d.unit e.unit →
       RingedBehind o (done ++ s ∷ []) log_cut (suc s.number) (spans_cut spans run.keeper.odometer log_cut done s) nobody e

@@ -53,8 +53,10 @@ use Rattle.run_acts.specs.Evented.{EventsGoOn, EventsSettling, IsUntold}
 use Rattle.run_acts.proofs.FallEvented.{left-over}
 use Rattle.run_acts.proofs.RingedLines.{SatIn}
 use Rattle.run_acts.proofs.Closed.{closed-recorded, closed-evented}
-use Rattle.run_acts.specs.RunCards.{StillShow, CardsSettling}
+use Rattle.run_acts.specs.RunCards.{StillShow, CardsSettling, PlacesSettling}
 use Rattle.run_acts.proofs.CardStays.{closing-still}
+use Rattle.run_ringed.specs.OnCards.{PlacesStay}
+use Rattle.run_acts.proofs.CardPlaces.{closing-stay}
 use Rattle.run_acts.specs.Stays.{ClosesOnCard}
 
 -- the moment of an action
@@ -156,6 +158,19 @@ module _ (o : Origin) (done : List TraceSecond) (s : TraceSecond) (front rest : 
   -- the cards show their events still
   pub settled-still : (e : Devices) → CardsSettling decided (acting_at s.number (suc (length front))) (left_run slot s.number run) between before d e → HaveTime e → StillShow o d e
   settled-still e settles time = settles o done s (length front) [] refl gone time
+
+  -- and their places stay
+  pub settled-places : (e : Devices) → PlacesSettling decided (acting_at s.number (suc (length front))) (left_run slot s.number run) between before d e → HaveTime e → PlacesStay o d e
+  settled-places e settles time = settles o done s (length front) [] refl gone time
+
+  pub closed-places : {C : Type 0} (state : C → State) (U V Z : State) (x y : C) → IsCoherent (state x) → LARGEST_IMAGE ≤ (state x).size →
+      IfSome (session_of between.keeper.cabin.cards c) (λ s. (act : Activity) × LeavesOnly (state x) (state y) (λ i n. IsSession s.session i → IsCardClosing s.session act i n)) → (session_of between.keeper.cabin.cards c ≡ None → y ≡ x) →
+      RecordsSettling decided (acting_at s.number (suc (length front))) false (left_run slot s.number run) between before told d (arranged c U (state x) Z) → HaveTime (arranged c U (state x) Z) →
+      PlacesStay o (arranged c U (state x) Z) (arranged c V (state y) Z)
+  closed-places state U V Z x y whole size closes still records time =
+      let kept_all : IsSettledIn o done s (In (suc (length front))) [] gone.within.b gone.within.from (gone.within.from + length decided) (left_run slot s.number run) between before told (arranged c U (state x) Z) =
+      records o done s (suc (length front)) [] (omega arith) refl gone time in
+      closing-stay state o done s (In (suc (length front))) [] [] between told c U V Z x y kept_all.goes whole size closes still
 
   -- and so they do behind the closing
   pub closed-still : {C : Type 0} (state : C → State) (U V Z : State) (x y : C) → IsCoherent (state x) → LARGEST_IMAGE ≤ (state x).size →

@@ -3,6 +3,7 @@ use Rattle.std.specs.Prelude.{◌≡◌, ℕ, ◌||◌, Bool, true, false, not, 
 use Rattle.trace_model.specs.declared.Card.{Card}
 use Rattle.tach_media.specs.Medium.{State}
 use Rattle.tacho_types.specs.declared.texts.Registration.{Registration}
+use Rattle.card_image.specs.Fields.{file_bytes}
 use Rattle.card_records.specs.declared.card_event.CardEvent.{CardEvent}
 use Rattle.event_model.specs.declared.entries.Span.{Span}
 use Rattle.event_model.specs.declared.kinds.TheConstants.{POWER_INTERRUPTION}
@@ -32,3 +33,14 @@ on_seat seat event card = if is_card seat card then event ∷ [] else []
 abbrev pub gap_on : Option Span → Registration → List CardEvent
 gap_on None registration = []
 gap_on (Some span) registration = record { kind = POWER_INTERRUPTION; begin = record { 0 = span.begin }; end = record { 0 = span.end }; registration = registration } ∷ []
+
+-- ---- the places
+
+-- CALLS LEAVE THE PLACES of a card: without a session it may leave no image that it might not have left before; else each has the places of one before
+abbrev pub LeavesPlaces : (session : Option Accepted) → (card card_after : State) → Type 0
+LeavesPlaces None card card_after = (c : List ℕ) → card_after.may_leave c → card.may_leave c
+LeavesPlaces (Some a) card card_after = (c : List ℕ) → card_after.may_leave c → (x : List ℕ) × card.may_leave x × (file_bytes a.session.application 0x0506 c ≡ file_bytes a.session.application 0x0506 x)
+
+-- so they do of each card
+abbrev pub LeavePlaces : Cards → (d e : Devices) → Type 0
+LeavePlaces cards d e = (card : Card) → LeavesPlaces (session_of cards card) (card_of d card) (card_of e card)

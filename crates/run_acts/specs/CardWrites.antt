@@ -1,5 +1,5 @@
 -- What an action writes on the card that it is about (profile): a place stands on it, and a card that is withdrawn is closed.
-use Rattle.std.specs.Prelude.{◌≡◌, ◌⊎◌, ◌++◌, ℕ, Bool, true, false, Option, Some, None, List}
+use Rattle.std.specs.Prelude.{◌≡◌, ◌⊎◌, ◌++◌, ℕ, Bool, true, false, Option, Some, None, IfSome, List}
 use Rattle.activity_codec.specs.declared.values.Activity.{Activity}
 use Rattle.activity_codec.specs.declared.values.Slot.{Slot}
 use Rattle.trace_model.specs.declared.Card.{Card}
@@ -7,7 +7,7 @@ use Rattle.tach_media.specs.Medium.{State}
 use Rattle.tacho_types.specs.declared.places.PlaceEntry.{PlaceEntry}
 use Rattle.card_layout.specs.declared.files.Application.{Application}
 use Rattle.card_image.specs.Own.{IsOwnValid}
-use Rattle.card_records.specs.Noting.{IsPlaceNoted}
+use Rattle.card_records.specs.Noting.{IsPlaceNoted, IsNotingPlace}
 use Rattle.card_records.specs.Rings.{place_ring}
 use Rattle.card_session.specs.Sessions.{IsSession}
 use Rattle.card_session.specs.Cards.{IsCardClosed}
@@ -37,6 +37,13 @@ use Rattle.run_acts.specs.Acting.{Closing, Bare, Closed, Fell, IsSettled, IsClos
 -- each image that the card may leave has this place behind those of one that it might have left before
 abbrev pub HasPlace : Application → PlaceEntry → (card card_after : State) → Type 0
 HasPlace app entry card card_after = (c : List ℕ) → card_after.may_leave c → (x : List ℕ) × card.may_leave x × (PointsInside (place_ring app) x → IsPlaceNoted app entry x c)
+
+-- or it may have it, where the call failed
+abbrev pub MayHavePlace : Application → PlaceEntry → (card card_after : State) → Type 0
+MayHavePlace app entry card card_after = (c : List ℕ) → card_after.may_leave c → (x : List ℕ) × card.may_leave x × ((c ≡ x) ⊎ IsNotingPlace app entry x c)
+
+abbrev pub MayTakePlace : (session : Option Accepted) → PlaceEntry → (card card_after : State) → Type 0
+MayTakePlace session entry card card_after = IfSome session (λ a. MayHavePlace a.session.application entry card card_after)
 
 -- A PLACE IS NOTED ON A CARD that has a session, and has it still; but where the unit failed before.
 abbrev pub PlaceOn : (session after : Option Accepted) → (failed : Bool) → PlaceEntry → (card card_after : State) → Type 0

@@ -25,6 +25,7 @@ use Rattle.run_events.specs.Seconds.{gap_by}
 use Rattle.run_evented.specs.Evented.{images_in}
 use Rattle.run_rings.specs.Notes.{course_behind}
 use Rattle.run_recorded.specs.Origin.{Origin}
+use Rattle.run_ringed.specs.OnCards.{PlacesStay}
 use Rattle.log_model.specs.declared.lines.Break.{Break}
 use Rattle.run_outcome.specs.Lines.{Listed}
 use Rattle.run_outcome.specs.declared.outcome.Outcome.{Outcome}
@@ -107,6 +108,11 @@ StillShow o d e = (c : Card) → IsOwnValid (card_image o.recording c) → Still
 abbrev pub CardsSettling : (decided : List Minute) → Moment → (old new : Run) → (before : Outcome) → (d e : Devices) → Type 0
 CardsSettling decided at old new before d e = (o : Origin) (done : List TraceSecond) (s : TraceSecond) (n : ℕ) (waits : List Visit) → at ≡ record { second = s.number; begun = suc n; late = false } →
     (w : RunWithin o done s (In (suc n)) waits decided (settled_run new.minutes old) before d) → HaveTime e → StillShow o d e
+
+-- and it leaves their places
+abbrev pub PlacesSettling : (decided : List Minute) → Moment → (old new : Run) → (before : Outcome) → (d e : Devices) → Type 0
+PlacesSettling decided at old new before d e = (o : Origin) (done : List TraceSecond) (s : TraceSecond) (n : ℕ) (waits : List Visit) → at ≡ record { second = s.number; begun = suc n; late = false } →
+    (w : RunWithin o done s (In (suc n)) waits decided (settled_run new.minutes old) before d) → HaveTime e → PlacesStay o d e
 
 -- BEHIND A CALL in a second they go on so far; or the unit has failed in the last of these actions, as the cut says that is told next.
 abbrev pub CardsGoOn : (failed : Bool) → Origin → List TraceSecond → TraceSecond → (began : RunLog) → (front : List Action) → RunLog → Devices → Type 0

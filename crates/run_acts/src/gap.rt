@@ -23,7 +23,7 @@ ghost use Rattle.run_acts.specs.Room.{falls_of};
 ghost use Rattle.run_acts.specs.Acting.{IsNotedOn, IsNotedIn, falls_by, now_moment};
 ghost use Rattle.run_acts.specs.ActsEvented.{NoteLeaves};
 ghost use Rattle.run_acts.specs.RunRinged.{RingsGap};
-ghost use Rattle.run_acts.specs.CardNotes.{NotesOn, NotesOnCards, on_seat, gap_on};
+ghost use Rattle.run_acts.specs.CardNotes.{NotesOn, NotesOnCards, LeavesPlaces, LeavePlaces, on_seat, gap_on};
 ghost use Rattle.run_notes.specs.Entries.{card_entry};
 ghost use Rattle.run_acts.specs.Noting.{GapReach, IsGapNoted, IsNoteRecorded, NotesFall, AreGapEvents};
 
@@ -63,6 +63,8 @@ pub fn note_gap<M: Medium, C: Chip, D: Chip>(
     ensures recorded { IsNoteRecorded (In 0) (is_err result) run.old run.new breaks.old breaks.new (devices (M.state unit.old) (C.state card_a.old) (D.state card_b.old)) (devices (M.state unit.new) (C.state card_a.new) (D.state card_b.new)) }
     ensures leaves { NoteLeaves (is_err result) run.old breaks.old breaks.new (devices (M.state unit.old) (C.state card_a.old) (D.state card_b.old)) (devices (M.state unit.new) (C.state card_a.new) (D.state card_b.new)) }
     ensures card_events { NotesOnCards (is_err result) run.old.keeper.cabin.cards run.new.keeper.cabin.cards (λ card. gap_on (gap_of kept run.old.next) run.old.keeper.memory.registration) (devices (M.state unit.old) (C.state card_a.old) (D.state card_b.old)) (devices (M.state unit.new) (C.state card_a.new) (D.state card_b.new)) }
+    // The places of the cards are left.
+    ensures places { LeavePlaces run.old.keeper.cabin.cards (devices (M.state unit.old) (C.state card_a.old) (D.state card_b.old)) (devices (M.state unit.new) (C.state card_a.new) (D.state card_b.new)) }
     ensures events { (reach : GapReach) × (vs : List UnitEvent) × AreGapEvents (gap_of kept run.old.next) (now_moment run.old) (is_err result) run.old run.new breaks.old breaks.new reach vs × NotesEvents vs (is_err result) (devices (M.state unit.old) (C.state card_a.old) (D.state card_b.old)) (devices (M.state unit.new) (C.state card_a.new) (D.state card_b.new)) }
     ensures rings { LeavesRings (M.state unit.old) (M.state unit.new) }
     ensures ringed { RingsGap (is_err result) run.old run.new breaks.old breaks.new (devices (M.state unit.old) (C.state card_a.old) (D.state card_b.old)) (devices (M.state unit.new) (C.state card_a.new) (D.state card_b.new)) }
@@ -107,6 +109,7 @@ fn note_in<M: Medium, C: Chip, D: Chip>(
     ensures recorded { IsNoteRecorded (In 0) (is_err result) run.old run.new breaks.old breaks.new (devices (M.state unit.old) (C.state card_a.old) (D.state card_b.old)) (devices (M.state unit.new) (C.state card_a.new) (D.state card_b.new)) }
     ensures leaves { NoteLeaves (is_err result) run.old breaks.old breaks.new (devices (M.state unit.old) (C.state card_a.old) (D.state card_b.old)) (devices (M.state unit.new) (C.state card_a.new) (D.state card_b.new)) }
     ensures card_events { NotesOnCards false run.old.keeper.cabin.cards run.new.keeper.cabin.cards (on_seat (seat_in run.old.keeper.cabin.slots.seats slot) (card_entry event.now run.old.keeper.memory.registration)) (devices (M.state unit.old) (C.state card_a.old) (D.state card_b.old)) (devices (M.state unit.new) (C.state card_a.new) (D.state card_b.new)) }
+    ensures places { LeavePlaces run.old.keeper.cabin.cards (devices (M.state unit.old) (C.state card_a.old) (D.state card_b.old)) (devices (M.state unit.new) (C.state card_a.new) (D.state card_b.new)) }
     ensures events { NotesFall (λ fell. IsNotedIn (card_in (seat_in run.old.keeper.cabin.slots.seats slot)) slot (now_moment run.old) run.old run.new breaks.old breaks.new fell) run.old.next (is_err result) run.new (devices (M.state unit.old) (C.state card_a.old) (D.state card_b.old)) (devices (M.state unit.new) (C.state card_a.new) (D.state card_b.new)) }
     ensures rings { LeavesRings (M.state unit.old) (M.state unit.new) }
     ensures only { run.new ≡ record run.old { keeper = run.new.keeper } }
@@ -152,6 +155,7 @@ fn note_on<M: Medium, C: Chip>(
     requires room { length breaks.old.items < breaks.old.room }
     ensures noted { (fell : Bool) × IsNotedOn which slot (now_moment run.old) run.old run.new breaks.old breaks.new fell × HasBroken (C.state card.old) (C.state card.new) (falls_by fell) × HasCause (C.state card.old) (C.state card.new) fell × (is_err result ≡ true → fell ≡ true) }
     ensures card_events { NotesOn false (session_of run.old.keeper.cabin.cards which) (session_of run.new.keeper.cabin.cards which) (card_entry event.now run.old.keeper.memory.registration ∷ []) (C.state card.old) (C.state card.new) }
+    ensures places { LeavesPlaces (session_of run.old.keeper.cabin.cards which) (C.state card.old) (C.state card.new) }
     ensures events { NotesFall (λ fell. IsNotedOn which slot (now_moment run.old) run.old run.new breaks.old breaks.new fell) run.old.next (is_err result) run.new (devices (M.state unit.old) (C.state card.old) (C.state card.old)) (devices (M.state unit.new) (C.state card.new) (C.state card.new)) }
     ensures rings { LeavesRings (M.state unit.old) (M.state unit.new) }
     ensures journal { LeavesOnly (M.state unit.old) (M.state unit.new) LeavesJournal }

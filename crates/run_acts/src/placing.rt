@@ -19,7 +19,7 @@ ghost use Rattle.device_steps.specs.CardNotes.{IsNote};
 ghost use Rattle.run_acts.specs.Noting.{IsPlaceRecorded, NotesFall, NotesPlace};
 ghost use Rattle.run_acts.specs.ActsEvented.{EventsPlace};
 ghost use Rattle.run_acts.specs.CardNotes.{NotesOn, NotesOnCards};
-ghost use Rattle.run_acts.specs.CardWrites.{PlaceOn};
+ghost use Rattle.run_acts.specs.CardWrites.{MayTakePlace, PlaceOn};
 ghost use Rattle.safety_model.specs.Safe.{card_of};
 ghost use Rattle.run_rings.specs.Same.{LeavesRings};
 ghost use Rattle.run_acts.specs.Ringing.{WritesPlace};
@@ -142,6 +142,7 @@ fn note_place_in<M: Medium, C: Chip>(
     ensures noted { (fell : Bool) × IsNotedOn which slot at run.old run.new breaks.old breaks.new fell × HasBroken (C.state card.old) (C.state card.new) (falls_by fell) × HasCause (C.state card.old) (C.state card.new) fell }
     ensures card_events { NotesOn false (session_of run.old.keeper.cabin.cards which) (session_of run.new.keeper.cabin.cards which) [] (C.state card.old) (C.state card.new) }
     ensures on_card { PlaceOn (session_of run.old.keeper.cabin.cards which) (session_of run.new.keeper.cabin.cards which) false entry.now (C.state card.old) (C.state card.new) }
+    ensures places { MayTakePlace (session_of run.old.keeper.cabin.cards which) entry.now (C.state card.old) (C.state card.new) }
     ensures events { NotesFall (λ fell. IsNotedOn which slot at run.old run.new breaks.old breaks.new fell) at.second (is_err result) run.new (devices (M.state unit.old) (C.state card.old) (C.state card.old)) (devices (M.state unit.new) (C.state card.new) (C.state card.new)) }
     ensures rings { LeavesRings (M.state unit.old) (M.state unit.new) }
     ensures journal { LeavesOnly (M.state unit.old) (M.state unit.new) LeavesJournal }

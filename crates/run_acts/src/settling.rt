@@ -19,7 +19,7 @@ ghost use Rattle.run_acts.specs.Acting.{IsSettled, IsBareIn, told_of};
 ghost use Rattle.run_acts.specs.Settling.{RecordsSettling};
 ghost use Rattle.run_acts.specs.Faults.{NotesSettling};
 ghost use Rattle.run_acts.specs.Evented.{EventsSettling};
-ghost use Rattle.run_acts.specs.RunCards.{CardsSettling};
+ghost use Rattle.run_acts.specs.RunCards.{CardsSettling, PlacesSettling};
 ghost use Rattle.run_acts.specs.Devices.{AreLeftMore};
 
 use crate::run::Run;
@@ -60,6 +60,8 @@ pub fn settle<M: Medium, C: Chip, D: Chip>(
     // And each card shows its events still.
     ensures cards { (decided : List Minute) × ((span : Span) → StandsFor run.old.minutes span → decided_in (settled span) ≡ decided_in span ++ decided)
         × CardsSettling decided at run.old run.new outcome.old (devices (M.state unit.old) (C.state card_a.old) (D.state card_b.old)) (devices (M.state unit.new) (C.state card_a.new) (D.state card_b.new)) }
+    ensures places { (decided : List Minute) × ((span : Span) → StandsFor run.old.minutes span → decided_in (settled span) ≡ decided_in span ++ decided)
+        × PlacesSettling decided at run.old run.new outcome.old (devices (M.state unit.old) (C.state card_a.old) (D.state card_b.old)) (devices (M.state unit.new) (C.state card_a.new) (D.state card_b.new)) }
     ensures noted { NotesSettling at (is_err result) run.old run.new outcome.old outcome.new (M.state unit.old) (M.state unit.new) }
     ensures keeps { AreLeftMore (devices (M.state unit.old) (C.state card_a.old) (D.state card_b.old)) (devices (M.state unit.new) (C.state card_a.new) (D.state card_b.new)) }
     ensures clock { (M.state unit.old).clock ≤ (M.state unit.new).clock }

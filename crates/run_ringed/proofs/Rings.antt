@@ -22,6 +22,8 @@ use Rattle.run_rings.proofs.Standing.{stand-one, stand-unsure}
 use Rattle.run_recorded.specs.Origin.{Origin}
 use Rattle.run_recorded.specs.Beside.{HaveLeftMore}
 use Rattle.run_ringed.specs.Ringed.{holder_in, TellsIn, IsInsertionIn, IsPlaceIn, sure_insertion, sure_place, ShowsNotes, Seating, one_behind, IsSeated, ShowsInsertions, Ringed, GoOn, NoRingIsWritten, RingsStay, FewerSit, IsAddedAt, MayBeAdded}
+use Rattle.run_ringed.specs.OnCards.{place_width, IsPlaceOn, PlacesStay, PlaceIsTaken}
+use Rattle.run_ringed.proofs.OnCards.{whole-head, maybe, places-none, places-go, places-beside, places-taken}
 use Rattle.run_ringed.proofs.Stands.{Weaker, stand-as, each-as, each-append, all-parts, all-of, all-each, with-whole, insertions-more, places-more, insertion-as, place-as}
 
 pub insertion_shape : IsShape insertion_ring
@@ -30,24 +32,19 @@ insertion_shape = record { some = omega arith; gate = omega arith; pointer = ome
 pub place_shape : IsShape unit_place_ring
 place_shape = record { some = omega arith; gate = omega arith; pointer = omega arith; holds = λ _. omega arith; short = omega arith }
 
-entry-fits : (r : Shape) (x : List ℕ) (i : ℕ) → length (entry_at r x i) ≤ r.width
-entry-fits r x i = let long : length (entry_at r x i) ≡ min r.width (length (drop (place_of r i) x)) = length-take r.width (drop (place_of r i) x) in omega (arith, long)
-
-whole-head : (r : Shape) (x : List ℕ) (i : ℕ) (head : List ℕ) → length head ≡ r.width → with_head r x i head ≡ head
-whole-head r x i head full = with-whole r x i head (let fits = entry-fits r x i in omega (arith, fits, full))
-
 -- ---- what each image behind a call was written from, and nothing else
 abbrev pub Writes : (R : List ℕ → List ℕ → Type 0) → (d e : Devices) → Type 0
 Writes R d e = (y : List ℕ) → e.unit.may_leave y → (x : List ℕ) × d.unit.may_leave x × R x y
 
 -- AT THE START
 pub none-noted : (d : Devices) → NoRingIsWritten d
-none-noted d o log spans start = record {
+none-noted d o log spans start cards = record {
   insertions = λ ring x left. record {
     shows = record { more = []; carries = subst (λ (y : List ℕ). Carries insertion_ring o.recording.unit y []) (sym (start x left)) (carries-none insertion_ring o.recording.unit ring.points ring.dense); stand = refl };
     seated = λ c. tt;
   };
   places = λ ring x left. record { more = []; carries = subst (λ (y : List ℕ). Carries unit_place_ring o.recording.unit y []) (sym (start x left)) (carries-none unit_place_ring o.recording.unit ring.points ring.dense); stand = refl };
+  on_cards = places-none o log spans d cards;
 }
 
 -- FEWER CARDS
@@ -55,6 +52,7 @@ pub fewer-sit : (d : Devices) → FewerSit d
 fewer-sit d o log spans notes seats fewer v each = record {
   insertions = λ ring x left. let was = v.insertions ring x left in record { shows = was.shows; seated = λ c. by c was (fewer c) (seats c) (each c) (was.seated c) };
   places = v.places;
+  on_cards = v.on_cards;
 }
   where
     by : (c : Card) {x : List ℕ} (was : ShowsInsertions o log spans notes seats d x) (q p : Option Seating) → (q ≡ p) ⊎ (q ≡ None) → IfSome p (λ s. IsSeated (sure_insertion o log spans) (IsInsertionIn o log spans d) c s (insertions_of notes) was.shows.more x) →
@@ -111,6 +109,7 @@ module _ (o : Origin) (log later : RunLog) (spans now : List SpanFrom) (notes : 
 pub go-on : (log : RunLog) (spans : List SpanFrom) (notes : List Note) → GoOn log log spans spans notes
 go-on log spans notes = record {
   failed = λ u has. has;
+  fell = λ u has. has;
   insertions = all-each (λ (i : InsertionNote). (odometer_at i.accepted.second spans ≡ odometer_at i.accepted.second spans) × IfSome i.withdrawn (λ u. odometer_at u spans ≡ odometer_at u spans)) (λ i. (refl, by i.withdrawn)) (insertions_of notes);
   places = all-each (λ (p : PlaceNote). odometer_at p.second spans ≡ odometer_at p.second spans) (λ p. refl) (places_of notes);
 }
@@ -121,7 +120,7 @@ go-on log spans notes = record {
 
 -- CALLS THAT WRITE NO RING
 pub rings-stay : (d e : Devices) → RingsStay d e
-rings-stay d e o log later spans now notes seats v stays more on = record {
+rings-stay d e o log later spans now notes seats v stays more cards on = record {
   insertions = λ ring y left.
       let w = stays y left in
       let was = v.insertions ring w.0 w.1 in
@@ -140,26 +139,10 @@ rings-stay d e o log later spans now notes seats v stays more on = record {
         carries = carries-same unit_place_ring o.recording.unit w.0 was.more was.carries place_shape y w.2.places;
         stand = stand-as (sure_place o log spans) (sure_place o later now) (IsPlaceIn o log spans) (IsPlaceIn o later now) (places_of notes) was.more (places-weaker o log later spans now notes d e more on) was.stand;
       };
+  on_cards = places-go o log later spans now notes d e on.fell on.places cards v.on_cards;
 }
 
 -- ---- lists
-
--- an entry more that may stand
-maybe : {N : Type 0} (r : Shape) (start x y head : List ℕ) (sure : N → Bool) (Is : N → List ℕ → Type 0) (notes : List N) (n : N) → ShowsNotes r sure Is notes start x → length head ≡ r.width → Is n head → sure n ≡ false → (y ≡ x) ⊎ IsAdding r head x y →
-    ShowsNotes r sure Is (notes ++ n ∷ []) start y
-maybe r start x y head sure Is notes n was full is unsure (inl same) = record {
-  more = was.more;
-  carries = subst (λ (z : List ℕ). Carries r start z was.more) (sym same) was.carries;
-  stand = stand-unsure sure Is notes was.more n was.stand unsure;
-}
-maybe r start x y head sure Is notes n was full is unsure (inr moment) = ⊎_elim
-    (λ carries. record { more = was.more; carries = carries; stand = stand-unsure sure Is notes was.more n was.stand unsure })
-    (λ carries. record {
-      more = was.more ++ head ∷ [];
-      carries = subst (λ (l : List ℕ). Carries r start y (was.more ++ l ∷ [])) (whole-head r x (taken r x) head full) carries;
-      stand = stand-one sure Is notes was.more n head was.stand is;
-    })
-    (carries-maybe r start x was.more was.carries head y moment)
 
 same-outside : (r q : Shape) (head x y : List ℕ) → (q.base + size_of q ≤ r.base) ⊎ (r.base + size_of r ≤ q.base) → (y ≡ x) ⊎ IsAdding q head x y → bytes_at y r.base (size_of r) ≡ bytes_at x r.base (size_of r)
 same-outside r q head x y apart (inl same) = ap (λ (z : List ℕ). bytes_at z r.base (size_of r)) same
@@ -178,9 +161,9 @@ none-behind c (k ∷ newer) n none other =
 
 -- ---- A PLACE
 
-pub place-noted : (d e : Devices) (o : Origin) (log : RunLog) (spans : List SpanFrom) (notes : List Note) (seats : Card → Option Seating) → Ringed o log spans notes seats d → HaveLeftMore o d e → (p : PlaceNote) (head : List ℕ) → Writes (IsAdded unit_place_ring head) d e → length head ≡ unit_place_ring.width → IsPlaceIn o log spans p head →
+pub place-noted : (d e : Devices) (o : Origin) (log : RunLog) (spans : List SpanFrom) (notes : List Note) (seats : Card → Option Seating) → Ringed o log spans notes seats d → HaveLeftMore o d e → (p : PlaceNote) (head : List ℕ) → Writes (IsAdded unit_place_ring head) d e → length head ≡ unit_place_ring.width → IsPlaceIn o log spans p head → (own : List ℕ) → length own ≡ place_width → IsPlaceOn spans p own → PlaceIsTaken o log p own d e →
     Ringed o log spans (notes ++ Enters p ∷ []) seats e
-place-noted d e o log spans notes seats v more p head added full is = record {
+place-noted d e o log spans notes seats v more p head added full is own long on taken_ = record {
   insertions = λ ring y left.
       let w = added y left in
       let was = v.insertions ring w.0 w.1 in
@@ -204,12 +187,13 @@ place-noted d e o log spans notes seats v more p head added full is = record {
         stand = subst (λ (l : List PlaceNote). Stand (sure_place o log spans) (IsPlaceIn o log spans) l (was.more ++ head ∷ [])) (sym (places-more notes (Enters p)))
             (stand-one (sure_place o log spans) (IsPlaceIn o log spans) (places_of notes) was.more p head was.stand is);
       };
+  on_cards = places-taken o log spans notes p own d e long on taken_ v.on_cards;
 }
 
 -- or the unit failed in it
-pub place-broken : (d e : Devices) (o : Origin) (log : RunLog) (spans : List SpanFrom) (notes : List Note) (seats : Card → Option Seating) → Ringed o log spans notes seats d → HaveLeftMore o d e → (p : PlaceNote) (head : List ℕ) → Writes (MayBeAdded unit_place_ring head) d e → length head ≡ unit_place_ring.width → IsPlaceIn o log spans p head → has_failed_in log p.second ≡ true →
+pub place-broken : (d e : Devices) (o : Origin) (log : RunLog) (spans : List SpanFrom) (notes : List Note) (seats : Card → Option Seating) → Ringed o log spans notes seats d → HaveLeftMore o d e → (p : PlaceNote) (head : List ℕ) → Writes (MayBeAdded unit_place_ring head) d e → length head ≡ unit_place_ring.width → IsPlaceIn o log spans p head → has_failed_in log p.second ≡ true → (own : List ℕ) → length own ≡ place_width → IsPlaceOn spans p own → PlaceIsTaken o log p own d e →
     Ringed o log spans (notes ++ Enters p ∷ []) (λ c. None) e
-place-broken d e o log spans notes seats v more p head adding full is has = record {
+place-broken d e o log spans notes seats v more p head adding full is has own long on taken_ = record {
   insertions = λ ring y left.
       let w = adding y left in
       let was = v.insertions ring w.0 w.1 in
@@ -228,6 +212,7 @@ place-broken d e o log spans notes seats v more p head adding full is has = reco
       let was = v.places ring w.0 w.1 in
       subst (λ (l : List PlaceNote). ShowsNotes unit_place_ring (sure_place o log spans) (IsPlaceIn o log spans) l o.recording.unit y) (sym (places-more notes (Enters p)))
       (maybe unit_place_ring o.recording.unit w.0 y head (sure_place o log spans) (IsPlaceIn o log spans) (places_of notes) p was full is (ap not has) w.2);
+  on_cards = places-taken o log spans notes p own d e long on taken_ v.on_cards;
 }
 
 -- ---- AN INSERTION
@@ -275,10 +260,10 @@ seated-more sure Is c (Some s) ns ms x y a head points dense added other is sits
       sits.there;
 }
 
-pub insertion-noted : (d e : Devices) (o : Origin) (log : RunLog) (spans : List SpanFrom) (notes : List Note) (seats now : Card → Option Seating) → Ringed o log spans notes seats d → HaveLeftMore o d e → (a : Acceptance) (head : List ℕ) (index : ℕ) → Writes (IsAddedAt index head) d e → length head ≡ insertion_ring.width →
+pub insertion-noted : (d e : Devices) (o : Origin) (log : RunLog) (spans : List SpanFrom) (notes : List Note) (seats now : Card → Option Seating) → Ringed o log spans notes seats d → HaveLeftMore o d e → PlacesStay o d e → (a : Acceptance) (head : List ℕ) (index : ℕ) → Writes (IsAddedAt index head) d e → length head ≡ insertion_ring.width →
     IsInsertionIn o log spans e (record { accepted = a; withdrawn = None }) head → ((c : Card) → ((same_card a.card c ≡ false) × (now c ≡ option_map one_behind (seats c))) ⊎ ((same_card a.card c ≡ true) × (now c ≡ Some (record { index = index; behind = 0 })))) →
     Ringed o log spans (notes ++ Accepts a ∷ []) now e
-insertion-noted d e o log spans notes seats now v more a head index added full is each = record {
+insertion-noted d e o log spans notes seats now v more cards a head index added full is each = record {
   insertions = λ ring y left.
       let w = added y left in
       let was = v.insertions ring w.0 w.1 in
@@ -325,12 +310,13 @@ insertion-noted d e o log spans notes seats now v more a head index added full i
         carries = carries-same unit_place_ring o.recording.unit w.0 was.more was.carries place_shape y bytes;
         stand = was.stand;
       });
+  on_cards = places-beside o log spans notes (Accepts a) d e refl cards v.on_cards;
 }
 
 -- or the unit failed in it
-pub insertion-broken : (d e : Devices) (o : Origin) (log : RunLog) (spans : List SpanFrom) (notes : List Note) (seats : Card → Option Seating) → Ringed o log spans notes seats d → HaveLeftMore o d e → (a : Acceptance) (head : List ℕ) → Writes (MayBeAdded insertion_ring head) d e → length head ≡ insertion_ring.width →
+pub insertion-broken : (d e : Devices) (o : Origin) (log : RunLog) (spans : List SpanFrom) (notes : List Note) (seats : Card → Option Seating) → Ringed o log spans notes seats d → HaveLeftMore o d e → PlacesStay o d e → (a : Acceptance) (head : List ℕ) → Writes (MayBeAdded insertion_ring head) d e → length head ≡ insertion_ring.width →
     IsInsertionIn o log spans e (record { accepted = a; withdrawn = None }) head → has_failed_in log a.second ≡ true → Ringed o log spans (notes ++ Accepts a ∷ []) (λ c. None) e
-insertion-broken d e o log spans notes seats v more a head adding full is has = record {
+insertion-broken d e o log spans notes seats v more cards a head adding full is has = record {
   insertions = λ ring y left.
       let w = adding y left in
       let was = v.insertions ring w.0 w.1 in
@@ -349,4 +335,5 @@ insertion-broken d e o log spans notes seats v more a head adding full is has = 
         carries = carries-same unit_place_ring o.recording.unit w.0 was.more was.carries place_shape y bytes;
         stand = was.stand;
       });
+  on_cards = places-beside o log spans notes (Accepts a) d e refl cards v.on_cards;
 }

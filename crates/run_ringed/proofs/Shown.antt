@@ -11,8 +11,10 @@ use Rattle.side_model.specs.Rings.{Holder, RingShows, IsInsertion, IsPlace, is_s
 use Rattle.safety_model.specs.Safe.{Devices, card_of}
 use Rattle.safety_model.specs.Side.{identification_widths, holder_of, IsPrevious}
 use Rattle.run_rings.proofs.Standing.{ring-shows}
+use Rattle.safety_model.specs.Recording.{card_image}
 use Rattle.run_rule.specs.Found.{found_of}
-use Rattle.run_ringed.specs.Ringed.{holder_in, IsInsertionIn, IsPlaceIn, sure_insertion, sure_place, HasRing, notes_in, RingsAreShown}
+use Rattle.run_ringed.specs.OnCards.{places_in, places_on, IsPlaceOn, is_sure_on, HasPlaces}
+use Rattle.run_ringed.specs.Ringed.{holder_in, IsInsertionIn, IsPlaceIn, sure_insertion, sure_place, HasRing, notes_in, RingsAreShown, PlacesAreShown}
 
 -- a holder by an image
 holder-by : List ℕ → Holder
@@ -46,3 +48,11 @@ rings-shown began now o log spans notes seats v r unit cards logs trace clocks x
 
     starts : ◌≡◌ {A = Card → ℕ} (λ c. (found_of o.found c).began) (λ c. (card_of began c).clock)
     starts = λ i c. clocks c i
+
+pub places-shown : (began now : Devices) → PlacesAreShown began now
+places-shown began now o log spans notes seats v r cards logs trace c has x left =
+    let was = v.on_cards c (subst HasPlaces (cards c) has) x left in
+    subst (λ (l : RunLog). RingShows (places_in (card_image r c)) (is_sure_on l) (IsPlaceOn spans) (places_on c (places_of (notes_in r.log r.trace))) (card_image r c) x) (sym logs)
+    (subst (λ (n : List Note). RingShows (places_in (card_image r c)) (is_sure_on log) (IsPlaceOn spans) (places_on c (places_of n)) (card_image r c) x) trace
+    (subst (λ (i : List ℕ). RingShows (places_in i) (is_sure_on log) (IsPlaceOn spans) (places_on c (places_of notes)) i x) (sym (cards c))
+    (ring-shows (is_sure_on log) (IsPlaceOn spans) (places_in (card_image o.recording c)) (places_on c (places_of notes)) (card_image o.recording c) x was.more was.carries was.stand)))

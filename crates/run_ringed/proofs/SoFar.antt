@@ -34,17 +34,11 @@ use Rattle.run_ringed.specs.Ringed.{Seating, Ringed, StaysInRings, GoOn, notes_i
 use Rattle.run_ringed.specs.SoFar.{noted_at, AreEarlier, RingedBehind, IsSecond, notes_so_far, RingedIn, AreFewer, HasMoreBreaks, ASecondBeginsInRings, RingsGoOn, AnActionNotesNothing, AnActionIsNoted, GoesBehind, TheSecondEndsInRings, ACutEndsInRings, DarkSecondsNoteNothing}
 use Rattle.run_ringed.proofs.Stands.{all-of, all-each}
 use Rattle.run_ringed.proofs.Noted.{second-notes}
+use Rattle.run_ringed.specs.OnCards.{has_call_failed_in}
+use Rattle.run_ringed.proofs.OnCards.{any-front, call-failed-more, places-itself}
 use Rattle.run_ringed.proofs.Rings.{fewer-sit, rings-stay}
 
 -- ---- more breaks
-
-any-front : {X : Type 0} (p : X → Bool) (xs ys : List X) → list_any p xs ≡ true → list_any p (xs ++ ys) ≡ true
-any-front p [] ys is = absurd (cc)
-any-front p (x ∷ xs) ys is = by (p x) is (any-front p xs ys)
-  where
-    by : (b : Bool) → (b || list_any p xs) ≡ true → (list_any p xs ≡ true → list_any p (xs ++ ys) ≡ true) → (b || list_any p (xs ++ ys)) ≡ true
-    by true has rest = refl
-    by false has rest = rest has
 
 pub failed-more : (log later : RunLog) → HasMoreBreaks log later → (u : ℕ) → has_failed_in log u ≡ true → has_failed_in later u ≡ true
 failed-more log later more u has =
@@ -60,9 +54,10 @@ both-same None f g same = tt
 both-same (Some u) f g same = same u
 
 -- where all odometers are the same
-pub goes-alike : (log later : RunLog) (spans now : List SpanFrom) (notes : List Note) → ((u : ℕ) → has_failed_in log u ≡ true → has_failed_in later u ≡ true) → ((u : ℕ) → odometer_at u now ≡ odometer_at u spans) → GoOn log later spans now notes
-goes-alike log later spans now notes failed same = record {
+pub goes-alike : (log later : RunLog) (spans now : List SpanFrom) (notes : List Note) → ((u : ℕ) → has_failed_in log u ≡ true → has_failed_in later u ≡ true) → ((u : ℕ) → has_call_failed_in log u ≡ true → has_call_failed_in later u ≡ true) → ((u : ℕ) → odometer_at u now ≡ odometer_at u spans) → GoOn log later spans now notes
+goes-alike log later spans now notes failed fell same = record {
   failed = failed;
+  fell = fell;
   insertions = all-each (λ (i : InsertionNote). (odometer_at i.accepted.second now ≡ odometer_at i.accepted.second spans) × IfSome i.withdrawn (λ u. odometer_at u now ≡ odometer_at u spans))
       (λ i. (same i.accepted.second, both-same i.withdrawn (λ u. odometer_at u now) (λ u. odometer_at u spans) same)) (insertions_of notes);
   places = all-each (λ (p : PlaceNote). odometer_at p.second now ≡ odometer_at p.second spans) (λ p. same p.second) (places_of notes);
@@ -100,6 +95,7 @@ early-places u (Enters p ∷ notes) all = (all.0, early-places u notes all.1)
 pub goes-earlier : (log : RunLog) (spans now : List SpanFrom) (u : ℕ) (notes : List Note) → AreEarlier u notes → ((v : ℕ) → v < u → odometer_at v now ≡ odometer_at v spans) → GoOn log log spans now notes
 goes-earlier log spans now u notes early same = record {
   failed = λ v has. has;
+  fell = λ v has. has;
   insertions = all-of (IsEarly u) (λ (i : InsertionNote). (odometer_at i.accepted.second now ≡ odometer_at i.accepted.second spans) × IfSome i.withdrawn (λ v. odometer_at v now ≡ odometer_at v spans))
       (λ i is. (same i.accepted.second is.0, by i.withdrawn is.1)) (insertions_of notes) (early-fold u notes [] early tt);
   places = all-of (λ (p : PlaceNote). p.second < u) (λ (p : PlaceNote). odometer_at p.second now ≡ odometer_at p.second spans) (λ p lt. same p.second lt) (places_of notes) (early-places u notes early);
@@ -115,7 +111,7 @@ pub left-itself : (o : Origin) (d : Devices) → HaveLeftMore o d d
 left-itself o d = record { unit = λ x left. left; card = λ c x left. left }
 
 along : (o : Origin) (d : Devices) (log later : RunLog) (spans now : List SpanFrom) (notes : List Note) (seats : Card → Option Seating) → Ringed o log spans notes seats d → GoOn log later spans now notes → Ringed o later now notes seats d
-along o d log later spans now notes seats v on = rings-stay d d o log later spans now notes seats v (rings-left d.unit) (left-itself o d) on
+along o d log later spans now notes seats v on = rings-stay d d o log later spans now notes seats v (rings-left d.unit) (left-itself o d) (places-itself o d) on
 
 -- ---- the steps
 
@@ -133,11 +129,11 @@ second-begins d o done s log spans base t seats v runs second =
     }
 
 pub go-on-in : (d e : Devices) → RingsGoOn d e
-go-on-in d e o done s began front log later spans base t seats fewer v more same stays left fewer_sit =
+go-on-in d e o done s began front log later spans base t seats fewer v more same stays left cards fewer_sit =
     let now : List SpanFrom = with_second spans base t in
     let notes : List Note = notes_so_far began done log s front in
-    let on : GoOn log later now now notes = goes-alike log later now now notes (failed-more log later more) (λ u. refl) in
-    let ringed : Ringed o later now notes seats e = rings-stay d e o log later now now notes seats v.ringed stays left on in
+    let on : GoOn log later now now notes = goes-alike log later now now notes (failed-more log later more) (call-failed-more log later more) (λ u. refl) in
+    let ringed : Ringed o later now notes seats e = rings-stay d e o log later now now notes seats v.ringed stays left cards on in
     let as_ : notes ≡ notes_so_far began done later s front = ap (λ (l : List Note). notes_in began done ++ l) (sym (later-lines log later (went began done).before s front same)) in
     record {
       spans_are = v.spans_are;
@@ -327,7 +323,7 @@ module _ (d : Devices) (o : Origin) (done : List TraceSecond) (s : TraceSecond) 
       let number : one.second.number ≡ s.number = told-number later (went later done).before s in
       let so_far : List Note = notes_so_far began done later s front in
       let ringed : Ringed o later (with_second spans base one) so_far seats d =
-      along o d later later (with_second spans base t) (with_second spans base one) so_far seats v.ringed (goes-alike later later (with_second spans base t) (with_second spans base one) so_far (λ u has. has) (alike spans base t one same)) in
+      along o d later later (with_second spans base t) (with_second spans base one) so_far seats v.ringed (goes-alike later later (with_second spans base t) (with_second spans base one) so_far (λ u has. has) (λ u has. has) (alike spans base t one same)) in
       record {
         spans_are = told-spans;
         before = before-with (suc s.number) spans base one (all-before-later s.number (suc s.number) spans (omega arith) v.before) (omega (arith, number));
@@ -359,7 +355,7 @@ dark-ends d o done s log later spans base seats fewer v behind more off fewer_si
     let none : notes_in later (done ++ s ∷ []) ≡ notes_in log done =
     second-notes log later done s behind.same ∙ ap (λ (l : List Note). notes_in log done ++ l) (dark-notes later (went later done).before s there) ∙ append-nil (notes_in log done) in
     let unlit : one.lit ≡ false = dark-lit later (went later done).before s there in
-    let ringed : Ringed o later spans (notes_in log done) seats d = along o d log later spans spans (notes_in log done) seats v.ringed (goes-alike log later spans spans (notes_in log done) (failed-more log later more) (λ u. refl)) in
+    let ringed : Ringed o later spans (notes_in log done) seats d = along o d log later spans spans (notes_in log done) seats v.ringed (goes-alike log later spans spans (notes_in log done) (failed-more log later more) (call-failed-more log later more) (λ u. refl)) in
     record {
       spans_are = v.spans_are
           ∙ ap (λ (b : Bool). cond b (cond one.starts (spans_of (went log done).told ++ (one ∷ []) ∷ []) (go_on (spans_of (went log done).told) one)) (spans_of (went log done).told)) (sym unlit)

@@ -30,6 +30,8 @@ use Rattle.run_ringed.specs.Ringed.{Seating, Ringed, StaysInRings, GoOn, notes_i
 use Rattle.run_ringed.specs.SoFar.{AreEarlier, RingedBehind, notes_so_far, RingedIn, AreFewer, HasMoreBreaks, GoesBehind}
 use Rattle.run_ringed.specs.Steps.{nobody}
 use Rattle.run_ringed.specs.Waking.{NoneFound, PowerBeginsInRings, IsFoundAnew, ASlotIsPassedAnew, ACardIsAcceptedAnew, AnAcceptanceIsCutAnew}
+use Rattle.run_ringed.specs.OnCards.{has_call_failed_in, PlacesStay}
+use Rattle.run_ringed.proofs.OnCards.{call-failed-more, places-itself}
 use Rattle.run_ringed.proofs.Noted.{notes-alike}
 use Rattle.run_ringed.proofs.Rings.{fewer-sit, rings-stay}
 use Rattle.run_ringed.proofs.Around.{insertion-around, insertion-cut}
@@ -84,7 +86,7 @@ power-begins d o done s began spans base t seats fewer v off none second few =
     let notes : List Note = notes_in began done in
     let are : notes ++ notes_to began (went began done).before s [] ≡ notes = ap (λ (l : List Note). notes ++ l) (nothing-noted began (went began done).before s off none) ∙ append-nil notes in
     let earlier = goes-earlier began spans now s.number notes v.early (λ u lt. earlier-stay spans base t u (let is = second.number in omega (arith, lt, is))) in
-    let ringed : Ringed o began now notes seats d = rings-stay d d o began began spans now notes seats v.ringed (rings-left d.unit) (left-itself o d) earlier in
+    let ringed : Ringed o began now notes seats d = rings-stay d d o began began spans now notes seats v.ringed (rings-left d.unit) (left-itself o d) (places-itself o d) earlier in
     record {
       spans_are = v.spans_are;
       before = v.before;
@@ -99,7 +101,7 @@ module _ (d e : Devices) (o : Origin) (done : List TraceSecond) (s : TraceSecond
   lines-anew =
       let now : List SpanFrom = with_second spans base t in
       let notes : List Note = notes_so_far began done log s [] in
-      rings-stay d d o log later now now notes seats v.ringed (rings-left d.unit) (left-itself o d) (goes-alike log later now now notes (failed-more log later more) (λ u. refl))
+      rings-stay d d o log later now now notes seats v.ringed (rings-left d.unit) (left-itself o d) (places-itself o d) (goes-alike log later now now notes (failed-more log later more) (call-failed-more log later more) (λ u. refl))
 
   -- this is noted
   noted-anew : (fewer : Card → Option Seating) (noted : List Note) → notes_to later (went began done).before s [] ≡ notes_to log (went began done).before s [] ++ noted →
@@ -115,11 +117,11 @@ module _ (d e : Devices) (o : Origin) (done : List TraceSecond) (s : TraceSecond
 
 -- A SLOT IS LEFT
 pub passed-anew : (d e : Devices) → ASlotIsPassedAnew d e
-passed-anew d e o done s began log later spans base t seats fewer v off more slot found is none stays left few =
+passed-anew d e o done s began log later spans base t seats fewer v off more slot found is none stays left cards few =
     let now : List SpanFrom = with_second spans base t in
     let notes : List Note = notes_so_far began done log s [] in
     let before : Before = (went began done).before in
-    let ringed : Ringed o later now notes seats e = rings-stay d e o log later now now notes seats v.ringed stays left (goes-alike log later now now notes (failed-more log later more) (λ u. refl)) in
+    let ringed : Ringed o later now notes seats e = rings-stay d e o log later now now notes seats v.ringed stays left cards (goes-alike log later now now notes (failed-more log later more) (call-failed-more log later more) (λ u. refl)) in
     let noted = slot-notes log later before s off slot found is ∙ ap (λ (l : List Note). notes_to log before s [] ++ l) (none-accepted s.number slot (in_slot before.slots slot) found none) in
     noted-anew d e o done s began log later spans base t seats v more fewer [] noted
     (subst (λ (l : List Note). Ringed o later now l fewer e) (sym (append-nil notes)) (fewer-sit e o later now notes seats fewer ringed few))
@@ -134,40 +136,40 @@ one-anew log later before s off slot x sits v found accepting =
     ∙ ap (λ (b : Bool). front ++ map (λ (w : Verdict). Accepts (record { second = s.number; slot = slot; card = x.card })) (cond b (v ∷ []) [])) accepting
 
 pub accepted-anew : (d e : Devices) → ACardIsAcceptedAnew d e
-accepted-anew d e o done s began log later spans base t seats now_ fewer v off more slot x sits verdict found accepting head index writes long is each left few =
+accepted-anew d e o done s began log later spans base t seats now_ fewer v off more slot x sits verdict found accepting head index writes long is each left cards few =
     let now : List SpanFrom = with_second spans base t in
     let notes : List Note = notes_so_far began done log s [] in
     let n : Acceptance = record { second = s.number; slot = slot; card = x.card } in
-    let r : Ringed o later now (notes ++ Accepts n ∷ []) now_ e = insertion-around d e o later now notes seats now_ (lines-anew d e o done s began log later spans base t seats v more) left n head index writes long is each in
+    let r : Ringed o later now (notes ++ Accepts n ∷ []) now_ e = insertion-around d e o later now notes seats now_ (lines-anew d e o done s began log later spans base t seats v more) left cards n head index writes long is each in
     noted-anew d e o done s began log later spans base t seats v more fewer (Accepts n ∷ []) (one-anew log later (went began done).before s off slot x sits verdict found accepting)
     (fewer-sit e o later now (notes ++ Accepts n ∷ []) now_ fewer r few)
 
 pub cut-anew : (d e : Devices) → AnAcceptanceIsCutAnew d e
-cut-anew d e o done s began log cut spans base t seats v off more slot x sits verdict found accepting behind power is_cut failed head writes long is left =
+cut-anew d e o done s began log cut spans base t seats v off more slot x sits verdict found accepting behind power is_cut failed head writes long is left cards =
     let now : List SpanFrom = with_second spans base t in
     let notes : List Note = notes_so_far began done log s [] in
     let n : Acceptance = record { second = s.number; slot = slot; card = x.card } in
-    let r : Ringed o cut now (notes ++ Accepts n ∷ []) nobody e = insertion-cut d e o cut now notes seats (lines-anew d e o done s began log cut spans base t seats v more) left n head writes long is failed in
+    let r : Ringed o cut now (notes ++ Accepts n ∷ []) nobody e = insertion-cut d e o cut now notes seats (lines-anew d e o done s began log cut spans base t seats v more) left cards n head writes long is failed in
     let w : RingedIn o done s began [] cut spans base t nobody e = noted-anew d e o done s began log cut spans base t seats v more nobody (Accepts n ∷ []) (one-anew log cut (went began done).before s off slot x sits verdict found accepting) r in
     cut-ends e o done s began cut [] s.actions spans base t nobody nobody w behind power refl is_cut (λ c. inl refl)
 
 -- ---- BETWEEN TWO SECONDS
 
 -- calls that write no ring leave it
-pub behind-stays : (d e : Devices) (o : Origin) (done : List TraceSecond) (log : RunLog) (next : ℕ) (spans : List SpanFrom) (seats : Card → Option Seating) → RingedBehind o done log next spans seats d → StaysInRings d e → HaveLeftMore o d e → RingedBehind o done log next spans seats e
-behind-stays d e o done log next spans seats v stays left = record {
+pub behind-stays : (d e : Devices) (o : Origin) (done : List TraceSecond) (log : RunLog) (next : ℕ) (spans : List SpanFrom) (seats : Card → Option Seating) → RingedBehind o done log next spans seats d → StaysInRings d e → HaveLeftMore o d e → PlacesStay o d e → RingedBehind o done log next spans seats e
+behind-stays d e o done log next spans seats v stays left cards = record {
   spans_are = v.spans_are;
   before = v.before;
   early = v.early;
-  ringed = rings-stay d e o log log spans spans (notes_in log done) seats v.ringed stays left (goes-alike log log spans spans (notes_in log done) (λ u has. has) (λ u. refl));
+  ringed = rings-stay d e o log log spans spans (notes_in log done) seats v.ringed stays left cards (goes-alike log log spans spans (notes_in log done) (λ u has. has) (λ u has. has) (λ u. refl));
 }
 
 -- and so does another log that tells the same of these seconds
 pub behind-alike : (d : Devices) (o : Origin) (done : List TraceSecond) (log later : RunLog) (next : ℕ) (spans : List SpanFrom) (seats : Card → Option Seating) → RingedBehind o done log next spans seats d → GoesBehind log later done →
-    ((u : ℕ) → has_failed_in log u ≡ true → has_failed_in later u ≡ true) → RingedBehind o done later next spans seats d
-behind-alike d o done log later next spans seats v behind failed =
+    ((u : ℕ) → has_failed_in log u ≡ true → has_failed_in later u ≡ true) → ((u : ℕ) → has_call_failed_in log u ≡ true → has_call_failed_in later u ≡ true) → RingedBehind o done later next spans seats d
+behind-alike d o done log later next spans seats v behind failed fell =
     let same : notes_in later done ≡ notes_in log done = notes-alike log later done behind.same in
-    let ringed : Ringed o later spans (notes_in log done) seats d = rings-stay d d o log later spans spans (notes_in log done) seats v.ringed (rings-left d.unit) (left-itself o d) (goes-alike log later spans spans (notes_in log done) failed (λ u. refl)) in
+    let ringed : Ringed o later spans (notes_in log done) seats d = rings-stay d d o log later spans spans (notes_in log done) seats v.ringed (rings-left d.unit) (left-itself o d) (places-itself o d) (goes-alike log later spans spans (notes_in log done) failed fell (λ u. refl)) in
     record {
       spans_are = v.spans_are ∙ ap (λ (w : Went). spans_of w.told) (sym behind.went_is);
       before = v.before;
@@ -189,3 +191,18 @@ failed-found (suc i) k u (Tear s slot f n late ∷ bs) = failed-found i k u bs
 
 pub still-failed : (log : RunLog) (i k u : ℕ) → has_failed_in log u ≡ true → has_failed_in (record log { breaks = found_from i k log.breaks }) u ≡ true
 still-failed log i k u has = failed-found i k u log.breaks ∙ has
+
+calls-found : (i k u : ℕ) (bs : List Break) → list_any (λ (b : Break). nat_eq (second_of b) u) (filter has_failed (found_from i k bs)) ≡ list_any (λ (b : Break). nat_eq (second_of b) u) (filter has_failed bs)
+calls-found zero k u [] = refl
+calls-found zero k u (Cut s old true n ∷ bs) = ap (λ (x : Bool). nat_eq s u || x) (calls-found zero k u bs)
+calls-found zero k u (Cut s old false n ∷ bs) = calls-found zero k u bs
+calls-found zero k u (Tear s slot true n late ∷ bs) = ap (λ (x : Bool). nat_eq s u || x) (calls-found zero k u bs)
+calls-found zero k u (Tear s slot false n late ∷ bs) = calls-found zero k u bs
+calls-found (suc i) k u [] = refl
+calls-found (suc i) k u (Cut s old true n ∷ bs) = ap (λ (x : Bool). nat_eq s u || x) (calls-found i k u bs)
+calls-found (suc i) k u (Cut s old false n ∷ bs) = calls-found i k u bs
+calls-found (suc i) k u (Tear s slot true n late ∷ bs) = ap (λ (x : Bool). nat_eq s u || x) (calls-found i k u bs)
+calls-found (suc i) k u (Tear s slot false n late ∷ bs) = calls-found i k u bs
+
+pub still-call-failed : (log : RunLog) (i k u : ℕ) → has_call_failed_in log u ≡ true → has_call_failed_in (record log { breaks = found_from i k log.breaks }) u ≡ true
+still-call-failed log i k u has = calls-found i k u log.breaks ∙ has

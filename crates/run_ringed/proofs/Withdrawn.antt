@@ -32,6 +32,8 @@ use Rattle.run_rings.proofs.Standing.{stand-append, withdrawal-of-last}
 use Rattle.run_recorded.specs.Origin.{Origin}
 use Rattle.run_recorded.specs.Beside.{HaveLeftMore}
 use Rattle.run_ringed.specs.Ringed.{holder_in, TellsIn, Each, HasSameRings, IsInsertionIn, IsPlaceIn, sure_insertion, sure_place, ShowsNotes, Seating, IsSeated, Ringed, IsWithdrawnAt, MayBeWithdrawn}
+use Rattle.run_ringed.specs.OnCards.{PlacesStay}
+use Rattle.run_ringed.proofs.OnCards.{places-beside}
 use Rattle.run_ringed.proofs.Stands.{each-stand, each-long, each-append, each-split, insertions-more, places-more}
 use Rattle.run_ringed.proofs.Rings.{insertion_shape, place_shape, Writes, seated-as, go-on}
 
@@ -261,10 +263,10 @@ carried start x y ms h s olders entry newers are behind there time odometer (inr
     let list-is : length (ring_list insertion_ring y) ≡ length (indices insertion_ring y) = length-map (indices insertion_ring y) (entry_at insertion_ring y) in
     (rings.1, carries-gone insertion_ring start y ms still olders entry (with_withdrawal time odometer entry) newers are (omega (arith, few, list-is, many, behind)))
 
-pub withdrawal-noted : (d e : Devices) (o : Origin) (log : RunLog) (spans : List SpanFrom) (notes : List Note) (seats now : Card → Option Seating) → Ringed o log spans notes seats d → HaveLeftMore o d e → (w : Withdrawal) (s : Seating) → seats w.card ≡ Some s → s.index < insertion_ring.count →
+pub withdrawal-noted : (d e : Devices) (o : Origin) (log : RunLog) (spans : List SpanFrom) (notes : List Note) (seats now : Card → Option Seating) → Ringed o log spans notes seats d → HaveLeftMore o d e → PlacesStay o d e → (w : Withdrawal) (s : Seating) → seats w.card ≡ Some s → s.index < insertion_ring.count →
     (time : TimeReal) (odometer : Odometer) → time.0 ≡ w.second → odometer.0 ≡ odometer_at w.second spans → time.0 < 256 ^ 4 → odometer.0 < 256 ^ 3 → Writes (IsWithdrawnAt s time odometer) d e →
     ((c : Card) → ((same_card w.card c ≡ false) × (now c ≡ seats c)) ⊎ ((same_card w.card c ≡ true) × (now c ≡ None))) → Ringed o log spans (notes ++ Withdraws w ∷ []) now e
-withdrawal-noted d e o log spans notes seats now v more w s at below time odometer second stood time_fits odometer_fits images each = record {
+withdrawal-noted d e o log spans notes seats now v more cards w s at below time odometer second stood time_fits odometer_fits images each = record {
   insertions = λ ring y left.
       let i = images y left in
       let was = v.insertions ring i.0 i.1 in
@@ -297,6 +299,7 @@ withdrawal-noted d e o log spans notes seats now v more w s at below time odomet
         carries = carries-same unit_place_ring o.recording.unit i.0 was.more was.carries place_shape y (places-same i.0 y s below time odometer i.2);
         stand = was.stand;
       });
+  on_cards = places-beside o log spans notes (Withdraws w) d e refl cards v.on_cards;
 }
   where
     places-same : (x y : List ℕ) (s : Seating) → s.index < insertion_ring.count → (time : TimeReal) (odometer : Odometer) → (IsWithdrawn s.index time odometer x y × (s.behind < insertion_ring.count)) ⊎ (HasSameRings x y × (insertion_ring.count ≤ s.behind)) →
@@ -320,10 +323,10 @@ timed-now start x y ms h s olders entry newers are behind there time w lt = ⊎_
     (λ gone. absurd (omega (arith, lt, gone)))
     there
 
-pub withdrawal-broken : (d e : Devices) (o : Origin) (log : RunLog) (spans : List SpanFrom) (notes : List Note) (seats : Card → Option Seating) → Ringed o log spans notes seats d → HaveLeftMore o d e → (w : Withdrawal) (s : Seating) → seats w.card ≡ Some s → s.index < insertion_ring.count →
+pub withdrawal-broken : (d e : Devices) (o : Origin) (log : RunLog) (spans : List SpanFrom) (notes : List Note) (seats : Card → Option Seating) → Ringed o log spans notes seats d → HaveLeftMore o d e → PlacesStay o d e → (w : Withdrawal) (s : Seating) → seats w.card ≡ Some s → s.index < insertion_ring.count →
     (time : TimeReal) (odometer : Odometer) → time.0 ≡ w.second → odometer.0 ≡ odometer_at w.second spans → time.0 < 256 ^ 4 → odometer.0 < 256 ^ 3 → Writes (MayBeWithdrawn s time odometer) d e → has_failed_in log w.second ≡ true →
     Ringed o log spans (notes ++ Withdraws w ∷ []) (λ c. None) e
-withdrawal-broken d e o log spans notes seats v more w s at below time odometer second stood time_fits odometer_fits images has = record {
+withdrawal-broken d e o log spans notes seats v more cards w s at below time odometer second stood time_fits odometer_fits images has = record {
   insertions = λ ring y left.
       let i = images y left in
       let was = v.insertions ring i.0 i.1 in
@@ -343,6 +346,7 @@ withdrawal-broken d e o log spans notes seats v more w s at below time odometer 
         carries = carries-same unit_place_ring o.recording.unit i.0 was.more was.carries place_shape y (places-same i.0 y i.2);
         stand = was.stand;
       });
+  on_cards = places-beside o log spans notes (Withdraws w) d e refl cards v.on_cards;
 }
   where
     places-same : (x y : List ℕ) → MayBeWithdrawn s time odometer x y → bytes_at y unit_place_ring.base (size_of unit_place_ring) ≡ bytes_at x unit_place_ring.base (size_of unit_place_ring)

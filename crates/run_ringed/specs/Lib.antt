@@ -1,3 +1,4 @@
+pub mod OnCards
 pub mod Ringed
 pub mod SoFar
 pub mod Steps

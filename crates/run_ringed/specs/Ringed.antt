@@ -23,6 +23,8 @@ use Rattle.safety_model.specs.Side.{holder_of, IsPrevious}
 use Rattle.run_rule.specs.Found.{found_of}
 use Rattle.run_rings.specs.Carried.{Carries}
 pub use Rattle.run_rings.specs.Same.{HasSameRings, LeavesRings}
+pub use Rattle.run_ringed.specs.OnCards.{HasRing, ShowsNotes}
+use Rattle.run_ringed.specs.OnCards.{has_call_failed_in, place_width, IsPlaceOn, PlacesOnCards, PlacesStay, PlaceIsTaken, HasPlaces, places_in, places_on, is_sure_on}
 use Rattle.run_recorded.specs.Origin.{Origin}
 use Rattle.run_recorded.specs.Beside.{HaveLeftMore}
 
@@ -56,12 +58,6 @@ sure_insertion o log spans = is_sure_insertion log spans (holder_in o)
 
 abbrev pub sure_place : Origin → RunLog → List SpanFrom → PlaceNote → Bool
 sure_place o log spans = is_sure_place log spans (holder_in o)
-
--- A RING of which entries stand for these notes, behind what it showed at the start
-pub record ShowsNotes {N : Type 0} (r : Shape) (is_sure : N → Bool) (Is : N → List ℕ → Type 0) (notes : List N) (start x : List ℕ) : Type 0 where
-  pub more : List (List ℕ)
-  pub carries : Carries r start x more
-  pub stand : Stand is_sure Is notes more
 
 -- where the insertion of an accepted card is: its index, and how many were added since
 pub record Seating : Type 0 where
@@ -99,21 +95,17 @@ pub record IsSeated (is_sure : InsertionNote → Bool) (Is : InsertionNote → L
   pub behind : length newers ≡ s.behind
   pub there : ((front : List ℕ) × (back : List ℕ) × (indices insertion_ring x ≡ front ++ s.index ∷ back) × (length back ≡ s.behind)) ⊎ (insertion_ring.count ≤ s.behind)
 
--- a ring that was dense at the start
-pub record HasRing (r : Shape) (start : List ℕ) : Type 0 where
-  pub points : PointsInside r start
-  pub dense : IsDense r start
-
 -- the insertions of an image, with the cards that are accepted
 pub record ShowsInsertions (o : Origin) (log : RunLog) (spans : List SpanFrom) (notes : List Note) (seats : Card → Option Seating) (d : Devices) (x : List ℕ) : Type 0 where
   pub shows : ShowsNotes insertion_ring (sure_insertion o log spans) (IsInsertionIn o log spans d) (insertions_of notes) o.recording.unit x
   pub seated : (c : Card) → IfSome (seats c) (λ s. IsSeated (sure_insertion o log spans) (IsInsertionIn o log spans d) c s (insertions_of notes) shows.more x)
 
--- WHAT IS CARRIED OF THE RINGS, of these notes: each image that a stop may leave of the unit shows them
+-- WHAT IS CARRIED OF THE RINGS, of these notes: each image that a stop may leave of the unit shows them, and each of a card its places
 pub record Ringed (o : Origin) (log : RunLog) (spans : List SpanFrom) (notes : List Note) (seats : Card → Option Seating) (d : Devices) : Type 0 where
   pub insertions : HasRing insertion_ring o.recording.unit → (x : List ℕ) → d.unit.may_leave x → ShowsInsertions o log spans notes seats d x
   pub places : HasRing unit_place_ring o.recording.unit → (x : List ℕ) → d.unit.may_leave x →
       ShowsNotes unit_place_ring (sure_place o log spans) (IsPlaceIn o log spans) (places_of notes) o.recording.unit x
+  pub on_cards : PlacesOnCards o log spans notes d
 
 -- ---- steps
 
@@ -146,19 +138,20 @@ IsWithdrawnAt s time odometer p q = (IsWithdrawn s.index time odometer p q × (s
 abbrev pub MayBeWithdrawn : Seating → TimeReal → Odometer → List ℕ → List ℕ → Type 0
 MayBeWithdrawn s time odometer p q = (IsWithdrawing s.index time odometer p q × (s.behind < insertion_ring.count)) ⊎ (HasSameRings p q × (insertion_ring.count ≤ s.behind))
 
--- A LOG AND SPANS THAT GO ON: what failed has failed, and the odometers of what was noted are the same
+-- A LOG AND SPANS THAT GO ON: what failed has failed, on the unit and on a card, and the odometers of what was noted are the same
 pub record GoOn (log later : RunLog) (spans now : List SpanFrom) (notes : List Note) : Type 0 where
   pub failed : (u : ℕ) → has_failed_in log u ≡ true → has_failed_in later u ≡ true
+  pub fell : (u : ℕ) → has_call_failed_in log u ≡ true → has_call_failed_in later u ≡ true
   pub insertions : AllByRecursion (λ (i : InsertionNote). (odometer_at i.accepted.second now ≡ odometer_at i.accepted.second spans) × IfSome i.withdrawn (λ u. odometer_at u now ≡ odometer_at u spans)) (insertions_of notes)
   pub places : AllByRecursion (λ (p : PlaceNote). odometer_at p.second now ≡ odometer_at p.second spans) (places_of notes)
 
 -- NOTHING IS NOTED at the start.
 abbrev pub NoRingIsWritten : Devices → Type 0
-NoRingIsWritten d = (o : Origin) (log : RunLog) (spans : List SpanFrom) → ((x : List ℕ) → d.unit.may_leave x → x ≡ o.recording.unit) → Ringed o log spans [] (λ c. None) d
+NoRingIsWritten d = (o : Origin) (log : RunLog) (spans : List SpanFrom) → ((x : List ℕ) → d.unit.may_leave x → x ≡ o.recording.unit) → ((c : Card) (x : List ℕ) → (card_of d c).may_leave x → x ≡ card_image o.recording c) → Ringed o log spans [] (λ c. None) d
 
 -- CALLS that write no ring leave them so, as the log and the spans go on.
 abbrev pub RingsStay : (d e : Devices) → Type 0
-RingsStay d e = (o : Origin) (log later : RunLog) (spans now : List SpanFrom) (notes : List Note) (seats : Card → Option Seating) → Ringed o log spans notes seats d → StaysInRings d e → HaveLeftMore o d e → GoOn log later spans now notes →
+RingsStay d e = (o : Origin) (log later : RunLog) (spans now : List SpanFrom) (notes : List Note) (seats : Card → Option Seating) → Ringed o log spans notes seats d → StaysInRings d e → HaveLeftMore o d e → PlacesStay o d e → GoOn log later spans now notes →
     Ringed o later now notes seats e
 
 -- CARDS leave their slots, or power is lost: fewer are accepted.
@@ -167,7 +160,7 @@ FewerSit d = (o : Origin) (log : RunLog) (spans : List SpanFrom) (notes : List N
 
 -- AN INSERTION IS NOTED, of a card that is not accepted yet, at this index
 abbrev pub AnInsertionIsNoted : (d e : Devices) → Type 0
-AnInsertionIsNoted d e = (o : Origin) (log : RunLog) (spans : List SpanFrom) (notes : List Note) (seats now : Card → Option Seating) → Ringed o log spans notes seats d → HaveLeftMore o d e → (a : Acceptance) (head : List ℕ) (index : ℕ) →
+AnInsertionIsNoted d e = (o : Origin) (log : RunLog) (spans : List SpanFrom) (notes : List Note) (seats now : Card → Option Seating) → Ringed o log spans notes seats d → HaveLeftMore o d e → PlacesStay o d e → (a : Acceptance) (head : List ℕ) (index : ℕ) →
     WritesRing (IsAddedAt index head) d e →
     length head ≡ insertion_ring.width → IsInsertionIn o log spans e (record { accepted = a; withdrawn = None }) head →
     ((c : Card) → ((same_card a.card c ≡ false) × (now c ≡ option_map one_behind (seats c))) ⊎ ((same_card a.card c ≡ true) × (now c ≡ Some (record { index = index; behind = 0 })))) →
@@ -176,30 +169,30 @@ AnInsertionIsNoted d e = (o : Origin) (log : RunLog) (spans : List SpanFrom) (no
 -- A PLACE IS NOTED
 abbrev pub APlaceIsNoted : (d e : Devices) → Type 0
 APlaceIsNoted d e = (o : Origin) (log : RunLog) (spans : List SpanFrom) (notes : List Note) (seats : Card → Option Seating) → Ringed o log spans notes seats d → HaveLeftMore o d e → (p : PlaceNote) (head : List ℕ) →
-    WritesRing (IsAdded unit_place_ring head) d e → length head ≡ unit_place_ring.width → IsPlaceIn o log spans p head →
+    WritesRing (IsAdded unit_place_ring head) d e → length head ≡ unit_place_ring.width → IsPlaceIn o log spans p head → (own : List ℕ) → length own ≡ place_width → IsPlaceOn spans p own → PlaceIsTaken o log p own d e →
     Ringed o log spans (notes ++ Enters p ∷ []) seats e
 
 -- A WITHDRAWAL IS NOTED, in the entry of the card's last insertion; or as many were added since as the ring has places, and nothing is written
 abbrev pub AWithdrawalIsNoted : (d e : Devices) → Type 0
-AWithdrawalIsNoted d e = (o : Origin) (log : RunLog) (spans : List SpanFrom) (notes : List Note) (seats now : Card → Option Seating) → Ringed o log spans notes seats d → HaveLeftMore o d e → (w : Withdrawal) (s : Seating) → seats w.card ≡ Some s → s.index < insertion_ring.count →
+AWithdrawalIsNoted d e = (o : Origin) (log : RunLog) (spans : List SpanFrom) (notes : List Note) (seats now : Card → Option Seating) → Ringed o log spans notes seats d → HaveLeftMore o d e → PlacesStay o d e → (w : Withdrawal) (s : Seating) → seats w.card ≡ Some s → s.index < insertion_ring.count →
     (time : TimeReal) (odometer : Odometer) → time.0 ≡ w.second → odometer.0 ≡ odometer_at w.second spans → time.0 < 256 ^ 4 → odometer.0 < 256 ^ 3 →
     WritesRing (IsWithdrawnAt s time odometer) d e →
     ((c : Card) → ((same_card w.card c ≡ false) × (now c ≡ seats c)) ⊎ ((same_card w.card c ≡ true) × (now c ≡ None))) → Ringed o log spans (notes ++ Withdraws w ∷ []) now e
 
 -- OR THE UNIT FAILED IN IT: it stands, or does not
 abbrev pub AnInsertionIsBroken : (d e : Devices) → Type 0
-AnInsertionIsBroken d e = (o : Origin) (log : RunLog) (spans : List SpanFrom) (notes : List Note) (seats : Card → Option Seating) → Ringed o log spans notes seats d → HaveLeftMore o d e → (a : Acceptance) (head : List ℕ) →
+AnInsertionIsBroken d e = (o : Origin) (log : RunLog) (spans : List SpanFrom) (notes : List Note) (seats : Card → Option Seating) → Ringed o log spans notes seats d → HaveLeftMore o d e → PlacesStay o d e → (a : Acceptance) (head : List ℕ) →
     WritesRing (MayBeAdded insertion_ring head) d e → length head ≡ insertion_ring.width →
     IsInsertionIn o log spans e (record { accepted = a; withdrawn = None }) head → has_failed_in log a.second ≡ true → Ringed o log spans (notes ++ Accepts a ∷ []) (λ c. None) e
 
 abbrev pub AWithdrawalIsBroken : (d e : Devices) → Type 0
-AWithdrawalIsBroken d e = (o : Origin) (log : RunLog) (spans : List SpanFrom) (notes : List Note) (seats : Card → Option Seating) → Ringed o log spans notes seats d → HaveLeftMore o d e → (w : Withdrawal) (s : Seating) → seats w.card ≡ Some s → s.index < insertion_ring.count →
+AWithdrawalIsBroken d e = (o : Origin) (log : RunLog) (spans : List SpanFrom) (notes : List Note) (seats : Card → Option Seating) → Ringed o log spans notes seats d → HaveLeftMore o d e → PlacesStay o d e → (w : Withdrawal) (s : Seating) → seats w.card ≡ Some s → s.index < insertion_ring.count →
     (time : TimeReal) (odometer : Odometer) → time.0 ≡ w.second → odometer.0 ≡ odometer_at w.second spans → time.0 < 256 ^ 4 → odometer.0 < 256 ^ 3 → WritesRing (MayBeWithdrawn s time odometer) d e → has_failed_in log w.second ≡ true →
     Ringed o log spans (notes ++ Withdraws w ∷ []) (λ c. None) e
 
 abbrev pub APlaceIsBroken : (d e : Devices) → Type 0
 APlaceIsBroken d e = (o : Origin) (log : RunLog) (spans : List SpanFrom) (notes : List Note) (seats : Card → Option Seating) → Ringed o log spans notes seats d → HaveLeftMore o d e → (p : PlaceNote) (head : List ℕ) →
-    WritesRing (MayBeAdded unit_place_ring head) d e → length head ≡ unit_place_ring.width → IsPlaceIn o log spans p head → has_failed_in log p.second ≡ true →
+    WritesRing (MayBeAdded unit_place_ring head) d e → length head ≡ unit_place_ring.width → IsPlaceIn o log spans p head → has_failed_in log p.second ≡ true → (own : List ℕ) → length own ≡ place_width → IsPlaceOn spans p own → PlaceIsTaken o log p own d e →
     Ringed o log spans (notes ++ Enters p ∷ []) (λ c. None) e
 
 -- ---- at the end
@@ -214,3 +207,9 @@ pub record ShowsRingsOf (r : Recording) (spans : List SpanFrom) (began now : Dev
 abbrev pub RingsAreShown : (began now : Devices) → Type 0
 RingsAreShown began now = (o : Origin) (log : RunLog) (spans : List SpanFrom) (notes : List Note) (seats : Card → Option Seating) → Ringed o log spans notes seats now → (r : Recording) → r.unit ≡ o.recording.unit → ((c : Card) → card_image r c ≡ card_image o.recording c) →
     r.log ≡ log → notes ≡ notes_in r.log r.trace → ((c : Card) → (found_of o.found c).began ≡ (card_of began c).clock) → (x : List ℕ) → now.unit.may_leave x → ShowsRingsOf r spans began now x
+
+-- and every image of a card shows its places
+abbrev pub PlacesAreShown : (began now : Devices) → Type 0
+PlacesAreShown began now = (o : Origin) (log : RunLog) (spans : List SpanFrom) (notes : List Note) (seats : Card → Option Seating) → Ringed o log spans notes seats now → (r : Recording) → ((c : Card) → card_image r c ≡ card_image o.recording c) →
+    r.log ≡ log → notes ≡ notes_in r.log r.trace → (c : Card) → HasPlaces (card_image r c) → (x : List ℕ) → (card_of now c).may_leave x →
+    RingShows (places_in (card_image r c)) (is_sure_on r.log) (IsPlaceOn spans) (places_on c (places_of (notes_in r.log r.trace))) (card_image r c) x

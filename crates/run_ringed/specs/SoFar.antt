@@ -16,6 +16,7 @@ use Rattle.run_rings.specs.Notes.{notes_to, TellSameTo, NotesMore}
 use Rattle.run_rings.specs.Spans.{with_second, AreAllBefore, AreAlike}
 use Rattle.run_recorded.specs.Origin.{Origin}
 use Rattle.run_recorded.specs.Beside.{HaveLeftMore}
+use Rattle.run_ringed.specs.OnCards.{PlacesStay}
 use Rattle.run_ringed.specs.Ringed.{Seating, Ringed, StaysInRings, notes_in}
 
 -- when a note was made
@@ -71,7 +72,7 @@ ASecondBeginsInRings d = (o : Origin) (done : List TraceSecond) (s : TraceSecond
 -- CALLS THAT WRITE NO RING, and lines of later moments, leave it; and an action more that notes nothing.
 abbrev pub RingsGoOn : (d e : Devices) → Type 0
 RingsGoOn d e = (o : Origin) (done : List TraceSecond) (s : TraceSecond) (began : RunLog) (front : List Action) (log later : RunLog) (spans : List SpanFrom) (base : ℕ) (t : Told) (seats fewer : Card → Option Seating) →
-    RingedIn o done s began front log spans base t seats d → HasMoreBreaks log later → TellSameTo log later s.number (length front) → StaysInRings d e → HaveLeftMore o d e → AreFewer seats fewer →
+    RingedIn o done s began front log spans base t seats d → HasMoreBreaks log later → TellSameTo log later s.number (length front) → StaysInRings d e → HaveLeftMore o d e → PlacesStay o d e → AreFewer seats fewer →
     RingedIn o done s began front later spans base t fewer e
 
 abbrev pub AnActionNotesNothing : Devices → Type 0

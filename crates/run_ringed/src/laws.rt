@@ -6,7 +6,7 @@ ghost use Rattle.run_rule.specs.Between.{devices};
 ghost use Rattle.run_ringed.specs.Waking.{PowerBeginsInRings, ASlotIsPassedAnew, ACardIsAcceptedAnew, AnAcceptanceIsCutAnew};
 ghost use Rattle.run_ringed.specs.Steps.{AnActionPasses, AnActionIsCut, APlaceIsEntered, APlaceIsCut, ACardIsWithdrawn, AWithdrawalIsCut, ACardIsAccepted, AnAcceptanceIsCut};
 ghost use Rattle.run_ringed.specs.SoFar.{ASecondBeginsInRings, RingsGoOn, AnActionNotesNothing, AnActionIsNoted, TheSecondEndsInRings, ACutEndsInRings, DarkSecondsNoteNothing};
-ghost use Rattle.run_ringed.specs.Ringed.{NoRingIsWritten, RingsStay, FewerSit, AnInsertionIsNoted, APlaceIsNoted, AWithdrawalIsNoted, AWithdrawalIsBroken, AnInsertionIsBroken, APlaceIsBroken, RingsAreShown, notes_in, noted_next};
+ghost use Rattle.run_ringed.specs.Ringed.{NoRingIsWritten, RingsStay, FewerSit, AnInsertionIsNoted, APlaceIsNoted, AWithdrawalIsNoted, AWithdrawalIsBroken, AnInsertionIsBroken, APlaceIsBroken, RingsAreShown, PlacesAreShown, notes_in, noted_next};
 
 use tach_media::{Chip, Medium};
 
@@ -92,7 +92,7 @@ pub fn a_withdrawal_is_noted<M: Medium, C: Chip, D: Chip, N: Medium, E: Chip, F:
     ensures { AWithdrawalIsNoted (devices (M.state old_unit.now) (C.state old_a.now) (D.state old_b.now)) (devices (N.state unit.now) (E.state card_a.now) (F.state card_b.now)) }
 {}
 
-/// At the end of a run every image of the unit shows its rings.
+/// At the end of a run every image of the unit shows its rings, and every image of a card its places.
 pub fn rings_are_shown<M: Medium, C: Chip, D: Chip, N: Medium, E: Chip, F: Chip>(
     old_unit: &M,
     old_a: &C,
@@ -101,7 +101,8 @@ pub fn rings_are_shown<M: Medium, C: Chip, D: Chip, N: Medium, E: Chip, F: Chip>
     card_a: &E,
     card_b: &F,
 )
-    ensures { RingsAreShown (devices (M.state old_unit.now) (C.state old_a.now) (D.state old_b.now)) (devices (N.state unit.now) (E.state card_a.now) (F.state card_b.now)) }
+    ensures rings { RingsAreShown (devices (M.state old_unit.now) (C.state old_a.now) (D.state old_b.now)) (devices (N.state unit.now) (E.state card_a.now) (F.state card_b.now)) }
+    ensures places { PlacesAreShown (devices (M.state old_unit.now) (C.state old_a.now) (D.state old_b.now)) (devices (N.state unit.now) (E.state card_a.now) (F.state card_b.now)) }
 {}
 
 /// The unit failed as a withdrawal was noted.

@@ -75,6 +75,7 @@ module _ (x a b : List ℕ) (start : ℕ) (items : List Item) (out : Outcome) (p
     kept = subst (λ (n : ℕ). TellsKept r n now.unit) unit h.kept;
     dense = h.dense;
     holders = λ c. subst (λ (n : ℕ). KeepsHolder r c n (card_of now c)) (cards c) (h.holders c);
+    places = h.places;
     sessions = λ y left. first-by y (h.sessions y left);
     cards = λ c. subst (λ (n : ℕ). ShowsItsEvents r c n (card_of now c)) (cards c) (h.cards c);
   }

@@ -195,6 +195,7 @@ module _ (U V : State) (is : IsRead U V) where
           kept = more-found (U.left_since p.unit.clock) (V.left_since p.unit.clock) (λ y left. is.leaves.keeps p.unit.clock y before left) r.log (spans_of (told_of r)) h.kept;
           dense = record { insertions = λ dense y left. h.dense.insertions dense y (now-back y left); places = λ dense y left. h.dense.places dense y (now-back y left) };
           holders = λ c valid y left. h.holders c valid y (told-back c y left);
+          places = record { spans = h.places.spans; are_spans = h.places.are_spans; shows = λ c valid dense y left. h.places.shows c valid dense y (card-back c y left) };
           sessions = λ y left. first-read y (h.sessions y (now-back y left));
           cards = λ c. subst (λ (s : State). ShowsItsEvents r c (card_of p c).clock s) (same-card c) (h.cards c);
         }

@@ -282,8 +282,9 @@ returns-clause-ringed g c = λ room o done s n waits fewer at next spans odomete
     let others : (card : Card) → IfSome (session_of run.keeper.cabin.cards card) (λ b. b.noted ≤ run.noted) = λ card. entry-noted run.noted (session_of run.keeper.cabin.cards card) (h.entries card) in
     let few : length c.accept-answer.new.outcome.finds.items < 2 ^ 64 = search rules in
     let v = judged-ringed o done s n waits fewer e run.keeper c.args.outcome.now run.unfound run.next run.begun run.minutes U X Y next.goes.within may next.goes.origin small c.requires.fits spans odometer run.noted counted others
-    failed c.accept-answer.new.keeper c.accept-answer.new.noted c.accept-answer.new.outcome V Z w.0 gone sound few in
-    record { rings = v.rings; others = v.others; here = v.here; cut = v.cut; same = v.same; left = v.left; odometer = ap (λ (q : Keeper). q.odometer) w.1.left.keeper; counted = v.counted }
+    failed c.accept-answer.new.keeper c.accept-answer.new.noted c.accept-answer.new.outcome V Z w.0 gone sound few
+    (mine-at run.keeper.cabin.cards (g.C.Chip.card c.args.card.now) (g.D.Chip.card c.args.others.now) X Y e.which c.requires.held.card_a c.requires.held.card_b).size in
+    record { rings = v.rings; others = v.others; here = v.here; cut = v.cut; same = v.same; left = v.left; places = v.places; odometer = ap (λ (q : Keeper). q.odometer) w.1.left.keeper; counted = v.counted }
 
 -- ---- what holds of the devices after any calls
 

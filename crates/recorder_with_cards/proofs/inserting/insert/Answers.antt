@@ -47,7 +47,8 @@ use Rattle.recorder_with_cards.specs.EnteredRings.{RingsInserting}
 use Rattle.run_acts.proofs.Ringing.{settling-leaves}
 use Rattle.recorder_with_cards.proofs.EnteredRings.{writes-behind}
 use Rattle.run_keeping.proofs.Later.{later-then}
-use Rattle.run_acts.specs.RunCards.{vehicle_in, StillShow, CardsSettling, CardsGoOn}
+use Rattle.run_ringed.specs.OnCards.{PlacesStay}
+use Rattle.run_acts.specs.RunCards.{vehicle_in, StillShow, CardsSettling, PlacesSettling, CardsGoOn}
 use Rattle.recorder_with_cards.proofs.InsertedCards.{unsettled-cards, inserted-cards}
 use Rattle.recorder_with_cards.proofs.Staying.{settled-watched}
 use Rattle.recorder_with_cards.proofs.inserting.insert.Goals as goal
@@ -220,10 +221,14 @@ returns-in_err-settle-clause-ringed g c = λ late room o done s now front rest a
     let settles : IsSettled c.args.at true put mid out told = subst (λ (b : Cabin). IsSettled c.args.at true (with_cabin b run) mid out told) c.put_in.ensures.kept c.in_err-settle.ensures.settled in
     let lines = up-to-tells c.args.at settles.decided true (told_of put out) (told_of mid told) settles.kept in
     let at = at-is c.args.slot c.args.card c.args.at c.args.speed run out d o done s now front rest actions c.requires.at begun late allowed within in
+    let v = c.in_err-settle.ensures.places in
+    let stay = subst (λ (b : Cabin). PlacesSettling v.0 c.args.at (with_cabin b run) mid out d e) c.put_in.ensures.kept v.2 in
+    let places : PlacesStay o d e = stay o done s (length front) (entering_by (length front) (Insert c.args.slot c.args.card)) at
+    (waits-within c.args.slot c.args.card c.args.at c.args.speed run out d o done s now front rest actions c.requires.at begun late allowed within mid told true settles v.0 v.1) time in
     let rung = unsettled-ringed o done s front rest c.args.slot c.args.card actions run out d within spans t rings (refuses o done s c.args.speed run out d now front (Insert c.args.slot c.args.card) rest actions within None allowed)
     mid told e lines.lines (ap log_of settles.outcome ∙ ap (λ (bs : List Break). record (log_of out) { breaks = bs }) lines.are) (subst (λ (m : Moment). AreTears m lines.lines) at lines.tears)
     (settling-leaves c.args.at true (with_cabin c.put_in.new.self run) mid out told U V c.in_err-settle.ensures.noted)
-    (more-left o d e (within.within.powered.lit.unit.unit_holds [] []).later within.within.there.clocks c.settle.ensures.keeps)
+    (more-left o d e (within.within.powered.lit.unit.unit_holds [] []).later within.within.there.clocks c.settle.ensures.keeps) places
     (fewer-seats put mid (ap (λ (r : Run). r.noted) settles.only) lines.sessions) lines.odometer (ap (λ (r : Run). r.noted) settles.only) in
     let failed : true ≡ is_err c.from_residual.result = search rules in
     subst (λ (f : Bool). RingsGoOn f o done s within.within.b (front ++ Insert c.args.slot c.args.card ∷ []) mid (log_of told) spans t e) failed rung
@@ -259,13 +264,17 @@ returns-clause-ringed g c = λ late room o done s now front rest actions begun a
     let tears = subst (λ (m : Moment). AreTears m lines.lines) at lines.tears in
     let leaves = settling-leaves c.args.at false (with_cabin c.put_in.new.self run) mid out told U V c.in_ok-settle.ensures.noted in
     let left = more-left o d e (within.within.powered.lit.unit.unit_holds [] []).later within.within.there.clocks c.settle.ensures.keeps in
+    let v = c.in_ok-settle.ensures.places in
+    let stay = subst (λ (b : Cabin). PlacesSettling v.0 c.args.at (with_cabin b run) mid out d e) c.put_in.ensures.kept v.2 in
+    let places : PlacesStay o d e = stay o done s (length front) (entering_by (length front) (Insert c.args.slot c.args.card)) at
+    (waits-within c.args.slot c.args.card c.args.at c.args.speed run out d o done s now front rest actions c.requires.at begun late allowed within mid told false settles v.0 v.1) before in
     let noted : mid.noted ≡ run.noted = ap (λ (r : Run). r.noted) settles.only in
     let fewer = fewer-seats put mid noted lines.sessions in
     let counted : mid.noted ≤ length (log_of told).finds = let few = rings.counted in let same = ap (λ (l : RunLog). length l.finds) log in omega (arith, few, same, noted) in
     let j = next-judged c.args.slot c.args.card c.args.at c.args.speed run out d o done s now front rest actions c.requires.at begun late allowed within mid told false settles q.0 q.1 e records before refl seat (with_second spans run.keeper.odometer t)
-    (odometer-mid o done s front rest c.args.slot c.args.card actions run out d within spans t rings fine mid told e lines.lines log tears leaves left fewer lines.odometer noted (entering_by (length front) (Insert c.args.slot c.args.card)))
+    (odometer-mid o done s front rest c.args.slot c.args.card actions run out d within spans t rings fine mid told e lines.lines log tears leaves left places fewer lines.odometer noted (entering_by (length front) (Insert c.args.slot c.args.card)))
     counted (is_err c.accept_in.result) c.accept_in.new.run c.accept_in.new.outcome last (c.accept_in.ensures.ringed (omega (arith, room, marks, rooms, was))) time in
-    inserted-ringed o done s front rest c.args.slot c.args.card actions run out d within spans t rings fine mid told e lines.lines log tears leaves left fewer lines.odometer noted
+    inserted-ringed o done s front rest c.args.slot c.args.card actions run out d within spans t rings fine mid told e lines.lines log tears leaves left places fewer lines.odometer noted
     (is_err c.accept_in.result) c.accept_in.new.run c.accept_in.new.outcome last j
 
 -- ---- what is noted

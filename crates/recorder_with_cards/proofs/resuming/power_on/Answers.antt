@@ -28,7 +28,7 @@ use Rattle.run_ringed.specs.Steps.{spans_cut}
 use Rattle.run_ringed.proofs.Waking.{behind-stays}
 use Rattle.run_acts.specs.RunRinged.{seats_of, with_cut}
 use Rattle.run_acts.specs.RunCards.{CardsBehind}
-use Rattle.recorder_with_cards.proofs.WokenRinged.{read-leaves, comes-of, unpowered-ringed, cut-ringed}
+use Rattle.recorder_with_cards.proofs.WokenRinged.{places-beside, read-leaves, comes-of, unpowered-ringed, cut-ringed}
 use Rattle.recorder_with_cards.proofs.CutOff.{cut-as}
 use Rattle.recorder_with_cards.proofs.Read.{may-of, read-on, left-on, unit-tells, unit-decodes, not-bad, image-of, at-image}
 use Rattle.run_acts.specs.declared.run.Run.{Run}
@@ -211,7 +211,7 @@ returns-in-Ok-clause-ringed g c = λ room o done s now all has time.
       spans = all.spans;
       base = λ lit. absurd (let bad : false ≡ true = sym c.requires.dark ∙ ap is_lit lit in cc);
       counted = all.counted;
-      ringed = behind-stays (devices U X Y) (devices V X Y) o done (log_of out) run.next all.spans (seats_of run) all.ringed (read-leaves U V whole c.load.ensures.leaves) left;
+      ringed = behind-stays (devices U X Y) (devices V X Y) o done (log_of out) run.next all.spans (seats_of run) all.ringed (read-leaves U V whole c.load.ensures.leaves) left (places-beside o U V X Y);
       stored = subst (λ (b : Bool). Stores b o (log_of out) run.unfound run.keeper.odometer all.spans (devices V X Y)) (sym c.requires.dark)
           (stays-stored o (log_of out) run.unfound all.spans (devices U X Y) (devices V X Y) (read-stays (devices U X Y) (devices V X Y) whole c.load.ensures.leaves)
           (subst (λ (b : Bool). Stores b o (log_of out) run.unfound run.keeper.odometer all.spans (devices U X Y)) c.requires.dark all.stored));
@@ -258,7 +258,7 @@ returns-in-Err-Failed-clause-ringed g c = λ room o done s now all has time.
     let broken = power-on_broken d e o done (progress (values_of run out) rec.supply rec.recorded.book) rec.recorded.recorded.followed all.evented.evented may s now.number now.given (breakdowns_of d) (breakdowns_of e) unread.goes.breakdowns unread.broke (read-says U V c.load.ensures.leaves) unread.goes.left in
     let cut_evented = cut-woken o done s run c.cut.new.self out (record out { breaks = c.cut.new.breaks }) e (log_of out) (broken, all.evented.limit) cut_is c.cut.ensures.run told now.number in
     let progressed = progress (values_of run out) rec.supply rec.recorded.book in
-    let behind = behind-stays d e o done (log_of out) run.next all.spans (seats_of run) all.ringed (read-leaves U V whole c.load.ensures.leaves) unread.goes.left in
+    let behind = behind-stays d e o done (log_of out) run.next all.spans (seats_of run) all.ringed (read-leaves U V whole c.load.ensures.leaves) unread.goes.left (places-beside o U V X Y) in
     let image = image-of V.image (c.load.ensures.leaves.tells ∙ unit-tells o done rec.supply (values_of run out) d rec.recorded may) in
     let comes = comes-of progressed.supply (went (log_of out) done).before run.next may rec.recorded.recorded.followed.power in
     let off = stays-stored o (log_of out) run.unfound all.spans d e (read-stays d e whole c.load.ensures.leaves) (subst (λ (b : Bool). Stores b o (log_of out) run.unfound run.keeper.odometer all.spans d) c.requires.dark all.stored) in

@@ -46,7 +46,7 @@ use Rattle.run_ringed.specs.Steps.{nobody, spans_cut}
 use Rattle.run_ringed.proofs.Waking.{behind-stays}
 use Rattle.run_acts.specs.Ringing.{seating_of}
 use Rattle.run_acts.specs.RunRinged.{RingsWithin, RingsGoOn, with_cut}
-use Rattle.recorder_with_cards.proofs.WokenRinged.{WakesRinged, in-both, mend-leaves, unpowered-ringed, wakes-ringed, driver-ringed, codriver-ringed, woken-rings, spans-before, goes-odometer}
+use Rattle.recorder_with_cards.proofs.WokenRinged.{WakesRinged, in-both, places-beside, mend-leaves, unpowered-ringed, wakes-ringed, driver-ringed, codriver-ringed, woken-rings, spans-before, goes-odometer}
 use Rattle.recorder_with_cards.proofs.WokenStored.{unmended-stored}
 use Rattle.recorder_with_cards.proofs.StoredCalls.{mend-stays}
 use Rattle.recorder_with_cards.proofs.WokenEvented.{WakesEvented, unmended-evented, wakes-evented, driver-evented, codriver-evented, anew-limit, woken-fails, woken-on, woken-ends, none-woken, gap-woken, here-empty, begun-watched, gap-memory, none-told, some-told}
@@ -968,7 +968,7 @@ returns-in_err-mend-clause-ringed g c = λ room o origin done s supply v r stay 
     W true c.mend.ensures.moments c.mend.ensures.tells bad.cause c.mend.ensures.holds bad.first bad.second run out values refl in
     let q : Progress = found_again c.args.journal.kept (progress v supply r.book) in
     let log : log_of out ≡ q.log = ap (λ (x : Values). x.log) values in
-    let behind = behind-stays (devices U X Y) (devices W X Y) o done (log_of out) s.number spans seats ringed (mend-leaves c.args.journal U W (g.met.M.Medium.coherent c.args.unit.now) c.mend.ensures.moments) read.left in
+    let behind = behind-stays (devices U X Y) (devices W X Y) o done (log_of out) s.number spans seats ringed (mend-leaves c.args.journal U W (g.met.M.Medium.coherent c.args.unit.now) c.mend.ensures.moments) read.left (places-beside o U W X Y) in
     let log_is : log_of out ≡ found_log v.unfound c.args.journal.kept v.log = log in
     let are = spans-before o done supply v (devices U X Y) r c.args.journal.kept (log_of out) log_is spans ringed.spans_are in
     let stands = unmended-stands o origin done s supply v U X Y r may number given (g.met.M.Medium.coherent c.args.unit.now) (wholes-of U X Y (g.met.C.Chip.coherent c.args.card_a.now) (g.met.D.Chip.coherent c.args.card_b.now)) loaded.works c.args.journal (kept-of c.args.journal U.image loaded.found)
@@ -1021,7 +1021,7 @@ returns-in_err-accept_anew-clause-ringed g c =
     let once = at-once CoDriver (card_in mid.keeper.cabin.slots.seats.codriver) in
     let t : Told = second_told (log_of out) (went (log_of out) done).before s in
     let log0 : woke.0.run.log ≡ log_of out = ap (λ (q : Progress). q.log) is.0 ∙ sym (ap (λ (x : Values). x.log) values) in
-    let mended = behind-stays (devices U X Y) (devices W X Y) o done (log_of out) s.number spans seats ringed (mend-leaves c.args.journal U W (g.met.M.Medium.coherent c.args.unit.now) c.mend.ensures.moments) is.2 in
+    let mended = behind-stays (devices U X Y) (devices W X Y) o done (log_of out) s.number spans seats ringed (mend-leaves c.args.journal U W (g.met.M.Medium.coherent c.args.unit.now) c.mend.ensures.moments) is.2 (places-beside o U W X Y) in
     let noted : mid.noted ≡ run.noted = begun.noted in
     let starts : WakesRinged o done s woke.0 (waiting_in Driver first_card ++ others) both_slots spans t mid out (devices W X Y) =
     wakes-ringed o done s woke.0 (waiting_in Driver first_card ++ others) mid out (devices W X Y) woke.1 (sym log0) spans seats mended
@@ -1078,7 +1078,7 @@ returns-in_err-accept_anew-2-clause-ringed g c =
     let once = at-once CoDriver (card_in mid.keeper.cabin.slots.seats.codriver) in
     let t : Told = second_told (log_of out) (went (log_of out) done).before s in
     let log0 : woke.0.run.log ≡ log_of out = ap (λ (q : Progress). q.log) is.0 ∙ sym (ap (λ (x : Values). x.log) values) in
-    let mended = behind-stays (devices U X Y) (devices W X Y) o done (log_of out) s.number spans seats ringed (mend-leaves c.args.journal U W (g.met.M.Medium.coherent c.args.unit.now) c.mend.ensures.moments) is.2 in
+    let mended = behind-stays (devices U X Y) (devices W X Y) o done (log_of out) s.number spans seats ringed (mend-leaves c.args.journal U W (g.met.M.Medium.coherent c.args.unit.now) c.mend.ensures.moments) is.2 (places-beside o U W X Y) in
     let noted : mid.noted ≡ run.noted = begun.noted in
     let starts : WakesRinged o done s woke.0 (waiting_in Driver first_card ++ others) both_slots spans t mid out (devices W X Y) =
     wakes-ringed o done s woke.0 (waiting_in Driver first_card ++ others) mid out (devices W X Y) woke.1 (sym log0) spans seats mended
@@ -1164,7 +1164,7 @@ returns-then-is_first-clause-ringed g c =
     let once = at-once CoDriver (card_in mid.keeper.cabin.slots.seats.codriver) in
     let t : Told = second_told (log_of out) (went (log_of out) done).before s in
     let log0 : woke.0.run.log ≡ log_of out = ap (λ (q : Progress). q.log) is.0 ∙ sym (ap (λ (x : Values). x.log) values) in
-    let mended = behind-stays (devices U X Y) (devices W X Y) o done (log_of out) s.number spans seats ringed (mend-leaves c.args.journal U W (g.met.M.Medium.coherent c.args.unit.now) c.mend.ensures.moments) is.2 in
+    let mended = behind-stays (devices U X Y) (devices W X Y) o done (log_of out) s.number spans seats ringed (mend-leaves c.args.journal U W (g.met.M.Medium.coherent c.args.unit.now) c.mend.ensures.moments) is.2 (places-beside o U W X Y) in
     let noted : mid.noted ≡ run.noted = begun.noted in
     let starts : WakesRinged o done s woke.0 (waiting_in Driver first_card ++ others) both_slots spans t mid out (devices W X Y) =
     wakes-ringed o done s woke.0 (waiting_in Driver first_card ++ others) mid out (devices W X Y) woke.1 (sym log0) spans seats mended
@@ -1249,7 +1249,7 @@ returns-clause-ringed g c =
     let once = at-once CoDriver (card_in mid.keeper.cabin.slots.seats.codriver) in
     let t : Told = second_told (log_of out) (went (log_of out) done).before s in
     let log0 : woke.0.run.log ≡ log_of out = ap (λ (q : Progress). q.log) is.0 ∙ sym (ap (λ (x : Values). x.log) values) in
-    let mended = behind-stays (devices U X Y) (devices W X Y) o done (log_of out) s.number spans seats ringed (mend-leaves c.args.journal U W (g.met.M.Medium.coherent c.args.unit.now) c.mend.ensures.moments) is.2 in
+    let mended = behind-stays (devices U X Y) (devices W X Y) o done (log_of out) s.number spans seats ringed (mend-leaves c.args.journal U W (g.met.M.Medium.coherent c.args.unit.now) c.mend.ensures.moments) is.2 (places-beside o U W X Y) in
     let noted : mid.noted ≡ run.noted = begun.noted in
     let starts : WakesRinged o done s woke.0 (waiting_in Driver first_card ++ others) both_slots spans t mid out (devices W X Y) =
     wakes-ringed o done s woke.0 (waiting_in Driver first_card ++ others) mid out (devices W X Y) woke.1 (sym log0) spans seats mended

@@ -49,8 +49,9 @@ use Rattle.activity_codec.specs.declared.values.Slot.{Slot}
 use Rattle.log_model.specs.declared.lines.Break.{Break}
 use Rattle.run_outcome.specs.Lines.{Listed}
 use Rattle.unit_memory.specs.declared.format.Identity.{Identity}
-use Rattle.run_acts.specs.CardNotes.{NotesOn, NotesOnCards, on_seat, gap_on}
-use Rattle.run_acts.proofs.CardNotes.{on-none, on-unbegun, both-noted, first-noted}
+use Rattle.run_acts.specs.CardNotes.{NotesOn, NotesOnCards, LeavesPlaces, on_seat, gap_on}
+use Rattle.run_acts.proofs.CardNotes.{both-cards, on-none, on-unbegun, session-noted, both-noted, first-noted}
+use Rattle.run_acts.proofs.CardPlaces.{places-self, leaves-then}
 use Rattle.run_acts.proofs.gap.note_gap.Goals as goal
 
 pub note_in-requires-clause-going : goal.note_in-requires-clause-going
@@ -385,36 +386,6 @@ returns-in_err-note_in-clause-later g c = later-then (devices (g.M.Medium.state 
 pub returns-clause-later : goal.returns-clause-later
 returns-clause-later g c = later-then (devices (g.M.Medium.state c.args.unit.now) (g.C.Chip.state c.args.card_a.now) (g.D.Chip.state c.args.card_b.now)) (devices (g.M.Medium.state c.note_event.new.unit) (g.C.Chip.state c.args.card_a.now) (g.D.Chip.state c.args.card_b.now)) (devices (g.M.Medium.state c.note_in-2.new.unit) (g.C.Chip.state c.note_in-2.new.card_a) (g.D.Chip.state c.note_in-2.new.card_b)) (later-of-unit (g.M.Medium.state c.args.unit.now) (g.M.Medium.state c.note_event.new.unit) (g.C.Chip.state c.args.card_a.now) (g.D.Chip.state c.args.card_b.now) (state-by (g.M.Medium.state c.args.unit.now) (g.M.Medium.state c.note_event.new.unit) _ c.note_event.ensures.journal.later c.note_event.ensures.cause)) (later-then (devices (g.M.Medium.state c.note_event.new.unit) (g.C.Chip.state c.args.card_a.now) (g.D.Chip.state c.args.card_b.now)) (devices (g.M.Medium.state c.note_in.new.unit) (g.C.Chip.state c.note_in.new.card_a) (g.D.Chip.state c.note_in.new.card_b)) (devices (g.M.Medium.state c.note_in-2.new.unit) (g.C.Chip.state c.note_in-2.new.card_a) (g.D.Chip.state c.note_in-2.new.card_b)) c.note_in.ensures.later c.note_in-2.ensures.later)
 
--- ---- how the rings go on
-
-pub returns-in_default-clause-ringed : goal.returns-in_default-clause-ringed
-returns-in_default-clause-ringed g c =
-    let run = c.args.run.now in
-    let d : Devices = devices (g.M.Medium.state c.args.unit.now) (g.C.Chip.state c.args.card_a.now) (g.D.Chip.state c.args.card_b.now) in
-    note-ringed (gap_of c.args.kept run.next) false run run c.args.breaks.now c.args.breaks.now d d (returns-in_default-clause-noted g c) (returns-in_default-clause-rings g c) (returns-in_default-clause-leaves g c)
-
-pub returns-in_err-note_event-clause-ringed : goal.returns-in_err-note_event-clause-ringed
-returns-in_err-note_event-clause-ringed g c =
-    let run = c.args.run.now in
-    let d : Devices = devices (g.M.Medium.state c.args.unit.now) (g.C.Chip.state c.args.card_a.now) (g.D.Chip.state c.args.card_b.now) in
-    let e : Devices = devices (g.M.Medium.state c.note_event.new.unit) (g.C.Chip.state c.args.card_a.now) (g.D.Chip.state c.args.card_b.now) in
-    note-ringed (gap_of c.args.kept run.next) (is_err c.from_residual.result) run run c.args.breaks.now c.args.breaks.now d e (returns-in_err-note_event-clause-noted g c) (returns-in_err-note_event-clause-rings g c) (returns-in_err-note_event-clause-leaves g c)
-
-pub returns-in_err-note_in-clause-ringed : goal.returns-in_err-note_in-clause-ringed
-returns-in_err-note_in-clause-ringed g c =
-    let run = c.args.run.now in
-    let d : Devices = devices (g.M.Medium.state c.args.unit.now) (g.C.Chip.state c.args.card_a.now) (g.D.Chip.state c.args.card_b.now) in
-    let e : Devices = devices (g.M.Medium.state c.note_in.new.unit) (g.C.Chip.state c.note_in.new.card_a) (g.D.Chip.state c.note_in.new.card_b) in
-    note-ringed (gap_of c.args.kept run.next) (is_err c.from_residual-in_err-note_in.result) run c.note_in.new.run c.args.breaks.now c.note_in.new.breaks d e
-    (returns-in_err-note_in-clause-noted g c) (returns-in_err-note_in-clause-rings g c) (returns-in_err-note_in-clause-leaves g c)
-
-pub returns-clause-ringed : goal.returns-clause-ringed
-returns-clause-ringed g c =
-    let run = c.args.run.now in
-    let d : Devices = devices (g.M.Medium.state c.args.unit.now) (g.C.Chip.state c.args.card_a.now) (g.D.Chip.state c.args.card_b.now) in
-    let e : Devices = devices (g.M.Medium.state c.note_in-2.new.unit) (g.C.Chip.state c.note_in-2.new.card_a) (g.D.Chip.state c.note_in-2.new.card_b) in
-    note-ringed (gap_of c.args.kept run.next) (is_err c.note_in-2.result) run c.note_in-2.new.run c.args.breaks.now c.note_in-2.new.breaks d e (returns-clause-noted g c) (returns-clause-rings g c) (returns-clause-leaves g c)
-
 -- ---- the events that the cards show
 
 -- the cards, beside whichever unit
@@ -491,3 +462,70 @@ returns-clause-card_events g c =
     λ card. unit-apart card (g.M.Medium.state c.args.unit.now) V (g.C.Chip.state c.args.card_a.now) (g.D.Chip.state c.args.card_b.now)
     (λ X. NotesOn failed (session_of run.keeper.cabin.cards card) (session_of new.keeper.cabin.cards card) (gap_on (gap_of c.args.kept run.next) run.keeper.memory.registration) X (card_of e card))
     (subst (λ (es : List CardEvent). NotesOn failed (session_of run.keeper.cabin.cards card) (session_of new.keeper.cabin.cards card) es (card_of d card) (card_of e card)) (gap-there run (gap_of c.args.kept run.next) c.in-Some.span c.card_gap-event.result there told) (noted card))
+
+-- ---- the places of the cards
+
+pub returns-in_default-clause-places : goal.returns-in_default-clause-places
+returns-in_default-clause-places g c =
+    let d = devices (g.M.Medium.state c.args.unit.now) (g.C.Chip.state c.args.card_a.now) (g.D.Chip.state c.args.card_b.now) in
+    λ card. places-self (session_of c.args.run.now.keeper.cabin.cards card) (card_of d card)
+
+pub returns-in_err-note_event-clause-places : goal.returns-in_err-note_event-clause-places
+returns-in_err-note_event-clause-places g c =
+    let cards = c.args.run.now.keeper.cabin.cards in
+    let d = devices (g.M.Medium.state c.args.unit.now) (g.C.Chip.state c.args.card_a.now) (g.D.Chip.state c.args.card_b.now) in
+    let e = devices (g.M.Medium.state c.note_event.new.unit) (g.C.Chip.state c.args.card_a.now) (g.D.Chip.state c.args.card_b.now) in
+    both-cards (λ card. LeavesPlaces (session_of cards card) (card_of d card) (card_of e card)) (places-self (session_of cards A) (g.C.Chip.state c.args.card_a.now)) (places-self (session_of cards B) (g.D.Chip.state c.args.card_b.now))
+
+pub returns-in_err-note_in-clause-places : goal.returns-in_err-note_in-clause-places
+returns-in_err-note_in-clause-places g c =
+    let cards = c.args.run.now.keeper.cabin.cards in
+    let V = g.M.Medium.state c.note_event.new.unit in
+    let e = devices (g.M.Medium.state c.note_in.new.unit) (g.C.Chip.state c.note_in.new.card_a) (g.D.Chip.state c.note_in.new.card_b) in
+    λ card. unit-apart card (g.M.Medium.state c.args.unit.now) V (g.C.Chip.state c.args.card_a.now) (g.D.Chip.state c.args.card_b.now)
+    (λ X. LeavesPlaces (session_of cards card) X (card_of e card)) (c.in_err-note_in.ensures.places card)
+
+pub returns-clause-places : goal.returns-clause-places
+returns-clause-places g c =
+    let run = c.args.run.now in
+    let between : Run = c.note_in.new.run in
+    let V = g.M.Medium.state c.note_event.new.unit in
+    let d = devices V (g.C.Chip.state c.args.card_a.now) (g.D.Chip.state c.args.card_b.now) in
+    let m = devices (g.M.Medium.state c.note_in.new.unit) (g.C.Chip.state c.note_in.new.card_a) (g.D.Chip.state c.note_in.new.card_b) in
+    let e = devices (g.M.Medium.state c.note_in-2.new.unit) (g.C.Chip.state c.note_in-2.new.card_a) (g.D.Chip.state c.note_in-2.new.card_b) in
+    let one = c.in_ok-note_in.ensures.noted in
+    λ card. unit-apart card (g.M.Medium.state c.args.unit.now) V (g.C.Chip.state c.args.card_a.now) (g.D.Chip.state c.args.card_b.now)
+    (λ X. LeavesPlaces (session_of run.keeper.cabin.cards card) X (card_of e card))
+    (leaves-then (session_of run.keeper.cabin.cards card) (session_of between.keeper.cabin.cards card) (card_of d card) (card_of m card) (card_of e card)
+    (session-noted (card_in (seat_in run.keeper.cabin.slots.seats Driver)) Driver (now_moment run) run between c.args.breaks.now c.note_in.new.breaks one.0 one.1 card)
+    (c.in_ok-note_in.ensures.places card) (c.note_in-2.ensures.places card))
+
+-- ---- how the rings go on
+
+pub returns-in_default-clause-ringed : goal.returns-in_default-clause-ringed
+returns-in_default-clause-ringed g c =
+    let run = c.args.run.now in
+    let d : Devices = devices (g.M.Medium.state c.args.unit.now) (g.C.Chip.state c.args.card_a.now) (g.D.Chip.state c.args.card_b.now) in
+    note-ringed (gap_of c.args.kept run.next) false run run c.args.breaks.now c.args.breaks.now d d (returns-in_default-clause-noted g c) (returns-in_default-clause-rings g c) (returns-in_default-clause-leaves g c) (returns-in_default-clause-places g c)
+
+pub returns-in_err-note_event-clause-ringed : goal.returns-in_err-note_event-clause-ringed
+returns-in_err-note_event-clause-ringed g c =
+    let run = c.args.run.now in
+    let d : Devices = devices (g.M.Medium.state c.args.unit.now) (g.C.Chip.state c.args.card_a.now) (g.D.Chip.state c.args.card_b.now) in
+    let e : Devices = devices (g.M.Medium.state c.note_event.new.unit) (g.C.Chip.state c.args.card_a.now) (g.D.Chip.state c.args.card_b.now) in
+    note-ringed (gap_of c.args.kept run.next) (is_err c.from_residual.result) run run c.args.breaks.now c.args.breaks.now d e (returns-in_err-note_event-clause-noted g c) (returns-in_err-note_event-clause-rings g c) (returns-in_err-note_event-clause-leaves g c) (returns-in_err-note_event-clause-places g c)
+
+pub returns-in_err-note_in-clause-ringed : goal.returns-in_err-note_in-clause-ringed
+returns-in_err-note_in-clause-ringed g c =
+    let run = c.args.run.now in
+    let d : Devices = devices (g.M.Medium.state c.args.unit.now) (g.C.Chip.state c.args.card_a.now) (g.D.Chip.state c.args.card_b.now) in
+    let e : Devices = devices (g.M.Medium.state c.note_in.new.unit) (g.C.Chip.state c.note_in.new.card_a) (g.D.Chip.state c.note_in.new.card_b) in
+    note-ringed (gap_of c.args.kept run.next) (is_err c.from_residual-in_err-note_in.result) run c.note_in.new.run c.args.breaks.now c.note_in.new.breaks d e
+    (returns-in_err-note_in-clause-noted g c) (returns-in_err-note_in-clause-rings g c) (returns-in_err-note_in-clause-leaves g c) (returns-in_err-note_in-clause-places g c)
+
+pub returns-clause-ringed : goal.returns-clause-ringed
+returns-clause-ringed g c =
+    let run = c.args.run.now in
+    let d : Devices = devices (g.M.Medium.state c.args.unit.now) (g.C.Chip.state c.args.card_a.now) (g.D.Chip.state c.args.card_b.now) in
+    let e : Devices = devices (g.M.Medium.state c.note_in-2.new.unit) (g.C.Chip.state c.note_in-2.new.card_a) (g.D.Chip.state c.note_in-2.new.card_b) in
+    note-ringed (gap_of c.args.kept run.next) (is_err c.note_in-2.result) run c.note_in-2.new.run c.args.breaks.now c.note_in-2.new.breaks d e (returns-clause-noted g c) (returns-clause-rings g c) (returns-clause-leaves g c) (returns-clause-places g c)

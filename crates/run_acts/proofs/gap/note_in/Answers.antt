@@ -32,8 +32,9 @@ use Rattle.card_records.specs.declared.card_event.CardEvent.{CardEvent}
 use Rattle.tacho_types.specs.declared.card_number.FullCardNumber.{FullCardNumber}
 use Rattle.safety_model.specs.Safe.{card_of}
 use Rattle.run_notes.specs.Entries.{card_entry}
-use Rattle.run_acts.specs.CardNotes.{NotesOn, on_seat}
+use Rattle.run_acts.specs.CardNotes.{NotesOn, LeavesPlaces, on_seat}
 use Rattle.run_acts.proofs.CardNotes.{both-cards, seat-is, seat-other, seat-none, on-seat, on-as, on-other, bare-seat}
+use Rattle.run_acts.proofs.CardPlaces.{places-self}
 use Rattle.run_acts.proofs.gap.note_in.Goals as goal
 
 -- ---- card a
@@ -416,3 +417,29 @@ returns-in_default-number_in-clause-card_events g c =
     let d = devices (g.M.Medium.state c.args.unit.now) (g.C.Chip.state c.args.card_a.now) (g.D.Chip.state c.args.card_b.now) in
     let ready = c.requires.going.ready in
     λ card. bare-seat run.keeper.cabin.cards seat event ready.card_a.is_known ready.card_b.is_known none card (card_of d card)
+
+-- ---- the places of the cards
+
+pub returns-in-A-clause-places : goal.returns-in-A-clause-places
+returns-in-A-clause-places g c =
+    let run = c.args.run.now in
+    let d = devices (g.M.Medium.state c.args.unit.now) (g.C.Chip.state c.args.card_a.now) (g.D.Chip.state c.args.card_b.now) in
+    let e = devices (g.M.Medium.state c.note_on.new.unit) (g.C.Chip.state c.note_on.new.card) (g.D.Chip.state c.args.card_b.now) in
+    both-cards (λ card. LeavesPlaces (session_of run.keeper.cabin.cards card) (card_of d card) (card_of e card)) c.note_on.ensures.places (places-self (session_of run.keeper.cabin.cards B) (g.D.Chip.state c.args.card_b.now))
+
+pub returns-in-B-clause-places : goal.returns-in-B-clause-places
+returns-in-B-clause-places g c =
+    let run = c.args.run.now in
+    let d = devices (g.M.Medium.state c.args.unit.now) (g.C.Chip.state c.args.card_a.now) (g.D.Chip.state c.args.card_b.now) in
+    let e = devices (g.M.Medium.state c.note_on-in-B.new.unit) (g.C.Chip.state c.args.card_a.now) (g.D.Chip.state c.note_on-in-B.new.card) in
+    both-cards (λ card. LeavesPlaces (session_of run.keeper.cabin.cards card) (card_of d card) (card_of e card)) (places-self (session_of run.keeper.cabin.cards A) (g.C.Chip.state c.args.card_a.now)) c.note_on-in-B.ensures.places
+
+pub returns-in_default-clause-places : goal.returns-in_default-clause-places
+returns-in_default-clause-places g c =
+    let d = devices (g.M.Medium.state c.args.unit.now) (g.C.Chip.state c.args.card_a.now) (g.D.Chip.state c.args.card_b.now) in
+    λ card. places-self (session_of c.args.run.now.keeper.cabin.cards card) (card_of d card)
+
+pub returns-in_default-number_in-clause-places : goal.returns-in_default-number_in-clause-places
+returns-in_default-number_in-clause-places g c =
+    let d = devices (g.M.Medium.state c.args.unit.now) (g.C.Chip.state c.args.card_a.now) (g.D.Chip.state c.args.card_b.now) in
+    λ card. places-self (session_of c.args.run.now.keeper.cabin.cards card) (card_of d card)

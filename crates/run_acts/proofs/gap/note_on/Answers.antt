@@ -33,6 +33,7 @@ use Rattle.run_notes.specs.Entries.{card_entry}
 use Rattle.run_entering.specs.CardEvents.{NotesOnCard}
 use Rattle.run_acts.specs.CardNotes.{NotesOn}
 use Rattle.run_acts.proofs.CardNotes.{plain-gap, entry-is, noted-well, noted-cut, on-session}
+use Rattle.run_acts.proofs.CardPlaces.{event-leaves}
 use Rattle.run_acts.proofs.gap.note_on.Goals as goal
 
 pub note_event_on-requires-clause-port : goal.note_event_on-requires-clause-port
@@ -237,3 +238,17 @@ returns-clause-card_events g c =
     (on-session c.args.which before c.in-Ok.app (g.C.Chip.card c.args.card.now) X Y (session_of before c.args.which) (event ∷ []) c.requires.card sizes c.requires.session
     (subst (λ (b : Bool). NotesOnCard c.in-Ok.app (event ∷ []) (not b) X Y) (sym c.requires.session)
     (noted-well c.in-Ok.app event (plain-gap event c.requires.kind) X Y (g.met.C.Chip.coherent c.args.card.now) (g.met.C.Chip.coherent c.note_event_on.new.card) works cause.works moments noted)))
+
+-- ---- the places of the card
+
+pub returns-then-is_err-clause-places : goal.returns-then-is_err-clause-places
+returns-then-is_err-clause-places g c =
+    let cards = c.args.run.now.keeper.cabin.cards in
+    let sizes : (known_of cards c.args.which).sizes ≡ Ok c.in-Ok.app = cc in
+    event-leaves c.args.which cards c.in-Ok.app c.on_card-noted.result (g.C.Chip.card c.args.card.now) (g.C.Chip.state c.args.card.now) (g.C.Chip.state c.note_event_on.new.card) (g.met.C.Chip.coherent c.args.card.now) c.requires.card sizes c.requires.session c.note_event_on.ensures.moments
+
+pub returns-clause-places : goal.returns-clause-places
+returns-clause-places g c =
+    let cards = c.args.run.now.keeper.cabin.cards in
+    let sizes : (known_of cards c.args.which).sizes ≡ Ok c.in-Ok.app = cc in
+    event-leaves c.args.which cards c.in-Ok.app c.on_card-noted.result (g.C.Chip.card c.args.card.now) (g.C.Chip.state c.args.card.now) (g.C.Chip.state c.note_event_on.new.card) (g.met.C.Chip.coherent c.args.card.now) c.requires.card sizes c.requires.session c.note_event_on.ensures.moments

@@ -15,7 +15,7 @@ use Rattle.run_acts.specs.Power.{with_cabin}
 use Rattle.run_acts.specs.Going.{IsHeld, IsLit}
 use Rattle.run_acts.specs.Room.{falls_of}
 use Rattle.run_acts.proofs.Noted.{noted-ready, noted-row}
-use Rattle.run_acts.specs.Acting.{noted_breaks, IsNotedOn}
+use Rattle.run_acts.specs.Acting.{noted_breaks, noted_run, IsNotedOn}
 use Rattle.run_acts.proofs.Cabins.{keeper-only, cabin-going, cabin-held, ready-same, at-same, noted_cabin, noted-is, noted-past, noted-minute, noted-sessions, noted-falls, noted-a, noted-b, numbered-session}
 use Rattle.std.specs.Prelude.{is_err, suc, IfSome, List, [], ◌∷◌, ◌++◌}
 use Rattle.std.proofs.lemmas.List.{append-nil}
@@ -62,7 +62,11 @@ use Rattle.run_acts.proofs.RingedSecond.{left-after}
 use Rattle.run_acts.specs.CardNotes.{NotesOn}
 use Rattle.run_acts.proofs.CardNotes.{on-none, both-cards}
 use Rattle.run_acts.proofs.CardActs.{place-cards}
-use Rattle.run_acts.specs.CardWrites.{PlaceOn}
+use Rattle.run_acts.specs.CardWrites.{MayTakePlace, PlaceOn}
+use Rattle.tacho_types.specs.declared.places.PlaceEntry.{PlaceEntry}
+use Rattle.log_model.specs.Slots.{same_card}
+use Rattle.run_keeping.specs.declared.keeper.Moment.{Moment}
+use Rattle.run_acts.proofs.CardPlaces.{PlaceCall, call-unbegun, call-made}
 use Rattle.run_acts.proofs.CardWrites.{place-unit, place-bare, place-any, seat-bare}
 use Rattle.run_acts.proofs.placing.note_place.Goals as goal
 
@@ -559,6 +563,13 @@ some-left : (q : Option Accepted) (R : Accepted → List ℕ → List ℕ → Ty
 some-left None R X Y some h = absurd (cc)
 some-left (Some a) R X Y some h = h.keeps
 
+-- what the call makes of the places of its card
+call-of : (fell failed : Bool) (card : Card) (old new : Run) (slot : Slot) (at : Moment) (breaks after : Listed Break) (a : Accepted) (entry : PlaceEntry) (X Y : State) → IsNotedOn card slot at old new breaks after fell → session_of old.keeper.cabin.cards card ≡ Some a
+    → PlaceOn (session_of old.keeper.cabin.cards card) (session_of new.keeper.cabin.cards card) false entry X Y → MayTakePlace (session_of old.keeper.cabin.cards card) entry X Y → PlaceCall fell failed a.session.application entry X Y
+call-of fell failed card old new slot at breaks after a entry X Y noted is on may =
+    call-made fell failed a (session_of new.keeper.cabin.cards card) entry X Y (λ stays. ap (λ (r : Run). session_of r.keeper.cabin.cards card) (subst (λ (b : Bool). new ≡ noted_run b card at.second old) stays noted.run) ∙ is)
+    (subst (λ (q : Option Accepted). PlaceOn q (session_of new.keeper.cabin.cards card) false entry X Y) is on) (subst (λ (q : Option Accepted). MayTakePlace q entry X Y) is may)
+
 pub returns-in_default-clause-ringed : goal.returns-in_default-clause-ringed
 returns-in_default-clause-ringed g c = λ ending country region now late speed before is o done s here front rest are n allowed w spans t rings time.
     let cabin = c.args.run.now.keeper.cabin in
@@ -586,11 +597,16 @@ returns-in_err-note_place-clause-ringed g c =
     let B0 = g.D.Chip.state c.args.card_b.now in
     let there : card_in (seat_in run.keeper.cabin.slots.seats c.args.slot) ≡ Some card = cc in
     let told : number_of_seat run.keeper.cabin.cards (seat_in run.keeper.cabin.slots.seats c.args.slot) ≡ Some number = cc in
+    let failed : true ≡ is_err c.from_residual.result = search rules in
     let none : breaks ≡ with_lines [] breaks = ap (λ (bs : List Break). record breaks { items = bs }) (sym (append-nil breaks.items)) in
     place-goes c.args.slot c.args.entry.now c.args.at (is_err c.from_residual.result) run run breaks breaks (devices U A0 B0) (devices V A0 B0) card number false there told
     (numbered-session run.keeper.cabin.cards (seat_in run.keeper.cabin.slots.seats c.args.slot) card number there told) (ungiven_of lit.span) lit.cabin c.requires.at c.requires.small (record { run = refl; told = none })
     (λ tells. subst (λ (o : Option FullCardNumber). WritesPlace o c.args.entry.now (is_err c.from_residual.result) U V) told (returns-in_err-note_place-clause-rings g c tells))
     (record { unit = c.note_place.ensures.journal.keeps; card_a = λ t x le at. at; card_b = λ t x le at. at })
+    (λ a at_. both-cards (λ k. PlaceCall false (is_err c.from_residual.result) a.session.application c.args.entry.now (card_of (devices U A0 B0) k) (card_of (devices V A0 B0) k))
+    (subst (λ (q : Bool). PlaceCall false q a.session.application c.args.entry.now A0 A0) failed (call-unbegun a.session.application c.args.entry.now A0))
+    (subst (λ (q : Bool). PlaceCall false q a.session.application c.args.entry.now B0 B0) failed (call-unbegun a.session.application c.args.entry.now B0)) card)
+    (λ k apart. both-cards (λ k. (y : List ℕ) → (card_of (devices V A0 B0) k).may_leave y → (card_of (devices U A0 B0) k).may_leave y) (λ y left. left) (λ y left. left) k)
 
 pub returns-in-A-clause-ringed : goal.returns-in-A-clause-ringed
 returns-in-A-clause-ringed g c =
@@ -615,6 +631,9 @@ returns-in-A-clause-ringed g c =
       card_a = some-left (session_of run.keeper.cabin.cards A) (λ a. IsNote a.session.application) A0 Y some e.moments;
       card_b = λ t x le at. at;
     })
+    (λ a at_. call-of e.noted.0 (is_err c.note_place_in.result) A run c.note_place_in.new.run c.args.slot c.args.at c.args.breaks.now c.note_place_in.new.breaks a c.args.entry.now A0 Y e.noted.1 at_ e.on_card e.places)
+    (λ k apart. both-cards (λ k. same_card A k ≡ false → (y : List ℕ) → (card_of (devices W Y B0) k).may_leave y → (card_of (devices U A0 B0) k).may_leave y)
+    (λ (is : true ≡ false). absurd (let wrong : true ≡ false = is in cc)) (λ apart_ y left. left) k apart)
 
 pub returns-in-B-clause-ringed : goal.returns-in-B-clause-ringed
 returns-in-B-clause-ringed g c =
@@ -639,6 +658,9 @@ returns-in-B-clause-ringed g c =
       card_a = λ t x le at. at;
       card_b = some-left (session_of run.keeper.cabin.cards B) (λ a. IsNote a.session.application) B0 Y some e.moments;
     })
+    (λ a at_. call-of e.noted.0 (is_err c.note_place_in-in-B.result) B run c.note_place_in-in-B.new.run c.args.slot c.args.at c.args.breaks.now c.note_place_in-in-B.new.breaks a c.args.entry.now B0 Y e.noted.1 at_ e.on_card e.places)
+    (λ k apart. both-cards (λ k. same_card B k ≡ false → (y : List ℕ) → (card_of (devices W A0 Y) k).may_leave y → (card_of (devices U A0 B0) k).may_leave y)
+    (λ apart_ y left. left) (λ (is : true ≡ false). absurd (let wrong : true ≡ false = is in cc)) k apart)
 
 -- ---- the events that the cards show
 

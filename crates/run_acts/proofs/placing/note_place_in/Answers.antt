@@ -27,6 +27,7 @@ use Rattle.run_acts.proofs.CardNotes.{on-session, place-noted}
 use Rattle.run_keeping.proofs.CardBooked.{session-set}
 use Rattle.run_acts.specs.CardWrites.{PlaceOn}
 use Rattle.run_acts.proofs.CardWrites.{place-well, place-fell, place-on}
+use Rattle.run_acts.proofs.CardPlaces.{may-take}
 use Rattle.run_acts.proofs.placing.note_place_in.Goals as goal
 
 pub note_place_on-requires-clause-port : goal.note_place_on-requires-clause-port
@@ -238,3 +239,17 @@ returns-clause-on_card g c =
     let has = place-well c.in-Ok.app c.args.entry.now X Y (g.met.C.Chip.coherent c.args.card.now) (g.met.C.Chip.coherent c.note_place_on.new.card) works cause.works c.note_place_on.ensures.moments (ok_gives c.note_place_on.result c.note_place_on.ensures.noted well) in
     subst (λ (q : Cards). PlaceOn (session_of before c.args.which) (session_of q c.args.which) false c.args.entry.now X Y) (sym cards)
     (place-on c.args.entry.now X Y c.args.which before c.in-Ok.app (g.C.Chip.card c.args.card.now) (session_of before c.args.which) c.requires.card sizes has)
+
+-- ---- where the call may have failed, it may stand
+
+pub returns-then-is_err-clause-places : goal.returns-then-is_err-clause-places
+returns-then-is_err-clause-places g c =
+    let cards = c.args.run.now.keeper.cabin.cards in
+    let sizes : (known_of cards c.args.which).sizes ≡ Ok c.in-Ok.app = cc in
+    may-take c.args.which cards c.in-Ok.app c.args.entry.now (g.C.Chip.card c.args.card.now) (g.C.Chip.state c.args.card.now) (g.C.Chip.state c.note_place_on.new.card) (g.met.C.Chip.coherent c.args.card.now) c.requires.card sizes c.note_place_on.ensures.moments
+
+pub returns-clause-places : goal.returns-clause-places
+returns-clause-places g c =
+    let cards = c.args.run.now.keeper.cabin.cards in
+    let sizes : (known_of cards c.args.which).sizes ≡ Ok c.in-Ok.app = cc in
+    may-take c.args.which cards c.in-Ok.app c.args.entry.now (g.C.Chip.card c.args.card.now) (g.C.Chip.state c.args.card.now) (g.C.Chip.state c.note_place_on.new.card) (g.met.C.Chip.coherent c.args.card.now) c.requires.card sizes c.note_place_on.ensures.moments

@@ -18,6 +18,7 @@ use Rattle.run_acts.proofs.SettledEvented.{settling-events}
 use Rattle.safety_model.specs.Safe.{Devices}
 use Rattle.run_rule.specs.Between.{devices}
 use Rattle.run_acts.proofs.CardStays.{timed-still}
+use Rattle.run_acts.proofs.CardPlaces.{timed-places}
 use Rattle.run_acts.proofs.settling.settle.Goals as goal
 
 pub keep_all-requires-clause-due : goal.keep_all-requires-clause-due
@@ -233,3 +234,32 @@ returns-clause-later g c = c.keep_all.ensures.later
 
 pub returns-clause-keeps : goal.returns-clause-keeps
 returns-clause-keeps g c = record { unit = c.keep_all.ensures.unit_keeps; card_a = c.keep_all.ensures.a_keeps; card_b = c.keep_all.ensures.b_keeps }
+
+-- ---- the places on the cards
+
+pub returns-clause-places : goal.returns-clause-places
+returns-clause-places g c =
+    let h = c.requires.going in
+    let k = c.keep_all.ensures in
+    let old = c.args.run.now in
+    let items = c.settle-decided.result.items in
+    let d : Devices = devices (g.M.Medium.state c.args.unit.now) (g.C.Chip.state c.args.card_a.now) (g.D.Chip.state c.args.card_b.now) in
+    let e : Devices = devices (g.M.Medium.state c.keep_all.new.unit) (g.C.Chip.state c.keep_all.new.card_a) (g.D.Chip.state c.keep_all.new.card_b) in
+    let b = rw c.as_slice.ensures.value at k.booked in (
+      items,
+      c.settle-decided.ensures.given,
+      λ o done s n waits here r time. timed-places o r.origin d e
+          (booked old c.args.outcome.now c.settle-decided.new.self c.keep_all.new.self c.keep_all.new.marks c.keep_all.new.breaks c.args.at (is_err c.keep_all.result) items d e
+          h.0 h.1 c.requires.small (c.settle-decided.ensures.settled h.1.span h.1.stands) (c.settle-decided.ensures.given h.1.span h.1.stands) k.same.1 b.0 b.1 b.2
+          (record {
+            cause = k.cause;
+            keeps = k.unit_keeps;
+            tells = k.tells;
+            clock = k.clock;
+            card_a = record { keeps = k.a_keeps; clock = k.clock_a; tells = k.tells_a; more = k.more_a; broken = k.a_broken; bare = λ none. same-left (g.C.Chip.state c.args.card_a.now) (g.C.Chip.state c.keep_all.new.card_a) (ap g.C.Chip.state (k.a_bare none)) };
+            card_b = record { keeps = k.b_keeps; clock = k.clock_b; tells = k.tells_b; more = k.more_b; broken = k.b_broken; bare = λ none. same-left (g.D.Chip.state c.args.card_b.now) (g.D.Chip.state c.keep_all.new.card_b) (ap g.D.Chip.state (k.b_bare none)) };
+          })
+          o done s (suc n) waits (omega arith) here r time).1,
+    )
+
+-- ---- which faults are noted

@@ -34,7 +34,9 @@ use Rattle.log_model.specs.Log.{In}
 use Rattle.run_acts.specs.Recording.{RunFails, GoesOnOrFails, GoesOnOrCut, log_of}
 use Rattle.run_acts.specs.Settling.{RecordsSettling}
 use Rattle.run_acts.proofs.Asked.{withdraws-one}
-use Rattle.run_acts.proofs.WithdrawnRecorded.{acting_at, moment-is, settling-cut, closing-recorded, settled-evented, closing-evented, untorn-then, sat-there, settled-still, closed-still}
+use Rattle.run_acts.proofs.WithdrawnRecorded.{acting_at, moment-is, settling-cut, closing-recorded, settled-evented, closing-evented, untorn-then, sat-there, settled-still, settled-places, closed-places, closed-still}
+use Rattle.run_ringed.specs.OnCards.{PlacesStay}
+use Rattle.run_acts.proofs.CardPlaces.{stay-then}
 use Rattle.run_acts.specs.Faults.{NotesSettling}
 use Rattle.run_acts.specs.Noting.{NotesClosing, NotesWithdrawing, closed_events}
 use Rattle.run_acts.proofs.NotedEvents.{same-noted, noted-any}
@@ -58,7 +60,7 @@ use Rattle.run_acts.proofs.Settled.{settled-decides}
 use Rattle.run_acts.proofs.SettledRecorded.{same-ungiven}
 use Rattle.run_acts.proofs.RingedSecond.{left-after, more-left}
 use Rattle.run_acts.proofs.RingedClosed.{settling-ringed, closing-ringed, gone-told}
-use Rattle.run_acts.specs.RunCards.{CardsSettling, StillShow}
+use Rattle.run_acts.specs.RunCards.{CardsSettling, PlacesSettling, StillShow}
 use Rattle.run_acts.proofs.CardStays.{shows-then}
 use Rattle.run_acts.proofs.CardActs.{TellsLines, settled-lines, closed-lines, quiet-goes}
 use Rattle.run_acts.specs.CardWrites.{ShutsBehind, WithdrawsShut}
@@ -832,6 +834,12 @@ closing-left : {C : Type 0} (state : C → State) (x y : C) (q : Option Accepted
 closing-left {C} state x y None h same = subst (λ (z : C). HasLeftMore (state x) (state z)) (sym (same refl)) (λ t c le at. at)
 closing-left {C} state x y (Some s) h same = h.1.keeps
 
+here-places : (decided : List Minute) (slot : Slot) (at here : Moment) (run between : Run) (before : Outcome) (left : Cabin) (d e : Devices) → left ≡ with_slot_left slot at.second run.keeper.cabin → at ≡ here →
+    PlacesSettling decided at (with_cabin left run) between before d e → PlacesSettling decided here (left_run slot here.second run) between before d e
+here-places decided slot at here run between before left d e is moment settles =
+    subst (λ (m : Moment). PlacesSettling decided m (left_run slot m.second run) between before d e) moment
+    (subst (λ (b : Cabin). PlacesSettling decided at (with_cabin b run) between before d e) is settles)
+
 pub returns-in_default-clause-ringed : goal.returns-in_default-clause-ringed
 returns-in_default-clause-ringed g c = λ late speed o done s now front rest are n allowed w spans t rings time.
     let seats = c.args.run.now.keeper.cabin.slots.seats in
@@ -852,9 +860,13 @@ returns-in_err-settle-clause-ringed g c = λ late speed o done s now front rest 
     let moment = moment-is c.args.at s.number (suc (length front)) (c.requires.at ∙ sym now.number) n late in
     let small : s.number < 2 ^ 32 = let low = c.requires.small in let same = now.number in omega (arith, low, same) in
     let kept = here-kept true c.args.slot c.args.at (acting_at s.number (suc (length front))) run c.settle.new.run c.args.outcome.now c.settle.new.outcome c.leave.new.self c.leave.ensures.kept moment c.in_err-settle.ensures.settled in
+    let v = c.in_err-settle.ensures.places in
+    let places : PlacesStay o D E =
+    settled-places o done s front rest c.args.slot are speed now.speed_is card run c.settle.new.run c.args.outcome.now c.settle.new.outcome D w there allowed (c.in_err-settle.ensures.settled.minutes w.within.sp w.within.minutes) v.0 (v.1 w.within.sp w.within.minutes) E
+    (here-places v.0 c.args.slot c.args.at (acting_at s.number (suc (length front))) run c.settle.new.run c.args.outcome.now c.leave.new.self D E c.leave.ensures.kept moment v.2) time in
     subst (λ (q : Bool). RingsGoOn q o done s w.within.b (front ++ Withdraw c.args.slot ∷ []) c.settle.new.run (log_of c.settle.new.outcome) spans t E) failed
     (settling-ringed o done s front rest c.args.slot are speed now.speed_is card run c.settle.new.run c.args.outcome.now c.settle.new.outcome D E w there allowed true kept
-    (more-left o D E (w.within.powered.lit.unit.unit_holds [] []).later w.within.there.clocks c.settle.ensures.keeps) spans t rings (ungiven_of lit.span) lit.cabin small (entry-of run.noted (session_of run.keeper.cabin.cards card) (lit.entries card))
+    (more-left o D E (w.within.powered.lit.unit.unit_holds [] []).later w.within.there.clocks c.settle.ensures.keeps) places spans t rings (ungiven_of lit.span) lit.cabin small (entry-of run.noted (session_of run.keeper.cabin.cards card) (lit.entries card))
     (settling-leaves c.args.at true (with_cabin c.leave.new.self run) c.settle.new.run c.args.outcome.now c.settle.new.outcome U V c.in_err-settle.ensures.noted))
 
 pub returns-in-A-clause-ringed : goal.returns-in-A-clause-ringed
@@ -898,12 +910,21 @@ returns-in-A-clause-ringed g c = λ late speed o done s now front rest are n all
     (closes-behind k.closing (session_of between.keeper.cabin.cards A) c.args.at (is_err c.close.result) between U U1 V leaves k.rings) in
     let entries = entry-of run.noted (session_of run.keeper.cabin.cards A) (lit.entries A) in
     let records = here-settled r.0 false c.args.slot c.args.at (acting_at s.number (suc (length front))) run between c.args.outcome.now told c.leave.new.self D (devices U1 A1 B1) c.leave.ensures.kept moment r.2 in
+    let v = c.in_ok-settle.ensures.places in
+    let M : Devices = devices U1 A1 B1 in
+    let first : PlacesStay o D M =
+    settled-places o done s front rest c.args.slot are speed now.speed_is A run between c.args.outcome.now told D w there allowed minutes v.0 (v.1 w.within.sp w.within.minutes) M
+    (here-places v.0 c.args.slot c.args.at (acting_at s.number (suc (length front))) run between c.args.outcome.now c.leave.new.self D M c.leave.ensures.kept moment v.2) mid in
+    let next : PlacesStay o M E =
+    closed-places o done s front rest c.args.slot are speed now.speed_is A run between c.args.outcome.now told D w there allowed minutes r.0 (r.1 w.within.sp w.within.minutes) g.C.Chip.state U1 V B1 c.settle.new.card_a c.close.new.card
+    (g.met.C.Chip.coherent c.settle.new.card_a) c.settle.ensures.held.card_a.size e.left e.bare records mid in
+    let places : PlacesStay o D E = stay-then o D M E first next in
     let from_is : w.within.from ≡ ungiven_of lit.span = let to = w.within.until in let same = same-ungiven run.minutes w.within.sp lit.span w.within.minutes lit.stands in omega (arith, to, same) in
     let later = (settled-decides None (run.next / 60) run lit kept.decided c.requires.small (kept.given lit.span lit.stands)).from in
-    closing-ringed o done s front rest c.args.slot are speed now.speed_is A run between c.args.outcome.now told D E w there allowed false kept left spans t rings (ungiven_of lit.span) lit.cabin small entries
+    closing-ringed o done s front rest c.args.slot are speed now.speed_is A run between c.args.outcome.now told D E w there allowed false kept left places spans t rings (ungiven_of lit.span) lit.cabin small entries
     c.close.new.run c.close.new.breaks k.closing closed minutes
     (λ had has. untorn-then o done s front rest c.args.slot are speed now.speed_is A run between c.args.outcome.now told D w there allowed minutes r.0 (r.1 w.within.sp w.within.minutes) (devices U1 A1 B1) records mid had has)
-    (λ had none. gone-told o done s front rest c.args.slot are speed now.speed_is A run between c.args.outcome.now told D E w there allowed false kept left spans t rings (ungiven_of lit.span) lit.cabin small entries kept.kept w.within.from
+    (λ had none. gone-told o done s front rest c.args.slot are speed now.speed_is A run between c.args.outcome.now told D E w there allowed false kept left places spans t rings (ungiven_of lit.span) lit.cabin small entries kept.kept w.within.from
     (sat-there o done s front rest c.args.slot are speed now.speed_is A run between c.args.outcome.now told D w there allowed minutes r.0 (r.1 w.within.sp w.within.minutes) had)
     (subst (λ (low : ℕ). All (λ (m : Minute). low ≤ m.minute) kept.decided) (sym from_is) later) had none)
     (is_err c.close.result) writes
@@ -949,12 +970,21 @@ returns-in-B-clause-ringed g c = λ late speed o done s now front rest are n all
     (closes-behind k.closing (session_of between.keeper.cabin.cards B) c.args.at (is_err c.close-in-B.result) between U U1 V leaves k.rings) in
     let entries = entry-of run.noted (session_of run.keeper.cabin.cards B) (lit.entries B) in
     let records = here-settled r.0 false c.args.slot c.args.at (acting_at s.number (suc (length front))) run between c.args.outcome.now told c.leave.new.self D (devices U1 A1 B1) c.leave.ensures.kept moment r.2 in
+    let v = c.in_ok-settle.ensures.places in
+    let M : Devices = devices U1 A1 B1 in
+    let first : PlacesStay o D M =
+    settled-places o done s front rest c.args.slot are speed now.speed_is B run between c.args.outcome.now told D w there allowed minutes v.0 (v.1 w.within.sp w.within.minutes) M
+    (here-places v.0 c.args.slot c.args.at (acting_at s.number (suc (length front))) run between c.args.outcome.now c.leave.new.self D M c.leave.ensures.kept moment v.2) mid in
+    let next : PlacesStay o M E =
+    closed-places o done s front rest c.args.slot are speed now.speed_is B run between c.args.outcome.now told D w there allowed minutes r.0 (r.1 w.within.sp w.within.minutes) g.D.Chip.state U1 V A1 c.settle.new.card_b c.close-in-B.new.card
+    (g.met.D.Chip.coherent c.settle.new.card_b) c.settle.ensures.held.card_b.size e.left e.bare records mid in
+    let places : PlacesStay o D E = stay-then o D M E first next in
     let from_is : w.within.from ≡ ungiven_of lit.span = let to = w.within.until in let same = same-ungiven run.minutes w.within.sp lit.span w.within.minutes lit.stands in omega (arith, to, same) in
     let later = (settled-decides None (run.next / 60) run lit kept.decided c.requires.small (kept.given lit.span lit.stands)).from in
-    closing-ringed o done s front rest c.args.slot are speed now.speed_is B run between c.args.outcome.now told D E w there allowed false kept left spans t rings (ungiven_of lit.span) lit.cabin small entries
+    closing-ringed o done s front rest c.args.slot are speed now.speed_is B run between c.args.outcome.now told D E w there allowed false kept left places spans t rings (ungiven_of lit.span) lit.cabin small entries
     c.close-in-B.new.run c.close-in-B.new.breaks k.closing closed minutes
     (λ had has. untorn-then o done s front rest c.args.slot are speed now.speed_is B run between c.args.outcome.now told D w there allowed minutes r.0 (r.1 w.within.sp w.within.minutes) (devices U1 A1 B1) records mid had has)
-    (λ had none. gone-told o done s front rest c.args.slot are speed now.speed_is B run between c.args.outcome.now told D E w there allowed false kept left spans t rings (ungiven_of lit.span) lit.cabin small entries kept.kept w.within.from
+    (λ had none. gone-told o done s front rest c.args.slot are speed now.speed_is B run between c.args.outcome.now told D E w there allowed false kept left places spans t rings (ungiven_of lit.span) lit.cabin small entries kept.kept w.within.from
     (sat-there o done s front rest c.args.slot are speed now.speed_is B run between c.args.outcome.now told D w there allowed minutes r.0 (r.1 w.within.sp w.within.minutes) had)
     (subst (λ (low : ℕ). All (λ (m : Minute). low ≤ m.minute) kept.decided) (sym from_is) later) had none)
     (is_err c.close-in-B.result) writes
