@@ -1,5 +1,5 @@
 -- A card that is judged is as it was at the start, or has come before: in an earlier second, or this one puts it in more than once.
-use Rattle.std.proofs.Common.{◌≡◌, ◌⊎◌, inl, inr, ⊎_elim, ◌∙◌, ℕ, ◌+◌, ◌<◌, ◌≤◌, Bool, true, false, cond, not, ◌||◌, Option, Some, None, List, [], ◌∷◌, ◌++◌, All, Contains, map, filter, take, drop, length, refl, ap, sym, subst, arith, length-append}
+use Rattle.std.proofs.Common.{◌≡◌, ◌⊎◌, inl, inr, ⊎_elim, ◌∙◌, ℕ, ◌+◌, ◌<◌, ◌≤◌, ◌/◌, Bool, true, false, cond, not, ◌||◌, ◌&&◌, nat_le, nat_eq, Option, Some, None, List, [], ◌∷◌, ◌++◌, All, Contains, map, filter, take, drop, length, refl, ap, sym, subst, arith, length-append}
 use Rattle.std.specs.Prelude.{fold, flat_map}
 use Rattle.std.specs.List.{list_any}
 use Rattle.std.proofs.lemmas.Bool.{cases_lt}
@@ -119,10 +119,11 @@ put-acted c log s n a x = by (begins (cut_in log s.number) n)
 put-all : (c : Card) (log : RunLog) (s : TraceSecond) (n : ℕ) (actions : List Action) (x : Course) → times_of c (all_acted log s n actions x).entered ≤ times_of c x.entered + length (filter (puts_in c) actions)
 put-all c log s n [] x = not-less (times_of c x.entered) 0
 put-all c log s n (a ∷ actions) x =
-    let one = put-acted c log s n a x in
-    let rest = put-all c log s (n + 1) actions (acted log s n a x) in
-    let sum : length (filter (puts_in c) (a ∷ actions)) ≡ length (filter (puts_in c) (a ∷ [])) + length (filter (puts_in c) actions) = puts-append c (a ∷ []) actions in
-    omega (arith, one, rest, sum)
+    more (times_of c (all_acted log s (n + 1) actions (acted log s n a x)).entered) (times_of c (acted log s n a x).entered) (times_of c x.entered) (length (filter (puts_in c) (a ∷ []))) (length (filter (puts_in c) actions))
+    (length (filter (puts_in c) (a ∷ actions))) (put-all c log s (n + 1) actions (acted log s n a x)) (put-acted c log s n a x) (puts-append c (a ∷ []) actions)
+  where
+    more : (all mid front one rest both : ℕ) → all ≤ mid + rest → mid ≤ front + one → both ≡ one + rest → all ≤ front + both
+    more all mid front one rest both later here sum = omega (arith, later, here, sum)
 
 put-at : (c : Card) (log : RunLog) (before : Before) (s : TraceSecond) → cut_in log s.number ≡ None → (n : ℕ) → n ≤ length s.actions →
     times_of c (course_at log before s (In n)).entered ≤ times_of c (fresh (not before.running) before.slots).entered + times_put c s
@@ -145,8 +146,8 @@ sits-none c p slot (Some x) is = ap (λ (b : Bool). length (cond b (x.card ∷ [
 fresh-none : (c : Card) (starts : Bool) (slots : Slots) → IsOut c slots → times_of c (fresh starts slots).entered ≡ 0
 fresh-none c false slots out = refl
 fresh-none c true slots out =
-    let driver = sits-none c (In 0) Driver slots.driver out.driver in
-    let codriver = sits-none c (In 0) CoDriver slots.codriver out.codriver in
+    let driver : times_of c (visits (In 0) Driver slots) ≡ 0 = sits-none c (In 0) Driver slots.driver out.driver in
+    let codriver : times_of c (visits (In 0) CoDriver slots) ≡ 0 = sits-none c (In 0) CoDriver slots.codriver out.codriver in
     let sum : times_of c (visits (In 0) Driver slots ++ visits (In 0) CoDriver slots) ≡ times_of c (visits (In 0) Driver slots) + times_of c (visits (In 0) CoDriver slots) =
     times-append c (visits (In 0) Driver slots) (visits (In 0) CoDriver slots) in
     let none : times_of c (visits (In 0) Driver slots ++ visits (In 0) CoDriver slots) ≡ 0 = omega (arith, driver, codriver, sum) in
@@ -204,7 +205,9 @@ module _ (o : Origin) (done : List TraceSecond) (s : TraceSecond) (n : ℕ) (wai
 
   came-before : MayBeWrittenSo o w.b done (course_in w.b done s (In n) log) waits s.number k.cabin.slots e.which → HasComeBefore told_so_far (done ++ s ∷ []) e.which s.number
   came-before may = ⊎_elim
-      (λ past. let x = some-came e.which _ told_so_far past in earlier x.0 x.1 x.2)
+      (λ past.
+      let x = some-came e.which (λ (t : Told). nat_le t.second.number may.time && nat_eq (t.second.number / 60) (may.time / 60)) told_so_far past in
+      earlier x.0 x.1 x.2)
       (λ now. let less = now.1 in let one_ = waits-one in twice (omega (arith, less, one_)))
       may.entered_then
 

@@ -81,7 +81,8 @@ module _ (o : Origin) (e : Entering) (failed : Bool) (well : failed ≡ false) (
   none-more g no = filter-append accepting (log_of out).finds (g ∷ []) ∙ ap (λ (l : List Find). acceptances_told (log_of out) ++ l) no ∙ append-nil (acceptances_told (log_of out))
 
   more-lines : (ending : Ending) → length (log_of out).breaks ≤ length (log_by ending).breaks
-  more-lines ending = let n = length-append (log_of out).breaks (breaks_by ending e) in omega (arith, n)
+  more-lines ending =
+      let n : length (log_by ending).breaks ≡ length (log_of out).breaks + length (breaks_by ending e) = length-append (log_of out).breaks (breaks_by ending e) in omega (arith, n)
 
   -- a card that is turned away
   turned-away : (ending : Ending) → acceptances_told (log_by ending) ≡ acceptances_told (log_of out) → (IsOwnValid f.image → DoesOn (own_sizes f.image) [] X Y) → (ss : List Stay) → Turns f (log_of out) (log_by ending) vehicle None None X Y ss
@@ -105,7 +106,7 @@ module _ (o : Origin) (e : Entering) (failed : Bool) (well : failed ≡ false) (
   own-judged (Seated entered clock entry) app w is told opens none ss = record {
     now = ss ++ new_stay entered ∷ [];
     lines = more-lines (Seated entered clock entry);
-    told = inr (find_of e (AcceptedWith entered.replayed), (filter-append accepting (log_of out).finds (find_of e (AcceptedWith entered.replayed) ∷ []), founds-more ss (new_stay entered)));
+    told = inr (find_of e (AcceptedWith entered.replayed), filter-append accepting (log_of out).finds (find_of e (AcceptedWith entered.replayed) ∷ []), founds-more ss (new_stay entered));
     owed = λ all. owed-more ss (new_stay entered) all (ap AcceptedWith told.whole);
     only = λ only. inr told.valid;
     shows = λ valid h. stays-open f vehicle (length (log_of out).breaks) (length (log_by (Seated entered clock entry)).breaks) (more-lines (Seated entered clock entry)) ss (find_of e (AcceptedWith entered.replayed)) e.odometer.0 entered.owed.items
