@@ -259,8 +259,7 @@ module _ (x a b : List ℕ) (start : ℕ) (items : List Item) (began now : Devic
       -- of a card, the pointer of its ring is an index where it was valid
       shows-places : (c : Card) → IsOwnValid (card_image r c) → IsDense (places_in (card_image r c)) (card_image r c) → (y : List ℕ) → (card_of now c).may_leave y → ShowsPlaces r h.spans c y
       shows-places c valid dense y left =
-          let of_image : (found_of o.found c).image ≡ card_image r c = found.image c ∙ sym (images c) in
-          let good : IsApplication (own_sizes (card_image r c)) = subst (λ (i : List ℕ). IsApplication (own_sizes i)) of_image (h.evented.recorded.recorded.found.sizes c (subst IsOwnValid (sym of_image) valid)) in
+          let good : IsApplication (own_sizes (card_image r c)) = subst (λ (i : List ℕ). IsApplication (own_sizes i)) (of_image c) (h.evented.recorded.recorded.found.sizes c (subst IsOwnValid (sym (of_image c)) valid)) in
           let has : HasPlaces (card_image r c) = record { valid = valid; shape = place_shape (own_sizes (card_image r c)) good; ring = record { points = own-points (card_image r c) valid; dense = dense } } in
           record {
             shows = places-shown began now (since_behind o (log_of out) ss) (log_of out) h.spans (notes_in (log_of out) (seconds_of start items)) (seats_of run) h.ringed.ringed r images refl refl c has y left;
