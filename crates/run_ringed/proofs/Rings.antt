@@ -67,20 +67,20 @@ fewer-sit d o log spans notes seats fewer v each = record {
 
 module _ (origin : Origin) (told told_now : List Told) (trace trace_now : List TraceSecond) (come : (c : Card) (u : ℕ) → HasComeBefore told trace c u → HasComeBefore told_now trace_now c u)
     (log later : RunLog) (spans now : List SpanFrom) (notes : List Note) (d e : Devices) (more : HaveLeftMore origin d e) (on : GoOn log later spans now notes) where
-  abbrev o : Since
-  o = record { origin = origin; told = told; trace = trace }
+  abbrev since_was : Since
+  since_was = record { origin = origin; told = told; trace = trace }
 
-  abbrev p : Since
-  p = record { origin = origin; told = told_now; trace = trace_now }
+  abbrev since_now : Since
+  since_now = record { origin = origin; told = told_now; trace = trace_now }
 
-  pub tells-since : (u : ℕ) (c : Card) (registration : List ℕ) (time : ℕ) → TellsIn o d u c registration time → TellsIn p e u c registration time
+  pub tells-since : (u : ℕ) (c : Card) (registration : List ℕ) (time : ℕ) → TellsIn since_was d u c registration time → TellsIn since_now e u c registration time
   tells-since u c registration time tells = ((tells.0.0, more.card c tells.0.0 tells.0.1, tells.0.2), ⊎_elim (λ first. inl first) (λ before. inr (come c u before)) tells.1)
 
-  pub weaker-since : AllByRecursion (Weaker (sure_insertion origin log spans) (sure_insertion origin later now) (IsInsertionIn o log spans d) (IsInsertionIn p later now e)) (insertions_of notes)
+  pub weaker-since : AllByRecursion (Weaker (sure_insertion origin log spans) (sure_insertion origin later now) (IsInsertionIn since_was log spans d) (IsInsertionIn since_now later now e)) (insertions_of notes)
   weaker-since = all-of
       (λ (i : InsertionNote). (odometer_at i.accepted.second now ≡ odometer_at i.accepted.second spans) × IfSome i.withdrawn (λ u. odometer_at u now ≡ odometer_at u spans))
-      (Weaker (sure_insertion origin log spans) (sure_insertion origin later now) (IsInsertionIn o log spans d) (IsInsertionIn p later now e))
-      (λ i same. insertion-as log later spans now (holder_in origin) on.failed (TellsIn o d i.accepted.second) (TellsIn p e i.accepted.second) (tells-since i.accepted.second) i same)
+      (Weaker (sure_insertion origin log spans) (sure_insertion origin later now) (IsInsertionIn since_was log spans d) (IsInsertionIn since_now later now e))
+      (λ i same. insertion-as log later spans now (holder_in origin) on.failed (TellsIn since_was d i.accepted.second) (TellsIn since_now e i.accepted.second) (tells-since i.accepted.second) i same)
       (insertions_of notes) on.insertions
 
   pub places-since : AllByRecursion (Weaker (sure_place origin log spans) (sure_place origin later now) (IsPlaceIn origin log spans) (IsPlaceIn origin later now)) (places_of notes)
@@ -92,10 +92,10 @@ module _ (origin : Origin) (told told_now : List Told) (trace trace_now : List T
 
   -- an accepted card stays, where the ring shows the same
   pub seated-since : (c : Card) (q : Option Seating) (ms : List (List ℕ)) (x y : List ℕ) → indices insertion_ring y ≡ indices insertion_ring x →
-      IfSome q (λ s. IsSeated (sure_insertion origin log spans) (IsInsertionIn o log spans d) c s (insertions_of notes) ms x) → IfSome q (λ s. IsSeated (sure_insertion origin later now) (IsInsertionIn p later now e) c s (insertions_of notes) ms y)
+      IfSome q (λ s. IsSeated (sure_insertion origin log spans) (IsInsertionIn since_was log spans d) c s (insertions_of notes) ms x) → IfSome q (λ s. IsSeated (sure_insertion origin later now) (IsInsertionIn since_now later now e) c s (insertions_of notes) ms y)
   seated-since c None ms x y same is = tt
   seated-since c (Some s) ms x y same is =
-      let parts = all-parts (Weaker (sure_insertion origin log spans) (sure_insertion origin later now) (IsInsertionIn o log spans d) (IsInsertionIn p later now e)) (insertions_of notes) is.older is.own is.newer is.notes_are weaker-since in
+      let parts = all-parts (Weaker (sure_insertion origin log spans) (sure_insertion origin later now) (IsInsertionIn since_was log spans d) (IsInsertionIn since_now later now e)) (insertions_of notes) is.older is.own is.newer is.notes_are weaker-since in
       record {
         older = is.older;
         own = is.own;
@@ -108,9 +108,9 @@ module _ (origin : Origin) (told told_now : List Told) (trace trace_now : List T
         entry = is.entry;
         newers = is.newers;
         more_are = is.more_are;
-        stand_before = stand-as (sure_insertion origin log spans) (sure_insertion origin later now) (IsInsertionIn o log spans d) (IsInsertionIn p later now e) is.older is.olders parts.0 is.stand_before;
+        stand_before = stand-as (sure_insertion origin log spans) (sure_insertion origin later now) (IsInsertionIn since_was log spans d) (IsInsertionIn since_now later now e) is.older is.olders parts.0 is.stand_before;
         is = parts.1.1 is.entry is.is;
-        each_behind = each-as (sure_insertion origin log spans) (sure_insertion origin later now) (IsInsertionIn o log spans d) (IsInsertionIn p later now e) is.newer is.newers parts.2 is.each_behind;
+        each_behind = each-as (sure_insertion origin log spans) (sure_insertion origin later now) (IsInsertionIn since_was log spans d) (IsInsertionIn since_now later now e) is.newer is.newers parts.2 is.each_behind;
         behind = is.behind;
         there = ⊎_elim (λ at. inl (at.0, at.1, same ∙ at.2, at.3)) (λ gone. inr gone) is.there;
       }
