@@ -62,11 +62,12 @@ puts-append c xs ys = ap (λ (l : List Action). length l) (filter-append (puts_i
 
 came-any : (c : Card) (vs : List Visit) → 0 < length (filter (λ (e : Visit). same_card c e.card) vs) → list_any (λ (v : Visit). same_card c v.card) vs ≡ true
 came-any c [] some = absurd (omega (arith, some))
-came-any c (v ∷ vs) some = by (same_card c v.card) some
+came-any c (v ∷ vs) some = by (same_card c v.card) (λ more. came-any c vs more) some
   where
-    by : (b : Bool) → 0 < length (cond b (v ∷ filter (λ (e : Visit). same_card c e.card) vs) (filter (λ (e : Visit). same_card c e.card) vs)) → (b || list_any (λ (v : Visit). same_card c v.card) vs) ≡ true
-    by true some = refl
-    by false some = came-any c vs some
+    by : (b : Bool) → (0 < length (filter (λ (e : Visit). same_card c e.card) vs) → list_any (λ (v : Visit). same_card c v.card) vs ≡ true) →
+        0 < length (cond b (v ∷ filter (λ (e : Visit). same_card c e.card) vs) (filter (λ (e : Visit). same_card c e.card) vs)) → (b || list_any (λ (v : Visit). same_card c v.card) vs) ≡ true
+    by true later some = refl
+    by false later some = later some
 
 some-came : (c : Card) (test : Told → Bool) (told : List Told) → 0 < length (flat_map (λ (t : Told). cond (test t) (filter (λ (e : Visit). same_card c e.card) t.course.entered) []) told) →
     (t : Told) × Contains told t × (came_in c t ≡ true)
