@@ -1,6 +1,6 @@
 -- The insertion of a card that is accepted tells what its image told at the start: names, number and expiry; and its newest vehicle, by an image that
 -- a stop might have left of it.
-use Rattle.std.proofs.Common.{◌≡◌, ◌∙◌, ⊎_elim, ℕ, ◌+◌, ◌^◌, ◌<◌, Option, Some, None, IfSome, List, [], length, take, drop, get_or, All, refl, ap, sym, subst, arith}
+use Rattle.std.proofs.Common.{◌≡◌, ◌∙◌, ◌⊎◌, inl, inr, ⊎_elim, ℕ, ◌+◌, ◌^◌, ◌<◌, Option, Some, None, IfSome, List, [], length, take, drop, get_or, All, refl, ap, sym, subst, arith}
 use Rattle.std.proofs.lemmas.Bool.{cases_lt}
 use Rattle.std.proofs.lemmas.List.{get_or_past, length-take, length-drop}
 use Rattle.std.proofs.lemmas.List.Elements.{All-get_or, All-take, All-drop}
@@ -11,6 +11,7 @@ use Rattle.activity_codec.specs.declared.values.Slot.{Slot}
 use Rattle.activity_codec.specs.declared.values.Slot.TheVariants.{Driver, CoDriver}
 use Rattle.activity_codec.specs.Words.{slot_number as slot_told}
 use Rattle.trace_model.specs.declared.Card.{Card}
+use Rattle.trace_model.specs.Trace.{TraceSecond}
 use Rattle.tacho_types.specs.CardNumber.{card_number_bytes}
 use Rattle.tacho_types.specs.Numbers.{time_bytes, time_of}
 use Rattle.card_layout.specs.declared.files.Application.{Application}
@@ -21,6 +22,7 @@ use Rattle.card_image.specs.Own.{own_sizes, own_number, IsOwnValid}
 use Rattle.card_judge.specs.declared.looking.CardLook.{CardLook}
 use Rattle.card_judge.specs.Judged.{IsLook, identification_field}
 use Rattle.log_model.specs.Log.{RunLog}
+use Rattle.log_model.specs.Course.{Told}
 use Rattle.unit_notes.specs.Fields.{InsertionFits}
 use Rattle.unit_notes.specs.Entries.{insertion_bytes}
 use Rattle.side_model.specs.Odometer.{SpanFrom, odometer_at}
@@ -32,7 +34,8 @@ use Rattle.safety_model.specs.Side.{identification_widths, TellsVehicle}
 use Rattle.run_rule.specs.Found.{found_of}
 use Rattle.run_strung.specs.Strung.{identification_of, HasSameHolder}
 use Rattle.run_recorded.specs.Origin.{Origin}
-use Rattle.run_ringed.specs.Ringed.{holder_in, TellsIn, IsInsertionIn}
+use Rattle.run_evented.specs.Opened.{HasComeBefore}
+use Rattle.run_ringed.specs.Ringed.{Since, holder_in, TellsIn, IsInsertionIn}
 use Rattle.run_ringed.proofs.Bytes.{IsInsertionTold, insertion-is}
 use Rattle.run_entering.specs.declared.lines.Entering.{Entering}
 use Rattle.run_entering.specs.Entering.{slot_number, previous_of, previous_time_of, insertion_of}
@@ -90,8 +93,8 @@ slot-is CoDriver = refl
 
 -- ---- what a card told by this image, which a stop might have left, and which is of the holder at the start
 module _ (o : Origin) (origin : IsOrigin o) (e : Entering) (look : CardLook) (app : Application) (y : List ℕ) (sizes : own_sizes y ≡ app) (is : IsLook app y look) (fits : FitsInsertion look) (valid : IsOwnValid (card_image o.recording e.which))
-    (same : HasSameHolder (found_of o.found e.which).image y) (named : card_number_bytes look.number ≡ (found_of o.found e.which).number) (d : Devices) (left_ : (card_of d e.which).left_since (found_of o.found e.which).began y)
-    (u : ℕ) (second : e.at.second ≡ u) (small : u < 2 ^ 32) (spans : List SpanFrom) (odometer : e.odometer.0 ≡ odometer_at u spans) (few : e.odometer.0 < 2 ^ 24) where
+    (same : HasSameHolder (found_of o.found e.which).image y) (named : card_number_bytes look.number ≡ (found_of o.found e.which).number)
+    (seconds : List Told) (trace : List TraceSecond) (u : ℕ) (first : (y ≡ card_image o.recording e.which) ⊎ HasComeBefore seconds trace e.which u) (d : Devices) (left_ : (card_of d e.which).left_since (found_of o.found e.which).began y) (second : e.at.second ≡ u) (small : u < 2 ^ 32) (spans : List SpanFrom) (odometer : e.odometer.0 ≡ odometer_at u spans) (few : e.odometer.0 < 2 ^ 24) where
   abbrev start : List ℕ
   start = card_image o.recording e.which
 
@@ -133,14 +136,18 @@ module _ (o : Origin) (origin : IsOrigin o) (e : Entering) (look : CardLook) (ap
   abbrev a : Acceptance
   a = record { second = u; slot = e.slot; card = e.which }
 
-  before-it : TellsIn o d e.which (previous_of look.previous).0 (previous_time_of look.previous)
-  before-it = (
-    y,
-    left_,
-    subst (λ (v : Option Vehicle). TellsVehicle o.recording v (previous_of look.previous).0 (previous_time_of look.previous)) (is.previous ∙ ap (λ (q : Application). newest_vehicle q y) (sym sizes)) (tells-vehicle o.recording look.previous),
-  )
+  -- so far as it has gone
+  abbrev so_far : Since
+  so_far = record { origin = o; told = seconds; trace = trace }
 
-  told : (log : RunLog) → IsInsertionTold log spans (holder_in o) (TellsIn o d) (record { second = u; slot = e.slot; card = e.which }) (insertion_of look e)
+  of-image : (x : List ℕ) → x ≡ y → TellsVehicle o.recording (newest_vehicle (own_sizes x) x) (previous_of look.previous).0 (previous_time_of look.previous)
+  of-image x same = subst (λ (v : Option Vehicle). TellsVehicle o.recording v (previous_of look.previous).0 (previous_time_of look.previous))
+      (is.previous ∙ ap (λ (q : Application). newest_vehicle q y) (sym sizes) ∙ ap (λ (z : List ℕ). newest_vehicle (own_sizes z) z) (sym same)) (tells-vehicle o.recording look.previous)
+
+  before-it : TellsIn so_far d u e.which (previous_of look.previous).0 (previous_time_of look.previous)
+  before-it = ((y, left_, of-image y refl), ⊎_elim (λ same. inl (of-image (card_image o.recording e.which) (sym same))) (λ come. inr come) first)
+
+  told : (log : RunLog) → IsInsertionTold log spans (holder_in o) (TellsIn so_far d u) (record { second = u; slot = e.slot; card = e.which }) (insertion_of look e)
   told log = record {
     fits = all-fits;
     surname = surname-is;
@@ -156,12 +163,12 @@ module _ (o : Origin) (origin : IsOrigin o) (e : Entering) (look : CardLook) (ap
     by_hand = refl;
   }
 
-  along : (card : Card) (r s : List ℕ) (t v : ℕ) → r ≡ s → t ≡ v → TellsIn o d card s v → TellsIn o d card r t
-  along card r s t v rs tv h = subst (λ (l : List ℕ). TellsIn o d card l t) (sym rs) (subst (λ (k : ℕ). TellsIn o d card s k) (sym tv) h)
+  along : (card : Card) (r s : List ℕ) (t v : ℕ) → r ≡ s → t ≡ v → TellsIn so_far d u card s v → TellsIn so_far d u card r t
+  along card r s t v rs tv h = subst (λ (l : List ℕ). TellsIn so_far d u card l t) (sym rs) (subst (λ (k : ℕ). TellsIn so_far d u card s k) (sym tv) h)
 
-  entry-is : (log : RunLog) → IsInsertionIn o log spans d (record { accepted = record { second = u; slot = e.slot; card = e.which }; withdrawn = None }) (insertion_bytes (insertion_of look e))
-  entry-is log = insertion-is log spans (holder_in o) (TellsIn o d) along (record { second = u; slot = e.slot; card = e.which }) (insertion_of look e) (told log)
+  entry-is : (log : RunLog) → IsInsertionIn so_far log spans d (record { accepted = record { second = u; slot = e.slot; card = e.which }; withdrawn = None }) (insertion_bytes (insertion_of look e))
+  entry-is log = insertion-is log spans (holder_in o) (TellsIn so_far d u) along (record { second = u; slot = e.slot; card = e.which }) (insertion_of look e) (told log)
 
   -- IT IS ITS INSERTION
-  pub insertion-now : IsInsertionNow o (record { second = u; slot = e.slot; card = e.which }) spans d (insertion_bytes (insertion_of look e))
+  pub insertion-now : IsInsertionNow so_far (record { second = u; slot = e.slot; card = e.which }) spans d (insertion_bytes (insertion_of look e))
   insertion-now = record { long = (entry-is o.recording.log).size; is = entry-is }

@@ -1,5 +1,5 @@
 -- A card is judged: its insertion in the rings of a run with cards.
-use Rattle.std.proofs.Common.{◌≡◌, ◌≢◌, ◌∙◌, ◌⊎◌, inl, inr, ℕ, suc, ◌+◌, ◌-◌, ◌^◌, ◌<◌, ◌≤◌, min, Result, Bool, true, false, Option, Some, None, IfSome, is_some, option_map, List, [], ◌∷◌, ◌++◌, length, refl, ap, sym, subst, arith, length-append}
+use Rattle.std.proofs.Common.{◌≡◌, ◌≢◌, ◌∙◌, ◌⊎◌, inl, inr, ℕ, suc, ◌+◌, ◌-◌, ◌^◌, ◌<◌, ◌≤◌, min, Result, Bool, true, false, Option, Some, None, IfSome, is_some, option_map, List, [], ◌∷◌, ◌++◌, length, refl, ap, sym, subst, arith, length-append, ⊎_elim}
 use Rattle.std.specs.Prelude.{filter}
 use Rattle.activity_codec.specs.declared.values.Slot.{Slot}
 use Rattle.trace_model.specs.declared.Card.{Card}
@@ -22,7 +22,7 @@ use Rattle.log_model.specs.declared.lines.Verdict.{Verdict}
 use Rattle.log_model.specs.declared.lines.Verdict.TheVariants as verdict
 use Rattle.log_model.specs.Log.{RunLog, In, cut_in, found_in, is_accepting}
 use Rattle.log_model.specs.Slots.{same_card, other_slot}
-use Rattle.log_model.specs.Course.{Visit}
+use Rattle.log_model.specs.Course.{Visit, went}
 use Rattle.unit_notes.specs.Entries.{insertion_bytes}
 use Rattle.side_model.specs.Odometer.{SpanFrom, odometer_at}
 use Rattle.side_model.specs.Noted.{Acceptance}
@@ -33,6 +33,8 @@ use Rattle.run_crew.specs.declared.cards.Cards.{Cards}
 use Rattle.run_crew.specs.declared.cabin.Cabin.{Cabin}
 use Rattle.run_crew.specs.Cards.{session_of}
 use Rattle.run_crew.specs.Cabin.{torn_out, with_accepted, with_sizes_of}
+use Rattle.run_evented.specs.Opened.{HasComeBefore}
+use Rattle.recorder_with_cards.proofs.CameFirst.{came-first}
 use Rattle.run_rule.specs.Found.{Found, found_of}
 use Rattle.run_rule.specs.Between.{Carried}
 use Rattle.run_strung.specs.Strung.{HasSameHolder}
@@ -41,7 +43,7 @@ use Rattle.run_told.specs.Told.{arranged, with_standing}
 use Rattle.run_outcome.specs.declared.outcome.Outcome.{Outcome}
 use Rattle.run_recorded.specs.Origin.{Origin}
 use Rattle.run_recorded.specs.Beside.{HaveLeftMore}
-use Rattle.run_ringed.specs.Ringed.{Seating, one_behind}
+use Rattle.run_ringed.specs.Ringed.{Seating, one_behind, Since, since_in}
 use Rattle.run_ringed.specs.OnCards.{PlacesStay}
 use Rattle.run_ringed.specs.SoFar.{AreFewer}
 use Rattle.run_keeping.specs.declared.keeper.Keeper.{Keeper}
@@ -110,7 +112,7 @@ seated-seats B slot number row a sizes cabin noted own few others B = inr (refl,
 
 -- ---- BY WHAT BECAME OF IT
 
-module _ (o : Origin) (d later : Devices) (e : Entering) (u : ℕ) (spans : List SpanFrom) (noted : ℕ) (cabin : Cabin) (sizes : Result Application ℕ) (others : (c : Card) → IfSome (session_of cabin.cards c) (λ b. b.noted ≤ noted)) where
+module _ (o : Since) (d later : Devices) (e : Entering) (u : ℕ) (spans : List SpanFrom) (noted : ℕ) (cabin : Cabin) (sizes : Result Application ℕ) (others : (c : Card) → IfSome (session_of cabin.cards c) (λ b. b.noted ≤ noted)) where
   abbrev a : Acceptance
   a = record { second = u; slot = e.slot; card = e.which }
 
@@ -191,14 +193,14 @@ noted-few (Lost entered clock entry) e log noted le = let one = one-more noted i
 
 -- ---- IT IS JUDGED
 
-pub record IsRinged (o : Origin) (s : TraceSecond) (n : ℕ) (e : Entering) (spans : List SpanFrom) (noted noted' : ℕ) (k k' : Keeper) (out out' : Outcome) (failed : Bool) (d later : Devices) : Type 0 where
+pub record IsRinged (o : Since) (s : TraceSecond) (n : ℕ) (e : Entering) (spans : List SpanFrom) (noted noted' : ℕ) (k k' : Keeper) (out out' : Outcome) (failed : Bool) (d later : Devices) : Type 0 where
   pub rings : JudgedInRings failed o (record { second = s.number; slot = e.slot; card = e.which }) (found_in (log_of out') s.number (In n) e.slot) spans (seats_in noted k.cabin.cards) (seats_in noted' k'.cabin.cards) d later
   pub others : found_in (log_of out') s.number (In n) (other_slot e.slot) ≡ found_in (log_of out) s.number (In n) (other_slot e.slot)
   pub here : TellsHere (log_of out) (log_of out') s.number
   pub cut : cut_in (log_of out') s.number ≡ cut_in (log_of out) s.number
   pub same : (x : ℕ) → n ≡ suc x → TellSameTo (log_of out) (log_of out') s.number x
-  pub left : HaveLeftMore o d later
-  pub places : PlacesStay o d later
+  pub left : HaveLeftMore o.origin d later
+  pub places : PlacesStay o.origin d later
   pub counted : noted' ≤ length (log_of out').finds
 
 module _ (o : Origin) (done : List TraceSecond) (s : TraceSecond) (n : ℕ) (waits fewer : List Visit) (e : Entering) (k : Keeper) (out : Outcome) (unfound next_ begun : ℕ) (minutes : Kept) (U X Z : State) (w : Within o done s (In n) waits None [] (values_with k out unfound next_ begun minutes) (arranged e.which U X Z)) (m : MayJudge o done s n waits fewer e k out unfound next_ begun minutes U X Z w)
@@ -251,6 +253,10 @@ module _ (o : Origin) (done : List TraceSecond) (s : TraceSecond) (n : ℕ) (wai
   y-left : X.left_since (found_of o.found e.which).began y.0
   y-left = sound.card_before.counts_now (found_of o.found e.which).began y.0 (card-began o done s n waits fewer e k out unfound next_ begun minutes U X Z w m) y.1
 
+  -- that of the start, or it has come before
+  first-or : (y.0 ≡ card_image o.recording e.which) ⊎ HasComeBefore (went w.b.run.log done).told (done ++ s ∷ []) e.which s.number
+  first-or = ⊎_elim (λ whole. inl (whole y.0 y.1)) (λ come. inr come) (came-first o done s n waits fewer e k out unfound next_ begun minutes U X Z w m sound.card_before)
+
   abbrev standing : Carried
   standing = with_standing e.which Out (before o done s n waits fewer e k out unfound next_ begun minutes U X Z w m)
 
@@ -258,16 +264,16 @@ module _ (o : Origin) (done : List TraceSecond) (s : TraceSecond) (n : ℕ) (wai
   told = (known-behind o done s n waits fewer e k out unfound next_ begun minutes U X Z w m failed k' noted noted' out' W Y way g sound).told
 
   abbrev Told : Way → Type 0
-  Told v = IsToldSo o (arranged e.which U X Z) (arranged e.which W Y Z) e s.number spans noted k.cabin (sizes_by way) others failed (ending_of v)
+  Told v = IsToldSo (since_in o w.b.run.log done s) (arranged e.which U X Z) (arranged e.which W Y Z) e s.number spans noted k.cabin (sizes_by way) others failed (ending_of v)
 
   -- its insertion
   module _ (app : Application) (look : CardLook) (sizes : own_sizes y.0 ≡ app) (is : IsLook app y.0 look) (fits : FitsInsertion look) (valid : IsOwnValid (found_of o.found e.which).image) (named : card_number_bytes look.number ≡ (found_of o.found e.which).number) where
     of-holder : HasSameHolder (found_of o.found e.which).image y.0
     of-holder = (w.powered.go.held e.which valid).still y.0 (mine-back e.which U X Z (λ (q : State). q.left_since (found_of o.found e.which).began y.0) y-left)
 
-    inserts : IsInsertionNow o (record { second = s.number; slot = e.slot; card = e.which }) spans (arranged e.which W Y Z) (insertion_bytes (insertion_of look e))
-    inserts = insertion-now o origin e look app y.0 sizes is fits (subst IsOwnValid (origin.image e.which) valid) of-holder named (arranged e.which W Y Z)
-        (more.card e.which y.0 (mine-back e.which U X Z (λ (q : State). q.left_since (found_of o.found e.which).began y.0) y-left)) s.number second small spans odometer few
+    inserts : IsInsertionNow (since_in o w.b.run.log done s) (record { second = s.number; slot = e.slot; card = e.which }) spans (arranged e.which W Y Z) (insertion_bytes (insertion_of look e))
+    inserts = insertion-now o origin e look app y.0 sizes is fits (subst IsOwnValid (origin.image e.which) valid) of-holder named (went w.b.run.log done).told (done ++ s ∷ []) s.number first-or (arranged e.which W Y Z)
+        (more.card e.which y.0 (mine-back e.which U X Z (λ (q : State). q.left_since (found_of o.found e.which).began y.0) y-left)) second small spans odometer few
 
   room : (x : Find) → length (log_of out').finds ≡ length ((log_of out).finds ++ x ∷ []) → noted + 1 ≤ 2 ^ 64 - 1
   room x is = omega (arith, is, told_few, counted, length-append (log_of out).finds (x ∷ []))
@@ -290,18 +296,18 @@ module _ (o : Origin) (done : List TraceSecond) (s : TraceSecond) (n : ℕ) (wai
       (accept-writes U W X Y sound.unit_before sound.unit_behind e failed k k' noted noted' out out' way (ap (λ (q : Option (List ℕ)). is_some q) u.1) g.cause g.entered)
 
   -- SO ITS RINGS ARE WRITTEN
-  judged-rings : JudgedInRings failed o (record { second = s.number; slot = e.slot; card = e.which }) (found_in (log_of out') s.number (In n) e.slot) spans (seats_in noted k.cabin.cards) (seats_in noted' k'.cabin.cards) (arranged e.which U X Z) (arranged e.which W Y Z)
+  judged-rings : JudgedInRings failed (since_in o w.b.run.log done s) (record { second = s.number; slot = e.slot; card = e.which }) (found_in (log_of out') s.number (In n) e.slot) spans (seats_in noted k.cabin.cards) (seats_in noted' k'.cabin.cards) (arranged e.which U X Z) (arranged e.which W Y Z)
   judged-rings =
       let d : Devices = arranged e.which U X Z in
       let later : Devices = arranged e.which W Y Z in
       let a : Acceptance = record { second = s.number; slot = e.slot; card = e.which } in
       let cabin : Cabin = cabin_by (ending_of way) e noted (measured way e k).cabin in
       let len = ap (λ (l : RunLog). length l.finds) log-is in
-      subst (λ (vs : List Verdict). JudgedInRings failed o a vs spans (seats_in noted k.cabin.cards) (seats_in noted' k'.cabin.cards) d later) (sym (tells.own ∙ ap (λ (vs : List Verdict). vs ++ verdicts_of (ending_of way) e) m.none))
-      (subst (λ (q : Cabin). JudgedInRings failed o a (verdicts_of (ending_of way) e) spans (seats_in noted k.cabin.cards) (seats_in noted' q.cards) d later) (sym (ap (λ (q : Keeper). q.cabin) g.entered.left.keeper))
-      (subst (λ (x : ℕ). JudgedInRings failed o a (verdicts_of (ending_of way) e) spans (seats_in noted k.cabin.cards) (seats_in x cabin.cards) d later) (sym g.entered.left.count)
-      (ending-rings o d later e s.number spans noted k.cabin (sizes_by way) others failed (ending_of way) (way-told way g.entered.is y.2 told len) writes)))
+      subst (λ (vs : List Verdict). JudgedInRings failed (since_in o w.b.run.log done s) a vs spans (seats_in noted k.cabin.cards) (seats_in noted' k'.cabin.cards) d later) (sym (tells.own ∙ ap (λ (vs : List Verdict). vs ++ verdicts_of (ending_of way) e) m.none))
+      (subst (λ (q : Cabin). JudgedInRings failed (since_in o w.b.run.log done s) a (verdicts_of (ending_of way) e) spans (seats_in noted k.cabin.cards) (seats_in noted' q.cards) d later) (sym (ap (λ (q : Keeper). q.cabin) g.entered.left.keeper))
+      (subst (λ (x : ℕ). JudgedInRings failed (since_in o w.b.run.log done s) a (verdicts_of (ending_of way) e) spans (seats_in noted k.cabin.cards) (seats_in x cabin.cards) d later) (sym g.entered.left.count)
+      (ending-rings (since_in o w.b.run.log done s) d later e s.number spans noted k.cabin (sizes_by way) others failed (ending_of way) (way-told way g.entered.is y.2 told len) writes)))
 
   -- all of it
-  pub judged-ringed : IsRinged o s n e spans noted noted' k k' out out' failed (arranged e.which U X Z) (arranged e.which W Y Z)
+  pub judged-ringed : IsRinged (since_in o w.b.run.log done s) s n e spans noted noted' k k' out out' failed (arranged e.which U X Z) (arranged e.which W Y Z)
   judged-ringed = record { rings = judged-rings; others = others-found; here = tells-here; cut = tells.cut; same = same-before; left = more; places = judged-places o done s n waits fewer e k out unfound next_ begun minutes U X Z w m origin failed k' noted noted' out' W Y way g sound sized; counted = counted-then }

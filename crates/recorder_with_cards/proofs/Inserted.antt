@@ -26,6 +26,7 @@ use Rattle.run_moments.specs.Reached.{IsTearAt}
 use Rattle.run_moments.specs.Moment.{entering_by}
 use Rattle.run_outcome.specs.Lines.{Listed}
 use Rattle.run_outcome.specs.declared.outcome.Outcome.{Outcome}
+use Rattle.run_ringed.specs.Ringed.{since_in}
 use Rattle.run_recorded.specs.Origin.{Origin}
 use Rattle.run_keeping.specs.declared.keeper.Moment.{Moment}
 use Rattle.run_keeping.specs.Books.{HaveTime}
@@ -163,9 +164,10 @@ module _ (slot : Slot) (card : Card) (at : Moment) (speed : ℕ) (old : Run) (be
         -- its insertion in the rings, where the odometer of then is that of these spans
         pub next-judged : (spans : List SpanFrom) → ((w : RunWithin o done s (In (suc (length front))) (entering_by (length front) (Insert slot card)) [] mid told e) → w.within.b ≡ h.within.b → odometer_by mid.keeper.odometer (travelled_of w.within.sp) ≡ side.odometer_at s.number spans) →
             mid.noted ≤ length (log_of told).finds → (judged_failed : Bool) (new : Run) (after : Outcome) (later : Devices) → RingsJudged slot card at judged_failed mid new told after e later → HaveTime later →
-            IsJudgedInRings judged_failed o s (suc (length front)) slot card spans mid new told after e later
+            IsJudgedInRings judged_failed (since_in o h.within.b.run.log done s) s (suc (length front)) slot card spans mid new told after e later
         next-judged spans odometer counted judged_failed new after later judges end =
-            judges o done s (suc n) waits [] at-is next spans (odometer on.goes (on.began ∙ put.goes.began)) counted end
+            subst (λ (b : Beginning). IsJudgedInRings judged_failed (since_in o b.run.log done s) s (suc n) slot card spans mid new told after e later) (on.began ∙ put.goes.began)
+            (judges o done s (suc n) waits [] at-is next spans (odometer on.goes (on.began ∙ put.goes.began)) counted end)
 
         -- what it brings the card of events
         pub next-cards : (judged_failed : Bool) (after : Outcome) (later : Devices) → CardsJudged slot card at speed judged_failed mid told after e later → mid.keeper.memory.registration ≡ vehicle_in o → HaveTime later →

@@ -26,7 +26,7 @@ use Rattle.run_recorded.specs.Beside.{HaveLeftMore}
 use Rattle.run_rings.specs.Notes.{TellSameTo, NotesMore, accepts_by, course_behind}
 use Rattle.run_rings.specs.Spans.{with_second}
 use Rattle.run_rings.proofs.Actions.{insertions}
-use Rattle.run_ringed.specs.Ringed.{StaysInRings}
+use Rattle.run_ringed.specs.Ringed.{StaysInRings, since_in}
 use Rattle.run_ringed.specs.OnCards.{PlacesStay}
 use Rattle.run_ringed.specs.SoFar.{RingedBehind, RingedIn, AreFewer, HasMoreBreaks}
 use Rattle.run_ringed.specs.Steps.{GoesOnTo, IsCutIn, nobody, spans_cut}
@@ -151,7 +151,7 @@ module _ (o : Origin) (done : List TraceSecond) (s : TraceSecond) (front rest : 
       cut-found_ later none = cut-found later s.number (length (front ++ Insert slot card ∷ [])) none (In (suc (length front))) slot
 
   -- ---- or the card is judged
-  module _ (failed : Bool) (new : Run) (after : Outcome) (f : Devices) (j : IsJudgedInRings failed o s (suc (length front)) slot card (with_second spans old.keeper.odometer t) mid new told after e f) where
+  module _ (failed : Bool) (new : Run) (after : Outcome) (f : Devices) (j : IsJudgedInRings failed (since_in o w.within.b.run.log done s) s (suc (length front)) slot card (with_second spans old.keeper.odometer t) mid new told after e f) where
     uncut-after : cut_in (log_of after) s.number ≡ None
     uncut-after = j.cut ∙ uncut-told
 
@@ -192,7 +192,7 @@ module _ (o : Origin) (done : List TraceSecond) (s : TraceSecond) (front rest : 
     abbrev Found : List Verdict
     Found = found_in (log_of after) s.number (In (suc (length front))) slot
 
-    by : (b : Bool) → JudgedInRings b o (record { second = s.number; slot = slot; card = card }) (found_in (log_of after) s.number (In (suc (length front))) slot) (with_second spans old.keeper.odometer t) (seats_of mid) (seats_of new) e f →
+    by : (b : Bool) → JudgedInRings b (since_in o w.within.b.run.log done s) (record { second = s.number; slot = slot; card = card }) (found_in (log_of after) s.number (In (suc (length front))) slot) (with_second spans old.keeper.odometer t) (seats_of mid) (seats_of new) e f →
         RingsGoOn b o done s w.within.b (front ++ Insert slot card ∷ []) new (log_of after) spans t f
     by false h = record {
       base = subst (λ (b : ℕ). IsLastFrom b (with_second spans b t)) (sym (j.odometer ∙ same_odometer)) rings.base;

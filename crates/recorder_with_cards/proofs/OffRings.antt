@@ -32,16 +32,20 @@ use Rattle.run_course.proofs.Lookups.{break-more}
 use Rattle.run_course.proofs.Logs.{other-number, all-before, same-at, went-later}
 use Rattle.run_course.proofs.Steps.{spans-cut, cut-parts}
 use Rattle.run_course.proofs.Told.{told-lit}
+use Rattle.event_model.specs.Events.{Seen}
+use Rattle.run_events.specs.Running.{IsCutOff}
+use Rattle.run_events.proofs.Offs.{seen-off}
+use Rattle.run_evented.proofs.Opened.{come-as}
 use Rattle.run_rings.specs.Notes.{notes_to, TellSameTo}
 use Rattle.run_rings.specs.Spans.{AreBefore, AreAllBefore}
 use Rattle.run_rings.proofs.Notes.{later-lines, second-noted}
 use Rattle.run_rings.proofs.Same.{rings-left}
 use Rattle.run_recorded.specs.Origin.{Origin}
-use Rattle.run_ringed.specs.Ringed.{Seating, Ringed, notes_in, noted_next}
+use Rattle.run_ringed.specs.Ringed.{Seating, Ringed, notes_in, noted_next, since_behind}
 use Rattle.run_ringed.specs.SoFar.{AreEarlier, RingedBehind, AreFewer}
 use Rattle.run_ringed.proofs.Noted.{second-notes}
 use Rattle.run_ringed.proofs.OnCards.{call-failed-more, places-itself}
-use Rattle.run_ringed.proofs.Rings.{fewer-sit, rings-stay}
+use Rattle.run_ringed.proofs.Rings.{fewer-sit, rings-stay, come-before}
 use Rattle.run_ringed.proofs.SoFar.{failed-more, goes-alike, left-itself}
 
 -- ---- the spans: the last second of the last one is a cut's
@@ -169,18 +173,32 @@ module _ (rule : Rule) (start : Start) (from first : ℕ) (p : Progress) (t : To
       second-notes p.log later front r same ∙ ap (λ (l : List Note). notes_in p.log front ++ l) next-same
       ∙ sym (second-notes p.log p.log front r (same-all p.log front))
 
+  off : IsCutOff p.log later r
+  off = record {
+    uncut = uncut;
+    cut = now-cut;
+    torn = λ q slot. (break-more p.log cut r.number).torn q slot ∙ or-nothing (is_torn_in p.log r.number q slot);
+    found = λ q slot. (break-more p.log cut r.number).found q slot;
+  }
+
+  -- who entered in it
+  entered-same : (second_told later (went later front).before r).course.entered ≡ (second_told p.log (went p.log front).before r).course.entered
+  entered-same = ap (λ (b : Before). (second_told later b r).course.entered) before-same ∙ ap (λ (z : Seen). z.told.course.entered) (seen-off p.log later r off (went p.log front).before power)
+
   module _ (o : Origin) (d : Devices) (spans : List SpanFrom) (seats fewer : Card → Option Seating) (v : RingedBehind o (front ++ r ∷ []) p.log p.next spans seats d) (few : AreFewer seats fewer) where
     pub off-behind : RingedBehind o (front ++ r ∷ []) later p.next (cut_off spans) fewer d
     off-behind =
         let done : List TraceSecond = front ++ r ∷ [] in
-        let ringed : Ringed o later (cut_off spans) (notes_in p.log done) seats d =
-        rings-stay d d o p.log later spans (cut_off spans) (notes_in p.log done) seats v.ringed (rings-left d.unit) (left-itself o d) (places-itself o d)
+        let ringed : Ringed (since_behind o p.log done) later (cut_off spans) (notes_in p.log done) seats d =
+        rings-stay d d (since_behind o p.log done) p.log later spans (cut_off spans) (notes_in p.log done) seats v.ringed (rings-left d.unit) (left-itself o d) (places-itself o d)
         (goes-alike p.log later spans (cut_off spans) (notes_in p.log done) (failed-more p.log later (cut ∷ [], refl)) (call-failed-more p.log later (cut ∷ [], refl)) (cut-odometer spans)) in
+        let now : Ringed (since_behind o later done) later (cut_off spans) (notes_in p.log done) seats d =
+        come-before d o (went p.log done).told (went later done).told done done (come-as p.log later front r front-same entered-same done) later (cut_off spans) (notes_in p.log done) seats ringed in
         record {
           spans_are = cut-are spans ∙ ap cut_spans (v.spans_are ∙ f.spans) ∙ cut-spans-last f.ended (t ∷ span) ∙ sym (spans-cut rule start from first done p t span f);
           before = cut-before p.next spans v.before;
           early = subst (AreEarlier p.next) (sym notes-same) v.early;
-          ringed = subst (λ (l : List Note). Ringed o later (cut_off spans) l fewer d) (sym notes-same) (fewer-sit d o later (cut_off spans) (notes_in p.log done) seats fewer ringed few);
+          ringed = subst (λ (l : List Note). Ringed (since_behind o later done) later (cut_off spans) l fewer d) (sym notes-same) (fewer-sit d (since_behind o later done) later (cut_off spans) (notes_in p.log done) seats fewer now few);
         }
 
 -- THE LAST SECOND OF A SPAN TURNS OUT TO BE A CUT'S: what is carried of the rings goes on, with fewer cards accepted.

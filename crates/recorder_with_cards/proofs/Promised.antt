@@ -61,7 +61,7 @@ use Rattle.event_model.specs.Events.{Seen, seen_of}
 use Rattle.run_evented.specs.Evented.{limit_in, images_in, Evented}
 use Rattle.run_evented.proofs.Ends.{nothing-noted, events-shown}
 use Rattle.run_ringed.specs.OnCards.{places_in, HasPlaces}
-use Rattle.run_ringed.specs.Ringed.{Seating, Ringed, notes_in}
+use Rattle.run_ringed.specs.Ringed.{Seating, Ringed, notes_in, since_behind}
 use Rattle.run_ringed.specs.SoFar.{AreEarlier, RingedBehind}
 use Rattle.run_ringed.specs.Stored.{StoresOff, Stores}
 use Rattle.run_ringed.proofs.Rings.{none-noted, fewer-sit}
@@ -254,7 +254,7 @@ module _ (x a b : List ℕ) (start : ℕ) (items : List Item) (began now : Devic
           side-shown r began now y may.decodes
           (events-shown began now o (seconds_of start items) (log_of out) run.unfound run.next h.evented.recorded.supply h.evented.evented r refl images refl refl clocks y left)
           h.spans (record { spans_are = h.ringed.spans_are; bases = stores.0 }) (stores.1 y left)
-          (rings-shown began now o (log_of out) h.spans (notes_in (log_of out) (seconds_of start items)) (seats_of run) h.ringed.ringed r refl images refl refl clocks y left)
+          (rings-shown began now (since_behind o (log_of out) ss) (log_of out) h.spans (notes_in (log_of out) (seconds_of start items)) (seats_of run) h.ringed.ringed r refl images refl refl refl refl clocks y left)
 
       -- of a card, the pointer of its ring is an index where it was valid
       shows-places : (c : Card) → IsOwnValid (card_image r c) → IsDense (places_in (card_image r c)) (card_image r c) → (y : List ℕ) → (card_of now c).may_leave y → ShowsPlaces r h.spans c y
@@ -262,7 +262,7 @@ module _ (x a b : List ℕ) (start : ℕ) (items : List Item) (began now : Devic
           let good : IsApplication (own_sizes (card_image r c)) = subst (λ (i : List ℕ). IsApplication (own_sizes i)) (of_image c) (h.evented.recorded.recorded.found.sizes c (subst IsOwnValid (sym (of_image c)) valid)) in
           let has : HasPlaces (card_image r c) = record { valid = valid; shape = place_shape (own_sizes (card_image r c)) good; ring = record { points = own-points (card_image r c) valid; dense = dense } } in
           record {
-            shows = places-shown began now o (log_of out) h.spans (notes_in (log_of out) (seconds_of start items)) (seats_of run) h.ringed.ringed r images refl refl c has y left;
+            shows = places-shown began now (since_behind o (log_of out) ss) (log_of out) h.spans (notes_in (log_of out) (seconds_of start items)) (seats_of run) h.ringed.ringed r images refl refl c has y left;
             dense = (h.ringed.ringed.on_cards c (subst HasPlaces (images c) has) y left).carries.dense;
           }
 
@@ -445,7 +445,7 @@ module _ (x a b : List ℕ) (start : ℕ) (began now : Devices) (opened : Opened
           spans_are = sym (no-spans log);
           before = tt;
           early = subst (AreEarlier n) (sym (no-notes log)) tt;
-          ringed = subst (λ (notes : List Note). Ringed first-o log [] notes seats now) (sym (no-notes log)) (fewer-sit now first-o log [] [] (λ c. None) seats (none-noted now first-o log [] only_unit (λ c y left. only c y ((whole c).counts_now (found_of f c).began y (there.clocks c) left))) (λ c. inl (none c)));
+          ringed = subst (λ (notes : List Note). Ringed (since_behind first-o log []) log [] notes seats now) (sym (no-notes log)) (fewer-sit now (since_behind first-o log []) log [] [] (λ c. None) seats (none-noted now (since_behind first-o log []) log [] only_unit (λ c y left. only c y ((whole c).counts_now (found_of f c).began y (there.clocks c) left))) (λ c. inl (none c)));
         }
 
     -- and its cards show what they held

@@ -48,7 +48,7 @@ use Rattle.run_rings.specs.Spans.{with_second}
 use Rattle.run_rings.specs.Same.{HasSameRings, LeavesRings}
 use Rattle.run_rings.proofs.Same.{behind-same, rings-left, rings-moments}
 use Rattle.run_ringed.specs.OnCards.{PlacesStay}
-use Rattle.run_ringed.specs.Ringed.{Seating, StaysInRings, IsInsertionIn}
+use Rattle.run_ringed.specs.Ringed.{Seating, StaysInRings, IsInsertionIn, since_in}
 use Rattle.run_ringed.specs.SoFar.{RingedBehind, IsSecond, RingedIn, AreFewer, HasMoreBreaks, GoesBehind}
 use Rattle.run_ringed.specs.Steps.{nobody, spans_cut}
 use Rattle.run_ringed.specs.Waking.{NoneFound, IsFoundAnew}
@@ -232,7 +232,7 @@ wakes-ringed o done s b waits run out d waking log spans seats v bare counted =
 
 module _ (o : Origin) (done : List TraceSecond) (s : TraceSecond) (waits fewer : List Visit) (slot : Slot) (card : Card) (old new : Run) (before after : Outcome) (d e : Devices) (next : RunNext o done s 0 waits fewer old before d slot card)
     (off : (went next.goes.within.b.run.log done).before.running ≡ false) (first : slot ≡ Driver → found_in (log_of before) s.number (In 0) CoDriver ≡ []) (spans : List SpanFrom) (t : Told) (rings : RingsWithin o done s next.goes.within.b.run.log [] old (log_of before) spans t d)
-    (failed : Bool) (j : IsJudgedInRings failed o s 0 slot card (with_second spans old.keeper.odometer t) old new before after d e) where
+    (failed : Bool) (j : IsJudgedInRings failed (since_in o next.goes.within.b.run.log done s) s 0 slot card (with_second spans old.keeper.odometer t) old new before after d e) where
   abbrev began : RunLog
   began = next.goes.within.b.run.log
 
@@ -271,11 +271,11 @@ module _ (o : Origin) (done : List TraceSecond) (s : TraceSecond) (waits fewer :
   power-then = power-here o done s (In 0) waits None [] (values_of old before) d next.goes.within
 
   -- its insertion tells of who sits there
-  of-sitter : (log : RunLog) (head : List ℕ) → IsInsertionIn o log (with_second spans old.keeper.odometer t) e (record { accepted = record { second = s.number; slot = slot; card = card }; withdrawn = None }) head →
-      IsInsertionIn o log (with_second spans old.keeper.odometer t) e (record { accepted = record { second = s.number; slot = slot; card = sat.0.card }; withdrawn = None }) head
-  of-sitter log head is = subst (λ (c : Card). IsInsertionIn o log (with_second spans old.keeper.odometer t) e (record { accepted = record { second = s.number; slot = slot; card = c }; withdrawn = None }) head) (sym sat.2) is
+  of-sitter : (log : RunLog) (head : List ℕ) → IsInsertionIn (since_in o next.goes.within.b.run.log done s) log (with_second spans old.keeper.odometer t) e (record { accepted = record { second = s.number; slot = slot; card = card }; withdrawn = None }) head →
+      IsInsertionIn (since_in o next.goes.within.b.run.log done s) log (with_second spans old.keeper.odometer t) e (record { accepted = record { second = s.number; slot = slot; card = sat.0.card }; withdrawn = None }) head
+  of-sitter log head is = subst (λ (c : Card). IsInsertionIn (since_in o next.goes.within.b.run.log done s) log (with_second spans old.keeper.odometer t) e (record { accepted = record { second = s.number; slot = slot; card = c }; withdrawn = None }) head) (sym sat.2) is
 
-  by : (b : Bool) → JudgedInRings b o (record { second = s.number; slot = slot; card = card }) (found_in (log_of after) s.number (In 0) slot) (with_second spans old.keeper.odometer t) (seats_of old) (seats_of new) d e →
+  by : (b : Bool) → JudgedInRings b (since_in o next.goes.within.b.run.log done s) (record { second = s.number; slot = slot; card = card }) (found_in (log_of after) s.number (In 0) slot) (with_second spans old.keeper.odometer t) (seats_of old) (seats_of new) d e →
       RingsGoOn b o done s next.goes.within.b [] new (log_of after) spans t e
   by false h = record {
     base = subst (λ (n : ℕ). IsLastFrom n (with_second spans n t)) (sym j.odometer) rings.base;

@@ -23,7 +23,7 @@ use Rattle.run_rings.specs.Spans.{with_second}
 use Rattle.run_rings.proofs.Actions.{power-notes}
 use Rattle.run_recorded.specs.Origin.{Origin}
 use Rattle.run_recorded.specs.Beside.{HaveLeftMore}
-use Rattle.run_ringed.specs.Ringed.{Ringed, LeavesRings, notes_in}
+use Rattle.run_ringed.specs.Ringed.{Ringed, LeavesRings, notes_in, since_in}
 use Rattle.run_ringed.specs.SoFar.{RingedBehind, RingedIn, AreFewer, HasMoreBreaks, GoesBehind, notes_so_far}
 use Rattle.run_ringed.specs.Steps.{nobody, spans_cut}
 use Rattle.run_ringed.specs.OnCards.{PlacesStay}
@@ -150,14 +150,14 @@ module _ (o : Origin) (done : List TraceSecond) (s : TraceSecond) (old new : Run
   ringed-by y more found =
       let now : List SpanFrom = with_second spans old.keeper.odometer t in
       let notes : List Note = notes_so_far w.within.b.run.log done log s [] in
-      let stays : Ringed o y now notes (seats_of old) e = rings-stay d e o log y now now notes (seats_of old) rings.ringed.ringed leaves left places (goes-alike log y now now notes (failed-more log y more) (call-failed-more log y more) (λ u. refl)) in
+      let stays : Ringed (since_in o w.within.b.run.log done s) y now notes (seats_of old) e = rings-stay d e (since_in o w.within.b.run.log done s) log y now now notes (seats_of old) rings.ringed.ringed leaves left places (goes-alike log y now now notes (failed-more log y more) (call-failed-more log y more) (λ u. refl)) in
       record {
         spans_are = rings.ringed.spans_are;
         before = rings.ringed.before;
         early = rings.ringed.early;
         second = rings.ringed.second;
-        ringed = subst (λ (l : List Note). Ringed o y now l (seats_of new) e) (ap (λ (l : List Note). notes_in w.within.b.run.log done ++ l) (sym (same-notes log y found)))
-            (fewer-sit e o y now notes (seats_of old) (seats_of new) stays fewer);
+        ringed = subst (λ (l : List Note). Ringed (since_in o w.within.b.run.log done s) y now l (seats_of new) e) (ap (λ (l : List Note). notes_in w.within.b.run.log done ++ l) (sym (same-notes log y found)))
+            (fewer-sit e (since_in o w.within.b.run.log done s) y now notes (seats_of old) (seats_of new) stays fewer);
       }
 
   abbrev log_cut : RunLog

@@ -33,7 +33,7 @@ use Rattle.run_rings.specs.Notes.{TellSameTo}
 use Rattle.run_rings.specs.Spans.{with_second}
 use Rattle.run_recorded.specs.Origin.{Origin, rule_of, start_at, first_of}
 use Rattle.run_recorded.specs.Beside.{HaveLeftMore}
-use Rattle.run_ringed.specs.Ringed.{Seating, LeavesRings, notes_in}
+use Rattle.run_ringed.specs.Ringed.{Seating, LeavesRings, notes_in, since_behind}
 use Rattle.run_ringed.specs.SoFar.{RingedBehind, RingedIn, IsSecond, AreFewer, HasMoreBreaks, GoesBehind}
 use Rattle.run_ringed.specs.Steps.{nobody, spans_cut}
 use Rattle.run_ringed.specs.Stored.{StoresOn, StoresOff, Stores}
@@ -148,7 +148,7 @@ many-dark (suc (suc j)) o done log u speed spans base d lost some few v =
 
 -- fewer cards are accepted behind some seconds
 fewer-behind : (o : Origin) (done : List TraceSecond) (log : RunLog) (next : ℕ) (spans : List SpanFrom) (seats fewer : Card → Option Seating) (d : Devices) → RingedBehind o done log next spans seats d → AreFewer seats fewer → RingedBehind o done log next spans fewer d
-fewer-behind o done log next spans seats fewer d v few = record { spans_are = v.spans_are; before = v.before; early = v.early; ringed = fewer-sit d o log spans (notes_in log done) seats fewer v.ringed few }
+fewer-behind o done log next spans seats fewer d v few = record { spans_are = v.spans_are; before = v.before; early = v.early; ringed = fewer-sit d (since_behind o log done) log spans (notes_in log done) seats fewer v.ringed few }
 
 -- THE SECOND WAS CUT: behind it nothing is noted before the next minute.
 pub dark-ringed : (n speed begun : ℕ) (old : Run) (before : Outcome) (d : Devices) → 0 < n → old.next % 60 + n ≤ 60 → (o : Origin) (done : List TraceSecond) (s : TraceSecond) → IsNow s speed old → (cut : RunCut o done s old before d) →

@@ -41,8 +41,8 @@ use Rattle.run_events.proofs.Later.{told-number}
 use Rattle.run_events.proofs.Offs.{seen-off, off-shown, off-gaps}
 use Rattle.run_events.proofs.Shows.{noted-begins, noted-then, nothing-more}
 use Rattle.run_recorded.specs.Origin.{Origin, rule_of, start_at, first_of}
-use Rattle.log_model.specs.Slots.{same_card}
-use Rattle.run_evented.specs.Opened.{IsFirst, came_in}
+use Rattle.run_evented.specs.Opened.{IsFirst}
+use Rattle.run_evented.proofs.Opened.{come-as}
 use Rattle.run_evented.specs.Evented.{number_in, limit_in, Evented, NothingIsNoted, AnOffCutBringsNothing, EventsAreShown}
 use Rattle.run_evented.proofs.Lines.{untold-now}
 use Rattle.run_evented.proofs.Dark.{says-same, nothing-in}
@@ -171,35 +171,8 @@ module _ (o : Origin) (front : List TraceSecond) (r : TraceSecond) (p : Progress
       front-same : went later front ≡ went p.log front
       front-same = went-later p.log later r.number (cut_at (p.next - 1) false p.begun ∷ []) refl (second-is, tt) [] (sym (append-nil p.log.finds)) tt o.from front order.0 (let n = order.1 in omega (arith, n))
 
-      -- who has come before by the second as it went has come by it as it turns out
-      come-off : (c : Card) (z : Told) → Contains (went p.log (front ++ r ∷ [])).told z → came_in c z ≡ true → (w : Told) × Contains (went later (front ++ r ∷ [])).told w × (w.second.number ≡ z.second.number) × (came_in c w ≡ true)
-      come-off c z among came = ⊎_elim
-          (λ old. (
-            z,
-            subst (λ (ts : List Told). Contains ts z) (sym (told-as later)) (Contains-append_left (went later front).told (next_told later front r ∷ []) z (subst (λ (w : Went). Contains w.told z) (sym front-same) old)),
-            refl,
-            came,
-          ))
-          (λ (one : next_told p.log front r ≡ z). (
-            next_told later front r,
-            subst (λ (ts : List Told). Contains ts (next_told later front r)) (sym (told-as later)) (Contains-push (went later front).told (next_told later front r)),
-            told-number later (went later front).before r ∙ sym number-is ∙ ap (λ (w : Told). w.second.number) one,
-            ap (list_any (λ (q : Visit). same_card c q.card)) entered-same ∙ ap (came_in c) one ∙ came,
-          ))
-          (Contains-push_cases (went p.log front).told (next_told p.log front r) z (subst (λ (ts : List Told). Contains ts z) (told-as p.log) among))
-
       first-off : (c : Card) (u session : ℕ) → IsFirst (card_image o.recording) (went p.log (front ++ r ∷ [])).told (front ++ r ∷ []) c u session → IsFirst (card_image o.recording) (went later (front ++ r ∷ [])).told (front ++ r ∷ []) c u session
-      first-off c u session h = ⊎_elim
-          (λ is. inl is)
-          (λ come. inr (⊎_elim
-          (λ past.
-          let w = come-off c past.0 past.1 past.3 in
-          let lt = past.2 in
-          let number_w = w.2 in
-          inl (w.0, w.1, omega (arith, lt, number_w), w.3))
-          (λ twice. inr twice)
-          come))
-          h
+      first-off c u session h = ⊎_elim (λ is. inl is) (λ come. inr (come-as p.log later front r front-same entered-same (front ++ r ∷ []) c u come)) h
 
 pub off-cut_brings : (d : Devices) → AnOffCutBringsNothing d
 off-cut_brings d o done p f v t span is =

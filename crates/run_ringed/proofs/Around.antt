@@ -9,9 +9,8 @@ use Rattle.side_model.specs.Odometer.{SpanFrom, odometer_at}
 use Rattle.side_model.specs.Noted.{InsertionNote, PlaceNote, Note, Accepts, Withdraws, Enters}
 use Rattle.safety_model.specs.Safe.{Devices, card_of}
 use Rattle.run_rule.specs.Found.{found_of}
-use Rattle.run_recorded.specs.Origin.{Origin}
 use Rattle.run_recorded.specs.Beside.{HaveLeftMore}
-use Rattle.run_ringed.specs.Ringed.{holder_in, TellsIn, IsInsertionIn, Seating, Ringed, HasSameRings, WritesRing, IsAddedAt, MayBeAdded, IsWithdrawnAt, MayBeWithdrawn, AnInsertionIsNoted, APlaceIsNoted, AWithdrawalIsNoted, AWithdrawalIsBroken, AnInsertionIsBroken, APlaceIsBroken}
+use Rattle.run_ringed.specs.Ringed.{holder_in, TellsIn, IsInsertionIn, Seating, Ringed, HasSameRings, WritesRing, IsAddedAt, MayBeAdded, IsWithdrawnAt, MayBeWithdrawn, AnInsertionIsNoted, APlaceIsNoted, AWithdrawalIsNoted, AWithdrawalIsBroken, AnInsertionIsBroken, APlaceIsBroken, Since}
 use Rattle.run_ringed.specs.OnCards.{PlacesStay, PlaceIsTaken}
 use Rattle.run_ringed.proofs.Stands.{insertion-as}
 use Rattle.run_ringed.proofs.Rings.{rings-stay, go-on, tells-more, insertion-noted, insertion-broken, place-noted, place-broken}
@@ -29,49 +28,49 @@ module _ (R : List ℕ → List ℕ → Type 0) (d e : Devices) where
   abbrev pub behind-it : Devices
   behind-it = with-images e (λ q. (p : List ℕ) × before-it.unit.may_leave p × R p q)
 
-  module _ (o : Origin) where
-    pub to-before : HaveLeftMore o d before-it
+  module _ (o : Since) where
+    pub to-before : HaveLeftMore o.origin d before-it
     to-before = record { unit = λ x h. h; card = card }
       where
-        card : (c : Card) (x : List ℕ) → (card_of d c).left_since (found_of o.found c).began x → (card_of before-it c).left_since (found_of o.found c).began x
+        card : (c : Card) (x : List ℕ) → (card_of d c).left_since (found_of o.origin.found c).began x → (card_of before-it c).left_since (found_of o.origin.found c).began x
         card A x h = h
         card B x h = h
 
-    pub to-behind : HaveLeftMore o d e → HaveLeftMore o before-it behind-it
+    pub to-behind : HaveLeftMore o.origin d e → HaveLeftMore o.origin before-it behind-it
     to-behind more = record { unit = more.unit; card = card }
       where
-        card : (c : Card) (x : List ℕ) → (card_of before-it c).left_since (found_of o.found c).began x → (card_of behind-it c).left_since (found_of o.found c).began x
+        card : (c : Card) (x : List ℕ) → (card_of before-it c).left_since (found_of o.origin.found c).began x → (card_of behind-it c).left_since (found_of o.origin.found c).began x
         card A x h = more.card A x h
         card B x h = more.card B x h
 
-    pub from-behind : HaveLeftMore o behind-it e
+    pub from-behind : HaveLeftMore o.origin behind-it e
     from-behind = record { unit = λ x h. h; card = card }
       where
-        card : (c : Card) (x : List ℕ) → (card_of behind-it c).left_since (found_of o.found c).began x → (card_of e c).left_since (found_of o.found c).began x
+        card : (c : Card) (x : List ℕ) → (card_of behind-it c).left_since (found_of o.origin.found c).began x → (card_of e c).left_since (found_of o.origin.found c).began x
         card A x h = h
         card B x h = h
 
-    pub back-behind : HaveLeftMore o e behind-it
+    pub back-behind : HaveLeftMore o.origin e behind-it
     back-behind = record { unit = λ x h. h; card = card }
       where
-        card : (c : Card) (x : List ℕ) → (card_of e c).left_since (found_of o.found c).began x → (card_of behind-it c).left_since (found_of o.found c).began x
+        card : (c : Card) (x : List ℕ) → (card_of e c).left_since (found_of o.origin.found c).began x → (card_of behind-it c).left_since (found_of o.origin.found c).began x
         card A x h = h
         card B x h = h
 
     -- the places of the cards
-    pub stay-before : PlacesStay o d before-it
+    pub stay-before : PlacesStay o.origin d before-it
     stay-before A valid y left = (y, left, refl)
     stay-before B valid y left = (y, left, refl)
 
-    pub stay-from : PlacesStay o behind-it e
+    pub stay-from : PlacesStay o.origin behind-it e
     stay-from A valid y left = (y, left, refl)
     stay-from B valid y left = (y, left, refl)
 
-    pub stay-between : PlacesStay o d e → PlacesStay o before-it behind-it
+    pub stay-between : PlacesStay o.origin d e → PlacesStay o.origin before-it behind-it
     stay-between stays A = stays A
     stay-between stays B = stays B
 
-    pub taken-between : (log : RunLog) (p : PlaceNote) (own : List ℕ) → PlaceIsTaken o log p own d e → PlaceIsTaken o log p own before-it behind-it
+    pub taken-between : (log : RunLog) (p : PlaceNote) (own : List ℕ) → PlaceIsTaken o.origin log p own d e → PlaceIsTaken o.origin log p own before-it behind-it
     taken-between log p own is A = is A
     taken-between log p own is B = is B
 
@@ -86,7 +85,7 @@ module _ (R : List ℕ → List ℕ → Type 0) (d e : Devices) where
 
       -- an entry tells of a card what its images do
       pub insertion-behind : (n : InsertionNote) (head : List ℕ) → IsInsertionIn o log spans e n head → IsInsertionIn o log spans behind-it n head
-      insertion-behind n head is = (insertion-as log log spans spans (holder_in o) (λ u has. has) (TellsIn o e) (TellsIn o behind-it) (tells-more o log log spans spans notes e behind-it back-behind (go-on log spans notes)) n (refl, by n.withdrawn)).1 head is
+      insertion-behind n head is = (insertion-as log log spans spans (holder_in o.origin) (λ u has. has) (TellsIn o e n.accepted.second) (TellsIn o behind-it n.accepted.second) (tells-more o log log spans spans notes e behind-it back-behind (go-on log spans notes) n.accepted.second) n (refl, by n.withdrawn)).1 head is
         where
           by : (w : Option ℕ) → IfSome w (λ u. odometer_at u spans ≡ odometer_at u spans)
           by None = tt

@@ -15,13 +15,16 @@ use Rattle.side_model.specs.Odometer.{SpanFrom, odometer_at}
 use Rattle.side_model.specs.Noted.{Acceptance, InsertionNote, PlaceNote, Note, Accepts, Enters, insertions_of, places_of}
 use Rattle.side_model.specs.Rings.{Stand}
 use Rattle.safety_model.specs.Safe.{Devices}
+use Rattle.run_evented.specs.Opened.{HasComeBefore}
+use Rattle.trace_model.specs.Trace.{TraceSecond}
+use Rattle.log_model.specs.Course.{Told}
 use Rattle.run_rings.specs.Carried.{Carries}
 use Rattle.run_rings.proofs.Carried.{carries-none, carries-same, carries-more, carries-maybe}
 use Rattle.run_rings.proofs.Indices.{index-stays}
 use Rattle.run_rings.proofs.Standing.{stand-one, stand-unsure}
 use Rattle.run_recorded.specs.Origin.{Origin}
 use Rattle.run_recorded.specs.Beside.{HaveLeftMore}
-use Rattle.run_ringed.specs.Ringed.{holder_in, TellsIn, IsInsertionIn, IsPlaceIn, sure_insertion, sure_place, ShowsNotes, Seating, one_behind, IsSeated, ShowsInsertions, Ringed, GoOn, NoRingIsWritten, RingsStay, FewerSit, IsAddedAt, MayBeAdded}
+use Rattle.run_ringed.specs.Ringed.{holder_in, TellsIn, IsInsertionIn, IsPlaceIn, sure_insertion, sure_place, ShowsNotes, Seating, one_behind, IsSeated, ShowsInsertions, Ringed, GoOn, NoRingIsWritten, RingsStay, FewerSit, IsAddedAt, MayBeAdded, Since}
 use Rattle.run_ringed.specs.OnCards.{place_width, IsPlaceOn, PlacesStay, PlaceIsTaken}
 use Rattle.run_ringed.proofs.OnCards.{whole-head, maybe, places-none, places-go, places-beside, places-taken}
 use Rattle.run_ringed.proofs.Stands.{Weaker, stand-as, each-as, each-append, all-parts, all-of, all-each, with-whole, insertions-more, places-more, insertion-as, place-as}
@@ -40,11 +43,11 @@ Writes R d e = (y : List ℕ) → e.unit.may_leave y → (x : List ℕ) × d.uni
 pub none-noted : (d : Devices) → NoRingIsWritten d
 none-noted d o log spans start cards = record {
   insertions = λ ring x left. record {
-    shows = record { more = []; carries = subst (λ (y : List ℕ). Carries insertion_ring o.recording.unit y []) (sym (start x left)) (carries-none insertion_ring o.recording.unit ring.points ring.dense); stand = refl };
+    shows = record { more = []; carries = subst (λ (y : List ℕ). Carries insertion_ring o.origin.recording.unit y []) (sym (start x left)) (carries-none insertion_ring o.origin.recording.unit ring.points ring.dense); stand = refl };
     seated = λ c. tt;
   };
-  places = λ ring x left. record { more = []; carries = subst (λ (y : List ℕ). Carries unit_place_ring o.recording.unit y []) (sym (start x left)) (carries-none unit_place_ring o.recording.unit ring.points ring.dense); stand = refl };
-  on_cards = places-none o log spans d cards;
+  places = λ ring x left. record { more = []; carries = subst (λ (y : List ℕ). Carries unit_place_ring o.origin.recording.unit y []) (sym (start x left)) (carries-none unit_place_ring o.origin.recording.unit ring.points ring.dense); stand = refl };
+  on_cards = places-none o.origin log spans d cards;
 }
 
 -- FEWER CARDS
@@ -55,37 +58,44 @@ fewer-sit d o log spans notes seats fewer v each = record {
   on_cards = v.on_cards;
 }
   where
-    by : (c : Card) {x : List ℕ} (was : ShowsInsertions o log spans notes seats d x) (q p : Option Seating) → (q ≡ p) ⊎ (q ≡ None) → IfSome p (λ s. IsSeated (sure_insertion o log spans) (IsInsertionIn o log spans d) c s (insertions_of notes) was.shows.more x) →
-        IfSome q (λ s. IsSeated (sure_insertion o log spans) (IsInsertionIn o log spans d) c s (insertions_of notes) was.shows.more x)
-    by c {x} was q p (inl same) is = subst (λ (t : Option Seating). IfSome t (λ s. IsSeated (sure_insertion o log spans) (IsInsertionIn o log spans d) c s (insertions_of notes) was.shows.more x)) (sym same) is
-    by c {x} was q p (inr none) is = subst (λ (t : Option Seating). IfSome t (λ s. IsSeated (sure_insertion o log spans) (IsInsertionIn o log spans d) c s (insertions_of notes) was.shows.more x)) (sym none) tt
+    by : (c : Card) {x : List ℕ} (was : ShowsInsertions o log spans notes seats d x) (q p : Option Seating) → (q ≡ p) ⊎ (q ≡ None) → IfSome p (λ s. IsSeated (sure_insertion o.origin log spans) (IsInsertionIn o log spans d) c s (insertions_of notes) was.shows.more x) →
+        IfSome q (λ s. IsSeated (sure_insertion o.origin log spans) (IsInsertionIn o log spans d) c s (insertions_of notes) was.shows.more x)
+    by c {x} was q p (inl same) is = subst (λ (t : Option Seating). IfSome t (λ s. IsSeated (sure_insertion o.origin log spans) (IsInsertionIn o log spans d) c s (insertions_of notes) was.shows.more x)) (sym same) is
+    by c {x} was q p (inr none) is = subst (λ (t : Option Seating). IfSome t (λ s. IsSeated (sure_insertion o.origin log spans) (IsInsertionIn o log spans d) c s (insertions_of notes) was.shows.more x)) (sym none) tt
 
 -- ---- as a log goes on, over devices
 
-module _ (o : Origin) (log later : RunLog) (spans now : List SpanFrom) (notes : List Note) (d e : Devices) (more : HaveLeftMore o d e) (on : GoOn log later spans now notes) where
-  pub tells-more : (c : Card) (registration : List ℕ) (time : ℕ) → TellsIn o d c registration time → TellsIn o e c registration time
-  tells-more c registration time tells = (tells.0, more.card c tells.0 tells.1, tells.2)
+module _ (origin : Origin) (told told_now : List Told) (trace trace_now : List TraceSecond) (come : (c : Card) (u : ℕ) → HasComeBefore told trace c u → HasComeBefore told_now trace_now c u)
+    (log later : RunLog) (spans now : List SpanFrom) (notes : List Note) (d e : Devices) (more : HaveLeftMore origin d e) (on : GoOn log later spans now notes) where
+  abbrev since_was : Since
+  since_was = record { origin = origin; told = told; trace = trace }
 
-  pub insertions-weaker : AllByRecursion (Weaker (sure_insertion o log spans) (sure_insertion o later now) (IsInsertionIn o log spans d) (IsInsertionIn o later now e)) (insertions_of notes)
-  insertions-weaker = all-of
+  abbrev since_now : Since
+  since_now = record { origin = origin; told = told_now; trace = trace_now }
+
+  pub tells-since : (u : ℕ) (c : Card) (registration : List ℕ) (time : ℕ) → TellsIn since_was d u c registration time → TellsIn since_now e u c registration time
+  tells-since u c registration time tells = ((tells.0.0, more.card c tells.0.0 tells.0.1, tells.0.2), ⊎_elim (λ first. inl first) (λ before. inr (come c u before)) tells.1)
+
+  pub weaker-since : AllByRecursion (Weaker (sure_insertion origin log spans) (sure_insertion origin later now) (IsInsertionIn since_was log spans d) (IsInsertionIn since_now later now e)) (insertions_of notes)
+  weaker-since = all-of
       (λ (i : InsertionNote). (odometer_at i.accepted.second now ≡ odometer_at i.accepted.second spans) × IfSome i.withdrawn (λ u. odometer_at u now ≡ odometer_at u spans))
-      (Weaker (sure_insertion o log spans) (sure_insertion o later now) (IsInsertionIn o log spans d) (IsInsertionIn o later now e))
-      (λ i same. insertion-as log later spans now (holder_in o) on.failed (TellsIn o d) (TellsIn o e) tells-more i same)
+      (Weaker (sure_insertion origin log spans) (sure_insertion origin later now) (IsInsertionIn since_was log spans d) (IsInsertionIn since_now later now e))
+      (λ i same. insertion-as log later spans now (holder_in origin) on.failed (TellsIn since_was d i.accepted.second) (TellsIn since_now e i.accepted.second) (tells-since i.accepted.second) i same)
       (insertions_of notes) on.insertions
 
-  pub places-weaker : AllByRecursion (Weaker (sure_place o log spans) (sure_place o later now) (IsPlaceIn o log spans) (IsPlaceIn o later now)) (places_of notes)
-  places-weaker = all-of
+  pub places-since : AllByRecursion (Weaker (sure_place origin log spans) (sure_place origin later now) (IsPlaceIn origin log spans) (IsPlaceIn origin later now)) (places_of notes)
+  places-since = all-of
       (λ (p : PlaceNote). odometer_at p.second now ≡ odometer_at p.second spans)
-      (Weaker (sure_place o log spans) (sure_place o later now) (IsPlaceIn o log spans) (IsPlaceIn o later now))
-      (λ p same. place-as log later spans now (holder_in o) on.failed p same)
+      (Weaker (sure_place origin log spans) (sure_place origin later now) (IsPlaceIn origin log spans) (IsPlaceIn origin later now))
+      (λ p same. place-as log later spans now (holder_in origin) on.failed p same)
       (places_of notes) on.places
 
   -- an accepted card stays, where the ring shows the same
-  pub seated-as : (c : Card) (q : Option Seating) (ms : List (List ℕ)) (x y : List ℕ) → indices insertion_ring y ≡ indices insertion_ring x →
-      IfSome q (λ s. IsSeated (sure_insertion o log spans) (IsInsertionIn o log spans d) c s (insertions_of notes) ms x) → IfSome q (λ s. IsSeated (sure_insertion o later now) (IsInsertionIn o later now e) c s (insertions_of notes) ms y)
-  seated-as c None ms x y same is = tt
-  seated-as c (Some s) ms x y same is =
-      let parts = all-parts (Weaker (sure_insertion o log spans) (sure_insertion o later now) (IsInsertionIn o log spans d) (IsInsertionIn o later now e)) (insertions_of notes) is.older is.own is.newer is.notes_are insertions-weaker in
+  pub seated-since : (c : Card) (q : Option Seating) (ms : List (List ℕ)) (x y : List ℕ) → indices insertion_ring y ≡ indices insertion_ring x →
+      IfSome q (λ s. IsSeated (sure_insertion origin log spans) (IsInsertionIn since_was log spans d) c s (insertions_of notes) ms x) → IfSome q (λ s. IsSeated (sure_insertion origin later now) (IsInsertionIn since_now later now e) c s (insertions_of notes) ms y)
+  seated-since c None ms x y same is = tt
+  seated-since c (Some s) ms x y same is =
+      let parts = all-parts (Weaker (sure_insertion origin log spans) (sure_insertion origin later now) (IsInsertionIn since_was log spans d) (IsInsertionIn since_now later now e)) (insertions_of notes) is.older is.own is.newer is.notes_are weaker-since in
       record {
         older = is.older;
         own = is.own;
@@ -98,12 +108,27 @@ module _ (o : Origin) (log later : RunLog) (spans now : List SpanFrom) (notes : 
         entry = is.entry;
         newers = is.newers;
         more_are = is.more_are;
-        stand_before = stand-as (sure_insertion o log spans) (sure_insertion o later now) (IsInsertionIn o log spans d) (IsInsertionIn o later now e) is.older is.olders parts.0 is.stand_before;
+        stand_before = stand-as (sure_insertion origin log spans) (sure_insertion origin later now) (IsInsertionIn since_was log spans d) (IsInsertionIn since_now later now e) is.older is.olders parts.0 is.stand_before;
         is = parts.1.1 is.entry is.is;
-        each_behind = each-as (sure_insertion o log spans) (sure_insertion o later now) (IsInsertionIn o log spans d) (IsInsertionIn o later now e) is.newer is.newers parts.2 is.each_behind;
+        each_behind = each-as (sure_insertion origin log spans) (sure_insertion origin later now) (IsInsertionIn since_was log spans d) (IsInsertionIn since_now later now e) is.newer is.newers parts.2 is.each_behind;
         behind = is.behind;
         there = ⊎_elim (λ at. inl (at.0, at.1, same ∙ at.2, at.3)) (λ gone. inr gone) is.there;
       }
+
+-- so far as it has gone
+module _ (o : Since) (log later : RunLog) (spans now : List SpanFrom) (notes : List Note) (d e : Devices) (more : HaveLeftMore o.origin d e) (on : GoOn log later spans now notes) where
+  pub tells-more : (u : ℕ) (c : Card) (registration : List ℕ) (time : ℕ) → TellsIn o d u c registration time → TellsIn o e u c registration time
+  tells-more = tells-since o.origin o.told o.told o.trace o.trace (λ c u before. before) log later spans now notes d e more on
+
+  pub insertions-weaker : AllByRecursion (Weaker (sure_insertion o.origin log spans) (sure_insertion o.origin later now) (IsInsertionIn o log spans d) (IsInsertionIn o later now e)) (insertions_of notes)
+  insertions-weaker = weaker-since o.origin o.told o.told o.trace o.trace (λ c u before. before) log later spans now notes d e more on
+
+  pub places-weaker : AllByRecursion (Weaker (sure_place o.origin log spans) (sure_place o.origin later now) (IsPlaceIn o.origin log spans) (IsPlaceIn o.origin later now)) (places_of notes)
+  places-weaker = places-since o.origin o.told o.told o.trace o.trace (λ c u before. before) log later spans now notes d e more on
+
+  pub seated-as : (c : Card) (q : Option Seating) (ms : List (List ℕ)) (x y : List ℕ) → indices insertion_ring y ≡ indices insertion_ring x →
+      IfSome q (λ s. IsSeated (sure_insertion o.origin log spans) (IsInsertionIn o log spans d) c s (insertions_of notes) ms x) → IfSome q (λ s. IsSeated (sure_insertion o.origin later now) (IsInsertionIn o later now e) c s (insertions_of notes) ms y)
+  seated-as = seated-since o.origin o.told o.told o.trace o.trace (λ c u before. before) log later spans now notes d e more on
 
 -- nothing of the log and the spans
 pub go-on : (log : RunLog) (spans : List SpanFrom) (notes : List Note) → GoOn log log spans spans notes
@@ -118,6 +143,27 @@ go-on log spans notes = record {
     by None = tt
     by (Some u) = refl
 
+-- MORE SECONDS are told, and more of the trace: who has come before has come before.
+abbrev pub MoreComeBefore : Devices → Type 0
+MoreComeBefore d = (o : Origin) (told later : List Told) (trace now : List TraceSecond) → ((c : Card) (u : ℕ) → HasComeBefore told trace c u → HasComeBefore later now c u) → (log : RunLog) (spans : List SpanFrom) (notes : List Note) (seats : Card → Option Seating) →
+    Ringed (record { origin = o; told = told; trace = trace }) log spans notes seats d → Ringed (record { origin = o; told = later; trace = now }) log spans notes seats d
+
+pub come-before : (d : Devices) → MoreComeBefore d
+come-before d o told later trace now come log spans notes seats v = record {
+  on_cards = v.on_cards;
+  insertions = λ ring x left.
+      let was = v.insertions ring x left in
+      let all = weaker-since o told later trace now come log log spans spans notes d d (record { unit = λ y h. h; card = λ c y h. h }) (go-on log spans notes) in record {
+        shows = record {
+          more = was.shows.more;
+          carries = was.shows.carries;
+          stand = stand-as (sure_insertion o log spans) (sure_insertion o log spans) (IsInsertionIn (record { origin = o; told = told; trace = trace }) log spans d) (IsInsertionIn (record { origin = o; told = later; trace = now }) log spans d) (insertions_of notes) was.shows.more all was.shows.stand;
+        };
+        seated = λ c. seated-since o told later trace now come log log spans spans notes d d (record { unit = λ y h. h; card = λ c y h. h }) (go-on log spans notes) c (seats c) was.shows.more x x refl (was.seated c);
+      };
+  places = v.places;
+}
+
 -- CALLS THAT WRITE NO RING
 pub rings-stay : (d e : Devices) → RingsStay d e
 rings-stay d e o log later spans now notes seats v stays more cards on = record {
@@ -127,8 +173,8 @@ rings-stay d e o log later spans now notes seats v stays more cards on = record 
       let is = ring_elsewhere insertion_ring insertion_shape w.0 y w.2.insertions was.shows.carries.points in record {
         shows = record {
           more = was.shows.more;
-          carries = carries-same insertion_ring o.recording.unit w.0 was.shows.more was.shows.carries insertion_shape y w.2.insertions;
-          stand = stand-as (sure_insertion o log spans) (sure_insertion o later now) (IsInsertionIn o log spans d) (IsInsertionIn o later now e) (insertions_of notes) was.shows.more (insertions-weaker o log later spans now notes d e more on) was.shows.stand;
+          carries = carries-same insertion_ring o.origin.recording.unit w.0 was.shows.more was.shows.carries insertion_shape y w.2.insertions;
+          stand = stand-as (sure_insertion o.origin log spans) (sure_insertion o.origin later now) (IsInsertionIn o log spans d) (IsInsertionIn o later now e) (insertions_of notes) was.shows.more (insertions-weaker o log later spans now notes d e more on) was.shows.stand;
         };
         seated = λ c. seated-as o log later spans now notes d e more on c (seats c) was.shows.more w.0 y is.1 (was.seated c);
       };
@@ -136,10 +182,10 @@ rings-stay d e o log later spans now notes seats v stays more cards on = record 
       let w = stays y left in
       let was = v.places ring w.0 w.1 in record {
         more = was.more;
-        carries = carries-same unit_place_ring o.recording.unit w.0 was.more was.carries place_shape y w.2.places;
-        stand = stand-as (sure_place o log spans) (sure_place o later now) (IsPlaceIn o log spans) (IsPlaceIn o later now) (places_of notes) was.more (places-weaker o log later spans now notes d e more on) was.stand;
+        carries = carries-same unit_place_ring o.origin.recording.unit w.0 was.more was.carries place_shape y w.2.places;
+        stand = stand-as (sure_place o.origin log spans) (sure_place o.origin later now) (IsPlaceIn o.origin log spans) (IsPlaceIn o.origin later now) (places_of notes) was.more (places-weaker o log later spans now notes d e more on) was.stand;
       };
-  on_cards = places-go o log later spans now notes d e on.fell on.places cards v.on_cards;
+  on_cards = places-go o.origin log later spans now notes d e on.fell on.places cards v.on_cards;
 }
 
 -- ---- lists
@@ -161,7 +207,7 @@ none-behind c (k ∷ newer) n none other =
 
 -- ---- A PLACE
 
-pub place-noted : (d e : Devices) (o : Origin) (log : RunLog) (spans : List SpanFrom) (notes : List Note) (seats : Card → Option Seating) → Ringed o log spans notes seats d → HaveLeftMore o d e → (p : PlaceNote) (head : List ℕ) → Writes (IsAdded unit_place_ring head) d e → length head ≡ unit_place_ring.width → IsPlaceIn o log spans p head → (own : List ℕ) → length own ≡ place_width → IsPlaceOn spans p own → PlaceIsTaken o log p own d e →
+pub place-noted : (d e : Devices) (o : Since) (log : RunLog) (spans : List SpanFrom) (notes : List Note) (seats : Card → Option Seating) → Ringed o log spans notes seats d → HaveLeftMore o.origin d e → (p : PlaceNote) (head : List ℕ) → Writes (IsAdded unit_place_ring head) d e → length head ≡ unit_place_ring.width → IsPlaceIn o.origin log spans p head → (own : List ℕ) → length own ≡ place_width → IsPlaceOn spans p own → PlaceIsTaken o.origin log p own d e →
     Ringed o log spans (notes ++ Enters p ∷ []) seats e
 place-noted d e o log spans notes seats v more p head added full is own long on taken_ = record {
   insertions = λ ring y left.
@@ -172,26 +218,26 @@ place-noted d e o log spans notes seats v more p head added full is own long on 
       let notes-same : insertions_of (notes ++ Enters p ∷ []) ≡ insertions_of notes = insertions-more notes (Enters p) in record {
         shows = record {
           more = was.shows.more;
-          carries = carries-same insertion_ring o.recording.unit w.0 was.shows.more was.shows.carries insertion_shape y bytes;
-          stand = subst (λ (l : List InsertionNote). Stand (sure_insertion o log spans) (IsInsertionIn o log spans e) l was.shows.more) (sym notes-same)
-              (stand-as (sure_insertion o log spans) (sure_insertion o log spans) (IsInsertionIn o log spans d) (IsInsertionIn o log spans e) (insertions_of notes) was.shows.more (insertions-weaker o log log spans spans notes d e more (go-on log spans notes)) was.shows.stand);
+          carries = carries-same insertion_ring o.origin.recording.unit w.0 was.shows.more was.shows.carries insertion_shape y bytes;
+          stand = subst (λ (l : List InsertionNote). Stand (sure_insertion o.origin log spans) (IsInsertionIn o log spans e) l was.shows.more) (sym notes-same)
+              (stand-as (sure_insertion o.origin log spans) (sure_insertion o.origin log spans) (IsInsertionIn o log spans d) (IsInsertionIn o log spans e) (insertions_of notes) was.shows.more (insertions-weaker o log log spans spans notes d e more (go-on log spans notes)) was.shows.stand);
         };
-        seated = λ c. subst (λ (l : List InsertionNote). IfSome (seats c) (λ s. IsSeated (sure_insertion o log spans) (IsInsertionIn o log spans e) c s l was.shows.more y)) (sym notes-same)
+        seated = λ c. subst (λ (l : List InsertionNote). IfSome (seats c) (λ s. IsSeated (sure_insertion o.origin log spans) (IsInsertionIn o log spans e) c s l was.shows.more y)) (sym notes-same)
             (seated-as o log log spans spans notes d e more (go-on log spans notes) c (seats c) was.shows.more w.0 y same.1 (was.seated c));
       };
   places = λ ring y left.
       let w = added y left in
       let was = v.places ring w.0 w.1 in record {
         more = was.more ++ head ∷ [];
-        carries = subst (λ (l : List ℕ). Carries unit_place_ring o.recording.unit y (was.more ++ l ∷ [])) (whole-head unit_place_ring w.0 (taken unit_place_ring w.0) head full) (carries-more unit_place_ring o.recording.unit w.0 was.more was.carries head y w.2);
-        stand = subst (λ (l : List PlaceNote). Stand (sure_place o log spans) (IsPlaceIn o log spans) l (was.more ++ head ∷ [])) (sym (places-more notes (Enters p)))
-            (stand-one (sure_place o log spans) (IsPlaceIn o log spans) (places_of notes) was.more p head was.stand is);
+        carries = subst (λ (l : List ℕ). Carries unit_place_ring o.origin.recording.unit y (was.more ++ l ∷ [])) (whole-head unit_place_ring w.0 (taken unit_place_ring w.0) head full) (carries-more unit_place_ring o.origin.recording.unit w.0 was.more was.carries head y w.2);
+        stand = subst (λ (l : List PlaceNote). Stand (sure_place o.origin log spans) (IsPlaceIn o.origin log spans) l (was.more ++ head ∷ [])) (sym (places-more notes (Enters p)))
+            (stand-one (sure_place o.origin log spans) (IsPlaceIn o.origin log spans) (places_of notes) was.more p head was.stand is);
       };
-  on_cards = places-taken o log spans notes p own d e long on taken_ v.on_cards;
+  on_cards = places-taken o.origin log spans notes p own d e long on taken_ v.on_cards;
 }
 
 -- or the unit failed in it
-pub place-broken : (d e : Devices) (o : Origin) (log : RunLog) (spans : List SpanFrom) (notes : List Note) (seats : Card → Option Seating) → Ringed o log spans notes seats d → HaveLeftMore o d e → (p : PlaceNote) (head : List ℕ) → Writes (MayBeAdded unit_place_ring head) d e → length head ≡ unit_place_ring.width → IsPlaceIn o log spans p head → has_failed_in log p.second ≡ true → (own : List ℕ) → length own ≡ place_width → IsPlaceOn spans p own → PlaceIsTaken o log p own d e →
+pub place-broken : (d e : Devices) (o : Since) (log : RunLog) (spans : List SpanFrom) (notes : List Note) (seats : Card → Option Seating) → Ringed o log spans notes seats d → HaveLeftMore o.origin d e → (p : PlaceNote) (head : List ℕ) → Writes (MayBeAdded unit_place_ring head) d e → length head ≡ unit_place_ring.width → IsPlaceIn o.origin log spans p head → has_failed_in log p.second ≡ true → (own : List ℕ) → length own ≡ place_width → IsPlaceOn spans p own → PlaceIsTaken o.origin log p own d e →
     Ringed o log spans (notes ++ Enters p ∷ []) (λ c. None) e
 place-broken d e o log spans notes seats v more p head adding full is has own long on taken_ = record {
   insertions = λ ring y left.
@@ -201,18 +247,18 @@ place-broken d e o log spans notes seats v more p head adding full is has own lo
       let notes-same : insertions_of (notes ++ Enters p ∷ []) ≡ insertions_of notes = insertions-more notes (Enters p) in record {
         shows = record {
           more = was.shows.more;
-          carries = carries-same insertion_ring o.recording.unit w.0 was.shows.more was.shows.carries insertion_shape y bytes;
-          stand = subst (λ (l : List InsertionNote). Stand (sure_insertion o log spans) (IsInsertionIn o log spans e) l was.shows.more) (sym notes-same)
-              (stand-as (sure_insertion o log spans) (sure_insertion o log spans) (IsInsertionIn o log spans d) (IsInsertionIn o log spans e) (insertions_of notes) was.shows.more (insertions-weaker o log log spans spans notes d e more (go-on log spans notes)) was.shows.stand);
+          carries = carries-same insertion_ring o.origin.recording.unit w.0 was.shows.more was.shows.carries insertion_shape y bytes;
+          stand = subst (λ (l : List InsertionNote). Stand (sure_insertion o.origin log spans) (IsInsertionIn o log spans e) l was.shows.more) (sym notes-same)
+              (stand-as (sure_insertion o.origin log spans) (sure_insertion o.origin log spans) (IsInsertionIn o log spans d) (IsInsertionIn o log spans e) (insertions_of notes) was.shows.more (insertions-weaker o log log spans spans notes d e more (go-on log spans notes)) was.shows.stand);
         };
         seated = λ c. tt;
       };
   places = λ ring y left.
       let w = adding y left in
       let was = v.places ring w.0 w.1 in
-      subst (λ (l : List PlaceNote). ShowsNotes unit_place_ring (sure_place o log spans) (IsPlaceIn o log spans) l o.recording.unit y) (sym (places-more notes (Enters p)))
-      (maybe unit_place_ring o.recording.unit w.0 y head (sure_place o log spans) (IsPlaceIn o log spans) (places_of notes) p was full is (ap not has) w.2);
-  on_cards = places-taken o log spans notes p own d e long on taken_ v.on_cards;
+      subst (λ (l : List PlaceNote). ShowsNotes unit_place_ring (sure_place o.origin log spans) (IsPlaceIn o.origin log spans) l o.origin.recording.unit y) (sym (places-more notes (Enters p)))
+      (maybe unit_place_ring o.origin.recording.unit w.0 y head (sure_place o.origin log spans) (IsPlaceIn o.origin log spans) (places_of notes) p was full is (ap not has) w.2);
+  on_cards = places-taken o.origin log spans notes p own d e long on taken_ v.on_cards;
 }
 
 -- ---- AN INSERTION
@@ -260,7 +306,7 @@ seated-more sure Is c (Some s) ns ms x y a head points dense added other is sits
       sits.there;
 }
 
-pub insertion-noted : (d e : Devices) (o : Origin) (log : RunLog) (spans : List SpanFrom) (notes : List Note) (seats now : Card → Option Seating) → Ringed o log spans notes seats d → HaveLeftMore o d e → PlacesStay o d e → (a : Acceptance) (head : List ℕ) (index : ℕ) → Writes (IsAddedAt index head) d e → length head ≡ insertion_ring.width →
+pub insertion-noted : (d e : Devices) (o : Since) (log : RunLog) (spans : List SpanFrom) (notes : List Note) (seats now : Card → Option Seating) → Ringed o log spans notes seats d → HaveLeftMore o.origin d e → PlacesStay o.origin d e → (a : Acceptance) (head : List ℕ) (index : ℕ) → Writes (IsAddedAt index head) d e → length head ≡ insertion_ring.width →
     IsInsertionIn o log spans e (record { accepted = a; withdrawn = None }) head → ((c : Card) → ((same_card a.card c ≡ false) × (now c ≡ option_map one_behind (seats c))) ⊎ ((same_card a.card c ≡ true) × (now c ≡ Some (record { index = index; behind = 0 })))) →
     Ringed o log spans (notes ++ Accepts a ∷ []) now e
 insertion-noted d e o log spans notes seats now v more cards a head index added full is each = record {
@@ -269,18 +315,18 @@ insertion-noted d e o log spans notes seats now v more cards a head index added 
       let was = v.insertions ring w.0 w.1 in
       let points = was.shows.carries.points in
       let are : insertions_of (notes ++ Accepts a ∷ []) ≡ insertions_of notes ++ record { accepted = a; withdrawn = None } ∷ [] = insertions-more notes (Accepts a) in
-      let stands = stand-as (sure_insertion o log spans) (sure_insertion o log spans) (IsInsertionIn o log spans d) (IsInsertionIn o log spans e) (insertions_of notes) was.shows.more (insertions-weaker o log log spans spans notes d e more (go-on log spans notes)) was.shows.stand in record {
+      let stands = stand-as (sure_insertion o.origin log spans) (sure_insertion o.origin log spans) (IsInsertionIn o log spans d) (IsInsertionIn o log spans e) (insertions_of notes) was.shows.more (insertions-weaker o log log spans spans notes d e more (go-on log spans notes)) was.shows.stand in record {
         shows = record {
           more = was.shows.more ++ head ∷ [];
-          carries = subst (λ (l : List ℕ). Carries insertion_ring o.recording.unit y (was.shows.more ++ l ∷ [])) (whole-head insertion_ring w.0 (taken insertion_ring w.0) head full) (carries-more insertion_ring o.recording.unit w.0 was.shows.more was.shows.carries head y w.2.0);
-          stand = subst (λ (l : List InsertionNote). Stand (sure_insertion o log spans) (IsInsertionIn o log spans e) l (was.shows.more ++ head ∷ [])) (sym are)
-              (stand-one (sure_insertion o log spans) (IsInsertionIn o log spans e) (insertions_of notes) was.shows.more (record { accepted = a; withdrawn = None }) head stands is);
+          carries = subst (λ (l : List ℕ). Carries insertion_ring o.origin.recording.unit y (was.shows.more ++ l ∷ [])) (whole-head insertion_ring w.0 (taken insertion_ring w.0) head full) (carries-more insertion_ring o.origin.recording.unit w.0 was.shows.more was.shows.carries head y w.2.0);
+          stand = subst (λ (l : List InsertionNote). Stand (sure_insertion o.origin log spans) (IsInsertionIn o log spans e) l (was.shows.more ++ head ∷ [])) (sym are)
+              (stand-one (sure_insertion o.origin log spans) (IsInsertionIn o log spans e) (insertions_of notes) was.shows.more (record { accepted = a; withdrawn = None }) head stands is);
         };
-        seated = λ c. subst (λ (l : List InsertionNote). IfSome (now c) (λ s. IsSeated (sure_insertion o log spans) (IsInsertionIn o log spans e) c s l (was.shows.more ++ head ∷ []) y)) (sym are) (⊎_elim
-            (λ other. subst (λ (q : Option Seating). IfSome q (λ s. IsSeated (sure_insertion o log spans) (IsInsertionIn o log spans e) c s (insertions_of notes ++ record { accepted = a; withdrawn = None } ∷ []) (was.shows.more ++ head ∷ []) y)) (sym other.1)
-            (seated-more (sure_insertion o log spans) (IsInsertionIn o log spans e) c (seats c) (insertions_of notes) was.shows.more w.0 y a head points was.shows.carries.dense w.2.0 other.0 is
+        seated = λ c. subst (λ (l : List InsertionNote). IfSome (now c) (λ s. IsSeated (sure_insertion o.origin log spans) (IsInsertionIn o log spans e) c s l (was.shows.more ++ head ∷ []) y)) (sym are) (⊎_elim
+            (λ other. subst (λ (q : Option Seating). IfSome q (λ s. IsSeated (sure_insertion o.origin log spans) (IsInsertionIn o log spans e) c s (insertions_of notes ++ record { accepted = a; withdrawn = None } ∷ []) (was.shows.more ++ head ∷ []) y)) (sym other.1)
+            (seated-more (sure_insertion o.origin log spans) (IsInsertionIn o log spans e) c (seats c) (insertions_of notes) was.shows.more w.0 y a head points was.shows.carries.dense w.2.0 other.0 is
             (seated-as o log log spans spans notes d e more (go-on log spans notes) c (seats c) was.shows.more w.0 w.0 refl (was.seated c))))
-            (λ own. subst (λ (q : Option Seating). IfSome q (λ s. IsSeated (sure_insertion o log spans) (IsInsertionIn o log spans e) c s (insertions_of notes ++ record { accepted = a; withdrawn = None } ∷ []) (was.shows.more ++ head ∷ []) y)) (sym own.1)
+            (λ own. subst (λ (q : Option Seating). IfSome q (λ s. IsSeated (sure_insertion o.origin log spans) (IsInsertionIn o log spans e) c s (insertions_of notes ++ record { accepted = a; withdrawn = None } ∷ []) (was.shows.more ++ head ∷ []) y)) (sym own.1)
             (record {
               older = insertions_of notes;
               own = record { accepted = a; withdrawn = None };
@@ -305,35 +351,35 @@ insertion-noted d e o log spans notes seats now v more cards a head index added 
       let w = added y left in
       let was = v.places ring w.0 w.1 in
       let bytes = ring_outside unit_place_ring insertion_ring.base (size_of insertion_ring) w.0 y (inl (omega arith)) w.2.0.outside in
-      subst (λ (l : List PlaceNote). ShowsNotes unit_place_ring (sure_place o log spans) (IsPlaceIn o log spans) l o.recording.unit y) (sym (places-more notes (Accepts a) ∙ append-nil (places_of notes))) (record {
+      subst (λ (l : List PlaceNote). ShowsNotes unit_place_ring (sure_place o.origin log spans) (IsPlaceIn o.origin log spans) l o.origin.recording.unit y) (sym (places-more notes (Accepts a) ∙ append-nil (places_of notes))) (record {
         more = was.more;
-        carries = carries-same unit_place_ring o.recording.unit w.0 was.more was.carries place_shape y bytes;
+        carries = carries-same unit_place_ring o.origin.recording.unit w.0 was.more was.carries place_shape y bytes;
         stand = was.stand;
       });
-  on_cards = places-beside o log spans notes (Accepts a) d e refl cards v.on_cards;
+  on_cards = places-beside o.origin log spans notes (Accepts a) d e refl cards v.on_cards;
 }
 
 -- or the unit failed in it
-pub insertion-broken : (d e : Devices) (o : Origin) (log : RunLog) (spans : List SpanFrom) (notes : List Note) (seats : Card → Option Seating) → Ringed o log spans notes seats d → HaveLeftMore o d e → PlacesStay o d e → (a : Acceptance) (head : List ℕ) → Writes (MayBeAdded insertion_ring head) d e → length head ≡ insertion_ring.width →
+pub insertion-broken : (d e : Devices) (o : Since) (log : RunLog) (spans : List SpanFrom) (notes : List Note) (seats : Card → Option Seating) → Ringed o log spans notes seats d → HaveLeftMore o.origin d e → PlacesStay o.origin d e → (a : Acceptance) (head : List ℕ) → Writes (MayBeAdded insertion_ring head) d e → length head ≡ insertion_ring.width →
     IsInsertionIn o log spans e (record { accepted = a; withdrawn = None }) head → has_failed_in log a.second ≡ true → Ringed o log spans (notes ++ Accepts a ∷ []) (λ c. None) e
 insertion-broken d e o log spans notes seats v more cards a head adding full is has = record {
   insertions = λ ring y left.
       let w = adding y left in
       let was = v.insertions ring w.0 w.1 in
-      let stands = stand-as (sure_insertion o log spans) (sure_insertion o log spans) (IsInsertionIn o log spans d) (IsInsertionIn o log spans e) (insertions_of notes) was.shows.more (insertions-weaker o log log spans spans notes d e more (go-on log spans notes)) was.shows.stand in
+      let stands = stand-as (sure_insertion o.origin log spans) (sure_insertion o.origin log spans) (IsInsertionIn o log spans d) (IsInsertionIn o log spans e) (insertions_of notes) was.shows.more (insertions-weaker o log log spans spans notes d e more (go-on log spans notes)) was.shows.stand in
       record {
-        shows = subst (λ (l : List InsertionNote). ShowsNotes insertion_ring (sure_insertion o log spans) (IsInsertionIn o log spans e) l o.recording.unit y) (sym (insertions-more notes (Accepts a)))
-            (maybe insertion_ring o.recording.unit w.0 y head (sure_insertion o log spans) (IsInsertionIn o log spans e) (insertions_of notes) (record { accepted = a; withdrawn = None }) (record { more = was.shows.more; carries = was.shows.carries; stand = stands }) full is (ap not has) w.2);
+        shows = subst (λ (l : List InsertionNote). ShowsNotes insertion_ring (sure_insertion o.origin log spans) (IsInsertionIn o log spans e) l o.origin.recording.unit y) (sym (insertions-more notes (Accepts a)))
+            (maybe insertion_ring o.origin.recording.unit w.0 y head (sure_insertion o.origin log spans) (IsInsertionIn o log spans e) (insertions_of notes) (record { accepted = a; withdrawn = None }) (record { more = was.shows.more; carries = was.shows.carries; stand = stands }) full is (ap not has) w.2);
         seated = λ c. tt;
       };
   places = λ ring y left.
       let w = adding y left in
       let was = v.places ring w.0 w.1 in
       let bytes = same-outside unit_place_ring insertion_ring head w.0 y (inl (omega arith)) w.2 in
-      subst (λ (l : List PlaceNote). ShowsNotes unit_place_ring (sure_place o log spans) (IsPlaceIn o log spans) l o.recording.unit y) (sym (places-more notes (Accepts a) ∙ append-nil (places_of notes))) (record {
+      subst (λ (l : List PlaceNote). ShowsNotes unit_place_ring (sure_place o.origin log spans) (IsPlaceIn o.origin log spans) l o.origin.recording.unit y) (sym (places-more notes (Accepts a) ∙ append-nil (places_of notes))) (record {
         more = was.more;
-        carries = carries-same unit_place_ring o.recording.unit w.0 was.more was.carries place_shape y bytes;
+        carries = carries-same unit_place_ring o.origin.recording.unit w.0 was.more was.carries place_shape y bytes;
         stand = was.stand;
       });
-  on_cards = places-beside o log spans notes (Accepts a) d e refl cards v.on_cards;
+  on_cards = places-beside o.origin log spans notes (Accepts a) d e refl cards v.on_cards;
 }

@@ -21,6 +21,8 @@ use Rattle.side_model.specs.Done.{CarriedOut, course_powered, done_by, has_faile
 use Rattle.side_model.specs.Odometer.{SpanFrom, odometer_at}
 use Rattle.side_model.specs.Noted.{Acceptance, Withdrawal, InsertionNote, PlaceNote, Note, Accepts, Withdraws, Enters, accepted_card, noted_by, noted_in, with_withdrawal, with_note, insertions_of, place_in, places_of}
 use Rattle.safety_model.specs.Safe.{Devices}
+use Rattle.run_evented.specs.Opened.{HasComeBefore}
+use Rattle.run_evented.proofs.Opened.{come-told, come-trace}
 use Rattle.run_rings.specs.Notes.{accepted_in, noted_if, action_notes, notes_from, notes_to, TellSameTo, NotesMore}
 use Rattle.run_rings.specs.Spans.{go_on_from, with_second, AreBefore, AreAllBefore, AreAlike}
 use Rattle.run_rings.proofs.Same.{rings-left}
@@ -30,13 +32,13 @@ use Rattle.run_rings.proofs.Spans.{are-spans, earlier-stay, alike}
 use Rattle.run_events.proofs.Later.{told-number}
 use Rattle.run_recorded.specs.Origin.{Origin}
 use Rattle.run_recorded.specs.Beside.{HaveLeftMore}
-use Rattle.run_ringed.specs.Ringed.{Seating, Ringed, StaysInRings, GoOn, notes_in, noted_next}
+use Rattle.run_ringed.specs.Ringed.{Seating, Ringed, StaysInRings, GoOn, notes_in, noted_next, Since, since_behind, since_in}
 use Rattle.run_ringed.specs.SoFar.{noted_at, AreEarlier, RingedBehind, IsSecond, notes_so_far, RingedIn, AreFewer, HasMoreBreaks, ASecondBeginsInRings, RingsGoOn, AnActionNotesNothing, AnActionIsNoted, GoesBehind, TheSecondEndsInRings, ACutEndsInRings, DarkSecondsNoteNothing}
 use Rattle.run_ringed.proofs.Stands.{all-of, all-each}
 use Rattle.run_ringed.proofs.Noted.{second-notes}
 use Rattle.run_ringed.specs.OnCards.{has_call_failed_in}
 use Rattle.run_ringed.proofs.OnCards.{any-front, call-failed-more, places-itself}
-use Rattle.run_ringed.proofs.Rings.{fewer-sit, rings-stay}
+use Rattle.run_ringed.proofs.Rings.{fewer-sit, rings-stay, come-before}
 
 -- ---- more breaks
 
@@ -110,8 +112,13 @@ goes-earlier log spans now u notes early same = record {
 pub left-itself : (o : Origin) (d : Devices) → HaveLeftMore o d d
 left-itself o d = record { unit = λ x left. left; card = λ c x left. left }
 
-along : (o : Origin) (d : Devices) (log later : RunLog) (spans now : List SpanFrom) (notes : List Note) (seats : Card → Option Seating) → Ringed o log spans notes seats d → GoOn log later spans now notes → Ringed o later now notes seats d
-along o d log later spans now notes seats v on = rings-stay d d o log later spans now notes seats v (rings-left d.unit) (left-itself o d) (places-itself o d) on
+along : (o : Since) (d : Devices) (log later : RunLog) (spans now : List SpanFrom) (notes : List Note) (seats : Card → Option Seating) → Ringed o log spans notes seats d → GoOn log later spans now notes → Ringed o later now notes seats d
+along o d log later spans now notes seats v on = rings-stay d d o log later spans now notes seats v (rings-left d.unit) (left-itself o.origin d) (places-itself o.origin d) on
+
+-- a second more of the trace, and of what is told
+pub come-in : (d : Devices) (o : Origin) (log : RunLog) (done : List TraceSecond) (s : TraceSecond) (spans : List SpanFrom) (notes : List Note) (seats : Card → Option Seating) →
+    Ringed (since_behind o log done) log spans notes seats d → Ringed (since_in o log done s) log spans notes seats d
+come-in d o log done s spans notes seats v = come-before d o (went log done).told (went log done).told done (done ++ s ∷ []) (λ c u h. come-trace (went log done).told done (s ∷ []) c u h) log spans notes seats v
 
 -- ---- the steps
 
@@ -123,8 +130,8 @@ second-begins d o done s log spans base t seats v runs second =
       before = v.before;
       early = v.early;
       second = second;
-      ringed = subst (λ (l : List Note). Ringed o log (with_second spans base t) l seats d) (sym none)
-          (along o d log log spans (with_second spans base t) (notes_in log done) seats v.ringed
+      ringed = subst (λ (l : List Note). Ringed (since_in o log done s) log (with_second spans base t) l seats d) (sym none)
+          (along (since_in o log done s) d log log spans (with_second spans base t) (notes_in log done) seats (come-in d o log done s spans (notes_in log done) seats v.ringed)
           (goes-earlier log spans (with_second spans base t) s.number (notes_in log done) v.early (λ u lt. earlier-stay spans base t u (let is = second.number in omega (arith, lt, is)))));
     }
 
@@ -133,14 +140,14 @@ go-on-in d e o done s began front log later spans base t seats fewer v more same
     let now : List SpanFrom = with_second spans base t in
     let notes : List Note = notes_so_far began done log s front in
     let on : GoOn log later now now notes = goes-alike log later now now notes (failed-more log later more) (call-failed-more log later more) (λ u. refl) in
-    let ringed : Ringed o later now notes seats e = rings-stay d e o log later now now notes seats v.ringed stays left cards on in
+    let ringed : Ringed (since_in o began done s) later now notes seats e = rings-stay d e (since_in o began done s) log later now now notes seats v.ringed stays left cards on in
     let as_ : notes ≡ notes_so_far began done later s front = ap (λ (l : List Note). notes_in began done ++ l) (sym (later-lines log later (went began done).before s front same)) in
     record {
       spans_are = v.spans_are;
       before = v.before;
       early = v.early;
       second = v.second;
-      ringed = subst (λ (l : List Note). Ringed o later now l fewer e) as_ (fewer-sit e o later now notes seats fewer ringed fewer_sit);
+      ringed = subst (λ (l : List Note). Ringed (since_in o began done s) later now l fewer e) as_ (fewer-sit e (since_in o began done s) later now notes seats fewer ringed fewer_sit);
     }
 
 -- these notes more
@@ -155,7 +162,7 @@ notes-nothing d o done s began front a log spans base t seats v is = record {
   before = v.before;
   early = v.early;
   second = v.second;
-  ringed = subst (λ (l : List Note). Ringed o log (with_second spans base t) l seats d) (sym (append-nil (notes_so_far began done log s front)) ∙ noted-more began done log s front a [] is) v.ringed;
+  ringed = subst (λ (l : List Note). Ringed (since_in o began done s) log (with_second spans base t) l seats d) (sym (append-nil (notes_so_far began done log s front)) ∙ noted-more began done log s front a [] is) v.ringed;
 }
 
 pub action-noted : (d e : Devices) → AnActionIsNoted d e
@@ -164,7 +171,7 @@ action-noted d e o done s began front a log spans base t seats now n v is ringed
   before = v.before;
   early = v.early;
   second = v.second;
-  ringed = subst (λ (l : List Note). Ringed o log (with_second spans base t) l now e) (noted-more began done log s front a (n ∷ []) is) ringed;
+  ringed = subst (λ (l : List Note). Ringed (since_in o began done s) log (with_second spans base t) l now e) (noted-more began done log s front a (n ∷ []) is) ringed;
 }
 
 -- ---- the second ends
@@ -176,6 +183,12 @@ went-more log done s = by done not_begun
     by : (xs : List TraceSecond) (w : Went) → (fold (went_on log) w (xs ++ s ∷ [])).told ≡ (fold (went_on log) w xs).told ++ second_told log (fold (went_on log) w xs).before s ∷ []
     by [] w = refl
     by (x ∷ xs) w = by xs (went_on log w x)
+
+-- who has come before has come before behind a second more
+come-told_now : (began later : RunLog) (done trace : List TraceSecond) (s : TraceSecond) → went later done ≡ went began done → (c : Card) (u : ℕ) → HasComeBefore (went began done).told trace c u → HasComeBefore (went later (done ++ s ∷ [])).told trace c u
+come-told_now began later done trace s same c u h =
+    subst (λ (ts : List Told). HasComeBefore ts trace c u) (sym (went-more later done s))
+    (come-told (went later done).told (second_told later (went later done).before s ∷ []) trace c u (subst (λ (w : Went). HasComeBefore w.told trace c u) (sym same) h))
 
 spans-more : (told : List Told) (t : Told) → spans_of (told ++ t ∷ []) ≡ spans_with (spans_of told) t
 unfolding spans_of
@@ -322,13 +335,16 @@ module _ (d : Devices) (o : Origin) (done : List TraceSecond) (s : TraceSecond) 
       let same : AreAlike t one = told-alike later (went later done).before s t there second in
       let number : one.second.number ≡ s.number = told-number later (went later done).before s in
       let so_far : List Note = notes_so_far began done later s front in
-      let ringed : Ringed o later (with_second spans base one) so_far seats d =
-      along o d later later (with_second spans base t) (with_second spans base one) so_far seats v.ringed (goes-alike later later (with_second spans base t) (with_second spans base one) so_far (λ u has. has) (λ u has. has) (alike spans base t one same)) in
+      let ringed : Ringed (since_in o began done s) later (with_second spans base one) so_far seats d =
+      along (since_in o began done s) d later later (with_second spans base t) (with_second spans base one) so_far seats v.ringed (goes-alike later later (with_second spans base t) (with_second spans base one) so_far (λ u has. has) (λ u has. has) (alike spans base t one same)) in
+      let now : Ringed (since_behind o later (done ++ s ∷ [])) later (with_second spans base one) so_far seats d =
+      come-before d o (went began done).told (went later (done ++ s ∷ [])).told (done ++ s ∷ []) (done ++ s ∷ []) (come-told_now began later done (done ++ s ∷ []) s behind.went_is) later (with_second spans base one) so_far seats ringed in
       record {
         spans_are = told-spans;
         before = before-with (suc s.number) spans base one (all-before-later s.number (suc s.number) spans (omega arith) v.before) (omega (arith, number));
         early = subst (AreEarlier (suc s.number)) (sym all-notes) (earlier-then s.number (notes_in began done) (notes_to later (went began done).before s front) v.early (of-second later (went began done).before s front));
-        ringed = subst (λ (l : List Note). Ringed o later (with_second spans base one) l fewer d) (sym all-notes) (fewer-sit d o later (with_second spans base one) so_far seats fewer ringed fewer_sit);
+        ringed = subst (λ (l : List Note). Ringed (since_behind o later (done ++ s ∷ [])) later (with_second spans base one) l fewer d) (sym all-notes)
+            (fewer-sit d (since_behind o later (done ++ s ∷ [])) later (with_second spans base one) so_far seats fewer now fewer_sit);
       }
 
 pub second-ends : (d : Devices) → TheSecondEndsInRings d
@@ -355,7 +371,10 @@ dark-ends d o done s log later spans base seats fewer v behind more off fewer_si
     let none : notes_in later (done ++ s ∷ []) ≡ notes_in log done =
     second-notes log later done s behind.same ∙ ap (λ (l : List Note). notes_in log done ++ l) (dark-notes later (went later done).before s there) ∙ append-nil (notes_in log done) in
     let unlit : one.lit ≡ false = dark-lit later (went later done).before s there in
-    let ringed : Ringed o later spans (notes_in log done) seats d = along o d log later spans spans (notes_in log done) seats v.ringed (goes-alike log later spans spans (notes_in log done) (failed-more log later more) (call-failed-more log later more) (λ u. refl)) in
+    let ringed : Ringed (since_behind o log done) later spans (notes_in log done) seats d = along (since_behind o log done) d log later spans spans (notes_in log done) seats v.ringed (goes-alike log later spans spans (notes_in log done) (failed-more log later more) (call-failed-more log later more) (λ u. refl)) in
+    let now : Ringed (since_behind o later (done ++ s ∷ [])) later spans (notes_in log done) seats d =
+    come-before d o (went log done).told (went later (done ++ s ∷ [])).told (done ++ s ∷ []) (done ++ s ∷ []) (come-told_now log later done (done ++ s ∷ []) s behind.went_is) later spans (notes_in log done) seats
+    (come-before d o (went log done).told (went log done).told done (done ++ s ∷ []) (λ c u h. come-trace (went log done).told done (s ∷ []) c u h) later spans (notes_in log done) seats ringed) in
     record {
       spans_are = v.spans_are
           ∙ ap (λ (b : Bool). cond b (cond one.starts (spans_of (went log done).told ++ (one ∷ []) ∷ []) (go_on (spans_of (went log done).told) one)) (spans_of (went log done).told)) (sym unlit)
@@ -364,5 +383,6 @@ dark-ends d o done s log later spans base seats fewer v behind more off fewer_si
           ∙ ap spans_of (sym (went-more later done s));
       before = all-before-later s.number (suc s.number) spans (omega arith) v.before;
       early = subst (AreEarlier (suc s.number)) (sym none) (earlier-later s.number (notes_in log done) v.early);
-      ringed = subst (λ (l : List Note). Ringed o later spans l fewer d) (sym none) (fewer-sit d o later spans (notes_in log done) seats fewer ringed fewer_sit);
+      ringed = subst (λ (l : List Note). Ringed (since_behind o later (done ++ s ∷ [])) later spans l fewer d) (sym none)
+          (fewer-sit d (since_behind o later (done ++ s ∷ [])) later spans (notes_in log done) seats fewer now fewer_sit);
     }

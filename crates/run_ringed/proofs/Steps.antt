@@ -18,7 +18,7 @@ use Rattle.run_rings.specs.Spans.{with_second}
 use Rattle.run_rings.proofs.Same.{rings-left}
 use Rattle.run_rings.proofs.Actions.{places, withdrawals, insertions}
 use Rattle.run_recorded.specs.Origin.{Origin}
-use Rattle.run_ringed.specs.Ringed.{Seating, Ringed}
+use Rattle.run_ringed.specs.Ringed.{Seating, Ringed, since_in}
 use Rattle.run_ringed.specs.SoFar.{notes_so_far, RingedBehind, RingedIn, AreFewer}
 use Rattle.run_ringed.specs.Steps.{GoesOnTo, IsCutIn, spans_cut, nobody, AnActionPasses, AnActionIsCut, APlaceIsEntered, APlaceIsCut, ACardIsWithdrawn, AWithdrawalIsCut, ACardIsAccepted, AnAcceptanceIsCut}
 use Rattle.run_ringed.proofs.OnCards.{places-itself}
@@ -56,9 +56,9 @@ place-entered d e o done s began log later front spans base t seats fewer v g sl
     let w = lines-in d o done s began log later front spans base t seats v g in
     let notes : List Note = notes_so_far began done later s front in
     let p : PlaceNote = record { second = s.number; card = x.card; ending = ending; country = country; region = region } in
-    let r : Ringed o later now (notes ++ Enters p ∷ []) seats e = place-around d e o later now notes seats w.ringed left p head writes long is own wide on taken_ in
+    let r : Ringed (since_in o began done s) later now (notes ++ Enters p ∷ []) seats e = place-around d e (since_in o began done s) later now notes seats w.ringed left p head writes long is own wide on taken_ in
     action-noted d e o done s began front (Place slot ending country region) later spans base t seats fewer (Enters p) w (places later (went began done).before s front g.begun slot ending country region x sits accepted)
-    (fewer-sit e o later now (notes ++ Enters p ∷ []) seats fewer r few)
+    (fewer-sit e (since_in o began done s) later now (notes ++ Enters p ∷ []) seats fewer r few)
 
 pub place-is-cut : (d e : Devices) → APlaceIsCut d e
 place-is-cut d e o done s began log cut front rest spans base t seats v slot ending country region c x sits accepted head writes long is left own wide on taken_ =
@@ -66,7 +66,7 @@ place-is-cut d e o done s began log cut front rest spans base t seats v slot end
     let w = lines-in d o done s began log cut front spans base t seats v c.goes in
     let notes : List Note = notes_so_far began done cut s front in
     let p : PlaceNote = record { second = s.number; card = x.card; ending = ending; country = country; region = region } in
-    let r : Ringed o cut now (notes ++ Enters p ∷ []) nobody e = place-cut d e o cut now notes seats w.ringed left p head writes long is c.failed own wide on taken_ in
+    let r : Ringed (since_in o began done s) cut now (notes ++ Enters p ∷ []) nobody e = place-cut d e (since_in o began done s) cut now notes seats w.ringed left p head writes long is c.failed own wide on taken_ in
     behind-it d e o done s began log cut front (Place slot ending country region) rest spans base t nobody c
     (action-noted d e o done s began front (Place slot ending country region) cut spans base t seats nobody (Enters p) w (places cut (went began done).before s front c.goes.begun slot ending country region x sits accepted) r)
 
@@ -77,9 +77,9 @@ card-withdrawn d e o done s began log later front spans base t seats now_ fewer 
     let w = lines-in d o done s began log later front spans base t seats v g in
     let notes : List Note = notes_so_far began done later s front in
     let n : Withdrawal = record { second = s.number; card = x.card } in
-    let r : Ringed o later now (notes ++ Withdraws n ∷ []) now_ e = withdrawal-around d e o later now notes seats now_ w.ringed left cards n q seat below time odometer second kilometres low few_ writes each in
+    let r : Ringed (since_in o began done s) later now (notes ++ Withdraws n ∷ []) now_ e = withdrawal-around d e (since_in o began done s) later now notes seats now_ w.ringed left cards n q seat below time odometer second kilometres low few_ writes each in
     action-noted d e o done s began front (Withdraw slot) later spans base t seats fewer (Withdraws n) w ((withdrawals later (went began done).before s front g.begun slot x sits still).2 torn accepted)
-    (fewer-sit e o later now (notes ++ Withdraws n ∷ []) now_ fewer r few)
+    (fewer-sit e (since_in o began done s) later now (notes ++ Withdraws n ∷ []) now_ fewer r few)
 
 pub withdrawal-is-cut : (d e : Devices) → AWithdrawalIsCut d e
 withdrawal-is-cut d e o done s began log cut front rest spans base t seats v slot c x sits still torn accepted q seat below time odometer second kilometres low few_ writes left cards =
@@ -87,7 +87,7 @@ withdrawal-is-cut d e o done s began log cut front rest spans base t seats v slo
     let w = lines-in d o done s began log cut front spans base t seats v c.goes in
     let notes : List Note = notes_so_far began done cut s front in
     let n : Withdrawal = record { second = s.number; card = x.card } in
-    let r : Ringed o cut now (notes ++ Withdraws n ∷ []) nobody e = withdrawal-cut d e o cut now notes seats w.ringed left cards n q seat below time odometer second kilometres low few_ writes c.failed in
+    let r : Ringed (since_in o began done s) cut now (notes ++ Withdraws n ∷ []) nobody e = withdrawal-cut d e (since_in o began done s) cut now notes seats w.ringed left cards n q seat below time odometer second kilometres low few_ writes c.failed in
     behind-it d e o done s began log cut front (Withdraw slot) rest spans base t nobody c
     (action-noted d e o done s began front (Withdraw slot) cut spans base t seats nobody (Withdraws n) w ((withdrawals cut (went began done).before s front c.goes.begun slot x sits still).2 torn accepted) r)
 
@@ -102,10 +102,10 @@ card-accepted d e o done s began log later front spans base t seats now_ fewer v
     let w = lines-in d o done s began log later front spans base t seats v g in
     let notes : List Note = notes_so_far began done later s front in
     let n : Acceptance = record { second = s.number; slot = slot; card = card } in
-    let r : Ringed o later now (notes ++ Accepts n ∷ []) now_ e = insertion-around d e o later now notes seats now_ w.ringed left cards n head index writes long is each in
+    let r : Ringed (since_in o began done s) later now (notes ++ Accepts n ∷ []) now_ e = insertion-around d e (since_in o began done s) later now notes seats now_ w.ringed left cards n head index writes long is each in
     let one = one-accepts s.number slot card (found_in later s.number (In (length front + 1)) slot) verdict found accepting in
     let more : NotesMore later (went began done).before s front (Insert slot card) (Accepts n ∷ []) = subst (λ (l : List Note). NotesMore later (went began done).before s front (Insert slot card) l) one (insertions later (went began done).before s front g.begun slot card fine) in
-    action-noted d e o done s began front (Insert slot card) later spans base t seats fewer (Accepts n) w more (fewer-sit e o later now (notes ++ Accepts n ∷ []) now_ fewer r few)
+    action-noted d e o done s began front (Insert slot card) later spans base t seats fewer (Accepts n) w more (fewer-sit e (since_in o began done s) later now (notes ++ Accepts n ∷ []) now_ fewer r few)
 
 pub acceptance-is-cut : (d e : Devices) → AnAcceptanceIsCut d e
 acceptance-is-cut d e o done s began log cut front rest spans base t seats v slot card c fine verdict found accepting head writes long is left cards =
@@ -113,7 +113,7 @@ acceptance-is-cut d e o done s began log cut front rest spans base t seats v slo
     let w = lines-in d o done s began log cut front spans base t seats v c.goes in
     let notes : List Note = notes_so_far began done cut s front in
     let n : Acceptance = record { second = s.number; slot = slot; card = card } in
-    let r : Ringed o cut now (notes ++ Accepts n ∷ []) nobody e = insertion-cut d e o cut now notes seats w.ringed left cards n head writes long is c.failed in
+    let r : Ringed (since_in o began done s) cut now (notes ++ Accepts n ∷ []) nobody e = insertion-cut d e (since_in o began done s) cut now notes seats w.ringed left cards n head writes long is c.failed in
     let one = one-accepts s.number slot card (found_in cut s.number (In (length front + 1)) slot) verdict found accepting in
     let more : NotesMore cut (went began done).before s front (Insert slot card) (Accepts n ∷ []) = subst (λ (l : List Note). NotesMore cut (went began done).before s front (Insert slot card) l) one (insertions cut (went began done).before s front c.goes.begun slot card fine) in
     behind-it d e o done s began log cut front (Insert slot card) rest spans base t nobody c (action-noted d e o done s began front (Insert slot card) cut spans base t seats nobody (Accepts n) w more r)

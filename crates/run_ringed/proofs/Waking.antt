@@ -26,7 +26,7 @@ use Rattle.run_rings.proofs.Actions.{power-notes}
 use Rattle.run_rings.proofs.Spans.{earlier-stay}
 use Rattle.run_recorded.specs.Origin.{Origin}
 use Rattle.run_recorded.specs.Beside.{HaveLeftMore}
-use Rattle.run_ringed.specs.Ringed.{Seating, Ringed, StaysInRings, GoOn, notes_in}
+use Rattle.run_ringed.specs.Ringed.{Seating, Ringed, StaysInRings, GoOn, notes_in, since_behind, since_in}
 use Rattle.run_ringed.specs.SoFar.{AreEarlier, RingedBehind, notes_so_far, RingedIn, AreFewer, HasMoreBreaks, GoesBehind}
 use Rattle.run_ringed.specs.Steps.{nobody}
 use Rattle.run_ringed.specs.Waking.{NoneFound, PowerBeginsInRings, IsFoundAnew, ASlotIsPassedAnew, ACardIsAcceptedAnew, AnAcceptanceIsCutAnew}
@@ -35,7 +35,7 @@ use Rattle.run_ringed.proofs.OnCards.{call-failed-more, places-itself}
 use Rattle.run_ringed.proofs.Noted.{notes-alike}
 use Rattle.run_ringed.proofs.Rings.{fewer-sit, rings-stay}
 use Rattle.run_ringed.proofs.Around.{insertion-around, insertion-cut}
-use Rattle.run_ringed.proofs.SoFar.{left-itself, failed-more, goes-alike, goes-earlier, cut-ends}
+use Rattle.run_ringed.proofs.SoFar.{left-itself, failed-more, goes-alike, goes-earlier, cut-ends, come-in}
 
 -- nothing was found of it
 none-sits : (u : ℕ) (slot : Slot) (o : Option Sitting) → sits_accepted u slot o [] ≡ []
@@ -86,32 +86,32 @@ power-begins d o done s began spans base t seats fewer v off none second few =
     let notes : List Note = notes_in began done in
     let are : notes ++ notes_to began (went began done).before s [] ≡ notes = ap (λ (l : List Note). notes ++ l) (nothing-noted began (went began done).before s off none) ∙ append-nil notes in
     let earlier = goes-earlier began spans now s.number notes v.early (λ u lt. earlier-stay spans base t u (let is = second.number in omega (arith, lt, is))) in
-    let ringed : Ringed o began now notes seats d = rings-stay d d o began began spans now notes seats v.ringed (rings-left d.unit) (left-itself o d) (places-itself o d) earlier in
+    let ringed : Ringed (since_in o began done s) began now notes seats d = rings-stay d d (since_in o began done s) began began spans now notes seats (come-in d o began done s spans notes seats v.ringed) (rings-left d.unit) (left-itself o d) (places-itself o d) earlier in
     record {
       spans_are = v.spans_are;
       before = v.before;
       early = v.early;
       second = second;
-      ringed = subst (λ (l : List Note). Ringed o began now l fewer d) (sym are) (fewer-sit d o began now notes seats fewer ringed few);
+      ringed = subst (λ (l : List Note). Ringed (since_in o began done s) began now l fewer d) (sym are) (fewer-sit d (since_in o began done s) began now notes seats fewer ringed few);
     }
 
 module _ (d e : Devices) (o : Origin) (done : List TraceSecond) (s : TraceSecond) (began log later : RunLog) (spans : List SpanFrom) (base : ℕ) (t : Told) (seats : Card → Option Seating) (v : RingedIn o done s began [] log spans base t seats d) (more : HasMoreBreaks log later) where
   -- the lines alone, before any call
-  lines-anew : Ringed o later (with_second spans base t) (notes_so_far began done log s []) seats d
+  lines-anew : Ringed (since_in o began done s) later (with_second spans base t) (notes_so_far began done log s []) seats d
   lines-anew =
       let now : List SpanFrom = with_second spans base t in
       let notes : List Note = notes_so_far began done log s [] in
-      rings-stay d d o log later now now notes seats v.ringed (rings-left d.unit) (left-itself o d) (places-itself o d) (goes-alike log later now now notes (failed-more log later more) (call-failed-more log later more) (λ u. refl))
+      rings-stay d d (since_in o began done s) log later now now notes seats v.ringed (rings-left d.unit) (left-itself o d) (places-itself o d) (goes-alike log later now now notes (failed-more log later more) (call-failed-more log later more) (λ u. refl))
 
   -- this is noted
   noted-anew : (fewer : Card → Option Seating) (noted : List Note) → notes_to later (went began done).before s [] ≡ notes_to log (went began done).before s [] ++ noted →
-      Ringed o later (with_second spans base t) (notes_so_far began done log s [] ++ noted) fewer e → RingedIn o done s began [] later spans base t fewer e
+      Ringed (since_in o began done s) later (with_second spans base t) (notes_so_far began done log s [] ++ noted) fewer e → RingedIn o done s began [] later spans base t fewer e
   noted-anew fewer noted is ringed = record {
     spans_are = v.spans_are;
     before = v.before;
     early = v.early;
     second = v.second;
-    ringed = subst (λ (l : List Note). Ringed o later (with_second spans base t) l fewer e)
+    ringed = subst (λ (l : List Note). Ringed (since_in o began done s) later (with_second spans base t) l fewer e)
         (append_assoc (notes_in began done) (notes_to log (went began done).before s []) noted ∙ ap (λ (l : List Note). notes_in began done ++ l) (sym is)) ringed;
   }
 
@@ -121,10 +121,10 @@ passed-anew d e o done s began log later spans base t seats fewer v off more slo
     let now : List SpanFrom = with_second spans base t in
     let notes : List Note = notes_so_far began done log s [] in
     let before : Before = (went began done).before in
-    let ringed : Ringed o later now notes seats e = rings-stay d e o log later now now notes seats v.ringed stays left cards (goes-alike log later now now notes (failed-more log later more) (call-failed-more log later more) (λ u. refl)) in
+    let ringed : Ringed (since_in o began done s) later now notes seats e = rings-stay d e (since_in o began done s) log later now now notes seats v.ringed stays left cards (goes-alike log later now now notes (failed-more log later more) (call-failed-more log later more) (λ u. refl)) in
     let noted = slot-notes log later before s off slot found is ∙ ap (λ (l : List Note). notes_to log before s [] ++ l) (none-accepted s.number slot (in_slot before.slots slot) found none) in
     noted-anew d e o done s began log later spans base t seats v more fewer [] noted
-    (subst (λ (l : List Note). Ringed o later now l fewer e) (sym (append-nil notes)) (fewer-sit e o later now notes seats fewer ringed few))
+    (subst (λ (l : List Note). Ringed (since_in o began done s) later now l fewer e) (sym (append-nil notes)) (fewer-sit e (since_in o began done s) later now notes seats fewer ringed few))
 
 -- A CARD IS ACCEPTED
 one-anew : (log later : RunLog) (before : Before) (s : TraceSecond) → before.running ≡ false → (slot : Slot) (x : Sitting) → in_slot before.slots slot ≡ Some x → (v : Verdict) → IsFoundAnew log later s.number slot (v ∷ []) → is_accepting v ≡ true →
@@ -140,16 +140,16 @@ accepted-anew d e o done s began log later spans base t seats now_ fewer v off m
     let now : List SpanFrom = with_second spans base t in
     let notes : List Note = notes_so_far began done log s [] in
     let n : Acceptance = record { second = s.number; slot = slot; card = x.card } in
-    let r : Ringed o later now (notes ++ Accepts n ∷ []) now_ e = insertion-around d e o later now notes seats now_ (lines-anew d e o done s began log later spans base t seats v more) left cards n head index writes long is each in
+    let r : Ringed (since_in o began done s) later now (notes ++ Accepts n ∷ []) now_ e = insertion-around d e (since_in o began done s) later now notes seats now_ (lines-anew d e o done s began log later spans base t seats v more) left cards n head index writes long is each in
     noted-anew d e o done s began log later spans base t seats v more fewer (Accepts n ∷ []) (one-anew log later (went began done).before s off slot x sits verdict found accepting)
-    (fewer-sit e o later now (notes ++ Accepts n ∷ []) now_ fewer r few)
+    (fewer-sit e (since_in o began done s) later now (notes ++ Accepts n ∷ []) now_ fewer r few)
 
 pub cut-anew : (d e : Devices) → AnAcceptanceIsCutAnew d e
 cut-anew d e o done s began log cut spans base t seats v off more slot x sits verdict found accepting behind power is_cut failed head writes long is left cards =
     let now : List SpanFrom = with_second spans base t in
     let notes : List Note = notes_so_far began done log s [] in
     let n : Acceptance = record { second = s.number; slot = slot; card = x.card } in
-    let r : Ringed o cut now (notes ++ Accepts n ∷ []) nobody e = insertion-cut d e o cut now notes seats (lines-anew d e o done s began log cut spans base t seats v more) left cards n head writes long is failed in
+    let r : Ringed (since_in o began done s) cut now (notes ++ Accepts n ∷ []) nobody e = insertion-cut d e (since_in o began done s) cut now notes seats (lines-anew d e o done s began log cut spans base t seats v more) left cards n head writes long is failed in
     let w : RingedIn o done s began [] cut spans base t nobody e = noted-anew d e o done s began log cut spans base t seats v more nobody (Accepts n ∷ []) (one-anew log cut (went began done).before s off slot x sits verdict found accepting) r in
     cut-ends e o done s began cut [] s.actions spans base t nobody nobody w behind power refl is_cut (λ c. inl refl)
 
@@ -161,7 +161,7 @@ behind-stays d e o done log next spans seats v stays left cards = record {
   spans_are = v.spans_are;
   before = v.before;
   early = v.early;
-  ringed = rings-stay d e o log log spans spans (notes_in log done) seats v.ringed stays left cards (goes-alike log log spans spans (notes_in log done) (λ u has. has) (λ u has. has) (λ u. refl));
+  ringed = rings-stay d e (since_behind o log done) log log spans spans (notes_in log done) seats v.ringed stays left cards (goes-alike log log spans spans (notes_in log done) (λ u has. has) (λ u has. has) (λ u. refl));
 }
 
 -- and so does another log that tells the same of these seconds
@@ -169,12 +169,13 @@ pub behind-alike : (d : Devices) (o : Origin) (done : List TraceSecond) (log lat
     ((u : ℕ) → has_failed_in log u ≡ true → has_failed_in later u ≡ true) → ((u : ℕ) → has_call_failed_in log u ≡ true → has_call_failed_in later u ≡ true) → RingedBehind o done later next spans seats d
 behind-alike d o done log later next spans seats v behind failed fell =
     let same : notes_in later done ≡ notes_in log done = notes-alike log later done behind.same in
-    let ringed : Ringed o later spans (notes_in log done) seats d = rings-stay d d o log later spans spans (notes_in log done) seats v.ringed (rings-left d.unit) (left-itself o d) (places-itself o d) (goes-alike log later spans spans (notes_in log done) failed fell (λ u. refl)) in
+    let ringed : Ringed (since_behind o log done) later spans (notes_in log done) seats d = rings-stay d d (since_behind o log done) log later spans spans (notes_in log done) seats v.ringed (rings-left d.unit) (left-itself o d) (places-itself o d) (goes-alike log later spans spans (notes_in log done) failed fell (λ u. refl)) in
     record {
       spans_are = v.spans_are ∙ ap (λ (w : Went). spans_of w.told) (sym behind.went_is);
       before = v.before;
       early = subst (λ (l : List Note). AreEarlier next l) (sym same) v.early;
-      ringed = subst (λ (l : List Note). Ringed o later spans l seats d) (sym same) ringed;
+      ringed = subst (λ (l : List Note). Ringed (since_behind o later done) later spans l seats d) (sym same)
+          (subst (λ (w : Went). Ringed (record { origin = o; told = w.told; trace = done }) later spans (notes_in log done) seats d) (sym behind.went_is) ringed);
     }
 
 -- what is found kept after the cuts tells of the same failures

@@ -29,9 +29,8 @@ use Rattle.run_rings.specs.Carried.{Carries}
 use Rattle.run_rings.proofs.Carried.{same-parts, carries-same, carries-changed, carries-gone, entry-was}
 use Rattle.run_rings.proofs.Indices.{index-alone, index-itself}
 use Rattle.run_rings.proofs.Standing.{stand-append, withdrawal-of-last}
-use Rattle.run_recorded.specs.Origin.{Origin}
 use Rattle.run_recorded.specs.Beside.{HaveLeftMore}
-use Rattle.run_ringed.specs.Ringed.{holder_in, TellsIn, Each, HasSameRings, IsInsertionIn, IsPlaceIn, sure_insertion, sure_place, ShowsNotes, Seating, IsSeated, Ringed, IsWithdrawnAt, MayBeWithdrawn}
+use Rattle.run_ringed.specs.Ringed.{holder_in, TellsIn, Each, HasSameRings, IsInsertionIn, IsPlaceIn, sure_insertion, sure_place, ShowsNotes, Seating, IsSeated, Ringed, IsWithdrawnAt, MayBeWithdrawn, Since}
 use Rattle.run_ringed.specs.OnCards.{PlacesStay}
 use Rattle.run_ringed.proofs.OnCards.{places-beside}
 use Rattle.run_ringed.proofs.Stands.{each-stand, each-long, each-append, each-split, insertions-more, places-more}
@@ -263,43 +262,43 @@ carried start x y ms h s olders entry newers are behind there time odometer (inr
     let list-is : length (ring_list insertion_ring y) ≡ length (indices insertion_ring y) = length-map (indices insertion_ring y) (entry_at insertion_ring y) in
     (rings.1, carries-gone insertion_ring start y ms still olders entry (with_withdrawal time odometer entry) newers are (omega (arith, few, list-is, many, behind)))
 
-pub withdrawal-noted : (d e : Devices) (o : Origin) (log : RunLog) (spans : List SpanFrom) (notes : List Note) (seats now : Card → Option Seating) → Ringed o log spans notes seats d → HaveLeftMore o d e → PlacesStay o d e → (w : Withdrawal) (s : Seating) → seats w.card ≡ Some s → s.index < insertion_ring.count →
+pub withdrawal-noted : (d e : Devices) (o : Since) (log : RunLog) (spans : List SpanFrom) (notes : List Note) (seats now : Card → Option Seating) → Ringed o log spans notes seats d → HaveLeftMore o.origin d e → PlacesStay o.origin d e → (w : Withdrawal) (s : Seating) → seats w.card ≡ Some s → s.index < insertion_ring.count →
     (time : TimeReal) (odometer : Odometer) → time.0 ≡ w.second → odometer.0 ≡ odometer_at w.second spans → time.0 < 256 ^ 4 → odometer.0 < 256 ^ 3 → Writes (IsWithdrawnAt s time odometer) d e →
     ((c : Card) → ((same_card w.card c ≡ false) × (now c ≡ seats c)) ⊎ ((same_card w.card c ≡ true) × (now c ≡ None))) → Ringed o log spans (notes ++ Withdraws w ∷ []) now e
 withdrawal-noted d e o log spans notes seats now v more cards w s at below time odometer second stood time_fits odometer_fits images each = record {
   insertions = λ ring y left.
       let i = images y left in
       let was = v.insertions ring i.0 i.1 in
-      let sits : IsSeated (sure_insertion o log spans) (IsInsertionIn o log spans e) w.card s (insertions_of notes) was.shows.more i.0 =
-      subst (λ (q : Option Seating). IfSome q (λ t. IsSeated (sure_insertion o log spans) (IsInsertionIn o log spans e) w.card t (insertions_of notes) was.shows.more i.0)) at
+      let sits : IsSeated (sure_insertion o.origin log spans) (IsInsertionIn o log spans e) w.card s (insertions_of notes) was.shows.more i.0 =
+      subst (λ (q : Option Seating). IfSome q (λ t. IsSeated (sure_insertion o.origin log spans) (IsInsertionIn o log spans e) w.card t (insertions_of notes) was.shows.more i.0)) at
       (seated-as o log log spans spans notes d e more (go-on log spans notes) w.card (seats w.card) was.shows.more i.0 i.0 refl (was.seated w.card)) in
-      let is = insertion-withdrawn log spans (holder_in o) (TellsIn o e) sits.own sits.entry sits.is w.second time odometer second stood time_fits odometer_fits in
-      let ring-now = carried o.recording.unit i.0 y was.shows.more was.shows.carries s sits.olders sits.entry sits.newers sits.more_are sits.behind sits.there time odometer i.2 in
+      let is = insertion-withdrawn log spans (holder_in o.origin) (TellsIn o e sits.own.accepted.second) sits.own sits.entry sits.is w.second time odometer second stood time_fits odometer_fits in
+      let ring-now = carried o.origin.recording.unit i.0 y was.shows.more was.shows.carries s sits.olders sits.entry sits.newers sits.more_are sits.behind sits.there time odometer i.2 in
       let are : insertions_of (notes ++ Withdraws w ∷ []) ≡ sits.older ++ record sits.own { withdrawn = Some w.second } ∷ sits.newer =
       insertions-more notes (Withdraws w) ∙ ap (note_withdrawal w) sits.notes_are ∙ withdrawal-of-last w sits.older sits.own sits.newer sits.card_is sits.last in record {
         shows = record {
           more = sits.olders ++ with_withdrawal time odometer sits.entry ∷ sits.newers;
           carries = ring-now.1;
-          stand = subst (λ (l : List InsertionNote). Stand (sure_insertion o log spans) (IsInsertionIn o log spans e) l (sits.olders ++ with_withdrawal time odometer sits.entry ∷ sits.newers)) (sym are)
-              (stands-now (sure_insertion o log spans) (IsInsertionIn o log spans e) w.card s (insertions_of notes) was.shows.more i.0 y sits w.second (with_withdrawal time odometer sits.entry) is ring-now.0);
+          stand = subst (λ (l : List InsertionNote). Stand (sure_insertion o.origin log spans) (IsInsertionIn o log spans e) l (sits.olders ++ with_withdrawal time odometer sits.entry ∷ sits.newers)) (sym are)
+              (stands-now (sure_insertion o.origin log spans) (IsInsertionIn o log spans e) w.card s (insertions_of notes) was.shows.more i.0 y sits w.second (with_withdrawal time odometer sits.entry) is ring-now.0);
         };
         seated = λ c. ⊎_elim
-            (λ other. subst (λ (q : Option Seating). IfSome q (λ t. IsSeated (sure_insertion o log spans) (IsInsertionIn o log spans e) c t (insertions_of (notes ++ Withdraws w ∷ [])) (sits.olders ++ with_withdrawal time odometer sits.entry ∷ sits.newers) y)) (sym other.1)
-            (subst (λ (l : List InsertionNote). IfSome (seats c) (λ t. IsSeated (sure_insertion o log spans) (IsInsertionIn o log spans e) c t l (sits.olders ++ with_withdrawal time odometer sits.entry ∷ sits.newers) y)) (sym are)
-            (other-stays (sure_insertion o log spans) (IsInsertionIn o log spans e) w.card s (insertions_of notes) was.shows.more i.0 y sits w.second (with_withdrawal time odometer sits.entry) is ring-now.0 c other.0 (seats c)
+            (λ other. subst (λ (q : Option Seating). IfSome q (λ t. IsSeated (sure_insertion o.origin log spans) (IsInsertionIn o log spans e) c t (insertions_of (notes ++ Withdraws w ∷ [])) (sits.olders ++ with_withdrawal time odometer sits.entry ∷ sits.newers) y)) (sym other.1)
+            (subst (λ (l : List InsertionNote). IfSome (seats c) (λ t. IsSeated (sure_insertion o.origin log spans) (IsInsertionIn o log spans e) c t l (sits.olders ++ with_withdrawal time odometer sits.entry ∷ sits.newers) y)) (sym are)
+            (other-stays (sure_insertion o.origin log spans) (IsInsertionIn o log spans e) w.card s (insertions_of notes) was.shows.more i.0 y sits w.second (with_withdrawal time odometer sits.entry) is ring-now.0 c other.0 (seats c)
             (seated-as o log log spans spans notes d e more (go-on log spans notes) c (seats c) was.shows.more i.0 i.0 refl (was.seated c)))))
-            (λ own. subst (λ (q : Option Seating). IfSome q (λ t. IsSeated (sure_insertion o log spans) (IsInsertionIn o log spans e) c t (insertions_of (notes ++ Withdraws w ∷ [])) (sits.olders ++ with_withdrawal time odometer sits.entry ∷ sits.newers) y)) (sym own.1) tt)
+            (λ own. subst (λ (q : Option Seating). IfSome q (λ t. IsSeated (sure_insertion o.origin log spans) (IsInsertionIn o log spans e) c t (insertions_of (notes ++ Withdraws w ∷ [])) (sits.olders ++ with_withdrawal time odometer sits.entry ∷ sits.newers) y)) (sym own.1) tt)
             (each c);
       };
   places = λ ring y left.
       let i = images y left in
       let was = v.places ring i.0 i.1 in
-      subst (λ (l : List PlaceNote). ShowsNotes unit_place_ring (sure_place o log spans) (IsPlaceIn o log spans) l o.recording.unit y) (sym (places-more notes (Withdraws w) ∙ append-nil (places_of notes))) (record {
+      subst (λ (l : List PlaceNote). ShowsNotes unit_place_ring (sure_place o.origin log spans) (IsPlaceIn o.origin log spans) l o.origin.recording.unit y) (sym (places-more notes (Withdraws w) ∙ append-nil (places_of notes))) (record {
         more = was.more;
-        carries = carries-same unit_place_ring o.recording.unit i.0 was.more was.carries place_shape y (places-same i.0 y s below time odometer i.2);
+        carries = carries-same unit_place_ring o.origin.recording.unit i.0 was.more was.carries place_shape y (places-same i.0 y s below time odometer i.2);
         stand = was.stand;
       });
-  on_cards = places-beside o log spans notes (Withdraws w) d e refl cards v.on_cards;
+  on_cards = places-beside o.origin log spans notes (Withdraws w) d e refl cards v.on_cards;
 }
   where
     places-same : (x y : List ℕ) (s : Seating) → s.index < insertion_ring.count → (time : TimeReal) (odometer : Odometer) → (IsWithdrawn s.index time odometer x y × (s.behind < insertion_ring.count)) ⊎ (HasSameRings x y × (insertion_ring.count ≤ s.behind)) →
@@ -323,30 +322,30 @@ timed-now start x y ms h s olders entry newers are behind there time w lt = ⊎_
     (λ gone. absurd (omega (arith, lt, gone)))
     there
 
-pub withdrawal-broken : (d e : Devices) (o : Origin) (log : RunLog) (spans : List SpanFrom) (notes : List Note) (seats : Card → Option Seating) → Ringed o log spans notes seats d → HaveLeftMore o d e → PlacesStay o d e → (w : Withdrawal) (s : Seating) → seats w.card ≡ Some s → s.index < insertion_ring.count →
+pub withdrawal-broken : (d e : Devices) (o : Since) (log : RunLog) (spans : List SpanFrom) (notes : List Note) (seats : Card → Option Seating) → Ringed o log spans notes seats d → HaveLeftMore o.origin d e → PlacesStay o.origin d e → (w : Withdrawal) (s : Seating) → seats w.card ≡ Some s → s.index < insertion_ring.count →
     (time : TimeReal) (odometer : Odometer) → time.0 ≡ w.second → odometer.0 ≡ odometer_at w.second spans → time.0 < 256 ^ 4 → odometer.0 < 256 ^ 3 → Writes (MayBeWithdrawn s time odometer) d e → has_failed_in log w.second ≡ true →
     Ringed o log spans (notes ++ Withdraws w ∷ []) (λ c. None) e
 withdrawal-broken d e o log spans notes seats v more cards w s at below time odometer second stood time_fits odometer_fits images has = record {
   insertions = λ ring y left.
       let i = images y left in
       let was = v.insertions ring i.0 i.1 in
-      let sits : IsSeated (sure_insertion o log spans) (IsInsertionIn o log spans e) w.card s (insertions_of notes) was.shows.more i.0 =
-      subst (λ (q : Option Seating). IfSome q (λ t. IsSeated (sure_insertion o log spans) (IsInsertionIn o log spans e) w.card t (insertions_of notes) was.shows.more i.0)) at
+      let sits : IsSeated (sure_insertion o.origin log spans) (IsInsertionIn o log spans e) w.card s (insertions_of notes) was.shows.more i.0 =
+      subst (λ (q : Option Seating). IfSome q (λ t. IsSeated (sure_insertion o.origin log spans) (IsInsertionIn o log spans e) w.card t (insertions_of notes) was.shows.more i.0)) at
       (seated-as o log log spans spans notes d e more (go-on log spans notes) w.card (seats w.card) was.shows.more i.0 i.0 refl (was.seated w.card)) in
       let are : insertions_of (notes ++ Withdraws w ∷ []) ≡ sits.older ++ record sits.own { withdrawn = Some w.second } ∷ sits.newer =
       insertions-more notes (Withdraws w) ∙ ap (note_withdrawal w) sits.notes_are ∙ withdrawal-of-last w sits.older sits.own sits.newer sits.card_is sits.last in record {
-        shows = subst (λ (l : List InsertionNote). ShowsNotes insertion_ring (sure_insertion o log spans) (IsInsertionIn o log spans e) l o.recording.unit y) (sym are) (by i.0 y was.shows.more was.shows.carries sits i.2);
+        shows = subst (λ (l : List InsertionNote). ShowsNotes insertion_ring (sure_insertion o.origin log spans) (IsInsertionIn o log spans e) l o.origin.recording.unit y) (sym are) (by i.0 y was.shows.more was.shows.carries sits i.2);
         seated = λ c. tt;
       };
   places = λ ring y left.
       let i = images y left in
       let was = v.places ring i.0 i.1 in
-      subst (λ (l : List PlaceNote). ShowsNotes unit_place_ring (sure_place o log spans) (IsPlaceIn o log spans) l o.recording.unit y) (sym (places-more notes (Withdraws w) ∙ append-nil (places_of notes))) (record {
+      subst (λ (l : List PlaceNote). ShowsNotes unit_place_ring (sure_place o.origin log spans) (IsPlaceIn o.origin log spans) l o.origin.recording.unit y) (sym (places-more notes (Withdraws w) ∙ append-nil (places_of notes))) (record {
         more = was.more;
-        carries = carries-same unit_place_ring o.recording.unit i.0 was.more was.carries place_shape y (places-same i.0 y i.2);
+        carries = carries-same unit_place_ring o.origin.recording.unit i.0 was.more was.carries place_shape y (places-same i.0 y i.2);
         stand = was.stand;
       });
-  on_cards = places-beside o log spans notes (Withdraws w) d e refl cards v.on_cards;
+  on_cards = places-beside o.origin log spans notes (Withdraws w) d e refl cards v.on_cards;
 }
   where
     places-same : (x y : List ℕ) → MayBeWithdrawn s time odometer x y → bytes_at y unit_place_ring.base (size_of unit_place_ring) ≡ bytes_at x unit_place_ring.base (size_of unit_place_ring)
@@ -355,29 +354,29 @@ withdrawal-broken d e o log spans notes seats v more cards w s at below time odo
     places-same x y (inl (inr (inr whole), lt)) = ring_outside unit_place_ring (place_of insertion_ring s.index) insertion_ring.width x y (inl (omega (arith, below))) whole.outside
     places-same x y (inr (same, many)) = same.places
 
-    by : (x y : List ℕ) (ms : List (List ℕ)) → Carries insertion_ring o.recording.unit x ms → (sits : IsSeated (sure_insertion o log spans) (IsInsertionIn o log spans e) w.card s (insertions_of notes) ms x) → MayBeWithdrawn s time odometer x y →
-        ShowsNotes insertion_ring (sure_insertion o log spans) (IsInsertionIn o log spans e) (sits.older ++ record sits.own { withdrawn = Some w.second } ∷ sits.newer) o.recording.unit y
+    by : (x y : List ℕ) (ms : List (List ℕ)) → Carries insertion_ring o.origin.recording.unit x ms → (sits : IsSeated (sure_insertion o.origin log spans) (IsInsertionIn o log spans e) w.card s (insertions_of notes) ms x) → MayBeWithdrawn s time odometer x y →
+        ShowsNotes insertion_ring (sure_insertion o.origin log spans) (IsInsertionIn o log spans e) (sits.older ++ record sits.own { withdrawn = Some w.second } ∷ sits.newer) o.origin.recording.unit y
     by x y ms h sits (inl (inl same, lt)) = record {
       more = sits.olders ++ sits.entry ∷ sits.newers;
-      carries = subst (λ (z : List ℕ). Carries insertion_ring o.recording.unit z (sits.olders ++ sits.entry ∷ sits.newers)) (sym same) (subst (λ (l : List (List ℕ)). Carries insertion_ring o.recording.unit x l) sits.more_are h);
-      stand = stands-now (sure_insertion o log spans) (IsInsertionIn o log spans e) w.card s (insertions_of notes) ms x x sits w.second sits.entry
-          (insertion-unwritten log spans (holder_in o) (TellsIn o e) sits.own sits.entry sits.is w.second time odometer second stood time_fits odometer_fits sits.stays has) refl;
+      carries = subst (λ (z : List ℕ). Carries insertion_ring o.origin.recording.unit z (sits.olders ++ sits.entry ∷ sits.newers)) (sym same) (subst (λ (l : List (List ℕ)). Carries insertion_ring o.origin.recording.unit x l) sits.more_are h);
+      stand = stands-now (sure_insertion o.origin log spans) (IsInsertionIn o log spans e) w.card s (insertions_of notes) ms x x sits w.second sits.entry
+          (insertion-unwritten log spans (holder_in o.origin) (TellsIn o e sits.own.accepted.second) sits.own sits.entry sits.is w.second time odometer second stood time_fits odometer_fits sits.stays has) refl;
     }
     by x y ms h sits (inl (inr (inl set), lt)) = record {
       more = sits.olders ++ put out_place (time_bytes time) sits.entry ∷ sits.newers;
-      carries = timed-now o.recording.unit x y ms h s sits.olders sits.entry sits.newers sits.more_are sits.behind sits.there time set lt;
-      stand = stands-now (sure_insertion o log spans) (IsInsertionIn o log spans e) w.card s (insertions_of notes) ms x x sits w.second (put out_place (time_bytes time) sits.entry)
-          (insertion-timed log spans (holder_in o) (TellsIn o e) sits.own sits.entry sits.is w.second time odometer second stood time_fits odometer_fits sits.stays has) refl;
+      carries = timed-now o.origin.recording.unit x y ms h s sits.olders sits.entry sits.newers sits.more_are sits.behind sits.there time set lt;
+      stand = stands-now (sure_insertion o.origin log spans) (IsInsertionIn o log spans e) w.card s (insertions_of notes) ms x x sits w.second (put out_place (time_bytes time) sits.entry)
+          (insertion-timed log spans (holder_in o.origin) (TellsIn o e sits.own.accepted.second) sits.own sits.entry sits.is w.second time odometer second stood time_fits odometer_fits sits.stays has) refl;
     }
     by x y ms h sits (inl (inr (inr whole), lt)) = record {
       more = sits.olders ++ with_withdrawal time odometer sits.entry ∷ sits.newers;
-      carries = (carried o.recording.unit x y ms h s sits.olders sits.entry sits.newers sits.more_are sits.behind sits.there time odometer (inl (whole, lt))).1;
-      stand = stands-now (sure_insertion o log spans) (IsInsertionIn o log spans e) w.card s (insertions_of notes) ms x x sits w.second (with_withdrawal time odometer sits.entry)
-          (insertion-withdrawn log spans (holder_in o) (TellsIn o e) sits.own sits.entry sits.is w.second time odometer second stood time_fits odometer_fits) refl;
+      carries = (carried o.origin.recording.unit x y ms h s sits.olders sits.entry sits.newers sits.more_are sits.behind sits.there time odometer (inl (whole, lt))).1;
+      stand = stands-now (sure_insertion o.origin log spans) (IsInsertionIn o log spans e) w.card s (insertions_of notes) ms x x sits w.second (with_withdrawal time odometer sits.entry)
+          (insertion-withdrawn log spans (holder_in o.origin) (TellsIn o e sits.own.accepted.second) sits.own sits.entry sits.is w.second time odometer second stood time_fits odometer_fits) refl;
     }
     by x y ms h sits (inr (same, many)) = record {
       more = sits.olders ++ with_withdrawal time odometer sits.entry ∷ sits.newers;
-      carries = (carried o.recording.unit x y ms h s sits.olders sits.entry sits.newers sits.more_are sits.behind sits.there time odometer (inr (same, many))).1;
-      stand = stands-now (sure_insertion o log spans) (IsInsertionIn o log spans e) w.card s (insertions_of notes) ms x x sits w.second (with_withdrawal time odometer sits.entry)
-          (insertion-withdrawn log spans (holder_in o) (TellsIn o e) sits.own sits.entry sits.is w.second time odometer second stood time_fits odometer_fits) refl;
+      carries = (carried o.origin.recording.unit x y ms h s sits.olders sits.entry sits.newers sits.more_are sits.behind sits.there time odometer (inr (same, many))).1;
+      stand = stands-now (sure_insertion o.origin log spans) (IsInsertionIn o log spans e) w.card s (insertions_of notes) ms x x sits w.second (with_withdrawal time odometer sits.entry)
+          (insertion-withdrawn log spans (holder_in o.origin) (TellsIn o e sits.own.accepted.second) sits.own sits.entry sits.is w.second time odometer second stood time_fits odometer_fits) refl;
     }

@@ -17,7 +17,7 @@ use Rattle.run_rings.specs.Spans.{with_second, AreAllBefore, AreAlike}
 use Rattle.run_recorded.specs.Origin.{Origin}
 use Rattle.run_recorded.specs.Beside.{HaveLeftMore}
 use Rattle.run_ringed.specs.OnCards.{PlacesStay}
-use Rattle.run_ringed.specs.Ringed.{Seating, Ringed, StaysInRings, notes_in}
+use Rattle.run_ringed.specs.Ringed.{Seating, Ringed, StaysInRings, notes_in, since_behind, since_in}
 
 -- when a note was made
 abbrev pub noted_at : Note → ℕ
@@ -34,7 +34,7 @@ pub record RingedBehind (o : Origin) (done : List TraceSecond) (log : RunLog) (n
   pub spans_are : map (λ (s : SpanFrom). s.span) spans ≡ spans_of (went log done).told
   pub before : AreAllBefore next spans
   pub early : AreEarlier next (notes_in log done)
-  pub ringed : Ringed o log spans (notes_in log done) seats d
+  pub ringed : Ringed (since_behind o log done) log spans (notes_in log done) seats d
 
 -- a second with power, as its spans have it: by its number and speed, and whether power began with it
 pub record IsSecond (s : TraceSecond) (before : Before) (t : Told) : Type 0 where
@@ -53,7 +53,7 @@ pub record RingedIn (o : Origin) (done : List TraceSecond) (s : TraceSecond) (be
   pub before : AreAllBefore s.number spans
   pub early : AreEarlier s.number (notes_in began done)
   pub second : IsSecond s (went began done).before t
-  pub ringed : Ringed o log (with_second spans base t) (notes_so_far began done log s front) seats d
+  pub ringed : Ringed (since_in o began done s) log (with_second spans base t) (notes_so_far began done log s front) seats d
 
 -- fewer cards are accepted, or the same
 abbrev pub AreFewer : (seats fewer : Card → Option Seating) → Type 0
@@ -82,7 +82,7 @@ AnActionNotesNothing d = (o : Origin) (done : List TraceSecond) (s : TraceSecond
 -- AN ACTION MORE that notes this, which is carried behind the notes so far
 abbrev pub AnActionIsNoted : (d e : Devices) → Type 0
 AnActionIsNoted d e = (o : Origin) (done : List TraceSecond) (s : TraceSecond) (began : RunLog) (front : List Action) (a : Action) (log : RunLog) (spans : List SpanFrom) (base : ℕ) (t : Told) (seats now : Card → Option Seating) (n : Note) →
-    RingedIn o done s began front log spans base t seats d → NotesMore log (went began done).before s front a (n ∷ []) → Ringed o log (with_second spans base t) (notes_so_far began done log s front ++ n ∷ []) now e →
+    RingedIn o done s began front log spans base t seats d → NotesMore log (went began done).before s front a (n ∷ []) → Ringed (since_in o began done s) log (with_second spans base t) (notes_so_far began done log s front ++ n ∷ []) now e →
     RingedIn o done s began (front ++ a ∷ []) log spans base t now e
 
 -- later lines are of this second, so those before went as they did

@@ -21,7 +21,7 @@ use Rattle.run_rings.specs.Spans.{with_second}
 use Rattle.run_recorded.specs.Origin.{Origin}
 use Rattle.run_recorded.specs.Beside.{HaveLeftMore}
 use Rattle.run_ringed.specs.OnCards.{place_width, IsPlaceOn, PlacesStay, PlaceIsTaken}
-use Rattle.run_ringed.specs.Ringed.{Seating, one_behind, StaysInRings, WritesRing, IsInsertionIn, IsPlaceIn, IsAddedAt, MayBeAdded, IsWithdrawnAt, MayBeWithdrawn}
+use Rattle.run_ringed.specs.Ringed.{Seating, one_behind, StaysInRings, WritesRing, IsInsertionIn, IsPlaceIn, IsAddedAt, MayBeAdded, IsWithdrawnAt, MayBeWithdrawn, since_in}
 use Rattle.run_ringed.specs.SoFar.{RingedBehind, RingedIn, AreFewer, HasMoreBreaks, GoesBehind}
 
 -- lines of the next action are told, and it has begun
@@ -101,7 +101,7 @@ ACardIsAccepted d e = (o : Origin) (done : List TraceSecond) (s : TraceSecond) (
     RingedIn o done s began front log spans base t seats d → GoesOnTo log later s front → (slot : Slot) (card : Card) → refusal (course_behind later (went began done).before s front).slots s.speed (Insert slot card) ≡ None →
     (v : Verdict) → found_in later s.number (In (length front + 1)) slot ≡ v ∷ [] → is_accepting v ≡ true →
     (head : List ℕ) (index : ℕ) → WritesRing (IsAddedAt index head) d e → length head ≡ insertion_ring.width →
-    IsInsertionIn o later (with_second spans base t) e (record { accepted = record { second = s.number; slot = slot; card = card }; withdrawn = None }) head →
+    IsInsertionIn (since_in o began done s) later (with_second spans base t) e (record { accepted = record { second = s.number; slot = slot; card = card }; withdrawn = None }) head →
     ((c : Card) → ((same_card card c ≡ false) × (now c ≡ option_map one_behind (seats c))) ⊎ ((same_card card c ≡ true) × (now c ≡ Some (record { index = index; behind = 0 })))) → HaveLeftMore o d e → PlacesStay o d e → AreFewer now fewer →
     RingedIn o done s began (front ++ Insert slot card ∷ []) later spans base t fewer e
 
@@ -110,5 +110,5 @@ AnAcceptanceIsCut d e = (o : Origin) (done : List TraceSecond) (s : TraceSecond)
     RingedIn o done s began front log spans base t seats d → (slot : Slot) (card : Card) → IsCutIn began log cut done s front (Insert slot card) rest → refusal (course_behind cut (went began done).before s front).slots s.speed (Insert slot card) ≡ None →
     (v : Verdict) → found_in cut s.number (In (length front + 1)) slot ≡ v ∷ [] → is_accepting v ≡ true →
     (head : List ℕ) → WritesRing (MayBeAdded insertion_ring head) d e → length head ≡ insertion_ring.width →
-    IsInsertionIn o cut (with_second spans base t) e (record { accepted = record { second = s.number; slot = slot; card = card }; withdrawn = None }) head → HaveLeftMore o d e → PlacesStay o d e →
+    IsInsertionIn (since_in o began done s) cut (with_second spans base t) e (record { accepted = record { second = s.number; slot = slot; card = card }; withdrawn = None }) head → HaveLeftMore o d e → PlacesStay o d e →
     RingedBehind o (done ++ s ∷ []) cut (suc s.number) (spans_cut spans base cut done s) nobody e

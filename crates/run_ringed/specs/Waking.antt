@@ -16,7 +16,7 @@ use Rattle.run_rings.specs.Spans.{with_second}
 use Rattle.run_recorded.specs.Origin.{Origin}
 use Rattle.run_recorded.specs.Beside.{HaveLeftMore}
 use Rattle.run_ringed.specs.OnCards.{PlacesStay}
-use Rattle.run_ringed.specs.Ringed.{Seating, one_behind, StaysInRings, WritesRing, IsInsertionIn, IsAddedAt, MayBeAdded}
+use Rattle.run_ringed.specs.Ringed.{Seating, one_behind, StaysInRings, WritesRing, IsInsertionIn, IsAddedAt, MayBeAdded, since_in}
 use Rattle.run_ringed.specs.SoFar.{RingedBehind, IsSecond, RingedIn, AreFewer, HasMoreBreaks, GoesBehind}
 use Rattle.run_ringed.specs.Steps.{spans_cut, nobody}
 
@@ -48,7 +48,7 @@ ACardIsAcceptedAnew d e = (o : Origin) (done : List TraceSecond) (s : TraceSecon
     RingedIn o done s began [] log spans base t seats d → (went began done).before.running ≡ false → HasMoreBreaks log later → (slot : Slot) (x : Sitting) → in_slot (went began done).before.slots slot ≡ Some x →
     (v : Verdict) → IsFoundAnew log later s.number slot (v ∷ []) → is_accepting v ≡ true →
     (head : List ℕ) (index : ℕ) → WritesRing (IsAddedAt index head) d e → length head ≡ insertion_ring.width →
-    IsInsertionIn o later (with_second spans base t) e (record { accepted = record { second = s.number; slot = slot; card = x.card }; withdrawn = None }) head →
+    IsInsertionIn (since_in o began done s) later (with_second spans base t) e (record { accepted = record { second = s.number; slot = slot; card = x.card }; withdrawn = None }) head →
     ((c : Card) → ((same_card x.card c ≡ false) × (now c ≡ option_map one_behind (seats c))) ⊎ ((same_card x.card c ≡ true) × (now c ≡ Some (record { index = index; behind = 0 })))) → HaveLeftMore o d e → PlacesStay o d e → AreFewer now fewer →
     RingedIn o done s began [] later spans base t fewer e
 
@@ -59,5 +59,5 @@ AnAcceptanceIsCutAnew d e = (o : Origin) (done : List TraceSecond) (s : TraceSec
     (v : Verdict) → IsFoundAnew log cut s.number slot (v ∷ []) → is_accepting v ≡ true →
     GoesBehind began cut done → has_power (went began done).before s ≡ true → cut_in cut s.number ≡ Some 0 → has_failed_in cut s.number ≡ true →
     (head : List ℕ) → WritesRing (MayBeAdded insertion_ring head) d e → length head ≡ insertion_ring.width →
-    IsInsertionIn o cut (with_second spans base t) e (record { accepted = record { second = s.number; slot = slot; card = x.card }; withdrawn = None }) head → HaveLeftMore o d e → PlacesStay o d e →
+    IsInsertionIn (since_in o began done s) cut (with_second spans base t) e (record { accepted = record { second = s.number; slot = slot; card = x.card }; withdrawn = None }) head → HaveLeftMore o d e → PlacesStay o d e →
     RingedBehind o (done ++ s ∷ []) cut (suc s.number) (spans_cut spans base cut done s) nobody e

@@ -1,5 +1,5 @@
 -- A run's promise goes by the clocks and the breakdowns of the devices as it began, and by nothing else of them.
-use Rattle.std.proofs.Common.{◌≡◌, inl, inr, ⊎_elim, ℕ, List, subst}
+use Rattle.std.proofs.Common.{◌≡◌, inl, inr, ⊎_elim, ℕ, List, subst, ◌⊎◌}
 use Rattle.trace_model.specs.declared.Card.{Card}
 use Rattle.trace_model.specs.declared.Item.{Item}
 use Rattle.run_model.specs.declared.Device.{Device}
@@ -7,7 +7,7 @@ use Rattle.log_model.specs.Causes.{HasCauses}
 use Rattle.message_model.specs.Records.{insertion_ring}
 use Rattle.side_model.specs.Noted.{insertions_of}
 use Rattle.side_model.specs.Rings.{RingShows, IsInsertion, is_sure_insertion}
-use Rattle.safety_model.specs.Recording.{Recording, history_of, lost_of}
+use Rattle.safety_model.specs.Recording.{Recording, history_of, lost_of, told_of}
 use Rattle.safety_model.specs.Unit.{UnitSafe, issued_bytes}
 use Rattle.safety_model.specs.Cards.{CardSafe}
 use Rattle.safety_model.specs.Safe.{Devices, card_of, breakdowns_of, IsVerdict, WasFound}
@@ -16,7 +16,7 @@ use Rattle.unit_model.specs.Image.{recorded}
 use Rattle.run_outcome.specs.declared.outcome.Outcome.{Outcome}
 use Rattle.recorder_with_cards.specs.Ends.{recording_of, EndsTrace}
 use Rattle.recorder_with_cards.specs.Still.{KeepsHolder}
-use Rattle.recorder_with_cards.specs.Sessions.{TellsFirst}
+use Rattle.recorder_with_cards.specs.Sessions.{TellsFirst, HasComeBefore, TellsAtStart}
 use Rattle.recorder_with_cards.specs.KeptAfter.{TellsKept}
 use Rattle.recorder_with_cards.specs.CardEvents.{ShowsItsEvents}
 
@@ -46,6 +46,9 @@ module _ (x a b : List ℕ) (start : ℕ) (items : List Item) (out : Outcome) (p
       over_count = h.shows.over_count;
     };
     first = h.first;
+    insertions = λ dense. subst (λ (k : Card → ℕ). RingShows insertion_ring (is_sure_insertion r.log h.shows.spans (holder_of r)) (λ n e. IsInsertion r.log h.shows.spans (holder_of r)
+        (λ c registration time. IsPrevious r (k c) (card_of now c) registration time × (TellsAtStart r c registration time ⊎ HasComeBefore (told_of r) r.trace c n.accepted.second)) n e) (insertions_of (notes_in r)) r.unit y)
+        (λ i c. cards c i) (h.insertions dense);
   }
 
   pub ends-by : EndsTrace x a b start items out p now → EndsTrace x a b start items out q now

@@ -29,7 +29,7 @@ use Rattle.log_model.specs.declared.lines.Break.TheVariants.{Cut, Tear}
 use Rattle.run_outcome.specs.declared.outcome.Outcome.{Outcome}
 use Rattle.run_acts.specs.Stays.{ShowsStays}
 use Rattle.recorder_with_cards.specs.Ends.{recording_of, EndsTrace}
-use Rattle.recorder_with_cards.specs.Sessions.{TellsFirst}
+use Rattle.recorder_with_cards.specs.Sessions.{TellsFirst, HasComeBefore, TellsAtStart}
 use Rattle.recorder_with_cards.specs.CardEvents.{ShowsItsEvents}
 use Rattle.recorder_with_cards.proofs.KeptAfter.{more-found}
 use Rattle.tacho.specs.Anew.{EndsAnew, began_at}
@@ -140,6 +140,9 @@ module _ (U V : State) (is : IsRead U V) where
         over_count = h.shows.over_count;
       };
       first = h.first;
+      insertions = λ dense. subst (λ (k : Card → State). RingShows insertion_ring (is_sure_insertion r.log h.shows.spans (holder_of r)) (λ n e. IsInsertion r.log h.shows.spans (holder_of r)
+          (λ c registration time. IsPrevious r (card_of p c).clock (k c) registration time × (TellsAtStart r c registration time ⊎ HasComeBefore (told_of r) r.trace c n.accepted.second)) n e) (insertions_of (notes_in r)) r.unit y)
+          (λ i c. same-card c i) (h.insertions dense);
     }
 
     pub ends-read : EndsTrace x a b start items out p (devices U Y Z) → EndsTrace x a b start items out p (devices V Y Z)
