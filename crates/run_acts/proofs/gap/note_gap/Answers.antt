@@ -51,6 +51,7 @@ use Rattle.run_outcome.specs.Lines.{Listed}
 use Rattle.unit_memory.specs.declared.format.Identity.{Identity}
 use Rattle.run_acts.specs.CardNotes.{NotesOn, NotesOnCards, on_seat, gap_on}
 use Rattle.run_acts.proofs.CardNotes.{on-none, on-unbegun, both-noted, first-noted}
+use Rattle.run_keeping.proofs.Calm.{calm-of-unit, calm-same, calm-then}
 use Rattle.run_acts.proofs.gap.note_gap.Goals as goal
 
 pub note_in-requires-clause-going : goal.note_in-requires-clause-going
@@ -491,3 +492,17 @@ returns-clause-card_events g c =
     λ card. unit-apart card (g.M.Medium.state c.args.unit.now) V (g.C.Chip.state c.args.card_a.now) (g.D.Chip.state c.args.card_b.now)
     (λ X. NotesOn failed (session_of run.keeper.cabin.cards card) (session_of new.keeper.cabin.cards card) (gap_on (gap_of c.args.kept run.next) run.keeper.memory.registration) X (card_of e card))
     (subst (λ (es : List CardEvent). NotesOn failed (session_of run.keeper.cabin.cards card) (session_of new.keeper.cabin.cards card) es (card_of d card) (card_of e card)) (gap-there run (gap_of c.args.kept run.next) c.in-Some.span c.card_gap-event.result there told) (noted card))
+
+-- ---- where no tear of a failed call is told no card has broken down
+
+pub returns-in_default-clause-calm : goal.returns-in_default-clause-calm
+returns-in_default-clause-calm g c = calm-same (devices (g.M.Medium.state c.args.unit.now) (g.C.Chip.state c.args.card_a.now) (g.D.Chip.state c.args.card_b.now))
+
+pub returns-in_err-note_event-clause-calm : goal.returns-in_err-note_event-clause-calm
+returns-in_err-note_event-clause-calm g c = calm-of-unit (g.M.Medium.state c.args.unit.now) (g.M.Medium.state c.note_event.new.unit) (g.C.Chip.state c.args.card_a.now) (g.D.Chip.state c.args.card_b.now)
+
+pub returns-in_err-note_in-clause-calm : goal.returns-in_err-note_in-clause-calm
+returns-in_err-note_in-clause-calm g c = calm-then (devices (g.M.Medium.state c.args.unit.now) (g.C.Chip.state c.args.card_a.now) (g.D.Chip.state c.args.card_b.now)) (devices (g.M.Medium.state c.note_event.new.unit) (g.C.Chip.state c.args.card_a.now) (g.D.Chip.state c.args.card_b.now)) (devices (g.M.Medium.state c.note_in.new.unit) (g.C.Chip.state c.note_in.new.card_a) (g.D.Chip.state c.note_in.new.card_b)) (calm-of-unit (g.M.Medium.state c.args.unit.now) (g.M.Medium.state c.note_event.new.unit) (g.C.Chip.state c.args.card_a.now) (g.D.Chip.state c.args.card_b.now)) c.note_in.ensures.calm
+
+pub returns-clause-calm : goal.returns-clause-calm
+returns-clause-calm g c = calm-then (devices (g.M.Medium.state c.args.unit.now) (g.C.Chip.state c.args.card_a.now) (g.D.Chip.state c.args.card_b.now)) (devices (g.M.Medium.state c.note_event.new.unit) (g.C.Chip.state c.args.card_a.now) (g.D.Chip.state c.args.card_b.now)) (devices (g.M.Medium.state c.note_in-2.new.unit) (g.C.Chip.state c.note_in-2.new.card_a) (g.D.Chip.state c.note_in-2.new.card_b)) (calm-of-unit (g.M.Medium.state c.args.unit.now) (g.M.Medium.state c.note_event.new.unit) (g.C.Chip.state c.args.card_a.now) (g.D.Chip.state c.args.card_b.now)) (calm-then (devices (g.M.Medium.state c.note_event.new.unit) (g.C.Chip.state c.args.card_a.now) (g.D.Chip.state c.args.card_b.now)) (devices (g.M.Medium.state c.note_in.new.unit) (g.C.Chip.state c.note_in.new.card_a) (g.D.Chip.state c.note_in.new.card_b)) (devices (g.M.Medium.state c.note_in-2.new.unit) (g.C.Chip.state c.note_in-2.new.card_a) (g.D.Chip.state c.note_in-2.new.card_b)) c.note_in.ensures.calm c.note_in-2.ensures.calm)

@@ -233,3 +233,8 @@ returns-clause-later g c = c.keep_all.ensures.later
 
 pub returns-clause-keeps : goal.returns-clause-keeps
 returns-clause-keeps g c = record { unit = c.keep_all.ensures.unit_keeps; card_a = c.keep_all.ensures.a_keeps; card_b = c.keep_all.ensures.b_keeps }
+
+-- ---- where no tear of a failed call is told no card has broken down
+
+pub returns-clause-calm : goal.returns-clause-calm
+returns-clause-calm g c = c.keep_all.ensures.calm
