@@ -17,6 +17,7 @@ use Rattle.run_acts.specs.Acting.{pulled_breaks}
 use Rattle.run_acts.proofs.Uncut.{more-uncut, settled-uncut, withdrawn-uncut, pulled-uncut, placed-uncut}
 use Rattle.recorder_with_cards.specs.Accepting.{IsAccepted, IsAnew, IsInserted}
 use Rattle.recorder_with_cards.specs.Acting.{IsDone}
+use Rattle.run_keeping.specs.Later.{failed_tears}
 
 -- ---- a card that enters
 
@@ -60,3 +61,13 @@ done-uncut (Place slot ending country region) at speed failed old new before aft
 pub off-uncut : (lit : Bool) (second begun : ℕ) → failed_cuts (off_cut lit second begun) ≡ 0
 off-uncut true second begun = refl
 off-uncut false second begun = refl
+
+-- ---- no tear that a failed call made
+
+pub off-calm : (lit : Bool) (second begun : ℕ) → failed_tears (off_cut lit second begun) ≡ 0
+off-calm true second begun = refl
+off-calm false second begun = refl
+
+pub pulled-calm : (card : Option Card) (slot : Slot) (at : Moment) → failed_tears (pulled_breaks card slot at) ≡ 0
+pulled-calm None slot at = refl
+pulled-calm (Some card) slot at = refl

@@ -4,7 +4,7 @@ ghost use Rattle.tach_media.specs.Medium.{HasCause};
 ghost use Rattle.log_model.specs.Slots.{other_slot};
 ghost use Rattle.slot_machine.specs.Calls.{seat_in, card_in};
 ghost use Rattle.run_acts.specs.declared.run.Power.TheVariants.{Lit};
-ghost use Rattle.run_keeping.specs.Later.{IsLater, AreLater};
+ghost use Rattle.run_keeping.specs.Later.{IsLater, AreLater, AreCalm, IsCalm};
 ghost use Rattle.run_acts.specs.Going.{first_second, end_of_seconds, IsHeld, IsLit};
 ghost use Rattle.run_acts.specs.Room.{falls_of, bare_count, Takes};
 ghost use Rattle.recorder_with_cards.specs.Accepting.{chip_a_of, chip_b_of, a_of, b_of, IsAccepted, IsEnteringNow, IsAnew, IsBare};
@@ -64,6 +64,7 @@ pub(crate) fn accept_here<M: Medium, C: Chip, D: Chip>(
     ensures clock_card { (C.state card.old).clock ≤ (C.state card.new).clock }
     ensures cause { HasCause (M.state unit.old) (M.state unit.new) (is_err result) }
     ensures later { IsLater (C.state card.old) (C.state card.new) }
+    ensures calm { IsCalm outcome.old.breaks.items outcome.new.breaks.items (C.state card.old) (C.state card.new) }
 {
     let mut noted = run.noted;
     let answer = accept(
@@ -121,6 +122,7 @@ pub(crate) fn accept_in<M: Medium, C: Chip, D: Chip>(
     ensures clock_b { (D.state card_b.old).clock ≤ (D.state card_b.new).clock }
     ensures cause { HasCause (M.state unit.old) (M.state unit.new) (is_err result) }
     ensures later { AreLater (devices (M.state unit.old) (C.state card_a.old) (D.state card_b.old)) (devices (M.state unit.new) (C.state card_a.new) (D.state card_b.new)) }
+    ensures calm { AreCalm outcome.old.breaks.items outcome.new.breaks.items (devices (M.state unit.old) (C.state card_a.old) (D.state card_b.old)) (devices (M.state unit.new) (C.state card_a.new) (D.state card_b.new)) }
 {
     let odometer = run.odometer_now();
     match card {
@@ -191,6 +193,7 @@ pub(crate) fn accept_anew<M: Medium, C: Chip, D: Chip>(
     ensures clock_b { (D.state card_b.old).clock ≤ (D.state card_b.new).clock }
     ensures cause { HasCause (M.state unit.old) (M.state unit.new) (is_err result) }
     ensures later { AreLater (devices (M.state unit.old) (C.state card_a.old) (D.state card_b.old)) (devices (M.state unit.new) (C.state card_a.new) (D.state card_b.new)) }
+    ensures calm { AreCalm outcome.old.breaks.items outcome.new.breaks.items (devices (M.state unit.old) (C.state card_a.old) (D.state card_b.old)) (devices (M.state unit.new) (C.state card_a.new) (D.state card_b.new)) }
 {
     let Some(card) = run.keeper.cabin.slots.card(slot) else {
         return Ok(());

@@ -6,7 +6,7 @@ ghost use Rattle.log_model.specs.Slots.{refusal};
 ghost use Rattle.slot_machine.specs.Calls.{logged};
 ghost use Rattle.run_keeping.specs.Keeping.{with_lines};
 ghost use Rattle.run_keeping.specs.Books.{HaveTime};
-ghost use Rattle.run_keeping.specs.Later.{AreLater};
+ghost use Rattle.run_keeping.specs.Later.{AreLater, AreCalm};
 ghost use Rattle.run_outcome.specs.Broken.{BreaksDown};
 ghost use Rattle.run_rule.specs.Between.{devices};
 ghost use Rattle.run_acts.specs.declared.run.Power.TheVariants.{Lit};
@@ -63,6 +63,7 @@ pub(crate) fn act_all<M: Medium, C: Chip, D: Chip>(
     ensures still { is_lit run.old.power ≡ false → (is_lit run.new.power ≡ false) × (unit.new ≡ unit.old) × (card_a.new ≡ card_a.old) × (card_b.new ≡ card_b.old) }
     ensures time { HaveTime (devices (M.state unit.new) (C.state card_a.new) (D.state card_b.new)) → HaveTime (devices (M.state unit.old) (C.state card_a.old) (D.state card_b.old)) }
     ensures later { AreLater (devices (M.state unit.old) (C.state card_a.old) (D.state card_b.old)) (devices (M.state unit.new) (C.state card_a.new) (D.state card_b.new)) }
+    ensures calm { AreCalm outcome.old.breaks.items outcome.new.breaks.items (devices (M.state unit.old) (C.state card_a.old) (D.state card_b.old)) (devices (M.state unit.new) (C.state card_a.new) (D.state card_b.new)) }
     ensures going { IsWithin run.new (M.state unit.new) (C.card card_a.new) (D.card card_b.new) (C.state card_a.new) (D.state card_b.new) }
     ensures next { run.new.next ≡ run.old.next }
     ensures unfound { run.new.unfound ≡ run.old.unfound }
@@ -106,6 +107,7 @@ fn act_item<M: Medium, C: Chip, D: Chip>(
     ensures still { is_lit run.old.power ≡ false → (is_lit run.new.power ≡ false) × (unit.new ≡ unit.old) × (card_a.new ≡ card_a.old) × (card_b.new ≡ card_b.old) }
     ensures time { HaveTime (devices (M.state unit.new) (C.state card_a.new) (D.state card_b.new)) → HaveTime (devices (M.state unit.old) (C.state card_a.old) (D.state card_b.old)) }
     ensures later { AreLater (devices (M.state unit.old) (C.state card_a.old) (D.state card_b.old)) (devices (M.state unit.new) (C.state card_a.new) (D.state card_b.new)) }
+    ensures calm { AreCalm outcome.old.breaks.items outcome.new.breaks.items (devices (M.state unit.old) (C.state card_a.old) (D.state card_b.old)) (devices (M.state unit.new) (C.state card_a.new) (D.state card_b.new)) }
     ensures going { IsWithin run.new (M.state unit.new) (C.card card_a.new) (D.card card_b.new) (C.state card_a.new) (D.state card_b.new) }
     ensures dark { has_power ≡ false → is_lit run.new.power ≡ false }
     ensures next { run.new.next ≡ run.old.next }
@@ -144,6 +146,7 @@ fn act<M: Medium, C: Chip, D: Chip>(
     ensures still { (has_power ≡ true → is_lit run.old.power ≡ true → CallsNone (refusal (logged run.old.keeper.cabin.slots.seats) speed action) action) → (unit.new ≡ unit.old) × (card_a.new ≡ card_a.old) × (card_b.new ≡ card_b.old) }
     ensures time { HaveTime (devices (M.state unit.new) (C.state card_a.new) (D.state card_b.new)) → HaveTime (devices (M.state unit.old) (C.state card_a.old) (D.state card_b.old)) }
     ensures later { AreLater (devices (M.state unit.old) (C.state card_a.old) (D.state card_b.old)) (devices (M.state unit.new) (C.state card_a.new) (D.state card_b.new)) }
+    ensures calm { AreCalm outcome.old.breaks.items outcome.new.breaks.items (devices (M.state unit.old) (C.state card_a.old) (D.state card_b.old)) (devices (M.state unit.new) (C.state card_a.new) (D.state card_b.new)) }
     ensures refused { outcome.new.refused ≡ with_lines (refusal_lines (refused_by has_power (is_lit run.old.power) run.old.keeper.cabin.slots.seats speed action) run.old.next) outcome.old.refused }
     ensures none { (refused_by has_power (is_lit run.old.power) run.old.keeper.cabin.slots.seats speed action ≡ None → ⊥) → run.new ≡ run.old }
     ensures lost { has_power ≡ true → is_lit run.old.power ≡ false → (run.new ≡ run.old) × (outcome.new ≡ outcome.old) }
@@ -186,6 +189,7 @@ fn act_lit<M: Medium, C: Chip, D: Chip>(
     ensures still { CallsNone (refusal (logged run.old.keeper.cabin.slots.seats) speed action) action → (unit.new ≡ unit.old) × (card_a.new ≡ card_a.old) × (card_b.new ≡ card_b.old) }
     ensures time { HaveTime (devices (M.state unit.new) (C.state card_a.new) (D.state card_b.new)) → HaveTime (devices (M.state unit.old) (C.state card_a.old) (D.state card_b.old)) }
     ensures later { AreLater (devices (M.state unit.old) (C.state card_a.old) (D.state card_b.old)) (devices (M.state unit.new) (C.state card_a.new) (D.state card_b.new)) }
+    ensures calm { AreCalm outcome.old.breaks.items outcome.new.breaks.items (devices (M.state unit.old) (C.state card_a.old) (D.state card_b.old)) (devices (M.state unit.new) (C.state card_a.new) (D.state card_b.new)) }
     ensures refused { outcome.new.refused ≡ with_lines (refusal_lines (refusal (logged run.old.keeper.cabin.slots.seats) speed action) run.old.next) outcome.old.refused }
     ensures none { (refusal (logged run.old.keeper.cabin.slots.seats) speed action ≡ None → ⊥) → run.new ≡ run.old }
     ensures selected { IsSelected action run.old run.new }
@@ -243,6 +247,7 @@ fn carry_out<M: Medium, C: Chip, D: Chip>(
     ensures still { CallsNone None action → (unit.new ≡ unit.old) × (card_a.new ≡ card_a.old) × (card_b.new ≡ card_b.old) }
     ensures time { HaveTime (devices (M.state unit.new) (C.state card_a.new) (D.state card_b.new)) → HaveTime (devices (M.state unit.old) (C.state card_a.old) (D.state card_b.old)) }
     ensures later { AreLater (devices (M.state unit.old) (C.state card_a.old) (D.state card_b.old)) (devices (M.state unit.new) (C.state card_a.new) (D.state card_b.new)) }
+    ensures calm { AreCalm outcome.old.breaks.items outcome.new.breaks.items (devices (M.state unit.old) (C.state card_a.old) (D.state card_b.old)) (devices (M.state unit.new) (C.state card_a.new) (D.state card_b.new)) }
     ensures selected { IsSelected action run.old run.new }
     ensures fine { IsFine action (is_err result) }
     ensures stays { StaysIn run.old run.new }

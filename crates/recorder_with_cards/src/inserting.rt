@@ -4,7 +4,7 @@ ghost use Rattle.tach_media.specs.Medium.{HasCause};
 ghost use Rattle.log_model.specs.Slots.{other_slot};
 ghost use Rattle.slot_machine.specs.Calls.{seat_in, is_card};
 ghost use Rattle.run_acts.specs.declared.run.Power.TheVariants.{Lit};
-ghost use Rattle.run_keeping.specs.Later.{AreLater};
+ghost use Rattle.run_keeping.specs.Later.{AreLater, AreCalm};
 ghost use Rattle.run_acts.specs.Going.{first_second, end_of_seconds, IsHeld, IsLit};
 ghost use Rattle.run_acts.specs.Room.{falls_of, Takes};
 ghost use Rattle.recorder_with_cards.specs.Accepting.{IsInserted};
@@ -71,6 +71,7 @@ pub(crate) fn insert<M: Medium, C: Chip, D: Chip>(
     ensures clock_b { (D.state card_b.old).clock ≤ (D.state card_b.new).clock }
     ensures cause { HasCause (M.state unit.old) (M.state unit.new) (is_err result) }
     ensures later { AreLater (devices (M.state unit.old) (C.state card_a.old) (D.state card_b.old)) (devices (M.state unit.new) (C.state card_a.new) (D.state card_b.new)) }
+    ensures calm { AreCalm outcome.old.breaks.items outcome.new.breaks.items (devices (M.state unit.old) (C.state card_a.old) (D.state card_b.old)) (devices (M.state unit.new) (C.state card_a.new) (D.state card_b.new)) }
 {
     run.keeper.cabin.put_in(slot, card);
     settle(run, at, unit, card_a, card_b, outcome)?;

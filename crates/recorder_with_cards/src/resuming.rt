@@ -4,7 +4,7 @@ ghost use Rattle.tach_media.specs.Medium.{HasCause};
 ghost use Rattle.unit_model.specs.Image.{IsUnit};
 ghost use Rattle.run_opening.specs.Units.{IsLoaded};
 ghost use Rattle.run_acts.specs.declared.run.Power.TheVariants.{Lit};
-ghost use Rattle.run_keeping.specs.Later.{AreLater};
+ghost use Rattle.run_keeping.specs.Later.{AreLater, AreCalm};
 ghost use Rattle.run_outcome.specs.Broken.{failed_cuts, BreaksDown};
 ghost use Rattle.run_acts.specs.Power.{is_lit, has_power, minute_over};
 ghost use Rattle.run_acts.specs.Going.{end_of_seconds, IsHeld, IsLit, IsAt, IsGoing, IsWithin, IsFoundLater};
@@ -61,6 +61,7 @@ pub(crate) fn begin_second<M: Medium, C: Chip, D: Chip>(
     ensures clock_b { (D.state card_b.old).clock ≤ (D.state card_b.new).clock }
     ensures refused { outcome.new.refused ≡ outcome.old.refused }
     ensures later { AreLater (devices (M.state unit.old) (C.state card_a.old) (D.state card_b.old)) (devices (M.state unit.new) (C.state card_a.new) (D.state card_b.new)) }
+    ensures calm { AreCalm outcome.old.breaks.items outcome.new.breaks.items (devices (M.state unit.old) (C.state card_a.old) (D.state card_b.old)) (devices (M.state unit.new) (C.state card_a.new) (D.state card_b.new)) }
     ensures broke { BreaksDown outcome.old.breaks.items outcome.new.breaks.items (M.state unit.old) (M.state unit.new) }
 {
     if !run.has_power() {
@@ -105,6 +106,7 @@ fn power_on<M: Medium, C: Chip, D: Chip>(
     ensures clock_b { (D.state card_b.old).clock ≤ (D.state card_b.new).clock }
     ensures refused { outcome.new.refused ≡ outcome.old.refused }
     ensures later { AreLater (devices (M.state unit.old) (C.state card_a.old) (D.state card_b.old)) (devices (M.state unit.new) (C.state card_a.new) (D.state card_b.new)) }
+    ensures calm { AreCalm outcome.old.breaks.items outcome.new.breaks.items (devices (M.state unit.old) (C.state card_a.old) (D.state card_b.old)) (devices (M.state unit.new) (C.state card_a.new) (D.state card_b.new)) }
     ensures broke { BreaksDown outcome.old.breaks.items outcome.new.breaks.items (M.state unit.old) (M.state unit.new) }
 {
     match load(unit) {
@@ -150,6 +152,7 @@ fn found<M: Medium, C: Chip, D: Chip>(
     ensures clock_b { (D.state card_b.old).clock ≤ (D.state card_b.new).clock }
     ensures refused { outcome.new.refused ≡ outcome.old.refused }
     ensures later { AreLater (devices (M.state unit.old) (C.state card_a.old) (D.state card_b.old)) (devices (M.state unit.new) (C.state card_a.new) (D.state card_b.new)) }
+    ensures calm { AreCalm outcome.old.breaks.items outcome.new.breaks.items (devices (M.state unit.old) (C.state card_a.old) (D.state card_b.old)) (devices (M.state unit.new) (C.state card_a.new) (D.state card_b.new)) }
     ensures broke { BreaksDown outcome.old.breaks.items outcome.new.breaks.items (M.state unit.old) (M.state unit.new) }
 {
     let kept = journal.last_kept();
@@ -198,6 +201,7 @@ fn resume<M: Medium, C: Chip, D: Chip>(
     ensures refused { outcome.new.refused ≡ outcome.old.refused }
     ensures cause { HasCause (M.state unit.old) (M.state unit.new) (is_err result) }
     ensures later { AreLater (devices (M.state unit.old) (C.state card_a.old) (D.state card_b.old)) (devices (M.state unit.new) (C.state card_a.new) (D.state card_b.new)) }
+    ensures calm { AreCalm outcome.old.breaks.items outcome.new.breaks.items (devices (M.state unit.old) (C.state card_a.old) (D.state card_b.old)) (devices (M.state unit.new) (C.state card_a.new) (D.state card_b.new)) }
     ensures uncut { failed_cuts outcome.new.breaks.items ≡ failed_cuts outcome.old.breaks.items }
 {
     let kept = journal.last_kept();

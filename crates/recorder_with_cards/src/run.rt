@@ -8,9 +8,9 @@ ghost use Rattle.unit_model.specs.Image.{IsUnit};
 ghost use Rattle.run_outcome.specs.Room.{off_count, IsReserved};
 ghost use Rattle.run_rule.specs.Between.{devices};
 ghost use Rattle.run_keeping.specs.Books.{HaveTime};
-ghost use Rattle.run_keeping.specs.Later.{AreLater};
+ghost use Rattle.run_keeping.specs.Later.{AreLater, AreCalm};
 ghost use Rattle.run_acts.specs.Recording.{log_of};
-ghost use Rattle.log_model.specs.Causes.{cuts};
+ghost use Rattle.log_model.specs.Causes.{cuts, tears};
 ghost use Rattle.tach_media.specs.Medium.{HasBroken};
 ghost use Rattle.run_outcome.specs.Broken.{BreaksDown};
 ghost use Rattle.run_acts.specs.Going.{largest_number, end_of_seconds, IsGoing};
@@ -62,6 +62,8 @@ pub fn run_trace<U: Medium, C: Chip>(
     ensures broke { HasBroken (U.state unit.old) (U.state unit.new) (length (cuts true (log_of outcome.new))) }
     // And each breakdown has its cut: where no failed call has cut the power of a run that is recorded, the unit has not broken down.
     ensures calm { OnOk result (cuts true (log_of outcome.new) ≡ [] → (U.state unit.new).breakdowns ≡ (U.state unit.old).breakdowns) }
+    // The same of the cards: where no failed call has torn one out, neither has broken down.
+    ensures still { OnOk result (tears true (log_of outcome.new) ≡ [] → ((C.state card_a.new).breakdowns ≡ (C.state card_a.old).breakdowns) × ((C.state card_b.new).breakdowns ≡ (C.state card_b.old).breakdowns)) }
 {
     let opened = judge(unit, card_a, card_b, trace.start)?;
     let mut run = Run::new(trace.start, opened);
@@ -118,6 +120,7 @@ fn go_on<M: Medium, C: Chip, D: Chip>(
     ensures cards { length (actions_in (between from to items.now)) ≡ to - from → CardsItem result item (actions_in (between from to items.now)) run.old run.new outcome.old outcome.new (devices (M.state unit.old) (C.state card_a.old) (D.state card_b.old)) (devices (M.state unit.new) (C.state card_a.new) (D.state card_b.new)) }
     ensures time { HaveTime (devices (M.state unit.new) (C.state card_a.new) (D.state card_b.new)) → HaveTime (devices (M.state unit.old) (C.state card_a.old) (D.state card_b.old)) }
     ensures later { AreLater (devices (M.state unit.old) (C.state card_a.old) (D.state card_b.old)) (devices (M.state unit.new) (C.state card_a.new) (D.state card_b.new)) }
+    ensures calm { AreCalm outcome.old.breaks.items outcome.new.breaks.items (devices (M.state unit.old) (C.state card_a.old) (D.state card_b.old)) (devices (M.state unit.new) (C.state card_a.new) (D.state card_b.new)) }
     ensures gone { HasGone result (item_seconds item) run.old run.new outcome.new (M.state unit.new) (C.card card_a.new) (D.card card_b.new) (C.state card_a.new) (D.state card_b.new) }
     ensures idle { OnOk result (has_seconds item ≡ false → (run.new ≡ run.old) × (outcome.new ≡ outcome.old)) }
     ensures room { (left offs insertions actions : ℕ) → HasRoom run.old outcome.old (item_seconds item + left) (off_count item + offs) (insertions_in from to items.now + insertions) (to - from + actions) → OnOk result (has_seconds item ≡ true → HasRoom run.new outcome.new left offs insertions actions) }

@@ -10,7 +10,7 @@ ghost use Rattle.unit_model.specs.Image.{IsUnit};
 ghost use Rattle.slot_machine.specs.Calls.{seat_in, card_in};
 ghost use Rattle.log_model.specs.Log.{In};
 ghost use Rattle.unit_notes.specs.Journal.{LeavesJournal};
-ghost use Rattle.run_keeping.specs.Later.{AreLater};
+ghost use Rattle.run_keeping.specs.Later.{AreLater, AreCalm};
 ghost use Rattle.run_rule.specs.Between.{devices};
 ghost use Rattle.run_acts.specs.NotedEvents.{NotesEvents};
 ghost use Rattle.run_rings.specs.Same.{LeavesRings};
@@ -78,6 +78,7 @@ pub fn note_gap<M: Medium, C: Chip, D: Chip>(
     ensures clock_a { (C.state card_a.old).clock ≤ (C.state card_a.new).clock }
     ensures clock_b { (D.state card_b.old).clock ≤ (D.state card_b.new).clock }
     ensures later { AreLater (devices (M.state unit.old) (C.state card_a.old) (D.state card_b.old)) (devices (M.state unit.new) (C.state card_a.new) (D.state card_b.new)) }
+    ensures calm { AreCalm breaks.old.items breaks.new.items (devices (M.state unit.old) (C.state card_a.old) (D.state card_b.old)) (devices (M.state unit.new) (C.state card_a.new) (D.state card_b.new)) }
 {
     let Some(span) = power_gap(kept, run.next) else {
         return Ok(());
@@ -122,6 +123,7 @@ fn note_in<M: Medium, C: Chip, D: Chip>(
     ensures clock_a { (C.state card_a.old).clock ≤ (C.state card_a.new).clock }
     ensures clock_b { (D.state card_b.old).clock ≤ (D.state card_b.new).clock }
     ensures later { AreLater (devices (M.state unit.old) (C.state card_a.old) (D.state card_b.old)) (devices (M.state unit.new) (C.state card_a.new) (D.state card_b.new)) }
+    ensures calm { AreCalm breaks.old.items breaks.new.items (devices (M.state unit.old) (C.state card_a.old) (D.state card_b.old)) (devices (M.state unit.new) (C.state card_a.new) (D.state card_b.new)) }
 {
     let Some(card) = run.keeper.cabin.slots.card(slot) else {
         return Ok(());

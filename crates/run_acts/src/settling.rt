@@ -11,7 +11,7 @@ ghost use Rattle.slot_machine.specs.Calls.{seat_in};
 ghost use Rattle.minute_model.specs.declared.Minute.{Minute};
 ghost use Rattle.minute_model.specs.Span.{Span, settled, decided_in};
 ghost use Rattle.minute_rules.specs.Kept.{StandsFor};
-ghost use Rattle.run_keeping.specs.Later.{AreLater};
+ghost use Rattle.run_keeping.specs.Later.{AreLater, AreCalm};
 ghost use Rattle.run_rule.specs.Between.{devices};
 ghost use Rattle.run_keeping.specs.Minutes.{Reach, IsReach};
 ghost use Rattle.run_keeping.specs.Decided.{BooksAll};
@@ -79,6 +79,7 @@ pub fn settle<M: Medium, C: Chip, D: Chip>(
     ensures a_broken { HasBroken (C.state card_a.old) (C.state card_a.new) (tears_of run.old.keeper.cabin.cards.a.accepted - tears_of run.new.keeper.cabin.cards.a.accepted) }
     ensures b_broken { HasBroken (D.state card_b.old) (D.state card_b.new) (tears_of run.old.keeper.cabin.cards.b.accepted - tears_of run.new.keeper.cabin.cards.b.accepted) }
     ensures later { AreLater (devices (M.state unit.old) (C.state card_a.old) (D.state card_b.old)) (devices (M.state unit.new) (C.state card_a.new) (D.state card_b.new)) }
+    ensures calm { AreCalm outcome.old.breaks.items outcome.new.breaks.items (devices (M.state unit.old) (C.state card_a.old) (D.state card_b.old)) (devices (M.state unit.new) (C.state card_a.new) (D.state card_b.new)) }
 {
     let decided = run.minutes.settle();
     run.keeper.keep_all(

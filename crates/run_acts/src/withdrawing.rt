@@ -19,7 +19,7 @@ ghost use Rattle.run_acts.specs.Room.{falls_of, Takes};
 ghost use Rattle.minute_model.specs.declared.Minute.{Minute};
 ghost use Rattle.minute_model.specs.Span.{Span, settled, decided_in};
 ghost use Rattle.minute_rules.specs.Kept.{StandsFor};
-ghost use Rattle.run_keeping.specs.Later.{IsLater, AreLater};
+ghost use Rattle.run_keeping.specs.Later.{IsLater, AreLater, AreCalm, IsCalm};
 ghost use Rattle.run_rule.specs.Between.{devices};
 ghost use Rattle.run_keeping.specs.Minutes.{Told, Reach, IsReach};
 ghost use Rattle.run_acts.specs.Stays.{ClosesOnCard};
@@ -97,6 +97,7 @@ pub fn withdraw<M: Medium, C: Chip, D: Chip>(
     ensures clock_a { (C.state card_a.old).clock ≤ (C.state card_a.new).clock }
     ensures clock_b { (D.state card_b.old).clock ≤ (D.state card_b.new).clock }
     ensures later { AreLater (devices (M.state unit.old) (C.state card_a.old) (D.state card_b.old)) (devices (M.state unit.new) (C.state card_a.new) (D.state card_b.new)) }
+    ensures calm { AreCalm outcome.old.breaks.items outcome.new.breaks.items (devices (M.state unit.old) (C.state card_a.old) (D.state card_b.old)) (devices (M.state unit.new) (C.state card_a.new) (D.state card_b.new)) }
 {
     let Some(card) = run.keeper.cabin.slots.card(slot) else {
         return Ok(());
@@ -145,6 +146,7 @@ fn close<M: Medium, C: Chip>(
     ensures clock_card { (C.state card.old).clock ≤ (C.state card.new).clock }
     ensures cause { HasCause (M.state unit.old) (M.state unit.new) (is_err result) }
     ensures later { IsLater (C.state card.old) (C.state card.new) }
+    ensures calm { IsCalm breaks.old.items breaks.new.items (C.state card.old) (C.state card.new) }
 {
     let selected = run.minutes.selected(slot);
     let sizes = run.keeper.cabin.cards.of(which).sizes;

@@ -9,7 +9,7 @@ ghost use Rattle.log_model.specs.Slots.{other_slot};
 ghost use Rattle.run_crew.specs.Cards.{known_of, session_of};
 ghost use Rattle.run_crew.specs.Cabin.{Stands};
 ghost use Rattle.run_keeping.specs.Keeping.{UnitReady, CardReady, HasItsRow};
-ghost use Rattle.run_keeping.specs.Later.{IsLater};
+ghost use Rattle.run_keeping.specs.Later.{IsLater, IsCalm};
 ghost use Rattle.card_layout.specs.declared.files.TheConstants.{LARGEST_IMAGE};
 ghost use Rattle.card_image.specs.Own.{own_sizes};
 ghost use Rattle.card_judge.specs.Judged.{TellsSizes};
@@ -128,6 +128,7 @@ fn accept_by<M: Medium, C: Chip, D: Chip>(
     ensures more { (C.state card.old).breakdowns ≤ (C.state card.new).breakdowns }
     ensures in_time { IsEarly entering (C.state card.old) (C.state card.new) }
     ensures later { IsLater (C.state card.old) (C.state card.new) }
+    ensures calm { IsCalm outcome.old.breaks.items outcome.new.breaks.items (C.state card.old) (C.state card.new) }
 {
     let registration = keeper.memory.identity().registration;
     let now = TimeReal(entering.at.second);
@@ -206,6 +207,7 @@ pub fn accept<M: Medium, C: Chip, D: Chip>(
     ensures more { (C.state card.old).breakdowns ≤ (C.state card.new).breakdowns }
     ensures in_time { WasInTime entering (C.state card.old) (C.state card.new) }
     ensures later { IsLater (C.state card.old) (C.state card.new) }
+    ensures calm { IsCalm outcome.old.breaks.items outcome.new.breaks.items (C.state card.old) (C.state card.new) }
 {
     let Ok(sizes) = wake(card) else {
         keeper.cabin.measure(entering.which, Err(UNTOLD));

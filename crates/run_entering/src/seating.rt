@@ -11,7 +11,7 @@ ghost use Rattle.log_model.specs.Slots.{other_slot};
 ghost use Rattle.run_crew.specs.Cards.{known_of, session_of};
 ghost use Rattle.run_crew.specs.Cabin.{Stands};
 ghost use Rattle.run_keeping.specs.Keeping.{UnitReady, CardReady, HasItsRow};
-ghost use Rattle.run_keeping.specs.Later.{IsLater};
+ghost use Rattle.run_keeping.specs.Later.{IsLater, IsCalm};
 ghost use Rattle.run_entering.specs.Entering.{taken_as, most_owed};
 ghost use Rattle.card_session.specs.Sessions.{IsValue};
 ghost use Rattle.run_told.specs.Told.{arranged};
@@ -117,6 +117,7 @@ fn note_moving<M: Medium, C: Chip, D: Chip>(
     ensures size { (C.state card.new).size ≡ (C.state card.old).size }
     ensures more { (C.state card.old).breakdowns ≤ (C.state card.new).breakdowns }
     ensures later { IsLater (C.state card.old) (C.state card.new) }
+    ensures calm { IsCalm breaks.old.items breaks.new.items (C.state card.old) (C.state card.new) }
 {
     let second = entering.at.second;
     note_driving(keeper, second, unit)?;
@@ -159,6 +160,7 @@ fn note_entered<M: Medium, C: Chip, D: Chip>(
     ensures size { (C.state card.new).size ≡ (C.state card.old).size }
     ensures more { (C.state card.old).breakdowns ≤ (C.state card.new).breakdowns }
     ensures later { IsLater (C.state card.old) (C.state card.new) }
+    ensures calm { IsCalm breaks.old.items breaks.new.items (C.state card.old) (C.state card.new) }
 {
     let crew = keeper.cabin.crew();
     if entering.speed > 0 {
@@ -220,6 +222,7 @@ pub(crate) fn take_in<M: Medium, C: Chip, D: Chip>(
     ensures low { entered.look.session < 2 ^ 32 }
     ensures sized { FitsInsertion entered.look }
     ensures later { IsLater (C.state card.old) (C.state card.new) }
+    ensures calm { IsCalm outcome.old.breaks.items outcome.new.breaks.items (C.state card.old) (C.state card.new) }
 {
     let look = entered.look;
     fills_its_fields(look);

@@ -21,3 +21,4 @@ pub mod DecidedBooked
 pub mod MarksBooked
 pub mod Faults
 pub mod Later
+pub mod Calm

@@ -1,6 +1,8 @@
 -- What holds of devices after any calls, whatever they tell (profile).
-use Rattle.std.specs.Prelude.{◌≡◌, ◌⊎◌, ◌≤◌}
+use Rattle.std.specs.Prelude.{◌≡◌, ◌⊎◌, ◌≤◌, ◌&&◌, ℕ, not, List, length, filter}
 use Rattle.tach_media.specs.Medium.{State, Rose}
+use Rattle.log_model.specs.declared.lines.Break.{Break}
+use Rattle.log_model.specs.Causes.{is_cut, has_failed}
 use Rattle.safety_model.specs.Safe.{Devices}
 
 -- A DEVICE AFTER SOME CALLS: neither its clock nor a count has fallen, and it broke down only where a call failed.
@@ -15,3 +17,17 @@ pub record AreLater (old new : Devices) : Type 0 where
   pub unit : IsLater old.unit new.unit
   pub card_a : IsLater old.card_a new.card_a
   pub card_b : IsLater old.card_b new.card_b
+
+-- how many of these are tears that a failed call made
+abbrev pub failed_tears : List Break → ℕ
+failed_tears breaks = length (filter (λ b. not (is_cut b) && has_failed b) breaks)
+
+-- A CARD AFTER CALLS that told these breaks more: no such tear was told less, and where none was told more the card has not broken down.
+pub record IsCalm (before after : List Break) (old new : State) : Type 0 where
+  pub few : failed_tears before ≤ failed_tears after
+  pub calm : failed_tears after ≡ failed_tears before → new.breakdowns ≡ old.breakdowns
+
+-- so it is of both
+pub record AreCalm (before after : List Break) (d e : Devices) : Type 0 where
+  pub card_a : IsCalm before after d.card_a e.card_a
+  pub card_b : IsCalm before after d.card_b e.card_b

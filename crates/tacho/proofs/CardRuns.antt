@@ -111,6 +111,7 @@ module _ (old new : Outside) (outcome : Outcome) (start : ℕ) (items : List Ite
     later = later;
     broke = broke;
     calm = λ ran. absurd (refused-no-run (refusal_with_cards fault) (cards-refusal fault) ran);
+    still = λ ran. absurd (refused-no-run (refusal_with_cards fault) (cards-refusal fault) ran);
     early = λ s is told ref. record {
       by = fault;
       is = refl;
@@ -127,8 +128,9 @@ module _ (old new : Outside) (outcome : Outcome) (start : ℕ) (items : List Ite
   -- THE RUN IS DONE
   pub cards-run : ((x a b : List ℕ) → BeginAs x a b (devices_of old) → HaveTime (devices_of new) → EndsTrace x a b start items outcome (devices_of old) (devices_of new))
       → ((x a b : List ℕ) → BeginAs x a b (devices_of old) → MayRecord x a b start) → (cuts true (log_of outcome) ≡ [] → new.unit.breakdowns ≡ old.unit.breakdowns)
+      → (tears true (log_of outcome) ≡ [] → (new.card_a.memory.breakdowns ≡ old.card_a.memory.breakdowns) × (new.card_b.memory.breakdowns ≡ old.card_b.memory.breakdowns))
       → (fault : Fault) → IsRun fault → (fault ≡ WriteFault → Rose old.sink.faults new.sink.faults) → EndsWithCards old new outcome fault
-  cards-run recorded begun calm fault ran rose = record {
+  cards-run recorded begun calm still fault ran rose = record {
     with_cards = not-unit;
     run = λ s is x a b starts done. recorded-as s is x a b starts;
     refused = λ s is x a b starts ref. absurd (refused-no-run fault ref ran);
@@ -138,6 +140,7 @@ module _ (old new : Outside) (outcome : Outcome) (start : ℕ) (items : List Ite
     later = later;
     broke = broke;
     calm = λ done. calm;
+    still = λ done. still;
     early = λ s is told ref. absurd (refused-no-run fault ref ran);
     unbroken = unbroken-as;
     whole = λ s is x a b starts sound counts done. all-there x a b s is outcome (devices_of old) (devices_of new) (recorded-as s is x a b starts) (unbroken-as s is x a b starts sound counts);

@@ -95,6 +95,8 @@ pub record EndsWithCards (old new : Outside) (outcome : Outcome) (fault : Fault)
   pub broke : HasBroken old.unit new.unit (length (cuts true (log_of outcome)))
   -- And where the trace was recorded and no failed call has cut the power, the unit has not broken down.
   pub calm : IsRun fault → cuts true (log_of outcome) ≡ [] → new.unit.breakdowns ≡ old.unit.breakdowns
+  -- And where no failed call has torn a card out, neither card has.
+  pub still : IsRun fault → tears true (log_of outcome) ≡ [] → (new.card_a.memory.breakdowns ≡ old.card_a.memory.breakdowns) × (new.card_b.memory.breakdowns ≡ old.card_b.memory.breakdowns)
   -- Where nothing failed, no call has cut the power or torn out a card.
   pub unbroken : (start : ℕ) (items : List Item) (unit card_a card_b : List ℕ) → StartWith unit card_a card_b start items old new → AreSound old new
       → HaveCounts (devices_of old) → (cuts true (log_of outcome) ≡ []) × (tears true (log_of outcome) ≡ [])

@@ -148,16 +148,21 @@ impl Calls {
     }
 }
 
-/// How many calls a run makes where none is stopped.
-pub fn calls_of(alloc: Global, text: &[u8]) -> Result<Calls, Fail> {
-    let mut d = new_devices(alloc, Stops::none(alloc))?;
+/// How many calls a run makes where these are stopped.
+pub fn calls_with(alloc: Global, text: &[u8], stops: Stops) -> Result<Calls, Fail> {
+    let mut d = new_devices(alloc, stops)?;
     let (ended, _) = d.record(alloc, text)?;
     if ended.is_err() {
-        return Err(Fail::from("a run without a stop"));
+        return Err(Fail::from("a run that is refused"));
     }
     Ok(Calls {
         unit: d.unit.calls(),
         card_a: d.card_a.medium().calls(),
         card_b: d.card_b.medium().calls(),
     })
+}
+
+/// How many it makes where none is stopped.
+pub fn calls_of(alloc: Global, text: &[u8]) -> Result<Calls, Fail> {
+    calls_with(alloc, text, Stops::none(alloc))
 }

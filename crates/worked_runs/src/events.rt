@@ -27,7 +27,7 @@ fn limited_unit(alloc: Global) -> Result<MemMedium, Memory>
 }
 
 /// So many bytes of a unit.
-fn bytes<U: Medium, const N: usize>(unit: &mut U, place: u32) -> Result<[u8; N], Failed>
+pub fn bytes<U: Medium, const N: usize>(unit: &mut U, place: u32) -> Result<[u8; N], Failed>
     requires unit { IsUnit (U.state unit.old) }
     requires inside { place + N ≤ IMAGE_SIZE }
     ensures { IsUnit (U.state unit.new) }

@@ -142,6 +142,21 @@ pub fn told_by_card<C: Chip>(alloc: Global, card: &mut C) -> Result<Told, Fail> 
     })
 }
 
+/// The first place of a session that was not closed, on a card of the largest sizes.
+const UNCLOSED: u32 = 619;
+
+/// The type and the begin of what stands there.
+pub fn unclosed_on<C: Chip>(card: &mut C) -> Result<[u8; 5], Fail> {
+    card.revive()?;
+    if card.size() < LARGEST_IMAGE {
+        return Err(Fail::from("no card"));
+    }
+    let Ok(mut port) = Port::load(&mut *card) else {
+        return Err(Fail::from("no sizes"));
+    };
+    bytes(&mut port, UNCLOSED)
+}
+
 /// The word that tells of a minute of the day: the latest one that is not after it, of one slot or of any.
 fn word_at(words: &[u16], slot: Option<u16>, minute: u16) -> Option<u16> {
     words.iter().rev().copied().find(|word| {

@@ -14,6 +14,7 @@ use Rattle.recorder_with_cards.specs.EnteredRings.{RingsAnew}
 use Rattle.recorder_with_cards.specs.JudgedRings.{RingsJudgedAnew}
 use Rattle.run_keeping.proofs.Later.{later-same}
 use Rattle.recorder_with_cards.specs.JudgedCards.{CardsAnew}
+use Rattle.run_keeping.proofs.Calm.{calm-same}
 use Rattle.recorder_with_cards.proofs.accepting.accept_anew.Goals as goal
 
 pub returns-clause-takes : goal.returns-clause-takes
@@ -117,3 +118,11 @@ returns-in_default-clause-cards g c = λ room.
     let none : card_in (seat_in c.args.run.now.keeper.cabin.slots.seats c.args.slot) ≡ None = search rules in
     let d : Devices = devices (g.M.Medium.state c.args.unit.now) (g.C.Chip.state c.args.card_a.now) (g.D.Chip.state c.args.card_b.now) in
     subst (λ (q : Option Card). CardsAnew q c.args.slot c.args.at c.args.speed false c.args.run.now c.args.outcome.now c.args.outcome.now d d) (sym none) tt
+
+-- ---- where no tear of a failed call is told no card has broken down
+
+pub returns-in_default-clause-calm : goal.returns-in_default-clause-calm
+returns-in_default-clause-calm g c = calm-same (devices (g.M.Medium.state c.args.unit.now) (g.C.Chip.state c.args.card_a.now) (g.D.Chip.state c.args.card_b.now))
+
+pub returns-clause-calm : goal.returns-clause-calm
+returns-clause-calm g c = c.accept_in.ensures.calm

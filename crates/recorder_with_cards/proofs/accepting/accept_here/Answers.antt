@@ -331,3 +331,8 @@ returns-clause-cards g c = λ room o done s n waits fewer at speed next vehicle 
     judged-cards o done s n waits fewer e run.keeper c.args.outcome.now run.unfound run.next run.begun run.minutes U X Y next.goes.within may next.goes.origin vehicle speed
     failed c.accept-answer.new.keeper run.noted c.accept-answer.new.noted c.accept-answer.new.outcome V Z w.0 gone sound
     (sits-works e (measured w.0 e run.keeper) c.accept-answer.new.keeper run.noted (ending_of w.0) (g.C.Chip.card c.accept-answer.new.card) Z w.1.left.keeper c.accept-answer.ensures.card)
+
+-- ---- where no tear of a failed call is told no card has broken down
+
+pub returns-clause-calm : goal.returns-clause-calm
+returns-clause-calm g c = c.accept-answer.ensures.calm

@@ -7,6 +7,7 @@ use Rattle.recorder_with_cards.specs.Judged.{JudgesSo, EventsJudged}
 use Rattle.recorder_with_cards.specs.JudgedRings.{RingsJudged}
 use Rattle.run_keeping.proofs.Later.{state-by, later-of-a, later-of-b}
 use Rattle.recorder_with_cards.specs.JudgedCards.{CardsJudged}
+use Rattle.run_keeping.proofs.Calm.{calm-of-a, calm-of-b}
 use Rattle.recorder_with_cards.proofs.accepting.accept_in.Goals as goal
 
 pub returns-in-A-clause-recorded : goal.returns-in-A-clause-recorded
@@ -76,3 +77,11 @@ returns-in-B-clause-cards g c = λ room.
     let d : Devices = devices (g.M.Medium.state c.args.unit.now) (g.C.Chip.state c.args.card_a.now) (g.D.Chip.state c.args.card_b.now) in
     let e : Devices = devices (g.M.Medium.state c.accept_here-in-B.new.unit) (g.C.Chip.state c.args.card_a.now) (g.D.Chip.state c.accept_here-in-B.new.card) in
     subst (λ (card : Card). CardsJudged c.args.slot card c.args.at c.args.speed (is_err c.accept_here-in-B.result) c.args.run.now c.args.outcome.now c.accept_here-in-B.new.outcome d e) (sym c.in-B.is) (c.accept_here-in-B.ensures.cards room)
+
+-- ---- where no tear of a failed call is told no card has broken down
+
+pub returns-in-A-clause-calm : goal.returns-in-A-clause-calm
+returns-in-A-clause-calm g c = calm-of-a (g.M.Medium.state c.args.unit.now) (g.M.Medium.state c.accept_here.new.unit) (g.C.Chip.state c.args.card_a.now) (g.C.Chip.state c.accept_here.new.card) (g.D.Chip.state c.args.card_b.now) c.accept_here.ensures.calm
+
+pub returns-in-B-clause-calm : goal.returns-in-B-clause-calm
+returns-in-B-clause-calm g c = calm-of-b (g.M.Medium.state c.args.unit.now) (g.M.Medium.state c.accept_here-in-B.new.unit) (g.C.Chip.state c.args.card_a.now) (g.D.Chip.state c.args.card_b.now) (g.D.Chip.state c.accept_here-in-B.new.card) c.accept_here-in-B.ensures.calm

@@ -9,6 +9,7 @@ use Rattle.recorder_with_cards.proofs.Allowed.{lit-refused}
 use Rattle.run_keeping.proofs.Later.{later-same}
 use Rattle.recorder_with_cards.proofs.CardsHeld.{carded-over}
 use Rattle.run_outcome.proofs.Broken.{broke-none}
+use Rattle.run_keeping.proofs.Calm.{calm-same}
 use Rattle.recorder_with_cards.proofs.acts.act.Goals as goal
 
 pub returns-clause-none : goal.returns-clause-none
@@ -108,3 +109,14 @@ returns-then-not-is_lit-clause-cards g c = λ power o done s now front rest are 
 
 pub returns-clause-cards : goal.returns-clause-cards
 returns-clause-cards g c = λ power. c.act_lit.ensures.cards
+
+-- ---- where no tear of a failed call is told no card has broken down
+
+pub returns-then-not-has_power-clause-calm : goal.returns-then-not-has_power-clause-calm
+returns-then-not-has_power-clause-calm g c = calm-same (devices (g.M.Medium.state c.args.unit.now) (g.C.Chip.state c.args.card_a.now) (g.D.Chip.state c.args.card_b.now))
+
+pub returns-then-not-is_lit-clause-calm : goal.returns-then-not-is_lit-clause-calm
+returns-then-not-is_lit-clause-calm g c = calm-same (devices (g.M.Medium.state c.args.unit.now) (g.C.Chip.state c.args.card_a.now) (g.D.Chip.state c.args.card_b.now))
+
+pub returns-clause-calm : goal.returns-clause-calm
+returns-clause-calm g c = c.act_lit.ensures.calm

@@ -21,6 +21,7 @@ use Rattle.recorder_with_cards.proofs.Counted.{none-in, first-in}
 use Rattle.run_keeping.proofs.Later.{later-same, later-then}
 use Rattle.recorder_with_cards.specs.Carded.{InSecondCarded, CardsActions}
 use Rattle.run_outcome.proofs.Broken.{broke-none, broke-then}
+use Rattle.run_keeping.proofs.Calm.{calm-same, calm-then}
 use Rattle.recorder_with_cards.proofs.acts.act_all.Goals as goal
 
 pub act_item-requires-clause-room : goal.act_item-requires-clause-room
@@ -49,6 +50,7 @@ loop-i-init g c = record {
   still = λ dark. (dark, refl, refl, refl);
   time = λ h. h;
   later = later-same (devices (g.M.Medium.state c.args.unit.now) (g.C.Chip.state c.args.card_a.now) (g.D.Chip.state c.args.card_b.now));
+  calm = calm-same (devices (g.M.Medium.state c.args.unit.now) (g.C.Chip.state c.args.card_a.now) (g.D.Chip.state c.args.card_b.now));
   broke = broke-none c.args.outcome.now.breaks.items {old = (g.M.Medium.state c.args.unit.now)} {new = (g.M.Medium.state c.args.unit.now)} (omega arith);
   dark = c.requires.dark;
   next = refl;
@@ -114,6 +116,7 @@ loop-i-preserved g c =
           (now.0, now.1 ∙ was.1, now.2 ∙ was.2, now.3 ∙ was.3);
       time = λ h. v.time (e.time h);
       later = later-then (devices (g.M.Medium.state c.args.unit.now) (g.C.Chip.state c.args.card_a.now) (g.D.Chip.state c.args.card_b.now)) (devices (g.M.Medium.state c.loop-i.unit) (g.C.Chip.state c.loop-i.card_a) (g.D.Chip.state c.loop-i.card_b)) (devices (g.M.Medium.state c.act_item.new.unit) (g.C.Chip.state c.act_item.new.card_a) (g.D.Chip.state c.act_item.new.card_b)) v.later e.later;
+      calm = calm-then (devices (g.M.Medium.state c.args.unit.now) (g.C.Chip.state c.args.card_a.now) (g.D.Chip.state c.args.card_b.now)) (devices (g.M.Medium.state c.loop-i.unit) (g.C.Chip.state c.loop-i.card_a) (g.D.Chip.state c.loop-i.card_b)) (devices (g.M.Medium.state c.act_item.new.unit) (g.C.Chip.state c.act_item.new.card_a) (g.D.Chip.state c.act_item.new.card_b)) v.calm e.calm;
       broke = broke-then c.loop-i.invariant.broke c.act_item.ensures.broke;
       dark = e.dark;
       next = e.next ∙ v.next;
@@ -169,3 +172,8 @@ returns-clause-cards g c =
 
 pub returns-clause-broke : goal.returns-clause-broke
 returns-clause-broke g c = c.loop-i.invariant.broke
+
+-- ---- where no tear of a failed call is told no card has broken down
+
+pub returns-clause-calm : goal.returns-clause-calm
+returns-clause-calm g c = c.loop-i.invariant.calm

@@ -13,6 +13,7 @@ use Rattle.recorder_with_cards.proofs.ActsRecorded.{no-action}
 use Rattle.recorder_with_cards.proofs.Allowed.{count-is}
 use Rattle.recorder_with_cards.specs.Carded.{InSecondCarded, CardsActions}
 use Rattle.run_outcome.proofs.Broken.{broke-none}
+use Rattle.run_keeping.proofs.Calm.{calm-same}
 use Rattle.recorder_with_cards.proofs.acts.act_item.Goals as goal
 
 pub returns-in-Act-clause-room : goal.returns-in-Act-clause-room
@@ -78,3 +79,14 @@ pub returns-in-Off-clause-cards : goal.returns-in-Off-clause-cards
 returns-in-Off-clause-cards g c = λ power.
     let d : Devices = devices (g.M.Medium.state c.args.unit.now) (g.C.Chip.state c.args.card_a.now) (g.D.Chip.state c.args.card_b.now) in
     subst (λ (xs : List Action). CardsActions xs c.args.begun c.args.speed c.args.run.now c.args.run.now c.args.outcome.now c.args.outcome.now d d) (sym (ap action_of c.in-Off.is)) (no-action InSecondCarded c.args.begun c.args.speed c.args.run.now c.args.outcome.now d)
+
+-- ---- where no tear of a failed call is told no card has broken down
+
+pub returns-in-Act-clause-calm : goal.returns-in-Act-clause-calm
+returns-in-Act-clause-calm g c = c.act.ensures.calm
+
+pub returns-in-Run-clause-calm : goal.returns-in-Run-clause-calm
+returns-in-Run-clause-calm g c = calm-same (devices (g.M.Medium.state c.args.unit.now) (g.C.Chip.state c.args.card_a.now) (g.D.Chip.state c.args.card_b.now))
+
+pub returns-in-Off-clause-calm : goal.returns-in-Off-clause-calm
+returns-in-Off-clause-calm g c = calm-same (devices (g.M.Medium.state c.args.unit.now) (g.C.Chip.state c.args.card_a.now) (g.D.Chip.state c.args.card_b.now))

@@ -1,4 +1,4 @@
-use Rattle.std.proofs.Common.{◌≡◌, ◌∙◌, ℕ, ◌/◌, ◌≤◌, true, false, List, [], length, Option, Some, None, refl, ap, sym, subst, arith}
+use Rattle.std.proofs.Common.{◌≡◌, ◌∙◌, ℕ, ◌/◌, ◌≤◌, true, false, List, [], length, Option, Some, None, refl, ap, sym, subst, arith, Bool}
 use Rattle.std.specs.Prelude.{is_err, suc}
 use Rattle.trace_model.specs.declared.Card.{Card}
 use Rattle.trace_model.specs.declared.Action.{Action}
@@ -40,6 +40,8 @@ use Rattle.run_acts.proofs.NotedEvents.{same-noted}
 use Rattle.recorder_with_cards.specs.Noting.{NotesDone}
 use Rattle.run_acts.specs.RunCards.{CardsAction}
 use Rattle.recorder_with_cards.proofs.ActsCards.{selected-cards, pulled-cards}
+use Rattle.run_keeping.proofs.Calm.{calm-none, calm-same, none-told}
+use Rattle.recorder_with_cards.proofs.Uncut.{pulled-calm}
 use Rattle.recorder_with_cards.proofs.acts.carry_out.Goals as goal
 
 pub insert-requires-clause-elsewhere : goal.insert-requires-clause-elsewhere
@@ -499,3 +501,20 @@ returns-in-Place-clause-cards g c =
     subst (λ (a : Action). CardsAction a c.args.begun c.args.speed (is_err c.note_place.result) run o (record o { breaks = c.note_place.new.breaks }) d e) (sym c.in-Place.is)
     (subst (λ (n : ℕ). CardsAction (Place c.in-Place.slot c.in-Place.ending c.in-Place.country c.in-Place.region) n c.args.speed (is_err c.note_place.result) run o (record o { breaks = c.note_place.new.breaks }) d e) (ap (λ (m : Moment). m.begun) c.moment-at.ensures)
     (c.note_place.ensures.cards late c.in-Place.ending c.in-Place.country c.in-Place.region c.args.speed o refl))
+
+-- ---- where no tear of a failed call is told no card has broken down
+
+pub returns-in-Insert-clause-calm : goal.returns-in-Insert-clause-calm
+returns-in-Insert-clause-calm g c = c.insert.ensures.calm
+
+pub returns-in-Withdraw-clause-calm : goal.returns-in-Withdraw-clause-calm
+returns-in-Withdraw-clause-calm g c = c.withdraw.ensures.calm
+
+pub returns-in-Place-clause-calm : goal.returns-in-Place-clause-calm
+returns-in-Place-clause-calm g c = c.note_place.ensures.calm
+
+pub returns-in-Select-clause-calm : goal.returns-in-Select-clause-calm
+returns-in-Select-clause-calm g c = calm-same (devices (g.M.Medium.state c.args.unit.now) (g.C.Chip.state c.args.card_a.now) (g.D.Chip.state c.args.card_b.now))
+
+pub returns-in-Tear-clause-calm : goal.returns-in-Tear-clause-calm
+returns-in-Tear-clause-calm g c = calm-none (devices (g.M.Medium.state c.args.unit.now) (g.C.Chip.state c.args.card_a.now) (g.D.Chip.state c.args.card_b.now)) (none-told _ (ap (λ (l : Listed Break). l.items) c.pull.ensures.breaks) (pulled-calm _ _ _))

@@ -27,6 +27,7 @@ use Rattle.run_keeping.proofs.Later.{later-then}
 use Rattle.run_outcome.proofs.Broken.{broke-then}
 use Rattle.recorder_with_cards.specs.Carded.{RunCarded, InSecondCarded}
 use Rattle.recorder_with_cards.proofs.SecondsCards.{turned-carded, dark-carded}
+use Rattle.run_keeping.proofs.Calm.{calm-then}
 use Rattle.recorder_with_cards.proofs.driving.drive.Goals as goal
 
 pub begin_second-requires-clause-room : goal.begin_second-requires-clause-room
@@ -272,3 +273,11 @@ returns-clause-broke g c = broke-then c.in_ok-has_power.ensures.broke (broke-the
 
 pub returns-in_err-has_power-clause-broke : goal.returns-in_err-has_power-clause-broke
 returns-in_err-has_power-clause-broke g c = c.in_err-has_power.ensures.broke
+
+-- ---- where no tear of a failed call is told no card has broken down
+
+pub returns-clause-calm : goal.returns-clause-calm
+returns-clause-calm g c = calm-then (devices (g.M.Medium.state c.args.unit.now) (g.C.Chip.state c.args.card_a.now) (g.D.Chip.state c.args.card_b.now)) (devices (g.M.Medium.state c.begin_second.new.unit) (g.C.Chip.state c.begin_second.new.card_a) (g.D.Chip.state c.begin_second.new.card_b)) (devices (g.M.Medium.state c.drive_on.new.unit) (g.C.Chip.state c.drive_on.new.card_a) (g.D.Chip.state c.drive_on.new.card_b)) c.in_ok-has_power.ensures.calm (calm-then (devices (g.M.Medium.state c.begin_second.new.unit) (g.C.Chip.state c.begin_second.new.card_a) (g.D.Chip.state c.begin_second.new.card_b)) (devices (g.M.Medium.state c.act_all.new.unit) (g.C.Chip.state c.act_all.new.card_a) (g.D.Chip.state c.act_all.new.card_b)) (devices (g.M.Medium.state c.drive_on.new.unit) (g.C.Chip.state c.drive_on.new.card_a) (g.D.Chip.state c.drive_on.new.card_b)) c.act_all.ensures.calm (calm-then (devices (g.M.Medium.state c.act_all.new.unit) (g.C.Chip.state c.act_all.new.card_a) (g.D.Chip.state c.act_all.new.card_b)) (devices (g.M.Medium.state c.turn.new.unit) (g.C.Chip.state c.turn.new.card_a) (g.D.Chip.state c.turn.new.card_b)) (devices (g.M.Medium.state c.drive_on.new.unit) (g.C.Chip.state c.drive_on.new.card_a) (g.D.Chip.state c.drive_on.new.card_b)) c.turn.ensures.calm c.drive_on.ensures.calm))
+
+pub returns-in_err-has_power-clause-calm : goal.returns-in_err-has_power-clause-calm
+returns-in_err-has_power-clause-calm g c = c.in_err-has_power.ensures.calm

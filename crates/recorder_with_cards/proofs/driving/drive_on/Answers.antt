@@ -13,6 +13,7 @@ use Rattle.recorder_with_cards.specs.Carded.{RunCarded}
 use Rattle.recorder_with_cards.proofs.SecondsEvented.{last-more}
 use Rattle.run_keeping.proofs.Later.{later-same, later-then}
 use Rattle.run_outcome.proofs.Broken.{broke-none, broke-then}
+use Rattle.run_keeping.proofs.Calm.{calm-then, calm-same}
 use Rattle.recorder_with_cards.proofs.driving.drive_on.Goals as goal
 
 pub loop-left-init : goal.loop-left-init
@@ -32,6 +33,7 @@ loop-left-init g c = record {
       (subst (λ (ss : List TraceSecond). LastAt ss c.args.speed × RunCarded o ss c.args.run.now c.args.outcome.now d) (sym (append-nil done)) (last, r));
   time = λ h. h;
   later = later-same (devices (g.M.Medium.state c.args.unit.now) (g.C.Chip.state c.args.card_a.now) (g.D.Chip.state c.args.card_b.now));
+  calm = calm-same (devices (g.M.Medium.state c.args.unit.now) (g.C.Chip.state c.args.card_a.now) (g.D.Chip.state c.args.card_b.now));
   broke = broke-none c.args.outcome.now.breaks.items {old = (g.M.Medium.state c.args.unit.now)} {new = (g.M.Medium.state c.args.unit.now)} (omega arith);
   unfound = c.requires.unfound;
 }
@@ -84,6 +86,7 @@ loop-left-preserved g c =
           (last-more n c.loop-left.run.next c.args.speed (done ++ driven so c.args.run.now.next c.args.speed []) was.0, c.in_ok-step.ensures.cards o (done ++ driven so c.args.run.now.next c.args.speed []) was.0 was.1 time);
       time = λ h. v.time (c.in_ok-step.ensures.time h);
       later = later-then (devices (g.M.Medium.state c.args.unit.now) (g.C.Chip.state c.args.card_a.now) (g.D.Chip.state c.args.card_b.now)) (devices (g.M.Medium.state c.loop-left.unit) (g.C.Chip.state c.loop-left.card_a) (g.D.Chip.state c.loop-left.card_b)) (devices (g.M.Medium.state c.step.new.unit) (g.C.Chip.state c.step.new.card_a) (g.D.Chip.state c.step.new.card_b)) v.later c.in_ok-step.ensures.later;
+      calm = calm-then (devices (g.M.Medium.state c.args.unit.now) (g.C.Chip.state c.args.card_a.now) (g.D.Chip.state c.args.card_b.now)) (devices (g.M.Medium.state c.loop-left.unit) (g.C.Chip.state c.loop-left.card_a) (g.D.Chip.state c.loop-left.card_b)) (devices (g.M.Medium.state c.step.new.unit) (g.C.Chip.state c.step.new.card_a) (g.D.Chip.state c.step.new.card_b)) v.calm c.in_ok-step.ensures.calm;
       broke = broke-then c.loop-left.invariant.broke c.in_ok-step.ensures.broke;
       unfound = e.unfound;
     }
@@ -158,3 +161,11 @@ returns-clause-broke g c = c.loop-left.invariant.broke
 
 pub returns-in_err-step-clause-broke : goal.returns-in_err-step-clause-broke
 returns-in_err-step-clause-broke g c = broke-then c.loop-left.invariant.broke c.in_err-step.ensures.broke
+
+-- ---- where no tear of a failed call is told no card has broken down
+
+pub returns-clause-calm : goal.returns-clause-calm
+returns-clause-calm g c = c.loop-left.invariant.calm
+
+pub returns-in_err-step-clause-calm : goal.returns-in_err-step-clause-calm
+returns-in_err-step-clause-calm g c = calm-then (devices (g.M.Medium.state c.args.unit.now) (g.C.Chip.state c.args.card_a.now) (g.D.Chip.state c.args.card_b.now)) (devices (g.M.Medium.state c.loop-left.unit) (g.C.Chip.state c.loop-left.card_a) (g.D.Chip.state c.loop-left.card_b)) (devices (g.M.Medium.state c.step.new.unit) (g.C.Chip.state c.step.new.card_a) (g.D.Chip.state c.step.new.card_b)) c.loop-left.invariant.calm c.in_err-step.ensures.calm

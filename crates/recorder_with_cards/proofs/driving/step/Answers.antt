@@ -20,6 +20,7 @@ use Rattle.run_keeping.proofs.Later.{later-then}
 use Rattle.run_outcome.proofs.Broken.{broke-then}
 use Rattle.recorder_with_cards.specs.Carded.{RunCarded, InSecondCarded}
 use Rattle.recorder_with_cards.proofs.SecondsCards.{turned-carded, dark-carded}
+use Rattle.run_keeping.proofs.Calm.{calm-then}
 use Rattle.recorder_with_cards.proofs.driving.step.Goals as goal
 
 pub begin_second-requires-clause-room : goal.begin_second-requires-clause-room
@@ -159,3 +160,11 @@ returns-clause-broke g c = broke-then c.in_ok-begin_second.ensures.broke c.turn.
 
 pub returns-in_err-begin_second-clause-broke : goal.returns-in_err-begin_second-clause-broke
 returns-in_err-begin_second-clause-broke g c = c.in_err-begin_second.ensures.broke
+
+-- ---- where no tear of a failed call is told no card has broken down
+
+pub returns-clause-calm : goal.returns-clause-calm
+returns-clause-calm g c = calm-then (devices (g.M.Medium.state c.args.unit.now) (g.C.Chip.state c.args.card_a.now) (g.D.Chip.state c.args.card_b.now)) (devices (g.M.Medium.state c.begin_second.new.unit) (g.C.Chip.state c.begin_second.new.card_a) (g.D.Chip.state c.begin_second.new.card_b)) (devices (g.M.Medium.state c.turn.new.unit) (g.C.Chip.state c.turn.new.card_a) (g.D.Chip.state c.turn.new.card_b)) c.in_ok-begin_second.ensures.calm c.turn.ensures.calm
+
+pub returns-in_err-begin_second-clause-calm : goal.returns-in_err-begin_second-clause-calm
+returns-in_err-begin_second-clause-calm g c = c.in_err-begin_second.ensures.calm

@@ -51,6 +51,7 @@ use Rattle.run_ringed.specs.OnCards.{PlacesStay}
 use Rattle.run_acts.specs.RunCards.{vehicle_in, StillShow, CardsSettling, PlacesSettling, CardsGoOn}
 use Rattle.recorder_with_cards.proofs.InsertedCards.{unsettled-cards, inserted-cards}
 use Rattle.recorder_with_cards.proofs.Staying.{settled-watched}
+use Rattle.run_keeping.proofs.Calm.{calm-then}
 use Rattle.recorder_with_cards.proofs.inserting.insert.Goals as goal
 
 pub settle-requires-clause-held : goal.settle-requires-clause-held
@@ -435,3 +436,11 @@ returns-clause-cards g c = λ late room o done s now front rest actions begun al
     let j = next-cards c.args.slot c.args.card c.args.at c.args.speed run out d o done s now front rest actions c.requires.at begun late allowed within mid told false settles q.0 q.1 e records before refl seat
     (is_err c.accept_in.result) c.accept_in.new.outcome last (c.accept_in.ensures.cards (omega (arith, room, marks, rooms, was))) own time in
     inserted-cards o done s front rest c.args.slot c.args.card actions run out d within cards fine told e lines.lines log tears left still (is_err c.accept_in.result) c.accept_in.new.outcome last j
+
+-- ---- where no tear of a failed call is told no card has broken down
+
+pub returns-in_err-settle-clause-calm : goal.returns-in_err-settle-clause-calm
+returns-in_err-settle-clause-calm g c = c.settle.ensures.calm
+
+pub returns-clause-calm : goal.returns-clause-calm
+returns-clause-calm g c = calm-then (devices (g.M.Medium.state c.args.unit.now) (g.C.Chip.state c.args.card_a.now) (g.D.Chip.state c.args.card_b.now)) (devices (g.M.Medium.state c.settle.new.unit) (g.C.Chip.state c.settle.new.card_a) (g.D.Chip.state c.settle.new.card_b)) (devices (g.M.Medium.state c.accept_in.new.unit) (g.C.Chip.state c.accept_in.new.card_a) (g.D.Chip.state c.accept_in.new.card_b)) c.settle.ensures.calm c.accept_in.ensures.calm

@@ -19,6 +19,7 @@ use Rattle.safety_model.specs.Safe.{Devices}
 use Rattle.recorder_with_cards.proofs.RingsHeld.{ringed-lit}
 use Rattle.recorder_with_cards.proofs.CardsHeld.{in-carded_lit}
 use Rattle.recorder_with_cards.proofs.SecondsCards.{over-lit, over-vehicle, begins-cards}
+use Rattle.run_keeping.proofs.Calm.{calm-same}
 use Rattle.recorder_with_cards.proofs.resuming.begin_second.Goals as goal
 
 away-dark : (p : Power) (next : ℕ) → has_power p next ≡ false → is_lit p ≡ false
@@ -192,3 +193,17 @@ returns-clause-cards g c = λ o done s now rec time.
     let dark : is_lit run.power ≡ false = sym c.is_lit.ensures ∙ c.if-is_lit.false in
     let has : has_power run.power run.next ≡ true = sym c.has_power.ensures ∙ c.if-not-has_power.false in
     c.in_ok-power_on.ensures.cards (marks-due run c.args.outcome.now dark has c.requires.room) o done s now rec has time
+
+-- ---- where no tear of a failed call is told no card has broken down
+
+pub returns-then-not-has_power-clause-calm : goal.returns-then-not-has_power-clause-calm
+returns-then-not-has_power-clause-calm g c = calm-same (devices (g.M.Medium.state c.args.unit.now) (g.C.Chip.state c.args.card_a.now) (g.D.Chip.state c.args.card_b.now))
+
+pub returns-then-is_lit-clause-calm : goal.returns-then-is_lit-clause-calm
+returns-then-is_lit-clause-calm g c = calm-same (devices (g.M.Medium.state c.args.unit.now) (g.C.Chip.state c.args.card_a.now) (g.D.Chip.state c.args.card_b.now))
+
+pub returns-in_err-power_on-clause-calm : goal.returns-in_err-power_on-clause-calm
+returns-in_err-power_on-clause-calm g c = c.power_on.ensures.calm
+
+pub returns-clause-calm : goal.returns-clause-calm
+returns-clause-calm g c = c.power_on.ensures.calm

@@ -42,6 +42,7 @@ use Rattle.run_outcome.proofs.Broken.{broke-none, broke-once, broke-then}
 use Rattle.recorder_with_cards.proofs.RingsHeld.{ringed-cut}
 use Rattle.recorder_with_cards.proofs.CardsHeld.{in-carded_cut}
 use Rattle.recorder_with_cards.proofs.WakesCards.{unit-alone, unpowered-cards}
+use Rattle.run_keeping.proofs.Calm.{calm-of-unit, calm-then, calm-more, none-told}
 use Rattle.recorder_with_cards.proofs.resuming.power_on.Goals as goal
 
 pub returns-in-Err-Failed-clause-going : goal.returns-in-Err-Failed-clause-going
@@ -402,3 +403,14 @@ pub returns-in-Err-Failed-clause-broke : goal.returns-in-Err-Failed-clause-broke
 returns-in-Err-Failed-clause-broke g c =
     let rose = rw c.in-Err-Failed.field-0-is at c.in-Err-Failed.ensures.broke in
     broke-once _ _ (ap (λ (l : Listed Break). l.items) c.cut.ensures.breaks) rose
+
+-- ---- where no tear of a failed call is told no card has broken down
+
+pub returns-in-Ok-clause-calm : goal.returns-in-Ok-clause-calm
+returns-in-Ok-clause-calm g c = calm-then (devices (g.M.Medium.state c.args.unit.now) (g.C.Chip.state c.args.card_a.now) (g.D.Chip.state c.args.card_b.now)) (devices (g.M.Medium.state c.load.new.unit) (g.C.Chip.state c.args.card_a.now) (g.D.Chip.state c.args.card_b.now)) (devices (g.M.Medium.state c.found.new.unit) (g.C.Chip.state c.found.new.card_a) (g.D.Chip.state c.found.new.card_b)) (calm-of-unit (g.M.Medium.state c.args.unit.now) (g.M.Medium.state c.load.new.unit) (g.C.Chip.state c.args.card_a.now) (g.D.Chip.state c.args.card_b.now)) c.found.ensures.calm
+
+pub returns-in-Err-BadUnit-clause-calm : goal.returns-in-Err-BadUnit-clause-calm
+returns-in-Err-BadUnit-clause-calm g c = calm-of-unit (g.M.Medium.state c.args.unit.now) (g.M.Medium.state c.load.new.unit) (g.C.Chip.state c.args.card_a.now) (g.D.Chip.state c.args.card_b.now)
+
+pub returns-in-Err-Failed-clause-calm : goal.returns-in-Err-Failed-clause-calm
+returns-in-Err-Failed-clause-calm g c = calm-more (devices (g.M.Medium.state c.args.unit.now) (g.C.Chip.state c.args.card_a.now) (g.D.Chip.state c.args.card_b.now)) (devices (g.M.Medium.state c.load.new.unit) (g.C.Chip.state c.args.card_a.now) (g.D.Chip.state c.args.card_b.now)) (calm-of-unit (g.M.Medium.state c.args.unit.now) (g.M.Medium.state c.load.new.unit) (g.C.Chip.state c.args.card_a.now) (g.D.Chip.state c.args.card_b.now)) (none-told _ (ap (λ (l : Listed Break). l.items) c.cut.ensures.breaks) refl)

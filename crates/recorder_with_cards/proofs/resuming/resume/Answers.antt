@@ -82,6 +82,7 @@ use Rattle.recorder_with_cards.specs.CardsWoken.{CardsWoken}
 use Rattle.recorder_with_cards.proofs.GapEvented.{gap_events as gap_list}
 use Rattle.recorder_with_cards.proofs.GapShown.{some-list, none-list, gap-shown, none-noted, woken-all}
 use Rattle.recorder_with_cards.proofs.WakesCards.{WakesOn, unit-alone, unpowered-cards, wakes-cards, driver-woken, codriver-woken}
+use Rattle.run_keeping.proofs.Calm.{calm-of-unit, calm-then}
 use Rattle.recorder_with_cards.proofs.resuming.resume.Goals as goal
 
 pub accept_anew-requires-clause-held : goal.accept_anew-requires-clause-held
@@ -1658,3 +1659,20 @@ returns-then-is_first-clause-uncut g c = anew-uncut _ _ _ _ _ _ _ _ c.accept_ane
 
 pub returns-clause-uncut : goal.returns-clause-uncut
 returns-clause-uncut g c = gap-uncut _ _ _ _ _ _ _ c.note_gap.ensures.noted.0 c.note_gap.ensures.noted.1 ∙ anew-uncut _ _ _ _ _ _ _ _ c.accept_anew-2.ensures.accepted ∙ anew-uncut _ _ _ _ _ _ _ _ c.accept_anew.ensures.accepted
+
+-- ---- where no tear of a failed call is told no card has broken down
+
+pub returns-in_err-mend-clause-calm : goal.returns-in_err-mend-clause-calm
+returns-in_err-mend-clause-calm g c = calm-of-unit (g.M.Medium.state c.args.unit.now) (g.M.Medium.state c.mend.new.unit) (g.C.Chip.state c.args.card_a.now) (g.D.Chip.state c.args.card_b.now)
+
+pub returns-in_err-accept_anew-clause-calm : goal.returns-in_err-accept_anew-clause-calm
+returns-in_err-accept_anew-clause-calm g c = calm-then (devices (g.M.Medium.state c.args.unit.now) (g.C.Chip.state c.args.card_a.now) (g.D.Chip.state c.args.card_b.now)) (devices (g.M.Medium.state c.mend.new.unit) (g.C.Chip.state c.args.card_a.now) (g.D.Chip.state c.args.card_b.now)) (devices (g.M.Medium.state c.accept_anew.new.unit) (g.C.Chip.state c.accept_anew.new.card_a) (g.D.Chip.state c.accept_anew.new.card_b)) (calm-of-unit (g.M.Medium.state c.args.unit.now) (g.M.Medium.state c.mend.new.unit) (g.C.Chip.state c.args.card_a.now) (g.D.Chip.state c.args.card_b.now)) c.accept_anew.ensures.calm
+
+pub returns-in_err-accept_anew-2-clause-calm : goal.returns-in_err-accept_anew-2-clause-calm
+returns-in_err-accept_anew-2-clause-calm g c = calm-then (devices (g.M.Medium.state c.args.unit.now) (g.C.Chip.state c.args.card_a.now) (g.D.Chip.state c.args.card_b.now)) (devices (g.M.Medium.state c.mend.new.unit) (g.C.Chip.state c.args.card_a.now) (g.D.Chip.state c.args.card_b.now)) (devices (g.M.Medium.state c.accept_anew-2.new.unit) (g.C.Chip.state c.accept_anew-2.new.card_a) (g.D.Chip.state c.accept_anew-2.new.card_b)) (calm-of-unit (g.M.Medium.state c.args.unit.now) (g.M.Medium.state c.mend.new.unit) (g.C.Chip.state c.args.card_a.now) (g.D.Chip.state c.args.card_b.now)) (calm-then (devices (g.M.Medium.state c.mend.new.unit) (g.C.Chip.state c.args.card_a.now) (g.D.Chip.state c.args.card_b.now)) (devices (g.M.Medium.state c.accept_anew.new.unit) (g.C.Chip.state c.accept_anew.new.card_a) (g.D.Chip.state c.accept_anew.new.card_b)) (devices (g.M.Medium.state c.accept_anew-2.new.unit) (g.C.Chip.state c.accept_anew-2.new.card_a) (g.D.Chip.state c.accept_anew-2.new.card_b)) c.accept_anew.ensures.calm c.accept_anew-2.ensures.calm)
+
+pub returns-then-is_first-clause-calm : goal.returns-then-is_first-clause-calm
+returns-then-is_first-clause-calm g c = calm-then (devices (g.M.Medium.state c.args.unit.now) (g.C.Chip.state c.args.card_a.now) (g.D.Chip.state c.args.card_b.now)) (devices (g.M.Medium.state c.mend.new.unit) (g.C.Chip.state c.args.card_a.now) (g.D.Chip.state c.args.card_b.now)) (devices (g.M.Medium.state c.accept_anew-2.new.unit) (g.C.Chip.state c.accept_anew-2.new.card_a) (g.D.Chip.state c.accept_anew-2.new.card_b)) (calm-of-unit (g.M.Medium.state c.args.unit.now) (g.M.Medium.state c.mend.new.unit) (g.C.Chip.state c.args.card_a.now) (g.D.Chip.state c.args.card_b.now)) (calm-then (devices (g.M.Medium.state c.mend.new.unit) (g.C.Chip.state c.args.card_a.now) (g.D.Chip.state c.args.card_b.now)) (devices (g.M.Medium.state c.accept_anew.new.unit) (g.C.Chip.state c.accept_anew.new.card_a) (g.D.Chip.state c.accept_anew.new.card_b)) (devices (g.M.Medium.state c.accept_anew-2.new.unit) (g.C.Chip.state c.accept_anew-2.new.card_a) (g.D.Chip.state c.accept_anew-2.new.card_b)) c.accept_anew.ensures.calm c.accept_anew-2.ensures.calm)
+
+pub returns-clause-calm : goal.returns-clause-calm
+returns-clause-calm g c = calm-then (devices (g.M.Medium.state c.args.unit.now) (g.C.Chip.state c.args.card_a.now) (g.D.Chip.state c.args.card_b.now)) (devices (g.M.Medium.state c.mend.new.unit) (g.C.Chip.state c.args.card_a.now) (g.D.Chip.state c.args.card_b.now)) (devices (g.M.Medium.state c.note_gap.new.unit) (g.C.Chip.state c.note_gap.new.card_a) (g.D.Chip.state c.note_gap.new.card_b)) (calm-of-unit (g.M.Medium.state c.args.unit.now) (g.M.Medium.state c.mend.new.unit) (g.C.Chip.state c.args.card_a.now) (g.D.Chip.state c.args.card_b.now)) (calm-then (devices (g.M.Medium.state c.mend.new.unit) (g.C.Chip.state c.args.card_a.now) (g.D.Chip.state c.args.card_b.now)) (devices (g.M.Medium.state c.accept_anew.new.unit) (g.C.Chip.state c.accept_anew.new.card_a) (g.D.Chip.state c.accept_anew.new.card_b)) (devices (g.M.Medium.state c.note_gap.new.unit) (g.C.Chip.state c.note_gap.new.card_a) (g.D.Chip.state c.note_gap.new.card_b)) c.accept_anew.ensures.calm (calm-then (devices (g.M.Medium.state c.accept_anew.new.unit) (g.C.Chip.state c.accept_anew.new.card_a) (g.D.Chip.state c.accept_anew.new.card_b)) (devices (g.M.Medium.state c.accept_anew-2.new.unit) (g.C.Chip.state c.accept_anew-2.new.card_a) (g.D.Chip.state c.accept_anew-2.new.card_b)) (devices (g.M.Medium.state c.note_gap.new.unit) (g.C.Chip.state c.note_gap.new.card_a) (g.D.Chip.state c.note_gap.new.card_b)) c.accept_anew-2.ensures.calm c.note_gap.ensures.calm))

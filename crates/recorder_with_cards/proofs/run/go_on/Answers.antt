@@ -28,7 +28,8 @@ use Rattle.recorder_with_cards.specs.Gone.{has_seconds, HasGone}
 use Rattle.recorder_with_cards.proofs.Dark.{cut-room, off-room, unfound-same}
 use Rattle.run_keeping.proofs.Later.{later-same}
 use Rattle.run_outcome.proofs.Broken.{broke-none, broke-behind}
-use Rattle.recorder_with_cards.proofs.Uncut.{off-uncut}
+use Rattle.recorder_with_cards.proofs.Uncut.{off-uncut, off-calm}
+use Rattle.run_keeping.proofs.Calm.{calm-none, calm-same, none-told}
 use Rattle.recorder_with_cards.proofs.run.go_on.Goals as goal
 
 -- ---- an action waits
@@ -197,3 +198,14 @@ returns-in-Off-clause-broke g c = broke-behind _ {old = (g.M.Medium.state c.args
 
 pub returns-in-Run-clause-broke : goal.returns-in-Run-clause-broke
 returns-in-Run-clause-broke g c = c.drive.ensures.broke
+
+-- ---- where no tear of a failed call is told no card has broken down
+
+pub returns-in-Act-clause-calm : goal.returns-in-Act-clause-calm
+returns-in-Act-clause-calm g c = calm-same (devices (g.M.Medium.state c.args.unit.now) (g.C.Chip.state c.args.card_a.now) (g.D.Chip.state c.args.card_b.now))
+
+pub returns-in-Off-clause-calm : goal.returns-in-Off-clause-calm
+returns-in-Off-clause-calm g c = calm-none (devices (g.M.Medium.state c.args.unit.now) (g.C.Chip.state c.args.card_a.now) (g.D.Chip.state c.args.card_b.now)) (none-told _ (ap (λ (l : Listed Break). l.items) c.off.ensures.breaks) (off-calm _ _ _))
+
+pub returns-in-Run-clause-calm : goal.returns-in-Run-clause-calm
+returns-in-Run-clause-calm g c = c.drive.ensures.calm

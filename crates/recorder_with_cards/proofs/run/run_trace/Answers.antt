@@ -48,6 +48,7 @@ use Rattle.run_keeping.proofs.Later.{later-then}
 use Rattle.recorder_with_cards.proofs.Later.{state-as-it-was}
 use Rattle.run_acts.specs.Recording.{log_of}
 use Rattle.run_outcome.proofs.Broken.{broke-none, broke-then, broke-all, broke-nothing, calm-all}
+use Rattle.run_keeping.proofs.Calm.{card-rests, calm-then, still-all}
 use Rattle.recorder_with_cards.proofs.run.run_trace.Goals as goal
 
 -- ---- the opening
@@ -94,6 +95,7 @@ loop-i-init g c =
       unfound = let none = c.new-run.ensures.unfound in omega (arith, none);
       waits = waits-none c.args.trace.now.items;
       later = record { unit = state-as-it-was (g.U.Medium.state c.args.unit.now) (g.U.Medium.state c.judge.new.unit) c.judge.ensures.unit; card_a = state-as-it-was (g.C.Chip.state c.args.card_a.now) (g.C.Chip.state c.judge.new.card_a) c.judge.ensures.card_a; card_b = state-as-it-was (g.C.Chip.state c.args.card_b.now) (g.C.Chip.state c.judge.new.card_b) c.judge.ensures.card_b };
+      calm = record { card_a = card-rests refl (e.card_a_works.unbroken refl); card_b = card-rests refl (e.card_b_works.unbroken refl) };
       broke = broke-none c.args.outcome.now.breaks.items {old = (g.U.Medium.state c.args.unit.now)} {new = (g.U.Medium.state c.judge.new.unit)} (e.unit_works.unbroken refl);
       time = λ h.
           let u = c.judge.ensures.unit.clock in
@@ -179,6 +181,7 @@ loop-i-preserved g c =
       waits = subst (λ (n : ℕ). Waits items n (i + 1)) (sym waits) (waits-more items i c.loop-i.first item c.get-item.ensures v.first c.requires.well.runs v.waits);
       time = λ h. v.time (f.time h);
       later = later-then (devices (g.U.Medium.state c.args.unit.now) (g.C.Chip.state c.args.card_a.now) (g.C.Chip.state c.args.card_b.now)) (devices (g.U.Medium.state c.loop-i.unit) (g.C.Chip.state c.loop-i.card_a) (g.C.Chip.state c.loop-i.card_b)) (devices (g.U.Medium.state c.go_on.new.unit) (g.C.Chip.state c.go_on.new.card_a) (g.C.Chip.state c.go_on.new.card_b)) v.later f.later;
+      calm = calm-then (devices (g.U.Medium.state c.args.unit.now) (g.C.Chip.state c.args.card_a.now) (g.C.Chip.state c.args.card_b.now)) (devices (g.U.Medium.state c.loop-i.unit) (g.C.Chip.state c.loop-i.card_a) (g.C.Chip.state c.loop-i.card_b)) (devices (g.U.Medium.state c.go_on.new.unit) (g.C.Chip.state c.go_on.new.card_a) (g.C.Chip.state c.go_on.new.card_b)) v.calm f.calm;
       broke = broke-then v.broke f.broke;
       told = v.told;
       cards = λ x a b h time few.
@@ -274,3 +277,6 @@ returns-in_err-opened-clause-broke g c = broke-nothing (log_of c.args.outcome.no
 
 pub returns-clause-calm : goal.returns-clause-calm
 returns-clause-calm g c = calm-all (log_of c.loop-i.outcome) (ap (λ (l : Listed Break). l.items) c.requires.reserved.breaks) c.loop-i.invariant.broke
+
+pub returns-clause-still : goal.returns-clause-still
+returns-clause-still g c = still-all (log_of c.loop-i.outcome) (ap (λ (l : Listed Break). l.items) c.requires.reserved.breaks) c.loop-i.invariant.calm

@@ -9,7 +9,7 @@ use Rattle.recorder_with_cards.specs.Ends.{BeginAs, MayRecord, opened_with, orig
 use Rattle.recorder_with_cards.proofs.Waiting.{Waits}
 use Rattle.run_outcome.specs.Room.{offs, insertions}
 use Rattle.run_acts.specs.Room.{HasRoom}
-use Rattle.run_keeping.specs.Later.{AreLater}
+use Rattle.run_keeping.specs.Later.{AreLater, AreCalm}
 use Rattle.run_outcome.specs.Broken.{BreaksDown}
 use Rattle.recorder_with_cards.proofs.run.run_trace.Given as goal
 
@@ -23,6 +23,7 @@ invariant-loop-i g l = record {
   waits : Waits l.trace.items l.first l.i;
   time : HaveTime (devices (g.U.Medium.state l.unit) (g.C.Chip.state l.card_a) (g.C.Chip.state l.card_b)) → HaveTime (devices (g.U.Medium.state l.fn.unit) (g.C.Chip.state l.fn.card_a) (g.C.Chip.state l.fn.card_b));
   later : AreLater (devices (g.U.Medium.state l.fn.unit) (g.C.Chip.state l.fn.card_a) (g.C.Chip.state l.fn.card_b)) (devices (g.U.Medium.state l.unit) (g.C.Chip.state l.card_a) (g.C.Chip.state l.card_b));
+  calm : AreCalm l.fn.outcome.breaks.items l.outcome.breaks.items (devices (g.U.Medium.state l.fn.unit) (g.C.Chip.state l.fn.card_a) (g.C.Chip.state l.fn.card_b)) (devices (g.U.Medium.state l.unit) (g.C.Chip.state l.card_a) (g.C.Chip.state l.card_b));
   broke : BreaksDown l.fn.outcome.breaks.items l.outcome.breaks.items (g.U.Medium.state l.fn.unit) (g.U.Medium.state l.unit);
   told : (x a b : List ℕ) → BeginAs x a b (devices (g.U.Medium.state l.fn.unit) (g.C.Chip.state l.fn.card_a) (g.C.Chip.state l.fn.card_b)) → MayRecord x a b l.trace.start × IsFound (opened_with x a b) (found_in (opened_with x a b) (devices (g.U.Medium.state l.fn.unit) (g.C.Chip.state l.fn.card_a) (g.C.Chip.state l.fn.card_b))) (devices (g.U.Medium.state l.fn.unit) (g.C.Chip.state l.fn.card_a) (g.C.Chip.state l.fn.card_b));
   cards : (x a b : List ℕ) → BeginAs x a b (devices (g.U.Medium.state l.fn.unit) (g.C.Chip.state l.fn.card_a) (g.C.Chip.state l.fn.card_b)) → HaveTime (devices (g.U.Medium.state l.unit) (g.C.Chip.state l.card_a) (g.C.Chip.state l.card_b)) → length l.trace.items ≤ largest_number

@@ -52,6 +52,7 @@ use Rattle.unit_memory.specs.declared.format.Identity.{Identity}
 use Rattle.run_acts.specs.CardNotes.{NotesOn, NotesOnCards, LeavesPlaces, on_seat, gap_on}
 use Rattle.run_acts.proofs.CardNotes.{both-cards, on-none, on-unbegun, session-noted, both-noted, first-noted}
 use Rattle.run_acts.proofs.CardPlaces.{places-self, leaves-then}
+use Rattle.run_keeping.proofs.Calm.{calm-of-unit, calm-same, calm-then}
 use Rattle.run_acts.proofs.gap.note_gap.Goals as goal
 
 pub note_in-requires-clause-going : goal.note_in-requires-clause-going
@@ -529,3 +530,17 @@ returns-clause-ringed g c =
     let d : Devices = devices (g.M.Medium.state c.args.unit.now) (g.C.Chip.state c.args.card_a.now) (g.D.Chip.state c.args.card_b.now) in
     let e : Devices = devices (g.M.Medium.state c.note_in-2.new.unit) (g.C.Chip.state c.note_in-2.new.card_a) (g.D.Chip.state c.note_in-2.new.card_b) in
     note-ringed (gap_of c.args.kept run.next) (is_err c.note_in-2.result) run c.note_in-2.new.run c.args.breaks.now c.note_in-2.new.breaks d e (returns-clause-noted g c) (returns-clause-rings g c) (returns-clause-leaves g c) (returns-clause-places g c)
+
+-- ---- where no tear of a failed call is told no card has broken down
+
+pub returns-in_default-clause-calm : goal.returns-in_default-clause-calm
+returns-in_default-clause-calm g c = calm-same (devices (g.M.Medium.state c.args.unit.now) (g.C.Chip.state c.args.card_a.now) (g.D.Chip.state c.args.card_b.now))
+
+pub returns-in_err-note_event-clause-calm : goal.returns-in_err-note_event-clause-calm
+returns-in_err-note_event-clause-calm g c = calm-of-unit (g.M.Medium.state c.args.unit.now) (g.M.Medium.state c.note_event.new.unit) (g.C.Chip.state c.args.card_a.now) (g.D.Chip.state c.args.card_b.now)
+
+pub returns-in_err-note_in-clause-calm : goal.returns-in_err-note_in-clause-calm
+returns-in_err-note_in-clause-calm g c = calm-then (devices (g.M.Medium.state c.args.unit.now) (g.C.Chip.state c.args.card_a.now) (g.D.Chip.state c.args.card_b.now)) (devices (g.M.Medium.state c.note_event.new.unit) (g.C.Chip.state c.args.card_a.now) (g.D.Chip.state c.args.card_b.now)) (devices (g.M.Medium.state c.note_in.new.unit) (g.C.Chip.state c.note_in.new.card_a) (g.D.Chip.state c.note_in.new.card_b)) (calm-of-unit (g.M.Medium.state c.args.unit.now) (g.M.Medium.state c.note_event.new.unit) (g.C.Chip.state c.args.card_a.now) (g.D.Chip.state c.args.card_b.now)) c.note_in.ensures.calm
+
+pub returns-clause-calm : goal.returns-clause-calm
+returns-clause-calm g c = calm-then (devices (g.M.Medium.state c.args.unit.now) (g.C.Chip.state c.args.card_a.now) (g.D.Chip.state c.args.card_b.now)) (devices (g.M.Medium.state c.note_event.new.unit) (g.C.Chip.state c.args.card_a.now) (g.D.Chip.state c.args.card_b.now)) (devices (g.M.Medium.state c.note_in-2.new.unit) (g.C.Chip.state c.note_in-2.new.card_a) (g.D.Chip.state c.note_in-2.new.card_b)) (calm-of-unit (g.M.Medium.state c.args.unit.now) (g.M.Medium.state c.note_event.new.unit) (g.C.Chip.state c.args.card_a.now) (g.D.Chip.state c.args.card_b.now)) (calm-then (devices (g.M.Medium.state c.note_event.new.unit) (g.C.Chip.state c.args.card_a.now) (g.D.Chip.state c.args.card_b.now)) (devices (g.M.Medium.state c.note_in.new.unit) (g.C.Chip.state c.note_in.new.card_a) (g.D.Chip.state c.note_in.new.card_b)) (devices (g.M.Medium.state c.note_in-2.new.unit) (g.C.Chip.state c.note_in-2.new.card_a) (g.D.Chip.state c.note_in-2.new.card_b)) c.note_in.ensures.calm c.note_in-2.ensures.calm)

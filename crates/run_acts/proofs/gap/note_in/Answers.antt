@@ -35,6 +35,7 @@ use Rattle.run_notes.specs.Entries.{card_entry}
 use Rattle.run_acts.specs.CardNotes.{NotesOn, LeavesPlaces, on_seat}
 use Rattle.run_acts.proofs.CardNotes.{both-cards, seat-is, seat-other, seat-none, on-seat, on-as, on-other, bare-seat}
 use Rattle.run_acts.proofs.CardPlaces.{places-self}
+use Rattle.run_keeping.proofs.Calm.{calm-of-a, calm-of-b, calm-same, card-by}
 use Rattle.run_acts.proofs.gap.note_in.Goals as goal
 
 -- ---- card a
@@ -443,3 +444,17 @@ pub returns-in_default-number_in-clause-places : goal.returns-in_default-number_
 returns-in_default-number_in-clause-places g c =
     let d = devices (g.M.Medium.state c.args.unit.now) (g.C.Chip.state c.args.card_a.now) (g.D.Chip.state c.args.card_b.now) in
     λ card. places-self (session_of c.args.run.now.keeper.cabin.cards card) (card_of d card)
+
+-- ---- where no tear of a failed call is told no card has broken down
+
+pub returns-in_default-clause-calm : goal.returns-in_default-clause-calm
+returns-in_default-clause-calm g c = calm-same (devices (g.M.Medium.state c.args.unit.now) (g.C.Chip.state c.args.card_a.now) (g.D.Chip.state c.args.card_b.now))
+
+pub returns-in_default-number_in-clause-calm : goal.returns-in_default-number_in-clause-calm
+returns-in_default-number_in-clause-calm g c = calm-same (devices (g.M.Medium.state c.args.unit.now) (g.C.Chip.state c.args.card_a.now) (g.D.Chip.state c.args.card_b.now))
+
+pub returns-in-A-clause-calm : goal.returns-in-A-clause-calm
+returns-in-A-clause-calm g c = calm-of-a (g.M.Medium.state c.args.unit.now) (g.M.Medium.state c.note_on.new.unit) (g.C.Chip.state c.args.card_a.now) (g.C.Chip.state c.note_on.new.card) (g.D.Chip.state c.args.card_b.now) (card-by c.note_on.ensures.noted.0 c.args.slot (now_moment c.args.run.now) (λ (fell : Bool). noted_breaks fell c.args.slot (now_moment c.args.run.now)) refl refl (ap (λ (l : Listed Break). l.items) c.note_on.ensures.noted.1.told) c.note_on.ensures.noted.3)
+
+pub returns-in-B-clause-calm : goal.returns-in-B-clause-calm
+returns-in-B-clause-calm g c = calm-of-b (g.M.Medium.state c.args.unit.now) (g.M.Medium.state c.note_on-in-B.new.unit) (g.C.Chip.state c.args.card_a.now) (g.D.Chip.state c.args.card_b.now) (g.D.Chip.state c.note_on-in-B.new.card) (card-by c.note_on-in-B.ensures.noted.0 c.args.slot (now_moment c.args.run.now) (λ (fell : Bool). noted_breaks fell c.args.slot (now_moment c.args.run.now)) refl refl (ap (λ (l : Listed Break). l.items) c.note_on-in-B.ensures.noted.1.told) c.note_on-in-B.ensures.noted.3)

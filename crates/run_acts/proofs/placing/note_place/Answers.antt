@@ -68,6 +68,7 @@ use Rattle.log_model.specs.Slots.{same_card}
 use Rattle.run_keeping.specs.declared.keeper.Moment.{Moment}
 use Rattle.run_acts.proofs.CardPlaces.{PlaceCall, call-unbegun, call-made}
 use Rattle.run_acts.proofs.CardWrites.{place-unit, place-bare, place-any, seat-bare}
+use Rattle.run_keeping.proofs.Calm.{calm-of-a, calm-of-b, calm-of-unit, calm-same, calm-then, card-by}
 use Rattle.run_acts.proofs.placing.note_place.Goals as goal
 
 pub note_place_in-requires-clause-ready : goal.note_place_in-requires-clause-ready
@@ -829,3 +830,20 @@ returns-in-B-clause-on_card g c = λ card there.
     let e = devices (g.M.Medium.state c.note_place_in-in-B.new.unit) (g.C.Chip.state c.args.card_a.now) (g.D.Chip.state c.note_place_in-in-B.new.card) in
     subst (λ (k : Card). PlaceOn (session_of run.keeper.cabin.cards k) (session_of new.keeper.cabin.cards k) (is_err c.note_place_in-in-B.result) c.args.entry.now (card_of d k) (card_of e k)) is
     (place-any c.args.entry.now (g.D.Chip.state c.args.card_b.now) (g.D.Chip.state c.note_place_in-in-B.new.card) (session_of run.keeper.cabin.cards B) (session_of new.keeper.cabin.cards B) (is_err c.note_place_in-in-B.result) c.note_place_in-in-B.ensures.on_card)
+
+-- ---- where no tear of a failed call is told no card has broken down
+
+pub returns-in_default-clause-calm : goal.returns-in_default-clause-calm
+returns-in_default-clause-calm g c = calm-same (devices (g.M.Medium.state c.args.unit.now) (g.C.Chip.state c.args.card_a.now) (g.D.Chip.state c.args.card_b.now))
+
+pub returns-in_default-number_in-clause-calm : goal.returns-in_default-number_in-clause-calm
+returns-in_default-number_in-clause-calm g c = calm-same (devices (g.M.Medium.state c.args.unit.now) (g.C.Chip.state c.args.card_a.now) (g.D.Chip.state c.args.card_b.now))
+
+pub returns-in_err-note_place-clause-calm : goal.returns-in_err-note_place-clause-calm
+returns-in_err-note_place-clause-calm g c = calm-of-unit (g.M.Medium.state c.args.unit.now) (g.M.Medium.state c.note_place.new.unit) (g.C.Chip.state c.args.card_a.now) (g.D.Chip.state c.args.card_b.now)
+
+pub returns-in-A-clause-calm : goal.returns-in-A-clause-calm
+returns-in-A-clause-calm g c = calm-then (devices (g.M.Medium.state c.args.unit.now) (g.C.Chip.state c.args.card_a.now) (g.D.Chip.state c.args.card_b.now)) (devices (g.M.Medium.state c.note_place.new.unit) (g.C.Chip.state c.args.card_a.now) (g.D.Chip.state c.args.card_b.now)) (devices (g.M.Medium.state c.note_place_in.new.unit) (g.C.Chip.state c.note_place_in.new.card) (g.D.Chip.state c.args.card_b.now)) (calm-of-unit (g.M.Medium.state c.args.unit.now) (g.M.Medium.state c.note_place.new.unit) (g.C.Chip.state c.args.card_a.now) (g.D.Chip.state c.args.card_b.now)) (calm-of-a (g.M.Medium.state c.note_place.new.unit) (g.M.Medium.state c.note_place_in.new.unit) (g.C.Chip.state c.args.card_a.now) (g.C.Chip.state c.note_place_in.new.card) (g.D.Chip.state c.args.card_b.now) (card-by c.note_place_in.ensures.noted.0 c.args.slot c.args.at (λ (fell : Bool). noted_breaks fell c.args.slot c.args.at) refl refl (ap (λ (l : Listed Break). l.items) c.note_place_in.ensures.noted.1.told) c.note_place_in.ensures.noted.3))
+
+pub returns-in-B-clause-calm : goal.returns-in-B-clause-calm
+returns-in-B-clause-calm g c = calm-then (devices (g.M.Medium.state c.args.unit.now) (g.C.Chip.state c.args.card_a.now) (g.D.Chip.state c.args.card_b.now)) (devices (g.M.Medium.state c.note_place.new.unit) (g.C.Chip.state c.args.card_a.now) (g.D.Chip.state c.args.card_b.now)) (devices (g.M.Medium.state c.note_place_in-in-B.new.unit) (g.C.Chip.state c.args.card_a.now) (g.D.Chip.state c.note_place_in-in-B.new.card)) (calm-of-unit (g.M.Medium.state c.args.unit.now) (g.M.Medium.state c.note_place.new.unit) (g.C.Chip.state c.args.card_a.now) (g.D.Chip.state c.args.card_b.now)) (calm-of-b (g.M.Medium.state c.note_place.new.unit) (g.M.Medium.state c.note_place_in-in-B.new.unit) (g.C.Chip.state c.args.card_a.now) (g.D.Chip.state c.args.card_b.now) (g.D.Chip.state c.note_place_in-in-B.new.card) (card-by c.note_place_in-in-B.ensures.noted.0 c.args.slot c.args.at (λ (fell : Bool). noted_breaks fell c.args.slot c.args.at) refl refl (ap (λ (l : Listed Break). l.items) c.note_place_in-in-B.ensures.noted.1.told) c.note_place_in-in-B.ensures.noted.3))

@@ -262,4 +262,9 @@ returns-clause-places g c =
           o done s (suc n) waits (omega arith) here r time).1,
     )
 
+-- ---- where no tear of a failed call is told no card has broken down
+
+pub returns-clause-calm : goal.returns-clause-calm
+returns-clause-calm g c = c.keep_all.ensures.calm
+
 -- ---- which faults are noted

@@ -15,6 +15,7 @@ use Rattle.run_acts.specs.Faults.{NotesKeeping}
 use Rattle.run_acts.proofs.TurnBooked.{turn-cut, turn-noted}
 use Rattle.run_acts.proofs.TurnNoted.{keeping-then, keeping-cut}
 use Rattle.run_keeping.proofs.Later.{state-by, later-then, later-of-unit}
+use Rattle.run_keeping.proofs.Calm.{calm-of-unit, calm-then}
 use Rattle.run_acts.proofs.turning.keep_turn.Goals as goal
 
 pub returns-clause-kept : goal.returns-clause-kept
@@ -147,3 +148,11 @@ returns-in_err-keep_all-clause-later g c = c.keep_all.ensures.later
 
 pub returns-clause-later : goal.returns-clause-later
 returns-clause-later g c = later-then (devices (g.M.Medium.state c.args.unit.now) (g.C.Chip.state c.args.card_a.now) (g.D.Chip.state c.args.card_b.now)) (devices (g.M.Medium.state c.keep_all.new.unit) (g.C.Chip.state c.keep_all.new.card_a) (g.D.Chip.state c.keep_all.new.card_b)) (devices (g.M.Medium.state c.turn.new.unit) (g.C.Chip.state c.keep_all.new.card_a) (g.D.Chip.state c.keep_all.new.card_b)) c.keep_all.ensures.later (later-of-unit (g.M.Medium.state c.keep_all.new.unit) (g.M.Medium.state c.turn.new.unit) (g.C.Chip.state c.keep_all.new.card_a) (g.D.Chip.state c.keep_all.new.card_b) (state-by (g.M.Medium.state c.keep_all.new.unit) (g.M.Medium.state c.turn.new.unit) _ c.turn.ensures.journal.later c.turn.ensures.cause))
+
+-- ---- where no tear of a failed call is told no card has broken down
+
+pub returns-in_err-keep_all-clause-calm : goal.returns-in_err-keep_all-clause-calm
+returns-in_err-keep_all-clause-calm g c = c.keep_all.ensures.calm
+
+pub returns-clause-calm : goal.returns-clause-calm
+returns-clause-calm g c = calm-then (devices (g.M.Medium.state c.args.unit.now) (g.C.Chip.state c.args.card_a.now) (g.D.Chip.state c.args.card_b.now)) (devices (g.M.Medium.state c.keep_all.new.unit) (g.C.Chip.state c.keep_all.new.card_a) (g.D.Chip.state c.keep_all.new.card_b)) (devices (g.M.Medium.state c.turn.new.unit) (g.C.Chip.state c.keep_all.new.card_a) (g.D.Chip.state c.keep_all.new.card_b)) c.keep_all.ensures.calm (calm-of-unit (g.M.Medium.state c.keep_all.new.unit) (g.M.Medium.state c.turn.new.unit) (g.C.Chip.state c.keep_all.new.card_a) (g.D.Chip.state c.keep_all.new.card_b))

@@ -29,6 +29,7 @@ use Rattle.run_acts.proofs.Ringing.{turn-leaves}
 use Rattle.run_acts.proofs.RingedTurn.{dark-ringed, seconds-ringed}
 use Rattle.run_acts.specs.RunCards.{CardsAtBy}
 use Rattle.run_acts.proofs.CardTurn.{dark-cards, seconds-shown}
+use Rattle.run_keeping.proofs.Calm.{calm-same}
 use Rattle.run_acts.proofs.turning.turn.Goals as goal
 
 -- ---- without power
@@ -236,3 +237,11 @@ returns-clause-cards g c = λ o done s now actions none there time.
     let low : 0 < run.next = let first = c.requires.going.low in omega (arith, first) in
     seconds-shown c.args.n c.args.speed c.args.begun run c.lit_turn.new.run before after d e (c.requires.going.lit lit) r.0.lit c.requires.some c.requires.minute c.requires.small low c.lit_turn.ensures.booked
     o done s now actions (λ more. none (omega (arith, more))) r.0 time r.1
+
+-- ---- where no tear of a failed call is told no card has broken down
+
+pub returns-then-not-is_lit-clause-calm : goal.returns-then-not-is_lit-clause-calm
+returns-then-not-is_lit-clause-calm g c = calm-same (devices (g.M.Medium.state c.args.unit.now) (g.C.Chip.state c.args.card_a.now) (g.D.Chip.state c.args.card_b.now))
+
+pub returns-clause-calm : goal.returns-clause-calm
+returns-clause-calm g c = c.lit_turn.ensures.calm

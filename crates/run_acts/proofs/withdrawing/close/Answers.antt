@@ -39,6 +39,9 @@ use Rattle.run_acts.specs.Ringing.{ClosesRings}
 use Rattle.run_keeping.proofs.Later.{state-same, state-by}
 use Rattle.run_acts.specs.CardWrites.{ClosesCard}
 use Rattle.run_acts.proofs.CardWrites.{closes-well}
+use Rattle.run_outcome.specs.Lines.{Listed}
+use Rattle.log_model.specs.declared.lines.Break.{Break}
+use Rattle.run_keeping.proofs.Calm.{card-beside, card-fell, card-rests}
 use Rattle.run_acts.proofs.withdrawing.close.Goals as goal
 
 pub returns-in-Ok-leave-clause-ready : goal.returns-in-Ok-leave-clause-ready
@@ -368,3 +371,17 @@ returns-in-Err-clause-shut g c =
       selected = c.selected-selected.ensures;
       closes = tt;
     }
+
+-- ---- where no tear of a failed call is told no card has broken down
+
+pub returns-in_default-clause-calm : goal.returns-in_default-clause-calm
+returns-in_default-clause-calm g c = card-beside (g.C.Chip.state c.args.card.now) (omega arith)
+
+pub returns-in_default-sizes-clause-calm : goal.returns-in_default-sizes-clause-calm
+returns-in_default-sizes-clause-calm g c = card-beside (g.C.Chip.state c.args.card.now) (omega arith)
+
+pub returns-in-Ok-leave-clause-calm : goal.returns-in-Ok-leave-clause-calm
+returns-in-Ok-leave-clause-calm g c = card-rests refl (c.in-Ok-leave.ensures.cause.unbroken refl)
+
+pub returns-in-Err-clause-calm : goal.returns-in-Err-clause-calm
+returns-in-Err-clause-calm g c = card-fell c.args.slot c.args.at (ap (λ (l : Listed Break). l.items) c.tear.ensures.told)

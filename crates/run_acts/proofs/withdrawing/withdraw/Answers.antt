@@ -65,6 +65,7 @@ use Rattle.run_acts.proofs.CardStays.{shows-then}
 use Rattle.run_acts.proofs.CardActs.{TellsLines, settled-lines, closed-lines, quiet-goes}
 use Rattle.run_acts.specs.CardWrites.{ShutsBehind, WithdrawsShut}
 use Rattle.run_acts.proofs.CardWrites.{withdrawn-shut}
+use Rattle.run_keeping.proofs.Calm.{calm-of-a, calm-of-b, calm-same, calm-then}
 use Rattle.run_acts.proofs.withdrawing.withdraw.Goals as goal
 
 -- ---- it has left its slot
@@ -1178,3 +1179,17 @@ returns-in-B-clause-shut g c = λ card there.
       selected = n.selected;
       shut = withdrawn-shut B U1 V X Y Z e.journal e.clock_card n.closing b.0 c.args.at (told_of (with_cabin c.leave.new.self run) c.args.outcome.now) (told_of c.settle.new.run c.settle.new.outcome) D n.act n.closes b.1 b.3 b.4;
     })))
+
+-- ---- where no tear of a failed call is told no card has broken down
+
+pub returns-in_default-clause-calm : goal.returns-in_default-clause-calm
+returns-in_default-clause-calm g c = calm-same (devices (g.M.Medium.state c.args.unit.now) (g.C.Chip.state c.args.card_a.now) (g.D.Chip.state c.args.card_b.now))
+
+pub returns-in_err-settle-clause-calm : goal.returns-in_err-settle-clause-calm
+returns-in_err-settle-clause-calm g c = c.settle.ensures.calm
+
+pub returns-in-A-clause-calm : goal.returns-in-A-clause-calm
+returns-in-A-clause-calm g c = calm-then (devices (g.M.Medium.state c.args.unit.now) (g.C.Chip.state c.args.card_a.now) (g.D.Chip.state c.args.card_b.now)) (devices (g.M.Medium.state c.settle.new.unit) (g.C.Chip.state c.settle.new.card_a) (g.D.Chip.state c.settle.new.card_b)) (devices (g.M.Medium.state c.close.new.unit) (g.C.Chip.state c.close.new.card) (g.D.Chip.state c.settle.new.card_b)) c.settle.ensures.calm (calm-of-a (g.M.Medium.state c.settle.new.unit) (g.M.Medium.state c.close.new.unit) (g.C.Chip.state c.settle.new.card_a) (g.C.Chip.state c.close.new.card) (g.D.Chip.state c.settle.new.card_b) c.close.ensures.calm)
+
+pub returns-in-B-clause-calm : goal.returns-in-B-clause-calm
+returns-in-B-clause-calm g c = calm-then (devices (g.M.Medium.state c.args.unit.now) (g.C.Chip.state c.args.card_a.now) (g.D.Chip.state c.args.card_b.now)) (devices (g.M.Medium.state c.settle.new.unit) (g.C.Chip.state c.settle.new.card_a) (g.D.Chip.state c.settle.new.card_b)) (devices (g.M.Medium.state c.close-in-B.new.unit) (g.C.Chip.state c.settle.new.card_a) (g.D.Chip.state c.close-in-B.new.card)) c.settle.ensures.calm (calm-of-b (g.M.Medium.state c.settle.new.unit) (g.M.Medium.state c.close-in-B.new.unit) (g.C.Chip.state c.settle.new.card_a) (g.D.Chip.state c.settle.new.card_b) (g.D.Chip.state c.close-in-B.new.card) c.close-in-B.ensures.calm)

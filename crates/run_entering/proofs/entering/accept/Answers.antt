@@ -27,6 +27,10 @@ use Rattle.run_entering.proofs.CardBrought.{sits-works}
 use Rattle.run_entering.proofs.Judged.{entered-judged, entered-unsized, entered-unread}
 use Rattle.run_entering.proofs.Seats.{unsized-ready}
 use Rattle.run_keeping.proofs.Later.{state-then, state-revived}
+use Rattle.run_keeping.proofs.Calm.{none-told, card-rests, card-fell, card-then}
+use Rattle.run_outcome.specs.Lines.{Listed}
+use Rattle.log_model.specs.declared.lines.Break.{Break}
+use Rattle.run_outcome.specs.declared.outcome.Outcome.{Outcome}
 use Rattle.run_entering.proofs.entering.accept.Goals as goal
 
 -- ---- it failed before it told its sizes
@@ -194,3 +198,14 @@ pub returns-in-Err-clause-rows : goal.returns-in-Err-clause-rows
 returns-in-Err-clause-rows g c = λ card h.
     let U = g.M.Medium.state c.args.unit.now in
     c.refuse.ensures.rows card (subst (λ (b : Cabin). HasItsRow b.cards U card) (sym c.measure-2.ensures.kept) (row-measured c.args.entering.which c.in-Ok.sizes c.args.keeper.now.cabin.cards U card h))
+
+-- ---- where no tear of a failed call is told no card has broken down
+
+pub returns-in_default-clause-calm : goal.returns-in_default-clause-calm
+returns-in_default-clause-calm g c = card-fell c.args.entering.slot c.args.entering.at (ap (λ (l : Listed Break). l.items) c.tear.ensures.told)
+
+pub returns-in-Ok-sizes-clause-calm : goal.returns-in-Ok-sizes-clause-calm
+returns-in-Ok-sizes-clause-calm g c = card-then (card-rests refl (c.in-Ok.ensures.cause.unbroken refl)) c.accept_by.ensures.calm
+
+pub returns-in-Err-clause-calm : goal.returns-in-Err-clause-calm
+returns-in-Err-clause-calm g c = card-rests (none-told [] (ap (λ (o : Outcome). o.breaks.items) c.refuse.ensures.told) refl) (c.in-Ok.ensures.cause.unbroken refl)

@@ -1,4 +1,4 @@
-use Rattle.std.proofs.Common.{◌≡◌, ◌<◌, ◌≤◌, ◌/◌, ◌^◌, ℕ, Bool, true, false, rules, arith, length, Option, None, Ok, List, IfSome, option_map, refl, sym, subst}
+use Rattle.std.proofs.Common.{◌≡◌, ◌<◌, ◌≤◌, ◌/◌, ◌^◌, ℕ, Bool, true, false, rules, arith, length, Option, None, Ok, List, IfSome, option_map, refl, sym, subst, ap, []}
 use Rattle.tacho_types.specs.CardNumber.{card_number_bytes}
 use Rattle.tacho_types.specs.declared.card_number.FullCardNumber.{FullCardNumber}
 use Rattle.owed_model.specs.Rows.{IsRowFor}
@@ -17,6 +17,10 @@ use Rattle.run_entering.proofs.InTime.{judged-early, taken-early}
 use Rattle.run_entering.proofs.Notes.{fault-noted}
 use Rattle.run_entering.proofs.Judged.{judged-taken, judged-unasked, judged-fell, judged-unfit, judged-ahead, unfit-told, ahead-told, ahead-noted}
 use Rattle.run_keeping.proofs.Later.{state-then, state-by}
+use Rattle.run_keeping.proofs.Calm.{none-told, card-rests, card-fell, card-then}
+use Rattle.run_outcome.specs.Lines.{Listed}
+use Rattle.log_model.specs.declared.lines.Break.{Break}
+use Rattle.run_outcome.specs.declared.outcome.Outcome.{Outcome}
 use Rattle.run_entering.proofs.entering.accept_by.Goals as goal
 
 pub returns-in-Ok-clause-ended : goal.returns-in-Ok-clause-ended
@@ -221,3 +225,20 @@ take_in-requires-clause-row g c =
 
 pub take_in-requires-clause-low : goal.take_in-requires-clause-low
 take_in-requires-clause-low g c = c.in-Ok.ensures.low
+
+-- ---- where no tear of a failed call is told no card has broken down
+
+pub returns-in-Ok-clause-calm : goal.returns-in-Ok-clause-calm
+returns-in-Ok-clause-calm g c = card-then (card-rests refl (c.in-Ok.ensures.enters.cause.unbroken refl)) c.take_in.ensures.calm
+
+pub returns-in-Err-UnitFailed-clause-calm : goal.returns-in-Err-UnitFailed-clause-calm
+returns-in-Err-UnitFailed-clause-calm g c = card-rests refl (c.in-Err-UnitFailed.ensures.enters.cause.unbroken refl)
+
+pub returns-in-Err-CardFailed-clause-calm : goal.returns-in-Err-CardFailed-clause-calm
+returns-in-Err-CardFailed-clause-calm g c = card-fell c.args.entering.slot c.args.entering.at (ap (λ (l : Listed Break). l.items) c.tear.ensures.told)
+
+pub returns-in-Err-NotValid-clause-calm : goal.returns-in-Err-NotValid-clause-calm
+returns-in-Err-NotValid-clause-calm g c = card-rests (none-told [] (ap (λ (o : Outcome). o.breaks.items) c.refuse.ensures.told) refl) (c.in-Err-NotValid.ensures.enters.cause.unbroken refl)
+
+pub returns-in-Err-TimeOverlap-clause-calm : goal.returns-in-Err-TimeOverlap-clause-calm
+returns-in-Err-TimeOverlap-clause-calm g c = card-rests (none-told [] (ap (λ (o : Outcome). o.breaks.items) c.defer.ensures.told) refl) (c.in-Err-TimeOverlap.ensures.enters.cause.unbroken refl)

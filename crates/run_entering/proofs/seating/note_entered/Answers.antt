@@ -10,6 +10,7 @@ use Rattle.run_entering.proofs.Accepted.{entered-cut, entered-closed, entered-un
 use Rattle.run_keeping.proofs.Later.{state-same}
 use Rattle.run_entering.proofs.seating.note_entered.Goals as goal
 use Rattle.run_entering.proofs.seating.note_entered.Goals.{then-entering-gt0+in_ok-note_moving, else-entering-gt0}
+use Rattle.run_keeping.proofs.Calm.{card-beside}
 
 pub returns-then-session-eq0-clause-stands : goal.returns-then-session-eq0-clause-stands
 returns-then-session-eq0-clause-stands g c = elim c.if-entering-gt0.branch [
@@ -125,4 +126,21 @@ pub returns-clause-later : goal.returns-clause-later
 returns-clause-later g c = elim c.if-entering-gt0.branch [
   | then-entering-gt0+in_ok-note_moving w ↦ rw w.card-is w.in_ok-note_moving.ensures.later
   | else-entering-gt0 w ↦ rw w.card-is (state-same (g.C.Chip.state c.args.card.now))
+]
+
+-- ---- where no tear of a failed call is told no card has broken down
+
+pub returns-in_err-note_moving-clause-calm : goal.returns-in_err-note_moving-clause-calm
+returns-in_err-note_moving-clause-calm g c = c.in_err-note_moving.ensures.calm
+
+pub returns-then-session-eq0-clause-calm : goal.returns-then-session-eq0-clause-calm
+returns-then-session-eq0-clause-calm g c = elim c.if-entering-gt0.branch [
+  | then-entering-gt0+in_ok-note_moving w ↦ rw (w.breaks-is, w.card-is) w.in_ok-note_moving.ensures.calm
+  | else-entering-gt0 w ↦ rw (w.breaks-is, w.card-is) (card-beside (g.C.Chip.state c.args.card.now) (omega arith))
+]
+
+pub returns-clause-calm : goal.returns-clause-calm
+returns-clause-calm g c = elim c.if-entering-gt0.branch [
+  | then-entering-gt0+in_ok-note_moving w ↦ rw (w.breaks-is, w.card-is) w.in_ok-note_moving.ensures.calm
+  | else-entering-gt0 w ↦ rw (w.breaks-is, w.card-is) (card-beside (g.C.Chip.state c.args.card.now) (omega arith))
 ]

@@ -1,4 +1,4 @@
-use Rattle.std.proofs.Common.{◌≡◌, Bool, true, false, rules, refl, sym, subst, arith, ◌≤◌}
+use Rattle.std.proofs.Common.{◌≡◌, Bool, true, false, rules, refl, sym, subst, arith, ◌≤◌, ap}
 use Rattle.std.specs.Prelude.{None, is_err}
 use Rattle.event_model.specs.declared.kinds.TheConstants.{INSERTION_WHILE_DRIVING}
 use Rattle.tach_media.proofs.Runs.{ok_gives}
@@ -12,6 +12,9 @@ use Rattle.run_entering.specs.Told.{BooksNotes}
 use Rattle.run_entering.proofs.Carried as booked
 use Rattle.run_entering.proofs.Accepted.{event-is, moved-cut, moved-kept, moved-torn}
 use Rattle.run_keeping.proofs.Later.{state-same, state-by}
+use Rattle.run_keeping.proofs.Calm.{card-beside, card-rests, card-fell}
+use Rattle.run_outcome.specs.Lines.{Listed}
+use Rattle.log_model.specs.declared.lines.Break.{Break}
 use Rattle.run_entering.proofs.seating.note_moving.Goals as goal
 
 pub note_event_on-requires-clause-port : goal.note_event_on-requires-clause-port
@@ -91,3 +94,14 @@ returns-in-Ok-clause-later g c = state-by (g.C.Chip.state c.args.card.now) (g.C.
 
 pub returns-in-Err-clause-later : goal.returns-in-Err-clause-later
 returns-in-Err-clause-later g c = state-by (g.C.Chip.state c.args.card.now) (g.C.Chip.state c.note_event_on.new.card) _ c.note_event_on.ensures.moments.later c.in-Err.ensures.cause
+
+-- ---- where no tear of a failed call is told no card has broken down
+
+pub returns-in_err-note_driving-clause-calm : goal.returns-in_err-note_driving-clause-calm
+returns-in_err-note_driving-clause-calm g c = card-beside (g.C.Chip.state c.args.card.now) (omega arith)
+
+pub returns-in-Ok-clause-calm : goal.returns-in-Ok-clause-calm
+returns-in-Ok-clause-calm g c = card-rests refl (c.in-Ok.ensures.cause.unbroken refl)
+
+pub returns-in-Err-clause-calm : goal.returns-in-Err-clause-calm
+returns-in-Err-clause-calm g c = card-fell c.args.entering.slot c.args.entering.at (ap (λ (l : Listed Break). l.items) c.tear.ensures.told)

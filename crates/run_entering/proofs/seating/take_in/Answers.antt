@@ -10,6 +10,7 @@ use Rattle.run_entering.proofs.Carried.{taken-row, seat-found, taken-notes}
 use Rattle.run_entering.proofs.Accepted.{taken-cut, taken-on}
 use Rattle.run_entering.proofs.Seats.{if-any, seated-ready, seated-minute}
 use Rattle.run_keeping.proofs.Later.{state-same}
+use Rattle.run_keeping.proofs.Calm.{card-beside}
 use Rattle.run_entering.proofs.seating.take_in.Goals as goal
 
 pub returns-in_err-seat-clause-ended : goal.returns-in_err-seat-clause-ended
@@ -101,3 +102,11 @@ returns-in_err-seat-clause-later g c = state-same (g.C.Chip.state c.args.card.no
 
 pub returns-clause-later : goal.returns-clause-later
 returns-clause-later g c = c.note_entered.ensures.later
+
+-- ---- where no tear of a failed call is told no card has broken down
+
+pub returns-in_err-seat-clause-calm : goal.returns-in_err-seat-clause-calm
+returns-in_err-seat-clause-calm g c = card-beside (g.C.Chip.state c.args.card.now) (omega arith)
+
+pub returns-clause-calm : goal.returns-clause-calm
+returns-clause-calm g c = c.note_entered.ensures.calm

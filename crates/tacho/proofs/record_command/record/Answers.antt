@@ -46,7 +46,7 @@ returns-clause-ends g c =
     let f = c.in_default-record_with_cards.ensures in
     ends-run _ _ c.run_trace-2.new.outcome c.print_outcome-2.result e.end e.finds_bad_line e.finds_too_long
     (λ fault ran rose. inr (inr (cards-run _ _ c.run_trace-2.new.outcome c.in-Ok.trace.start c.in-Ok.trace.items (c.is_for_unit.ensures.card c.if-is_for_unit.false) f.later f.broke e.reads
-    (λ x a b begins clocks. f.recorded x a b begins clocks (omega (arith, e.few))) f.begun f.calm fault ran rose)))
+    (λ x a b begins clocks. f.recorded x a b begins clocks (omega (arith, e.few))) f.begun f.calm f.still fault ran rose)))
     c.print_outcome-2.ensures.ok c.print_outcome-2.ensures.err c.print_outcome-2.ensures.cause
 
 -- ---- the cause of a refusal

@@ -12,6 +12,7 @@ use Rattle.tach_media.proofs.Runs.{starts}
 use Rattle.run_keeping.proofs.Fates.{nobody-brought}
 use Rattle.run_keeping.proofs.Brought.{brought-booked, nobody-booked}
 use Rattle.run_keeping.proofs.Later.{state-by, later-same, later-of-a, later-of-b}
+use Rattle.run_keeping.proofs.Calm.{brought-calm, calm-same, calm-of-a, calm-of-b}
 use Rattle.run_keeping.proofs.keeper.Keeper.bring.Goals as goal
 
 pub returns-in-None-clause-brought : goal.returns-in-None-clause-brought
@@ -79,3 +80,14 @@ returns-in-Some-A-clause-later g c = later-of-a (g.M.Medium.state c.args.unit.no
 
 pub returns-in-Some-B-clause-later : goal.returns-in-Some-B-clause-later
 returns-in-Some-B-clause-later g c = later-of-b (g.M.Medium.state c.args.unit.now) (g.M.Medium.state c.bring_to-in-Some-B.new.unit) (g.C.Chip.state c.args.card_a.now) (g.D.Chip.state c.args.card_b.now) (g.D.Chip.state c.bring_to-in-Some-B.new.card) (state-by (g.M.Medium.state c.args.unit.now) (g.M.Medium.state c.bring_to-in-Some-B.new.unit) (is_err c.bring_to-in-Some-B.result) c.bring_to-in-Some-B.ensures.journal.later c.bring_to-in-Some-B.ensures.cause) c.bring_to-in-Some-B.ensures.later
+
+-- ---- where no tear of a failed call is told no card has broken down
+
+pub returns-in-None-clause-calm : goal.returns-in-None-clause-calm
+returns-in-None-clause-calm g c = calm-same (devices (g.M.Medium.state c.args.unit.now) (g.C.Chip.state c.args.card_a.now) (g.D.Chip.state c.args.card_b.now))
+
+pub returns-in-Some-A-clause-calm : goal.returns-in-Some-A-clause-calm
+returns-in-Some-A-clause-calm g c = calm-of-a (g.M.Medium.state c.args.unit.now) (g.M.Medium.state c.bring_to.new.unit) (g.C.Chip.state c.args.card_a.now) (g.C.Chip.state c.bring_to.new.card) (g.D.Chip.state c.args.card_b.now) (brought-calm A _ _ _ _ _ _ _ _ _ _ _ _ _ _ c.bring_to.ensures.brought.1 (λ none. ap (λ (s : State). s.breakdowns) (ap g.C.Chip.state (c.bring_to.ensures.bare none))))
+
+pub returns-in-Some-B-clause-calm : goal.returns-in-Some-B-clause-calm
+returns-in-Some-B-clause-calm g c = calm-of-b (g.M.Medium.state c.args.unit.now) (g.M.Medium.state c.bring_to-in-Some-B.new.unit) (g.C.Chip.state c.args.card_a.now) (g.D.Chip.state c.args.card_b.now) (g.D.Chip.state c.bring_to-in-Some-B.new.card) (brought-calm B _ _ _ _ _ _ _ _ _ _ _ _ _ _ c.bring_to-in-Some-B.ensures.brought.1 (λ none. ap (λ (s : State). s.breakdowns) (ap g.D.Chip.state (c.bring_to-in-Some-B.ensures.bare none))))

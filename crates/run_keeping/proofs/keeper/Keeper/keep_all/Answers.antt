@@ -20,6 +20,7 @@ use Rattle.run_keeping.proofs.Decided.{this, due-here, due-most, kept-here, all-
 use Rattle.run_keeping.proofs.Units.{left-then}
 use Rattle.run_keeping.proofs.Seats.{emptied-none, emptied-then, stays-none, sessions-none, sessions-then}
 use Rattle.run_keeping.proofs.Later.{later-same, later-then}
+use Rattle.run_keeping.proofs.Calm.{calm-same, calm-then}
 use Rattle.run_keeping.proofs.keeper.Keeper.keep_all.Goals as goal
 
 pub present-present-requires : goal.present-present-requires
@@ -118,6 +119,7 @@ loop-minute-init g c = record {
   a_bare = λ none. refl;
   b_bare = λ none. refl;
   later = later-same (devices (g.M.Medium.state c.args.unit.now) (g.C.Chip.state c.args.card_a.now) (g.D.Chip.state c.args.card_b.now));
+  calm = calm-same (devices (g.M.Medium.state c.args.unit.now) (g.C.Chip.state c.args.card_a.now) (g.D.Chip.state c.args.card_b.now));
 }
 
 pub loop-minute-preserved : goal.loop-minute-preserved
@@ -187,6 +189,7 @@ loop-minute-preserved g c =
       a_bare = λ none. e.a_bare (stays-none c.args.self.now.cabin.cards.a.accepted c.loop-minute.self.cabin.cards.a.accepted v.sessions.a none) ∙ v.a_bare none;
       b_bare = λ none. e.b_bare (stays-none c.args.self.now.cabin.cards.b.accepted c.loop-minute.self.cabin.cards.b.accepted v.sessions.b none) ∙ v.b_bare none;
       later = later-then (devices (g.M.Medium.state c.args.unit.now) (g.C.Chip.state c.args.card_a.now) (g.D.Chip.state c.args.card_b.now)) (devices (g.M.Medium.state c.loop-minute.unit) (g.C.Chip.state c.loop-minute.card_a) (g.D.Chip.state c.loop-minute.card_b)) (devices (g.M.Medium.state c.keep_minute.new.unit) (g.C.Chip.state c.keep_minute.new.card_a) (g.D.Chip.state c.keep_minute.new.card_b)) v.later e.later;
+      calm = calm-then (devices (g.M.Medium.state c.args.unit.now) (g.C.Chip.state c.args.card_a.now) (g.D.Chip.state c.args.card_b.now)) (devices (g.M.Medium.state c.loop-minute.unit) (g.C.Chip.state c.loop-minute.card_a) (g.D.Chip.state c.loop-minute.card_b)) (devices (g.M.Medium.state c.keep_minute.new.unit) (g.C.Chip.state c.keep_minute.new.card_a) (g.D.Chip.state c.keep_minute.new.card_b)) v.calm e.calm;
     }
 
 pub returns-clause-kept : goal.returns-clause-kept
@@ -377,3 +380,11 @@ returns-clause-later g c = c.loop-minute.invariant.later
 
 pub returns-in_err-keep_minute-clause-later : goal.returns-in_err-keep_minute-clause-later
 returns-in_err-keep_minute-clause-later g c = later-then (devices (g.M.Medium.state c.args.unit.now) (g.C.Chip.state c.args.card_a.now) (g.D.Chip.state c.args.card_b.now)) (devices (g.M.Medium.state c.loop-minute.unit) (g.C.Chip.state c.loop-minute.card_a) (g.D.Chip.state c.loop-minute.card_b)) (devices (g.M.Medium.state c.keep_minute.new.unit) (g.C.Chip.state c.keep_minute.new.card_a) (g.D.Chip.state c.keep_minute.new.card_b)) c.loop-minute.invariant.later c.in_err-keep_minute.ensures.later
+
+-- ---- where no tear of a failed call is told no card has broken down
+
+pub returns-clause-calm : goal.returns-clause-calm
+returns-clause-calm g c = c.loop-minute.invariant.calm
+
+pub returns-in_err-keep_minute-clause-calm : goal.returns-in_err-keep_minute-clause-calm
+returns-in_err-keep_minute-clause-calm g c = calm-then (devices (g.M.Medium.state c.args.unit.now) (g.C.Chip.state c.args.card_a.now) (g.D.Chip.state c.args.card_b.now)) (devices (g.M.Medium.state c.loop-minute.unit) (g.C.Chip.state c.loop-minute.card_a) (g.D.Chip.state c.loop-minute.card_b)) (devices (g.M.Medium.state c.keep_minute.new.unit) (g.C.Chip.state c.keep_minute.new.card_a) (g.D.Chip.state c.keep_minute.new.card_b)) c.loop-minute.invariant.calm c.in_err-keep_minute.ensures.calm

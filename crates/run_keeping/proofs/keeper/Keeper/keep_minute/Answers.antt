@@ -24,6 +24,7 @@ use Rattle.run_keeping.proofs.Rounds.{told-of, told-same, brought-minute, brough
 use Rattle.run_keeping.proofs.Units.{unit-stays, left-then}
 use Rattle.run_keeping.proofs.Seats.{emptied-then, stays-none, sessions-none, sessions-then}
 use Rattle.run_keeping.proofs.Later.{state-by, later-then, later-of-unit}
+use Rattle.run_keeping.proofs.Calm.{calm-then, calm-of-unit}
 use Rattle.run_keeping.proofs.keeper.Keeper.keep_minute.Goals as goal
 
 -- ---- the unit failed before
@@ -341,3 +342,14 @@ returns-in_err-bring-clause-later g c = later-then (devices (g.M.Medium.state c.
 
 pub returns-clause-later : goal.returns-clause-later
 returns-clause-later g c = later-then (devices (g.M.Medium.state c.args.unit.now) (g.C.Chip.state c.args.card_a.now) (g.D.Chip.state c.args.card_b.now)) (devices (g.M.Medium.state c.commit.new.unit) (g.C.Chip.state c.args.card_a.now) (g.D.Chip.state c.args.card_b.now)) (devices (g.M.Medium.state c.bring-2.new.unit) (g.C.Chip.state c.bring-2.new.card_a) (g.D.Chip.state c.bring-2.new.card_b)) (later-of-unit (g.M.Medium.state c.args.unit.now) (g.M.Medium.state c.commit.new.unit) (g.C.Chip.state c.args.card_a.now) (g.D.Chip.state c.args.card_b.now) (state-by (g.M.Medium.state c.args.unit.now) (g.M.Medium.state c.commit.new.unit) (is_err c.commit.result) c.commit.ensures.clock c.commit.ensures.cause)) (later-then (devices (g.M.Medium.state c.commit.new.unit) (g.C.Chip.state c.args.card_a.now) (g.D.Chip.state c.args.card_b.now)) (devices (g.M.Medium.state c.bring.new.unit) (g.C.Chip.state c.bring.new.card_a) (g.D.Chip.state c.bring.new.card_b)) (devices (g.M.Medium.state c.bring-2.new.unit) (g.C.Chip.state c.bring-2.new.card_a) (g.D.Chip.state c.bring-2.new.card_b)) c.bring.ensures.later c.bring-2.ensures.later)
+
+-- ---- where no tear of a failed call is told no card has broken down
+
+pub returns-in_err-commit-clause-calm : goal.returns-in_err-commit-clause-calm
+returns-in_err-commit-clause-calm g c = calm-of-unit (g.M.Medium.state c.args.unit.now) (g.M.Medium.state c.commit.new.unit) (g.C.Chip.state c.args.card_a.now) (g.D.Chip.state c.args.card_b.now)
+
+pub returns-in_err-bring-clause-calm : goal.returns-in_err-bring-clause-calm
+returns-in_err-bring-clause-calm g c = calm-then (devices (g.M.Medium.state c.args.unit.now) (g.C.Chip.state c.args.card_a.now) (g.D.Chip.state c.args.card_b.now)) (devices (g.M.Medium.state c.commit.new.unit) (g.C.Chip.state c.args.card_a.now) (g.D.Chip.state c.args.card_b.now)) (devices (g.M.Medium.state c.bring.new.unit) (g.C.Chip.state c.bring.new.card_a) (g.D.Chip.state c.bring.new.card_b)) (calm-of-unit (g.M.Medium.state c.args.unit.now) (g.M.Medium.state c.commit.new.unit) (g.C.Chip.state c.args.card_a.now) (g.D.Chip.state c.args.card_b.now)) c.bring.ensures.calm
+
+pub returns-clause-calm : goal.returns-clause-calm
+returns-clause-calm g c = calm-then (devices (g.M.Medium.state c.args.unit.now) (g.C.Chip.state c.args.card_a.now) (g.D.Chip.state c.args.card_b.now)) (devices (g.M.Medium.state c.commit.new.unit) (g.C.Chip.state c.args.card_a.now) (g.D.Chip.state c.args.card_b.now)) (devices (g.M.Medium.state c.bring-2.new.unit) (g.C.Chip.state c.bring-2.new.card_a) (g.D.Chip.state c.bring-2.new.card_b)) (calm-of-unit (g.M.Medium.state c.args.unit.now) (g.M.Medium.state c.commit.new.unit) (g.C.Chip.state c.args.card_a.now) (g.D.Chip.state c.args.card_b.now)) (calm-then (devices (g.M.Medium.state c.commit.new.unit) (g.C.Chip.state c.args.card_a.now) (g.D.Chip.state c.args.card_b.now)) (devices (g.M.Medium.state c.bring.new.unit) (g.C.Chip.state c.bring.new.card_a) (g.D.Chip.state c.bring.new.card_b)) (devices (g.M.Medium.state c.bring-2.new.unit) (g.C.Chip.state c.bring-2.new.card_a) (g.D.Chip.state c.bring-2.new.card_b)) c.bring.ensures.calm c.bring-2.ensures.calm)
