@@ -66,7 +66,7 @@ is_pulled_in c carried = list_any (λ (a : CarriedOut). pulls c a.slots a.action
 
 abbrev pub is_pulled_first : Card → List CarriedOut → Bool
 is_pulled_first c [] = false
-is_pulled_first c (a ∷ as) = not (is_settling a.action) && (pulls c a.slots a.action || is_pulled_first c as)
+is_pulled_first c (a ∷ more) = not (is_settling a.action) && (pulls c a.slots a.action || is_pulled_first c more)
 
 -- a minute is decided at the end of a second, or by the settling of one
 abbrev pub is_pulled_by : Card → (horizon : ℕ) → (deciding : ℕ) → Done → Bool
