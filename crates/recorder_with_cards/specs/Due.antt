@@ -1,7 +1,8 @@
 -- WHAT IS DUE ON A CARD of a run in which nothing failed: all its deeds, in their order, by the run's notes, history, selections and odometers
 -- (profile). STATED, NOT PROVED; what is proved of it is LeaveStays.
-use Rattle.std.specs.Prelude.{◌≡◌, ℕ, ◌+◌, ◌-◌, ◌*◌, ◌/◌, Bool, true, false, not, ◌&&◌, Option, Some, None, List, [], ◌∷◌, ◌++◌, Contains, map, filter, fold, flat_map, is_some, nat_le, nat_lt, nat_eq, if◌then◌else◌}
+use Rattle.std.specs.Prelude.{◌≡◌, ℕ, ◌+◌, ◌-◌, ◌*◌, ◌/◌, Bool, true, false, not, ◌&&◌, ◌||◌, Option, Some, None, List, [], ◌∷◌, ◌++◌, Contains, map, filter, fold, flat_map, is_some, nat_le, nat_lt, nat_eq, if◌then◌else◌}
 use Rattle.std.specs.List.{list_any}
+use Rattle.activity_codec.specs.Activity.{same_slot}
 use Rattle.activity_codec.specs.declared.values.Activity.{Activity}
 use Rattle.activity_codec.specs.declared.values.Activity.TheVariants.{Rest}
 use Rattle.activity_codec.specs.declared.values.Pick.{Pick}
@@ -15,7 +16,6 @@ use Rattle.minute_model.specs.declared.Minute.{Minute}
 use Rattle.minute_model.specs.Minute.{horizon_of}
 use Rattle.minute_model.specs.Span.{Span, picked, activity_next}
 use Rattle.log_model.specs.Course.{Told, card_in, is_settling}
-use Rattle.log_model.specs.Log.{RunLog, In, is_torn_in}
 use Rattle.log_model.specs.Slots.{Slots, in_slot, same_card}
 use Rattle.log_model.specs.Spans.{spans_of}
 use Rattle.history_model.specs.Completeness.{deciding_of}
@@ -30,7 +30,7 @@ use Rattle.card_session.specs.Books.{Book}
 use Rattle.card_session.specs.Sessions.{book_of}
 use Rattle.card_steps.specs.Deeds.{Deed, Keep, Close, Cut, after}
 use Rattle.side_model.specs.Done.{CarriedOut, Done, done_of}
-use Rattle.side_model.specs.Noted.{InsertionNote, accepted_card, insertions_of, notes_of}
+use Rattle.side_model.specs.Noted.{InsertionNote, insertions_of, notes_of}
 use Rattle.side_model.specs.Odometer.{SpanFrom, AreSpansFrom, has_second, odometer_at, odometer_at_end}
 use Rattle.safety_model.specs.Recording.{Recording, card_image, told_of, brought, history_of}
 use Rattle.safety_model.specs.Cards.{acceptances}
@@ -42,11 +42,6 @@ use Rattle.run_acts.specs.Stays.{registration_in}
 abbrev pub minute_odometer : ℕ → List SpanFrom → ℕ
 minute_odometer m [] = 0
 minute_odometer m (s ∷ spans) = if has_second (60 * m + 59) s then odometer_at_end m s else minute_odometer m spans
-
--- the seconds of its power span before a second
-abbrev pub span_before : ℕ → List SpanFrom → List Told
-span_before u [] = []
-span_before u (s ∷ spans) = if has_second u s then filter (λ (t : Told). nat_lt t.second.number u) s.span else span_before u spans
 
 -- a card is in this slot
 abbrev pub holds : Card → Slot → Slots → Bool
@@ -81,40 +76,27 @@ is_pulled_behind r c m =
     && list_any (λ (d : Done). nat_le (60 * (m + 1)) d.told.second.number
     && is_pulled_by c (horizon_of r.rule (settlings_of span) m) (deciding_of r.rule (settlings_of span) m) d) (done_of r.log r.trace)) (spans_of (told_of r))
 
--- the withdrawals of a card, in order: the second, how many actions of it came before, and the slot
-pub record Closing : Type 0 where
-  pub second : ℕ
-  pub before : ℕ
-  pub slot : Slot
+-- the seconds of its power span before a second
+abbrev pub span_before : ℕ → List SpanFrom → List Told
+span_before u [] = []
+span_before u (s ∷ spans) = if has_second u s then filter (λ (t : Told). nat_lt t.second.number u) s.span else span_before u spans
 
-abbrev pub closing_by : RunLog → Card → (second : ℕ) → CarriedOut → Action → List Closing
-closing_by log c u a (Select s pick) = []
-closing_by log c u a (Insert s card) = []
-closing_by log c u a (Withdraw s) =
-    if not (is_torn_in log u (In (a.before + 1)) s) && list_any (λ (x : Card). same_card x c) (accepted_card (in_slot a.slots s))
-    then record { second = u; before = a.before; slot = s } ∷ [] else []
-closing_by log c u a (Tear s) = []
-closing_by log c u a (Place s ending country region) = []
+-- what is selected by the actions of a second up to the one that withdraws the card of a slot
+abbrev pub picks_up_to : Slot → List Action → List (Slot × Pick)
+picks_up_to slot [] = []
+picks_up_to slot (Select s pick ∷ actions) = (s, pick) ∷ picks_up_to slot actions
+picks_up_to slot (Insert s card ∷ actions) = picks_up_to slot actions
+picks_up_to slot (Withdraw s ∷ actions) = if same_slot s slot then [] else picks_up_to slot actions
+picks_up_to slot (Tear s ∷ actions) = picks_up_to slot actions
+picks_up_to slot (Place s ending country region ∷ actions) = picks_up_to slot actions
 
-abbrev pub closings_of : Recording → Card → List Closing
-closings_of r c = flat_map (λ (d : Done). flat_map (λ (a : CarriedOut). closing_by r.log c d.told.second.number a a.action) d.carried) (done_of r.log r.trace)
+abbrev pub actions_in : Recording → ℕ → List Action
+actions_in r u = flat_map (λ (d : Done). if nat_eq d.told.second.number u then map (λ (a : CarriedOut). a.action) d.carried else []) (done_of r.log r.trace)
 
--- what was selected in its second before it
-abbrev pub pick_by : Action → List (Slot × Pick)
-pick_by (Select s pick) = (s, pick) ∷ []
-pick_by (Insert s card) = []
-pick_by (Withdraw s) = []
-pick_by (Tear s) = []
-pick_by (Place s ending country region) = []
-
-abbrev pub picks_before : Recording → Closing → List (Slot × Pick)
-picks_before r k = flat_map (λ (d : Done). if nat_eq d.told.second.number k.second
-    then flat_map (λ (a : CarriedOut). if nat_lt a.before k.before then pick_by a.action else []) d.carried else []) (done_of r.log r.trace)
-
--- THE ACTIVITY that its slot has selected as a card is withdrawn
-abbrev pub selected_by : Recording → List SpanFrom → Closing → Activity
-selected_by r spans k =
-    activity_next k.slot (fold (λ (s : Span) (p : Slot × Pick). picked s p.0 p.1) (span_at r.rule k.second (span_before k.second spans)) (picks_before r k))
+-- THE ACTIVITY that a slot has selected as its card is withdrawn in a second
+abbrev pub selected_in : Recording → List SpanFrom → Slot → ℕ → Activity
+selected_in r spans slot u =
+    activity_next slot (fold (λ (s : Span) (p : Slot × Pick). picked s p.0 p.1) (span_at r.rule u (span_before u spans)) (picks_up_to slot (actions_in r u)))
 
 module _ (vehicle : Registration) (spans : List SpanFrom) where
   -- the keeps of a sitting: each with the odometer at the end of its minute, and so many km as that has grown since the one before
@@ -132,16 +114,10 @@ module _ (vehicle : Registration) (spans : List SpanFrom) where
   opens true u owed =
       Cut ∷ map (λ (e : Entry). Keep (record { entry = e; registration = vehicle; odometer = odometer_at u spans; km = 0 })) owed ++ Close Rest ∷ []
 
-  -- a sitting that was withdrawn takes the next withdrawal, with the activity that is selected then
-  abbrev pub taken : (withdrawn : Option ℕ) → List Closing → List Closing
-  taken None ks = []
-  taken (Some u) [] = []
-  taken (Some u) (k ∷ ks) = k ∷ []
-
-  abbrev pub behind : (withdrawn : Option ℕ) → List Closing → List Closing
-  behind None ks = ks
-  behind (Some u) [] = []
-  behind (Some u) (k ∷ ks) = ks
+  -- a withdrawal: with the activity that is selected then
+  abbrev pub closes : (selected : Slot → ℕ → Activity) → Slot → (withdrawn : Option ℕ) → List Deed
+  closes selected slot None = []
+  closes selected slot (Some u) = Close (selected slot u) ∷ []
 
   -- the second in which the next sitting begins
   abbrev pub next_begins : List InsertionNote → Option ℕ
@@ -154,19 +130,19 @@ module _ (vehicle : Registration) (spans : List SpanFrom) where
   is_within from (Some until) m = nat_le (from / 60) m && nat_lt m (until / 60)
 
   -- sitting by sitting: what was decided behind a pull is owed to the next one
-  abbrev pub sittings : (selected : Closing → Activity) → (late : ℕ → Bool) → (closings : List Closing) → (open_ : Bool) → (owed entries : List Entry) → List InsertionNote → List Deed
-  sittings selected late ks open_ owed entries [] = []
-  sittings selected late ks open_ owed entries (i ∷ later) =
+  abbrev pub sittings : (selected : Slot → ℕ → Activity) → (late : ℕ → Bool) → (open_ : Bool) → (owed entries : List Entry) → List InsertionNote → List Deed
+  sittings selected late open_ owed entries [] = []
+  sittings selected late open_ owed entries (i ∷ later) =
       let own : List Entry = filter (λ (e : Entry). is_within i.accepted.second (next_begins later) e.minute) entries in
       opens open_ i.accepted.second owed
       ++ keeps None (filter (λ (e : Entry). not (late e.minute)) own)
-      ++ map (λ (k : Closing). Close (selected k)) (taken i.withdrawn ks)
-      ++ sittings selected late (behind i.withdrawn ks) (not (is_some i.withdrawn)) (filter (λ (e : Entry). late e.minute) own) entries later
+      ++ closes selected i.accepted.slot i.withdrawn
+      ++ sittings selected late (not (is_some i.withdrawn)) (filter (λ (e : Entry). late e.minute) own) entries later
 
   -- all of a card
   abbrev pub due_on : Recording → Card → List Deed
   due_on r c =
-      sittings (selected_by r spans) (is_pulled_behind r c) (closings_of r c) (not (nat_eq (session_time (own_sizes (card_image r c)) (card_image r c)) 0)) (brought r c).owed (card_history c (history_of r))
+      sittings (selected_in r spans) (is_pulled_behind r c) (not (nat_eq (session_time (own_sizes (card_image r c)) (card_image r c)) 0)) (brought r c).owed (card_history c (history_of r))
       (filter (λ (i : InsertionNote). same_card c i.accepted.card) (insertions_of (notes_of r.log (done_of r.log r.trace))))
 
 -- in the vehicle that the unit's image says, with the odometers of the run's power spans
