@@ -85,3 +85,4 @@ pub mod CardStays
 pub mod CardTurn
 pub mod CardActs
 pub mod CardWrites
+pub mod Closings

@@ -1,0 +1,141 @@
+-- What a note makes of the withdrawals of a card.
+use Rattle.std.proofs.Common.{◌≡◌, ◌∙◌, Bool, true, false, cond, List, [], ◌∷◌, ◌++◌, Some, None, refl, ap, sym}
+use Rattle.std.specs.Prelude.{not, ◌&&◌, ◌||◌, map, filter, is_some}
+use Rattle.std.specs.List.{list_any}
+use Rattle.std.proofs.lemmas.List.Sums.{fold-append}
+use Rattle.trace_model.specs.declared.Card.{Card}
+use Rattle.trace_model.specs.declared.Card.TheVariants.{A, B}
+use Rattle.log_model.specs.Slots.{same_card}
+use Rattle.side_model.specs.Noted.{Acceptance, Withdrawal, PlaceNote, InsertionNote, Note, Accepts, Withdraws, Enters, with_withdrawal, with_note, insertions_of}
+use Rattle.run_acts.specs.Closings.{withdrawals_in, withdrawals_of, last_by, with_last}
+
+same-turned : (c d : Card) → same_card c d ≡ same_card d c
+same-turned A A = refl
+same-turned A B = refl
+same-turned B A = refl
+same-turned B B = refl
+
+-- of one insertion and others
+in-mine : (c : Card) (i : InsertionNote) (is : List InsertionNote) → same_card c i.accepted.card ≡ true → withdrawals_in c (i ∷ is) ≡ is_some i.withdrawn ∷ withdrawals_in c is
+in-mine c i is mine =
+    ap (λ (b : Bool). map (λ (x : InsertionNote). is_some x.withdrawn) (cond b (i ∷ filter (λ (x : InsertionNote). same_card c x.accepted.card) is) (filter (λ (x : InsertionNote). same_card c x.accepted.card) is))) mine
+
+in-others : (c : Card) (i : InsertionNote) (is : List InsertionNote) → same_card c i.accepted.card ≡ false → withdrawals_in c (i ∷ is) ≡ withdrawals_in c is
+in-others c i is other =
+    ap (λ (b : Bool). map (λ (x : InsertionNote). is_some x.withdrawn) (cond b (i ∷ filter (λ (x : InsertionNote). same_card c x.accepted.card) is) (filter (λ (x : InsertionNote). same_card c x.accepted.card) is))) other
+
+-- ---- one more
+
+pub mine-more : (c : Card) (is : List InsertionNote) (i : InsertionNote) → same_card c i.accepted.card ≡ true → withdrawals_in c (is ++ i ∷ []) ≡ withdrawals_in c is ++ is_some i.withdrawn ∷ []
+mine-more c [] i mine = in-mine c i [] mine
+mine-more c (x ∷ is) i mine = by (same_card c x.accepted.card) refl
+  where
+    by : (b : Bool) → same_card c x.accepted.card ≡ b → withdrawals_in c (x ∷ (is ++ i ∷ [])) ≡ withdrawals_in c (x ∷ is) ++ is_some i.withdrawn ∷ []
+    by true is_ = in-mine c x (is ++ i ∷ []) is_ ∙ ap (λ (l : List Bool). is_some x.withdrawn ∷ l) (mine-more c is i mine) ∙ sym (ap (λ (l : List Bool). l ++ is_some i.withdrawn ∷ []) (in-mine c x is is_))
+    by false is_ = in-others c x (is ++ i ∷ []) is_ ∙ mine-more c is i mine ∙ sym (ap (λ (l : List Bool). l ++ is_some i.withdrawn ∷ []) (in-others c x is is_))
+
+pub others-more : (c : Card) (is : List InsertionNote) (i : InsertionNote) → same_card c i.accepted.card ≡ false → withdrawals_in c (is ++ i ∷ []) ≡ withdrawals_in c is
+others-more c [] i other = in-others c i [] other
+others-more c (x ∷ is) i other = by (same_card c x.accepted.card) refl
+  where
+    by : (b : Bool) → same_card c x.accepted.card ≡ b → withdrawals_in c (x ∷ (is ++ i ∷ [])) ≡ withdrawals_in c (x ∷ is)
+    by true is_ = in-mine c x (is ++ i ∷ []) is_ ∙ ap (λ (l : List Bool). is_some x.withdrawn ∷ l) (others-more c is i other) ∙ sym (in-mine c x is is_)
+    by false is_ = in-others c x (is ++ i ∷ []) is_ ∙ others-more c is i other ∙ sym (in-others c x is is_)
+
+-- ---- a withdrawal
+
+abbrev later_one : Withdrawal → List InsertionNote → Bool
+later_one w later = list_any (λ (j : InsertionNote). same_card j.accepted.card w.card) later
+
+-- by whether it is of this insertion, and whether of a later one
+goes-so : (w : Withdrawal) (i : InsertionNote) (later : List InsertionNote) (mine some : Bool) → same_card i.accepted.card w.card ≡ mine → later_one w later ≡ some →
+    with_withdrawal w (i ∷ later) ≡ cond (mine && not some) (record i { withdrawn = Some w.second } ∷ later) (i ∷ with_withdrawal w later)
+goes-so w i later mine some m s =
+    ap (λ (b : Bool). cond (b && not (later_one w later)) (record i { withdrawn = Some w.second } ∷ later) (i ∷ with_withdrawal w later)) m
+    ∙ ap (λ (b : Bool). cond (mine && not b) (record i { withdrawn = Some w.second } ∷ later) (i ∷ with_withdrawal w later)) s
+
+-- none of a card
+none-in : (w : Withdrawal) (is : List InsertionNote) → later_one w is ≡ false → withdrawals_in w.card is ≡ []
+none-in w [] none = refl
+none-in w (i ∷ is) none = by (same_card i.accepted.card w.card) refl none
+  where
+    by : (b : Bool) → same_card i.accepted.card w.card ≡ b → (same_card i.accepted.card w.card || later_one w is) ≡ false → withdrawals_in w.card (i ∷ is) ≡ []
+    by true is_ no = absurd (let wrong : true ≡ false = sym (ap (λ (b : Bool). b || later_one w is) is_) ∙ no in cc)
+    by false is_ no = in-others w.card i is (same-turned w.card i.accepted.card ∙ is_) ∙ none-in w is (sym (ap (λ (b : Bool). b || later_one w is) is_) ∙ no)
+
+-- of a list with one the last of a longer one is its own
+longer-last : (b : Bool) (w : Withdrawal) (is : List InsertionNote) → later_one w is ≡ true → with_last (b ∷ withdrawals_in w.card is) ≡ b ∷ with_last (withdrawals_in w.card is)
+longer-last b w [] some = absurd (let wrong : false ≡ true = some in cc)
+longer-last b w (i ∷ is) some = by (same_card i.accepted.card w.card) refl some
+  where
+    by : (m : Bool) → same_card i.accepted.card w.card ≡ m → (same_card i.accepted.card w.card || later_one w is) ≡ true → with_last (b ∷ withdrawals_in w.card (i ∷ is)) ≡ b ∷ with_last (withdrawals_in w.card (i ∷ is))
+    by true is_ any =
+        let one = in-mine w.card i is (same-turned w.card i.accepted.card ∙ is_) in
+        ap (λ (l : List Bool). with_last (b ∷ l)) one ∙ sym (ap (λ (l : List Bool). b ∷ with_last l) one)
+    by false is_ any =
+        let one = in-others w.card i is (same-turned w.card i.accepted.card ∙ is_) in
+        ap (λ (l : List Bool). with_last (b ∷ l)) one ∙ longer-last b w is (sym (ap (λ (m : Bool). m || later_one w is) is_) ∙ any) ∙ sym (ap (λ (l : List Bool). b ∷ with_last l) one)
+
+-- THE LAST INSERTION of its card is withdrawn
+pub mine-withdrawn : (w : Withdrawal) (is : List InsertionNote) → withdrawals_in w.card (with_withdrawal w is) ≡ with_last (withdrawals_in w.card is)
+mine-withdrawn w [] = refl
+mine-withdrawn w (i ∷ is) = by (same_card i.accepted.card w.card) (later_one w is) refl refl
+  where
+    by : (m s : Bool) → same_card i.accepted.card w.card ≡ m → later_one w is ≡ s → withdrawals_in w.card (with_withdrawal w (i ∷ is)) ≡ with_last (withdrawals_in w.card (i ∷ is))
+    by true false m s =
+        let mine = same-turned w.card i.accepted.card ∙ m in
+        let none = none-in w is s in
+        ap (withdrawals_in w.card) (goes-so w i is true false m s) ∙ in-mine w.card (record i { withdrawn = Some w.second }) is mine ∙ ap (λ (l : List Bool). true ∷ l) none
+        ∙ sym (ap with_last (in-mine w.card i is mine ∙ ap (λ (l : List Bool). is_some i.withdrawn ∷ l) none))
+    by true true m s =
+        let mine = same-turned w.card i.accepted.card ∙ m in
+        ap (withdrawals_in w.card) (goes-so w i is true true m s) ∙ in-mine w.card i (with_withdrawal w is) mine ∙ ap (λ (l : List Bool). is_some i.withdrawn ∷ l) (mine-withdrawn w is)
+        ∙ sym (longer-last (is_some i.withdrawn) w is s) ∙ sym (ap with_last (in-mine w.card i is mine))
+    by false s m s_ =
+        let other = same-turned w.card i.accepted.card ∙ m in
+        ap (withdrawals_in w.card) (goes-so w i is false s m s_) ∙ in-others w.card i (with_withdrawal w is) other ∙ mine-withdrawn w is ∙ sym (ap with_last (in-others w.card i is other))
+
+-- and none of another card
+pub others-withdrawn : (c : Card) (w : Withdrawal) (is : List InsertionNote) → same_card c w.card ≡ false → withdrawals_in c (with_withdrawal w is) ≡ withdrawals_in c is
+others-withdrawn c w [] other = refl
+others-withdrawn c w (i ∷ is) other = by (same_card i.accepted.card w.card) (later_one w is) refl refl
+  where
+    not-mine : (x y z : Card) → same_card y z ≡ true → same_card x z ≡ false → same_card x y ≡ false
+    not-mine A A z h k = absurd (let wrong : true ≡ false = sym h ∙ k in cc)
+    not-mine B B z h k = absurd (let wrong : true ≡ false = sym h ∙ k in cc)
+    not-mine A B z h k = refl
+    not-mine B A z h k = refl
+
+    rest : withdrawals_in c (i ∷ with_withdrawal w is) ≡ withdrawals_in c (i ∷ is)
+    rest = so (same_card c i.accepted.card) refl
+      where
+        so : (b : Bool) → same_card c i.accepted.card ≡ b → withdrawals_in c (i ∷ with_withdrawal w is) ≡ withdrawals_in c (i ∷ is)
+        so true is_ = in-mine c i (with_withdrawal w is) is_ ∙ ap (λ (l : List Bool). is_some i.withdrawn ∷ l) (others-withdrawn c w is other) ∙ sym (in-mine c i is is_)
+        so false is_ = in-others c i (with_withdrawal w is) is_ ∙ others-withdrawn c w is other ∙ sym (in-others c i is is_)
+
+    by : (m s : Bool) → same_card i.accepted.card w.card ≡ m → later_one w is ≡ s → withdrawals_in c (with_withdrawal w (i ∷ is)) ≡ withdrawals_in c (i ∷ is)
+    by true false m s =
+        let out = not-mine c i.accepted.card w.card m other in
+        ap (withdrawals_in c) (goes-so w i is true false m s) ∙ in-others c (record i { withdrawn = Some w.second }) is out ∙ sym (in-others c i is out)
+    by true true m s = ap (withdrawals_in c) (goes-so w i is true true m s) ∙ rest
+    by false s m s_ = ap (withdrawals_in c) (goes-so w i is false s m s_) ∙ rest
+
+-- ---- by the notes
+
+one-more : (notes : List Note) (n : Note) → insertions_of (notes ++ n ∷ []) ≡ with_note (insertions_of notes) n
+one-more notes n = fold-append with_note [] notes (n ∷ [])
+
+pub accepts-more : (c : Card) (notes : List Note) (a : Acceptance) → same_card c a.card ≡ true → withdrawals_of c (notes ++ Accepts a ∷ []) ≡ withdrawals_of c notes ++ false ∷ []
+accepts-more c notes a mine = ap (withdrawals_in c) (one-more notes (Accepts a)) ∙ mine-more c (insertions_of notes) (record { accepted = a; withdrawn = None }) mine
+
+pub accepts-others : (c : Card) (notes : List Note) (a : Acceptance) → same_card c a.card ≡ false → withdrawals_of c (notes ++ Accepts a ∷ []) ≡ withdrawals_of c notes
+accepts-others c notes a other = ap (withdrawals_in c) (one-more notes (Accepts a)) ∙ others-more c (insertions_of notes) (record { accepted = a; withdrawn = None }) other
+
+pub withdraws-last : (notes : List Note) (w : Withdrawal) → withdrawals_of w.card (notes ++ Withdraws w ∷ []) ≡ with_last (withdrawals_of w.card notes)
+withdraws-last notes w = ap (withdrawals_in w.card) (one-more notes (Withdraws w)) ∙ mine-withdrawn w (insertions_of notes)
+
+pub withdraws-others : (c : Card) (notes : List Note) (w : Withdrawal) → same_card c w.card ≡ false → withdrawals_of c (notes ++ Withdraws w ∷ []) ≡ withdrawals_of c notes
+withdraws-others c notes w other = ap (withdrawals_in c) (one-more notes (Withdraws w)) ∙ others-withdrawn c w (insertions_of notes) other
+
+pub enters-same : (c : Card) (notes : List Note) (p : PlaceNote) → withdrawals_of c (notes ++ Enters p ∷ []) ≡ withdrawals_of c notes
+enters-same c notes p = ap (withdrawals_in c) (one-more notes (Enters p))
