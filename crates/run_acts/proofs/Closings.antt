@@ -26,21 +26,25 @@ in-others c i is other =
 
 -- ---- one more
 
+mine-behind : (c : Card) (x : InsertionNote) (is : List InsertionNote) (i : InsertionNote) (b : Bool) → same_card c x.accepted.card ≡ b → withdrawals_in c (is ++ i ∷ []) ≡ withdrawals_in c is ++ is_some i.withdrawn ∷ [] →
+    withdrawals_in c (x ∷ (is ++ i ∷ [])) ≡ withdrawals_in c (x ∷ is) ++ is_some i.withdrawn ∷ []
+mine-behind c x is i true mine rest =
+    in-mine c x (is ++ i ∷ []) mine ∙ ap (λ (l : List Bool). is_some x.withdrawn ∷ l) rest ∙ sym (ap (λ (l : List Bool). l ++ is_some i.withdrawn ∷ []) (in-mine c x is mine))
+mine-behind c x is i false other rest =
+    in-others c x (is ++ i ∷ []) other ∙ rest ∙ sym (ap (λ (l : List Bool). l ++ is_some i.withdrawn ∷ []) (in-others c x is other))
+
 pub mine-more : (c : Card) (is : List InsertionNote) (i : InsertionNote) → same_card c i.accepted.card ≡ true → withdrawals_in c (is ++ i ∷ []) ≡ withdrawals_in c is ++ is_some i.withdrawn ∷ []
 mine-more c [] i mine = in-mine c i [] mine
-mine-more c (x ∷ is) i mine = by (same_card c x.accepted.card) refl
-  where
-    by : (b : Bool) → same_card c x.accepted.card ≡ b → withdrawals_in c (x ∷ (is ++ i ∷ [])) ≡ withdrawals_in c (x ∷ is) ++ is_some i.withdrawn ∷ []
-    by true is_ = in-mine c x (is ++ i ∷ []) is_ ∙ ap (λ (l : List Bool). is_some x.withdrawn ∷ l) (mine-more c is i mine) ∙ sym (ap (λ (l : List Bool). l ++ is_some i.withdrawn ∷ []) (in-mine c x is is_))
-    by false is_ = in-others c x (is ++ i ∷ []) is_ ∙ mine-more c is i mine ∙ sym (ap (λ (l : List Bool). l ++ is_some i.withdrawn ∷ []) (in-others c x is is_))
+mine-more c (x ∷ is) i mine = mine-behind c x is i (same_card c x.accepted.card) refl (mine-more c is i mine)
+
+-- behind one, the same of both
+same-behind : (c : Card) (x : InsertionNote) (xs ys : List InsertionNote) (b : Bool) → same_card c x.accepted.card ≡ b → withdrawals_in c xs ≡ withdrawals_in c ys → withdrawals_in c (x ∷ xs) ≡ withdrawals_in c (x ∷ ys)
+same-behind c x xs ys true mine rest = in-mine c x xs mine ∙ ap (λ (l : List Bool). is_some x.withdrawn ∷ l) rest ∙ sym (in-mine c x ys mine)
+same-behind c x xs ys false other rest = in-others c x xs other ∙ rest ∙ sym (in-others c x ys other)
 
 pub others-more : (c : Card) (is : List InsertionNote) (i : InsertionNote) → same_card c i.accepted.card ≡ false → withdrawals_in c (is ++ i ∷ []) ≡ withdrawals_in c is
 others-more c [] i other = in-others c i [] other
-others-more c (x ∷ is) i other = by (same_card c x.accepted.card) refl
-  where
-    by : (b : Bool) → same_card c x.accepted.card ≡ b → withdrawals_in c (x ∷ (is ++ i ∷ [])) ≡ withdrawals_in c (x ∷ is)
-    by true is_ = in-mine c x (is ++ i ∷ []) is_ ∙ ap (λ (l : List Bool). is_some x.withdrawn ∷ l) (others-more c is i other) ∙ sym (in-mine c x is is_)
-    by false is_ = in-others c x (is ++ i ∷ []) is_ ∙ others-more c is i other ∙ sym (in-others c x is is_)
+others-more c (x ∷ is) i other = same-behind c x (is ++ i ∷ []) is (same_card c x.accepted.card) refl (others-more c is i other)
 
 -- ---- a withdrawal
 
@@ -55,70 +59,67 @@ goes-so w i later mine some m s =
     ∙ ap (λ (b : Bool). cond (mine && not b) (record i { withdrawn = Some w.second } ∷ later) (i ∷ with_withdrawal w later)) s
 
 -- none of a card
+none-behind : (w : Withdrawal) (i : InsertionNote) (is : List InsertionNote) (b : Bool) → same_card i.accepted.card w.card ≡ b → (b || later_one w is) ≡ false → (later_one w is ≡ false → withdrawals_in w.card is ≡ []) → withdrawals_in w.card (i ∷ is) ≡ []
+none-behind w i is true mine no rest = absurd (let wrong : true ≡ false = no in cc)
+none-behind w i is false other no rest = in-others w.card i is (same-turned w.card i.accepted.card ∙ other) ∙ rest no
+
 none-in : (w : Withdrawal) (is : List InsertionNote) → later_one w is ≡ false → withdrawals_in w.card is ≡ []
 none-in w [] none = refl
-none-in w (i ∷ is) none = by (same_card i.accepted.card w.card) refl none
-  where
-    by : (b : Bool) → same_card i.accepted.card w.card ≡ b → (same_card i.accepted.card w.card || later_one w is) ≡ false → withdrawals_in w.card (i ∷ is) ≡ []
-    by true is_ no = absurd (let wrong : true ≡ false = sym (ap (λ (b : Bool). b || later_one w is) is_) ∙ no in cc)
-    by false is_ no = in-others w.card i is (same-turned w.card i.accepted.card ∙ is_) ∙ none-in w is (sym (ap (λ (b : Bool). b || later_one w is) is_) ∙ no)
+none-in w (i ∷ is) none = none-behind w i is (same_card i.accepted.card w.card) refl none (none-in w is)
 
 -- of a list with one the last of a longer one is its own
+longer-behind : (b : Bool) (w : Withdrawal) (i : InsertionNote) (is : List InsertionNote) (m : Bool) → same_card i.accepted.card w.card ≡ m → (m || later_one w is) ≡ true →
+    (later_one w is ≡ true → with_last (b ∷ withdrawals_in w.card is) ≡ b ∷ with_last (withdrawals_in w.card is)) → with_last (b ∷ withdrawals_in w.card (i ∷ is)) ≡ b ∷ with_last (withdrawals_in w.card (i ∷ is))
+longer-behind b w i is true mine any rest =
+    let one = in-mine w.card i is (same-turned w.card i.accepted.card ∙ mine) in
+    ap (λ (l : List Bool). with_last (b ∷ l)) one ∙ sym (ap (λ (l : List Bool). b ∷ with_last l) one)
+longer-behind b w i is false other any rest =
+    let one = in-others w.card i is (same-turned w.card i.accepted.card ∙ other) in
+    ap (λ (l : List Bool). with_last (b ∷ l)) one ∙ rest any ∙ sym (ap (λ (l : List Bool). b ∷ with_last l) one)
+
 longer-last : (b : Bool) (w : Withdrawal) (is : List InsertionNote) → later_one w is ≡ true → with_last (b ∷ withdrawals_in w.card is) ≡ b ∷ with_last (withdrawals_in w.card is)
 longer-last b w [] some = absurd (let wrong : false ≡ true = some in cc)
-longer-last b w (i ∷ is) some = by (same_card i.accepted.card w.card) refl some
-  where
-    by : (m : Bool) → same_card i.accepted.card w.card ≡ m → (same_card i.accepted.card w.card || later_one w is) ≡ true → with_last (b ∷ withdrawals_in w.card (i ∷ is)) ≡ b ∷ with_last (withdrawals_in w.card (i ∷ is))
-    by true is_ any =
-        let one = in-mine w.card i is (same-turned w.card i.accepted.card ∙ is_) in
-        ap (λ (l : List Bool). with_last (b ∷ l)) one ∙ sym (ap (λ (l : List Bool). b ∷ with_last l) one)
-    by false is_ any =
-        let one = in-others w.card i is (same-turned w.card i.accepted.card ∙ is_) in
-        ap (λ (l : List Bool). with_last (b ∷ l)) one ∙ longer-last b w is (sym (ap (λ (m : Bool). m || later_one w is) is_) ∙ any) ∙ sym (ap (λ (l : List Bool). b ∷ with_last l) one)
+longer-last b w (i ∷ is) some = longer-behind b w i is (same_card i.accepted.card w.card) refl some (longer-last b w is)
 
 -- THE LAST INSERTION of its card is withdrawn
+mine-withdrawn-by : (w : Withdrawal) (i : InsertionNote) (is : List InsertionNote) (m s : Bool) → same_card i.accepted.card w.card ≡ m → later_one w is ≡ s → withdrawals_in w.card (with_withdrawal w is) ≡ with_last (withdrawals_in w.card is) →
+    withdrawals_in w.card (with_withdrawal w (i ∷ is)) ≡ with_last (withdrawals_in w.card (i ∷ is))
+mine-withdrawn-by w i is true false m s rest =
+    let mine = same-turned w.card i.accepted.card ∙ m in
+    let none = none-in w is s in
+    ap (withdrawals_in w.card) (goes-so w i is true false m s) ∙ in-mine w.card (record i { withdrawn = Some w.second }) is mine ∙ ap (λ (l : List Bool). true ∷ l) none
+    ∙ sym (ap with_last (in-mine w.card i is mine ∙ ap (λ (l : List Bool). is_some i.withdrawn ∷ l) none))
+mine-withdrawn-by w i is true true m s rest =
+    let mine = same-turned w.card i.accepted.card ∙ m in
+    ap (withdrawals_in w.card) (goes-so w i is true true m s) ∙ in-mine w.card i (with_withdrawal w is) mine ∙ ap (λ (l : List Bool). is_some i.withdrawn ∷ l) rest
+    ∙ sym (longer-last (is_some i.withdrawn) w is s) ∙ sym (ap with_last (in-mine w.card i is mine))
+mine-withdrawn-by w i is false s m s_ rest =
+    let other = same-turned w.card i.accepted.card ∙ m in
+    ap (withdrawals_in w.card) (goes-so w i is false s m s_) ∙ in-others w.card i (with_withdrawal w is) other ∙ rest ∙ sym (ap with_last (in-others w.card i is other))
+
 pub mine-withdrawn : (w : Withdrawal) (is : List InsertionNote) → withdrawals_in w.card (with_withdrawal w is) ≡ with_last (withdrawals_in w.card is)
 mine-withdrawn w [] = refl
-mine-withdrawn w (i ∷ is) = by (same_card i.accepted.card w.card) (later_one w is) refl refl
-  where
-    by : (m s : Bool) → same_card i.accepted.card w.card ≡ m → later_one w is ≡ s → withdrawals_in w.card (with_withdrawal w (i ∷ is)) ≡ with_last (withdrawals_in w.card (i ∷ is))
-    by true false m s =
-        let mine = same-turned w.card i.accepted.card ∙ m in
-        let none = none-in w is s in
-        ap (withdrawals_in w.card) (goes-so w i is true false m s) ∙ in-mine w.card (record i { withdrawn = Some w.second }) is mine ∙ ap (λ (l : List Bool). true ∷ l) none
-        ∙ sym (ap with_last (in-mine w.card i is mine ∙ ap (λ (l : List Bool). is_some i.withdrawn ∷ l) none))
-    by true true m s =
-        let mine = same-turned w.card i.accepted.card ∙ m in
-        ap (withdrawals_in w.card) (goes-so w i is true true m s) ∙ in-mine w.card i (with_withdrawal w is) mine ∙ ap (λ (l : List Bool). is_some i.withdrawn ∷ l) (mine-withdrawn w is)
-        ∙ sym (longer-last (is_some i.withdrawn) w is s) ∙ sym (ap with_last (in-mine w.card i is mine))
-    by false s m s_ =
-        let other = same-turned w.card i.accepted.card ∙ m in
-        ap (withdrawals_in w.card) (goes-so w i is false s m s_) ∙ in-others w.card i (with_withdrawal w is) other ∙ mine-withdrawn w is ∙ sym (ap with_last (in-others w.card i is other))
+mine-withdrawn w (i ∷ is) = mine-withdrawn-by w i is (same_card i.accepted.card w.card) (later_one w is) refl refl (mine-withdrawn w is)
 
 -- and none of another card
+not-mine : (x y z : Card) → same_card y z ≡ true → same_card x z ≡ false → same_card x y ≡ false
+not-mine A A z h k = absurd (let wrong : true ≡ false = sym h ∙ k in cc)
+not-mine B B z h k = absurd (let wrong : true ≡ false = sym h ∙ k in cc)
+not-mine A B z h k = refl
+not-mine B A z h k = refl
+
+others-withdrawn-by : (c : Card) (w : Withdrawal) (i : InsertionNote) (is : List InsertionNote) → same_card c w.card ≡ false → (m s : Bool) → same_card i.accepted.card w.card ≡ m → later_one w is ≡ s →
+    withdrawals_in c (i ∷ with_withdrawal w is) ≡ withdrawals_in c (i ∷ is) → withdrawals_in c (with_withdrawal w (i ∷ is)) ≡ withdrawals_in c (i ∷ is)
+others-withdrawn-by c w i is other true false m s rest =
+    let out = not-mine c i.accepted.card w.card m other in
+    ap (withdrawals_in c) (goes-so w i is true false m s) ∙ in-others c (record i { withdrawn = Some w.second }) is out ∙ sym (in-others c i is out)
+others-withdrawn-by c w i is other true true m s rest = ap (withdrawals_in c) (goes-so w i is true true m s) ∙ rest
+others-withdrawn-by c w i is other false s m s_ rest = ap (withdrawals_in c) (goes-so w i is false s m s_) ∙ rest
+
 pub others-withdrawn : (c : Card) (w : Withdrawal) (is : List InsertionNote) → same_card c w.card ≡ false → withdrawals_in c (with_withdrawal w is) ≡ withdrawals_in c is
 others-withdrawn c w [] other = refl
-others-withdrawn c w (i ∷ is) other = by (same_card i.accepted.card w.card) (later_one w is) refl refl
-  where
-    not-mine : (x y z : Card) → same_card y z ≡ true → same_card x z ≡ false → same_card x y ≡ false
-    not-mine A A z h k = absurd (let wrong : true ≡ false = sym h ∙ k in cc)
-    not-mine B B z h k = absurd (let wrong : true ≡ false = sym h ∙ k in cc)
-    not-mine A B z h k = refl
-    not-mine B A z h k = refl
-
-    rest : withdrawals_in c (i ∷ with_withdrawal w is) ≡ withdrawals_in c (i ∷ is)
-    rest = so (same_card c i.accepted.card) refl
-      where
-        so : (b : Bool) → same_card c i.accepted.card ≡ b → withdrawals_in c (i ∷ with_withdrawal w is) ≡ withdrawals_in c (i ∷ is)
-        so true is_ = in-mine c i (with_withdrawal w is) is_ ∙ ap (λ (l : List Bool). is_some i.withdrawn ∷ l) (others-withdrawn c w is other) ∙ sym (in-mine c i is is_)
-        so false is_ = in-others c i (with_withdrawal w is) is_ ∙ others-withdrawn c w is other ∙ sym (in-others c i is is_)
-
-    by : (m s : Bool) → same_card i.accepted.card w.card ≡ m → later_one w is ≡ s → withdrawals_in c (with_withdrawal w (i ∷ is)) ≡ withdrawals_in c (i ∷ is)
-    by true false m s =
-        let out = not-mine c i.accepted.card w.card m other in
-        ap (withdrawals_in c) (goes-so w i is true false m s) ∙ in-others c (record i { withdrawn = Some w.second }) is out ∙ sym (in-others c i is out)
-    by true true m s = ap (withdrawals_in c) (goes-so w i is true true m s) ∙ rest
-    by false s m s_ = ap (withdrawals_in c) (goes-so w i is false s m s_) ∙ rest
+others-withdrawn c w (i ∷ is) other =
+    others-withdrawn-by c w i is other (same_card i.accepted.card w.card) (later_one w is) refl refl (same-behind c i (with_withdrawal w is) is (same_card c i.accepted.card) refl (others-withdrawn c w is other))
 
 -- ---- by the notes
 
