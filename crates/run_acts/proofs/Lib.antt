@@ -86,3 +86,4 @@ pub mod CardPlaces
 pub mod CardTurn
 pub mod CardActs
 pub mod CardWrites
+pub mod Closings

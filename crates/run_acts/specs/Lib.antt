@@ -26,3 +26,4 @@ pub mod CardNotes
 pub mod OnCards
 pub mod RunCards
 pub mod CardWrites
+pub mod Closings
