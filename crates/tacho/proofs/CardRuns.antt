@@ -8,14 +8,11 @@ use Rattle.log_model.specs.declared.lines.Break.{Break}
 use Rattle.log_model.specs.Log.{RunLog}
 use Rattle.log_model.specs.Causes.{cuts, tears}
 use Rattle.safety_model.specs.Safe.{Devices, breakdowns_of}
-use Rattle.run_keeping.specs.Later.{IsLater, AreLater}
-use Rattle.run_acts.specs.Recording.{log_of}
-use Rattle.run_acts.specs.Going.{IsFoundLater}
+use Rattle.recorder_with_cards.specs.Words.{IsLater, AreLater, log_of, IsFoundLater, HaveTime}
 use Rattle.trace_model.specs.declared.Card.TheVariants.{A, B}
 use Rattle.trace_model.specs.declared.Item.{Item}
 use Rattle.trace_text.specs.declared.trace.Form.TheVariants.{Whole}
 use Rattle.trace_text.specs.Judged.{IsTraceText}
-use Rattle.run_keeping.specs.Books.{HaveTime}
 use Rattle.run_opening.specs.declared.fault.RunFault.{RunFault}
 use Rattle.run_opening.specs.declared.fault.RunFault.TheVariants as run
 use Rattle.recorder.specs.Trace.{IsForUnit}

@@ -10,11 +10,10 @@ use Rattle.tach_media.specs.Medium.{State, IsCoherent, IsSettled, put}
 use Rattle.safety_model.specs.Safe.{Devices, card_of, breakdowns_of}
 use Rattle.run_rule.specs.Opening.{BeginsAs}
 use Rattle.run_rule.specs.Between.{devices}
-use Rattle.run_keeping.specs.Books.{HaveTime}
+use Rattle.recorder_with_cards.specs.Words.{HaveTime, AreLater}
 use Rattle.run_outcome.specs.declared.outcome.Outcome.{Outcome}
 use Rattle.run_opening.specs.declared.fault.RunFault.{RunFault}
 use Rattle.run_opening.specs.declared.fault.RunFault.TheVariants.{MediumFault, BadUnit, ClockBack, SameCard}
-use Rattle.run_keeping.specs.Later.{AreLater}
 use Rattle.recorder_with_cards.specs.Ends.{BeginAs, MayRecord, EndsTrace, IsKeptFrom}
 use Rattle.recorder_with_cards.specs.Gone.{IsRefusedBy}
 use Rattle.tacho.specs.declared.anew.AnewFault.TheVariants.{Kept}

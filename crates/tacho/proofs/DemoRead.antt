@@ -27,7 +27,7 @@ use Rattle.run_recorded.specs.Whole.{IsFull}
 use Rattle.log_model.specs.declared.lines.Break.{Break}
 use Rattle.log_model.specs.declared.lines.Break.TheVariants.{Cut, Tear}
 use Rattle.run_outcome.specs.declared.outcome.Outcome.{Outcome}
-use Rattle.run_acts.specs.Stays.{ShowsStays}
+use Rattle.recorder_with_cards.specs.Words.{ShowsStays}
 use Rattle.recorder_with_cards.specs.Ends.{recording_of, EndsTrace}
 use Rattle.recorder_with_cards.specs.Sessions.{TellsFirst, HasComeBefore, TellsAtStart}
 use Rattle.recorder_with_cards.specs.CardEvents.{ShowsItsEvents}

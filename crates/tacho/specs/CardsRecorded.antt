@@ -5,10 +5,7 @@ use Rattle.run_model.specs.declared.Device.{Device}
 use Rattle.log_model.specs.Causes.{cuts, tears}
 use Rattle.safety_model.specs.Safe.{Devices, breakdowns_of}
 use Rattle.run_rule.specs.Between.{devices}
-use Rattle.run_keeping.specs.Books.{HaveTime}
-use Rattle.run_keeping.specs.Later.{AreLater}
-use Rattle.run_acts.specs.Recording.{log_of}
-use Rattle.run_acts.specs.Going.{IsFoundLater}
+use Rattle.recorder_with_cards.specs.Words.{HaveTime, AreLater, log_of, IsFoundLater}
 use Rattle.run_opening.specs.Opening.{IsRefused, IsAsItWas}
 use Rattle.run_opening.specs.declared.fault.RunFault.{RunFault}
 use Rattle.run_opening.specs.declared.fault.RunFault.TheVariants as run

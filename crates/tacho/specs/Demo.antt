@@ -5,7 +5,7 @@ use Rattle.byte_fields.specs.Fields.{IsBytes}
 use Rattle.tach_media.specs.Medium.{State}
 use Rattle.tach_media.specs.Streams.{AppendsFront}
 use Rattle.run_model.specs.declared.Device.TheVariants.{Unit as OfUnit}
-use Rattle.run_keeping.specs.Books.{HaveTime}
+use Rattle.recorder_with_cards.specs.Words.{HaveTime}
 use Rattle.recorder_with_cards.specs.Ends.{MayRecord}
 use Rattle.run_outcome.specs.declared.outcome.Outcome.{Outcome}
 use Rattle.unit_download.specs.declared.fault.DownloadFault.{DownloadFault}

@@ -8,8 +8,7 @@ ghost use Rattle.unit_memory.specs.Formats.{IsFormatting};
 ghost use Rattle.trace_text.specs.Trace.{IsWellFormed};
 ghost use Rattle.run_outcome.specs.Room.{IsReserved};
 ghost use Rattle.run_rule.specs.Between.{devices};
-ghost use Rattle.run_keeping.specs.Books.{HaveTime};
-ghost use Rattle.run_acts.specs.Going.{largest_number};
+ghost use Rattle.recorder_with_cards.specs.Words.{HaveTime, largest_number};
 ghost use Rattle.recorder_with_cards.specs.Ends.{MayRecord};
 ghost use Rattle.tacho.specs.Anew.{unit_image, MayBeAnew, EndsAnew, IsFailed, IsFailure};
 
