@@ -17,7 +17,7 @@ use Rattle.minute_model.specs.declared.Minute.{Minute}
 use Rattle.log_model.specs.declared.lines.Break.{Break}
 use Rattle.log_model.specs.declared.lines.Break.TheVariants.{Cut, Tear as Torn}
 use Rattle.log_model.specs.declared.lines.Verdict.{Verdict}
-use Rattle.log_model.specs.Log.{RunLog}
+use Rattle.log_model.specs.Log.{RunLog, phase_of}
 use Rattle.log_model.specs.Slots.{same_card}
 use Rattle.log_model.specs.Course.{Told, Visit, went}
 use Rattle.log_model.specs.Spans.{spans_of}
@@ -30,7 +30,7 @@ use Rattle.unit_course.proofs.Alike.{minutes-plain}
 use Rattle.event_course.specs.Plain.{IsWithoutCards, OnlySelect}
 use Rattle.run_moments.proofs.Telling.{each-of}
 use Rattle.tacho.specs.Alone.{IsForUnit, NoVerdict}
-use Rattle.tacho.proofs.Cardless.{AreCardless, cardless, plain-told, none-found, none-torn-out, none-pulled, no-card-torn, nothing-found}
+use Rattle.tacho.proofs.Cardless.{IsCardless, AreCardless, cardless, plain-told, none-found, none-torn-out, none-pulled, no-card-torn, nothing-found}
 use Rattle.tacho.proofs.Unbroken.{no-places, no-tears}
 
 -- ITS SECONDS have selections only
@@ -71,13 +71,13 @@ off-tears : (log : RunLog) (bs : List Break) → flat_map places (tears false (r
 off-tears log [] none = refl
 off-tears log (Cut second kept failed begun ∷ bs) none = off-tears log bs none
 off-tears log (Torn second slot true begun late ∷ bs) none = off-tears log bs none
-off-tears log (Torn second slot false begun late ∷ bs) none = absurd (cc)
+off-tears log (Torn second slot false begun late ∷ bs) none = absurd (let e : (second, phase_of begun late, slot) ∷ flat_map places (tears false (record log { breaks = bs })) ≡ [] = none in cc)
 
 only-cuts : (log : RunLog) (bs : List Break) → tears true (record log { breaks = bs }) ≡ [] → tears false (record log { breaks = bs }) ≡ [] → AllByRecursion (λ (b : Break). is_cut b ≡ true) bs
 only-cuts log [] failed off = tt
 only-cuts log (Cut second kept by begun ∷ bs) failed off = (refl, only-cuts log bs failed off)
-only-cuts log (Torn second slot true begun late ∷ bs) failed off = absurd (cc)
-only-cuts log (Torn second slot false begun late ∷ bs) failed off = absurd (cc)
+only-cuts log (Torn second slot true begun late ∷ bs) failed off = absurd (let e : Torn second slot true begun late ∷ tears true (record log { breaks = bs }) ≡ [] = failed in cc)
+only-cuts log (Torn second slot false begun late ∷ bs) failed off = absurd (let e : Torn second slot false begun late ∷ tears false (record log { breaks = bs }) ≡ [] = off in cc)
 
 map-none : {X Y : Type 0} (f : X → Y) (xs : List X) → map f xs ≡ [] → xs ≡ []
 map-none f [] is = refl
@@ -113,7 +113,7 @@ module _ (IsVerdict : Card → ℕ → Verdict → Type 0) (before now : Device 
     order = h.order;
     finds = h.finds;
     judged = h.judged;
-    verdicts = λ t e v there found. nothing-found t e v (each-of _ (went log ss).told t none-in there) found;
+    verdicts = λ t e v there found. nothing-found t e v (each-of IsCardless (went log ss).told t none-in there) found;
   }
 
 -- ITS HISTORY, whatever the cards bring

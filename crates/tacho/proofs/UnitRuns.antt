@@ -23,10 +23,11 @@ use Rattle.run_outcome.specs.declared.outcome.Outcome.{Outcome}
 use Rattle.tacho.specs.declared.end.Fault.{Fault}
 use Rattle.tacho.specs.declared.end.Fault.TheVariants.{Done, Usage, BadTrace, TooLong, BadUnit, ClockBack, SameCard, ReadFault, WriteFault, MediumFault, Memory, BadFile, BadCard, Changed}
 use Rattle.tacho.specs.Alone.{IsForUnit, NoVerdict, StartsAs, IsUnitFault, IsRefusedAlone}
-use Rattle.tacho.specs.Outside.{Outside}
+use Rattle.tacho.specs.Outside.{Outside, memory_of}
+use Rattle.tacho.specs.Program.{HasCauses}
 use Rattle.tacho.specs.Outcomes.{IsEmpty, IsRun, IsRefusal, IsTold, refusal_of_run}
 use Rattle.tacho.specs.UnitRecorded.{breakdowns_in, IsSound, HaveCounts, Starts, IsRecorded, IsAllThere, IsCaused, EndsOnUnit}
-use Rattle.tacho.proofs.Recordings.{none-bad, refused-no-run}
+use Rattle.tacho.proofs.Recordings.{none-bad, run-refusal, refused-no-run}
 use Rattle.tacho.proofs.Unbroken.{none-failed, unbroken-log}
 
 -- the image that a unit tells behind reads alone is the one that it started with
@@ -135,6 +136,24 @@ module _ (old new : Outside) (outcome : Outcome) (start : ℕ) (items : List Ite
         whole = λ s is x told starts sound counts no. absurd no;
       }
   unit-refused (run.SameCard number) of_unit broke when refused = absurd of_unit
+
+-- the cause of a refusal that names a device
+unit-cause : (old new : Outside) (fault : RunFault) → IsUnitFault old.unit new.unit fault → (device : Device) → refusal_of_run fault ≡ MediumFault device → Rose (memory_of device old).faults (memory_of device new).faults
+unit-cause old new (run.MediumFault failed) h device is =
+    let named : failed ≡ device = cc in
+    subst (λ (d : Device). Rose (memory_of d old).faults (memory_of d new).faults) (sym h.0 ∙ named) h.1
+unit-cause old new (run.BadUnit place) h device is = absurd (cc)
+unit-cause old new (run.ClockBack kept second) h device is = absurd (cc)
+unit-cause old new (run.SameCard number) h device is = absurd h
+
+pub unit-causes : (old new : Outside) (fault : RunFault) → IsUnitFault old.unit new.unit fault → old.source.faults ≤ new.source.faults → old.sink.faults ≤ new.sink.faults → HasCauses old new (refusal_of_run fault)
+unit-causes old new fault h source sink = record {
+  read_fault = λ is. absurd (subst IsRefusal is (run-refusal fault));
+  write_fault = λ is. absurd (subst IsRefusal is (run-refusal fault));
+  medium_fault = unit-cause old new fault h;
+  reads = source;
+  writes = sink;
+}
 
 -- a run that went well, or could not be printed, is done where no call failed
 pub run-done : (old new : Outside) (fault : Fault) → IsRun fault → (fault ≡ WriteFault → Rose old.sink.faults new.sink.faults) → (Rose old.sink.faults new.sink.faults → ⊥) → fault ≡ Done

@@ -1,7 +1,7 @@
 use Rattle.std.proofs.Common.{subst, sym, arith, refl, inl, inr}
 use Rattle.tacho.specs.Outcomes.{IsEmpty}
 use Rattle.tacho.proofs.Recordings.{reserved-empty, run-refusal, ends-unread, ends-reserving, ends-refused, ends-run}
-use Rattle.tacho.proofs.UnitRuns.{refused-on-unit, unit-refused, unit-run}
+use Rattle.tacho.proofs.UnitRuns.{refused-on-unit, unit-refused, unit-causes, unit-run}
 use Rattle.tacho.proofs.CardRuns.{refused-when, refused-causes, cards-refused, cards-run}
 use Rattle.tacho.proofs.record_command.record.Goals as goal
 
@@ -50,6 +50,10 @@ returns-clause-ends g c =
     c.print_outcome-2.ensures.ok c.print_outcome-2.ensures.err c.print_outcome-2.ensures.cause
 
 -- ---- the cause of a refusal
+
+pub returns-in-Err-record_alone-clause-causes : goal.returns-in-Err-record_alone-clause-causes
+returns-in-Err-record_alone-clause-causes g c =
+    rw c.refusal_of_run.ensures (unit-causes _ _ c.in-Err-record_alone.fault c.in-Err-record_alone.ensures.fault (omega arith) (omega arith))
 
 pub returns-in-Err-run_trace-clause-causes : goal.returns-in-Err-run_trace-clause-causes
 returns-in-Err-run_trace-clause-causes g c =
