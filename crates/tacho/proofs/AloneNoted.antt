@@ -64,13 +64,13 @@ notes-by log u a (Withdraw slot) is = absurd is
 notes-by log u a (Tear slot) is = absurd is
 notes-by log u a (Place slot ending country region) is = absurd is
 
-acts-nothing : (log : RunLog) (d : Done) → IsIdle d → (as : List CarriedOut) → AllByRecursion (λ (a : CarriedOut). IsSelection a.action) as →
-    flat_map (λ a. noted_by log d.told.second.number a a.action ++ accepted_at d (In (a.before + 1))) as ≡ []
+acts-nothing : (log : RunLog) (d : Done) → IsIdle d → (acts : List CarriedOut) → AllByRecursion (λ (a : CarriedOut). IsSelection a.action) acts →
+    flat_map (λ a. noted_by log d.told.second.number a a.action ++ accepted_at d (In (a.before + 1))) acts ≡ []
 acts-nothing log d idle [] each = refl
-acts-nothing log d idle (a ∷ as) each =
-    ap (λ (ns : List Note). (ns ++ accepted_at d (In (a.before + 1))) ++ flat_map (λ x. noted_by log d.told.second.number x x.action ++ accepted_at d (In (x.before + 1))) as) (notes-by log d.told.second.number a a.action each.0)
-    ∙ ap (λ (ns : List Note). ns ++ flat_map (λ x. noted_by log d.told.second.number x x.action ++ accepted_at d (In (x.before + 1))) as) (accepts-nothing d (In (a.before + 1)) idle)
-    ∙ acts-nothing log d idle as each.1
+acts-nothing log d idle (a ∷ acts) each =
+    ap (λ (ns : List Note). (ns ++ accepted_at d (In (a.before + 1))) ++ flat_map (λ x. noted_by log d.told.second.number x x.action ++ accepted_at d (In (x.before + 1))) acts) (notes-by log d.told.second.number a a.action each.0)
+    ∙ ap (λ (ns : List Note). ns ++ flat_map (λ x. noted_by log d.told.second.number x x.action ++ accepted_at d (In (x.before + 1))) acts) (accepts-nothing d (In (a.before + 1)) idle)
+    ∙ acts-nothing log d idle acts each.1
 
 all-nothing : (log : RunLog) (ds : List Done) → AllByRecursion IsIdle ds → flat_map (noted_in log) ds ≡ []
 all-nothing log [] h = refl

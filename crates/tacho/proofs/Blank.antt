@@ -1,5 +1,5 @@
 -- What stands for no card is no valid card, and no call fails on it that leaves it as it was.
-use Rattle.std.proofs.Common.{◌≡◌, ◌∙◌, ℕ, ◌+◌, ◌-◌, ◌≤◌, ◌<◌, Bool, true, false, Option, Some, None, List, All, length, replicate, take, drop, is_some, refl, ap, sym, arith, lit<}
+use Rattle.std.proofs.Common.{◌≡◌, ◌∙◌, ℕ, ◌+◌, ◌-◌, ◌≤◌, ◌<◌, Bool, true, false, Option, Some, None, List, All, length, replicate, take, drop, is_some, refl, ap, sym, arith, lit<, lit≤, inl}
 use Rattle.std.specs.Prelude.{if◌then◌else◌}
 use Rattle.std.proofs.lemmas.List.{drop-replicate, take-replicate}
 use Rattle.std.proofs.lemmas.List.Elements.{All-replicate}
@@ -7,7 +7,7 @@ use Rattle.byte_fields.specs.Images.{bytes_at}
 use Rattle.card_layout.specs.declared.files.TheConstants.{LARGEST_IMAGE}
 use Rattle.card_layout.specs.Application.{first_bad_field, application_in}
 use Rattle.card_image.specs.Own.{IsOwnValid}
-use Rattle.tach_media.specs.Medium.{State, IsCoherent, Rose, last_count}
+use Rattle.tach_media.specs.Medium.{State, IsCoherent, Rose, last_count, LeavesOnly, Unchanged, Reads, HasCause, revivable}
 use Rattle.run_rule.specs.Opening.{BeginsAs}
 use Rattle.run_rule.specs.Between.{devices}
 use Rattle.run_keeping.specs.Books.{HaveTime}
@@ -47,6 +47,47 @@ never-failed false false is same rose = omega (arith, rose)
 pub blank-time : (broken : Bool) → (blank_state broken).clock < last_count
 blank-time true = lit< tt
 blank-time false = lit< tt
+
+-- WHAT ITS CALLS LEAVE: nothing but what was there
+leaves-blank : (old new : Bool) (R : List ℕ → List ℕ → Type 0) → (blank_state old).clock ≤ (blank_state new).clock → LeavesOnly (blank_state old) (blank_state new) R
+leaves-blank old new R later = record {
+  size = refl;
+  behind = refl;
+  writable = refl;
+  layers = refl;
+  tells = refl;
+  later = later;
+  since = λ t c le left. inl left;
+  now = λ c left. inl left;
+  keeps = λ t c le left. left;
+}
+
+-- a call that fails has broken it for good
+pub blank-broken : (old : Bool) → HasCause (blank_state old) (blank_state true) true
+blank-broken true = record { works = refl; broken = λ is. refl; faults = lit≤ tt; fault = λ is. lit≤ tt; breakdowns = lit≤ tt; breaks = λ works is. lit≤ tt; unbroken = λ no. absurd (cc); already = λ is. refl }
+blank-broken false = record { works = refl; broken = λ is. refl; faults = lit≤ tt; fault = λ is. lit≤ tt; breakdowns = lit≤ tt; breaks = λ works is. lit≤ tt; unbroken = λ no. absurd (cc); already = λ is. absurd (cc) }
+
+pub blank-revived : HasCause (revivable (blank_state true)) (blank_state true) true
+blank-revived = record { works = refl; broken = λ is. refl; faults = lit≤ tt; fault = λ is. lit≤ tt; breakdowns = lit≤ tt; breaks = λ works is. lit≤ tt; unbroken = λ no. absurd (cc); already = λ is. absurd (cc) }
+
+pub blank-works : HasCause (blank_state false) (blank_state false) false
+blank-works = record { works = refl; broken = λ is. absurd (cc); faults = lit≤ tt; fault = λ no. absurd (cc); breakdowns = lit≤ tt; breaks = λ works no. absurd (cc); unbroken = λ is. refl; already = λ is. refl }
+
+-- a read
+pub blank-reads : (broken failed : Bool) → broken ≡ failed → Reads (blank_state broken) (blank_state broken) failed
+blank-reads true true is = record { same = λ no. refl; leaves = leaves-blank true true Unchanged (lit≤ tt); clock = refl; cause = blank-broken true }
+blank-reads false false is = record { same = λ no. refl; leaves = leaves-blank false false Unchanged (lit≤ tt); clock = refl; cause = blank-works }
+blank-reads true false is = absurd (cc)
+blank-reads false true is = absurd (cc)
+
+-- a write
+pub blank-writes : (old : Bool) (R : List ℕ → List ℕ → Type 0) → LeavesOnly (blank_state old) (blank_state true) R
+blank-writes true R = leaves-blank true true R (lit≤ tt)
+blank-writes false R = leaves-blank false true R (lit≤ tt)
+
+pub blank-stays : (broken : Bool) (R : List ℕ → List ℕ → Type 0) → LeavesOnly (blank_state broken) (blank_state broken) R
+blank-stays true R = leaves-blank true true R (lit≤ tt)
+blank-stays false R = leaves-blank false false R (lit≤ tt)
 
 -- THE DEVICES OF A RUN on the unit alone: each begins with its image
 one-image : (x : List ℕ) (unit : State) → IsCoherent unit → StartsAs x unit → BeginsAs x unit
