@@ -19,7 +19,7 @@ use Rattle.run_crew.specs.Cabin.{torn_out, crew_of}
 use Rattle.run_keeping.specs.declared.keeper.Keeper.{Keeper}
 use Rattle.run_keeping.specs.Keeping.{UnitReady, CardReady, HasItsRow, fault_of}
 use Rattle.run_keeping.proofs.Sessions.{number-set, row-set}
-use Rattle.run_keeping.proofs.Units.{has-row}
+use Rattle.run_keeping.proofs.Units.{has-row, row-beside}
 use Rattle.run_acts.specs.declared.run.Run.{Run}
 use Rattle.run_acts.proofs.Noted.{noted-ready, noted-row}
 use Rattle.run_keeping.proofs.CardDeeds.{closed-alone}
@@ -57,6 +57,21 @@ returns-in-Ok-leave-clause-rows g c = λ card h.
     (has-row cards c.close.new.self.cards (g.M.Medium.state c.args.unit.now) (g.M.Medium.state c.args.unit.now) card
     (ap (λ (b : Cabin). (known_of b.cards card).number) c.close.ensures.kept ∙ number-set c.args.which card None cards)
     (ap (λ (b : Cabin). (known_of b.cards card).row) c.close.ensures.kept ∙ row-set c.args.which card None cards) (λ r n at. at) h))
+
+pub returns-in_default-clause-rows : goal.returns-in_default-clause-rows
+returns-in_default-clause-rows g c = λ card h.
+    let U = g.M.Medium.state c.args.unit.now in
+    subst (λ (b : Cabin). HasItsRow b.cards U card) (sym c.close.ensures.kept) (row-beside c.args.which None c.args.run.now.keeper.cabin.cards U card h)
+
+pub returns-in_default-sizes-clause-rows : goal.returns-in_default-sizes-clause-rows
+returns-in_default-sizes-clause-rows g c = λ card h.
+    let U = g.M.Medium.state c.args.unit.now in
+    subst (λ (b : Cabin). HasItsRow b.cards U card) (sym c.close.ensures.kept) (row-beside c.args.which None c.args.run.now.keeper.cabin.cards U card h)
+
+pub returns-in-Err-clause-rows : goal.returns-in-Err-clause-rows
+returns-in-Err-clause-rows g c = λ card h.
+    let U = g.M.Medium.state c.args.unit.now in
+    c.tear.ensures.rows card (subst (λ (b : Cabin). HasItsRow b.cards U card) (sym c.close.ensures.kept) (row-beside c.args.which None c.args.run.now.keeper.cabin.cards U card h))
 
 -- it has no session
 pub returns-in_default-clause-closed : goal.returns-in_default-clause-closed
