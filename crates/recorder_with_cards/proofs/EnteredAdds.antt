@@ -30,6 +30,7 @@ use Rattle.card_image.specs.Fields.{session_time}
 use Rattle.card_image.specs.Own.{own_sizes}
 use Rattle.card_judge.specs.declared.looking.CardLook.{CardLook}
 use Rattle.card_judge.specs.Judged.{IsLook}
+use Rattle.safety_model.specs.Recording.{card_image}
 use Rattle.safety_model.specs.Safe.{Devices, card_of}
 use Rattle.run_rule.specs.Found.{found_of}
 use Rattle.event_course.specs.Shown.{all_kinds}
@@ -46,6 +47,7 @@ use Rattle.run_moments.proofs.Reached.{lines-reached}
 use Rattle.run_moments.proofs.Lines.{who-sits, find-seen}
 use Rattle.run_events.specs.Shown.{by_kind}
 use Rattle.run_recorded.specs.Origin.{Origin}
+use Rattle.run_evented.specs.Opened.{session_in, HasComeBefore}
 use Rattle.run_evented.specs.Evented.{Evented}
 use Rattle.run_evented.specs.Noting.{Ended, NotesThese}
 use Rattle.run_evented.specs.SoFar.{puts_into, Adds, EventedNow, NotesUnsure, BeginsNow, AreBare, ComesInTurn, IsOpenWith, stage_in, fault_with, judged_with, crew_at}
@@ -84,28 +86,33 @@ added_by (Seated entered clock entry) speed second before accepted left = events
 added_by (Lost entered clock entry) speed second before accepted left = events_by (Lost entered clock entry) speed second before accepted left
 
 -- an accepted card's session was found opened so
-abbrev pub IsOpened : Ending → Origin → Card → Devices → Type 0
-IsOpened (Unfit fid place) o card d = Unit {0}
-IsOpened (Ahead stored) o card d = Unit {0}
-IsOpened Fell o card d = Unit {0}
-IsOpened Unasked o card d = Unit {0}
-IsOpened (Unnoted entered clock) o card d = IsOpenWith o card (verdict.Accepted entered.replayed) entered.look.session d
-IsOpened (Seated entered clock entry) o card d = IsOpenWith o card (verdict.Accepted entered.replayed) entered.look.session d
-IsOpened (Lost entered clock entry) o card d = IsOpenWith o card (verdict.Accepted entered.replayed) entered.look.session d
+abbrev pub IsOpened : Ending → Origin → (told : List Told) → List TraceSecond → TraceSecond → Card → Devices → Type 0
+IsOpened (Unfit fid place) o told done s card d = Unit {0}
+IsOpened (Ahead stored) o told done s card d = Unit {0}
+IsOpened Fell o told done s card d = Unit {0}
+IsOpened Unasked o told done s card d = Unit {0}
+IsOpened (Unnoted entered clock) o told done s card d = IsOpenWith o told done s card (verdict.Accepted entered.replayed) entered.look.session d
+IsOpened (Seated entered clock entry) o told done s card d = IsOpenWith o told done s card (verdict.Accepted entered.replayed) entered.look.session d
+IsOpened (Lost entered clock entry) o told done s card d = IsOpenWith o told done s card (verdict.Accepted entered.replayed) entered.look.session d
 
--- the image that it was told by, which a stop might have left
-pub opened-by : (o : Origin) (card : Card) (d : Devices) (v : Verdict) (app : Application) (look : CardLook) (x : List ℕ) → (card_of d card).left_since (found_of o.found card).began x → own_sizes x ≡ app → IsLook app x look → IsOpenWith o card v look.session d
-opened-by o card d v app look x left own is = λ accepts. (x, left, ap (λ (a : Application). session_time a x) own ∙ sym is.session)
+-- AS A CARD IS JUDGED in a second behind these: the image that it is told by, which a stop might have left; that is the one of the start, or it has come
+-- before
+module _ (o : Origin) (told : List Told) (done : List TraceSecond) (s : TraceSecond) (card : Card) (d : Devices) (app : Application) (x : List ℕ) (left : (card_of d card).left_since (found_of o.found card).began x)
+    (first : (x ≡ card_image o.recording card) ⊎ HasComeBefore told (done ++ s ∷ []) card s.number) (own : own_sizes x ≡ app) where
+  opened-by : (v : Verdict) (look : CardLook) → IsLook app x look → IsOpenWith o told done s card v look.session d
+  opened-by v look is =
+      let told_so : session_in x ≡ look.session = ap (λ (a : Application). session_time a x) own ∙ sym is.session in
+      λ accepts. (x, left, told_so, ⊎_elim (λ same. inl (ap (λ (y : List ℕ). session_in y) (sym same) ∙ told_so)) (λ come. inr come) first)
 
--- so it was opened, by the image that was found of it
-pub ending-opened : (o : Origin) (card : Card) (d : Devices) (app : Application) (second : ℕ) (unit : Option (List ℕ)) (x : List ℕ) → (card_of d card).left_since (found_of o.found card).began x → own_sizes x ≡ app → (ending : Ending) → IsFound app second unit ending x → IsOpened ending o card d
-ending-opened o card d app second unit x left own (Unfit fid place) found = tt
-ending-opened o card d app second unit x left own (Ahead stored) found = tt
-ending-opened o card d app second unit x left own Fell found = tt
-ending-opened o card d app second unit x left own Unasked found = tt
-ending-opened o card d app second unit x left own (Unnoted entered clock) found = opened-by o card d (verdict.Accepted entered.replayed) app entered.look x left own found.looked
-ending-opened o card d app second unit x left own (Seated entered clock entry) found = opened-by o card d (verdict.Accepted entered.replayed) app entered.look x left own found.looked
-ending-opened o card d app second unit x left own (Lost entered clock entry) found = opened-by o card d (verdict.Accepted entered.replayed) app entered.look x left own found.looked
+  -- so it was opened, by the image that was found of it
+  pub ending-opened : (second : ℕ) (unit : Option (List ℕ)) (ending : Ending) → IsFound app second unit ending x → IsOpened ending o told done s card d
+  ending-opened second unit (Unfit fid place) found = tt
+  ending-opened second unit (Ahead stored) found = tt
+  ending-opened second unit Fell found = tt
+  ending-opened second unit Unasked found = tt
+  ending-opened second unit (Unnoted entered clock) found = opened-by (verdict.Accepted entered.replayed) entered.look found.looked
+  ending-opened second unit (Seated entered clock entry) found = opened-by (verdict.Accepted entered.replayed) entered.look found.looked
+  ending-opened second unit (Lost entered clock entry) found = opened-by (verdict.Accepted entered.replayed) entered.look found.looked
 
 -- an accepted card falls at a power-on where the vehicle moves alone
 abbrev pub FallsMoving : Ending → (speed : ℕ) → Type 0
@@ -215,7 +222,7 @@ module _ (d : Devices) (o : Origin) (done : List TraceSecond) (p : Progress) (sp
       never wrong = absurd (cc)
 
   -- a find, by its session
-  find-on : (v : Verdict) (session : ℕ) → IsOpenWith o e.which v session d → Adds o done s (stage_in n) log (stage_in n) (and_find log (find_of e v)) (judged_with session s.number s.speed e.slot e.which crew v) d
+  find-on : (v : Verdict) (session : ℕ) → IsOpenWith o (went p.log done).told done s e.which v session d → Adds o done s (stage_in n) log (stage_in n) (and_find log (find_of e v)) (judged_with session s.number s.speed e.slot e.which crew v) d
   find-on v session opened = find-adds d o done p span s b n log r (find_of e v) (found-at v) first (record { card = e.which; accepted = None }) sits none enters session opened
 
   -- who sits there by a log of this moment is the one that is out
@@ -321,7 +328,7 @@ module _ (d : Devices) (o : Origin) (done : List TraceSecond) (p : Progress) (sp
         )
 
     -- ACCEPTED, AND TORN OUT in the same call
-    lost-adds : (session : ℕ) → IsOpenWith o e.which (verdict.Accepted replayed) session d → (n ≡ 0 → 0 < s.speed) →
+    lost-adds : (session : ℕ) → IsOpenWith o (went p.log done).told done s e.which (verdict.Accepted replayed) session d → (n ≡ 0 → 0 < s.speed) →
         Adds o done s (stage_in n) log (stage_in n) (and_break log1 (tear_of e.slot e.at)) (moving_events s.speed s.number with_it ++ noted_with CARD_FAULT s.number s.number bare ∷ unclosed_events session s.number with_it) d
     lost-adds session opened moves =
         let judged : List Event = judged_with session s.number s.speed e.slot e.which crew (verdict.Accepted replayed) in
@@ -343,7 +350,7 @@ module _ (d : Devices) (o : Origin) (done : List TraceSecond) (p : Progress) (sp
         moving-not : s.speed ≡ 0 → 0 < s.speed → ⊥
         moving-not rest moves = omega (arith, rest, moves)
 
-  accepted-adds : (replayed session : ℕ) → IsOpenWith o e.which (verdict.Accepted replayed) session d →
+  accepted-adds : (replayed session : ℕ) → IsOpenWith o (went p.log done).told done s e.which (verdict.Accepted replayed) session d →
       Adds o done s (stage_in n) log (stage_in n) (and_find log (find_of e (verdict.Accepted replayed))) (moving_events s.speed s.number with_it ++ unclosed_events session s.number with_it) d
   accepted-adds replayed session opened =
       subst (λ (es : List Event). Adds o done s (stage_in n) log (stage_in n) (and_find log (find_of e (verdict.Accepted replayed))) es d) (judged-as session s.number s.speed e.slot e.which crew replayed) (find-on (verdict.Accepted replayed) session opened)
@@ -361,7 +368,7 @@ module _ (d : Devices) (o : Origin) (done : List TraceSecond) (p : Progress) (sp
   abbrev AddsTo : RunLog → List Event → Type 0
   AddsTo later es = Adds o done s (stage_in n) log (stage_in n) later es d
 
-  pub ending-adds : (ending : Ending) → IsOpened ending o e.which d → (n ≡ 0 → FallsMoving ending s.speed) → Adds o done s (stage_in n) log (stage_in n) (log_with ending e log) (added_by ending s.speed s.number bare with_it bare) d
+  pub ending-adds : (ending : Ending) → IsOpened ending o (went p.log done).told done s e.which d → (n ≡ 0 → FallsMoving ending s.speed) → Adds o done s (stage_in n) log (stage_in n) (log_with ending e log) (added_by ending s.speed s.number bare with_it bare) d
   ending-adds (Unfit fid place) opened moves = subst (λ (l : RunLog). AddsTo l (noted_with CARD_NOT_VALID s.number s.number bare ∷ [])) (found-only (find_of e (verdict.NotValid fid place))) (find-on (verdict.NotValid fid place) 0 (λ wrong. absurd (unaccepted wrong)))
     where
       unaccepted : false ≡ true → ⊥
@@ -391,13 +398,13 @@ module _ (d : Devices) (o : Origin) (done : List TraceSecond) (p : Progress) (sp
   ending-reached (Lost entered clock entry) = (lines-reached p s (In n) (log1 entered.replayed) (reached entered.replayed)).0 e.slot true (tear_of e.slot e.at) torn-at
 
   -- IT IS NOTED: the second goes on;
-  pub judged-goes : (old : Devices) (ending : Ending) → IsOpened ending o e.which d → (n ≡ 0 → FallsMoving ending s.speed) → EventedNow o done s p (stage_in n) log old → NotesSo false o (events_by ending s.speed s.number bare with_it bare) old d →
+  pub judged-goes : (old : Devices) (ending : Ending) → IsOpened ending o (went p.log done).told done s e.which d → (n ≡ 0 → FallsMoving ending s.speed) → EventedNow o done s p (stage_in n) log old → NotesSo false o (events_by ending s.speed s.number bare with_it bare) old d →
       events_by ending s.speed s.number bare with_it bare ≡ added_by ending s.speed s.number bare with_it bare → HaveLeftMore o old d → EventedNow o done s p (stage_in n) (log_with ending e log) d
   judged-goes old ending opened moves now notes same left =
       call-notes old d o done s p (stage_in n) (stage_in n) log (log_with ending e log) (added_by ending s.speed s.number bare with_it bare) now (ending-adds ending opened moves) (subst (λ (es : List Event). NotesThese o es old d) same notes) left
 
   -- or the unit failed in that, and the cut that is told ends it.
-  pub judged-cut : (old : Devices) (ending : Ending) → IsOpened ending o e.which d → (n ≡ 0 → FallsMoving ending s.speed) → EventedNow o done s p (stage_in n) log old → NotesSo true o (events_by ending s.speed s.number bare with_it bare) old d → HaveLeftMore o old d →
+  pub judged-cut : (old : Devices) (ending : Ending) → IsOpened ending o (went p.log done).told done s e.which d → (n ≡ 0 → FallsMoving ending s.speed) → EventedNow o done s p (stage_in n) log old → NotesSo true o (events_by ending s.speed s.number bare with_it bare) old d → HaveLeftMore o old d →
       (waits : List Visit) (mid now after : Device → ℕ) → Moment p before s (In n) (log_with ending e log) waits mid now → IsMore now after → RoseBy 1 (mid Recorder) (after Recorder) → (rest : List Action) → IsLeft s (In n) rest →
       Evented o (done ++ s ∷ []) (and_break (log_with ending e log) (cut_at s.number true n)) p.unfound (suc p.next) IsLost d
   judged-cut old ending opened moves now notes left waits mid counted after m rose broke rest is_left =

@@ -1,5 +1,5 @@
 -- A card is judged in its turn: what that brings is noted, or the unit fails in that, and the cut that is told ends it.
-use Rattle.std.proofs.Common.{◌≡◌, ◌∙◌, ℕ, ◌^◌, ◌<◌, Bool, true, false, cond, nat_lt, nat_eq, Option, Some, None, List, [], ◌∷◌, ◌++◌, take, drop, refl, ap, sym, subst}
+use Rattle.std.proofs.Common.{◌≡◌, ◌⊎◌, inl, inr, ⊎_elim, ◌∙◌, ℕ, ◌^◌, ◌<◌, Bool, true, false, cond, nat_lt, nat_eq, Option, Some, None, List, [], ◌∷◌, ◌++◌, take, drop, refl, ap, sym, subst}
 use Rattle.std.specs.Prelude.{Result}
 use Rattle.std.proofs.lemmas.List.{take-append-drop, length-take-le}
 use Rattle.activity_codec.specs.declared.values.Slot.{Slot}
@@ -17,12 +17,13 @@ use Rattle.card_image.specs.Own.{IsOwnValid}
 use Rattle.log_model.specs.Log.{RunLog, In}
 use Rattle.joint_rule.specs.Rules.{Out}
 use Rattle.log_model.specs.Slots.{Slots, in_slot}
-use Rattle.log_model.specs.Course.{Visit, Course, went}
+use Rattle.log_model.specs.Course.{Told, Visit, Course, went}
 use Rattle.event_model.specs.declared.kinds.TheConstants.{CARD_FAULT, INSERTION_WHILE_DRIVING, SESSION_NOT_CLOSED}
 use Rattle.event_model.specs.Events.{Event, Crew, accepted_card, with_card, noted_with}
 use Rattle.event_model.specs.Events as events
 use Rattle.slot_machine.specs.declared.seats.Seat.{Seat}
 use Rattle.slot_machine.specs.Calls.{is_card}
+use Rattle.safety_model.specs.Recording.{card_image}
 use Rattle.safety_model.specs.Safe.{Devices, card_of, breakdowns_of}
 use Rattle.run_crew.specs.declared.cabin.Cabin.{Cabin}
 use Rattle.run_crew.specs.declared.cards.Cards.{Cards}
@@ -48,6 +49,7 @@ use Rattle.run_entering.specs.Noted.{notes_by}
 use Rattle.run_entering.specs.Told.{IsToldOf}
 use Rattle.run_within.specs.Recorded.{Values}
 use Rattle.run_within.specs.Within.{Within, course_in, told_before}
+use Rattle.run_evented.specs.Opened.{HasComeBefore}
 use Rattle.run_evented.specs.Evented.{number_in}
 use Rattle.run_evented.specs.SoFar.{EventedNow, BeginsNow, stage_in}
 use Rattle.run_acts.specs.Entered.{values_with, MayJudge, HasGone, AreSound}
@@ -66,6 +68,7 @@ use Rattle.run_acts.proofs.Numbers.{notes-at}
 use Rattle.recorder_with_cards.specs.EnteredEvents.{events_in}
 use Rattle.recorder_with_cards.specs.EnteredTold.{moving_events, unclosed_events, events_by, IsLow}
 use Rattle.recorder_with_cards.specs.Judged.{IsInTurn}
+use Rattle.recorder_with_cards.proofs.CameFirst.{came-first}
 use Rattle.recorder_with_cards.proofs.EnteredAdds.{IsOpened, FallsMoving, log_with, added_by, ending-opened, ending-fails, judged-goes, judged-cut}
 use Rattle.recorder_with_cards.proofs.EnteredNamed.{IsNumbered, ending-tells}
 
@@ -145,10 +148,11 @@ noted-all (Judged app (Unnoted entered clock)) registration e unit card after is
 noted-all (Judged app (Seated entered clock entry)) registration e unit card after is speed u beforehand accepted gone = refl
 noted-all (Judged app (Lost entered clock entry)) registration e unit card after is speed u beforehand accepted gone = refl
 
-way-opened : (o : Origin) (card : Card) (d : Devices) (second : ℕ) (unit : Option (List ℕ)) (x : List ℕ) → (card_of d card).left_since (found_of o.found card).began x → (way : Way) → IsFoundIn second unit way x → IsOpened (ending_of way) o card d
-way-opened o card d second unit x left_ Unread found = tt
-way-opened o card d second unit x left_ (Unsized field) found = tt
-way-opened o card d second unit x left_ (Judged app ending) found = ending-opened o card d app second unit x left_ found.0 ending found.1
+way-opened : (o : Origin) (told : List Told) (done : List TraceSecond) (s : TraceSecond) (card : Card) (d : Devices) (second : ℕ) (unit : Option (List ℕ)) (x : List ℕ) → (card_of d card).left_since (found_of o.found card).began x →
+    (x ≡ card_image o.recording card) ⊎ HasComeBefore told (done ++ s ∷ []) card s.number → (way : Way) → IsFoundIn second unit way x → IsOpened (ending_of way) o told done s card d
+way-opened o told done s card d second unit x left_ first Unread found = tt
+way-opened o told done s card d second unit x left_ first (Unsized field) found = tt
+way-opened o told done s card d second unit x left_ first (Judged app ending) found = ending-opened o told done s card d app x left_ first found.0 second unit ending found.1
 
 -- its time fits its field
 way-low : (way : Way) (registration : Registration) (e : Entering) (failed : Bool) (unit : Option (List ℕ)) (card after : State) → IsWay way registration e failed unit card after → IsLow (ending_of way)
@@ -265,12 +269,13 @@ module _ (o : Origin) (done : List TraceSecond) (s : TraceSecond) (n : ℕ) (wai
     more : HaveLeftMore o (arranged e.which U X Z) (arranged e.which W Y Z)
     more = left o done s n waits fewer e k out unfound next_ begun minutes U X Z w m failed k' noted noted' out' W Y way g sound
 
-    opened : IsOpened (ending_of way) o e.which (arranged e.which W Y Z)
+    opened : IsOpened (ending_of way) o (went w.b.run.log done).told done s e.which (arranged e.which W Y Z)
     opened =
         let y = found-in o done s n waits fewer e k out unfound next_ begun minutes U X Z w m failed k' noted noted' out' W Y way g sound in
         let began = card-began o done s n waits fewer e k out unfound next_ begun minutes U X Z w m in
-        way-opened o e.which (arranged e.which W Y Z) e.at.second U.image y.0
-        (more.card e.which y.0 (mine-back e.which U X Z (λ (a : State). a.left_since (found_of o.found e.which).began y.0) (sound.card_before.counts_now (found_of o.found e.which).began y.0 began y.1))) way y.2
+        way-opened o (went w.b.run.log done).told done s e.which (arranged e.which W Y Z) e.at.second U.image y.0
+        (more.card e.which y.0 (mine-back e.which U X Z (λ (a : State). a.left_since (found_of o.found e.which).began y.0) (sound.card_before.counts_now (found_of o.found e.which).began y.0 began y.1)))
+        (⊎_elim (λ whole. inl (whole y.0 y.1)) (λ come. inr come) (came-first o done s n waits fewer e k out unfound next_ begun minutes U X Z w m sound.card_before)) way y.2
 
     tells : AreTold (number_in o) (events_in (notes_by (ending_of way) e noted cabin)) brings
     tells = subst (λ (x : ℕ). AreTold (number_in o) (events_in (notes_by (ending_of way) e noted cabin)) (events_by (ending_of way) x s.number bare with_it bare)) (sym speed)

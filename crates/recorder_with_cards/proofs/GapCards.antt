@@ -61,7 +61,7 @@ use Rattle.recorder_with_cards.proofs.WokenCards.{torn-sitting}
 abbrev plain : Tearing
 plain = record { by_gap = λ u slot. false; driver_first = λ u n. true }
 
-seated-card : (seat : Option Seat) (c : Card) → sits_card seat c ≡ true → card_in seat ≡ Some c
+pub seated-card : (seat : Option Seat) (c : Card) → sits_card seat c ≡ true → card_in seat ≡ Some c
 seated-card None c is = absurd (let wrong : false ≡ true = is in cc)
 seated-card (Some seat) c is = ap (λ (k : Card). Some k) (by seat.card c is)
   where
@@ -71,7 +71,7 @@ seated-card (Some seat) c is = ap (λ (k : Card). Some k) (by seat.card c is)
     by B A is = absurd (let wrong : false ≡ true = is in cc)
     by B B is = refl
 
-same-self : (c : Card) → same_card c c ≡ true
+pub same-self : (c : Card) → same_card c c ≡ true
 same-self A = refl
 same-self B = refl
 

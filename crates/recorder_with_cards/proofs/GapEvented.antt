@@ -121,7 +121,7 @@ session-was B A cards some = some
 session-was B B cards some = absurd (let bad : false ≡ true = some in cc)
 
 -- it leaves the driver slot alone
-driver-gone : (card : Card) (second : ℕ) (cabin : Cabin) → is_card cabin.slots.seats.driver card ≡ true → torn_out card second cabin ≡ record { slots = left_from (Some Driver) second cabin.slots; cards = with_session card None cabin.cards }
+pub driver-gone : (card : Card) (second : ℕ) (cabin : Cabin) → is_card cabin.slots.seats.driver card ≡ true → torn_out card second cabin ≡ record { slots = left_from (Some Driver) second cabin.slots; cards = with_session card None cabin.cards }
 driver-gone card second cabin there =
     ap (λ (q : Option Slot). record { slots = left_from q second cabin.slots; cards = with_session card None cabin.cards })
     (ap (λ (b : Bool). cond b (Some Driver) (cond (is_card cabin.slots.seats.codriver card) (Some CoDriver) None)) there)

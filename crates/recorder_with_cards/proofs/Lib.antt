@@ -1,5 +1,6 @@
 pub mod EnteredRings
 pub mod EnteredTold
+pub mod CameFirst
 pub mod EnteredAdds
 pub mod EnteredNamed
 pub mod EnteredEvented
@@ -39,6 +40,7 @@ pub mod Waiting
 pub mod SecondsRecorded
 pub mod Written
 pub mod WrittenRows
+pub mod AtEnd
 pub mod Promised
 pub mod Later
 pub mod WakeNoted
@@ -68,3 +70,7 @@ pub mod ActsCards
 pub mod WokenCards
 pub mod GapCards
 pub mod GapOnCard
+pub mod WakesCards
+pub mod GapShown
+pub mod OffCards
+pub mod SecondsCards

@@ -113,17 +113,17 @@ module _ (rule : Rule) (start : Start) (from first : ℕ) (p : Progress) (t : To
   abbrev later : RunLog
   later = and_break p.log cut
 
-  order : AreInOrder from front × (r.number ≡ from + length front)
+  pub order : AreInOrder from front × (r.number ≡ from + length front)
   order = order-parts from front r f.order
 
-  number : r.number ≡ p.next - 1
+  pub number : r.number ≡ p.next - 1
   number = let n = order.1 in let next = f.next in let many = length-append front (r ∷ []) in omega (arith, n, next, many)
 
-  same : All (λ (x : TraceSecond). SameAt p.log later x.number) front
+  pub same : All (λ (x : TraceSecond). SameAt p.log later x.number) front
   same = all-before (λ (u : ℕ). SameAt p.log later u) from front order.0
       (λ u lt. same-at p.log later (p.next - 1) (cut ∷ []) refl (refl, tt) [] (sym (append-nil p.log.finds)) tt u (other-number (p.next - 1) u (let n = order.1 in let is = number in omega (arith, lt, n, is))))
 
-  front-same : went later front ≡ went p.log front
+  pub front-same : went later front ≡ went p.log front
   front-same = went-later p.log later (p.next - 1) (cut ∷ []) refl (refl, tt) [] (sym (append-nil p.log.finds)) tt from front order.0 (let n = order.1 in let is = number in omega (arith, n, is))
 
   before-same : (went later front).before ≡ (went p.log front).before
@@ -135,20 +135,20 @@ module _ (rule : Rule) (start : Start) (from first : ℕ) (p : Progress) (t : To
   runs : (x.lit && not x.cut) ≡ true
   runs = sym (ap (λ (w : Went). w.before.running) (went-more p.log front r)) ∙ f.power.running
 
-  power : has_power (went p.log front).before r ≡ true
+  pub power : has_power (went p.log front).before r ≡ true
   power = sym (told-lit p.log (went p.log front).before r) ∙ and-first x.lit (not x.cut) runs
 
-  uncut : cut_in p.log r.number ≡ None
+  pub uncut : cut_in p.log r.number ≡ None
   uncut =
       let parts = cut-parts rule start from first (front ++ r ∷ []) p t span f in
       ap (cut_in p.log) (number ∙ sym parts.6) ∙ parts.7
 
-  now-cut : cut_in later r.number ≡ Some (length r.actions)
+  pub now-cut : cut_in later r.number ≡ Some (length r.actions)
   now-cut =
       (break-more p.log cut r.number).cut ∙ ap (λ (c : Option ℕ). cond (is_some c) c (cond (nat_eq (p.next - 1) r.number) (Some p.begun) None)) uncut
       ∙ ap (λ (b : Bool). cond b (Some p.begun) None) (ap (nat_eq (p.next - 1)) number ∙ here (p.next - 1)) ∙ ap (λ (n : ℕ). Some n) (sym count)
 
-  tells : TellSameTo p.log later r.number (length r.actions)
+  pub tells : TellSameTo p.log later r.number (length r.actions)
   tells = record {
     begun = λ k lt. ap (λ (c : Option ℕ). begins c k) uncut;
     begun_later = λ k lt. ap (λ (c : Option ℕ). begins c k) now-cut ∙ below k (length r.actions) lt;

@@ -1,5 +1,5 @@
 -- What a run promises, from what was recorded of it; and that nothing is recorded as it begins.
-use Rattle.std.proofs.Common.{◌≡◌, ◌∙◌, inl, ℕ, ◌+◌, ◌-◌, ◌/◌, ◌<◌, ◌≤◌, true, false, Option, Some, None, IfSome, option_map, is_some, Result, Ok, List, [], ◌++◌, length, All, refl, ap, sym, subst, arith}
+use Rattle.std.proofs.Common.{◌≡◌, ◌∙◌, ◌⊎◌, inl, inr, ⊎_elim, ℕ, ◌+◌, ◌-◌, ◌/◌, ◌<◌, ◌≤◌, true, false, Option, Some, None, IfSome, option_map, is_some, Result, Ok, List, [], ◌++◌, length, All, refl, ap, sym, subst, arith}
 use Rattle.trace_model.specs.declared.Card.{Card}
 use Rattle.trace_model.specs.declared.Card.TheVariants.{A, B}
 use Rattle.trace_model.specs.declared.Item.{Item}
@@ -36,7 +36,6 @@ use Rattle.unit_journal.proofs.Beside.{passes_beside}
 use Rattle.unit_memory.specs.declared.format.Identity.{Identity}
 use Rattle.safety_model.specs.Recording.{Recording, card_image, brought}
 use Rattle.safety_model.specs.Safe.{Devices, card_of, breakdowns_of, MayBegin}
-use Rattle.safety_model.specs.Side.{ShowsSide}
 use Rattle.slot_machine.specs.Kept.{nothing_yet}
 use Rattle.run_crew.specs.declared.cards.Accepted.{Accepted}
 use Rattle.run_crew.specs.declared.cards.Known.{Known}
@@ -55,7 +54,8 @@ use Rattle.run_recorded.specs.Origin.{Origin, rule_of}
 use Rattle.run_recorded.specs.Ends.{recording_by, EndsRun}
 use Rattle.run_recorded.specs.Seconds.{empty_log}
 use Rattle.run_recorded.proofs.Ends.{ends-run}
-use Rattle.run_evented.specs.Evented.{limit_in, Evented}
+use Rattle.event_model.specs.Events.{Seen, seen_of}
+use Rattle.run_evented.specs.Evented.{limit_in, images_in, Evented}
 use Rattle.run_evented.proofs.Ends.{nothing-noted, events-shown}
 use Rattle.run_ringed.specs.Ringed.{Seating, Ringed, notes_in}
 use Rattle.run_ringed.specs.SoFar.{AreEarlier, RingedBehind}
@@ -83,13 +83,25 @@ use Rattle.run_acts.proofs.StoredRun.{end-stores}
 use Rattle.run_acts.specs.Evented.{RunEvented}
 use Rattle.run_acts.specs.Ringing.{seating_of}
 use Rattle.run_acts.specs.RunRinged.{seats_of, RunRinged}
+use Rattle.run_acts.specs.OnCards.{accepted_on, ShowsOn, AreUses}
+use Rattle.run_acts.specs.RunCards.{vehicle_of, vehicle_in, sizes_in}
+use Rattle.run_acts.proofs.OnCards.{start-shown}
 use Rattle.run_acts.proofs.Numbers.{own-long}
+use Rattle.recorder_with_cards.specs.Carded.{RunCarded}
 use Rattle.recorder_with_cards.specs.Ends.{BeginAs, recorded_with, recording_of, opened_with, origin_of, MayRecord, EndsTrace}
 use Rattle.recorder_with_cards.proofs.Waiting.{first-second}
+use Rattle.recorder_with_cards.specs.Sessions.{TellFirst}
 use Rattle.recorder_with_cards.proofs.SideShown.{insertions-inside, places-inside, side-shown}
 use Rattle.recorder_with_cards.proofs.Written.{are-written, keep-holders}
 use Rattle.recorder_with_cards.proofs.KeptAfter.{end-kept}
-use Rattle.run_acts.specs.Stays.{registration_in, HasStays, ShowsStays}
+use Rattle.run_acts.specs.Stays.{registration_in, AreMerged, open_ones, going_on, HasStays, ShowsStays}
+use Rattle.recorder_with_cards.specs.Stays.{one_more}
+use Rattle.recorder_with_cards.proofs.AtEnd.{goes-at-end}
+use Rattle.run_recorded.specs.Whole.{NothingFailed}
+use Rattle.run_crew.specs.Cabin.{Stands}
+use Rattle.std.specs.Prelude.{filter}
+use Rattle.log_model.specs.Log.{is_accepting}
+use Rattle.log_model.specs.declared.lines.Find.{Find}
 use Rattle.run_acts.proofs.Stays.{stays-start}
 
 -- what holds of either card
@@ -158,35 +170,63 @@ module _ (x a b : List ℕ) (start : ℕ) (items : List Item) (began now : Devic
       ends-run o done (progress v supply h.book) h.travel v.marks (carried v h.due h.book h.standing h.brought) began now h.recorded (found-by r0 done v.log (found_in r0 began) began found)
       (is-carried done v (carried v h.due h.book h.standing h.brought) supply h.held) refl refl h.beside unit_whole card_whole decodes refl
 
-  pub promised : (run : Run) (out : Outcome) → RunRinged o (seconds_of start items) run out now → IsCoherent now.unit → ((c : Card) → IsCoherent (card_of now c)) → MayRecord x a b start → IsFound r0 (found_in r0 began) began →
+  pub promised : (run : Run) (out : Outcome) → RunCarded o (seconds_of start items) run out now → (run.power ≡ Lit → (low : ℕ) × Stands low None run.keeper.cabin) → IsCoherent now.unit → ((c : Card) → IsCoherent (card_of now c)) → MayRecord x a b start → IsFound r0 (found_in r0 began) began →
       EndsTrace x a b start items out began now
-  promised run out h unit_whole card_whole may found = record {
+  promised run out carded sits unit_whole card_whole may found = record {
     may = record {
       decodes = may.decodes;
       clock = λ s is. let number = first-second start items s is in let later = may.later in omega (arith, number, later);
       numbers = may.numbers;
     };
     ends = ends-so (seconds_of start items) h.evented.recorded.supply (values_of run out) h.evented.recorded.recorded unit_whole card_whole found may.decodes;
-    side = record { shows = shows };
+    side = record { shows = λ y left. (shows y left).shows };
     written = are-written o (seconds_of start items) h.evented.recorded.supply (values_of run out) began now h.evented.recorded.recorded (found-by r0 (seconds_of start items) (log_of out) (found_in r0 began) began found);
-    stays = λ none c valid.
-        let of_image : (found_of o.found c).image ≡ card_image r c = found.image c ∙ sym (images c) in
+    stays = λ none.
         let all = h.evented.recorded.stay none in
-        let h_ = all.1 c (subst IsOwnValid (sym of_image) valid) in
-        subst (λ (i : List ℕ). ShowsStays x i (card_of now c)) of_image (record { vehicle = run.keeper.memory.registration; says = all.0; stays = h_.stays; shows = h_.shows });
+        record {
+          vehicle = run.keeper.memory.registration;
+          says = all.says;
+          stays = all.stays;
+          told = all.told;
+          owed = all.owed;
+          only = λ c. ⊎_elim (λ none_. inl none_) (λ valid. inr (subst IsOwnValid (of_image c) valid)) (all.only c);
+          shows = λ c valid. subst (λ (i : List ℕ). ShowsStays run.keeper.memory.registration i (all.stays c) (card_of now c)) (of_image c) (own none c valid).shows;
+          ends = λ c valid.
+              let most : open_ones (all.stays c) ≤ length r.log.breaks + going_on (session_of run.keeper.cabin.cards c) = (own none c valid).ends in
+              let one : going_on (session_of run.keeper.cabin.cards c) ≤ one_more c (went r.log r.trace).before.slots = goes-at-end o ss run out now h.evented.recorded sits c in
+              omega (arith, most, one);
+        };
     kept = end-kept o ss run out now h.evented.recorded h.spans h.ringed.spans_are h.stored;
     dense = record {
       insertions = λ dense y left. (h.ringed.ringed.insertions (record { points = insertions-inside x may.decodes; dense = dense }) y left).shows.carries.dense;
       places = λ dense y left. (h.ringed.ringed.places (record { points = places-inside x may.decodes; dense = dense }) y left).carries.dense;
     };
     holders = keep-holders o (seconds_of start items) h.evented.recorded.supply (values_of run out) began now h.evented.recorded.recorded (found-by r0 (seconds_of start items) (log_of out) (found_in r0 began) began found);
+    sessions = shows;
+    cards = λ c valid.
+        let one = carded.cards c (subst IsOwnValid (images c) valid) in
+        record {
+          uses = one.uses;
+          are = subst (λ (n : ℕ). AreUses ((card_of now c).left_since n) one.uses (accepted_on c (seen_of r.log r.trace))) (clocks c) one.are;
+          shows = subst (λ (i : List ℕ). ShowsOn c (vehicle_of x) one.uses (own_sizes i) i r.log r.trace (card_of now c)) (sym (images c)) one.shows;
+        };
   }
     where
+      h : RunRinged o (seconds_of start items) run out now
+      h = carded.ringed
+
       r : Recording
       r = recording_of x a b start items out
 
       images : (c : Card) → card_image r c ≡ card_image o.recording c
       images = both (λ c. card_image r c ≡ card_image o.recording c) refl refl
+
+      of_image : (c : Card) → (found_of o.found c).image ≡ card_image r c
+      of_image c = found.image c ∙ sym (images c)
+
+      own : (none : NothingFailed (log_of out)) (c : Card) → IsOwnValid (card_image r c) →
+          HasStays (found_of o.found c) run.keeper.memory.registration (length (log_of out).breaks) ((h.evented.recorded.stay none).stays c) (session_of run.keeper.cabin.cards c) (card_of now c)
+      own none c valid = (h.evented.recorded.stay none).each c (subst IsOwnValid (sym (of_image c)) valid)
 
       clocks : (c : Card) → (found_of o.found c).began ≡ (card_of began c).clock
       clocks = both (λ c. (found_of o.found c).began ≡ (card_of began c).clock) refl refl
@@ -198,7 +238,7 @@ module _ (x a b : List ℕ) (start : ℕ) (items : List Item) (began now : Devic
       stores : HaveBases (rule_of o) (log_of out) (odometer_at x) (last_kept x) [] h.spans × ((y : List ℕ) → now.unit.may_leave y → MayStore (rule_of o) (odometer_at x) (last_kept x) h.spans (last_kept y) (odometer_at y))
       stores = end-stores o ss run out now h.evented.recorded h.spans h.ringed.spans_are h.stored
 
-      shows : (y : List ℕ) → now.unit.may_leave y → ShowsSide r began now y
+      shows : TellFirst r began now
       shows y left =
           side-shown r began now y may.decodes
           (events-shown began now o (seconds_of start items) (log_of out) run.unfound run.next h.evented.recorded.supply h.evented.evented r refl images refl refl clocks y left)
@@ -210,6 +250,10 @@ module _ (x a b : List ℕ) (start : ℕ) (items : List Item) (began now : Devic
 no-spans : (log : RunLog) → spans_of (went log []).told ≡ []
 unfolding went spans_of
 no-spans log = refl
+
+no-seen : (log : RunLog) → seen_of log [] ≡ []
+unfolding seen_of went
+no-seen log = refl
 
 no-notes : (log : RunLog) → notes_in log [] ≡ []
 unfolding done_of notes_of
@@ -327,11 +371,15 @@ module _ (x a b : List ℕ) (start : ℕ) (began now : Devices) (opened : Opened
         travels = travels;
       });
       odometer = λ lit. absurd (let bad : Due ≡ Lit = sym due ∙ lit in cc);
-      stay = λ none. (
-        registered,
-        λ c valid. subst (λ (s : Option Accepted). HasStays (found_of f c) run.keeper.memory.registration s (card_of now c)) (sym (bare c))
-            (stays-start (found_of f c) run.keeper.memory.registration (card_of now c) (λ y left. untouched c y ((whole c).counts_now (found_of f c).began y (there.clocks c) left))),
-      );
+      stay = λ none. record {
+        says = registered;
+        stays = λ c. [];
+        told = subst (λ (fs : List Find). AreMerged (filter (λ (g : Find). is_accepting g.verdict) fs) [] []) (sym finds) (refl, refl);
+        owed = λ c. tt;
+        only = λ c. inl refl;
+        each = λ c valid. subst (λ (s : Option Accepted). HasStays (found_of f c) run.keeper.memory.registration (length out.breaks.items) [] s (card_of now c)) (sym (bare c))
+            (stays-start (found_of f c) run.keeper.memory.registration (length out.breaks.items) (card_of now c) (λ y left. untouched c y ((whole c).counts_now (found_of f c).began y (there.clocks c) left)));
+      };
     }
 
     only_unit : (y : List ℕ) → now.unit.may_leave y → y ≡ x
@@ -378,3 +426,17 @@ module _ (x a b : List ℕ) (start : ℕ) (began now : Devices) (opened : Opened
           early = subst (AreEarlier n) (sym (no-notes log)) tt;
           ringed = subst (λ (notes : List Note). Ringed first-o log [] notes seats now) (sym (no-notes log)) (fewer-sit now first-o log [] [] (λ c. None) seats (none-noted now first-o log [] only_unit) (λ c. inl (none c)));
         }
+
+    -- and its cards show what they held
+    pub starts-carded : (run : Run) (out : Outcome) → run.power ≡ Due → run.next ≡ start → run.begun ≡ 0 → run.unfound ≡ 0 → run.keeper.memory ≡ opened.unit.memory → run.keeper.cabin.slots ≡ nothing_yet →
+        ((c : Card) → known_in run.keeper.cabin.cards c ≡ known_of opened c) → ((c : Card) → session_of run.keeper.cabin.cards c ≡ None) → out.breaks.items ≡ [] → out.refused.items ≡ [] → out.finds.items ≡ [] → out.marks.items ≡ [] →
+        run.noted ≡ 0 → RunCarded first-o [] run out now
+    starts-carded run out due next begun unfound memory slots same bare breaks refused finds marks noted = record {
+      ringed = starts-ringed run out due next begun unfound memory slots same bare breaks refused finds marks noted;
+      vehicle = ap (λ (bs : List ℕ). record { 0 = bs }) (ap (λ (i : Identity). i.registration.0) memory ∙ ready.memory.registration);
+      cards = λ c valid. record {
+        uses = [];
+        are = subst (λ (seen : List Seen). AreUses (images_in first-o now c) [] (accepted_on c seen)) (sym (no-seen (log_of out))) tt;
+        shows = start-shown c (vehicle_in first-o) (sizes_in first-o c) (card_image first-o.recording c) (log_of out) (card_of now c) (λ y left. only c y ((whole c).counts_now (found_of f c).began y (there.clocks c) left));
+      };
+    }

@@ -82,8 +82,7 @@ use Rattle.recorder_with_cards.specs.Judged.{moment_in, RunNext, RunBehind, Judg
 use Rattle.recorder_with_cards.proofs.Read.{unit-tells, image-of, at-image}
 use Rattle.recorder_with_cards.proofs.StoredCalls.{mend-stays}
 use Rattle.run_acts.specs.Stays.{AllStay}
-use Rattle.run_recorded.specs.Whole.{NothingFailed}
-use Rattle.run_acts.proofs.AllStay.{all-unit, all-of, found-none}
+use Rattle.run_acts.proofs.AllStay.{all-unit, all-of, all-later, found-on}
 
 -- ---- a run at its power-on
 
@@ -256,7 +255,9 @@ module _ (o : Origin) (origin : IsOrigin o) (done : List TraceSecond) (s : Trace
     stays-behind =
         all-of o (log_of out) old.keeper.memory.registration new.keeper.memory.registration new.keeper.cabin.cards e (ap (λ (k : Keeper). k.memory.registration) begun.keeper)
         (subst (λ (c : Cabin). AllStay o (log_of out) old.keeper.memory.registration c.cards e) kept-cabin
-        (λ none. all-unit o v.log old.keeper.memory.registration v.cabin.cards U W X Y stay (found-none v.unfound j.kept v.log (subst (λ (l : RunLog). NothingFailed l) (ap (λ (x : Values). x.log) values) none))))
+        (subst (λ (l : RunLog). AllStay o l old.keeper.memory.registration v.cabin.cards e) (sym (ap (λ (x : Values). x.log) values))
+        (all-later o v.log (record v.log { breaks = found_from v.unfound j.kept v.log.breaks }) old.keeper.memory.registration v.cabin.cards e (found-on v.unfound j.kept v.log)
+        (all-unit o v.log old.keeper.memory.registration v.cabin.cards U W X Y stay))))
 
     pub awake : (begins : Beginning) × RunWaking o done s begins (waiting_in Driver (card_in new.keeper.cabin.slots.seats.driver) ++ waiting_in CoDriver (card_in new.keeper.cabin.slots.seats.codriver)) both_slots new out (devices W X Y)
     awake = (b, record { origin = origin; lit = begun.power; waking = wakes; odometer = odometer; stay = stays-behind })

@@ -63,7 +63,7 @@ here-cut log s front = record { breaks = (cut_at s.number true (length front) âˆ
 
 -- of lines that are told in a second: what earlier seconds note is the same
 module _ (o : Origin) (done : List TraceSecond) (s : TraceSecond) (at : Phase) (waits : List Visit) (speed : Option â„•) (rest : List Minute) (v : Values) (d : Devices) (w : Within o done s at waits speed rest v d) (later : RunLog) (h : TellsHere v.log later s.number) where
-  goes-by : GoesOnBy w.b.run later s
+  pub goes-by : GoesOnBy w.b.run later s
   goes-by = record {
     number = w.moment.number;
     given = w.moment.given;

@@ -36,7 +36,7 @@ use Rattle.trace_model.specs.declared.Card.TheVariants.{A, B}
 use Rattle.run_crew.specs.Cards.{session_of}
 use Rattle.run_crew.specs.Cabin.{with_power_lost}
 use Rattle.run_acts.specs.Stays.{AllStay}
-use Rattle.run_acts.proofs.AllStay.{all-gone, fewer-none}
+use Rattle.run_acts.proofs.AllStay.{all-gone, all-later, lines-on, line-more}
 
 -- ---- a second without power
 
@@ -149,9 +149,9 @@ module _ (o : Origin) (done : List TraceSecond) (old : Run) (before : Outcome) (
 
       -- what is made of the cards
       off-stay : (lit : Bool) → AllStay o (log_of (told_off lit old before)) old.keeper.memory.registration (off_as lit (suc n) old).keeper.cabin.cards d
-      off-stay false = λ none. h.stay (fewer-none (log_of before) [] none)
+      off-stay false = all-later o (log_of before) (log_of (told_off false old before)) old.keeper.memory.registration old.keeper.cabin.cards d (λ none. lines-on (log_of before) ((log_of before).breaks ++ []) [] refl none) h.stay
       off-stay true = all-gone o (log_of before) (log_of (told_off true old before)) old.keeper.memory.registration old.keeper.cabin.cards (with_power_lost (old.next - 1) old.keeper.cabin).cards d
-          (λ none. fewer-none (log_of before) (off_cut true (old.next - 1) old.begun) none) (λ c. inr (bare-off c)) h.stay
+          (λ none. line-more (log_of before) (cut_at (old.next - 1) false old.begun) none) (λ c. inr (bare-off c)) h.stay
 
       plain : Recorded o (done ++ dark (suc n) old.next) IsDue (off_values (suc n) (values_of old before)) d → Recorded o (done ++ dark (suc n) old.next) IsDue (values_of (off_as false (suc n) old) (told_off false old before)) d
       plain r = subst (λ (bs : List Break). Recorded o (done ++ dark (suc n) old.next) IsDue (values_of (off_as false (suc n) old) (record before { breaks = record { items = bs; room = before.breaks.room } })) d) (sym (append-nil before.breaks.items)) r

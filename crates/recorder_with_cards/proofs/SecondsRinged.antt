@@ -54,7 +54,7 @@ same-all log (s ∷ ss) = All-cons (λ (x : TraceSecond). SameAt log log x.numbe
 goes-itself : (log : RunLog) (done : List TraceSecond) → GoesBehind log log done
 goes-itself log done = record { same = same-all log done; went_is = refl }
 
-refused-all : (log later : RunLog) → later.breaks ≡ log.breaks → later.finds ≡ log.finds → (ss : List TraceSecond) → All (λ (x : TraceSecond). SameAt log later x.number) ss
+pub refused-all : (log later : RunLog) → later.breaks ≡ log.breaks → later.finds ≡ log.finds → (ss : List TraceSecond) → All (λ (x : TraceSecond). SameAt log later x.number) ss
 refused-all log later breaks finds [] = All-nil (λ (x : TraceSecond). SameAt log later x.number)
 refused-all log later breaks finds (s ∷ ss) = All-cons (λ (x : TraceSecond). SameAt log later x.number) s ss (refused-at log later breaks finds s.number) (refused-all log later breaks finds ss)
 
@@ -65,7 +65,7 @@ module _ (o : Origin) (done : List TraceSecond) (p : Progress) (f : Followed (ru
   abbrev later : RunLog
   later = record p.log { refused = refused }
 
-  lost : HasLost (went p.log done).before
+  pub lost : HasLost (went p.log done).before
   lost = (with-supply (rule_of o) (start_at o) o.from (first_of o) done p IsLost is f).power
 
   before-is : (n : ℕ) → p.next % 60 + n ≤ 60 → (went later (done ++ driven n p.next speed actions)).before ≡ (went p.log done).before
@@ -73,7 +73,7 @@ module _ (o : Origin) (done : List TraceSecond) (p : Progress) (f : Followed (ru
       ap (λ (w : Went). w.before) (went-refused p.log later refl refl (done ++ driven n p.next speed actions))
       ∙ ap (λ (w : Went). w.before) (lost-are-told (rule_of o) (start_at o) o.from (first_of o) done p f is n speed actions low within)
 
-  away : (n : ℕ) (s : TraceSecond) → p.next % 60 + n ≤ 60 → 0 < s.number % 60 → has_power (went later (done ++ driven n p.next speed actions)).before s ≡ false
+  pub away : (n : ℕ) (s : TraceSecond) → p.next % 60 + n ≤ 60 → 0 < s.number % 60 → has_power (went later (done ++ driven n p.next speed actions)).before s ≡ false
   away n s within some = lost-dark (went later (done ++ driven n p.next speed actions)).before s (subst HasLost (sym (before-is n within)) lost) some
 
   pub rings-lost : (n : ℕ) → p.next % 60 + suc n ≤ 60 → RingedBehind o (done ++ driven (suc n) p.next speed actions) later (p.next + suc n) spans seats d

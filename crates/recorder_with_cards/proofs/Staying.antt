@@ -32,11 +32,11 @@ watched-is a b is = record { watch = ap (λ (r : Run). r.watch) is; memory = ap 
 
 -- ---- minutes are kept
 
-kept-memory : (at : Moment) (ms : List Minute) (t u : Told) → AreKept at ms t u → u.keeper.memory ≡ t.keeper.memory
+pub kept-memory : (at : Moment) (ms : List Minute) (t u : Told) → AreKept at ms t u → u.keeper.memory ≡ t.keeper.memory
 kept-memory at ms t u (none v) = refl
 kept-memory at ms t u (more m front round v mid kept is) = kept-memory at front v mid kept
 
-up-to-memory : (decided : List Minute) (at : Moment) (failed : Bool) (t u : Told) → AreKeptUpTo decided at failed t u → u.keeper.memory ≡ t.keeper.memory
+pub up-to-memory : (decided : List Minute) (at : Moment) (failed : Bool) (t u : Told) → AreKeptUpTo decided at failed t u → u.keeper.memory ≡ t.keeper.memory
 up-to-memory decided at false t u kept = kept-memory at decided t u kept
 up-to-memory decided at true t u short =
     let before = kept-memory at short.front t short.between short.kept in

@@ -54,7 +54,7 @@ use Rattle.recorder_with_cards.proofs.RingsHere.{here-then, here-more, here-cut}
 use Rattle.recorder_with_cards.proofs.InsertedCards.{mine, any-behind, judged-them}
 
 -- what was torn stays so in later lines
-torn-more : (log later : RunLog) (u : ℕ) (p : Phase) (slot : Slot) → HasMoreBreaks log later → is_torn_in log u p slot ≡ true → is_torn_in later u p slot ≡ true
+pub torn-more : (log later : RunLog) (u : ℕ) (p : Phase) (slot : Slot) → HasMoreBreaks log later → is_torn_in log u p slot ≡ true → is_torn_in later u p slot ≡ true
 unfolding is_torn_in
 torn-more log later u p slot more is = ap (list_any (tears_here u p slot)) more.1 ∙ any-more (tears_here u p slot) log.breaks more.0 is
 

@@ -123,7 +123,7 @@ sat-one log u p moved at slot c x is =
     (record (judged p at c vs) { slots = with_slot c.slots at (option_map {T = Sitting} (λ y. record y { accepted = Some u }) (in_slot c.slots at)) }) (judged p at c vs)
     (sat-left c.slots at slot x) (sat-accepted u c.slots at slot x) (λ same. (x, same, refl)) is
 
-sat-both : (log : RunLog) (u : ℕ) (p : Phase) (moved : Moved) (slot : Slot) (c : Course) (x : Sitting) → in_slot (both_told log u p moved c).slots slot ≡ Some x → SatThere x (in_slot c.slots slot)
+pub sat-both : (log : RunLog) (u : ℕ) (p : Phase) (moved : Moved) (slot : Slot) (c : Course) (x : Sitting) → in_slot (both_told log u p moved c).slots slot ≡ Some x → SatThere x (in_slot c.slots slot)
 sat-both log u p moved slot c x is =
     let behind = sat-one log u p moved CoDriver slot (slot_told log u p moved Driver c) x is in
     let first = sat-one log u p moved Driver slot c behind.0 behind.1 in
@@ -323,7 +323,7 @@ bare-ringed o done s b old new before after d e spans t failed well same lines s
     (still (λ (x : Devices). RingsWithin o done s b.run.log [] new (log_of after) spans t x)
     (subst (λ (r : Run). RingsWithin o done s b.run.log [] r (log_of after) spans t d) (sym same) (subst (λ (q : Outcome). RingsWithin o done s b.run.log [] old (log_of q) spans t d) (sym lines) rings)))
 
-driver-first : CoDriver ≡ Driver → {T : Type 0} → T
+pub driver-first : CoDriver ≡ Driver → {T : Type 0} → T
 driver-first is {T} = absurd (cc)
 
 -- THE DRIVER SLOT'S CARD

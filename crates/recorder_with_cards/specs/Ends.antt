@@ -22,7 +22,9 @@ use Rattle.run_acts.specs.Recording.{log_of}
 use Rattle.recorder_with_cards.specs.Written.{AreWritten}
 use Rattle.recorder_with_cards.specs.Stays.{HasAllStays}
 use Rattle.recorder_with_cards.specs.Still.{StayDense, KeepTheirHolders}
+use Rattle.recorder_with_cards.specs.Sessions.{TellFirst}
 use Rattle.recorder_with_cards.specs.KeptAfter.{TellsKept}
+use Rattle.recorder_with_cards.specs.CardEvents.{ShowTheirEvents}
 
 -- each device began with this image alone, and those of the cards are bytes
 pub record BeginAs (unit card_a card_b : List ℕ) (began : Devices) : Type 0 where
@@ -63,7 +65,8 @@ pub record MayRecord (unit card_a card_b : List ℕ) (start : ℕ) : Type 0 wher
 -- WHAT A RUN PROMISES that was recorded: it could begin, the crash-safety theorem holds of it, every image that a stop may leave of the unit
 -- shows its auxiliary records, events and faults, insertions with their withdrawals, places, and the odometer, and every image of a card that was
 -- valid has been written so; and where no call failed each of these shows exactly what its stays in the slots make of it. What was found kept
--- after its cuts was so. Rings that were dense stay dense, and each valid card stays its holder's.
+-- after its cuts was so. Rings that were dense stay dense; each valid card stays its holder's, keeps all that no call writes, and shows its
+-- events of the run. As a card comes for the first time, the session is told as open on it that its image at the start tells.
 pub record EndsTrace (unit card_a card_b : List ℕ) (start : ℕ) (items : List Item) (out : Outcome) (began now : Devices) : Type 0 where
   pub may : MayBegin (recording_of unit card_a card_b start items out)
   pub ends : EndsRun (recording_of unit card_a card_b start items out) out.marks.items began now
@@ -73,6 +76,8 @@ pub record EndsTrace (unit card_a card_b : List ℕ) (start : ℕ) (items : List
   pub kept : TellsKept (recording_of unit card_a card_b start items out) began.unit.clock now.unit
   pub dense : StayDense (recording_of unit card_a card_b start items out) now
   pub holders : KeepTheirHolders (recording_of unit card_a card_b start items out) began now
+  pub sessions : TellFirst (recording_of unit card_a card_b start items out) began now
+  pub cards : ShowTheirEvents (recording_of unit card_a card_b start items out) began now
 
 -- OR IT WAS KEPT FROM BEING RECORDED: by these images, or a call that has failed in the opening; each device is as it was.
 pub record IsKeptFrom (unit card_a card_b : List ℕ) (start : ℕ) (began now : Devices) (fault : RunFault) : Type 0 where

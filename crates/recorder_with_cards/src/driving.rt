@@ -8,6 +8,7 @@ ghost use Rattle.run_acts.specs.Going.{largest_number, end_of_seconds, IsGoing};
 ghost use Rattle.run_acts.specs.Room.{HasRoom};
 ghost use Rattle.recorder_with_cards.specs.Items.{between, insertions_in};
 ghost use Rattle.recorder_with_cards.specs.Recorded.{actions_in, RingsSeconds, RingsMore};
+ghost use Rattle.recorder_with_cards.specs.Carded.{CardsSeconds, CardsMore};
 ghost use Rattle.recorder_with_cards.specs.Gone.{HasGone};
 
 use crate::acts::{act_all, number_of};
@@ -39,6 +40,7 @@ pub(crate) fn drive<M: Medium, C: Chip, D: Chip>(
     requires room { HasRoom run.old outcome.old seconds 0 (insertions_in from to items.now) (to - from) }
     requires unfound { run.old.unfound ≤ length outcome.old.breaks.items }
     ensures ringed { length (actions_in (between from to items.now)) ≡ to - from → to - from ≤ largest_number → RingsSeconds result seconds speed (actions_in (between from to items.now)) run.old run.new outcome.old outcome.new (devices (M.state unit.old) (C.state card_a.old) (D.state card_b.old)) (devices (M.state unit.new) (C.state card_a.new) (D.state card_b.new)) }
+    ensures cards { length (actions_in (between from to items.now)) ≡ to - from → to - from ≤ largest_number → CardsSeconds result seconds speed (actions_in (between from to items.now)) run.old run.new outcome.old outcome.new (devices (M.state unit.old) (C.state card_a.old) (D.state card_b.old)) (devices (M.state unit.new) (C.state card_a.new) (D.state card_b.new)) }
     ensures time { HaveTime (devices (M.state unit.new) (C.state card_a.new) (D.state card_b.new)) → HaveTime (devices (M.state unit.old) (C.state card_a.old) (D.state card_b.old)) }
     ensures later { AreLater (devices (M.state unit.old) (C.state card_a.old) (D.state card_b.old)) (devices (M.state unit.new) (C.state card_a.new) (D.state card_b.new)) }
     ensures gone { HasGone result seconds run.old run.new outcome.new (M.state unit.new) (C.card card_a.new) (D.card card_b.new) (C.state card_a.new) (D.state card_b.new) }
@@ -69,6 +71,7 @@ fn drive_on<M: Medium, C: Chip, D: Chip>(
     requires room { HasRoom run.old outcome.old seconds 0 0 0 }
     requires unfound { run.old.unfound ≤ length outcome.old.breaks.items }
     ensures ringed { RingsMore result seconds speed run.old run.new outcome.old outcome.new (devices (M.state unit.old) (C.state card_a.old) (D.state card_b.old)) (devices (M.state unit.new) (C.state card_a.new) (D.state card_b.new)) }
+    ensures cards { CardsMore result seconds speed run.old run.new outcome.old outcome.new (devices (M.state unit.old) (C.state card_a.old) (D.state card_b.old)) (devices (M.state unit.new) (C.state card_a.new) (D.state card_b.new)) }
     ensures time { HaveTime (devices (M.state unit.new) (C.state card_a.new) (D.state card_b.new)) → HaveTime (devices (M.state unit.old) (C.state card_a.old) (D.state card_b.old)) }
     ensures later { AreLater (devices (M.state unit.old) (C.state card_a.old) (D.state card_b.old)) (devices (M.state unit.new) (C.state card_a.new) (D.state card_b.new)) }
     ensures gone { HasGone result seconds run.old run.new outcome.new (M.state unit.new) (C.card card_a.new) (D.card card_b.new) (C.state card_a.new) (D.state card_b.new) }
@@ -101,6 +104,7 @@ fn step<M: Medium, C: Chip, D: Chip>(
     requires room { HasRoom run.old outcome.old n 0 0 0 }
     requires unfound { run.old.unfound ≤ length outcome.old.breaks.items }
     ensures ringed { RingsMore result n speed run.old run.new outcome.old outcome.new (devices (M.state unit.old) (C.state card_a.old) (D.state card_b.old)) (devices (M.state unit.new) (C.state card_a.new) (D.state card_b.new)) }
+    ensures cards { CardsMore result n speed run.old run.new outcome.old outcome.new (devices (M.state unit.old) (C.state card_a.old) (D.state card_b.old)) (devices (M.state unit.new) (C.state card_a.new) (D.state card_b.new)) }
     ensures time { HaveTime (devices (M.state unit.new) (C.state card_a.new) (D.state card_b.new)) → HaveTime (devices (M.state unit.old) (C.state card_a.old) (D.state card_b.old)) }
     ensures later { AreLater (devices (M.state unit.old) (C.state card_a.old) (D.state card_b.old)) (devices (M.state unit.new) (C.state card_a.new) (D.state card_b.new)) }
     ensures gone { HasGone result n run.old run.new outcome.new (M.state unit.new) (C.card card_a.new) (D.card card_b.new) (C.state card_a.new) (D.state card_b.new) }

@@ -12,6 +12,8 @@ ghost use Rattle.run_acts.specs.Room.{HasRoom, HasRoomWithin, falls_of, bare_sea
 ghost use Rattle.recorder_with_cards.specs.Waking.{IsAwake, TakesUp, TakesAwake};
 ghost use Rattle.recorder_with_cards.specs.Woken.{ResumesSo, WakesSo, EventsResuming, EventsWaking, RingsResuming, RingsWaking};
 ghost use Rattle.recorder_with_cards.specs.Recorded.{BeginsRinged};
+ghost use Rattle.recorder_with_cards.specs.Carded.{BeginsCarded};
+ghost use Rattle.recorder_with_cards.specs.CardsWoken.{CardsResuming, CardsPowering};
 ghost use Rattle.recorder_with_cards.specs.Noting.{NotesWaking, NotesFound, NotesPowerOn};
 ghost use Rattle.run_outcome.specs.declared.outcome.TheConstants.{MOST_OWED};
 ghost use Rattle.run_rule.specs.Between.{devices};
@@ -52,6 +54,7 @@ pub(crate) fn begin_second<M: Medium, C: Chip, D: Chip>(
     ensures unfound { OnOk result (run.new.unfound ≤ length outcome.new.breaks.items) }
     ensures unit { IsUnit (M.state unit.new) }
     ensures ringed { BeginsRinged result speed run.old run.new outcome.old outcome.new (devices (M.state unit.old) (C.state card_a.old) (D.state card_b.old)) (devices (M.state unit.new) (C.state card_a.new) (D.state card_b.new)) }
+    ensures cards { BeginsCarded result speed run.old run.new outcome.old outcome.new (devices (M.state unit.old) (C.state card_a.old) (D.state card_b.old)) (devices (M.state unit.new) (C.state card_a.new) (D.state card_b.new)) }
     ensures noted { OnOk result (is_lit run.old.power ≡ false → has_power run.old.power run.old.next ≡ true → NotesPowerOn speed run.old run.new outcome.old outcome.new (devices (M.state unit.old) (C.state card_a.old) (D.state card_b.old)) (devices (M.state unit.new) (C.state card_a.new) (D.state card_b.new))) }
     ensures clock { (M.state unit.old).clock ≤ (M.state unit.new).clock }
     ensures clock_a { (C.state card_a.old).clock ≤ (C.state card_a.new).clock }
@@ -95,6 +98,7 @@ fn power_on<M: Medium, C: Chip, D: Chip>(
     ensures recorded { length outcome.old.marks.items + MOST_OWED * bare_seats run.old.keeper.cabin.slots.seats ≤ outcome.old.marks.room → WakesSo result speed run.old run.new outcome.old outcome.new (devices (M.state unit.old) (C.state card_a.old) (D.state card_b.old)) (devices (M.state unit.new) (C.state card_a.new) (D.state card_b.new)) }
     ensures evented { length outcome.old.marks.items + MOST_OWED * bare_seats run.old.keeper.cabin.slots.seats ≤ outcome.old.marks.room → EventsWaking result speed run.old run.new outcome.old outcome.new (devices (M.state unit.old) (C.state card_a.old) (D.state card_b.old)) (devices (M.state unit.new) (C.state card_a.new) (D.state card_b.new)) }
     ensures ringed { length outcome.old.marks.items + MOST_OWED * bare_seats run.old.keeper.cabin.slots.seats ≤ outcome.old.marks.room → RingsWaking result speed run.old run.new outcome.old outcome.new (devices (M.state unit.old) (C.state card_a.old) (D.state card_b.old)) (devices (M.state unit.new) (C.state card_a.new) (D.state card_b.new)) }
+    ensures cards { length outcome.old.marks.items + MOST_OWED * bare_seats run.old.keeper.cabin.slots.seats ≤ outcome.old.marks.room → CardsPowering result speed run.old run.new outcome.old outcome.new (devices (M.state unit.old) (C.state card_a.old) (D.state card_b.old)) (devices (M.state unit.new) (C.state card_a.new) (D.state card_b.new)) }
     ensures noted { OnOk result (NotesPowerOn speed run.old run.new outcome.old outcome.new (devices (M.state unit.old) (C.state card_a.old) (D.state card_b.old)) (devices (M.state unit.new) (C.state card_a.new) (D.state card_b.new))) }
     ensures clock { (M.state unit.old).clock ≤ (M.state unit.new).clock }
     ensures clock_a { (C.state card_a.old).clock ≤ (C.state card_a.new).clock }
@@ -139,6 +143,7 @@ fn found<M: Medium, C: Chip, D: Chip>(
     ensures recorded { length outcome.old.marks.items + MOST_OWED * bare_seats run.old.keeper.cabin.slots.seats ≤ outcome.old.marks.room → WakesSo result speed run.old run.new outcome.old outcome.new (devices (M.state unit.old) (C.state card_a.old) (D.state card_b.old)) (devices (M.state unit.new) (C.state card_a.new) (D.state card_b.new)) }
     ensures evented { length outcome.old.marks.items + MOST_OWED * bare_seats run.old.keeper.cabin.slots.seats ≤ outcome.old.marks.room → EventsWaking result speed run.old run.new outcome.old outcome.new (devices (M.state unit.old) (C.state card_a.old) (D.state card_b.old)) (devices (M.state unit.new) (C.state card_a.new) (D.state card_b.new)) }
     ensures ringed { length outcome.old.marks.items + MOST_OWED * bare_seats run.old.keeper.cabin.slots.seats ≤ outcome.old.marks.room → RingsWaking result speed run.old run.new outcome.old outcome.new (devices (M.state unit.old) (C.state card_a.old) (D.state card_b.old)) (devices (M.state unit.new) (C.state card_a.new) (D.state card_b.new)) }
+    ensures cards { length outcome.old.marks.items + MOST_OWED * bare_seats run.old.keeper.cabin.slots.seats ≤ outcome.old.marks.room → CardsPowering result speed run.old run.new outcome.old outcome.new (devices (M.state unit.old) (C.state card_a.old) (D.state card_b.old)) (devices (M.state unit.new) (C.state card_a.new) (D.state card_b.new)) }
     ensures noted { OnOk result (NotesFound journal.kept speed run.old run.new outcome.old outcome.new (devices (M.state unit.old) (C.state card_a.old) (D.state card_b.old)) (devices (M.state unit.new) (C.state card_a.new) (D.state card_b.new))) }
     ensures clock { (M.state unit.old).clock ≤ (M.state unit.new).clock }
     ensures clock_a { (C.state card_a.old).clock ≤ (C.state card_a.new).clock }
@@ -185,6 +190,7 @@ fn resume<M: Medium, C: Chip, D: Chip>(
     ensures recorded { length outcome.old.marks.items + MOST_OWED * bare_seats run.old.keeper.cabin.slots.seats ≤ outcome.old.marks.room → ResumesSo journal.kept (is_err result) run.old run.new outcome.old outcome.new (devices (M.state unit.old) (C.state card_a.old) (D.state card_b.old)) (devices (M.state unit.new) (C.state card_a.new) (D.state card_b.new)) }
     ensures evented { length outcome.old.marks.items + MOST_OWED * bare_seats run.old.keeper.cabin.slots.seats ≤ outcome.old.marks.room → EventsResuming journal.kept speed (is_err result) run.old run.new outcome.old outcome.new (devices (M.state unit.old) (C.state card_a.old) (D.state card_b.old)) (devices (M.state unit.new) (C.state card_a.new) (D.state card_b.new)) }
     ensures ringed { length outcome.old.marks.items + MOST_OWED * bare_seats run.old.keeper.cabin.slots.seats ≤ outcome.old.marks.room → RingsResuming journal.kept (is_err result) run.old run.new outcome.old outcome.new (devices (M.state unit.old) (C.state card_a.old) (D.state card_b.old)) (devices (M.state unit.new) (C.state card_a.new) (D.state card_b.new)) }
+    ensures cards { length outcome.old.marks.items + MOST_OWED * bare_seats run.old.keeper.cabin.slots.seats ≤ outcome.old.marks.room → CardsResuming journal.kept speed (is_err result) run.old run.new outcome.old outcome.new (devices (M.state unit.old) (C.state card_a.old) (D.state card_b.old)) (devices (M.state unit.new) (C.state card_a.new) (D.state card_b.new)) }
     ensures noted { NotesWaking journal.kept speed (is_err result) run.old run.new outcome.old outcome.new (devices (M.state unit.old) (C.state card_a.old) (D.state card_b.old)) (devices (M.state unit.new) (C.state card_a.new) (D.state card_b.new)) }
     ensures clock { (M.state unit.old).clock ≤ (M.state unit.new).clock }
     ensures clock_a { (C.state card_a.old).clock ≤ (C.state card_a.new).clock }

@@ -17,6 +17,7 @@ ghost use Rattle.run_acts.specs.Going.{largest_number, end_of_seconds, IsGoing};
 ghost use Rattle.run_acts.specs.Room.{HasRoom};
 ghost use Rattle.recorder_with_cards.specs.Items.{between, insertions_in};
 ghost use Rattle.recorder_with_cards.specs.Recorded.{actions_in, RingsItem};
+ghost use Rattle.recorder_with_cards.specs.Carded.{CardsItem};
 ghost use Rattle.recorder_with_cards.specs.Ends.{BeginAs, EndsTrace, MayRecord, IsKeptFrom};
 ghost use Rattle.recorder_with_cards.specs.Gone.{first_waiting, has_seconds, HasGone, IsRefusedBy};
 
@@ -114,6 +115,7 @@ fn go_on<M: Medium, C: Chip, D: Chip>(
     requires going { IsGoing run.old (M.state unit.old) (C.card card_a.old) (D.card card_b.old) (C.state card_a.old) (D.state card_b.old) }
     requires unfound { run.old.unfound ≤ length outcome.old.breaks.items }
     ensures ringed { length (actions_in (between from to items.now)) ≡ to - from → RingsItem result item (actions_in (between from to items.now)) run.old run.new outcome.old outcome.new (devices (M.state unit.old) (C.state card_a.old) (D.state card_b.old)) (devices (M.state unit.new) (C.state card_a.new) (D.state card_b.new)) }
+    ensures cards { length (actions_in (between from to items.now)) ≡ to - from → CardsItem result item (actions_in (between from to items.now)) run.old run.new outcome.old outcome.new (devices (M.state unit.old) (C.state card_a.old) (D.state card_b.old)) (devices (M.state unit.new) (C.state card_a.new) (D.state card_b.new)) }
     ensures time { HaveTime (devices (M.state unit.new) (C.state card_a.new) (D.state card_b.new)) → HaveTime (devices (M.state unit.old) (C.state card_a.old) (D.state card_b.old)) }
     ensures later { AreLater (devices (M.state unit.old) (C.state card_a.old) (D.state card_b.old)) (devices (M.state unit.new) (C.state card_a.new) (D.state card_b.new)) }
     ensures gone { HasGone result (item_seconds item) run.old run.new outcome.new (M.state unit.new) (C.card card_a.new) (D.card card_b.new) (C.state card_a.new) (D.state card_b.new) }

@@ -13,7 +13,7 @@ use Rattle.tach_media.proofs.Runs.{at_image}
 use Rattle.chip_model.specs.declared.command.CardState.{CardState}
 use Rattle.card_layout.specs.declared.files.Application.{Application}
 use Rattle.card_records.specs.declared.card_event.CardEvent.{CardEvent}
-use Rattle.byte_fields.proofs.Images.{part_before, part_after}
+use Rattle.byte_fields.proofs.Images.{part_before}
 use Rattle.tacho_types.specs.declared.places.PlaceEntry.{PlaceEntry}
 use Rattle.tacho_types.specs.declared.card_number.FullCardNumber.{FullCardNumber}
 use Rattle.card_layout.specs.Files.{files_of, place_of, size_of}
@@ -31,16 +31,15 @@ use Rattle.run_crew.specs.Cabin.{Stands, AreTwo, SitsThere, torn_out, left_from,
 use Rattle.run_outcome.specs.Lines.{Listed}
 use Rattle.run_keeping.specs.declared.keeper.Moment.{Moment}
 use Rattle.run_keeping.specs.Keeping.{CardReady}
-use Rattle.run_keeping.proofs.CardEvents.{events-run}
 use Rattle.safety_model.specs.Safe.{Devices, card_of}
 use Rattle.unit_memory.specs.declared.format.Identity.{Identity}
 use Rattle.unit_notes.specs.declared.unit_event.UnitEvent.{UnitEvent}
 use Rattle.run_notes.specs.Entries.{card_entry}
 use Rattle.event_model.specs.declared.kinds.TheConstants.{POWER_INTERRUPTION, SESSION_NOT_CLOSED}
 use Rattle.run_entering.specs.CardEvents.{ShowsMore, NotesOnCard, IsPlain}
-use Rattle.run_entering.proofs.CardTables.{all-shown, all-showing}
+use Rattle.run_entering.proofs.CardTables.{all-shown, all-showing, same-file}
 use Rattle.run_entering.proofs.CardInserted.{shows-nothing, shows-unbegun, shows-whole, shows-by}
-use Rattle.run_entering.proofs.CardBrought.{shows-both, shows-first, notes-still}
+use Rattle.run_entering.proofs.CardBrought.{shows-both, shows-first}
 use Rattle.run_acts.specs.declared.run.Run.{Run}
 use Rattle.run_acts.specs.Acting.{noted_run, IsNotedOn, IsNotedIn}
 use Rattle.run_acts.specs.CardNotes.{NotesOn, NotesOnCards, on_seat}
@@ -78,17 +77,15 @@ events-low : (app : Application) → place_of app (file 0x0502) + size_of app (f
 unfolding files_of
 events-low app = omega arith
 
--- and the current use
-use-high : (app : Application) → (place_ring app).base + ring_size (place_ring app) ≤ place_of app (file 0x0507)
-unfolding files_of
-use-high app = omega arith
-
 pub place-noted : (app : Application) (entry : PlaceEntry) (cut : Bool) (X Y : State) → IsCoherent X → LeavesOnly X Y (IsNotingPlace app entry) → NotesOnCard app [] cut X Y
-place-noted app entry cut X Y whole run =
-    notes-still app cut X Y (events-run app X Y whole (IsNotingPlace app entry) run (λ x c is moment. (
-      part_before (place_ring app).base (ring_size (place_ring app)) (place_of app (file 0x0502)) (size_of app (file 0x0502)) x c moment.outside (events-low app),
-      part_after (place_ring app).base (ring_size (place_ring app)) (place_of app (file 0x0507)) (size_of app (file 0x0507)) x c moment.outside (use-high app),
-    )))
+place-noted app entry cut X Y whole run c left = ⊎_elim
+    (λ was. (c, was, shows-nothing app cut c c (λ kind. refl)))
+    (λ one. (
+      one.0,
+      whole.is_left one.0 one.1,
+      shows-nothing app cut one.0 c (same-file app one.0 c (part_before (place_ring app).base (ring_size (place_ring app)) (place_of app (file 0x0502)) (size_of app (file 0x0502)) one.0 c one.2.outside (events-low app))),
+    ))
+    (run.now c left)
 
 -- ---- of a card by its session
 

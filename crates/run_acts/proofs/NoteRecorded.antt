@@ -76,7 +76,7 @@ use Rattle.run_acts.proofs.Apart.{some-one}
 use Rattle.run_acts.proofs.Asked.{allowed-in}
 use Rattle.run_acts.specs.Stays.{AllStay}
 use Rattle.run_acts.proofs.Stays.{stays-still}
-use Rattle.run_acts.proofs.AllStay.{all-unit, all-one, no-tear}
+use Rattle.run_acts.proofs.AllStay.{turns-so, all-unit, all-one, no-tear}
 use Rattle.run_acts.proofs.NotedOn.{noted-books, noted-timed, noted-does}
 use Rattle.log_model.specs.Log.{RunLog}
 use Rattle.log_model.specs.Slots.{other_slot}
@@ -414,7 +414,8 @@ module _ (c : Card) (slot : Slot) (at : Moment) (run : Run) (breaks : Listed Bre
     still on_card false is powered = goes-as o done s (In at.begun) (In at.begun) [] [] [] run run (record out { breaks = breaks }) (record out { breaks = breaks }) d e w.within.from w refl refl
         (call-recorded d e o done s (In at.begun) [] None [] v w.within (record { goes = goes on_card.breakdowns; powered = powered; travels = travels }))
         (all-one o c (log_of (record out { breaks = breaks })) (log_of (record out { breaks = breaks })) run.keeper.memory.registration run.keeper.cabin.cards run.keeper.cabin.cards U V X Y Z (λ none. none) refl
-        (λ none valid h. stays-still (found_of o.found c) run.keeper.memory.registration (session_of run.keeper.cabin.cards c) X Y (noted-does o.found carries run.keeper.cabin.cards run.keeper.cabin.cards c U X Y Z w.within.found unit_whole whole later size a value has w.within.powered card valid) h) w.stay)
+        (λ none ss. turns-so (found_of o.found c) (log_of (record out { breaks = breaks })) run.keeper.memory.registration (session_of run.keeper.cabin.cards c) (session_of run.keeper.cabin.cards c) X Y (λ all. all) (λ all. refl) (λ all tell. tell) (λ all is. is) ss
+        (λ valid h. stays-still (found_of o.found c) run.keeper.memory.registration (length breaks.items) (length breaks.items) ss (session_of run.keeper.cabin.cards c) X Y (omega arith) (noted-does o.found carries run.keeper.cabin.cards run.keeper.cabin.cards c U X Y Z w.within.found unit_whole whole later size a value has w.within.powered card valid) h)) w.stay)
     still on_card true is powerless = record {
       waits = [];
       cabin = run.keeper.cabin;

@@ -24,7 +24,7 @@ use Rattle.run_acts.specs.Recording.{log_of, values_of, RunWithin, RunGoesOn, Re
 use Rattle.run_acts.proofs.Asked.{pulls-one}
 use Rattle.run_acts.proofs.NoteRecorded.{goes-as}
 use Rattle.run_crew.specs.Cards.{with_session}
-use Rattle.run_acts.proofs.AllStay.{all-gone, fewer-none, left-or-gone}
+use Rattle.run_acts.proofs.AllStay.{all-gone, line-more, left-or-gone}
 
 module _ (d : Devices) (slot : Slot) (begun speed : ℕ) (run : Run) (out : Outcome) (low : ℕ) (stands : Stands low None run.keeper.cabin) where
   out-of : (o : Origin) (done : List TraceSecond) (s : TraceSecond) (front rest : List Action) → s.actions ≡ front ++ Pull slot ∷ rest → begun ≡ suc (length front) → s.number ≡ run.next → (w : RunWithin o done s (In (length front)) [] [] run out d) →
@@ -35,7 +35,7 @@ module _ (d : Devices) (slot : Slot) (begun speed : ℕ) (run : Run) (out : Outc
       (goes-as o done s (In (length front)) (In (suc (length front))) [] [] [] run (with_cabin (torn_out card s.number run.keeper.cabin) run) out (record out { breaks = with_lines (Tear s.number slot false (suc (length front)) false ∷ []) out.breaks }) d d w.within.from w refl refl
       (pulled-out d o done s (values_of run out) front slot card rest are w.within is low stands)
       (all-gone o (log_of out) (log_of (record out { breaks = with_lines (Tear s.number slot false (suc (length front)) false ∷ []) out.breaks })) run.keeper.memory.registration run.keeper.cabin.cards (with_session card None run.keeper.cabin.cards) d
-      (λ none. fewer-none (log_of out) (Tear s.number slot false (suc (length front)) false ∷ []) none) (left-or-gone card run.keeper.cabin.cards) w.stay)))
+      (λ none. line-more (log_of out) (Tear s.number slot false (suc (length front)) false) none) (left-or-gone card run.keeper.cabin.cards) w.stay)))
 
   pub pulled-recorded : RecordsAction (Pull slot) begun speed false run (pulled_run (card_in (seat_in run.keeper.cabin.slots.seats slot)) run.next run) out
       (record out { breaks = with_lines (pulled_breaks (card_in (seat_in run.keeper.cabin.slots.seats slot)) slot (record { second = run.next; begun = begun; late = false })) out.breaks }) d d

@@ -48,9 +48,8 @@ use Rattle.run_acts.specs.Settling.{settled_run, SettlesTo}
 use Rattle.run_acts.proofs.GoesOn.{goes-on, unit-rose}
 use Rattle.run_acts.proofs.Settled.{settled-ungiven, settled-decides}
 use Rattle.log_model.specs.declared.lines.Break.{Break}
-use Rattle.run_recorded.specs.Whole.{NothingFailed}
 use Rattle.run_acts.specs.Stays.{AllStay}
-use Rattle.run_acts.proofs.AllStay.{all-of, all-kept, fewer-none, reach-told}
+use Rattle.run_acts.proofs.AllStay.{all-of, all-kept, lines-on, reach-told}
 
 -- ---- two spans for which the same minutes stand
 pub same-ungiven : (minutes : Kept) (a b : Span) → StandsFor minutes a → StandsFor minutes b → ungiven_of a ≡ ungiven_of b
@@ -150,7 +149,7 @@ module _ {U A0 B0 : State} {chip_a chip_b : CardState} (old : Run) (before : Out
         let how = reach-told decided at (told_of old before) (told_of new after) reach all in
         all-of o (log_of after) old.keeper.memory.registration keeper.memory.registration keeper.cabin.cards e how.registered
         (all-kept o (log_of before) (log_of after) old.keeper.memory.registration (kepts_on old.keeper decided) old.keeper.cabin.cards keeper.cabin.cards d e
-        (λ none. fewer-none (log_of before) how.more (subst (λ (bs : List Break). NothingFailed (record (log_of before) { breaks = bs })) how.lines none)) (λ none c some_. how.stay c none.1 some_) (booked.2 well) r.stay)
+        (λ none. lines-on (log_of before) breaks.items how.more how.lines none) (λ none c some_. how.stay c none.1 some_) (booked.2 well) r.stay)
 
     so : (f : Bool) → failed ≡ f → IsKeptTo f o done s q decided (told_of old before) (told_of new after) v d e w → SettlesTo f o done s (In n) waits w.b w.from (w.from + length decided) old new before after e
     so false well k =

@@ -1,6 +1,7 @@
 -- The stays of a card, over what each call makes of it.
-use Rattle.std.proofs.Common.{◌≡◌, ◌∙◌, ℕ, Bool, true, false, List, [], ◌∷◌, ◌++◌, append_assoc, Option, Some, None, refl, ap, sym, subst}
+use Rattle.std.proofs.Common.{◌≡◌, ◌∙◌, inl, inr, ℕ, suc, ◌+◌, ◌≤◌, Bool, true, false, List, [], ◌∷◌, ◌++◌, append_assoc, Option, Some, None, refl, ap, sym, subst, arith}
 use Rattle.std.specs.Prelude.{not, is_some}
+use Rattle.std.specs.List.{AllByRecursion}
 use Rattle.std.proofs.lemmas.List.{append-nil}
 use Rattle.activity_codec.specs.declared.values.Activity.{Activity}
 use Rattle.activity_codec.specs.declared.entries.Entry.{Entry}
@@ -19,7 +20,91 @@ use Rattle.run_rule.specs.Found.{CardFound}
 use Rattle.run_keeping.specs.CardDeeds.{made_by, is_used, ShowsBook, DoesOn, keeps, last_odometer, opens, OpensOn, ClosesOn}
 use Rattle.run_keeping.specs.Deeds.{KeepsOn}
 use Rattle.run_keeping.proofs.CardDeeds.{made-append, keeps-append, last-append}
-use Rattle.run_acts.specs.Stays.{Stay, Shown, closes, deeds_of, after_stay, after_stays, start_shown, GoesIn, StaysIn, HasStays}
+use Rattle.log_model.specs.declared.lines.Find.{Find}
+use Rattle.run_acts.specs.Stays.{Stay, Shown, closes, deeds_of, after_stay, after_stays, start_shown, founds, open_by, open_ones, going_on, AreMerged, TellsOwed, GoesIn, StaysIn, HasStays}
+
+-- ---- the last of some stays
+
+last_as : (Stay → Stay) → Stay → List Stay → List Stay
+last_as f s [] = f s ∷ []
+last_as f s (t ∷ ss) = s ∷ last_as f t ss
+
+-- the last one becomes this
+pub on_last : (Stay → Stay) → List Stay → List Stay
+on_last f [] = []
+on_last f (s ∷ ss) = last_as f s ss
+
+last-as : (f : Stay → Stay) (t : Stay) (front : List Stay) (s : Stay) → last_as f t (front ++ s ∷ []) ≡ t ∷ (front ++ f s ∷ [])
+unfolding last_as
+last-as f t [] s = refl
+last-as f t (x ∷ front) s = ap (λ (l : List Stay). t ∷ l) (last-as f x front s)
+
+pub on-last : (f : Stay → Stay) (front : List Stay) (s : Stay) → on_last f (front ++ s ∷ []) ≡ front ++ f s ∷ []
+unfolding on_last last_as
+on-last f [] s = refl
+on-last f (t ∷ front) s = last-as f t front s
+
+last-founds : (f : Stay → Stay) → ((s : Stay) → (f s).found ≡ s.found) → (t : Stay) (ss : List Stay) → founds (last_as f t ss) ≡ founds (t ∷ ss)
+unfolding last_as
+last-founds f same t [] = ap (λ (k : Find). k ∷ []) (same t)
+last-founds f same t (x ∷ ss) = ap (λ (l : List Find). t.found ∷ l) (last-founds f same x ss)
+
+-- with the same line
+pub on-last-founds : (f : Stay → Stay) → ((s : Stay) → (f s).found ≡ s.found) → (ss : List Stay) → founds (on_last f ss) ≡ founds ss
+unfolding on_last
+on-last-founds f same [] = refl
+on-last-founds f same (t ∷ ss) = last-founds f same t ss
+
+last-owed : (f : Stay → Stay) → ((s : Stay) → TellsOwed s → TellsOwed (f s)) → (t : Stay) (ss : List Stay) → AllByRecursion TellsOwed (t ∷ ss) → AllByRecursion TellsOwed (last_as f t ss)
+unfolding last_as
+last-owed f goes t [] all = (goes t all.0, tt)
+last-owed f goes t (x ∷ ss) all = (all.0, last-owed f goes x ss all.1)
+
+pub on-last-owed : (f : Stay → Stay) → ((s : Stay) → TellsOwed s → TellsOwed (f s)) → (ss : List Stay) → AllByRecursion TellsOwed ss → AllByRecursion TellsOwed (on_last f ss)
+unfolding on_last
+on-last-owed f goes [] all = tt
+on-last-owed f goes (t ∷ ss) all = last-owed f goes t ss all
+
+pub owed-more : (ss : List Stay) (s : Stay) → AllByRecursion TellsOwed ss → TellsOwed s → AllByRecursion TellsOwed (ss ++ s ∷ [])
+owed-more [] s all one = (one, tt)
+owed-more (t ∷ ss) s all one = (all.0, owed-more ss s all.1 one)
+
+-- with none there is none
+pub on-last-none : (f : Stay → Stay) (ss : List Stay) → ss ≡ [] → on_last f ss ≡ []
+unfolding on_last
+on-last-none f ss none = ap (on_last f) none
+
+-- ---- how many
+
+pub open-more : (ss : List Stay) (s : Stay) → open_ones (ss ++ s ∷ []) ≡ open_ones ss + open_by s.closed
+open-more [] s = omega arith
+open-more (t ∷ ss) s = let rest = open-more ss s in omega (arith, rest)
+
+pub founds-more : (ss : List Stay) (s : Stay) → founds (ss ++ s ∷ []) ≡ founds ss ++ s.found ∷ []
+founds-more [] s = refl
+founds-more (t ∷ ss) s = ap (λ (l : List Find). t.found ∷ l) (founds-more ss s)
+
+-- a line more is that of one stay more, of the one card or of the other
+pub merged-one : (lines one other : List Find) (f : Find) → AreMerged lines one other → AreMerged (lines ++ f ∷ []) (one ++ f ∷ []) other
+merged-one [] one other f h = inl ([], ap (λ (l : List Find). l ++ f ∷ []) h.0, (refl, h.1))
+merged-one (x ∷ lines) one other f (inl h) = inl (h.0 ++ f ∷ [], ap (λ (l : List Find). l ++ f ∷ []) h.1, merged-one lines h.0 other f h.2)
+merged-one (x ∷ lines) one other f (inr h) = inr (h.0, h.1, merged-one lines one h.0 f h.2)
+
+pub merged-other : (lines one other : List Find) (f : Find) → AreMerged lines one other → AreMerged (lines ++ f ∷ []) one (other ++ f ∷ [])
+merged-other [] one other f h = inr ([], ap (λ (l : List Find). l ++ f ∷ []) h.1, (h.0, refl))
+merged-other (x ∷ lines) one other f (inl h) = inl (h.0, h.1, merged-other lines h.0 other f h.2)
+merged-other (x ∷ lines) one other f (inr h) = inr (h.0 ++ f ∷ [], ap (λ (l : List Find). l ++ f ∷ []) h.1, merged-other lines one h.0 f h.2)
+
+-- with more minutes, and closed
+abbrev pub with_kepts : List Kept → Stay → Stay
+with_kepts ks s = record s { kepts = s.kepts ++ ks }
+
+abbrev pub with_end : Activity → Stay → Stay
+with_end act s = record s { closed = Some act }
+
+going-most : (s : Option Accepted) → going_on s ≤ 1
+going-most None = omega arith
+going-most (Some a) = omega arith
 
 stays-append : (vehicle : Registration) (size : ℕ) (ss ts : List Stay) (p : Shown) → after_stays vehicle size (ss ++ ts) p ≡ after_stays vehicle size ts (after_stays vehicle size ss p)
 stays-append vehicle size [] ts p = refl
@@ -50,24 +135,27 @@ module _ (f : CardFound) (vehicle : Registration) where
       made-append size first (keeps vehicle None s.kepts ++ closes s.closed) p.book ∙ made-append size (keeps vehicle None s.kepts) (closes s.closed) (made_by size first p.book)
 
   -- at the start
-  pub stays-start : (X : State) → ((y : List ℕ) → X.may_leave y → y ≡ f.image) → HasStays f vehicle None X
-  stays-start X only = record { stays = []; shows = λ y left. (ap (book_of app) (only y left), ap (is_used app) (only y left)); goes = tt }
+  pub stays-start : (lines : ℕ) (X : State) → ((y : List ℕ) → X.may_leave y → y ≡ f.image) → HasStays f vehicle lines [] None X
+  stays-start lines X only = record { shows = λ y left. (ap (book_of app) (only y left), ap (is_used app) (only y left)); goes = tt; ends = omega arith }
 
-  -- nothing is done on it
-  pub stays-still : (s : Option Accepted) (X Y : State) → DoesOn app [] X Y → HasStays f vehicle s X → HasStays f vehicle s Y
-  stays-still s X Y does h = record { stays = h.stays; shows = does (shown_by h.stays).book (shown_by h.stays).used h.shows; goes = h.goes }
+  -- nothing is done on it, and no fewer lines are told
+  pub stays-still : (lines more : ℕ) (ss : List Stay) (s : Option Accepted) (X Y : State) → lines ≤ more → DoesOn app [] X Y → HasStays f vehicle lines ss s X → HasStays f vehicle more ss s Y
+  stays-still lines more ss s X Y low does h = record { shows = does (shown_by ss).book (shown_by ss).used h.shows; goes = h.goes; ends = let most = h.ends in omega (arith, most, low) }
 
-  -- it has no session any more
-  pub stays-gone : (s : Option Accepted) (X : State) → HasStays f vehicle s X → HasStays f vehicle None X
-  stays-gone s X h = record { stays = h.stays; shows = h.shows; goes = tt }
+  pub stays-later : (lines more : ℕ) (ss : List Stay) (s : Option Accepted) (X : State) → lines ≤ more → HasStays f vehicle lines ss s X → HasStays f vehicle more ss s X
+  stays-later lines more ss s X low h = record { shows = h.shows; goes = h.goes; ends = let most = h.ends in omega (arith, most, low) }
+
+  -- it has no session any more, of which a line tells
+  pub stays-gone : (lines more : ℕ) (ss : List Stay) (s : Option Accepted) (X : State) → suc lines ≤ more → HasStays f vehicle lines ss s X → HasStays f vehicle more ss None X
+  stays-gone lines more ss s X low h = record { shows = h.shows; goes = tt; ends = let most = h.ends in let one = going-most s in omega (arith, most, one, low) }
 
   -- it keeps some minutes
-  module _ (ks : List Kept) (a b : Accepted) (X Y : State) (on : KeepsOn f ks (Some a) (Some b) X Y) (h : HasStays f vehicle (Some a) X) where
-    abbrev g : GoesIn vehicle h.stays a
+  module _ (lines more : ℕ) (low : lines ≤ more) (ss : List Stay) (ks : List Kept) (a b : Accepted) (X Y : State) (on : KeepsOn f ks (Some a) (Some b) X Y) (h : HasStays f vehicle lines ss (Some a) X) where
+    abbrev g : GoesIn vehicle ss a
     g = h.goes
 
     abbrev kept_stay : Stay
-    kept_stay = record g.stay { kepts = g.stay.kepts ++ ks }
+    kept_stay = with_kepts ks g.stay
 
     abbrev before : Shown
     before = shown_by g.front
@@ -97,44 +185,51 @@ module _ (f : CardFound) (vehicle : Registration) where
         ∙ ap (made_by size (keeps vehicle (last_odometer None g.stay.kepts) ks)) was-book ∙ sym now-book)
         (on.2 (after_stay vehicle size g.stay before).book (after_stay vehicle size g.stay before).used was)
 
-    pub stays-keep : HasStays f vehicle (Some b) Y
+    now-are : on_last (with_kepts ks) ss ≡ g.front ++ kept_stay ∷ []
+    now-are = ap (on_last (with_kepts ks)) g.are ∙ on-last (with_kepts ks) g.front g.stay
+
+    same-open : open_ones (on_last (with_kepts ks) ss) ≡ open_ones ss
+    same-open = ap open_ones now-are ∙ open-more g.front kept_stay ∙ sym (ap open_ones g.are ∙ open-more g.front g.stay)
+
+    pub stays-keep : HasStays f vehicle more (on_last (with_kepts ks) ss) (Some b) Y
     stays-keep = record {
-      stays = g.front ++ kept_stay ∷ [];
-      shows = subst (λ (p : Shown). Shows p Y) (sym (behind g.front kept_stay)) made;
+      shows = subst (λ (p : Shown). Shows p Y) (sym (ap shown_by now-are ∙ behind g.front kept_stay)) made;
       goes = record {
         front = g.front;
         stay = kept_stay;
-        are = refl;
+        are = now-are;
         still = g.still;
         registered = on.0 ∙ g.registered;
         odometer = on.1 ∙ ap (λ (o : Option Odometer). last_odometer o ks) g.odometer ∙ sym (last-append None g.stay.kepts ks);
       };
+      ends = let most = h.ends in let same = same-open in omega (arith, most, same, low);
     }
 
   -- it is put in, and accepted
-  module _ (odometer : ℕ) (owed : List Entry) (s : Option Accepted) (a : Accepted) (X Y : State) (is : a.session.registration ≡ vehicle) (fresh : a.session.odometer ≡ None) (on : OpensOn app vehicle odometer owed X Y) (h : HasStays f vehicle s X) where
+  module _ (lines more : ℕ) (low : lines ≤ more) (ss : List Stay) (found : Find) (odometer : ℕ) (owed : List Entry) (a : Accepted) (X Y : State) (is : a.session.registration ≡ vehicle) (fresh : a.session.odometer ≡ None) (on : OpensOn app vehicle odometer owed X Y)
+      (h : HasStays f vehicle lines ss None X) where
     abbrev new_stay : Stay
-    new_stay = record { odometer = odometer; owed = owed; kepts = []; closed = None }
+    new_stay = record { found = found; odometer = odometer; owed = owed; kepts = []; closed = None }
 
-    new-book : made_by size (deeds_of vehicle (shown_by h.stays).used (shown_by h.stays).book new_stay) (shown_by h.stays).book
-        ≡ made_by size (opens (shown_by h.stays).used vehicle odometer (lacked (mark_of (shown_by h.stays).book) owed)) (shown_by h.stays).book
-    new-book = parts new_stay (shown_by h.stays)
+    new-book : made_by size (deeds_of vehicle (shown_by ss).used (shown_by ss).book new_stay) (shown_by ss).book
+        ≡ made_by size (opens (shown_by ss).used vehicle odometer (lacked (mark_of (shown_by ss).book) owed)) (shown_by ss).book
+    new-book = parts new_stay (shown_by ss)
 
-    pub stays-open : HasStays f vehicle (Some a) Y
+    pub stays-open : HasStays f vehicle more (ss ++ new_stay ∷ []) (Some a) Y
     stays-open = record {
-      stays = h.stays ++ new_stay ∷ [];
-      shows = subst (λ (p : Shown). Shows p Y) (sym (behind h.stays new_stay))
-          (subst (λ (c : Book). ShowsBook app c true Y) (sym new-book) (on (shown_by h.stays).book (shown_by h.stays).used h.shows));
-      goes = record { front = h.stays; stay = new_stay; are = refl; still = refl; registered = is; odometer = fresh };
+      shows = subst (λ (p : Shown). Shows p Y) (sym (behind ss new_stay))
+          (subst (λ (c : Book). ShowsBook app c true Y) (sym new-book) (on (shown_by ss).book (shown_by ss).used h.shows));
+      goes = record { front = ss; stay = new_stay; are = refl; still = refl; registered = is; odometer = fresh };
+      ends = let most = h.ends in let one = open-more ss new_stay in omega (arith, most, one, low);
     }
 
   -- it is withdrawn
-  module _ (act : Activity) (a : Accepted) (X Y : State) (on : ClosesOn app act X Y) (h : HasStays f vehicle (Some a) X) where
+  module _ (lines more : ℕ) (low : lines ≤ more) (ss : List Stay) (act : Activity) (a : Accepted) (X Y : State) (on : ClosesOn app act X Y) (h : HasStays f vehicle lines ss (Some a) X) where
     abbrev last_stay : Stay
     last_stay = h.goes.stay
 
     abbrev closed_stay : Stay
-    closed_stay = record last_stay { closed = Some act }
+    closed_stay = with_end act last_stay
 
     abbrev earlier : Shown
     earlier = shown_by h.goes.front
@@ -148,12 +243,20 @@ module _ (f : CardFound) (vehicle : Registration) where
     stood : Shows (after_stay vehicle size last_stay earlier) X
     stood = subst (λ (p : Shown). Shows p X) (ap shown_by h.goes.are ∙ behind h.goes.front last_stay) h.shows
 
-    pub stays-close : HasStays f vehicle None Y
+    shut-are : on_last (with_end act) ss ≡ h.goes.front ++ closed_stay ∷ []
+    shut-are = ap (on_last (with_end act)) h.goes.are ∙ on-last (with_end act) h.goes.front last_stay
+
+    pub stays-close : HasStays f vehicle more (on_last (with_end act) ss) None Y
     stays-close = record {
-      stays = h.goes.front ++ closed_stay ∷ [];
-      shows = subst (λ (p : Shown). Shows p Y) (sym (behind h.goes.front closed_stay))
+      shows = subst (λ (p : Shown). Shows p Y) (sym (ap shown_by shut-are ∙ behind h.goes.front closed_stay))
           (subst (λ (c : Book). ShowsBook app c false Y)
           (ap (made_by size (Close act ∷ [])) open-book ∙ sym (parts closed_stay earlier))
           (on (after_stay vehicle size last_stay earlier).book (after_stay vehicle size last_stay earlier).used stood));
       goes = tt;
+      ends =
+          let most = h.ends in
+          let were = ap open_ones h.goes.are ∙ open-more h.goes.front last_stay in
+          let was_open = ap open_by h.goes.still in
+          let now = ap open_ones shut-are ∙ open-more h.goes.front closed_stay in
+          omega (arith, most, were, was_open, now, low);
     }

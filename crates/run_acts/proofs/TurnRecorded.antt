@@ -57,9 +57,8 @@ use Rattle.run_acts.proofs.GoesOn.{goes-on, unit-rose}
 use Rattle.run_acts.proofs.SettledRecorded.{same-ungiven, two-present}
 use Rattle.run_acts.proofs.Turned.{turn-decides, turn-most}
 use Rattle.log_model.specs.declared.lines.Break.{Break}
-use Rattle.run_recorded.specs.Whole.{NothingFailed}
 use Rattle.run_acts.specs.Stays.{AllStay}
-use Rattle.run_acts.proofs.AllStay.{all-of, all-kept, fewer-none, no-cut, reach-told}
+use Rattle.run_acts.proofs.AllStay.{all-of, all-kept, lines-on, no-cut, reach-told}
 
 -- a span that goes on has a second
 pub record IsPushed (xs : List Second) (x : Second) : Type 0 where
@@ -141,7 +140,7 @@ module _ (old : Run) (before : Outcome) (minutes : Kept) (keeper : Keeper) (watc
         let how = reach-told decided (moment_of s q) t u r is_ in
         all-of o (log_of told) old.keeper.memory.registration keeper.memory.registration keeper.cabin.cards e how.registered
         (all-kept o (log_of before) (log_of told) old.keeper.memory.registration (kepts_on old.keeper decided) old.keeper.cabin.cards keeper.cabin.cards d e
-        (λ none. fewer-none (log_of before) how.more (subst (λ (bs : List Break). NothingFailed (record (log_of before) { breaks = bs })) how.lines none)) (λ none c some_. how.stay c none.1 some_) (booked.2 well) stay)
+        (λ none. lines-on (log_of before) breaks.items how.more how.lines none) (λ none c some_. how.stay c none.1 some_) (booked.2 well) stay)
 
     -- all is kept
     over-now : (x : Within o done s Keeping [] (Some s.speed) [] U e) → x.b ≡ w.b → AllStay o (log_of told) keeper.memory.registration keeper.cabin.cards e → RunRecorded o (done ++ s ∷ []) (passed n begun between) told e

@@ -1,13 +1,17 @@
 -- What a card shows of its stays in a run in which no call failed (profile): its days, with their words and distances, and its newest vehicle
--- entry, exactly.
-use Rattle.std.specs.Prelude.{◌≡◌, ℕ, ◌++◌, Bool, not, Option, Some, None, List, [], ◌∷◌, is_some}
+-- entry, exactly; one stay for each acceptance that the log tells, closed but where a line of the log tells of another end.
+use Rattle.std.specs.Prelude.{◌≡◌, ◌⊎◌, ℕ, ◌+◌, ◌≤◌, ◌++◌, Bool, not, Option, Some, None, List, [], ◌∷◌, is_some, length, map, filter}
+use Rattle.std.specs.List.{AllByRecursion}
 use Rattle.activity_codec.specs.declared.values.Activity.{Activity}
 use Rattle.activity_codec.specs.declared.entries.Entry.{Entry}
 use Rattle.trace_model.specs.declared.Card.{Card}
+use Rattle.trace_model.specs.declared.Card.TheVariants.{A, B}
 use Rattle.tach_media.specs.Medium.{State, bytes_at}
 use Rattle.tacho_types.specs.declared.texts.Registration.{Registration}
 use Rattle.unit_model.specs.declared.layout.TheConstants.{REGISTRATION}
-use Rattle.log_model.specs.Log.{RunLog}
+use Rattle.log_model.specs.Log.{RunLog, is_accepting}
+use Rattle.log_model.specs.declared.lines.Find.{Find}
+use Rattle.log_model.specs.declared.lines.Verdict.TheVariants.{Accepted as AcceptedWith}
 use Rattle.card_image.specs.Own.{own_sizes, IsOwnValid}
 use Rattle.card_session.specs.declared.session.Kept.{Kept}
 use Rattle.card_session.specs.Books.{Book, mark_of}
@@ -28,9 +32,10 @@ use Rattle.run_keeping.specs.CardDeeds.{made_by, is_used, ShowsBook, keeps, last
 abbrev pub registration_in : List ℕ → List ℕ
 registration_in unit = bytes_at unit REGISTRATION.place REGISTRATION.size
 
--- A STAY of a card in the vehicle: from its insertion, where that had this odometer value, and so much was owed to it, with the minutes that it
--- kept, to its withdrawal with an activity; or it was not withdrawn.
+-- A STAY of a card in the vehicle: from its insertion, of whose acceptance this line of the log tells, where the vehicle had this odometer value,
+-- and so much was owed to the card, with the minutes that it kept, to its withdrawal with an activity; or it was not withdrawn.
 pub record Stay : Type 0 where
+  pub found : Find
   pub odometer : ℕ
   pub owed : List Entry
   pub kepts : List Kept
@@ -61,6 +66,42 @@ after_stays vehicle size (s ∷ ss) p = after_stays vehicle size ss (after_stay 
 abbrev pub start_shown : List ℕ → Shown
 start_shown image = record { book = book_of (own_sizes image) image; used = is_used (own_sizes image) image }
 
+-- ---- how many
+
+-- the lines of a log that tell of an acceptance
+abbrev pub acceptances_told : RunLog → List Find
+acceptances_told log = filter (λ (f : Find). is_accepting f.verdict) log.finds
+
+-- those of stays
+abbrev pub founds : List Stay → List Find
+founds ss = map (λ (s : Stay). s.found) ss
+
+-- each line is the next of the one list, or of the other
+abbrev pub AreMerged : (lines one other : List Find) → Type 0
+AreMerged [] one other = (one ≡ []) × (other ≡ [])
+AreMerged (f ∷ lines) one other =
+    ((rest : List Find) × (one ≡ f ∷ rest) × AreMerged lines rest other) ⊎ ((rest : List Find) × (other ≡ f ∷ rest) × AreMerged lines one rest)
+
+-- so many were not closed
+abbrev pub open_by : Option Activity → ℕ
+open_by None = 1
+open_by (Some act) = 0
+
+abbrev pub open_ones : List Stay → ℕ
+open_ones [] = 0
+open_ones (s ∷ ss) = open_by s.closed + open_ones ss
+
+-- one of them goes on, where the card is in its slot
+abbrev pub going_on : Option Accepted → ℕ
+going_on None = 0
+going_on (Some a) = 1
+
+-- the line of a stay tells how many entries were owed to its card
+abbrev pub TellsOwed : Stay → Type 0
+TellsOwed s = s.found.verdict ≡ AcceptedWith (length s.owed)
+
+-- ---- one card
+
 -- A CARD IN ITS SLOT goes on in the last of its stays: its session is of the vehicle, and has the odometer value of the last minute kept in it.
 pub record GoesIn (vehicle : Registration) (stays : List Stay) (a : Accepted) : Type 0 where
   pub front : List Stay
@@ -74,25 +115,34 @@ abbrev pub StaysIn : Registration → List Stay → Option Accepted → Type 0
 StaysIn vehicle stays None = Unit {0}
 StaysIn vehicle stays (Some a) = GoesIn vehicle stays a
 
--- EACH IMAGE THAT A CARD MAY LEAVE shows exactly what its stays in the vehicle make of the image at the start.
-pub record HasStays (f : CardFound) (vehicle : Registration) (session : Option Accepted) (card : State) : Type 0 where
-  pub stays : List Stay
+-- EACH IMAGE THAT A CARD MAY LEAVE shows exactly what these stays in the vehicle make of the image at the start; and of those that do not go on no
+-- more were left open than so many lines tell.
+pub record HasStays (f : CardFound) (vehicle : Registration) (lines : ℕ) (stays : List Stay) (session : Option Accepted) (card : State) : Type 0 where
   pub shows : ShowsBook (own_sizes f.image) (after_stays vehicle (own_sizes f.image).activity stays (start_shown f.image)).book
       (after_stays vehicle (own_sizes f.image).activity stays (start_shown f.image)).used card
   pub goes : StaysIn vehicle stays session
+  pub ends : open_ones stays ≤ lines + going_on session
 
--- so it is once the run is over, of a card with this image at the start, in the vehicle that this image of its unit says
-pub record ShowsStays (unit image : List ℕ) (card : State) : Type 0 where
-  pub vehicle : Registration
-  pub says : vehicle.0 ≡ registration_in unit
-  pub stays : List Stay
-  pub shows : ShowsBook (own_sizes image) (after_stays vehicle (own_sizes image).activity stays (start_shown image)).book
-      (after_stays vehicle (own_sizes image).activity stays (start_shown image)).used card
+-- so it is once the run is over, of a card with this image at the start, in this vehicle
+abbrev pub ShowsStays : Registration → (image : List ℕ) → List Stay → (card : State) → Type 0
+ShowsStays vehicle image stays card = ShowsBook (own_sizes image) (after_stays vehicle (own_sizes image).activity stays (start_shown image)).book
+    (after_stays vehicle (own_sizes image).activity stays (start_shown image)).used card
 
--- so does each card that was valid, where no call has failed, in the vehicle of the run
+-- ---- both cards
+
+-- THE STAYS OF BOTH CARDS in the vehicle of the run, by so many lines that tell of a break, and by these that tell of an acceptance: each of these
+-- is that of one stay, in their order; only a card that was valid has some, and it shows exactly them.
+pub record AreStays (o : Origin) (lines : ℕ) (acceptances : List Find) (vehicle : Registration) (cards : Cards) (d : Devices) : Type 0 where
+  pub says : vehicle.0 ≡ registration_in o.recording.unit
+  pub stays : Card → List Stay
+  pub told : AreMerged acceptances (founds (stays A)) (founds (stays B))
+  pub owed : (c : Card) → AllByRecursion TellsOwed (stays c)
+  pub only : (c : Card) → (stays c ≡ []) ⊎ IsOwnValid (found_of o.found c).image
+  pub each : (c : Card) → IsOwnValid (found_of o.found c).image → HasStays (found_of o.found c) vehicle lines (stays c) (session_of cards c) (card_of d c)
+
+-- so it is where no call has failed
 abbrev pub AllStay : Origin → RunLog → Registration → Cards → Devices → Type 0
-AllStay o log vehicle cards d = NothingFailed log
-    → (vehicle.0 ≡ registration_in o.recording.unit) × ((c : Card) → IsOwnValid (found_of o.found c).image → HasStays (found_of o.found c) vehicle (session_of cards c) (card_of d c))
+AllStay o log vehicle cards d = NothingFailed log → AreStays o (length log.breaks) (acceptances_told log) vehicle cards d
 
 -- A CARD IS CLOSED where its session was, with this activity: each image that it may leave is its image before, closed
 abbrev pub ClosesOnCard : (session : Option Accepted) → (card card_after : State) → Type 0

@@ -26,12 +26,14 @@ use Rattle.run_events.specs.Choice.{IsTornIn}
 use Rattle.run_events.proofs.Shows.{nothing-more}
 use Rattle.run_recorded.specs.Origin.{Origin, rule_of, start_at, first_of}
 use Rattle.run_recorded.specs.Beside.{HaveLeftMore}
-use Rattle.run_evented.specs.Evented.{number_in, limit_in, session_in, images_in, brought_now}
+use Rattle.run_evented.specs.Opened.{IsOpenSo}
+use Rattle.run_evented.specs.Evented.{number_in, limit_in, brought_now}
 use Rattle.run_evented.specs.Noting.{Stage, Waking, Acting, Ended, is_told, AreOpen, EventedIn, NotesThese, stage_of}
 use Rattle.run_evented.specs.SoFar.{puts_into, planned, FitsSoFar, SoFar, Adds, StepsFollow, EventedNow, BeginsNow, ASecondBegins, ACallNotes, ASecondEnds}
 use Rattle.run_evented.proofs.Bringing.{brought-as}
 use Rattle.run_evented.proofs.Brought.{lit-course}
 use Rattle.run_evented.proofs.Choices.{planned-put, fits-in}
+use Rattle.run_evented.proofs.Opened.{open-left, all-left}
 use Rattle.run_evented.proofs.Noting.{by-more, noted-more, nothing-brought, second-is_noted}
 use Rattle.run_evented.proofs.Whole.{whole-told}
 
@@ -73,7 +75,7 @@ later-images o done s stage log more d e left v = record {
   told = v.told;
   untold = v.untold;
   fits = v.fits;
-  open_now = λ f there accepts. (let was = v.open_now f there accepts in (was.0, left.card f.0.card was.0 was.1, was.2));
+  open_now = λ f there accepts. open-left o (went log done).told (done ++ s ∷ []) d e f.0.card s.number (v.own s.number f.0) left (v.open_now f there accepts);
 }
 
 -- A CALL NOTES what its lines add
@@ -84,7 +86,7 @@ call-notes d e o done s p stage next log later es v adds says left = record {
   plain = v.plain;
   torn = v.torn;
   gaps = v.gaps;
-  open_before = λ t x among found accepts. (let was = v.open_before t x among found accepts in (was.0, left.card x.0.card was.0 was.1, was.2));
+  open_before = all-left o (went p.log done).told done d e v.sessions left v.open_before;
   more = v.more ++ es;
   noted = noted-more o v.more es d e (ShowsEvents (number_in o) o.recording.unit p.log (λ kind. events_of kind (limit_in o) v.sessions v.tearing p.log done)) v.noted says;
   so_far = adds.on v.more (later-images o done s stage log v.more d e left v.so_far);
@@ -123,7 +125,17 @@ module _ (o : Origin) (done : List TraceSecond) (p : Progress) (span : List Told
   next-as log g = ap (λ (w : Went). seen_by log w.before s) (went-same_ (rule_of o) (start_at o) o.from (first_of o) done p b.followed.order b.followed.next b.followed.unfound s log g)
 
   abbrev pub OpenBy : (own : ℕ → Visit → ℕ) → Seen → Devices → Type 0
-  OpenBy own x d = (f : Visit × Verdict) → Contains x.told.course.found f → is_accepting f.1 ≡ true → (y : List ℕ) × images_in o d f.0.card y × (session_in y ≡ own s.number f.0)
+  OpenBy own x d = (f : Visit × Verdict) → Contains x.told.course.found f → is_accepting f.1 ≡ true → IsOpenSo o (went p.log done).told (done ++ s ∷ []) d f.0.card s.number (own s.number f.0)
+
+  -- by a log of the second, and by that of its beginning
+  abbrev OpenIn : RunLog → (own : ℕ → Visit → ℕ) → Devices → Went → Type 0
+  OpenIn log own d w = (f : Visit × Verdict) → Contains (seen_by log w.before s).told.course.found f → is_accepting f.1 ≡ true → IsOpenSo o w.told (done ++ s ∷ []) d f.0.card s.number (own s.number f.0)
+
+  pub open-by : (log : RunLog) → GoesOnBy p log s → (own : ℕ → Visit → ℕ) (d : Devices) → AreOpen o log done s own d → OpenBy own (seen_by log before_it s) d
+  open-by log g own d h = subst (OpenIn log own d) (went-same_ (rule_of o) (start_at o) o.from (first_of o) done p b.followed.order b.followed.next b.followed.unfound s log g) h
+
+  pub open-of : (log : RunLog) → GoesOnBy p log s → (own : ℕ → Visit → ℕ) (d : Devices) → OpenBy own (seen_by log before_it s) d → AreOpen o log done s own d
+  open-of log g own d h = subst (OpenIn log own d) (sym (went-same_ (rule_of o) (start_at o) o.from (first_of o) done p b.followed.order b.followed.next b.followed.unfound s log g)) h
 
   module _ (stage : Stage) (log later : RunLog) (g : GoesOnBy p log s) (g_later : GoesOnBy p later s) (d : Devices) (more es : List Event) (v : SoFar o done s stage log more d) where
     -- it fits as the second is seen
@@ -131,7 +143,7 @@ module _ (o : Origin) (done : List TraceSecond) (p : Progress) (span : List Told
     fits-now = subst (FitsSoFar stage s v.here) (next-as log g) v.fits
 
     pub open-now : OpenBy v.own (seen_by log before_it s) d
-    open-now = subst (λ (x : Seen). OpenBy v.own x d) (next-as log g) v.open_now
+    open-now = open-by log g v.own d v.open_now
 
     abbrev pub added-by : (here : Tearing) (own : ℕ → Visit → ℕ) → ((kind : ℕ) → Contains all_kinds kind → is_told stage kind ≡ true → brought_now o later done s here own kind ≡ brought_now o log done s v.here v.own kind ++ by_kind es kind) →
         ((kind : ℕ) → Contains all_kinds kind → is_told stage kind ≡ false → by_kind es kind ≡ []) → FitsSoFar stage s here (seen_by later before_it s) → OpenBy own (seen_by later before_it s) d → SoFar o done s stage later (more ++ es) d
@@ -141,7 +153,7 @@ module _ (o : Origin) (done : List TraceSecond) (p : Progress) (span : List Told
       told = λ kind there is. by-more more es kind ∙ ap (λ (xs : List Event). xs ++ by_kind es kind) (v.told kind there is) ∙ sym (brings kind there is);
       untold = λ kind there off. by-more more es kind ∙ ap (λ (xs : List Event). xs ++ by_kind es kind) (v.untold kind there off) ∙ aside kind there off;
       fits = subst (FitsSoFar stage s here) (sym (next-as later g_later)) fits;
-      open_now = subst (λ (x : Seen). OpenBy own x d) (sym (next-as later g_later)) open_then;
+      open_now = open-of later g_later own d open_then;
     }
 
     abbrev pub added : (here : Tearing) (own : ℕ → Visit → ℕ) → ((kind : ℕ) → Contains all_kinds kind → is_told stage kind ≡ true →

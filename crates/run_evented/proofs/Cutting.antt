@@ -55,7 +55,7 @@ use Rattle.run_evented.proofs.Brought.{lit-course, told-speed}
 use Rattle.run_evented.proofs.Bringing.{brought-as}
 use Rattle.run_evented.proofs.Choices.{fits-in}
 use Rattle.run_evented.proofs.Noting.{by-more, bool-or, empty-or, cut-by}
-use Rattle.run_evented.proofs.Adding.{power-now, starts-now, next-as, OpenBy, later-images, evented-in}
+use Rattle.run_evented.proofs.Adding.{power-now, starts-now, next-as, open-by, open-of, later-images, evented-in}
 use Rattle.run_course.proofs.Told.{lit-told}
 
 -- ---- what is empty stays so, by another look
@@ -313,8 +313,8 @@ failure-cuts d e o done p span s b stage next log later es v adds says left at w
     (bool-or (is_told next kind)) in
     cut-by d e o done p b.followed span b.lit s at later waits mid now after m rose broke rest is_left stage log (evented-in o done s p stage log d v) so.here so.own
     (subst (IsTornIn so.here) (sym cut_as) (fits-cut o done p span s b at later waits mid now after m rose broke rest is_left next so.here fits))
-    (subst (λ (y : Seen). OpenBy o done p span s b so.own y e) (sym cut_as)
-    (λ f among accepts. subst (λ (y : Seen). OpenBy o done p span s b so.own y e) (next-as o done p span s b later goes_later) so.open_now f
+    (open-of o done p span s b cut goes so.own e
+    (λ f among accepts. open-by o done p span s b later goes_later so.own e so.open_now f
     (subst (λ (l : List (Visit × Verdict)). Contains l f) (found-z o done p span s b at later waits mid now after m rose broke rest is_left) among) accepts))
     left
     (λ kind there gone. no-left (by_kind v.more kind) (by_kind es kind) (sym (by-more v.more es kind) ∙ empty kind there gone))

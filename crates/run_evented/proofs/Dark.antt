@@ -40,6 +40,9 @@ use Rattle.run_events.proofs.Running.{lines-shown}
 use Rattle.run_events.proofs.Later.{told-number}
 use Rattle.run_events.proofs.Shows.{nothing-more}
 use Rattle.run_recorded.specs.Origin.{rule_of, start_at, first_of}
+use Rattle.safety_model.specs.Recording.{card_image}
+use Rattle.run_evented.proofs.Opened.{first-more}
+use Rattle.run_evented.specs.Opened.{IsFirst}
 use Rattle.run_evented.specs.Evented.{number_in, limit_in, events_now, IsChosen, APowerOnIsBroken, ADarkSecondBringsNothing}
 use Rattle.run_evented.proofs.Lines.{untold-now, same-before, front-same, number-next, low-cuts}
 use Rattle.run_evented.proofs.Seconds.{broken-on}
@@ -79,7 +82,15 @@ dark-brings d o done log later unfound next supply now order count v dark s numb
           (record { idle = record { found = dull.0; torn = dull.1; entered = dull.2 }; lit = lit }, tt) (λ c left. (c, left, says-same c));
       gaps = stays-dark log later unfound done s same [] (breaks ∙ sym (append-nil log.breaks)) (ap (take unfound) breaks) supply now dark still v.gaps lit;
       found_open = λ t f among there accepts. ⊎_elim
-          (λ old. v.found_open t f old there accepts)
+          (λ old.
+          let was = v.found_open t f old there accepts in (
+            was.0,
+            was.1,
+            was.2,
+            subst (λ (w : Went). IsFirst (card_image o.recording) w.told (done ++ s ∷ []) f.0.card t.second.number (v.sessions t.second.number f.0)) (sym (went-more later done s))
+                (subst (λ (w : Went). IsFirst (card_image o.recording) (w.told ++ next_told later done s ∷ []) (done ++ s ∷ []) f.0.card t.second.number (v.sessions t.second.number f.0)) (sym (went-refused log later breaks finds done))
+                (first-more (card_image o.recording) (went log done).told (next_told later done s ∷ []) done (s ∷ []) f.0.card t.second.number (v.sessions t.second.number f.0) was.3)),
+          ))
           (λ (one : next_told later done s ≡ t).
           nothing-in f (subst (λ (fs : List (Visit × Verdict)). Contains fs f) dull.0 (subst (λ (y : Told). Contains y.course.found f) (sym one) there)))
           (Contains-push_cases (went log done).told (next_told later done s) t

@@ -1,7 +1,7 @@
 -- The last second turns out to be a cut's; and the start and the end of a run.
-use Rattle.std.proofs.Common.{◌≡◌, ⊎_elim, ℕ, ◌+◌, ◌-◌, ◌<◌, ◌≤◌, Bool, true, false, cond, not, ◌&&◌, ◌||◌, nat_eq, Option, Some, None, is_some, List, [], ◌∷◌, ◌++◌, All, Contains, length, take, refl, ap, sym, subst, ◌∙◌, arith, append-nil}
+use Rattle.std.proofs.Common.{◌≡◌, ⊎_elim, ℕ, ◌+◌, ◌-◌, ◌<◌, ◌≤◌, Bool, true, false, cond, not, ◌&&◌, ◌||◌, nat_eq, Option, Some, None, is_some, List, [], ◌∷◌, ◌++◌, All, Contains, length, take, refl, ap, sym, subst, ◌∙◌, arith, append-nil, inl, inr}
 use Rattle.std.specs.Prelude.{◌==◌}
-use Rattle.std.specs.List.{AllByRecursion}
+use Rattle.std.specs.List.{AllByRecursion, list_any}
 use Rattle.std.proofs.lemmas.Bool.Decides.{nat_tests}
 use Rattle.std.proofs.lemmas.List.Elements.{Contains-push_cases, Contains-append_left, Contains-push}
 use Rattle.trace_model.specs.declared.Card.{Card}
@@ -23,7 +23,7 @@ use Rattle.unit_course.specs.Followed.{Supply, Lit, Lost}
 use Rattle.unit_model.specs.declared.layout.TheConstants.{SPEED_LIMIT}
 use Rattle.unit_model.specs.Image as image
 use Rattle.event_course.specs.Noted.{StayFailed}
-use Rattle.safety_model.specs.Recording.{card_image}
+use Rattle.safety_model.specs.Recording.{card_image, told_of}
 use Rattle.safety_model.specs.Safe.{Devices, card_of}
 use Rattle.run_course.specs.Moments.{and_break}
 use Rattle.run_course.specs.Followed.{Progress, Followed, IsBreakBefore, HadActions}
@@ -41,6 +41,8 @@ use Rattle.run_events.proofs.Later.{told-number}
 use Rattle.run_events.proofs.Offs.{seen-off, off-shown, off-gaps}
 use Rattle.run_events.proofs.Shows.{noted-begins, noted-then, nothing-more}
 use Rattle.run_recorded.specs.Origin.{Origin, rule_of, start_at, first_of}
+use Rattle.log_model.specs.Slots.{same_card}
+use Rattle.run_evented.specs.Opened.{IsFirst, came_in}
 use Rattle.run_evented.specs.Evented.{number_in, limit_in, Evented, NothingIsNoted, AnOffCutBringsNothing, EventsAreShown}
 use Rattle.run_evented.proofs.Lines.{untold-now}
 use Rattle.run_evented.proofs.Dark.{says-same, nothing-in}
@@ -133,6 +135,11 @@ module _ (o : Origin) (front : List TraceSecond) (r : TraceSecond) (p : Progress
       ap (λ (w : Went). (second_told later w.before r).course.found) (went-later p.log later r.number (cut_at (p.next - 1) false p.begun ∷ []) refl (second-is, tt) [] (sym (append-nil p.log.finds)) tt o.from front order.0 (let n = order.1 in omega (arith, n)))
       ∙ ap (λ (x : Seen). x.told.course.found) (seen-off p.log later r off (went p.log front).before power)
 
+  entered-same : (next_told later front r).course.entered ≡ (next_told p.log front r).course.entered
+  entered-same =
+      ap (λ (w : Went). (second_told later w.before r).course.entered) (went-later p.log later r.number (cut_at (p.next - 1) false p.begun ∷ []) refl (second-is, tt) [] (sym (append-nil p.log.finds)) tt o.from front order.0 (let n = order.1 in omega (arith, n)))
+      ∙ ap (λ (x : Seen). x.told.course.entered) (seen-off p.log later r off (went p.log front).before power)
+
   told-as : (l : RunLog) → (went l (front ++ r ∷ [])).told ≡ (went l front).told ++ next_told l front r ∷ []
   told-as l = ap (λ (w : Went). w.told) (went-more l front r)
 
@@ -145,17 +152,54 @@ module _ (o : Origin) (front : List TraceSecond) (r : TraceSecond) (p : Progress
     gaps = off-gaps p.log later front r same off power p.unfound (Lit (t ∷ span)) (cut_at (p.next - 1) false p.begun ∷ []) refl
         (front-later p.log later r.number (cut_at (p.next - 1) false p.begun ∷ []) refl (second-is, tt) [] (sym (append-nil p.log.finds)) tt p.unfound f.unfound) v.gaps lit untold;
     found_open = λ y x among there accepts. ⊎_elim
-        (λ old. v.found_open y x (subst (λ (ts : List Told). Contains ts y) (sym (told-as p.log)) (Contains-append_left (went p.log front).told (next_told p.log front r ∷ []) y (subst (λ (w : Went). Contains w.told y) front-same old))) there accepts)
+        (λ old.
+        let was = v.found_open y x (subst (λ (ts : List Told). Contains ts y) (sym (told-as p.log)) (Contains-append_left (went p.log front).told (next_told p.log front r ∷ []) y (subst (λ (w : Went). Contains w.told y) front-same old))) there accepts in
+        (was.0, was.1, was.2, first-off x.0.card y.second.number (v.sessions y.second.number x.0) was.3))
         (λ (one : next_told later front r ≡ y).
         let here : Contains (next_told p.log front r).course.found x = subst (λ (fs : List (Visit × Verdict)). Contains fs x) found-same (subst (λ (z : Told). Contains z.course.found x) (sym one) there) in
         let was = v.found_open (next_told p.log front r) x (subst (λ (ts : List Told). Contains ts (next_told p.log front r)) (sym (told-as p.log)) (Contains-push (went p.log front).told (next_told p.log front r))) here accepts in
-        let number_y : (next_told p.log front r).second.number ≡ y.second.number = number-is ∙ sym (told-number later (went later front).before r) ∙ ap (λ (z : Told). z.second.number) one in
-        (was.0, was.1, was.2 ∙ ap (λ (n : ℕ). v.sessions n x.0) number_y))
+        let number_y : (next_told p.log front r).second.number ≡ y.second.number = number-is ∙ sym (told-number later (went later front).before r) ∙ ap (λ (z : Told). z.second.number) one in (
+          was.0,
+          was.1,
+          was.2 ∙ ap (λ (n : ℕ). v.sessions n x.0) number_y,
+          subst (λ (n : ℕ). IsFirst (card_image o.recording) (went later (front ++ r ∷ [])).told (front ++ r ∷ []) x.0.card n (v.sessions n x.0)) number_y
+              (first-off x.0.card (next_told p.log front r).second.number (v.sessions (next_told p.log front r).second.number x.0) was.3),
+        ))
         (Contains-push_cases (went later front).told (next_told later front r) y (subst (λ (ts : List Told). Contains ts y) (told-as later) among));
   }
     where
       front-same : went later front ≡ went p.log front
       front-same = went-later p.log later r.number (cut_at (p.next - 1) false p.begun ∷ []) refl (second-is, tt) [] (sym (append-nil p.log.finds)) tt o.from front order.0 (let n = order.1 in omega (arith, n))
+
+      -- who has come before by the second as it went has come by it as it turns out
+      come-off : (c : Card) (z : Told) → Contains (went p.log (front ++ r ∷ [])).told z → came_in c z ≡ true → (w : Told) × Contains (went later (front ++ r ∷ [])).told w × (w.second.number ≡ z.second.number) × (came_in c w ≡ true)
+      come-off c z among came = ⊎_elim
+          (λ old. (
+            z,
+            subst (λ (ts : List Told). Contains ts z) (sym (told-as later)) (Contains-append_left (went later front).told (next_told later front r ∷ []) z (subst (λ (w : Went). Contains w.told z) (sym front-same) old)),
+            refl,
+            came,
+          ))
+          (λ (one : next_told p.log front r ≡ z). (
+            next_told later front r,
+            subst (λ (ts : List Told). Contains ts (next_told later front r)) (sym (told-as later)) (Contains-push (went later front).told (next_told later front r)),
+            told-number later (went later front).before r ∙ sym number-is ∙ ap (λ (w : Told). w.second.number) one,
+            ap (list_any (λ (q : Visit). same_card c q.card)) entered-same ∙ ap (came_in c) one ∙ came,
+          ))
+          (Contains-push_cases (went p.log front).told (next_told p.log front r) z (subst (λ (ts : List Told). Contains ts z) (told-as p.log) among))
+
+      first-off : (c : Card) (u session : ℕ) → IsFirst (card_image o.recording) (went p.log (front ++ r ∷ [])).told (front ++ r ∷ []) c u session → IsFirst (card_image o.recording) (went later (front ++ r ∷ [])).told (front ++ r ∷ []) c u session
+      first-off c u session h = ⊎_elim
+          (λ is. inl is)
+          (λ come. inr (⊎_elim
+          (λ past.
+          let w = come-off c past.0 past.1 past.3 in
+          let lt = past.2 in
+          let number_w = w.2 in
+          inl (w.0, w.1, omega (arith, lt, number_w), w.3))
+          (λ twice. inr twice)
+          come))
+          h
 
 pub off-cut_brings : (d : Devices) → AnOffCutBringsNothing d
 off-cut_brings d o done p f v t span is =
@@ -227,6 +271,11 @@ events-shown began now o done log unfound next supply v r unit cards trace log_i
       are_sessions = λ t f among found accepts.
           let was = v.found_open t f (subst (λ (l : RunLog). Contains (went l done).told t) log_is (subst (λ (ss : List TraceSecond). Contains (went r.log ss).told t) trace among)) found accepts in
           (was.0, subst (λ (n : ℕ). (card_of now f.0.card).left_since n was.0) (clocks f.0.card) was.1, was.2);
+      are_first = λ t f among found accepts. (
+          let was = v.found_open t f (subst (λ (l : RunLog). Contains (went l done).told t) log_is (subst (λ (ss : List TraceSecond). Contains (went r.log ss).told t) trace among)) found accepts in
+          subst (λ (start : Card → List ℕ). IsFirst start (told_of r) r.trace f.0.card t.second.number (v.sessions t.second.number f.0)) (sym (ext (card_image r) (card_image o.recording) cards))
+          (subst (λ (l : RunLog). IsFirst (card_image o.recording) (went l r.trace).told r.trace f.0.card t.second.number (v.sessions t.second.number f.0)) (sym log_is)
+          (subst (λ (ss : List TraceSecond). IsFirst (card_image o.recording) (went log ss).told ss f.0.card t.second.number (v.sessions t.second.number f.0)) (sym trace) was.3)));
       tearing = v.tearing;
       are_torn = c.torn;
       events = λ kind among sure. shows.tables kind among sure;

@@ -36,7 +36,8 @@ use Rattle.run_events.specs.Seconds.{span_before, bares_by, overs_by, gap_before
 use Rattle.run_events.specs.Running.{judged_notes}
 use Rattle.run_events.proofs.Later.{told-number}
 use Rattle.run_events.proofs.Notes.{one-judged}
-use Rattle.run_evented.specs.Evented.{limit_in, session_in, images_in}
+use Rattle.run_evented.specs.Opened.{IsOpenSo}
+use Rattle.run_evented.specs.Evented.{limit_in}
 use Rattle.run_evented.specs.Noting.{Stage, Waking, Acting, is_told}
 use Rattle.run_evented.specs.SoFar.{FitsSoFar, stage_in, AreBare, ComesInTurn, judged_with, crew_at, AFindAdds}
 use Rattle.run_evented.proofs.Fronts.{IsFormer, former-other, DifferAt, torn-same, accepted-same, stands-same, events-as}
@@ -586,7 +587,7 @@ find-adds dev o done p span s b n log r f here first sits there none enters sess
       (aside n es (judged-none session s.number s.speed f.slot sits.card (crew_at p done s (In n) log) f.verdict))
       (fits log before s n power r.is r.up_to f here r_later.up_to sits there none enters v.here plain begun bare turn was)
       (opens log before s n power r.is r.up_to f here r_later.up_to sits there none enters v.here plain begun bare turn v.own session
-      (λ g k. (y : List ℕ) × images_in o dev g.0.card y × (session_in y ≡ k)) (open-now o done p span s b (stage_in n) log later r.goes r_later.goes dev more es v) found_open);
+      (λ g k. IsOpenSo o (went p.log done).told (done ++ s ∷ []) dev g.0.card s.number k) (open-now o done p span s b (stage_in n) log later r.goes r_later.goes dev more es v) found_open);
 }
   where
     comes : (running : Bool) → not running ≡ true → running ≡ false

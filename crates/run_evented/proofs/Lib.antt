@@ -1,3 +1,4 @@
+pub mod Opened
 pub mod Lines
 pub mod Seconds
 pub mod Dark
@@ -22,3 +23,4 @@ pub mod Passing
 pub mod Ending
 pub mod Cutting
 pub mod Kept
+pub mod OpenedRows

@@ -13,13 +13,14 @@ use Rattle.log_model.specs.Log.{RunLog, cut_of, kept_by, kept_after, is_acceptin
 use Rattle.log_model.specs.Causes.{is_cut}
 use Rattle.log_model.specs.Same.{SameAt}
 use Rattle.log_model.specs.Spans.{AreInOrder}
-use Rattle.log_model.specs.Course.{Told, Visit, not_begun, went}
+use Rattle.log_model.specs.Course.{Told, Visit, Went, not_begun, went}
+use Rattle.log_model.proofs.Growth.{went-more}
 use Rattle.event_model.specs.Events.{Seen, Watched, number_of, seen_by, watched_on, seen_of}
-use Rattle.side_model.specs.Events.{AreSessions}
 use Rattle.unit_course.specs.Lines.{log_of, cut_at, tells_cut}
 use Rattle.unit_course.specs.Followed.{cuts_from}
 use Rattle.event_course.specs.Noted.{StayFailed}
 use Rattle.event_course.proofs.Failing.{kept-added}
+use Rattle.safety_model.specs.Recording.{card_image}
 use Rattle.safety_model.specs.Safe.{Devices}
 use Rattle.run_course.specs.Followed.{Progress, Followed, IsBreakBefore, AreBefore}
 use Rattle.run_course.specs.Seconds.{GoesOnBy, next_told}
@@ -34,7 +35,9 @@ use Rattle.run_events.proofs.Later.{told-number}
 use Rattle.run_recorded.specs.Origin.{Origin, rule_of, start_at, first_of}
 use Rattle.run_recorded.specs.Beside.{HaveLeftMore}
 use Rattle.run_recorded.proofs.Beside.{second-tells}
-use Rattle.run_evented.specs.Evented.{session_in, images_in, sessions_now}
+use Rattle.run_evented.specs.Opened.{IsFirst, IsOpenSo, AreOpenSo}
+use Rattle.run_evented.specs.Evented.{sessions_now}
+use Rattle.run_evented.proofs.Opened.{first-more, first-told}
 
 -- SECONDS IN ORDER come before the next
 early-all : (log : RunLog) (n from : ℕ) (ss : List TraceSecond) (w : Watched) → AreInOrder from ss → from + length ss ≤ n → AreEarlier n w.seen → AreEarlier n (fold (watched_on log) w ss).seen
@@ -143,20 +146,39 @@ module _ (o : Origin) (done : List TraceSecond) (p : Progress) (f : Followed (ru
   number-next = told-number log (went log done).before s
 
   -- the sessions of the cards that were accepted so far, and of those accepted in it
-  pub sessions-on : (d e : Devices) (sessions own : ℕ → Visit → ℕ) → AreSessions (images_in o d) session_in (went p.log done).told sessions → HaveLeftMore o d e →
-      ((x : Visit × Verdict) → Contains (seen_next log done s).told.course.found x → is_accepting x.1 ≡ true → (y : List ℕ) × images_in o e x.0.card y × (session_in y ≡ own s.number x.0)) →
-      AreSessions (images_in o e) session_in (went log (done ++ s ∷ [])).told (sessions_now s own sessions)
+  pub sessions-on : (d e : Devices) (sessions own : ℕ → Visit → ℕ) → AreOpenSo o (went p.log done).told done d sessions → HaveLeftMore o d e →
+      ((x : Visit × Verdict) → Contains (seen_next log done s).told.course.found x → is_accepting x.1 ≡ true → IsOpenSo o (went log done).told (done ++ s ∷ []) e x.0.card s.number (own s.number x.0)) →
+      AreOpenSo o (went log (done ++ s ∷ [])).told (done ++ s ∷ []) e (sessions_now s own sessions)
   sessions-on d e sessions own h left now t x among found accepts = ⊎_elim
       (λ old.
       let was = h t x old found accepts in
       let lt = (second-tells o done p f s log g (number-next ∙ g.number)).before t old in
       let number = g.number in
       let other : nat_eq t.second.number s.number ≡ false = (let ne : t.second.number < s.number = omega (arith, lt, number) in grind (arith, nat_tests)) in
-      (was.0, left.card x.0.card was.0 was.1, was.2 ∙ sym (ap (λ (b : Bool). cond b (own t.second.number x.0) (sessions t.second.number x.0)) other)))
+      let same : sessions t.second.number x.0 ≡ sessions_now s own sessions t.second.number x.0 = sym (ap (λ (b : Bool). cond b (own t.second.number x.0) (sessions t.second.number x.0)) other) in
+      let first : IsFirst (card_image o.recording) (went log (done ++ s ∷ [])).told (done ++ s ∷ []) x.0.card t.second.number (sessions t.second.number x.0) =
+      subst (λ (ts : List Told). IsFirst (card_image o.recording) ts (done ++ s ∷ []) x.0.card t.second.number (sessions t.second.number x.0))
+      (sym (now-told (rule_of o) (start_at o) o.from (first_of o) done p f.order f.next f.unfound s log g))
+      (first-more (card_image o.recording) (went p.log done).told (next_told log done s ∷ []) done (s ∷ []) x.0.card t.second.number (sessions t.second.number x.0) was.3) in (
+        was.0,
+        left.card x.0.card was.0 was.1,
+        was.2 ∙ same,
+        subst (λ (n : ℕ). IsFirst (card_image o.recording) (went log (done ++ s ∷ [])).told (done ++ s ∷ []) x.0.card t.second.number n) same first,
+      ))
       (λ (is : next_told log done s ≡ t).
       let one : t.second.number ≡ s.number = ap (λ (y : Told). y.second.number) (sym is) ∙ number-next in
       let here = now x (subst (λ (y : Told). Contains y.course.found x) (sym is) found) accepts in
-      (here.0, here.1, here.2 ∙ sym (ap (λ (n : ℕ). cond (nat_eq n s.number) (own n x.0) (sessions n x.0)) one ∙ ap (λ (b : Bool). cond b (own s.number x.0) (sessions s.number x.0)) (same-here s.number))))
+      let same : own s.number x.0 ≡ sessions_now s own sessions t.second.number x.0 =
+      sym (ap (λ (n : ℕ). cond (nat_eq n s.number) (own n x.0) (sessions n x.0)) one ∙ ap (λ (b : Bool). cond b (own s.number x.0) (sessions s.number x.0)) (same-here s.number)) in
+      let first : IsFirst (card_image o.recording) (went log (done ++ s ∷ [])).told (done ++ s ∷ []) x.0.card s.number (own s.number x.0) =
+      subst (λ (w : Went). IsFirst (card_image o.recording) w.told (done ++ s ∷ []) x.0.card s.number (own s.number x.0)) (sym (went-more log done s))
+      (first-told (card_image o.recording) (went log done).told (next_told log done s ∷ []) (done ++ s ∷ []) x.0.card s.number (own s.number x.0) here.3) in (
+        here.0,
+        here.1,
+        here.2 ∙ same,
+        subst (λ (u : ℕ). IsFirst (card_image o.recording) (went log (done ++ s ∷ [])).told (done ++ s ∷ []) x.0.card u (sessions_now s own sessions t.second.number x.0)) (sym one)
+            (subst (λ (n : ℕ). IsFirst (card_image o.recording) (went log (done ++ s ∷ [])).told (done ++ s ∷ []) x.0.card s.number n) same first),
+      ))
       (Contains-push_cases (went p.log done).told (next_told log done s) t (subst (λ (ts : List Told). Contains ts t) (now-told (rule_of o) (start_at o) o.from (first_of o) done p f.order f.next f.unfound s log g) among))
 
   pub low-cuts : cuts_from p.supply p.next ≤ s.number

@@ -37,6 +37,7 @@ use Rattle.run_recorded.specs.Origin.{Origin, rule_of, start_at, first_of}
 use Rattle.run_recorded.specs.Beside.{HaveLeftMore}
 use Rattle.run_evented.specs.Evented.{number_in, limit_in, events_now, brought_now, tearing_now, sessions_now, NotesMore, Evented}
 use Rattle.run_evented.specs.Noting.{Stage, Ended, is_told, ShowsThese, EventedIn, NotesThese, AStepIsNoted, AStageIsDone, stage_of, TheSecondBegins, TheSecondIsNoted, TheSecondIsCut, AreOpen}
+use Rattle.run_evented.proofs.Opened.{open-left, all-left}
 use Rattle.run_evented.proofs.Lines.{same-before, tells-so, front-same, early-before, sessions-on}
 use Rattle.run_evented.proofs.Seconds.{cut-goes, cut-failed, cut-untold}
 use Rattle.run_evented.proofs.Whole.{whole-told}
@@ -66,7 +67,7 @@ step-noted d e o done s p stage log later v here own es brings aside says left o
   plain = v.plain;
   torn = v.torn;
   gaps = v.gaps;
-  open_before = λ t x among found accepts. (let was = v.open_before t x among found accepts in (was.0, left.card x.0.card was.0 was.1, was.2));
+  open_before = all-left o (went p.log done).told done d e v.sessions left v.open_before;
   here = here;
   own = own;
   more = v.more ++ es;
@@ -87,7 +88,7 @@ stage-done d e o done s p stage next log v es goes same brings aside says left =
   plain = v.plain;
   torn = v.torn;
   gaps = v.gaps;
-  open_before = λ t x among found accepts. (let was = v.open_before t x among found accepts in (was.0, left.card x.0.card was.0 was.1, was.2));
+  open_before = all-left o (went p.log done).told done d e v.sessions left v.open_before;
   here = v.here;
   own = v.own;
   more = v.more ++ es;
@@ -97,7 +98,7 @@ stage-done d e o done s p stage next log v es goes same brings aside says left =
       (λ was. by-more v.more es kind ∙ ap (λ (xs : List Event). xs ++ by_kind es kind) (v.untold kind there was) ∙ brings kind there was is)
       (bool-or (is_told stage kind));
   untold = λ kind there not_yet. none-more v.more es kind (aside kind there not_yet) (v.untold kind there (not-before stage next kind goes not_yet));
-  open_now = λ f there accepts. (let was = v.open_now f there accepts in (was.0, left.card f.0.card was.0 was.1, was.2));
+  open_now = λ f there accepts. open-left o (went log done).told (done ++ s ∷ []) d e f.0.card s.number (v.own s.number f.0) left (v.open_now f there accepts);
 }
   where
     append-none : (xs : List Event) → xs ++ [] ≡ xs

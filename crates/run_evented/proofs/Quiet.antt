@@ -26,6 +26,9 @@ use Rattle.run_events.proofs.Growing.{seen-more}
 use Rattle.run_events.proofs.Later.{told-number}
 use Rattle.run_events.proofs.Quiet.{quiet-shown}
 use Rattle.run_recorded.specs.Origin.{Origin, rule_of, start_at, first_of}
+use Rattle.safety_model.specs.Recording.{card_image}
+use Rattle.run_evented.proofs.Opened.{first-more}
+use Rattle.run_evented.specs.Opened.{IsFirst}
 use Rattle.run_evented.specs.Evented.{number_in, limit_in}
 use Rattle.run_evented.specs.Going.{QuietSecondsBringNothing, SecondsAlikeEndNothing}
 use Rattle.run_evented.proofs.Dark.{says-same}
@@ -132,7 +135,15 @@ quiet-brings_nothing d o done p f v t span is n speed seen q =
           (ap (bares_by (last_of (seen_spans (seen_of log done)))) (sym same) ∙ q.bares) (ap (overs_by (limit_in o) (last_of (seen_spans (seen_of log done)))) (sym same) ∙ q.overs) (λ c left. (c, left, says-same c));
       gaps = u.gaps;
       found_open = λ y x among found accepts. ⊎_elim
-          (λ old. v.found_open y x old found accepts)
+          (λ old.
+          let was = v.found_open y x old found accepts in (
+            was.0,
+            was.1,
+            was.2,
+            subst (λ (w : Went). IsFirst (card_image o.recording) w.told (done ++ more) x.0.card y.second.number (v.sessions y.second.number x.0))
+                (sym (quiet-are-told (rule_of o) (start_at o) o.from (first_of o) done p f t span is (suc n) speed))
+                (first-more (card_image o.recording) (went log done).told (quiet_seconds (suc n) p.next speed slots) done more x.0.card y.second.number (v.sessions y.second.number x.0) was.3),
+          ))
           (λ new.
           let gone : Contains {X = Visit × Verdict} [] x = subst (λ (fs : List (Visit × Verdict)). Contains fs x) (quiet-found (suc n) p.next speed slots y new) found in
           absurd (omega (arith, gone.1)))

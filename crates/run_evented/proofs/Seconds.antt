@@ -9,7 +9,6 @@ use Rattle.log_model.specs.Causes.{second_of}
 use Rattle.log_model.specs.Same.{SameAt}
 use Rattle.log_model.specs.Course.{Told, Visit, Went, went}
 use Rattle.event_model.specs.Events.{Event, Seen, Tearing, seen_of, seen_spans}
-use Rattle.side_model.specs.Events.{AreSessions}
 use Rattle.side_model.specs.Done.{has_failed_in}
 use Rattle.unit_course.specs.Lines.{cut_at}
 use Rattle.unit_course.specs.Followed.{Supply, Lit, Due, Lost, MayPower, IsDark, cuts_from}
@@ -35,7 +34,9 @@ use Rattle.run_events.proofs.Running.{lines-shown, second-shown, failed-shown}
 use Rattle.run_recorded.specs.Origin.{Origin, rule_of, start_at, first_of}
 use Rattle.run_recorded.specs.Beside.{HaveLeftMore}
 use Rattle.run_recorded.specs.Seconds.{found_again}
-use Rattle.run_evented.specs.Evented.{number_in, limit_in, session_in, images_in, Evented, EventedBy, NotesMore, EventsStay, EventsAreFound, tearing_now, sessions_now, events_now, brought_now, IsChosen, ASecondIsNoted, ASecondIsBroken}
+use Rattle.run_evented.specs.Opened.{AreOpenSo}
+use Rattle.run_evented.specs.Evented.{number_in, limit_in, Evented, EventedBy, NotesMore, EventsStay, EventsAreFound, tearing_now, sessions_now, events_now, brought_now, IsChosen, ASecondIsNoted, ASecondIsBroken}
+use Rattle.run_evented.proofs.Opened.{all-left}
 use Rattle.run_evented.proofs.Lines.{untold-now, same-before, tells-so, front-same, early-before, number-next, sessions-on, low-cuts}
 
 -- CALLS of which no event is told
@@ -46,9 +47,6 @@ same-tells log unfound done = record { same = each done; stay = λ u is. is; kno
     each [] = All-nil (λ (s : TraceSecond). SameAt log log s.number)
     each (s ∷ ss) = All-cons (λ (s : TraceSecond). SameAt log log s.number) s ss (record { cut = refl; torn = λ p slot. refl; found = λ p slot. refl }) (each ss)
 
-sessions-left : (o : Origin) (d e : Devices) (told : List Told) (sessions : ℕ → Visit → ℕ) → HaveLeftMore o d e → AreSessions (images_in o d) session_in told sessions → AreSessions (images_in o e) session_in told sessions
-sessions-left o d e told sessions left h t x among found accepts = let was = h t x among found accepts in (was.0, left.card x.0.card was.0 was.1, was.2)
-
 pub events-stay : (d e : Devices) → EventsStay d e
 events-stay d e o done log unfound next supply v says left = record {
   tearing = v.tearing;
@@ -56,7 +54,7 @@ events-stay d e o done log unfound next supply v says left = record {
   plain = v.plain;
   events = lines-shown (number_in o) o.recording.unit (limit_in o) log log unfound supply done v.tearing v.sessions {U = d.unit} {V = e.unit} v.events v.gaps (same-tells log unfound done) says;
   gaps = v.gaps;
-  found_open = sessions-left o d e (went log done).told v.sessions left v.found_open;
+  found_open = all-left o (went log done).told done d e v.sessions left v.found_open;
 }
 
 -- POWER IS BACK
@@ -80,7 +78,7 @@ events-found d e o done p f v may k says left =
       plain = v.plain;
       events = lines-shown (number_in o) o.recording.unit (limit_in o) p.log later p.unfound p.supply done v.tearing v.sessions {U = d.unit} {V = e.unit} v.events v.gaps tells says;
       gaps = is-found p.log later p.unfound k p.supply done (dark-by p.supply p.next may) v.gaps same refl;
-      found_open = subst (λ (ts : List Told). AreSessions (images_in o e) session_in ts v.sessions) (sym (ap (λ (w : Went). w.told) (went-found p.log p.unfound k o.from done f.order))) (sessions-left o d e (went p.log done).told v.sessions left v.found_open);
+      found_open = subst (λ (ts : List Told). AreOpenSo o ts done e v.sessions) (sym (ap (λ (w : Went). w.told) (went-found p.log p.unfound k o.from done f.order))) (all-left o (went p.log done).told done d e v.sessions left v.found_open);
     }
 
 -- ONE SECOND MORE
@@ -92,7 +90,7 @@ module _ (o : Origin) (done : List TraceSecond) (p : Progress) (f : Followed (ru
   plain-now : IsPlainFrom (suc p.next) (tearing_now s here v.tearing)
   plain-now = subst (λ (n : ℕ). IsPlainFrom (suc n) (tearing_now s here v.tearing)) g.number (plain-behind s.number here v.tearing (subst (λ (n : ℕ). IsPlainFrom n v.tearing) (sym g.number) v.plain))
 
-  open-now : AreSessions (images_in o e) session_in (went log (done ++ s ∷ [])).told (sessions_now s own v.sessions)
+  open-now : AreOpenSo o (went log (done ++ s ∷ [])).told (done ++ s ∷ []) e (sessions_now s own v.sessions)
   open-now = sessions-on o done p f s log g d e v.sessions own v.found_open left choice.found_open
 
   -- all that it brings was noted

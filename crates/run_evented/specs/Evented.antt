@@ -6,8 +6,7 @@ use Rattle.trace_model.specs.declared.Action.{Action}
 use Rattle.trace_model.specs.Trace.{TraceSecond}
 use Rattle.run_model.specs.declared.Device.{Device}
 use Rattle.run_model.specs.declared.Device.TheVariants.{Unit as Recorder}
-use Rattle.card_image.specs.Fields.{session_time}
-use Rattle.card_image.specs.Own.{own_sizes, own_number}
+use Rattle.card_image.specs.Own.{own_number}
 use Rattle.log_model.specs.declared.lines.Verdict.{Verdict}
 use Rattle.log_model.specs.Log.{RunLog, Phase, Keeping, is_accepting}
 use Rattle.log_model.specs.Causes.{RoseBy}
@@ -39,20 +38,15 @@ use Rattle.run_events.specs.Running.{HasEvents}
 use Rattle.run_recorded.specs.Origin.{Origin, rule_of, start_at, first_of}
 use Rattle.run_recorded.specs.Beside.{HaveLeftMore}
 use Rattle.run_recorded.specs.Seconds.{at_start, found_again}
+pub use Rattle.run_evented.specs.Opened.{session_in, images_in}
+use Rattle.run_evented.specs.Opened.{AreFirst, IsOpenSo, AreOpenSo}
 
--- the numbers of the cards, by their images at the start, the limit of the unit, and the session time that an image of a card tells
+-- the numbers of the cards, by their images at the start, and the limit of the unit
 abbrev pub number_in : Origin → Card → List ℕ
 number_in o c = own_number (card_image o.recording c)
 
 abbrev pub limit_in : Origin → ℕ
 limit_in o = number_of o.recording.unit SPEED_LIMIT
-
-abbrev pub session_in : List ℕ → ℕ
-session_in y = session_time (own_sizes y) y
-
--- the images that a stop might have left of a card since the start
-abbrev pub images_in : Origin → Devices → Card → List ℕ → Type 0
-images_in o d c = (card_of d c).left_since (found_of o.found c).began
 
 -- WHAT IS CARRIED OF THE EVENTS behind these seconds: what no log tells of them, of cards that were torn out and of sessions that were found
 -- open, of which nothing is chosen from the next second on; every image of the unit shows the events, by that; and it is known what was kept
@@ -63,7 +57,7 @@ pub record Evented (o : Origin) (done : List TraceSecond) (log : RunLog) (unfoun
   pub plain : IsPlainFrom next tearing
   pub events : HasEvents (number_in o) o.recording.unit (limit_in o) log done d.unit tearing sessions
   pub gaps : HasGaps log unfound supply done
-  pub found_open : AreSessions (images_in o d) session_in (went log done).told sessions
+  pub found_open : AreOpenSo o (went log done).told done d sessions
 
 -- how far a run has gone, as far as its events go
 abbrev pub EventedBy : Origin → List TraceSecond → Progress → Devices → Type 0
@@ -112,10 +106,11 @@ abbrev pub brought_now : Origin → RunLog → List TraceSecond → TraceSecond 
 brought_now o log done s here own kind = second_events kind (limit_in o) own here log (seen_spans (seen_of log done)) (seen_next log done s)
 
 -- WHAT NO LOG TELLS of a second is chosen so: of its tears, so that it fits it; and each acceptance found a session open that an image of the
--- card told.
+-- card told, that of the start where it comes for the first time.
 pub record IsChosen (o : Origin) (log : RunLog) (done : List TraceSecond) (s : TraceSecond) (here : Tearing) (own : ℕ → Visit → ℕ) (d : Devices) : Type 0 where
   pub fits : IsTornIn here (seen_next log done s)
-  pub found_open : (f : Visit × Verdict) → Contains (seen_next log done s).told.course.found f → is_accepting f.1 ≡ true → (x : List ℕ) × images_in o d f.0.card x × (session_in x ≡ own s.number f.0)
+  pub found_open : (f : Visit × Verdict) → Contains (seen_next log done s).told.course.found f → is_accepting f.1 ≡ true →
+      IsOpenSo o (went log done).told (done ++ s ∷ []) d f.0.card s.number (own s.number f.0)
 
 -- A SECOND WITH POWER, to its end: all that it brings was noted.
 abbrev pub ASecondIsNoted : (d e : Devices) → Type 0
@@ -156,6 +151,7 @@ AnOffCutBringsNothing d = (o : Origin) (done : List TraceSecond) (p : Progress) 
 pub record ShowsEventsOf (r : Recording) (began now : Devices) (x : List ℕ) : Type 0 where
   pub sessions : ℕ → Visit → ℕ
   pub are_sessions : AreSessions (λ c. (card_of now c).left_since (card_of began c).clock) session_in (told_of r) sessions
+  pub are_first : AreFirst (card_image r) (told_of r) r.trace sessions
   pub tearing : Tearing
   pub are_torn : AreTorn tearing (seen_of r.log r.trace)
   pub events : (kind : ℕ) → Contains told_kinds kind → are_sure r sessions tearing kind ≡ true → AreNoted (λ c. own_number (card_image r c)) (table_in kind r.unit) (events_in r sessions tearing kind) (table_in kind x)

@@ -1,3 +1,4 @@
+pub mod Opened
 pub mod Evented
 pub mod Going
 pub mod Noting

@@ -10,7 +10,6 @@ use Rattle.log_model.specs.Causes.{RoseBy}
 use Rattle.log_model.specs.Course.{Told, Visit, went}
 use Rattle.event_model.specs.declared.kinds.TheConstants.{DRIVING_WITHOUT_CARD, OVER_SPEEDING, POWER_INTERRUPTION}
 use Rattle.event_model.specs.Events.{Event, Tearing, AreTorn, seen_of, events_of}
-use Rattle.side_model.specs.Events.{AreSessions}
 use Rattle.unit_course.specs.Lines.{cut_at}
 use Rattle.unit_course.specs.Followed.{Lit, Lost}
 use Rattle.unit_course.specs.Turn.{begins_with}
@@ -27,7 +26,8 @@ use Rattle.run_events.specs.Gaps.{HasGaps}
 use Rattle.run_events.specs.Choice.{IsTornIn, IsPlainFrom}
 use Rattle.run_recorded.specs.Origin.{Origin, rule_of, start_at, first_of}
 use Rattle.run_recorded.specs.Beside.{HaveLeftMore}
-use Rattle.run_evented.specs.Evented.{number_in, limit_in, session_in, images_in, events_now, brought_now, NotesMore, Evented, EventedBy}
+use Rattle.run_evented.specs.Opened.{IsOpenSo, AreOpenSo}
+use Rattle.run_evented.specs.Evented.{number_in, limit_in, events_now, brought_now, NotesMore, Evented, EventedBy}
 
 -- how far a second has come with its notes: at its power-on, before the interruption is noted; as its cards are judged and torn out; and once what
 -- has ended with the second before is noted
@@ -42,9 +42,10 @@ is_told Waking kind = not (kind == DRIVING_WITHOUT_CARD) && not (kind == OVER_SP
 is_told Acting kind = not (kind == DRIVING_WITHOUT_CARD) && not (kind == OVER_SPEEDING)
 is_told Ended kind = true
 
--- each acceptance so far found a session open that an image of the card told
+-- each acceptance so far found a session open that an image of the card told, that of the start where it comes for the first time
 abbrev pub AreOpen : Origin → RunLog → List TraceSecond → TraceSecond → (own : ℕ → Visit → ℕ) → Devices → Type 0
-AreOpen o log done s own d = (f : Visit × Verdict) → Contains (seen_next log done s).told.course.found f → is_accepting f.1 ≡ true → (x : List ℕ) × images_in o d f.0.card x × (session_in x ≡ own s.number f.0)
+AreOpen o log done s own d = (f : Visit × Verdict) → Contains (seen_next log done s).told.course.found f → is_accepting f.1 ≡ true →
+    IsOpenSo o (went log done).told (done ++ s ∷ []) d f.0.card s.number (own s.number f.0)
 
 -- an image shows these events more than one before it, whatever is sure
 abbrev pub ShowsThese : Origin → List Event → (x c : List ℕ) → Type 0
@@ -59,7 +60,7 @@ pub record EventedIn (o : Origin) (done : List TraceSecond) (s : TraceSecond) (p
   pub plain : IsPlainFrom p.next tearing
   pub torn : AreTorn tearing (seen_of p.log done)
   pub gaps : HasGaps p.log p.unfound p.supply done
-  pub open_before : AreSessions (images_in o d) session_in (went p.log done).told sessions
+  pub open_before : AreOpenSo o (went p.log done).told done d sessions
   -- what no log tells of it, and what it has noted
   pub here : Tearing
   pub own : ℕ → Visit → ℕ

@@ -24,7 +24,6 @@ use Rattle.event_model.specs.declared.kinds.TheConstants.{CARD_NOT_VALID, TIME_O
 use Rattle.event_model.specs.declared.entries.Span.{Span}
 use Rattle.event_model.specs.Spans.{gap_of}
 use Rattle.event_model.specs.Events.{Event, Crew, Seen, Tearing, AreTorn, crew_of, with_card, accepted_card, noted_with, last_number, torn_at, accepted_at, is_first, seen_of, seen_spans, events_of}
-use Rattle.side_model.specs.Events.{AreSessions}
 use Rattle.unit_course.specs.Lines.{cut_at}
 use Rattle.unit_course.specs.Followed.{Lit, Lost}
 use Rattle.unit_course.specs.Turn.{begins_with}
@@ -43,7 +42,8 @@ use Rattle.run_events.specs.Gaps.{HasGaps}
 use Rattle.run_events.specs.Choice.{IsPlainFrom}
 use Rattle.run_recorded.specs.Origin.{Origin, rule_of, start_at, first_of}
 use Rattle.run_recorded.specs.Beside.{HaveLeftMore}
-use Rattle.run_evented.specs.Evented.{number_in, limit_in, session_in, images_in, brought_now, NotesMore, Evented, EventedBy}
+use Rattle.run_evented.specs.Opened.{IsOpenSo, AreOpenSo}
+use Rattle.run_evented.specs.Evented.{number_in, limit_in, brought_now, NotesMore, Evented, EventedBy}
 use Rattle.run_evented.specs.Noting.{Stage, Waking, Acting, Ended, is_told, AreOpen, ShowsThese, NotesThese, stage_of}
 use Rattle.run_evented.specs.Bringing.{NotFound}
 
@@ -98,7 +98,7 @@ pub record EventedNow (o : Origin) (done : List TraceSecond) (s : TraceSecond) (
   pub plain : IsPlainFrom p.next tearing
   pub torn : AreTorn tearing (seen_of p.log done)
   pub gaps : HasGaps p.log p.unfound p.supply done
-  pub open_before : AreSessions (images_in o d) session_in (went p.log done).told sessions
+  pub open_before : AreOpenSo o (went p.log done).told done d sessions
   pub more : List Event
   pub noted : (c : List ℕ) → d.unit.may_leave c → (x : List ℕ) × ShowsEvents (number_in o) o.recording.unit p.log (λ kind. events_of kind (limit_in o) sessions tearing p.log done) x × ShowsThese o more x c
   pub so_far : SoFar o done s stage log more d
@@ -183,9 +183,9 @@ pub record AreBare (slots : Slots) : Type 0 where
   pub driver : is_accepted slots.driver ≡ false
   pub codriver : is_accepted slots.codriver ≡ false
 
--- a card that is accepted was found with this session open: an image of it told that
-abbrev pub IsOpenWith : Origin → Card → Verdict → (session : ℕ) → Devices → Type 0
-IsOpenWith o card verdict session d = is_accepting verdict ≡ true → (x : List ℕ) × images_in o d card x × (session_in x ≡ session)
+-- a card that is accepted in a second behind these was found with this session open: an image of it told that
+abbrev pub IsOpenWith : Origin → (told : List Told) → List TraceSecond → TraceSecond → Card → Verdict → (session : ℕ) → Devices → Type 0
+IsOpenWith o told done s card verdict session d = is_accepting verdict ≡ true → IsOpenSo o told (done ++ s ∷ []) d card s.number session
 
 -- at a power-on it comes before all of the co-driver slot's card
 abbrev pub ComesInTurn : Slot → RunLog → (second : ℕ) → Type 0
@@ -197,7 +197,7 @@ abbrev pub AFindAdds : Devices → Type 0
 AFindAdds d = (o : Origin) (done : List TraceSecond) (p : Progress) (span : List Told) (s : TraceSecond) → BeginsNow o done p span s → (n : ℕ) (log : RunLog) → Reaches p s (In n) log →
     (f : Find) → IsFindAt s (In n) f → (n ≡ 0 → AreBare (went p.log done).before.slots × ComesInTurn f.slot log s.number) →
     (x : Sitting) → in_slot (course_at log (went p.log done).before s (In n)).slots f.slot ≡ Some x → found_in log s.number (In n) f.slot ≡ [] → (moved_at log (went p.log done).before s (In n)).enters f.slot ≡ true →
-    (session : ℕ) → IsOpenWith o x.card f.verdict session d →
+    (session : ℕ) → IsOpenWith o (went p.log done).told done s x.card f.verdict session d →
     Adds o done s (stage_in n) log (stage_in n) (and_find log f) (judged_with session s.number s.speed f.slot x.card (crew_at p done s (In n) log) f.verdict) d
 
 -- A CARD IS TORN OUT AS IT IS JUDGED at a power-on: at rest before it is accepted.

@@ -48,7 +48,7 @@ use Rattle.run_rule.specs.Cards.{brought_by, CardMarksHold}
 use Rattle.run_strung.specs.Strung.{IsHeld, HasSameHolder}
 use Rattle.run_told.specs.Told.{AreFoundCards, IsOn, GoesOwing}
 use Rattle.run_told.proofs.Parts.{both_of, as-steps, of-steps, left-one, told-one}
-use Rattle.run_told.proofs.Holders.{card-file}
+use Rattle.run_told.proofs.Holders.{card-rest}
 use Rattle.run_told.proofs.OnCards.{own-valid, valid-own, valid-on, own-holder-still, then-holder}
 use Rattle.run_keeping.specs.Keeping.{Fate, Still, Has, Fell, marks_by}
 use Rattle.run_keeping.specs.Books.{standing_by}
@@ -164,7 +164,7 @@ module _ (f : Found) (cards : Cards) (found : AreFoundCards f cards) (c : Card) 
   same-holder : (x y : List ℕ) → X.may_leave x → IsCardKeeping s e odometer x y → HasSameHolder x y
   same-holder x y there k =
       let sizes : own_sizes x ≡ s.application = is x there ∙ sym on.sizes in
-      own-holder-still s.application x y sizes (sizes-same s.application _ x y k.card ∙ sizes) (keep-number s.application _ x y k.card) (card-file s.application _ x y k.card)
+      own-holder-still s.application x y sizes (sizes-same s.application _ x y k.card ∙ sizes) (keep-number s.application _ x y k.card) (card-rest s.application x y _ k.card)
 
   number-now : (x : List ℕ) → Y.may_leave x → own_number x ≡ g.number
   number-now y left = ⊎_elim (held.number y)

@@ -1,10 +1,12 @@
 -- What is known of a card's string where each of its images holds it (profile).
 use Rattle.std.specs.Prelude.{◌≡◌, ℕ, suc, max, ◌≤◌, true, None, List, All, is_some}
 use Rattle.trace_model.specs.declared.Card.{Card}
-use Rattle.tach_media.specs.Medium.{State}
+use Rattle.tach_media.specs.Medium.{State, bytes_at}
+use Rattle.card_layout.specs.declared.files.Application.{Application}
 use Rattle.card_layout.specs.Application.{IsApplication}
+use Rattle.card_layout.specs.Files.{place_of}
 use Rattle.card_retention.specs.Retains.{Rise}
-use Rattle.card_image.specs.Fields.{file_bytes}
+use Rattle.card_image.specs.Fields.{file, file_bytes}
 use Rattle.card_image.specs.Own.{own_view, own_sizes, own_number, IsOwnValid}
 use Rattle.card_steps.specs.Since.{HoldsSince}
 use Rattle.card_steps.specs.Each.{KeepsSince}
@@ -19,10 +21,20 @@ use Rattle.run_rule.specs.Cards.{brought_by}
 abbrev pub identification_of : List ℕ → List ℕ
 identification_of x = file_bytes (own_sizes x) 0x0520 x
 
--- it is the card of the same holder still: its number, and its file Identification
+-- THE BYTES OF A CARD THAT NO CALL OF A RUN WRITES, by its sizes, are those of the start: in front of the events ICC, IC and
+-- Application_Identification; the faults; and from Control_Activity_Data on the card download, the identification, the driving licence, the specific
+-- conditions, both certificates, and what stands behind them, however many bytes there are
+pub record HasSameRest (app : Application) (start x : List ℕ) : Type 0 where
+  pub front : bytes_at x 0 (place_of app (file 0x0502)) ≡ bytes_at start 0 (place_of app (file 0x0502))
+  pub faults : file_bytes app 0x0503 x ≡ file_bytes app 0x0503 start
+  pub behind : (n : ℕ) → bytes_at x (place_of app (file 0x0508)) n ≡ bytes_at start (place_of app (file 0x0508)) n
+
+-- it is the card of the same holder still: its number, its file Identification, its sizes, and all else that no call of a run writes
 pub record HasSameHolder (start x : List ℕ) : Type 0 where
   pub number : own_number x ≡ own_number start
   pub identification : identification_of x ≡ identification_of start
+  pub sizes : own_sizes x ≡ own_sizes start
+  pub rest : HasSameRest (own_sizes start) start x
 
 -- THE STRING OF A CARD, which tells its images: each that a stop may leave now holds it, and an entry may come behind its newest minute as
 -- the card stands; and each since the start keeps it. The card has its number and its holder still.

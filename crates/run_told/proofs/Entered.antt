@@ -78,7 +78,7 @@ use Rattle.run_rule.proofs.OwedRises.{owed-rises}
 use Rattle.run_strung.specs.Strung.{IsHeld, HasSameHolder}
 use Rattle.run_told.specs.Told.{HasFoundSo, AreFoundCards, IsPutIn, IsPowered, IsPowerless, arranged, card_marks, with_marks}
 use Rattle.run_told.proofs.Parts.{both_of, as-steps, of-steps, told-one, CardLit, off-of, UnitLit, AreParts, MarksLit, parts-of, powered-of, powerless-of, brought-on}
-use Rattle.run_told.proofs.Holders.{inserting-file}
+use Rattle.run_told.proofs.Holders.{inserting-rest}
 use Rattle.run_told.proofs.OnCards.{valid-own, valid-or, no-marks, number-own, own-holder-still, Rises, rises-run, none-falls, marks-on, brought-card, bound_of, held-on, held-read, valid-on}
 use Rattle.run_told.proofs.StringMore.{mark-own}
 use Rattle.run_told.proofs.Power.{follow-of}
@@ -183,7 +183,7 @@ module _ (f : Found) (b : Book) (c : Card) (u x : List ℕ) (sound : IsApplicati
 
   same-holder : (y : List ℕ) → IsCardInserting app registration odometer given now x y → HasSameHolder x y
   same-holder y moment = own-holder-still app x y is-sizes (same-sizes y moment ∙ is-sizes) (number_again app registration odometer now given long x y (omega (arith, use_inside app, fits)) moment)
-      (inserting-file app registration odometer now given long x y (omega (arith, use_inside app, fits)) moment)
+      (inserting-rest app x y registration odometer now given long (omega (arith, use_inside app, fits)) moment)
 
   new-view : (y : List ℕ) → IsCardInserting app registration odometer given now x y → own_view y ≡ card_view app y
   new-view y moment = own-is app y (same-sizes y moment ∙ is-sizes)

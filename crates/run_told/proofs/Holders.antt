@@ -1,6 +1,6 @@
--- The file Identification of a card stays as it is in each note, keep, closing and insertion.
+-- What no call writes of a card stays as it is in each note, keep, closing and insertion, and the places in all but the note of one.
 use Rattle.std.proofs.Common.{◌≡◌, ◌≢◌, ◌⊎◌, inl, inr, ⊎_elim, ℕ, ◌+◌, ◌<◌, ◌≤◌, List, length, Option, sym, ◌∙◌, ap, subst, arith}
-use Rattle.byte_fields.proofs.Images.{part_after, put_outside}
+use Rattle.byte_fields.proofs.Images.{part_after, part_before, put_outside}
 use Rattle.activity_codec.specs.declared.values.Activity.{Activity}
 use Rattle.activity_codec.specs.declared.values.Activity.TheVariants.{Rest}
 use Rattle.activity_codec.specs.declared.entries.Entry.{Entry}
@@ -25,71 +25,106 @@ use Rattle.card_session.specs.Sessions.{Session, book_of}
 use Rattle.card_session.specs.Moments.{IsBook, IsCloseMoment}
 use Rattle.card_session.specs.Inserting.{repaired, IsRepairMoment, Both, During, IsStill, IsRepaired, IsRepairing, IsNoted, IsNoting, IsShut, IsShutting, IsEnded, IsEnding, IsOpened, IsOpening, IsCardInserting, timed, registered}
 use Rattle.device_steps.specs.CardNotes.{IsNote}
+use Rattle.run_strung.specs.Strung.{HasSameRest}
 
--- the same file Identification
-abbrev pub HaveSameFile : Application → List ℕ → List ℕ → Type 0
-HaveSameFile app = HaveSame (place_of app (file 0x0520)) (size_of app (file 0x0520))
+-- the same file
+abbrev pub HaveSameFile : Application → (fid : ℕ) → List ℕ → List ℕ → Type 0
+HaveSameFile app fid = HaveSame (place_of app (file fid)) (size_of app (file fid))
+
+-- the file Identification, and all that no call writes
+pub record HaveSameRest (app : Application) (x c : List ℕ) : Type 0 where
+  pub identification : HaveSameFile app 0x0520 x c
+  pub rest : HasSameRest app x c
+
+-- some bytes lie beside the events, beside the days and the vehicle entries, and beside the current use
+record IsApart (app : Application) (place size : ℕ) : Type 0 where
+  pub events : (place_of app (file 0x0502) + size_of app (file 0x0502) ≤ place) ⊎ (place + size ≤ place_of app (file 0x0502))
+  pub string : ((day_string app).base + days_and_vehicles app ≤ place) ⊎ (place + size ≤ (day_string app).base)
+  pub current : (place_of app (file 0x0507) + 19 ≤ place) ⊎ (place + size ≤ place_of app (file 0x0507))
+
+-- and beside the places
+record IsUntouched (app : Application) (place size : ℕ) : Type 0 where
+  pub apart : IsApart app place size
+  pub places : ((place_ring app).base + ring_size (place_ring app) ≤ place) ⊎ (place + size ≤ (place_ring app).base)
 
 module _ (app : Application) where
-  events_low : place_of app (file 0x0502) + size_of app (file 0x0502) ≤ place_of app (file 0x0520)
+  -- so do these
+  front-untouched : IsUntouched app 0 (place_of app (file 0x0502))
   unfolding files_of
-  events_low = omega arith
+  front-untouched = record { apart = record { events = inr (omega arith); string = inr (omega arith); current = inr (omega arith) }; places = inr (omega arith) }
 
-  places_low : (place_ring app).base + ring_size (place_ring app) ≤ place_of app (file 0x0520)
+  faults-untouched : IsUntouched app (place_of app (file 0x0503)) (size_of app (file 0x0503))
   unfolding files_of
-  places_low = omega arith
+  faults-untouched = record { apart = record { events = inl (omega arith); string = inr (omega arith); current = inr (omega arith) }; places = inr (omega arith) }
 
-  string_low : (day_string app).base + days_and_vehicles app ≤ place_of app (file 0x0520)
+  behind-untouched : (n : ℕ) → IsUntouched app (place_of app (file 0x0508)) n
   unfolding files_of
-  string_low = omega arith
+  behind-untouched n = record { apart = record { events = inl (omega arith); string = inl (omega arith); current = inl (omega arith) }; places = inl (omega arith) }
 
-  use_low : place_of app (file 0x0507) + 19 ≤ place_of app (file 0x0520)
+  identification-untouched : IsUntouched app (place_of app (file 0x0520)) (size_of app (file 0x0520))
   unfolding files_of
-  use_low = omega arith
+  identification-untouched = record { apart = record { events = inl (omega arith); string = inl (omega arith); current = inl (omega arith) }; places = inl (omega arith) }
 
-  -- a write before it
-  behind : (place len : ℕ) (x c : List ℕ) → place + len ≤ place_of app (file 0x0520) → SameOutside place len x c → HaveSameFile app x c
-  behind place len x c low outside = part_after place len (place_of app (file 0x0520)) (size_of app (file 0x0520)) x c outside low
+  places-apart : IsApart app (place_of app (file 0x0506)) (size_of app (file 0x0506))
+  unfolding files_of
+  places-apart = record { events = inl (omega arith); string = inl (omega arith); current = inr (omega arith) }
 
-  same-file : (x c : List ℕ) → c ≡ x → HaveSameFile app x c
-  same-file x c is = ap (λ (l : List ℕ). bytes_at l (place_of app (file 0x0520)) (size_of app (file 0x0520))) is
+-- BYTES THAT LIE BESIDE
+module _ (app : Application) (place size : ℕ) (apart : IsApart app place size) where
+  abbrev Same : List ℕ → List ℕ → Type 0
+  Same = HaveSame place size
 
-  event-behind : (kind i : ℕ) (x c : List ℕ) → i < (event_ring app kind).count → SameOutside (entry_place (event_ring app kind) i) (event_ring app kind).width x c → HaveSameFile app x c
-  event-behind kind i x c below outside = behind (entry_place (event_ring app kind) i) (event_ring app kind).width x c
-      (omega (arith, place_high (event_ring app kind) i below, set_inside app kind, events_low)) outside
+  -- a write before it or behind it
+  beside : (from len : ℕ) (x c : List ℕ) → (from + len ≤ place) ⊎ (place + size ≤ from) → SameOutside from len x c → Same x c
+  beside from len x c (inl low) outside = part_after from len place size x c outside low
+  beside from len x c (inr high) outside = part_before from len place size x c outside high
 
-  noting-file : (e : CardEvent) (x c : List ℕ) → IsNotingEvent app e x c → HaveSameFile app x c
+  same-file : (x c : List ℕ) → c ≡ x → Same x c
+  same-file x c is = ap (λ (l : List ℕ). bytes_at l place size) is
+
+  event-beside : (kind i : ℕ) (x c : List ℕ) → i < (event_ring app kind).count → SameOutside (entry_place (event_ring app kind) i) (event_ring app kind).width x c → Same x c
+  event-beside kind i x c below outside = ⊎_elim
+      (λ behind. beside (entry_place (event_ring app kind) i) (event_ring app kind).width x c
+      (inl (omega (arith, place_high (event_ring app kind) i below, set_inside app kind, behind))) outside)
+      (λ before. beside (entry_place (event_ring app kind) i) (event_ring app kind).width x c (inr (omega (arith, before))) outside)
+      apart.events
+
+  noting-file : (e : CardEvent) (x c : List ℕ) → IsNotingEvent app e x c → Same x c
   noting-file e x c noting = ⊎_elim
       (λ same. same-file x c same)
-      (λ changed. ⊎_elim (λ absent. event-behind e.kind noting.place x c noting.takes.below absent.outside) (λ replaced. event-behind e.kind noting.place x c noting.takes.below replaced.outside) changed)
+      (λ changed. ⊎_elim (λ absent. event-beside e.kind noting.place x c noting.takes.below absent.outside) (λ replaced. event-beside e.kind noting.place x c noting.takes.below replaced.outside) changed)
       noting.entry
 
-  noted-file : (e : CardEvent) (x c : List ℕ) → IsEventNoted app e x c → HaveSameFile app x c
-  noted-file e x c noted = event-behind e.kind noted.place x c noted.takes.below noted.entry.outside
+  noted-file : (e : CardEvent) (x c : List ℕ) → IsEventNoted app e x c → Same x c
+  noted-file e x c noted = event-beside e.kind noted.place x c noted.takes.below noted.entry.outside
 
-  -- A NOTE leaves it,
-  pub note-file : (x c : List ℕ) → IsNote app x c → HaveSameFile app x c
-  note-file x c (inl noting) = noting-file noting.0 x c noting.1
-  note-file x c (inr noting) = behind (place_ring app).base (ring_size (place_ring app)) x c places_low noting.1.outside
-
-  -- so do the days and the vehicle entries,
-  pub card-file : (P : List Day → Option Vehicle → Type 0) (x c : List ℕ) → IsCard app P x c → HaveSameFile app x c
-  card-file P x c is = behind (day_string app).base (days_and_vehicles app) x c string_low is.outside
+  -- THE DAYS and the vehicle entries leave it,
+  card-file : (P : List Day → Option Vehicle → Type 0) (x c : List ℕ) → IsCard app P x c → Same x c
+  card-file P x c is = ⊎_elim
+      (λ behind. beside (day_string app).base (days_and_vehicles app) x c (inl behind) is.outside)
+      (λ before. beside (day_string app).base (days_and_vehicles app) x c (inr before) is.outside)
+      apart.string
 
   -- ---- and an insertion
 
   -- the length is the same too
   abbrev Stays : List ℕ → List ℕ → Type 0
-  Stays x c = (length c ≡ length x) × HaveSameFile app x c
+  Stays x c = (length c ≡ length x) × Same x c
 
-  abbrev pub Fits : List ℕ → Type 0
+  abbrev Fits : List ℕ → Type 0
   Fits x = place_of app (file 0x0507) + 19 ≤ length x
 
   abbrev Step : (List ℕ → List ℕ → Type 0) → Type 0
   Step S = (x c : List ℕ) → Fits x → S x c → Stays x c
 
   use-stays : (offset len : ℕ) (x c : List ℕ) → offset + len ≤ 19 → SameOutside (place_of app (file 0x0507) + offset) len x c → Stays x c
-  use-stays offset len x c few outside = (outside.same_length, behind (place_of app (file 0x0507) + offset) len x c (omega (arith, use_low, few)) outside)
+  use-stays offset len x c few outside = (
+    outside.same_length,
+    ⊎_elim
+        (λ behind. beside (place_of app (file 0x0507) + offset) len x c (inl (omega (arith, few, behind))) outside)
+        (λ before. beside (place_of app (file 0x0507) + offset) len x c (inr (omega (arith, before))) outside)
+        apart.current,
+  )
 
   same-stays : (x c : List ℕ) → c ≡ x → Stays x c
   same-stays x c is = (ap (λ (l : List ℕ). length l) is, same-file x c is)
@@ -152,7 +187,7 @@ module _ (app : Application) where
     repairing-stays : Step (IsRepairing app registration odometer owed)
     repairing-stays = card-stays (λ x. IsRepairMoment app.activity registration odometer owed (book_of app x))
 
-    pub inserting-file : (x c : List ℕ) → Fits x → IsCardInserting app registration odometer owed now x c → HaveSameFile app x c
+    inserting-file : (x c : List ℕ) → Fits x → IsCardInserting app registration odometer owed now x c → Same x c
     inserting-file x c fits is = ⊎_elim
         (λ shut_one. (during-stays (IsStill app) (IsStill app) _ still still (during-stays (IsShutting app) (IsShut app) _ shutting shut (opening-stays registration now long)) x c fits shut_one.1).1)
         (λ open_one. (during-stays (IsStill app) (IsStill app) _ still still
@@ -162,8 +197,52 @@ module _ (app : Application) where
         is
 
 -- A CLOSING, too
-pub closing-file : (s : Session) (act : Activity) (x y : List ℕ) → place_of s.application (file 0x0507) + 19 ≤ length x → IsCardClosing s act x y → HaveSameFile s.application x y
-closing-file s act x y fits (inl card) = card-file s.application (IsCloseMoment s.application.activity act (book_of s.application x)) x y card
-closing-file s act x y fits (inr done) =
-    let first = card-file s.application (IsBook (closed s.application.activity act (book_of s.application x))) x done.before done.card in
-    (ended-stays s.application done.before y (omega (arith, fits, done.card.outside.same_length)) done.session).1 ∙ first
+closing-file : (place size : ℕ) (s : Session) → IsApart s.application place size → (act : Activity) (x y : List ℕ) → place_of s.application (file 0x0507) + 19 ≤ length x → IsCardClosing s act x y → HaveSame place size x y
+closing-file place size s apart act x y fits (inl card) = card-file s.application place size apart (IsCloseMoment s.application.activity act (book_of s.application x)) x y card
+closing-file place size s apart act x y fits (inr done) =
+    let first = card-file s.application place size apart (IsBook (closed s.application.activity act (book_of s.application x))) x done.before done.card in
+    (ended-stays s.application place size apart done.before y (omega (arith, fits, done.card.outside.same_length)) done.session).1 ∙ first
+
+-- ---- ALL THAT NO CALL WRITES
+module _ (app : Application) (x c : List ℕ) where
+  all-same : ((place size : ℕ) → IsUntouched app place size → HaveSame place size x c) → HaveSameRest app x c
+  all-same one = record {
+    identification = one (place_of app (file 0x0520)) (size_of app (file 0x0520)) (identification-untouched app);
+    rest = record {
+      front = one 0 (place_of app (file 0x0502)) (front-untouched app);
+      faults = one (place_of app (file 0x0503)) (size_of app (file 0x0503)) (faults-untouched app);
+      behind = λ n. one (place_of app (file 0x0508)) n (behind-untouched app n);
+    };
+  }
+
+  pub note-rest : IsNote app x c → HaveSameRest app x c
+  note-rest (inl noting) = all-same (λ place size u. noting-file app place size u.apart noting.0 x c noting.1)
+  note-rest (inr noting) = all-same (λ place size u. ⊎_elim
+      (λ behind. beside app place size u.apart (place_ring app).base (ring_size (place_ring app)) x c (inl behind) noting.1.outside)
+      (λ before. beside app place size u.apart (place_ring app).base (ring_size (place_ring app)) x c (inr before) noting.1.outside)
+      u.places)
+
+  pub card-rest : (P : List Day → Option Vehicle → Type 0) → IsCard app P x c → HaveSameRest app x c
+  card-rest P is = all-same (λ place size u. card-file app place size u.apart P x c is)
+
+  pub inserting-rest : (registration : Registration) (odometer now : ℕ) (owed : List Entry) → length registration.0 ≡ 15 → place_of app (file 0x0507) + 19 ≤ length x → IsCardInserting app registration odometer owed now x c → HaveSameRest app x c
+  inserting-rest registration odometer now owed long fits is = all-same (λ place size u. inserting-file app place size u.apart registration odometer now owed long x c fits is)
+
+  -- ---- and the places, but for the note of a place
+  pub event-places : (e : CardEvent) → IsNotingEvent app e x c → HaveSameFile app 0x0506 x c
+  event-places e noting = noting-file app (place_of app (file 0x0506)) (size_of app (file 0x0506)) (places-apart app) e x c noting
+
+  pub noted-places : (e : CardEvent) → IsEventNoted app e x c → HaveSameFile app 0x0506 x c
+  noted-places e noted = noted-file app (place_of app (file 0x0506)) (size_of app (file 0x0506)) (places-apart app) e x c noted
+
+  pub card-places : (P : List Day → Option Vehicle → Type 0) → IsCard app P x c → HaveSameFile app 0x0506 x c
+  card-places P is = card-file app (place_of app (file 0x0506)) (size_of app (file 0x0506)) (places-apart app) P x c is
+
+  pub inserting-places : (registration : Registration) (odometer now : ℕ) (owed : List Entry) → length registration.0 ≡ 15 → place_of app (file 0x0507) + 19 ≤ length x → IsCardInserting app registration odometer owed now x c → HaveSameFile app 0x0506 x c
+  inserting-places registration odometer now owed long fits is = inserting-file app (place_of app (file 0x0506)) (size_of app (file 0x0506)) (places-apart app) registration odometer now owed long x c fits is
+
+pub closing-rest : (s : Session) (act : Activity) (x y : List ℕ) → place_of s.application (file 0x0507) + 19 ≤ length x → IsCardClosing s act x y → HaveSameRest s.application x y
+closing-rest s act x y fits closing = all-same s.application x y (λ place size u. closing-file place size s u.apart act x y fits closing)
+
+pub closing-places : (s : Session) (act : Activity) (x y : List ℕ) → place_of s.application (file 0x0507) + 19 ≤ length x → IsCardClosing s act x y → HaveSameFile s.application 0x0506 x y
+closing-places s act x y fits closing = closing-file (place_of s.application (file 0x0506)) (size_of s.application (file 0x0506)) s (places-apart s.application) act x y fits closing

@@ -49,7 +49,7 @@ use Rattle.run_rule.specs.Cards.{brought_by}
 use Rattle.run_rule.specs.Between.{Carried}
 use Rattle.run_told.specs.Told.{AreFoundCards, IsOn, IsPowered, for_card, arranged, with_standing}
 use Rattle.run_told.proofs.Parts.{both_of, as-steps, of-steps, left-one, CardLit, UnitLit, AreParts, MarksLit, parts-of, powered-of, at-card, at-other}
-use Rattle.run_told.proofs.Holders.{HaveSameFile, closing-file}
+use Rattle.run_told.proofs.Holders.{HaveSameRest, closing-rest}
 use Rattle.run_told.proofs.OnCards.{own-valid, valid-own, valid-or, no-marks, own-holder-still, Rises, rises-run, none-falls, marks-on, brought-card, held-on, valid-on, bound_of as place_on}
 
 pub own-sizes-same : (app : Application) (x y : List ℕ) → HaveSameSizes app x y → own_sizes y ≡ own_sizes x
@@ -162,8 +162,8 @@ module _ (f : Found) (w : Carried) (c : Card) (U X Y : State) (two : f.card_a.nu
           (λ done. number_same a.session.application done.before y (before-keeps done).0 (before-keeps done).1
           ∙ number_still a.session.application (IsBook (closed a.session.application.activity act (book_of a.session.application x))) x done.before done.card) closing
 
-      same-file : HaveSameFile a.session.application x y
-      same-file = closing-file a.session act x y (omega (arith, use_inside a.session.application, long)) closing
+      same-rest : HaveSameRest a.session.application x y
+      same-rest = closing-rest a.session act x y (omega (arith, use_inside a.session.application, long)) closing
 
       is-valid : IsValid a.session.application y
       is-valid = ⊎_elim
@@ -203,7 +203,7 @@ module _ (f : Found) (w : Carried) (c : Card) (U X Y : State) (two : f.card_a.nu
               (omega (arith, minute-low x there, ap (λ (z : Standing). since z (own_view x).newest) on.stands)) h.1,
         ))
         (λ x y is k h. (same-sizes x is y k ∙ h.0, string x is y k))
-        (λ x y is k. own-holder-still a.session.application x y (own x is) (same-sizes x is y k ∙ own x is) (same-number x is y k) (same-file x is y k)) whole one.held;
+        (λ x y is k. own-holder-still a.session.application x y (own x is) (same-sizes x is y k ∙ own x is) (same-number x is y k) (same-rest x is y k)) whole one.held;
     goes = record { has = brought_by c (found_of f c).start w.book; all = append-nil (brought_by c (found_of f c).start w.book); goes = tt };
   }
 

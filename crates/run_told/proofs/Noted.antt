@@ -35,7 +35,7 @@ use Rattle.run_rule.specs.Between.{Carried, devices}
 use Rattle.run_strung.specs.Strung.{IsHeld}
 use Rattle.run_told.specs.Told.{AreFoundCards, IsOn, GoesOwing, owes_nothing, AllGo, IsLitWith, IsPowered, IsPowerless, arranged, with_standing}
 use Rattle.run_told.proofs.Parts.{both_of, as-steps, of-steps, CardLit, off-of, UnitLit, AreParts, MarksLit, parts-of, powered-of, powerless-of, owing-of, brought-on, at-card, at-other}
-use Rattle.run_told.proofs.Holders.{note-file}
+use Rattle.run_told.proofs.Holders.{note-rest}
 use Rattle.run_told.proofs.OnCards.{own-holder-still, own-valid, valid-own, valid-or, no-marks, time-of, Rises, rises-run, none-falls, marks-on, brought-card, bound_of, held-on, valid-on, told-on}
 use Rattle.run_told.proofs.NotedCard.{note-ends, note-number, note-book, note-vehicles, note-session_time, note-goes, note-session}
 
@@ -166,7 +166,7 @@ module _ (f : Found) (w : Carried) (c : Card) (U X Y : State) (two : f.card_a.nu
             (beside_holds (own_sizes (found_of f c).image) (found_of f c).image x n (note-book (own_sizes (found_of f c).image) sound x (sound-at x is).1 n note) (note-vehicles (own_sizes (found_of f c).image) sound x (sound-at x is).1 n note)
             (brought_by c (found_of f c).start w.book) (bound_of (found_of f c) (w.standing c) x) (note-session_time (own_sizes (found_of f c).image) sound x (sound-at x is).1 n note) h.1)),
       ))
-      (λ x n is note. own-holder-still (own_sizes (found_of f c).image) x n (sound-at x is).0 (same-sizes x n is note ∙ (sound-at x is).0) (note-number (own_sizes (found_of f c).image) sound x (sound-at x is).1 n note) (note-file (own_sizes (found_of f c).image) x n note)) whole one.held
+      (λ x n is note. own-holder-still (own_sizes (found_of f c).image) x n (sound-at x is).0 (same-sizes x n is note ∙ (sound-at x is).0) (note-number (own_sizes (found_of f c).image) sound x (sound-at x is).1 n note) (note-rest (own_sizes (found_of f c).image) x n note)) whole one.held
     where
       both : {m n : ℕ} → m ≤ n → n ≤ m → m ≡ n
       both {m} {n} low high = omega (arith, low, high)

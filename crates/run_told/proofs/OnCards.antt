@@ -26,11 +26,11 @@ use Rattle.unit_rule.specs.Rule.{Started}
 use Rattle.unit_rule.specs.Marks.{Holds}
 use Rattle.run_rule.specs.Found.{CardFound, Found, found_of, unit_seen, AnyKept}
 use Rattle.run_rule.specs.Cards.{brought_by, IsCardHeld, CardMarksHold}
-use Rattle.run_strung.specs.Strung.{IsHeld, HasSameHolder}
+use Rattle.run_strung.specs.Strung.{HasSameRest, IsHeld, HasSameHolder}
 use Rattle.run_brought.specs.Stays.{NoMarkFalls}
 use Rattle.run_brought.proofs.Stays.{stays, adds-none}
 use Rattle.run_told.proofs.Parts.{left-one}
-use Rattle.run_told.proofs.Holders.{HaveSameFile}
+use Rattle.run_told.proofs.Holders.{HaveSameRest}
 
 -- ---- validity by the card's own sizes
 
@@ -51,17 +51,25 @@ pub own-number-still : (app : Application) (x n : List ℕ) → own_sizes x ≡ 
 own-number-still app x n is is_then same = number-own app n is_then ∙ same ∙ sym (number-own app x is)
 
 -- and its holder
-pub own-holder-still : (app : Application) (x n : List ℕ) → own_sizes x ≡ app → own_sizes n ≡ app → card_number app n ≡ card_number app x → HaveSameFile app x n → HasSameHolder x n
-own-holder-still app x n is is_then same same_file = record {
+pub own-holder-still : (app : Application) (x n : List ℕ) → own_sizes x ≡ app → own_sizes n ≡ app → card_number app n ≡ card_number app x → HaveSameRest app x n → HasSameHolder x n
+own-holder-still app x n is is_then same alike = record {
   number = own-number-still app x n is is_then same;
-  identification = ap (λ (a : Application). file_bytes a 0x0520 n) is_then ∙ same_file ∙ sym (ap (λ (a : Application). file_bytes a 0x0520 x) is);
+  identification = ap (λ (a : Application). file_bytes a 0x0520 n) is_then ∙ alike.identification ∙ sym (ap (λ (a : Application). file_bytes a 0x0520 x) is);
+  sizes = is_then ∙ sym is;
+  rest = subst (λ (a : Application). HasSameRest a x n) (sym is) alike.rest;
 }
 
 pub same-holder : (start : List ℕ) → HasSameHolder start start
-same-holder start = record { number = refl; identification = refl }
+same-holder start = record { number = refl; identification = refl; sizes = refl; rest = record { front = refl; faults = refl; behind = λ n. refl } }
 
 pub then-holder : (start x n : List ℕ) → HasSameHolder start x → HasSameHolder x n → HasSameHolder start n
-then-holder start x n first next = record { number = next.number ∙ first.number; identification = next.identification ∙ first.identification }
+then-holder start x n first next =
+    let again : HasSameRest (own_sizes start) x n = subst (λ (a : Application). HasSameRest a x n) first.sizes next.rest in record {
+      number = next.number ∙ first.number;
+      identification = next.identification ∙ first.identification;
+      sizes = next.sizes ∙ first.sizes;
+      rest = record { front = again.front ∙ first.rest.front; faults = again.faults ∙ first.rest.faults; behind = λ m. again.behind m ∙ first.rest.behind m };
+    }
 
 pub valid-or : (x : List ℕ) → IsOwnValid x ⊎ (IsOwnValid x → ⊥)
 valid-or x = by (own_bad_file x) refl

@@ -11,12 +11,14 @@ use Rattle.safety_model.specs.Recording.{Recording, history_of, lost_of}
 use Rattle.safety_model.specs.Unit.{UnitSafe, issued_bytes}
 use Rattle.safety_model.specs.Cards.{CardSafe}
 use Rattle.safety_model.specs.Safe.{Devices, card_of, breakdowns_of, IsVerdict, WasFound}
-use Rattle.safety_model.specs.Side.{holder_of, notes_in, IsPrevious, ShowsSide}
+use Rattle.safety_model.specs.Side.{holder_of, notes_in, IsPrevious}
 use Rattle.unit_model.specs.Image.{recorded}
 use Rattle.run_outcome.specs.declared.outcome.Outcome.{Outcome}
 use Rattle.recorder_with_cards.specs.Ends.{recording_of, EndsTrace}
 use Rattle.recorder_with_cards.specs.Still.{KeepsHolder}
+use Rattle.recorder_with_cards.specs.Sessions.{TellsFirst}
 use Rattle.recorder_with_cards.specs.KeptAfter.{TellsKept}
+use Rattle.recorder_with_cards.specs.CardEvents.{ShowsItsEvents}
 
 module _ (x a b : List ℕ) (start : ℕ) (items : List Item) (out : Outcome) (p q now : Devices) (unit : p.unit.clock ≡ q.unit.clock) (cards : (c : Card) → (card_of p c).clock ≡ (card_of q c).clock) (broken : (device : Device) → breakdowns_of p device ≡ breakdowns_of q device) where
   abbrev r : Recording
@@ -25,21 +27,25 @@ module _ (x a b : List ℕ) (start : ℕ) (items : List Item) (out : Outcome) (p
   abbrev Caused : ℕ → (Card → ℕ) → (Device → ℕ) → Type 0
   Caused n k m = HasCauses (λ c u v. IsVerdict r (now.unit.left_since n) ((card_of now c).left_since (k c)) c u v) m (breakdowns_of now) r.trace r.log
 
-  side-by : (y : List ℕ) → ShowsSide r p now y → ShowsSide r q now y
-  side-by y h = record {
-    spans = h.spans;
-    are_spans = h.are_spans;
-    odometer = h.odometer;
-    insertions = λ dense. subst (λ (k : Card → ℕ). RingShows insertion_ring (is_sure_insertion r.log h.spans (holder_of r)) (IsInsertion r.log h.spans (holder_of r) (λ c. IsPrevious r (k c) (card_of now c))) (insertions_of (notes_in r)) r.unit y)
-        (λ i c. cards c i) (h.insertions dense);
-    places = h.places;
-    sessions = h.sessions;
-    are_sessions = λ t f among found accepts. let one = h.are_sessions t f among found accepts in (one.0, subst (λ (n : ℕ). (card_of now f.0.card).left_since n one.0) (cards f.0.card) one.1, one.2);
-    tearing = h.tearing;
-    are_torn = h.are_torn;
-    events = h.events;
-    first_over = h.first_over;
-    over_count = h.over_count;
+  first-by : (y : List ℕ) → TellsFirst r p now y → TellsFirst r q now y
+  first-by y h = record {
+    shows = record {
+      spans = h.shows.spans;
+      are_spans = h.shows.are_spans;
+      odometer = h.shows.odometer;
+      insertions = λ dense.
+          subst (λ (k : Card → ℕ). RingShows insertion_ring (is_sure_insertion r.log h.shows.spans (holder_of r)) (IsInsertion r.log h.shows.spans (holder_of r) (λ c. IsPrevious r (k c) (card_of now c))) (insertions_of (notes_in r)) r.unit y)
+          (λ i c. cards c i) (h.shows.insertions dense);
+      places = h.shows.places;
+      sessions = h.shows.sessions;
+      are_sessions = λ t f among found accepts. let one = h.shows.are_sessions t f among found accepts in (one.0, subst (λ (n : ℕ). (card_of now f.0.card).left_since n one.0) (cards f.0.card) one.1, one.2);
+      tearing = h.shows.tearing;
+      are_torn = h.shows.are_torn;
+      events = h.shows.events;
+      first_over = h.shows.first_over;
+      over_count = h.shows.over_count;
+    };
+    first = h.first;
   }
 
   pub ends-by : EndsTrace x a b start items out p now → EndsTrace x a b start items out q now
@@ -63,10 +69,12 @@ module _ (x a b : List ℕ) (start : ℕ) (items : List Item) (out : Outcome) (p
       odometer = h.ends.odometer;
       whole = h.ends.whole;
     };
-    side = record { shows = λ y left. side-by y (h.side.shows y left) };
+    side = record { shows = λ y left. (first-by y (h.sessions y left)).shows };
     written = h.written;
     stays = h.stays;
     kept = subst (λ (n : ℕ). TellsKept r n now.unit) unit h.kept;
     dense = h.dense;
     holders = λ c. subst (λ (n : ℕ). KeepsHolder r c n (card_of now c)) (cards c) (h.holders c);
+    sessions = λ y left. first-by y (h.sessions y left);
+    cards = λ c. subst (λ (n : ℕ). ShowsItsEvents r c n (card_of now c)) (cards c) (h.cards c);
   }

@@ -21,7 +21,7 @@ use Rattle.safety_model.specs.Recording.{Recording, card_image, told_of, history
 use Rattle.safety_model.specs.Unit.{UnitSafe, UnitMarkHolds}
 use Rattle.safety_model.specs.Cards.{CardSafe, Agree}
 use Rattle.safety_model.specs.Safe.{Devices, card_of, breakdowns_of, IsVerdict, WasFound}
-use Rattle.safety_model.specs.Side.{holder_of, notes_in, IsPrevious, ShowsSide}
+use Rattle.safety_model.specs.Side.{holder_of, notes_in, IsPrevious}
 use Rattle.run_rule.specs.Between.{devices}
 use Rattle.run_recorded.specs.Whole.{IsFull}
 use Rattle.log_model.specs.declared.lines.Break.{Break}
@@ -29,6 +29,8 @@ use Rattle.log_model.specs.declared.lines.Break.TheVariants.{Cut, Tear}
 use Rattle.run_outcome.specs.declared.outcome.Outcome.{Outcome}
 use Rattle.run_acts.specs.Stays.{ShowsStays}
 use Rattle.recorder_with_cards.specs.Ends.{recording_of, EndsTrace}
+use Rattle.recorder_with_cards.specs.Sessions.{TellsFirst}
+use Rattle.recorder_with_cards.specs.CardEvents.{ShowsItsEvents}
 use Rattle.recorder_with_cards.proofs.KeptAfter.{more-found}
 use Rattle.tacho.specs.Anew.{EndsAnew, began_at}
 
@@ -119,21 +121,25 @@ module _ (U V : State) (is : IsRead U V) where
     same-card A = refl
     same-card B = refl
 
-    side-read : (y : List ℕ) → ShowsSide r p (devices U Y Z) y → ShowsSide r p (devices V Y Z) y
-    side-read y h = record {
-      spans = h.spans;
-      are_spans = h.are_spans;
-      odometer = h.odometer;
-      insertions = λ dense. subst (λ (k : Card → State). RingShows insertion_ring (is_sure_insertion r.log h.spans (holder_of r)) (IsInsertion r.log h.spans (holder_of r) (λ c. IsPrevious r (card_of p c).clock (k c))) (insertions_of (notes_in r)) r.unit y)
-          (λ i c. same-card c i) (h.insertions dense);
-      places = h.places;
-      sessions = h.sessions;
-      are_sessions = λ t f among found accepts. let one = h.are_sessions t f among found accepts in (one.0, told-read f.0.card one.0 one.1, one.2);
-      tearing = h.tearing;
-      are_torn = h.are_torn;
-      events = h.events;
-      first_over = h.first_over;
-      over_count = h.over_count;
+    first-read : (y : List ℕ) → TellsFirst r p (devices U Y Z) y → TellsFirst r p (devices V Y Z) y
+    first-read y h = record {
+      shows = record {
+        spans = h.shows.spans;
+        are_spans = h.shows.are_spans;
+        odometer = h.shows.odometer;
+        insertions = λ dense.
+            subst (λ (k : Card → State). RingShows insertion_ring (is_sure_insertion r.log h.shows.spans (holder_of r)) (IsInsertion r.log h.shows.spans (holder_of r) (λ c. IsPrevious r (card_of p c).clock (k c))) (insertions_of (notes_in r)) r.unit y)
+            (λ i c. same-card c i) (h.shows.insertions dense);
+        places = h.shows.places;
+        sessions = h.shows.sessions;
+        are_sessions = λ t f among found accepts. let one = h.shows.are_sessions t f among found accepts in (one.0, told-read f.0.card one.0 one.1, one.2);
+        tearing = h.shows.tearing;
+        are_torn = h.shows.are_torn;
+        events = h.shows.events;
+        first_over = h.shows.first_over;
+        over_count = h.shows.over_count;
+      };
+      first = h.first;
     }
 
     pub ends-read : EndsTrace x a b start items out p (devices U Y Z) → EndsTrace x a b start items out p (devices V Y Z)
@@ -172,12 +178,25 @@ module _ (U V : State) (is : IsRead U V) where
             whole = λ nothing. let w = h.ends.whole nothing in
                 record { decided = w.decided; unit = λ y left. w.unit y (now-back y left); card = λ c u valid accepted y left. full-read c y (λ on. w.card c u valid accepted y on) left };
           };
-          side = record { shows = λ y left. side-read y (h.side.shows y (now-back y left)) };
+          side = record { shows = λ y left. (first-read y (h.sessions y (now-back y left))).shows };
           written = λ c valid y left. h.written c valid y (card-back c y left);
-          stays = λ none c valid. subst (λ (s : State). ShowsStays r.unit (card_image r c) s) (same-card c) (h.stays none c valid);
+          stays = λ none.
+              let s = h.stays none in
+              record {
+                vehicle = s.vehicle;
+                says = s.says;
+                stays = s.stays;
+                told = s.told;
+                owed = s.owed;
+                only = s.only;
+                shows = λ c valid. subst (λ (x : State). ShowsStays s.vehicle (card_image r c) (s.stays c) x) (same-card c) (s.shows c valid);
+                ends = s.ends;
+              };
           kept = more-found (U.left_since p.unit.clock) (V.left_since p.unit.clock) (λ y left. is.leaves.keeps p.unit.clock y before left) r.log (spans_of (told_of r)) h.kept;
           dense = record { insertions = λ dense y left. h.dense.insertions dense y (now-back y left); places = λ dense y left. h.dense.places dense y (now-back y left) };
           holders = λ c valid y left. h.holders c valid y (told-back c y left);
+          sessions = λ y left. first-read y (h.sessions y (now-back y left));
+          cards = λ c. subst (λ (s : State). ShowsItsEvents r c (card_of p c).clock s) (same-card c) (h.cards c);
         }
 
 -- and so it is of what was recorded on new devices

@@ -68,7 +68,7 @@ pub record IsRefusedBy (unit card_a card_b : List ℕ) (start : ℕ) (old new : 
 pub record EndsWithCards (old new : Outside) (outcome : Outcome) (fault : Fault) : Type 0 where
   -- One of its lines is a card's.
   pub with_cards : (start : ℕ) (items : List Item) → IsTold old start items → IsForUnit items → ⊥
-  -- THE RUN of the trace, where it was recorded: the crash-safety theorem of unit and cards, and the auxiliary records that the unit shows.
+  -- THE RUN of the trace, where it was recorded: the crash-safety theorem of unit and cards, the auxiliary records that the unit shows, and the events that the cards show.
   pub run : (start : ℕ) (items : List Item) (unit card_a card_b : List ℕ) → StartWith unit card_a card_b start items old new → IsRun fault
       → EndsTrace unit card_a card_b start items outcome (devices_of old) (devices_of new)
   -- Each refusal has its cause; the devices are as they were, and there is no outcome.

@@ -25,6 +25,8 @@ use Rattle.run_acts.specs.RunRinged.{RunRinged, InSecondRinged}
 use Rattle.recorder_with_cards.proofs.SecondsRinged.{dark-ringed}
 use Rattle.run_keeping.proofs.Later.{later-then}
 use Rattle.run_outcome.proofs.Broken.{broke-then}
+use Rattle.recorder_with_cards.specs.Carded.{RunCarded, InSecondCarded}
+use Rattle.recorder_with_cards.proofs.SecondsCards.{turned-carded, dark-carded}
 use Rattle.recorder_with_cards.proofs.driving.drive.Goals as goal
 
 pub begin_second-requires-clause-room : goal.begin_second-requires-clause-room
@@ -197,6 +199,71 @@ pub returns-in_err-has_power-clause-ringed : goal.returns-in_err-has_power-claus
 returns-in_err-has_power-clause-ringed g c = λ many few o done r time.
     let s : TraceSecond = record { number = c.args.run.now.next; has_power = true; speed = c.args.speed; actions = actions_in (between c.args.from c.args.to c.args.items.now) } in
     absurd (c.in_err-has_power.ensures.ringed o done s (record { number = refl; given = refl; speed_is = refl }) r time)
+
+-- ---- and the events on the cards
+
+pub returns-clause-cards : goal.returns-clause-cards
+returns-clause-cards g c = λ many few.
+    let number : c.number_of-begun.result ≡ c.args.to - c.args.from = let n = c.number_of-begun.ensures in omega (arith, n, few) in
+    let whole : c.args.to - c.args.from ≡ 0 + length (actions_in (between c.args.from c.args.to c.args.items.now)) = omega (arith, many) in
+    let minute : c.args.run.now.next % 60 + 1 ≤ 60 = omega arith in
+    let one : 0 < 1 = omega arith in
+    let low = c.requires.going.low in
+    let positive : 0 < c.args.run.now.next = omega (arith, low) in
+    λ o done r time.
+    let old = c.args.run.now in
+    let out = c.args.outcome.now in
+    let acts : List Action = actions_in (between c.args.from c.args.to c.args.items.now) in
+    let s : TraceSecond = record { number = old.next; has_power = true; speed = c.args.speed; actions = acts } in
+    let d0 : Devices = devices (g.M.Medium.state c.args.unit.now) (g.C.Chip.state c.args.card_a.now) (g.D.Chip.state c.args.card_b.now) in
+    let d1 : Devices = devices (g.M.Medium.state c.begin_second.new.unit) (g.C.Chip.state c.begin_second.new.card_a) (g.D.Chip.state c.begin_second.new.card_b) in
+    let d2 : Devices = devices (g.M.Medium.state c.act_all.new.unit) (g.C.Chip.state c.act_all.new.card_a) (g.D.Chip.state c.act_all.new.card_b) in
+    let d3 : Devices = devices (g.M.Medium.state c.turn.new.unit) (g.C.Chip.state c.turn.new.card_a) (g.D.Chip.state c.turn.new.card_b) in
+    let r1 : Run = c.begin_second.new.run in
+    let r2 : Run = c.act_all.new.run in
+    let r3 : Run = c.turn.new.run in
+    let p1 : Outcome = c.begin_second.new.outcome in
+    let p2 : Outcome = c.act_all.new.outcome in
+    let p3 : Outcome = c.turn.new.outcome in
+    let begun_next : r1.next ≡ old.next = c.in_ok-has_power.ensures.next in
+    let acted_next : r2.next ≡ r1.next = c.act_all.ensures.next in
+    let time3 = c.drive_on.ensures.time time in
+    let time2 = time-before d2 d3 c.turn.ensures.clock c.turn.ensures.clock_a c.turn.ensures.clock_b time3 in
+    let time1 = c.act_all.ensures.time time2 in
+    let begun = c.in_ok-has_power.ensures.cards o done s (record { number = refl; given = refl; speed_is = refl }) r time1 in
+    let behind : RunCarded o (done ++ driven 1 old.next c.args.speed acts) r3 p3 d3 =
+    by-power RunCarded InSecondCarded c.in_ok-has_power.has_power o done s r1 p1 d1 begun
+    (λ lit in_.
+    let now1 : IsNow s c.args.speed r1 = record { number = sym begun_next; given = refl; speed_is = refl } in
+    let acted = c.act_all.ensures.cards lit many few o done s now1 [] [] (sym (append-nil acts)) whole in_ time2 in
+    let now2 : IsNow s c.args.speed r2 = record { number = sym begun_next ∙ sym acted_next; given = refl; speed_is = refl } in
+    turned-carded o done s 1 c.args.speed c.number_of-begun.result r2 r3 p2 p3 d2 d3 (many ∙ sym number) positive (subst (λ (n : ℕ). InSecondCarded o done s n r2 p2 d2) (sym number) acted) c.turn.ensures.turned
+    (λ x. c.turn.ensures.ringed o done s now2 (many ∙ sym number) (λ more. absurd (omega (arith, more))) x time3)
+    (λ x. c.turn.ensures.cards o done s now2 (many ∙ sym number) (λ more. absurd (omega (arith, more))) x time3))
+    (λ away was.
+    let kept = c.in_ok-has_power.ensures.dark away in
+    let none : has_power old.power old.next ≡ false = sym c.in_ok-has_power.ensures.power ∙ away in
+    let dark_old : is_lit old.power ≡ false = away-dark old.power old.next none in
+    let dark1 : is_lit r1.power ≡ false = ap (λ (x : Run). is_lit x.power) kept.0 ∙ dark_old in
+    let still = c.act_all.ensures.still dark1 in
+    let acted = acted-dark c.args.speed 0 (between c.args.from c.args.to c.args.items.now) r1 r2 p1 p2 (subst (λ (b : Bool). AreActed b c.args.speed 0 (between c.args.from c.args.to c.args.items.now) r1 r2 p1 p2) away c.act_all.ensures.acted) in
+    let turned = c.turn.ensures.turned in
+    let turn_still = c.turn.ensures.dark still.0 in
+    let passes = passes-dark r2 r3 p2 p3 1 c.args.speed c.number_of-begun.result still.0 turned in
+    let is : r3 ≡ passed 1 c.number_of-begun.result old = passes.0 ∙ ap (passed 1 c.number_of-begun.result) (acted.0 ∙ kept.0) in
+    let told : p3 ≡ record out { refused = with_lines (refused_dark old.next acts) out.refused } = passes.1 ∙ acted.1 ∙ ap (λ (x : Outcome). record x { refused = with_lines (refused_dark r1.next acts) x.refused }) kept.1 ∙ ap (λ (n : ℕ). record out { refused = with_lines (refused_dark n acts) out.refused }) begun_next in
+    subst (λ (x : State). RunCarded o (done ++ driven 1 old.next c.args.speed acts) r3 p3 (devices x (g.C.Chip.state c.turn.new.card_a) (g.D.Chip.state c.turn.new.card_b))) (sym (ap g.M.Medium.state (turn_still.0 ∙ still.1 ∙ kept.2)))
+    (subst (λ (x : State). RunCarded o (done ++ driven 1 old.next c.args.speed acts) r3 p3 (devices (g.M.Medium.state c.args.unit.now) x (g.D.Chip.state c.turn.new.card_b))) (sym (ap g.C.Chip.state (turn_still.1 ∙ still.2 ∙ kept.3)))
+    (subst (λ (x : State). RunCarded o (done ++ driven 1 old.next c.args.speed acts) r3 p3 (devices (g.M.Medium.state c.args.unit.now) (g.C.Chip.state c.args.card_a.now) x)) (sym (ap g.D.Chip.state (turn_still.2 ∙ still.3 ∙ kept.4)))
+    (dark-carded o done old out d0 r c.requires.going.low 1 c.args.speed c.number_of-begun.result acts one none minute r3 p3 is told)))) in
+    let later : r3.next ≡ old.next + 1 = c.turn.ensures.next ∙ ap (λ (n : ℕ). n + 1) (acted_next ∙ begun_next) in
+    run-then RunCarded c.drive_on.result o done c.args.seconds old.next r3.next c.args.speed acts c.drive_on.new.run c.drive_on.new.outcome (devices (g.M.Medium.state c.drive_on.new.unit) (g.C.Chip.state c.drive_on.new.card_a) (g.D.Chip.state c.drive_on.new.card_b)) c.requires.some later
+    (c.drive_on.ensures.cards o (done ++ driven 1 old.next c.args.speed acts) (done, s, refl, refl) behind time)
+
+pub returns-in_err-has_power-clause-cards : goal.returns-in_err-has_power-clause-cards
+returns-in_err-has_power-clause-cards g c = λ many few o done r time.
+    let s : TraceSecond = record { number = c.args.run.now.next; has_power = true; speed = c.args.speed; actions = actions_in (between c.args.from c.args.to c.args.items.now) } in
+    absurd (c.in_err-has_power.ensures.cards o done s (record { number = refl; given = refl; speed_is = refl }) r time)
 
 -- ---- how often the unit broke down
 

@@ -9,6 +9,7 @@ use Rattle.run_acts.specs.Room.{cuts_from, HasRoom}
 use Rattle.recorder_with_cards.proofs.Rooms.{room-less}
 use Rattle.run_acts.specs.Evented.{LastAt}
 use Rattle.run_acts.specs.RunRinged.{RunRinged}
+use Rattle.recorder_with_cards.specs.Carded.{RunCarded}
 use Rattle.recorder_with_cards.proofs.SecondsEvented.{last-more}
 use Rattle.run_keeping.proofs.Later.{later-same, later-then}
 use Rattle.run_outcome.proofs.Broken.{broke-none, broke-then}
@@ -25,6 +26,10 @@ loop-left-init g c = record {
       let d : Devices = devices (g.M.Medium.state c.args.unit.now) (g.C.Chip.state c.args.card_a.now) (g.D.Chip.state c.args.card_b.now) in
       subst (λ (n : ℕ). LastAt (done ++ driven n c.args.run.now.next c.args.speed []) c.args.speed × RunRinged o (done ++ driven n c.args.run.now.next c.args.speed []) c.args.run.now c.args.outcome.now d) (let e : 0 ≡ c.args.seconds - c.args.seconds = omega arith in e)
       (subst (λ (ss : List TraceSecond). LastAt ss c.args.speed × RunRinged o ss c.args.run.now c.args.outcome.now d) (sym (append-nil done)) (last, r));
+  cards = λ o done last r time.
+      let d : Devices = devices (g.M.Medium.state c.args.unit.now) (g.C.Chip.state c.args.card_a.now) (g.D.Chip.state c.args.card_b.now) in
+      subst (λ (n : ℕ). LastAt (done ++ driven n c.args.run.now.next c.args.speed []) c.args.speed × RunCarded o (done ++ driven n c.args.run.now.next c.args.speed []) c.args.run.now c.args.outcome.now d) (let e : 0 ≡ c.args.seconds - c.args.seconds = omega arith in e)
+      (subst (λ (ss : List TraceSecond). LastAt ss c.args.speed × RunCarded o ss c.args.run.now c.args.outcome.now d) (sym (append-nil done)) (last, r));
   time = λ h. h;
   later = later-same (devices (g.M.Medium.state c.args.unit.now) (g.C.Chip.state c.args.card_a.now) (g.D.Chip.state c.args.card_b.now));
   broke = broke-none c.args.outcome.now.breaks.items {old = (g.M.Medium.state c.args.unit.now)} {new = (g.M.Medium.state c.args.unit.now)} (omega arith);
@@ -65,6 +70,18 @@ loop-left-preserved g c =
           ∙ ap (λ (ss : List TraceSecond). done ++ ss) (ap (λ (m : ℕ). driven so c.args.run.now.next c.args.speed [] ++ driven n m c.args.speed []) here ∙ sym (plain-parts so n c.args.run.now.next c.args.speed)
           ∙ ap (λ (m : ℕ). driven m c.args.run.now.next c.args.speed []) (let e : so + n ≡ c.args.seconds - (left - n) = omega (arith, few, most) in e)))
           (last-more n c.loop-left.run.next c.args.speed (done ++ driven so c.args.run.now.next c.args.speed []) was.0, c.in_ok-step.ensures.ringed o (done ++ driven so c.args.run.now.next c.args.speed []) was.0 was.1 time);
+      cards = λ o done last r time.
+          let so : ℕ = c.args.seconds - left in
+          let was = v.cards o done last r (c.in_ok-step.ensures.time time) in
+          let few = v.few in
+          let start = v.next in
+          let here : c.loop-left.run.next ≡ c.args.run.now.next + so = omega (arith, start, few) in
+          let e : Devices = devices (g.M.Medium.state c.step.new.unit) (g.C.Chip.state c.step.new.card_a) (g.D.Chip.state c.step.new.card_b) in
+          subst (λ (ss : List TraceSecond). LastAt ss c.args.speed × RunCarded o ss c.step.new.run c.step.new.outcome e)
+          (append_assoc done (driven so c.args.run.now.next c.args.speed []) (driven n c.loop-left.run.next c.args.speed [])
+          ∙ ap (λ (ss : List TraceSecond). done ++ ss) (ap (λ (m : ℕ). driven so c.args.run.now.next c.args.speed [] ++ driven n m c.args.speed []) here ∙ sym (plain-parts so n c.args.run.now.next c.args.speed)
+          ∙ ap (λ (m : ℕ). driven m c.args.run.now.next c.args.speed []) (let e : so + n ≡ c.args.seconds - (left - n) = omega (arith, few, most) in e)))
+          (last-more n c.loop-left.run.next c.args.speed (done ++ driven so c.args.run.now.next c.args.speed []) was.0, c.in_ok-step.ensures.cards o (done ++ driven so c.args.run.now.next c.args.speed []) was.0 was.1 time);
       time = λ h. v.time (c.in_ok-step.ensures.time h);
       later = later-then (devices (g.M.Medium.state c.args.unit.now) (g.C.Chip.state c.args.card_a.now) (g.D.Chip.state c.args.card_b.now)) (devices (g.M.Medium.state c.loop-left.unit) (g.C.Chip.state c.loop-left.card_a) (g.D.Chip.state c.loop-left.card_b)) (devices (g.M.Medium.state c.step.new.unit) (g.C.Chip.state c.step.new.card_a) (g.D.Chip.state c.step.new.card_b)) v.later c.in_ok-step.ensures.later;
       broke = broke-then c.loop-left.invariant.broke c.in_ok-step.ensures.broke;
@@ -120,6 +137,19 @@ pub returns-in_err-step-clause-ringed : goal.returns-in_err-step-clause-ringed
 returns-in_err-step-clause-ringed g c = λ o done last r time.
     let was = c.loop-left.invariant.ringed o done last r (c.in_err-step.ensures.time time) in
     absurd (c.in_err-step.ensures.ringed o (done ++ driven (c.args.seconds - c.loop-left.left) c.args.run.now.next c.args.speed []) was.0 was.1 time)
+
+-- ---- and the events on the cards
+
+pub returns-clause-cards : goal.returns-clause-cards
+returns-clause-cards g c = λ o done last r time.
+    let none = c.loop-left-test.false in
+    subst (λ (n : ℕ). RunCarded o (done ++ driven n c.args.run.now.next c.args.speed []) c.loop-left.run c.loop-left.outcome (devices (g.M.Medium.state c.loop-left.unit) (g.C.Chip.state c.loop-left.card_a) (g.D.Chip.state c.loop-left.card_b))) (let e : c.args.seconds - c.loop-left.left ≡ c.args.seconds = omega (arith, none) in e)
+    ((c.loop-left.invariant.cards o done last r time).1)
+
+pub returns-in_err-step-clause-cards : goal.returns-in_err-step-clause-cards
+returns-in_err-step-clause-cards g c = λ o done last r time.
+    let was = c.loop-left.invariant.cards o done last r (c.in_err-step.ensures.time time) in
+    absurd (c.in_err-step.ensures.cards o (done ++ driven (c.args.seconds - c.loop-left.left) c.args.run.now.next c.args.speed []) was.0 was.1 time)
 
 -- ---- how often the unit broke down
 

@@ -15,6 +15,10 @@ use Rattle.run_keeping.proofs.Later.{later-same}
 use Rattle.run_outcome.proofs.Broken.{broke-none}
 use Rattle.run_acts.specs.RunRinged.{InSecondRingedBy, InSecondRinged}
 use Rattle.recorder_with_cards.proofs.BegunRinged.{lit-ringed}
+use Rattle.safety_model.specs.Safe.{Devices}
+use Rattle.recorder_with_cards.proofs.RingsHeld.{ringed-lit}
+use Rattle.recorder_with_cards.proofs.CardsHeld.{in-carded_lit}
+use Rattle.recorder_with_cards.proofs.SecondsCards.{over-lit, over-vehicle, begins-cards}
 use Rattle.recorder_with_cards.proofs.resuming.begin_second.Goals as goal
 
 away-dark : (p : Power) (next : ℕ) → has_power p next ≡ false → is_lit p ≡ false
@@ -153,3 +157,38 @@ returns-clause-ringed g c = λ o done s now rec time.
     let dark : is_lit run.power ≡ false = sym c.is_lit.ensures ∙ c.if-is_lit.false in
     let has : has_power run.power run.next ≡ true = sym c.has_power.ensures ∙ c.if-not-has_power.false in
     c.in_ok-power_on.ensures.ringed (marks-due run c.args.outcome.now dark has c.requires.room) o done s now rec has time
+
+-- ---- and the events on the cards
+
+pub returns-then-not-has_power-clause-cards : goal.returns-then-not-has_power-clause-cards
+returns-then-not-has_power-clause-cards g c = λ o done s now rec time. rec
+
+pub returns-then-is_lit-clause-cards : goal.returns-then-is_lit-clause-cards
+returns-then-is_lit-clause-cards g c = λ o done s now rec time.
+    let run = c.args.run.now in
+    let out = c.args.outcome.now in
+    let d : Devices = devices (g.M.Medium.state c.args.unit.now) (g.C.Chip.state c.args.card_a.now) (g.D.Chip.state c.args.card_b.now) in
+    let yes : is_lit run.power ≡ true = sym c.is_lit.ensures ∙ c.if-is_lit.true in
+    let lit : run.power ≡ Lit = lit-is run.power yes in
+    let new : Run = c.end_minute.new.self in
+    let still : is_lit new.power ≡ true = ap (λ (r : Run). is_lit r.power) c.end_minute.ensures.run ∙ over-lit (run.next % 60 == 0) run ∙ yes in
+    let w = ringed-lit o done s new out d 0 still (returns-then-is_lit-clause-ringed g c o done s now rec.ringed time) in
+    in-carded_lit o done s new out d 0 (record {
+      ringed = w;
+      vehicle = ap (λ (r : Run). r.keeper.memory.registration) c.end_minute.ensures.run ∙ over-vehicle (run.next % 60 == 0) run ∙ rec.vehicle;
+      cards = begins-cards o done run out d rec lit s;
+    })
+
+pub returns-in_err-power_on-clause-cards : goal.returns-in_err-power_on-clause-cards
+returns-in_err-power_on-clause-cards g c = λ o done s now rec time.
+    let run = c.args.run.now in
+    let dark : is_lit run.power ≡ false = sym c.is_lit.ensures ∙ c.if-is_lit.false in
+    let has : has_power run.power run.next ≡ true = sym c.has_power.ensures ∙ c.if-not-has_power.false in
+    absurd (c.in_err-power_on.ensures.cards (marks-due run c.args.outcome.now dark has c.requires.room) o done s now rec has time)
+
+pub returns-clause-cards : goal.returns-clause-cards
+returns-clause-cards g c = λ o done s now rec time.
+    let run = c.args.run.now in
+    let dark : is_lit run.power ≡ false = sym c.is_lit.ensures ∙ c.if-is_lit.false in
+    let has : has_power run.power run.next ≡ true = sym c.has_power.ensures ∙ c.if-not-has_power.false in
+    c.in_ok-power_on.ensures.cards (marks-due run c.args.outcome.now dark has c.requires.room) o done s now rec has time

@@ -1,4 +1,4 @@
-use Rattle.std.proofs.Common.{rules, ◌≡◌, ◌∙◌, ℕ, ◌+◌, ◌*◌, ◌/◌, ◌<◌, ◌≤◌, Bool, true, false, List, [], length, refl, ap, sym, subst, arith}
+use Rattle.std.proofs.Common.{rules, ◌≡◌, ◌∙◌, ℕ, ◌+◌, ◌*◌, ◌/◌, ◌<◌, ◌≤◌, Bool, true, false, List, [], ◌∷◌, ◌++◌, length, refl, ap, sym, subst, arith}
 use Rattle.std.specs.Prelude.{is_err, IfErr}
 use Rattle.std.proofs.lemmas.Grind.{common_steps}
 use Rattle.tach_media.specs.Medium.{State}
@@ -24,7 +24,8 @@ use Rattle.run_acts.specs.declared.run.Power.TheVariants.{Lit}
 use Rattle.run_acts.specs.Power.{is_lit}
 use Rattle.run_acts.specs.Room.{bare_seats}
 use Rattle.run_acts.specs.Recording.{log_of, values_of, InSecondBy, GoesOnOrCut}
-use Rattle.run_acts.specs.RunRinged.{seats_of}
+use Rattle.run_acts.specs.RunRinged.{seats_of, with_cut}
+use Rattle.run_acts.specs.RunCards.{CardsBehind, CardsIn}
 use Rattle.recorder_with_cards.proofs.ActsRecorded.{cut-in, cut}
 use Rattle.recorder_with_cards.proofs.ActsEvented.{in-evented_cut, in-evented_lit}
 use Rattle.recorder_with_cards.specs.Woken.{EventsWoken, RingsWoken}
@@ -38,6 +39,13 @@ use Rattle.run_keeping.proofs.Later.{later-same}
 use Rattle.run_outcome.proofs.Broken.{broke-found, broke-then}
 use Rattle.run_acts.proofs.Uncut.{uncut-broke, cut-broke}
 use Rattle.run_acts.proofs.AllStay.{all-of}
+use Rattle.run_course.specs.Moments.{and_break}
+use Rattle.run_outcome.specs.declared.outcome.Outcome.{Outcome}
+use Rattle.recorder_with_cards.specs.CardsWoken.{CardsWoken}
+use Rattle.recorder_with_cards.proofs.RingsHeld.{ringed-cut, ringed-lit}
+use Rattle.recorder_with_cards.proofs.CardsHeld.{in-carded_cut, in-carded_lit}
+use Rattle.recorder_with_cards.proofs.ActsCards.{cards-on}
+use Rattle.recorder_with_cards.proofs.WakesCards.{learned-cards}
 use Rattle.recorder_with_cards.proofs.resuming.found.Goals as goal
 
 pub cut-requires-clause-room : goal.cut-requires-clause-room
@@ -272,6 +280,97 @@ returns-clause-ringed g c = λ room o done s now all has time.
     let well : is_err c.resume.result ≡ false = sym c.is_err.ensures.value ∙ c.if-is_err.false in
     lit-woken o done s mid c.resume.new.outcome e began all.spans (subst (λ (f : Bool). EventsWoken f began o done s mid c.resume.new.outcome e) well woken)
     (subst (λ (f : Bool). RingsWoken f began o done s all.spans mid (log_of c.resume.new.outcome) e) well rungs)
+
+-- ---- AND THE EVENTS ON THE CARDS
+
+pub returns-in_err-judge_clock-clause-cards : goal.returns-in_err-judge_clock-clause-cards
+returns-in_err-judge_clock-clause-cards g c = λ room o done s now all has time.
+    let run = c.args.run.now in
+    let out = c.args.outcome.now in
+    let rec = all.ringed.evented.recorded in
+    let U : State = g.M.Medium.state c.args.unit.now in
+    let X : State = g.C.Chip.state c.args.card_a.now in
+    let Y : State = g.D.Chip.state c.args.card_b.now in
+    let may = may-of run.power rec.supply run.next rec.powers c.requires.dark has in
+    let image = image-of U.image (unit-tells o done rec.supply (values_of run out) (devices U X Y) rec.recorded may) in
+    let early = kept-early o done rec.supply (values_of run out) (devices U X Y) rec.recorded may image.0 ((g.met.M.Medium.coherent c.args.unit.now).is_left image.0 image.1) in
+    let is = (at-image (IsFoundBy c.args.journal) U.image image.0 image.1 c.requires.loaded.found).kept in
+    let kept = c.last_kept-kept.ensures.kept in
+    let next = ap (λ (r : Run). r.next) c.learn.ensures.run in
+    let back = c.in_err-judge_clock.ensures.back.1 in
+    absurd (omega (arith, early, is, kept, next, back))
+
+pub returns-then-is_err-clause-cards : goal.returns-then-is_err-clause-cards
+returns-then-is_err-clause-cards g c = λ room o done s now all has time.
+    let run = c.args.run.now in
+    let out = c.args.outcome.now in
+    let rec = all.ringed.evented.recorded in
+    let U : State = g.M.Medium.state c.args.unit.now in
+    let X : State = g.C.Chip.state c.args.card_a.now in
+    let Y : State = g.D.Chip.state c.args.card_b.now in
+    let may = may-of run.power rec.supply run.next rec.powers c.requires.dark has in
+    let mid : Run = c.resume.new.run in
+    let e : Devices = devices (g.M.Medium.state c.resume.new.unit) (g.C.Chip.state c.resume.new.card_a) (g.D.Chip.state c.resume.new.card_b) in
+    let kept = c.last_kept-kept.ensures.kept in
+    let values = learned run c.learn.new.self out c.learn.new.breaks c.last_kept-kept.result c.learn.ensures.run c.learn.ensures.breaks c.learn.ensures.same ∙ ap (λ (k : ℕ). read_values k (values_of run out)) kept in
+    let stay = all-of o (log_of out) run.keeper.memory.registration c.learn.new.self.keeper.memory.registration run.keeper.cabin.cards (devices U X Y) (ap (λ (r : Run). r.keeper.memory.registration) c.learn.ensures.run) rec.stay in
+    let same = ap (λ (r : Run). bare_seats r.keeper.cabin.slots.seats) c.learn.ensures.run in
+    let next : mid.next ≡ run.next = c.resume.ensures.next ∙ ap (λ (r : Run). r.next) c.learn.ensures.run in
+    let limit = ap (λ (r : Run). r.keeper.memory.limit) c.learn.ensures.run ∙ all.ringed.evented.limit in
+    let began : RunLog = log_of (record out { breaks = c.learn.new.breaks }) in
+    let log : began ≡ found_log run.unfound c.last_kept-kept.result (log_of out) = ap (λ (l : Listed Break). log_of (record out { breaks = l })) c.learn.ensures.breaks in
+    let vehicle = ap (λ (r : Run). r.keeper.memory.registration) c.learn.ensures.run ∙ all.vehicle in
+    let shown : CardsBehind o done began (devices U X Y) = subst (λ (l : RunLog). CardsBehind o done l (devices U X Y)) (sym log)
+    (learned-cards o done (log_of out) run.unfound c.last_kept-kept.result (devices U X Y) rec.recorded.recorded.followed.order all.ringed.evented.evented.gaps.known all.cards) in
+    let cards = c.resume.ensures.cards (omega (arith, room, same)) o rec.origin done s rec.supply (values_of run out) rec.recorded stay may now.number now.given now.speed_is values all.ringed.evented.evented limit vehicle shown time in
+    let failed : is_err c.resume.result ≡ true = sym c.is_err.ensures.value ∙ c.if-is_err.true in
+    let told = ap (λ (l : Listed Break). record c.resume.new.outcome { breaks = l }) c.cut.ensures.breaks in
+    let after : Outcome = record c.resume.new.outcome { breaks = c.cut.new.breaks } in
+    let done_ = subst (λ (f : Bool). CardsWoken f began o done s mid (log_of c.resume.new.outcome) e) failed cards in
+    let is_log : with_cut (log_of c.resume.new.outcome) s [] ≡ log_of after = ap (λ (u : ℕ). and_break (log_of c.resume.new.outcome) (cut_at u true 0)) (now.number ∙ sym next) ∙ sym (ap log_of told) in
+    let r = returns-then-is_err-clause-ringed g c room o done s now all.ringed has time in
+    in-carded_cut o done s c.cut.new.self after e 0 (record {
+      ringed = ringed-cut o done s c.cut.new.self after e 0 (ap (λ (q : Run). is_lit q.power) c.cut.ensures.run) r;
+      vehicle = ap (λ (q : Run). q.keeper.memory.registration) c.cut.ensures.run ∙ done_.0;
+      cards = subst (λ (l : RunLog). CardsBehind o (done ++ s ∷ []) l e) is_log done_.1;
+    })
+
+pub returns-clause-cards : goal.returns-clause-cards
+returns-clause-cards g c = λ room o done s now all has time.
+    let run = c.args.run.now in
+    let out = c.args.outcome.now in
+    let rec = all.ringed.evented.recorded in
+    let U : State = g.M.Medium.state c.args.unit.now in
+    let X : State = g.C.Chip.state c.args.card_a.now in
+    let Y : State = g.D.Chip.state c.args.card_b.now in
+    let may = may-of run.power rec.supply run.next rec.powers c.requires.dark has in
+    let mid : Run = c.resume.new.run in
+    let e : Devices = devices (g.M.Medium.state c.resume.new.unit) (g.C.Chip.state c.resume.new.card_a) (g.D.Chip.state c.resume.new.card_b) in
+    let kept = c.last_kept-kept.ensures.kept in
+    let values = learned run c.learn.new.self out c.learn.new.breaks c.last_kept-kept.result c.learn.ensures.run c.learn.ensures.breaks c.learn.ensures.same ∙ ap (λ (k : ℕ). read_values k (values_of run out)) kept in
+    let stay = all-of o (log_of out) run.keeper.memory.registration c.learn.new.self.keeper.memory.registration run.keeper.cabin.cards (devices U X Y) (ap (λ (r : Run). r.keeper.memory.registration) c.learn.ensures.run) rec.stay in
+    let same = ap (λ (r : Run). bare_seats r.keeper.cabin.slots.seats) c.learn.ensures.run in
+    let next : mid.next ≡ run.next = c.resume.ensures.next ∙ ap (λ (r : Run). r.next) c.learn.ensures.run in
+    let limit = ap (λ (r : Run). r.keeper.memory.limit) c.learn.ensures.run ∙ all.ringed.evented.limit in
+    let woken = c.resume.ensures.evented (omega (arith, room, same)) o rec.origin done s rec.supply (values_of run out) rec.recorded stay may now.number now.given now.speed_is values all.ringed.evented.evented limit time in
+    let began : RunLog = log_of (record out { breaks = c.learn.new.breaks }) in
+    let log : began ≡ found_log run.unfound c.last_kept-kept.result (log_of out) = ap (λ (l : Listed Break). log_of (record out { breaks = l })) c.learn.ensures.breaks in
+    let vehicle = ap (λ (r : Run). r.keeper.memory.registration) c.learn.ensures.run ∙ all.vehicle in
+    let shown : CardsBehind o done began (devices U X Y) = subst (λ (l : RunLog). CardsBehind o done l (devices U X Y)) (sym log)
+    (learned-cards o done (log_of out) run.unfound c.last_kept-kept.result (devices U X Y) rec.recorded.recorded.followed.order all.ringed.evented.evented.gaps.known all.cards) in
+    let cards = c.resume.ensures.cards (omega (arith, room, same)) o rec.origin done s rec.supply (values_of run out) rec.recorded stay may now.number now.given now.speed_is values all.ringed.evented.evented limit vehicle shown time in
+    let well : is_err c.resume.result ≡ false = sym c.is_err.ensures.value ∙ c.if-is_err.false in
+    let on = subst (λ (f : Bool). EventsWoken f began o done s mid c.resume.new.outcome e) well woken in
+    let low = c.requires.going.low in
+    let number = now.number in
+    let positive : 0 < s.number = omega (arith, low, number) in
+    let goes = subst (λ (f : Bool). CardsWoken f began o done s mid (log_of c.resume.new.outcome) e) well cards in
+    let r = returns-clause-ringed g c room o done s now all.ringed has time in
+    in-carded_lit o done s mid c.resume.new.outcome e 0 (record {
+      ringed = ringed-lit o done s mid c.resume.new.outcome e 0 (ap is_lit on.0.within.lit) r;
+      vehicle = goes.0;
+      cards = cards-on o done s 0 mid c.resume.new.outcome e [] s.actions on.0.within.within.b refl refl positive (record { goes = on.0.within; began = refl }) (subst (λ (l : RunLog). CardsIn o done s l [] (log_of c.resume.new.outcome) e) (sym on.1) goes.1);
+    })
 
 -- ---- what is noted
 

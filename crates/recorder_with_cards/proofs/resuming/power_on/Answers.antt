@@ -1,10 +1,13 @@
-use Rattle.std.proofs.Common.{◌≡◌, ◌∙◌, inl, inr, ℕ, ◌/◌, ◌≤◌, Bool, true, false, Option, Some, List, [], refl, ap, sym, subst, arith}
+use Rattle.std.proofs.Common.{◌≡◌, ◌∙◌, inl, inr, ℕ, ◌/◌, ◌<◌, ◌≤◌, Bool, true, false, Option, Some, List, [], ◌∷◌, ◌++◌, refl, ap, sym, subst, arith}
 use Rattle.tach_media.specs.Medium.{State}
 use Rattle.log_model.specs.declared.lines.Break.{Break}
 use Rattle.unit_model.specs.Decoding.{first_bad_place}
 use Rattle.safety_model.specs.Safe.{Devices, breakdowns_of}
 use Rattle.run_rule.specs.Between.{devices}
-use Rattle.run_outcome.specs.Lines.{Listed}
+use Rattle.run_outcome.specs.Lines.{Listed, cut_at}
+use Rattle.run_outcome.specs.declared.outcome.Outcome.{Outcome}
+use Rattle.log_model.specs.Log.{RunLog}
+use Rattle.run_course.specs.Moments.{and_break}
 use Rattle.run_within.proofs.Calls.{not-read}
 use Rattle.run_within.proofs.Reading.{reading-fails}
 use Rattle.run_acts.specs.Power.{is_lit, cut_run}
@@ -24,6 +27,7 @@ use Rattle.recorder_with_cards.proofs.WokenStored.{unread-stored}
 use Rattle.run_ringed.specs.Steps.{spans_cut}
 use Rattle.run_ringed.proofs.Waking.{behind-stays}
 use Rattle.run_acts.specs.RunRinged.{seats_of, with_cut}
+use Rattle.run_acts.specs.RunCards.{CardsBehind}
 use Rattle.recorder_with_cards.proofs.WokenRinged.{read-leaves, comes-of, unpowered-ringed, cut-ringed}
 use Rattle.recorder_with_cards.proofs.CutOff.{cut-as}
 use Rattle.recorder_with_cards.proofs.Read.{may-of, read-on, left-on, unit-tells, unit-decodes, not-bad, image-of, at-image}
@@ -35,6 +39,9 @@ use Rattle.recorder_with_cards.proofs.WakeNoted.{read-says, read-noted, read-the
 use Rattle.run_keeping.proofs.Later.{state-revived, later-then, later-of-unit}
 use Rattle.run_acts.proofs.AllStay.{all-unit}
 use Rattle.run_outcome.proofs.Broken.{broke-none, broke-once, broke-then}
+use Rattle.recorder_with_cards.proofs.RingsHeld.{ringed-cut}
+use Rattle.recorder_with_cards.proofs.CardsHeld.{in-carded_cut}
+use Rattle.recorder_with_cards.proofs.WakesCards.{unit-alone, unpowered-cards}
 use Rattle.recorder_with_cards.proofs.resuming.power_on.Goals as goal
 
 pub returns-in-Err-Failed-clause-going : goal.returns-in-Err-Failed-clause-going
@@ -260,6 +267,93 @@ returns-in-Err-Failed-clause-ringed g c = λ room o done s now all has time.
     let rung = unpowered-ringed o done s progressed rec.recorded.recorded.followed comes now.number now.given e all.spans (seats_of run)
     (subst (λ (m : ℕ). RingedBehind o done (log_of out) m all.spans (seats_of run) e) (sym now.number) behind) base in
     cut-ringed o done s run c.cut.new.self out (record out { breaks = c.cut.new.breaks }) e (log_of out) all.spans (spans_cut all.spans base (with_cut (log_of out) s []) done s, all.counted, rung, stored) cut_evented c.cut.ensures.run told now.number 0
+
+-- ---- AND THE EVENTS ON THE CARDS
+
+pub returns-in-Ok-clause-cards : goal.returns-in-Ok-clause-cards
+returns-in-Ok-clause-cards g c = λ room o done s now all has time.
+    let run = c.args.run.now in
+    let out = c.args.outcome.now in
+    let rec = all.ringed.evented.recorded in
+    let U : State = g.M.Medium.state c.args.unit.now in
+    let V : State = g.M.Medium.state c.load.new.unit in
+    let X : State = g.C.Chip.state c.args.card_a.now in
+    let Y : State = g.D.Chip.state c.args.card_b.now in
+    let whole = g.met.M.Medium.coherent c.args.unit.now in
+    let may = may-of run.power rec.supply run.next rec.powers c.requires.dark has in
+    let read = read-on o done rec.supply (values_of run out) (devices U X Y) rec.recorded may V whole c.load.ensures.leaves c.load.ensures.cause.breakdowns in
+    let left = left-on o done rec.supply (values_of run out) (devices U X Y) rec.recorded may V whole c.load.ensures.leaves c.load.ensures.cause.breakdowns in
+    c.found.ensures.cards room o done s now (record {
+      ringed = record {
+        evented = record {
+          recorded = record {
+            origin = rec.origin;
+            supply = rec.supply;
+            powers = rec.powers;
+            recorded = read;
+            odometer = λ lit. absurd (let bad : false ≡ true = sym c.requires.dark ∙ ap is_lit lit in cc);
+            stay = all-unit o (log_of out) run.keeper.memory.registration run.keeper.cabin.cards U V X Y rec.stay;
+          };
+          evented = events-stay (devices U X Y) (devices V X Y) o done (log_of out) run.unfound run.next rec.supply all.ringed.evented.evented (read-says U V c.load.ensures.leaves) left;
+          limit = all.ringed.evented.limit;
+          watched = λ lit. absurd (let bad : false ≡ true = sym c.requires.dark ∙ ap is_lit lit in cc);
+        };
+        spans = all.ringed.spans;
+        base = λ lit. absurd (let bad : false ≡ true = sym c.requires.dark ∙ ap is_lit lit in cc);
+        counted = all.ringed.counted;
+        ringed = behind-stays (devices U X Y) (devices V X Y) o done (log_of out) run.next all.ringed.spans (seats_of run) all.ringed.ringed (read-leaves U V whole c.load.ensures.leaves) left;
+        stored = subst (λ (b : Bool). Stores b o (log_of out) run.unfound run.keeper.odometer all.ringed.spans (devices V X Y)) (sym c.requires.dark)
+            (stays-stored o (log_of out) run.unfound all.ringed.spans (devices U X Y) (devices V X Y) (read-stays (devices U X Y) (devices V X Y) whole c.load.ensures.leaves)
+            (subst (λ (b : Bool). Stores b o (log_of out) run.unfound run.keeper.odometer all.ringed.spans (devices U X Y)) c.requires.dark all.ringed.stored));
+      };
+      vehicle = all.vehicle;
+      cards = unit-alone o (log_of out) _ _ U V X Y all.cards;
+    }) has time
+
+pub returns-in-Err-BadUnit-clause-cards : goal.returns-in-Err-BadUnit-clause-cards
+returns-in-Err-BadUnit-clause-cards g c = λ room o done s now all has time.
+    let run = c.args.run.now in
+    let out = c.args.outcome.now in
+    let rec = all.ringed.evented.recorded in
+    let U : State = g.M.Medium.state c.args.unit.now in
+    let V : State = g.M.Medium.state c.load.new.unit in
+    let X : State = g.C.Chip.state c.args.card_a.now in
+    let Y : State = g.D.Chip.state c.args.card_b.now in
+    let whole = g.met.M.Medium.coherent c.args.unit.now in
+    let may = may-of run.power rec.supply run.next rec.powers c.requires.dark has in
+    let read = read-on o done rec.supply (values_of run out) (devices U X Y) rec.recorded may V whole c.load.ensures.leaves c.load.ensures.cause.breakdowns in
+    let after = g.met.M.Medium.coherent c.load.new.unit in
+    let image = image-of V.image (unit-tells o done rec.supply (values_of run out) (devices V X Y) read may) in
+    let decodes = unit-decodes o done rec.supply (values_of run out) (devices V X Y) read may after image.0 (after.is_left image.0 image.1) in
+    let bad = rw c.in-Err-BadUnit.field-0-is at c.in-Err-BadUnit.ensures.bad in
+    absurd (not-bad image.0 c.in-Err-BadUnit.place decodes (at-image (λ (x : List ℕ). first_bad_place x ≡ Some c.in-Err-BadUnit.place) V.image image.0 image.1 bad))
+
+pub returns-in-Err-Failed-clause-cards : goal.returns-in-Err-Failed-clause-cards
+returns-in-Err-Failed-clause-cards g c = λ room o done s now all has time.
+    let run = c.args.run.now in
+    let out = c.args.outcome.now in
+    let rec = all.ringed.evented.recorded in
+    let U : State = g.M.Medium.state c.args.unit.now in
+    let V : State = g.M.Medium.state c.load.new.unit in
+    let X : State = g.C.Chip.state c.args.card_a.now in
+    let Y : State = g.D.Chip.state c.args.card_b.now in
+    let e : Devices = devices V X Y in
+    let may = may-of run.power rec.supply run.next rec.powers c.requires.dark has in
+    let after : Outcome = record out { breaks = c.cut.new.breaks } in
+    let told = ap (λ (l : Listed Break). record out { breaks = l }) c.cut.ensures.breaks in
+    let progressed = progress (values_of run out) rec.supply rec.recorded.book in
+    let comes = comes-of progressed.supply (went (log_of out) done).before run.next may rec.recorded.recorded.followed.power in
+    let low = c.requires.going.low in
+    let number = now.number in
+    let positive : 0 < s.number = omega (arith, low, number) in
+    let cut_shown = unpowered-cards o done s progressed rec.recorded.recorded.followed comes now.number now.given positive e (unit-alone o (log_of out) _ _ U V X Y all.cards) in
+    let is_log : with_cut (log_of out) s [] ≡ log_of after = ap (λ (u : ℕ). and_break (log_of out) (cut_at u true 0)) now.number ∙ sym (ap log_of told) in
+    let r = returns-in-Err-Failed-clause-ringed g c room o done s now all.ringed has time in
+    in-carded_cut o done s c.cut.new.self after e 0 (record {
+      ringed = ringed-cut o done s c.cut.new.self after e 0 (ap (λ (q : Run). is_lit q.power) c.cut.ensures.run) r;
+      vehicle = ap (λ (q : Run). q.keeper.memory.registration) c.cut.ensures.run ∙ all.vehicle;
+      cards = subst (λ (l : RunLog). CardsBehind o (done ++ s ∷ []) l e) is_log cut_shown;
+    })
 
 -- ---- what is noted
 

@@ -68,12 +68,20 @@ use Rattle.event_model.specs.Spans.{gap_of}
 use Rattle.run_acts.specs.NotedEvents.{NotesEvents}
 use Rattle.run_acts.proofs.NotedEvents.{same-noted, then-noted}
 use Rattle.run_acts.specs.Acting.{now_moment}
-use Rattle.run_acts.specs.Noting.{AreGapEvents}
 use Rattle.recorder_with_cards.specs.Noting.{Unmended, AtDriver, AtCoDriver, NoneBefore, AtGap, HasBegunSpan}
 use Rattle.recorder_with_cards.proofs.WakeNoted.{says, mended-noted, driver-these, both-these, is-none, is-some}
 use Rattle.run_keeping.proofs.Later.{state-by, later-then, later-of-unit}
 use Rattle.run_acts.proofs.Uncut.{gap-uncut}
 use Rattle.recorder_with_cards.proofs.Uncut.{anew-uncut}
+use Rattle.event_model.specs.declared.entries.Span.{Span}
+use Rattle.run_evented.specs.SoFar.{AreBare}
+use Rattle.run_ringed.proofs.SoFar.{left-itself}
+use Rattle.run_acts.specs.Noting.{NoGap, AreGapEvents}
+use Rattle.run_acts.specs.RunCards.{vehicle_in, CardsBehind, CardsWaking}
+use Rattle.recorder_with_cards.specs.CardsWoken.{CardsWoken}
+use Rattle.recorder_with_cards.proofs.GapEvented.{gap_events as gap_list}
+use Rattle.recorder_with_cards.proofs.GapShown.{some-list, none-list, gap-shown, none-noted, woken-all}
+use Rattle.recorder_with_cards.proofs.WakesCards.{WakesOn, unit-alone, unpowered-cards, wakes-cards, driver-woken, codriver-woken}
 use Rattle.recorder_with_cards.proofs.resuming.resume.Goals as goal
 
 pub accept_anew-requires-clause-held : goal.accept_anew-requires-clause-held
@@ -1296,6 +1304,326 @@ returns-clause-ringed g c =
     woken-rings o done s woke.0 (waiting_in Driver first_card ++ others) both_slots spans t mid out (devices W X Y) starts (log_of out) log0 stands (is_err c.note_gap.result) new out3 (devices V3 X3 Y3) gone (λ f. subst (λ (q : Bool). GoesOnOrFails q o done s (In 0) [] new out3 (devices V3 X3 Y3) x.within.b) f goes)
     (ap (λ (r : Run). r.power) c.note_gap.ensures.only ∙ ap (λ (r : Run). r.power) c.accept_anew-2.ensures.only ∙ ap (λ (r : Run). r.power) c.accept_anew.ensures.only ∙ begun.power) (ap (λ (r : Run). r.unfound) c.note_gap.ensures.only ∙ ap (λ (r : Run). r.unfound) c.accept_anew-2.ensures.only ∙ ap (λ (r : Run). r.unfound) c.accept_anew.ensures.only)
     (λ well_three. goes-odometer (is_err c.note_gap.result) o done s (In 0) [] new out3 (devices V3 X3 Y3) x.within.b goes well_three ∙ ap (λ (b : Beginning). odometer_after (odometer_at o.recording.unit) b.travel.before) began ∙ sym woke.1.odometer)
+
+-- ---- the events on the cards
+
+pub returns-in_err-mend-clause-cards : goal.returns-in_err-mend-clause-cards
+returns-in_err-mend-clause-cards g c = λ room o origin done s supply v r stay may number given speed_is values evented limit vehicle shown time.
+    let U : State = g.M.Medium.state c.args.unit.now in
+    let X : State = g.C.Chip.state c.args.card_a.now in
+    let Y : State = g.D.Chip.state c.args.card_b.now in
+    let W : State = g.M.Medium.state c.mend.new.unit in
+    let run = c.args.run.now in
+    let out = c.args.outcome.now in
+    let bad = c.in_err-mend.ensures in
+    let loaded = c.requires.loaded in
+    let read = unmended-read o origin done s supply v U X Y r may number given (g.met.M.Medium.coherent c.args.unit.now) (wholes-of U X Y (g.met.C.Chip.coherent c.args.card_a.now) (g.met.D.Chip.coherent c.args.card_b.now)) loaded.works c.args.journal (kept-of c.args.journal U.image loaded.found)
+    W true c.mend.ensures.moments c.mend.ensures.tells bad.cause c.mend.ensures.holds bad.first bad.second run out values refl in
+    let failed : true ≡ is_err c.from_residual.result = search rules in
+    let q : Progress = found_again c.args.journal.kept (progress v supply r.book) in
+    let log : log_of out ≡ q.log = ap (λ (x : Values). x.log) values in
+    let next_is = ap (λ (x : Values). x.next) values in
+    let low = c.requires.going.low in
+    let positive : 0 < s.number = omega (arith, number, next_is, low) in
+    let cut = unpowered-cards o done s q read.followed read.followed.power number given positive (devices W X Y) (subst (λ (l : RunLog). CardsBehind o done l (devices W X Y)) log (unit-alone o (log_of out) _ _ U W X Y shown)) in
+    subst (λ (f : Bool). CardsWoken f (log_of out) o done s run (log_of out) (devices W X Y)) failed (vehicle, subst (λ (l : RunLog). CardsBehind o (done ++ s ∷ []) (with_cut l s []) (devices W X Y)) (sym log) cut)
+
+pub returns-in_err-accept_anew-clause-cards : goal.returns-in_err-accept_anew-clause-cards
+returns-in_err-accept_anew-clause-cards g c = λ room o origin done s supply v r stay may number given speed_is values evented limit vehicle shown time.
+    let run = c.args.run.now in
+    let mid : Run = c.begin_span.new.self in
+    let begun = c.begin_span.ensures.begun in
+    let U : State = g.M.Medium.state c.args.unit.now in
+    let X : State = g.C.Chip.state c.args.card_a.now in
+    let Y : State = g.D.Chip.state c.args.card_b.now in
+    let W : State = g.M.Medium.state c.mend.new.unit in
+    let k : ℕ = c.args.journal.kept in
+    let ok = c.in_ok-mend.ensures in
+    let loaded = c.requires.loaded in
+    let woke = awake o origin done s supply v U X Y r may number given (g.met.M.Medium.coherent c.args.unit.now) (wholes-of U X Y (g.met.C.Chip.coherent c.args.card_a.now) (g.met.D.Chip.coherent c.args.card_b.now)) loaded.works c.args.journal (kept-of c.args.journal U.image loaded.found)
+    W false c.mend.ensures.moments c.mend.ensures.tells ok.cause c.mend.ensures.holds ok.first ok.second run c.args.outcome.now values refl c.mend.new.journal ok.agrees mid begun (g.met.M.Medium.coherent c.mend.new.unit) stay in
+    let is = awake-is o origin done s supply v U X Y r may number given (g.met.M.Medium.coherent c.args.unit.now) (wholes-of U X Y (g.met.C.Chip.coherent c.args.card_a.now) (g.met.D.Chip.coherent c.args.card_b.now)) loaded.works c.args.journal (kept-of c.args.journal U.image loaded.found)
+    W false c.mend.ensures.moments c.mend.ensures.tells ok.cause c.mend.ensures.holds ok.first ok.second run c.args.outcome.now values refl c.mend.new.journal ok.agrees mid begun (g.met.M.Medium.coherent c.mend.new.unit) stay in
+    let dark = c.requires.going.dark c.requires.dark in
+    let cards = run.keeper.cabin.cards in
+    let cabin = ap (λ (k : Keeper). k.cabin) begun.keeper in
+    let bare = subst (λ (b : Cabin). IsBare b.slots.seats.driver) (sym cabin) (dark-bare 0 cards run.keeper.cabin.slots.seats.driver dark.bare (dark.stands 0).driver) in
+    let few = ap (λ (b : Cabin). bare_count b.slots.seats.driver) cabin in
+    let now : c.moment-at.result ≡ moment_in s 0 = c.moment-at.ensures ∙ ap (λ (m : ℕ). record { second = m; begun = 0; late = false }) (begun.next ∙ ap (λ (x : Values). x.next) values ∙ sym number) in
+    let one : Run = c.accept_anew.new.run in
+    let out1 : Outcome = c.accept_anew.new.outcome in
+    let V1 : State = g.M.Medium.state c.accept_anew.new.unit in
+    let X1 : State = g.C.Chip.state c.accept_anew.new.card_a in
+    let Y1 : State = g.D.Chip.state c.accept_anew.new.card_b in
+    let first_card = card_in mid.keeper.cabin.slots.seats.driver in
+    let others = waiting_in CoDriver (card_in mid.keeper.cabin.slots.seats.codriver) in
+    let once = at-once CoDriver (card_in mid.keeper.cabin.slots.seats.codriver) in
+    let recorded_one = c.accept_anew.ensures.recorded (omega (arith, room, few)) in
+    let same_one = anew-limit first_card Driver c.moment-at.result c.args.speed mid one c.args.outcome.now out1 c.accept_anew.ensures.accepted in
+    let next_is = ap (λ (x : Values). x.next) values in
+    let low = c.requires.going.low in
+    let positive : 0 < s.number = omega (arith, number, next_is, low) in
+    let log_is : log_of c.args.outcome.now ≡ woke.0.run.log = ap (λ (x : Values). x.log) values ∙ sym (ap (λ (q : Progress). q.log) is.0) in
+    let vehicle_mid : mid.keeper.memory.registration ≡ vehicle_in o = ap (λ (k : Keeper). k.memory.registration) begun.keeper ∙ vehicle in
+    let cards_begun = wakes-cards o done s woke.0 (waiting_in Driver first_card ++ others) mid c.args.outcome.now (devices W X Y) woke.1 log_is (unit-alone o (log_of c.args.outcome.now) _ _ U W X Y shown) in
+    let cards_one = driver-woken o done s woke.0 first_card others mid c.args.outcome.now (devices W X Y) woke.1 once refl bare positive vehicle_mid cards_begun c.moment-at.result now c.args.speed speed_is (is_err c.accept_anew.result) one out1 c.accept_anew.ensures.accepted (devices V1 X1 Y1)
+    (λ none P. same-devices P g.M.Medium.state g.C.Chip.state g.D.Chip.state c.mend.new.unit c.accept_anew.new.unit c.args.card_a.now c.accept_anew.new.card_a c.args.card_b.now c.accept_anew.new.card_b (c.accept_anew.ensures.still none)) time recorded_one (c.accept_anew.ensures.cards (omega (arith, room, few))) in
+    let vehicle_one : one.keeper.memory.registration ≡ vehicle_in o = ap (λ (m : Identity). m.registration) same_one.0 ∙ vehicle_mid in
+    let fails : is_err c.accept_anew.result ≡ true = search rules in
+    let failed : true ≡ is_err c.from_residual-in_err-accept_anew.result = search rules in
+    subst (λ (f : Bool). CardsWoken f (log_of c.args.outcome.now) o done s one (log_of out1) (devices V1 X1 Y1)) failed (vehicle_one, subst (λ (f : Bool). WakesOn f o done s woke.0.run.log (log_of out1) (devices V1 X1 Y1)) fails cards_one)
+
+pub returns-in_err-accept_anew-2-clause-cards : goal.returns-in_err-accept_anew-2-clause-cards
+returns-in_err-accept_anew-2-clause-cards g c = λ room o origin done s supply v r stay may number given speed_is values evented limit vehicle shown time.
+    let run = c.args.run.now in
+    let mid : Run = c.begin_span.new.self in
+    let begun = c.begin_span.ensures.begun in
+    let U : State = g.M.Medium.state c.args.unit.now in
+    let X : State = g.C.Chip.state c.args.card_a.now in
+    let Y : State = g.D.Chip.state c.args.card_b.now in
+    let W : State = g.M.Medium.state c.mend.new.unit in
+    let k : ℕ = c.args.journal.kept in
+    let ok = c.in_ok-mend.ensures in
+    let loaded = c.requires.loaded in
+    let woke = awake o origin done s supply v U X Y r may number given (g.met.M.Medium.coherent c.args.unit.now) (wholes-of U X Y (g.met.C.Chip.coherent c.args.card_a.now) (g.met.D.Chip.coherent c.args.card_b.now)) loaded.works c.args.journal (kept-of c.args.journal U.image loaded.found)
+    W false c.mend.ensures.moments c.mend.ensures.tells ok.cause c.mend.ensures.holds ok.first ok.second run c.args.outcome.now values refl c.mend.new.journal ok.agrees mid begun (g.met.M.Medium.coherent c.mend.new.unit) stay in
+    let is = awake-is o origin done s supply v U X Y r may number given (g.met.M.Medium.coherent c.args.unit.now) (wholes-of U X Y (g.met.C.Chip.coherent c.args.card_a.now) (g.met.D.Chip.coherent c.args.card_b.now)) loaded.works c.args.journal (kept-of c.args.journal U.image loaded.found)
+    W false c.mend.ensures.moments c.mend.ensures.tells ok.cause c.mend.ensures.holds ok.first ok.second run c.args.outcome.now values refl c.mend.new.journal ok.agrees mid begun (g.met.M.Medium.coherent c.mend.new.unit) stay in
+    let dark = c.requires.going.dark c.requires.dark in
+    let cards = run.keeper.cabin.cards in
+    let cabin = ap (λ (k : Keeper). k.cabin) begun.keeper in
+    let bare = subst (λ (b : Cabin). IsBare b.slots.seats.driver) (sym cabin) (dark-bare 0 cards run.keeper.cabin.slots.seats.driver dark.bare (dark.stands 0).driver) in
+    let few = ap (λ (b : Cabin). bare_count b.slots.seats.driver) cabin in
+    let now : c.moment-at.result ≡ moment_in s 0 = c.moment-at.ensures ∙ ap (λ (m : ℕ). record { second = m; begun = 0; late = false }) (begun.next ∙ ap (λ (x : Values). x.next) values ∙ sym number) in
+    let one : Run = c.accept_anew.new.run in
+    let out1 : Outcome = c.accept_anew.new.outcome in
+    let V1 : State = g.M.Medium.state c.accept_anew.new.unit in
+    let X1 : State = g.C.Chip.state c.accept_anew.new.card_a in
+    let Y1 : State = g.D.Chip.state c.accept_anew.new.card_b in
+    let first_card = card_in mid.keeper.cabin.slots.seats.driver in
+    let others = waiting_in CoDriver (card_in mid.keeper.cabin.slots.seats.codriver) in
+    let once = at-once CoDriver (card_in mid.keeper.cabin.slots.seats.codriver) in
+    let recorded_one = c.accept_anew.ensures.recorded (omega (arith, room, few)) in
+    let first = driver-judged o done s woke.0 first_card others mid c.args.outcome.now (devices W X Y) woke.1 once refl bare c.moment-at.result now c.args.speed (is_err c.accept_anew.result) one out1 c.accept_anew.ensures.accepted (devices V1 X1 Y1)
+    (λ none P. same-devices P g.M.Medium.state g.C.Chip.state g.D.Chip.state c.mend.new.unit c.accept_anew.new.unit c.args.card_a.now c.accept_anew.new.card_a c.args.card_b.now c.accept_anew.new.card_b (c.accept_anew.ensures.still none)) (time-before (devices V1 X1 Y1) (devices (g.M.Medium.state c.accept_anew-2.new.unit) (g.C.Chip.state c.accept_anew-2.new.card_a) (g.D.Chip.state c.accept_anew-2.new.card_b)) c.accept_anew-2.ensures.clock c.accept_anew-2.ensures.clock_a c.accept_anew-2.ensures.clock_b time) recorded_one in
+    let same_one = anew-limit first_card Driver c.moment-at.result c.args.speed mid one c.args.outcome.now out1 c.accept_anew.ensures.accepted in
+    let well : is_err c.accept_anew.result ≡ false = search rules in
+    let two : Run = c.accept_anew-2.new.run in
+    let out2 : Outcome = c.accept_anew-2.new.outcome in
+    let V2 : State = g.M.Medium.state c.accept_anew-2.new.unit in
+    let X2 : State = g.C.Chip.state c.accept_anew-2.new.card_a in
+    let Y2 : State = g.D.Chip.state c.accept_anew-2.new.card_b in
+    let beside : seat_in one.keeper.cabin.slots.seats CoDriver ≡ seat_in mid.keeper.cabin.slots.seats CoDriver = c.accept_anew.ensures.beside in
+    let bare_too = subst IsBare (sym (beside ∙ ap (λ (b : Cabin). b.slots.seats.codriver) cabin)) (dark-bare 0 cards run.keeper.cabin.slots.seats.codriver dark.bare (dark.stands 0).codriver) in
+    let few_too = ap bare_count (beside ∙ ap (λ (b : Cabin). b.slots.seats.codriver) cabin) in
+    let none_waits = begun-none mid.minutes run.next begun.minutes in
+    let waits_none = ap (λ (p : Power). waiting p mid.minutes.owing) begun.power in
+    let t = c.accept_anew.ensures.takes.marks in
+    let same_room = c.accept_anew.ensures.takes.rooms.0 in
+    let second_card = card_in one.keeper.cabin.slots.seats.codriver in
+    let behind_one : RunWaking o done s woke.0 (waiting_in CoDriver second_card) (CoDriver ∷ []) one out1 (devices V1 X1 Y1) = subst (λ (seat : Option Seat). RunWaking o done s woke.0 (waiting_in CoDriver (card_in seat)) (CoDriver ∷ []) one out1 (devices V1 X1 Y1)) (sym beside) (first.0 well) in
+    let recorded_two = c.accept_anew-2.ensures.recorded (omega (arith, room, few, few_too, none_waits, waits_none, t, same_room)) in
+    let same_two = anew-limit second_card CoDriver c.moment-at.result c.args.speed one two out1 out2 c.accept_anew-2.ensures.accepted in
+    let next_is = ap (λ (x : Values). x.next) values in
+    let low = c.requires.going.low in
+    let positive : 0 < s.number = omega (arith, number, next_is, low) in
+    let log_is : log_of c.args.outcome.now ≡ woke.0.run.log = ap (λ (x : Values). x.log) values ∙ sym (ap (λ (q : Progress). q.log) is.0) in
+    let vehicle_mid : mid.keeper.memory.registration ≡ vehicle_in o = ap (λ (k : Keeper). k.memory.registration) begun.keeper ∙ vehicle in
+    let cards_begun = wakes-cards o done s woke.0 (waiting_in Driver first_card ++ others) mid c.args.outcome.now (devices W X Y) woke.1 log_is (unit-alone o (log_of c.args.outcome.now) _ _ U W X Y shown) in
+    let cards_one = driver-woken o done s woke.0 first_card others mid c.args.outcome.now (devices W X Y) woke.1 once refl bare positive vehicle_mid cards_begun c.moment-at.result now c.args.speed speed_is (is_err c.accept_anew.result) one out1 c.accept_anew.ensures.accepted (devices V1 X1 Y1)
+    (λ none P. same-devices P g.M.Medium.state g.C.Chip.state g.D.Chip.state c.mend.new.unit c.accept_anew.new.unit c.args.card_a.now c.accept_anew.new.card_a c.args.card_b.now c.accept_anew.new.card_b (c.accept_anew.ensures.still none)) (time-before (devices V1 X1 Y1) (devices (g.M.Medium.state c.accept_anew-2.new.unit) (g.C.Chip.state c.accept_anew-2.new.card_a) (g.D.Chip.state c.accept_anew-2.new.card_b)) c.accept_anew-2.ensures.clock c.accept_anew-2.ensures.clock_a c.accept_anew-2.ensures.clock_b time) recorded_one (c.accept_anew.ensures.cards (omega (arith, room, few))) in
+    let vehicle_one : one.keeper.memory.registration ≡ vehicle_in o = ap (λ (m : Identity). m.registration) same_one.0 ∙ vehicle_mid in
+    let cards_two = codriver-woken o done s woke.0 second_card one out1 (devices V1 X1 Y1) behind_one refl bare_too positive vehicle_one (subst (λ (f : Bool). WakesOn f o done s woke.0.run.log (log_of out1) (devices V1 X1 Y1)) well cards_one)
+    c.moment-at.result now c.args.speed speed_is (is_err c.accept_anew-2.result) two out2 c.accept_anew-2.ensures.accepted (devices V2 X2 Y2)
+    (λ none P. same-devices P g.M.Medium.state g.C.Chip.state g.D.Chip.state c.accept_anew.new.unit c.accept_anew-2.new.unit c.accept_anew.new.card_a c.accept_anew-2.new.card_a c.accept_anew.new.card_b c.accept_anew-2.new.card_b (c.accept_anew-2.ensures.still none)) time recorded_two
+    (c.accept_anew-2.ensures.cards (omega (arith, room, few, few_too, none_waits, waits_none, t, same_room))) in
+    let vehicle_two : two.keeper.memory.registration ≡ vehicle_in o = ap (λ (m : Identity). m.registration) same_two.0 ∙ vehicle_one in
+    let fails : is_err c.accept_anew-2.result ≡ true = search rules in
+    let failed : true ≡ is_err c.from_residual-in_err-accept_anew-2.result = search rules in
+    subst (λ (f : Bool). CardsWoken f (log_of c.args.outcome.now) o done s two (log_of out2) (devices V2 X2 Y2)) failed (vehicle_two, subst (λ (f : Bool). WakesOn f o done s woke.0.run.log (log_of out2) (devices V2 X2 Y2)) fails cards_two)
+
+pub returns-then-is_first-clause-cards : goal.returns-then-is_first-clause-cards
+returns-then-is_first-clause-cards g c = λ room o origin done s supply v r stay may number given speed_is values evented limit vehicle shown time.
+    let run = c.args.run.now in
+    let mid : Run = c.begin_span.new.self in
+    let begun = c.begin_span.ensures.begun in
+    let U : State = g.M.Medium.state c.args.unit.now in
+    let X : State = g.C.Chip.state c.args.card_a.now in
+    let Y : State = g.D.Chip.state c.args.card_b.now in
+    let W : State = g.M.Medium.state c.mend.new.unit in
+    let k : ℕ = c.args.journal.kept in
+    let ok = c.in_ok-mend.ensures in
+    let loaded = c.requires.loaded in
+    let woke = awake o origin done s supply v U X Y r may number given (g.met.M.Medium.coherent c.args.unit.now) (wholes-of U X Y (g.met.C.Chip.coherent c.args.card_a.now) (g.met.D.Chip.coherent c.args.card_b.now)) loaded.works c.args.journal (kept-of c.args.journal U.image loaded.found)
+    W false c.mend.ensures.moments c.mend.ensures.tells ok.cause c.mend.ensures.holds ok.first ok.second run c.args.outcome.now values refl c.mend.new.journal ok.agrees mid begun (g.met.M.Medium.coherent c.mend.new.unit) stay in
+    let is = awake-is o origin done s supply v U X Y r may number given (g.met.M.Medium.coherent c.args.unit.now) (wholes-of U X Y (g.met.C.Chip.coherent c.args.card_a.now) (g.met.D.Chip.coherent c.args.card_b.now)) loaded.works c.args.journal (kept-of c.args.journal U.image loaded.found)
+    W false c.mend.ensures.moments c.mend.ensures.tells ok.cause c.mend.ensures.holds ok.first ok.second run c.args.outcome.now values refl c.mend.new.journal ok.agrees mid begun (g.met.M.Medium.coherent c.mend.new.unit) stay in
+    let quiet = says c.args.journal U W X Y (g.met.M.Medium.coherent c.args.unit.now) c.mend.ensures.moments in
+    let dark = c.requires.going.dark c.requires.dark in
+    let cards = run.keeper.cabin.cards in
+    let cabin = ap (λ (k : Keeper). k.cabin) begun.keeper in
+    let bare = subst (λ (b : Cabin). IsBare b.slots.seats.driver) (sym cabin) (dark-bare 0 cards run.keeper.cabin.slots.seats.driver dark.bare (dark.stands 0).driver) in
+    let few = ap (λ (b : Cabin). bare_count b.slots.seats.driver) cabin in
+    let now : c.moment-at.result ≡ moment_in s 0 = c.moment-at.ensures ∙ ap (λ (m : ℕ). record { second = m; begun = 0; late = false }) (begun.next ∙ ap (λ (x : Values). x.next) values ∙ sym number) in
+    let one : Run = c.accept_anew.new.run in
+    let out1 : Outcome = c.accept_anew.new.outcome in
+    let V1 : State = g.M.Medium.state c.accept_anew.new.unit in
+    let X1 : State = g.C.Chip.state c.accept_anew.new.card_a in
+    let Y1 : State = g.D.Chip.state c.accept_anew.new.card_b in
+    let first_card = card_in mid.keeper.cabin.slots.seats.driver in
+    let others = waiting_in CoDriver (card_in mid.keeper.cabin.slots.seats.codriver) in
+    let once = at-once CoDriver (card_in mid.keeper.cabin.slots.seats.codriver) in
+    let woken = wakes-evented o done s supply v (devices U X Y) (devices W X Y) r may number given k evented quiet woke.0 (waiting_in Driver first_card ++ others) mid c.args.outcome.now woke.1 is (ap (λ (x : Values). x.log) values) in
+    let recorded_one = c.accept_anew.ensures.recorded (omega (arith, room, few)) in
+    let first = driver-judged o done s woke.0 first_card others mid c.args.outcome.now (devices W X Y) woke.1 once refl bare c.moment-at.result now c.args.speed (is_err c.accept_anew.result) one out1 c.accept_anew.ensures.accepted (devices V1 X1 Y1)
+    (λ none P. same-devices P g.M.Medium.state g.C.Chip.state g.D.Chip.state c.mend.new.unit c.accept_anew.new.unit c.args.card_a.now c.accept_anew.new.card_a c.args.card_b.now c.accept_anew.new.card_b (c.accept_anew.ensures.still none)) (time-before (devices V1 X1 Y1) (devices (g.M.Medium.state c.accept_anew-2.new.unit) (g.C.Chip.state c.accept_anew-2.new.card_a) (g.D.Chip.state c.accept_anew-2.new.card_b)) c.accept_anew-2.ensures.clock c.accept_anew-2.ensures.clock_a c.accept_anew-2.ensures.clock_b time) recorded_one in
+    let same_one = anew-limit first_card Driver c.moment-at.result c.args.speed mid one c.args.outcome.now out1 c.accept_anew.ensures.accepted in
+    let well : is_err c.accept_anew.result ≡ false = search rules in
+    let two : Run = c.accept_anew-2.new.run in
+    let out2 : Outcome = c.accept_anew-2.new.outcome in
+    let V2 : State = g.M.Medium.state c.accept_anew-2.new.unit in
+    let X2 : State = g.C.Chip.state c.accept_anew-2.new.card_a in
+    let Y2 : State = g.D.Chip.state c.accept_anew-2.new.card_b in
+    let beside : seat_in one.keeper.cabin.slots.seats CoDriver ≡ seat_in mid.keeper.cabin.slots.seats CoDriver = c.accept_anew.ensures.beside in
+    let bare_too = subst IsBare (sym (beside ∙ ap (λ (b : Cabin). b.slots.seats.codriver) cabin)) (dark-bare 0 cards run.keeper.cabin.slots.seats.codriver dark.bare (dark.stands 0).codriver) in
+    let few_too = ap bare_count (beside ∙ ap (λ (b : Cabin). b.slots.seats.codriver) cabin) in
+    let none_waits = begun-none mid.minutes run.next begun.minutes in
+    let waits_none = ap (λ (p : Power). waiting p mid.minutes.owing) begun.power in
+    let t = c.accept_anew.ensures.takes.marks in
+    let same_room = c.accept_anew.ensures.takes.rooms.0 in
+    let second_card = card_in one.keeper.cabin.slots.seats.codriver in
+    let behind_one : RunWaking o done s woke.0 (waiting_in CoDriver second_card) (CoDriver ∷ []) one out1 (devices V1 X1 Y1) = subst (λ (seat : Option Seat). RunWaking o done s woke.0 (waiting_in CoDriver (card_in seat)) (CoDriver ∷ []) one out1 (devices V1 X1 Y1)) (sym beside) (first.0 well) in
+    let recorded_two = c.accept_anew-2.ensures.recorded (omega (arith, room, few, few_too, none_waits, waits_none, t, same_room)) in
+    let same_two = anew-limit second_card CoDriver c.moment-at.result c.args.speed one two out1 out2 c.accept_anew-2.ensures.accepted in
+    let fine : is_err c.accept_anew-2.result ≡ false = search rules in
+    let both = codriver-on o done s woke.0 second_card one out1 (devices V1 X1 Y1) behind_one refl bare_too c.moment-at.result now c.args.speed (is_err c.accept_anew-2.result) two out2 c.accept_anew-2.ensures.accepted (devices V2 X2 Y2)
+    (λ none P. same-devices P g.M.Medium.state g.C.Chip.state g.D.Chip.state c.accept_anew.new.unit c.accept_anew-2.new.unit c.accept_anew.new.card_a c.accept_anew-2.new.card_a c.accept_anew.new.card_b c.accept_anew-2.new.card_b (c.accept_anew-2.ensures.still none)) time recorded_two fine in
+    let lit = ok_gives c.accept_anew-2.result c.accept_anew-2.ensures.going fine in
+    let none : (length c.args.outcome.now.breaks.items == 0) ≡ true = sym c.is_empty-is_first.ensures ∙ c.if-is_first.true in
+    let untold = none-told v.unfound k v.log.breaks c.args.outcome.now.breaks.items (ap (λ (x : Values). x.log.breaks) values) (is-none (length c.args.outcome.now.breaks.items) none) in
+    let x = within-of o done s woke.0 [] [] two out2 (devices V2 X2 Y2) both in
+    let next_is = ap (λ (x : Values). x.next) values in
+    let low = c.requires.going.low in
+    let positive : 0 < s.number = omega (arith, number, next_is, low) in
+    let log_is : log_of c.args.outcome.now ≡ woke.0.run.log = ap (λ (x : Values). x.log) values ∙ sym (ap (λ (q : Progress). q.log) is.0) in
+    let vehicle_mid : mid.keeper.memory.registration ≡ vehicle_in o = ap (λ (k : Keeper). k.memory.registration) begun.keeper ∙ vehicle in
+    let cards_begun = wakes-cards o done s woke.0 (waiting_in Driver first_card ++ others) mid c.args.outcome.now (devices W X Y) woke.1 log_is (unit-alone o (log_of c.args.outcome.now) _ _ U W X Y shown) in
+    let cards_one = driver-woken o done s woke.0 first_card others mid c.args.outcome.now (devices W X Y) woke.1 once refl bare positive vehicle_mid cards_begun c.moment-at.result now c.args.speed speed_is (is_err c.accept_anew.result) one out1 c.accept_anew.ensures.accepted (devices V1 X1 Y1)
+    (λ none P. same-devices P g.M.Medium.state g.C.Chip.state g.D.Chip.state c.mend.new.unit c.accept_anew.new.unit c.args.card_a.now c.accept_anew.new.card_a c.args.card_b.now c.accept_anew.new.card_b (c.accept_anew.ensures.still none)) (time-before (devices V1 X1 Y1) (devices (g.M.Medium.state c.accept_anew-2.new.unit) (g.C.Chip.state c.accept_anew-2.new.card_a) (g.D.Chip.state c.accept_anew-2.new.card_b)) c.accept_anew-2.ensures.clock c.accept_anew-2.ensures.clock_a c.accept_anew-2.ensures.clock_b time) recorded_one (c.accept_anew.ensures.cards (omega (arith, room, few))) in
+    let vehicle_one : one.keeper.memory.registration ≡ vehicle_in o = ap (λ (m : Identity). m.registration) same_one.0 ∙ vehicle_mid in
+    let cards_two = codriver-woken o done s woke.0 second_card one out1 (devices V1 X1 Y1) behind_one refl bare_too positive vehicle_one (subst (λ (f : Bool). WakesOn f o done s woke.0.run.log (log_of out1) (devices V1 X1 Y1)) well cards_one)
+    c.moment-at.result now c.args.speed speed_is (is_err c.accept_anew-2.result) two out2 c.accept_anew-2.ensures.accepted (devices V2 X2 Y2)
+    (λ none P. same-devices P g.M.Medium.state g.C.Chip.state g.D.Chip.state c.accept_anew.new.unit c.accept_anew-2.new.unit c.accept_anew.new.card_a c.accept_anew-2.new.card_a c.accept_anew.new.card_b c.accept_anew-2.new.card_b (c.accept_anew-2.ensures.still none)) time recorded_two
+    (c.accept_anew-2.ensures.cards (omega (arith, room, few, few_too, none_waits, waits_none, t, same_room))) in
+    let vehicle_two : two.keeper.memory.registration ≡ vehicle_in o = ap (λ (m : Identity). m.registration) same_two.0 ∙ vehicle_one in
+    let began : x.within.b ≡ woke.0 = both.waking.began in
+    let off_x = subst (λ (y : Beginning). (went y.run.log done).before.running ≡ false) (sym began) both.waking.starts in
+    let bare_x = subst (λ (y : Beginning). AreBare (went y.run.log done).before.slots) (sym began) woken.0.bare in
+    let log_x : x.within.b.run.log ≡ (found_again k (progress v supply r.book)).log = ap (λ (b : Beginning). b.run.log) began ∙ ap (λ (q : Progress). q.log) is.0 in
+    let cards_x = subst (λ (y : Beginning). CardsWaking o done s y.run.log (log_of out2) (devices V2 X2 Y2)) (sym began) (subst (λ (f : Bool). WakesOn f o done s woke.0.run.log (log_of out2) (devices V2 X2 Y2)) fine cards_two) in
+    let began_log : x.within.b.run.log ≡ log_of c.args.outcome.now = ap (λ (b : Beginning). b.run.log) began ∙ sym log_is in
+    woken-all false o done s x.within.b.run.log (log_of c.args.outcome.now) two (log_of out2) (devices V2 X2 Y2) began_log vehicle_two
+    (gap-shown o done s two out2 (devices V2 X2 Y2) (devices V2 X2 Y2) x (ungiven_of lit.span) lit.cabin off_x bare_x positive None (none-list o done s supply v (devices U X Y) (devices W X Y) r may number given k evented quiet is.2 woken.2 x.within.b.run.log log_x untold) vehicle_two cards_x
+    false two out2.breaks NoGap (refl, refl, refl) (left-itself o (devices V2 X2 Y2)) (λ bad. absurd (let wrong : false ≡ true = bad in cc)) (none-noted two.keeper.cabin.cards two.keeper.memory.registration (devices V2 X2 Y2)))
+
+pub returns-clause-cards : goal.returns-clause-cards
+returns-clause-cards g c = λ room o origin done s supply v r stay may number given speed_is values evented limit vehicle shown time.
+    let V3 : State = g.M.Medium.state c.note_gap.new.unit in
+    let X3 : State = g.C.Chip.state c.note_gap.new.card_a in
+    let Y3 : State = g.D.Chip.state c.note_gap.new.card_b in
+    let time_two = time-before (devices (g.M.Medium.state c.accept_anew-2.new.unit) (g.C.Chip.state c.accept_anew-2.new.card_a) (g.D.Chip.state c.accept_anew-2.new.card_b)) (devices V3 X3 Y3) c.note_gap.ensures.clock c.note_gap.ensures.clock_a c.note_gap.ensures.clock_b time in
+    let run = c.args.run.now in
+    let mid : Run = c.begin_span.new.self in
+    let begun = c.begin_span.ensures.begun in
+    let U : State = g.M.Medium.state c.args.unit.now in
+    let X : State = g.C.Chip.state c.args.card_a.now in
+    let Y : State = g.D.Chip.state c.args.card_b.now in
+    let W : State = g.M.Medium.state c.mend.new.unit in
+    let k : ℕ = c.args.journal.kept in
+    let ok = c.in_ok-mend.ensures in
+    let loaded = c.requires.loaded in
+    let woke = awake o origin done s supply v U X Y r may number given (g.met.M.Medium.coherent c.args.unit.now) (wholes-of U X Y (g.met.C.Chip.coherent c.args.card_a.now) (g.met.D.Chip.coherent c.args.card_b.now)) loaded.works c.args.journal (kept-of c.args.journal U.image loaded.found)
+    W false c.mend.ensures.moments c.mend.ensures.tells ok.cause c.mend.ensures.holds ok.first ok.second run c.args.outcome.now values refl c.mend.new.journal ok.agrees mid begun (g.met.M.Medium.coherent c.mend.new.unit) stay in
+    let is = awake-is o origin done s supply v U X Y r may number given (g.met.M.Medium.coherent c.args.unit.now) (wholes-of U X Y (g.met.C.Chip.coherent c.args.card_a.now) (g.met.D.Chip.coherent c.args.card_b.now)) loaded.works c.args.journal (kept-of c.args.journal U.image loaded.found)
+    W false c.mend.ensures.moments c.mend.ensures.tells ok.cause c.mend.ensures.holds ok.first ok.second run c.args.outcome.now values refl c.mend.new.journal ok.agrees mid begun (g.met.M.Medium.coherent c.mend.new.unit) stay in
+    let quiet = says c.args.journal U W X Y (g.met.M.Medium.coherent c.args.unit.now) c.mend.ensures.moments in
+    let dark = c.requires.going.dark c.requires.dark in
+    let cards = run.keeper.cabin.cards in
+    let cabin = ap (λ (k : Keeper). k.cabin) begun.keeper in
+    let bare = subst (λ (b : Cabin). IsBare b.slots.seats.driver) (sym cabin) (dark-bare 0 cards run.keeper.cabin.slots.seats.driver dark.bare (dark.stands 0).driver) in
+    let few = ap (λ (b : Cabin). bare_count b.slots.seats.driver) cabin in
+    let now : c.moment-at.result ≡ moment_in s 0 = c.moment-at.ensures ∙ ap (λ (m : ℕ). record { second = m; begun = 0; late = false }) (begun.next ∙ ap (λ (x : Values). x.next) values ∙ sym number) in
+    let one : Run = c.accept_anew.new.run in
+    let out1 : Outcome = c.accept_anew.new.outcome in
+    let V1 : State = g.M.Medium.state c.accept_anew.new.unit in
+    let X1 : State = g.C.Chip.state c.accept_anew.new.card_a in
+    let Y1 : State = g.D.Chip.state c.accept_anew.new.card_b in
+    let first_card = card_in mid.keeper.cabin.slots.seats.driver in
+    let others = waiting_in CoDriver (card_in mid.keeper.cabin.slots.seats.codriver) in
+    let once = at-once CoDriver (card_in mid.keeper.cabin.slots.seats.codriver) in
+    let woken = wakes-evented o done s supply v (devices U X Y) (devices W X Y) r may number given k evented quiet woke.0 (waiting_in Driver first_card ++ others) mid c.args.outcome.now woke.1 is (ap (λ (x : Values). x.log) values) in
+    let recorded_one = c.accept_anew.ensures.recorded (omega (arith, room, few)) in
+    let first = driver-judged o done s woke.0 first_card others mid c.args.outcome.now (devices W X Y) woke.1 once refl bare c.moment-at.result now c.args.speed (is_err c.accept_anew.result) one out1 c.accept_anew.ensures.accepted (devices V1 X1 Y1)
+    (λ none P. same-devices P g.M.Medium.state g.C.Chip.state g.D.Chip.state c.mend.new.unit c.accept_anew.new.unit c.args.card_a.now c.accept_anew.new.card_a c.args.card_b.now c.accept_anew.new.card_b (c.accept_anew.ensures.still none)) (time-before (devices V1 X1 Y1) (devices (g.M.Medium.state c.accept_anew-2.new.unit) (g.C.Chip.state c.accept_anew-2.new.card_a) (g.D.Chip.state c.accept_anew-2.new.card_b)) c.accept_anew-2.ensures.clock c.accept_anew-2.ensures.clock_a c.accept_anew-2.ensures.clock_b time_two) recorded_one in
+    let same_one = anew-limit first_card Driver c.moment-at.result c.args.speed mid one c.args.outcome.now out1 c.accept_anew.ensures.accepted in
+    let well : is_err c.accept_anew.result ≡ false = search rules in
+    let two : Run = c.accept_anew-2.new.run in
+    let out2 : Outcome = c.accept_anew-2.new.outcome in
+    let V2 : State = g.M.Medium.state c.accept_anew-2.new.unit in
+    let X2 : State = g.C.Chip.state c.accept_anew-2.new.card_a in
+    let Y2 : State = g.D.Chip.state c.accept_anew-2.new.card_b in
+    let beside : seat_in one.keeper.cabin.slots.seats CoDriver ≡ seat_in mid.keeper.cabin.slots.seats CoDriver = c.accept_anew.ensures.beside in
+    let bare_too = subst IsBare (sym (beside ∙ ap (λ (b : Cabin). b.slots.seats.codriver) cabin)) (dark-bare 0 cards run.keeper.cabin.slots.seats.codriver dark.bare (dark.stands 0).codriver) in
+    let few_too = ap bare_count (beside ∙ ap (λ (b : Cabin). b.slots.seats.codriver) cabin) in
+    let none_waits = begun-none mid.minutes run.next begun.minutes in
+    let waits_none = ap (λ (p : Power). waiting p mid.minutes.owing) begun.power in
+    let t = c.accept_anew.ensures.takes.marks in
+    let same_room = c.accept_anew.ensures.takes.rooms.0 in
+    let second_card = card_in one.keeper.cabin.slots.seats.codriver in
+    let behind_one : RunWaking o done s woke.0 (waiting_in CoDriver second_card) (CoDriver ∷ []) one out1 (devices V1 X1 Y1) = subst (λ (seat : Option Seat). RunWaking o done s woke.0 (waiting_in CoDriver (card_in seat)) (CoDriver ∷ []) one out1 (devices V1 X1 Y1)) (sym beside) (first.0 well) in
+    let recorded_two = c.accept_anew-2.ensures.recorded (omega (arith, room, few, few_too, none_waits, waits_none, t, same_room)) in
+    let same_two = anew-limit second_card CoDriver c.moment-at.result c.args.speed one two out1 out2 c.accept_anew-2.ensures.accepted in
+    let fine : is_err c.accept_anew-2.result ≡ false = search rules in
+    let both = codriver-on o done s woke.0 second_card one out1 (devices V1 X1 Y1) behind_one refl bare_too c.moment-at.result now c.args.speed (is_err c.accept_anew-2.result) two out2 c.accept_anew-2.ensures.accepted (devices V2 X2 Y2)
+    (λ none P. same-devices P g.M.Medium.state g.C.Chip.state g.D.Chip.state c.accept_anew.new.unit c.accept_anew-2.new.unit c.accept_anew.new.card_a c.accept_anew-2.new.card_a c.accept_anew.new.card_b c.accept_anew-2.new.card_b (c.accept_anew-2.ensures.still none)) time_two recorded_two fine in
+    let lit = ok_gives c.accept_anew-2.result c.accept_anew-2.ensures.going fine in
+    let new : Run = c.note_gap.new.run in
+    let out3 : Outcome = record out2 { breaks = c.note_gap.new.breaks } in
+    let some : (length c.args.outcome.now.breaks.items == 0) ≡ false = sym c.is_empty-is_first.ensures ∙ c.if-is_first.false in
+    let told_before = some-told v.unfound k v.log.breaks c.args.outcome.now.breaks.items (ap (λ (x : Values). x.log.breaks) values) (is-some (length c.args.outcome.now.breaks.items) some) in
+    let kept : c.last_kept-kept.result ≡ k = c.last_kept-kept.ensures.kept in
+    let x = within-of o done s woke.0 [] [] two out2 (devices V2 X2 Y2) both in
+    let comes = comes-waking o done s woke.0 [] [] two out2 (devices V2 X2 Y2) both in
+    let stays = gap-memory (gap_of c.last_kept-kept.result two.next) (now_moment two) (is_err c.note_gap.result) two new out2.breaks c.note_gap.new.breaks c.note_gap.ensures.noted.0 c.note_gap.ensures.noted.1 in
+    let next_is = ap (λ (x : Values). x.next) values in
+    let low = c.requires.going.low in
+    let positive : 0 < s.number = omega (arith, number, next_is, low) in
+    let log_is : log_of c.args.outcome.now ≡ woke.0.run.log = ap (λ (x : Values). x.log) values ∙ sym (ap (λ (q : Progress). q.log) is.0) in
+    let vehicle_mid : mid.keeper.memory.registration ≡ vehicle_in o = ap (λ (k : Keeper). k.memory.registration) begun.keeper ∙ vehicle in
+    let cards_begun = wakes-cards o done s woke.0 (waiting_in Driver first_card ++ others) mid c.args.outcome.now (devices W X Y) woke.1 log_is (unit-alone o (log_of c.args.outcome.now) _ _ U W X Y shown) in
+    let cards_one = driver-woken o done s woke.0 first_card others mid c.args.outcome.now (devices W X Y) woke.1 once refl bare positive vehicle_mid cards_begun c.moment-at.result now c.args.speed speed_is (is_err c.accept_anew.result) one out1 c.accept_anew.ensures.accepted (devices V1 X1 Y1)
+    (λ none P. same-devices P g.M.Medium.state g.C.Chip.state g.D.Chip.state c.mend.new.unit c.accept_anew.new.unit c.args.card_a.now c.accept_anew.new.card_a c.args.card_b.now c.accept_anew.new.card_b (c.accept_anew.ensures.still none)) (time-before (devices V1 X1 Y1) (devices (g.M.Medium.state c.accept_anew-2.new.unit) (g.C.Chip.state c.accept_anew-2.new.card_a) (g.D.Chip.state c.accept_anew-2.new.card_b)) c.accept_anew-2.ensures.clock c.accept_anew-2.ensures.clock_a c.accept_anew-2.ensures.clock_b time_two) recorded_one (c.accept_anew.ensures.cards (omega (arith, room, few))) in
+    let vehicle_one : one.keeper.memory.registration ≡ vehicle_in o = ap (λ (m : Identity). m.registration) same_one.0 ∙ vehicle_mid in
+    let cards_two = codriver-woken o done s woke.0 second_card one out1 (devices V1 X1 Y1) behind_one refl bare_too positive vehicle_one (subst (λ (f : Bool). WakesOn f o done s woke.0.run.log (log_of out1) (devices V1 X1 Y1)) well cards_one)
+    c.moment-at.result now c.args.speed speed_is (is_err c.accept_anew-2.result) two out2 c.accept_anew-2.ensures.accepted (devices V2 X2 Y2)
+    (λ none P. same-devices P g.M.Medium.state g.C.Chip.state g.D.Chip.state c.accept_anew.new.unit c.accept_anew-2.new.unit c.accept_anew.new.card_a c.accept_anew-2.new.card_a c.accept_anew.new.card_b c.accept_anew-2.new.card_b (c.accept_anew-2.ensures.still none)) time_two recorded_two
+    (c.accept_anew-2.ensures.cards (omega (arith, room, few, few_too, none_waits, waits_none, t, same_room))) in
+    let vehicle_two : two.keeper.memory.registration ≡ vehicle_in o = ap (λ (m : Identity). m.registration) same_two.0 ∙ vehicle_one in
+    let began : x.within.b ≡ woke.0 = both.waking.began in
+    let off_x = subst (λ (y : Beginning). (went y.run.log done).before.running ≡ false) (sym began) both.waking.starts in
+    let bare_x = subst (λ (y : Beginning). AreBare (went y.run.log done).before.slots) (sym began) woken.0.bare in
+    let log_x : x.within.b.run.log ≡ (found_again k (progress v supply r.book)).log = ap (λ (b : Beginning). b.run.log) began ∙ ap (λ (q : Progress). q.log) is.0 in
+    let cards_x = subst (λ (y : Beginning). CardsWaking o done s y.run.log (log_of out2) (devices V2 X2 Y2)) (sym began) (subst (λ (f : Bool). WakesOn f o done s woke.0.run.log (log_of out2) (devices V2 X2 Y2)) fine cards_two) in
+    let began_log : x.within.b.run.log ≡ log_of c.args.outcome.now = ap (λ (b : Beginning). b.run.log) began ∙ sym log_is in
+    let here : two.next ≡ s.number = x.within.next ∙ sym x.within.moment.number in
+    let same_gap : gap_of k s.number ≡ gap_of c.last_kept-kept.result two.next = ap (λ (n : ℕ). gap_of n s.number) (sym kept) ∙ ap (gap_of c.last_kept-kept.result) (sym here) in
+    let goes = c.note_gap.ensures.recorded o done s out2 x (λ first. comes) in
+    let vehicle_new : new.keeper.memory.registration ≡ vehicle_in o = ap (λ (m : Identity). m.registration) stays ∙ vehicle_two in
+    woken-all (is_err c.note_gap.result) o done s x.within.b.run.log (log_of c.args.outcome.now) new (log_of out3) (devices V3 X3 Y3) began_log vehicle_new
+    (gap-shown o done s two out2 (devices V2 X2 Y2) (devices V3 X3 Y3) x (ungiven_of lit.span) lit.cabin off_x bare_x positive (gap_of c.last_kept-kept.result two.next)
+    (λ crew. some-list o done s supply v (devices U X Y) (devices W X Y) r may number given k evented quiet is.2 woken.2 x.within.b.run.log log_x told_before crew ∙ ap (λ (q : Option Span). gap_list q crew) same_gap) vehicle_two cards_x
+    (is_err c.note_gap.result) new c.note_gap.new.breaks c.note_gap.ensures.noted.0 c.note_gap.ensures.noted.1 (c.note_gap.ensures.leaves o done s out2 x comes).0
+    (λ fails. (subst (λ (q : Bool). GoesOnOrFails q o done s (In 0) [] new out3 (devices V3 X3 Y3) x.within.b) fails goes).within.moment.up_to.uncut) c.note_gap.ensures.card_events)
 
 -- ---- what holds of the devices after any calls
 

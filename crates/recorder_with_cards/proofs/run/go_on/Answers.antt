@@ -8,6 +8,8 @@ use Rattle.run_outcome.specs.declared.outcome.Outcome.{Outcome}
 use Rattle.run_acts.specs.RunRinged.{RunRinged}
 use Rattle.recorder_with_cards.specs.Recorded.{actions_in, HasRunBy}
 use Rattle.recorder_with_cards.proofs.SecondsRinged.{off-ringed}
+use Rattle.recorder_with_cards.specs.Carded.{RunCarded}
+use Rattle.recorder_with_cards.proofs.SecondsCards.{off-carded}
 use Rattle.tach_media.proofs.Runs.{on_ok, ok_gives}
 use Rattle.trace_model.specs.declared.Item.{Item}
 use Rattle.trace_text.specs.Line.{InRange}
@@ -161,6 +163,29 @@ returns-in-Run-clause-ringed g c = λ many o done few r time.
     let acts : List Action = actions_in (between c.args.from c.args.to c.args.items.now) in
     subst (λ (i : Item). HasRunBy RunRinged c.drive.result o (done ++ seconds_at c.args.run.now.next acts i) c.drive.new.run c.drive.new.outcome (devices (g.M.Medium.state c.drive.new.unit) (g.C.Chip.state c.drive.new.card_a) (g.D.Chip.state c.drive.new.card_b))) (sym c.in-Run.is)
     (c.drive.ensures.ringed many (omega (arith, few, many)) o done r time)
+
+-- ---- and the events on the cards
+
+pub returns-in-Act-clause-cards : goal.returns-in-Act-clause-cards
+returns-in-Act-clause-cards g c = λ many o done few r time.
+    let d : Devices = devices (g.M.Medium.state c.args.unit.now) (g.C.Chip.state c.args.card_a.now) (g.D.Chip.state c.args.card_b.now) in
+    let acts : List Action = actions_in (between c.args.from c.args.to c.args.items.now) in
+    subst (λ (i : Item). RunCarded o (done ++ seconds_at c.args.run.now.next acts i) c.args.run.now c.args.outcome.now d) (sym c.in-Act.is)
+    (subst (λ (ss : List TraceSecond). RunCarded o ss c.args.run.now c.args.outcome.now d) (sym (append-nil done)) r)
+
+pub returns-in-Off-clause-cards : goal.returns-in-Off-clause-cards
+returns-in-Off-clause-cards g c = λ many o done few r time.
+    let d : Devices = devices (g.M.Medium.state c.args.unit.now) (g.C.Chip.state c.args.card_a.now) (g.D.Chip.state c.args.card_b.now) in
+    let acts : List Action = actions_in (between c.args.from c.args.to c.args.items.now) in
+    let out : Outcome = record c.args.outcome.now { breaks = c.off.new.breaks } in
+    subst (λ (i : Item). RunCarded o (done ++ seconds_at c.args.run.now.next acts i) c.off.new.self out d) (sym c.in-Off.is)
+    (off-carded o done c.args.run.now c.args.outcome.now d r c.requires.going.low c.in-Off.seconds (subst InRange c.in-Off.is c.requires.item).0 c.off.new.breaks c.off.ensures.breaks c.off.new.self c.off.ensures.run)
+
+pub returns-in-Run-clause-cards : goal.returns-in-Run-clause-cards
+returns-in-Run-clause-cards g c = λ many o done few r time.
+    let acts : List Action = actions_in (between c.args.from c.args.to c.args.items.now) in
+    subst (λ (i : Item). HasRunBy RunCarded c.drive.result o (done ++ seconds_at c.args.run.now.next acts i) c.drive.new.run c.drive.new.outcome (devices (g.M.Medium.state c.drive.new.unit) (g.C.Chip.state c.drive.new.card_a) (g.D.Chip.state c.drive.new.card_b))) (sym c.in-Run.is)
+    (c.drive.ensures.cards many (omega (arith, few, many)) o done r time)
 
 -- ---- how often the unit broke down
 

@@ -17,12 +17,12 @@ use Rattle.run_crew.specs.Cards.{known_of as known_in}
 use Rattle.run_opening.specs.Begun.{known_of, IsReady}
 use Rattle.run_opening.specs.Begun.{IsRefusedBy as IsRefusedAs}
 use Rattle.run_opening.specs.Cards.{IsFoundOn}
-use Rattle.run_acts.specs.RunRinged.{RunRinged}
+use Rattle.recorder_with_cards.specs.Carded.{RunCarded}
 use Rattle.recorder_with_cards.specs.Ends.{BeginAs, opened_with, origin_of}
 use Rattle.recorder_with_cards.specs.Recorded.{actions_in}
 use Rattle.recorder_with_cards.specs.Items.{between}
 use Rattle.recorder_with_cards.proofs.Waiting.{Waits, waits-none, waits-more, seconds-none, seconds-more, total-parts}
-use Rattle.recorder_with_cards.proofs.Promised.{both, more-devices, chip_of, begins-with, promised, may-record, is-found, starts-ringed}
+use Rattle.recorder_with_cards.proofs.Promised.{both, more-devices, chip_of, begins-with, promised, may-record, is-found, starts-carded}
 use Rattle.std.specs.Prelude.{IfErr}
 use Rattle.std.proofs.lemmas.Grind.{common_steps}
 use Rattle.trace_model.specs.declared.Card.{Card}
@@ -37,6 +37,7 @@ use Rattle.run_outcome.specs.Room.{offs, off_count, insertions}
 use Rattle.run_outcome.proofs.Items.{seconds-here, offs-here}
 use Rattle.run_acts.specs.declared.run.Power.{Power}
 use Rattle.run_acts.specs.Power.{is_lit}
+use Rattle.minute_model.specs.Span.{ungiven_of}
 use Rattle.run_acts.specs.Going.{CardAt, IsFoundLater}
 use Rattle.run_acts.specs.Room.{cuts_from, HasRoom}
 use Rattle.recorder_with_cards.specs.Items.{insertions_in}
@@ -104,7 +105,7 @@ loop-i-init g c =
           let now : Devices = devices (g.U.Medium.state c.judge.new.unit) (g.C.Chip.state c.judge.new.card_a) (g.C.Chip.state c.judge.new.card_b) in
           let ready : IsReady (opened_with x a b) c.args.trace.now.start c.in_ok-opened.opened began now = e.begins (opened_with x a b) (begins-with x a b [] (record { breaks = []; refused = []; finds = [] }) began h) in
           (may-record x a b c.args.trace.now.start began now c.in_ok-opened.opened ready, is-found x a b c.args.trace.now.start began now c.in_ok-opened.opened ready);
-      ringed = λ x a b h time few.
+      cards = λ x a b h time few.
           let began : Devices = devices (g.U.Medium.state c.args.unit.now) (g.C.Chip.state c.args.card_a.now) (g.C.Chip.state c.args.card_b.now) in
           let now : Devices = devices (g.U.Medium.state c.judge.new.unit) (g.C.Chip.state c.judge.new.card_a) (g.C.Chip.state c.judge.new.card_b) in
           let start : ℕ = c.args.trace.now.start in
@@ -113,8 +114,8 @@ loop-i-init g c =
           let chips = chip_of (g.C.Chip.card c.judge.new.card_a) (g.C.Chip.card c.judge.new.card_b) in
           let low = c.new-run.ensures.odometer in
           let same_odometer = ap (λ (k : Keeper). k.odometer) keeper in
-          subst (λ (ss : List TraceSecond). RunRinged (origin_of x a b start began) ss run c.args.outcome.now now) (sym (seconds-none start))
-          (starts-ringed x a b start began now opened ready
+          subst (λ (ss : List TraceSecond). RunCarded (origin_of x a b start began) ss run c.args.outcome.now now) (sym (seconds-none start))
+          (starts-carded x a b start began now opened ready
           (both (λ k. IsCoherent (card_of now k)) (g.met.C.Chip.coherent c.judge.new.card_a) (g.met.C.Chip.coherent c.judge.new.card_b))
           (g.met.U.Medium.coherent c.judge.new.unit)
           chips
@@ -180,7 +181,7 @@ loop-i-preserved g c =
       later = later-then (devices (g.U.Medium.state c.args.unit.now) (g.C.Chip.state c.args.card_a.now) (g.C.Chip.state c.args.card_b.now)) (devices (g.U.Medium.state c.loop-i.unit) (g.C.Chip.state c.loop-i.card_a) (g.C.Chip.state c.loop-i.card_b)) (devices (g.U.Medium.state c.go_on.new.unit) (g.C.Chip.state c.go_on.new.card_a) (g.C.Chip.state c.go_on.new.card_b)) v.later f.later;
       broke = broke-then v.broke f.broke;
       told = v.told;
-      ringed = λ x a b h time few.
+      cards = λ x a b h time few.
           let began : Devices = devices (g.U.Medium.state c.args.unit.now) (g.C.Chip.state c.args.card_a.now) (g.C.Chip.state c.args.card_b.now) in
           let now : Devices = devices (g.U.Medium.state c.go_on.new.unit) (g.C.Chip.state c.go_on.new.card_a) (g.C.Chip.state c.go_on.new.card_b) in
           let start : ℕ = c.args.trace.now.start in
@@ -191,10 +192,10 @@ loop-i-preserved g c =
           let parts = total-parts items i in
           let at = v.next in
           let here : number_after start (take i items) ≡ c.loop-i.run.next = omega (arith, parts, at) in
-          let was = v.ringed x a b h (f.time time) few in
-          subst (λ (ss : List TraceSecond). RunRinged o ss c.go_on.new.run c.go_on.new.outcome now)
+          let was = v.cards x a b h (f.time time) few in
+          subst (λ (ss : List TraceSecond). RunCarded o ss c.go_on.new.run c.go_on.new.outcome now)
           (sym (seconds-more start items i c.loop-i.first item c.loop-i.run.next c.get-item.ensures here v.waits))
-          (f.ringed many o (seconds_of start (take i items)) little was time);
+          (f.cards many o (seconds_of start (take i items)) little was time);
     }
 
 -- ---- a unit that is read anew
@@ -222,7 +223,8 @@ returns-clause-recorded g c = λ x a b h time few.
     let whole = take_all c.loop-i.i items (omega (arith, c.loop-i-test.false, c.len-i-end.ensures)) in
     let told = v.told x a b h in
     promised x a b start items began now c.loop-i.run c.loop-i.outcome
-    (subst (λ (is : List Item). RunRinged (origin_of x a b start began) (seconds_of start is) c.loop-i.run c.loop-i.outcome now) whole (v.ringed x a b h time few))
+    (subst (λ (is : List Item). RunCarded (origin_of x a b start began) (seconds_of start is) c.loop-i.run c.loop-i.outcome now) whole (v.cards x a b h time few))
+    (λ lit. let on = v.going.lit (ap is_lit lit) in (ungiven_of on.span, on.cabin))
     (g.met.U.Medium.coherent c.loop-i.unit) (both (λ k. IsCoherent (card_of now k)) (g.met.C.Chip.coherent c.loop-i.card_a) (g.met.C.Chip.coherent c.loop-i.card_b)) told.0 told.1
 
 pub returns-clause-begun : goal.returns-clause-begun
@@ -245,7 +247,7 @@ returns-in_err-go_on-clause-fault g c = λ x a b h time few.
     let many = v.waits.count in
     let first = v.first in
     let low : c.loop-i.i < length items = omega (arith, c.loop-i-test.true, c.len-i-end.ensures) in
-    absurd (f.ringed many (origin_of x a b c.args.trace.now.start (devices (g.U.Medium.state c.args.unit.now) (g.C.Chip.state c.args.card_a.now) (g.C.Chip.state c.args.card_b.now))) (seconds_of c.args.trace.now.start (take c.loop-i.i items)) (omega (arith, many, few, low, first)) (v.ringed x a b h (f.time time) few) time)
+    absurd (f.cards many (origin_of x a b c.args.trace.now.start (devices (g.U.Medium.state c.args.unit.now) (g.C.Chip.state c.args.card_a.now) (g.C.Chip.state c.args.card_b.now))) (seconds_of c.args.trace.now.start (take c.loop-i.i items)) (omega (arith, many, few, low, first)) (v.cards x a b h (f.time time) few) time)
 
 pub returns-clause-later : goal.returns-clause-later
 returns-clause-later g c = c.loop-i.invariant.later
