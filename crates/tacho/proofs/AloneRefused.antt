@@ -10,9 +10,9 @@ use Rattle.run_rule.specs.Between.{devices}
 use Rattle.run_opening.specs.Units.{IsUnitRefused}
 use Rattle.run_opening.specs.declared.fault.RunFault.{RunFault}
 use Rattle.run_opening.specs.declared.fault.RunFault.TheVariants.{MediumFault, BadUnit, ClockBack, SameCard}
-use Rattle.run_acts.specs.Going.{IsFoundLater}
+use Rattle.recorder_with_cards.specs.Words.{IsFoundLater}
 use Rattle.run_outcome.specs.declared.outcome.Outcome.{Outcome}
-use Rattle.run_keeping.specs.Books.{HaveTime}
+use Rattle.recorder_with_cards.specs.Words.{HaveTime}
 use Rattle.recorder_with_cards.specs.Ends.{BeginAs, IsKeptFrom}
 use Rattle.recorder_with_cards.specs.Gone.{IsRefusedBy}
 use Rattle.tacho.specs.Alone.{StartsAs, IsUnitFault, IsRefusedAlone}

@@ -32,7 +32,7 @@ use Rattle.event_course.specs.Shown.{first_begin, first_on, count_on, ShowsRun}
 use Rattle.event_course.proofs.Bridge.{events-plain}
 use Rattle.run_rule.specs.Between.{devices}
 use Rattle.run_outcome.specs.declared.outcome.Outcome.{Outcome}
-use Rattle.run_acts.specs.Recording.{log_of}
+use Rattle.recorder_with_cards.specs.Words.{log_of}
 use Rattle.recorder_with_cards.specs.Ends.{recording_of, EndsTrace}
 use Rattle.tacho.specs.Blank.{no_image}
 use Rattle.tacho.specs.Alone.{IsForUnit, NoVerdict, history_of, lost_of, IsAlone}

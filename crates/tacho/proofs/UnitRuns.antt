@@ -15,8 +15,8 @@ use Rattle.unit_model.specs.Decoding.{Decodes, first_bad_place}
 use Rattle.run_opening.specs.declared.fault.RunFault.{RunFault}
 use Rattle.run_opening.specs.declared.fault.RunFault.TheVariants as run
 use Rattle.run_opening.specs.Units.{IsUnitRefused}
-use Rattle.run_acts.specs.Recording.{log_of}
-use Rattle.run_acts.specs.Going.{IsFoundLater}
+use Rattle.recorder_with_cards.specs.Words.{log_of}
+use Rattle.recorder_with_cards.specs.Words.{IsFoundLater}
 use Rattle.log_model.specs.Causes.{cuts, tears}
 use Rattle.recorder_with_cards.proofs.WholeOdometer.{whole-odometer}
 use Rattle.run_outcome.specs.declared.outcome.Outcome.{Outcome}

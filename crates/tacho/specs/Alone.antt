@@ -28,8 +28,8 @@ use Rattle.event_course.specs.Shown.{ShowsRun}
 use Rattle.run_opening.specs.declared.fault.RunFault.{RunFault}
 use Rattle.run_opening.specs.declared.fault.RunFault.TheVariants.{MediumFault, BadUnit, ClockBack, SameCard}
 use Rattle.run_opening.specs.Units.{IsUnitRefused}
-use Rattle.run_acts.specs.Recording.{log_of}
-use Rattle.run_acts.specs.Going.{IsFoundLater}
+use Rattle.recorder_with_cards.specs.Words.{log_of}
+use Rattle.recorder_with_cards.specs.Words.{IsFoundLater}
 use Rattle.run_outcome.specs.declared.outcome.Outcome.{Outcome}
 use Rattle.recorder_with_cards.specs.Ends.{recording_of}
 use Rattle.recorder_with_cards.specs.KeptAfter.{TellsKept}

@@ -10,8 +10,8 @@ use Rattle.safety_model.specs.Unit.{HasEachDecided, IsFilled}
 use Rattle.recorder_with_cards.specs.Whole.{HasWholeOdometer}
 use Rattle.run_opening.specs.Units.{IsUnitRefused}
 use Rattle.run_opening.specs.declared.fault.RunFault.{RunFault}
-use Rattle.run_acts.specs.Recording.{log_of}
-use Rattle.run_acts.specs.Going.{IsFoundLater}
+use Rattle.recorder_with_cards.specs.Words.{log_of}
+use Rattle.recorder_with_cards.specs.Words.{IsFoundLater}
 use Rattle.run_outcome.specs.declared.outcome.Outcome.{Outcome}
 use Rattle.trace_model.specs.declared.Item.{Item}
 use Rattle.trace_model.specs.Trace.{seconds_of}

@@ -266,5 +266,3 @@ returns-clause-places g c =
 
 pub returns-clause-calm : goal.returns-clause-calm
 returns-clause-calm g c = c.keep_all.ensures.calm
-
--- ---- which faults are noted
