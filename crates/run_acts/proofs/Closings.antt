@@ -60,8 +60,8 @@ goes-so w i later mine some m s =
 
 -- none of a card
 none-behind : (w : Withdrawal) (i : InsertionNote) (is : List InsertionNote) (b : Bool) → same_card i.accepted.card w.card ≡ b → (b || later_one w is) ≡ false → (later_one w is ≡ false → withdrawals_in w.card is ≡ []) → withdrawals_in w.card (i ∷ is) ≡ []
-none-behind w i is true mine no rest = absurd (let wrong : true ≡ false = no in cc)
-none-behind w i is false other no rest = in-others w.card i is (same-turned w.card i.accepted.card ∙ other) ∙ rest no
+none-behind w i is true mine empty rest = absurd (let wrong : true ≡ false = empty in cc)
+none-behind w i is false other empty rest = in-others w.card i is (same-turned w.card i.accepted.card ∙ other) ∙ rest empty
 
 none-in : (w : Withdrawal) (is : List InsertionNote) → later_one w is ≡ false → withdrawals_in w.card is ≡ []
 none-in w [] none = refl
