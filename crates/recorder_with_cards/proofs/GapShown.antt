@@ -218,10 +218,14 @@ or-true : (b t : Bool) → t ≡ true → (b || t) ≡ true
 or-true true t is = refl
 or-true false t is = is
 
+told-here : (u : ℕ) (slot : Slot) → tears_here u (In 0) slot (tear_of slot (record { second = u; begun = 0; late = false })) ≡ true
+told-here u Driver = ap (λ (b : Bool). b && true && true) (number-same u)
+told-here u CoDriver = ap (λ (b : Bool). b && true && true) (number-same u)
+
 tear-told : (log : RunLog) (u : ℕ) (slot : Slot) → is_torn_in (and_break log (tear_of slot (record { second = u; begun = 0; late = false }))) u (In 0) slot ≡ true
 tear-told log u slot =
     (break-more log (tear_of slot (record { second = u; begun = 0; late = false })) u).torn (In 0) slot
-    ∙ or-true (is_torn_in log u (In 0) slot) (tears_here u (In 0) slot (tear_of slot (record { second = u; begun = 0; late = false }))) (λ i. number-same u i && true && same-slot slot i)
+    ∙ or-true (is_torn_in log u (In 0) slot) (tears_here u (In 0) slot (tear_of slot (record { second = u; begun = 0; late = false }))) (told-here u slot)
 
 finds-same : (log later : RunLog) → later.finds ≡ log.finds → (u : ℕ) (p : Phase) (slot : Slot) → found_in later u p slot ≡ found_in log u p slot
 unfolding found_in
@@ -300,3 +304,7 @@ none-noted cards own d c = by (session_of cards c)
 pub woken-all : (failed : Bool) (o : Origin) (done : List TraceSecond) (s : TraceSecond) (began first : RunLog) (run : Run) (log : RunLog) (d : Devices) → began ≡ first → run.keeper.memory.registration ≡ vehicle_in o → GapOn failed o done s began log d → CardsWoken failed first o done s run log d
 woken-all false o done s began first run log d is vehicle h = (vehicle, subst (λ (l : RunLog). CardsIn o done s l [] log d) is h)
 woken-all true o done s began first run log d is vehicle h = (vehicle, h)
+
+-- and no call failed in that
+pub none-fails : {T : Type 0} → false ≡ true → T
+none-fails is = absurd (let wrong : false ≡ true = is in cc)

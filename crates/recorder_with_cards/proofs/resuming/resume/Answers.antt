@@ -80,7 +80,7 @@ use Rattle.run_acts.specs.Noting.{NoGap, AreGapEvents}
 use Rattle.run_acts.specs.RunCards.{vehicle_in, CardsBehind, CardsWaking}
 use Rattle.recorder_with_cards.specs.CardsWoken.{CardsWoken}
 use Rattle.recorder_with_cards.proofs.GapEvented.{gap_events as gap_list}
-use Rattle.recorder_with_cards.proofs.GapShown.{some-list, none-list, gap-shown, none-noted, woken-all}
+use Rattle.recorder_with_cards.proofs.GapShown.{some-list, none-list, gap-shown, none-noted, none-fails, woken-all}
 use Rattle.recorder_with_cards.proofs.WakesCards.{WakesOn, unit-alone, unpowered-cards, wakes-cards, driver-woken, codriver-woken}
 use Rattle.run_keeping.proofs.Calm.{calm-of-unit, calm-then}
 use Rattle.recorder_with_cards.proofs.resuming.resume.Goals as goal
@@ -1525,7 +1525,7 @@ returns-then-is_first-clause-cards g c = λ room o origin done s supply v r stay
     let began_log : x.within.b.run.log ≡ log_of c.args.outcome.now = ap (λ (b : Beginning). b.run.log) began ∙ sym log_is in
     woken-all false o done s x.within.b.run.log (log_of c.args.outcome.now) two (log_of out2) (devices V2 X2 Y2) began_log vehicle_two
     (gap-shown o done s two out2 (devices V2 X2 Y2) (devices V2 X2 Y2) x (ungiven_of lit.span) lit.cabin off_x bare_x positive None (none-list o done s supply v (devices U X Y) (devices W X Y) r may number given k evented quiet is.2 woken.2 x.within.b.run.log log_x untold) vehicle_two cards_x
-    false two out2.breaks NoGap (refl, refl, refl) (left-itself o (devices V2 X2 Y2)) (λ bad. absurd (let wrong : false ≡ true = bad in cc)) (none-noted two.keeper.cabin.cards two.keeper.memory.registration (devices V2 X2 Y2)))
+    false two out2.breaks NoGap (refl, refl, refl) (left-itself o (devices V2 X2 Y2)) (λ bad. none-fails bad) (none-noted two.keeper.cabin.cards two.keeper.memory.registration (devices V2 X2 Y2)))
 
 pub returns-clause-cards : goal.returns-clause-cards
 returns-clause-cards g c = λ room o origin done s supply v r stay may number given speed_is values evented limit vehicle shown time.
