@@ -1,4 +1,4 @@
-use std::alloc::AllocError;
+use std::alloc::{AllocError, AllocFailed};
 use tach_media::{Failed, Memory};
 use trace_text::TraceFault;
 
@@ -21,6 +21,12 @@ pub enum Untold {
 
 impl From<AllocError> for Untold {
     fn from(_error: AllocError) -> Untold {
+        Untold::Memory
+    }
+}
+
+impl<T: Drop> From<AllocFailed<T>> for Untold {
+    fn from(_error: AllocFailed<T>) -> Untold {
         Untold::Memory
     }
 }
