@@ -18,7 +18,7 @@ use Rattle.trace_text.specs.Judged.{IsTraceText}
 use Rattle.run_keeping.specs.Books.{HaveTime}
 use Rattle.run_opening.specs.declared.fault.RunFault.{RunFault}
 use Rattle.run_opening.specs.declared.fault.RunFault.TheVariants as run
-use Rattle.recorder.specs.Trace.{IsForUnit}
+use Rattle.tacho.specs.Alone.{IsForUnit}
 use Rattle.recorder_with_cards.specs.Gone.{IsRefusedBy as IsRefusedAt}
 use Rattle.recorder_with_cards.proofs.WholeOdometer.{all-there}
 use Rattle.recorder_with_cards.specs.Ends.{BeginAs, MayRecord, EndsTrace, IsKeptFrom}
@@ -27,18 +27,11 @@ use Rattle.tacho.specs.declared.end.Fault.{Fault}
 use Rattle.tacho.specs.declared.end.Fault.TheVariants.{Done, WriteFault, MediumFault}
 use Rattle.tacho.specs.Outside.{Outside, memory_of}
 use Rattle.tacho.specs.Program.{HasCauses}
-use Rattle.tacho.specs.Outcomes.{IsEmpty, IsRun, IsRefusal, IsTold}
-use Rattle.tacho.specs.CardsRecorded.{refusal_with_cards, devices_of, StartWith, AreSound, HaveCounts, IsTurnedAway, IsRefusedBy, EndsWithCards}
-use Rattle.tacho.proofs.Recordings.{none-bad, refused-no-run}
+use Rattle.tacho.specs.Outcomes.{IsEmpty, IsRun, IsRefusal, IsTold, refusal_of_run}
+use Rattle.tacho.specs.CardsRecorded.{devices_of, StartWith, AreSound, HaveCounts, IsTurnedAway, IsRefusedBy, EndsWithCards}
+use Rattle.tacho.proofs.Recordings.{none-bad, run-refusal, refused-no-run}
 use Rattle.tacho.proofs.UnitRuns.{run-done}
 use Rattle.tacho.proofs.Unbroken.{none-failed, unbroken-log}
-
--- each fault of such a run is a refusal
-pub cards-refusal : (fault : RunFault) → IsRefusal (refusal_with_cards fault)
-cards-refusal (run.MediumFault device) = tt
-cards-refusal (run.BadUnit place) = tt
-cards-refusal (run.ClockBack kept second) = tt
-cards-refusal (run.SameCard number) = tt
 
 -- no fault has a cause where nothing failed and the trace may be recorded
 none-caused : (old new : Outside) (x a b : List ℕ) (start : ℕ) (fault : RunFault) → AreSound old new → MayRecord x a b start → IsKeptFrom x a b start (devices_of old) (devices_of new) fault → ⊥
@@ -52,7 +45,7 @@ none-caused old new x a b start (run.SameCard number) sound may h = may.numbers 
 -- the cause of a refusal that names a device
 refused-cause : (old new : Outside) (start : ℕ) (before after : Outcome) (fault : RunFault)
     → IsRefusedAt start before after old.unit new.unit old.card_a.memory new.card_a.memory old.card_b.memory new.card_b.memory fault
-    → (device : Device) → refusal_with_cards fault ≡ MediumFault device → Rose (memory_of device old).faults (memory_of device new).faults
+    → (device : Device) → refusal_of_run fault ≡ MediumFault device → Rose (memory_of device old).faults (memory_of device new).faults
 refused-cause old new start before after (run.MediumFault OfUnit) h device is =
     let same : OfUnit ≡ device = cc in
     subst (λ (d : Device). Rose (memory_of d old).faults (memory_of d new).faults) same (⊎_elim (λ was. was.0.0) (λ late. absurd late) h)
@@ -68,10 +61,10 @@ refused-cause old new start before after (run.SameCard number) h device is = abs
 
 pub refused-causes : (old new : Outside) (start : ℕ) (before after : Outcome) (fault : RunFault)
     → IsRefusedAt start before after old.unit new.unit old.card_a.memory new.card_a.memory old.card_b.memory new.card_b.memory fault
-    → old.source.faults ≤ new.source.faults → old.sink.faults ≤ new.sink.faults → HasCauses old new (refusal_with_cards fault)
+    → old.source.faults ≤ new.source.faults → old.sink.faults ≤ new.sink.faults → HasCauses old new (refusal_of_run fault)
 refused-causes old new start before after fault h source sink = record {
-  read_fault = λ is. absurd (subst IsRefusal is (cards-refusal fault));
-  write_fault = λ is. absurd (subst IsRefusal is (cards-refusal fault));
+  read_fault = λ is. absurd (subst IsRefusal is (run-refusal fault));
+  write_fault = λ is. absurd (subst IsRefusal is (run-refusal fault));
   medium_fault = λ device is. refused-cause old new start before after fault h device is;
   reads = source;
   writes = sink;
@@ -101,23 +94,23 @@ module _ (old new : Outside) (outcome : Outcome) (start : ℕ) (items : List Ite
   -- THE RUN WAS REFUSED
   pub cards-refused : (fault : RunFault) → IsTurnedAway start (devices_of old) (devices_of new) outcome fault ⊎ IsFoundLater fault
       → ((x a b : List ℕ) → BeginAs x a b (devices_of old) → HaveTime (devices_of new) → IsKeptFrom x a b start (devices_of old) (devices_of new) fault × IsEmpty outcome)
-      → EndsWithCards old new outcome (refusal_with_cards fault)
+      → EndsWithCards old new outcome (refusal_of_run fault)
   cards-refused fault when refused = record {
     with_cards = not-unit;
-    run = λ s is x a b starts ran. absurd (refused-no-run (refusal_with_cards fault) (cards-refusal fault) ran);
+    run = λ s is x a b starts ran. absurd (refused-no-run (refusal_of_run fault) (run-refusal fault) ran);
     refused = λ s is x a b starts ref. (record { by = fault; is = refl; kept = kept-from s is x a b starts }, (refused x a b starts.begins starts.clocks).1);
     records = λ s is x a b starts sound may. absurd (none-caused old new x a b s fault sound may (kept-from s is x a b starts));
     finds = λ s is x a b starts sound not. record { by = fault; is = refl; kept = kept-from s is x a b starts };
     later = later;
     broke = broke;
-    calm = λ ran. absurd (refused-no-run (refusal_with_cards fault) (cards-refusal fault) ran);
+    calm = λ ran. absurd (refused-no-run (refusal_of_run fault) (run-refusal fault) ran);
     early = λ s is told ref. record {
       by = fault;
       is = refl;
       when = subst (λ (t : ℕ). IsTurnedAway t (devices_of old) (devices_of new) outcome fault ⊎ IsFoundLater fault) (same-trace s is told).0 when;
     };
     unbroken = λ s is x a b starts sound counts. unbroken-log (log_of outcome) (refused x a b starts.begins starts.clocks).1.breaks;
-    whole = λ s is x a b starts sound counts ran. absurd (refused-no-run (refusal_with_cards fault) (cards-refusal fault) ran);
+    whole = λ s is x a b starts sound counts ran. absurd (refused-no-run (refusal_of_run fault) (run-refusal fault) ran);
   }
     where
       kept-from : (s : ℕ) (is : List Item) (x a b : List ℕ) → StartWith x a b s is old new → IsKeptFrom x a b s (devices_of old) (devices_of new) fault

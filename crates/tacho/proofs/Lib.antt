@@ -14,6 +14,12 @@ pub mod Lines
 pub mod Recordings
 pub mod Unbroken
 pub mod UnitRuns
+pub mod Cardless
+pub mod Blank
+pub mod AloneLog
+pub mod AloneNoted
+pub mod AloneRun
+pub mod AloneRefused
 pub mod CardRuns
 pub mod Services
 pub mod LineServices

@@ -13,6 +13,8 @@ use Rattle.trace_text.specs.declared.trace.TraceFault.{TraceFault}
 use Rattle.trace_text.specs.declared.trace.TraceFault.TheVariants as trace
 use Rattle.trace_text.specs.Judged.{IsTraceText, IsBadText, IsLongText, IsFailure}
 use Rattle.unit_model.specs.Decoding.{Decodes, Check, first_failing, first_bad_place, checks}
+use Rattle.run_opening.specs.declared.fault.RunFault.{RunFault}
+use Rattle.run_opening.specs.declared.fault.RunFault.TheVariants as run
 use Rattle.run_outcome.specs.declared.outcome.Outcome.{Outcome}
 use Rattle.run_outcome.specs.Room.{IsReserved}
 use Rattle.tacho.specs.declared.end.Fault.{Fault}
@@ -22,7 +24,7 @@ use Rattle.tacho.specs.End.{end_of, ended_by, refusal_of, IsBeforeDevices}
 use Rattle.tacho.specs.Outside.{Outside, SourceTold}
 use Rattle.tacho.specs.Program.{Ends, HasCauses}
 use Rattle.tacho.specs.Reading.{JudgesTrace}
-use Rattle.tacho.specs.Outcomes.{IsEmpty, outcome_text, IsRecordEnd, IsRun, IsRefusal, IsTold}
+use Rattle.tacho.specs.Outcomes.{IsEmpty, outcome_text, IsRecordEnd, IsRun, IsRefusal, IsTold, refusal_of_run}
 use Rattle.tacho.specs.Recorded.{EndsOn, EndsRecord}
 
 -- an outcome that was reserved has no line
@@ -53,6 +55,13 @@ judges-well old new fault not_bad not_long no_bad no_long = record {
   finds_bad_trace = λ text n told is no_read. absurd (no_bad text n told is);
   finds_too_long = λ text n told is no_read. absurd (no_long text n told is);
 }
+
+-- each fault of a run is a refusal
+pub run-refusal : (fault : RunFault) → IsRefusal (refusal_of_run fault)
+run-refusal (run.MediumFault device) = tt
+run-refusal (run.BadUnit place) = tt
+run-refusal (run.ClockBack kept second) = tt
+run-refusal (run.SameCard number) = tt
 
 -- a run is no refusal, and neither comes before the devices are used
 pub refused-no-run : (fault : Fault) → IsRefusal fault → IsRun fault → ⊥

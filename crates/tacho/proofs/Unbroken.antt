@@ -48,13 +48,13 @@ none-torn (t ∷ told) is =
     ap (λ (xs : List (ℕ × Phase × Slot)). xs ++ torn_of told) here ∙ none-torn told parts.1
 
 -- what stands in no slot is nothing
-no-places : (ps : List (ℕ × Phase × Slot)) → in_the_slot Driver ps ≡ [] → in_the_slot CoDriver ps ≡ [] → ps ≡ []
+pub no-places : (ps : List (ℕ × Phase × Slot)) → in_the_slot Driver ps ≡ [] → in_the_slot CoDriver ps ≡ [] → ps ≡ []
 no-places [] driver codriver = refl
 no-places ((u, p, Driver) ∷ ps) driver codriver = absurd (let e : (u, p, Driver) ∷ in_the_slot Driver ps ≡ [] = driver in cc)
 no-places ((u, p, CoDriver) ∷ ps) driver codriver = absurd (let e : (u, p, CoDriver) ∷ in_the_slot CoDriver ps ≡ [] = codriver in cc)
 
 -- and a failed tear has a place
-no-tears : (log : RunLog) (bs : List Break) → flat_map places (tears true (record log { breaks = bs })) ≡ [] → tears true (record log { breaks = bs }) ≡ []
+pub no-tears : (log : RunLog) (bs : List Break) → flat_map places (tears true (record log { breaks = bs })) ≡ [] → tears true (record log { breaks = bs }) ≡ []
 no-tears log [] none = refl
 no-tears log (Cut second kept failed begun ∷ bs) none = no-tears log bs none
 no-tears log (Tear second slot true begun late ∷ bs) none = absurd (let e : places (Tear second slot true begun late) ++ flat_map places (tears true (record log { breaks = bs })) ≡ [] = none in let f = (both-empty (places (Tear second slot true begun late)) (flat_map places (tears true (record log { breaks = bs }))) e).0 in cc)

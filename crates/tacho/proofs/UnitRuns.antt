@@ -12,26 +12,26 @@ use Rattle.minute_model.specs.declared.Rule.TheVariants.{Original}
 use Rattle.log_model.proofs.Spanning.{seconds-order}
 use Rattle.unit_model.specs.Image.{recorded as days_in, odometer_at, last_kept}
 use Rattle.unit_model.specs.Decoding.{Decodes, first_bad_place}
-use Rattle.recorder.specs.declared.opening.RunFault.{RunFault}
-use Rattle.recorder.specs.declared.opening.RunFault.TheVariants as run
-use Rattle.recorder.specs.Trace.{IsForUnit}
-use Rattle.recorder.specs.Booked.{StartsAs}
-use Rattle.recorder.specs.Gone.{IsRefusedBy}
-use Rattle.recorder.specs.Opening.{IsRefused, IsFoundLater, IsUnitFault}
-use Rattle.recorder.specs.Followed.{NoVerdict, run_log}
+use Rattle.run_opening.specs.declared.fault.RunFault.{RunFault}
+use Rattle.run_opening.specs.declared.fault.RunFault.TheVariants as run
+use Rattle.run_opening.specs.Units.{IsUnitRefused}
+use Rattle.run_acts.specs.Recording.{log_of}
+use Rattle.run_acts.specs.Going.{IsFoundLater}
 use Rattle.log_model.specs.Causes.{cuts, tears}
 use Rattle.recorder_with_cards.proofs.WholeOdometer.{whole-odometer}
 use Rattle.run_outcome.specs.declared.outcome.Outcome.{Outcome}
 use Rattle.tacho.specs.declared.end.Fault.{Fault}
 use Rattle.tacho.specs.declared.end.Fault.TheVariants.{Done, Usage, BadTrace, TooLong, BadUnit, ClockBack, SameCard, ReadFault, WriteFault, MediumFault, Memory, BadFile, BadCard, Changed}
-use Rattle.tacho.specs.Outside.{Outside}
-use Rattle.tacho.specs.Outcomes.{IsEmpty, IsRun, IsRefusal, IsTold}
-use Rattle.tacho.specs.UnitRecorded.{IsOfUnit, refusal_on_unit, breakdowns_in, IsSound, HaveCounts, Starts, IsRecorded, IsAllThere, IsCaused, EndsOnUnit}
-use Rattle.tacho.proofs.Recordings.{none-bad, refused-no-run}
+use Rattle.tacho.specs.Alone.{IsForUnit, NoVerdict, StartsAs, IsUnitFault, IsRefusedAlone}
+use Rattle.tacho.specs.Outside.{Outside, memory_of}
+use Rattle.tacho.specs.Program.{HasCauses}
+use Rattle.tacho.specs.Outcomes.{IsEmpty, IsRun, IsRefusal, IsTold, refusal_of_run}
+use Rattle.tacho.specs.UnitRecorded.{breakdowns_in, IsSound, HaveCounts, Starts, IsRecorded, IsAllThere, IsCaused, EndsOnUnit}
+use Rattle.tacho.proofs.Recordings.{none-bad, run-refusal, refused-no-run}
 use Rattle.tacho.proofs.Unbroken.{none-failed, unbroken-log}
 
 -- the image that a unit tells behind reads alone is the one that it started with
-told-still : (x y : List ℕ) (old new : State) → IsCoherent old → IsCoherent new → StartsAs x old → LeavesOnly old new Unchanged → new.image ≡ Some y → y ≡ x
+pub told-still : (x y : List ℕ) (old new : State) → IsCoherent old → IsCoherent new → StartsAs x old → LeavesOnly old new Unchanged → new.image ≡ Some y → y ≡ x
 told-still x y old new before after alone only told =
     let left : old.may_leave y = ⊎_elim (λ l. l) (λ none. absurd none.2) (only.now y (after.is_left y told)) in
     alone.only y (before.counts_now old.clock y (omega arith) left)
@@ -46,8 +46,8 @@ still x old new P before after alone only holds = by_image new.image refl holds
         let f = rw told at e in absurd (cc)
 
 -- when a trace was refused, where the outcome had no line
-pub refused-on-unit : (start : ℕ) (before after : Outcome) (U V : State) (by : RunFault) → IsEmpty before → IsRefusedBy start before after U V by
-    → (IsRefused start U V by × LeavesOnly U V Unchanged × IsEmpty after) ⊎ IsFoundLater by
+pub refused-on-unit : (start : ℕ) (before after : Outcome) (U V : State) (by : RunFault) → IsEmpty before → IsRefusedAlone start before after U V by
+    → (IsUnitRefused start U V by × LeavesOnly U V Unchanged × IsEmpty after) ⊎ IsFoundLater by
 refused-on-unit start before after U V by empty refused = ⊎_elim (λ h. inl (h.0, h.1, subst IsEmpty (sym h.2) empty)) (λ late. inr late) refused
 
 -- THE RUN WAS REFUSED by the unit
@@ -57,15 +57,15 @@ module _ (old new : Outside) (outcome : Outcome) (start : ℕ) (items : List Ite
   only-lines : (s : ℕ) (is : List Item) → IsTold old s is → IsForUnit is
   only-lines s is told = subst IsForUnit (is_read told.text s is told.told told.trace).1 for_unit
 
-  on-read : (fault : RunFault) → (IsRefused start old.unit new.unit fault × LeavesOnly old.unit new.unit Unchanged × IsEmpty outcome) ⊎ IsFoundLater fault → (s : ℕ) (is : List Item) → IsTold old s is
-      → (IsRefused s old.unit new.unit fault × LeavesOnly old.unit new.unit Unchanged × IsEmpty outcome) ⊎ IsFoundLater fault
+  on-read : (fault : RunFault) → (IsUnitRefused start old.unit new.unit fault × LeavesOnly old.unit new.unit Unchanged × IsEmpty outcome) ⊎ IsFoundLater fault → (s : ℕ) (is : List Item) → IsTold old s is
+      → (IsUnitRefused s old.unit new.unit fault × LeavesOnly old.unit new.unit Unchanged × IsEmpty outcome) ⊎ IsFoundLater fault
   on-read fault when s is told =
-      subst (λ (t : ℕ). (IsRefused t old.unit new.unit fault × LeavesOnly old.unit new.unit Unchanged × IsEmpty outcome) ⊎ IsFoundLater fault) (is_read told.text s is told.told told.trace).0 when
+      subst (λ (t : ℕ). (IsUnitRefused t old.unit new.unit fault × LeavesOnly old.unit new.unit Unchanged × IsEmpty outcome) ⊎ IsFoundLater fault) (is_read told.text s is told.told told.trace).0 when
 
-  pub unit-refused : (fault : RunFault) → IsUnitFault old.unit new.unit fault → HasBroken old.unit new.unit (length (cuts true (run_log outcome)))
-      → (IsRefused start old.unit new.unit fault × LeavesOnly old.unit new.unit Unchanged × IsEmpty outcome) ⊎ IsFoundLater fault
-      → ((x : List ℕ) → StartsAs x old.unit → new.unit.clock < last_count → IsRefused start old.unit new.unit fault × LeavesOnly old.unit new.unit Unchanged × IsEmpty outcome)
-      → EndsOnUnit old new outcome (refusal_on_unit fault)
+  pub unit-refused : (fault : RunFault) → IsUnitFault old.unit new.unit fault → HasBroken old.unit new.unit (length (cuts true (log_of outcome)))
+      → (IsUnitRefused start old.unit new.unit fault × LeavesOnly old.unit new.unit Unchanged × IsEmpty outcome) ⊎ IsFoundLater fault
+      → ((x : List ℕ) → StartsAs x old.unit → new.unit.clock < last_count → IsUnitRefused start old.unit new.unit fault × LeavesOnly old.unit new.unit Unchanged × IsEmpty outcome)
+      → EndsOnUnit old new outcome (refusal_of_run fault)
   unit-refused (run.MediumFault device) of_unit broke when refused = record {
     for_unit = only-lines;
     only = λ d is. let e : device ≡ d = cc in sym e ∙ of_unit.0;
@@ -80,7 +80,7 @@ module _ (old new : Outside) (outcome : Outcome) (start : ℕ) (items : List Ite
     broke = broke;
     calm = λ no. absurd no;
     early = λ s is told ref. record { by = (run.MediumFault device); is = refl; when = on-read (run.MediumFault device) when s is told };
-    unbroken = λ s is x told starts sound counts. unbroken-log (run_log outcome) (refused x starts.alone starts.clock).2.breaks;
+    unbroken = λ s is x told starts sound counts. unbroken-log (log_of outcome) (refused x starts.alone starts.clock).2.breaks;
     whole = λ s is x told starts sound counts no. absurd no;
   }
   unit-refused (run.BadUnit place) of_unit broke when refused =
@@ -100,7 +100,7 @@ module _ (old new : Outside) (outcome : Outcome) (start : ℕ) (items : List Ite
         broke = broke;
         calm = λ no. absurd no;
         early = λ s is told ref. record { by = (run.BadUnit place); is = refl; when = on-read (run.BadUnit place) when s is told };
-        unbroken = λ s is x told starts sound counts. unbroken-log (run_log outcome) (refused x starts.alone starts.clock).2.breaks;
+        unbroken = λ s is x told starts sound counts. unbroken-log (log_of outcome) (refused x starts.alone starts.clock).2.breaks;
         whole = λ s is x told starts sound counts no. absurd no;
       }
   unit-refused (run.ClockBack kept second) of_unit broke when refused =
@@ -132,24 +132,28 @@ module _ (old new : Outside) (outcome : Outcome) (start : ℕ) (items : List Ite
         broke = broke;
         calm = λ no. absurd no;
         early = λ s is told ref. record { by = (run.ClockBack kept second); is = refl; when = on-read (run.ClockBack kept second) when s is told };
-        unbroken = λ s is x told starts sound counts. unbroken-log (run_log outcome) (refused x starts.alone starts.clock).2.breaks;
+        unbroken = λ s is x told starts sound counts. unbroken-log (log_of outcome) (refused x starts.alone starts.clock).2.breaks;
         whole = λ s is x told starts sound counts no. absurd no;
       }
   unit-refused (run.SameCard number) of_unit broke when refused = absurd of_unit
 
--- a fault of the run is the unit's
-pub of-unit : (old new : State) (fault : RunFault) → IsUnitFault old new fault → IsOfUnit fault
-of-unit old new (run.MediumFault device) is = is.0
-of-unit old new (run.BadUnit place) is = tt
-of-unit old new (run.ClockBack kept second) is = tt
-of-unit old new (run.SameCard number) is = is
+-- the cause of a refusal that names a device
+unit-cause : (old new : Outside) (fault : RunFault) → IsUnitFault old.unit new.unit fault → (device : Device) → refusal_of_run fault ≡ MediumFault device → Rose (memory_of device old).faults (memory_of device new).faults
+unit-cause old new (run.MediumFault failed) h device is =
+    let named : failed ≡ device = cc in
+    subst (λ (d : Device). Rose (memory_of d old).faults (memory_of d new).faults) (sym h.0 ∙ named) h.1
+unit-cause old new (run.BadUnit place) h device is = absurd (cc)
+unit-cause old new (run.ClockBack kept second) h device is = absurd (cc)
+unit-cause old new (run.SameCard number) h device is = absurd h
 
--- such a fault is a refusal
-pub unit-refusal : (fault : RunFault) → IsOfUnit fault → IsRefusal (refusal_on_unit fault)
-unit-refusal (run.MediumFault device) of_unit = tt
-unit-refusal (run.BadUnit place) of_unit = tt
-unit-refusal (run.ClockBack kept second) of_unit = tt
-unit-refusal (run.SameCard number) of_unit = of_unit
+pub unit-causes : (old new : Outside) (fault : RunFault) → IsUnitFault old.unit new.unit fault → old.source.faults ≤ new.source.faults → old.sink.faults ≤ new.sink.faults → HasCauses old new (refusal_of_run fault)
+unit-causes old new fault h source sink = record {
+  read_fault = λ is. absurd (subst IsRefusal is (run-refusal fault));
+  write_fault = λ is. absurd (subst IsRefusal is (run-refusal fault));
+  medium_fault = unit-cause old new fault h;
+  reads = source;
+  writes = sink;
+}
 
 -- a run that went well, or could not be printed, is done where no call failed
 pub run-done : (old new : Outside) (fault : Fault) → IsRun fault → (fault ≡ WriteFault → Rose old.sink.faults new.sink.faults) → (Rose old.sink.faults new.sink.faults → ⊥) → fault ≡ Done
@@ -174,7 +178,7 @@ pub unit-run : (old new : Outside) (outcome : Outcome) (start : ℕ) (items : Li
     → ((x : List ℕ) → StartsAs x old.unit → new.unit.clock < last_count → IsRecorded x start items old.unit.clock outcome new.unit)
     → ((x : List ℕ) → StartsAs x old.unit → new.unit.clock < last_count → IsCaused old new start items outcome)
     → ((x : List ℕ) → StartsAs x old.unit → Decodes x × (last_kept x < start / 60))
-    → HasBroken old.unit new.unit (length (cuts true (run_log outcome))) → (cuts true (run_log outcome) ≡ [] → new.unit.breakdowns ≡ old.unit.breakdowns) → Rose old.unit.faults new.unit.faults ⊎ (new.unit.breakdowns ≡ old.unit.breakdowns) → new.card_a.memory ≡ old.card_a.memory → new.card_b.memory ≡ old.card_b.memory
+    → HasBroken old.unit new.unit (length (cuts true (log_of outcome))) → (cuts true (log_of outcome) ≡ [] → new.unit.breakdowns ≡ old.unit.breakdowns) → Rose old.unit.faults new.unit.faults ⊎ (new.unit.breakdowns ≡ old.unit.breakdowns) → new.card_a.memory ≡ old.card_a.memory → new.card_b.memory ≡ old.card_b.memory
     → (fault : Fault) → IsRun fault → (fault ≡ WriteFault → Rose old.sink.faults new.sink.faults) → EndsOnUnit old new outcome fault
 unit-run old new outcome start items for_unit is_read recorded caused begun broke calm unit_unbroken same_a same_b fault ran rose = record {
   for_unit = λ s is told. subst IsForUnit (is_read told.text s is told.told told.trace).1 for_unit;
@@ -194,12 +198,12 @@ unit-run old new outcome start items for_unit is_read recorded caused begun brok
   whole = λ s is x told starts sound counts done cards. there s is x (of_trace s is x (is_read told.text s is told.told told.trace) (recorded x starts.alone starts.clock)) (unbroken_as x starts sound counts).0 cards;
 }
   where
-    there : (s : ℕ) (is : List Item) (x : List ℕ) → IsRecorded x s is old.unit.clock outcome new.unit → cuts true (run_log outcome) ≡ [] → IsAllThere x s is outcome new.unit
+    there : (s : ℕ) (is : List Item) (x : List ℕ) → IsRecorded x s is old.unit.clock outcome new.unit → cuts true (log_of outcome) ≡ [] → IsAllThere x s is outcome new.unit
     there s is x h none cards =
         let f = h cards in
         let w = f.whole none in (
           w.0,
-          λ y left. (w.1 y left, whole-odometer Original cards (run_log outcome) s (seconds_of s is) (seconds-order s is) w.0 (days_in x) (odometer_at x) y (w.1 y left) (f.odometer y left)),
+          λ y left. (w.1 y left, whole-odometer Original cards (log_of outcome) s (seconds_of s is) (seconds-order s is) w.0 (days_in x) (odometer_at x) y (w.1 y left) (f.odometer y left)),
         )
 
     none_broke : IsSound old new → (device : Device) → breakdowns_in new device ≡ breakdowns_in old device
@@ -207,8 +211,8 @@ unit-run old new outcome start items for_unit is_read recorded caused begun brok
     none_broke sound CardA = ap (λ (s : State). s.breakdowns) same_a
     none_broke sound CardB = ap (λ (s : State). s.breakdowns) same_b
 
-    unbroken_as : (x : List ℕ) → Starts x old.unit new.unit → IsSound old new → HaveCounts old → (cuts true (run_log outcome) ≡ []) × (tears true (run_log outcome) ≡ [])
-    unbroken_as x starts sound counts = none-failed NoVerdict (breakdowns_in old) (breakdowns_in new) _ (run_log outcome) counts (none_broke sound) (caused x starts.alone starts.clock)
+    unbroken_as : (x : List ℕ) → Starts x old.unit new.unit → IsSound old new → HaveCounts old → (cuts true (log_of outcome) ≡ []) × (tears true (log_of outcome) ≡ [])
+    unbroken_as x starts sound counts = none-failed NoVerdict (breakdowns_in old) (breakdowns_in new) _ (log_of outcome) counts (none_broke sound) (caused x starts.alone starts.clock)
 
     of_trace : (s : ℕ) (is : List Item) (x : List ℕ) → (start ≡ s) × (items ≡ is) → IsRecorded x start items old.unit.clock outcome new.unit → IsRecorded x s is old.unit.clock outcome new.unit
     of_trace s is x same h = subst (λ (t : ℕ). IsRecorded x t is old.unit.clock outcome new.unit) same.0 (subst (λ (l : List Item). IsRecorded x start l old.unit.clock outcome new.unit) same.1 h)

@@ -11,23 +11,15 @@ use Rattle.run_acts.specs.Recording.{log_of}
 use Rattle.run_acts.specs.Going.{IsFoundLater}
 use Rattle.run_opening.specs.Opening.{IsRefused, IsAsItWas}
 use Rattle.run_opening.specs.declared.fault.RunFault.{RunFault}
-use Rattle.run_opening.specs.declared.fault.RunFault.TheVariants as run
-use Rattle.recorder.specs.Trace.{IsForUnit}
+use Rattle.tacho.specs.Alone.{IsForUnit}
 use Rattle.recorder_with_cards.specs.Whole.{IsAllThere}
 use Rattle.recorder_with_cards.specs.Ends.{recording_of, BeginAs, MayRecord, EndsTrace, IsKeptFrom}
 use Rattle.run_outcome.specs.declared.outcome.Outcome.{Outcome}
 use Rattle.trace_model.specs.declared.Item.{Item}
 use Rattle.tacho.specs.declared.end.Fault.{Fault}
-use Rattle.tacho.specs.declared.end.Fault.TheVariants.{Done, BadUnit, ClockBack, SameCard, MediumFault}
+use Rattle.tacho.specs.declared.end.Fault.TheVariants.{Done}
 use Rattle.tacho.specs.Outside.{Outside}
-use Rattle.tacho.specs.Outcomes.{IsEmpty, IsRun, IsRefusal, IsTold}
-
--- the end by a fault of such a run
-abbrev pub refusal_with_cards : RunFault → Fault
-refusal_with_cards (run.MediumFault device) = MediumFault device
-refusal_with_cards (run.BadUnit place) = BadUnit place
-refusal_with_cards (run.ClockBack kept second) = ClockBack kept second
-refusal_with_cards (run.SameCard number) = SameCard number
+use Rattle.tacho.specs.Outcomes.{IsEmpty, IsRun, IsRefusal, IsTold, refusal_of_run}
 
 -- the unit and both cards
 abbrev pub devices_of : Outside → Devices
@@ -62,14 +54,14 @@ pub record IsTurnedAway (start : ℕ) (old new : Devices) (outcome : Outcome) (b
 -- or by a unit that was read anew at a power-on
 pub record IsNotRecorded (start : ℕ) (old new : Devices) (outcome : Outcome) (fault : Fault) : Type 0 where
   pub by : RunFault
-  pub is : fault ≡ refusal_with_cards by
+  pub is : fault ≡ refusal_of_run by
   pub when : IsTurnedAway start old new outcome by ⊎ IsFoundLater by
 
 -- THE TRACE WAS KEPT FROM BEING RECORDED, for the cause that this end names: a call failed in the opening; or by these images the unit's does
 -- not decode, the clock is back, or both cards have one number. Each device is as it was.
 pub record IsRefusedBy (unit card_a card_b : List ℕ) (start : ℕ) (old new : Outside) (fault : Fault) : Type 0 where
   pub by : RunFault
-  pub is : fault ≡ refusal_with_cards by
+  pub is : fault ≡ refusal_of_run by
   pub kept : IsKeptFrom unit card_a card_b start (devices_of old) (devices_of new) by
 
 -- THE TRACE WAS RECORDED ON THE UNIT AND BOTH CARDS, or one of them kept it from being recorded.

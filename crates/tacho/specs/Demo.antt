@@ -21,8 +21,8 @@ use Rattle.tacho.specs.declared.demo_command.TheConstants.{VEHICLE, CARD}
 use Rattle.tacho.specs.declared.end.Fault.{Fault}
 use Rattle.tacho.specs.declared.end.Fault.TheVariants.{Done, Usage, BadTrace, TooLong, BadUnit, ReadFault, WriteFault, MediumFault, Memory, BadFile, BadCard, Changed}
 use Rattle.tacho.specs.Outside.{Outside}
-use Rattle.tacho.specs.Outcomes.{IsEmpty, IsRun, count_line, outcome_text}
-use Rattle.tacho.specs.CardsRecorded.{refusal_with_cards, devices_of, AreSound}
+use Rattle.tacho.specs.Outcomes.{IsEmpty, IsRun, refusal_of_run, count_line, outcome_text}
+use Rattle.tacho.specs.CardsRecorded.{devices_of, AreSound}
 use Rattle.tacho.specs.Formatting.{card_image, unit_image}
 
 -- THE SEVEN LINES: those of the outcome, the bytes of the unit's file, and its messages of a day
@@ -32,7 +32,7 @@ demo_text outcome size = outcome_text outcome ++ (count_line (codes "file") size
 -- the end where a device failed as it was made new, or the trace was kept from being recorded
 abbrev pub refusal_anew : AnewFault → Fault
 refusal_anew (Unmade device) = MediumFault device
-refusal_anew (Kept fault) = refusal_with_cards fault
+refusal_anew (Kept fault) = refusal_of_run fault
 
 -- and where the unit was not downloaded; the file is in memory
 abbrev pub refusal_of_file : DownloadFault → Fault

@@ -6,6 +6,8 @@ pub mod End
 pub mod Outside
 pub mod Reading
 pub mod Minutes
+pub mod Blank
+pub mod Alone
 pub mod Outcomes
 pub mod UnitRecorded
 pub mod CardsRecorded

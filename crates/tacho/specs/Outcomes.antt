@@ -4,7 +4,9 @@ use Rattle.run_model.specs.declared.Device.{Device}
 use Rattle.run_model.specs.declared.Device.TheVariants.{Unit as OfUnit, CardA, CardB}
 use Rattle.log_model.specs.declared.lines.Mark.{Mark}
 use Rattle.safety_model.specs.Unit.{is_of}
-use Rattle.recorder.specs.Trace.{IsForUnit}
+use Rattle.tacho.specs.Alone.{IsForUnit}
+use Rattle.run_opening.specs.declared.fault.RunFault.{RunFault}
+use Rattle.run_opening.specs.declared.fault.RunFault.TheVariants as run
 use Rattle.run_outcome.specs.declared.outcome.Outcome.{Outcome}
 use Rattle.trace_model.specs.declared.Item.{Item}
 use Rattle.trace_text.specs.declared.trace.Form.TheVariants.{Whole}
@@ -58,6 +60,13 @@ IsRefusal (ClockBack kept second) = Unit {0}
 IsRefusal (SameCard number) = Unit {0}
 IsRefusal (MediumFault device) = Unit {0}
 IsRefusal _ = ⊥
+
+-- the end by a fault of a run
+abbrev pub refusal_of_run : RunFault → Fault
+refusal_of_run (run.MediumFault device) = MediumFault device
+refusal_of_run (run.BadUnit place) = BadUnit place
+refusal_of_run (run.ClockBack kept second) = ClockBack kept second
+refusal_of_run (run.SameCard number) = SameCard number
 
 -- the source told this trace
 pub record IsTold (old : Outside) (start : ℕ) (items : List Item) : Type 0 where

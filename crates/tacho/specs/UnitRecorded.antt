@@ -8,35 +8,20 @@ use Rattle.minute_model.specs.declared.Rule.TheVariants.{Original}
 use Rattle.history_model.specs.Presence.{Start}
 use Rattle.safety_model.specs.Unit.{HasEachDecided, IsFilled}
 use Rattle.recorder_with_cards.specs.Whole.{HasWholeOdometer}
-use Rattle.recorder.specs.Booked.{StartsAs}
-use Rattle.recorder.specs.Followed.{IsFollowed, NoVerdict, breakdowns_of, run_log, told_of, history_of}
-use Rattle.recorder.specs.Opening.{IsRefused, IsFoundLater}
-use Rattle.recorder.specs.Trace.{IsForUnit}
-use Rattle.recorder.specs.declared.opening.RunFault.{RunFault}
-use Rattle.recorder.specs.declared.opening.RunFault.TheVariants as run
+use Rattle.run_opening.specs.Units.{IsUnitRefused}
+use Rattle.run_opening.specs.declared.fault.RunFault.{RunFault}
+use Rattle.run_acts.specs.Recording.{log_of}
+use Rattle.run_acts.specs.Going.{IsFoundLater}
 use Rattle.run_outcome.specs.declared.outcome.Outcome.{Outcome}
 use Rattle.trace_model.specs.declared.Item.{Item}
 use Rattle.trace_model.specs.Trace.{seconds_of}
 use Rattle.unit_model.specs.Image.{recorded, last_kept, odometer_at}
 use Rattle.unit_model.specs.Decoding.{Decodes, first_bad_place}
 use Rattle.tacho.specs.declared.end.Fault.{Fault}
-use Rattle.tacho.specs.declared.end.Fault.TheVariants.{Done, Usage, BadUnit, ClockBack, MediumFault, Memory}
+use Rattle.tacho.specs.declared.end.Fault.TheVariants.{Done, BadUnit, ClockBack, MediumFault}
+use Rattle.tacho.specs.Alone.{IsForUnit, NoVerdict, counts, StartsAs, IsAlone, told_of, history_of}
 use Rattle.tacho.specs.Outside.{Outside}
-use Rattle.tacho.specs.Outcomes.{IsEmpty, IsRun, IsRefusal, IsTold}
-
--- a fault of such a run is the unit's
-abbrev pub IsOfUnit : RunFault → Type 0
-IsOfUnit (run.MediumFault device) = device ≡ OfUnit
-IsOfUnit (run.BadUnit place) = Unit {0}
-IsOfUnit (run.ClockBack kept second) = Unit {0}
-IsOfUnit (run.SameCard number) = ⊥
-
--- the end by it
-abbrev pub refusal_on_unit : RunFault → Fault
-refusal_on_unit (run.MediumFault device) = MediumFault device
-refusal_on_unit (run.BadUnit place) = BadUnit place
-refusal_on_unit (run.ClockBack kept second) = ClockBack kept second
-refusal_on_unit (run.SameCard number) = Usage
+use Rattle.tacho.specs.Outcomes.{IsEmpty, IsRun, IsRefusal, IsTold, refusal_of_run}
 
 -- neither stream failed, and no call on the unit
 pub record IsSound (old new : Outside) : Type 0 where
@@ -51,7 +36,7 @@ pub record Starts (x : List ℕ) (old new : State) : Type 0 where
 
 -- what a run has recorded of a trace, whatever the cards bring: it began with this image, at this clock
 abbrev pub IsRecorded : (x : List ℕ) → (start : ℕ) → List Item → (clock : ℕ) → Outcome → State → Type 0
-IsRecorded x start items clock outcome unit = (cards : Start) → IsFollowed cards x start items clock outcome unit
+IsRecorded x start items clock outcome unit = (cards : Start) → IsAlone cards x start items clock outcome unit
 
 -- each decided minute of a trace stands in the history, whatever the cards bring, and each image that a stop may leave has the start's days
 -- with all of it, of which the newest 366 are retained, and its odometer with each whole kilometre
@@ -61,11 +46,11 @@ IsAllThere x start items outcome unit = (cards : Start) → HasEachDecided Origi
 
 -- how often each device broke down
 abbrev pub breakdowns_in : Outside → Device → ℕ
-breakdowns_in told = breakdowns_of told.unit told.card_a.memory told.card_b.memory
+breakdowns_in told = counts told.unit.breakdowns told.card_a.memory.breakdowns told.card_b.memory.breakdowns
 
 -- each line of the run log of a trace has its cause, and what happened has its line
 abbrev pub IsCaused : (old new : Outside) → (start : ℕ) → List Item → Outcome → Type 0
-IsCaused old new start items outcome = HasCauses NoVerdict (breakdowns_in old) (breakdowns_in new) (seconds_of start items) (run_log outcome)
+IsCaused old new start items outcome = HasCauses NoVerdict (breakdowns_in old) (breakdowns_in new) (seconds_of start items) (log_of outcome)
 
 -- no device has broken down so often that its count stands at the last value
 abbrev pub HaveCounts : Outside → Type 0
@@ -75,8 +60,8 @@ HaveCounts told = (device : Device) → breakdowns_in told device < last_count
 -- read anew at a power-on.
 pub record IsNotRecorded (start : ℕ) (old new : State) (outcome : Outcome) (fault : Fault) : Type 0 where
   pub by : RunFault
-  pub is : fault ≡ refusal_on_unit by
-  pub when : (IsRefused start old new by × LeavesOnly old new Unchanged × IsEmpty outcome) ⊎ IsFoundLater by
+  pub is : fault ≡ refusal_of_run by
+  pub when : (IsUnitRefused start old new by × LeavesOnly old new Unchanged × IsEmpty outcome) ⊎ IsFoundLater by
 
 -- THE TRACE WAS RECORDED ON THE UNIT ALONE, or the unit kept it from being recorded.
 pub record EndsOnUnit (old new : Outside) (outcome : Outcome) (fault : Fault) : Type 0 where
@@ -104,12 +89,12 @@ pub record EndsOnUnit (old new : Outside) (outcome : Outcome) (fault : Fault) : 
   -- Whatever the unit tells, a refusal came in the opening, with the unit as it was and no outcome, or of a unit that was read anew at a power-on.
   pub early : (start : ℕ) (items : List Item) → IsTold old start items → IsRefusal fault → IsNotRecorded start old.unit new.unit outcome fault
   -- Each cut that a failed call made is a breakdown of the unit more.
-  pub broke : HasBroken old.unit new.unit (length (cuts true (run_log outcome)))
+  pub broke : HasBroken old.unit new.unit (length (cuts true (log_of outcome)))
   -- And where the trace was recorded and no failed call has cut the power, the unit has not broken down.
-  pub calm : IsRun fault → cuts true (run_log outcome) ≡ [] → new.unit.breakdowns ≡ old.unit.breakdowns
+  pub calm : IsRun fault → cuts true (log_of outcome) ≡ [] → new.unit.breakdowns ≡ old.unit.breakdowns
   -- Where nothing failed, no call has cut the power.
   pub unbroken : (start : ℕ) (items : List Item) (x : List ℕ) → IsTold old start items → Starts x old.unit new.unit → IsSound old new → HaveCounts old
-      → (cuts true (run_log outcome) ≡ []) × (tears true (run_log outcome) ≡ [])
+      → (cuts true (log_of outcome) ≡ []) × (tears true (log_of outcome) ≡ [])
   -- WHERE NOTHING FAILED, EVERY MINUTE IS THERE: each decided one stands in the history, and the unit has all of it in its newest days.
   pub whole : (start : ℕ) (items : List Item) (x : List ℕ) → IsTold old start items → Starts x old.unit new.unit → IsSound old new → HaveCounts old
       → IsRun fault → IsAllThere x start items outcome new.unit

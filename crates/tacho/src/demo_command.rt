@@ -14,7 +14,7 @@ ghost use Rattle.tacho.specs.Demo.{demo_text as text_of_demo, refusal_anew, refu
 use crate::anew::{AnewFault, run_anew};
 use crate::end::Fault;
 use crate::outcome_text::demo_text;
-use crate::record_command::refusal_with_cards;
+use crate::record_command::refusal_of_run;
 use card_files::{CardIdentity, blank_card};
 use card_layout::LARGEST;
 use demo_file::{FileSize, measure};
@@ -118,7 +118,7 @@ fn refusal_anew(fault: AnewFault) -> Fault
 {
     match fault {
         AnewFault::Unmade(device) => Fault::MediumFault(device),
-        AnewFault::Kept(fault) => refusal_with_cards(fault),
+        AnewFault::Kept(fault) => refusal_of_run(fault),
     }
 }
 

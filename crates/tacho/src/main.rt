@@ -4,7 +4,9 @@
 
 ghost use Rattle.tach_media.specs.Medium.{IsUntouched};
 
+mod alone;
 mod anew;
+mod blank;
 mod card_command;
 mod demo_command;
 mod download_command;

@@ -8,16 +8,14 @@ ghost use Rattle.tacho.specs.End.{end_of, IsBeforeDevices};
 ghost use Rattle.tacho.specs.Outside.{outside};
 ghost use Rattle.tacho.specs.Program.{HasCauses};
 ghost use Rattle.tacho.specs.Formatting.{IsCard};
-ghost use Rattle.tacho.specs.Outcomes.{IsEmpty, outcome_text as text_of_outcome, IsToldForUnit};
+ghost use Rattle.tacho.specs.Outcomes.{IsEmpty, outcome_text as text_of_outcome, IsToldForUnit, refusal_of_run};
 ghost use Rattle.tacho.specs.Recorded.{EndsRecord};
-ghost use Rattle.tacho.specs.UnitRecorded.{IsOfUnit, refusal_on_unit};
-ghost use Rattle.tacho.specs.CardsRecorded.{refusal_with_cards};
 
+use crate::alone::{is_for_unit, record_alone};
 use crate::end::Fault;
 use crate::minutes_command::refusal;
 use crate::outcome_text::outcome_text;
-use recorder::{RunFault as UnitFault, is_for_unit, run_trace as record_on_unit};
-use recorder_with_cards::{RunFault, run_trace as record_with_cards};
+use recorder_with_cards::{RunFault, run_trace};
 use run_outcome::Outcome;
 use std::alloc::Global;
 use tach_media::{Chip, Medium, Sink, Source, put_all};
@@ -57,33 +55,20 @@ pub fn record<S: Source, K: Sink, U: Medium, C: Chip>(
     };
     *outcome = reserved;
     if is_for_unit(&trace.items) {
-        if let Err(fault) = record_on_unit(&trace, unit, card_a, card_b, outcome) {
-            return Err(refusal_on_unit(fault));
+        if let Err(fault) = record_alone(&trace, unit, outcome) {
+            return Err(refusal_of_run(fault));
         }
         return print_outcome(outcome, sink);
     }
-    if let Err(fault) = record_with_cards(&trace, unit, card_a, card_b, outcome) {
-        return Err(refusal_with_cards(fault));
+    if let Err(fault) = run_trace(&trace, unit, card_a, card_b, outcome) {
+        return Err(refusal_of_run(fault));
     }
     print_outcome(outcome, sink)
 }
 
-/// The end where the unit keeps a trace from being recorded on it alone.
-fn refusal_on_unit(fault: UnitFault) -> Fault
-    requires { IsOfUnit fault }
-    ensures { result ≡ refusal_on_unit fault }
-{
-    match fault {
-        UnitFault::MediumFault(device) => Fault::MediumFault(device),
-        UnitFault::BadUnit(place) => Fault::BadUnit(place),
-        UnitFault::ClockBack(kept, second) => Fault::ClockBack(kept, second),
-        UnitFault::SameCard(_) => unreachable!(),
-    }
-}
-
 /// The end where a device, the unit's image or the cards keep a trace from being recorded.
-pub fn refusal_with_cards(fault: RunFault) -> Fault
-    ensures { result ≡ refusal_with_cards fault }
+pub fn refusal_of_run(fault: RunFault) -> Fault
+    ensures { result ≡ refusal_of_run fault }
 {
     match fault {
         RunFault::MediumFault(device) => Fault::MediumFault(device),

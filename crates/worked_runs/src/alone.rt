@@ -1,17 +1,20 @@
-ghost use Rattle.std.specs.Prelude.{IfOk, ◌≡◌, ◌+◌, ◌*◌, ◌<◌, ◌^◌};
+ghost use Rattle.std.specs.Prelude.{IfOk, ◌≡◌, ◌+◌, ◌*◌, ◌<◌, ◌≤◌, ◌^◌};
 ghost use Rattle.tach_media.specs.MemMedium.{memory_state};
+ghost use Rattle.card_layout.specs.declared.files.TheConstants.{LARGEST_IMAGE};
 ghost use Rattle.unit_model.specs.Image.{IsUnit};
 
 use crate::reading::held_by_unit;
-use crate::units::{M0, Room, T0, new_image, stops, unit_with};
-use recorder::{Break, Lines, Mark, Outcome, Refused, RunFault, SlotFault, is_for_unit, run_trace};
+use crate::units::{M0, NO_ROOM, Room, T0, card_with, new_image, stops, unit_with};
+use card_commands::SimCard;
+use card_layout::LARGEST_IMAGE;
+use recorder_with_cards::{Break, Lines, Mark, Outcome, Refused, RunFault, SlotFault, run_trace};
 use run_model::Device;
 use std::alloc::Global;
 use std::process::Abort;
 use std::rt::HostRuntime;
 use std::test::Fail;
-use tach_media::{AbsentChip, Left, Medium, MemMedium, MemSource, Memory, Stop};
-use trace_text::{Form, TraceFault, read_trace};
+use tach_media::{Left, Medium, MemMedium, MemSource, Memory, Stop};
+use trace_text::{Form, read_trace};
 
 /// The room of a unit's log.
 pub const ROOM: Room = Room {
@@ -24,6 +27,14 @@ fn new_unit(alloc: Global, stops: Vec<Stop>) -> Result<MemMedium, Memory>
     ensures { IfOk result (λ unit. IsUnit (memory_state unit.log unit.counts)) }
 {
     unit_with(alloc, new_image(alloc, 0)?, ROOM, stops)
+}
+
+/// A card of zeros, which is not valid, and on which no write is kept.
+fn no_card(alloc: Global) -> Result<SimCard<MemMedium>, Memory>
+    ensures { IfOk result (λ card. LARGEST_IMAGE ≤ (memory_state card.medium.log card.medium.counts).size) }
+{
+    let zeros = vec![in alloc; 0u8; LARGEST_IMAGE as usize]?;
+    card_with(alloc, zeros, NO_ROOM, Vec::new(alloc))
 }
 
 /// Records a trace, which has no line for a card, on a unit.
@@ -40,12 +51,9 @@ pub fn record<U: Medium>(
         Ok(trace) => trace,
         Err(fault) => return Err(Fail::from(fault)),
     };
-    if !is_for_unit(&trace.items) {
-        return Err(Fail::from(TraceFault::BadLine(0)));
-    }
     let mut outcome = Outcome::reserve(alloc, &trace)?;
-    let mut card_a = AbsentChip::new(24959);
-    let mut card_b = AbsentChip::new(24959);
+    let mut card_a = no_card(alloc)?;
+    let mut card_b = no_card(alloc)?;
     let ended = run_trace(&trace, unit, &mut card_a, &mut card_b, &mut outcome);
     Ok((ended, outcome))
 }

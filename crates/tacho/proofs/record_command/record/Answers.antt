@@ -1,41 +1,41 @@
-use Rattle.std.proofs.Common.{ap, subst, sym, arith, refl, inl, inr}
+use Rattle.std.proofs.Common.{subst, sym, arith, refl, inl, inr}
 use Rattle.tacho.specs.Outcomes.{IsEmpty}
-use Rattle.tacho.proofs.Recordings.{reserved-empty, ends-unread, ends-reserving, ends-refused, ends-run}
-use Rattle.tacho.proofs.UnitRuns.{refused-on-unit, of-unit, unit-refused, unit-refusal, unit-run}
-use Rattle.tacho.proofs.CardRuns.{refused-when, refused-causes, cards-refused, cards-refusal, cards-run}
+use Rattle.tacho.proofs.Recordings.{reserved-empty, run-refusal, ends-unread, ends-reserving, ends-refused, ends-run}
+use Rattle.tacho.proofs.UnitRuns.{refused-on-unit, unit-refused, unit-causes, unit-run}
+use Rattle.tacho.proofs.CardRuns.{refused-when, refused-causes, cards-refused, cards-run}
 use Rattle.tacho.proofs.record_command.record.Goals as goal
 
-pub returns-in-Err-record_on_unit-clause-ends : goal.returns-in-Err-record_on_unit-clause-ends
-returns-in-Err-record_on_unit-clause-ends g c =
+pub returns-in-Err-record_alone-clause-ends : goal.returns-in-Err-record_alone-clause-ends
+returns-in-Err-record_alone-clause-ends g c =
     let e = c.in-Ok.ensures in
-    let f = c.in-Err-record_on_unit.ensures in
-    rw c.refusal_on_unit.ensures
-    (ends-refused _ _ _ _ e.finds_bad_line e.finds_too_long (unit-refusal c.in-Err-record_on_unit.fault (of-unit (g.U.Medium.state c.args.unit.now) (g.U.Medium.state c.run_trace.new.unit) c.in-Err-record_on_unit.fault f.fault))
-    (inr (inl (unit-refused _ _ c.run_trace.new.outcome c.in-Ok.trace.start c.in-Ok.trace.items (g.met.U.Medium.coherent c.args.unit.now) (g.met.U.Medium.coherent c.run_trace.new.unit)
-    (c.is_for_unit.ensures.for_unit c.if-is_for_unit.true) e.reads c.in-Err-record_on_unit.fault f.fault f.broke
-    (refused-on-unit c.in-Ok.trace.start c.in-Ok-reserve.reserved c.run_trace.new.outcome _ _ c.in-Err-record_on_unit.fault (reserved-empty c.in-Ok.trace.items c.in-Ok-reserve.reserved c.in-Ok-reserve.ensures) f.early)
+    let f = c.in-Err-record_alone.ensures in
+    rw c.refusal_of_run.ensures
+    (ends-refused _ _ _ _ e.finds_bad_line e.finds_too_long (run-refusal c.in-Err-record_alone.fault)
+    (inr (inl (unit-refused _ _ c.record_alone.new.outcome c.in-Ok.trace.start c.in-Ok.trace.items (g.met.U.Medium.coherent c.args.unit.now) (g.met.U.Medium.coherent c.record_alone.new.unit)
+    (c.is_for_unit.ensures.for_unit c.if-is_for_unit.true) e.reads c.in-Err-record_alone.fault f.fault f.broke
+    (refused-on-unit c.in-Ok.trace.start c.in-Ok-reserve.reserved c.record_alone.new.outcome _ _ c.in-Err-record_alone.fault (reserved-empty c.in-Ok.trace.items c.in-Ok-reserve.reserved c.in-Ok-reserve.ensures) f.early)
     (λ x alone clock.
-    let r = f.refused x alone clock in
+    let r = f.refused x alone clock (omega (arith, e.few)) in
     (r.0, r.1, subst IsEmpty (sym r.2) (reserved-empty c.in-Ok.trace.items c.in-Ok-reserve.reserved c.in-Ok-reserve.ensures)))))))
 
 pub returns-then-is_for_unit-clause-ends : goal.returns-then-is_for_unit-clause-ends
 returns-then-is_for_unit-clause-ends g c =
     let e = c.in-Ok.ensures in
-    let f = c.in_default-record_on_unit.ensures in
-    ends-run _ _ c.run_trace.new.outcome c.print_outcome.result e.end e.finds_bad_line e.finds_too_long
-    (λ fault ran rose. inr (inl (unit-run _ _ c.run_trace.new.outcome c.in-Ok.trace.start c.in-Ok.trace.items (c.is_for_unit.ensures.for_unit c.if-is_for_unit.true) e.reads
-    (λ x alone clock cards. f.followed cards x alone clock (omega (arith, e.few)))
-    (λ x alone clock. f.causes x alone clock (omega (arith, e.few))) f.begun f.broke f.calm f.unbroken (ap g.C.Chip.state f.card_a) (ap g.C.Chip.state f.card_b) fault ran rose)))
+    let f = c.in_default-record_alone.ensures in
+    ends-run _ _ c.record_alone.new.outcome c.print_outcome.result e.end e.finds_bad_line e.finds_too_long
+    (λ fault ran rose. inr (inl (unit-run _ _ c.record_alone.new.outcome c.in-Ok.trace.start c.in-Ok.trace.items (c.is_for_unit.ensures.for_unit c.if-is_for_unit.true) e.reads
+    (λ x alone clock cards. f.recorded cards x alone clock (omega (arith, e.few)))
+    (λ x alone clock. f.causes x _ _ alone clock (omega (arith, e.few))) f.begun f.broke f.calm f.unbroken refl refl fault ran rose)))
     c.print_outcome.ensures.ok c.print_outcome.ensures.err c.print_outcome.ensures.cause
 
-pub returns-in-Err-record_with_cards-clause-ends : goal.returns-in-Err-record_with_cards-clause-ends
-returns-in-Err-record_with_cards-clause-ends g c =
+pub returns-in-Err-run_trace-clause-ends : goal.returns-in-Err-run_trace-clause-ends
+returns-in-Err-run_trace-clause-ends g c =
     let e = c.in-Ok.ensures in
-    let f = c.in-Err-record_with_cards.ensures in
-    rw c.refusal_with_cards.ensures
-    (ends-refused _ _ _ _ e.finds_bad_line e.finds_too_long (cards-refusal c.in-Err-record_with_cards.fault)
-    (inr (inr (cards-refused _ _ c.run_trace-2.new.outcome c.in-Ok.trace.start c.in-Ok.trace.items (c.is_for_unit.ensures.card c.if-is_for_unit.false) f.later f.broke e.reads c.in-Err-record_with_cards.fault
-    (refused-when c.in-Ok.trace.start c.in-Ok-reserve.reserved c.run_trace-2.new.outcome _ _ _ _ _ _ c.in-Err-record_with_cards.fault (reserved-empty c.in-Ok.trace.items c.in-Ok-reserve.reserved c.in-Ok-reserve.ensures) f.refused)
+    let f = c.in-Err-run_trace.ensures in
+    rw c.refusal_of_run-2.ensures
+    (ends-refused _ _ _ _ e.finds_bad_line e.finds_too_long (run-refusal c.in-Err-run_trace.fault)
+    (inr (inr (cards-refused _ _ c.run_trace.new.outcome c.in-Ok.trace.start c.in-Ok.trace.items (c.is_for_unit.ensures.card c.if-is_for_unit.false) f.later f.broke e.reads c.in-Err-run_trace.fault
+    (refused-when c.in-Ok.trace.start c.in-Ok-reserve.reserved c.run_trace.new.outcome _ _ _ _ _ _ c.in-Err-run_trace.fault (reserved-empty c.in-Ok.trace.items c.in-Ok-reserve.reserved c.in-Ok-reserve.ensures) f.refused)
     (λ x a b begins clocks.
     let h = f.fault x a b begins clocks (omega (arith, e.few)) in
     (h.0, subst IsEmpty (sym h.1) (reserved-empty c.in-Ok.trace.items c.in-Ok-reserve.reserved c.in-Ok-reserve.ensures)))))))
@@ -43,15 +43,19 @@ returns-in-Err-record_with_cards-clause-ends g c =
 pub returns-clause-ends : goal.returns-clause-ends
 returns-clause-ends g c =
     let e = c.in-Ok.ensures in
-    let f = c.in_default-record_with_cards.ensures in
-    ends-run _ _ c.run_trace-2.new.outcome c.print_outcome-2.result e.end e.finds_bad_line e.finds_too_long
-    (λ fault ran rose. inr (inr (cards-run _ _ c.run_trace-2.new.outcome c.in-Ok.trace.start c.in-Ok.trace.items (c.is_for_unit.ensures.card c.if-is_for_unit.false) f.later f.broke e.reads
+    let f = c.in_default-run_trace.ensures in
+    ends-run _ _ c.run_trace.new.outcome c.print_outcome-2.result e.end e.finds_bad_line e.finds_too_long
+    (λ fault ran rose. inr (inr (cards-run _ _ c.run_trace.new.outcome c.in-Ok.trace.start c.in-Ok.trace.items (c.is_for_unit.ensures.card c.if-is_for_unit.false) f.later f.broke e.reads
     (λ x a b begins clocks. f.recorded x a b begins clocks (omega (arith, e.few))) f.begun f.calm fault ran rose)))
     c.print_outcome-2.ensures.ok c.print_outcome-2.ensures.err c.print_outcome-2.ensures.cause
 
 -- ---- the cause of a refusal
 
-pub returns-in-Err-record_with_cards-clause-causes : goal.returns-in-Err-record_with_cards-clause-causes
-returns-in-Err-record_with_cards-clause-causes g c =
-    rw c.refusal_with_cards.ensures
-    (refused-causes _ _ c.in-Ok.trace.start c.in-Ok-reserve.reserved c.run_trace-2.new.outcome c.in-Err-record_with_cards.fault c.in-Err-record_with_cards.ensures.refused (omega arith) (omega arith))
+pub returns-in-Err-record_alone-clause-causes : goal.returns-in-Err-record_alone-clause-causes
+returns-in-Err-record_alone-clause-causes g c =
+    rw c.refusal_of_run.ensures (unit-causes _ _ c.in-Err-record_alone.fault c.in-Err-record_alone.ensures.fault (omega arith) (omega arith))
+
+pub returns-in-Err-run_trace-clause-causes : goal.returns-in-Err-run_trace-clause-causes
+returns-in-Err-run_trace-clause-causes g c =
+    rw c.refusal_of_run-2.ensures
+    (refused-causes _ _ c.in-Ok.trace.start c.in-Ok-reserve.reserved c.run_trace.new.outcome c.in-Err-run_trace.fault c.in-Err-run_trace.ensures.refused (omega arith) (omega arith))

@@ -1,7 +1,0 @@
-use Rattle.std.proofs.Common.{◌≡◌, ◌+◌, IsTrue, true, drop, sym, subst, ◌∙◌}
-use Rattle.recorder.specs.Trace.{needs_no_card, IsForUnit}
-use Rattle.run_outcome.proofs.Items.{left-here}
-use Rattle.recorder.proofs.run.is_for_unit.Goals as goal
-
-pub loop-i-preserved : goal.loop-i-preserved
-loop-i-preserved c = λ all. c.loop-i.invariant (subst IsForUnit (sym (left-here c.args.items.now c.loop-i.i c.get.result.now c.get.ensures)) (sym c.needs_no_card.ensures ∙ c.if-not-needs_no_card.false, all))

@@ -1,0 +1,126 @@
+-- WHAT A RUN WITH CARDS PROMISES is what a run on the unit alone promises, where its trace has no card's line.
+use Rattle.std.proofs.Common.{◌≡◌, ◌∙◌, ◌⊎◌, ℕ, ◌+◌, ◌<◌, Bool, true, false, cond, List, [], ◌∷◌, length, refl, ap, sym, subst}
+use Rattle.std.specs.Prelude.{nat_eq}
+use Rattle.trace_model.specs.declared.Card.{Card}
+use Rattle.trace_model.specs.declared.Item.{Item}
+use Rattle.trace_model.specs.Trace.{TraceSecond, seconds_of}
+use Rattle.minute_model.specs.declared.Rule.TheVariants.{Original}
+use Rattle.run_model.specs.declared.Device.{Device}
+use Rattle.run_model.specs.declared.Device.TheVariants.{Unit as OfUnit}
+use Rattle.tach_media.specs.Medium.{State}
+use Rattle.log_model.specs.Log.{RunLog}
+use Rattle.log_model.specs.Course.{Told, Visit, went}
+use Rattle.log_model.specs.Spans.{spans_of}
+use Rattle.log_model.specs.Causes.{HasCauses, cuts, device_of}
+use Rattle.event_model.specs.declared.kinds.TheConstants.{OVER_SPEEDING}
+use Rattle.event_model.specs.Events.{Event, Tearing, events_of}
+use Rattle.history_model.specs.Minutes.{HistoryMinute}
+use Rattle.history_model.specs.Presence.{Start}
+use Rattle.message_model.specs.Records.{insertion_ring, unit_place_ring}
+use Rattle.unit_model.specs.declared.layout.TheConstants.{SPEED_LIMIT, FIRST_OVER, OVER_COUNT}
+use Rattle.unit_model.specs.Image.{recorded, number_of}
+use Rattle.card_image.specs.Own.{own_number}
+use Rattle.safety_model.specs.Recording.{Recording, card_image, start_of}
+use Rattle.safety_model.specs.Recording.{history_of as history_in, lost_of as lost_in}
+use Rattle.safety_model.specs.Unit.{UnitSafe, HasEachDecided, IsFilled}
+use Rattle.safety_model.specs.Side.{first_begin as first_in}
+use Rattle.side_model.specs.Noted.{Note, insertions_of, places_of}
+use Rattle.side_model.specs.Tables.{table_in, AreNoted}
+use Rattle.event_course.specs.Plain.{IsWithoutCards, OnlySelect, plain_events}
+use Rattle.event_course.specs.Noted.{are_sure}
+use Rattle.event_course.specs.Shown.{first_begin, first_on, count_on, ShowsRun}
+use Rattle.event_course.proofs.Bridge.{events-plain}
+use Rattle.run_rule.specs.Between.{devices}
+use Rattle.run_outcome.specs.declared.outcome.Outcome.{Outcome}
+use Rattle.run_acts.specs.Recording.{log_of}
+use Rattle.recorder_with_cards.specs.Ends.{recording_of, EndsTrace}
+use Rattle.tacho.specs.Blank.{no_image}
+use Rattle.tacho.specs.Alone.{IsForUnit, NoVerdict, history_of, lost_of, IsAlone}
+use Rattle.tacho.proofs.Cardless.{AreCardless, cardless, plain-told}
+use Rattle.tacho.proofs.AloneLog.{trace-selects, no-failed-tears, without-cards, caused-alone, unit-history-any, with-lost-any}
+use Rattle.tacho.proofs.AloneNoted.{notes-nothing, shows-old, AreNobodys, nobodys-events, noted-any}
+
+-- the begin of the first of some events, by both definitions
+first-same : (es : List Event) → first_in es ≡ first_begin es
+first-same [] = refl
+first-same (e ∷ es) = refl
+
+module _ (x : List ℕ) (start : ℕ) (items : List Item) (out : Outcome) (U V A B C D : State) (for_unit : IsForUnit items)
+    (h : EndsTrace x no_image no_image start items out (devices U A B) (devices V C D)) where
+  abbrev r : Recording
+  r = recording_of x no_image no_image start items out
+
+  abbrev log : RunLog
+  log = log_of out
+
+  abbrev ss : List TraceSecond
+  ss = seconds_of start items
+
+  abbrev told : List Told
+  told = (went log ss).told
+
+  selects : OnlySelect ss
+  selects = trace-selects start items for_unit
+
+  none-in : AreCardless told
+  none-in = cardless log ss selects
+
+  bare : IsWithoutCards log
+  bare = without-cards _ _ _ ss log selects h.ends.caused.causes
+
+  -- the events are those of nobody, whatever was found open and torn
+  module _ (sessions : ℕ → Visit → ℕ) (t : Tearing) (number : Card → List ℕ) (y : List ℕ) (left : V.may_leave y) where
+    abbrev s-events : (kind : ℕ) → List Event
+    s-events kind = events_of kind (number_of x SPEED_LIMIT) (h.side.shows y left).sessions (h.side.shows y left).tearing log ss
+
+    same : (kind : ℕ) → s-events kind ≡ events_of kind (number_of x SPEED_LIMIT) sessions t log ss
+    same kind = events-plain log bare ss selects kind (number_of x SPEED_LIMIT) (h.side.shows y left).sessions (h.side.shows y left).tearing
+        ∙ sym (events-plain log bare ss selects kind (number_of x SPEED_LIMIT) sessions t)
+
+    nobodys : (kind : ℕ) → AreNobodys (s-events kind)
+    nobodys kind = subst AreNobodys (sym (events-plain log bare ss selects kind (number_of x SPEED_LIMIT) (h.side.shows y left).sessions (h.side.shows y left).tearing)) (nobodys-events kind (number_of x SPEED_LIMIT) log (spans_of told))
+
+    events-alone : ShowsRun number x log ss sessions t y
+    events-alone =
+        let s = h.side.shows y left in
+        record {
+          events = λ kind there sure.
+              subst (λ (es : List Event). AreNoted number (table_in kind x) es (table_in kind y)) (same kind)
+              (noted-any (λ c. own_number (card_image r c)) number (table_in kind x) (table_in kind y) (s-events kind) (nobodys kind) (s.events kind there (ap (are_sure log) (same kind) ∙ sure)));
+          first_over = λ sure.
+              s.first_over (ap (are_sure log) (same OVER_SPEEDING) ∙ sure)
+              ∙ ap (λ (n : ℕ). cond (nat_eq (number_of x FIRST_OVER) 0) n (number_of x FIRST_OVER)) (first-same (s-events OVER_SPEEDING))
+              ∙ ap (first_on (number_of x FIRST_OVER)) (same OVER_SPEEDING);
+          over_count = λ sure. s.over_count (ap (are_sure log) (same OVER_SPEEDING) ∙ sure) ∙ ap (count_on (number_of x OVER_COUNT)) (same OVER_SPEEDING);
+        }
+
+  module _ (cards : Start) where
+    history-same : history_in r ≡ history_of cards out start items
+    history-same = unit-history-any Original (start_of r) cards log told (plain-told told none-in)
+
+    lost-same : lost_in r ≡ lost_of cards out start items
+    lost-same = with-lost-any Original (start_of r) cards log told (plain-told told none-in)
+
+    -- THE RUN ON THE UNIT ALONE
+    pub is-alone : IsAlone cards x start items U.clock out V
+    is-alone = record {
+      safe = subst (λ (is : List HistoryMinute). UnitSafe (recorded x) is (lost_of cards out start items) out.marks.items U.clock V) history-same
+          (subst (λ (ls : List (List HistoryMinute)). UnitSafe (recorded x) (history_in r) ls out.marks.items U.clock V) lost-same h.ends.safe.unit);
+      issued = h.ends.safe.issued;
+      odometer = h.ends.odometer;
+      stored = λ y left. let s = h.side.shows y left in record { spans = s.spans; are_spans = s.are_spans; odometer = s.odometer };
+      events = λ number sessions t y left. events-alone sessions t number y left;
+      insertions = λ dense y left. shows-old insertion_ring _ _ _ x y (ap insertions_of (notes-nothing log ss selects)) ((h.side.shows y left).insertions dense) (h.dense.insertions dense y left);
+      places = λ dense y left. shows-old unit_place_ring _ _ _ x y (ap places_of (notes-nothing log ss selects)) ((h.side.shows y left).places dense) (h.dense.places dense y left);
+      kept = h.kept;
+      complete = h.ends.caused.complete.unit;
+      whole = λ none.
+          let w = h.ends.whole (none, no-failed-tears _ _ _ ss log selects h.ends.caused.causes) in (
+            subst (HasEachDecided Original told) history-same w.decided,
+            λ y left. subst (λ (is : List HistoryMinute). IsFilled (recorded x) is y) history-same (w.unit y left),
+          );
+    }
+
+  -- and its causes
+  pub is-caused : (b n : Device → ℕ) → b OfUnit ≡ U.breakdowns → n OfUnit ≡ V.breakdowns → ((card : Card) → n (device_of card) ≡ b (device_of card)) → HasCauses NoVerdict b n ss log
+  is-caused b n was is same = caused-alone _ _ _ ss log selects h.ends.caused.causes b n was is same

@@ -1,0 +1,131 @@
+-- A run of a trace without a card's line (profile): it uses no card, and its unit is safe, whatever the cards bring.
+use Rattle.std.specs.Prelude.{◌≡◌, ◌⊎◌, ℕ, ◌+◌, ◌≤◌, Bool, true, false, IsTrue, List, [], ◌++◌, length, is_some}
+use Rattle.std.specs.List.{AllByRecursion}
+use Rattle.trace_model.specs.declared.Card.{Card}
+use Rattle.trace_model.specs.declared.Action.TheVariants.{Select, Insert, Withdraw, Tear, Place}
+use Rattle.trace_model.specs.declared.Item.{Item}
+use Rattle.trace_model.specs.declared.Item.TheVariants.{Run, Off, Act}
+use Rattle.trace_model.specs.Trace.{seconds_of}
+use Rattle.minute_model.specs.declared.Rule.TheVariants.{Original}
+use Rattle.run_model.specs.declared.Device.{Device}
+use Rattle.run_model.specs.declared.Device.TheVariants.{Unit as OfUnit, CardA, CardB}
+use Rattle.tach_media.specs.Medium.{State, Rose, LeavesOnly, Unchanged}
+use Rattle.log_model.specs.declared.lines.Verdict.{Verdict}
+use Rattle.log_model.specs.Course.{Told, Visit, went}
+use Rattle.log_model.specs.Causes.{cuts}
+use Rattle.event_model.specs.Events.{Tearing}
+use Rattle.history_model.specs.Minutes.{HistoryMinute}
+use Rattle.history_model.specs.Presence.{Start}
+use Rattle.history_model.specs.History.{unit_history, with_lost}
+use Rattle.gated_ring.specs.Ring.{Shape, IsDense, ring_list}
+use Rattle.message_model.specs.Records.{insertion_ring, unit_place_ring}
+use Rattle.unit_model.specs.Image.{recorded, last_kept, odometer_at}
+use Rattle.safety_model.specs.Unit.{UnitSafe, HasEachDecided, IsFilled, issued_bytes}
+use Rattle.side_model.specs.Odometer.{SpanFrom, AreSpansFrom, MayStore}
+use Rattle.unit_course.specs.Complete.{AreMarked}
+use Rattle.unit_rule.specs.Odometer.{OdometerSafe}
+use Rattle.event_course.specs.Shown.{ShowsRun}
+use Rattle.run_opening.specs.declared.fault.RunFault.{RunFault}
+use Rattle.run_opening.specs.declared.fault.RunFault.TheVariants.{MediumFault, BadUnit, ClockBack, SameCard}
+use Rattle.run_opening.specs.Units.{IsUnitRefused}
+use Rattle.run_acts.specs.Recording.{log_of}
+use Rattle.run_acts.specs.Going.{IsFoundLater}
+use Rattle.run_outcome.specs.declared.outcome.Outcome.{Outcome}
+use Rattle.recorder_with_cards.specs.Ends.{recording_of}
+use Rattle.recorder_with_cards.specs.KeptAfter.{TellsKept}
+use Rattle.tacho.specs.Blank.{no_image}
+
+-- ---- its trace
+
+-- a line that no card bears on: a run, an `off` or a selection
+abbrev pub needs_no_card : Item → Bool
+needs_no_card (Run seconds speed) = true
+needs_no_card (Off seconds) = true
+needs_no_card (Act (Select slot pick)) = true
+needs_no_card (Act (Insert slot card)) = false
+needs_no_card (Act (Withdraw slot)) = false
+needs_no_card (Act (Tear slot)) = false
+needs_no_card (Act (Place slot ending country region)) = false
+
+-- a trace for the unit alone: none of its lines is a card's
+abbrev pub IsForUnit : List Item → Type 0
+IsForUnit items = AllByRecursion (λ item. IsTrue (needs_no_card item)) items
+
+-- ---- its log
+
+-- the seconds of a trace that begins at a second, as the run went
+abbrev pub told_of : Outcome → (start : ℕ) → List Item → List Told
+told_of o start items = (went (log_of o) (seconds_of start items)).told
+
+-- the unit history of such a run, and its fronts up to a cut's limit, each with its lost minute
+abbrev pub history_of : Start → Outcome → (start : ℕ) → List Item → List HistoryMinute
+history_of cards o start items = unit_history Original cards (log_of o) (told_of o start items)
+
+abbrev pub lost_of : Start → Outcome → (start : ℕ) → List Item → List (List HistoryMinute)
+lost_of cards o start items = with_lost Original cards (log_of o) (told_of o start items)
+
+-- nothing may be found of a card: none enters
+abbrev pub NoVerdict : Card → ℕ → Verdict → Type 0
+NoVerdict card second verdict = ⊥
+
+-- so often the devices have broken down
+abbrev pub counts : (unit card_a card_b : ℕ) → Device → ℕ
+counts unit card_a card_b OfUnit = unit
+counts unit card_a card_b CardA = card_a
+counts unit card_a card_b CardB = card_b
+
+-- ---- what is recorded
+
+-- a run starts with this image alone: a read gives it, and since then a stop leaves no other
+pub record StartsAs (x : List ℕ) (unit : State) : Type 0 where
+  pub tells : is_some unit.image ≡ true
+  pub only : (c : List ℕ) → unit.left_since unit.clock c → c ≡ x
+
+-- an image's odometer is one that the spans of the run store, each with what was stored as it began
+pub record ShowsStored (x : List ℕ) (start : ℕ) (items : List Item) (o : Outcome) (y : List ℕ) : Type 0 where
+  pub spans : List SpanFrom
+  pub are_spans : AreSpansFrom Original (log_of o) (told_of o start items) (odometer_at x) (last_kept x) spans
+  pub odometer : MayStore Original (odometer_at x) (last_kept x) spans (last_kept y) (odometer_at y)
+
+-- a ring shows what it showed at the start and nothing else; only where it is full, or lacks one entry, are some gone at its old end
+pub record ShowsOld (ring : Shape) (x y : List ℕ) : Type 0 where
+  pub gone : List (List ℕ)
+  pub shown : ring_list ring x ≡ gone ++ ring_list ring y
+  pub full : (gone ≡ []) ⊎ (ring.count ≤ length (ring_list ring y) + 1)
+  pub dense : IsDense ring y
+
+-- WHAT A RUN HAS RECORDED on the unit alone of a trace, that began with this image, at this clock: the crash-safety theorem of the unit.
+pub record IsAlone (cards : Start) (x : List ℕ) (start : ℕ) (items : List Item) (clock : ℕ) (o : Outcome) (unit : State) : Type 0 where
+  pub safe : UnitSafe (recorded x) (history_of cards o start items) (lost_of cards o start items) o.marks.items clock unit
+  -- what the unit was issued with stays, in every image that a stop might have left since
+  pub issued : (y : List ℕ) → unit.left_since clock y → issued_bytes y ≡ issued_bytes x
+  -- the odometer of each image that a stop may leave is the start's and the whole kilometres of each span; and so it is stored
+  pub odometer : (y : List ℕ) → unit.may_leave y → OdometerSafe Original (log_of o) (told_of o start items) (odometer_at x) y
+  pub stored : (y : List ℕ) → unit.may_leave y → ShowsStored x start items o y
+  -- of each type of event none of which was noted in a second in which a call on the unit failed, each image that a stop may leave
+  -- holds those of the run; so it is with the first over speeding and their number
+  pub events : (number : Card → List ℕ) (sessions : ℕ → Visit → ℕ) (t : Tearing) (y : List ℕ) → unit.may_leave y → ShowsRun number x (log_of o) (seconds_of start items) sessions t y
+  -- the rings of insertions and places show what they showed
+  pub insertions : IsDense insertion_ring x → (y : List ℕ) → unit.may_leave y → ShowsOld insertion_ring x y
+  pub places : IsDense unit_place_ring x → (y : List ℕ) → unit.may_leave y → ShowsOld unit_place_ring x y
+  -- what was found kept after its cuts was so
+  pub kept : TellsKept (recording_of x no_image no_image start items o) clock unit
+  -- each decided minute is acknowledged, but where a call failed in the second that decided it
+  pub complete : AreMarked Original (log_of o) (seconds_of start items) o.marks.items
+  -- where no call on the unit failed, each decided minute stands in the history, and each image that a stop may leave has all of it
+  pub whole : cuts true (log_of o) ≡ [] → HasEachDecided Original (told_of o start items) (history_of cards o start items)
+      × ((y : List ℕ) → unit.may_leave y → IsFilled (recorded x) (history_of cards o start items) y)
+
+-- ---- or why it is not
+
+-- a fault of a run on the unit alone: that of a device is the unit's, which has failed
+abbrev pub IsUnitFault : (old new : State) → RunFault → Type 0
+IsUnitFault old new (MediumFault device) = (device ≡ OfUnit) × Rose old.faults new.faults
+IsUnitFault old new (BadUnit place) = Unit {0}
+IsUnitFault old new (ClockBack kept second) = Unit {0}
+IsUnitFault old new (SameCard number) = ⊥
+
+-- A RUN IS REFUSED, whatever the unit tells: by the opening, for one of its causes, with the unit as it was and no line told; or later by a unit that
+-- was read anew at a power-on.
+abbrev pub IsRefusedAlone : (start : ℕ) → (before after : Outcome) → (old new : State) → RunFault → Type 0
+IsRefusedAlone start before after old new fault = (IsUnitRefused start old new fault × LeavesOnly old new Unchanged × (after ≡ before)) ⊎ IsFoundLater fault

@@ -1,0 +1,56 @@
+//! What stands for a card where a trace has no line of one.
+ghost use Rattle.std.specs.Prelude.{◌≡◌, false};
+ghost use Rattle.tacho.specs.Blank.{blank_state};
+
+use card_commands::SimCard;
+use card_layout::LARGEST_IMAGE;
+use tach_media::{Failed, Medium};
+
+/// A memory of zeros of the largest card's size. It takes no file and no memory. No write is kept: the first one breaks it for good.
+#[derive(Drop)]
+pub struct Blank {
+    broken: bool,
+}
+
+impl Medium for Blank {
+    ghost use Rattle.tacho.specs.Blank.{blank_coherent};
+
+    ghost state = { λ m. blank_state m.broken };
+
+    ghost coherent = { λ m. blank_coherent m.broken };
+
+    fn size(&self) -> u32 {
+        LARGEST_IMAGE
+    }
+
+    fn clock(&self) -> u64 {
+        if self.broken { 1 } else { 0 }
+    }
+
+    fn read_at(&mut self, _place: u32, out: &mut [u8]) -> Result<(), Failed> {
+        if self.broken {
+            return Err(Failed);
+        }
+        out.fill(0);
+        Ok(())
+    }
+
+    fn write_at(&mut self, _place: u32, _bytes: &[u8]) -> Result<(), Failed> {
+        self.broken = true;
+        Err(Failed)
+    }
+
+    fn revive(&mut self) -> Result<(), Failed> {
+        if self.broken {
+            return Err(Failed);
+        }
+        Ok(())
+    }
+}
+
+/// No card: it tells an image of zeros, and no call has failed on it.
+pub fn no_card() -> SimCard<Blank>
+    ensures { result.medium.broken ≡ false }
+{
+    SimCard::new(Blank { broken: false })
+}
