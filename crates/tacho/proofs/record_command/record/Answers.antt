@@ -32,7 +32,7 @@ pub returns-in-Err-run_trace-clause-ends : goal.returns-in-Err-run_trace-clause-
 returns-in-Err-run_trace-clause-ends g c =
     let e = c.in-Ok.ensures in
     let f = c.in-Err-run_trace.ensures in
-    rw c.refusal_of_run-2.ensures
+    rw c.refusal_of_run-in-Err-run_trace.ensures
     (ends-refused _ _ _ _ e.finds_bad_line e.finds_too_long (run-refusal c.in-Err-run_trace.fault)
     (inr (inr (cards-refused _ _ c.run_trace.new.outcome c.in-Ok.trace.start c.in-Ok.trace.items (c.is_for_unit.ensures.card c.if-is_for_unit.false) f.later f.broke e.reads c.in-Err-run_trace.fault
     (refused-when c.in-Ok.trace.start c.in-Ok-reserve.reserved c.run_trace.new.outcome _ _ _ _ _ _ c.in-Err-run_trace.fault (reserved-empty c.in-Ok.trace.items c.in-Ok-reserve.reserved c.in-Ok-reserve.ensures) f.refused)
@@ -57,5 +57,5 @@ returns-in-Err-record_alone-clause-causes g c =
 
 pub returns-in-Err-run_trace-clause-causes : goal.returns-in-Err-run_trace-clause-causes
 returns-in-Err-run_trace-clause-causes g c =
-    rw c.refusal_of_run-2.ensures
+    rw c.refusal_of_run-in-Err-run_trace.ensures
     (refused-causes _ _ c.in-Ok.trace.start c.in-Ok-reserve.reserved c.run_trace.new.outcome c.in-Err-run_trace.fault c.in-Err-run_trace.ensures.refused (omega arith) (omega arith))
