@@ -25,7 +25,7 @@ returns-then-is_for_unit-clause-ends g c =
     ends-run _ _ c.record_alone.new.outcome c.print_outcome.result e.end e.finds_bad_line e.finds_too_long
     (λ fault ran rose. inr (inl (unit-run _ _ c.record_alone.new.outcome c.in-Ok.trace.start c.in-Ok.trace.items (c.is_for_unit.ensures.for_unit c.if-is_for_unit.true) e.reads
     (λ x alone clock cards. f.recorded cards x alone clock (omega (arith, e.few)))
-    (λ x alone clock. f.causes x _ _ alone clock (omega (arith, e.few))) f.begun f.broke f.calm f.unbroken refl refl fault ran rose)))
+    (λ x alone clock. f.causes x (g.C.Chip.state c.args.card_a.now).breakdowns (g.C.Chip.state c.args.card_b.now).breakdowns alone clock (omega (arith, e.few))) f.begun f.broke f.calm f.unbroken refl refl fault ran rose)))
     c.print_outcome.ensures.ok c.print_outcome.ensures.err c.print_outcome.ensures.cause
 
 pub returns-in-Err-run_trace-clause-ends : goal.returns-in-Err-run_trace-clause-ends
