@@ -211,7 +211,7 @@ module _ (app : Application) (sound : IsApplication app) (x : List ℕ) (ordered
   unfolding book_of
   written_told y moment = moment
 
-  pub close_stays : (y : List ℕ) → IsCard app (IsCloseMoment app.activity act (book_of app x)) x y → (book_of app y).vehicle ≡ (book_of app x).vehicle → IsClosingWord app.activity act (book_of app x) (book_of app y).days
+  pub close_stays : (y : List ℕ) → IsCard app (IsCloseMoment app.activity act (book_of app x)) x y → (book_of app y).vehicles ≡ (book_of app x).vehicles → IsClosingWord app.activity act (book_of app x) (book_of app y).days
       → Goes app slack covered next c all y × (end_mark app y ≡ end_mark app x)
   close_stays y card vehicle moment =
       let at : end_mark app y ≡ end_mark app x = mark_at app (book_of app x) y vehicle ∙ sym (mark_told app x) in

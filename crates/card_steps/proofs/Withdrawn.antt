@@ -35,7 +35,7 @@ module _ (s : Session) (act : Activity) (x : List ℕ) (slack : Bound) (covered 
   )
 
   -- with the closing word, and the end mark at it
-  goes : (y : List ℕ) → IsCard s.application (IsCloseMoment s.application.activity act (book_of s.application x)) x y → IsBook (closed s.application.activity act (book_of s.application x)) (book_of s.application y).days (book_of s.application y).vehicle
+  goes : (y : List ℕ) → IsCard s.application (IsCloseMoment s.application.activity act (book_of s.application x)) x y → IsBook (closed s.application.activity act (book_of s.application x)) (book_of s.application y).days (book_of s.application y).vehicles
       → IsClosedShown s.application slack covered next c all x y
   goes y card book =
       close_done app sound x (days_there s x knows) knows.book act slack covered from next c all least later late g y card.holds.ordered book (close_shows app sound x (days_there s x knows) all g.until g.lists act y card)
