@@ -34,11 +34,11 @@ use Rattle.card_session.specs.Parts.{IsBeforeGapOf}
 use Rattle.card_session.specs.Inserting.{AreOwed, Follow, lacked, with_cut, with_owed, IsBeforeAll, IsReplaying, EndsCut, repaired, IsRepairMoment, IsStill, IsRepaired, IsRepairing, IsNoted, IsNoting, IsShut, IsShutting, InsertsOpen, InsertingOpen, InsertsClosed, InsertingClosed}
 use Rattle.card_session.specs.Repairs.{mark_behind, BeginsLater, lacked_by, newest_behind, NewestSoFar}
 use Rattle.card_session.proofs.Composing.{told_book}
-use Rattle.card_session.proofs.Marks.{session_same, mark_told}
-use Rattle.card_session.proofs.Preparing.{used_at}
+use Rattle.card_session.proofs.Marks.{session_same, mark_told, use_before}
+use Rattle.card_session.proofs.Preparing.{use_at, used_at}
 use Rattle.card_session.proofs.Stopping.{days_there, ended_same}
 use Rattle.card_session.proofs.Valid.{valid_words}
-use Rattle.card_session.proofs.NewestStays.{newest_by_mark, use_before, use_at, next_newest, next_low, keep_newest, Rewrites, close_newest, closed_in, closed_open, view_newest, view_word}
+use Rattle.card_session.proofs.NewestStays.{newest_by_mark, next_newest, next_low, keep_newest, Rewrites, close_newest, closed_in, closed_open, view_newest, view_word}
 use Rattle.card_session.proofs.InsertingBooks.{lacked_follow, lacked_each, cut_ready, trimmed_low}
 use Rattle.card_session.proofs.InsertingCards.{noted_same, noting_same}
 use Rattle.card_session.proofs.InsertingUse.{use_inside}
