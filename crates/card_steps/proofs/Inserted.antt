@@ -306,7 +306,7 @@ module _ (app : Application) (sound : IsApplication app) (x : List ℕ) (fits : 
 
           v_all : IsBook (closed app.activity Rest (book_of app w)) (book_of app v).days (book_of app v).vehicles → All_on v
           v_all book =
-              let is : book_of app v ≡ closed app.activity Rest (book_of app w) = told_book app (closed app.activity Rest (book_of app w)) w v (record { outside = shutting.outside; holds = shutting.holds; points = shutting.points; older = shutting.older; told = book }) in
+              let is : book_of app v ≡ closed app.activity Rest (book_of app w) = told_book app (closed app.activity Rest (book_of app w)) w v (record { outside = shutting.outside; holds = shutting.holds; points = shutting.points; told = book }) in
               record {
                 goes = close_goes app sound w w_are w_open Rest (and_entries slack lacks) covered next next (with_entries covered c lacks) (all ++ lacks) few (omega arith) w_late w_goes v shutting.holds.ordered book
                     (close_shows app sound w w_are (all ++ lacks) w_goes.until w_goes.lists Rest v shutting);
@@ -340,7 +340,7 @@ module _ (app : Application) (sound : IsApplication app) (x : List ℕ) (fits : 
             (λ book. inr (v_all w w_days w_mark v shutting book)) shutting.told
 
         shut_all : (v : List ℕ) → IsShut app w v → All_on v
-        shut_all v shut = v_all w w_days w_mark v (record { outside = shut.outside; holds = shut.holds; points = shut.points; older = shut.older; told = inr shut.told }) shut.told
+        shut_all v shut = v_all w w_days w_mark v (record { outside = shut.outside; holds = shut.holds; points = shut.points; told = inr shut.told }) shut.told
 
         -- the current use
         use_all : (v u : List ℕ) → IsShut app w v → Same app v u → All_on u
@@ -426,11 +426,11 @@ module _ (app : Application) (sound : IsApplication app) (x : List ℕ) (fits : 
     shut_book : (z : List ℕ) → IsShutting app y z → book_of app z ≡ book_of app x
     shut_book z card =
         let is = closed_still app.activity (book_of app y) (shut_there y same_book) (book_of app z).days (book_of app z).vehicles card.told in
-        told_book app (book_of app y) y z (record { outside = card.outside; holds = card.holds; points = card.points; older = card.older; told = is }) ∙ same_book
+        told_book app (book_of app y) y z (record { outside = card.outside; holds = card.holds; points = card.points; told = is }) ∙ same_book
 
     use_same : (z w : List ℕ) → IsShut app y z → Same app z w → (card_days app w ≡ card_days app x) × (end_mark app w ≡ end_mark app x)
     use_same z w card side =
-        let first = same_told z (shut_book z (record { outside = card.outside; holds = card.holds; points = card.points; older = card.older; told = inr card.told })) in
+        let first = same_told z (shut_book z (record { outside = card.outside; holds = card.holds; points = card.points; told = inr card.told })) in
         (days_same app z w side.0 ∙ first.0, mark_beside app sound z w side.0 side.1 card.points ∙ first.1)
 
     room_left : (z : List ℕ) → IsShut app y z → place_of app (file 0x0507) + 19 ≤ length z

@@ -28,7 +28,7 @@ one_more c slots = one_if (sits_accepted c slots.driver || sits_accepted c slots
 
 -- THE STAYS OF A RUN's cards, in the vehicle that the unit's image says. THE ACCEPTANCES that the log tells, each in its order, are those of the one
 -- card's stays and of the other's, and so many entries were owed as they tell. Only a card that was valid has some. EACH IMAGE that a stop may leave of it has exactly those days, with their
--- words and distances, and that newest vehicle entry, that they make of its image at the start: in each it was inserted, kept its minutes, each
+-- words and distances, and those vehicle entries, all of them, that they make of its image at the start: in each it was inserted, kept its minutes, each
 -- with so many km as the odometer has grown since the one before, and was withdrawn with an activity, or was not; and a session that was left
 -- open was cut at its end mark, and got the entries that the card lacked, as the next stay began. NO MORE OF THEM WERE LEFT OPEN than the log
 -- tells breaks (no call failed: `off` lines and cards that were pulled out), but the one that goes on.

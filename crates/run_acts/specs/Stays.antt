@@ -1,5 +1,5 @@
--- What a card shows of its stays in a run in which no call failed (profile): its days, with their words and distances, and its newest vehicle
--- entry, exactly; one stay for each acceptance that the log tells, closed but where a line of the log tells of another end.
+-- What a card shows of its stays in a run in which no call failed (profile): its days, with their words and distances, and its vehicle
+-- entries, exactly; one stay for each acceptance that the log tells, closed but where a line of the log tells of another end.
 use Rattle.std.specs.Prelude.{◌≡◌, ◌⊎◌, ℕ, ◌+◌, ◌≤◌, ◌++◌, Bool, not, Option, Some, None, List, [], ◌∷◌, is_some, length, map, filter}
 use Rattle.std.specs.List.{AllByRecursion}
 use Rattle.activity_codec.specs.declared.values.Activity.{Activity}

@@ -1,4 +1,4 @@
--- What calls make of a card's days and of its newest vehicle entry, deed by deed, whichever of its images a stop may leave (profile).
+-- What calls make of a card's days and of its vehicle entries, deed by deed, whichever of its images a stop may leave (profile).
 use Rattle.std.specs.Prelude.{◌≡◌, ℕ, ◌++◌, Bool, true, false, not, Option, Some, None, List, [], ◌∷◌, map, nat_eq}
 use Rattle.activity_codec.specs.declared.values.Activity.{Activity}
 use Rattle.activity_codec.specs.declared.values.Activity.TheVariants.{Rest}
@@ -24,7 +24,7 @@ made_by size (d ∷ ds) b = made_by size ds (after size d b)
 abbrev pub is_used : Application → List ℕ → Bool
 is_used app x = not (nat_eq (session_time app x) 0)
 
--- A CARD SHOWS A BOOK, whichever of its images a stop may leave: these are its days and its newest vehicle entry; and a session is open on
+-- A CARD SHOWS A BOOK, whichever of its images a stop may leave: these are its days and its vehicle entries; and a session is open on
 -- it, or is not.
 abbrev pub ShowsBook : Application → Book → (used : Bool) → State → Type 0
 ShowsBook app b used card = (x : List ℕ) → card.may_leave x → (book_of app x ≡ b) × (is_used app x ≡ used)
