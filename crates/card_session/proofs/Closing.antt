@@ -127,10 +127,7 @@ module _ (s : Session) (value : IsValue s) (act : Activity) (mark : ℕ) (mark_i
       where
         none_there : (x : List ℕ) → (o : Option ℕ) → IsNewest (vehicle_ring s.application) x o → (book x).vehicles.newest ≡ None → IsNewest (vehicle_ring s.application) x None
         none_there x None newest empty = newest
-        none_there x (Some i) newest empty = absurd (some (sym (newest_told s.application x (Some i) newest) ∙ empty))
-          where
-            some : Some (vehicle_of (entry_at (vehicle_ring s.application) x i)) ≡ None → ⊥
-            some is = cc
+        none_there x (Some i) newest empty = let both : Some (vehicle_of (entry_at (vehicle_ring s.application) x i)) ≡ None = sym (newest_told s.application x (Some i) newest) ∙ empty in absurd (cc)
 
         no_vehicle : (x : List ℕ) → KnowsCard s x → IsNewest (vehicle_ring s.application) x None
         no_vehicle x knows = ⊎_elim

@@ -8,13 +8,13 @@ use Rattle.card_layout.specs.declared.files.Application.{Application}
 use Rattle.card_records.specs.declared.vehicle.Vehicle.{Vehicle}
 use Rattle.card_records.specs.Vehicles.{vehicle_of}
 use Rattle.tach_media.specs.Medium.{put, bytes_at}
-use Rattle.gated_ring.specs.Ring.{Shape, IsShape, PointsInside, IsLast, pointer, indices, entry_at, is_there, next, order, taken, with_head, size_of as ring_size}
+use Rattle.gated_ring.specs.Ring.{Shape, IsShape, PointsInside, IsLast, pointer, indices, ring_list, entry_at, is_there, next, order, taken, with_head, size_of as ring_size}
 use Rattle.gated_ring.specs.Change.{SameOthers, IsSet, IsExtended}
 use Rattle.gated_ring.proofs.Orders.{Each, each_weaker, rest, rest_each, order_each, order_first, order_last, map_same, filter_first, filter_skip}
 use Rattle.gated_ring.proofs.Listing.{taken_below, taken_chosen, staying_there, indices_cases, indices_below}
 use Rattle.gated_ring.proofs.Elsewhere.{entry_elsewhere, there_elsewhere, taken_elsewhere, indices_elsewhere}
 use Rattle.card_image.specs.Fields.{vehicle_ring, vehicle_at, newest_vehicle, last_of}
-use Rattle.card_session.specs.Vehicles.{Vehicles, vehicles_of, standing_at, ring_round, any_stands, on_newest, behind_first}
+use Rattle.card_session.specs.Vehicles.{Vehicles, vehicles_of, standing_at, ring_round, standing, any_stands, on_newest, behind_first}
 use Rattle.card_session.proofs.RingOrder.{older_others}
 
 abbrev Places : Type 0
@@ -80,6 +80,15 @@ module _ (f : Vehicle → Vehicle) (p : ℕ → Bool) (g : ℕ → Vehicle) wher
     where
       by : (b : Bool) → any_stands (map was js) ≡ is_more (filter p js) → any_stands (cond b (Some (g j)) None ∷ map was js) ≡ is_more (cond b (j ∷ filter p js) (filter p js))
       by true same = refl
+      by false same = same
+
+  -- those that stand are those of the indices that are there
+  pub standing_is : (js : List ℕ) → standing (map was js) ≡ map g (filter p js)
+  standing_is [] = refl
+  standing_is (j ∷ js) = by (p j) (standing_is js)
+    where
+      by : (b : Bool) → standing (map was js) ≡ map g (filter p js) → standing (cond b (Some (g j)) None ∷ map was js) ≡ map g (cond b (j ∷ filter p js) (filter p js))
+      by true same = ap (λ (l : List Vehicle). g j ∷ l) same
       by false same = same
 
   -- where none is there, none changes
@@ -234,6 +243,27 @@ module _ (app : Application) (x : List ℕ) (points : PointsInside (vehicle_ring
 
   abbrev told : ℕ → Vehicle
   told j = vehicle_of (entry_at (vehicle_ring app) x j)
+
+  -- THE ENTRIES THAT STAND are the ring's list, and the last of them is the newest
+  told_all : (js : List ℕ) → map told js ≡ map vehicle_of (map (entry_at (vehicle_ring app) x) js)
+  told_all [] = refl
+  told_all (j ∷ js) = ap (λ (l : List Vehicle). told j ∷ l) (told_all js)
+
+  told_last : (js : List ℕ) → last_of (map told js) ≡ vehicle_at app x (last_of js)
+  told_last [] = refl
+  told_last (j ∷ []) = refl
+  told_last (j ∷ k ∷ js) = told_last (k ∷ js)
+
+  all_standing : standing (ring_round app x) ≡ map told (indices (vehicle_ring app) x)
+  unfolding ring_round
+  all_standing = standing_is (λ v. v) (is_there q x) told (order q t) ∙ ap (map told) there_round
+
+  pub list_told : standing (ring_round app x) ≡ map vehicle_of (ring_list (vehicle_ring app) x)
+  list_told = all_standing ∙ told_all (indices (vehicle_ring app) x)
+
+  pub newest_last : last_of (standing (ring_round app x)) ≡ newest_vehicle app x
+  unfolding newest_vehicle
+  newest_last = ap (λ (l : List Vehicle). last_of l) all_standing ∙ told_last (indices (vehicle_ring app) x)
 
   -- without an entry none changes
   pub round_empty : (f : Vehicle → Vehicle) → indices (vehicle_ring app) x ≡ [] → on_newest f (ring_round app x) ≡ ring_round app x

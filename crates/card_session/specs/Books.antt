@@ -1,10 +1,10 @@
 -- What a session makes of a card's days and of its vehicle entries (profile): entry by entry, and by the word that closes.
-use Rattle.std.specs.Prelude.{◌≡◌, ℕ, suc, ◌+◌, ◌-◌, ◌*◌, ◌/◌, ◌%◌, min, Bool, true, false, not, ◌&&◌, Option, Some, None, option_map, Result, Ok, Err, List, [], ◌∷◌, ◌++◌, length, bytes_eq, nat_eq, nat_lt, nat_le, if◌then◌else◌}
+use Rattle.std.specs.Prelude.{◌≡◌, ℕ, suc, ◌+◌, ◌-◌, ◌*◌, ◌/◌, ◌%◌, min, Bool, true, false, ◌&&◌, Option, Some, None, Result, Ok, Err, List, [], ◌∷◌, ◌++◌, length, bytes_eq, nat_eq, if◌then◌else◌}
 use Rattle.activity_codec.specs.declared.values.Activity.{Activity}
 use Rattle.activity_codec.specs.declared.values.Activity.TheVariants.{Rest}
 use Rattle.activity_codec.specs.declared.values.Slot.TheVariants.{Driver}
 use Rattle.activity_codec.specs.declared.entries.Entry.{Entry}
-use Rattle.activity_codec.specs.Words.{word_of, word_slot, word_minute, word_absent}
+use Rattle.activity_codec.specs.Words.{word_of, word_slot}
 use Rattle.tacho_types.specs.declared.texts.Registration.{Registration}
 use Rattle.tacho_types.specs.declared.decimal.Bcd2.{Bcd2}
 use Rattle.tacho_types.specs.declared.decimal.BadValue.{BadValue}

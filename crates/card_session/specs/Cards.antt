@@ -1,5 +1,5 @@
 -- What the calls of a session leave of a card, after them and at each moment.
-use Rattle.std.specs.Prelude.{◌≡◌, ◌⊎◌, ℕ, suc, ◌+◌, ◌-◌, ◌*◌, Option, Some, None, List, [], ◌∷◌}
+use Rattle.std.specs.Prelude.{◌≡◌, ◌⊎◌, ℕ, ◌+◌, ◌-◌, ◌*◌, Option, Some, None, List, [], ◌∷◌}
 use Rattle.activity_codec.specs.declared.values.Activity.{Activity}
 use Rattle.activity_codec.specs.declared.entries.Entry.{Entry}
 use Rattle.card_layout.specs.declared.files.Application.{Application}
@@ -11,7 +11,7 @@ use Rattle.card_model.specs.Image.{Holds}
 use Rattle.gated_ring.specs.Ring.{PointsInside, size_of as ring_size}
 use Rattle.card_image.specs.Fields.{file, day_string, vehicle_ring}
 use Rattle.card_image.specs.Judging.{IsValid}
-use Rattle.card_session.specs.Books.{Book, with_entry, closed}
+use Rattle.card_session.specs.Books.{with_entry, closed}
 use Rattle.card_session.specs.Sessions.{Session, IsSession, book_of}
 use Rattle.card_session.specs.Moments.{IsBook, IsKeepMoment, IsCloseMoment}
 use Rattle.card_session.specs.Vehicles.{Vehicles}

@@ -1,5 +1,5 @@
 -- What an insertion makes of a card, and what is left of it at each moment (profile).
-use Rattle.std.specs.Prelude.{◌≡◌, ◌≢◌, ◌⊎◌, ℕ, suc, ◌+◌, ◌/◌, ◌<◌, ◌≤◌, Option, List, [], ◌∷◌, length, nat_eq, nat_lt, All, if◌then◌else◌}
+use Rattle.std.specs.Prelude.{◌≡◌, ◌≢◌, ◌⊎◌, ℕ, ◌+◌, ◌/◌, ◌<◌, ◌≤◌, List, [], ◌∷◌, length, nat_eq, nat_lt, All, if◌then◌else◌}
 use Rattle.activity_codec.specs.declared.values.Activity.TheVariants.{Rest}
 use Rattle.activity_codec.specs.declared.entries.Entry.{Entry}
 use Rattle.card_layout.specs.declared.files.Application.{Application}
@@ -18,7 +18,7 @@ use Rattle.card_session.specs.Vehicles.{Vehicles}
 use Rattle.card_session.specs.Books.{Book, mark_of, with_entry, closed}
 use Rattle.card_session.specs.Sessions.{Session, KnowsCard, IsSession, IsOpenBook, EndsStrictly, MayKeep, newest_in, book_of}
 use Rattle.card_session.specs.Moments.{IsBook, IsKeepMoment, IsCloseMoment}
-use Rattle.card_session.specs.Cards.{IsCard, ended}
+use Rattle.card_session.specs.Cards.{IsCard}
 
 -- ---- what is handed to it
 

@@ -10,7 +10,7 @@ use Rattle.tacho_types.specs.declared.texts.Registration.{Registration}
 use Rattle.cyclic_days.specs.Steps.{IsIdle}
 use Rattle.card_session.specs.Books.{Book, mark_of, with_change, with_new_day, day_words, gap_closed, entered_days, travelled, used, vehicles_with, with_entry, measured_to, last_used, begun_vehicle, vehicle_counter}
 use Rattle.card_session.specs.Sessions.{Session, KnowsCard, IsOpenBook, EndsStrictly, newest_in, book_of}
-use Rattle.card_session.specs.Moments.{IsBook, IsBeforeGap, IsBeforeWords, IsBeforeUse, IsKeepMoment}
+use Rattle.card_session.specs.Moments.{IsBook, IsBeforeGap, IsBeforeWords, IsBeforeUse}
 use Rattle.card_session.specs.Cards.{IsCard}
 
 -- After Ok the image is so related to the one before, and at each moment so. A part may make no call.

@@ -6,8 +6,8 @@ use Rattle.card_records.specs.Vehicles.{vehicle_of}
 use Rattle.gated_ring.specs.Ring.{is_there, entry_at, order, taken}
 use Rattle.card_image.specs.Fields.{vehicle_ring, newest_vehicle, last_use_of}
 
--- THE VEHICLE ENTRIES OF A CARD: the newest one; and its ring, from the place that the next entry takes round to the one before it, so the newest
--- entry last; None where no entry stands.
+-- THE VEHICLE ENTRIES OF A CARD: the newest one; and the places of its ring, from the one that the next entry takes round to the one before it,
+-- None where no entry stands.
 pub record Vehicles : Type 0 where
   pub newest : Option Vehicle
   pub ring : List (Option Vehicle)
@@ -21,6 +21,12 @@ ring_round app x = map (standing_at app x) (order (vehicle_ring app) (taken (veh
 
 abbrev pub vehicles_of : Application → List ℕ → Vehicles
 vehicles_of app x = record { newest = newest_vehicle app x; ring = ring_round app x }
+
+-- those that stand, the oldest first
+abbrev pub standing : List (Option Vehicle) → List Vehicle
+standing [] = []
+standing (None ∷ os) = standing os
+standing (Some v ∷ os) = v ∷ standing os
 
 -- when the newest one was last used, in seconds; 0 without one
 abbrev pub last_use_in : Vehicles → ℕ

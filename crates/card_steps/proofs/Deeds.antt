@@ -214,6 +214,9 @@ module _ (size : ℕ) (start : Book) where
 pub made_start : (app : Application) (image : List ℕ) → IsMade app image [] image
 made_start app image = record { deeds = record { steps = []; kept = refl; made = refl } }
 
+made_by : (app : Application) (image : List ℕ) (more : List Entry) (x : List ℕ) → IsMadeOf app.activity (book_of app image) more (book_of app x) → IsMade app image more x
+made_by app image more x deeds = record { deeds = deeds }
+
 pub made_same : (app : Application) (image : List ℕ) (more : List Entry) (x y : List ℕ) → book_of app y ≡ book_of app x → IsMade app image more x → IsMade app image more y
 made_same app image more x y same m = record { deeds = same_made app.activity (book_of app image) more (book_of app x) (book_of app y) same m.deeds }
 
@@ -225,7 +228,7 @@ module _ (s : Session) (image : List ℕ) (more : List Entry) (e : Entry) (odome
   pub keep_made : end_mark s.application x < e.minute → end_mark s.application y ≡ e.minute → IsMade s.application image (more ++ e ∷ []) y
   keep_made late at = ⊎_elim
       (λ old. absurd (omega (arith, late, at, old, mark_told s.application x, mark_told s.application y)))
-      (λ done. record { deeds = keep_done s.application.activity (book_of s.application image) s.registration odometer (grown s.odometer odometer) e (book_of s.application x) more m.deeds (book_of s.application y) done })
+      (λ done. made_by s.application image (more ++ e ∷ []) y (keep_done s.application.activity (book_of s.application image) s.registration odometer (grown s.odometer odometer) e (book_of s.application x) more m.deeds (book_of s.application y) done))
       (keep_sides s.application.activity (book_of s.application image) s.registration odometer (grown s.odometer odometer) e (book_of s.application x) (book_of s.application y) keeping.card.told)
 
 -- a withdrawal
