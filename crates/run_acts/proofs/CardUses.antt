@@ -1,5 +1,5 @@
 -- The uses that are found on the cards of a second, by its log so far.
-use Rattle.std.proofs.Common.{◌≡◌, ◌∙◌, ℕ, suc, ◌+◌, ◌<◌, Bool, true, false, cond, ◌||◌, Option, Some, None, List, [], ◌∷◌, ◌++◌, map, length, refl, sym, ap, subst, arith, append_assoc, append-nil, length-append}
+use Rattle.std.proofs.Common.{◌≡◌, ◌∙◌, ℕ, suc, ◌+◌, ◌<◌, ◌≤◌, Bool, true, false, cond, ◌||◌, Option, Some, None, List, [], ◌∷◌, ◌++◌, map, length, refl, sym, ap, subst, arith, append_assoc, append-nil, length-append}
 use Rattle.std.specs.Prelude.{filter, flat_map}
 use Rattle.std.specs.List.{AllByRecursion}
 use Rattle.activity_codec.specs.declared.values.Slot.{Slot}
@@ -9,6 +9,7 @@ use Rattle.trace_model.specs.declared.Action.{Action}
 use Rattle.trace_model.specs.declared.Action.TheVariants.{Insert, Tear}
 use Rattle.trace_model.specs.Trace.{TraceSecond}
 use Rattle.card_records.specs.declared.current_use.CurrentUse.{CurrentUse}
+use Rattle.log_model.specs.declared.lines.Break.{Break}
 use Rattle.log_model.specs.declared.lines.SlotFault.{SlotFault}
 use Rattle.log_model.specs.declared.lines.Verdict.{Verdict}
 use Rattle.log_model.specs.Log.{RunLog, Phase, In, cut_in, found_in, is_accepting}
@@ -21,11 +22,18 @@ use Rattle.run_rings.specs.Notes.{accepted_in, noted_if, action_notes, notes_fro
 use Rattle.run_rings.proofs.Notes.{answered-found, action-notes, later-lines, second-noted}
 use Rattle.run_rings.proofs.Actions.{none-ahead, power-notes, insertions}
 use Rattle.run_ringed.specs.Waking.{IsFoundAnew}
-use Rattle.run_recorded.specs.Origin.{Origin}
+use Rattle.run_recorded.specs.Origin.{Origin, rule_of, start_at, first_of}
+use Rattle.run_recorded.specs.Whole.{NothingFailed}
+use Rattle.run_course.specs.Followed.{Progress, Followed}
+use Rattle.run_moments.proofs.Reached.{nothing-told}
+use Rattle.run_keeping.specs.declared.keeper.Moment.{Moment}
+use Rattle.run_keeping.specs.Keeping.{tear_of}
 use Rattle.run_evented.specs.Uses.{uses_from, insertions_on, insertions_at, notes_in, notes_now, vehicle_in, use_in, uses_in, use_now}
 use Rattle.run_evented.proofs.Uses.{NotAccepted, uses-append, uses-quiet, accepted-insertions, accepts-other, card-is, card-turned}
-use Rattle.run_evented.proofs.Exact.{by-quiet}
+use Rattle.run_evented.proofs.Exact.{failed_tear, back-none, by-quiet}
 use Rattle.run_acts.proofs.CardCourse.{findings, no-verdicts, slot-found}
+use Rattle.run_acts.proofs.CardShown.{FindsStill}
+use Rattle.run_acts.proofs.RingedLines.{AreTears}
 
 -- ---- where a log tells of no find at a moment, an action accepts no card
 
@@ -86,7 +94,7 @@ module _ (log : RunLog) (was : Before) (s : TraceSecond) (front : List Action) (
       begun false = tt
 
 -- where nothing was found no card is accepted
-none-sits : (u : ℕ) (slot : Slot) (x : Option Sitting) → sits_accepted u slot x [] ≡ []
+pub none-sits : (u : ℕ) (slot : Slot) (x : Option Sitting) → sits_accepted u slot x [] ≡ []
 none-sits u slot None = refl
 none-sits u slot (Some x) = refl
 
@@ -198,3 +206,22 @@ module _ (o : Origin) (began : RunLog) (done : List TraceSecond) (s : TraceSecon
       uses-to c later front (Tear slot ∷ rest) are to_later
       ∙ ap (λ (l : List Note). uses_in o c (early ++ l)) (later-lines log later (went began done).before s front same)
       ∙ sym (uses-to c log front (Tear slot ∷ rest) are to)
+
+-- ---- lines of failed calls: where none failed there is none
+
+pub tears-none : (at : Moment) (lines : List Break) (log : RunLog) → AreTears at lines → NothingFailed (record log { breaks = log.breaks ++ lines }) → lines ≡ []
+tears-none at [] log h none = refl
+tears-none at (b ∷ lines) log h none =
+    let some : filter failed_tear (tear_of h.0.0 at ∷ lines) ≡ [] = subst (λ (x : Break). filter failed_tear (x ∷ lines) ≡ []) h.0.1 (back-none failed_tear log.breaks (b ∷ lines) none.1) in
+    absurd (cc)
+
+-- so the log is the same, and the uses are
+pub lines-still : (o : Origin) (began : RunLog) (done : List TraceSecond) (s : TraceSecond) (log later : RunLog) (lines : List Break) → later ≡ record log { breaks = log.breaks ++ lines } → (NothingFailed later → lines ≡ []) → (c : Card) →
+    FindsStill log later (uses_in o c (notes_now began done log s)) (uses_in o c (notes_now began done later s))
+lines-still o began done s log later lines is quiet c none =
+    let same : later ≡ log = is ∙ ap (λ (ls : List Break). record log { breaks = log.breaks ++ ls }) (quiet none) ∙ ap (λ (bs : List Break). record log { breaks = bs }) (append-nil log.breaks) in
+    (subst NothingFailed same none, ap (λ (l : RunLog). uses_in o c (notes_now began done l s)) same)
+
+-- a run has told of no find in a later second
+pub untold-to : (o : Origin) (done : List TraceSecond) (p : Progress) → Followed (rule_of o) (start_at o) o.from (first_of o) done p → (u : ℕ) → p.next ≤ u → (n : ℕ) → FoundTo p.log u n
+untold-to o done p f u le n k slot lt = (nothing-told (rule_of o) (start_at o) o.from (first_of o) done p f u le).found (In k) slot

@@ -44,10 +44,10 @@ use Rattle.run_evented.proofs.Uses.{NotAccepted, uses-quiet}
 
 -- ---- the log tells of no failed call
 
-abbrev failed_cut : Break → Bool
+abbrev pub failed_cut : Break → Bool
 failed_cut b = is_cut b && has_failed b
 
-abbrev failed_tear : Break → Bool
+abbrev pub failed_tear : Break → Bool
 failed_tear b = not (is_cut b) && has_failed b
 
 front-none : (p : Break → Bool) (xs ys : List Break) → filter p (xs ++ ys) ≡ [] → filter p xs ≡ []
@@ -57,7 +57,7 @@ front-none p xs ys none = by (filter p xs) (sym (filter-append p xs ys) ∙ none
     by [] is = refl
     by (z ∷ zs) is = absurd (cc)
 
-back-none : (p : Break → Bool) (xs ys : List Break) → filter p (xs ++ ys) ≡ [] → filter p ys ≡ []
+pub back-none : (p : Break → Bool) (xs ys : List Break) → filter p (xs ++ ys) ≡ [] → filter p ys ≡ []
 back-none p xs ys none = by (filter p xs) (sym (filter-append p xs ys) ∙ none)
   where
     by : (zs : List Break) → zs ++ filter p ys ≡ [] → filter p ys ≡ []
