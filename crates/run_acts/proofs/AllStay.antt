@@ -277,6 +277,13 @@ module _ (o : Origin) where
       all-moved log later notes now r cabin cabin d on
       (λ none c. moves-same (spells_of c notes) (spells_of c now) (sits_in cabin.slots.seats c) (sits_in cabin.slots.seats c) (session_of cabin.cards c) (session_of cabin.cards c) (same none c) refl refl) all
 
+  -- the cabin alone differs, with the same seats and sessions
+  pub all-seated : (log : RunLog) (notes : List Note) (r : Registration) (cabin after : Cabin) (d : Devices) → ((c : Card) → sits_in after.slots.seats c ≡ sits_in cabin.slots.seats c) → ((c : Card) → session_of after.cards c ≡ session_of cabin.cards c) →
+      AllStay o log notes r cabin d → AllStay o log notes r after d
+  all-seated log notes r cabin after d seats sessions all =
+      all-moved log log notes notes r cabin after d (log-self log)
+      (λ none c. moves-same (spells_of c notes) (spells_of c notes) (sits_in cabin.slots.seats c) (sits_in after.slots.seats c) (session_of cabin.cards c) (session_of after.cards c) refl (seats c) (sessions c)) all
+
   -- a call that is about one card, and the unit: nothing is noted of the other one, which has its session and its seat
   pub all-one : (c : Card) (log later : RunLog) (notes now : List Note) (r : Registration) (cabin after : Cabin) (U V X Y Z : State) → (NothingFailed later → NothingFailed log) → session_of after.cards (other c) ≡ session_of cabin.cards (other c) →
       sits_in after.slots.seats (other c) ≡ sits_in cabin.slots.seats (other c) → (NothingFailed later → spells_of (other c) now ≡ spells_of (other c) notes)

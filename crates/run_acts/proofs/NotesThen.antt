@@ -1,5 +1,5 @@
 -- What a run has noted so far, from moment to moment.
-use Rattle.std.proofs.Common.{◌≡◌, ◌∙◌, ◌⊎◌, inl, inr, ℕ, zero, suc, ◌+◌, ◌<◌, ◌≤◌, Bool, true, false, cond, not, ◌&&◌, ◌||◌, nat_eq, Option, Some, None, is_some, List, [], ◌∷◌, ◌++◌, All, length, map, filter, take, refl, ap, sym, subst, arith, append-nil, append_assoc, length-append}
+use Rattle.std.proofs.Common.{◌≡◌, ◌∙◌, ◌⊎◌, inl, inr, ℕ, zero, suc, ◌+◌, ◌%◌, ◌<◌, ◌≤◌, Bool, true, false, cond, not, ◌&&◌, ◌||◌, nat_eq, Option, Some, None, is_some, List, [], ◌∷◌, ◌++◌, All, length, map, filter, take, refl, ap, sym, subst, arith, append-nil, append_assoc, length-append}
 use Rattle.std.specs.Prelude.{nat_lt, slice_get}
 use Rattle.std.proofs.Math.Seq.{take-append_seam}
 use Rattle.std.proofs.lemmas.Bool.Decides.{nat_tests}
@@ -11,15 +11,17 @@ use Rattle.activity_codec.specs.Activity.{same_slot}
 use Rattle.trace_model.specs.declared.Card.{Card}
 use Rattle.trace_model.specs.declared.Action.{Action}
 use Rattle.trace_model.specs.declared.Action.TheVariants.{Select, Insert, Withdraw, Tear, Place}
-use Rattle.trace_model.specs.Trace.{TraceSecond, driven}
+use Rattle.trace_model.specs.Trace.{TraceSecond, driven, dark}
 use Rattle.log_model.specs.declared.lines.Break.{Break}
 use Rattle.log_model.specs.declared.lines.Break.TheVariants.{Tear as Torn}
 use Rattle.log_model.specs.declared.lines.Find.{Find}
+use Rattle.log_model.specs.declared.lines.Refused.{Refused}
 use Rattle.log_model.specs.declared.lines.SlotFault.{SlotFault}
 use Rattle.log_model.specs.declared.lines.SlotFault.TheVariants.{Moving, Empty, NoCard}
 use Rattle.log_model.specs.declared.lines.Verdict.{Verdict}
 use Rattle.log_model.specs.Log.{RunLog, Phase, In, Keeping, same_phase, cut_in, tears_here, is_torn_in, found_in, is_accepting}
 use Rattle.log_model.specs.Same.{SameAt}
+use Rattle.log_model.proofs.Growth.{went-more}
 use Rattle.log_model.specs.Slots.{Sitting, same_card, in_slot, is_accepted, refusal}
 use Rattle.log_model.specs.Course.{Course, Visit, Before, Went, card_in as card_of_sitting, answered, moved_by, both_told, begins, is_settling, acted, all_acted, has_power, went, second_told}
 use Rattle.side_model.specs.Done.{course_powered, done_by}
@@ -29,12 +31,13 @@ use Rattle.safety_model.specs.Safe.{Devices, breakdowns_of}
 use Rattle.run_crew.specs.declared.cards.Accepted.{Accepted}
 use Rattle.run_crew.specs.Cards.{session_of}
 use Rattle.run_crew.specs.Cabin.{Stands}
-use Rattle.run_course.specs.Moments.{SameUpTo, and_break, and_find}
-use Rattle.run_course.specs.Followed.{Progress, IsGoing}
+use Rattle.run_course.specs.Moments.{SameUpTo, and_break, and_find, and_refused}
+use Rattle.run_course.specs.Followed.{Progress, IsGoing, IsLost}
+use Rattle.run_course.proofs.Logs.{found_log, same-found}
 use Rattle.run_course.proofs.Quiet.{quiet-are-told}
-use Rattle.run_course.proofs.Lookups.{break-more, find-more}
+use Rattle.run_course.proofs.Lookups.{break-more, find-more, refusal-more}
 use Rattle.run_course.proofs.Moments.{later-lines as same-course-by}
-use Rattle.run_course.proofs.Told.{lit-power}
+use Rattle.run_course.proofs.Told.{lit-power, lost-dark, dark-told, next-dark}
 use Rattle.run_moments.specs.Telling.{WaitBut}
 use Rattle.run_moments.specs.Reached.{IsFindAt, course_at, course_with, moved_at, moved_with}
 use Rattle.run_moments.proofs.Telling.{card-judged}
@@ -181,6 +184,50 @@ pub notes-dark : (log : RunLog) (done : List TraceSecond) (s : TraceSecond) → 
 notes-dark log done s off =
     second-notes log log done s (same-all log done) ∙ ap (λ (l : List Note). notes_in log done ++ l) (dark-notes log (went log done).before s off) ∙ append-nil (notes_in log done)
 
+-- nor do several, as an `off` line has them,
+pub notes-off : (n : ℕ) (log : RunLog) (done : List TraceSecond) (u : ℕ) → notes_in log (done ++ dark n u) ≡ notes_in log done
+notes-off zero log done u = ap (λ (ss : List TraceSecond). notes_in log ss) (append-nil done)
+notes-off (suc n) log done u =
+    let x : TraceSecond = record { number = u; has_power = false; speed = 0; actions = [] } in
+    ap (λ (ss : List TraceSecond). notes_in log ss) (sym (append_assoc done (x ∷ []) (dark n (u + 1)))) ∙ notes-off n log (done ++ x ∷ []) (u + 1) ∙ notes-dark log done x refl
+
+-- or behind a cut, before the next minute
+lost-one : (log : RunLog) (done : List TraceSecond) (u speed : ℕ) (actions : List Action) → IsLost (went log done).before → 0 < u % 60 →
+    IsLost (went log (done ++ record { number = u; has_power = true; speed = speed; actions = actions } ∷ [])).before × (notes_in log (done ++ record { number = u; has_power = true; speed = speed; actions = actions } ∷ []) ≡ notes_in log done)
+lost-one log done u speed actions lost some =
+    let x : TraceSecond = record { number = u; has_power = true; speed = speed; actions = actions } in
+    let before : Before = (went log done).before in
+    let off : has_power before x ≡ false = lost-dark before x lost some in
+    let t = dark-told log before x off in
+    (subst (λ (g : Went). IsLost g.before) (sym (went-more log done x)) (next-dark before (second_told log before x) lost t.lit t.cut t.given), notes-dark log done x off)
+
+pub notes-lost : (j : ℕ) (log : RunLog) (done : List TraceSecond) (u speed : ℕ) (actions : List Action) → IsLost (went log done).before → 0 < u % 60 → u % 60 + j ≤ 60 → notes_in log (done ++ driven j u speed actions) ≡ notes_in log done
+notes-lost zero log done u speed actions lost some few = ap (λ (ss : List TraceSecond). notes_in log ss) (append-nil done)
+notes-lost (suc zero) log done u speed actions lost some few = (lost-one log done u speed actions lost some).1
+notes-lost (suc (suc j)) log done u speed actions lost some few =
+    let x : TraceSecond = record { number = u; has_power = true; speed = speed; actions = actions } in
+    let one = lost-one log done u speed actions lost some in
+    ap (λ (ss : List TraceSecond). notes_in log ss) (sym (append_assoc done (x ∷ []) (driven (suc j) (u + 1) speed [])))
+    ∙ notes-lost (suc j) log (done ++ x ∷ []) (u + 1) speed [] one.0 (omega (arith, some, few)) (omega (arith, some, few)) ∙ one.1
+
+-- lines of refused actions change no note
+all-refused : (log : RunLog) (refused : List Refused) (ss : List TraceSecond) → All (λ (x : TraceSecond). SameAt log (record log { refused = refused }) x.number) ss
+all-refused log refused [] = All-nil (λ (x : TraceSecond). SameAt log (record log { refused = refused }) x.number)
+all-refused log refused (s ∷ ss) =
+    let seen = refusal-more log refused s.number in
+    All-cons (λ (x : TraceSecond). SameAt log (record log { refused = refused }) x.number) s ss (record { cut = seen.cut; torn = λ p slot. seen.torn p slot; found = λ p slot. seen.found p slot }) (all-refused log refused ss)
+
+pub notes-refused : (log : RunLog) (refused : List Refused) (ss : List TraceSecond) → notes_in (record log { refused = refused }) ss ≡ notes_in log ss
+notes-refused log refused ss = notes-alike log (record log { refused = refused }) ss (all-refused log refused ss)
+
+-- nor does what was kept, as it is found
+all-found : (log : RunLog) (i k : ℕ) (ss : List TraceSecond) → All (λ (x : TraceSecond). SameAt log (found_log i k log) x.number) ss
+all-found log i k [] = All-nil (λ (x : TraceSecond). SameAt log (found_log i k log) x.number)
+all-found log i k (s ∷ ss) = All-cons (λ (x : TraceSecond). SameAt log (found_log i k log) x.number) s ss (same-found log i k s.number) (all-found log i k ss)
+
+pub notes-found : (log : RunLog) (i k : ℕ) (ss : List TraceSecond) → notes_in (found_log i k log) ss ≡ notes_in log ss
+notes-found log i k ss = notes-alike log (found_log i k log) ss (all-found log i k ss)
+
 -- nor does one with power that has no actions, where power goes on
 pub notes-quiet : (log : RunLog) (done : List TraceSecond) (u speed : ℕ) → IsGoing (went log done).before → notes_in log (done ++ record { number = u; has_power = true; speed = speed; actions = [] } ∷ []) ≡ notes_in log done
 notes-quiet log done u speed goes =
@@ -290,14 +337,26 @@ pull-now o done s front rest slot are v d w c =
     (none-then w.b done s front rest (Tear slot) v.log later are (torn-same v.log s front slot false w.moment.up_to.uncut) (pulls later (went w.b.run.log done).before s front slot))
 
 -- nor an action that is refused, of which a line is told
-pub refused-now_ : (o : Origin) (done : List TraceSecond) (s : TraceSecond) (front rest : List Action) (a : Action) (are : s.actions ≡ front ++ a ∷ rest) (v : Values) (d : Devices) (w : Within o done s (In (length front)) [] None [] v d) →
-    (fault : SlotFault) → refusal (course_in w.b done s (In (length front)) v.log).slots s.speed a ≡ Some fault → (later : RunLog) → TellSameTo v.log later s.number (length front) →
-    course_behind later (went w.b.run.log done).before s front ≡ course_behind v.log (went w.b.run.log done).before s front → (c : Card) →
-    spells_of c (notes_within w.b done s (In (suc (length front))) later) ≡ spells_of c (notes_within w.b done s (In (length front)) v.log)
-refused-now_ o done s front rest a are v d w fault is later same alike c =
+pub behind-refused : (log : RunLog) (before : Before) (s : TraceSecond) (front : List Action) (line : Refused) → course_behind (and_refused log line) before s front ≡ course_behind log before s front
+unfolding is_torn_in found_in cut_in
+behind-refused log before s front line = refl
+
+pub refuse-now : (o : Origin) (done : List TraceSecond) (s : TraceSecond) (front rest : List Action) (a : Action) (are : s.actions ≡ front ++ a ∷ rest) (v : Values) (d : Devices) (w : Within o done s (In (length front)) [] None [] v d) →
+    (fault : SlotFault) → refusal (course_in w.b done s (In (length front)) v.log).slots s.speed a ≡ Some fault → (line : Refused) → (c : Card) →
+    spells_of c (notes_within w.b done s (In (suc (length front))) (and_refused v.log line)) ≡ spells_of c (notes_within w.b done s (In (length front)) v.log)
+refuse-now o done s front rest a are v d w fault is line c =
+    let before : Before = (went w.b.run.log done).before in
+    let now : RunLog = and_refused v.log line in
+    let seen = refusal-more v.log (v.log.refused ++ line ∷ []) s.number in
+    let same : TellSameTo v.log now s.number (length front) = record {
+      begun = λ k lt. ap (λ (q : Option ℕ). begins q k) w.moment.up_to.uncut;
+      begun_later = λ k lt. ap (λ (q : Option ℕ). begins q k) (seen.cut ∙ w.moment.up_to.uncut);
+      torn = λ k slot le. seen.torn (In k) slot;
+      found = λ k slot le. seen.found (In k) slot;
+    } in
     ap (λ (l : List Note). spells_of c l)
-    (none-then w.b done s front rest a v.log later are same
-    (refusals later (went w.b.run.log done).before s front a fault (ap (λ (k : Course). refusal k.slots s.speed a) (alike ∙ behind-here o done s front rest a are v d w) ∙ is)))
+    (none-then w.b done s front rest a v.log now are same
+    (refusals now before s front a fault (ap (λ (k : Course). refusal k.slots s.speed a) (behind-refused v.log before s front line ∙ behind-here o done s front rest a are v d w) ∙ is)))
 
 -- nor does a card that is put in, before it is judged
 pub put-now : (o : Origin) (done : List TraceSecond) (s : TraceSecond) (front rest : List Action) (slot : Slot) (card : Card) (are : s.actions ≡ front ++ Insert slot card ∷ rest) (v : Values) (d : Devices) (w : Within o done s (In (length front)) [] None [] v d) →
