@@ -24,6 +24,7 @@ use Rattle.log_model.specs.declared.lines.Verdict.TheVariants as verdict
 use Rattle.log_model.specs.Log.{RunLog, Phase, In, cut_in, is_torn_in, found_in, is_accepting}
 use Rattle.log_model.specs.Slots.{same_card, other_slot}
 use Rattle.log_model.specs.Course.{Visit}
+use Rattle.side_model.specs.Noted.{Note}
 use Rattle.safety_model.specs.Recording.{card_image}
 use Rattle.safety_model.specs.Safe.{Devices, card_of}
 use Rattle.run_rule.specs.Found.{Found, found_of}
@@ -32,7 +33,9 @@ use Rattle.run_told.specs.Told.{arranged}
 use Rattle.run_outcome.specs.declared.outcome.Outcome.{Outcome}
 use Rattle.run_recorded.specs.Origin.{Origin}
 use Rattle.run_recorded.specs.Beside.{HaveLeftMore}
+use Rattle.run_recorded.specs.Whole.{NothingFailed}
 use Rattle.run_evented.specs.Evented.{images_in}
+use Rattle.run_evented.specs.Uses.{uses_from, insertions_at, use_now}
 use Rattle.run_keeping.specs.declared.keeper.Keeper.{Keeper}
 use Rattle.run_keeping.specs.declared.keeper.Moment.{Moment as KeepingAt}
 use Rattle.run_keeping.specs.Keeping.{tear_of}
@@ -46,9 +49,11 @@ use Rattle.run_entering.proofs.CardBrought.{IsSitting}
 use Rattle.run_within.specs.Within.{Within}
 use Rattle.run_acts.specs.Entered.{values_with, MayJudge, HasGone, AreSound}
 use Rattle.run_acts.specs.Recording.{IsOrigin, log_of}
+use Rattle.run_acts.specs.Stays.{AllStay}
 use Rattle.run_acts.specs.OnCards.{unclosed_at, unclosed_by, events_by, accepts, moving_at, movings, StillShows, IsUse, AreUses}
 use Rattle.run_acts.specs.RunCards.{vehicle_in, sizes_in}
 use Rattle.run_acts.proofs.OnCards.{events-none, still-same}
+use Rattle.run_acts.proofs.StayUses.{use-now}
 use Rattle.run_acts.proofs.CardStays.{valid-found}
 use Rattle.run_acts.proofs.EnteredFacts.{mine, mine-back, each, now-is, card-tells, card-began, card-run, unit-told, left}
 use Rattle.run_acts.proofs.RingedLines.{phase_at, tear-told}
@@ -186,7 +191,8 @@ same-self B = refl
 
 module _ (o : Origin) (done : List TraceSecond) (s : TraceSecond) (n : ℕ) (waits fewer : List Visit) (e : Entering) (k : Keeper) (out : Outcome) (unfound next_ begun : ℕ) (minutes : Kept) (U X Z : State) (w : Within o done s (In n) waits None [] (values_with k out unfound next_ begun minutes) (arranged e.which U X Z)) (m : MayJudge o done s n waits fewer e k out unfound next_ begun minutes U X Z w)
     (origin : IsOrigin o) (vehicle : k.memory.registration ≡ vehicle_in o) (moves : s.speed ≡ e.speed)
-    (failed : Bool) (k' : Keeper) (noted noted' : ℕ) (out' : Outcome) (W Y : State) (way : Way) (g : HasGone e failed k k' noted noted' out out' U W X Y Z way) (sound : AreSound U W X Y) (works : IsSitting (ending_of way) → Y.works ≡ true) where
+    (failed : Bool) (k' : Keeper) (noted noted' : ℕ) (out' : Outcome) (W Y : State) (way : Way) (g : HasGone e failed k k' noted noted' out out' U W X Y Z way) (sound : AreSound U W X Y) (works : IsSitting (ending_of way) → Y.works ≡ true)
+    (notes : List Note) (stay : AllStay o (log_of out) notes k.memory.registration k.cabin (arranged e.which U X Z)) where
   second : e.at.second ≡ s.number
   second = now-is o done s n waits fewer e k out unfound next_ begun minutes U X Z w m
 
@@ -267,11 +273,19 @@ module _ (o : Origin) (done : List TraceSecond) (s : TraceSecond) (n : ℕ) (wai
         × (clear → (kind : ℕ) → events_in (sizes_in o e.which) kind y ≡ all_noted (events_in (sizes_in o e.which) kind x) (events_by kind [] (movings e.which (vehicle_in o) s.speed us) (unclosed_by uses us)))
         × ((kind : ℕ) → NotesNone kind s.speed → events_in (sizes_in o e.which) kind y ≡ events_in (sizes_in o e.which) kind x)
 
+    -- it tells the use that the notes before it have left
+    once : (replayed : ℕ) (x : List ℕ) → X.may_leave x → NothingFailed (log_of out) →
+        current_use (own_sizes x) x ∷ [] ≡ uses_from (vehicle_in o) (use_now o e.which notes) (insertions_at s.number e.slot e.which (verdict.Accepted replayed ∷ []))
+    once replayed x at fine =
+        ap (λ (use : CurrentUse). use ∷ []) (ap (λ (a : Application). current_use a x) (sizes-are x at)
+        ∙ use-now o origin (log_of out) notes k.memory.registration k.cabin (arranged e.which U X Z) stay fine e.which valid m.bare x (mine-back e.which U X Z (λ (q : State). q.may_leave x) at))
+
     -- as it is told of the devices in their order
-    brings : (vs : List Verdict) (uses : List CurrentUse) → AreUses (images_in o (arranged e.which W Y Z) e.which) uses (accepts s.number vs) → ((y : List ℕ) → Y.may_leave y → Step Clear uses (accepts s.number vs) y)
-        → BringsNow o e.which s.number s.speed Clear vs (arranged e.which U X Z) (arranged e.which W Y Z)
-    brings vs uses are steps = record {
+    brings : (vs : List Verdict) (uses : List CurrentUse) → (NothingFailed (log_of out) → uses ≡ uses_from (vehicle_in o) (use_now o e.which notes) (insertions_at s.number e.slot e.which vs)) → AreUses (images_in o (arranged e.which W Y Z) e.which) uses (accepts s.number vs) → ((y : List ℕ) → Y.may_leave y → Step Clear uses (accepts s.number vs) y)
+        → BringsNow o e.which s.number s.speed e.slot notes (log_of out) Clear vs (arranged e.which U X Z) (arranged e.which W Y Z)
+    brings vs uses exact are steps = record {
       uses = uses;
+      exact = exact;
       are = are;
       notes = λ y at.
           let was = steps y (mine e.which W Y Z (λ (q : State). q.may_leave y) at) in
@@ -279,9 +293,9 @@ module _ (o : Origin) (done : List TraceSecond) (s : TraceSecond) (n : ℕ) (wai
     }
 
     -- nothing is noted of it
-    plain : (vs : List Verdict) → accepts s.number vs ≡ [] → ((y : List ℕ) → Y.may_leave y → (x : List ℕ) × X.may_leave x × ((kind : ℕ) → (Clear ⊎ NotesNone kind s.speed) → events_in (sizes_in o e.which) kind y ≡ events_in (sizes_in o e.which) kind x))
-        → BringsNow o e.which s.number s.speed Clear vs (arranged e.which U X Z) (arranged e.which W Y Z)
-    plain vs none same = brings vs [] (subst (AreUses (images_in o (arranged e.which W Y Z) e.which) []) (sym none) tt) (λ y at.
+    plain : (vs : List Verdict) → accepts s.number vs ≡ [] → insertions_at s.number e.slot e.which vs ≡ [] → ((y : List ℕ) → Y.may_leave y → (x : List ℕ) × X.may_leave x × ((kind : ℕ) → (Clear ⊎ NotesNone kind s.speed) → events_in (sizes_in o e.which) kind y ≡ events_in (sizes_in o e.which) kind x))
+        → BringsNow o e.which s.number s.speed e.slot notes (log_of out) Clear vs (arranged e.which U X Z) (arranged e.which W Y Z)
+    plain vs none inserts same = brings vs [] (λ fine. ap (uses_from (vehicle_in o) (use_now o e.which notes)) (sym inserts)) (subst (AreUses (images_in o (arranged e.which W Y Z) e.which) []) (sym none) tt) (λ y at.
         let was = same y at in (
           was.0,
           was.1,
@@ -322,17 +336,17 @@ module _ (o : Origin) (done : List TraceSecond) (s : TraceSecond) (n : ℕ) (wai
           moving_as = λ i. record { kind = INSERTION_WHILE_DRIVING; begin = record { 0 = second i }; end = record { 0 = second i }; registration = vehicle i }
 
     -- ---- by its way
-    by-way : (v : Way) → way ≡ v → IsWay v k.memory.registration e failed U.image X Y → BringsOnCard v k.memory.registration e failed X Y → BringsNow o e.which s.number s.speed Clear (verdicts_of (ending_of v) e) (arranged e.which U X Z) (arranged e.which W Y Z)
-    by-way Unread is so b = plain [] refl (λ y at. (y, b y at, λ kind h. refl))
-    by-way (Unsized field) is so b = plain (verdicts_of (ending_of (Unsized field)) e) refl (λ y at. (y, b y at, λ kind h. refl))
-    by-way (Judged a (Unfit fid place)) is so b = plain (verdict.NotValid fid place ∷ []) refl (λ y at. let was = b y at in (was.0, was.1, λ kind h. subst (λ (p : Application). events_in p kind y ≡ events_in p kind was.0) (app-is a was.0 y was.2 was.1) (was.3 kind)))
-    by-way (Judged a (Ahead stored)) is so b = plain (verdict.TimeOverlap stored e.at.second ∷ []) refl (λ y at. let was = b y at in (was.0, was.1, λ kind h. subst (λ (p : Application). events_in p kind y ≡ events_in p kind was.0) (app-is a was.0 y was.2 was.1) (was.3 kind)))
-    by-way (Judged a Fell) is so b = plain [] refl (λ y at. let was = b y at in
+    by-way : (v : Way) → way ≡ v → IsWay v k.memory.registration e failed U.image X Y → BringsOnCard v k.memory.registration e failed X Y → BringsNow o e.which s.number s.speed e.slot notes (log_of out) Clear (verdicts_of (ending_of v) e) (arranged e.which U X Z) (arranged e.which W Y Z)
+    by-way Unread is so b = plain [] refl refl (λ y at. (y, b y at, λ kind h. refl))
+    by-way (Unsized field) is so b = plain (verdicts_of (ending_of (Unsized field)) e) refl refl (λ y at. (y, b y at, λ kind h. refl))
+    by-way (Judged a (Unfit fid place)) is so b = plain (verdict.NotValid fid place ∷ []) refl refl (λ y at. let was = b y at in (was.0, was.1, λ kind h. subst (λ (p : Application). events_in p kind y ≡ events_in p kind was.0) (app-is a was.0 y was.2 was.1) (was.3 kind)))
+    by-way (Judged a (Ahead stored)) is so b = plain (verdict.TimeOverlap stored e.at.second ∷ []) refl refl (λ y at. let was = b y at in (was.0, was.1, λ kind h. subst (λ (p : Application). events_in p kind y ≡ events_in p kind was.0) (app-is a was.0 y was.2 was.1) (was.3 kind)))
+    by-way (Judged a Fell) is so b = plain [] refl refl (λ y at. let was = b y at in
         (was.0, was.1, λ kind h. ⊎_elim (λ clear. absurd (torn-then Fell (ap ending_of is) ((log_of out).finds ++ []) refl clear)) (λ quiet. quiet-one a was.0 y was.2 was.1 true kind (was.3 kind) quiet) h))
-    by-way (Judged a Unasked) is so b = plain [] refl (λ y at. let was = b y at in (was.0, was.1, λ kind h. subst (λ (p : Application). events_in p kind y ≡ events_in p kind was.0) (app-is a was.0 y was.2 was.1) (was.3 kind)))
+    by-way (Judged a Unasked) is so b = plain [] refl refl (λ y at. let was = b y at in (was.0, was.1, λ kind h. subst (λ (p : Application). events_in p kind y ≡ events_in p kind was.0) (app-is a was.0 y was.2 was.1) (was.3 kind)))
     by-way (Judged a (Unnoted entered clock)) is so b =
         let one = b now-left.0 now-left.2 in
-        brings (verdict.Accepted entered.replayed ∷ []) (current_use (own_sizes one.0) one.0 ∷ []) ((one.0, since one.0 one.1, refl), tt) (λ y at. let was = b y at in (
+        brings (verdict.Accepted entered.replayed ∷ []) (current_use (own_sizes one.0) one.0 ∷ []) (once entered.replayed one.0 one.1) ((one.0, since one.0 one.1, refl), tt) (λ y at. let was = b y at in (
           was.0,
           was.1,
           (λ clear kind. absurd (let clash : true ≡ false = sym so.0 ∙ clear.0 in cc)),
@@ -340,7 +354,7 @@ module _ (o : Origin) (done : List TraceSecond) (s : TraceSecond) (n : ℕ) (wai
         ))
     by-way (Judged a (Lost entered clock entry)) is so b =
         let one = b now-left.0 now-left.2 in
-        brings (verdict.Accepted entered.replayed ∷ []) (current_use (own_sizes one.0) one.0 ∷ []) ((one.0, since one.0 one.1, refl), tt) (λ y at. let was = b y at in (
+        brings (verdict.Accepted entered.replayed ∷ []) (current_use (own_sizes one.0) one.0 ∷ []) (once entered.replayed one.0 one.1) ((one.0, since one.0 one.1, refl), tt) (λ y at. let was = b y at in (
           was.0,
           was.1,
           (λ clear kind. absurd (torn-then (Lost entered clock entry) (ap ending_of is) ((log_of out).finds ++ finds_by (Lost entered clock entry) e) refl clear)),
@@ -357,10 +371,10 @@ module _ (o : Origin) (done : List TraceSecond) (s : TraceSecond) (n : ℕ) (wai
             let there_ : Y.image ≡ Some y = sound.card_behind.only y (works (subst (λ (v : Way). IsSitting (ending_of v)) (sym is) tt)) at in
             let here_ = now-left.1 in cc
 
-        by : (f : Bool) → failed ≡ f → BringsOnCard (Judged a (Seated entered clock entry)) k.memory.registration e f X Y → BringsNow o e.which s.number s.speed Clear (verdict.Accepted entered.replayed ∷ []) (arranged e.which U X Z) (arranged e.which W Y Z)
+        by : (f : Bool) → failed ≡ f → BringsOnCard (Judged a (Seated entered clock entry)) k.memory.registration e f X Y → BringsNow o e.which s.number s.speed e.slot notes (log_of out) Clear (verdict.Accepted entered.replayed ∷ []) (arranged e.which U X Z) (arranged e.which W Y Z)
         by true fails h =
             let one = one_ true h in
-            brings (verdict.Accepted entered.replayed ∷ []) (current_use (own_sizes one.0) one.0 ∷ []) ((one.0, since one.0 one.1, refl), tt) (λ y at. let was = h y at in (
+            brings (verdict.Accepted entered.replayed ∷ []) (current_use (own_sizes one.0) one.0 ∷ []) (once entered.replayed one.0 one.1) ((one.0, since one.0 one.1, refl), tt) (λ y at. let was = h y at in (
               was.0,
               was.1,
               (λ clear kind. absurd (let clash : true ≡ false = sym fails ∙ clear.0 in cc)),
@@ -368,7 +382,7 @@ module _ (o : Origin) (done : List TraceSecond) (s : TraceSecond) (n : ℕ) (wai
             ))
         by false fine h =
             let one = one_ false h in
-            brings (verdict.Accepted entered.replayed ∷ []) (current_use (own_sizes one.0) one.0 ∷ []) ((one.0, since one.0 one.1, refl), tt) (λ y at.
+            brings (verdict.Accepted entered.replayed ∷ []) (current_use (own_sizes one.0) one.0 ∷ []) (once entered.replayed one.0 one.1) ((one.0, since one.0 one.1, refl), tt) (λ y at.
             subst (λ (z : List ℕ). Step Clear (current_use (own_sizes one.0) one.0 ∷ []) (s.number ∷ []) z) (only y at) (
               one.0,
               one.1,
@@ -376,20 +390,21 @@ module _ (o : Origin) (done : List TraceSecond) (s : TraceSecond) (n : ℕ) (wai
               (λ kind quiet. quiet-both a one.0 now-left.0 one.2 one.1 false kind (one.3 kind) quiet),
             ))
 
-    own-brings : BringsNow o e.which s.number s.speed Clear (found_in (log_of out') s.number (In n) e.slot) (arranged e.which U X Z) (arranged e.which W Y Z)
+    own-brings : BringsNow o e.which s.number s.speed e.slot notes (log_of out) Clear (found_in (log_of out') s.number (In n) e.slot) (arranged e.which U X Z) (arranged e.which W Y Z)
     own-brings =
-        subst (λ (vs : List Verdict). BringsNow o e.which s.number s.speed Clear vs (arranged e.which U X Z) (arranged e.which W Y Z)) (sym found-is) (by-way way refl g.entered.is there.1)
+        subst (λ (vs : List Verdict). BringsNow o e.which s.number s.speed e.slot notes (log_of out) Clear vs (arranged e.which U X Z) (arranged e.which W Y Z)) (sym found-is) (by-way way refl g.entered.is there.1)
 
   -- SO IT IS OF BOTH CARDS
-  pub judged-cards : IsJudgedOnCards failed o s n e.slot e.which out out' (arranged e.which U X Z) (arranged e.which W Y Z)
+  pub judged-cards : IsJudgedOnCards failed o s n e.slot e.which notes out out' (arranged e.which U X Z) (arranged e.which W Y Z)
   judged-cards = record {
     own = λ c valid is.
         let same : c ≡ e.which = same-is e.which c is in
-        subst (λ (q : Card). BringsNow o q s.number s.speed Clear (found_in (log_of out') s.number (In n) e.slot) (arranged e.which U X Z) (arranged e.which W Y Z)) (sym same)
+        subst (λ (q : Card). BringsNow o q s.number s.speed e.slot notes (log_of out) Clear (found_in (log_of out') s.number (In n) e.slot) (arranged e.which U X Z) (arranged e.which W Y Z)) (sym same)
         (own-brings (subst (λ (q : Card). IsOwnValid (card_image o.recording q)) same valid));
     beside = λ c valid away. each e.which U W X Y Z (λ (q : Card) (a b : State). same_card e.which q ≡ false → StillShows (sizes_in o q) a b)
         (λ apart. absurd (let clash : true ≡ false = sym (same-self e.which) ∙ apart in cc)) (λ apart. still-same (sizes_in o (other e.which)) Z) c away;
     others = tells.others;
+    ahead = λ k x lt. tells.found k x (grind (arith, nat_tests));
     here = subst (λ (l : RunLog). TellsHere (log_of out) l s.number) (sym log-is) (subst (λ (u : ℕ). TellsHere (log_of out) (log_with (ending_of way) e (log_of out)) u) second (ending-here (ending_of way) e (log_of out)));
     cut = tells.cut;
     same = λ x is. tells-same (log_of out) (log_of out') s.number x e.slot (verdicts_of (ending_of way) e) w.moment.up_to.uncut

@@ -21,7 +21,7 @@ use Rattle.recorder_with_cards.proofs.Goes.{card-or-other, others-session, both-
 use Rattle.std.specs.Prelude.{is_err}
 use Rattle.tach_media.specs.Medium.{State}
 use Rattle.log_model.specs.Log.{In}
-use Rattle.run_acts.specs.Recording.{values_of}
+use Rattle.run_acts.specs.Recording.{log_of, values_of}
 use Rattle.run_told.specs.Told.{arranged}
 use Rattle.run_acts.specs.Entered.{MayJudge, HasGone, AreSound}
 use Rattle.run_acts.proofs.EnteredWhole.{entered-recorded}
@@ -335,6 +335,7 @@ returns-clause-cards g c = λ room o done s n waits fewer at speed next vehicle 
     judged-cards o done s n waits fewer e run.keeper c.args.outcome.now run.unfound run.next run.begun run.minutes U X Y next.goes.within may next.goes.origin vehicle speed
     failed c.accept-answer.new.keeper run.noted c.accept-answer.new.noted c.accept-answer.new.outcome V Z w.0 gone sound
     (sits-works e (measured w.0 e run.keeper) c.accept-answer.new.keeper run.noted (ending_of w.0) (g.C.Chip.card c.accept-answer.new.card) Z w.1.left.keeper c.accept-answer.ensures.card)
+    (notes_within next.goes.within.b done s (In n) (log_of c.args.outcome.now)) next.goes.stay
 
 -- ---- where no tear of a failed call is told no card has broken down
 
