@@ -547,10 +547,10 @@ module _ (o : Origin) (done : List TraceSecond) (s : TraceSecond) (n : ℕ) (wai
   at-once is =
       let first : (log : RunLog) → notes_within w.b done s (In n) log ≡ notes_in w.b.run.log done ++ accepted_in s.number (In n) (course_at log before_ s (In n)).found =
       λ log.
-          ap (λ (k : ℕ). notes_within w.b done s (In k) log) is
-          ∙ ap (λ (as_ : List Action). notes_so_far w.b.run.log done log s as_) (actions-at [] s.actions s.actions refl)
-          ∙ ap (λ (l : List Note). notes_in w.b.run.log done ++ l) (append-nil (accepted_in s.number (In 0) (course_powered log before_ s).found))
-          ∙ ap (λ (k : ℕ). notes_in w.b.run.log done ++ accepted_in s.number (In k) (course_at log before_ s (In k)).found) (sym is) in
+      ap (λ (k : ℕ). notes_within w.b done s (In k) log) is
+      ∙ ap (λ (as_ : List Action). notes_so_far w.b.run.log done log s as_) (actions-at [] s.actions s.actions refl)
+      ∙ ap (λ (l : List Note). notes_in w.b.run.log done ++ l) (append-nil (accepted_in s.number (In 0) (course_powered log before_ s).found))
+      ∙ ap (λ (k : ℕ). notes_in w.b.run.log done ++ accepted_in s.number (In k) (course_at log before_ s (In k)).found) (sym is) in
       first later ∙ ap (λ (l : List Note). notes_in w.b.run.log done ++ l) noted-more
       ∙ sym (append_assoc (notes_in w.b.run.log done) (accepted_in s.number (In n) (course_at v.log before_ s (In n)).found) accepts) ∙ ap (λ (l : List Note). l ++ accepts) (sym (first v.log))
 
@@ -595,9 +595,9 @@ module _ (o : Origin) (done : List TraceSecond) (s : TraceSecond) (n : ℕ) (wai
         let by_log : (log : RunLog) → NotesMore log before_ s p.front (Insert puts.slot puts.card) (accepted_in s.number (In (suc l)) (course_at log before_ s (In (suc l))).found) →
         notes_within w.b done s (In n) log ≡ notes_within w.b done s (In l) log ++ accepted_in s.number (In n) (course_at log before_ s (In n)).found =
         λ log more.
-            ap (λ (k : ℕ). notes_within w.b done s (In k) log) n-is
-            ∙ notes-then w.b done s p.front p.rest (Insert puts.slot puts.card) log (accepted_in s.number (In (suc l)) (course_at log before_ s (In (suc l))).found) are-put more
-            ∙ ap (λ (k : ℕ). notes_within w.b done s (In l) log ++ accepted_in s.number (In k) (course_at log before_ s (In k)).found) (sym n-is) in
+        ap (λ (k : ℕ). notes_within w.b done s (In k) log) n-is
+        ∙ notes-then w.b done s p.front p.rest (Insert puts.slot puts.card) log (accepted_in s.number (In (suc l)) (course_at log before_ s (In (suc l))).found) are-put more
+        ∙ ap (λ (k : ℕ). notes_within w.b done s (In l) log ++ accepted_in s.number (In k) (course_at log before_ s (In k)).found) (sym n-is) in
         let first = by_log v.log (put-notes v.log before_ s p.front p.rest puts.slot puts.card are-put w.moment.up_to.uncut fine-then) in
         let now = by_log later (put-notes later before_ s p.front p.rest puts.slot puts.card are-put uncut-later (ap (λ (k : Course). refusal k.slots s.speed (Insert puts.slot puts.card)) alike ∙ fine-then)) in
         now ∙ (λ i. notes-later w.b done s p.front (p.a ∷ p.rest) v.log later p.are same-to i ++ noted-more i)

@@ -58,8 +58,8 @@ module _ (d : Devices) (slot : Slot) (begun speed : ℕ) (run : Run) (out : Outc
       run.keeper.memory.registration run.keeper.cabin (torn_out card s.number run.keeper.cabin) d
       (λ none. lines-on (log_of out) (out.breaks.items ++ Tear s.number slot false (suc (length front)) false ∷ []) (Tear s.number slot false (suc (length front)) false ∷ []) refl none)
       (λ none c. gone-so card is s.number (spells_of c (notes_within w.within.b done s (In (length front)) (log_of out)))
-          (spells_of c (notes_within w.within.b done s (In (suc (length front))) (log_of (record out { breaks = with_lines (Tear s.number slot false (suc (length front)) false ∷ []) out.breaks })))) c
-          (pull-now o done s front rest slot are (values_of run out) d w.within c))
+      (spells_of c (notes_within w.within.b done s (In (suc (length front))) (log_of (record out { breaks = with_lines (Tear s.number slot false (suc (length front)) false ∷ []) out.breaks })))) c
+      (pull-now o done s front rest slot are (values_of run out) d w.within c))
       w.stay)))
 
   pub pulled-recorded : RecordsAction (Pull slot) begun speed false run (pulled_run (card_in (seat_in run.keeper.cabin.slots.seats slot)) run.next run) out
