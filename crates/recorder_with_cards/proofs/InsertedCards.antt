@@ -1,5 +1,5 @@
 -- A card is put into a slot, and so the events of the cards go on: the minutes before note none, and what its judging brings it is noted.
-use Rattle.std.proofs.Common.{◌≡◌, ◌∙◌, ◌⊎◌, inl, inr, ⊎_elim, ℕ, suc, ◌+◌, ◌≤◌, Bool, true, false, cond, not, ◌||◌, Option, Some, None, option_map, List, [], ◌∷◌, ◌++◌, ◌<◌, length, map, refl, ap, sym, subst, arith, append-nil, append_assoc, length-append}
+use Rattle.std.proofs.Common.{◌≡◌, ◌∙◌, ◌⊎◌, inl, inr, ⊎_elim, ℕ, suc, ◌+◌, ◌≤◌, Bool, true, false, cond, not, ◌||◌, Option, Some, None, option_map, List, [], ◌∷◌, ◌++◌, length, map, refl, ap, sym, subst, arith, append-nil, append_assoc}
 use Rattle.std.specs.Prelude.{◌==◌, ◌&&◌, flat_map, nat_lt}
 use Rattle.std.specs.List.{list_any}
 use Rattle.std.proofs.lemmas.Bool.Decides.{nat_tests}
@@ -23,8 +23,7 @@ use Rattle.log_model.specs.declared.lines.Verdict.{Verdict}
 use Rattle.log_model.specs.Causes.{second_of}
 use Rattle.log_model.specs.Log.{RunLog, Phase, In, same_phase, cut_in, is_torn_in, found_in, is_accepting}
 use Rattle.log_model.specs.Slots.{Sitting, in_slot, refusal, same_card}
-use Rattle.log_model.specs.Course.{Course, Before, Moved, Visit, visits, leaves, with_slot, carried_out, answered, moved_by, slot_told, both_told, begins, acted, card_in, has_power, went}
-use Rattle.side_model.specs.Noted.{Note}
+use Rattle.log_model.specs.Course.{Course, Before, Moved, Visit, visits, leaves, with_slot, carried_out, answered, moved_by, slot_told, both_told, begins, acted, card_in, went}
 use Rattle.safety_model.specs.Recording.{card_image}
 use Rattle.safety_model.specs.Safe.{Devices, card_of}
 use Rattle.run_outcome.specs.declared.outcome.Outcome.{Outcome}
@@ -34,16 +33,15 @@ use Rattle.run_recorded.specs.Origin.{Origin}
 use Rattle.run_recorded.specs.Beside.{HaveLeftMore}
 use Rattle.run_recorded.specs.Whole.{NothingFailed}
 use Rattle.run_evented.specs.Evented.{images_in}
-use Rattle.run_evented.specs.Uses.{uses_from, insertions_at, notes_in, notes_now, uses_in, use_now}
+use Rattle.run_evented.specs.Uses.{notes_now, uses_in}
 use Rattle.run_evented.proofs.Exact.{fewer-none, no-cut}
 use Rattle.run_entering.specs.CardEvents.{events_in, all_noted}
-use Rattle.run_rings.specs.Notes.{accepts_by, notes_to, TellSameTo, course_behind}
-use Rattle.run_ringed.specs.SoFar.{HasMoreBreaks, notes_so_far}
+use Rattle.run_rings.specs.Notes.{TellSameTo, course_behind}
+use Rattle.run_ringed.specs.SoFar.{HasMoreBreaks}
 use Rattle.run_ringed.specs.Steps.{GoesOnTo, IsCutIn}
 use Rattle.run_ringed.proofs.SoFar.{failed-more}
 use Rattle.run_within.specs.Within.{course_in}
 use Rattle.run_acts.specs.declared.run.Run.{Run}
-use Rattle.run_acts.specs.Closings.{notes_within}
 use Rattle.run_acts.specs.Recording.{log_of, values_of, RunWithin}
 use Rattle.run_acts.specs.RunRinged.{with_cut}
 use Rattle.run_acts.specs.OnCards.{unclosed_by, events_by, accepts, moving_at, movings, enters, falls, may_note, is_clear, is_sure_in, NotesThem, StillShows, AreUses}
@@ -51,10 +49,9 @@ use Rattle.run_acts.specs.RunCards.{vehicle_in, sizes_in, seen_behind, CardsIn, 
 use Rattle.run_acts.proofs.CardCourse.{quiet-same, behind-more, behind-same}
 use Rattle.run_acts.proofs.CardSecond.{any-more, quiet-shown, put-shown}
 use Rattle.run_acts.proofs.CardShown.{FindsUses, FindsStill}
-use Rattle.run_acts.proofs.CardUses.{FoundTo, others-found, mine-found, put-notes, tears-none, lines-still}
-use Rattle.run_acts.proofs.NotesThen.{actions-behind, tells-itself}
+use Rattle.run_acts.proofs.CardUses.{tears-none, lines-still}
 use Rattle.run_acts.proofs.RingedLines.{AreTears, TellsBeside, tears-beside}
-use Rattle.run_acts.proofs.RingedSecond.{tears-here_, cut-found, cut-torn, cut-failed, power-here}
+use Rattle.run_acts.proofs.RingedSecond.{tears-here_, cut-found, cut-torn, cut-failed}
 use Rattle.recorder_with_cards.specs.JudgedRings.{TellsHere}
 use Rattle.recorder_with_cards.specs.JudgedCards.{NotesNone, BringsNow, IsJudgedOnCards}
 use Rattle.recorder_with_cards.proofs.RingsHere.{here-then, here-more, goes-to, course-then, course-cut, is-cut}
@@ -256,7 +253,7 @@ module _ (o : Origin) (done : List TraceSecond) (s : TraceSecond) (front rest : 
       nothing kind false = empty (kind == POWER_INTERRUPTION) (kind == INSERTION_WHILE_DRIVING) (kind == SESSION_NOT_CLOSED)
 
   -- ---- or the card is judged
-  module _ (failed : Bool) (after : Outcome) (f : Devices) (j : IsJudgedOnCards failed o s (suc (length front)) slot card (notes_within w.within.b done s (In (suc (length front))) (log_of told)) told after e f) where
+  module _ (failed : Bool) (after : Outcome) (f : Devices) (j : IsJudgedOnCards failed o w.within.b.run.log done s (suc (length front)) slot card told after e f) where
     uncut-after : cut_in (log_of after) s.number ≡ None
     uncut-after = j.cut ∙ uncut-told
 
@@ -278,42 +275,17 @@ module _ (o : Origin) (done : List TraceSecond) (s : TraceSecond) (front rest : 
     allowed-told : refusal (course_in w.within.b done s (In (length front)) (log_of told)).slots s.speed (Insert slot card) ≡ None
     allowed-told = ap (λ (q : Course). refusal q.slots s.speed (Insert slot card)) told-course ∙ allowed
 
-    -- ---- the uses: what was noted before it, and what is found behind it
-    power : has_power (went w.within.b.run.log done).before s ≡ true
-    power = power-here o done s (In (length front)) [] None [] (values_of old before) d w.within
-
-    are-behind : s.actions ≡ (front ++ Insert slot card ∷ []) ++ rest
-    are-behind = are ∙ sym (append_assoc front (Insert slot card ∷ []) rest)
-
-    to-told : FoundTo (log_of told) s.number (length front)
-    to-told k x lt = beside.found (In k) x ∙ w.within.moment.up_to.found (In k) x lt
-
-    to-later : (later : RunLog) → ((k : ℕ) (x : Slot) → suc (length front) < k → found_in later s.number (In k) x ≡ found_in (log_of after) s.number (In k) x) → FoundTo later s.number (length (front ++ Insert slot card ∷ []))
-    to-later later ahead k x lt =
-        let n = length-append front (Insert slot card ∷ []) in
-        let behind : suc (length front) < k = omega (arith, n, lt) in
-        ahead k x behind ∙ j.ahead k x behind ∙ to-told k x (omega (arith, behind))
-
-    noted : notes_in w.within.b.run.log done ++ notes_to (log_of told) was s front ≡ notes_within w.within.b done s (In (suc (length front))) (log_of told)
-    noted = sym
-        (ap (λ (as_ : List Action). notes_so_far w.within.b.run.log done (log_of told) s as_) (actions-behind front rest (Insert slot card) s.actions are)
-        ∙ ap (λ (l : List Note). notes_in w.within.b.run.log done ++ l)
-        (put-notes o w.within.b.run.log done s power (log_of told) (log_of told) front slot card (tells-itself (log_of told) s.number (length front) uncut-told) (ap (λ (q : Option ℕ). begins q (length front)) uncut-told)
-        (ap (λ (q : Course). refusal q.slots s.speed (Insert slot card)) (course-then (log_of before) (log_of told) s front rest (Insert slot card) are uncut more-told same-told uncut-told was) ∙ allowed)
-        ∙ ap (λ (vs : List Verdict). notes_to (log_of told) was s front ++ accepts_by s.number slot card vs) (ap (λ (k : ℕ). found_in (log_of told) s.number (In k) slot) longer ∙ none-told)
-        ∙ append-nil (notes_to (log_of told) was s front)))
-
     -- by a log in which it begins so, and in which the same is found
     in-log : (later : RunLog) → HasMoreBreaks (log_of told) later → TellSameTo (log_of told) later s.number (length front) → begins (cut_in later s.number) (length front) ≡ true
         → refusal (course_behind later was s front).slots s.speed (Insert slot card) ≡ None
         → found_in later s.number (In (suc (length front))) slot ≡ found_in (log_of after) s.number (In (suc (length front))) slot
         → is_torn_in later s.number (In (suc (length front))) slot ≡ is_torn_in (log_of after) s.number (In (suc (length front))) slot
-        → ((k : ℕ) (x : Slot) → suc (length front) < k → found_in later s.number (In k) x ≡ found_in (log_of after) s.number (In k) x)
-        → (failed ≡ true → has_failed_in later s.number ≡ true) → CardsIn o done s w.within.b.run.log (front ++ Insert slot card ∷ []) later f
-    in-log later lines_ same begun allowed_ found torn ahead fails =
+        → (NothingFailed later → later ≡ log_of after) → (failed ≡ true → has_failed_in later s.number ≡ true) → CardsIn o done s w.within.b.run.log (front ++ Insert slot card ∷ []) later f
+    in-log later lines_ same begun allowed_ found torn alike fails =
         put-shown o done s w.within.b.run.log front slot card (log_of told) later e f settled-on (failed-more (log_of told) later lines_) same begun allowed_ j.left j.beside
-        (λ c other none. (fewer-none (log_of told) later lines_.0 lines_.1 none, others-found o w.within.b.run.log done s power (log_of told) later front (front ++ Insert slot card ∷ []) (Insert slot card ∷ rest) rest are are-behind to-told (to-later later ahead) slot card (found_in later s.number (In (length front + 1)) slot)
-        (put-notes o w.within.b.run.log done s power (log_of told) later front slot card same begun allowed_) c other))
+        (λ c other none.
+        let is : later ≡ log_of after = alike none in
+        (fewer-none (log_of told) later lines_.0 lines_.1 none, ap (λ (l : RunLog). uses_in o c (notes_now w.within.b.run.log done l s)) is ∙ j.still (subst NothingFailed is none) c other))
         (λ c valid own entered.
         let x : Seen = seen_behind w.within.b.run.log done s (front ++ Insert slot card ∷ []) later in
         let b = j.own c valid own in
@@ -322,13 +294,8 @@ module _ (o : Origin) (done : List TraceSecond) (s : TraceSecond) (front rest : 
         × NotesThem (sizes_in o c) (λ kind. is_sure_in c kind later x) (λ kind. events_by kind [] (movings c (vehicle_in o) s.speed (accepts s.number vs)) (unclosed_by more (accepts s.number vs))) (card_of e c) (card_of f c)) (sym verdicts_) (
           b.uses,
           (λ none.
-          let fine : NothingFailed (log_of told) = fewer-none (log_of told) later lines_.0 lines_.1 none in (
-            fine,
-            mine-found o w.within.b.run.log done s power (log_of told) later front (front ++ Insert slot card ∷ []) (Insert slot card ∷ rest) rest are are-behind to-told (to-later later ahead) slot card (found_in later s.number (In (length front + 1)) slot)
-            (put-notes o w.within.b.run.log done s power (log_of told) later front slot card same begun allowed_) c own
-            ∙ (λ i. uses_in o c (notes_now w.within.b.run.log done (log_of told) s) ++ uses_from (vehicle_in o) (use_now o c (noted i)) (insertions_at s.number slot c (verdicts_ i)))
-            ∙ ap (λ (l : List CurrentUse). uses_in o c (notes_now w.within.b.run.log done (log_of told) s) ++ l) (sym (b.exact fine)),
-          )),
+          let is : later ≡ log_of after = alike none in
+          (fewer-none (log_of told) later lines_.0 lines_.1 none, ap (λ (l : RunLog). uses_in o c (notes_now w.within.b.run.log done l s)) is ∙ b.exact (subst NothingFailed is none))),
           b.are,
           judged-them (sizes_in o c) (vehicle_in o) c later x failed (is_torn_in (log_of after) s.number (In (suc (length front))) slot) (accepts s.number (found_in (log_of after) s.number (In (suc (length front))) slot)) b.uses (card_of e c) (card_of f c) entered fails
               (λ is. ap (λ (q : Course). mine c q.torn) (behind-more later was s front (Insert slot card))
@@ -339,7 +306,7 @@ module _ (o : Origin) (done : List TraceSecond) (s : TraceSecond) (front rest : 
     by : (b : Bool) → failed ≡ b → CardsGoOn b o done s w.within.b.run.log (front ++ Insert slot card ∷ []) (log_of after) f
     by false is = in-log (log_of after) more-after same-after goes.begun
         (ap (λ (q : Course). refusal q.slots s.speed (Insert slot card)) (course-then (log_of told) (log_of after) s front rest (Insert slot card) are uncut-told more-after same-after uncut-after was) ∙ allowed-told)
-        refl refl (λ k x lt. refl) (λ fails. absurd (let clash : true ≡ false = sym fails ∙ is in cc))
+        refl refl (λ none. refl) (λ fails. absurd (let clash : true ≡ false = sym fails ∙ is in cc))
     by true is =
         let cuts : IsCutIn w.within.b.run.log (log_of told) (with_cut (log_of after) s (front ++ Insert slot card ∷ [])) done s front (Insert slot card) rest =
         is-cut (log_of told) (log_of after) s front rest (Insert slot card) are uncut-told more-after same-after uncut-after o done (In (length front)) [] None [] (values_of old before) d w.within
@@ -348,7 +315,7 @@ module _ (o : Origin) (done : List TraceSecond) (s : TraceSecond) (front rest : 
         (ap (λ (q : Course). refusal q.slots s.speed (Insert slot card)) (course-cut (log_of told) (log_of after) s front rest (Insert slot card) are uncut-told more-after same-after uncut-after was) ∙ allowed-told)
         (cut-found (log_of after) s.number (length (front ++ Insert slot card ∷ [])) uncut-after (In (suc (length front))) slot)
         (cut-torn (log_of after) s.number (length (front ++ Insert slot card ∷ [])) uncut-after (In (suc (length front))) slot)
-        (λ k x lt. cut-found (log_of after) s.number (length (front ++ Insert slot card ∷ [])) uncut-after (In k) x)
+        (λ none. no-cut (log_of after) s.number (length (front ++ Insert slot card ∷ [])) none)
         (λ fails. cut-failed (log_of after) s.number (length (front ++ Insert slot card ∷ [])) uncut-after)
 
     -- SO THE EVENTS OF THE CARDS GO ON

@@ -6,7 +6,7 @@ use Rattle.activity_codec.specs.declared.values.Slot.{Slot}
 use Rattle.activity_codec.specs.declared.values.Slot.TheVariants.{Driver, CoDriver}
 use Rattle.trace_model.specs.declared.Card.{Card}
 use Rattle.trace_model.specs.declared.Action.{Action}
-use Rattle.trace_model.specs.declared.Action.TheVariants.{Insert, Tear}
+use Rattle.trace_model.specs.declared.Action.TheVariants.{Insert}
 use Rattle.trace_model.specs.Trace.{TraceSecond}
 use Rattle.card_records.specs.declared.current_use.CurrentUse.{CurrentUse}
 use Rattle.log_model.specs.declared.lines.Break.{Break}
@@ -129,83 +129,46 @@ module _ (o : Origin) (began : RunLog) (done : List TraceSecond) (s : TraceSecon
       ap (λ (l : List Note). uses_in o c (early ++ l)) (second-noted log (went began done).before s power ∙ ap (notes_to log (went began done).before s) are)
       ∙ tail-quiet c log front rest to
 
-  -- ---- a card is accepted, or turned away: of these verdicts on it
-
-  -- so it notes then
-  abbrev pub AcceptsMore : (log later : RunLog) → (front back : List Action) → Slot → Card → List Verdict → Type 0
-  AcceptsMore log later front back slot card verdicts = notes_to later (went began done).before s back ≡ notes_to log (went began done).before s front ++ accepts_by s.number slot card verdicts
-
-  module _ (log later : RunLog) (front back rest more : List Action) (are : s.actions ≡ front ++ rest) (are_later : s.actions ≡ back ++ more) (to : FoundTo log s.number (length front)) (to_later : FoundTo later s.number (length back))
-      (slot : Slot) (card : Card) (verdicts : List Verdict) (accepts : AcceptsMore log later front back slot card verdicts) where
+  -- ---- A CARD IS JUDGED: it is noted where it is accepted
+  module _ (log later : RunLog) (front rest : List Action) (are : s.actions ≡ front ++ rest) (to : FoundTo log s.number (length front)) (to_later : FoundTo later s.number (length front))
+      (slot : Slot) (card : Card) (verdicts : List Verdict) (noted : early ++ notes_to later (went began done).before s front ≡ (early ++ notes_to log (went began done).before s front) ++ accepts_by s.number slot card verdicts) where
     abbrev so_far : List Note
-    so_far = notes_in began done ++ notes_to log (went began done).before s front
-
-    then-notes : (c : Card) → uses_in o c (notes_now began done later s) ≡ uses_in o c ((notes_in began done ++ notes_to log (went began done).before s front) ++ accepts_by s.number slot card verdicts)
-    then-notes c =
-        uses-to c later back more are_later to_later
-        ∙ ap (λ (l : List Note). uses_in o c (early ++ l)) accepts
-        ∙ ap (uses_in o c) (sym (append_assoc early (notes_to log (went began done).before s front) (accepts_by s.number slot card verdicts)))
+    so_far = early ++ notes_to log (went began done).before s front
 
     -- of another card the same uses were found
     pub others-found : (c : Card) → same_card card c ≡ false → uses_in o c (notes_now began done later s) ≡ uses_in o c (notes_now began done log s)
     others-found c other =
-        then-notes c
+        uses-to c later front rest are to_later ∙ ap (uses_in o c) noted
         ∙ uses-quiet (vehicle_in o) c (use_in (card_image o.recording c)) so_far (accepts_by s.number slot card verdicts) (accepts-other c s.number slot card verdicts (card-turned c card ∙ other))
         ∙ sym (uses-to c log front rest are to)
 
     -- and of this card the use that it has now, more
-    pub mine-found : (c : Card) → same_card card c ≡ true →
-        uses_in o c (notes_now began done later s) ≡ uses_in o c (notes_now began done log s) ++ uses_from (vehicle_in o) (use_now o c (notes_in began done ++ notes_to log (went began done).before s front)) (insertions_at s.number slot c verdicts)
+    pub mine-found : (c : Card) → same_card card c ≡ true → uses_in o c (notes_now began done later s) ≡ uses_in o c (notes_now began done log s) ++ uses_from (vehicle_in o) (use_now o c so_far) (insertions_at s.number slot c verdicts)
     mine-found c own =
-        then-notes c
+        uses-to c later front rest are to_later ∙ ap (uses_in o c) noted
         ∙ ap (λ (q : Card). uses_in o c (so_far ++ accepts_by s.number slot q verdicts)) (card-is card c own)
         ∙ ap (uses_from (vehicle_in o) (use_in (card_image o.recording c))) (accepted-insertions c so_far s.number slot verdicts)
         ∙ uses-append (vehicle_in o) (use_in (card_image o.recording c)) (insertions_on c so_far) (insertions_at s.number slot c verdicts)
         ∙ ap (λ (l : List CurrentUse). l ++ uses_from (vehicle_in o) (use_now o c so_far) (insertions_at s.number slot c verdicts)) (sym (uses-to c log front rest are to))
 
-  -- ---- which it is
-
-  -- an action puts it in
-  pub put-notes : (log later : RunLog) (front : List Action) (slot : Slot) (card : Card) → TellSameTo log later s.number (length front) → begins (cut_in later s.number) (length front) ≡ true →
-      refusal (course_behind later (went began done).before s front).slots s.speed (Insert slot card) ≡ None → AcceptsMore log later front (front ++ Insert slot card ∷ []) slot card (found_in later s.number (In (length front + 1)) slot)
-  put-notes log later front slot card same begun allowed =
-      insertions later (went began done).before s front begun slot card allowed
-      ∙ ap (λ (l : List Note). l ++ accepts_by s.number slot card (found_in later s.number (In (length front + 1)) slot)) (later-lines log later (went began done).before s front same)
-
-  -- or it sits in a slot as power comes
-  pub anew-notes : (went began done).before.running ≡ false → (log later : RunLog) (slot : Slot) (q : Sitting) → in_slot (went began done).before.slots slot ≡ Some q → (verdicts : List Verdict) → IsFoundAnew log later s.number slot verdicts →
-      AcceptsMore log later [] [] slot q.card verdicts
-  anew-notes off log later Driver q sits verdicts is =
-      (power-notes later (went began done).before s).0 off
-      ∙ (λ i. sits_accepted s.number Driver (sits i) (is.1 i) ++ sits_accepted s.number CoDriver (went began done).before.slots.codriver (is.2 i))
-      ∙ ap (λ (l : List Note). accepts_by s.number Driver q.card verdicts ++ l) (none-sits s.number CoDriver (went began done).before.slots.codriver)
-      ∙ append-nil (accepts_by s.number Driver q.card verdicts)
-      ∙ ap (λ (l : List Note). l ++ accepts_by s.number Driver q.card verdicts) (sym nothing)
-    where
-      nothing : notes_to log (went began done).before s [] ≡ []
-      nothing =
-          (power-notes log (went began done).before s).0 off
-          ∙ (λ i. sits_accepted s.number Driver (went began done).before.slots.driver (is.0 Driver i) ++ sits_accepted s.number CoDriver (went began done).before.slots.codriver (is.0 CoDriver i))
-          ∙ (λ i. none-sits s.number Driver (went began done).before.slots.driver i ++ none-sits s.number CoDriver (went began done).before.slots.codriver i)
-  anew-notes off log later CoDriver q sits verdicts is =
-      (power-notes later (went began done).before s).0 off
-      ∙ (λ i. sits_accepted s.number Driver (went began done).before.slots.driver (is.0 i) ++ sits_accepted s.number CoDriver (sits i) (is.2 i))
-      ∙ ap (λ (l : List Note). l ++ accepts_by s.number CoDriver q.card verdicts) (sym before_it)
-    where
-      before_it : notes_to log (went began done).before s [] ≡ sits_accepted s.number Driver (went began done).before.slots.driver (found_in log s.number (In 0) Driver)
-      before_it =
-          (power-notes log (went began done).before s).0 off
-          ∙ (λ i. sits_accepted s.number Driver (went began done).before.slots.driver (found_in log s.number (In 0) Driver) ++ sits_accepted s.number CoDriver (went began done).before.slots.codriver (is.1 i))
-          ∙ ap (λ (l : List Note). sits_accepted s.number Driver (went began done).before.slots.driver (found_in log s.number (In 0) Driver) ++ l) (none-sits s.number CoDriver (went began done).before.slots.codriver)
-          ∙ append-nil (sits_accepted s.number Driver (went began done).before.slots.driver (found_in log s.number (In 0) Driver))
-
-  -- A CARD IS PULLED OUT, of which a line tells: that finds no use
-  pub pull-found : (c : Card) (log later : RunLog) (front rest : List Action) (slot : Slot) → s.actions ≡ front ++ Tear slot ∷ rest → TellSameTo log later s.number (length front) → FoundTo log s.number (length front) → FoundTo later s.number (length front) →
+  -- LINES behind these of its actions, of which none tells of a find
+  pub still-found : (c : Card) (log later : RunLog) (front rest : List Action) → s.actions ≡ front ++ rest → TellSameTo log later s.number (length front) → FoundTo log s.number (length front) → FoundTo later s.number (length front) →
       uses_in o c (notes_now began done later s) ≡ uses_in o c (notes_now began done log s)
-  pull-found c log later front rest slot are same to to_later =
-      uses-to c later front (Tear slot ∷ rest) are to_later
+  still-found c log later front rest are same to to_later =
+      uses-to c later front rest are to_later
       ∙ ap (λ (l : List Note). uses_in o c (early ++ l)) (later-lines log later (went began done).before s front same)
-      ∙ sym (uses-to c log front (Tear slot ∷ rest) are to)
+      ∙ sym (uses-to c log front rest are to)
+
+  -- lines at a power-on that tell of no find
+  pub woken-found : (went began done).before.running ≡ false → (c : Card) (log later : RunLog) → ((k : ℕ) (slot : Slot) → found_in later s.number (In k) slot ≡ found_in log s.number (In k) slot) → FoundTo log s.number 0 →
+      uses_in o c (notes_now began done later s) ≡ uses_in o c (notes_now began done log s)
+  woken-found off c log later same to =
+      uses-to c later [] s.actions refl (λ k slot lt. same k slot ∙ to k slot lt)
+      ∙ ap (λ (l : List Note). uses_in o c (early ++ l))
+      ((power-notes later (went began done).before s).0 off
+      ∙ (λ i. sits_accepted s.number Driver (went began done).before.slots.driver (same 0 Driver i) ++ sits_accepted s.number CoDriver (went began done).before.slots.codriver (same 0 CoDriver i))
+      ∙ sym ((power-notes log (went began done).before s).0 off))
+      ∙ sym (uses-to c log [] s.actions refl to)
 
 -- ---- lines of failed calls: where none failed there is none
 

@@ -180,7 +180,7 @@ module _ (o : Origin) (done : List TraceSecond) (s : TraceSecond) (began log lat
       × AreUses (images_in o e c) more (accepts s.number verdicts)
       × NotesThem (sizes_in o c) (λ kind. is_sure_in c kind later (seen_behind began done s [] later)) (λ kind. events_by kind [] (movings c (vehicle_in o) s.speed (accepts s.number verdicts)) (unclosed_by more (accepts s.number verdicts))) (card_of d c) (card_of e c))
       → CardsWaking o done s began later e
-  waking-judged h slot q sits verdicts found others finds mine c valid = by (same_card q.card c) refl
+  waking-judged h slot q sits verdicts found others uses_then mine c valid = by (same_card q.card c) refl
     where
       v : Visit
       v = record { phase = In 0; slot = slot; card = q.card }
@@ -197,7 +197,7 @@ module _ (o : Origin) (done : List TraceSecond) (s : TraceSecond) (began log lat
 
       by : (b : Bool) → same_card q.card c ≡ b → CardShown o c later (gap_events as_accepted began done) (seen_of began done ++ seen_behind began done s [] later ∷ []) (uses_in o c (notes_now began done later s)) e
       by false other =
-          goes-on o c log later (gap_events as_accepted began done) (gap_events as_accepted began done) (seen_of began done) (seen_behind began done s [] log) (seen_behind began done s [] later) (before_them c) (behind_them c) d e (h c valid) (finds c other) keeps (follows-powered log later (went began done).before s off torn c)
+          goes-on o c log later (gap_events as_accepted began done) (gap_events as_accepted began done) (seen_of began done) (seen_behind began done s [] log) (seen_behind began done s [] later) (before_them c) (behind_them c) d e (h c valid) (uses_then c other) keeps (follows-powered log later (went began done).before s off torn c)
           (accepted ∙ ap (λ (us : List ℕ). accepted_in c (seen_behind began done s [] log) ++ us) (accepted-other c s.number (record { phase = In 0; slot = slot; card = q.card }) verdicts other) ∙ append-nil (accepted_in c (seen_behind began done s [] log)))
           refl (left.card c) (others c valid other)
       by true own =
