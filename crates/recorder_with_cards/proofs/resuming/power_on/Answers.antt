@@ -37,12 +37,13 @@ use Rattle.run_acts.proofs.Standing.{cut-at}
 use Rattle.tach_media.proofs.Runs.{on_ok, ok_gives}
 use Rattle.recorder_with_cards.proofs.WakeNoted.{read-says, read-noted, read-then}
 use Rattle.run_keeping.proofs.Later.{state-revived, later-then, later-of-unit}
+use Rattle.run_ringed.specs.Ringed.{notes_in}
 use Rattle.run_acts.proofs.AllStay.{all-unit}
 use Rattle.run_outcome.proofs.Broken.{broke-none, broke-once, broke-then}
 use Rattle.recorder_with_cards.proofs.RingsHeld.{ringed-cut}
 use Rattle.recorder_with_cards.proofs.CardsHeld.{in-carded_cut}
 use Rattle.recorder_with_cards.proofs.WakesCards.{unit-alone, unpowered-cards}
-use Rattle.run_keeping.proofs.Calm.{calm-of-unit, calm-then, calm-more, none-told}
+use Rattle.run_keeping.proofs.Calm.{calm-of-unit, calm-then, calm-more}
 use Rattle.recorder_with_cards.proofs.resuming.power_on.Goals as goal
 
 pub returns-in-Err-Failed-clause-going : goal.returns-in-Err-Failed-clause-going
@@ -72,7 +73,7 @@ returns-in-Ok-clause-recorded g c = λ room o done s now rec has time.
       powers = rec.powers;
       recorded = read;
       odometer = λ lit. absurd (let bad : false ≡ true = sym c.requires.dark ∙ ap is_lit lit in cc);
-      stay = all-unit o (log_of out) run.keeper.memory.registration run.keeper.cabin.cards U V X Y rec.stay;
+      stay = all-unit o (log_of out) (notes_in (log_of out) done) run.keeper.memory.registration run.keeper.cabin U V X Y rec.stay;
     }) has time
 
 pub returns-in-Err-BadUnit-clause-recorded : goal.returns-in-Err-BadUnit-clause-recorded
@@ -132,7 +133,7 @@ returns-in-Ok-clause-evented g c = λ room o done s now all has time.
         powers = rec.powers;
         recorded = read;
         odometer = λ lit. absurd (let bad : false ≡ true = sym c.requires.dark ∙ ap is_lit lit in cc);
-        stay = all-unit o (log_of out) run.keeper.memory.registration run.keeper.cabin.cards U V X Y rec.stay;
+        stay = all-unit o (log_of out) (notes_in (log_of out) done) run.keeper.memory.registration run.keeper.cabin U V X Y rec.stay;
       };
       evented = events-stay (devices U X Y) (devices V X Y) o done (log_of out) run.unfound run.next rec.supply all.evented (read-says U V c.load.ensures.leaves) left;
       limit = all.limit;
@@ -203,7 +204,7 @@ returns-in-Ok-clause-ringed g c = λ room o done s now all has time.
           powers = rec.powers;
           recorded = read;
           odometer = λ lit. absurd (let bad : false ≡ true = sym c.requires.dark ∙ ap is_lit lit in cc);
-          stay = all-unit o (log_of out) run.keeper.memory.registration run.keeper.cabin.cards U V X Y rec.stay;
+          stay = all-unit o (log_of out) (notes_in (log_of out) done) run.keeper.memory.registration run.keeper.cabin U V X Y rec.stay;
         };
         evented = events-stay (devices U X Y) (devices V X Y) o done (log_of out) run.unfound run.next rec.supply all.evented.evented (read-says U V c.load.ensures.leaves) left;
         limit = all.evented.limit;
@@ -293,7 +294,7 @@ returns-in-Ok-clause-cards g c = λ room o done s now all has time.
             powers = rec.powers;
             recorded = read;
             odometer = λ lit. absurd (let bad : false ≡ true = sym c.requires.dark ∙ ap is_lit lit in cc);
-            stay = all-unit o (log_of out) run.keeper.memory.registration run.keeper.cabin.cards U V X Y rec.stay;
+            stay = all-unit o (log_of out) (notes_in (log_of out) done) run.keeper.memory.registration run.keeper.cabin U V X Y rec.stay;
           };
           evented = events-stay (devices U X Y) (devices V X Y) o done (log_of out) run.unfound run.next rec.supply all.ringed.evented.evented (read-says U V c.load.ensures.leaves) left;
           limit = all.ringed.evented.limit;
@@ -302,13 +303,13 @@ returns-in-Ok-clause-cards g c = λ room o done s now all has time.
         spans = all.ringed.spans;
         base = λ lit. absurd (let bad : false ≡ true = sym c.requires.dark ∙ ap is_lit lit in cc);
         counted = all.ringed.counted;
-        ringed = behind-stays (devices U X Y) (devices V X Y) o done (log_of out) run.next all.ringed.spans (seats_of run) all.ringed.ringed (read-leaves U V whole c.load.ensures.leaves) left;
+        ringed = behind-stays (devices U X Y) (devices V X Y) o done (log_of out) run.next all.ringed.spans (seats_of run) all.ringed.ringed (read-leaves U V whole c.load.ensures.leaves) left (places-beside o U V X Y);
         stored = subst (λ (b : Bool). Stores b o (log_of out) run.unfound run.keeper.odometer all.ringed.spans (devices V X Y)) (sym c.requires.dark)
             (stays-stored o (log_of out) run.unfound all.ringed.spans (devices U X Y) (devices V X Y) (read-stays (devices U X Y) (devices V X Y) whole c.load.ensures.leaves)
             (subst (λ (b : Bool). Stores b o (log_of out) run.unfound run.keeper.odometer all.ringed.spans (devices U X Y)) c.requires.dark all.ringed.stored));
       };
       vehicle = all.vehicle;
-      cards = unit-alone o (log_of out) _ _ U V X Y all.cards;
+      cards = unit-alone o done (log_of out) U V X Y all.cards;
     }) has time
 
 pub returns-in-Err-BadUnit-clause-cards : goal.returns-in-Err-BadUnit-clause-cards
@@ -347,7 +348,7 @@ returns-in-Err-Failed-clause-cards g c = λ room o done s now all has time.
     let low = c.requires.going.low in
     let number = now.number in
     let positive : 0 < s.number = omega (arith, low, number) in
-    let cut_shown = unpowered-cards o done s progressed rec.recorded.recorded.followed comes now.number now.given positive e (unit-alone o (log_of out) _ _ U V X Y all.cards) in
+    let cut_shown = unpowered-cards o done s progressed rec.recorded.recorded.followed comes now.number now.given positive e (unit-alone o done (log_of out) U V X Y all.cards) in
     let is_log : with_cut (log_of out) s [] ≡ log_of after = ap (λ (u : ℕ). and_break (log_of out) (cut_at u true 0)) now.number ∙ sym (ap log_of told) in
     let r = returns-in-Err-Failed-clause-ringed g c room o done s now all.ringed has time in
     in-carded_cut o done s c.cut.new.self after e 0 (record {
@@ -413,4 +414,4 @@ pub returns-in-Err-BadUnit-clause-calm : goal.returns-in-Err-BadUnit-clause-calm
 returns-in-Err-BadUnit-clause-calm g c = calm-of-unit (g.M.Medium.state c.args.unit.now) (g.M.Medium.state c.load.new.unit) (g.C.Chip.state c.args.card_a.now) (g.D.Chip.state c.args.card_b.now)
 
 pub returns-in-Err-Failed-clause-calm : goal.returns-in-Err-Failed-clause-calm
-returns-in-Err-Failed-clause-calm g c = calm-more (devices (g.M.Medium.state c.args.unit.now) (g.C.Chip.state c.args.card_a.now) (g.D.Chip.state c.args.card_b.now)) (devices (g.M.Medium.state c.load.new.unit) (g.C.Chip.state c.args.card_a.now) (g.D.Chip.state c.args.card_b.now)) (calm-of-unit (g.M.Medium.state c.args.unit.now) (g.M.Medium.state c.load.new.unit) (g.C.Chip.state c.args.card_a.now) (g.D.Chip.state c.args.card_b.now)) (none-told _ (ap (λ (l : Listed Break). l.items) c.cut.ensures.breaks) refl)
+returns-in-Err-Failed-clause-calm g c = calm-more (devices (g.M.Medium.state c.args.unit.now) (g.C.Chip.state c.args.card_a.now) (g.D.Chip.state c.args.card_b.now)) (devices (g.M.Medium.state c.load.new.unit) (g.C.Chip.state c.args.card_a.now) (g.D.Chip.state c.args.card_b.now)) _ (calm-of-unit (g.M.Medium.state c.args.unit.now) (g.M.Medium.state c.load.new.unit) (g.C.Chip.state c.args.card_a.now) (g.D.Chip.state c.args.card_b.now)) (ap (λ (l : Listed Break). l.items) c.cut.ensures.breaks) refl

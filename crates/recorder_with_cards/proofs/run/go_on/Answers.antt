@@ -2,6 +2,7 @@ use Rattle.std.proofs.Common.{◌≡◌, ◌∙◌, ℕ, ◌+◌, ◌-◌, ◌<�
 use Rattle.std.proofs.lemmas.List.{append-nil}
 use Rattle.trace_model.specs.declared.Action.{Action}
 use Rattle.trace_model.specs.Trace.{TraceSecond, seconds_at, item_seconds}
+use Rattle.minute_model.specs.Span.{ungiven_of}
 use Rattle.safety_model.specs.Safe.{Devices}
 use Rattle.run_rule.specs.Between.{devices}
 use Rattle.run_outcome.specs.declared.outcome.Outcome.{Outcome}
@@ -29,7 +30,7 @@ use Rattle.recorder_with_cards.proofs.Dark.{cut-room, off-room, unfound-same}
 use Rattle.run_keeping.proofs.Later.{later-same}
 use Rattle.run_outcome.proofs.Broken.{broke-none, broke-behind}
 use Rattle.recorder_with_cards.proofs.Uncut.{off-uncut, off-calm}
-use Rattle.run_keeping.proofs.Calm.{calm-none, calm-same, none-told}
+use Rattle.run_keeping.proofs.Calm.{calm-told, calm-same}
 use Rattle.recorder_with_cards.proofs.run.go_on.Goals as goal
 
 -- ---- an action waits
@@ -157,7 +158,7 @@ returns-in-Off-clause-ringed g c = λ many o done few r time.
     let acts : List Action = actions_in (between c.args.from c.args.to c.args.items.now) in
     let out : Outcome = record c.args.outcome.now { breaks = c.off.new.breaks } in
     subst (λ (i : Item). RunRinged o (done ++ seconds_at c.args.run.now.next acts i) c.off.new.self out d) (sym c.in-Off.is)
-    (off-ringed o done c.args.run.now c.args.outcome.now d r c.in-Off.seconds (subst InRange c.in-Off.is c.requires.item).0 c.off.new.breaks c.off.ensures.breaks c.off.new.self c.off.ensures.run)
+    (off-ringed o done c.args.run.now c.args.outcome.now d r (λ lit. let h = c.requires.going.lit (ap is_lit lit) in (ungiven_of h.span, h.cabin)) c.in-Off.seconds (subst InRange c.in-Off.is c.requires.item).0 c.off.new.breaks c.off.ensures.breaks c.off.new.self c.off.ensures.run)
 
 pub returns-in-Run-clause-ringed : goal.returns-in-Run-clause-ringed
 returns-in-Run-clause-ringed g c = λ many o done few r time.
@@ -180,7 +181,7 @@ returns-in-Off-clause-cards g c = λ many o done few r time.
     let acts : List Action = actions_in (between c.args.from c.args.to c.args.items.now) in
     let out : Outcome = record c.args.outcome.now { breaks = c.off.new.breaks } in
     subst (λ (i : Item). RunCarded o (done ++ seconds_at c.args.run.now.next acts i) c.off.new.self out d) (sym c.in-Off.is)
-    (off-carded o done c.args.run.now c.args.outcome.now d r c.requires.going.low c.in-Off.seconds (subst InRange c.in-Off.is c.requires.item).0 c.off.new.breaks c.off.ensures.breaks c.off.new.self c.off.ensures.run)
+    (off-carded o done c.args.run.now c.args.outcome.now d r c.requires.going.low (λ lit. let h = c.requires.going.lit (ap is_lit lit) in (ungiven_of h.span, h.cabin)) c.in-Off.seconds (subst InRange c.in-Off.is c.requires.item).0 c.off.new.breaks c.off.ensures.breaks c.off.new.self c.off.ensures.run)
 
 pub returns-in-Run-clause-cards : goal.returns-in-Run-clause-cards
 returns-in-Run-clause-cards g c = λ many o done few r time.
@@ -205,7 +206,7 @@ pub returns-in-Act-clause-calm : goal.returns-in-Act-clause-calm
 returns-in-Act-clause-calm g c = calm-same (devices (g.M.Medium.state c.args.unit.now) (g.C.Chip.state c.args.card_a.now) (g.D.Chip.state c.args.card_b.now))
 
 pub returns-in-Off-clause-calm : goal.returns-in-Off-clause-calm
-returns-in-Off-clause-calm g c = calm-none (devices (g.M.Medium.state c.args.unit.now) (g.C.Chip.state c.args.card_a.now) (g.D.Chip.state c.args.card_b.now)) (none-told _ (ap (λ (l : Listed Break). l.items) c.off.ensures.breaks) (off-calm _ _ _))
+returns-in-Off-clause-calm g c = calm-told (devices (g.M.Medium.state c.args.unit.now) (g.C.Chip.state c.args.card_a.now) (g.D.Chip.state c.args.card_b.now)) _ (ap (λ (l : Listed Break). l.items) c.off.ensures.breaks) (off-calm _ _ _)
 
 pub returns-in-Run-clause-calm : goal.returns-in-Run-clause-calm
 returns-in-Run-clause-calm g c = c.drive.ensures.calm
