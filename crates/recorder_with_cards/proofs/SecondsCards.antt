@@ -15,7 +15,7 @@ use Rattle.run_course.specs.Followed.{Progress, Followed, IsSupplied}
 use Rattle.run_course.specs.Seconds.{GoesOnBy}
 use Rattle.run_course.proofs.Logs.{went-refused}
 use Rattle.run_course.proofs.Steps.{with-supply}
-use Rattle.run_course.proofs.Told.{lost-dark}
+use Rattle.run_course.proofs.Told.{lost-dark, lit-power}
 use Rattle.run_outcome.specs.declared.outcome.Outcome.{Outcome}
 use Rattle.run_outcome.specs.Lines.{Listed}
 use Rattle.log_model.specs.declared.lines.Break.{Break}
@@ -28,6 +28,7 @@ use Rattle.run_evented.proofs.Unlit.{acted-last, off-last, behind-more}
 use Rattle.run_acts.specs.declared.run.Run.{Run}
 use Rattle.run_acts.specs.declared.run.Power.{Power}
 use Rattle.run_acts.specs.declared.run.Power.TheVariants.{Lit, Due, Lost}
+use Rattle.run_crew.specs.Cabin.{Stands}
 use Rattle.run_acts.specs.Power.{is_lit, has_power as has_by, over_by, darkened, off_run, off_cut, passed}
 use Rattle.run_acts.specs.Going.{first_second}
 use Rattle.run_acts.specs.Recording.{log_of, values_of, Supplies, RunRecorded}
@@ -35,6 +36,7 @@ use Rattle.run_acts.specs.Turning.{IsTurnOf, IsLitTurn, cut_where, told_of, late
 use Rattle.run_acts.specs.RunRinged.{RunRinged, InSecondRinged}
 use Rattle.run_acts.specs.RunCards.{vehicle_in, CardsBehind, CardsIn, CardsAtBy}
 use Rattle.run_acts.proofs.CardEnds.{IsLater, second-begins, plain-second, plain-same}
+use Rattle.run_acts.proofs.CardUses.{untold-to}
 use Rattle.recorder_with_cards.specs.Carded.{RunCarded, InSecondCardedBy, InSecondCarded}
 use Rattle.recorder_with_cards.proofs.SecondsRecorded.{refused_dark, lost-away, lost-supply}
 use Rattle.recorder_with_cards.proofs.SecondsRinged.{refused-all, lost, away, dark-ringed, off-ringed}
@@ -82,11 +84,19 @@ runs before next (IsLit []) h power = absurd h
 runs before next IsDue h power = absurd h
 runs before next IsLost h power = absurd h
 
-pub begins-cards : (o : Origin) (done : List TraceSecond) (run : Run) (out : Outcome) (d : Devices) → RunCarded o done run out d → run.power ≡ Lit → (s : TraceSecond) → CardsIn o done s (log_of out) (take 0 s.actions) (log_of out) d
-begins-cards o done run out d h lit s =
+lit-has : (before : Before) (s : TraceSecond) (next : ℕ) (supply : Supply) → Supplies Lit supply → IsSupplied supply before next → s.number ≡ next → s.has_power ≡ true → has_power before s ≡ true
+lit-has before s next (IsLit (t ∷ span)) h power number given = lit-power (t ∷ span) before s next power number given
+lit-has before s next (IsLit []) h power number given = absurd h
+lit-has before s next IsDue h power number given = absurd h
+lit-has before s next IsLost h power number given = absurd h
+
+pub begins-cards : (o : Origin) (done : List TraceSecond) (run : Run) (out : Outcome) (d : Devices) → RunCarded o done run out d → run.power ≡ Lit → (s : TraceSecond) → s.number ≡ run.next → s.has_power ≡ true → CardsIn o done s (log_of out) (take 0 s.actions) (log_of out) d
+begins-cards o done run out d h lit s number given =
     let r = h.ringed.evented.recorded in
     subst (λ (front : List Action). CardsIn o done s (log_of out) front (log_of out) d) (sym (first-are s.actions [] s.actions 0 refl refl))
-    (second-begins o done s (log_of out) d h.cards (runs (went (log_of out) done).before run.next r.supply (subst (λ (p : Power). Supplies p r.supply) lit r.powers) r.recorded.recorded.followed.power))
+    (second-begins o done s (log_of out) d h.cards (runs (went (log_of out) done).before run.next r.supply (subst (λ (p : Power). Supplies p r.supply) lit r.powers) r.recorded.recorded.followed.power)
+    (lit-has (went (log_of out) done).before s run.next r.supply (subst (λ (p : Power). Supplies p r.supply) lit r.powers) r.recorded.recorded.followed.power number given)
+    (untold-to o done (progress (values_of run out) r.supply r.recorded.book) r.recorded.recorded.followed s.number (omega (arith, number)) 0))
 
 -- ---- an `off` line: the trace gives no power
 off-behind : (o : Origin) (d : Devices) (log : RunLog) (n : ℕ) (done : List TraceSecond) (next : ℕ) → CardsBehind o done log d → CardsBehind o (done ++ dark (suc n) next) log d
@@ -146,10 +156,10 @@ module _ (o : Origin) (done : List TraceSecond) (old : Run) (before : Outcome) (
       }
 
   -- AN `off` LINE
-  pub off-carded : (n : ℕ) → 0 < n → (breaks : Listed Break) → breaks ≡ with_lines (off_cut (is_lit old.power) (old.next - 1) old.begun) before.breaks → (new : Run) → new ≡ off_run n old → RunCarded o (done ++ dark n old.next) new (record before { breaks = breaks }) d
-  off-carded zero some breaks told new is = absurd (omega (arith, some))
-  off-carded (suc n) some breaks told new is = record {
-    ringed = off-ringed o done old before d h.ringed (suc n) some breaks told new is;
+  pub off-carded : (old.power ≡ Lit → (low : ℕ) × Stands low None old.keeper.cabin) → (n : ℕ) → 0 < n → (breaks : Listed Break) → breaks ≡ with_lines (off_cut (is_lit old.power) (old.next - 1) old.begun) before.breaks → (new : Run) → new ≡ off_run n old → RunCarded o (done ++ dark n old.next) new (record before { breaks = breaks }) d
+  off-carded sits zero some breaks told new is = absurd (omega (arith, some))
+  off-carded sits (suc n) some breaks told new is = record {
+    ringed = off-ringed o done old before d h.ringed sits (suc n) some breaks told new is;
     vehicle = ap (λ (x : Run). x.keeper.memory.registration) is ∙ ap (λ (m : Identity). m.registration) (off-memory (is_lit old.power) old) ∙ h.vehicle;
     cards = subst (λ (l : Listed Break). CardsBehind o (done ++ dark (suc n) old.next) (log_of (record before { breaks = l })) d) (sym told) (by old.power refl r.supply refl r.powers);
   }

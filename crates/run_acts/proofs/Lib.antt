@@ -48,6 +48,8 @@ pub mod Numbers
 pub mod FallEvented
 pub mod Stays
 pub mod AllStay
+pub mod SeatsThen
+pub mod NotesThen
 pub mod EnteredStays
 pub mod NoteRecorded
 pub mod Pulled
@@ -87,3 +89,5 @@ pub mod CardTurn
 pub mod CardActs
 pub mod CardWrites
 pub mod Closings
+pub mod CardUses
+pub mod StayUses

@@ -20,6 +20,8 @@ use Rattle.recorder_with_cards.proofs.Comes.{comes-of}
 use Rattle.recorder_with_cards.proofs.Goes.{card-or-other, others-session, both-at, other-at, mine-at, both-ready, other-ready, some-gives, entry-more, rows-went, ended-went, few-finds}
 use Rattle.std.specs.Prelude.{is_err}
 use Rattle.tach_media.specs.Medium.{State}
+use Rattle.log_model.specs.Log.{In}
+use Rattle.run_acts.specs.Recording.{values_of}
 use Rattle.run_told.specs.Told.{arranged}
 use Rattle.run_acts.specs.Entered.{MayJudge, HasGone, AreSound}
 use Rattle.run_acts.proofs.EnteredWhole.{entered-recorded}
@@ -31,7 +33,8 @@ use Rattle.recorder_with_cards.proofs.NoSession.{seat-answers}
 use Rattle.recorder_with_cards.proofs.EnteredRings.{accept-writes}
 use Rattle.recorder_with_cards.proofs.EnteredRinged.{judged-ringed}
 use Rattle.run_acts.proofs.EnteredFacts.{known}
-use Rattle.run_acts.proofs.EnteredStays.{entered-stays}
+use Rattle.run_acts.specs.Closings.{notes_within}
+use Rattle.run_acts.proofs.EnteredStays.{finds-noted, entered-stays}
 use Rattle.run_entering.proofs.CardBrought.{sits-works}
 use Rattle.recorder_with_cards.proofs.EnteredCards.{judged-cards}
 use Rattle.recorder_with_cards.proofs.accepting.accept_here.Goals as goal
@@ -167,7 +170,8 @@ returns-clause-recorded g c = λ room o done s n waits fewer at next time.
     } in
     judged-by failed o done s n waits fewer run new c.args.outcome.now c.accept-answer.new.outcome (arranged e.which U X Y) (arranged e.which V Z Y) next.goes c.requires.lit (ap (λ (q : Keeper). q.odometer) w.1.left.keeper)
     (entered-recorded o done s n waits fewer e run.keeper c.args.outcome.now run.unfound run.next run.begun run.minutes U X Y next.goes.within may failed c.accept-answer.new.keeper run.noted c.accept-answer.new.noted c.accept-answer.new.outcome V Z sound w.0 gone)
-    (λ well. entered-stays o e failed well run.keeper c.accept-answer.new.keeper run.noted c.accept-answer.new.noted c.args.outcome.now c.accept-answer.new.outcome U V X Z Y w.0 _ w.1
+    (λ well. entered-stays o e failed well run.keeper c.accept-answer.new.keeper run.noted c.accept-answer.new.noted c.args.outcome.now c.accept-answer.new.outcome U V X Z Y (λ log. notes_within next.goes.within.b done s (In n) log)
+    (finds-noted o done s n waits fewer (values_of run c.args.outcome.now) (arranged e.which U X Y) next.goes.within e at next.next next.none next.order) c.requires.seat w.0 _ w.1
     (known o done s n waits fewer e run.keeper c.args.outcome.now run.unfound run.next run.begun run.minutes U X Y next.goes.within may failed c.accept-answer.new.keeper run.noted c.accept-answer.new.noted c.accept-answer.new.outcome V Z w.0 gone sound) sits.1
     (others-session e.which run.keeper.cabin.cards c.accept-answer.new.keeper.cabin.cards
     (comes-of e run.keeper c.accept-answer.new.keeper run.noted c.accept-answer.new.noted c.args.outcome.now c.accept-answer.new.outcome _ _ _ _ _ (ungiven_of h.span) h.cabin c.requires.seat (omega arith) w.0 w.1.is w.1.left).others) next.goes.stay)
@@ -211,7 +215,7 @@ returns-clause-evented g c = λ room o done s n waits fewer at speed next turn e
     } in
     let small : s.number < 2 ^ 32 = let second = c.requires.at in let here = ap (λ (m : Moment). m.second) at in let few = c.requires.small in omega (arith, second, here, few) in
     judged-evented o done s n waits fewer e run.keeper c.args.outcome.now run.unfound run.next run.begun run.minutes U X Y next.goes.within may next.goes.origin turn speed small (ungiven_of h.span) h.cabin
-    failed c.accept-answer.new.keeper run.noted c.accept-answer.new.noted c.accept-answer.new.outcome V Z w.0 gone sound events
+    failed c.accept-answer.new.keeper run.noted c.accept-answer.new.noted c.accept-answer.new.outcome V Z w.0 gone sound next.goes.stay events
     (judged-notes e failed w.0 run.keeper run.noted U V X Z Y (g.met.M.Medium.coherent c.args.unit.now) (g.met.M.Medium.coherent c.accept-answer.new.unit) c.requires.held.is_unit c.accept-answer.ensures.cause.works w.1.notes)
 
 -- ---- what is noted
@@ -331,6 +335,7 @@ returns-clause-cards g c = λ room o done s n waits fewer at speed next vehicle 
     judged-cards o done s n waits fewer e run.keeper c.args.outcome.now run.unfound run.next run.begun run.minutes U X Y next.goes.within may next.goes.origin vehicle speed
     failed c.accept-answer.new.keeper run.noted c.accept-answer.new.noted c.accept-answer.new.outcome V Z w.0 gone sound
     (sits-works e (measured w.0 e run.keeper) c.accept-answer.new.keeper run.noted (ending_of w.0) (g.C.Chip.card c.accept-answer.new.card) Z w.1.left.keeper c.accept-answer.ensures.card)
+    next.goes.stay
 
 -- ---- where no tear of a failed call is told no card has broken down
 

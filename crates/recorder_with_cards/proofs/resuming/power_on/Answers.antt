@@ -37,6 +37,7 @@ use Rattle.run_acts.proofs.Standing.{cut-at}
 use Rattle.tach_media.proofs.Runs.{on_ok, ok_gives}
 use Rattle.recorder_with_cards.proofs.WakeNoted.{read-says, read-noted, read-then}
 use Rattle.run_keeping.proofs.Later.{state-revived, later-then, later-of-unit}
+use Rattle.run_ringed.specs.Ringed.{notes_in}
 use Rattle.run_acts.proofs.AllStay.{all-unit}
 use Rattle.run_outcome.proofs.Broken.{broke-none, broke-once, broke-then}
 use Rattle.recorder_with_cards.proofs.RingsHeld.{ringed-cut}
@@ -72,7 +73,7 @@ returns-in-Ok-clause-recorded g c = λ room o done s now rec has time.
       powers = rec.powers;
       recorded = read;
       odometer = λ lit. absurd (let bad : false ≡ true = sym c.requires.dark ∙ ap is_lit lit in cc);
-      stay = all-unit o (log_of out) run.keeper.memory.registration run.keeper.cabin.cards U V X Y rec.stay;
+      stay = all-unit o (log_of out) (notes_in (log_of out) done) run.keeper.memory.registration run.keeper.cabin U V X Y rec.stay;
     }) has time
 
 pub returns-in-Err-BadUnit-clause-recorded : goal.returns-in-Err-BadUnit-clause-recorded
@@ -132,7 +133,7 @@ returns-in-Ok-clause-evented g c = λ room o done s now all has time.
         powers = rec.powers;
         recorded = read;
         odometer = λ lit. absurd (let bad : false ≡ true = sym c.requires.dark ∙ ap is_lit lit in cc);
-        stay = all-unit o (log_of out) run.keeper.memory.registration run.keeper.cabin.cards U V X Y rec.stay;
+        stay = all-unit o (log_of out) (notes_in (log_of out) done) run.keeper.memory.registration run.keeper.cabin U V X Y rec.stay;
       };
       evented = events-stay (devices U X Y) (devices V X Y) o done (log_of out) run.unfound run.next rec.supply all.evented (read-says U V c.load.ensures.leaves) left;
       limit = all.limit;
@@ -203,7 +204,7 @@ returns-in-Ok-clause-ringed g c = λ room o done s now all has time.
           powers = rec.powers;
           recorded = read;
           odometer = λ lit. absurd (let bad : false ≡ true = sym c.requires.dark ∙ ap is_lit lit in cc);
-          stay = all-unit o (log_of out) run.keeper.memory.registration run.keeper.cabin.cards U V X Y rec.stay;
+          stay = all-unit o (log_of out) (notes_in (log_of out) done) run.keeper.memory.registration run.keeper.cabin U V X Y rec.stay;
         };
         evented = events-stay (devices U X Y) (devices V X Y) o done (log_of out) run.unfound run.next rec.supply all.evented.evented (read-says U V c.load.ensures.leaves) left;
         limit = all.evented.limit;
@@ -293,7 +294,7 @@ returns-in-Ok-clause-cards g c = λ room o done s now all has time.
             powers = rec.powers;
             recorded = read;
             odometer = λ lit. absurd (let bad : false ≡ true = sym c.requires.dark ∙ ap is_lit lit in cc);
-            stay = all-unit o (log_of out) run.keeper.memory.registration run.keeper.cabin.cards U V X Y rec.stay;
+            stay = all-unit o (log_of out) (notes_in (log_of out) done) run.keeper.memory.registration run.keeper.cabin U V X Y rec.stay;
           };
           evented = events-stay (devices U X Y) (devices V X Y) o done (log_of out) run.unfound run.next rec.supply all.ringed.evented.evented (read-says U V c.load.ensures.leaves) left;
           limit = all.ringed.evented.limit;
@@ -308,7 +309,7 @@ returns-in-Ok-clause-cards g c = λ room o done s now all has time.
             (subst (λ (b : Bool). Stores b o (log_of out) run.unfound run.keeper.odometer all.ringed.spans (devices U X Y)) c.requires.dark all.ringed.stored));
       };
       vehicle = all.vehicle;
-      cards = unit-alone o (log_of out) _ _ U V X Y all.cards;
+      cards = unit-alone o done (log_of out) U V X Y all.cards;
     }) has time
 
 pub returns-in-Err-BadUnit-clause-cards : goal.returns-in-Err-BadUnit-clause-cards
@@ -347,7 +348,7 @@ returns-in-Err-Failed-clause-cards g c = λ room o done s now all has time.
     let low = c.requires.going.low in
     let number = now.number in
     let positive : 0 < s.number = omega (arith, low, number) in
-    let cut_shown = unpowered-cards o done s progressed rec.recorded.recorded.followed comes now.number now.given positive e (unit-alone o (log_of out) _ _ U V X Y all.cards) in
+    let cut_shown = unpowered-cards o done s progressed rec.recorded.recorded.followed comes now.number now.given positive e (unit-alone o done (log_of out) U V X Y all.cards) in
     let is_log : with_cut (log_of out) s [] ≡ log_of after = ap (λ (u : ℕ). and_break (log_of out) (cut_at u true 0)) now.number ∙ sym (ap log_of told) in
     let r = returns-in-Err-Failed-clause-ringed g c room o done s now all.ringed has time in
     in-carded_cut o done s c.cut.new.self after e 0 (record {
