@@ -9,6 +9,7 @@ use Rattle.log_model.specs.declared.lines.Verdict.TheVariants.{Accepted, NotVali
 use Rattle.log_model.specs.Log.{RunLog}
 use Rattle.log_model.specs.Course.{Told, Visit}
 use Rattle.unit_model.specs.Image.{odometer_at}
+use Rattle.unit_journal.specs.DayOdometers.{RecordsDay}
 use Rattle.unit_course.specs.Legs.{Travel}
 use Rattle.unit_rule.specs.Odometer.{OdometerSafe, HasTravelled}
 use Rattle.card_image.specs.Own.{IsOwnValid}
@@ -21,6 +22,7 @@ use Rattle.run_rule.specs.Between.{Carried, IsCarried}
 use Rattle.run_course.specs.Followed.{Progress}
 use Rattle.run_brought.specs.Accounts.{so_far}
 use Rattle.run_recorded.specs.Origin.{Origin, HasRecorded}
+use Rattle.run_recorded.specs.Days.{IsBegunIn}
 use Rattle.run_recorded.specs.Whole.{NothingFailed, IsWhole}
 
 -- the recording of a run so far
@@ -78,6 +80,8 @@ pub record EndsRun (r : Recording) (marks : List Mark) (began now : Devices) : T
   -- The odometer of each image that a stop may leave is the start's and the whole kilometres of each span, up to its last-kept minute or one
   -- of which the keeping was broken off.
   pub odometer : (x : List ℕ) → now.unit.may_leave x → OdometerSafe r.rule r.log (told_of r) (odometer_at r.unit) x
+  -- So is that of each day that it records: as at the start, or that at the end of the first minute with which the run began the day.
+  pub days : (x : List ℕ) → now.unit.may_leave x → (day odometer : ℕ) → RecordsDay x day odometer → RecordsDay r.unit day odometer ⊎ IsBegunIn r x day odometer
   -- Where no call failed every minute is there: each decided one stands in the history, the unit has all of it, and a card that was accepted all
   -- of its entries.
   pub whole : NothingFailed r.log → IsWhole r now

@@ -78,7 +78,7 @@ use Rattle.run_within.proofs.Parts.{still, verdict-by, often-by, entered-grows, 
 -- minutes that are kept add nothing to what was travelled before the span
 pub same-before : (ds : List Minute) (g : Travel) → (all_travelled ds g).before ≡ g.before
 same-before [] g = refl
-same-before (m ∷ ds) g = same-before ds (travelled m.travelled g)
+same-before (m ∷ ds) g = same-before ds (travelled m.minute m.travelled g)
 
 module _ (o : Origin) (done : List TraceSecond) (s : TraceSecond) (v : Values) (d : Devices) (w : Within o done s Keeping [] (Some s.speed) [] v d) where
   abbrev p : Progress

@@ -508,12 +508,12 @@ module _ (o : Origin) (v : Values) (d : Devices) (h : MayStart o v d) where
   begins-so : Recorded o [] Due first-values d
   begins-so = record {
     book = not_begun;
-    travel = not_travelled;
+    travel = not_travelled o.recording.unit;
     odometer = tt;
     due = o.from / 60;
     standing = λ c. Out;
     brought = λ c. [];
-    recorded = seconds.more-recorded o [] (at_start o) not_travelled [] [] o.breakdowns (breakdowns_of d) (λ c. []) (seconds.nothing-recorded o h.early) (λ device m at. at) h.breakdowns;
+    recorded = seconds.more-recorded o [] (at_start o) (not_travelled o.recording.unit) [] [] o.breakdowns (breakdowns_of d) (λ c. []) (seconds.nothing-recorded o h.early) (λ device m at. at) h.breakdowns;
     beside = record {
       verdicts = record { each = λ t e verdict at seen. absurd (nowhere o t at); kept = tt };
       spared = λ c. inl (h.untouched c);

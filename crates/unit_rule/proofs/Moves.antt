@@ -1,5 +1,5 @@
 -- What a call of the unit leaves at its end, and what an image of it shows, and was issued with.
-use Rattle.std.proofs.Common.{◌≡◌, ℕ, ◌+◌, ◌≤◌, true, Option, Some, None, List, IfSome, is_some, take, drop, refl, ap, sym, subst, ◌∙◌, arith}
+use Rattle.std.proofs.Common.{◌≡◌, ◌⊎◌, inl, inr, ℕ, ◌+◌, ◌≤◌, true, Option, Some, None, List, IfSome, is_some, take, drop, refl, ap, sym, subst, ◌∙◌, arith}
 use Rattle.std.proofs.lemmas.List.{take-take, drop-take}
 use Rattle.tach_media.specs.Medium.{State, IsCoherent, LeavesOnly}
 use Rattle.unit_model.specs.Image.{last_kept, recorded}
@@ -28,3 +28,25 @@ shown-days number_a number_b x = refl
 -- images with the same first bytes, up to the last-kept minute or further, were issued with the same
 pub issued-front : (n : ℕ) → 0 + 564 ≤ n → (x c : List ℕ) → take n c ≡ take n x → issued_bytes c ≡ issued_bytes x
 issued-front n le x c same = sym (drop-take 0 564 c) ∙ ap (λ (l : List ℕ). drop 0 l) (sym (take-take (0 + 564) n c le) ∙ ap (λ (l : List ℕ). take (0 + 564) l) same ∙ take-take (0 + 564) n x le) ∙ drop-take 0 564 x
+
+-- what two clauses say of the images that a run leaves holds together: the image before is one
+pub both-leave : {old new : State} {R S : List ℕ → List ℕ → Type 0} → LeavesOnly old new R → LeavesOnly old new S → LeavesOnly old new (λ x c. R x c × S x c)
+both-leave {old} {new} {R} {S} one other = record {
+  size = one.size;
+  behind = one.behind;
+  writable = one.writable;
+  layers = one.layers;
+  tells = one.tells;
+  later = one.later;
+  since = λ t c le left. joined (old.left_since t c) c (one.since t c le left) (other.since t c le left);
+  now = λ c left. joined (old.may_leave c) c (one.now c left) (other.now c left);
+  keeps = one.keeps;
+}
+  where
+    joined : (P : Type 0) (c : List ℕ) → P ⊎ ((x : List ℕ) × (old.image ≡ Some x) × R x c) → P ⊎ ((x : List ℕ) × (old.image ≡ Some x) × S x c) → P ⊎ ((x : List ℕ) × (old.image ≡ Some x) × (R x c × S x c))
+    joined P c (inl was) second = inl was
+    joined P c (inr here) (inl was) = inl was
+    joined P c (inr here) (inr there) =
+        let both : Some there.0 ≡ Some here.0 = sym there.1 ∙ here.1 in
+        let same : there.0 ≡ here.0 = cc in
+        inr (here.0, here.1, (here.2, subst (λ (x : List ℕ). S x c) same there.2))
