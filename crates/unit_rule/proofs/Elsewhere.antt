@@ -1,7 +1,7 @@
 -- Writes elsewhere: in the owed rows, and of insertions, places and events.
 use Rattle.std.proofs.Common.{◌≡◌, inl, inr, ⊎_elim, ℕ, ◌<◌, List, sym, subst, arith}
 use Rattle.tach_media.specs.Medium.{State, IsCoherent, LeavesOnly, SameOutside}
-use Rattle.tach_media.proofs.Images.{part_before}
+use Rattle.tach_media.proofs.Images.{part_before, part_after}
 use Rattle.unit_model.specs.declared.layout.TheConstants.{DAY_SLOTS}
 use Rattle.unit_model.specs.Decoding.{Decodes}
 use Rattle.unit_model.proofs.WholeDays.{decoded_of}
@@ -15,6 +15,7 @@ use Rattle.unit_rule.specs.Rule.{Started}
 use Rattle.unit_rule.specs.Marks.{Holds}
 use Rattle.unit_course.specs.Legs.{Travel}
 use Rattle.unit_rule.specs.Odometer.{HasTravelled, IsBesideTravel}
+use Rattle.unit_rule.proofs.Moves.{behind-same, issued-parts}
 use Rattle.unit_rule.proofs.Found.{left-decodes}
 use Rattle.unit_rule.proofs.Marking.{holds-aside}
 use Rattle.unit_rule.proofs.Travelling.{travelled-aside}
@@ -25,7 +26,8 @@ rows-elsewhere x c same = beside 624 384 x c (inr (inl (omega arith, omega arith
 
 -- nor is it in what the unit was issued with
 pub rows-issued : (x c : List ℕ) → SameOutside 624 384 x c → issued_bytes c ≡ issued_bytes x
-rows-issued x c same = part_before 624 384 0 564 x c same (omega arith)
+rows-issued x c same =
+    issued-parts x c (part_before 624 384 0 564 x c same (omega arith)) (part_before 624 384 580 44 x c same (omega arith)) (part_after 624 384 1008 16 x c same (omega arith)) (behind-same 1008 2392634 x c same.after)
 
 -- the unit's rule and its marks
 pub holds-elsewhere : (s : Started) {U V : State} (due : ℕ) (b : Book) (marks : List Mark) → Holds s due b marks U → IsCoherent U → (R : List ℕ → List ℕ → Type 0) → LeavesOnly U V R →
