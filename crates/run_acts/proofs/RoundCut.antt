@@ -114,7 +114,7 @@ module _ (o : Origin) (done : List TraceSecond) (s : TraceSecond) (q : Point) (a
     verdicts = verdicts-so o done s q all t v d e w k;
     there = k.goes.there w.there;
     few = w.few;
-    finds = finds-so o done s q all t v d e w k (course_in w.b done s q.at (told_values u v).log) th.from_now th.new_now before.brought th.so.same th.so.brought_is (λ late. let n = th.none late in let is = n.1 in (n.0, omega (arith, is)));
+    finds = finds-so o done s q all t v d e w k (course_in w.b done s q.at (told_values u v).log) th.from_now th.new_now (told_values u v).marks before.brought th.so.same th.so.stay th.so.brought_is (λ late. let n = th.none late in let is = n.1 in (n.0, omega (arith, is)));
     spared = spared-so o done s q all t v d e w k (course_in w.b done s q.at (told_values u v).log) u.keeper.cabin.slots th.so.same th.so.slate.stays;
     travels = subst (λ (bk : Book). HasTravelled (odometer_at o.recording.unit) bk (all_travelled th.ds_now w.b.travel) e.unit) th.so.book
         (subst (λ (h : Travel). HasTravelled (odometer_at o.recording.unit) before.book h e.unit) (sym th.travel) travels);
@@ -159,7 +159,7 @@ module _ (o : Origin) (done : List TraceSecond) (s : TraceSecond) (q : Point) (a
     verdicts = verdicts-so o done s q all t v d e w k;
     there = k.goes.there w.there;
     few = w.few;
-    finds = finds-so o done s q all t v d e w k (course_in w.b done s q.at (told_values u v).log) th.from_now th.new_now before.brought th.so.same th.so.brought_is (λ late. let n = th.none late in let is = n.1 in (n.0, omega (arith, is)));
+    finds = finds-so o done s q all t v d e w k (course_in w.b done s q.at (told_values u v).log) th.from_now th.new_now (told_values u v).marks before.brought th.so.same th.so.stay th.so.brought_is (λ late. let n = th.none late in let is = n.1 in (n.0, omega (arith, is)));
     spared = spared-so o done s q all t v d e w k (course_in w.b done s q.at (told_values u v).log) u.keeper.cabin.slots th.so.same th.so.slate.stays;
     travels = subst (λ (j : HistoryMinute). HasTravelled (odometer_at o.recording.unit) (broken j (kept_all th.new_now w.b.run.book)) (stranded m.minute m.travelled (all_travelled th.ds_now w.b.travel)) e.unit) (sym i-is)
         (subst (λ (bk : Book). HasTravelled (odometer_at o.recording.unit) (broken i bk) (stranded m.minute m.travelled (all_travelled th.ds_now w.b.travel)) e.unit) th.so.book
@@ -215,7 +215,7 @@ module _ (o : Origin) (done : List TraceSecond) (s : TraceSecond) (q : Point) (a
       verdicts = verdicts-so o done s q all t v d e w k;
       there = k.goes.there w.there;
       few = w.few;
-      finds = finds-so o done s q all t v d e w k (course_in w.b done s q.at (told_values x v).log) (suc th.from_now) (th.new_now ++ i ∷ []) behind.brought so.same so.brought_is
+      finds = finds-so o done s q all t v d e w k (course_in w.b done s q.at (told_values x v).log) (suc th.from_now) (th.new_now ++ i ∷ []) (told_values x v).marks behind.brought so.same so.stay so.brought_is
           (λ late. let n = th.none late in let is = n.1 in absurd (omega (arith, late, is, over, here)));
       spared = spared-so o done s q all t v d e w k (course_in w.b done s q.at (told_values x v).log) x.keeper.cabin.slots so.same so.slate.stays;
       travels = subst (λ (bk : Book). HasTravelled (odometer_at o.recording.unit) bk (all_travelled (th.ds_now ++ m ∷ []) w.b.travel) e.unit) so.book
@@ -275,7 +275,7 @@ module _ (o : Origin) (done : List TraceSecond) (s : TraceSecond) (q : Point) (a
     verdicts = verdicts-so o done s q all t v d e w k;
     there = k.goes.there w.there;
     few = w.few;
-    finds = finds-so o done s q all t v d e w k (course_in w.b done s q.at (told_values end v).log) thr.from_now thr.new_now all_.brought thr.so.same thr.so.brought_is (λ late. let n = thr.none late in let is = n.1 in (n.0, omega (arith, is)));
+    finds = finds-so o done s q all t v d e w k (course_in w.b done s q.at (told_values end v).log) thr.from_now thr.new_now (told_values end v).marks all_.brought thr.so.same thr.so.stay thr.so.brought_is (λ late. let n = thr.none late in let is = n.1 in (n.0, omega (arith, is)));
     spared = spared-so o done s q all t v d e w k (course_in w.b done s q.at (told_values end v).log) end.keeper.cabin.slots thr.so.same thr.so.slate.stays;
     travels = subst (λ (bk : Book). HasTravelled (odometer_at o.recording.unit) bk (all_travelled thr.ds_now w.b.travel) e.unit) thr.so.book
         (subst (λ (h : Travel). HasTravelled (odometer_at o.recording.unit) all_.book h e.unit) (sym thr.travel) travels);

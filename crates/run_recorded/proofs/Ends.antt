@@ -69,7 +69,7 @@ module _ (o : Origin) (done : List TraceSecond) (p : Progress) (g : Travel) (mar
   abbrev r : Recording
   r = recording_by o done p.log
 
-  module _ (h : HasRecorded o done p g marks (breakdowns_of now) w.brought) (found : IsFound r o.found began) (carried : IsCarried o.found w now) (book : w.book ≡ p.book) (told : w.marks ≡ marks) (beside : IsBeside o done p g now) where
+  module _ (h : HasRecorded o done p g marks (breakdowns_of now) w.brought) (found : IsFound r o.found began) (carried : IsCarried o.found w now) (book : w.book ≡ p.book) (told : w.marks ≡ marks) (beside : IsBeside o done p g marks now) where
     unit-began : o.found.unit.began ≡ began.unit.clock
     unit-began = ap (λ (s : Started). s.began) found.unit
 
