@@ -380,10 +380,10 @@ module _ (x a b : List ℕ) (start : ℕ) (began now : Devices) (opened : Opened
     first-powerless : IsPowerless f (carried_first (start / 60)) now
     first-powerless = opened-powerless f (start / 60) now (ready.carried (start / 60) ready.later) waits
 
-    travels : HasTravelled (odometer_at x) not_begun not_travelled now.unit
+    travels : HasTravelled (odometer_at x) not_begun (not_travelled x) now.unit
     travels =
         let is = ready.journal.odometer in
-        travelled-opened (odometer_at x) now.unit x refl (let le : odometer_at x ≤ HIGHEST_ODOMETER = omega (arith, is, low) in le)
+        travelled-opened (odometer_at x) now.unit x refl (let le : odometer_at x ≤ HIGHEST_ODOMETER = omega (arith, is, low) in le) ready.journal.pointer
         (λ y left. ready.begins.unit.only y (unit_whole.counts_now now.unit.clock y (omega arith) left))
 
     starts-recorded : (run : Run) (out : Outcome) → run.power ≡ Due → run.next ≡ start → run.begun ≡ 0 → run.unfound ≡ 0 → run.keeper.cabin.slots ≡ nothing_yet → ((c : Card) → known_in run.keeper.cabin.cards c ≡ known_of opened c) →

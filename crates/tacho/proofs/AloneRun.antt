@@ -109,6 +109,7 @@ module _ (x : List ℕ) (start : ℕ) (items : List Item) (out : Outcome) (U V A
           (subst (λ (ls : List (List HistoryMinute)). UnitSafe (recorded x) (history_in r) ls out.marks.items U.clock V) lost-same h.ends.safe.unit);
       issued = h.ends.safe.issued;
       odometer = h.ends.odometer;
+      days = h.ends.days;
       stored = λ y left. let s = h.side.shows y left in record { spans = s.spans; are_spans = s.are_spans; odometer = s.odometer };
       events = λ number sessions t y left. events-alone sessions t number y left;
       insertions = λ dense y left. shows-old insertion_ring _ _ _ x y (ap insertions_of (notes-nothing log ss selects)) ((h.side.shows y left).insertions dense) (h.dense.insertions dense y left);

@@ -71,6 +71,7 @@ module _ (x a b : List ℕ) (start : ℕ) (items : List Item) (out : Outcome) (p
       };
       brings = h.ends.brings;
       odometer = h.ends.odometer;
+      days = h.ends.days;
       whole = h.ends.whole;
     };
     side = record { shows = λ y left. (first-by y (h.sessions y left)).shows };
