@@ -193,7 +193,7 @@ module _ (U V : State) (is : IsRead U V) where
                 owed = s.owed;
                 only = s.only;
                 shows = λ c valid. subst (λ (x : State). ShowsStays s.vehicle (card_image r c) (s.stays c) x) (same-card c) (s.shows c valid);
-                ends = s.ends;
+                closed = s.closed;
               };
           kept = more-found (U.left_since p.unit.clock) (V.left_since p.unit.clock) (λ y left. is.leaves.keeps p.unit.clock y before left) r.log (spans_of (told_of r)) h.kept;
           dense = record { insertions = λ dense y left. h.dense.insertions dense y (now-back y left); places = λ dense y left. h.dense.places dense y (now-back y left) };
