@@ -37,7 +37,12 @@ use Rattle.run_acts.specs.Power.{is_lit, cut_run}
 use Rattle.run_acts.specs.Recording.{log_of, values_of, IsOrigin, RunWithin, RunCut, InSecondBy, InSecond, RunFails, RunGoesOn, IsNow, RecordsAction}
 use Rattle.recorder_with_cards.specs.Acting.{IsSelected}
 use Rattle.recorder_with_cards.specs.Recorded.{Inside, ActsBy}
-use Rattle.run_acts.proofs.AllStay.{no-cut}
+use Rattle.log_model.specs.declared.lines.Refused.{Refused}
+use Rattle.run_course.specs.Moments.{and_refused}
+use Rattle.run_acts.specs.Closings.{notes_within}
+use Rattle.run_acts.specs.Stays.{AllStay}
+use Rattle.run_acts.proofs.AllStay.{all-noted, log-self, no-cut}
+use Rattle.run_acts.proofs.NotesThen.{select-now, refuse-now}
 
 -- ---- with power, or cut
 
@@ -79,9 +84,22 @@ module _ (o : Origin) (done : List TraceSecond) (s : TraceSecond) (speed : ℕ) 
       → RunGoesOn o done s (In (suc (length front))) [] run after d h.within.b
   refused fault is after told =
       let g = refusal-recorded d o done s (values_of run before) front a rest are h.within fault (refuses (Some fault) is) in
+      let line : Refused = record { second = s.number; fault = fault } in
       subst (λ (x : Outcome). RunGoesOn o done s (In (suc (length front))) [] run x d h.within.b) (sym told)
       (subst (λ (u : ℕ). RunGoesOn o done s (In (suc (length front))) [] run (record before { refused = with_lines (record { second = u; fault = fault } ∷ []) before.refused }) d h.within.b) now.number
-      (record { goes = record { origin = h.origin; lit = h.lit; within = g.within; odometer = same-odometer g.within.b g.began; stay = h.stay }; began = g.began }))
+      (record {
+        goes = record {
+          origin = h.origin;
+          lit = h.lit;
+          within = g.within;
+          odometer = same-odometer g.within.b g.began;
+          stay = subst (λ (b : Beginning). AllStay o (and_refused (log_of before) line) (notes_within b done s (In (suc (length front))) (and_refused (log_of before) line)) run.keeper.memory.registration run.keeper.cabin d) (sym g.began)
+              (all-noted o (log_of before) (and_refused (log_of before) line) (notes_within h.within.b done s (In (length front)) (log_of before)) (notes_within h.within.b done s (In (suc (length front))) (and_refused (log_of before) line))
+              run.keeper.memory.registration run.keeper.cabin d (λ none. record { none = none; finds = refl })
+              (λ none c. refuse-now o done s front rest a are (values_of run before) d h.within fault (refuses (Some fault) is) line c) h.stay);
+        };
+        began = g.began;
+      }))
 
   -- an activity is selected
   pub selected : (slot : Slot) (pick : Pick) → a ≡ Select slot pick → refusal (logged run.keeper.cabin.slots.seats) speed a ≡ None → (new : Run) → IsSelected (Select slot pick) run new
@@ -92,7 +110,18 @@ module _ (o : Origin) (done : List TraceSecond) (s : TraceSecond) (speed : ℕ) 
       let g = selection-recorded d o done s (values_of run before) front slot pick rest (subst (λ (x : Action). s.actions ≡ front ++ x ∷ rest) is are) w
       (subst (λ (x : Action). refusal c.slots s.speed x ≡ None) is (refuses None allowed)) new.minutes (picks.1 w.sp w.minutes) in
       subst (λ (r : Run). RunGoesOn o done s (In (suc (length front))) [] r before d h.within.b) (sym picks.0)
-      (record { goes = record { origin = h.origin; lit = h.lit; within = g.within; odometer = same-odometer g.within.b g.began; stay = h.stay }; began = g.began })
+      (record {
+        goes = record {
+          origin = h.origin;
+          lit = h.lit;
+          within = g.within;
+          odometer = same-odometer g.within.b g.began;
+          stay = subst (λ (b : Beginning). AllStay o (log_of before) (notes_within b done s (In (suc (length front))) (log_of before)) run.keeper.memory.registration run.keeper.cabin d) (sym g.began)
+              (all-noted o (log_of before) (log_of before) (notes_within h.within.b done s (In (length front)) (log_of before)) (notes_within h.within.b done s (In (suc (length front))) (log_of before)) run.keeper.memory.registration run.keeper.cabin d
+              (log-self (log_of before)) (λ none c. select-now o done s front rest slot pick (subst (λ (x : Action). s.actions ≡ front ++ x ∷ rest) is are) (values_of run before) d h.within c) h.stay);
+        };
+        began = g.began;
+      })
 
 -- ---- the unit has failed: power is cut
 
@@ -113,7 +142,7 @@ cut o done s begun rest run new out after d origin number left fails is told =
       lost = refl;
       recorded = subst (λ (cabin : Cabin). Recorded o (done ++ s ∷ []) IsLost
           (passed_values s (record (values_of run (record out { breaks = with_lines (cut_at s.number true begun ∷ []) out.breaks })) { cabin = cabin })) d) fails.same r;
-      stay = λ none. no-cut (log_of out) s.number begun none;
+      failed = λ none. no-cut (log_of out) s.number begun none;
     })))
 
 -- ---- some actions, and then others

@@ -13,7 +13,7 @@ use Rattle.log_model.specs.declared.lines.Break.TheVariants.{Tear}
 use Rattle.log_model.specs.declared.lines.Find.{Find}
 use Rattle.log_model.specs.declared.lines.Refused.{Refused}
 use Rattle.log_model.specs.declared.lines.SlotFault.{SlotFault}
-use Rattle.log_model.specs.Log.{RunLog, In, cut_in, is_torn_in, found_in}
+use Rattle.log_model.specs.Log.{RunLog, In}
 use Rattle.log_model.specs.Slots.{refusal}
 use Rattle.log_model.specs.Course.{Before, Course, Told, went}
 use Rattle.slot_machine.specs.Calls.{seat_in, card_in, logged}
@@ -24,6 +24,7 @@ use Rattle.run_rings.specs.Notes.{NotesMore, course_behind}
 use Rattle.run_rings.specs.Spans.{with_second}
 use Rattle.run_rings.proofs.Actions.{selections, pulls, refusals}
 use Rattle.run_rings.proofs.Same.{rings-left}
+use Rattle.run_acts.proofs.NotesThen.{behind-refused}
 use Rattle.run_course.specs.Moments.{and_break, and_refused}
 use Rattle.run_course.specs.Followed.{Progress}
 use Rattle.run_moments.specs.Reached.{course_at}
@@ -158,10 +159,6 @@ pulled-ringed d slot begun speed run out o done s now front rest are is allowed 
         (subst (λ (k : ℕ). RingsWithin o done s w.within.b.run.log (front ++ Pull slot ∷ []) new (and_break log (Tear s.number slot false k false)) spans t d) (sym is) told)
 
 -- or it is refused
-behind-refused : (log : RunLog) (was : Before) (s : TraceSecond) (front : List Action) (line : Refused) → course_behind (and_refused log line) was s front ≡ course_behind log was s front
-unfolding is_torn_in found_in cut_in
-behind-refused log was s front line = refl
-
 pub refused-ringed : (o : Origin) (done : List TraceSecond) (s : TraceSecond) (speed : ℕ) (run : Run) (before : Outcome) (d : Devices) → IsNow s speed run → (front : List Action) (a : Action) (rest : List Action) → s.actions ≡ front ++ a ∷ rest →
     WithinRinged o done s (length front) run before d → (fault : SlotFault) → refusal (logged run.keeper.cabin.slots.seats) speed a ≡ Some fault → (after : Outcome) → after ≡ record before { refused = with_lines (record { second = run.next; fault = fault } ∷ []) before.refused } →
     WithinRinged o done s (suc (length front)) run after d

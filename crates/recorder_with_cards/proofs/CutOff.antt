@@ -24,5 +24,5 @@ cut-as d o done s n run out origin number cut = record {
   origin = origin;
   lost = refl;
   recorded = subst (λ (m : ℕ). Recorded o (done ++ s ∷ []) Lost (record (values_of run out) { log = and_break (log_of out) (cut_at m true n); cabin = with_power_lost m run.keeper.cabin; next = suc run.next; begun = length s.actions }) d) number cut;
-  stay = λ none. no-cut (log_of out) run.next n none;
+  failed = λ none. no-cut (log_of out) run.next n none;
 }

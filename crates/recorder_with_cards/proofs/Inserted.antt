@@ -1,5 +1,5 @@
 -- A card is put into a slot: the minutes before are kept, and then it is judged.
-use Rattle.std.proofs.Common.{◌≡◌, ◌∙◌, inr, ℕ, suc, ◌+◌, ◌/◌, ◌≤◌, Bool, true, false, Some, None, List, [], ◌∷◌, ◌++◌, length, refl, ap, sym, subst, arith, append-nil, append_assoc, length-append}
+use Rattle.std.proofs.Common.{◌≡◌, ◌∙◌, inr, ⊎_elim, ℕ, suc, ◌+◌, ◌/◌, ◌≤◌, Bool, true, false, Option, Some, None, is_some, List, [], ◌∷◌, ◌++◌, length, refl, ap, sym, subst, arith, append-nil, append_assoc, length-append}
 use Rattle.std.specs.Prelude.{slice_get}
 use Rattle.std.specs.List.{AllByRecursion}
 use Rattle.activity_codec.specs.declared.values.Slot.{Slot}
@@ -14,14 +14,14 @@ use Rattle.minute_rules.specs.Kept.{StandsFor}
 use Rattle.log_model.specs.declared.lines.Break.{Break}
 use Rattle.activity_codec.specs.Activity.{same_slot}
 use Rattle.log_model.specs.Log.{In, found_in}
-use Rattle.log_model.specs.Slots.{refusal, other_slot}
+use Rattle.log_model.specs.Slots.{refusal, other_slot, same_card}
 use Rattle.log_model.specs.Course.{Visit}
 use Rattle.unit_model.specs.Image.{odometer_at}
 use Rattle.unit_rule.specs.Odometer.{odometer_by, odometer_after}
 use Rattle.side_model.specs.Odometer.{SpanFrom}
 use Rattle.side_model.specs.Odometer as side
 use Rattle.safety_model.specs.Safe.{Devices}
-use Rattle.slot_machine.specs.Calls.{seat_in, logged}
+use Rattle.slot_machine.specs.Calls.{Seats, seat_in, is_card, logged}
 use Rattle.run_moments.specs.Reached.{IsTearAt}
 use Rattle.run_moments.specs.Moment.{entering_by}
 use Rattle.run_outcome.specs.Lines.{Listed}
@@ -36,7 +36,17 @@ use Rattle.run_within.specs.Within.{Beginning, course_in}
 use Rattle.run_within.specs.Taking.{IsPut, AreTearsAt, MayBeJudged}
 use Rattle.run_within.proofs.Putting.{card-put, entered-next}
 use Rattle.run_acts.specs.declared.run.Run.{Run}
-use Rattle.run_crew.specs.Cabin.{with_card_in}
+use Rattle.run_crew.specs.Cabin.{SitsThere, Stands, with_card_in}
+use Rattle.run_crew.specs.Cards.{session_of}
+use Rattle.run_crew.specs.declared.cards.Accepted.{Accepted}
+use Rattle.side_model.specs.Noted.{Note}
+use Rattle.slot_machine.specs.declared.seats.Seat.{Seat}
+use Rattle.run_acts.specs.Closings.{spells_of, notes_within}
+use Rattle.run_acts.specs.Stays.{sits_in, AllStay}
+use Rattle.run_acts.proofs.AllStay.{Moves, moves-bare, moves-same, all-moved, log-self}
+use Rattle.run_acts.proofs.SeatsThen.{same-as, put-other}
+use Rattle.run_acts.proofs.NotesThen.{put-now}
+use Rattle.recorder_with_cards.proofs.Allowed.{insert-empty, insert-elsewhere}
 use Rattle.run_evented.specs.Noting.{Acting}
 use Rattle.run_evented.specs.SoFar.{EventedNow, puts_into}
 use Rattle.run_acts.specs.Acting.{IsSettled, IsBareIn, told_of}
@@ -90,10 +100,22 @@ slots-apart : (slot : Slot) → same_slot slot (other_slot slot) ≡ false
 slots-apart Driver = refl
 slots-apart CoDriver = refl
 
+-- a card that may be put in sits nowhere
+nowhere-put : (seats : Seats) (slot : Slot) (card : Card) (speed : ℕ) → refusal (logged seats) speed (Insert slot card) ≡ None → SitsThere seats card → ⊥
+nowhere-put seats Driver card speed allowed there =
+    ⊎_elim
+    (λ driver. let wrong : false ≡ true = sym (ap (λ (q : Option Seat). is_card q card) (insert-empty seats Driver card speed allowed)) ∙ driver in cc)
+    (λ codriver. let wrong : false ≡ true = sym (insert-elsewhere seats Driver card speed allowed) ∙ codriver in cc) there
+nowhere-put seats CoDriver card speed allowed there =
+    ⊎_elim
+    (λ driver. let wrong : false ≡ true = sym (insert-elsewhere seats CoDriver card speed allowed) ∙ driver in cc)
+    (λ codriver. let wrong : false ≡ true = sym (ap (λ (q : Option Seat). is_card q card) (insert-empty seats CoDriver card speed allowed)) ∙ codriver in cc) there
+
 -- ---- A CARD IS PUT IN
 
 module _ (slot : Slot) (card : Card) (at : Moment) (speed : ℕ) (old : Run) (before : Outcome) (d : Devices) (o : Origin) (done : List TraceSecond) (s : TraceSecond) (now : IsNow s speed old) (front rest : List Action) (actions : s.actions ≡ front ++ Insert slot card ∷ rest)
-    (second : at.second ≡ old.next) (begun : at.begun ≡ suc (length front)) (late : at.late ≡ false) (allowed : refusal (logged old.keeper.cabin.slots.seats) speed (Insert slot card) ≡ None) (h : RunWithin o done s (In (length front)) [] [] old before d) where
+    (second : at.second ≡ old.next) (begun : at.begun ≡ suc (length front)) (late : at.late ≡ false) (allowed : refusal (logged old.keeper.cabin.slots.seats) speed (Insert slot card) ≡ None) (h : RunWithin o done s (In (length front)) [] [] old before d)
+    (low : ℕ) (seated : Stands low None old.keeper.cabin) where
   abbrev n : ℕ
   n = length front
 
@@ -102,6 +124,47 @@ module _ (slot : Slot) (card : Card) (at : Moment) (speed : ℕ) (old : Run) (be
       ap (λ (x : ℕ). record { second = x; begun = at.begun; late = at.late }) (second ∙ sym now.number)
       ∙ ap (λ (x : ℕ). record { second = s.number; begun = x; late = at.late }) begun
       ∙ ap (λ (x : Bool). record { second = s.number; begun = suc n; late = x }) late
+
+  -- nothing is noted of it yet; it has no session, and the other card sits as it did
+  abbrev notes-before : List Note
+  notes-before = notes_within h.within.b done s (In (length front)) (log_of before)
+
+  abbrev notes-put : List Note
+  notes-put = notes_within h.within.b done s (In (suc (length front))) (log_of before)
+
+  same-notes : (c : Card) → spells_of c notes-put ≡ spells_of c notes-before
+  same-notes c = put-now o done s front rest slot card actions (values_of old before) d h.within (refuses o done s speed old before d now front (Insert slot card) rest actions h None allowed) c
+
+  -- it sat nowhere
+  no-session : session_of old.keeper.cabin.cards card ≡ None
+  no-session = by (session_of old.keeper.cabin.cards card) refl
+    where
+      by : (q : Option Accepted) → session_of old.keeper.cabin.cards card ≡ q → session_of old.keeper.cabin.cards card ≡ None
+      by None is = is
+      by (Some a) is =
+          ⊎_elim
+          (λ there. absurd (nowhere-put old.keeper.cabin.slots.seats slot card speed allowed there))
+          (λ leaving. absurd (let wrong : None ≡ Some card = leaving in cc))
+          (seated.only card (ap (λ (q : Option Accepted). is_some q) is))
+
+  abbrev Puts : Card → Type 0
+  Puts c = Moves (spells_of c notes-before) (spells_of c notes-put) (sits_in old.keeper.cabin.slots.seats c) (sits_in (with_card_in slot card old.keeper.cabin).slots.seats c) (session_of old.keeper.cabin.cards c) (session_of old.keeper.cabin.cards c)
+
+  each-put : (c : Card) → Puts c
+  each-put c = by (same_card card c) refl
+    where
+      by : (b : Bool) → same_card card c ≡ b → Puts c
+      by true mine =
+          subst Puts (same-as card c mine)
+          (moves-bare (spells_of card notes-before) (spells_of card notes-put) (sits_in old.keeper.cabin.slots.seats card) (sits_in (with_card_in slot card old.keeper.cabin).slots.seats card) (session_of old.keeper.cabin.cards card)
+          (session_of old.keeper.cabin.cards card) (same-notes card) no-session no-session)
+      by false other =
+          moves-same (spells_of c notes-before) (spells_of c notes-put) (sits_in old.keeper.cabin.slots.seats c) (sits_in (with_card_in slot card old.keeper.cabin).slots.seats c) (session_of old.keeper.cabin.cards c) (session_of old.keeper.cabin.cards c)
+          (same-notes c) (put-other old.keeper.cabin.slots.seats slot card c None (insert-empty old.keeper.cabin.slots.seats slot card speed allowed) other) refl
+
+  stays-put : AllStay o (log_of before) notes-put old.keeper.memory.registration (with_card_in slot card old.keeper.cabin) d
+  stays-put =
+      all-moved o (log_of before) (log_of before) notes-before notes-put old.keeper.memory.registration old.keeper.cabin (with_card_in slot card old.keeper.cabin) d (log-self (log_of before)) (λ none_ c. each-put c) h.stay
 
   within-actions : suc n ≤ length s.actions
   within-actions = let all = ap (λ (xs : List Action). length xs) actions in let long = length-append front (Insert slot card ∷ rest) in omega (arith, all, long)
@@ -121,7 +184,7 @@ module _ (slot : Slot) (card : Card) (at : Moment) (speed : ℕ) (old : Run) (be
       lit = h.lit;
       within = put.goes.within;
       odometer = h.odometer ∙ ap (λ (b : Beginning). odometer_after (odometer_at o.recording.unit) b.travel.before) (sym put.goes.began);
-      stay = h.stay;
+      stay = subst (λ (b : Beginning). AllStay o (log_of before) (notes_within b done s (In (suc (length front))) (log_of before)) old.keeper.memory.registration (with_card_in slot card old.keeper.cabin) d) (sym put.goes.began) stays-put;
     }
 
     module _ (e : Devices) (records : RecordsSettling decided at failed (put_run slot card old) mid before told d e) (time : HaveTime e) where

@@ -168,7 +168,7 @@ module _ (rule : Rule) (start : Start) (from first : ℕ) (p : Progress) (t : To
       ∙ later-lines p.log later (went p.log front).before r r.actions tells
       ∙ sym (second-noted p.log (went p.log front).before r power)
 
-  notes-same : notes_in later (front ++ r ∷ []) ≡ notes_in p.log (front ++ r ∷ [])
+  pub notes-same : notes_in later (front ++ r ∷ []) ≡ notes_in p.log (front ++ r ∷ [])
   notes-same =
       second-notes p.log later front r same ∙ ap (λ (l : List Note). notes_in p.log front ++ l) next-same
       ∙ sym (second-notes p.log p.log front r (same-all p.log front))
@@ -201,7 +201,16 @@ module _ (rule : Rule) (start : Start) (from first : ℕ) (p : Progress) (t : To
           ringed = subst (λ (l : List Note). Ringed (since_behind o later done) later (cut_off spans) l fewer d) (sym notes-same) (fewer-sit d (since_behind o later done) later (cut_off spans) (notes_in p.log done) seats fewer now few);
         }
 
--- THE LAST SECOND OF A SPAN TURNS OUT TO BE A CUT'S: what is carried of the rings goes on, with fewer cards accepted.
+-- THE LAST SECOND OF A SPAN TURNS OUT TO BE A CUT'S: it has noted the same
+pub off-cut-notes : (rule : Rule) (start : Start) (from first : ℕ) (done : List TraceSecond) (p : Progress) (t : Told) (span : List Told) → Followed rule start from first done (record p { supply = Lit (t ∷ span); waiting = [] }) →
+    notes_in (and_break p.log (cut_at (p.next - 1) false p.begun)) done ≡ notes_in p.log done
+off-cut-notes rule start from first done p t span f =
+    let had : HadActions done p.begun = f.last in
+    let r : TraceSecond = record { number = had.number; has_power = true; speed = had.speed; actions = had.actions } in
+    subst (λ (ss : List TraceSecond). notes_in (and_break p.log (cut_at (p.next - 1) false p.begun)) ss ≡ notes_in p.log ss) (sym had.are)
+    (notes-same rule start from first p t span had.before r (subst (λ (ss : List TraceSecond). Followed rule start from first ss (record p { supply = Lit (t ∷ span); waiting = [] })) had.are f) had.count)
+
+-- what is carried of the rings goes on, with fewer cards accepted.
 pub off-cut-rings : (rule : Rule) (start : Start) (from first : ℕ) (done : List TraceSecond) (p : Progress) (t : Told) (span : List Told) → Followed rule start from first done (record p { supply = Lit (t ∷ span); waiting = [] }) →
     (o : Origin) (d : Devices) (spans : List SpanFrom) (seats fewer : Card → Option Seating) → RingedBehind o done p.log p.next spans seats d → AreFewer seats fewer →
     RingedBehind o done (and_break p.log (cut_at (p.next - 1) false p.begun)) p.next (cut_off spans) fewer d

@@ -99,9 +99,9 @@ use Rattle.recorder_with_cards.proofs.SideShown.{insertions-inside, places-insid
 use Rattle.recorder_with_cards.proofs.Written.{are-written, keep-holders}
 use Rattle.recorder_with_cards.specs.Placed.{ShowsPlaces}
 use Rattle.recorder_with_cards.proofs.KeptAfter.{end-kept}
-use Rattle.run_acts.specs.Stays.{registration_in, AreMerged, open_ones, going_on, HasStays, ShowsStays}
-use Rattle.recorder_with_cards.specs.Stays.{one_more}
-use Rattle.recorder_with_cards.proofs.AtEnd.{goes-at-end}
+use Rattle.run_acts.specs.Closings.{spells_of}
+use Rattle.run_acts.specs.Stays.{registration_in, AreMerged, spells, sits_in, HasStays, ShowsStays}
+use Rattle.recorder_with_cards.proofs.AtEnd.{noted-at-end, sits-at-end}
 use Rattle.run_recorded.specs.Whole.{NothingFailed}
 use Rattle.run_crew.specs.Cabin.{Stands}
 use Rattle.std.specs.Prelude.{filter}
@@ -201,10 +201,8 @@ module _ (x a b : List ℕ) (start : ℕ) (items : List Item) (began now : Devic
           owed = all.owed;
           only = λ c. ⊎_elim (λ none_. inl none_) (λ valid. inr (subst IsOwnValid (of_image c) valid)) (all.only c);
           shows = λ c valid. subst (λ (i : List ℕ). ShowsStays run.keeper.memory.registration i (all.stays c) (card_of now c)) (of_image c) (own none c valid).shows;
-          ends = λ c valid.
-              let most : open_ones (all.stays c) ≤ length r.log.breaks + going_on (session_of run.keeper.cabin.cards c) = (own none c valid).ends in
-              let one : going_on (session_of run.keeper.cabin.cards c) ≤ one_more c (went r.log r.trace).before.slots = goes-at-end o ss run out now h.evented.recorded sits c in
-              omega (arith, most, one);
+          closed = λ c valid.
+              sym (noted-at-end (session_of run.keeper.cabin.cards c) (sits_in run.keeper.cabin.slots.seats c) (spells (all.stays c)) (sits-at-end o ss run out now h.evented.recorded sits c)) ∙ (own none c valid).spell;
         };
     kept = end-kept o ss run out now h.evented.recorded h.spans h.ringed.spans_are h.stored;
     dense = record {
@@ -236,7 +234,7 @@ module _ (x a b : List ℕ) (start : ℕ) (items : List Item) (began now : Devic
       of_image c = found.image c ∙ sym (images c)
 
       own : (none : NothingFailed (log_of out)) (c : Card) → IsOwnValid (card_image r c) →
-          HasStays (found_of o.found c) run.keeper.memory.registration (length (log_of out).breaks) ((h.evented.recorded.stay none).stays c) (session_of run.keeper.cabin.cards c) (card_of now c)
+          HasStays (found_of o.found c) run.keeper.memory.registration (spells_of c (notes_in (log_of out) ss)) (sits_in run.keeper.cabin.slots.seats c) ((h.evented.recorded.stay none).stays c) (session_of run.keeper.cabin.cards c) (card_of now c)
       own none c valid = (h.evented.recorded.stay none).each c (subst IsOwnValid (sym (of_image c)) valid)
 
       clocks : (c : Card) → (found_of o.found c).began ≡ (card_of began c).clock
@@ -398,8 +396,10 @@ module _ (x a b : List ℕ) (start : ℕ) (began now : Devices) (opened : Opened
         told = subst (λ (fs : List Find). AreMerged (filter (λ (g : Find). is_accepting g.verdict) fs) [] []) (sym finds) (refl, refl);
         owed = λ c. tt;
         only = λ c. inl refl;
-        each = λ c valid. subst (λ (s : Option Accepted). HasStays (found_of f c) run.keeper.memory.registration (length out.breaks.items) [] s (card_of now c)) (sym (bare c))
-            (stays-start (found_of f c) run.keeper.memory.registration (length out.breaks.items) (card_of now c) (λ y left. untouched c y ((whole c).counts_now (found_of f c).began y (there.clocks c) left)));
+        each = λ c valid.
+            subst (λ (ns : List Note). HasStays (found_of f c) run.keeper.memory.registration (spells_of c ns) (sits_in run.keeper.cabin.slots.seats c) [] (session_of run.keeper.cabin.cards c) (card_of now c)) (sym (no-notes (log_of out)))
+            (subst (λ (s : Option Accepted). HasStays (found_of f c) run.keeper.memory.registration [] (sits_in run.keeper.cabin.slots.seats c) [] s (card_of now c)) (sym (bare c))
+            (stays-start (found_of f c) run.keeper.memory.registration (sits_in run.keeper.cabin.slots.seats c) (card_of now c) (λ y left. untouched c y ((whole c).counts_now (found_of f c).began y (there.clocks c) left))));
       };
     }
 

@@ -81,8 +81,13 @@ use Rattle.recorder_with_cards.specs.Accepting.{IsBare, IsAccepted, IsAnew}
 use Rattle.recorder_with_cards.specs.Judged.{moment_in, RunNext, RunBehind, JudgedTo, JudgesSo, JudgesAnew}
 use Rattle.recorder_with_cards.proofs.Read.{unit-tells, image-of, at-image}
 use Rattle.recorder_with_cards.proofs.StoredCalls.{mend-stays}
+use Rattle.side_model.specs.Noted.{Note}
+use Rattle.run_course.proofs.Logs.{found_log}
+use Rattle.run_ringed.specs.Ringed.{notes_in}
+use Rattle.run_acts.specs.Closings.{spells_of, notes_within}
 use Rattle.run_acts.specs.Stays.{AllStay}
-use Rattle.run_acts.proofs.AllStay.{all-unit, all-of, all-later, found-on}
+use Rattle.run_acts.proofs.AllStay.{all-unit, all-of, all-noted, found-on}
+use Rattle.run_acts.proofs.NotesThen.{notes-wake, notes-found}
 
 -- ---- a run at its power-on
 
@@ -92,7 +97,7 @@ pub record RunWaking (o : Origin) (done : List TraceSecond) (s : TraceSecond) (b
   pub lit : run.power ≡ Lit
   pub waking : IsWaking o done s b (values_of run out) d waits untold
   pub odometer : run.keeper.odometer ≡ odometer_after (odometer_at o.recording.unit) b.travel.before
-  pub stay : AllStay o (log_of out) run.keeper.memory.registration run.keeper.cabin.cards d
+  pub stay : AllStay o (log_of out) (notes_within b done s (In 0) (log_of out)) run.keeper.memory.registration run.keeper.cabin d
 
 abbrev pub within-of : (o : Origin) (done : List TraceSecond) (s : TraceSecond) (b : Beginning) (waits : List Visit) (untold : List Slot) (run : Run) (out : Outcome) (d : Devices) → RunWaking o done s b waits untold run out d → RunWithin o done s (In 0) waits [] run out d
 within-of o done s b waits untold run out d w = record {
@@ -100,8 +105,19 @@ within-of o done s b waits untold run out d w = record {
   lit = w.lit;
   within = w.waking.within;
   odometer = w.odometer ∙ ap (λ (x : Beginning). odometer_after (odometer_at o.recording.unit) x.travel.before) (sym w.waking.began);
-  stay = w.stay;
+  stay = subst (λ (x : Beginning). AllStay o (log_of out) (notes_within x done s (In 0) (log_of out)) run.keeper.memory.registration run.keeper.cabin d) (sym w.waking.began) w.stay;
 }
+
+-- both slots are to be told of
+driver-too : Contains both_slots Driver
+driver-too = Contains-append_left (Driver ∷ []) (CoDriver ∷ []) Driver (Contains-push [] Driver)
+
+codriver-too : Contains both_slots CoDriver
+codriver-too = Contains-push (Driver ∷ []) CoDriver
+
+either-too : (slot : Slot) → Contains both_slots slot
+either-too Driver = driver-too
+either-too CoDriver = codriver-too
 
 -- ---- who waits
 
@@ -195,7 +211,7 @@ module _ (o : Origin) (origin : IsOrigin o) (done : List TraceSecond) (s : Trace
   as-read P = subst P kept-is
 
   -- it was mended, and a span has begun
-  module _ (well : failed ≡ false) (journal : Notes) (agrees : IfSome W.image (Agrees journal)) (new : Run) (begun : IsSpanBegun old new journal) (after : IsCoherent W) (stay : AllStay o v.log old.keeper.memory.registration v.cabin.cards (devices U X Y)) where
+  module _ (well : failed ≡ false) (journal : Notes) (agrees : IfSome W.image (Agrees journal)) (new : Run) (begun : IsSpanBegun old new journal) (after : IsCoherent W) (stay : AllStay o v.log (notes_in v.log done) old.keeper.memory.registration v.cabin (devices U X Y)) where
     next : old.next ≡ v.next
     next = ap (λ (x : Values). x.next) values
 
@@ -251,13 +267,24 @@ module _ (o : Origin) (origin : IsOrigin o) (done : List TraceSecond) (s : Trace
         (power-wakes d e o done s supply v r may number given (last_kept has-image.0) new.minutes back))
 
     -- what was made of the cards: they are not called
-    stays-behind : AllStay o (log_of out) new.keeper.memory.registration new.keeper.cabin.cards e
+    -- nothing is noted yet
+    same-log : log_of out ≡ b.run.log
+    same-log = ap (λ (x : Values). x.log) values ∙ ap (λ (k : ℕ). found_log v.unfound k v.log) (sym kept-is)
+
+    notes-woken : notes_within b done s (In 0) (log_of out) ≡ notes_in v.log done
+    notes-woken =
+        ap (λ (l : RunLog). notes_within b done s (In 0) l) same-log
+        ∙ notes-wake b done s wakes.starts (λ slot. subst (λ (l : RunLog). found_in l s.number (In 0) slot ≡ []) same-log (wakes.none slot (either-too slot)))
+        ∙ notes-found v.log v.unfound (last_kept has-image.0) done
+
+    stays-behind : AllStay o (log_of out) (notes_within b done s (In 0) (log_of out)) new.keeper.memory.registration new.keeper.cabin e
     stays-behind =
-        all-of o (log_of out) old.keeper.memory.registration new.keeper.memory.registration new.keeper.cabin.cards e (ap (λ (k : Keeper). k.memory.registration) begun.keeper)
-        (subst (λ (c : Cabin). AllStay o (log_of out) old.keeper.memory.registration c.cards e) kept-cabin
-        (subst (λ (l : RunLog). AllStay o l old.keeper.memory.registration v.cabin.cards e) (sym (ap (λ (x : Values). x.log) values))
-        (all-later o v.log (record v.log { breaks = found_from v.unfound j.kept v.log.breaks }) old.keeper.memory.registration v.cabin.cards e (found-on v.unfound j.kept v.log)
-        (all-unit o v.log old.keeper.memory.registration v.cabin.cards U W X Y stay))))
+        all-of o (log_of out) (notes_within b done s (In 0) (log_of out)) old.keeper.memory.registration new.keeper.memory.registration new.keeper.cabin e (ap (λ (k : Keeper). k.memory.registration) begun.keeper)
+        (subst (λ (c : Cabin). AllStay o (log_of out) (notes_within b done s (In 0) (log_of out)) old.keeper.memory.registration c e) kept-cabin
+        (subst (λ (l : RunLog). AllStay o l (notes_within b done s (In 0) (log_of out)) old.keeper.memory.registration v.cabin e) (sym (ap (λ (x : Values). x.log) values))
+        (all-noted o v.log (found_log v.unfound j.kept v.log) (notes_in v.log done) (notes_within b done s (In 0) (log_of out)) old.keeper.memory.registration v.cabin e (found-on v.unfound j.kept v.log)
+        (λ none c. ap (λ (ns : List Note). spells_of c ns) notes-woken)
+        (all-unit o v.log (notes_in v.log done) old.keeper.memory.registration v.cabin U W X Y stay))))
 
     pub awake : (begins : Beginning) × RunWaking o done s begins (waiting_in Driver (card_in new.keeper.cabin.slots.seats.driver) ++ waiting_in CoDriver (card_in new.keeper.cabin.slots.seats.codriver)) both_slots new out (devices W X Y)
     awake = (b, record { origin = origin; lit = begun.power; waking = wakes; odometer = odometer; stay = stays-behind })
@@ -331,12 +358,6 @@ pub judged-as : (failed : Bool) (o : Origin) (done : List TraceSecond) (s : Trac
 judged-as false o done s n who old new before after d e x h = record { goes = h.goes; began = h.began }
 judged-as true o done s n who old new before after d e x h = h
 
-driver-too : Contains both_slots Driver
-driver-too = Contains-append_left (Driver ∷ []) (CoDriver ∷ []) Driver (Contains-push [] Driver)
-
-codriver-too : Contains both_slots CoDriver
-codriver-too = Contains-push (Driver ∷ []) CoDriver
-
 the-codriver : (slot : Slot) → Contains (CoDriver ∷ []) slot → CoDriver ≡ slot
 the-codriver slot there = ⊎_elim (λ none. absurd (omega (arith, none.1))) (λ (same : CoDriver ≡ slot). same) (Contains-push_cases [] CoDriver slot there)
 
@@ -374,7 +395,7 @@ module _ (o : Origin) (done : List TraceSecond) (s : TraceSecond) (b : Beginning
         lit = on.goes.lit;
         waking = record { within = on.goes.within; began = began; starts = w.waking.starts; is_now = on.from ∙ w.waking.is_now; none = none };
         odometer = on.goes.odometer ∙ ap (λ (x : Beginning). odometer_after (odometer_at o.recording.unit) x.travel.before) began;
-        stay = on.goes.stay;
+        stay = subst (λ (x : Beginning). AllStay o (log_of after) (notes_within x done s (In 0) (log_of after)) new.keeper.memory.registration new.keeper.cabin e) began on.goes.stay;
       }
 
 -- the driver's is the next

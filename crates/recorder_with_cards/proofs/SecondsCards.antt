@@ -28,6 +28,7 @@ use Rattle.run_evented.proofs.Unlit.{acted-last, off-last, behind-more}
 use Rattle.run_acts.specs.declared.run.Run.{Run}
 use Rattle.run_acts.specs.declared.run.Power.{Power}
 use Rattle.run_acts.specs.declared.run.Power.TheVariants.{Lit, Due, Lost}
+use Rattle.run_crew.specs.Cabin.{Stands}
 use Rattle.run_acts.specs.Power.{is_lit, has_power as has_by, over_by, darkened, off_run, off_cut, passed}
 use Rattle.run_acts.specs.Going.{first_second}
 use Rattle.run_acts.specs.Recording.{log_of, values_of, Supplies, RunRecorded}
@@ -146,10 +147,10 @@ module _ (o : Origin) (done : List TraceSecond) (old : Run) (before : Outcome) (
       }
 
   -- AN `off` LINE
-  pub off-carded : (n : ℕ) → 0 < n → (breaks : Listed Break) → breaks ≡ with_lines (off_cut (is_lit old.power) (old.next - 1) old.begun) before.breaks → (new : Run) → new ≡ off_run n old → RunCarded o (done ++ dark n old.next) new (record before { breaks = breaks }) d
-  off-carded zero some breaks told new is = absurd (omega (arith, some))
-  off-carded (suc n) some breaks told new is = record {
-    ringed = off-ringed o done old before d h.ringed (suc n) some breaks told new is;
+  pub off-carded : (old.power ≡ Lit → (low : ℕ) × Stands low None old.keeper.cabin) → (n : ℕ) → 0 < n → (breaks : Listed Break) → breaks ≡ with_lines (off_cut (is_lit old.power) (old.next - 1) old.begun) before.breaks → (new : Run) → new ≡ off_run n old → RunCarded o (done ++ dark n old.next) new (record before { breaks = breaks }) d
+  off-carded sits zero some breaks told new is = absurd (omega (arith, some))
+  off-carded sits (suc n) some breaks told new is = record {
+    ringed = off-ringed o done old before d h.ringed sits (suc n) some breaks told new is;
     vehicle = ap (λ (x : Run). x.keeper.memory.registration) is ∙ ap (λ (m : Identity). m.registration) (off-memory (is_lit old.power) old) ∙ h.vehicle;
     cards = subst (λ (l : Listed Break). CardsBehind o (done ++ dark (suc n) old.next) (log_of (record before { breaks = l })) d) (sym told) (by old.power refl r.supply refl r.powers);
   }

@@ -1,5 +1,5 @@
 -- What seconds of a run leave of its events: without power, and of an `off` line.
-use Rattle.std.proofs.Common.{◌≡◌, ◌∙◌, ℕ, zero, suc, ◌+◌, ◌-◌, ◌%◌, ◌<◌, ◌≤◌, Bool, true, false, List, [], ◌∷◌, ◌++◌, refl, ap, sym, subst, arith, append_assoc}
+use Rattle.std.proofs.Common.{◌≡◌, ◌∙◌, ℕ, zero, suc, ◌+◌, ◌-◌, ◌%◌, ◌<◌, ◌≤◌, Bool, true, false, None, List, [], ◌∷◌, ◌++◌, refl, ap, sym, subst, arith, append_assoc}
 use Rattle.std.proofs.lemmas.List.{append-nil}
 use Rattle.trace_model.specs.declared.Action.{Action}
 use Rattle.trace_model.specs.Trace.{TraceSecond, driven, dark}
@@ -24,6 +24,7 @@ use Rattle.unit_memory.specs.declared.format.Identity.{Identity}
 use Rattle.run_acts.specs.declared.run.Run.{Run}
 use Rattle.run_acts.specs.declared.run.Power.{Power}
 use Rattle.run_acts.specs.declared.run.Power.TheVariants.{Lit, Due, Lost}
+use Rattle.run_crew.specs.Cabin.{Stands}
 use Rattle.run_acts.specs.Power.{is_lit, has_power, darkened, off_run, off_cut, passed}
 use Rattle.run_acts.specs.Recording.{log_of, values_of, Supplies, RunRecorded}
 use Rattle.run_acts.specs.Evented.{RunEvented, LastAt}
@@ -75,10 +76,10 @@ module _ (o : Origin) (done : List TraceSecond) (old : Run) (before : Outcome) (
       }
 
   -- AN `off` LINE
-  pub off-evented : (n : ℕ) → 0 < n → (breaks : Listed Break) → breaks ≡ with_lines (off_cut (is_lit old.power) (old.next - 1) old.begun) before.breaks → (new : Run) → new ≡ off_run n old → RunEvented o (done ++ dark n old.next) new (record before { breaks = breaks }) d
-  off-evented zero some breaks told new is = absurd (omega (arith, some))
-  off-evented (suc n) some breaks told new is =
-      let on = off-seconds o done old before d r (suc n) some breaks told new is in
+  pub off-evented : (old.power ≡ Lit → (low : ℕ) × Stands low None old.keeper.cabin) → (n : ℕ) → 0 < n → (breaks : Listed Break) → breaks ≡ with_lines (off_cut (is_lit old.power) (old.next - 1) old.begun) before.breaks → (new : Run) → new ≡ off_run n old → RunEvented o (done ++ dark n old.next) new (record before { breaks = breaks }) d
+  off-evented sits zero some breaks told new is = absurd (omega (arith, some))
+  off-evented sits (suc n) some breaks told new is =
+      let on = off-seconds o done old before d r sits (suc n) some breaks told new is in
       let power : new.power ≡ Due = ap (λ (x : Run). x.power) is in
       let due : on.supply ≡ IsDue = due-supply new.power on.supply power on.powers in
       let unfound : new.unfound ≡ old.unfound = ap (λ (x : Run). x.unfound) is ∙ dark-unfound (is_lit old.power) old in

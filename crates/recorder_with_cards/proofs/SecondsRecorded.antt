@@ -1,5 +1,5 @@
 -- What seconds of a run leave of the record: without power, of an `off` line, and one after another.
-use Rattle.std.proofs.Common.{◌≡◌, ◌∙◌, ℕ, zero, suc, ◌+◌, ◌-◌, ◌%◌, ◌<◌, ◌≤◌, Bool, true, false, List, [], ◌∷◌, ◌++◌, length, map, refl, ap, sym, subst, arith, append_assoc, None, inr}
+use Rattle.std.proofs.Common.{◌≡◌, ◌∙◌, ℕ, zero, suc, ◌+◌, ◌-◌, ◌%◌, ◌<◌, ◌≤◌, Bool, true, false, List, [], ◌∷◌, ◌++◌, length, map, refl, ap, sym, subst, arith, append_assoc, ⊎_elim, Some, None, is_some}
 use Rattle.std.specs.Prelude.{◌==◌, Result, Ok, Err}
 use Rattle.std.proofs.lemmas.List.{append-nil}
 use Rattle.std.proofs.lemmas.Bool.Decides.{nat_tests}
@@ -34,9 +34,18 @@ use Rattle.recorder_with_cards.specs.Recorded.{Inside, Between, action_of, actio
 use Rattle.trace_model.specs.declared.Card.{Card}
 use Rattle.trace_model.specs.declared.Card.TheVariants.{A, B}
 use Rattle.run_crew.specs.Cards.{session_of}
-use Rattle.run_crew.specs.Cabin.{with_power_lost}
-use Rattle.run_acts.specs.Stays.{AllStay}
-use Rattle.run_acts.proofs.AllStay.{all-gone, all-later, lines-on, line-more}
+use Rattle.run_crew.specs.Cabin.{Stands, with_power_lost}
+use Rattle.log_model.specs.Course.{Told}
+use Rattle.side_model.specs.Noted.{Note}
+use Rattle.run_recorded.specs.Origin.{rule_of, start_at, first_of}
+use Rattle.run_ringed.specs.Ringed.{notes_in}
+use Rattle.run_within.specs.Recorded.{progress}
+use Rattle.run_acts.specs.Closings.{spells_of}
+use Rattle.run_acts.specs.Stays.{sits_in, AllStay}
+use Rattle.run_acts.proofs.AllStay.{moves-gone, all-moved, all-noted, lines-on}
+use Rattle.run_acts.proofs.SeatsThen.{sits-in-one}
+use Rattle.run_acts.proofs.NotesThen.{notes-off, notes-lost, notes-refused}
+use Rattle.recorder_with_cards.proofs.OffRings.{off-cut-notes}
 
 -- ---- a second without power
 
@@ -121,18 +130,22 @@ module _ (o : Origin) (done : List TraceSecond) (old : Run) (before : Outcome) (
         powers = subst (λ (p : Power). Supplies p IsLost) (sym lost.0) tt;
         recorded = on;
         odometer = λ lit. absurd (let bad : Lost ≡ Lit = sym lost.0 ∙ lit in cc);
-        stay = h.stay;
+        stay = all-noted o (log_of before) (record (log_of before) { refused = before.refused.items ++ refused_dark old.next actions }) (notes_in (log_of before) done)
+            (notes_in (record (log_of before) { refused = before.refused.items ++ refused_dark old.next actions }) (done ++ driven (suc n) old.next speed actions)) old.keeper.memory.registration old.keeper.cabin d (λ none. record { none = none; finds = refl })
+            (λ none c. ap (λ (ns : List Note). spells_of c ns)
+            (notes-refused (log_of before) (before.refused.items ++ refused_dark old.next actions) (done ++ driven (suc n) old.next speed actions)
+            ∙ notes-lost (suc n) (log_of before) done old.next speed actions was.recorded.followed.power lost.1 fits)) h.stay;
       }))
 
   -- AN `off` LINE
-  pub off-seconds : (n : ℕ) → 0 < n → (breaks : Listed Break) → breaks ≡ with_lines (off_cut (is_lit old.power) (old.next - 1) old.begun) before.breaks → (new : Run) → new ≡ off_run n old → RunRecorded o (done ++ dark n old.next) new (record before { breaks = breaks }) d
-  off-seconds zero some breaks told new is = absurd (omega (arith, some))
-  off-seconds (suc n) some breaks told new is =
+  pub off-seconds : (old.power ≡ Lit → (low : ℕ) × Stands low None old.keeper.cabin) → (n : ℕ) → 0 < n → (breaks : Listed Break) → breaks ≡ with_lines (off_cut (is_lit old.power) (old.next - 1) old.begun) before.breaks → (new : Run) → new ≡ off_run n old → RunRecorded o (done ++ dark n old.next) new (record before { breaks = breaks }) d
+  off-seconds sits zero some breaks told new is = absurd (omega (arith, some))
+  off-seconds sits (suc n) some breaks told new is =
       subst (λ (r : Run). RunRecorded o (done ++ dark (suc n) old.next) r (record before { breaks = breaks }) d) (sym is)
       (subst (λ (l : Listed Break). RunRecorded o (done ++ dark (suc n) old.next) (off_run (suc n) old) (record before { breaks = l }) d) (sym told)
       (by old.power refl h.supply h.powers h.recorded))
     where
-      due : (r : Run) (out : Outcome) → AllStay o (log_of out) r.keeper.memory.registration r.keeper.cabin.cards d → r.power ≡ Due → Recorded o (done ++ dark (suc n) old.next) IsDue (values_of r out) d → RunRecorded o (done ++ dark (suc n) old.next) r out d
+      due : (r : Run) (out : Outcome) → AllStay o (log_of out) (notes_in (log_of out) (done ++ dark (suc n) old.next)) r.keeper.memory.registration r.keeper.cabin d → r.power ≡ Due → Recorded o (done ++ dark (suc n) old.next) IsDue (values_of r out) d → RunRecorded o (done ++ dark (suc n) old.next) r out d
       due r out stays is recorded = record {
         origin = h.origin;
         supply = IsDue;
@@ -148,10 +161,30 @@ module _ (o : Origin) (done : List TraceSecond) (old : Run) (before : Outcome) (
       bare-off B = refl
 
       -- what is made of the cards
-      off-stay : (lit : Bool) → AllStay o (log_of (told_off lit old before)) old.keeper.memory.registration (off_as lit (suc n) old).keeper.cabin.cards d
-      off-stay false = all-later o (log_of before) (log_of (told_off false old before)) old.keeper.memory.registration old.keeper.cabin.cards d (λ none. lines-on (log_of before) ((log_of before).breaks ++ []) [] refl none) h.stay
-      off-stay true = all-gone o (log_of before) (log_of (told_off true old before)) old.keeper.memory.registration old.keeper.cabin.cards (with_power_lost (old.next - 1) old.keeper.cabin).cards d
-          (λ none. line-more (log_of before) (cut_at (old.next - 1) false old.begun) none) (λ c. inr (bare-off c)) h.stay
+      off-due : AllStay o (log_of (told_off false old before)) (notes_in (log_of (told_off false old before)) (done ++ dark (suc n) old.next)) old.keeper.memory.registration (off_as false (suc n) old).keeper.cabin d
+      off-due =
+          all-noted o (log_of before) (log_of (told_off false old before)) (notes_in (log_of before) done) (notes_in (log_of (told_off false old before)) (done ++ dark (suc n) old.next)) old.keeper.memory.registration old.keeper.cabin d
+          (λ none. lines-on (log_of before) ((log_of before).breaks ++ []) [] refl none)
+          (λ none c. ap (λ (ns : List Note). spells_of c ns)
+          (ap (λ (bs : List Break). notes_in (record (log_of before) { breaks = bs }) (done ++ dark (suc n) old.next)) (append-nil before.breaks.items) ∙ notes-off (suc n) (log_of before) done old.next)) h.stay
+
+      -- a card that has a session sits in a slot
+      seated : ((low : ℕ) × Stands low None old.keeper.cabin) → (c : Card) → is_some (session_of old.keeper.cabin.cards c) ≡ true → sits_in old.keeper.cabin.slots.seats c ≡ true
+      seated stands c some = ⊎_elim (λ there. sits-in-one old.keeper.cabin.slots.seats c there) (λ leaving. absurd (let wrong : None ≡ Some c = leaving in cc)) (stands.1.only c some)
+
+      -- none is withdrawn by that
+      off-lit : ((low : ℕ) × Stands low None old.keeper.cabin) → (t : Told) (span : List Told) → Recorded o done (IsLit (t ∷ span)) (values_of old before) d →
+          AllStay o (log_of (told_off true old before)) (notes_in (log_of (told_off true old before)) (done ++ dark (suc n) old.next)) old.keeper.memory.registration (off_as true (suc n) old).keeper.cabin d
+      off-lit stands t span r =
+          all-moved o (log_of before) (log_of (told_off true old before)) (notes_in (log_of before) done) (notes_in (log_of (told_off true old before)) (done ++ dark (suc n) old.next)) old.keeper.memory.registration
+          old.keeper.cabin (with_power_lost (old.next - 1) old.keeper.cabin) d
+          (λ none. lines-on (log_of before) ((log_of before).breaks ++ cut_at (old.next - 1) false old.begun ∷ []) (cut_at (old.next - 1) false old.begun ∷ []) refl none)
+          (λ none c. moves-gone (spells_of c (notes_in (log_of before) done)) (spells_of c (notes_in (log_of (told_off true old before)) (done ++ dark (suc n) old.next))) (sits_in old.keeper.cabin.slots.seats c)
+          (sits_in (with_power_lost (old.next - 1) old.keeper.cabin).slots.seats c) (session_of old.keeper.cabin.cards c) (session_of (with_power_lost (old.next - 1) old.keeper.cabin).cards c)
+          (ap (λ (ns : List Note). spells_of c ns)
+          (notes-off (suc n) (log_of (told_off true old before)) done old.next
+          ∙ off-cut-notes (rule_of o) (start_at o) o.from (first_of o) done (progress (values_of old before) (IsLit (t ∷ span)) r.book) t span r.recorded.followed))
+          (seated stands c) (bare-off c)) h.stay
 
       plain : Recorded o (done ++ dark (suc n) old.next) IsDue (off_values (suc n) (values_of old before)) d → Recorded o (done ++ dark (suc n) old.next) IsDue (values_of (off_as false (suc n) old) (told_off false old before)) d
       plain r = subst (λ (bs : List Break). Recorded o (done ++ dark (suc n) old.next) IsDue (values_of (off_as false (suc n) old) (record before { breaks = record { items = bs; room = before.breaks.room } })) d) (sym (append-nil before.breaks.items)) r
@@ -159,19 +192,19 @@ module _ (o : Origin) (done : List TraceSecond) (old : Run) (before : Outcome) (
       by : (p : Power) → old.power ≡ p → (s : Supply) → Supplies old.power s → Recorded o done s (values_of old before) d → RunRecorded o (done ++ dark (suc n) old.next) (off_as (is_lit old.power) (suc n) old) (told_off (is_lit old.power) old before) d
       by p at s powers r =
           subst (λ (q : Power). RunRecorded o (done ++ dark (suc n) old.next) (off_as (is_lit q) (suc n) old) (told_off (is_lit q) old before) d) (sym at)
-          (so p s (subst (λ (q : Power). Supplies q s) at powers) r)
+          (so p at s (subst (λ (q : Power). Supplies q s) at powers) r)
         where
-          so : (p : Power) (s : Supply) → Supplies p s → Recorded o done s (values_of old before) d → RunRecorded o (done ++ dark (suc n) old.next) (off_as (is_lit p) (suc n) old) (told_off (is_lit p) old before) d
-          so Lit (IsLit []) powers r = absurd powers
-          so Lit (IsLit (t ∷ span)) powers r = due (off_as true (suc n) old) (told_off true old before) (off-stay true) refl (off-cut-recorded d o done t span (values_of old before) r n)
-          so Lit IsDue powers r = absurd powers
-          so Lit IsLost powers r = absurd powers
-          so Due (IsLit span) powers r = absurd powers
-          so Due IsDue powers r = due (off_as false (suc n) old) (told_off false old before) (off-stay false) refl (plain (off-recorded d o done IsDue (values_of old before) r tt n))
-          so Due IsLost powers r = absurd powers
-          so Lost (IsLit span) powers r = absurd powers
-          so Lost IsDue powers r = absurd powers
-          so Lost IsLost powers r = due (off_as false (suc n) old) (told_off false old before) (off-stay false) refl (plain (off-recorded d o done IsLost (values_of old before) r tt n))
+          so : (p : Power) → old.power ≡ p → (s : Supply) → Supplies p s → Recorded o done s (values_of old before) d → RunRecorded o (done ++ dark (suc n) old.next) (off_as (is_lit p) (suc n) old) (told_off (is_lit p) old before) d
+          so Lit at (IsLit []) powers r = absurd powers
+          so Lit at (IsLit (t ∷ span)) powers r = due (off_as true (suc n) old) (told_off true old before) (off-lit (sits at) t span r) refl (off-cut-recorded d o done t span (values_of old before) r n)
+          so Lit at IsDue powers r = absurd powers
+          so Lit at IsLost powers r = absurd powers
+          so Due at (IsLit span) powers r = absurd powers
+          so Due at IsDue powers r = due (off_as false (suc n) old) (told_off false old before) off-due refl (plain (off-recorded d o done IsDue (values_of old before) r tt n))
+          so Due at IsLost powers r = absurd powers
+          so Lost at (IsLit span) powers r = absurd powers
+          so Lost at IsDue powers r = absurd powers
+          so Lost at IsLost powers r = due (off_as false (suc n) old) (told_off false old before) off-due refl (plain (off-recorded d o done IsLost (values_of old before) r tt n))
 
 -- ---- a second has begun
 

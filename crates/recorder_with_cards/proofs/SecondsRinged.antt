@@ -38,6 +38,7 @@ use Rattle.run_ringed.proofs.Bases.{stored-dark}
 use Rattle.run_acts.specs.declared.run.Run.{Run}
 use Rattle.run_acts.specs.declared.run.Power.{Power}
 use Rattle.run_acts.specs.declared.run.Power.TheVariants.{Lit, Due, Lost}
+use Rattle.run_crew.specs.Cabin.{Stands}
 use Rattle.run_acts.specs.Power.{is_lit, has_power as has_by, darkened, off_run, off_cut, passed}
 use Rattle.run_acts.specs.Recording.{log_of, values_of, Supplies, RunRecorded}
 use Rattle.run_acts.specs.RunRinged.{seats_of, RunRinged}
@@ -159,13 +160,13 @@ module _ (o : Origin) (done : List TraceSecond) (old : Run) (before : Outcome) (
       }
 
   -- AN `off` LINE
-  pub off-ringed : (n : ℕ) → 0 < n → (breaks : Listed Break) → breaks ≡ with_lines (off_cut (is_lit old.power) (old.next - 1) old.begun) before.breaks → (new : Run) → new ≡ off_run n old → RunRinged o (done ++ dark n old.next) new (record before { breaks = breaks }) d
-  off-ringed zero some breaks told new is = absurd (omega (arith, some))
-  off-ringed (suc n) some breaks told new is =
+  pub off-ringed : (old.power ≡ Lit → (low : ℕ) × Stands low None old.keeper.cabin) → (n : ℕ) → 0 < n → (breaks : Listed Break) → breaks ≡ with_lines (off_cut (is_lit old.power) (old.next - 1) old.begun) before.breaks → (new : Run) → new ≡ off_run n old → RunRinged o (done ++ dark n old.next) new (record before { breaks = breaks }) d
+  off-ringed sits zero some breaks told new is = absurd (omega (arith, some))
+  off-ringed sits (suc n) some breaks told new is =
       let power : new.power ≡ Due = ap (λ (x : Run). x.power) is in
       let rings = by old.power refl r.supply refl r.powers in
       record {
-        evented = off-evented o done old before d h.evented (suc n) some breaks told new is;
+        evented = off-evented o done old before d h.evented sits (suc n) some breaks told new is;
         spans = rings.0;
         base = λ lit. absurd (let bad : Due ≡ Lit = sym power ∙ lit in cc);
         counted = let was = h.counted in let noted = ap (λ (x : Run). x.noted) is ∙ dark-noted (is_lit old.power) old in omega (arith, was, noted);

@@ -1,9 +1,8 @@
 -- The stays of both cards, over what each call makes of them and of the log.
-use Rattle.std.proofs.Common.{◌≡◌, ◌⊎◌, ◌∙◌, inl, inr, ⊎_elim, ℕ, suc, zero, ◌+◌, ◌≤◌, Bool, true, false, List, [], ◌∷◌, ◌++◌, append_assoc, Option, Some, None, refl, ap, sym, subst}
-use Rattle.std.specs.Prelude.{not, ◌&&◌, filter, map, length, is_some, if◌then◌else◌}
+use Rattle.std.proofs.Common.{◌≡◌, ◌⊎◌, ◌∙◌, inl, inr, ⊎_elim, ℕ, suc, zero, Bool, true, false, List, [], ◌∷◌, ◌++◌, append_assoc, Option, Some, None, refl, ap, sym, subst}
+use Rattle.std.specs.Prelude.{not, ◌&&◌, filter, map, is_some, if◌then◌else◌}
 use Rattle.std.specs.List.{AllByRecursion}
-use Rattle.std.proofs.Common.{arith}
-use Rattle.std.proofs.lemmas.List.{append-nil, length-append}
+use Rattle.std.proofs.lemmas.List.{append-nil}
 use Rattle.std.proofs.lemmas.List.Elements.{filter-append}
 use Rattle.activity_codec.specs.declared.values.Slot.{Slot}
 use Rattle.activity_codec.specs.declared.values.Slot.TheVariants.{Driver, CoDriver}
@@ -13,6 +12,7 @@ use Rattle.tach_media.specs.Medium.{State}
 use Rattle.tacho_types.specs.declared.texts.Registration.{Registration}
 use Rattle.log_model.specs.Log.{RunLog}
 use Rattle.log_model.specs.Causes.{is_cut, has_failed}
+use Rattle.log_model.specs.Slots.{same_card}
 use Rattle.log_model.specs.declared.lines.Find.{Find}
 use Rattle.log_model.specs.declared.lines.Break.{Break}
 use Rattle.log_model.specs.declared.lines.Break.TheVariants.{Cut, Tear}
@@ -20,8 +20,10 @@ use Rattle.unit_course.specs.Lines.{cut_at, with_kept, found_from}
 use Rattle.card_image.specs.Own.{own_sizes, IsOwnValid}
 use Rattle.card_session.specs.declared.session.Kept.{Kept}
 use Rattle.joint_rule.specs.Views.{other}
+use Rattle.side_model.specs.Noted.{Note}
 use Rattle.safety_model.specs.Safe.{Devices, card_of}
 use Rattle.slot_machine.specs.declared.seats.Present.{Present}
+use Rattle.slot_machine.specs.Kept.{Kept as SlotsKept}
 use Rattle.run_crew.specs.declared.cards.Accepted.{Accepted}
 use Rattle.run_crew.specs.declared.cards.Cards.{Cards}
 use Rattle.run_crew.specs.declared.cabin.Cabin.{Cabin}
@@ -39,8 +41,9 @@ use Rattle.run_keeping.specs.Keeping.{Fate, Still, Has, Fell, has_fallen, cabin_
 use Rattle.minute_model.specs.declared.Minute.{Minute}
 use Rattle.run_keeping.specs.Minutes.{Round, Told, Done, Reach, Whole, Short, IsReach, cabin_after, breaks_after, told_after, told_by, present_at}
 use Rattle.run_keeping.specs.Deeds.{KeepsOn, AllKeep}
-use Rattle.run_acts.specs.Stays.{Stay, acceptances_told, founds, AreMerged, TellsOwed, HasStays, AreStays, AllStay}
-use Rattle.run_acts.proofs.Stays.{on_last, on-last-founds, on-last-owed, on-last-none, with_kepts, merged-one, merged-other, stays-later, stays-still, stays-gone, stays-keep}
+use Rattle.run_acts.specs.Closings.{Spell, spells_of, with_last_shut}
+use Rattle.run_acts.specs.Stays.{Stay, acceptances_told, founds, spells, sits_in, as_noted, AreMerged, TellsOwed, StaysIn, HasStays, AreStays, AllStay}
+use Rattle.run_acts.proofs.Stays.{on_last, on-last-founds, on-last-owed, on-last-none, with_kepts, merged-one, merged-other, stays-still, stays-moved, stays-keep}
 
 -- ---- the log tells of no failed call
 
@@ -69,29 +72,20 @@ back-none p xs ys none = by (filter p xs) (sym (filter-append p xs ys) ∙ none)
 pub fewer-none : (log : RunLog) (more : List Break) → NothingFailed (record log { breaks = log.breaks ++ more }) → NothingFailed log
 fewer-none log more none = (front-none failed_cut log.breaks more none.0, front-none failed_tear log.breaks more none.1)
 
--- A LOG GOES ON, in which no call has failed: it tells no fewer breaks, and the same acceptances
+-- A LOG GOES ON, in which no call has failed: it tells the same acceptances
 pub record Goes (log later : RunLog) : Type 0 where
   pub none : NothingFailed log
-  pub lines : length log.breaks ≤ length later.breaks
   pub finds : acceptances_told later ≡ acceptances_told log
 
 pub log-self : (log : RunLog) → NothingFailed log → Goes log log
-log-self log none = record { none = none; lines = omega arith; finds = refl }
+log-self log none = record { none = none; finds = refl }
 
 -- breaks are told
 pub lines-on : (log : RunLog) (bs more : List Break) → bs ≡ log.breaks ++ more → NothingFailed (record log { breaks = bs }) → Goes log (record log { breaks = bs })
 lines-on log bs more is none = record {
   none = fewer-none log more (subst (λ (l : List Break). NothingFailed (record log { breaks = l })) is none);
-  lines = let n = ap (λ (l : List Break). length l) is ∙ length-append log.breaks more in omega (arith, n);
   finds = refl;
 }
-
--- one line more
-pub line-more : (log : RunLog) (b : Break) → NothingFailed (record log { breaks = log.breaks ++ b ∷ [] }) → Goes log (record log { breaks = log.breaks ++ b ∷ [] }) × (suc (length log.breaks) ≤ length (log.breaks ++ b ∷ []))
-line-more log b none = (
-  lines-on log (log.breaks ++ b ∷ []) (b ∷ []) refl none,
-  let n = length-append log.breaks (b ∷ []) in omega (arith, n),
-)
 
 -- a cut where a call failed, and a card that fell, are told
 pub no-cut : {T : Type 0} (log : RunLog) (second begun : ℕ) → NothingFailed (record log { breaks = log.breaks ++ cut_at second true begun ∷ [] }) → T
@@ -110,11 +104,11 @@ pub others-left : (c : Card) (cards : Cards) → session_of (with_session c None
 others-left A cards = refl
 others-left B cards = refl
 
-pub left-or-gone : (k : Card) (cards : Cards) (c : Card) → (session_of (with_session k None cards) c ≡ session_of cards c) ⊎ (session_of (with_session k None cards) c ≡ None)
-left-or-gone A cards A = inr refl
-left-or-gone A cards B = inl refl
-left-or-gone B cards A = inl refl
-left-or-gone B cards B = inr refl
+pub left-same : (k : Card) (cards : Cards) (c : Card) → same_card k c ≡ false → session_of (with_session k None cards) c ≡ session_of cards c
+left-same A cards A other = absurd (let wrong : true ≡ false = other in cc)
+left-same A cards B other = refl
+left-same B cards A other = refl
+left-same B cards B other = absurd (let wrong : true ≡ false = other in cc)
 
 -- ---- what becomes of the stays of one card
 
@@ -156,26 +150,68 @@ other-told : (told later : List Find) (ss now : List Stay) (one : List Find) →
 other-told told later ss now one (inl t) h = merged-as-other told later one (founds ss) (founds now) t.0 t.1 h
 other-told told later ss now one (inr t) h = merged-as-other (told ++ t.0 ∷ []) later one (founds ss ++ t.0 ∷ []) (founds now) t.1 t.2 (merged-other told one (founds ss) t.0 h)
 
--- A CALL makes of the stays of a card these, as its session becomes another one
-pub record Turns (f : CardFound) (log later : RunLog) (r : Registration) (s t : Option Accepted) (X Y : State) (ss : List Stay) : Type 0 where
+-- A CALL makes of the stays of a card these, as its session and its seat become others, and its spells these
+pub record Turns (f : CardFound) (log later : RunLog) (r : Registration) (noted noted_now : List Spell) (sits sits_now : Bool) (s t : Option Accepted) (X Y : State) (ss : List Stay) : Type 0 where
   pub now : List Stay
-  pub lines : length log.breaks ≤ length later.breaks
   pub told : TellsOne (acceptances_told log) (acceptances_told later) ss now
   pub owed : AllByRecursion TellsOwed ss → AllByRecursion TellsOwed now
   pub only : (ss ≡ []) ⊎ IsOwnValid f.image → (now ≡ []) ⊎ IsOwnValid f.image
-  pub shows : IsOwnValid f.image → HasStays f r (length log.breaks) ss s X → HasStays f r (length later.breaks) now t Y
+  pub shows : IsOwnValid f.image → HasStays f r noted sits ss s X → HasStays f r noted_now sits_now now t Y
 
 -- none begins
-pub turns-so : (f : CardFound) (log : RunLog) (r : Registration) (s t : Option Accepted) (X Y : State) (turn : List Stay → List Stay) → ((ss : List Stay) → founds (turn ss) ≡ founds ss) → ((ss : List Stay) → AllByRecursion TellsOwed ss → AllByRecursion TellsOwed (turn ss))
-    → ((ss : List Stay) → ss ≡ [] → turn ss ≡ []) → (ss : List Stay) → (IsOwnValid f.image → HasStays f r (length log.breaks) ss s X → HasStays f r (length log.breaks) (turn ss) t Y) → Turns f log log r s t X Y ss
-turns-so f log r s t X Y turn same tells none ss shows = record {
+pub turns-so : (f : CardFound) (log : RunLog) (r : Registration) (noted : List Spell) (sits : Bool) (s t : Option Accepted) (X Y : State) (turn : List Stay → List Stay) → ((ss : List Stay) → founds (turn ss) ≡ founds ss) → ((ss : List Stay) → AllByRecursion TellsOwed ss → AllByRecursion TellsOwed (turn ss))
+    → ((ss : List Stay) → ss ≡ [] → turn ss ≡ []) → (ss : List Stay) → (IsOwnValid f.image → HasStays f r noted sits ss s X → HasStays f r noted sits (turn ss) t Y) → Turns f log log r noted noted sits sits s t X Y ss
+turns-so f log r noted sits s t X Y turn same tells none ss shows = record {
   now = turn ss;
-  lines = omega arith;
   told = inl (refl, same ss);
   owed = tells ss;
   only = λ only. ⊎_elim (λ was. inl (none ss was)) (λ valid. inr valid) only;
   shows = shows;
 }
+
+-- A SESSION AND A SEAT BECOME OTHERS, and the spells of a card with them: it has the same session or none, and what was as noted is so still
+pub record Moves (noted now : List Spell) (sits sits_now : Bool) (s t : Option Accepted) : Type 0 where
+  pub session : (t ≡ s) ⊎ (t ≡ None)
+  pub spell : (ss : List Spell) → as_noted s sits ss ≡ noted → as_noted t sits_now ss ≡ now
+
+-- nothing does;
+pub moves-same : (noted now : List Spell) (sits sits_now : Bool) (s t : Option Accepted) → now ≡ noted → sits_now ≡ sits → t ≡ s → Moves noted now sits sits_now s t
+moves-same noted now sits sits_now s t spell seat session = record {
+  session = inl session;
+  spell = λ ss was. ap (λ (q : Option Accepted). as_noted q sits_now ss) session ∙ ap (λ (b : Bool). as_noted s b ss) seat ∙ was ∙ sym spell;
+}
+
+-- a card that has none sits elsewhere, or nowhere;
+pub moves-bare : (noted now : List Spell) (sits sits_now : Bool) (s t : Option Accepted) → now ≡ noted → s ≡ None → t ≡ None → Moves noted now sits sits_now s t
+moves-bare noted now sits sits_now s t spell none none_now = record {
+  session = inr none_now;
+  spell = λ ss was. ap (λ (q : Option Accepted). as_noted q sits_now ss) none_now ∙ sym (ap (λ (q : Option Accepted). as_noted q sits ss) none) ∙ was ∙ sym spell;
+}
+
+-- a card that sat in a slot has no session any more, and is not withdrawn;
+pub moves-gone : (noted now : List Spell) (sits sits_now : Bool) (s t : Option Accepted) → now ≡ noted → (is_some s ≡ true → sits ≡ true) → t ≡ None → Moves noted now sits sits_now s t
+moves-gone noted now sits sits_now s t spell sat none = record { session = inr none; spell = λ ss was. ap (λ (q : Option Accepted). as_noted q sits_now ss) none ∙ by s sat ss ∙ was ∙ sym spell }
+  where
+    by : (s : Option Accepted) → (is_some s ≡ true → sits ≡ true) → (ss : List Spell) → ss ≡ as_noted s sits ss
+    by None sat ss = refl
+    by (Some a) sat ss = sym (ap (λ (b : Bool). as_noted (Some a) b ss) (sat refl))
+
+-- one that has a session leaves its slot, and is withdrawn.
+pub moves-leaves : (noted now : List Spell) (sits sits_now : Bool) (s t : Option Accepted) → is_some s ≡ true → t ≡ s → sits ≡ true → sits_now ≡ false → now ≡ with_last_shut noted → Moves noted now sits sits_now s t
+moves-leaves noted now sits sits_now None t some session there gone spell = absurd (let wrong : false ≡ true = some in cc)
+moves-leaves noted now sits sits_now (Some a) t some session there gone spell = record {
+  session = inl session;
+  spell = λ ss was.
+      ap (λ (q : Option Accepted). as_noted q sits_now ss) session ∙ ap (λ (b : Bool). as_noted (Some a) b ss) gone
+      ∙ ap with_last_shut (sym (ap (λ (b : Bool). as_noted (Some a) b ss) there) ∙ was) ∙ sym spell;
+}
+
+-- with the same of all
+as-same : (f : CardFound) (r : Registration) (noted now : List Spell) (sits sits_now : Bool) (ss : List Stay) (s t : Option Accepted) (X : State) → now ≡ noted → sits_now ≡ sits → t ≡ s → HasStays f r noted sits ss s X → HasStays f r now sits_now ss t X
+as-same f r noted now sits sits_now ss s t X spell seat session h =
+    subst (λ (q : Option Accepted). HasStays f r now sits_now ss q X) (sym session)
+    (subst (λ (b : Bool). HasStays f r now b ss s X) (sym seat)
+    (subst (λ (l : List Spell). HasStays f r l sits ss s X) (sym spell) h))
 
 -- with these of one card
 abbrev pub with_mine : Card → List Stay → (Card → List Stay) → Card → List Stay
@@ -190,24 +226,33 @@ module _ (o : Origin) where
   abbrev f : Card → CardFound
   f c = found_of o.found c
 
-  abbrev Are : RunLog → Registration → Cards → Devices → Type 0
-  Are log r cards d = AreStays o (length log.breaks) (acceptances_told log) r cards d
+  abbrev Are : RunLog → List Note → Registration → Cabin → Devices → Type 0
+  Are log notes r cabin d = AreStays o notes (acceptances_told log) r cabin d
+
+  -- of one card
+  abbrev Has : Registration → List Note → Cabin → Card → List Stay → State → Type 0
+  Has r notes cabin c ss X = HasStays (f c) r (spells_of c notes) (sits_in cabin.slots.seats c) ss (session_of cabin.cards c) X
+
+  abbrev TurnsOf : Card → (log later : RunLog) → (notes now : List Note) → Registration → (cabin after : Cabin) → (X Y : State) → List Stay → Type 0
+  TurnsOf c log later notes now r cabin after X Y ss =
+      Turns (f c) log later r (spells_of c notes) (spells_of c now) (sits_in cabin.slots.seats c) (sits_in after.slots.seats c) (session_of cabin.cards c) (session_of after.cards c) X Y ss
 
   -- the unit alone differs
-  pub all-unit : (log : RunLog) (r : Registration) (cards : Cards) (U V X Y : State) → AllStay o log r cards (devices U X Y) → AllStay o log r cards (devices V X Y)
-  all-unit log r cards U V X Y all none = let h = all none in record { says = h.says; stays = h.stays; told = h.told; owed = h.owed; only = h.only; each = λ c valid. by h c valid }
+  pub all-unit : (log : RunLog) (notes : List Note) (r : Registration) (cabin : Cabin) (U V X Y : State) → AllStay o log notes r cabin (devices U X Y) → AllStay o log notes r cabin (devices V X Y)
+  all-unit log notes r cabin U V X Y all none = let h = all none in record { says = h.says; stays = h.stays; told = h.told; owed = h.owed; only = h.only; each = λ c valid. by h c valid }
     where
-      by : (h : Are log r cards (devices U X Y)) (c : Card) → IsOwnValid (f c).image → HasStays (f c) r (length log.breaks) (h.stays c) (session_of cards c) (card_of (devices V X Y) c)
+      by : (h : Are log notes r cabin (devices U X Y)) (c : Card) → IsOwnValid (f c).image → Has r notes cabin c (h.stays c) (card_of (devices V X Y) c)
       by h A valid = h.each A valid
       by h B valid = h.each B valid
 
   -- the vehicle is the same
-  pub all-of : (log : RunLog) (r new : Registration) (cards : Cards) (d : Devices) → new ≡ r → AllStay o log r cards d → AllStay o log new cards d
-  all-of log r new cards d same all = subst (λ (v : Registration). AllStay o log v cards d) (sym same) all
+  pub all-of : (log : RunLog) (notes : List Note) (r new : Registration) (cabin : Cabin) (d : Devices) → new ≡ r → AllStay o log notes r cabin d → AllStay o log notes new cabin d
+  all-of log notes r new cabin d same all = subst (λ (v : Registration). AllStay o log notes v cabin d) (sym same) all
 
-  -- the log goes on
-  pub all-later : (log later : RunLog) (r : Registration) (cards : Cards) (d : Devices) → (NothingFailed later → Goes log later) → AllStay o log r cards d → AllStay o later r cards d
-  all-later log later r cards d on all none =
+  -- THE LOG AND THE NOTES GO ON, as sessions and seats do; no card is called
+  pub all-moved : (log later : RunLog) (notes now : List Note) (r : Registration) (cabin after : Cabin) (d : Devices) → (NothingFailed later → Goes log later) →
+      (NothingFailed later → (c : Card) → Moves (spells_of c notes) (spells_of c now) (sits_in cabin.slots.seats c) (sits_in after.slots.seats c) (session_of cabin.cards c) (session_of after.cards c)) → AllStay o log notes r cabin d → AllStay o later now r after d
+  all-moved log later notes now r cabin after d on moves all none =
       let g = on none in
       let h = all g.none in
       record {
@@ -216,35 +261,37 @@ module _ (o : Origin) where
         told = merged-as (acceptances_told log) (acceptances_told later) (founds (h.stays A)) (founds (h.stays A)) (founds (h.stays B)) g.finds refl h.told;
         owed = h.owed;
         only = h.only;
-        each = λ c valid. stays-later (f c) r (length log.breaks) (length later.breaks) (h.stays c) (session_of cards c) (card_of d c) g.lines (h.each c valid);
+        each = λ c valid.
+            let m = moves none c in
+            stays-moved (f c) r (spells_of c notes) (spells_of c now) (sits_in cabin.slots.seats c) (sits_in after.slots.seats c) (h.stays c) (session_of cabin.cards c) (session_of after.cards c) (card_of d c)
+            (λ was. goes (h.stays c) (session_of cabin.cards c) (session_of after.cards c) m.session was) (m.spell (spells (h.stays c))) (h.each c valid);
       }
-
-  -- each session is as it was, or gone, of which a line tells
-  pub all-gone : (log later : RunLog) (r : Registration) (cards after : Cards) (d : Devices) → (NothingFailed later → Goes log later × (suc (length log.breaks) ≤ length later.breaks)) → ((c : Card) → (session_of after c ≡ session_of cards c) ⊎ (session_of after c ≡ None))
-      → AllStay o log r cards d → AllStay o later r after d
-  all-gone log later r cards after d on gone all none =
-      let g = on none in
-      let h = all g.0.none in
-      record {
-        says = h.says;
-        stays = h.stays;
-        told = merged-as (acceptances_told log) (acceptances_told later) (founds (h.stays A)) (founds (h.stays A)) (founds (h.stays B)) g.0.finds refl h.told;
-        owed = h.owed;
-        only = h.only;
-        each = λ c valid. ⊎_elim
-            (λ same. subst (λ (s : Option Accepted). HasStays (f c) r (length later.breaks) (h.stays c) s (card_of d c)) (sym same)
-            (stays-later (f c) r (length log.breaks) (length later.breaks) (h.stays c) (session_of cards c) (card_of d c) g.0.lines (h.each c valid)))
-            (λ out. subst (λ (s : Option Accepted). HasStays (f c) r (length later.breaks) (h.stays c) s (card_of d c)) (sym out)
-            (stays-gone (f c) r (length log.breaks) (length later.breaks) (h.stays c) (session_of cards c) (card_of d c) g.1 (h.each c valid)))
-            (gone c);
-      }
-
-  -- a call that is about one card, and the unit
-  pub all-one : (c : Card) (log later : RunLog) (r : Registration) (cards after : Cards) (U V X Y Z : State) → (NothingFailed later → NothingFailed log) → session_of after (other c) ≡ session_of cards (other c)
-      → (NothingFailed later → (ss : List Stay) → Turns (f c) log later r (session_of cards c) (session_of after c) X Y ss) → AllStay o log r cards (arranged c U X Z) → AllStay o later r after (arranged c V Y Z)
-  all-one A log later r cards after U V X Y Z fewer same own all none = by (all (fewer none))
     where
-      by : Are log r cards (arranged A U X Z) → Are later r after (arranged A V Y Z)
+      goes : (ss : List Stay) (s t : Option Accepted) → (t ≡ s) ⊎ (t ≡ None) → StaysIn r ss s → StaysIn r ss t
+      goes ss s t (inl same) was = subst (λ (q : Option Accepted). StaysIn r ss q) (sym same) was
+      goes ss s t (inr none) was = subst (λ (q : Option Accepted). StaysIn r ss q) (sym none) tt
+
+  -- the log alone goes on, or the notes, with the same spells
+  pub all-noted : (log later : RunLog) (notes now : List Note) (r : Registration) (cabin : Cabin) (d : Devices) → (NothingFailed later → Goes log later) → (NothingFailed later → (c : Card) → spells_of c now ≡ spells_of c notes) → AllStay o log notes r cabin d → AllStay o later now r cabin d
+  all-noted log later notes now r cabin d on same all =
+      all-moved log later notes now r cabin cabin d on
+      (λ none c. moves-same (spells_of c notes) (spells_of c now) (sits_in cabin.slots.seats c) (sits_in cabin.slots.seats c) (session_of cabin.cards c) (session_of cabin.cards c) (same none c) refl refl) all
+
+  -- the cabin alone differs, with the same seats and sessions
+  pub all-seated : (log : RunLog) (notes : List Note) (r : Registration) (cabin after : Cabin) (d : Devices) → ((c : Card) → sits_in after.slots.seats c ≡ sits_in cabin.slots.seats c) → ((c : Card) → session_of after.cards c ≡ session_of cabin.cards c) →
+      AllStay o log notes r cabin d → AllStay o log notes r after d
+  all-seated log notes r cabin after d seats sessions all =
+      all-moved log log notes notes r cabin after d (log-self log)
+      (λ none c. moves-same (spells_of c notes) (spells_of c notes) (sits_in cabin.slots.seats c) (sits_in after.slots.seats c) (session_of cabin.cards c) (session_of after.cards c) refl (seats c) (sessions c)) all
+
+  -- a call that is about one card, and the unit: nothing is noted of the other one, which has its session and its seat
+  pub all-one : (c : Card) (log later : RunLog) (notes now : List Note) (r : Registration) (cabin after : Cabin) (U V X Y Z : State) → (NothingFailed later → NothingFailed log) → session_of after.cards (other c) ≡ session_of cabin.cards (other c) →
+      sits_in after.slots.seats (other c) ≡ sits_in cabin.slots.seats (other c) → (NothingFailed later → spells_of (other c) now ≡ spells_of (other c) notes)
+      → (NothingFailed later → (ss : List Stay) → TurnsOf c log later notes now r cabin after X Y ss)
+      → AllStay o log notes r cabin (arranged c U X Z) → AllStay o later now r after (arranged c V Y Z)
+  all-one A log later notes now r cabin after U V X Y Z fewer same seat spell own all none = by (all (fewer none))
+    where
+      by : Are log notes r cabin (arranged A U X Z) → Are later now r after (arranged A V Y Z)
       by h =
           let t = own none (h.stays A) in
           record {
@@ -256,23 +303,21 @@ module _ (o : Origin) where
             each = λ c valid. each h t c valid;
           }
         where
-          owed : (h : Are log r cards (arranged A U X Z)) (t : Turns (f A) log later r (session_of cards A) (session_of after A) X Y (h.stays A)) (c : Card) → AllByRecursion TellsOwed (with_mine A t.now h.stays c)
+          owed : (h : Are log notes r cabin (arranged A U X Z)) (t : TurnsOf A log later notes now r cabin after X Y (h.stays A)) (c : Card) → AllByRecursion TellsOwed (with_mine A t.now h.stays c)
           owed h t A = t.owed (h.owed A)
           owed h t B = h.owed B
 
-          only : (h : Are log r cards (arranged A U X Z)) (t : Turns (f A) log later r (session_of cards A) (session_of after A) X Y (h.stays A)) (c : Card) → (with_mine A t.now h.stays c ≡ []) ⊎ IsOwnValid (f c).image
+          only : (h : Are log notes r cabin (arranged A U X Z)) (t : TurnsOf A log later notes now r cabin after X Y (h.stays A)) (c : Card) → (with_mine A t.now h.stays c ≡ []) ⊎ IsOwnValid (f c).image
           only h t A = t.only (h.only A)
           only h t B = h.only B
 
-          each : (h : Are log r cards (arranged A U X Z)) (t : Turns (f A) log later r (session_of cards A) (session_of after A) X Y (h.stays A)) (c : Card) → IsOwnValid (f c).image
-              → HasStays (f c) r (length later.breaks) (with_mine A t.now h.stays c) (session_of after c) (card_of (arranged A V Y Z) c)
+          each : (h : Are log notes r cabin (arranged A U X Z)) (t : TurnsOf A log later notes now r cabin after X Y (h.stays A)) (c : Card) → IsOwnValid (f c).image → Has r now after c (with_mine A t.now h.stays c) (card_of (arranged A V Y Z) c)
           each h t A valid = t.shows valid (h.each A valid)
           each h t B valid =
-              subst (λ (s : Option Accepted). HasStays (f B) r (length later.breaks) (h.stays B) s Z) (sym same)
-              (stays-later (f B) r (length log.breaks) (length later.breaks) (h.stays B) (session_of cards B) Z t.lines (h.each B valid))
-  all-one B log later r cards after U V X Y Z fewer same own all none = by (all (fewer none))
+              as-same (f B) r (spells_of B notes) (spells_of B now) (sits_in cabin.slots.seats B) (sits_in after.slots.seats B) (h.stays B) (session_of cabin.cards B) (session_of after.cards B) Z (spell none) seat same (h.each B valid)
+  all-one B log later notes now r cabin after U V X Y Z fewer same seat spell own all none = by (all (fewer none))
     where
-      by : Are log r cards (arranged B U X Z) → Are later r after (arranged B V Y Z)
+      by : Are log notes r cabin (arranged B U X Z) → Are later now r after (arranged B V Y Z)
       by h =
           let t = own none (h.stays B) in
           record {
@@ -284,44 +329,46 @@ module _ (o : Origin) where
             each = λ c valid. each h t c valid;
           }
         where
-          owed : (h : Are log r cards (arranged B U X Z)) (t : Turns (f B) log later r (session_of cards B) (session_of after B) X Y (h.stays B)) (c : Card) → AllByRecursion TellsOwed (with_mine B t.now h.stays c)
+          owed : (h : Are log notes r cabin (arranged B U X Z)) (t : TurnsOf B log later notes now r cabin after X Y (h.stays B)) (c : Card) → AllByRecursion TellsOwed (with_mine B t.now h.stays c)
           owed h t A = h.owed A
           owed h t B = t.owed (h.owed B)
 
-          only : (h : Are log r cards (arranged B U X Z)) (t : Turns (f B) log later r (session_of cards B) (session_of after B) X Y (h.stays B)) (c : Card) → (with_mine B t.now h.stays c ≡ []) ⊎ IsOwnValid (f c).image
+          only : (h : Are log notes r cabin (arranged B U X Z)) (t : TurnsOf B log later notes now r cabin after X Y (h.stays B)) (c : Card) → (with_mine B t.now h.stays c ≡ []) ⊎ IsOwnValid (f c).image
           only h t A = h.only A
           only h t B = t.only (h.only B)
 
-          each : (h : Are log r cards (arranged B U X Z)) (t : Turns (f B) log later r (session_of cards B) (session_of after B) X Y (h.stays B)) (c : Card) → IsOwnValid (f c).image
-              → HasStays (f c) r (length later.breaks) (with_mine B t.now h.stays c) (session_of after c) (card_of (arranged B V Y Z) c)
+          each : (h : Are log notes r cabin (arranged B U X Z)) (t : TurnsOf B log later notes now r cabin after X Y (h.stays B)) (c : Card) → IsOwnValid (f c).image → Has r now after c (with_mine B t.now h.stays c) (card_of (arranged B V Y Z) c)
           each h t A valid =
-              subst (λ (s : Option Accepted). HasStays (f A) r (length later.breaks) (h.stays A) s Z) (sym same)
-              (stays-later (f A) r (length log.breaks) (length later.breaks) (h.stays A) (session_of cards A) Z t.lines (h.each A valid))
+              as-same (f A) r (spells_of A notes) (spells_of A now) (sits_in cabin.slots.seats A) (sits_in after.slots.seats A) (h.stays A) (session_of cabin.cards A) (session_of after.cards A) Z (spell none) seat same (h.each A valid)
           each h t B valid = t.shows valid (h.each B valid)
 
   -- minutes are kept
-  one-kept : (r : Registration) (c : Card) (lines more : ℕ) → lines ≤ more → (ss : List Stay) (ks : List Kept) (s t : Option Accepted) (X Y : State) → (is_some s ≡ true → is_some t ≡ true) → KeepsOn (f c) ks s t X Y → HasStays (f c) r lines ss s X → HasStays (f c) r more (kept_stays s ks ss) t Y
+  one-kept : (r : Registration) (c : Card) (noted : List Spell) (sits : Bool) (ss : List Stay) (ks : List Kept) (s t : Option Accepted) (X Y : State) → (is_some s ≡ true → is_some t ≡ true) → KeepsOn (f c) ks s t X Y → HasStays (f c) r noted sits ss s X → HasStays (f c) r noted sits (kept_stays s ks ss) t Y
   unfolding kept_stays
-  one-kept r c lines more low ss ks None None X Y some on h = stays-still (f c) r lines more ss None X Y low on h
-  one-kept r c lines more low ss ks None (Some b) X Y some on h = absurd on
-  one-kept r c lines more low ss ks (Some a) None X Y some on h = let no = some refl in absurd (cc)
-  one-kept r c lines more low ss ks (Some a) (Some b) X Y some on h = stays-keep (f c) r lines more low ss ks a b X Y on h
+  one-kept r c noted sits ss ks None None X Y some on h = stays-still (f c) r noted sits ss None X Y on h
+  one-kept r c noted sits ss ks None (Some b) X Y some on h = absurd on
+  one-kept r c noted sits ss ks (Some a) None X Y some on h = let no = some refl in absurd (cc)
+  one-kept r c noted sits ss ks (Some a) (Some b) X Y some on h = stays-keep (f c) r noted sits ss ks a b X Y on h
 
-  pub all-kept : (log later : RunLog) (r : Registration) (ks : Card → List Kept) (cards after : Cards) (d e : Devices) → (NothingFailed later → Goes log later) → (NothingFailed later → (c : Card) → is_some (session_of cards c) ≡ true → is_some (session_of after c) ≡ true)
-      → AllKeep o.found ks cards after d e → AllStay o log r cards d → AllStay o later r after e
-  all-kept log later r ks cards after d e on some keep all none =
+  -- nothing is noted, and each card has its seat
+  pub all-kept : (log later : RunLog) (notes now : List Note) (r : Registration) (ks : Card → List Kept) (cabin after : Cabin) (d e : Devices) → (NothingFailed later → Goes log later) → (NothingFailed later → (c : Card) → spells_of c now ≡ spells_of c notes) →
+      (NothingFailed later → after.slots ≡ cabin.slots) → (NothingFailed later → (c : Card) → is_some (session_of cabin.cards c) ≡ true → is_some (session_of after.cards c) ≡ true)
+      → AllKeep o.found ks cabin.cards after.cards d e → AllStay o log notes r cabin d → AllStay o later now r after e
+  all-kept log later notes now r ks cabin after d e on spell seats some keep all none =
       let g = on none in
       let h = all g.none in
       record {
         says = h.says;
-        stays = λ c. kept_stays (session_of cards c) (ks c) (h.stays c);
-        told = merged-as (acceptances_told log) (acceptances_told later) (founds (h.stays A)) (founds (kept_stays (session_of cards A) (ks A) (h.stays A))) (founds (kept_stays (session_of cards B) (ks B) (h.stays B))) g.finds
-            (kept-founds (session_of cards A) (ks A) (h.stays A))
-            (merged-as-other (acceptances_told log) (acceptances_told log) (founds (h.stays A)) (founds (h.stays B)) (founds (kept_stays (session_of cards B) (ks B) (h.stays B))) refl (kept-founds (session_of cards B) (ks B) (h.stays B)) h.told);
-        owed = λ c. kept-owed (session_of cards c) (ks c) (h.stays c) (h.owed c);
-        only = λ c. ⊎_elim (λ was. inl (kept-none (session_of cards c) (ks c) (h.stays c) was)) (λ valid. inr valid) (h.only c);
+        stays = λ c. kept_stays (session_of cabin.cards c) (ks c) (h.stays c);
+        told = merged-as (acceptances_told log) (acceptances_told later) (founds (h.stays A)) (founds (kept_stays (session_of cabin.cards A) (ks A) (h.stays A))) (founds (kept_stays (session_of cabin.cards B) (ks B) (h.stays B))) g.finds
+            (kept-founds (session_of cabin.cards A) (ks A) (h.stays A))
+            (merged-as-other (acceptances_told log) (acceptances_told log) (founds (h.stays A)) (founds (h.stays B)) (founds (kept_stays (session_of cabin.cards B) (ks B) (h.stays B))) refl (kept-founds (session_of cabin.cards B) (ks B) (h.stays B)) h.told);
+        owed = λ c. kept-owed (session_of cabin.cards c) (ks c) (h.stays c) (h.owed c);
+        only = λ c. ⊎_elim (λ was. inl (kept-none (session_of cabin.cards c) (ks c) (h.stays c) was)) (λ valid. inr valid) (h.only c);
         each = λ c valid.
-            one-kept r c (length log.breaks) (length later.breaks) g.lines (h.stays c) (ks c) (session_of cards c) (session_of after c) (card_of d c) (card_of e c) (some none c) (keep c valid) (h.each c valid);
+            as-same (f c) r (spells_of c notes) (spells_of c now) (sits_in cabin.slots.seats c) (sits_in after.slots.seats c) (kept_stays (session_of cabin.cards c) (ks c) (h.stays c)) (session_of after.cards c) (session_of after.cards c) (card_of e c)
+            (spell none c) (ap (λ (k : SlotsKept). sits_in k.seats c) (seats none)) refl
+            (one-kept r c (spells_of c notes) (sits_in cabin.slots.seats c) (h.stays c) (ks c) (session_of cabin.cards c) (session_of after.cards c) (card_of d c) (card_of e c) (some none c) (keep c valid) (h.each c valid));
       }
 
 -- ---- a session that is gone has its line
@@ -336,6 +383,19 @@ fate-stays (Has a n) (Some A) second cabin B up some = some
 fate-stays (Has a n) (Some B) second cabin A up some = some
 fate-stays (Has a n) (Some B) second cabin B up some = refl
 fate-stays Fell (Some k) second cabin c up some = absurd (cc)
+
+fate-slots : (fate : Fate) (present : Option Card) (second : ℕ) (cabin : Cabin) → has_fallen fate ≡ false → (cabin_by fate present second cabin).slots ≡ cabin.slots
+fate-slots Still None second cabin up = refl
+fate-slots (Has a n) None second cabin up = refl
+fate-slots Fell None second cabin up = refl
+fate-slots Still (Some k) second cabin up = refl
+fate-slots (Has a n) (Some k) second cabin up = refl
+fate-slots Fell (Some k) second cabin up = absurd (cc)
+
+fate-lines : (fate : Fate) (slot : Slot) (at : Moment) → has_fallen fate ≡ false → breaks_by fate slot at ≡ []
+fate-lines Still slot at up = refl
+fate-lines (Has a n) slot at up = refl
+fate-lines Fell slot at up = absurd (cc)
 
 no-fall : (fate : Fate) (slot : Slot) (at : Moment) → filter failed_tear (breaks_by fate slot at) ≡ [] → has_fallen fate ≡ false
 no-fall Still slot at none = refl
@@ -368,6 +428,27 @@ module _ (k : Keeper) (at : Moment) where
       sessions-stay xs next c none
       (fate-stays x.round.codriver present.codriver at.second (cabin_by x.round.driver present.driver at.second t.keeper.cabin) c two (fate-stays x.round.driver present.driver at.second t.keeper.cabin c one some))
 
+  -- where none of them tells of a failed call no line is told, and each card has its seat
+  lines-none : (xs : List Done) (t : Told) → filter failed_tear (told_by k at xs t).breaks.items ≡ [] → ((told_by k at xs t).breaks.items ≡ t.breaks.items) × ((told_by k at xs t).keeper.cabin.slots ≡ t.keeper.cabin.slots)
+  lines-none [] t none = (refl, refl)
+  lines-none (x ∷ xs) t none =
+      let present : Present = present_at k.cabin x.minute.minute in
+      let next : Told = told_after present x.minute.minute at x.round t in
+      let lines = lines-by xs next in
+      let here : filter failed_tear next.breaks.items ≡ [] = front-none failed_tear next.breaks.items lines.0 (ap (λ (bs : List Break). filter failed_tear bs) (sym lines.1) ∙ none) in
+      let driver : List Break = breaks_by x.round.driver Driver at in
+      let codriver : List Break = breaks_by x.round.codriver CoDriver at in
+      let two = no-fall x.round.codriver CoDriver at (back-none failed_tear (t.breaks.items ++ driver) codriver here) in
+      let one = no-fall x.round.driver Driver at (back-none failed_tear t.breaks.items driver (front-none failed_tear (t.breaks.items ++ driver) codriver here)) in
+      let rest = lines-none xs next none in
+      let none_driver : driver ≡ [] = fate-lines x.round.driver Driver at one in
+      let none_codriver : codriver ≡ [] = fate-lines x.round.codriver CoDriver at two in
+      let same : next.breaks.items ≡ t.breaks.items =
+      ap (λ (bs : List Break). (t.breaks.items ++ driver) ++ bs) none_codriver ∙ append-nil (t.breaks.items ++ driver) ∙ ap (λ (bs : List Break). t.breaks.items ++ bs) none_driver ∙ append-nil t.breaks.items in
+      let seats : next.keeper.cabin.slots ≡ t.keeper.cabin.slots =
+      fate-slots x.round.codriver present.codriver at.second (cabin_by x.round.driver present.driver at.second t.keeper.cabin) two ∙ fate-slots x.round.driver present.driver at.second t.keeper.cabin one in
+      (rest.0 ∙ same, rest.1 ∙ seats)
+
 -- what the unit remembers of its vehicle stays
 memory-by : (k : Keeper) (at : Moment) (xs : List Done) (t : Told) → (told_by k at xs t).keeper.memory.registration ≡ t.keeper.memory.registration
 memory-by k at [] t = refl
@@ -379,12 +460,13 @@ pub record Reached (t u : Told) : Type 0 where
   pub lines : u.breaks.items ≡ t.breaks.items ++ more
   pub stay : (c : Card) → filter failed_tear u.breaks.items ≡ [] → is_some (session_of t.keeper.cabin.cards c) ≡ true → is_some (session_of u.keeper.cabin.cards c) ≡ true
   pub registered : u.keeper.memory.registration ≡ t.keeper.memory.registration
+  pub same : filter failed_tear u.breaks.items ≡ [] → (u.breaks.items ≡ t.breaks.items) × (u.keeper.cabin.slots ≡ t.keeper.cabin.slots)
 
 pub reach-told : (decided : List Minute) (at : Moment) (t u : Told) (reach : Reach) → IsReach decided at false t u reach → Reached t u
 reach-told decided at t u (Short xs m round) is = absurd is
 reach-told decided at t u (Whole xs) is =
     subst (Reached t) (sym is.2)
-    (let lines = lines-by t.keeper at xs t in record { more = lines.0; lines = lines.1; stay = λ c none some. sessions-stay t.keeper at xs t c none some; registered = memory-by t.keeper at xs t })
+    (let lines = lines-by t.keeper at xs t in record { more = lines.0; lines = lines.1; stay = λ c none some. sessions-stay t.keeper at xs t c none some; registered = memory-by t.keeper at xs t; same = λ none. lines-none t.keeper at xs t none })
 
 -- ---- what was kept is found
 
@@ -417,14 +499,5 @@ found-tears (suc i) k (Tear s slot false begun late ∷ bs) none = found-tears i
 pub found-none : (i k : ℕ) (log : RunLog) → NothingFailed (record log { breaks = found_from i k log.breaks }) → NothingFailed log
 found-none i k log none = (found-cuts i k log.breaks none.0, found-tears i k log.breaks none.1)
 
-map-length : (k : ℕ) (bs : List Break) → length (map (with_kept k) bs) ≡ length bs
-map-length k [] = refl
-map-length k (b ∷ bs) = let rest = map-length k bs in omega (arith, rest)
-
-found-length : (i k : ℕ) (bs : List Break) → length (found_from i k bs) ≡ length bs
-found-length zero k bs = map-length k bs
-found-length (suc i) k [] = refl
-found-length (suc i) k (b ∷ bs) = let rest = found-length i k bs in omega (arith, rest)
-
 pub found-on : (i k : ℕ) (log : RunLog) → NothingFailed (record log { breaks = found_from i k log.breaks }) → Goes log (record log { breaks = found_from i k log.breaks })
-found-on i k log none = record { none = found-none i k log none; lines = let n = found-length i k log.breaks in omega (arith, n); finds = refl }
+found-on i k log none = record { none = found-none i k log none; finds = refl }

@@ -84,10 +84,12 @@ use Rattle.card_layout.specs.declared.files.Application.{Application}
 use Rattle.run_crew.specs.Cards.{with_session}
 use Rattle.run_keeping.specs.CardDeeds.{ClosesOn}
 use Rattle.run_keeping.proofs.CardDeeds.{does-close}
-use Rattle.run_acts.specs.Stays.{Stay, ClosesOnCard, HasStays}
-use Rattle.std.specs.Prelude.{length}
+use Rattle.side_model.specs.Noted.{Note}
+use Rattle.run_acts.specs.Closings.{spells_of, notes_within}
+use Rattle.run_acts.specs.Stays.{Stay, sits_in, ClosesOnCard, HasStays}
 use Rattle.run_acts.proofs.Stays.{on_last, on-last-founds, on-last-owed, on-last-none, with_end, stays-close}
 use Rattle.run_acts.proofs.AllStay.{turns-so, all-one, no-tear, mine-left, others-left}
+use Rattle.run_acts.proofs.SeatsThen.{sits-nowhere}
 
 -- when a card was last used, behind the closing of its session
 closed-timed : (f : Found) (w : Carried) (cards : Cards) (c : Card) (U X Y Z : State) → AreFoundCards f cards → IsCoherent X → LARGEST_IMAGE ≤ X.size → (a : Accepted) (act : Activity) → session_of cards c ≡ Some a → IsPowered f w cards (arranged c U X Z) →
@@ -144,19 +146,23 @@ module _ {C : Type 0} (state : C → State) (c : Card) (slot : Slot) (at : Momen
         (λ valid. closed-timed o.found carries run.keeper.cabin.cards c U (state x) (state y) Z w.within.found whole size a closes.0 has w.within.powered closes.1 valid)
 
     -- what is made of the card
-    abbrev lines : ℕ
-    lines = length (log_of told).breaks
+    abbrev so-far : List Note
+    so-far = notes_within w.within.b done s (In n) (log_of told)
 
-    stays-closed : (shut : ClosesOnCard (Some a) (state x) (state y)) → IsOwnValid (found_of o.found c).image → (ss : List Stay) → HasStays (found_of o.found c) run.keeper.memory.registration lines ss (Some a) (state x) →
-        HasStays (found_of o.found c) run.keeper.memory.registration lines (on_last (with_end shut.0) ss) None (state y)
+    -- it sits in no slot
+    gone : sits_in run.keeper.cabin.slots.seats c ≡ false
+    gone = sits-nowhere run.keeper.cabin.slots.seats c (leaving (ap is_some has)).nowhere
+
+    stays-closed : (shut : ClosesOnCard (Some a) (state x) (state y)) → IsOwnValid (found_of o.found c).image → (ss : List Stay) → HasStays (found_of o.found c) run.keeper.memory.registration (spells_of c so-far) (sits_in run.keeper.cabin.slots.seats c) ss (Some a) (state x) →
+        HasStays (found_of o.found c) run.keeper.memory.registration (spells_of c so-far) (sits_in run.keeper.cabin.slots.seats c) (on_last (with_end shut.0) ss) None (state y)
     stays-closed shut valid ss h =
         let one : CardLit o.found carries.book (carries.standing c) (carries.brought c) (Some a) c U (state x) =
         subst (λ (q : Option Accepted). CardLit o.found carries.book (carries.standing c) (carries.brought c) q c U (state x)) has ((parts-of o.found carries run.keeper.cabin.cards c U (state x) Z w.within.powered).mine valid) in
         let on : IsOn (found_of o.found c) one.goes.has (carries.standing c) a.session (state x) = one.goes.goes in
         let sound : IsApplication a.session.application = subst IsApplication (sym on.sizes) (w.within.found.sizes c valid) in
         let most = largest_image a.session.application sound in
-        stays-close (found_of o.found c) run.keeper.memory.registration lines lines (omega arith) ss shut.0 a (state x) (state y)
-        (subst (λ (p : Application). ClosesOn p shut.0 (state x) (state y)) on.sizes (does-close a.session shut.0 (state x) (state y) sound whole (omega (arith, most, size)) on.session shut.1)) h
+        stays-close (found_of o.found c) run.keeper.memory.registration (spells_of c so-far) (sits_in run.keeper.cabin.slots.seats c) (sits_in run.keeper.cabin.slots.seats c) ss shut.0 a (state x) (state y)
+        (subst (λ (p : Application). ClosesOn p shut.0 (state x) (state y)) on.sizes (does-close a.session shut.0 (state x) (state y) sound whole (omega (arith, most, size)) on.session shut.1)) gone h
 
     called : IsCalledLeaving o done s (In n) v d e w.within slot c
     called = record { low = s.number / 60; leaving = leaving (ap is_some has); is_now = from; goes = goes; travels = travels }
@@ -164,11 +170,11 @@ module _ {C : Type 0} (state : C → State) (c : Card) (slot : Slot) (at : Momen
     -- it is closed
     closed : ClosesOnCard (Some a) (state x) (state y) → (b : Bool) → failed ≡ b → IsPoweredOrOff b o.found (carried_closed Closed c carries) (with_session c None run.keeper.cabin.cards) e → GoesOnOrFails b o done s (In n) [] (with_cabin (with_session_of c None run.keeper.cabin) run) told e w.within.b
     closed shut false is powered = goes-as o done s (In n) (In n) [] [] [] run (with_cabin (with_session_of c None run.keeper.cabin) run) told told d e w.within.from w refl refl (session-closed d e o done s (In n) v w.within slot c called powered)
-        (all-one o c (log_of told) (log_of told) run.keeper.memory.registration run.keeper.cabin.cards (with_session c None run.keeper.cabin.cards) U V (state x) (state y) Z (λ none. none) (others-left c run.keeper.cabin.cards)
-        (λ none ss. turns-so (found_of o.found c) (log_of told) run.keeper.memory.registration (session_of run.keeper.cabin.cards c) (session_of (with_session c None run.keeper.cabin.cards) c) (state x) (state y) (on_last (with_end shut.0))
+        (all-one o c (log_of told) (log_of told) so-far so-far run.keeper.memory.registration run.keeper.cabin (with_session_of c None run.keeper.cabin) U V (state x) (state y) Z (λ none. none) (others-left c run.keeper.cabin.cards) refl (λ none. refl)
+        (λ none ss. turns-so (found_of o.found c) (log_of told) run.keeper.memory.registration (spells_of c so-far) (sits_in run.keeper.cabin.slots.seats c) (session_of run.keeper.cabin.cards c) (session_of (with_session c None run.keeper.cabin.cards) c) (state x) (state y) (on_last (with_end shut.0))
         (on-last-founds (with_end shut.0) (λ s. refl)) (on-last-owed (with_end shut.0) (λ s tells. tells)) (on-last-none (with_end shut.0)) ss
-        (λ valid h. subst (λ (q : Option Accepted). HasStays (found_of o.found c) run.keeper.memory.registration lines (on_last (with_end shut.0) ss) q (state y)) (sym (mine-left c run.keeper.cabin.cards))
-        (stays-closed shut valid ss (subst (λ (q : Option Accepted). HasStays (found_of o.found c) run.keeper.memory.registration lines ss q (state x)) has h)))) w.stay)
+        (λ valid h. subst (λ (q : Option Accepted). HasStays (found_of o.found c) run.keeper.memory.registration (spells_of c so-far) (sits_in run.keeper.cabin.slots.seats c) (on_last (with_end shut.0) ss) q (state y)) (sym (mine-left c run.keeper.cabin.cards))
+        (stays-closed shut valid ss (subst (λ (q : Option Accepted). HasStays (found_of o.found c) run.keeper.memory.registration (spells_of c so-far) (sits_in run.keeper.cabin.slots.seats c) ss q (state x)) has h)))) w.stay)
     closed shut true is powerless = record {
       waits = [];
       cabin = with_session_of c None run.keeper.cabin;

@@ -1,48 +1,50 @@
--- What a note makes of the withdrawals of a card.
+-- What a note makes of the spells of a card.
 use Rattle.std.proofs.Common.{◌≡◌, ◌∙◌, Bool, true, false, cond, List, [], ◌∷◌, ◌++◌, Some, None, refl, ap, sym}
-use Rattle.std.specs.Prelude.{not, ◌&&◌, ◌||◌, map, filter, is_some}
+use Rattle.std.specs.Prelude.{not, ◌&&◌, ◌||◌, map, filter}
 use Rattle.std.specs.List.{list_any}
 use Rattle.std.proofs.lemmas.List.Sums.{fold-append}
 use Rattle.trace_model.specs.declared.Card.{Card}
 use Rattle.trace_model.specs.declared.Card.TheVariants.{A, B}
 use Rattle.log_model.specs.Slots.{same_card}
 use Rattle.side_model.specs.Noted.{Acceptance, Withdrawal, PlaceNote, InsertionNote, Note, Accepts, Withdraws, Enters, with_withdrawal, with_note, insertions_of}
-use Rattle.run_acts.specs.Closings.{withdrawals_in, withdrawals_of, last_by, with_last}
+use Rattle.run_acts.specs.Closings.{Spell, spell_of, spells_in, spells_of, last_shut, with_last_shut}
 
-same-turned : (c d : Card) → same_card c d ≡ same_card d c
+pub same-turned : (c d : Card) → same_card c d ≡ same_card d c
 same-turned A A = refl
 same-turned A B = refl
 same-turned B A = refl
 same-turned B B = refl
 
--- of one insertion and others
-in-mine : (c : Card) (i : InsertionNote) (is : List InsertionNote) → same_card c i.accepted.card ≡ true → withdrawals_in c (i ∷ is) ≡ is_some i.withdrawn ∷ withdrawals_in c is
-in-mine c i is mine =
-    ap (λ (b : Bool). map (λ (x : InsertionNote). is_some x.withdrawn) (cond b (i ∷ filter (λ (x : InsertionNote). same_card c x.accepted.card) is) (filter (λ (x : InsertionNote). same_card c x.accepted.card) is))) mine
+-- the card of an insertion is this one
+abbrev is_mine : Card → InsertionNote → Bool
+is_mine c i = same_card c i.accepted.card
 
-in-others : (c : Card) (i : InsertionNote) (is : List InsertionNote) → same_card c i.accepted.card ≡ false → withdrawals_in c (i ∷ is) ≡ withdrawals_in c is
-in-others c i is other =
-    ap (λ (b : Bool). map (λ (x : InsertionNote). is_some x.withdrawn) (cond b (i ∷ filter (λ (x : InsertionNote). same_card c x.accepted.card) is) (filter (λ (x : InsertionNote). same_card c x.accepted.card) is))) other
+-- of one insertion and others
+in-mine : (c : Card) (i : InsertionNote) (is : List InsertionNote) → same_card c i.accepted.card ≡ true → spells_in c (i ∷ is) ≡ spell_of i ∷ spells_in c is
+in-mine c i is mine = ap (λ (b : Bool). map spell_of (cond b (i ∷ filter (is_mine c) is) (filter (is_mine c) is))) mine
+
+in-others : (c : Card) (i : InsertionNote) (is : List InsertionNote) → same_card c i.accepted.card ≡ false → spells_in c (i ∷ is) ≡ spells_in c is
+in-others c i is other = ap (λ (b : Bool). map spell_of (cond b (i ∷ filter (is_mine c) is) (filter (is_mine c) is))) other
 
 -- ---- one more
 
-mine-behind : (c : Card) (x : InsertionNote) (is : List InsertionNote) (i : InsertionNote) (b : Bool) → same_card c x.accepted.card ≡ b → withdrawals_in c (is ++ i ∷ []) ≡ withdrawals_in c is ++ is_some i.withdrawn ∷ [] →
-    withdrawals_in c (x ∷ (is ++ i ∷ [])) ≡ withdrawals_in c (x ∷ is) ++ is_some i.withdrawn ∷ []
+mine-behind : (c : Card) (x : InsertionNote) (is : List InsertionNote) (i : InsertionNote) (b : Bool) → same_card c x.accepted.card ≡ b → spells_in c (is ++ i ∷ []) ≡ spells_in c is ++ spell_of i ∷ [] →
+    spells_in c (x ∷ (is ++ i ∷ [])) ≡ spells_in c (x ∷ is) ++ spell_of i ∷ []
 mine-behind c x is i true mine rest =
-    in-mine c x (is ++ i ∷ []) mine ∙ ap (λ (l : List Bool). is_some x.withdrawn ∷ l) rest ∙ sym (ap (λ (l : List Bool). l ++ is_some i.withdrawn ∷ []) (in-mine c x is mine))
+    in-mine c x (is ++ i ∷ []) mine ∙ ap (λ (l : List Spell). spell_of x ∷ l) rest ∙ sym (ap (λ (l : List Spell). l ++ spell_of i ∷ []) (in-mine c x is mine))
 mine-behind c x is i false other rest =
-    in-others c x (is ++ i ∷ []) other ∙ rest ∙ sym (ap (λ (l : List Bool). l ++ is_some i.withdrawn ∷ []) (in-others c x is other))
+    in-others c x (is ++ i ∷ []) other ∙ rest ∙ sym (ap (λ (l : List Spell). l ++ spell_of i ∷ []) (in-others c x is other))
 
-pub mine-more : (c : Card) (is : List InsertionNote) (i : InsertionNote) → same_card c i.accepted.card ≡ true → withdrawals_in c (is ++ i ∷ []) ≡ withdrawals_in c is ++ is_some i.withdrawn ∷ []
+mine-more : (c : Card) (is : List InsertionNote) (i : InsertionNote) → same_card c i.accepted.card ≡ true → spells_in c (is ++ i ∷ []) ≡ spells_in c is ++ spell_of i ∷ []
 mine-more c [] i mine = in-mine c i [] mine
 mine-more c (x ∷ is) i mine = mine-behind c x is i (same_card c x.accepted.card) refl (mine-more c is i mine)
 
 -- behind one, the same of both
-same-behind : (c : Card) (x : InsertionNote) (xs ys : List InsertionNote) (b : Bool) → same_card c x.accepted.card ≡ b → withdrawals_in c xs ≡ withdrawals_in c ys → withdrawals_in c (x ∷ xs) ≡ withdrawals_in c (x ∷ ys)
-same-behind c x xs ys true mine rest = in-mine c x xs mine ∙ ap (λ (l : List Bool). is_some x.withdrawn ∷ l) rest ∙ sym (in-mine c x ys mine)
+same-behind : (c : Card) (x : InsertionNote) (xs ys : List InsertionNote) (b : Bool) → same_card c x.accepted.card ≡ b → spells_in c xs ≡ spells_in c ys → spells_in c (x ∷ xs) ≡ spells_in c (x ∷ ys)
+same-behind c x xs ys true mine rest = in-mine c x xs mine ∙ ap (λ (l : List Spell). spell_of x ∷ l) rest ∙ sym (in-mine c x ys mine)
 same-behind c x xs ys false other rest = in-others c x xs other ∙ rest ∙ sym (in-others c x ys other)
 
-pub others-more : (c : Card) (is : List InsertionNote) (i : InsertionNote) → same_card c i.accepted.card ≡ false → withdrawals_in c (is ++ i ∷ []) ≡ withdrawals_in c is
+others-more : (c : Card) (is : List InsertionNote) (i : InsertionNote) → same_card c i.accepted.card ≡ false → spells_in c (is ++ i ∷ []) ≡ spells_in c is
 others-more c [] i other = in-others c i [] other
 others-more c (x ∷ is) i other = same-behind c x (is ++ i ∷ []) is (same_card c x.accepted.card) refl (others-more c is i other)
 
@@ -59,45 +61,46 @@ goes-so w i later mine some m s =
     ∙ ap (λ (b : Bool). cond (mine && not b) (record i { withdrawn = Some w.second } ∷ later) (i ∷ with_withdrawal w later)) s
 
 -- none of a card
-none-behind : (w : Withdrawal) (i : InsertionNote) (is : List InsertionNote) (b : Bool) → same_card i.accepted.card w.card ≡ b → (b || later_one w is) ≡ false → (later_one w is ≡ false → withdrawals_in w.card is ≡ []) → withdrawals_in w.card (i ∷ is) ≡ []
+none-behind : (w : Withdrawal) (i : InsertionNote) (is : List InsertionNote) (b : Bool) → same_card i.accepted.card w.card ≡ b → (b || later_one w is) ≡ false → (later_one w is ≡ false → spells_in w.card is ≡ []) → spells_in w.card (i ∷ is) ≡ []
 none-behind w i is true mine empty rest = absurd (let wrong : true ≡ false = empty in cc)
 none-behind w i is false other empty rest = in-others w.card i is (same-turned w.card i.accepted.card ∙ other) ∙ rest empty
 
-none-in : (w : Withdrawal) (is : List InsertionNote) → later_one w is ≡ false → withdrawals_in w.card is ≡ []
+none-in : (w : Withdrawal) (is : List InsertionNote) → later_one w is ≡ false → spells_in w.card is ≡ []
 none-in w [] none = refl
 none-in w (i ∷ is) none = none-behind w i is (same_card i.accepted.card w.card) refl none (none-in w is)
 
--- of a list with one the last of a longer one is its own
-longer-behind : (b : Bool) (w : Withdrawal) (i : InsertionNote) (is : List InsertionNote) (m : Bool) → same_card i.accepted.card w.card ≡ m → (m || later_one w is) ≡ true →
-    (later_one w is ≡ true → with_last (b ∷ withdrawals_in w.card is) ≡ b ∷ with_last (withdrawals_in w.card is)) → with_last (b ∷ withdrawals_in w.card (i ∷ is)) ≡ b ∷ with_last (withdrawals_in w.card (i ∷ is))
+-- where a later one is of a card the last of a longer list is its own
+longer-behind : (b : Spell) (w : Withdrawal) (i : InsertionNote) (is : List InsertionNote) (m : Bool) → same_card i.accepted.card w.card ≡ m → (m || later_one w is) ≡ true →
+    (later_one w is ≡ true → with_last_shut (b ∷ spells_in w.card is) ≡ b ∷ with_last_shut (spells_in w.card is)) → with_last_shut (b ∷ spells_in w.card (i ∷ is)) ≡ b ∷ with_last_shut (spells_in w.card (i ∷ is))
 longer-behind b w i is true mine any rest =
     let one = in-mine w.card i is (same-turned w.card i.accepted.card ∙ mine) in
-    ap (λ (l : List Bool). with_last (b ∷ l)) one ∙ sym (ap (λ (l : List Bool). b ∷ with_last l) one)
+    ap (λ (l : List Spell). with_last_shut (b ∷ l)) one ∙ sym (ap (λ (l : List Spell). b ∷ with_last_shut l) one)
 longer-behind b w i is false other any rest =
     let one = in-others w.card i is (same-turned w.card i.accepted.card ∙ other) in
-    ap (λ (l : List Bool). with_last (b ∷ l)) one ∙ rest any ∙ sym (ap (λ (l : List Bool). b ∷ with_last l) one)
+    ap (λ (l : List Spell). with_last_shut (b ∷ l)) one ∙ rest any ∙ sym (ap (λ (l : List Spell). b ∷ with_last_shut l) one)
 
-longer-last : (b : Bool) (w : Withdrawal) (is : List InsertionNote) → later_one w is ≡ true → with_last (b ∷ withdrawals_in w.card is) ≡ b ∷ with_last (withdrawals_in w.card is)
+longer-last : (b : Spell) (w : Withdrawal) (is : List InsertionNote) → later_one w is ≡ true → with_last_shut (b ∷ spells_in w.card is) ≡ b ∷ with_last_shut (spells_in w.card is)
 longer-last b w [] some = absurd (let wrong : false ≡ true = some in cc)
 longer-last b w (i ∷ is) some = longer-behind b w i is (same_card i.accepted.card w.card) refl some (longer-last b w is)
 
 -- THE LAST INSERTION of its card is withdrawn
-mine-withdrawn-by : (w : Withdrawal) (i : InsertionNote) (is : List InsertionNote) (m s : Bool) → same_card i.accepted.card w.card ≡ m → later_one w is ≡ s → withdrawals_in w.card (with_withdrawal w is) ≡ with_last (withdrawals_in w.card is) →
-    withdrawals_in w.card (with_withdrawal w (i ∷ is)) ≡ with_last (withdrawals_in w.card (i ∷ is))
+mine-withdrawn-by : (w : Withdrawal) (i : InsertionNote) (is : List InsertionNote) (m s : Bool) → same_card i.accepted.card w.card ≡ m → later_one w is ≡ s → spells_in w.card (with_withdrawal w is) ≡ with_last_shut (spells_in w.card is) →
+    spells_in w.card (with_withdrawal w (i ∷ is)) ≡ with_last_shut (spells_in w.card (i ∷ is))
 mine-withdrawn-by w i is true false m s rest =
     let mine = same-turned w.card i.accepted.card ∙ m in
     let none = none-in w is s in
-    ap (withdrawals_in w.card) (goes-so w i is true false m s) ∙ in-mine w.card (record i { withdrawn = Some w.second }) is mine ∙ ap (λ (l : List Bool). true ∷ l) none
-    ∙ sym (ap with_last (in-mine w.card i is mine ∙ ap (λ (l : List Bool). is_some i.withdrawn ∷ l) none))
+    let shut : InsertionNote = record i { withdrawn = Some w.second } in
+    ap (spells_in w.card) (goes-so w i is true false m s) ∙ in-mine w.card shut is mine ∙ ap (λ (l : List Spell). spell_of shut ∷ l) none
+    ∙ sym (ap with_last_shut (in-mine w.card i is mine ∙ ap (λ (l : List Spell). spell_of i ∷ l) none))
 mine-withdrawn-by w i is true true m s rest =
     let mine = same-turned w.card i.accepted.card ∙ m in
-    ap (withdrawals_in w.card) (goes-so w i is true true m s) ∙ in-mine w.card i (with_withdrawal w is) mine ∙ ap (λ (l : List Bool). is_some i.withdrawn ∷ l) rest
-    ∙ sym (longer-last (is_some i.withdrawn) w is s) ∙ sym (ap with_last (in-mine w.card i is mine))
+    ap (spells_in w.card) (goes-so w i is true true m s) ∙ in-mine w.card i (with_withdrawal w is) mine ∙ ap (λ (l : List Spell). spell_of i ∷ l) rest
+    ∙ sym (longer-last (spell_of i) w is s) ∙ sym (ap with_last_shut (in-mine w.card i is mine))
 mine-withdrawn-by w i is false s m s_ rest =
     let other = same-turned w.card i.accepted.card ∙ m in
-    ap (withdrawals_in w.card) (goes-so w i is false s m s_) ∙ in-others w.card i (with_withdrawal w is) other ∙ rest ∙ sym (ap with_last (in-others w.card i is other))
+    ap (spells_in w.card) (goes-so w i is false s m s_) ∙ in-others w.card i (with_withdrawal w is) other ∙ rest ∙ sym (ap with_last_shut (in-others w.card i is other))
 
-pub mine-withdrawn : (w : Withdrawal) (is : List InsertionNote) → withdrawals_in w.card (with_withdrawal w is) ≡ with_last (withdrawals_in w.card is)
+mine-withdrawn : (w : Withdrawal) (is : List InsertionNote) → spells_in w.card (with_withdrawal w is) ≡ with_last_shut (spells_in w.card is)
 mine-withdrawn w [] = refl
 mine-withdrawn w (i ∷ is) = mine-withdrawn-by w i is (same_card i.accepted.card w.card) (later_one w is) refl refl (mine-withdrawn w is)
 
@@ -109,34 +112,34 @@ not-mine A B z h k = refl
 not-mine B A z h k = refl
 
 others-withdrawn-by : (c : Card) (w : Withdrawal) (i : InsertionNote) (is : List InsertionNote) → same_card c w.card ≡ false → (m s : Bool) → same_card i.accepted.card w.card ≡ m → later_one w is ≡ s →
-    withdrawals_in c (i ∷ with_withdrawal w is) ≡ withdrawals_in c (i ∷ is) → withdrawals_in c (with_withdrawal w (i ∷ is)) ≡ withdrawals_in c (i ∷ is)
+    spells_in c (i ∷ with_withdrawal w is) ≡ spells_in c (i ∷ is) → spells_in c (with_withdrawal w (i ∷ is)) ≡ spells_in c (i ∷ is)
 others-withdrawn-by c w i is other true false m s rest =
     let out = not-mine c i.accepted.card w.card m other in
-    ap (withdrawals_in c) (goes-so w i is true false m s) ∙ in-others c (record i { withdrawn = Some w.second }) is out ∙ sym (in-others c i is out)
-others-withdrawn-by c w i is other true true m s rest = ap (withdrawals_in c) (goes-so w i is true true m s) ∙ rest
-others-withdrawn-by c w i is other false s m s_ rest = ap (withdrawals_in c) (goes-so w i is false s m s_) ∙ rest
+    ap (spells_in c) (goes-so w i is true false m s) ∙ in-others c (record i { withdrawn = Some w.second }) is out ∙ sym (in-others c i is out)
+others-withdrawn-by c w i is other true true m s rest = ap (spells_in c) (goes-so w i is true true m s) ∙ rest
+others-withdrawn-by c w i is other false s m s_ rest = ap (spells_in c) (goes-so w i is false s m s_) ∙ rest
 
-pub others-withdrawn : (c : Card) (w : Withdrawal) (is : List InsertionNote) → same_card c w.card ≡ false → withdrawals_in c (with_withdrawal w is) ≡ withdrawals_in c is
+others-withdrawn : (c : Card) (w : Withdrawal) (is : List InsertionNote) → same_card c w.card ≡ false → spells_in c (with_withdrawal w is) ≡ spells_in c is
 others-withdrawn c w [] other = refl
 others-withdrawn c w (i ∷ is) other =
     others-withdrawn-by c w i is other (same_card i.accepted.card w.card) (later_one w is) refl refl (same-behind c i (with_withdrawal w is) is (same_card c i.accepted.card) refl (others-withdrawn c w is other))
 
 -- ---- by the notes
 
-one-more : (notes : List Note) (n : Note) → insertions_of (notes ++ n ∷ []) ≡ with_note (insertions_of notes) n
+pub one-more : (notes : List Note) (n : Note) → insertions_of (notes ++ n ∷ []) ≡ with_note (insertions_of notes) n
 one-more notes n = fold-append with_note [] notes (n ∷ [])
 
-pub accepts-more : (c : Card) (notes : List Note) (a : Acceptance) → same_card c a.card ≡ true → withdrawals_of c (notes ++ Accepts a ∷ []) ≡ withdrawals_of c notes ++ false ∷ []
-accepts-more c notes a mine = ap (withdrawals_in c) (one-more notes (Accepts a)) ∙ mine-more c (insertions_of notes) (record { accepted = a; withdrawn = None }) mine
+pub accepts-more : (c : Card) (notes : List Note) (a : Acceptance) → same_card c a.card ≡ true → spells_of c (notes ++ Accepts a ∷ []) ≡ spells_of c notes ++ record { second = a.second; slot = a.slot; withdrawn = false } ∷ []
+accepts-more c notes a mine = ap (spells_in c) (one-more notes (Accepts a)) ∙ mine-more c (insertions_of notes) (record { accepted = a; withdrawn = None }) mine
 
-pub accepts-others : (c : Card) (notes : List Note) (a : Acceptance) → same_card c a.card ≡ false → withdrawals_of c (notes ++ Accepts a ∷ []) ≡ withdrawals_of c notes
-accepts-others c notes a other = ap (withdrawals_in c) (one-more notes (Accepts a)) ∙ others-more c (insertions_of notes) (record { accepted = a; withdrawn = None }) other
+pub accepts-others : (c : Card) (notes : List Note) (a : Acceptance) → same_card c a.card ≡ false → spells_of c (notes ++ Accepts a ∷ []) ≡ spells_of c notes
+accepts-others c notes a other = ap (spells_in c) (one-more notes (Accepts a)) ∙ others-more c (insertions_of notes) (record { accepted = a; withdrawn = None }) other
 
-pub withdraws-last : (notes : List Note) (w : Withdrawal) → withdrawals_of w.card (notes ++ Withdraws w ∷ []) ≡ with_last (withdrawals_of w.card notes)
-withdraws-last notes w = ap (withdrawals_in w.card) (one-more notes (Withdraws w)) ∙ mine-withdrawn w (insertions_of notes)
+pub withdraws-last : (notes : List Note) (w : Withdrawal) → spells_of w.card (notes ++ Withdraws w ∷ []) ≡ with_last_shut (spells_of w.card notes)
+withdraws-last notes w = ap (spells_in w.card) (one-more notes (Withdraws w)) ∙ mine-withdrawn w (insertions_of notes)
 
-pub withdraws-others : (c : Card) (notes : List Note) (w : Withdrawal) → same_card c w.card ≡ false → withdrawals_of c (notes ++ Withdraws w ∷ []) ≡ withdrawals_of c notes
-withdraws-others c notes w other = ap (withdrawals_in c) (one-more notes (Withdraws w)) ∙ others-withdrawn c w (insertions_of notes) other
+pub withdraws-others : (c : Card) (notes : List Note) (w : Withdrawal) → same_card c w.card ≡ false → spells_of c (notes ++ Withdraws w ∷ []) ≡ spells_of c notes
+withdraws-others c notes w other = ap (spells_in c) (one-more notes (Withdraws w)) ∙ others-withdrawn c w (insertions_of notes) other
 
-pub enters-same : (c : Card) (notes : List Note) (p : PlaceNote) → withdrawals_of c (notes ++ Enters p ∷ []) ≡ withdrawals_of c notes
-enters-same c notes p = ap (withdrawals_in c) (one-more notes (Enters p))
+pub enters-same : (c : Card) (notes : List Note) (p : PlaceNote) → spells_of c (notes ++ Enters p ∷ []) ≡ spells_of c notes
+enters-same c notes p = ap (spells_in c) (one-more notes (Enters p))

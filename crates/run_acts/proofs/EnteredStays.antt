@@ -1,11 +1,18 @@
 -- The stays of a card that enters: a new one where it is accepted.
-use Rattle.std.proofs.Common.{◌≡◌, ◌∙◌, inl, inr, ℕ, ◌+◌, ◌≤◌, Bool, true, false, List, [], ◌∷◌, ◌++◌, Option, Some, None, refl, ap, sym, subst, arith}
-use Rattle.std.specs.Prelude.{filter, length}
-use Rattle.std.proofs.lemmas.List.{append-nil, length-append}
+use Rattle.std.proofs.Common.{◌≡◌, ◌∙◌, ◌⊎◌, inl, inr, ℕ, Bool, true, false, List, [], ◌∷◌, ◌++◌, Option, Some, None, refl, ap, sym, subst}
+use Rattle.std.specs.Prelude.{filter}
+use Rattle.std.proofs.lemmas.List.{append-nil}
 use Rattle.std.proofs.lemmas.List.Elements.{filter-append}
+use Rattle.activity_codec.specs.declared.values.Slot.TheVariants.{Driver, CoDriver}
 use Rattle.trace_model.specs.declared.Card.{Card}
+use Rattle.trace_model.specs.declared.Card.TheVariants.{A, B}
+use Rattle.trace_model.specs.Trace.{TraceSecond}
 use Rattle.tach_media.specs.Medium.{State}
-use Rattle.log_model.specs.Log.{RunLog, is_accepting}
+use Rattle.log_model.specs.Log.{RunLog, In, found_in, is_accepting}
+use Rattle.log_model.specs.Slots.{same_card}
+use Rattle.log_model.specs.Course.{Visit, went}
+use Rattle.log_model.specs.declared.lines.Break.{Break}
+use Rattle.log_model.specs.declared.lines.Verdict.{Verdict}
 use Rattle.log_model.specs.declared.lines.Find.{Find}
 use Rattle.log_model.specs.declared.lines.Verdict.TheVariants.{Accepted as AcceptedWith, NotValid, TimeOverlap}
 use Rattle.card_image.specs.Own.{own_sizes, IsOwnValid}
@@ -13,6 +20,17 @@ use Rattle.tacho_types.specs.declared.texts.Registration.{Registration}
 use Rattle.run_keeping.specs.CardDeeds.{DoesOn}
 use Rattle.card_layout.specs.declared.files.Application.{Application}
 use Rattle.joint_rule.specs.Views.{other}
+use Rattle.side_model.specs.Noted.{Note}
+use Rattle.safety_model.specs.Safe.{Devices}
+use Rattle.slot_machine.specs.declared.seats.Seat.{Seat}
+use Rattle.slot_machine.specs.Calls.{seat_in, card_in}
+use Rattle.slot_machine.specs.Kept.{Kept as SlotsKept}
+use Rattle.run_course.specs.Moments.{and_find}
+use Rattle.run_moments.specs.Reached.{IsFindAt, moved_at}
+use Rattle.run_within.specs.Recorded.{Values}
+use Rattle.run_within.specs.Within.{Within}
+use Rattle.run_within.specs.Judging.{IsNext}
+use Rattle.run_keeping.specs.declared.keeper.Moment.{Moment}
 use Rattle.run_crew.specs.declared.cards.Accepted.{Accepted}
 use Rattle.run_crew.specs.declared.cabin.Cabin.{Cabin}
 use Rattle.run_crew.specs.Cards.{session_of}
@@ -31,9 +49,12 @@ use Rattle.run_entering.specs.Entered.{HasEntered, IsEnding, IsWay}
 use Rattle.run_entering.specs.Told.{IsEnteredOn, IsToldOf, OpensSo}
 use Rattle.run_entering.proofs.Carried.{has-session}
 use Rattle.run_acts.specs.Recording.{log_of}
-use Rattle.run_acts.specs.Stays.{Stay, acceptances_told, AllStay}
-use Rattle.run_acts.proofs.Stays.{owed-more, founds-more, stays-still, stays-open}
+use Rattle.run_acts.specs.Closings.{spells_of, notes_within}
+use Rattle.run_acts.specs.Stays.{Stay, acceptances_told, sits_in, AllStay}
+use Rattle.run_acts.proofs.Stays.{owed-more, founds-more, stays-still, stays-moved, stays-open}
 use Rattle.run_acts.proofs.AllStay.{Turns, all-of, all-one, fewer-none, no-tear, mine-left}
+use Rattle.run_acts.proofs.SeatsThen.{torn-other, put-own, put-again}
+use Rattle.run_acts.proofs.NotesThen.{accepted-now, rejected-now, elsewhere-now}
 
 -- its session behind
 abbrev session_by : Ending → (noted : ℕ) → Option Accepted
@@ -55,7 +76,41 @@ sessions-by (Seated entered clock entry) e noted cabin bare = has-session e.slot
 sessions-by (Lost entered clock entry) e noted cabin bare =
     mine-left e.which (cabin_by (Seated entered clock entry) e noted cabin).cards
 
-module _ (o : Origin) (e : Entering) (failed : Bool) (well : failed ≡ false) (k v : Keeper) (noted noted_after : ℕ) (out after : Outcome) (U W X Y Z : State) where
+-- ---- what is noted of a card that enters
+
+apart : (c : Card) → same_card c (other c) ≡ false
+apart A = refl
+apart B = refl
+
+apart-turned : (c : Card) → same_card (other c) c ≡ false
+apart-turned A = refl
+apart-turned B = refl
+
+-- WHAT IS NOTED as this is found of it: another spell of it begins where it is accepted, and none of the other card
+pub record NotesFind (e : Entering) (log : RunLog) (notes : RunLog → List Note) (verdict : Verdict) : Type 0 where
+  pub accepts : is_accepting verdict ≡ true → spells_of e.which (notes (and_find log (find_of e verdict))) ≡ spells_of e.which (notes log) ++ record { second = e.at.second; slot = e.slot; withdrawn = false } ∷ []
+  pub rejects : is_accepting verdict ≡ false → spells_of e.which (notes (and_find log (find_of e verdict))) ≡ spells_of e.which (notes log)
+  pub others : spells_of (other e.which) (notes (and_find log (find_of e verdict))) ≡ spells_of (other e.which) (notes log)
+
+-- so it is within a second
+pub finds-noted : (o : Origin) (done : List TraceSecond) (s : TraceSecond) (n : ℕ) (waits fewer : List Visit) (v : Values) (d : Devices) (w : Within o done s (In n) waits None [] v d) (e : Entering) → e.at ≡ record { second = s.number; begun = n; late = false } →
+    IsNext o done s (In n) waits fewer v d w e.slot e.which → found_in v.log s.number (In n) e.slot ≡ [] →
+    (e.slot ≡ Driver → ((moved_at v.log (went w.b.run.log done).before s (In n)).enters CoDriver ≡ false) ⊎ (found_in v.log s.number (In n) CoDriver ≡ [])) → (verdict : Verdict) →
+    NotesFind e v.log (λ log. notes_within w.b done s (In n) log) verdict
+finds-noted o done s n waits fewer v d w e at next none order verdict =
+    let second : e.at.second ≡ s.number = ap (λ (m : Moment). m.second) at in
+    let begun : In e.at.begun ≡ In n = ap (λ (m : Moment). In m.begun) at in
+    let here : IsFindAt s (In n) (find_of e verdict) = record { second = second; begun = begun } in
+    record {
+      accepts = λ yes.
+          accepted-now o done s n waits fewer v d w e.slot e.which next none order (find_of e verdict) here refl yes
+          ∙ ap (λ (u : ℕ). spells_of e.which (notes_within w.b done s (In n) v.log) ++ record { second = u; slot = e.slot; withdrawn = false } ∷ []) (sym second);
+      rejects = λ no. rejected-now o done s n waits fewer v d w e.slot e.which next none order (find_of e verdict) here refl no e.which;
+      others = elsewhere-now o done s n waits fewer v d w e.slot e.which next none order (find_of e verdict) here refl (other e.which) (apart-turned e.which);
+    }
+
+module _ (o : Origin) (e : Entering) (failed : Bool) (well : failed ≡ false) (k v : Keeper) (noted noted_after : ℕ) (out after : Outcome) (U W X Y Z : State) (notes : RunLog → List Note) (judges : (verdict : Verdict) → NotesFind e (log_of out) notes verdict)
+    (seat : seat_in k.cabin.slots.seats e.slot ≡ Some (record { card = e.which; newest = None })) where
   abbrev f : CardFound
   f = found_of o.found e.which
 
@@ -65,6 +120,10 @@ module _ (o : Origin) (e : Entering) (failed : Bool) (well : failed ≡ false) (
   -- the log behind it
   abbrev log_by : Ending → RunLog
   log_by ending = log_of (outcome_by ending e out)
+
+  -- where a verdict is told alone
+  one-find : (verdict : Verdict) → record { breaks = out.breaks.items ++ []; refused = out.refused.items; finds = out.finds.items ++ find_of e verdict ∷ [] } ≡ and_find (log_of out) (find_of e verdict)
+  one-find verdict = ap (λ (bs : List Break). record (and_find (log_of out) (find_of e verdict)) { breaks = bs }) (append-nil out.breaks.items)
 
   -- its stay begins
   abbrev new_stay : Entered → Stay
@@ -80,57 +139,109 @@ module _ (o : Origin) (e : Entering) (failed : Bool) (well : failed ≡ false) (
   none-more : (g : Find) → filter accepting (g ∷ []) ≡ [] → acceptances_told (record (log_of out) { finds = (log_of out).finds ++ g ∷ [] }) ≡ acceptances_told (log_of out)
   none-more g rejected = filter-append accepting (log_of out).finds (g ∷ []) ∙ ap (λ (l : List Find). acceptances_told (log_of out) ++ l) rejected ∙ append-nil (acceptances_told (log_of out))
 
-  more-lines : (ending : Ending) → length (log_of out).breaks ≤ length (log_by ending).breaks
-  more-lines ending =
-      let n : length (log_by ending).breaks ≡ length (log_of out).breaks + length (breaks_by ending e) = length-append (log_of out).breaks (breaks_by ending e) in omega (arith, n)
+  -- what becomes of its stays, as it sits in this cabin behind it
+  abbrev TurnsBy : Ending → Cabin → Option Accepted → List Stay → Type 0
+  TurnsBy ending cabin session ss = Turns f (log_of out) (log_by ending) vehicle (spells_of e.which (notes (log_of out))) (spells_of e.which (notes (log_by ending))) (sits_in k.cabin.slots.seats e.which) (sits_in cabin.slots.seats e.which) None session X Y ss
 
   -- a card that is turned away
-  turned-away : (ending : Ending) → acceptances_told (log_by ending) ≡ acceptances_told (log_of out) → (IsOwnValid f.image → DoesOn (own_sizes f.image) [] X Y) → (ss : List Stay) → Turns f (log_of out) (log_by ending) vehicle None None X Y ss
-  turned-away ending same does ss = record {
+  turned-away : (ending : Ending) (cabin : Cabin) → acceptances_told (log_by ending) ≡ acceptances_told (log_of out) → spells_of e.which (notes (log_by ending)) ≡ spells_of e.which (notes (log_of out)) → (IsOwnValid f.image → DoesOn (own_sizes f.image) [] X Y) → (ss : List Stay) → TurnsBy ending cabin None ss
+  turned-away ending cabin same spell does ss = record {
     now = ss;
-    lines = more-lines ending;
     told = inl (same, refl);
     owed = λ all. all;
     only = λ only. only;
-    shows = λ valid h. stays-still f vehicle (length (log_of out).breaks) (length (log_by ending).breaks) ss None X Y (more-lines ending) (does valid) h;
+    shows = λ valid h.
+        stays-moved f vehicle (spells_of e.which (notes (log_of out))) (spells_of e.which (notes (log_by ending))) (sits_in k.cabin.slots.seats e.which) (sits_in cabin.slots.seats e.which) ss None None Y (λ goes. goes) (λ was. was ∙ sym spell)
+        (stays-still f vehicle (spells_of e.which (notes (log_of out))) (sits_in k.cabin.slots.seats e.which) ss None X Y (does valid) h);
   }
 
   -- of a card that was judged
-  own-judged : (ending : Ending) (app : Application) (w : Carried) → IsEnding ending app k.memory.registration e failed U.image X Y → IsToldOf ending o.found w e U X → (IsOwnValid f.image → OpensSo ending k.memory.registration e f X Y) → NothingFailed (log_by ending)
-      → (ss : List Stay) → Turns f (log_of out) (log_by ending) vehicle None (session_by ending noted) X Y ss
-  own-judged (Unfit fid place) app w is told opens none ss = turned-away (Unfit fid place) (none-more (find_of e (NotValid fid place)) refl) opens ss
-  own-judged (Ahead stored) app w is told opens none ss = turned-away (Ahead stored) (none-more (find_of e (TimeOverlap stored e.at.second)) refl) opens ss
-  own-judged Fell app w is told opens none ss = no-tear (log_of out) e.slot e.at none
-  own-judged Unasked app w is told opens none ss = fails is
-  own-judged (Unnoted entered clock) app w is told opens none ss = fails is.0
-  own-judged (Seated entered clock entry) app w is told opens none ss = record {
+  own-judged : (ending : Ending) (app : Application) (w : Carried) (cabin : Cabin) → IsEnding ending app k.memory.registration e failed U.image X Y → IsToldOf ending o.found w e U X → (IsOwnValid f.image → OpensSo ending k.memory.registration e f X Y) → NothingFailed (log_by ending)
+      → (ss : List Stay) → TurnsBy ending (cabin_by ending e noted cabin) (session_by ending noted) ss
+  own-judged (Unfit fid place) app w cabin is told opens none ss =
+      turned-away (Unfit fid place) cabin (none-more (find_of e (NotValid fid place)) refl) (ap (λ (l : RunLog). spells_of e.which (notes l)) (one-find (NotValid fid place)) ∙ (judges (NotValid fid place)).rejects refl) opens ss
+  own-judged (Ahead stored) app w cabin is told opens none ss =
+      turned-away (Ahead stored) cabin (none-more (find_of e (TimeOverlap stored e.at.second)) refl) (ap (λ (l : RunLog). spells_of e.which (notes l)) (one-find (TimeOverlap stored e.at.second)) ∙ (judges (TimeOverlap stored e.at.second)).rejects refl) opens ss
+  own-judged Fell app w cabin is told opens none ss = no-tear (log_of out) e.slot e.at none
+  own-judged Unasked app w cabin is told opens none ss = fails is
+  own-judged (Unnoted entered clock) app w cabin is told opens none ss = fails is.0
+  own-judged (Seated entered clock entry) app w cabin is told opens none ss = record {
     now = ss ++ new_stay entered ∷ [];
-    lines = more-lines (Seated entered clock entry);
     told = inr (find_of e (AcceptedWith entered.replayed), filter-append accepting (log_of out).finds (find_of e (AcceptedWith entered.replayed) ∷ []), founds-more ss (new_stay entered));
     owed = λ all. owed-more ss (new_stay entered) all (ap AcceptedWith told.whole);
     only = λ only. inr told.valid;
-    shows = λ valid h. stays-open f vehicle (length (log_of out).breaks) (length (log_by (Seated entered clock entry)).breaks) (more-lines (Seated entered clock entry)) ss (find_of e (AcceptedWith entered.replayed)) e.odometer.0 entered.owed.items
-        (record { session = entered.session; entry = entry; noted = and_one noted }) X Y is.1.vehicle is.1.fresh (opens valid) h;
+    shows = λ valid h.
+        stays-open f vehicle (spells_of e.which (notes (log_of out))) (spells_of e.which (notes (log_by (Seated entered clock entry)))) (sits_in k.cabin.slots.seats e.which) (sits_in (cabin_by (Seated entered clock entry) e noted cabin).slots.seats e.which) ss
+        (find_of e (AcceptedWith entered.replayed)) e.odometer.0 entered.owed.items (record { session = entered.session; entry = entry; noted = and_one noted }) X Y is.1.vehicle is.1.fresh (opens valid)
+        (put-own cabin.slots.seats e.slot e.which (Some entered.session.minute))
+        (ap (λ (l : RunLog). spells_of e.which (notes l)) (one-find (AcceptedWith entered.replayed)) ∙ (judges (AcceptedWith entered.replayed)).accepts refl) h;
   }
-  own-judged (Lost entered clock entry) app w is told opens none ss = no-tear (record (log_of out) { finds = (log_by (Lost entered clock entry)).finds }) e.slot e.at none
+  own-judged (Lost entered clock entry) app w cabin is told opens none ss = no-tear (record (log_of out) { finds = (log_by (Lost entered clock entry)).finds }) e.slot e.at none
 
-  own : (way : Way) (w : Carried) → IsWay way k.memory.registration e failed U.image X Y → IsToldOf (ending_of way) o.found w e U X → (IsOwnValid f.image → OpensSo (ending_of way) k.memory.registration e f X Y) → NothingFailed (log_by (ending_of way))
-      → (ss : List Stay) → Turns f (log_of out) (log_by (ending_of way)) vehicle None (session_by (ending_of way) noted) X Y ss
-  own Unread w is told opens none ss = no-tear (log_of out) e.slot e.at none
-  own (Unsized field) w is told opens none ss = own-judged (ending_of (Unsized field)) (own_sizes f.image) w tt tt opens none ss
-  own (Judged app ending) w is told opens none ss = own-judged ending app w is told opens none ss
+  own : (way : Way) (w : Carried) (cabin : Cabin) → IsWay way k.memory.registration e failed U.image X Y → IsToldOf (ending_of way) o.found w e U X → (IsOwnValid f.image → OpensSo (ending_of way) k.memory.registration e f X Y) → NothingFailed (log_by (ending_of way))
+      → (ss : List Stay) → TurnsBy (ending_of way) (cabin_by (ending_of way) e noted cabin) (session_by (ending_of way) noted) ss
+  own Unread w cabin is told opens none ss = no-tear (log_of out) e.slot e.at none
+  own (Unsized field) w cabin is told opens none ss = own-judged (ending_of (Unsized field)) (own_sizes f.image) w cabin tt tt opens none ss
+  own (Judged app ending) w cabin is told opens none ss = own-judged ending app w cabin is told opens none ss
+
+  -- ---- of the other card
+
+  others-noted : (ending : Ending) → NothingFailed (log_by ending) → spells_of (other e.which) (notes (log_by ending)) ≡ spells_of (other e.which) (notes (log_of out))
+  others-noted (Unfit fid place) none = ap (λ (l : RunLog). spells_of (other e.which) (notes l)) (one-find (NotValid fid place)) ∙ (judges (NotValid fid place)).others
+  others-noted (Ahead stored) none = ap (λ (l : RunLog). spells_of (other e.which) (notes l)) (one-find (TimeOverlap stored e.at.second)) ∙ (judges (TimeOverlap stored e.at.second)).others
+  others-noted Fell none = no-tear (log_of out) e.slot e.at none
+  others-noted Unasked none =
+      ap (λ (bs : List Break). spells_of (other e.which) (notes (record { breaks = bs; refused = out.refused.items; finds = out.finds.items ++ [] }))) (append-nil out.breaks.items)
+      ∙ ap (λ (fs : List Find). spells_of (other e.which) (notes (record { breaks = out.breaks.items; refused = out.refused.items; finds = fs }))) (append-nil out.finds.items)
+  others-noted (Unnoted entered clock) none = ap (λ (l : RunLog). spells_of (other e.which) (notes l)) (one-find (AcceptedWith entered.replayed)) ∙ (judges (AcceptedWith entered.replayed)).others
+  others-noted (Seated entered clock entry) none = ap (λ (l : RunLog). spells_of (other e.which) (notes l)) (one-find (AcceptedWith entered.replayed)) ∙ (judges (AcceptedWith entered.replayed)).others
+  others-noted (Lost entered clock entry) none = no-tear (record (log_of out) { finds = (log_by (Lost entered clock entry)).finds }) e.slot e.at none
+
+  -- it sits as it did
+  others-sit : (ending : Ending) (cabin : Cabin) → card_in (seat_in cabin.slots.seats e.slot) ≡ Some e.which → sits_in (cabin_by ending e noted cabin).slots.seats (other e.which) ≡ sits_in cabin.slots.seats (other e.which)
+  others-sit (Unfit fid place) cabin there = refl
+  others-sit (Ahead stored) cabin there = refl
+  others-sit Fell cabin there = torn-other e.which (other e.which) e.at.second cabin (apart e.which)
+  others-sit Unasked cabin there = refl
+  others-sit (Unnoted entered clock) cabin there = refl
+  others-sit (Seated entered clock entry) cabin there = put-again cabin.slots.seats e.slot e.which (other e.which) (Some entered.session.minute) there (apart e.which)
+  others-sit (Lost entered clock entry) cabin there =
+      torn-other e.which (other e.which) e.at.second (cabin_by (Seated entered clock entry) e noted cabin) (apart e.which)
+      ∙ put-again cabin.slots.seats e.slot e.which (other e.which) (Some entered.session.minute) there (apart e.which)
 
   registered : (way : Way) → HasEntered e failed k v noted noted_after out after U W X Y way → v.memory.registration ≡ k.memory.registration
   registered way entered = ap (λ (q : Keeper). q.memory.registration) entered.left.keeper
 
+  -- what it told leaves the slots
+  sized-slots : (way : Way) → (measured way e k).cabin.slots ≡ k.cabin.slots
+  sized-slots Unread = refl
+  sized-slots (Unsized field) = refl
+  sized-slots (Judged app ending) = refl
+
   pub entered-stays : (way : Way) (w : Carried) → HasEntered e failed k v noted noted_after out after U W X Y way → IsEnteredOn (ending_of way) e failed k v U W X Y Z o.found w → session_of k.cabin.cards e.which ≡ None
-      → session_of v.cabin.cards (other e.which) ≡ session_of k.cabin.cards (other e.which) → AllStay o (log_of out) k.memory.registration k.cabin.cards (arranged e.which U X Z) → AllStay o (log_of after) v.memory.registration v.cabin.cards (arranged e.which W Y Z)
+      → session_of v.cabin.cards (other e.which) ≡ session_of k.cabin.cards (other e.which) → AllStay o (log_of out) (notes (log_of out)) k.memory.registration k.cabin (arranged e.which U X Z) →
+      AllStay o (log_of after) (notes (log_of after)) v.memory.registration v.cabin (arranged e.which W Y Z)
   entered-stays way w entered known bare others all =
+      let ending : Ending = ending_of way in
+      let behind : Cabin = cabin_by (ending_of way) e noted (measured way e k).cabin in
+      let cabin : v.cabin ≡ cabin_by (ending_of way) e noted (measured way e k).cabin = ap (λ (q : Keeper). q.cabin) entered.left.keeper in
       let session : session_of v.cabin.cards e.which ≡ session_by (ending_of way) noted =
       ap (λ (q : Keeper). session_of q.cabin.cards e.which) entered.left.keeper
       ∙ sessions-by (ending_of way) e noted (measured way e k).cabin (session-sized e.which e.which (sizes_by way) k.cabin.cards ∙ bare) in
-      all-of o (log_of after) vehicle v.memory.registration v.cabin.cards (arranged e.which W Y Z) (registered way entered)
-      (subst (λ (p : Outcome). AllStay o (log_of p) vehicle v.cabin.cards (arranged e.which W Y Z)) (sym entered.left.outcome)
-      (all-one o e.which (log_of out) (log_by (ending_of way)) vehicle k.cabin.cards v.cabin.cards U W X Y Z (λ none. fewer-none (log_of out) (breaks_by (ending_of way) e) none) others
-      (λ none ss. subst (λ (s : Option Accepted). Turns f (log_of out) (log_by (ending_of way)) vehicle s (session_of v.cabin.cards e.which) X Y ss) (sym bare)
-      (subst (λ (s : Option Accepted). Turns f (log_of out) (log_by (ending_of way)) vehicle None s X Y ss) (sym session) (own way w entered.is known.told known.opens none ss))) all))
+      let there : card_in (seat_in (measured way e k).cabin.slots.seats e.slot) ≡ Some e.which =
+      ap (λ (q : SlotsKept). card_in (seat_in q.seats e.slot)) (sized-slots way) ∙ ap (λ (q : Option Seat). card_in q) seat in
+      let sits : sits_in v.cabin.slots.seats (other e.which) ≡ sits_in k.cabin.slots.seats (other e.which) =
+      ap (λ (q : Cabin). sits_in q.slots.seats (other e.which)) cabin ∙ others-sit (ending_of way) (measured way e k).cabin there ∙ ap (λ (q : SlotsKept). sits_in q.seats (other e.which)) (sized-slots way) in
+      all-of o (log_of after) (notes (log_of after)) vehicle v.memory.registration v.cabin (arranged e.which W Y Z) (registered way entered)
+      (subst (λ (p : Outcome). AllStay o (log_of p) (notes (log_of p)) vehicle v.cabin (arranged e.which W Y Z)) (sym entered.left.outcome)
+      (all-one o e.which (log_of out) (log_by (ending_of way)) (notes (log_of out)) (notes (log_by (ending_of way))) vehicle k.cabin v.cabin U W X Y Z (λ none. fewer-none (log_of out) (breaks_by (ending_of way) e) none) others sits
+      (λ none. others-noted (ending_of way) none)
+      (λ none ss. turned way w entered known none ss bare cabin session) all))
+    where
+      turned : (way : Way) (w : Carried) (entered : HasEntered e failed k v noted noted_after out after U W X Y way) → IsEnteredOn (ending_of way) e failed k v U W X Y Z o.found w → NothingFailed (log_by (ending_of way)) → (ss : List Stay) → session_of k.cabin.cards e.which ≡ None →
+          v.cabin ≡ cabin_by (ending_of way) e noted (measured way e k).cabin → session_of v.cabin.cards e.which ≡ session_by (ending_of way) noted →
+          Turns f (log_of out) (log_by (ending_of way)) vehicle (spells_of e.which (notes (log_of out))) (spells_of e.which (notes (log_by (ending_of way)))) (sits_in k.cabin.slots.seats e.which) (sits_in v.cabin.slots.seats e.which) (session_of k.cabin.cards e.which) (session_of v.cabin.cards e.which) X Y ss
+      turned way w entered known none ss bare cabin session =
+          subst (λ (s : Option Accepted). Turns f (log_of out) (log_by (ending_of way)) vehicle (spells_of e.which (notes (log_of out))) (spells_of e.which (notes (log_by (ending_of way)))) (sits_in k.cabin.slots.seats e.which) (sits_in v.cabin.slots.seats e.which) s (session_of v.cabin.cards e.which) X Y ss) (sym bare)
+          (subst (λ (s : Option Accepted). TurnsBy (ending_of way) v.cabin s ss) (sym session)
+          (subst (λ (q : Cabin). TurnsBy (ending_of way) q (session_by (ending_of way) noted) ss) (sym cabin) (own way w (measured way e k).cabin entered.is known.told known.opens none ss)))

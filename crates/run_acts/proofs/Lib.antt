@@ -48,6 +48,8 @@ pub mod Numbers
 pub mod FallEvented
 pub mod Stays
 pub mod AllStay
+pub mod SeatsThen
+pub mod NotesThen
 pub mod EnteredStays
 pub mod NoteRecorded
 pub mod Pulled

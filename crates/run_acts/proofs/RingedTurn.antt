@@ -19,11 +19,9 @@ use Rattle.log_model.proofs.Growth.{went-more}
 use Rattle.side_model.specs.Odometer.{SpanFrom}
 use Rattle.safety_model.specs.Safe.{Devices}
 use Rattle.unit_course.specs.Lines.{cut_at}
-use Rattle.unit_course.specs.Followed.{Lit as IsLit}
 use Rattle.run_course.specs.Moments.{and_break}
-use Rattle.run_course.specs.Followed.{Progress, IsGoing, IsLost as HasLost}
+use Rattle.run_course.specs.Followed.{IsGoing, IsLost as HasLost}
 use Rattle.run_course.proofs.Told.{IsLitAs, lit-told, dark-told, lit-power, lost-dark, next-dark}
-use Rattle.run_course.proofs.Quiet.{quiet-are-told}
 use Rattle.run_crew.specs.declared.cards.Accepted.{Accepted}
 use Rattle.run_outcome.specs.declared.outcome.Outcome.{Outcome}
 use Rattle.run_keeping.specs.declared.keeper.Moment.{Moment}
@@ -31,7 +29,7 @@ use Rattle.run_keeping.specs.Keeping.{SessionsGoOn}
 use Rattle.run_keeping.specs.Books.{HaveTime}
 use Rattle.run_rings.specs.Notes.{TellSameTo}
 use Rattle.run_rings.specs.Spans.{with_second}
-use Rattle.run_recorded.specs.Origin.{Origin, rule_of, start_at, first_of}
+use Rattle.run_recorded.specs.Origin.{Origin, first_of}
 use Rattle.run_recorded.specs.Beside.{HaveLeftMore}
 use Rattle.run_ringed.specs.Ringed.{Seating, LeavesRings, notes_in, since_behind}
 use Rattle.run_ringed.specs.SoFar.{RingedBehind, RingedIn, IsSecond, AreFewer, HasMoreBreaks, GoesBehind}
@@ -40,7 +38,7 @@ use Rattle.run_ringed.specs.Stored.{StoresOn, StoresOff, Stores}
 use Rattle.run_ringed.proofs.Bases.{stored-later, stored-next, stored-alike}
 use Rattle.run_ringed.proofs.Rings.{fewer-sit}
 use Rattle.run_ringed.proofs.SoFar.{second-begins, go-on-in, second-ends, dark-ends}
-use Rattle.run_within.specs.Recorded.{Values, progress}
+use Rattle.run_within.specs.Recorded.{Values}
 use Rattle.run_within.specs.Within.{Beginning, Within, CutWithin}
 use Rattle.run_within.specs.Turning.{last_of, before_last, turned_values, BehindFirst, IsTurned}
 use Rattle.run_within.proofs.Turning.{turn-ends}
@@ -62,6 +60,7 @@ use Rattle.run_acts.specs.Ringing.{seating_of}
 use Rattle.run_acts.proofs.RingedLines.{AreTears, TellsBeside, TellsTears, tears-beside, kept-tells, up-to-tells}
 use Rattle.run_acts.proofs.RingedSecond.{cut-is, cut-torn, cut-found, here-append, tears-here_, goes-behind, power-here, goes-last, alike-last, more-left}
 use Rattle.run_acts.proofs.RingedClosed.{fewer-seats}
+use Rattle.run_acts.proofs.NotesThen.{behind-goes}
 
 -- ---- a second with power, as its log tells it
 
@@ -425,17 +424,8 @@ module _ {U A0 B0 : State} {chip_a chip_b : CardState} (n speed begun : ℕ) (ol
       after_one : BehindFirst o done s (values_of old before) d
       after_one = x.behind (omega arith)
 
-      next-one : after_one.values.next ≡ s.number + 1
-      next-one = let at_ = after_one.next in let number = now.number in omega (arith, at_, number)
-
       goes : (i : ℕ) → IsGoing (went log_ ((done ++ s ∷ []) ++ driven i (s.number + 1) s.speed [])).before
-      goes i =
-          let followed = after_one.recorded.recorded.followed in
-          let p : Progress = progress after_one.values (IsLit (after_one.told ∷ after_one.span)) after_one.recorded.book in
-          let told = quiet-are-told (rule_of o) (start_at o) o.from (first_of o) (done ++ s ∷ []) p followed after_one.told after_one.span refl i s.speed in
-          subst (λ (l : RunLog). IsGoing (went l ((done ++ s ∷ []) ++ driven i (s.number + 1) s.speed [])).before) after_one.log
-          (subst (λ (u : ℕ). IsGoing (went after_one.values.log ((done ++ s ∷ []) ++ driven i u s.speed [])).before) next-one
-          (subst (λ (g_ : Went). IsGoing g_.before) (sym told) followed.power))
+      goes = behind-goes o done s (values_of old before) d after_one now.number
 
       done-is : (done ++ s ∷ []) ++ driven c (s.number + 1) s.speed [] ≡ done ++ s ∷ driven c (s.number + 1) s.speed []
       done-is = append_assoc done (s ∷ []) (driven c (s.number + 1) s.speed [])

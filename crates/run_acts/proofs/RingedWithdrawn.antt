@@ -49,7 +49,7 @@ use Rattle.run_acts.proofs.RingedLines.{AreTears}
 use Rattle.run_acts.proofs.RingedSecond.{odometer-here, goes-to, sits-then, is-cut, sits-cut, torn-cut, bare-there}
 
 -- a withdrawal is not refused where the vehicle stands
-stands-still : (a b : Bool) (f g : SlotFault) → cond {A = Option SlotFault} a (Some f) (cond b (Some g) None) ≡ None → b ≡ false
+pub stands-still : (a b : Bool) (f g : SlotFault) → cond {A = Option SlotFault} a (Some f) (cond b (Some g) None) ≡ None → b ≡ false
 stands-still true b f g is = absurd (cc)
 stands-still false true f g is = absurd (cc)
 stands-still false false f g is = refl

@@ -48,6 +48,7 @@ use Rattle.run_acts.specs.Settling.{settled_run, SettlesTo}
 use Rattle.run_acts.proofs.GoesOn.{goes-on, unit-rose}
 use Rattle.run_acts.proofs.Settled.{settled-ungiven, settled-decides}
 use Rattle.log_model.specs.declared.lines.Break.{Break}
+use Rattle.run_acts.specs.Closings.{spells_of, notes_within}
 use Rattle.run_acts.specs.Stays.{AllStay}
 use Rattle.run_acts.proofs.AllStay.{all-of, all-kept, lines-on, reach-told}
 
@@ -143,13 +144,15 @@ module _ {U A0 B0 : State} {chip_a chip_b : CardState} (old : Run) (before : Out
         booked.0
 
     -- what is made of the cards
-    settled-stay : failed ≡ false → AllStay o (log_of after) keeper.memory.registration keeper.cabin.cards e
+    settled-stay : failed ≡ false → AllStay o (log_of after) (notes_within w.b done s (In n) (log_of after)) keeper.memory.registration keeper.cabin e
     settled-stay well =
         let all = subst (λ (b : Bool). IsReach decided at b (told_of old before) (told_of new after) reach) well is in
         let how = reach-told decided at (told_of old before) (told_of new after) reach all in
-        all-of o (log_of after) old.keeper.memory.registration keeper.memory.registration keeper.cabin.cards e how.registered
-        (all-kept o (log_of before) (log_of after) old.keeper.memory.registration (kepts_on old.keeper decided) old.keeper.cabin.cards keeper.cabin.cards d e
-        (λ none. lines-on (log_of before) breaks.items how.more how.lines none) (λ none c some_. how.stay c none.1 some_) (booked.2 well) r.stay)
+        all-of o (log_of after) (notes_within w.b done s (In n) (log_of after)) old.keeper.memory.registration keeper.memory.registration keeper.cabin e how.registered
+        (all-kept o (log_of before) (log_of after) (notes_within w.b done s (In n) (log_of before)) (notes_within w.b done s (In n) (log_of after)) old.keeper.memory.registration (kepts_on old.keeper decided) old.keeper.cabin keeper.cabin d e
+        (λ none. lines-on (log_of before) breaks.items how.more how.lines none)
+        (λ none c. ap (λ (bs : List Break). spells_of c (notes_within w.b done s (In n) (record (log_of before) { breaks = bs }))) (how.same none.1).0)
+        (λ none. (how.same none.1).1) (λ none c some_. how.stay c none.1 some_) (booked.2 well) r.stay)
 
     so : (f : Bool) → failed ≡ f → IsKeptTo f o done s q decided (told_of old before) (told_of new after) v d e w → SettlesTo f o done s (In n) waits w.b w.from (w.from + length decided) old new before after e
     so false well k =
@@ -160,7 +163,7 @@ module _ {U A0 B0 : State} {chip_a chip_b : CardState} (old : Run) (before : Out
             lit = r.lit;
             within = x;
             odometer = odometer ∙ r.odometer ∙ ap (λ (b : Beginning). odometer_after (odometer_at o.recording.unit) b.travel.before) (sym began);
-            stay = settled-stay well;
+            stay = subst (λ (b : Beginning). AllStay o (log_of after) (notes_within b done s (In n) (log_of after)) keeper.memory.registration keeper.cabin e) (sym began) (settled-stay well);
           };
           began = began;
           from = from ∙ end;

@@ -1,5 +1,5 @@
 -- The stays of a card, over what each call makes of it.
-use Rattle.std.proofs.Common.{◌≡◌, ◌∙◌, inl, inr, ℕ, suc, ◌+◌, ◌≤◌, Bool, true, false, List, [], ◌∷◌, ◌++◌, append_assoc, Option, Some, None, refl, ap, sym, subst, arith}
+use Rattle.std.proofs.Common.{◌≡◌, ◌∙◌, inl, inr, ℕ, Bool, true, false, List, [], ◌∷◌, ◌++◌, append_assoc, Option, Some, None, refl, ap, sym, subst}
 use Rattle.std.specs.Prelude.{not, is_some}
 use Rattle.std.specs.List.{AllByRecursion}
 use Rattle.std.proofs.lemmas.List.{append-nil}
@@ -21,7 +21,8 @@ use Rattle.run_keeping.specs.CardDeeds.{made_by, is_used, ShowsBook, DoesOn, kee
 use Rattle.run_keeping.specs.Deeds.{KeepsOn}
 use Rattle.run_keeping.proofs.CardDeeds.{made-append, keeps-append, last-append}
 use Rattle.log_model.specs.declared.lines.Find.{Find}
-use Rattle.run_acts.specs.Stays.{Stay, Shown, closes, deeds_of, after_stay, after_stays, start_shown, founds, open_by, open_ones, going_on, AreMerged, TellsOwed, GoesIn, StaysIn, HasStays}
+use Rattle.run_acts.specs.Closings.{Spell, last_shut, with_last_shut}
+use Rattle.run_acts.specs.Stays.{Stay, Shown, closes, deeds_of, after_stay, after_stays, start_shown, founds, stay_spell, spells, as_noted, AreMerged, TellsOwed, GoesIn, StaysIn, HasStays}
 
 -- ---- the last of some stays
 
@@ -76,10 +77,6 @@ on-last-none f ss none = ap (on_last f) none
 
 -- ---- how many
 
-pub open-more : (ss : List Stay) (s : Stay) → open_ones (ss ++ s ∷ []) ≡ open_ones ss + open_by s.closed
-open-more [] s = omega arith
-open-more (t ∷ ss) s = let rest = open-more ss s in omega (arith, rest)
-
 pub founds-more : (ss : List Stay) (s : Stay) → founds (ss ++ s ∷ []) ≡ founds ss ++ s.found ∷ []
 founds-more [] s = refl
 founds-more (t ∷ ss) s = ap (λ (l : List Find). t.found ∷ l) (founds-more ss s)
@@ -102,9 +99,38 @@ with_kepts ks s = record s { kepts = s.kepts ++ ks }
 abbrev pub with_end : Activity → Stay → Stay
 with_end act s = record s { closed = Some act }
 
-going-most : (s : Option Accepted) → going_on s ≤ 1
-going-most None = omega arith
-going-most (Some a) = omega arith
+-- ---- their spells
+
+spells-more : (ss : List Stay) (s : Stay) → spells (ss ++ s ∷ []) ≡ spells ss ++ stay_spell s ∷ []
+spells-more [] s = refl
+spells-more (t ∷ ss) s = ap (λ (l : List Spell). stay_spell t ∷ l) (spells-more ss s)
+
+kept-spells : (ks : List Kept) (t : Stay) (ss : List Stay) → spells (last_as (with_kepts ks) t ss) ≡ spells (t ∷ ss)
+unfolding last_as
+kept-spells ks t [] = refl
+kept-spells ks t (x ∷ ss) = ap (λ (l : List Spell). stay_spell t ∷ l) (kept-spells ks x ss)
+
+-- minutes that are kept leave them
+on-last-kept : (ks : List Kept) (ss : List Stay) → spells (on_last (with_kepts ks) ss) ≡ spells ss
+unfolding on_last
+on-last-kept ks [] = refl
+on-last-kept ks (t ∷ ss) = kept-spells ks t ss
+
+shut-spells : (act : Activity) (t : Stay) (ss : List Stay) → spells (last_as (with_end act) t ss) ≡ last_shut (stay_spell t) (spells ss)
+unfolding last_as
+shut-spells act t [] = refl
+shut-spells act t (x ∷ ss) = ap (λ (l : List Spell). stay_spell t ∷ l) (shut-spells act x ss)
+
+-- and a closing shuts the last one
+on-last-shut : (act : Activity) (ss : List Stay) → spells (on_last (with_end act) ss) ≡ with_last_shut (spells ss)
+unfolding on_last
+on-last-shut act [] = refl
+on-last-shut act (t ∷ ss) = shut-spells act t ss
+
+-- whichever session it is
+noted-alike : (a b : Accepted) (sits : Bool) (ss : List Spell) → as_noted (Some b) sits ss ≡ as_noted (Some a) sits ss
+noted-alike a b true ss = refl
+noted-alike a b false ss = refl
 
 stays-append : (vehicle : Registration) (size : ℕ) (ss ts : List Stay) (p : Shown) → after_stays vehicle size (ss ++ ts) p ≡ after_stays vehicle size ts (after_stays vehicle size ss p)
 stays-append vehicle size [] ts p = refl
@@ -135,22 +161,20 @@ module _ (f : CardFound) (vehicle : Registration) where
       made-append size first (keeps vehicle None s.kepts ++ closes s.closed) p.book ∙ made-append size (keeps vehicle None s.kepts) (closes s.closed) (made_by size first p.book)
 
   -- at the start
-  pub stays-start : (lines : ℕ) (X : State) → ((y : List ℕ) → X.may_leave y → y ≡ f.image) → HasStays f vehicle lines [] None X
-  stays-start lines X only = record { shows = λ y left. (ap (book_of app) (only y left), ap (is_used app) (only y left)); goes = tt; ends = omega arith }
+  pub stays-start : (sits : Bool) (X : State) → ((y : List ℕ) → X.may_leave y → y ≡ f.image) → HasStays f vehicle [] sits [] None X
+  stays-start sits X only = record { shows = λ y left. (ap (book_of app) (only y left), ap (is_used app) (only y left)); goes = tt; spell = refl }
 
-  -- nothing is done on it, and no fewer lines are told
-  pub stays-still : (lines more : ℕ) (ss : List Stay) (s : Option Accepted) (X Y : State) → lines ≤ more → DoesOn app [] X Y → HasStays f vehicle lines ss s X → HasStays f vehicle more ss s Y
-  stays-still lines more ss s X Y low does h = record { shows = does (shown_by ss).book (shown_by ss).used h.shows; goes = h.goes; ends = let most = h.ends in omega (arith, most, low) }
+  -- nothing is done on it
+  pub stays-still : (noted : List Spell) (sits : Bool) (ss : List Stay) (s : Option Accepted) (X Y : State) → DoesOn app [] X Y → HasStays f vehicle noted sits ss s X → HasStays f vehicle noted sits ss s Y
+  stays-still noted sits ss s X Y does h = record { shows = does (shown_by ss).book (shown_by ss).used h.shows; goes = h.goes; spell = h.spell }
 
-  pub stays-later : (lines more : ℕ) (ss : List Stay) (s : Option Accepted) (X : State) → lines ≤ more → HasStays f vehicle lines ss s X → HasStays f vehicle more ss s X
-  stays-later lines more ss s X low h = record { shows = h.shows; goes = h.goes; ends = let most = h.ends in omega (arith, most, low) }
-
-  -- it has no session any more, of which a line tells
-  pub stays-gone : (lines more : ℕ) (ss : List Stay) (s : Option Accepted) (X : State) → suc lines ≤ more → HasStays f vehicle lines ss s X → HasStays f vehicle more ss None X
-  stays-gone lines more ss s X low h = record { shows = h.shows; goes = tt; ends = let most = h.ends in let one = going-most s in omega (arith, most, one, low) }
+  -- its session and its seat become others, as it is noted, or its session is gone
+  pub stays-moved : (noted now : List Spell) (sits sits_now : Bool) (ss : List Stay) (s t : Option Accepted) (X : State) → (StaysIn vehicle ss s → StaysIn vehicle ss t) → (as_noted s sits (spells ss) ≡ noted → as_noted t sits_now (spells ss) ≡ now) →
+      HasStays f vehicle noted sits ss s X → HasStays f vehicle now sits_now ss t X
+  stays-moved noted now sits sits_now ss s t X goes spell h = record { shows = h.shows; goes = goes h.goes; spell = spell h.spell }
 
   -- it keeps some minutes
-  module _ (lines more : ℕ) (low : lines ≤ more) (ss : List Stay) (ks : List Kept) (a b : Accepted) (X Y : State) (on : KeepsOn f ks (Some a) (Some b) X Y) (h : HasStays f vehicle lines ss (Some a) X) where
+  module _ (noted : List Spell) (sits : Bool) (ss : List Stay) (ks : List Kept) (a b : Accepted) (X Y : State) (on : KeepsOn f ks (Some a) (Some b) X Y) (h : HasStays f vehicle noted sits ss (Some a) X) where
     abbrev g : GoesIn vehicle ss a
     g = h.goes
 
@@ -188,10 +212,7 @@ module _ (f : CardFound) (vehicle : Registration) where
     now-are : on_last (with_kepts ks) ss ≡ g.front ++ kept_stay ∷ []
     now-are = ap (on_last (with_kepts ks)) g.are ∙ on-last (with_kepts ks) g.front g.stay
 
-    same-open : open_ones (on_last (with_kepts ks) ss) ≡ open_ones ss
-    same-open = ap open_ones now-are ∙ open-more g.front kept_stay ∙ sym (ap open_ones g.are ∙ open-more g.front g.stay)
-
-    pub stays-keep : HasStays f vehicle more (on_last (with_kepts ks) ss) (Some b) Y
+    pub stays-keep : HasStays f vehicle noted sits (on_last (with_kepts ks) ss) (Some b) Y
     stays-keep = record {
       shows = subst (λ (p : Shown). Shows p Y) (sym (ap shown_by now-are ∙ behind g.front kept_stay)) made;
       goes = record {
@@ -202,12 +223,12 @@ module _ (f : CardFound) (vehicle : Registration) where
         registered = on.0 ∙ g.registered;
         odometer = on.1 ∙ ap (λ (o : Option Odometer). last_odometer o ks) g.odometer ∙ sym (last-append None g.stay.kepts ks);
       };
-      ends = let most = h.ends in let same = same-open in omega (arith, most, same, low);
+      spell = noted-alike a b sits (spells (on_last (with_kepts ks) ss)) ∙ ap (λ (l : List Spell). as_noted (Some a) sits l) (on-last-kept ks ss) ∙ h.spell;
     }
 
   -- it is put in, and accepted
-  module _ (lines more : ℕ) (low : lines ≤ more) (ss : List Stay) (found : Find) (odometer : ℕ) (owed : List Entry) (a : Accepted) (X Y : State) (is : a.session.registration ≡ vehicle) (fresh : a.session.odometer ≡ None) (on : OpensOn app vehicle odometer owed X Y)
-      (h : HasStays f vehicle lines ss None X) where
+  module _ (noted now : List Spell) (sits sits_now : Bool) (ss : List Stay) (found : Find) (odometer : ℕ) (owed : List Entry) (a : Accepted) (X Y : State) (is : a.session.registration ≡ vehicle) (fresh : a.session.odometer ≡ None) (on : OpensOn app vehicle odometer owed X Y)
+      (there : sits_now ≡ true) (more : now ≡ noted ++ record { second = found.second; slot = found.slot; withdrawn = false } ∷ []) (h : HasStays f vehicle noted sits ss None X) where
     abbrev new_stay : Stay
     new_stay = record { found = found; odometer = odometer; owed = owed; kepts = []; closed = None }
 
@@ -215,16 +236,18 @@ module _ (f : CardFound) (vehicle : Registration) where
         ≡ made_by size (opens (shown_by ss).used vehicle odometer (lacked (mark_of (shown_by ss).book) owed)) (shown_by ss).book
     new-book = parts new_stay (shown_by ss)
 
-    pub stays-open : HasStays f vehicle more (ss ++ new_stay ∷ []) (Some a) Y
+    pub stays-open : HasStays f vehicle now sits_now (ss ++ new_stay ∷ []) (Some a) Y
     stays-open = record {
       shows = subst (λ (p : Shown). Shows p Y) (sym (behind ss new_stay))
           (subst (λ (c : Book). ShowsBook app c true Y) (sym new-book) (on (shown_by ss).book (shown_by ss).used h.shows));
       goes = record { front = ss; stay = new_stay; are = refl; still = refl; registered = is; odometer = fresh };
-      ends = let most = h.ends in let one = open-more ss new_stay in omega (arith, most, one, low);
+      spell =
+          ap (λ (b : Bool). as_noted (Some a) b (spells (ss ++ new_stay ∷ []))) there ∙ spells-more ss new_stay
+          ∙ ap (λ (l : List Spell). l ++ stay_spell new_stay ∷ []) h.spell ∙ sym more;
     }
 
   -- it is withdrawn
-  module _ (lines more : ℕ) (low : lines ≤ more) (ss : List Stay) (act : Activity) (a : Accepted) (X Y : State) (on : ClosesOn app act X Y) (h : HasStays f vehicle lines ss (Some a) X) where
+  module _ (noted : List Spell) (sits sits_now : Bool) (ss : List Stay) (act : Activity) (a : Accepted) (X Y : State) (on : ClosesOn app act X Y) (gone : sits ≡ false) (h : HasStays f vehicle noted sits ss (Some a) X) where
     abbrev last_stay : Stay
     last_stay = h.goes.stay
 
@@ -246,17 +269,12 @@ module _ (f : CardFound) (vehicle : Registration) where
     shut-are : on_last (with_end act) ss ≡ h.goes.front ++ closed_stay ∷ []
     shut-are = ap (on_last (with_end act)) h.goes.are ∙ on-last (with_end act) h.goes.front last_stay
 
-    pub stays-close : HasStays f vehicle more (on_last (with_end act) ss) None Y
+    pub stays-close : HasStays f vehicle noted sits_now (on_last (with_end act) ss) None Y
     stays-close = record {
       shows = subst (λ (p : Shown). Shows p Y) (sym (ap shown_by shut-are ∙ behind h.goes.front closed_stay))
           (subst (λ (c : Book). ShowsBook app c false Y)
           (ap (made_by size (Close act ∷ [])) open-book ∙ sym (parts closed_stay earlier))
           (on (after_stay vehicle size last_stay earlier).book (after_stay vehicle size last_stay earlier).used stood));
       goes = tt;
-      ends =
-          let most = h.ends in
-          let were = ap open_ones h.goes.are ∙ open-more h.goes.front last_stay in
-          let was_open = ap open_by h.goes.still in
-          let now = ap open_ones shut-are ∙ open-more h.goes.front closed_stay in
-          omega (arith, most, were, was_open, now, low);
+      spell = on-last-shut act ss ∙ sym (ap (λ (b : Bool). as_noted (Some a) b (spells ss)) gone) ∙ h.spell;
     }

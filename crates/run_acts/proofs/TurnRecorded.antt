@@ -57,7 +57,13 @@ use Rattle.run_acts.proofs.GoesOn.{goes-on, unit-rose}
 use Rattle.run_acts.proofs.SettledRecorded.{same-ungiven, two-present}
 use Rattle.run_acts.proofs.Turned.{turn-decides, turn-most}
 use Rattle.log_model.specs.declared.lines.Break.{Break}
+use Rattle.side_model.specs.Noted.{Note}
+use Rattle.run_ringed.specs.Ringed.{notes_in}
+use Rattle.run_ringed.specs.SoFar.{GoesBehind, notes_so_far}
+use Rattle.run_acts.specs.Closings.{spells_of, notes_within}
 use Rattle.run_acts.specs.Stays.{AllStay}
+use Rattle.run_acts.proofs.RingedSecond.{goes-behind, power-here}
+use Rattle.run_acts.proofs.NotesThen.{actions-all, notes-end, notes-last, behind-goes}
 use Rattle.run_acts.proofs.AllStay.{all-of, all-kept, lines-on, no-cut, reach-told}
 
 -- a span that goes on has a second
@@ -135,15 +141,24 @@ module _ (old : Run) (before : Outcome) (minutes : Kept) (keeper : Keeper) (watc
     U = told_values u v
 
     -- what is made of the cards
-    turned-stay : AllStay o (log_of before) old.keeper.memory.registration old.keeper.cabin.cards d → failed ≡ false → (r : Reach) → IsReach decided (moment_of s q) false t u r → AllStay o (log_of told) keeper.memory.registration keeper.cabin.cards e
+    turned-stay : AllStay o (log_of before) (notes_within w.b done s Keeping (log_of before)) old.keeper.memory.registration old.keeper.cabin d → failed ≡ false → (r : Reach) → IsReach decided (moment_of s q) false t u r →
+        AllStay o (log_of told) (notes_within w.b done s Keeping (log_of told)) keeper.memory.registration keeper.cabin e
     turned-stay stay well r is_ =
         let how = reach-told decided (moment_of s q) t u r is_ in
-        all-of o (log_of told) old.keeper.memory.registration keeper.memory.registration keeper.cabin.cards e how.registered
-        (all-kept o (log_of before) (log_of told) old.keeper.memory.registration (kepts_on old.keeper decided) old.keeper.cabin.cards keeper.cabin.cards d e
-        (λ none. lines-on (log_of before) breaks.items how.more how.lines none) (λ none c some_. how.stay c none.1 some_) (booked.2 well) stay)
+        all-of o (log_of told) (notes_within w.b done s Keeping (log_of told)) old.keeper.memory.registration keeper.memory.registration keeper.cabin e how.registered
+        (all-kept o (log_of before) (log_of told) (notes_within w.b done s Keeping (log_of before)) (notes_within w.b done s Keeping (log_of told)) old.keeper.memory.registration (kepts_on old.keeper decided) old.keeper.cabin keeper.cabin d e
+        (λ none. lines-on (log_of before) breaks.items how.more how.lines none)
+        (λ none c. ap (λ (bs : List Break). spells_of c (notes_within w.b done s Keeping (record (log_of before) { breaks = bs }))) (how.same none.1).0)
+        (λ none. (how.same none.1).1) (λ none c some_. how.stay c none.1 some_) (booked.2 well) stay)
+
+    -- all that was noted in it
+    all-notes : (x : Within o done s Keeping [] (Some s.speed) [] U e) → notes_in (log_of told) (done ++ s ∷ []) ≡ notes_within x.b done s Keeping (log_of told)
+    all-notes x =
+        notes-end x.b.run.log (log_of told) done s
+        (goes-behind o done s Keeping [] (Some s.speed) [] U e x [] (log_of told) (ap (λ (bs : List Break). record (log_of told) { breaks = bs }) (sym (append-nil breaks.items))) tt) (power-here o done s Keeping [] (Some s.speed) [] U e x)
 
     -- all is kept
-    over-now : (x : Within o done s Keeping [] (Some s.speed) [] U e) → x.b ≡ w.b → AllStay o (log_of told) keeper.memory.registration keeper.cabin.cards e → RunRecorded o (done ++ s ∷ []) (passed n begun between) told e
+    over-now : (x : Within o done s Keeping [] (Some s.speed) [] U e) → x.b ≡ w.b → AllStay o (log_of told) (notes_within w.b done s Keeping (log_of told)) keeper.memory.registration keeper.cabin e → RunRecorded o (done ++ s ∷ []) (passed n begun between) told e
     over-now x same stays =
         let p = pushed x.b.span (next_told U.log done s) in
         let V : Values = values_of (passed n begun between) told in
@@ -161,7 +176,8 @@ module _ (old : Run) (before : Outcome) (minutes : Kept) (keeper : Keeper) (watc
           powers = subst (λ (pw : Power). Supplies pw (IsLit (p.first ∷ p.rest))) (sym lit) tt;
           recorded = so.recorded;
           odometer = λ on. odometer ∙ stored ∙ ap (odometer_after (odometer_at o.recording.unit)) (ap (λ (b : Beginning). b.travel.before) (sym same) ∙ sym so.travelled_before);
-          stay = stays;
+          stay = subst (λ (ns : List Note). AllStay o (log_of told) ns keeper.memory.registration keeper.cabin e) (sym (all-notes x))
+              (subst (λ (b : Beginning). AllStay o (log_of told) (notes_within b done s Keeping (log_of told)) keeper.memory.registration keeper.cabin e) (sym same) stays);
         }
 
     -- or power is cut
@@ -181,7 +197,7 @@ module _ (old : Run) (before : Outcome) (minutes : Kept) (keeper : Keeper) (watc
           stay = λ none. no-cut (log_of told) (old.next + n - 1) begun none;
         }
 
-    by : AllStay o (log_of before) old.keeper.memory.registration old.keeper.cabin.cards d → (f : Bool) (r : Reach) → failed ≡ f → IsTurnReach decided (moment_of s q) f t u r → IsTurnBooked o.found (odometer_at o.recording.unit) (carried_at o done s q decided t v d w) old.keeper f r (all_travelled w.ds w.b.travel) u e →
+    by : AllStay o (log_of before) (notes_within w.b done s Keeping (log_of before)) old.keeper.memory.registration old.keeper.cabin d → (f : Bool) (r : Reach) → failed ≡ f → IsTurnReach decided (moment_of s q) f t u r → IsTurnBooked o.found (odometer_at o.recording.unit) (carried_at o done s q decided t v d w) old.keeper f r (all_travelled w.ds w.b.travel) u e →
         RunRecorded o (done ++ s ∷ []) (passed n begun (cut_where f (old.next + n - 1) between)) (cut_breaks f (old.next + n - 1) begun told) e
     by stay false (Whole xs) same is_ b = let k = keeping-recorded d e o done s q decided t u v w keeps false (Whole xs) is_ off (λ no. absurd (cc)) b in over-now k.0.within k.0.began (turned-stay stay same (Whole xs) is_)
     by stay true (Whole xs) same is_ b = cut-now (note-fails d e o done s q decided t u v w keeps low xs is_ off (rose same) b.0 b.1)
@@ -198,7 +214,7 @@ module _ (old : Run) (before : Outcome) (minutes : Kept) (keeper : Keeper) (watc
     pub turn-fails : failed ≡ true → CutWithin o done s Keeping [] (Some s.speed) U e
     turn-fails on = fails-by failed reach refl turn-reach booked.0 on
 
-    pub turn-core : AllStay o (log_of before) old.keeper.memory.registration old.keeper.cabin.cards d → RunRecorded o (done ++ s ∷ []) (passed n begun (cut_where failed (old.next + n - 1) between)) (cut_breaks failed (old.next + n - 1) begun told) e
+    pub turn-core : AllStay o (log_of before) (notes_within w.b done s Keeping (log_of before)) old.keeper.memory.registration old.keeper.cabin d → RunRecorded o (done ++ s ∷ []) (passed n begun (cut_where failed (old.next + n - 1) between)) (cut_breaks failed (old.next + n - 1) begun told) e
     turn-core stay = by stay failed reach refl turn-reach booked.0
 
 -- ---- the last of some seconds
@@ -265,8 +281,8 @@ module _ {U A0 B0 : State} {chip_a chip_b : CardState} (n speed begun : ℕ) (ol
     -- over the last second
     by-last : (c : ℕ) → c ≡ n - 1 → (D : List TraceSecond) (L : TraceSecond) (next gone : ℕ) → L.number ≡ s.number + c → next ≡ old.next + c → length L.actions ≡ begun →
         (w : Within o D L Keeping [] (Some L.speed) T.decided (record (values_of old before) { minutes = T.fed.minutes; next = next; begun = gone }) d) → w.b.travel.before ≡ r.within.b.travel.before → w.from ≡ r.within.from →
-        RunRecorded o (D ++ L ∷ []) (passed n begun new) after e
-    by-last c is D L next gone number next_is acts w travel from =
+        AllStay o (log_of before) (notes_within w.b D L Keeping (log_of before)) old.keeper.memory.registration old.keeper.cabin d → RunRecorded o (D ++ L ∷ []) (passed n begun new) after e
+    by-last c is D L next gone number next_is acts w travel from stay =
         let at = now.number in
         let num : L.number ≡ old.next + n - 1 = omega (arith, number, is, at, some) in
         let first = from-is in
@@ -278,7 +294,7 @@ module _ {U A0 B0 : State} {chip_a chip_b : CardState} (n speed begun : ℕ) (ol
         (subst (λ (x : Outcome). RunRecorded o (D ++ L ∷ []) (passed n begun (cut_where T.failed (old.next + n - 1) here)) x e) after-is
         (turn-core old before T.fed.minutes T.between.keeper T.between.watch T.told.marks T.told.breaks n begun T.failed T.decided h.1 d e reach-is books-is h.4 h.5 (two-present (ungiven_of g.span) None old.keeper.cabin g.cabin)
         lit some time o r.origin D L next gone w num (omega (arith, next_is, is, some)) acts (r.odometer ∙ ap (odometer_after (odometer_at o.recording.unit)) (sym travel))
-        (omega (arith, from, first, few, same)) (omega (arith, from, first, end, same)) r.stay))
+        (omega (arith, from, first, few, same)) (omega (arith, from, first, end, same)) stay))
 
     -- where the unit failed in its keeping: its record as power is about to be cut
     pub fails-last : (c : ℕ) → c ≡ n - 1 → (D : List TraceSecond) (L : TraceSecond) (next gone : ℕ) → L.number ≡ s.number + c → next ≡ old.next + c → length L.actions ≡ begun →
@@ -311,9 +327,23 @@ module _ {U A0 B0 : State} {chip_a chip_b : CardState} (n speed begun : ℕ) (ol
         lit some time o r.origin D L next gone w num (omega (arith, next_is, is, some)) acts (r.odometer ∙ ap (odometer_after (odometer_at o.recording.unit)) (sym travel))
         (omega (arith, from, first, few, same)) (omega (arith, from, first, end, same))).1
 
+    -- as the first of them is fed, all of its actions are noted
+    stay-first : AllStay o (log_of before) (notes_within r.within.b done s Keeping (log_of before)) old.keeper.memory.registration old.keeper.cabin d
+    stay-first = subst (λ (as_ : List Action). AllStay o (log_of before) (notes_so_far r.within.b.run.log done (log_of before) s as_) old.keeper.memory.registration old.keeper.cabin d) (actions-all s.actions) r.stay
+
+    behind-first : GoesBehind r.within.b.run.log (log_of before) done
+    behind-first =
+        goes-behind o done s (In (length s.actions)) [] None [] (values_of old before) d r.within [] (log_of before) (ap (λ (bs : List Break). record (log_of before) { breaks = bs }) (sym (append-nil (log_of before).breaks))) tt
+
     by-count : (c : ℕ) → c ≡ n - 1 → IsTurned o done s c T.decided T.fed.minutes (values_of old before) d r.within → RunRecorded o (before_last c s done ++ last_of c s ∷ []) (passed n begun new) after e
-    by-count zero is x = by-last zero is done s (old.next + 0) x.begun (last-number zero s) refl (last-actions zero begun s actions (λ lt. none (omega (arith, lt, is)))) x.fed x.travelled_before x.from
-    by-count (suc c) is x = by-last (suc c) is (before_last (suc c) s done) (last_of (suc c) s) (old.next + suc c) x.begun (last-number (suc c) s) refl (last-actions (suc c) begun s actions (λ lt. none (omega (arith, lt, is)))) x.fed x.travelled_before x.from
+    by-count zero is x =
+        by-last zero is done s (old.next + 0) x.begun (last-number zero s) refl (last-actions zero begun s actions (λ lt. none (omega (arith, lt, is)))) x.fed x.travelled_before x.from
+        (subst (λ (b : Beginning). AllStay o (log_of before) (notes_within b done s Keeping (log_of before)) old.keeper.memory.registration old.keeper.cabin d) (sym (x.first refl)) stay-first)
+    by-count (suc c) is x =
+        by-last (suc c) is (before_last (suc c) s done) (last_of (suc c) s) (old.next + suc c) x.begun (last-number (suc c) s) refl (last-actions (suc c) begun s actions (λ lt. none (omega (arith, lt, is)))) x.fed x.travelled_before x.from
+        (subst (λ (ns : List Note). AllStay o (log_of before) ns old.keeper.memory.registration old.keeper.cabin d)
+        (sym (notes-last r.within.b.run.log (log_of before) done s c behind-first (power-here o done s (In (length s.actions)) [] None [] (values_of old before) d r.within)
+        (behind-goes o done s (values_of old before) d (x.behind (omega arith)) now.number) x.fed.b (x.goes_on (omega arith)).0)) stay-first)
 
     pub turn-lit : RunRecorded o (done ++ s ∷ driven (n - 1) (s.number + 1) speed []) (passed n begun new) after e
     turn-lit =
@@ -333,7 +363,7 @@ module _ (n speed begun : ℕ) (old : Run) (before : Outcome) (d : Devices) (som
     powers = subst (λ (pw : Power). Supplies pw IsLost) (sym r.lost) tt;
     recorded = subst (λ (m : ℕ). Recorded o done_ IsLost (V m begun) d) is (subst (λ (b : ℕ). Recorded o done_ IsLost (V next b) d) at rec);
     odometer = λ on. absurd (let clash : Lost ≡ Lit = sym r.lost ∙ on in cc);
-    stay = r.stay;
+    stay = λ none. absurd (r.failed none);
   }
 
   by-more : (c : ℕ) → c ≡ n - 1 → RunRecorded o (done ++ s ∷ driven c (s.number + 1) speed []) (passed n begun old) before d

@@ -44,7 +44,7 @@ use Rattle.run_acts.proofs.Apart.{not-both}
 use Rattle.run_acts.proofs.Asked.{allowed-in}
 use Rattle.run_acts.proofs.NoneComes.{none-comes}
 use Rattle.log_model.specs.declared.lines.Find.{Find}
-use Rattle.run_crew.specs.Cabin.{Stands}
+use Rattle.run_crew.specs.Cabin.{Stands, with_slot_left}
 use Rattle.run_evented.specs.Noting.{Acting}
 use Rattle.run_evented.specs.SoFar.{EventedNow, puts_into}
 use Rattle.run_acts.specs.NotedEvents.{NotesEvents}
@@ -57,7 +57,14 @@ use Rattle.run_acts.specs.RunCards.{StillShow, CardsSettling, PlacesSettling}
 use Rattle.run_acts.proofs.CardStays.{closing-still}
 use Rattle.run_ringed.specs.OnCards.{PlacesStay}
 use Rattle.run_acts.proofs.CardPlaces.{closing-stay}
-use Rattle.run_acts.specs.Stays.{ClosesOnCard}
+use Rattle.side_model.specs.Noted.{Note}
+use Rattle.log_model.specs.Slots.{same_card}
+use Rattle.run_acts.specs.Closings.{spells_of, notes_within}
+use Rattle.run_acts.specs.Stays.{sits_in, AllStay, ClosesOnCard}
+use Rattle.run_acts.proofs.Closings.{same-turned}
+use Rattle.run_acts.proofs.AllStay.{Moves, moves-same, moves-bare, moves-leaves, all-moved, log-self}
+use Rattle.run_acts.proofs.SeatsThen.{same-as, sits-there, sits-nowhere, left-other}
+use Rattle.run_acts.proofs.NotesThen.{withdrawn-now, bare-now, others-now}
 
 -- the moment of an action
 abbrev pub acting_at : ℕ → ℕ → Moment
@@ -79,7 +86,7 @@ found-as log later u p slot same = ap (λ (fs : List Find). found_in (record log
 -- ---- in a second, at its action
 
 module _ (o : Origin) (done : List TraceSecond) (s : TraceSecond) (front rest : List Action) (slot : Slot) (are : s.actions ≡ front ++ Withdraw slot ∷ rest) (speed : ℕ) (now : s.speed ≡ speed) (c : Card) (run between : Run) (before told : Outcome) (d : Devices)
-    (w : RunWithin o done s (In (length front)) [] [] run before d) (seat : card_in (seat_in run.keeper.cabin.slots.seats slot) ≡ Some c) (allowed : refusal (logged run.keeper.cabin.slots.seats) speed (Withdraw slot) ≡ None)
+    (w : RunWithin o done s (In (length front)) [] [] run before d) (seat : card_in (seat_in run.keeper.cabin.slots.seats slot) ≡ Some c) (allowed : refusal (logged run.keeper.cabin.slots.seats) speed (Withdraw slot) ≡ None) (from_ : ℕ) (seated : Stands from_ None run.keeper.cabin)
     (stands : StandsFor between.minutes (settled w.within.sp)) (decided : List Minute) (given : decided_in (settled w.within.sp) ≡ decided_in w.within.sp ++ decided) where
   abbrev v : Values
   v = values_of run before
@@ -87,13 +94,46 @@ module _ (o : Origin) (done : List TraceSecond) (s : TraceSecond) (front rest : 
   left : IsLeft o done s v d front slot c between.minutes decided w.within
   left = card-leaves d o done s v front slot c rest are w.within (allowed-in o done s (In (length front)) [] None [] v d w.within speed (Withdraw slot) now allowed) seat between.minutes stands decided given
 
+  -- where it has a session its last spell is shut by then; the other card sits as it did
+  abbrev notes-before : List Note
+  notes-before = notes_within w.within.b done s (In (length front)) (log_of before)
+
+  abbrev notes-left : List Note
+  notes-left = notes_within w.within.b done s (In (suc (length front))) (log_of before)
+
+  abbrev Leaves : Card → Type 0
+  Leaves k = Moves (spells_of k notes-before) (spells_of k notes-left) (sits_in run.keeper.cabin.slots.seats k) (sits_in (with_slot_left slot s.number run.keeper.cabin).slots.seats k) (session_of run.keeper.cabin.cards k) (session_of run.keeper.cabin.cards k)
+
+  own-leaves : (q : Option Accepted) → session_of run.keeper.cabin.cards c ≡ q → Leaves c
+  own-leaves None is =
+      moves-bare (spells_of c notes-before) (spells_of c notes-left) (sits_in run.keeper.cabin.slots.seats c) (sits_in (with_slot_left slot s.number run.keeper.cabin).slots.seats c) (session_of run.keeper.cabin.cards c) (session_of run.keeper.cabin.cards c)
+      (bare-now o done s front rest slot are speed now c v d w.within seat allowed from_ seated is c) is is
+  own-leaves (Some a) is =
+      let some : is_some (session_of run.keeper.cabin.cards c) ≡ true = ap (λ (q : Option Accepted). is_some q) is in
+      moves-leaves (spells_of c notes-before) (spells_of c notes-left) (sits_in run.keeper.cabin.slots.seats c) (sits_in (with_slot_left slot s.number run.keeper.cabin).slots.seats c) (session_of run.keeper.cabin.cards c) (session_of run.keeper.cabin.cards c)
+      some refl (sits-there run.keeper.cabin.slots.seats slot c seat) (sits-nowhere (with_slot_left slot s.number run.keeper.cabin).slots.seats c (left.leaving some).nowhere)
+      (withdrawn-now o done s front rest slot are speed now c v d w.within seat allowed from_ seated some)
+
+  each-leaves : (k : Card) → Leaves k
+  each-leaves k = by (same_card c k) refl
+    where
+      by : (b : Bool) → same_card c k ≡ b → Leaves k
+      by true mine = subst Leaves (same-as c k mine) (own-leaves (session_of run.keeper.cabin.cards c) refl)
+      by false other =
+          moves-same (spells_of k notes-before) (spells_of k notes-left) (sits_in run.keeper.cabin.slots.seats k) (sits_in (with_slot_left slot s.number run.keeper.cabin).slots.seats k) (session_of run.keeper.cabin.cards k) (session_of run.keeper.cabin.cards k)
+          (others-now o done s front rest slot are speed now c v d w.within seat allowed from_ seated k (same-turned k c ∙ other)) (left-other run.keeper.cabin.slots.seats slot c k seat other) refl
+
+  stays-left : AllStay o (log_of before) notes-left run.keeper.memory.registration (with_slot_left slot s.number run.keeper.cabin) d
+  stays-left =
+      all-moved o (log_of before) (log_of before) notes-before notes-left run.keeper.memory.registration run.keeper.cabin (with_slot_left slot s.number run.keeper.cabin) d (log-self (log_of before)) (λ none k. each-leaves k) w.stay
+
   abbrev gone : RunWithin o done s (In (suc (length front))) [] decided (settled_run between.minutes (left_run slot s.number run)) before d
   gone = record {
     origin = w.origin;
     lit = w.lit;
     within = left.goes.within;
     odometer = w.odometer ∙ ap (λ (b : Beginning). odometer_after (odometer_at o.recording.unit) b.travel.before) (sym left.goes.began);
-    stay = w.stay;
+    stay = subst (λ (b : Beginning). AllStay o (log_of before) (notes_within b done s (In (suc (length front))) (log_of before)) run.keeper.memory.registration (with_slot_left slot s.number run.keeper.cabin) d) (sym left.goes.began) stays-left;
   }
 
   -- the unit failed in the keeping

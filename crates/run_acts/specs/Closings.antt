@@ -1,22 +1,46 @@
--- Which insertions of a card were withdrawn in order, by what a run notes (profile).
-use Rattle.std.specs.Prelude.{Bool, true, List, [], ◌∷◌, map, filter, is_some}
+-- When and where a card sat in the vehicle by what a run notes, and whether it was withdrawn in order (profile); and the notes so far.
+use Rattle.std.specs.Prelude.{ℕ, Bool, true, List, [], ◌∷◌, map, filter, take, is_some}
+use Rattle.activity_codec.specs.declared.values.Slot.{Slot}
+use Rattle.trace_model.specs.declared.Action.{Action}
 use Rattle.trace_model.specs.declared.Card.{Card}
+use Rattle.trace_model.specs.Trace.{TraceSecond}
+use Rattle.log_model.specs.Log.{RunLog, Phase, In, Keeping}
 use Rattle.log_model.specs.Slots.{same_card}
 use Rattle.side_model.specs.Noted.{InsertionNote, Note, insertions_of}
+use Rattle.run_ringed.specs.SoFar.{notes_so_far}
+use Rattle.run_within.specs.Within.{Beginning}
 
--- those of these insertions that are a card's
-abbrev pub withdrawals_in : Card → List InsertionNote → List Bool
-withdrawals_in c is = map (λ (i : InsertionNote). is_some i.withdrawn) (filter (λ (i : InsertionNote). same_card c i.accepted.card) is)
+-- A SPELL of a card in the vehicle: the second and the slot of its acceptance, and whether it was withdrawn in order
+pub record Spell : Type 0 where
+  pub second : ℕ
+  pub slot : Slot
+  pub withdrawn : Bool
+
+abbrev pub spell_of : InsertionNote → Spell
+spell_of i = record { second = i.accepted.second; slot = i.accepted.slot; withdrawn = is_some i.withdrawn }
+
+-- those of a card among these insertions, in order
+abbrev pub spells_in : Card → List InsertionNote → List Spell
+spells_in c is = map spell_of (filter (λ (i : InsertionNote). same_card c i.accepted.card) is)
 
 -- as these notes have them
-abbrev pub withdrawals_of : Card → List Note → List Bool
-withdrawals_of c notes = withdrawals_in c (insertions_of notes)
+abbrev pub spells_of : Card → List Note → List Spell
+spells_of c notes = spells_in c (insertions_of notes)
 
--- the last one is
-abbrev pub last_by : Bool → List Bool → List Bool
-last_by b [] = true ∷ []
-last_by b (x ∷ xs) = b ∷ last_by x xs
+-- the last one of some is withdrawn
+abbrev pub last_shut : Spell → List Spell → List Spell
+last_shut s [] = record s { withdrawn = true } ∷ []
+last_shut s (t ∷ ss) = s ∷ last_shut t ss
 
-abbrev pub with_last : List Bool → List Bool
-with_last [] = []
-with_last (b ∷ bs) = last_by b bs
+abbrev pub with_last_shut : List Spell → List Spell
+with_last_shut [] = []
+with_last_shut (s ∷ ss) = last_shut s ss
+
+-- the actions of a second up to a moment of it
+abbrev pub actions_to : Phase → List Action → List Action
+actions_to (In n) actions = take n actions
+actions_to Keeping actions = actions
+
+-- THE NOTES OF A RUN SO FAR, within a second that began so
+abbrev pub notes_within : Beginning → List TraceSecond → TraceSecond → Phase → RunLog → List Note
+notes_within b done s at log = notes_so_far b.run.log done log s (actions_to at s.actions)

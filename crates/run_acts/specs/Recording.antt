@@ -23,6 +23,8 @@ use Rattle.run_crew.specs.declared.cabin.Cabin.{Cabin}
 use Rattle.run_crew.specs.Cabin.{with_power_lost}
 use Rattle.run_outcome.specs.declared.outcome.Outcome.{Outcome}
 use Rattle.run_recorded.specs.Origin.{Origin}
+use Rattle.run_recorded.specs.Whole.{NothingFailed}
+use Rattle.run_ringed.specs.Ringed.{notes_in}
 use Rattle.run_keeping.specs.Books.{HaveTime}
 use Rattle.run_within.specs.Recorded.{Values, Recorded}
 use Rattle.run_within.specs.Within.{Beginning, Within, CutWithin, passed_values}
@@ -30,6 +32,7 @@ use Rattle.run_acts.specs.declared.run.Run.{Run}
 use Rattle.run_acts.specs.declared.run.Power.{Power}
 use Rattle.run_acts.specs.declared.run.Power.TheVariants.{Lit, Due, Lost}
 use Rattle.run_acts.specs.Power.{is_lit}
+use Rattle.run_acts.specs.Closings.{notes_within}
 use Rattle.run_acts.specs.Stays.{AllStay}
 
 -- the log of an outcome
@@ -72,7 +75,7 @@ pub record RunRecorded (o : Origin) (done : List TraceSecond) (run : Run) (out :
   pub powers : Supplies run.power supply
   pub recorded : Recorded o done supply (values_of run out) d
   pub odometer : run.power ≡ Lit → run.keeper.odometer ≡ odometer_after (odometer_at o.recording.unit) recorded.travel.before
-  pub stay : AllStay o (log_of out) run.keeper.memory.registration run.keeper.cabin.cards d
+  pub stay : AllStay o (log_of out) (notes_in (log_of out) done) run.keeper.memory.registration run.keeper.cabin d
 
 -- WITHIN A SECOND, while there is power
 pub record RunWithin (o : Origin) (done : List TraceSecond) (s : TraceSecond) (at : Phase) (waits : List Visit) (rest : List Minute) (run : Run) (out : Outcome) (d : Devices) : Type 0 where
@@ -80,18 +83,18 @@ pub record RunWithin (o : Origin) (done : List TraceSecond) (s : TraceSecond) (a
   pub lit : run.power ≡ Lit
   pub within : Within o done s at waits None rest (values_of run out) d
   pub odometer : run.keeper.odometer ≡ odometer_after (odometer_at o.recording.unit) within.b.travel.before
-  pub stay : AllStay o (log_of out) run.keeper.memory.registration run.keeper.cabin.cards d
+  pub stay : AllStay o (log_of out) (notes_within within.b done s at (log_of out)) run.keeper.memory.registration run.keeper.cabin d
 
 -- POWER COMES with the second behind these: by the log it was not on as they ended
 abbrev pub ComesPower : List TraceSecond → Outcome → Type 0
 ComesPower done out = (went (log_of out) done).before.running ≡ false
 
--- WHERE POWER WAS CUT in a second: it is recorded as that second will be, once it has gone.
+-- WHERE POWER WAS CUT in a second: it is recorded as that second will be, once it has gone; a call has failed, and that is told.
 pub record RunCut (o : Origin) (done : List TraceSecond) (s : TraceSecond) (run : Run) (out : Outcome) (d : Devices) : Type 0 where
   pub origin : IsOrigin o
   pub lost : run.power ≡ Lost
   pub recorded : Recorded o (done ++ s ∷ []) IsLost (passed_values s (values_of run out)) d
-  pub stay : AllStay o (log_of out) run.keeper.memory.registration run.keeper.cabin.cards d
+  pub failed : NothingFailed (log_of out) → ⊥
 
 -- IN A SECOND to which the trace gives power, behind so many of its actions: it goes on, or power was cut in it
 abbrev pub InSecondBy : (lit : Bool) → Origin → List TraceSecond → TraceSecond → (n : ℕ) → Run → Outcome → Devices → Type 0

@@ -1,6 +1,6 @@
 -- What a card shows of its stays in a run in which no call failed (profile): its days, with their words and distances, and its newest vehicle
--- entry, exactly; one stay for each acceptance that the log tells, closed but where a line of the log tells of another end.
-use Rattle.std.specs.Prelude.{◌≡◌, ◌⊎◌, ℕ, ◌+◌, ◌≤◌, ◌++◌, Bool, not, Option, Some, None, List, [], ◌∷◌, is_some, length, map, filter}
+-- entry, exactly; one stay for each acceptance that the log tells, closed where the run notes its withdrawal, and nowhere else.
+use Rattle.std.specs.Prelude.{◌≡◌, ◌⊎◌, ℕ, ◌++◌, Bool, true, false, not, ◌||◌, Option, Some, None, List, [], ◌∷◌, is_some, length, map, filter}
 use Rattle.std.specs.List.{AllByRecursion}
 use Rattle.activity_codec.specs.declared.values.Activity.{Activity}
 use Rattle.activity_codec.specs.declared.entries.Entry.{Entry}
@@ -19,14 +19,17 @@ use Rattle.card_session.specs.Sessions.{IsSession, book_of}
 use Rattle.card_session.specs.Cards.{IsCardClosed}
 use Rattle.card_session.specs.Inserting.{lacked}
 use Rattle.card_steps.specs.Deeds.{Deed, Close}
+use Rattle.side_model.specs.Noted.{Note}
 use Rattle.safety_model.specs.Safe.{Devices, card_of}
+use Rattle.slot_machine.specs.Calls.{Seats, is_card}
 use Rattle.run_crew.specs.declared.cards.Accepted.{Accepted}
-use Rattle.run_crew.specs.declared.cards.Cards.{Cards}
+use Rattle.run_crew.specs.declared.cabin.Cabin.{Cabin}
 use Rattle.run_crew.specs.Cards.{session_of}
 use Rattle.run_rule.specs.Found.{CardFound, found_of}
 use Rattle.run_recorded.specs.Origin.{Origin}
 use Rattle.run_recorded.specs.Whole.{NothingFailed}
 use Rattle.run_keeping.specs.CardDeeds.{made_by, is_used, ShowsBook, keeps, last_odometer, opens}
+use Rattle.run_acts.specs.Closings.{Spell, spells_of, with_last_shut}
 
 -- the registration of the vehicle, as the image of its unit says
 abbrev pub registration_in : List ℕ → List ℕ
@@ -82,19 +85,22 @@ AreMerged [] one other = (one ≡ []) × (other ≡ [])
 AreMerged (f ∷ lines) one other =
     ((rest : List Find) × (one ≡ f ∷ rest) × AreMerged lines rest other) ⊎ ((rest : List Find) × (other ≡ f ∷ rest) × AreMerged lines one rest)
 
--- so many were not closed
-abbrev pub open_by : Option Activity → ℕ
-open_by None = 1
-open_by (Some act) = 0
+-- the spell of a stay, and those of some
+abbrev pub stay_spell : Stay → Spell
+stay_spell s = record { second = s.found.second; slot = s.found.slot; withdrawn = is_some s.closed }
 
-abbrev pub open_ones : List Stay → ℕ
-open_ones [] = 0
-open_ones (s ∷ ss) = open_by s.closed + open_ones ss
+abbrev pub spells : List Stay → List Spell
+spells ss = map stay_spell ss
 
--- one of them goes on, where the card is in its slot
-abbrev pub going_on : Option Accepted → ℕ
-going_on None = 0
-going_on (Some a) = 1
+-- a card is in one of the slots
+abbrev pub sits_in : Seats → Card → Bool
+sits_in seats c = is_card seats.driver c || is_card seats.codriver c
+
+-- as they are noted: the last one of a card that has left its slot, and whose session is not closed yet, is withdrawn by then
+abbrev pub as_noted : (session : Option Accepted) → (sits : Bool) → List Spell → List Spell
+as_noted None sits ss = ss
+as_noted (Some a) true ss = ss
+as_noted (Some a) false ss = with_last_shut ss
 
 -- the line of a stay tells how many entries were owed to its card
 abbrev pub TellsOwed : Stay → Type 0
@@ -115,13 +121,13 @@ abbrev pub StaysIn : Registration → List Stay → Option Accepted → Type 0
 StaysIn vehicle stays None = Unit {0}
 StaysIn vehicle stays (Some a) = GoesIn vehicle stays a
 
--- EACH IMAGE THAT A CARD MAY LEAVE shows exactly what these stays in the vehicle make of the image at the start; and of those that do not go on no
--- more were left open than so many lines tell.
-pub record HasStays (f : CardFound) (vehicle : Registration) (lines : ℕ) (stays : List Stay) (session : Option Accepted) (card : State) : Type 0 where
+-- EACH IMAGE THAT A CARD MAY LEAVE shows exactly what these stays in the vehicle make of the image at the start; and by when and where they began,
+-- and which of them were withdrawn, they are the noted ones.
+pub record HasStays (f : CardFound) (vehicle : Registration) (noted : List Spell) (sits : Bool) (stays : List Stay) (session : Option Accepted) (card : State) : Type 0 where
   pub shows : ShowsBook (own_sizes f.image) (after_stays vehicle (own_sizes f.image).activity stays (start_shown f.image)).book
       (after_stays vehicle (own_sizes f.image).activity stays (start_shown f.image)).used card
   pub goes : StaysIn vehicle stays session
-  pub ends : open_ones stays ≤ lines + going_on session
+  pub spell : as_noted session sits (spells stays) ≡ noted
 
 -- so it is once the run is over, of a card with this image at the start, in this vehicle
 abbrev pub ShowsStays : Registration → (image : List ℕ) → List Stay → (card : State) → Type 0
@@ -130,19 +136,20 @@ ShowsStays vehicle image stays card = ShowsBook (own_sizes image) (after_stays v
 
 -- ---- both cards
 
--- THE STAYS OF BOTH CARDS in the vehicle of the run, by so many lines that tell of a break, and by these that tell of an acceptance: each of these
--- is that of one stay, in their order; only a card that was valid has some, and it shows exactly them.
-pub record AreStays (o : Origin) (lines : ℕ) (acceptances : List Find) (vehicle : Registration) (cards : Cards) (d : Devices) : Type 0 where
+-- THE STAYS OF BOTH CARDS in the vehicle of the run, by these notes so far, and by these lines that tell of an acceptance: each of these is that of
+-- one stay, in their order; only a card that was valid has some, and it shows exactly them, as they are noted.
+pub record AreStays (o : Origin) (notes : List Note) (acceptances : List Find) (vehicle : Registration) (cabin : Cabin) (d : Devices) : Type 0 where
   pub says : vehicle.0 ≡ registration_in o.recording.unit
   pub stays : Card → List Stay
   pub told : AreMerged acceptances (founds (stays A)) (founds (stays B))
   pub owed : (c : Card) → AllByRecursion TellsOwed (stays c)
   pub only : (c : Card) → (stays c ≡ []) ⊎ IsOwnValid (found_of o.found c).image
-  pub each : (c : Card) → IsOwnValid (found_of o.found c).image → HasStays (found_of o.found c) vehicle lines (stays c) (session_of cards c) (card_of d c)
+  pub each : (c : Card) → IsOwnValid (found_of o.found c).image →
+      HasStays (found_of o.found c) vehicle (spells_of c notes) (sits_in cabin.slots.seats c) (stays c) (session_of cabin.cards c) (card_of d c)
 
 -- so it is where no call has failed
-abbrev pub AllStay : Origin → RunLog → Registration → Cards → Devices → Type 0
-AllStay o log vehicle cards d = NothingFailed log → AreStays o (length log.breaks) (acceptances_told log) vehicle cards d
+abbrev pub AllStay : Origin → RunLog → List Note → Registration → Cabin → Devices → Type 0
+AllStay o log notes vehicle cabin d = NothingFailed log → AreStays o notes (acceptances_told log) vehicle cabin d
 
 -- A CARD IS CLOSED where its session was, with this activity: each image that it may leave is its image before, closed
 abbrev pub ClosesOnCard : (session : Option Accepted) → (card card_after : State) → Type 0

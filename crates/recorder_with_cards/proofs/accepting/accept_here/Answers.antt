@@ -20,6 +20,8 @@ use Rattle.recorder_with_cards.proofs.Comes.{comes-of}
 use Rattle.recorder_with_cards.proofs.Goes.{card-or-other, others-session, both-at, other-at, mine-at, both-ready, other-ready, some-gives, entry-more, rows-went, ended-went, few-finds}
 use Rattle.std.specs.Prelude.{is_err}
 use Rattle.tach_media.specs.Medium.{State}
+use Rattle.log_model.specs.Log.{In}
+use Rattle.run_acts.specs.Recording.{values_of}
 use Rattle.run_told.specs.Told.{arranged}
 use Rattle.run_acts.specs.Entered.{MayJudge, HasGone, AreSound}
 use Rattle.run_acts.proofs.EnteredWhole.{entered-recorded}
@@ -31,7 +33,8 @@ use Rattle.recorder_with_cards.proofs.NoSession.{seat-answers}
 use Rattle.recorder_with_cards.proofs.EnteredRings.{accept-writes}
 use Rattle.recorder_with_cards.proofs.EnteredRinged.{judged-ringed}
 use Rattle.run_acts.proofs.EnteredFacts.{known}
-use Rattle.run_acts.proofs.EnteredStays.{entered-stays}
+use Rattle.run_acts.specs.Closings.{notes_within}
+use Rattle.run_acts.proofs.EnteredStays.{finds-noted, entered-stays}
 use Rattle.run_entering.proofs.CardBrought.{sits-works}
 use Rattle.recorder_with_cards.proofs.EnteredCards.{judged-cards}
 use Rattle.recorder_with_cards.proofs.accepting.accept_here.Goals as goal
@@ -167,7 +170,8 @@ returns-clause-recorded g c = λ room o done s n waits fewer at next time.
     } in
     judged-by failed o done s n waits fewer run new c.args.outcome.now c.accept-answer.new.outcome (arranged e.which U X Y) (arranged e.which V Z Y) next.goes c.requires.lit (ap (λ (q : Keeper). q.odometer) w.1.left.keeper)
     (entered-recorded o done s n waits fewer e run.keeper c.args.outcome.now run.unfound run.next run.begun run.minutes U X Y next.goes.within may failed c.accept-answer.new.keeper run.noted c.accept-answer.new.noted c.accept-answer.new.outcome V Z sound w.0 gone)
-    (λ well. entered-stays o e failed well run.keeper c.accept-answer.new.keeper run.noted c.accept-answer.new.noted c.args.outcome.now c.accept-answer.new.outcome U V X Z Y w.0 _ w.1
+    (λ well. entered-stays o e failed well run.keeper c.accept-answer.new.keeper run.noted c.accept-answer.new.noted c.args.outcome.now c.accept-answer.new.outcome U V X Z Y (λ log. notes_within next.goes.within.b done s (In n) log)
+    (finds-noted o done s n waits fewer (values_of run c.args.outcome.now) (arranged e.which U X Y) next.goes.within e at next.next next.none next.order) c.requires.seat w.0 _ w.1
     (known o done s n waits fewer e run.keeper c.args.outcome.now run.unfound run.next run.begun run.minutes U X Y next.goes.within may failed c.accept-answer.new.keeper run.noted c.accept-answer.new.noted c.accept-answer.new.outcome V Z w.0 gone sound) sits.1
     (others-session e.which run.keeper.cabin.cards c.accept-answer.new.keeper.cabin.cards
     (comes-of e run.keeper c.accept-answer.new.keeper run.noted c.accept-answer.new.noted c.args.outcome.now c.accept-answer.new.outcome _ _ _ _ _ (ungiven_of h.span) h.cabin c.requires.seat (omega arith) w.0 w.1.is w.1.left).others) next.goes.stay)

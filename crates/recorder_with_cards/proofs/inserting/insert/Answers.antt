@@ -131,7 +131,7 @@ returns-in_err-settle-clause-recorded g c = λ late room o done s now front rest
     let r = c.in_err-settle.ensures.recorded in
     let settles = subst (λ (b : Cabin). IsSettled c.args.at true (with_cabin b run) mid out told) c.put_in.ensures.kept c.in_err-settle.ensures.settled in
     let records = subst (λ (b : Cabin). RecordsSettling r.0 c.args.at true (with_cabin b run) mid out told d e) c.put_in.ensures.kept r.2 in
-    let fails = unsettled c.args.slot c.args.card c.args.at c.args.speed run out d o done s now front rest actions c.requires.at begun late allowed within mid told true settles r.0 r.1 e records time refl in
+    let fails = unsettled c.args.slot c.args.card c.args.at c.args.speed run out d o done s now front rest actions c.requires.at begun late allowed within (ungiven_of c.requires.going.span) c.requires.going.cabin mid told true settles r.0 r.1 e records time refl in
     let failed : true ≡ is_err c.from_residual.result = search rules in
     subst (λ (f : Bool). GoesOnOrFails f o done s (In c.args.at.begun) [] mid told e within.within.b) failed fails
 
@@ -155,7 +155,7 @@ returns-clause-recorded g c = λ late room o done s now front rest actions begun
     let marks = t.marks in
     let rooms = t.rooms.0 in
     let was = ap (λ (p : Power). waiting p run.minutes.owing) c.requires.lit in
-    inserted c.args.slot c.args.card c.args.at c.args.speed run out d o done s now front rest actions c.requires.at begun late allowed within mid told false settles r.0 r.1 e records
+    inserted c.args.slot c.args.card c.args.at c.args.speed run out d o done s now front rest actions c.requires.at begun late allowed within (ungiven_of c.requires.going.span) c.requires.going.cabin mid told false settles r.0 r.1 e records
     (time-before e last c.accept_in.ensures.clock c.accept_in.ensures.clock_a c.accept_in.ensures.clock_b time) refl seat (is_err c.accept_in.result) c.accept_in.new.run c.accept_in.new.outcome last
     (c.accept_in.ensures.recorded (omega (arith, room, marks, rooms, was))) time
 
@@ -175,7 +175,7 @@ returns-in_err-settle-clause-evented g c = λ late room o done s now front rest 
     let bare = put-bare c.args.slot c.args.card run.keeper.cabin (ungiven_of h.span) stands in
     let settles = subst (λ (b : Cabin). IsSettled c.args.at true (with_cabin b run) mid out told) c.put_in.ensures.kept c.in_err-settle.ensures.settled in
     let notes = subst (λ (b : Cabin). EventsSettling r.0 c.args.at true (with_cabin b run) mid out told d e) c.put_in.ensures.kept r.2 in
-    let fails = unsettled-evented c.args.slot c.args.card c.args.at c.args.speed run out d o done s now front rest actions c.requires.at begun late allowed within bare mid told true settles r.0 r.1 e notes time events refl in
+    let fails = unsettled-evented c.args.slot c.args.card c.args.at c.args.speed run out d o done s now front rest actions c.requires.at begun late allowed within (ungiven_of c.requires.going.span) c.requires.going.cabin bare mid told true settles r.0 r.1 e notes time events refl in
     let failed : true ≡ is_err c.from_residual.result = search rules in
     subst (λ (f : Bool). EventsGoOn f o done s within.within.b.run (In c.args.at.begun) Acting (log_of told) e) failed fails
 
@@ -203,7 +203,7 @@ returns-clause-evented g c = λ late room o done s now front rest actions begun 
     let notes = subst (λ (b : Cabin). EventsSettling r.0 c.args.at false (with_cabin b run) mid out told d e) c.put_in.ensures.kept r.2 in
     let records = subst (λ (b : Cabin). RecordsSettling q.0 c.args.at false (with_cabin b run) mid out told d e) c.put_in.ensures.kept q.2 in
     let before = time-before e last c.accept_in.ensures.clock c.accept_in.ensures.clock_a c.accept_in.ensures.clock_b time in
-    inserted-evented c.args.slot c.args.card c.args.at c.args.speed run out d o done s now front rest actions c.requires.at begun late allowed within put mid told false settles r.0 r.1 e notes before events
+    inserted-evented c.args.slot c.args.card c.args.at c.args.speed run out d o done s now front rest actions c.requires.at begun late allowed within (ungiven_of c.requires.going.span) c.requires.going.cabin put mid told false settles r.0 r.1 e notes before events
     q.0 q.1 records refl seat (is_err c.accept_in.result) c.accept_in.new.run c.accept_in.new.outcome last (c.accept_in.ensures.evented (omega (arith, room, marks, rooms, was))) time
 
 -- ---- its insertion in the rings of the run
@@ -221,11 +221,11 @@ returns-in_err-settle-clause-ringed g c = λ late room o done s now front rest a
     let e : Devices = devices V (g.C.Chip.state c.settle.new.card_a) (g.D.Chip.state c.settle.new.card_b) in
     let settles : IsSettled c.args.at true put mid out told = subst (λ (b : Cabin). IsSettled c.args.at true (with_cabin b run) mid out told) c.put_in.ensures.kept c.in_err-settle.ensures.settled in
     let lines = up-to-tells c.args.at settles.decided true (told_of put out) (told_of mid told) settles.kept in
-    let at = at-is c.args.slot c.args.card c.args.at c.args.speed run out d o done s now front rest actions c.requires.at begun late allowed within in
+    let at = at-is c.args.slot c.args.card c.args.at c.args.speed run out d o done s now front rest actions c.requires.at begun late allowed within (ungiven_of c.requires.going.span) c.requires.going.cabin in
     let v = c.in_err-settle.ensures.places in
     let stay = subst (λ (b : Cabin). PlacesSettling v.0 c.args.at (with_cabin b run) mid out d e) c.put_in.ensures.kept v.2 in
     let places : PlacesStay o d e = stay o done s (length front) (entering_by (length front) (Insert c.args.slot c.args.card)) at
-    (waits-within c.args.slot c.args.card c.args.at c.args.speed run out d o done s now front rest actions c.requires.at begun late allowed within mid told true settles v.0 v.1) time in
+    (waits-within c.args.slot c.args.card c.args.at c.args.speed run out d o done s now front rest actions c.requires.at begun late allowed within (ungiven_of c.requires.going.span) c.requires.going.cabin mid told true settles v.0 v.1) time in
     let rung = unsettled-ringed o done s front rest c.args.slot c.args.card actions run out d within spans t rings (refuses o done s c.args.speed run out d now front (Insert c.args.slot c.args.card) rest actions within None allowed)
     mid told e lines.lines (ap log_of settles.outcome ∙ ap (λ (bs : List Break). record (log_of out) { breaks = bs }) lines.are) (subst (λ (m : Moment). AreTears m lines.lines) at lines.tears)
     (settling-leaves c.args.at true (with_cabin c.put_in.new.self run) mid out told U V c.in_err-settle.ensures.noted)
@@ -259,7 +259,7 @@ returns-clause-ringed g c = λ late room o done s now front rest actions begun a
     let records = subst (λ (b : Cabin). RecordsSettling q.0 c.args.at false (with_cabin b run) mid out told d e) c.put_in.ensures.kept q.2 in
     let before = time-before e last c.accept_in.ensures.clock c.accept_in.ensures.clock_a c.accept_in.ensures.clock_b time in
     let lines = up-to-tells c.args.at settles.decided false (told_of put out) (told_of mid told) settles.kept in
-    let at = at-is c.args.slot c.args.card c.args.at c.args.speed run out d o done s now front rest actions c.requires.at begun late allowed within in
+    let at = at-is c.args.slot c.args.card c.args.at c.args.speed run out d o done s now front rest actions c.requires.at begun late allowed within (ungiven_of c.requires.going.span) c.requires.going.cabin in
     let fine = refuses o done s c.args.speed run out d now front (Insert c.args.slot c.args.card) rest actions within None allowed in
     let log : log_of told ≡ record (log_of out) { breaks = (log_of out).breaks ++ lines.lines } = ap log_of settles.outcome ∙ ap (λ (bs : List Break). record (log_of out) { breaks = bs }) lines.are in
     let tears = subst (λ (m : Moment). AreTears m lines.lines) at lines.tears in
@@ -268,11 +268,11 @@ returns-clause-ringed g c = λ late room o done s now front rest actions begun a
     let v = c.in_ok-settle.ensures.places in
     let stay = subst (λ (b : Cabin). PlacesSettling v.0 c.args.at (with_cabin b run) mid out d e) c.put_in.ensures.kept v.2 in
     let places : PlacesStay o d e = stay o done s (length front) (entering_by (length front) (Insert c.args.slot c.args.card)) at
-    (waits-within c.args.slot c.args.card c.args.at c.args.speed run out d o done s now front rest actions c.requires.at begun late allowed within mid told false settles v.0 v.1) before in
+    (waits-within c.args.slot c.args.card c.args.at c.args.speed run out d o done s now front rest actions c.requires.at begun late allowed within (ungiven_of c.requires.going.span) c.requires.going.cabin mid told false settles v.0 v.1) before in
     let noted : mid.noted ≡ run.noted = ap (λ (r : Run). r.noted) settles.only in
     let fewer = fewer-seats put mid noted lines.sessions in
     let counted : mid.noted ≤ length (log_of told).finds = let few = rings.counted in let same = ap (λ (l : RunLog). length l.finds) log in omega (arith, few, same, noted) in
-    let j = next-judged c.args.slot c.args.card c.args.at c.args.speed run out d o done s now front rest actions c.requires.at begun late allowed within mid told false settles q.0 q.1 e records before refl seat (with_second spans run.keeper.odometer t)
+    let j = next-judged c.args.slot c.args.card c.args.at c.args.speed run out d o done s now front rest actions c.requires.at begun late allowed within (ungiven_of c.requires.going.span) c.requires.going.cabin mid told false settles q.0 q.1 e records before refl seat (with_second spans run.keeper.odometer t)
     (odometer-mid o done s front rest c.args.slot c.args.card actions run out d within spans t rings fine mid told e lines.lines log tears leaves left places fewer lines.odometer noted (entering_by (length front) (Insert c.args.slot c.args.card)))
     counted (is_err c.accept_in.result) c.accept_in.new.run c.accept_in.new.outcome last (c.accept_in.ensures.ringed (omega (arith, room, marks, rooms, was))) time in
     inserted-ringed o done s front rest c.args.slot c.args.card actions run out d within spans t rings fine mid told e lines.lines log tears leaves left places fewer lines.odometer noted
@@ -389,11 +389,11 @@ returns-in_err-settle-clause-cards g c = λ late room o done s now front rest ac
     let e : Devices = devices (g.M.Medium.state c.settle.new.unit) (g.C.Chip.state c.settle.new.card_a) (g.D.Chip.state c.settle.new.card_b) in
     let settles : IsSettled c.args.at true put mid out told = subst (λ (b : Cabin). IsSettled c.args.at true (with_cabin b run) mid out told) c.put_in.ensures.kept c.in_err-settle.ensures.settled in
     let lines = up-to-tells c.args.at settles.decided true (told_of put out) (told_of mid told) settles.kept in
-    let at = at-is c.args.slot c.args.card c.args.at c.args.speed run out d o done s now front rest actions c.requires.at begun late allowed within in
+    let at = at-is c.args.slot c.args.card c.args.at c.args.speed run out d o done s now front rest actions c.requires.at begun late allowed within (ungiven_of c.requires.going.span) c.requires.going.cabin in
     let v = c.in_err-settle.ensures.cards in
     let shows = subst (λ (b : Cabin). CardsSettling v.0 c.args.at (with_cabin b run) mid out d e) c.put_in.ensures.kept v.2 in
     let still : StillShow o d e = shows o done s (length front) (entering_by (length front) (Insert c.args.slot c.args.card)) at
-    (waits-within c.args.slot c.args.card c.args.at c.args.speed run out d o done s now front rest actions c.requires.at begun late allowed within mid told true settles v.0 v.1) time in
+    (waits-within c.args.slot c.args.card c.args.at c.args.speed run out d o done s now front rest actions c.requires.at begun late allowed within (ungiven_of c.requires.going.span) c.requires.going.cabin mid told true settles v.0 v.1) time in
     let goes = unsettled-cards o done s front rest c.args.slot c.args.card actions run out d within cards (refuses o done s c.args.speed run out d now front (Insert c.args.slot c.args.card) rest actions within None allowed)
     told e lines.lines (ap log_of settles.outcome ∙ ap (λ (bs : List Break). record (log_of out) { breaks = bs }) lines.are) (subst (λ (m : Moment). AreTears m lines.lines) at lines.tears)
     (more-left o d e (within.within.powered.lit.unit.unit_holds [] []).later within.within.there.clocks c.settle.ensures.keeps) still in
@@ -425,15 +425,15 @@ returns-clause-cards g c = λ late room o done s now front rest actions begun al
     let shows = subst (λ (b : Cabin). CardsSettling v.0 c.args.at (with_cabin b run) mid out d e) c.put_in.ensures.kept v.2 in
     let before = time-before e last c.accept_in.ensures.clock c.accept_in.ensures.clock_a c.accept_in.ensures.clock_b time in
     let lines = up-to-tells c.args.at settles.decided false (told_of put out) (told_of mid told) settles.kept in
-    let at = at-is c.args.slot c.args.card c.args.at c.args.speed run out d o done s now front rest actions c.requires.at begun late allowed within in
+    let at = at-is c.args.slot c.args.card c.args.at c.args.speed run out d o done s now front rest actions c.requires.at begun late allowed within (ungiven_of c.requires.going.span) c.requires.going.cabin in
     let fine = refuses o done s c.args.speed run out d now front (Insert c.args.slot c.args.card) rest actions within None allowed in
     let log : log_of told ≡ record (log_of out) { breaks = (log_of out).breaks ++ lines.lines } = ap log_of settles.outcome ∙ ap (λ (bs : List Break). record (log_of out) { breaks = bs }) lines.are in
     let tears = subst (λ (m : Moment). AreTears m lines.lines) at lines.tears in
     let left = more-left o d e (within.within.powered.lit.unit.unit_holds [] []).later within.within.there.clocks c.settle.ensures.keeps in
     let still : StillShow o d e = shows o done s (length front) (entering_by (length front) (Insert c.args.slot c.args.card)) at
-    (waits-within c.args.slot c.args.card c.args.at c.args.speed run out d o done s now front rest actions c.requires.at begun late allowed within mid told false settles v.0 v.1) before in
+    (waits-within c.args.slot c.args.card c.args.at c.args.speed run out d o done s now front rest actions c.requires.at begun late allowed within (ungiven_of c.requires.going.span) c.requires.going.cabin mid told false settles v.0 v.1) before in
     let own : mid.keeper.memory.registration ≡ vehicle_in o = ap (λ m. m.registration) (settled-watched c.args.at false put mid out told settles).memory ∙ vehicle in
-    let j = next-cards c.args.slot c.args.card c.args.at c.args.speed run out d o done s now front rest actions c.requires.at begun late allowed within mid told false settles q.0 q.1 e records before refl seat
+    let j = next-cards c.args.slot c.args.card c.args.at c.args.speed run out d o done s now front rest actions c.requires.at begun late allowed within (ungiven_of c.requires.going.span) c.requires.going.cabin mid told false settles q.0 q.1 e records before refl seat
     (is_err c.accept_in.result) c.accept_in.new.outcome last (c.accept_in.ensures.cards (omega (arith, room, marks, rooms, was))) own time in
     inserted-cards o done s front rest c.args.slot c.args.card actions run out d within cards fine told e lines.lines log tears left still (is_err c.accept_in.result) c.accept_in.new.outcome last j
 

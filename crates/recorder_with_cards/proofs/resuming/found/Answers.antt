@@ -38,6 +38,7 @@ use Rattle.recorder_with_cards.proofs.WakeNoted.{as-read}
 use Rattle.run_keeping.proofs.Later.{later-same}
 use Rattle.run_outcome.proofs.Broken.{broke-found, broke-then}
 use Rattle.run_acts.proofs.Uncut.{uncut-broke, cut-broke}
+use Rattle.run_ringed.specs.Ringed.{notes_in}
 use Rattle.run_acts.proofs.AllStay.{all-of}
 use Rattle.run_course.specs.Moments.{and_break}
 use Rattle.run_outcome.specs.declared.outcome.Outcome.{Outcome}
@@ -105,7 +106,7 @@ returns-then-is_err-clause-recorded g c = λ room o done s now rec has time.
     let e : Devices = devices (g.M.Medium.state c.resume.new.unit) (g.C.Chip.state c.resume.new.card_a) (g.D.Chip.state c.resume.new.card_b) in
     let kept = c.last_kept-kept.ensures.kept in
     let values = learned run c.learn.new.self out c.learn.new.breaks c.last_kept-kept.result c.learn.ensures.run c.learn.ensures.breaks c.learn.ensures.same ∙ ap (λ (k : ℕ). read_values k (values_of run out)) kept in
-    let stay = all-of o (log_of out) run.keeper.memory.registration c.learn.new.self.keeper.memory.registration run.keeper.cabin.cards (devices U X Y) (ap (λ (r : Run). r.keeper.memory.registration) c.learn.ensures.run) rec.stay in
+    let stay = all-of o (log_of out) (notes_in (log_of out) done) run.keeper.memory.registration c.learn.new.self.keeper.memory.registration run.keeper.cabin (devices U X Y) (ap (λ (r : Run). r.keeper.memory.registration) c.learn.ensures.run) rec.stay in
     let same = ap (λ (r : Run). bare_seats r.keeper.cabin.slots.seats) c.learn.ensures.run in
     let next : mid.next ≡ run.next = c.resume.ensures.next ∙ ap (λ (r : Run). r.next) c.learn.ensures.run in
     let resumed = c.resume.ensures.recorded (omega (arith, room, same)) o rec.origin done s rec.supply (values_of run out) rec.recorded stay may now.number now.given values time in
@@ -125,7 +126,7 @@ returns-clause-recorded g c = λ room o done s now rec has time.
     let e : Devices = devices (g.M.Medium.state c.resume.new.unit) (g.C.Chip.state c.resume.new.card_a) (g.D.Chip.state c.resume.new.card_b) in
     let kept = c.last_kept-kept.ensures.kept in
     let values = learned run c.learn.new.self out c.learn.new.breaks c.last_kept-kept.result c.learn.ensures.run c.learn.ensures.breaks c.learn.ensures.same ∙ ap (λ (k : ℕ). read_values k (values_of run out)) kept in
-    let stay = all-of o (log_of out) run.keeper.memory.registration c.learn.new.self.keeper.memory.registration run.keeper.cabin.cards (devices U X Y) (ap (λ (r : Run). r.keeper.memory.registration) c.learn.ensures.run) rec.stay in
+    let stay = all-of o (log_of out) (notes_in (log_of out) done) run.keeper.memory.registration c.learn.new.self.keeper.memory.registration run.keeper.cabin (devices U X Y) (ap (λ (r : Run). r.keeper.memory.registration) c.learn.ensures.run) rec.stay in
     let same = ap (λ (r : Run). bare_seats r.keeper.cabin.slots.seats) c.learn.ensures.run in
     let next : mid.next ≡ run.next = c.resume.ensures.next ∙ ap (λ (r : Run). r.next) c.learn.ensures.run in
     let resumed = c.resume.ensures.recorded (omega (arith, room, same)) o rec.origin done s rec.supply (values_of run out) rec.recorded stay may now.number now.given values time in
@@ -165,7 +166,7 @@ returns-then-is_err-clause-evented g c = λ room o done s now all has time.
     let e : Devices = devices (g.M.Medium.state c.resume.new.unit) (g.C.Chip.state c.resume.new.card_a) (g.D.Chip.state c.resume.new.card_b) in
     let kept = c.last_kept-kept.ensures.kept in
     let values = learned run c.learn.new.self out c.learn.new.breaks c.last_kept-kept.result c.learn.ensures.run c.learn.ensures.breaks c.learn.ensures.same ∙ ap (λ (k : ℕ). read_values k (values_of run out)) kept in
-    let stay = all-of o (log_of out) run.keeper.memory.registration c.learn.new.self.keeper.memory.registration run.keeper.cabin.cards (devices U X Y) (ap (λ (r : Run). r.keeper.memory.registration) c.learn.ensures.run) rec.stay in
+    let stay = all-of o (log_of out) (notes_in (log_of out) done) run.keeper.memory.registration c.learn.new.self.keeper.memory.registration run.keeper.cabin (devices U X Y) (ap (λ (r : Run). r.keeper.memory.registration) c.learn.ensures.run) rec.stay in
     let same = ap (λ (r : Run). bare_seats r.keeper.cabin.slots.seats) c.learn.ensures.run in
     let next : mid.next ≡ run.next = c.resume.ensures.next ∙ ap (λ (r : Run). r.next) c.learn.ensures.run in
     let limit = ap (λ (r : Run). r.keeper.memory.limit) c.learn.ensures.run ∙ all.limit in
@@ -191,7 +192,7 @@ returns-clause-evented g c = λ room o done s now all has time.
     let e : Devices = devices (g.M.Medium.state c.resume.new.unit) (g.C.Chip.state c.resume.new.card_a) (g.D.Chip.state c.resume.new.card_b) in
     let kept = c.last_kept-kept.ensures.kept in
     let values = learned run c.learn.new.self out c.learn.new.breaks c.last_kept-kept.result c.learn.ensures.run c.learn.ensures.breaks c.learn.ensures.same ∙ ap (λ (k : ℕ). read_values k (values_of run out)) kept in
-    let stay = all-of o (log_of out) run.keeper.memory.registration c.learn.new.self.keeper.memory.registration run.keeper.cabin.cards (devices U X Y) (ap (λ (r : Run). r.keeper.memory.registration) c.learn.ensures.run) rec.stay in
+    let stay = all-of o (log_of out) (notes_in (log_of out) done) run.keeper.memory.registration c.learn.new.self.keeper.memory.registration run.keeper.cabin (devices U X Y) (ap (λ (r : Run). r.keeper.memory.registration) c.learn.ensures.run) rec.stay in
     let same = ap (λ (r : Run). bare_seats r.keeper.cabin.slots.seats) c.learn.ensures.run in
     let next : mid.next ≡ run.next = c.resume.ensures.next ∙ ap (λ (r : Run). r.next) c.learn.ensures.run in
     let limit = ap (λ (r : Run). r.keeper.memory.limit) c.learn.ensures.run ∙ all.limit in
@@ -232,7 +233,7 @@ returns-then-is_err-clause-ringed g c = λ room o done s now all has time.
     let e : Devices = devices (g.M.Medium.state c.resume.new.unit) (g.C.Chip.state c.resume.new.card_a) (g.D.Chip.state c.resume.new.card_b) in
     let kept = c.last_kept-kept.ensures.kept in
     let values = learned run c.learn.new.self out c.learn.new.breaks c.last_kept-kept.result c.learn.ensures.run c.learn.ensures.breaks c.learn.ensures.same ∙ ap (λ (k : ℕ). read_values k (values_of run out)) kept in
-    let stay = all-of o (log_of out) run.keeper.memory.registration c.learn.new.self.keeper.memory.registration run.keeper.cabin.cards (devices U X Y) (ap (λ (r : Run). r.keeper.memory.registration) c.learn.ensures.run) rec.stay in
+    let stay = all-of o (log_of out) (notes_in (log_of out) done) run.keeper.memory.registration c.learn.new.self.keeper.memory.registration run.keeper.cabin (devices U X Y) (ap (λ (r : Run). r.keeper.memory.registration) c.learn.ensures.run) rec.stay in
     let same = ap (λ (r : Run). bare_seats r.keeper.cabin.slots.seats) c.learn.ensures.run in
     let next : mid.next ≡ run.next = c.resume.ensures.next ∙ ap (λ (r : Run). r.next) c.learn.ensures.run in
     let limit = ap (λ (r : Run). r.keeper.memory.limit) c.learn.ensures.run ∙ all.evented.limit in
@@ -266,7 +267,7 @@ returns-clause-ringed g c = λ room o done s now all has time.
     let e : Devices = devices (g.M.Medium.state c.resume.new.unit) (g.C.Chip.state c.resume.new.card_a) (g.D.Chip.state c.resume.new.card_b) in
     let kept = c.last_kept-kept.ensures.kept in
     let values = learned run c.learn.new.self out c.learn.new.breaks c.last_kept-kept.result c.learn.ensures.run c.learn.ensures.breaks c.learn.ensures.same ∙ ap (λ (k : ℕ). read_values k (values_of run out)) kept in
-    let stay = all-of o (log_of out) run.keeper.memory.registration c.learn.new.self.keeper.memory.registration run.keeper.cabin.cards (devices U X Y) (ap (λ (r : Run). r.keeper.memory.registration) c.learn.ensures.run) rec.stay in
+    let stay = all-of o (log_of out) (notes_in (log_of out) done) run.keeper.memory.registration c.learn.new.self.keeper.memory.registration run.keeper.cabin (devices U X Y) (ap (λ (r : Run). r.keeper.memory.registration) c.learn.ensures.run) rec.stay in
     let same = ap (λ (r : Run). bare_seats r.keeper.cabin.slots.seats) c.learn.ensures.run in
     let next : mid.next ≡ run.next = c.resume.ensures.next ∙ ap (λ (r : Run). r.next) c.learn.ensures.run in
     let limit = ap (λ (r : Run). r.keeper.memory.limit) c.learn.ensures.run ∙ all.evented.limit in
@@ -315,7 +316,7 @@ returns-then-is_err-clause-cards g c = λ room o done s now all has time.
     let e : Devices = devices (g.M.Medium.state c.resume.new.unit) (g.C.Chip.state c.resume.new.card_a) (g.D.Chip.state c.resume.new.card_b) in
     let kept = c.last_kept-kept.ensures.kept in
     let values = learned run c.learn.new.self out c.learn.new.breaks c.last_kept-kept.result c.learn.ensures.run c.learn.ensures.breaks c.learn.ensures.same ∙ ap (λ (k : ℕ). read_values k (values_of run out)) kept in
-    let stay = all-of o (log_of out) run.keeper.memory.registration c.learn.new.self.keeper.memory.registration run.keeper.cabin.cards (devices U X Y) (ap (λ (r : Run). r.keeper.memory.registration) c.learn.ensures.run) rec.stay in
+    let stay = all-of o (log_of out) (notes_in (log_of out) done) run.keeper.memory.registration c.learn.new.self.keeper.memory.registration run.keeper.cabin (devices U X Y) (ap (λ (r : Run). r.keeper.memory.registration) c.learn.ensures.run) rec.stay in
     let same = ap (λ (r : Run). bare_seats r.keeper.cabin.slots.seats) c.learn.ensures.run in
     let next : mid.next ≡ run.next = c.resume.ensures.next ∙ ap (λ (r : Run). r.next) c.learn.ensures.run in
     let limit = ap (λ (r : Run). r.keeper.memory.limit) c.learn.ensures.run ∙ all.ringed.evented.limit in
@@ -350,7 +351,7 @@ returns-clause-cards g c = λ room o done s now all has time.
     let e : Devices = devices (g.M.Medium.state c.resume.new.unit) (g.C.Chip.state c.resume.new.card_a) (g.D.Chip.state c.resume.new.card_b) in
     let kept = c.last_kept-kept.ensures.kept in
     let values = learned run c.learn.new.self out c.learn.new.breaks c.last_kept-kept.result c.learn.ensures.run c.learn.ensures.breaks c.learn.ensures.same ∙ ap (λ (k : ℕ). read_values k (values_of run out)) kept in
-    let stay = all-of o (log_of out) run.keeper.memory.registration c.learn.new.self.keeper.memory.registration run.keeper.cabin.cards (devices U X Y) (ap (λ (r : Run). r.keeper.memory.registration) c.learn.ensures.run) rec.stay in
+    let stay = all-of o (log_of out) (notes_in (log_of out) done) run.keeper.memory.registration c.learn.new.self.keeper.memory.registration run.keeper.cabin (devices U X Y) (ap (λ (r : Run). r.keeper.memory.registration) c.learn.ensures.run) rec.stay in
     let same = ap (λ (r : Run). bare_seats r.keeper.cabin.slots.seats) c.learn.ensures.run in
     let next : mid.next ≡ run.next = c.resume.ensures.next ∙ ap (λ (r : Run). r.next) c.learn.ensures.run in
     let limit = ap (λ (r : Run). r.keeper.memory.limit) c.learn.ensures.run ∙ all.ringed.evented.limit in

@@ -2,6 +2,7 @@ use Rattle.std.proofs.Common.{◌≡◌, ◌∙◌, ℕ, ◌+◌, ◌-◌, ◌<�
 use Rattle.std.proofs.lemmas.List.{append-nil}
 use Rattle.trace_model.specs.declared.Action.{Action}
 use Rattle.trace_model.specs.Trace.{TraceSecond, seconds_at, item_seconds}
+use Rattle.minute_model.specs.Span.{ungiven_of}
 use Rattle.safety_model.specs.Safe.{Devices}
 use Rattle.run_rule.specs.Between.{devices}
 use Rattle.run_outcome.specs.declared.outcome.Outcome.{Outcome}
@@ -157,7 +158,7 @@ returns-in-Off-clause-ringed g c = λ many o done few r time.
     let acts : List Action = actions_in (between c.args.from c.args.to c.args.items.now) in
     let out : Outcome = record c.args.outcome.now { breaks = c.off.new.breaks } in
     subst (λ (i : Item). RunRinged o (done ++ seconds_at c.args.run.now.next acts i) c.off.new.self out d) (sym c.in-Off.is)
-    (off-ringed o done c.args.run.now c.args.outcome.now d r c.in-Off.seconds (subst InRange c.in-Off.is c.requires.item).0 c.off.new.breaks c.off.ensures.breaks c.off.new.self c.off.ensures.run)
+    (off-ringed o done c.args.run.now c.args.outcome.now d r (λ lit. let h = c.requires.going.lit (ap is_lit lit) in (ungiven_of h.span, h.cabin)) c.in-Off.seconds (subst InRange c.in-Off.is c.requires.item).0 c.off.new.breaks c.off.ensures.breaks c.off.new.self c.off.ensures.run)
 
 pub returns-in-Run-clause-ringed : goal.returns-in-Run-clause-ringed
 returns-in-Run-clause-ringed g c = λ many o done few r time.
@@ -180,7 +181,7 @@ returns-in-Off-clause-cards g c = λ many o done few r time.
     let acts : List Action = actions_in (between c.args.from c.args.to c.args.items.now) in
     let out : Outcome = record c.args.outcome.now { breaks = c.off.new.breaks } in
     subst (λ (i : Item). RunCarded o (done ++ seconds_at c.args.run.now.next acts i) c.off.new.self out d) (sym c.in-Off.is)
-    (off-carded o done c.args.run.now c.args.outcome.now d r c.requires.going.low c.in-Off.seconds (subst InRange c.in-Off.is c.requires.item).0 c.off.new.breaks c.off.ensures.breaks c.off.new.self c.off.ensures.run)
+    (off-carded o done c.args.run.now c.args.outcome.now d r c.requires.going.low (λ lit. let h = c.requires.going.lit (ap is_lit lit) in (ungiven_of h.span, h.cabin)) c.in-Off.seconds (subst InRange c.in-Off.is c.requires.item).0 c.off.new.breaks c.off.ensures.breaks c.off.new.self c.off.ensures.run)
 
 pub returns-in-Run-clause-cards : goal.returns-in-Run-clause-cards
 returns-in-Run-clause-cards g c = λ many o done few r time.

@@ -505,7 +505,7 @@ returns-in_err-settle-clause-recorded g c = λ late speed o done s now front res
     let r = c.in_err-settle.ensures.recorded in
     subst (λ (q : Bool). GoesOnOrFails q o done s (In c.args.at.begun) [] c.settle.new.run c.settle.new.outcome E w.within.b) failed
     (subst (λ (q : ℕ). RunFails o done s (In q) c.settle.new.run c.settle.new.outcome E) (sym n)
-    (settling-cut o done s front rest c.args.slot are speed now.speed_is c.in-Some.card run c.settle.new.run c.args.outcome.now c.settle.new.outcome D w there allowed (c.in_err-settle.ensures.settled.minutes w.within.sp w.within.minutes) r.0 (r.1 w.within.sp w.within.minutes) E
+    (settling-cut o done s front rest c.args.slot are speed now.speed_is c.in-Some.card run c.settle.new.run c.args.outcome.now c.settle.new.outcome D w there allowed (ungiven_of c.requires.going.span) c.requires.going.cabin (c.in_err-settle.ensures.settled.minutes w.within.sp w.within.minutes) r.0 (r.1 w.within.sp w.within.minutes) E
     (here-settled r.0 true c.args.slot c.args.at (acting_at s.number (suc (length front))) run c.settle.new.run c.args.outcome.now c.settle.new.outcome c.leave.new.self D E c.leave.ensures.kept moment r.2) time))
 
 pub returns-in-A-clause-recorded : goal.returns-in-A-clause-recorded
@@ -530,7 +530,7 @@ returns-in-A-clause-recorded g c = λ late speed o done s now front rest are n a
     let k = e.closed in
     let unit_later = e.journal.later in
     subst (λ (q : ℕ). GoesOnOrFails (is_err c.close.result) o done s (In q) [] c.close.new.run (record told { breaks = c.close.new.breaks }) (devices V Y Z) w.within.b) (sym n)
-    (closing-recorded o done s front rest c.args.slot are speed now.speed_is A run between c.args.outcome.now told D w there allowed (c.in_ok-settle.ensures.settled.minutes w.within.sp w.within.minutes) r.0 (r.1 w.within.sp w.within.minutes)
+    (closing-recorded o done s front rest c.args.slot are speed now.speed_is A run between c.args.outcome.now told D w there allowed (ungiven_of c.requires.going.span) c.requires.going.cabin (c.in_ok-settle.ensures.settled.minutes w.within.sp w.within.minutes) r.0 (r.1 w.within.sp w.within.minutes)
     g.C.Chip.state U1 V Z c.settle.new.card_a c.close.new.card (g.met.M.Medium.coherent c.settle.new.unit) (g.met.C.Chip.coherent c.settle.new.card_a) c.settle.ensures.held.card_a.size e.left e.bare e.journal (is_err c.close.result) e.cause e.more going.span going.stands going.next
     (here-settled r.0 false c.args.slot c.args.at (acting_at s.number (suc (length front))) run between c.args.outcome.now told c.leave.new.self D (devices U1 X Z) c.leave.ensures.kept moment r.2)
     (time-before A U1 V X Y Z unit_later e.clock_card time) c.args.at c.in_ok-settle.ensures.settled.decided (told_of (with_cabin c.leave.new.self run) c.args.outcome.now) c.in_ok-settle.ensures.settled.kept (ap (λ (b : Cabin). session_of b.cards A) c.leave.ensures.kept)
@@ -558,7 +558,7 @@ returns-in-B-clause-recorded g c = λ late speed o done s now front rest are n a
     let k = e.closed in
     let unit_later = e.journal.later in
     subst (λ (q : ℕ). GoesOnOrFails (is_err c.close-in-B.result) o done s (In q) [] c.close-in-B.new.run (record told { breaks = c.close-in-B.new.breaks }) (devices V Z Y) w.within.b) (sym n)
-    (closing-recorded o done s front rest c.args.slot are speed now.speed_is B run between c.args.outcome.now told D w there allowed (c.in_ok-settle.ensures.settled.minutes w.within.sp w.within.minutes) r.0 (r.1 w.within.sp w.within.minutes)
+    (closing-recorded o done s front rest c.args.slot are speed now.speed_is B run between c.args.outcome.now told D w there allowed (ungiven_of c.requires.going.span) c.requires.going.cabin (c.in_ok-settle.ensures.settled.minutes w.within.sp w.within.minutes) r.0 (r.1 w.within.sp w.within.minutes)
     g.D.Chip.state U1 V Z c.settle.new.card_b c.close-in-B.new.card (g.met.M.Medium.coherent c.settle.new.unit) (g.met.D.Chip.coherent c.settle.new.card_b) c.settle.ensures.held.card_b.size e.left e.bare e.journal (is_err c.close-in-B.result) e.cause e.more going.span going.stands going.next
     (here-settled r.0 false c.args.slot c.args.at (acting_at s.number (suc (length front))) run between c.args.outcome.now told c.leave.new.self D (devices U1 Z X) c.leave.ensures.kept moment r.2)
     (time-before B U1 V X Y Z unit_later e.clock_card time) c.args.at c.in_ok-settle.ensures.settled.decided (told_of (with_cabin c.leave.new.self run) c.args.outcome.now) c.in_ok-settle.ensures.settled.kept (ap (λ (b : Cabin). session_of b.cards B) c.leave.ensures.kept)
@@ -734,7 +734,7 @@ returns-in_err-settle-clause-evented g c = λ late speed o done s now front rest
     let v = c.in_err-settle.ensures.evented in
     subst (λ (q : Bool). EventsGoOn q o done s w.within.b.run (In c.args.at.begun) Acting (log_of c.settle.new.outcome) E) failed
     (subst (λ (q : ℕ). EventsGoOn true o done s w.within.b.run (In q) Acting (log_of c.settle.new.outcome) E) (sym n)
-    (settled-evented o done s front rest c.args.slot are speed now.speed_is c.in-Some.card run c.settle.new.run c.args.outcome.now c.settle.new.outcome D w there allowed (c.in_err-settle.ensures.settled.minutes w.within.sp w.within.minutes) v.0 (v.1 w.within.sp w.within.minutes) true E
+    (settled-evented o done s front rest c.args.slot are speed now.speed_is c.in-Some.card run c.settle.new.run c.args.outcome.now c.settle.new.outcome D w there allowed (ungiven_of c.requires.going.span) c.requires.going.cabin (c.in_err-settle.ensures.settled.minutes w.within.sp w.within.minutes) v.0 (v.1 w.within.sp w.within.minutes) true E
     (here-evented v.0 true c.args.slot c.args.at (acting_at s.number (suc (length front))) run c.settle.new.run c.args.outcome.now c.settle.new.outcome c.leave.new.self D E c.leave.ensures.kept moment v.2) events time))
 
 pub returns-in-A-clause-evented : goal.returns-in-A-clause-evented
@@ -764,12 +764,12 @@ returns-in-A-clause-evented g c = λ late speed o done s now front rest are n al
     let fell = e.closed in
     let unit_later = e.journal.later in
     let mid = time-before A U1 V X Y Z unit_later e.clock_card time in
-    let kept = settled-evented o done s front rest c.args.slot are speed now.speed_is A run between c.args.outcome.now told D w there allowed (c.in_ok-settle.ensures.settled.minutes w.within.sp w.within.minutes) v.0 (v.1 w.within.sp w.within.minutes) false (devices U1 A1 B1)
+    let kept = settled-evented o done s front rest c.args.slot are speed now.speed_is A run between c.args.outcome.now told D w there allowed (ungiven_of c.requires.going.span) c.requires.going.cabin (c.in_ok-settle.ensures.settled.minutes w.within.sp w.within.minutes) v.0 (v.1 w.within.sp w.within.minutes) false (devices U1 A1 B1)
     (here-evented v.0 false c.args.slot c.args.at (acting_at s.number (suc (length front))) run between c.args.outcome.now told c.leave.new.self D (devices U1 A1 B1) c.leave.ensures.kept moment v.2) events mid in
     let same = same-closing A c.args.slot c.args.at between c.close.new.run told.breaks c.close.new.breaks k.closing fell.0 k.closed fell.1 in
     let notes = noted-any (closed_events k.closing c.args.at.second c.close.new.run) (is_err c.close.result) (devices U1 X X) (devices V Y Y) (devices U1 A1 B1) (devices V Y B1) refl refl k.notes in
     subst (λ (q : ℕ). EventsGoOn (is_err c.close.result) o done s w.within.b.run (In q) Acting (log_of (record told { breaks = c.close.new.breaks })) (devices V Y B1)) (sym n)
-    (closing-evented o done s front rest c.args.slot are speed now.speed_is A run between c.args.outcome.now told D w there allowed (c.in_ok-settle.ensures.settled.minutes w.within.sp w.within.minutes) r.0 (r.1 w.within.sp w.within.minutes)
+    (closing-evented o done s front rest c.args.slot are speed now.speed_is A run between c.args.outcome.now told D w there allowed (ungiven_of c.requires.going.span) c.requires.going.cabin (c.in_ok-settle.ensures.settled.minutes w.within.sp w.within.minutes) r.0 (r.1 w.within.sp w.within.minutes)
     g.C.Chip.state U1 V Z c.settle.new.card_a c.close.new.card (g.met.M.Medium.coherent c.settle.new.unit) (g.met.C.Chip.coherent c.settle.new.card_a) c.settle.ensures.held.card_a.size e.left e.bare e.journal (is_err c.close.result) e.cause e.more going.span going.stands going.next
     (here-settled r.0 false c.args.slot c.args.at (acting_at s.number (suc (length front))) run between c.args.outcome.now told c.leave.new.self D (devices U1 A1 B1) c.leave.ensures.kept moment r.2)
     mid c.args.at c.in_ok-settle.ensures.settled.decided (told_of (with_cabin c.leave.new.self run) c.args.outcome.now) c.in_ok-settle.ensures.settled.kept (ap (λ (b : Cabin). session_of b.cards A) c.leave.ensures.kept)
@@ -804,12 +804,12 @@ returns-in-B-clause-evented g c = λ late speed o done s now front rest are n al
     let fell = e.closed in
     let unit_later = e.journal.later in
     let mid = time-before B U1 V X Y Z unit_later e.clock_card time in
-    let kept = settled-evented o done s front rest c.args.slot are speed now.speed_is B run between c.args.outcome.now told D w there allowed (c.in_ok-settle.ensures.settled.minutes w.within.sp w.within.minutes) v.0 (v.1 w.within.sp w.within.minutes) false (devices U1 A1 B1)
+    let kept = settled-evented o done s front rest c.args.slot are speed now.speed_is B run between c.args.outcome.now told D w there allowed (ungiven_of c.requires.going.span) c.requires.going.cabin (c.in_ok-settle.ensures.settled.minutes w.within.sp w.within.minutes) v.0 (v.1 w.within.sp w.within.minutes) false (devices U1 A1 B1)
     (here-evented v.0 false c.args.slot c.args.at (acting_at s.number (suc (length front))) run between c.args.outcome.now told c.leave.new.self D (devices U1 A1 B1) c.leave.ensures.kept moment v.2) events mid in
     let same = same-closing B c.args.slot c.args.at between c.close-in-B.new.run told.breaks c.close-in-B.new.breaks k.closing fell.0 k.closed fell.1 in
     let notes = noted-any (closed_events k.closing c.args.at.second c.close-in-B.new.run) (is_err c.close-in-B.result) (devices U1 X X) (devices V Y Y) (devices U1 A1 B1) (devices V A1 Y) refl refl k.notes in
     subst (λ (q : ℕ). EventsGoOn (is_err c.close-in-B.result) o done s w.within.b.run (In q) Acting (log_of (record told { breaks = c.close-in-B.new.breaks })) (devices V A1 Y)) (sym n)
-    (closing-evented o done s front rest c.args.slot are speed now.speed_is B run between c.args.outcome.now told D w there allowed (c.in_ok-settle.ensures.settled.minutes w.within.sp w.within.minutes) r.0 (r.1 w.within.sp w.within.minutes)
+    (closing-evented o done s front rest c.args.slot are speed now.speed_is B run between c.args.outcome.now told D w there allowed (ungiven_of c.requires.going.span) c.requires.going.cabin (c.in_ok-settle.ensures.settled.minutes w.within.sp w.within.minutes) r.0 (r.1 w.within.sp w.within.minutes)
     g.D.Chip.state U1 V Z c.settle.new.card_b c.close-in-B.new.card (g.met.M.Medium.coherent c.settle.new.unit) (g.met.D.Chip.coherent c.settle.new.card_b) c.settle.ensures.held.card_b.size e.left e.bare e.journal (is_err c.close-in-B.result) e.cause e.more going.span going.stands going.next
     (here-settled r.0 false c.args.slot c.args.at (acting_at s.number (suc (length front))) run between c.args.outcome.now told c.leave.new.self D (devices U1 A1 B1) c.leave.ensures.kept moment r.2)
     mid c.args.at c.in_ok-settle.ensures.settled.decided (told_of (with_cabin c.leave.new.self run) c.args.outcome.now) c.in_ok-settle.ensures.settled.kept (ap (λ (b : Cabin). session_of b.cards B) c.leave.ensures.kept)
@@ -863,7 +863,7 @@ returns-in_err-settle-clause-ringed g c = λ late speed o done s now front rest 
     let kept = here-kept true c.args.slot c.args.at (acting_at s.number (suc (length front))) run c.settle.new.run c.args.outcome.now c.settle.new.outcome c.leave.new.self c.leave.ensures.kept moment c.in_err-settle.ensures.settled in
     let v = c.in_err-settle.ensures.places in
     let places : PlacesStay o D E =
-    settled-places o done s front rest c.args.slot are speed now.speed_is card run c.settle.new.run c.args.outcome.now c.settle.new.outcome D w there allowed (c.in_err-settle.ensures.settled.minutes w.within.sp w.within.minutes) v.0 (v.1 w.within.sp w.within.minutes) E
+    settled-places o done s front rest c.args.slot are speed now.speed_is card run c.settle.new.run c.args.outcome.now c.settle.new.outcome D w there allowed (ungiven_of c.requires.going.span) c.requires.going.cabin (c.in_err-settle.ensures.settled.minutes w.within.sp w.within.minutes) v.0 (v.1 w.within.sp w.within.minutes) E
     (here-places v.0 c.args.slot c.args.at (acting_at s.number (suc (length front))) run c.settle.new.run c.args.outcome.now c.leave.new.self D E c.leave.ensures.kept moment v.2) time in
     subst (λ (q : Bool). RingsGoOn q o done s w.within.b (front ++ Withdraw c.args.slot ∷ []) c.settle.new.run (log_of c.settle.new.outcome) spans t E) failed
     (settling-ringed o done s front rest c.args.slot are speed now.speed_is card run c.settle.new.run c.args.outcome.now c.settle.new.outcome D E w there allowed true kept
@@ -914,19 +914,19 @@ returns-in-A-clause-ringed g c = λ late speed o done s now front rest are n all
     let v = c.in_ok-settle.ensures.places in
     let M : Devices = devices U1 A1 B1 in
     let first : PlacesStay o D M =
-    settled-places o done s front rest c.args.slot are speed now.speed_is A run between c.args.outcome.now told D w there allowed minutes v.0 (v.1 w.within.sp w.within.minutes) M
+    settled-places o done s front rest c.args.slot are speed now.speed_is A run between c.args.outcome.now told D w there allowed (ungiven_of c.requires.going.span) c.requires.going.cabin minutes v.0 (v.1 w.within.sp w.within.minutes) M
     (here-places v.0 c.args.slot c.args.at (acting_at s.number (suc (length front))) run between c.args.outcome.now c.leave.new.self D M c.leave.ensures.kept moment v.2) mid in
     let next : PlacesStay o M E =
-    closed-places o done s front rest c.args.slot are speed now.speed_is A run between c.args.outcome.now told D w there allowed minutes r.0 (r.1 w.within.sp w.within.minutes) g.C.Chip.state U1 V B1 c.settle.new.card_a c.close.new.card
+    closed-places o done s front rest c.args.slot are speed now.speed_is A run between c.args.outcome.now told D w there allowed (ungiven_of c.requires.going.span) c.requires.going.cabin minutes r.0 (r.1 w.within.sp w.within.minutes) g.C.Chip.state U1 V B1 c.settle.new.card_a c.close.new.card
     (g.met.C.Chip.coherent c.settle.new.card_a) c.settle.ensures.held.card_a.size e.left e.bare records mid in
     let places : PlacesStay o D E = stay-then o D M E first next in
     let from_is : w.within.from ≡ ungiven_of lit.span = let to = w.within.until in let same = same-ungiven run.minutes w.within.sp lit.span w.within.minutes lit.stands in omega (arith, to, same) in
     let later = (settled-decides None (run.next / 60) run lit kept.decided c.requires.small (kept.given lit.span lit.stands)).from in
     closing-ringed o done s front rest c.args.slot are speed now.speed_is A run between c.args.outcome.now told D E w there allowed false kept left places spans t rings (ungiven_of lit.span) lit.cabin small entries
     c.close.new.run c.close.new.breaks k.closing closed minutes
-    (λ had has. untorn-then o done s front rest c.args.slot are speed now.speed_is A run between c.args.outcome.now told D w there allowed minutes r.0 (r.1 w.within.sp w.within.minutes) (devices U1 A1 B1) records mid had has)
+    (λ had has. untorn-then o done s front rest c.args.slot are speed now.speed_is A run between c.args.outcome.now told D w there allowed (ungiven_of c.requires.going.span) c.requires.going.cabin minutes r.0 (r.1 w.within.sp w.within.minutes) (devices U1 A1 B1) records mid had has)
     (λ had none. gone-told o done s front rest c.args.slot are speed now.speed_is A run between c.args.outcome.now told D E w there allowed false kept left places spans t rings (ungiven_of lit.span) lit.cabin small entries kept.kept w.within.from
-    (sat-there o done s front rest c.args.slot are speed now.speed_is A run between c.args.outcome.now told D w there allowed minutes r.0 (r.1 w.within.sp w.within.minutes) had)
+    (sat-there o done s front rest c.args.slot are speed now.speed_is A run between c.args.outcome.now told D w there allowed (ungiven_of c.requires.going.span) c.requires.going.cabin minutes r.0 (r.1 w.within.sp w.within.minutes) had)
     (subst (λ (low : ℕ). All (λ (m : Minute). low ≤ m.minute) kept.decided) (sym from_is) later) had none)
     (is_err c.close.result) writes
 
@@ -974,19 +974,19 @@ returns-in-B-clause-ringed g c = λ late speed o done s now front rest are n all
     let v = c.in_ok-settle.ensures.places in
     let M : Devices = devices U1 A1 B1 in
     let first : PlacesStay o D M =
-    settled-places o done s front rest c.args.slot are speed now.speed_is B run between c.args.outcome.now told D w there allowed minutes v.0 (v.1 w.within.sp w.within.minutes) M
+    settled-places o done s front rest c.args.slot are speed now.speed_is B run between c.args.outcome.now told D w there allowed (ungiven_of c.requires.going.span) c.requires.going.cabin minutes v.0 (v.1 w.within.sp w.within.minutes) M
     (here-places v.0 c.args.slot c.args.at (acting_at s.number (suc (length front))) run between c.args.outcome.now c.leave.new.self D M c.leave.ensures.kept moment v.2) mid in
     let next : PlacesStay o M E =
-    closed-places o done s front rest c.args.slot are speed now.speed_is B run between c.args.outcome.now told D w there allowed minutes r.0 (r.1 w.within.sp w.within.minutes) g.D.Chip.state U1 V A1 c.settle.new.card_b c.close-in-B.new.card
+    closed-places o done s front rest c.args.slot are speed now.speed_is B run between c.args.outcome.now told D w there allowed (ungiven_of c.requires.going.span) c.requires.going.cabin minutes r.0 (r.1 w.within.sp w.within.minutes) g.D.Chip.state U1 V A1 c.settle.new.card_b c.close-in-B.new.card
     (g.met.D.Chip.coherent c.settle.new.card_b) c.settle.ensures.held.card_b.size e.left e.bare records mid in
     let places : PlacesStay o D E = stay-then o D M E first next in
     let from_is : w.within.from ≡ ungiven_of lit.span = let to = w.within.until in let same = same-ungiven run.minutes w.within.sp lit.span w.within.minutes lit.stands in omega (arith, to, same) in
     let later = (settled-decides None (run.next / 60) run lit kept.decided c.requires.small (kept.given lit.span lit.stands)).from in
     closing-ringed o done s front rest c.args.slot are speed now.speed_is B run between c.args.outcome.now told D E w there allowed false kept left places spans t rings (ungiven_of lit.span) lit.cabin small entries
     c.close-in-B.new.run c.close-in-B.new.breaks k.closing closed minutes
-    (λ had has. untorn-then o done s front rest c.args.slot are speed now.speed_is B run between c.args.outcome.now told D w there allowed minutes r.0 (r.1 w.within.sp w.within.minutes) (devices U1 A1 B1) records mid had has)
+    (λ had has. untorn-then o done s front rest c.args.slot are speed now.speed_is B run between c.args.outcome.now told D w there allowed (ungiven_of c.requires.going.span) c.requires.going.cabin minutes r.0 (r.1 w.within.sp w.within.minutes) (devices U1 A1 B1) records mid had has)
     (λ had none. gone-told o done s front rest c.args.slot are speed now.speed_is B run between c.args.outcome.now told D E w there allowed false kept left places spans t rings (ungiven_of lit.span) lit.cabin small entries kept.kept w.within.from
-    (sat-there o done s front rest c.args.slot are speed now.speed_is B run between c.args.outcome.now told D w there allowed minutes r.0 (r.1 w.within.sp w.within.minutes) had)
+    (sat-there o done s front rest c.args.slot are speed now.speed_is B run between c.args.outcome.now told D w there allowed (ungiven_of c.requires.going.span) c.requires.going.cabin minutes r.0 (r.1 w.within.sp w.within.minutes) had)
     (subst (λ (low : ℕ). All (λ (m : Minute). low ≤ m.minute) kept.decided) (sym from_is) later) had none)
     (is_err c.close-in-B.result) writes
 
@@ -1013,7 +1013,7 @@ returns-in_err-settle-clause-cards g c = λ late speed o done s now front rest a
     let moment = moment-is c.args.at s.number (suc (length front)) (c.requires.at ∙ sym now.number) n late in
     let v = c.in_err-settle.ensures.cards in
     let still : StillShow o D E =
-    settled-still o done s front rest c.args.slot are speed now.speed_is c.in-Some.card run c.settle.new.run c.args.outcome.now c.settle.new.outcome D w there allowed (c.in_err-settle.ensures.settled.minutes w.within.sp w.within.minutes) v.0 (v.1 w.within.sp w.within.minutes) E
+    settled-still o done s front rest c.args.slot are speed now.speed_is c.in-Some.card run c.settle.new.run c.args.outcome.now c.settle.new.outcome D w there allowed (ungiven_of c.requires.going.span) c.requires.going.cabin (c.in_err-settle.ensures.settled.minutes w.within.sp w.within.minutes) v.0 (v.1 w.within.sp w.within.minutes) E
     (here-cards v.0 c.args.slot c.args.at (acting_at s.number (suc (length front))) run c.settle.new.run c.args.outcome.now c.leave.new.self D E c.leave.ensures.kept moment v.2) time in
     let left = more-left o D E (w.within.powered.lit.unit.unit_holds [] []).later w.within.there.clocks c.settle.ensures.keeps in
     let t : TellsLines (acting_at s.number (suc (length front))) c.args.outcome.now c.settle.new.outcome = subst (λ (m : Moment). TellsLines m c.args.outcome.now c.settle.new.outcome) moment
@@ -1047,10 +1047,10 @@ returns-in-A-clause-cards g c = λ late speed o done s now front rest are n allo
     let minutes = c.in_ok-settle.ensures.settled.minutes w.within.sp w.within.minutes in
     let records = here-settled r.0 false c.args.slot c.args.at (acting_at s.number (suc (length front))) run between c.args.outcome.now told c.leave.new.self D M c.leave.ensures.kept moment r.2 in
     let first : StillShow o D M =
-    settled-still o done s front rest c.args.slot are speed now.speed_is A run between c.args.outcome.now told D w there allowed minutes v.0 (v.1 w.within.sp w.within.minutes) M
+    settled-still o done s front rest c.args.slot are speed now.speed_is A run between c.args.outcome.now told D w there allowed (ungiven_of c.requires.going.span) c.requires.going.cabin minutes v.0 (v.1 w.within.sp w.within.minutes) M
     (here-cards v.0 c.args.slot c.args.at (acting_at s.number (suc (length front))) run between c.args.outcome.now c.leave.new.self D M c.leave.ensures.kept moment v.2) mid in
     let next : StillShow o M E =
-    closed-still o done s front rest c.args.slot are speed now.speed_is A run between c.args.outcome.now told D w there allowed minutes r.0 (r.1 w.within.sp w.within.minutes) g.C.Chip.state U1 V Z c.settle.new.card_a c.close.new.card
+    closed-still o done s front rest c.args.slot are speed now.speed_is A run between c.args.outcome.now told D w there allowed (ungiven_of c.requires.going.span) c.requires.going.cabin minutes r.0 (r.1 w.within.sp w.within.minutes) g.C.Chip.state U1 V Z c.settle.new.card_a c.close.new.card
     (g.met.C.Chip.coherent c.settle.new.card_a) c.settle.ensures.held.card_a.size e.left e.bare records mid in
     let keeps = c.settle.ensures.keeps in
     let left = more-left o D E (w.within.powered.lit.unit.unit_holds [] []).later w.within.there.clocks (record {
@@ -1090,10 +1090,10 @@ returns-in-B-clause-cards g c = λ late speed o done s now front rest are n allo
     let minutes = c.in_ok-settle.ensures.settled.minutes w.within.sp w.within.minutes in
     let records = here-settled r.0 false c.args.slot c.args.at (acting_at s.number (suc (length front))) run between c.args.outcome.now told c.leave.new.self D M c.leave.ensures.kept moment r.2 in
     let first : StillShow o D M =
-    settled-still o done s front rest c.args.slot are speed now.speed_is B run between c.args.outcome.now told D w there allowed minutes v.0 (v.1 w.within.sp w.within.minutes) M
+    settled-still o done s front rest c.args.slot are speed now.speed_is B run between c.args.outcome.now told D w there allowed (ungiven_of c.requires.going.span) c.requires.going.cabin minutes v.0 (v.1 w.within.sp w.within.minutes) M
     (here-cards v.0 c.args.slot c.args.at (acting_at s.number (suc (length front))) run between c.args.outcome.now c.leave.new.self D M c.leave.ensures.kept moment v.2) mid in
     let next : StillShow o M E =
-    closed-still o done s front rest c.args.slot are speed now.speed_is B run between c.args.outcome.now told D w there allowed minutes r.0 (r.1 w.within.sp w.within.minutes) g.D.Chip.state U1 V Z c.settle.new.card_b c.close-in-B.new.card
+    closed-still o done s front rest c.args.slot are speed now.speed_is B run between c.args.outcome.now told D w there allowed (ungiven_of c.requires.going.span) c.requires.going.cabin minutes r.0 (r.1 w.within.sp w.within.minutes) g.D.Chip.state U1 V Z c.settle.new.card_b c.close-in-B.new.card
     (g.met.D.Chip.coherent c.settle.new.card_b) c.settle.ensures.held.card_b.size e.left e.bare records mid in
     let keeps = c.settle.ensures.keeps in
     let left = more-left o D E (w.within.powered.lit.unit.unit_holds [] []).later w.within.there.clocks (record {
