@@ -100,7 +100,7 @@ use Rattle.recorder_with_cards.proofs.Written.{are-written, keep-holders}
 use Rattle.recorder_with_cards.specs.Placed.{ShowsPlaces}
 use Rattle.recorder_with_cards.proofs.KeptAfter.{end-kept}
 use Rattle.run_acts.specs.Closings.{spells_of}
-use Rattle.run_acts.specs.Stays.{registration_in, AreMerged, spells, sits_in, HasStays, ShowsStays}
+use Rattle.run_acts.specs.Stays.{start_shown, AreTimely, registration_in, AreMerged, spells, sits_in, HasStays, ShowsStays}
 use Rattle.recorder_with_cards.proofs.AtEnd.{noted-at-end, sits-at-end}
 use Rattle.run_recorded.specs.Whole.{NothingFailed}
 use Rattle.run_crew.specs.Cabin.{Stands}
@@ -203,6 +203,7 @@ module _ (x a b : List ℕ) (start : ℕ) (items : List Item) (began now : Devic
           shows = λ c valid. subst (λ (i : List ℕ). ShowsStays run.keeper.memory.registration i (all.stays c) (card_of now c)) (of_image c) (own none c valid).shows;
           closed = λ c valid.
               sym (noted-at-end (session_of run.keeper.cabin.cards c) (sits_in run.keeper.cabin.slots.seats c) (spells (all.stays c)) (sits-at-end o ss run out now h.evented.recorded sits c)) ∙ (own none c valid).spell;
+          timely = λ c valid. subst (λ (i : List ℕ). AreTimely run.keeper.memory.registration (own_sizes i).activity (all.stays c) (start_shown i)) (of_image c) (own none c valid).timely;
         };
     kept = end-kept o ss run out now h.evented.recorded h.spans h.ringed.spans_are h.stored;
     dense = record {
