@@ -221,7 +221,7 @@ module _ (o : Origin) (done : List TraceSecond) (s : TraceSecond) (n : ℕ) (wai
     own : LeavesPlaces (card_image o.recording e.which) X Y
     own y left =
         let run = card-run o done s n waits fewer e k out unfound next_ begun minutes U X Z w m failed k' noted noted' out' W Y way g sound in
-        ⊎_elim (λ before. (y, before, refl)) (λ (x, is, (z, at, comes)). (z, at, by-way way run.0 z y at was.2 comes)) (run.1.now y left)
+        ⊎_elim (λ before. (y, before, refl)) (λ here. (here.2.0, here.2.1, by-way way run.0 here.2.0 y here.2.1 was.2 here.2.2)) (run.1.now y left)
 
   -- SO THE PLACES of both cards stay
   pub judged-places : PlacesStay o (arranged e.which U X Z) (arranged e.which W Y Z)

@@ -243,7 +243,7 @@ pub place-taken : (o : Origin) (log : RunLog) (p : PlaceNote) (entry : PlaceEntr
     → (IsOwnValid (card_image o.recording p.card) → PlaceCall fell failed (sizes_in o p.card) entry (card_of d p.card) (card_of e p.card)) → ((c : Card) → same_card p.card c ≡ false → (y : List ℕ) → (card_of e c).may_leave y → (card_of d c).may_leave y)
     → PlaceIsTaken o log p (place_bytes entry) d e
 place-taken o log p entry fell failed d e told_fell told_failed call others c valid = ⊎_elim
-    (λ same. inr (same, subst (Taken o log p entry d e) (alike p.card c same) (λ v y left. by (call v y left)) valid))
+    (λ same. inr (same, subst (Taken o log p entry d e) (alike p.card c same) (λ v y left. by y (call v y left)) valid))
     (λ apart_. inl (apart_, λ y left. (y, others c apart_ y left, refl)))
     (this-or p.card c)
   where
@@ -253,9 +253,9 @@ place-taken o log p entry fell failed d e told_fell told_failed call others c va
     alike A B is = absurd (let wrong : false ≡ true = is in cc)
     alike B A is = absurd (let wrong : false ≡ true = is in cc)
 
-    by : {y : List ℕ} → ((x : List ℕ) × (card_of d p.card).may_leave x × (PointsInside (place_ring (sizes_in o p.card)) x → IsPlaceNoted (sizes_in o p.card) entry x y ⊎ (((fell ≡ true) ⊎ (failed ≡ true)) × ((y ≡ x) ⊎ IsNotingPlace (sizes_in o p.card) entry x y))))
+    by : (y : List ℕ) → ((x : List ℕ) × (card_of d p.card).may_leave x × (PointsInside (place_ring (sizes_in o p.card)) x → IsPlaceNoted (sizes_in o p.card) entry x y ⊎ (((fell ≡ true) ⊎ (failed ≡ true)) × ((y ≡ x) ⊎ IsNotingPlace (sizes_in o p.card) entry x y))))
         → (x : List ℕ) × (card_of d p.card).may_leave x × (PointsInside (places_in (card_image o.recording p.card)) x → TakesPlace log p (place_bytes entry) (card_image o.recording p.card) x y)
-    by w = (w.0, w.1, λ points. ⊎_elim (λ stands. inl stands) (λ may. inr (⊎_elim told_fell told_failed may.0, may.1)) (w.2 points))
+    by y w = (w.0, w.1, λ points. ⊎_elim (λ stands. inl stands) (λ may. inr (⊎_elim told_fell told_failed may.0, may.1)) (w.2 points))
 
 -- a tear by a failed call is told
 pub tear-failed : (log : RunLog) (slot : Slot) (at : Moment) → has_call_failed_in (record log { breaks = log.breaks ++ tear_of slot at ∷ [] }) at.second ≡ true

@@ -57,6 +57,7 @@ use Rattle.run_acts.specs.Acting.{IsNotedOn, noted_run, noted_breaks}
 use Rattle.run_acts.specs.Devices.{AreLeftMore}
 use Rattle.run_acts.specs.Going.{end_of_seconds}
 use Rattle.run_acts.specs.Recording.{log_of, values_of, RunWithin}
+use Rattle.run_acts.specs.RunCards.{sizes_in}
 use Rattle.run_acts.specs.RunRinged.{seats_of, IsLastFrom, RingsWithin, with_cut, RingsGoOn, RingsPlace}
 use Rattle.run_acts.specs.Ringing.{IsPlaceNow, WritesPlace}
 use Rattle.run_acts.proofs.Cabins.{session-known, noted-sessions}
@@ -258,11 +259,11 @@ place-goes slot entry at failed old new breaks after d e card number fell seat n
     (λ log more cut. place-taken o log (record { second = s.number; card = card; ending = ending; country = country; region = region }) entry fell failed d e
     (λ torn. more (torn-told fell slot at s.number (log_of before) (second ∙ sym here.number) torn
     (log_of (record before { breaks = after })) (ap (λ (l : Listed Break). record (log_of before) { breaks = l.items }) (noted.told ∙ ap (λ (l : Listed Break). with_lines lines l) (sym is))))) cut
-    (λ valid. sized (session_of old.keeper.cabin.cards card) refl some (λ a at_. session-sizes o done s (In (length front)) [] [] old before d w card valid a at_)) others)
+    (λ valid. sized (sizes_in o card) (session_of old.keeper.cabin.cards card) refl some (λ a at_. session-sizes o done s (In (length front)) [] [] old before d w card valid a at_)) others)
   where
-    sized : {app : Application} (q : Option Accepted) → session_of old.keeper.cabin.cards card ≡ q → is_some q ≡ true → ((a : Accepted) → session_of old.keeper.cabin.cards card ≡ Some a → a.session.application ≡ app) → PlaceCall fell failed app entry (card_of d card) (card_of e card)
-    sized None is none sizes = absurd (let wrong : false ≡ true = none in cc)
-    sized (Some a) is has sizes = subst (λ (p : Application). PlaceCall fell failed p entry (card_of d card) (card_of e card)) (sizes a is) (call a is)
+    sized : (app : Application) (q : Option Accepted) → session_of old.keeper.cabin.cards card ≡ q → is_some q ≡ true → ((a : Accepted) → session_of old.keeper.cabin.cards card ≡ Some a → a.session.application ≡ app) → PlaceCall fell failed app entry (card_of d card) (card_of e card)
+    sized app None is none sizes = absurd (let wrong : false ≡ true = none in cc)
+    sized app (Some a) is has sizes = subst (λ (p : Application). PlaceCall fell failed p entry (card_of d card) (card_of e card)) (sizes a is) (call a is)
 
     torn-told : (fell : Bool) (slot : Slot) (at : Moment) (u : ℕ) (log : RunLog) → at.second ≡ u → fell ≡ true → (later : RunLog) → later ≡ record log { breaks = log.breaks ++ noted_breaks fell slot at } → has_call_failed_in later u ≡ true
     torn-told false slot at u log is apart_ later are = absurd (let wrong : false ≡ true = apart_ in cc)

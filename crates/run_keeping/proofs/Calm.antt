@@ -28,8 +28,8 @@ tears-behind xs ys =
     ∙ length-append (filter (λ (b : Break). not (is_cut b) && has_failed b) xs) (filter (λ (b : Break). not (is_cut b) && has_failed b) ys)
 
 -- lines more, without such a tear
-pub none-told : {before after : List Break} (more : List Break) → after ≡ before ++ more → failed_tears more ≡ 0 → failed_tears after ≡ failed_tears before
-none-told {before} {after} more is none = let both = ap failed_tears is ∙ tears-behind before more in omega (arith, both, none)
+none-told : (before after more : List Break) → after ≡ before ++ more → failed_tears more ≡ 0 → failed_tears after ≡ failed_tears before
+none-told before after more is none = let both = ap failed_tears is ∙ tears-behind before more in omega (arith, both, none)
 
 -- what was found after the cuts
 found-all : (k : ℕ) (breaks : List Break) → failed_tears (map (with_kept k) breaks) ≡ failed_tears breaks
@@ -50,6 +50,10 @@ found-tears (suc i) k (Tear s slot false n late ∷ breaks) = found-tears i k br
 pub card-rests : {before after : List Break} {old new : State} → failed_tears after ≡ failed_tears before → new.breakdowns ≡ old.breakdowns → IsCalm before after old new
 card-rests same calm = record { few = omega (arith, same); calm = λ none. calm }
 
+-- lines more, without such a tear
+pub card-told : {before after : List Break} {old new : State} (more : List Break) → after ≡ before ++ more → failed_tears more ≡ 0 → new.breakdowns ≡ old.breakdowns → IsCalm before after old new
+card-told {before} {after} more is none calm = card-rests (none-told before after more is none) calm
+
 -- no call on it
 pub card-beside : {before after : List Break} (s : State) → failed_tears before ≤ failed_tears after → IsCalm before after s s
 card-beside s few = record { few = few; calm = λ none. refl }
@@ -61,6 +65,10 @@ card-fell {before} {after} slot at is =
     let more = ap failed_tears is ∙ tears-behind before (tear_of slot at ∷ []) in
     record { few = omega (arith, more, one); calm = λ none. absurd (omega (arith, more, one, none)) }
 
+-- calls in which it did not break down, and some more
+pub card-first : {before after : List Break} (old mid new : State) → mid.breakdowns ≡ old.breakdowns → IsCalm before after mid new → IsCalm before after old new
+card-first old mid new rests next = record { few = next.few; calm = λ none. next.calm none ∙ rests }
+
 -- calls, and some more
 pub card-then : {before mids after : List Break} {old mid new : State} → IsCalm before mids old mid → IsCalm mids after mid new → IsCalm before after old new
 card-then first next = record {
@@ -71,15 +79,15 @@ card-then first next = record {
 -- a call that failed, or did not
 pub card-by : {before after : List Break} (fell : Bool) (slot : Slot) (at : Moment) (more : Bool → List Break) {old new : State} → more false ≡ [] → more true ≡ tear_of slot at ∷ [] → after ≡ before ++ more fell → HasCause old new fell → IsCalm before after old new
 card-by {before} true slot at more none one is cause = card-fell slot at (is ∙ ap (λ (bs : List Break). before ++ bs) one)
-card-by false slot at more none one is cause = card-rests (none-told (more false) is (ap failed_tears none)) (cause.unbroken refl)
+card-by false slot at more none one is cause = card-told (more false) is (ap failed_tears none) (cause.unbroken refl)
 
 -- a card that keeps an entry, or is torn out
 fate-calm : (session : Option Accepted) (kept : Kept) (fate : Fate) (slot : Slot) (at : Moment) {before after : List Break} (X Y : State) → IsFateOf session kept fate → IsOnCard fate X Y → after ≡ before ++ breaks_by fate slot at → (session ≡ None → Y.breakdowns ≡ X.breakdowns) → IsCalm before after X Y
-fate-calm None kept Still slot at X Y is on told bare = card-rests (none-told [] told refl) (bare refl)
+fate-calm None kept Still slot at X Y is on told bare = card-told [] told refl (bare refl)
 fate-calm None kept (Has accepted clock) slot at X Y is on told bare = absurd is
 fate-calm None kept Fell slot at X Y is on told bare = absurd is
 fate-calm (Some before) kept Still slot at X Y is on told bare = absurd is
-fate-calm (Some before) kept (Has accepted clock) slot at X Y is on told bare = card-rests (none-told [] told refl) (on.1.unbroken refl)
+fate-calm (Some before) kept (Has accepted clock) slot at X Y is on told bare = card-told [] told refl (on.1.unbroken refl)
 fate-calm (Some before) kept Fell slot at X Y is on told bare = card-fell slot at told
 
 pub brought-calm : (card : Card) (kept : Kept) (at : Moment) (failed : Bool) (k v : Keeper) (marks marks_after : Listed Mark) (breaks breaks_after : Listed Break) (fate : Fate) (U V X Y : State)
@@ -92,16 +100,20 @@ brought-calm card kept at failed k v marks marks_after breaks breaks_after fate 
 pub calm-same : {breaks : List Break} (d : Devices) → AreCalm breaks breaks d d
 calm-same d = record { card_a = card-beside d.card_a (omega arith); card_b = card-beside d.card_b (omega arith) }
 
--- lines more without such a tear, and no call on a card
+-- as many such tears, and no call on a card
 pub calm-none : {before after : List Break} (d : Devices) → failed_tears after ≡ failed_tears before → AreCalm before after d d
 calm-none d same = record { card_a = card-rests same refl; card_b = card-rests same refl }
+
+-- lines more without such a tear, and no call on a card
+pub calm-told : {before after : List Break} (d : Devices) (more : List Break) → after ≡ before ++ more → failed_tears more ≡ 0 → AreCalm before after d d
+calm-told {before} {after} d more is none = calm-none d (none-told before after more is none)
 
 pub calm-then : (d e f : Devices) {before mids after : List Break} → AreCalm before mids d e → AreCalm mids after e f → AreCalm before after d f
 calm-then d e f first next = record { card_a = card-then first.card_a next.card_a; card_b = card-then first.card_b next.card_b }
 
 -- lines more without such a tear behind these calls
-pub calm-more : (d e : Devices) {before mids after : List Break} → AreCalm before mids d e → failed_tears after ≡ failed_tears mids → AreCalm before after d e
-calm-more d e first same = calm-then d e e first (calm-none e same)
+pub calm-more : (d e : Devices) {before mids after : List Break} (more : List Break) → AreCalm before mids d e → after ≡ mids ++ more → failed_tears more ≡ 0 → AreCalm before after d e
+calm-more d e more first is none = calm-then d e e first (calm-told e more is none)
 
 -- calls on the unit alone
 pub calm-of-unit : {breaks : List Break} (u v a b : State) → AreCalm breaks breaks (devices u a b) (devices v a b)

@@ -150,7 +150,6 @@ MoreComeBefore d = (o : Origin) (told later : List Told) (trace now : List Trace
 
 pub come-before : (d : Devices) → MoreComeBefore d
 come-before d o told later trace now come log spans notes seats v = record {
-  on_cards = v.on_cards;
   insertions = λ ring x left.
       let was = v.insertions ring x left in
       let all = weaker-since o told later trace now come log log spans spans notes d d (record { unit = λ y h. h; card = λ c y h. h }) (go-on log spans notes) in record {
@@ -162,6 +161,7 @@ come-before d o told later trace now come log spans notes seats v = record {
         seated = λ c. seated-since o told later trace now come log log spans spans notes d d (record { unit = λ y h. h; card = λ c y h. h }) (go-on log spans notes) c (seats c) was.shows.more x x refl (was.seated c);
       };
   places = v.places;
+  on_cards = v.on_cards;
 }
 
 -- CALLS THAT WRITE NO RING

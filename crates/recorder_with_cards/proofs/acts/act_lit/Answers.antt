@@ -45,7 +45,7 @@ use Rattle.recorder_with_cards.proofs.RingsHeld.{ringed-cut}
 use Rattle.recorder_with_cards.proofs.HereDone.{TellsMoreOf, done-of}
 use Rattle.recorder_with_cards.proofs.CardsHeld.{carded-lit, in-carded_lit, in-carded_cut}
 use Rattle.recorder_with_cards.proofs.ActsCards.{refused-cards, cards-on, cards-now, cut-later, cut-cards}
-use Rattle.run_keeping.proofs.Calm.{calm-more, calm-same, none-told}
+use Rattle.run_keeping.proofs.Calm.{calm-more, calm-same}
 use Rattle.recorder_with_cards.proofs.acts.act_lit.Goals as goal
 
 -- ---- the unit failed: power is lost
@@ -349,7 +349,7 @@ pub returns-in-Err-clause-calm : goal.returns-in-Err-clause-calm
 returns-in-Err-clause-calm g c = calm-same (devices (g.M.Medium.state c.args.unit.now) (g.C.Chip.state c.args.card_a.now) (g.D.Chip.state c.args.card_b.now))
 
 pub returns-then-is_err-clause-calm : goal.returns-then-is_err-clause-calm
-returns-then-is_err-clause-calm g c = calm-more (devices (g.M.Medium.state c.args.unit.now) (g.C.Chip.state c.args.card_a.now) (g.D.Chip.state c.args.card_b.now)) (devices (g.M.Medium.state c.carry_out.new.unit) (g.C.Chip.state c.carry_out.new.card_a) (g.D.Chip.state c.carry_out.new.card_b)) c.carry_out.ensures.calm (none-told _ (ap (λ (l : Listed Break). l.items) c.cut.ensures.breaks) refl)
+returns-then-is_err-clause-calm g c = calm-more (devices (g.M.Medium.state c.args.unit.now) (g.C.Chip.state c.args.card_a.now) (g.D.Chip.state c.args.card_b.now)) (devices (g.M.Medium.state c.carry_out.new.unit) (g.C.Chip.state c.carry_out.new.card_a) (g.D.Chip.state c.carry_out.new.card_b)) _ c.carry_out.ensures.calm (ap (λ (l : Listed Break). l.items) c.cut.ensures.breaks) refl
 
 pub returns-else-is_err-clause-calm : goal.returns-else-is_err-clause-calm
 returns-else-is_err-clause-calm g c = c.carry_out.ensures.calm

@@ -40,7 +40,7 @@ use Rattle.run_acts.proofs.NotedEvents.{same-noted}
 use Rattle.recorder_with_cards.specs.Noting.{NotesDone}
 use Rattle.run_acts.specs.RunCards.{CardsAction}
 use Rattle.recorder_with_cards.proofs.ActsCards.{selected-cards, pulled-cards}
-use Rattle.run_keeping.proofs.Calm.{calm-none, calm-same, none-told}
+use Rattle.run_keeping.proofs.Calm.{calm-told, calm-same}
 use Rattle.recorder_with_cards.proofs.Uncut.{pulled-calm}
 use Rattle.recorder_with_cards.proofs.acts.carry_out.Goals as goal
 
@@ -517,4 +517,4 @@ pub returns-in-Select-clause-calm : goal.returns-in-Select-clause-calm
 returns-in-Select-clause-calm g c = calm-same (devices (g.M.Medium.state c.args.unit.now) (g.C.Chip.state c.args.card_a.now) (g.D.Chip.state c.args.card_b.now))
 
 pub returns-in-Tear-clause-calm : goal.returns-in-Tear-clause-calm
-returns-in-Tear-clause-calm g c = calm-none (devices (g.M.Medium.state c.args.unit.now) (g.C.Chip.state c.args.card_a.now) (g.D.Chip.state c.args.card_b.now)) (none-told _ (ap (λ (l : Listed Break). l.items) c.pull.ensures.breaks) (pulled-calm _ _ _))
+returns-in-Tear-clause-calm g c = calm-told (devices (g.M.Medium.state c.args.unit.now) (g.C.Chip.state c.args.card_a.now) (g.D.Chip.state c.args.card_b.now)) _ (ap (λ (l : Listed Break). l.items) c.pull.ensures.breaks) (pulled-calm _ _ _)

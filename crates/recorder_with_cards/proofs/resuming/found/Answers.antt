@@ -48,7 +48,7 @@ use Rattle.recorder_with_cards.proofs.CardsHeld.{in-carded_cut, in-carded_lit}
 use Rattle.recorder_with_cards.proofs.ActsCards.{cards-on}
 use Rattle.recorder_with_cards.proofs.WakesCards.{learned-cards}
 use Rattle.run_keeping.specs.Later.{failed_tears}
-use Rattle.run_keeping.proofs.Calm.{calm-more, calm-none, calm-then, found-tears, none-told}
+use Rattle.run_keeping.proofs.Calm.{calm-more, calm-none, calm-then, found-tears}
 use Rattle.recorder_with_cards.proofs.resuming.found.Goals as goal
 
 pub cut-requires-clause-room : goal.cut-requires-clause-room
@@ -443,10 +443,10 @@ returns-clause-broke g c = broke-then (broke-found _ _ {old = (g.M.Medium.state 
 -- ---- where no tear of a failed call is told no card has broken down
 
 pub returns-in_err-judge_clock-clause-calm : goal.returns-in_err-judge_clock-clause-calm
-returns-in_err-judge_clock-clause-calm g c = calm-none (devices (g.M.Medium.state c.args.unit.now) (g.C.Chip.state c.args.card_a.now) (g.D.Chip.state c.args.card_b.now)) (ap (λ (l : Listed Break). failed_tears l.items) c.learn.ensures.breaks ∙ found-tears _ _ _)
+returns-in_err-judge_clock-clause-calm g c = calm-none (devices (g.M.Medium.state c.args.unit.now) (g.C.Chip.state c.args.card_a.now) (g.D.Chip.state c.args.card_b.now)) (ap (λ (l : Listed Break). failed_tears l.items) c.learn.ensures.breaks ∙ found-tears c.args.run.now.unfound c.last_kept-kept.result c.args.outcome.now.breaks.items)
 
 pub returns-then-is_err-clause-calm : goal.returns-then-is_err-clause-calm
-returns-then-is_err-clause-calm g c = calm-then (devices (g.M.Medium.state c.args.unit.now) (g.C.Chip.state c.args.card_a.now) (g.D.Chip.state c.args.card_b.now)) (devices (g.M.Medium.state c.args.unit.now) (g.C.Chip.state c.args.card_a.now) (g.D.Chip.state c.args.card_b.now)) (devices (g.M.Medium.state c.resume.new.unit) (g.C.Chip.state c.resume.new.card_a) (g.D.Chip.state c.resume.new.card_b)) (calm-none (devices (g.M.Medium.state c.args.unit.now) (g.C.Chip.state c.args.card_a.now) (g.D.Chip.state c.args.card_b.now)) (ap (λ (l : Listed Break). failed_tears l.items) c.learn.ensures.breaks ∙ found-tears _ _ _)) (calm-more (devices (g.M.Medium.state c.args.unit.now) (g.C.Chip.state c.args.card_a.now) (g.D.Chip.state c.args.card_b.now)) (devices (g.M.Medium.state c.resume.new.unit) (g.C.Chip.state c.resume.new.card_a) (g.D.Chip.state c.resume.new.card_b)) c.resume.ensures.calm (none-told _ (ap (λ (l : Listed Break). l.items) c.cut.ensures.breaks) refl))
+returns-then-is_err-clause-calm g c = calm-then (devices (g.M.Medium.state c.args.unit.now) (g.C.Chip.state c.args.card_a.now) (g.D.Chip.state c.args.card_b.now)) (devices (g.M.Medium.state c.args.unit.now) (g.C.Chip.state c.args.card_a.now) (g.D.Chip.state c.args.card_b.now)) (devices (g.M.Medium.state c.resume.new.unit) (g.C.Chip.state c.resume.new.card_a) (g.D.Chip.state c.resume.new.card_b)) {mids = c.learn.new.breaks.items} (calm-none (devices (g.M.Medium.state c.args.unit.now) (g.C.Chip.state c.args.card_a.now) (g.D.Chip.state c.args.card_b.now)) (ap (λ (l : Listed Break). failed_tears l.items) c.learn.ensures.breaks ∙ found-tears c.args.run.now.unfound c.last_kept-kept.result c.args.outcome.now.breaks.items)) (calm-more (devices (g.M.Medium.state c.args.unit.now) (g.C.Chip.state c.args.card_a.now) (g.D.Chip.state c.args.card_b.now)) (devices (g.M.Medium.state c.resume.new.unit) (g.C.Chip.state c.resume.new.card_a) (g.D.Chip.state c.resume.new.card_b)) _ c.resume.ensures.calm (ap (λ (l : Listed Break). l.items) c.cut.ensures.breaks) refl)
 
 pub returns-clause-calm : goal.returns-clause-calm
-returns-clause-calm g c = calm-then (devices (g.M.Medium.state c.args.unit.now) (g.C.Chip.state c.args.card_a.now) (g.D.Chip.state c.args.card_b.now)) (devices (g.M.Medium.state c.args.unit.now) (g.C.Chip.state c.args.card_a.now) (g.D.Chip.state c.args.card_b.now)) (devices (g.M.Medium.state c.resume.new.unit) (g.C.Chip.state c.resume.new.card_a) (g.D.Chip.state c.resume.new.card_b)) (calm-none (devices (g.M.Medium.state c.args.unit.now) (g.C.Chip.state c.args.card_a.now) (g.D.Chip.state c.args.card_b.now)) (ap (λ (l : Listed Break). failed_tears l.items) c.learn.ensures.breaks ∙ found-tears _ _ _)) c.resume.ensures.calm
+returns-clause-calm g c = calm-then (devices (g.M.Medium.state c.args.unit.now) (g.C.Chip.state c.args.card_a.now) (g.D.Chip.state c.args.card_b.now)) (devices (g.M.Medium.state c.args.unit.now) (g.C.Chip.state c.args.card_a.now) (g.D.Chip.state c.args.card_b.now)) (devices (g.M.Medium.state c.resume.new.unit) (g.C.Chip.state c.resume.new.card_a) (g.D.Chip.state c.resume.new.card_b)) {mids = c.learn.new.breaks.items} (calm-none (devices (g.M.Medium.state c.args.unit.now) (g.C.Chip.state c.args.card_a.now) (g.D.Chip.state c.args.card_b.now)) (ap (λ (l : Listed Break). failed_tears l.items) c.learn.ensures.breaks ∙ found-tears c.args.run.now.unfound c.last_kept-kept.result c.args.outcome.now.breaks.items)) c.resume.ensures.calm

@@ -43,7 +43,7 @@ use Rattle.run_outcome.proofs.Broken.{broke-none, broke-once, broke-then}
 use Rattle.recorder_with_cards.proofs.RingsHeld.{ringed-cut}
 use Rattle.recorder_with_cards.proofs.CardsHeld.{in-carded_cut}
 use Rattle.recorder_with_cards.proofs.WakesCards.{unit-alone, unpowered-cards}
-use Rattle.run_keeping.proofs.Calm.{calm-of-unit, calm-then, calm-more, none-told}
+use Rattle.run_keeping.proofs.Calm.{calm-of-unit, calm-then, calm-more}
 use Rattle.recorder_with_cards.proofs.resuming.power_on.Goals as goal
 
 pub returns-in-Err-Failed-clause-going : goal.returns-in-Err-Failed-clause-going
@@ -303,7 +303,7 @@ returns-in-Ok-clause-cards g c = λ room o done s now all has time.
         spans = all.ringed.spans;
         base = λ lit. absurd (let bad : false ≡ true = sym c.requires.dark ∙ ap is_lit lit in cc);
         counted = all.ringed.counted;
-        ringed = behind-stays (devices U X Y) (devices V X Y) o done (log_of out) run.next all.ringed.spans (seats_of run) all.ringed.ringed (read-leaves U V whole c.load.ensures.leaves) left;
+        ringed = behind-stays (devices U X Y) (devices V X Y) o done (log_of out) run.next all.ringed.spans (seats_of run) all.ringed.ringed (read-leaves U V whole c.load.ensures.leaves) left (places-beside o U V X Y);
         stored = subst (λ (b : Bool). Stores b o (log_of out) run.unfound run.keeper.odometer all.ringed.spans (devices V X Y)) (sym c.requires.dark)
             (stays-stored o (log_of out) run.unfound all.ringed.spans (devices U X Y) (devices V X Y) (read-stays (devices U X Y) (devices V X Y) whole c.load.ensures.leaves)
             (subst (λ (b : Bool). Stores b o (log_of out) run.unfound run.keeper.odometer all.ringed.spans (devices U X Y)) c.requires.dark all.ringed.stored));
@@ -414,4 +414,4 @@ pub returns-in-Err-BadUnit-clause-calm : goal.returns-in-Err-BadUnit-clause-calm
 returns-in-Err-BadUnit-clause-calm g c = calm-of-unit (g.M.Medium.state c.args.unit.now) (g.M.Medium.state c.load.new.unit) (g.C.Chip.state c.args.card_a.now) (g.D.Chip.state c.args.card_b.now)
 
 pub returns-in-Err-Failed-clause-calm : goal.returns-in-Err-Failed-clause-calm
-returns-in-Err-Failed-clause-calm g c = calm-more (devices (g.M.Medium.state c.args.unit.now) (g.C.Chip.state c.args.card_a.now) (g.D.Chip.state c.args.card_b.now)) (devices (g.M.Medium.state c.load.new.unit) (g.C.Chip.state c.args.card_a.now) (g.D.Chip.state c.args.card_b.now)) (calm-of-unit (g.M.Medium.state c.args.unit.now) (g.M.Medium.state c.load.new.unit) (g.C.Chip.state c.args.card_a.now) (g.D.Chip.state c.args.card_b.now)) (none-told _ (ap (λ (l : Listed Break). l.items) c.cut.ensures.breaks) refl)
+returns-in-Err-Failed-clause-calm g c = calm-more (devices (g.M.Medium.state c.args.unit.now) (g.C.Chip.state c.args.card_a.now) (g.D.Chip.state c.args.card_b.now)) (devices (g.M.Medium.state c.load.new.unit) (g.C.Chip.state c.args.card_a.now) (g.D.Chip.state c.args.card_b.now)) _ (calm-of-unit (g.M.Medium.state c.args.unit.now) (g.M.Medium.state c.load.new.unit) (g.C.Chip.state c.args.card_a.now) (g.D.Chip.state c.args.card_b.now)) (ap (λ (l : Listed Break). l.items) c.cut.ensures.breaks) refl

@@ -30,7 +30,7 @@ use Rattle.recorder_with_cards.proofs.Dark.{cut-room, off-room, unfound-same}
 use Rattle.run_keeping.proofs.Later.{later-same}
 use Rattle.run_outcome.proofs.Broken.{broke-none, broke-behind}
 use Rattle.recorder_with_cards.proofs.Uncut.{off-uncut, off-calm}
-use Rattle.run_keeping.proofs.Calm.{calm-none, calm-same, none-told}
+use Rattle.run_keeping.proofs.Calm.{calm-told, calm-same}
 use Rattle.recorder_with_cards.proofs.run.go_on.Goals as goal
 
 -- ---- an action waits
@@ -206,7 +206,7 @@ pub returns-in-Act-clause-calm : goal.returns-in-Act-clause-calm
 returns-in-Act-clause-calm g c = calm-same (devices (g.M.Medium.state c.args.unit.now) (g.C.Chip.state c.args.card_a.now) (g.D.Chip.state c.args.card_b.now))
 
 pub returns-in-Off-clause-calm : goal.returns-in-Off-clause-calm
-returns-in-Off-clause-calm g c = calm-none (devices (g.M.Medium.state c.args.unit.now) (g.C.Chip.state c.args.card_a.now) (g.D.Chip.state c.args.card_b.now)) (none-told _ (ap (λ (l : Listed Break). l.items) c.off.ensures.breaks) (off-calm _ _ _))
+returns-in-Off-clause-calm g c = calm-told (devices (g.M.Medium.state c.args.unit.now) (g.C.Chip.state c.args.card_a.now) (g.D.Chip.state c.args.card_b.now)) _ (ap (λ (l : Listed Break). l.items) c.off.ensures.breaks) (off-calm _ _ _)
 
 pub returns-in-Run-clause-calm : goal.returns-in-Run-clause-calm
 returns-in-Run-clause-calm g c = c.drive.ensures.calm

@@ -25,7 +25,7 @@ use Rattle.run_acts.proofs.Room.{Spends, room-lit, room-lost}
 use Rattle.run_acts.proofs.Uncut.{turn-uncut, uncut-broke, cut-broke}
 use Rattle.run_rule.specs.Between.{devices}
 use Rattle.run_acts.proofs.TurnMany.{turn-events}
-use Rattle.run_keeping.proofs.Calm.{calm-more, none-told}
+use Rattle.run_keeping.proofs.Calm.{calm-more}
 use Rattle.run_acts.proofs.turning.lit_turn.Goals as goal
 
 -- ---- what the keeping is given
@@ -460,7 +460,7 @@ returns-else-is_err-clause-evented g c =
 -- ---- where no tear of a failed call is told no card has broken down
 
 pub returns-then-is_err-clause-calm : goal.returns-then-is_err-clause-calm
-returns-then-is_err-clause-calm g c = calm-more (devices (g.M.Medium.state c.args.unit.now) (g.C.Chip.state c.args.card_a.now) (g.D.Chip.state c.args.card_b.now)) (devices (g.M.Medium.state c.keep_turn-kept.new.unit) (g.C.Chip.state c.keep_turn-kept.new.card_a) (g.D.Chip.state c.keep_turn-kept.new.card_b)) c.keep_turn-kept.ensures.calm (none-told _ (ap (λ (l : Listed Break). l.items) c.cut.ensures.breaks) refl)
+returns-then-is_err-clause-calm g c = calm-more (devices (g.M.Medium.state c.args.unit.now) (g.C.Chip.state c.args.card_a.now) (g.D.Chip.state c.args.card_b.now)) (devices (g.M.Medium.state c.keep_turn-kept.new.unit) (g.C.Chip.state c.keep_turn-kept.new.card_a) (g.D.Chip.state c.keep_turn-kept.new.card_b)) _ c.keep_turn-kept.ensures.calm (ap (λ (l : Listed Break). l.items) c.cut.ensures.breaks) refl
 
 pub returns-else-is_err-clause-calm : goal.returns-else-is_err-clause-calm
 returns-else-is_err-clause-calm g c = c.keep_turn-kept.ensures.calm

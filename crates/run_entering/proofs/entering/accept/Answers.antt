@@ -27,7 +27,7 @@ use Rattle.run_entering.proofs.CardBrought.{sits-works}
 use Rattle.run_entering.proofs.Judged.{entered-judged, entered-unsized, entered-unread}
 use Rattle.run_entering.proofs.Seats.{unsized-ready}
 use Rattle.run_keeping.proofs.Later.{state-then, state-revived}
-use Rattle.run_keeping.proofs.Calm.{none-told, card-rests, card-fell, card-then}
+use Rattle.run_keeping.proofs.Calm.{card-told, card-fell, card-first}
 use Rattle.run_outcome.specs.Lines.{Listed}
 use Rattle.log_model.specs.declared.lines.Break.{Break}
 use Rattle.run_outcome.specs.declared.outcome.Outcome.{Outcome}
@@ -205,7 +205,7 @@ pub returns-in_default-clause-calm : goal.returns-in_default-clause-calm
 returns-in_default-clause-calm g c = card-fell c.args.entering.slot c.args.entering.at (ap (λ (l : Listed Break). l.items) c.tear.ensures.told)
 
 pub returns-in-Ok-sizes-clause-calm : goal.returns-in-Ok-sizes-clause-calm
-returns-in-Ok-sizes-clause-calm g c = card-then (card-rests refl (c.in-Ok.ensures.cause.unbroken refl)) c.accept_by.ensures.calm
+returns-in-Ok-sizes-clause-calm g c = card-first (g.C.Chip.state c.args.card.now) (g.C.Chip.state c.wake.new.card) (g.C.Chip.state c.accept_by.new.card) (c.in-Ok.ensures.cause.unbroken refl) c.accept_by.ensures.calm
 
 pub returns-in-Err-clause-calm : goal.returns-in-Err-clause-calm
-returns-in-Err-clause-calm g c = card-rests (none-told [] (ap (λ (o : Outcome). o.breaks.items) c.refuse.ensures.told) refl) (c.in-Ok.ensures.cause.unbroken refl)
+returns-in-Err-clause-calm g c = card-told [] (ap (λ (o : Outcome). o.breaks.items) c.refuse.ensures.told) refl (c.in-Ok.ensures.cause.unbroken refl)

@@ -17,7 +17,7 @@ use Rattle.run_entering.proofs.InTime.{judged-early, taken-early}
 use Rattle.run_entering.proofs.Notes.{fault-noted}
 use Rattle.run_entering.proofs.Judged.{judged-taken, judged-unasked, judged-fell, judged-unfit, judged-ahead, unfit-told, ahead-told, ahead-noted}
 use Rattle.run_keeping.proofs.Later.{state-then, state-by}
-use Rattle.run_keeping.proofs.Calm.{none-told, card-rests, card-fell, card-then}
+use Rattle.run_keeping.proofs.Calm.{card-rests, card-told, card-fell, card-first}
 use Rattle.run_outcome.specs.Lines.{Listed}
 use Rattle.log_model.specs.declared.lines.Break.{Break}
 use Rattle.run_outcome.specs.declared.outcome.Outcome.{Outcome}
@@ -229,7 +229,7 @@ take_in-requires-clause-low g c = c.in-Ok.ensures.low
 -- ---- where no tear of a failed call is told no card has broken down
 
 pub returns-in-Ok-clause-calm : goal.returns-in-Ok-clause-calm
-returns-in-Ok-clause-calm g c = card-then (card-rests refl (c.in-Ok.ensures.enters.cause.unbroken refl)) c.take_in.ensures.calm
+returns-in-Ok-clause-calm g c = card-first (g.C.Chip.state c.args.card.now) (g.C.Chip.state c.enter.new.card) (g.C.Chip.state c.take_in.new.card) (c.in-Ok.ensures.enters.cause.unbroken refl) c.take_in.ensures.calm
 
 pub returns-in-Err-UnitFailed-clause-calm : goal.returns-in-Err-UnitFailed-clause-calm
 returns-in-Err-UnitFailed-clause-calm g c = card-rests refl (c.in-Err-UnitFailed.ensures.enters.cause.unbroken refl)
@@ -238,7 +238,7 @@ pub returns-in-Err-CardFailed-clause-calm : goal.returns-in-Err-CardFailed-claus
 returns-in-Err-CardFailed-clause-calm g c = card-fell c.args.entering.slot c.args.entering.at (ap (λ (l : Listed Break). l.items) c.tear.ensures.told)
 
 pub returns-in-Err-NotValid-clause-calm : goal.returns-in-Err-NotValid-clause-calm
-returns-in-Err-NotValid-clause-calm g c = card-rests (none-told [] (ap (λ (o : Outcome). o.breaks.items) c.refuse.ensures.told) refl) (c.in-Err-NotValid.ensures.enters.cause.unbroken refl)
+returns-in-Err-NotValid-clause-calm g c = card-told [] (ap (λ (o : Outcome). o.breaks.items) c.refuse.ensures.told) refl (c.in-Err-NotValid.ensures.enters.cause.unbroken refl)
 
 pub returns-in-Err-TimeOverlap-clause-calm : goal.returns-in-Err-TimeOverlap-clause-calm
-returns-in-Err-TimeOverlap-clause-calm g c = card-rests (none-told [] (ap (λ (o : Outcome). o.breaks.items) c.defer.ensures.told) refl) (c.in-Err-TimeOverlap.ensures.enters.cause.unbroken refl)
+returns-in-Err-TimeOverlap-clause-calm g c = card-told [] (ap (λ (o : Outcome). o.breaks.items) c.defer.ensures.told) refl (c.in-Err-TimeOverlap.ensures.enters.cause.unbroken refl)
