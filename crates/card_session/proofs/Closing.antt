@@ -1,7 +1,6 @@
 -- The closing word and the end mark at it; and of a withdrawal, behind them, the session time.
 use Rattle.std.proofs.Common.{◌≡◌, inl, inr, ⊎_elim, ℕ, suc, ◌+◌, ◌-◌, ◌*◌, ◌/◌, ◌≤◌, Bool, true, false, cond, List, [], ◌∷◌, length, Option, Some, None, option_map, IfSome, refl, sym, ◌∙◌, ap, subst, arith}
 use Rattle.std.specs.Prelude.{◌⊎◌}
-use Rattle.byte_fields.proofs.Images.{outside_same}
 use Rattle.activity_codec.specs.declared.values.Activity.{Activity}
 use Rattle.card_layout.specs.declared.files.Application.{Application}
 use Rattle.card_layout.specs.Files.{files_of, image_size_of, place_of}
@@ -9,33 +8,35 @@ use Rattle.tach_media.specs.Medium.{State, LeavesOnly, IsPartlyWritten, LiesInsi
 use Rattle.tach_media.proofs.Runs.{weaken, goes_on, told_too, turned_into, where_told, at_image}
 use Rattle.card_records.specs.declared.vehicle.Vehicle.{Vehicle}
 use Rattle.card_model.specs.Days.{Day, total}
-use Rattle.card_model.specs.Changes.{Remain, OnNewest, TakesWord}
-use Rattle.card_model.specs.Image.{StringShape, Holds, newest_pointer}
+use Rattle.card_model.specs.Changes.{OnNewest, TakesWord}
+use Rattle.card_model.specs.Image.{newest_pointer}
 use Rattle.card_retention.specs.Shown.{is_open}
-use Rattle.gated_ring.specs.Ring.{IsNewest}
+use Rattle.gated_ring.specs.Ring.{IsNewest, entry_at}
 use Rattle.cyclic_days.specs.declared.head.Tail.{Tail}
-use Rattle.cyclic_days.specs.Held.{Held, Knows, tail_in}
-use Rattle.card_image.specs.Fields.{file, day_string, vehicle_ring, last_use_of}
-use Rattle.card_session.specs.Books.{Book, mark_of, latest_of, closing_word, with_change, closed_days, closed, last_used}
+use Rattle.cyclic_days.specs.Held.{Knows, tail_in}
+use Rattle.card_image.specs.Fields.{file, vehicle_ring, last_use_of}
+use Rattle.card_records.specs.Vehicles.{vehicle_of}
+use Rattle.card_session.specs.Vehicles.{Vehicles}
+use Rattle.card_session.specs.Books.{Book, mark_of, latest_of, closing_word, with_change, closed_days, closed, last_used, used}
 use Rattle.card_session.specs.Telling.{closing_at}
-use Rattle.card_session.specs.Sessions.{Session, IsValue, IsSession, IsOpenBook, KnowsCard, MayKeep, MayClose, book_of}
+use Rattle.card_session.specs.Sessions.{Session, IsValue, IsSession, IsOpenBook, KnowsCard, MayClose, book_of}
 use Rattle.card_session.specs.Moments.{IsBook, IsClosingWord, IsCloseMoment}
-use Rattle.card_session.specs.Cards.{IsCard, IsCardClosed, IsCardClosing, days_and_vehicles, ended}
-use Rattle.card_session.specs.Parts.{DoesPart, IsPartDone, IsPartMoment, TakesSome, with_some, IsAdding, AnyBook, with_last_use, IsSettingUse, used_session}
+use Rattle.card_session.specs.Cards.{IsCard, IsCardClosed, IsCardClosing, ended}
+use Rattle.card_session.specs.Parts.{DoesPart, IsPartDone, IsPartMoment, TakesSome, with_some, IsAdding, AnyBook, with_last_use, IsSettingUse}
 use Rattle.card_session.proofs.Composing.{part_as, part_failed, part_none, part_of, then_part, card_as}
-use Rattle.card_session.proofs.OnCard.{newest_told}
+use Rattle.card_session.proofs.OnCard.{newest_told, none_renewed}
 use Rattle.card_session.proofs.Following.{takes_closing, closing_told}
 use Rattle.card_session.proofs.InsertingDays.{still_card}
 
 -- the days with the word, and then the end mark at it
 abbrev pub worded : (size : ℕ) → Activity → Book → Book
-worded size act b = record { days = closed_days size (mark_of b) act b.days; vehicle = b.vehicle }
+worded size act b = record { days = closed_days size (mark_of b) act b.days; vehicles = b.vehicles }
 
 abbrev marked : (size : ℕ) → Activity → Book → Book
-marked size act b = record { days = closed_days size (mark_of b) act b.days; vehicle = last_used (60 * suc (mark_of b)) b.vehicle }
+marked size act b = record { days = closed_days size (mark_of b) act b.days; vehicles = last_used (60 * suc (mark_of b)) b.vehicles }
 
-abbrev pub IsWording : (size : ℕ) → Activity → Book → List Day → Option Vehicle → Type 0
-IsWording size act b ds v = IsClosingWord size act b ds × (v ≡ b.vehicle)
+abbrev pub IsWording : (size : ℕ) → Activity → Book → List Day → Vehicles → Type 0
+IsWording size act b ds v = IsClosingWord size act b ds × (v ≡ b.vehicles)
 
 closed_open : (size : ℕ) (act : Activity) (b : Book) → is_open (mark_of b) b.days ≡ true → closed size act b ≡ marked size act b
 closed_open size act b is = ap (λ (o : Bool). cond o (marked size act b) b) is
@@ -102,7 +103,7 @@ module _ (s : Session) (value : IsValue s) (act : Activity) (mark : ℕ) (mark_i
         (λ x knows ready.
         let o = opened x knows w some in
         subst (λ (n : ℕ). OnNewest (TakesWord n) (book x).days) (sym o.1) (takes_closing (mark_of (book x)) act (book x).days ready.ends ready.strict o.0))
-        (λ x knows ready. ap (λ (l : List Day). let c : Book = record { days = l; vehicle = (book x).vehicle } in c) (changed x knows))
+        (λ x knows ready. ap (λ (l : List Day). let c : Book = record { days = l; vehicles = (book x).vehicles } in c) (changed x knows))
         (λ x knows ready ds v adding. (inr ((opened x knows w some).0, ⊎_elim (λ left. inl left) (λ done. inr (done ∙ changed x knows)) adding.0), adding.1))
       where
         changed : (x : List ℕ) → KnowsCard s x → with_change size w (book x).days ≡ closed_days size (mark_of (book x)) act (book x).days
@@ -124,33 +125,37 @@ module _ (s : Session) (value : IsValue s) (act : Activity) (mark : ℕ) (mark_i
         (subst (λ (c : Book). IsCard s.application (IsBook c) x y) (sym (closed_open size act (book x) (opened x knows w some).0 ∙ no_mark x knows)) a.0, a.1))
         (λ x c was one knows ready. card_as s.application (IsWording size act (book x)) (IsCloseMoment size act (book x)) x c (λ ds v q. inl (q.1, q.0)) (one knows ready))
       where
-        no_vehicle : (x : List ℕ) → KnowsCard s x → (book x).vehicle ≡ None
+        none_there : (x : List ℕ) → (o : Option ℕ) → IsNewest (vehicle_ring s.application) x o → (book x).vehicles.newest ≡ None → IsNewest (vehicle_ring s.application) x None
+        none_there x None newest empty = newest
+        none_there x (Some i) newest empty = let both : Some (vehicle_of (entry_at (vehicle_ring s.application) x i)) ≡ None = sym (newest_told s.application x (Some i) newest) ∙ empty in absurd (cc)
+
+        no_vehicle : (x : List ℕ) → KnowsCard s x → IsNewest (vehicle_ring s.application) x None
         no_vehicle x knows = ⊎_elim
-            (λ newest. newest_told s.application x None (subst (λ (o : Option ℕ). IsNewest (vehicle_ring s.application) x o) newest knows.newest))
-            (λ vehicle. sym knows.vehicle ∙ vehicle) none
+            (λ newest. subst (λ (o : Option ℕ). IsNewest (vehicle_ring s.application) x o) newest knows.newest)
+            (λ vehicle. none_there x s.newest knows.newest (sym knows.vehicle ∙ vehicle)) none
 
         no_mark : (x : List ℕ) → KnowsCard s x → marked size act (book x) ≡ worded size act (book x)
         no_mark x knows =
-            ap (λ (o : Option Vehicle). let c : Book = record { days = closed_days size (mark_of (book x)) act (book x).days; vehicle = o } in c)
-            (ap (last_used (60 * suc (mark_of (book x)))) (no_vehicle x knows) ∙ sym (no_vehicle x knows))
+            ap (λ (o : Vehicles). let c : Book = record { days = closed_days size (mark_of (book x)) act (book x).days; vehicles = o } in c)
+            (none_renewed s.application x knows.points (no_vehicle x knows) (used (60 * suc (mark_of (book x)))))
 
     -- with one, its last use
     module _ (seconds : ℕ) (seconds_are : seconds ≡ 60 * suc mark) where
-      abbrev IsMarking : Book → List Day → Option Vehicle → Type 0
-      IsMarking b ds v = IsWording size act b ds v ⊎ ((ds ≡ (worded size act b).days) × ((v ≡ b.vehicle) ⊎ (v ≡ last_used seconds b.vehicle)))
+      abbrev IsMarking : Book → List Day → Vehicles → Type 0
+      IsMarking b ds v = IsWording size act b ds v ⊎ ((ds ≡ (worded size act b).days) × ((v ≡ b.vehicles) ⊎ (v ≡ last_used seconds b.vehicles)))
 
       marked_at : (x : List ℕ) → KnowsCard s x → with_last_use seconds (worded size act (book x)) ≡ closed size act (book x)
       marked_at x knows =
           ap (λ (n : ℕ). with_last_use n (worded size act (book x))) (seconds_are ∙ ap (λ (m : ℕ). 60 * suc m) (mark_at x knows))
           ∙ sym (closed_open size act (book x) (opened x knows w some).0)
 
-      vehicle_at : (x : List ℕ) → KnowsCard s x → last_used seconds (book x).vehicle ≡ (closed size act (book x)).vehicle
-      vehicle_at x knows = ap (λ (c : Book). c.vehicle) (marked_at x knows)
+      vehicle_at : (x : List ℕ) → KnowsCard s x → last_used seconds (book x).vehicles ≡ (closed size act (book x)).vehicles
+      vehicle_at x knows = ap (λ (c : Book). c.vehicles) (marked_at x knows)
 
       days_at : (x : List ℕ) → KnowsCard s x → (worded size act (book x)).days ≡ (closed size act (book x)).days
       days_at x knows = ap (λ (c : Book). c.days) (marked_at x knows)
 
-      moment : (x : List ℕ) → KnowsCard s x → (ds : List Day) (v : Option Vehicle) → IsMarking (book x) ds v → IsCloseMoment size act (book x) ds v
+      moment : (x : List ℕ) → KnowsCard s x → (ds : List Day) (v : Vehicles) → IsMarking (book x) ds v → IsCloseMoment size act (book x) ds v
       moment x knows ds v (inl word) = inl (word.1, word.0)
       moment x knows ds v (inr mark) = ⊎_elim
           (λ still. inl (still, inr ((opened x knows w some).0, inr mark.0)))

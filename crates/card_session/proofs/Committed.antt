@@ -272,7 +272,7 @@ module _ (size : ℕ) (long : 5544 ≤ size) (b : Book) (ordered : AreDays 0 b.d
   commit_shows all up shown clear more whole =
       let alike = alike_km more (entered_days size e gapped) in
       let tells : Tells e (entered_days size e gapped) = entered_tells size long e gapped (entered_days size e gapped) are (entered_as size e gapped are) in
-      let last = words_last size long (record { days = gapped; vehicle = b.vehicle }) are e (gap_ready size long b ordered e.minute before e refl) in
+      let last = words_last size long (record { days = gapped; vehicles = b.vehicles }) are e (gap_ready size long b ordered e.minute before e refl) in
       let one = commits_on (mark_of b) e (entered_days size e gapped) (are_bare more 0 (entered_days size e gapped) whole) (omega (arith, before.1)) (entered_quiet (mark_of b) size long e gapped are quiet_gap) tells last.0 in
       let there = lists_then (mark_of b) e all (entered_days size e gapped) tells one (entered_survives size long b ordered (Lists (mark_of b) all) (Lists (mark_of b) all) (lists_survive (mark_of b) all up) shown e before clear) in
       entries_alike e.minute (entered_days size e gapped) (travelled more (entered_days size e gapped)) alike
@@ -354,7 +354,7 @@ module _ (app : Application) (sound : IsApplication app) (x : List ℕ) (ordered
   keep_silent registration odometer more e y before card at = ⊎_elim
       (λ old. absurd (omega (arith, before.1, at, mark_at app (book_of app x) y old.0)))
       (λ new. ⊎_elim
-      (λ unused. absurd (omega (arith, before.1, at, mark_told app y, before_use registration odometer e.minute (book_of app x).vehicle (book_of app y).vehicle unused)))
+      (λ unused. absurd (omega (arith, before.1, at, mark_told app y, before_use registration odometer e.minute (book_of app x).vehicles (book_of app y).vehicles unused)))
       (λ after. told (silent_end e.minute (book_of app y).days card.holds.ordered (low new.0)))
       new.1)
       card.told
@@ -367,7 +367,7 @@ module _ (app : Application) (sound : IsApplication app) (x : List ℕ) (ordered
 
       low : (book_of app y).days ≡ travelled more (entered_days app.activity e gapped) → newest_word (book_of app y).days ≤ e.minute
       low is =
-          let last = words_last app.activity sound.string_least (record { days = gapped; vehicle = (book_of app x).vehicle }) are e (gap_ready app.activity sound.string_least (book_of app x) ordered e.minute before e refl) in
+          let last = words_last app.activity sound.string_least (record { days = gapped; vehicles = (book_of app x).vehicles }) are e (gap_ready app.activity sound.string_least (book_of app x) ordered e.minute before e refl) in
           let same : newest_word (book_of app y).days ≡ newest_word (entered_days app.activity e gapped) = ap newest_word is ∙ word_alike (entered_days app.activity e gapped) (travelled more (entered_days app.activity e gapped)) (alike_km more (entered_days app.activity e gapped)) in
           omega (arith, same, last.0)
 
@@ -393,7 +393,7 @@ module _ (app : Application) (sound : IsApplication app) (x : List ℕ) (ordered
   keep_commits registration odometer more e y before clear silent card at = ⊎_elim
       (λ old. absurd (omega (arith, before.1, at, mark_at app b y old.0)))
       (λ new. ⊎_elim
-      (λ unused. absurd (omega (arith, before.1, at, mark_told app y, before_use registration odometer e.minute b.vehicle (book_of app y).vehicle unused)))
+      (λ unused. absurd (omega (arith, before.1, at, mark_told app y, before_use registration odometer e.minute b.vehicles (book_of app y).vehicles unused)))
       (λ after. shown_at app y e.minute (all ++ e ∷ []) at
       (subst (λ (ds : List Day). Lists e.minute (all ++ e ∷ []) ds) (sym new.0)
       (commit_shows app.activity sound.string_least b ordered e before silent_at all up_at listed clear_at more (subst (λ (ds : List Day). AreDays 0 ds) new.0 card.holds.ordered))))
@@ -411,13 +411,13 @@ module _ (app : Application) (sound : IsApplication app) (x : List ℕ) (ordered
           (clear (ap (λ (ds : List Day). is_newest (e.minute / 1440) (sizes ds)) (sym (book_days app x)) ∙ sym (newest_gapped app.activity sound.string_least (book_of app x) ordered e.minute (e.minute / 1440)) ∙ other))
 
   -- with the closing word, and the end mark at it
-  closed_shows : (act : Activity) (y : List ℕ) → AreDays 0 (book_of app y).days → IsBook (closed app.activity act (book_of app x)) (book_of app y).days (book_of app y).vehicle → ShowsEntries app all y
+  closed_shows : (act : Activity) (y : List ℕ) → AreDays 0 (book_of app y).days → IsBook (closed app.activity act (book_of app x)) (book_of app y).days (book_of app y).vehicles → ShowsEntries app all y
   closed_shows act y are book =
       shown_at app y (mark_of (closed app.activity act b)) all (mark_at app (closed app.activity act b) y book.1)
       (subst (λ (ds : List Day). Lists (mark_of (closed app.activity act b)) all ds) (sym book.0) (by (is_open (mark_of b) b.days) refl (subst (λ (ds : List Day). AreDays 0 ds) book.0 are)))
     where
       marked : Book
-      marked = record { days = closed_days app.activity (mark_of (book_of app x)) act (book_of app x).days; vehicle = last_used (60 * suc (mark_of (book_of app x))) (book_of app x).vehicle }
+      marked = record { days = closed_days app.activity (mark_of (book_of app x)) act (book_of app x).days; vehicles = last_used (60 * suc (mark_of (book_of app x))) (book_of app x).vehicles }
 
       v : ℕ
       v = closing_word (suc (mark_of (book_of app x))) act (latest_of (book_of app x).days)

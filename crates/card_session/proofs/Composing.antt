@@ -5,16 +5,15 @@ use Rattle.byte_fields.proofs.Images.{outside_then}
 use Rattle.card_layout.specs.declared.files.Application.{Application}
 use Rattle.tach_media.specs.Medium.{State, LeavesOnly, HasCause, Unchanged}
 use Rattle.tach_media.proofs.Runs.{weaken, goes_on, told_too, cause_after, starts, where_told, at_image}
-use Rattle.card_records.specs.declared.vehicle.Vehicle.{Vehicle}
 use Rattle.card_model.specs.Days.{Day}
 use Rattle.cyclic_days.specs.Steps.{IsIdle}
 use Rattle.card_image.specs.Fields.{day_string}
+use Rattle.card_session.specs.Vehicles.{Vehicles}
 use Rattle.card_session.specs.Books.{Book}
 use Rattle.card_session.specs.Sessions.{Session, KnowsCard, book_of}
 use Rattle.card_session.specs.Moments.{IsBook}
 use Rattle.card_session.specs.Cards.{IsCard, days_and_vehicles}
 use Rattle.card_session.specs.Parts.{DoesPart, IsPartDone, IsPartMoment}
-use Rattle.card_session.proofs.Older.{keeps_then}
 
 -- ---- causes
 
@@ -121,32 +120,31 @@ part_none s {S} {R} same = record {
 -- ---- of a card
 
 -- what is said of the days and the vehicles, and of a card that is like another
-pub card_as : (app : Application) (P Q : List Day → Option Vehicle → Type 0) (x c : List ℕ) → ((ds : List Day) (v : Option Vehicle) → P ds v → Q ds v) → IsCard app P x c → IsCard app Q x c
-card_as app P Q x c weaker is = record { outside = is.outside; holds = is.holds; points = is.points; older = is.older; told = weaker (book_of app c).days (book_of app c).vehicle is.told }
+pub card_as : (app : Application) (P Q : List Day → Vehicles → Type 0) (x c : List ℕ) → ((ds : List Day) (v : Vehicles) → P ds v → Q ds v) → IsCard app P x c → IsCard app Q x c
+card_as app P Q x c weaker is = record { outside = is.outside; holds = is.holds; points = is.points; told = weaker (book_of app c).days (book_of app c).vehicles is.told }
 
-pub card_then : (app : Application) (P Q : List Day → Option Vehicle → Type 0) (x y c : List ℕ) → IsCard app P x y → IsCard app Q y c → IsCard app Q x c
+pub card_then : (app : Application) (P Q : List Day → Vehicles → Type 0) (x y c : List ℕ) → IsCard app P x y → IsCard app Q y c → IsCard app Q x c
 card_then app P Q x y c first next = record {
   outside = outside_then (day_string app).base (days_and_vehicles app) x y c first.outside next.outside;
   holds = next.holds;
   points = next.points;
-  older = keeps_then app x y c first.older next.older;
   told = next.told;
 }
 
 -- a book by its parts
-pub book_is : (b : Book) (ds : List Day) (v : Option Vehicle) → ds ≡ b.days → v ≡ b.vehicle → (let c : Book = record { days = ds; vehicle = v } in c) ≡ b
-book_is b ds v days vehicle = ap (λ (l : List Day). let c : Book = record { days = l; vehicle = v } in c) days ∙ ap (λ (o : Option Vehicle). let c : Book = record { days = b.days; vehicle = o } in c) vehicle
+pub book_is : (b : Book) (ds : List Day) (v : Vehicles) → ds ≡ b.days → v ≡ b.vehicles → (let c : Book = record { days = ds; vehicles = v } in c) ≡ b
+book_is b ds v days vehicle = ap (λ (l : List Day). let c : Book = record { days = l; vehicles = v } in c) days ∙ ap (λ (o : Vehicles). let c : Book = record { days = b.days; vehicles = o } in c) vehicle
 
 pub told_book : (app : Application) (b : Book) (x y : List ℕ) → IsCard app (IsBook b) x y → book_of app y ≡ b
-told_book app b x y is = book_is b (book_of app y).days (book_of app y).vehicle is.told.0 is.told.1
+told_book app b x y is = book_is b (book_of app y).days (book_of app y).vehicles is.told.0 is.told.1
 
 -- Two parts of a session's call: the first makes of a book such a one as the second asks, and what the moments are is said of the
 -- book before both.
-pub then_part : {old mid new : State} {failed : Bool} (s t u : Session) (P P' : Book → Type 0) (f h : Book → Book) (Q Q' T : Book → List Day → Option Vehicle → Type 0)
+pub then_part : {old mid new : State} {failed : Bool} (s t u : Session) (P P' : Book → Type 0) (f h : Book → Book) (Q Q' T : Book → List Day → Vehicles → Type 0)
     → t.application ≡ s.application
     → DoesPart old mid false (IsPartDone s t P f) (IsPartMoment s P Q) → DoesPart mid new failed (IsPartDone t u P' h) (IsPartMoment t P' Q')
     → ((x y : List ℕ) → KnowsCard s x → P (book_of s.application x) → KnowsCard t y → P' (f (book_of s.application x)))
-    → ((b : Book) (ds : List Day) (v : Option Vehicle) → P b → Q b ds v → T b ds v) → ((b : Book) (ds : List Day) (v : Option Vehicle) → P b → Q' (f b) ds v → T b ds v)
+    → ((b : Book) (ds : List Day) (v : Vehicles) → P b → Q b ds v → T b ds v) → ((b : Book) (ds : List Day) (v : Vehicles) → P b → Q' (f b) ds v → T b ds v)
     → DoesPart old new failed (IsPartDone s u P (λ b. h (f b))) (IsPartMoment s P T)
 then_part s t u P P' f h Q Q' T app first next ready before behind =
     parts_then first next
@@ -170,11 +168,11 @@ then_part s t u P P' f h Q Q' T app first next ready before behind =
     (subst (λ (p : Application). IsCard p (Q' (f (book_of s.application x))) y c) app (subst (λ (k : Book). IsCard t.application (Q' k) y c) there b))))
 
 -- A part said of another book's words: what it makes and asks, by the book that is known.
-pub part_of : {old new : State} {failed : Bool} (s t : Session) (P P' : Book → Type 0) (f f' : Book → Book) (Q Q' : Book → List Day → Option Vehicle → Type 0)
+pub part_of : {old new : State} {failed : Bool} (s t : Session) (P P' : Book → Type 0) (f f' : Book → Book) (Q Q' : Book → List Day → Vehicles → Type 0)
     → DoesPart old new failed (IsPartDone s t P f) (IsPartMoment s P Q)
     → ((x : List ℕ) → KnowsCard s x → P' (book_of s.application x) → P (book_of s.application x))
     → ((x : List ℕ) → KnowsCard s x → P' (book_of s.application x) → f (book_of s.application x) ≡ f' (book_of s.application x))
-    → ((x : List ℕ) → KnowsCard s x → P' (book_of s.application x) → (ds : List Day) (v : Option Vehicle) → Q (book_of s.application x) ds v → Q' (book_of s.application x) ds v)
+    → ((x : List ℕ) → KnowsCard s x → P' (book_of s.application x) → (ds : List Day) (v : Vehicles) → Q (book_of s.application x) ds v → Q' (book_of s.application x) ds v)
     → DoesPart old new failed (IsPartDone s t P' f') (IsPartMoment s P' Q')
 part_of s t P P' f f' Q Q' part asks makes moments =
     part_as part
@@ -182,9 +180,9 @@ part_of s t P P' f f' Q Q' part asks makes moments =
     (λ x c was one knows is. card_as s.application (Q (book_of s.application x)) (Q' (book_of s.application x)) x c (moments x knows is) (one knows (asks x knows is)))
 
 -- one that failed, among more
-pub failed_part : {old new : State} {failed : Bool} (s t u : Session) (P : Book → Type 0) (f f' : Book → Book) (Q Q' : Book → List Day → Option Vehicle → Type 0)
+pub failed_part : {old new : State} {failed : Bool} (s t u : Session) (P : Book → Type 0) (f f' : Book → Book) (Q Q' : Book → List Day → Vehicles → Type 0)
     → DoesPart old new true (IsPartDone s t P f) (IsPartMoment s P Q) → failed ≡ true
-    → ((b : Book) (ds : List Day) (v : Option Vehicle) → P b → Q b ds v → Q' b ds v)
+    → ((b : Book) (ds : List Day) (v : Vehicles) → P b → Q b ds v → Q' b ds v)
     → DoesPart old new failed (IsPartDone s u P f') (IsPartMoment s P Q')
 failed_part s t u P f f' Q Q' part is moments =
     part_failed part is

@@ -8,7 +8,6 @@ use Rattle.tacho_types.specs.declared.texts.Registration.{Registration}
 use Rattle.card_layout.specs.declared.files.Application.{Application}
 use Rattle.card_layout.specs.Application.{IsApplication}
 use Rattle.card_layout.specs.Files.{image_size_of, place_of}
-use Rattle.card_records.specs.declared.vehicle.Vehicle.{Vehicle}
 use Rattle.card_model.specs.Days.{Day, AreDays}
 use Rattle.card_model.specs.Changes.{trimmed}
 use Rattle.card_retention.specs.Expected.{is_newest}
@@ -17,6 +16,7 @@ use Rattle.card_image.specs.Fields.{file, vehicle_ring, card_days, end_mark, ses
 use Rattle.card_image.specs.Beside.{HaveSameSizes, HaveSamePlacePointer}
 use Rattle.card_image.specs.Judging.{IsValid}
 use Rattle.card_image.proofs.Beside.{days_same}
+use Rattle.card_session.specs.Vehicles.{Vehicles}
 use Rattle.card_session.specs.Books.{Book, mark_of, closed, closed_days, last_used}
 use Rattle.card_session.specs.Sessions.{EndsStrictly, IsOpenBook, book_of}
 use Rattle.card_session.specs.Moments.{IsBook, IsKeepMoment}
@@ -85,7 +85,7 @@ module _ (app : Application) (sound : IsApplication app) (x : List ℕ) (fits : 
       subst (λ (ds : List Day). EndsStrictly (trimmed (mark_of (book_of app x)) ds)) (sym (book_days app x))
       (subst (λ (n : ℕ). EndsStrictly (trimmed n (card_days app x))) (mark_told app x) (valid_strict app x valid (subst (λ (ds : List Day). AreDays 0 ds) (book_days app x) ordered) open_))
 
-  card_judged : (P : List Day → Option Vehicle → Type 0) (y : List ℕ) → IsCard app P x y → Judged app x y
+  card_judged : (P : List Day → Vehicles → Type 0) (y : List ℕ) → IsCard app P x y → Judged app x y
   card_judged P y card = (sizes_still app P x y card, places_still app x valid sound fits y P card)
 
   -- once its end mark has moved
@@ -94,7 +94,7 @@ module _ (app : Application) (sound : IsApplication app) (x : List ℕ) (fits : 
   keep_ends registration odometer more e y before card at =
       low_ends app sound y (omega (arith, fits, card.outside.same_length))
       (card_fine app sound (IsKeepMoment app.activity registration odometer more e (book_of app x)) x y fits card
-      (keep_strict app.activity sound.string_least (book_of app x) ordered strict_there e before registration odometer more (book_of app y).days (book_of app y).vehicle card.holds.ordered card.told))
+      (keep_strict app.activity sound.string_least (book_of app x) ordered strict_there e before registration odometer more (book_of app y).days (book_of app y).vehicles card.holds.ordered card.told))
       x valid (card_judged (IsKeepMoment app.activity registration odometer more e (book_of app x)) y card)
       (omega (arith, view_word app y, at, keep_word app x registration odometer more e y card sound ordered before at))
 
@@ -112,10 +112,10 @@ module _ (app : Application) (sound : IsApplication app) (x : List ℕ) (fits : 
       fine : Fine app k
       fine =
           card_fine app sound (IsBook (closed app.activity act (book_of app x))) x k fits card
-          (close_strict app.activity sound.string_least (book_of app x) ordered act may strict_there (book_of app k).days (book_of app k).vehicle card.holds.ordered (inr card.told))
+          (close_strict app.activity sound.string_least (book_of app x) ordered act may strict_there (book_of app k).days (book_of app k).vehicles card.holds.ordered (inr card.told))
 
       marked : Book
-      marked = record { days = closed_days app.activity (mark_of (book_of app x)) act (book_of app x).days; vehicle = last_used (60 * suc (mark_of (book_of app x))) (book_of app x).vehicle }
+      marked = record { days = closed_days app.activity (mark_of (book_of app x)) act (book_of app x).days; vehicles = last_used (60 * suc (mark_of (book_of app x))) (book_of app x).vehicles }
 
       by : (o : Bool) → is_open (mark_of (book_of app x)) (book_of app x).days ≡ o → IsValid app (ended app k)
       by true is =
@@ -168,8 +168,8 @@ module _ (app : Application) (sound : IsApplication app) (x : List ℕ) (fits : 
       two_fine : Fine app x2
       two_fine =
           card_fine app sound (IsBook (closed app.activity Rest (book_of app x1))) x1 x2 room_one shut
-          (close_strict app.activity sound.string_least (book_of app x) x_are Rest may (strict_book app x valid none card_are) (book_of app x2).days (book_of app x2).vehicle shut.holds.ordered
-          (inr (subst (λ (k : Book). IsBook (closed app.activity Rest k) (book_of app x2).days (book_of app x2).vehicle) one_is shut.told)))
+          (close_strict app.activity sound.string_least (book_of app x) x_are Rest may (strict_book app x valid none card_are) (book_of app x2).days (book_of app x2).vehicles shut.holds.ordered
+          (inr (subst (λ (k : Book). IsBook (closed app.activity Rest k) (book_of app x2).days (book_of app x2).vehicles) one_is shut.told)))
 
       module _ (y : List ℕ) (side : Same app x2 y) (same : Judged app x y) (size : length y ≡ length x) where
         y_fine : Fine app y
@@ -182,7 +182,7 @@ module _ (app : Application) (sound : IsApplication app) (x : List ℕ) (fits : 
         shut_ends = by (is_open (mark_of (book_of app x)) (book_of app x).days) refl
           where
             marked : Book
-            marked = record { days = closed_days app.activity (mark_of (book_of app x)) Rest (book_of app x).days; vehicle = last_used (60 * suc (mark_of (book_of app x))) (book_of app x).vehicle }
+            marked = record { days = closed_days app.activity (mark_of (book_of app x)) Rest (book_of app x).days; vehicles = last_used (60 * suc (mark_of (book_of app x))) (book_of app x).vehicles }
 
             by : (o : Bool) → is_open (mark_of (book_of app x)) (book_of app x).days ≡ o → MayEnd app y
             by true is =

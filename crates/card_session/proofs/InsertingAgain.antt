@@ -9,7 +9,6 @@ use Rattle.tacho_types.specs.Numbers.{time_bytes}
 use Rattle.card_layout.specs.declared.files.Application.{Application}
 use Rattle.card_layout.specs.Files.{files_of, place_of, size_of}
 use Rattle.tach_media.specs.Medium.{SameOutside, bytes_at}
-use Rattle.card_records.specs.declared.vehicle.Vehicle.{Vehicle}
 use Rattle.card_records.specs.Rings.{event_ring}
 use Rattle.card_model.specs.Days.{Day}
 use Rattle.card_records.proofs.Sets.{set_inside}
@@ -19,6 +18,7 @@ use Rattle.card_image.specs.Fields.{file, day_string, place_ring, card_number}
 use Rattle.card_image.specs.Beside.{HaveSameSizes, HaveSameIdentification, HaveSamePlacePointer}
 use Rattle.card_image.proofs.Beside.{number_same}
 use Rattle.card_session.specs.Cards.{IsCard, days_and_vehicles}
+use Rattle.card_session.specs.Vehicles.{Vehicles}
 use Rattle.card_session.specs.Books.{closed}
 use Rattle.card_session.specs.Sessions.{book_of}
 use Rattle.card_session.specs.Moments.{IsBook, IsCloseMoment}
@@ -94,7 +94,7 @@ module _ (app : Application) where
   then_keeps : (x y c : List ℕ) → Keeps x y → Keeps y c → Keeps x c
   then_keeps x y c first next = (next.0 ∙ first.0, next.1 ∙ first.1, next.2 ∙ first.2, next.3 ∙ first.3)
 
-  card_keeps : (P : List ℕ → List Day → Option Vehicle → Type 0) → Step (λ x c. IsCard app (P x) x c)
+  card_keeps : (P : List ℕ → List Day → Vehicles → Type 0) → Step (λ x c. IsCard app (P x) x c)
   card_keeps P x c fits is = before_keeps (day_string app).base (days_and_vehicles app) x c before_string string_before_places string_before is.outside
 
   event_keeps : (now i : ℕ) (x c : List ℕ) → i < (event_ring app 6).count → SameOutside (entry_place (event_ring app 6) i) (event_ring app 6).width x c → Keeps x c

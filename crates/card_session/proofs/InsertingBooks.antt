@@ -8,8 +8,6 @@ use Rattle.std.proofs.lemmas.Bool.{eqb-true, ltb-true}
 use Rattle.activity_codec.specs.declared.values.Activity.{Activity}
 use Rattle.activity_codec.specs.declared.entries.Entry.{Entry}
 use Rattle.activity_codec.specs.Words.{word_minute, word_absent, word_slot}
-use Rattle.card_records.specs.declared.vehicle.Vehicle.{Vehicle}
-use Rattle.card_image.specs.Fields.{last_use_of}
 use Rattle.card_model.proofs.Ascending.{words_below}
 use Rattle.card_model.specs.Days.{Day, AreDays, last_word}
 use Rattle.card_model.specs.Changes.{OnNewest, TakesWord, date_of, trimmed, fitting, with_newest, with_word}
@@ -22,6 +20,7 @@ use Rattle.card_retention.proofs.Flat.{UpTo, newest_flat}
 use Rattle.card_retention.proofs.Checked.{early_last}
 use Rattle.card_retention.proofs.ListTrims.{ends_flat}
 use Rattle.card_session.specs.declared.words.TheConstants.{LATEST_MINUTE}
+use Rattle.card_session.specs.Vehicles.{last_use_in}
 use Rattle.card_session.specs.Books.{Book, mark_of, latest_of, closing_word, with_change, closed, last_used}
 use Rattle.card_session.specs.Sessions.{EndsStrictly, IsOpenBook, newest_in}
 use Rattle.card_session.proofs.Following.{takes_closing}
@@ -125,8 +124,8 @@ closed_ready size long act b are ready = by (is_open (mark_of b) b.days) refl
     word = closing_word (suc (mark_of b)) act (latest_of b.days)
 
     by : (o : Bool) → is_open (mark_of b) b.days ≡ o
-        → IsOpenBook (cond o (let c : Book = record { days = cond o (with_change size word b.days) b.days; vehicle = last_used (60 * suc (mark_of b)) b.vehicle } in c) b)
+        → IsOpenBook (cond o (let c : Book = record { days = cond o (with_change size word b.days) b.days; vehicles = last_used (60 * suc (mark_of b)) b.vehicles } in c) b)
     by true is =
         let takes : OnNewest (TakesWord word) (fitting (size - 2) b.days) = remain_some (TakesWord word) (size - 2) 0 b.days (fitting (size - 2) b.days) (omega (arith, long)) are (remain_fitting (size - 2) b.days) (takes_closing (mark_of b) act b.days ready.ends ready.strict is) in
-        record { ends = ends_absent (last_use_of (last_used (60 * suc (mark_of b)) b.vehicle) / 60) word (fitting (size - 2) b.days) (closing_absent (suc (mark_of b)) act (latest_of b.days)); strict = strict_with word (fitting (size - 2) b.days) takes }
+        record { ends = ends_absent (last_use_in (last_used (60 * suc (mark_of b)) b.vehicles) / 60) word (fitting (size - 2) b.days) (closing_absent (suc (mark_of b)) act (latest_of b.days)); strict = strict_with word (fitting (size - 2) b.days) takes }
     by false is = ready

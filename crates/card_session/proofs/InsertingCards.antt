@@ -1,40 +1,36 @@
 -- What a write outside the days and the vehicle entries leaves a session to know, and what a closing word does.
-use Rattle.std.proofs.Common.{◌≡◌, inl, inr, ⊎_elim, ℕ, suc, ◌+◌, ◌-◌, ◌*◌, ◌/◌, ◌<◌, ◌≤◌, max, Bool, true, false, cond, not, List, [], ◌∷◌, ◌++◌, length, Option, Some, None, IfSome, refl, sym, ◌∙◌, ap, subst, arith}
+use Rattle.std.proofs.Common.{◌≡◌, inl, inr, ⊎_elim, ℕ, ◌+◌, ◌-◌, ◌*◌, ◌/◌, ◌<◌, ◌≤◌, List, [], ◌∷◌, ◌++◌, sym, ◌∙◌, ap, subst, arith}
 use Rattle.std.specs.Prelude.{◌⊎◌, All}
 use Rattle.std.specs.List.{AllByRecursion}
 use Rattle.std.proofs.lemmas.List.Elements.{recursion_from_All}
-use Rattle.byte_fields.proofs.Images.{part_before, part_after, put_outside}
+use Rattle.byte_fields.proofs.Images.{part_before, part_after}
 use Rattle.activity_codec.specs.declared.entries.Entry.{Entry}
-use Rattle.activity_codec.specs.declared.values.Activity.{Activity}
 use Rattle.tacho_types.specs.declared.texts.Registration.{Registration}
 use Rattle.card_layout.specs.declared.files.Application.{Application}
-use Rattle.card_layout.specs.Files.{files_of, place_of, size_of, image_size_of}
+use Rattle.card_layout.specs.Files.{files_of, place_of, size_of}
 use Rattle.tach_media.specs.Medium.{bytes_at, SameOutside}
-use Rattle.card_records.specs.declared.vehicle.Vehicle.{Vehicle}
-use Rattle.card_records.specs.declared.current_use.CurrentUse.{CurrentUse}
 use Rattle.card_records.specs.CurrentUses.{current_use_of}
-use Rattle.card_records.specs.Vehicles.{vehicle_of}
 use Rattle.card_records.specs.Rings.{event_ring}
-use Rattle.card_records.specs.Noting.{IsEventNoted}
 use Rattle.card_records.proofs.Sets.{set_inside}
 use Rattle.card_model.specs.Days.{Day}
 use Rattle.card_model.specs.Image.{StringShape}
 use Rattle.card_model.proofs.Elsewhere.{days_elsewhere}
-use Rattle.gated_ring.specs.Ring.{Shape, place_of as entry_place, size_of as ring_size}
+use Rattle.gated_ring.specs.Ring.{Shape, PointsInside, place_of as entry_place, size_of as ring_size}
 use Rattle.gated_ring.proofs.Places.{place_high}
-use Rattle.gated_ring.proofs.Elsewhere.{points_elsewhere, entry_elsewhere, newest_elsewhere}
-use Rattle.cyclic_days.specs.Held.{Held, Knows}
+use Rattle.gated_ring.proofs.Elsewhere.{points_elsewhere, newest_elsewhere}
+use Rattle.cyclic_days.specs.Held.{Knows}
 use Rattle.cyclic_days.proofs.Elsewhere.{knows_elsewhere}
-use Rattle.card_image.specs.Fields.{file, file_bytes, day_string, vehicle_ring, vehicle_at, current_use, card_days}
+use Rattle.card_image.specs.Fields.{file, day_string, vehicle_ring, current_use, card_days}
 use Rattle.card_image.specs.Beside.{HaveSameDays, HaveSameVehicles, HaveSameSession}
+use Rattle.card_session.specs.Vehicles.{Vehicles}
 use Rattle.card_session.specs.Books.{Book, mark_of, with_entry}
 use Rattle.card_session.specs.Sessions.{Session, IsValue, KnowsCard, book_of}
 use Rattle.card_session.specs.Cards.{IsCard, days_and_vehicles}
-use Rattle.card_session.specs.Moments.{IsBook}
-use Rattle.card_session.specs.Inserting.{lacked, with_cut, with_owed, repaired, IsNoted, IsNoting, unclosed}
+use Rattle.card_session.specs.Inserting.{lacked, with_cut, with_owed, repaired, IsNoted, IsNoting}
 use Rattle.card_session.proofs.Composing.{book_is}
 use Rattle.card_session.proofs.InsertingBooks.{lacked_each}
-use Rattle.card_session.proofs.OnCard.{newest_told, ring_shape, ring_behind}
+use Rattle.card_session.proofs.OnCard.{ring_shape, ring_behind}
+use Rattle.card_session.proofs.Round.{vehicles_same}
 use Rattle.card_session.proofs.Marks.{current_same}
 use Rattle.card_session.proofs.Preparing.{used_at}
 
@@ -48,9 +44,9 @@ module _ (s : Session) (value : IsValue s) (x c : List ℕ) (days : HaveSameDays
   unfolding book_of card_days
   days_beside = days_elsewhere (day_string app) x c days
 
-  vehicle_beside : (o : Option ℕ) → IfSome o (λ i. i < s.application.vehicles) → vehicle_at s.application c o ≡ vehicle_at s.application x o
-  vehicle_beside None below = refl
-  vehicle_beside (Some i) below = ap (λ (l : List ℕ). Some (vehicle_of l)) (entry_elsewhere (vehicle_ring s.application) (ring_shape s.application value.sizes) x c vehicles i below)
+  vehicles_beside : PointsInside (vehicle_ring s.application) x → (book_of app c).vehicles ≡ (book_of app x).vehicles
+  unfolding book_of
+  vehicles_beside points = vehicles_same s.application (ring_shape s.application value.sizes) x c vehicles points
 
   pub knows_beside : KnowsCard s x → KnowsCard s c
   knows_beside knows =
@@ -60,11 +56,11 @@ module _ (s : Session) (value : IsValue s) (x c : List ℕ) (days : HaveSameDays
             (knows_elsewhere s.days x c (subst (λ (q : StringShape). bytes_at c q.base (4 + q.size) ≡ bytes_at x q.base (4 + q.size)) (sym value.days) days) (book_of app x).days knows.days);
         points = points_elsewhere (vehicle_ring app) (ring_shape app value.sizes) x c vehicles knows.points;
         newest = newest;
-        vehicle = knows.vehicle ∙ newest_told app x s.newest knows.newest ∙ sym (vehicle_beside s.newest value.newest) ∙ sym (newest_told app c s.newest newest);
+        vehicle = knows.vehicle ∙ sym (ap (λ (v : Vehicles). v.newest) (vehicles_beside knows.points));
       }
 
   pub book_beside : KnowsCard s x → book_of app c ≡ book_of app x
-  book_beside knows = book_is (book_of app x) (book_of app c).days (book_of app c).vehicle days_beside (sym (knows_beside knows).vehicle ∙ knows.vehicle)
+  book_beside knows = book_is (book_of app x) (book_of app c).days (book_of app c).vehicles days_beside (vehicles_beside knows.points)
 
 -- a part of the card behind the vehicle entries
 pub behind_same : (app : Application) (place len : ℕ) (x c : List ℕ) → (day_string app).base + days_and_vehicles app ≤ place → SameOutside place len x c → HaveSameDays app x c × HaveSameVehicles app x c
@@ -117,7 +113,7 @@ noting_same app now x c noting = ⊎_elim
 
 -- ---- a write on the days and the vehicle entries leaves the current use
 
-pub use_same : (app : Application) (P : List Day → Option Vehicle → Type 0) (x c : List ℕ) → IsCard app P x c → current_use app c ≡ current_use app x
+pub use_same : (app : Application) (P : List Day → Vehicles → Type 0) (x c : List ℕ) → IsCard app P x c → current_use app c ≡ current_use app x
 unfolding current_use
 use_same app P x c is = ap current_use_of (current_same app P x c is)
 
@@ -126,7 +122,7 @@ use_same app P x c is = ap current_use_of (current_same app P x c is)
 owed_mark : (size : ℕ) (registration : Registration) (odometer limit : ℕ) (es : List Entry) (b : Book) → mark_of b < limit → AllByRecursion (λ e. e.minute < limit) es → mark_of (with_owed size registration odometer es b) < limit
 owed_mark size registration odometer limit [] b low each = low
 owed_mark size registration odometer limit (e ∷ es) b low each =
-    owed_mark size registration odometer limit es (with_entry size registration odometer 0 b e) (subst (λ (n : ℕ). n < limit) (sym (used_at registration odometer e.minute b.vehicle)) each.0) each.1
+    owed_mark size registration odometer limit es (with_entry size registration odometer 0 b e) (subst (λ (n : ℕ). n < limit) (sym (used_at registration odometer e.minute b.vehicles)) each.0) each.1
 
 pub repaired_mark : (size : ℕ) (registration : Registration) (odometer limit : ℕ) (owed : List Entry) → All (λ e. e.minute < limit) owed → (b : Book) → mark_of b < limit → mark_of (repaired size registration odometer owed b) < limit
 repaired_mark size registration odometer limit owed each b low =

@@ -24,7 +24,6 @@ use Rattle.card_session.specs.Cards.{IsCard, days_and_vehicles}
 use Rattle.card_session.specs.Parts.{DoesPart, IsPartDone, IsPartMoment, HasSame, AnyBook}
 use Rattle.card_session.specs.Inserting.{with_cut, IsCutting}
 use Rattle.card_session.proofs.OnDays.{written, known}
-use Rattle.card_session.proofs.Older.{keeps_still}
 
 -- a card that a session knows, beside itself
 pub still_card : (s : Session) → IsValue s → (x : List ℕ) → KnowsCard s x → IsCard s.application (IsBook (book_of s.application x)) x x
@@ -32,7 +31,6 @@ still_card s value x knows = record {
   outside = outside_same (day_string s.application).base (days_and_vehicles s.application) x;
   holds = subst (λ (q : StringShape). Holds q x (book_of s.application x).days) value.days knows.days.holds;
   points = knows.points;
-  older = keeps_still s.application x;
   told = (refl, refl);
 }
 

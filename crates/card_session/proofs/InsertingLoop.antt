@@ -8,9 +8,9 @@ use Rattle.activity_codec.specs.declared.entries.Entry.{Entry}
 use Rattle.tacho_types.specs.declared.texts.Registration.{Registration}
 use Rattle.card_layout.specs.declared.files.Application.{Application}
 use Rattle.tach_media.specs.Medium.{State}
-use Rattle.card_records.specs.declared.vehicle.Vehicle.{Vehicle}
 use Rattle.tach_media.proofs.Runs.{if_told, told_too, at_image}
 use Rattle.card_model.specs.Days.{Day, AreDays}
+use Rattle.card_session.specs.Vehicles.{Vehicles}
 use Rattle.card_session.specs.Books.{Book, with_entry}
 use Rattle.card_session.specs.Sessions.{Session, IsValue, IsOpenBook, KnowsCard, newest_in, book_of}
 use Rattle.card_session.specs.Moments.{IsBook, IsKeepMoment}
@@ -28,7 +28,7 @@ module _ (size : ℕ) (registration : Registration) (odometer : ℕ) where
   owed_more [] e b = refl
   owed_more (d ∷ es) e b = owed_more es e (with_entry size registration odometer 0 b d)
 
-  replaying_at : (es rest : List Entry) (e : Entry) (b : Book) (ds : List Day) (v : Option Vehicle) → IsKeepMoment size registration odometer 0 e (with_owed size registration odometer es b) ds v
+  replaying_at : (es rest : List Entry) (e : Entry) (b : Book) (ds : List Day) (v : Vehicles) → IsKeepMoment size registration odometer 0 e (with_owed size registration odometer es b) ds v
       → IsReplaying size registration odometer (es ++ e ∷ rest) b ds v
   replaying_at [] rest e b ds v is = inl is
   replaying_at (d ∷ es) rest e b ds v is = inr (replaying_at es rest e (with_entry size registration odometer 0 b d) ds v is)
@@ -79,7 +79,7 @@ module _ (s : Session) (value : IsValue s) (odometer : ℕ) (all : List Entry) w
     made : (x y : List ℕ) → IsCard s.application (IsBook (b x)) x y → book_of t.application y ≡ b x
     made x y is = ap (λ (p : Application). book_of p y) app ∙ told_book s.application (b x) x y is
 
-    here : (x y : List ℕ) (R : Book → List Day → Option Vehicle → Type 0) → IsCard s.application (IsBook (b x)) x y → (c : List ℕ) → IsCard t.application (R (book_of t.application y)) y c → IsCard s.application (R (b x)) x c
+    here : (x y : List ℕ) (R : Book → List Day → Vehicles → Type 0) → IsCard s.application (IsBook (b x)) x y → (c : List ℕ) → IsCard t.application (R (book_of t.application y)) y c → IsCard s.application (R (b x)) x c
     here x y R is c next =
         card_then s.application (IsBook (b x)) (R (b x)) x y c is
         (subst (λ (p : Application). IsCard p (R (b x)) y c) app (subst (λ (k : Book). IsCard t.application (R k) y c) (made x y is) next))

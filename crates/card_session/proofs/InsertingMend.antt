@@ -6,11 +6,11 @@ use Rattle.tacho_types.specs.declared.texts.Registration.{Registration}
 use Rattle.card_layout.specs.declared.files.Application.{Application}
 use Rattle.tach_media.specs.Medium.{State}
 use Rattle.tach_media.proofs.Runs.{where_told, at_image}
-use Rattle.card_records.specs.declared.vehicle.Vehicle.{Vehicle}
 use Rattle.card_records.specs.declared.current_use.CurrentUse.{CurrentUse}
 use Rattle.card_model.specs.Days.{Day}
 use Rattle.card_image.specs.Fields.{current_use}
 use Rattle.card_session.specs.declared.words.TheConstants.{LATEST_MINUTE}
+use Rattle.card_session.specs.Vehicles.{Vehicles}
 use Rattle.card_session.specs.Books.{Book, mark_of}
 use Rattle.card_session.specs.Sessions.{Session, IsValue, IsOpenBook, KnowsCard, book_of}
 use Rattle.card_session.specs.Cards.{IsCard}
@@ -68,13 +68,13 @@ module _ (s : Session) (current : CurrentUse) (odometer : ℕ) (owed : List Entr
     strict_at : (x y : List ℕ) → IsStill app x y → Mends s current x → EndsCut (book_of t.application y)
     strict_at x y still mends = subst EndsCut (sym (at_t x y still)) mends.strict
 
-    card_at : (P : (size : ℕ) → Registration → Book → List Day → Option Vehicle → Type 0) (y z : List ℕ) → IsCard t.application (P t.application.activity t.registration (book_of t.application y)) y z → IsCard app (P size g (book_of app y)) y z
+    card_at : (P : (size : ℕ) → Registration → Book → List Day → Vehicles → Type 0) (y z : List ℕ) → IsCard t.application (P t.application.activity t.registration (book_of t.application y)) y z → IsCard app (P size g (book_of app y)) y z
     card_at P y z is = subst (λ (r : Registration). IsCard app (P size r (book_of app y)) y z) same_g (subst (λ (p : Application). IsCard p (P p.activity t.registration (book_of p y)) y z) same_t is)
 
-    abbrev R : (size : ℕ) → Registration → Book → List Day → Option Vehicle → Type 0
+    abbrev R : (size : ℕ) → Registration → Book → List Day → Vehicles → Type 0
     R n r b = IsBook (repaired n r odometer owed b)
 
-    abbrev M : (size : ℕ) → Registration → Book → List Day → Option Vehicle → Type 0
+    abbrev M : (size : ℕ) → Registration → Book → List Day → Vehicles → Type 0
     M n r b = IsRepairMoment n r odometer owed b
 
     pub second_done : {old mid new : State} {failed : Bool} → DoesPart old mid false (IsFirst t) (IsMendMoment s current odometer owed now)

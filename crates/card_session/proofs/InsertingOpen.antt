@@ -9,7 +9,6 @@ use Rattle.card_layout.specs.declared.files.Application.{Application}
 use Rattle.card_layout.specs.Files.{place_of, image_size_of}
 use Rattle.tach_media.specs.Medium.{State, IsCoherent, LeavesOnly, HasCause, put}
 use Rattle.tach_media.proofs.Runs.{where_told, turned_into}
-use Rattle.card_records.specs.declared.vehicle.Vehicle.{Vehicle}
 use Rattle.card_model.specs.Days.{Day}
 use Rattle.card_image.specs.Fields.{file}
 use Rattle.card_image.specs.Beside.{HaveSameDays, HaveSameVehicles}

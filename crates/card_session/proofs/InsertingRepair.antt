@@ -10,6 +10,7 @@ use Rattle.card_records.specs.declared.vehicle.Vehicle.{Vehicle}
 use Rattle.card_model.specs.Days.{Day}
 use Rattle.card_model.specs.Changes.{trimmed}
 use Rattle.card_image.specs.Fields.{last_use_of}
+use Rattle.card_session.specs.Vehicles.{Vehicles}
 use Rattle.card_session.specs.Books.{Book, mark_of}
 use Rattle.card_session.specs.Sessions.{Session, IsValue, IsOpenBook, KnowsCard, EndsStrictly, book_of}
 use Rattle.card_session.specs.Cards.{IsCard}
@@ -32,13 +33,13 @@ module _ (s : Session) (mark odometer : ℕ) (owed ls : List Entry) (mark_is : m
   at : (x : List ℕ) → KnowsCard s x → mark ≡ mark_of (book x)
   at x knows = mark_is ∙ ap (λ (o : Option Vehicle). last_use_of o / 60) knows.vehicle
 
-  abbrev IsEither : Book → List Day → Option Vehicle → Type 0
+  abbrev IsEither : Book → List Day → Vehicles → Type 0
   IsEither b ds v = IsCutting mark b ds v ⊎ IsReplaying size g odometer ls (with_cut mark b) ds v
 
   made : (x : List ℕ) → KnowsCard s x → with_owed size g odometer ls (with_cut mark (book x)) ≡ repaired size g odometer owed (book x)
   made x knows = ap (λ (es : List Entry). with_owed size g odometer es (with_cut mark (book x))) ls_is ∙ ap (λ (n : ℕ). with_owed size g odometer (lacked n owed) (with_cut n (book x))) (at x knows)
 
-  moment : (x : List ℕ) → KnowsCard s x → (ds : List Day) (v : Option Vehicle) → IsEither (book x) ds v → IsRepairMoment size g odometer owed (book x) ds v
+  moment : (x : List ℕ) → KnowsCard s x → (ds : List Day) (v : Vehicles) → IsEither (book x) ds v → IsRepairMoment size g odometer owed (book x) ds v
   moment x knows ds v is =
       subst (λ (n : ℕ). IsCutting n (book x) ds v ⊎ IsReplaying size g odometer (lacked n owed) (with_cut n (book x)) ds v) (at x knows)
       (subst (λ (es : List Entry). IsCutting mark (book x) ds v ⊎ IsReplaying size g odometer es (with_cut mark (book x)) ds v) ls_is is)

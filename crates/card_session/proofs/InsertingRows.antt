@@ -22,21 +22,21 @@ none_replayed = refl
 
 -- the word of driving behind the end mark is cut
 abbrev torn : Book
-torn = record { days = day 0 (0x2000 ∷ 0x1258 ∷ 0x1A59 ∷ []) ∷ []; vehicle = using 100 600 }
+torn = record { days = day 0 (0x2000 ∷ 0x1258 ∷ 0x1A59 ∷ []) ∷ []; vehicles = using 100 600 }
 
 the_cut : with_cut (midnight + 600) torn ≡ first
 the_cut = refl
 
 -- the lacked minutes follow, without a km: the first tells the state that the card tells, the second follows a gap
 abbrev mended : Book
-mended = record { days = day 0 (0x2000 ∷ 0x1258 ∷ 0x225A ∷ 0x125B ∷ []) ∷ []; vehicle = using 104 603 }
+mended = record { days = day 0 (0x2000 ∷ 0x1258 ∷ 0x225A ∷ 0x125B ∷ []) ∷ []; vehicles = using 104 603 }
 
 the_repair : repaired 5544 this_vehicle 104 owed torn ≡ mended
 the_repair = refl
 
 -- and the closing word, with the end mark at it
 abbrev shut : Book
-shut = record { days = day 0 (0x2000 ∷ 0x1258 ∷ 0x225A ∷ 0x125B ∷ 0x225C ∷ []) ∷ []; vehicle = using 104 604 }
+shut = record { days = day 0 (0x2000 ∷ 0x1258 ∷ 0x225A ∷ 0x125B ∷ 0x225C ∷ []) ∷ []; vehicles = using 104 604 }
 
 the_closing : closed 5544 Rest mended ≡ shut
 the_closing = refl

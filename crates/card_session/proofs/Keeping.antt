@@ -1,5 +1,5 @@
 -- The parts of a keep, one after the other.
-use Rattle.std.proofs.Common.{◌≡◌, inl, inr, ⊎_elim, ℕ, ◌*◌, ◌<◌, ◌≤◌, Bool, true, false, cond, List, Option, Some, None, IfSome, refl, sym, ◌∙◌, ap, subst, arith}
+use Rattle.std.proofs.Common.{◌≡◌, inl, inr, ⊎_elim, ℕ, ◌*◌, ◌<◌, ◌≤◌, Bool, true, false, cond, List, Option, Some, IfSome, refl, sym, ◌∙◌, ap, subst, arith}
 use Rattle.std.specs.Prelude.{◌⊎◌}
 use Rattle.activity_codec.specs.declared.entries.Entry.{Entry}
 use Rattle.tach_media.specs.Medium.{State}
@@ -8,14 +8,16 @@ use Rattle.tacho_types.specs.declared.texts.Registration.{Registration}
 use Rattle.card_layout.specs.declared.files.Application.{Application}
 use Rattle.card_records.specs.declared.vehicle.Vehicle.{Vehicle}
 use Rattle.card_model.specs.Days.{Day}
-use Rattle.card_session.specs.Books.{Book, mark_of, gap_closed, entered_days, travelled, goes_on_in, goes_on_with, measured_to, last_used, used_until, vehicle_after, vehicle_counter, begun_vehicle}
+use Rattle.card_session.proofs.Round.{vehicles_is, map_twice, newest_twice}
+use Rattle.card_session.specs.Vehicles.{Vehicles, renewed, with_vehicle, with_room}
+use Rattle.card_session.specs.Books.{Book, goes_on_in, goes_on_with, measured_to, last_used, used_until, vehicle_counter, begun_vehicle, measured, used, vehicles_with}
 use Rattle.gated_ring.specs.Ring.{PointsInside, IsNewest}
 use Rattle.cyclic_days.specs.Held.{Held, Knows}
 use Rattle.card_image.specs.Fields.{vehicle_ring}
 use Rattle.card_session.specs.Sessions.{Session, IsValue, IsSession, IsOpenBook, KnowsCard, newest_in, book_of}
 use Rattle.card_session.specs.Cards.{IsCard, IsCardKept, IsCardKeeping, grown}
 use Rattle.card_session.specs.Moments.{IsBook, IsKeepMoment}
-use Rattle.card_session.specs.Parts.{DoesPart, IsPartDone, IsPartMoment, HasSame, SameButVehicle, IsBeforeGapOf, with_gap_closed, IsClosingGap, IsBeforeEntry, with_entry_words, IsWriting, HasDay, with_more, IsTravelling, AnyBook, with_use, IsUsing, with_measured, IsSettingOdometer, with_last_use, IsSettingUse, with_new_use, IsAddingUse, entered}
+use Rattle.card_session.specs.Parts.{DoesPart, IsPartDone, IsPartMoment, IsBeforeGapOf, with_gap_closed, IsClosingGap, IsBeforeEntry, with_entry_words, IsWriting, HasDay, with_more, IsTravelling, AnyBook, with_use, IsUsing, with_measured, IsSettingOdometer, with_last_use, IsSettingUse, with_new_use, IsAddingUse, entered}
 use Rattle.card_session.proofs.Composing.{then_part, failed_part, part_of, told_book}
 use Rattle.card_session.proofs.Preparing.{gap_are, gap_ready, words_ready, entry_last}
 
@@ -25,33 +27,29 @@ module _ (s : Session) (odometer minute : ℕ) where
   abbrev on_both : Book → Book
   on_both b = with_last_use (60 * minute) (with_measured odometer b)
 
-  abbrev IsUsingOn : Book → List Day → Option Vehicle → Type 0
-  IsUsingOn b days vehicle = (days ≡ b.days) × ((vehicle ≡ b.vehicle) ⊎ ((vehicle ≡ measured_to odometer b.vehicle) ⊎ (vehicle ≡ last_used (60 * minute) (measured_to odometer b.vehicle))))
+  abbrev IsUsingOn : Book → List Day → Vehicles → Type 0
+  IsUsingOn b days vehicles = (days ≡ b.days) × ((vehicles ≡ b.vehicles) ⊎ ((vehicles ≡ measured_to odometer b.vehicles) ⊎ (vehicles ≡ last_used (60 * minute) (measured_to odometer b.vehicles))))
 
   -- the newest vehicle entry goes on: two fields
   module _ (v : Vehicle) (here : s.vehicle ≡ Some v) (on : goes_on_in s.registration minute v ≡ true) where
-    told : (x : List ℕ) → KnowsCard s x → (book_of s.application x).vehicle ≡ Some v
-    told x knows = sym knows.vehicle ∙ here
+    on_is : (x : List ℕ) → KnowsCard s x → goes_on_with s.registration minute (book_of s.application x).vehicles.newest ≡ true
+    on_is x knows = ap (goes_on_with s.registration minute) (sym knows.vehicle ∙ here) ∙ on
 
-    after_is : (o : Option Vehicle) → o ≡ Some v → last_used (60 * minute) (measured_to odometer o) ≡ Some (vehicle_after s.registration odometer minute o)
-    after_is o is = subst (λ (p : Option Vehicle). last_used (60 * minute) (measured_to odometer p) ≡ Some (vehicle_after s.registration odometer minute p)) (sym is) (by (goes_on_in s.registration minute v) on)
-      where
-        by : (g : Bool) → g ≡ true → Some (used_until odometer (60 * minute) v) ≡ Some (cond g (used_until odometer (60 * minute) v) (begun_vehicle s.registration odometer minute (vehicle_counter (Some v))))
-        by true is = refl
-        by false is = absurd (cc)
-
-    on_is : (o : Option Vehicle) → o ≡ Some v → goes_on_with s.registration minute o ≡ true
-    on_is o is = ap (goes_on_with s.registration minute) is ∙ on
+    after_is : (w : Vehicles) → goes_on_with s.registration minute w.newest ≡ true → last_used (60 * minute) (measured_to odometer w) ≡ vehicles_with s.registration odometer minute w
+    after_is w goes =
+        vehicles_is (last_used (60 * minute) (measured_to odometer w)) (renewed (used_until odometer (60 * minute)) w) (map_twice (measured odometer) (used (60 * minute)) w.newest)
+        (newest_twice (measured odometer) (used (60 * minute)) w.ring)
+        ∙ sym (ap (λ (g : Bool). cond g (renewed (used_until odometer (60 * minute)) w) (with_vehicle (begun_vehicle s.registration odometer minute (vehicle_counter w.newest)) w)) goes)
 
     pub on_part : {old new : State} {failed : Bool} (t : Session) → DoesPart old new failed (IsPartDone s t AnyBook on_both) (IsPartMoment s AnyBook IsUsingOn)
         → DoesPart old new failed (IsPartDone s t AnyBook (with_use s.registration odometer minute)) (IsPartMoment s AnyBook (IsUsing s.registration odometer minute))
     on_part t part =
         part_of s t AnyBook AnyBook on_both (with_use s.registration odometer minute) IsUsingOn (IsUsing s.registration odometer minute) part (λ x knows any. tt)
-        (λ x knows any. ap (λ (o : Option Vehicle). let c : Book = record { days = (book_of s.application x).days; vehicle = o } in c) (after_is (book_of s.application x).vehicle (told x knows)))
+        (λ x knows any. ap (λ (o : Vehicles). let c : Book = record { days = (book_of s.application x).days; vehicles = o } in c) (after_is (book_of s.application x).vehicles (on_is x knows)))
         (λ x knows any ds now is. (
           is.0,
           ⊎_elim (λ still. inl (inl still))
-              (λ written. ⊎_elim (λ first. inl (inr (on_is (book_of s.application x).vehicle (told x knows), first))) (λ both. inr (both ∙ after_is (book_of s.application x).vehicle (told x knows))) written) is.1,
+              (λ written. ⊎_elim (λ first. inl (inr (inl (on_is x knows, first)))) (λ both. inr (both ∙ after_is (book_of s.application x).vehicles (on_is x knows))) written) is.1,
         ))
 
   pub on_then : {old mid new : State} {failed : Bool} (u t : Session) → u.application ≡ s.application
@@ -69,33 +67,42 @@ module _ (s : Session) (odometer minute : ℕ) where
       failed_part s u t AnyBook (with_measured odometer) on_both (IsSettingOdometer odometer) IsUsingOn part is (λ b ds v any q. (q.0, ⊎_elim (λ still. inl still) (λ set. inr (inl set)) q.1))
 
   -- a new entry
+  abbrev with_one : Vehicle → Book → Book
+  with_one v b = record { days = b.days; vehicles = with_vehicle v b.vehicles }
+
+  abbrev IsAddingOne : Vehicle → Book → List Day → Vehicles → Type 0
+  IsAddingOne v b ds u = (ds ≡ b.days) × ((u ≡ b.vehicles) ⊎ ((u ≡ with_room b.vehicles) ⊎ (u ≡ with_vehicle v b.vehicles)))
+
   pub new_use_as : {old new : State} {failed : Bool} (t : Session) (v : Vehicle) → v ≡ begun_vehicle s.registration odometer minute (vehicle_counter s.vehicle)
-      → DoesPart old new failed (IsPartDone s t AnyBook (λ b. let c : Book = record { days = b.days; vehicle = Some v } in c)) (IsPartMoment s AnyBook (λ b ds u. (ds ≡ b.days) × ((u ≡ b.vehicle) ⊎ (u ≡ Some v))))
+      → DoesPart old new failed (IsPartDone s t AnyBook (with_one v)) (IsPartMoment s AnyBook (IsAddingOne v))
       → DoesPart old new failed (IsPartDone s t AnyBook (with_new_use s.registration odometer minute)) (IsPartMoment s AnyBook (IsAddingUse s.registration odometer minute))
   new_use_as t v is part =
-      part_of s t AnyBook AnyBook (λ b. let c : Book = record { days = b.days; vehicle = Some v } in c) (with_new_use s.registration odometer minute) (λ b ds u. (ds ≡ b.days) × ((u ≡ b.vehicle) ⊎ (u ≡ Some v))) (IsAddingUse s.registration odometer minute) part (λ x knows any. tt)
-      (λ x knows any. ap (λ (w : Vehicle). let c : Book = record { days = (book_of s.application x).days; vehicle = Some w } in c) (v_is x knows))
-      (λ x knows any ds u moment. (moment.0, ⊎_elim (λ still. inl still) (λ added. inr (added ∙ ap (λ (w : Vehicle). Some w) (v_is x knows))) moment.1))
+      part_of s t AnyBook AnyBook (with_one v) (with_new_use s.registration odometer minute) (IsAddingOne v) (IsAddingUse s.registration odometer minute) part (λ x knows any. tt)
+      (λ x knows any. ap (λ (w : Vehicle). with_one w (book_of s.application x)) (v_is x knows))
+      (λ x knows any ds u moment. (
+        moment.0,
+        ⊎_elim (λ still. inl still)
+            (λ changed. inr (⊎_elim (λ room. inl room) (λ one. inr (one ∙ ap (λ (w : Vehicle). with_vehicle w (book_of s.application x).vehicles) (v_is x knows))) changed)) moment.1,
+      ))
     where
-      v_is : (x : List ℕ) → KnowsCard s x → v ≡ begun_vehicle s.registration odometer minute (vehicle_counter (book_of s.application x).vehicle)
+      v_is : (x : List ℕ) → KnowsCard s x → v ≡ begun_vehicle s.registration odometer minute (vehicle_counter (book_of s.application x).vehicles.newest)
       v_is x knows = is ∙ ap (λ (o : Option Vehicle). begun_vehicle s.registration odometer minute (vehicle_counter o)) knows.vehicle
 
   -- where the newest one does not go on
-  module _ (other : (x : List ℕ) → KnowsCard s x → goes_on_with s.registration minute (book_of s.application x).vehicle ≡ false) where
-    new_is : (o : Option Vehicle) → goes_on_with s.registration minute o ≡ false → begun_vehicle s.registration odometer minute (vehicle_counter o) ≡ vehicle_after s.registration odometer minute o
-    new_is None is = refl
-    new_is (Some v) is = by (goes_on_in s.registration minute v) is
-      where
-        by : (g : Bool) → g ≡ false → begun_vehicle s.registration odometer minute (vehicle_counter (Some v)) ≡ cond g (used_until odometer (60 * minute) v) (begun_vehicle s.registration odometer minute (vehicle_counter (Some v)))
-        by true is = absurd (cc)
-        by false is = refl
+  module _ (other : (x : List ℕ) → KnowsCard s x → goes_on_with s.registration minute (book_of s.application x).vehicles.newest ≡ false) where
+    new_is : (w : Vehicles) → goes_on_with s.registration minute w.newest ≡ false → with_vehicle (begun_vehicle s.registration odometer minute (vehicle_counter w.newest)) w ≡ vehicles_with s.registration odometer minute w
+    new_is w is = sym (ap (λ (g : Bool). cond g (renewed (used_until odometer (60 * minute)) w) (with_vehicle (begun_vehicle s.registration odometer minute (vehicle_counter w.newest)) w)) is)
 
     pub new_use_part : {old new : State} {failed : Bool} (t : Session) → DoesPart old new failed (IsPartDone s t AnyBook (with_new_use s.registration odometer minute)) (IsPartMoment s AnyBook (IsAddingUse s.registration odometer minute))
         → DoesPart old new failed (IsPartDone s t AnyBook (with_use s.registration odometer minute)) (IsPartMoment s AnyBook (IsUsing s.registration odometer minute))
     new_use_part t part =
         part_of s t AnyBook AnyBook (with_new_use s.registration odometer minute) (with_use s.registration odometer minute) (IsAddingUse s.registration odometer minute) (IsUsing s.registration odometer minute) part (λ x knows any. tt)
-        (λ x knows any. ap (λ (v : Vehicle). let c : Book = record { days = (book_of s.application x).days; vehicle = Some v } in c) (new_is (book_of s.application x).vehicle (other x knows)))
-        (λ x knows any ds now is. (is.0, ⊎_elim (λ still. inl (inl still)) (λ added. inr (added ∙ ap (λ (v : Vehicle). Some v) (new_is (book_of s.application x).vehicle (other x knows)))) is.1))
+        (λ x knows any. ap (λ (v : Vehicles). let c : Book = record { days = (book_of s.application x).days; vehicles = v } in c) (new_is (book_of s.application x).vehicles (other x knows)))
+        (λ x knows any ds now is. (
+          is.0,
+          ⊎_elim (λ still. inl (inl still))
+              (λ changed. ⊎_elim (λ room. inl (inr (inr (other x knows, room)))) (λ one. inr (one ∙ new_is (book_of s.application x).vehicles (other x knows))) changed) is.1,
+        ))
 
 -- ---- an entry
 
@@ -106,7 +113,7 @@ module _ (s : Session) (value : IsValue s) (odometer more : ℕ) (e : Entry) whe
   abbrev P : Book → Type 0
   P = IsBeforeGapOf e.minute
 
-  abbrev K : Book → List Day → Option Vehicle → Type 0
+  abbrev K : Book → List Day → Vehicles → Type 0
   K = IsKeepMoment size s.registration odometer more e
 
   abbrev f1 : Book → Book
@@ -118,16 +125,16 @@ module _ (s : Session) (value : IsValue s) (odometer more : ℕ) (e : Entry) whe
   abbrev f3 : Book → Book
   f3 b = with_more more (f2 b)
 
-  gap_moment : (b : Book) (ds : List Day) (v : Option Vehicle) → P b → IsClosingGap size e.minute b ds v → K b ds v
+  gap_moment : (b : Book) (ds : List Day) (v : Vehicles) → P b → IsClosingGap size e.minute b ds v → K b ds v
   gap_moment b ds v p is = inl (is.1, ⊎_elim (λ left. inl left) (λ done. inr (inl (inl done))) is.0)
 
-  words_moment : (b : Book) (ds : List Day) (v : Option Vehicle) → P b → IsWriting size e (f1 b) ds v → K b ds v
+  words_moment : (b : Book) (ds : List Day) (v : Vehicles) → P b → IsWriting size e (f1 b) ds v → K b ds v
   words_moment b ds v p is = inl (is.1, ⊎_elim (λ left. inr (inl left)) (λ done. inr (inr (inl done))) is.0)
 
-  km_moment : (b : Book) (ds : List Day) (v : Option Vehicle) → P b → IsTravelling more (f2 b) ds v → K b ds v
+  km_moment : (b : Book) (ds : List Day) (v : Vehicles) → P b → IsTravelling more (f2 b) ds v → K b ds v
   km_moment b ds v p is = inl (is.1, ⊎_elim (λ still. inr (inr (inl still))) (λ done. inr (inr (inr done))) is.0)
 
-  use_moment : (b : Book) (ds : List Day) (v : Option Vehicle) → P b → IsUsing s.registration odometer e.minute (f3 b) ds v → K b ds v
+  use_moment : (b : Book) (ds : List Day) (v : Vehicles) → P b → IsUsing s.registration odometer e.minute (f3 b) ds v → K b ds v
   use_moment b ds v p is = inr is
 
   pub gap_failed : {old new : State} {failed : Bool} (s1 t : Session) → DoesPart old new true (IsPartDone s s1 P f1) (IsPartMoment s P (IsClosingGap size e.minute)) → failed ≡ true
@@ -197,7 +204,7 @@ module _ (s : Session) (value : IsValue s) (odometer more : ℕ) (e : Entry) whe
         days = subst (λ (p : Application). Knows u.days y (book_of p y).days) (sym app) (subst (λ (h : Held). Knows h y (book_of t.application y).days) (sym days) knows.days);
         points = subst (λ (p : Application). PointsInside (vehicle_ring p) y) (sym app) knows.points;
         newest = subst (λ (p : Application). IsNewest (vehicle_ring p) y u.newest) (sym app) (subst (λ (o : Option ℕ). IsNewest (vehicle_ring t.application) y o) (sym newest) knows.newest);
-        vehicle = vehicle ∙ knows.vehicle ∙ ap (λ (p : Application). (book_of p y).vehicle) (sym app);
+        vehicle = vehicle ∙ knows.vehicle ∙ ap (λ (p : Application). (book_of p y).vehicles.newest) (sym app);
       }
 
   pub kept_told : {old new : State} (t u : Session) → s.minute < e.minute → more ≡ grown s.odometer odometer → t.application ≡ s.application → DoesPart old new false (IsPartDone s t P (entered size s.registration odometer more e)) (IsPartMoment s P K)

@@ -1,5 +1,5 @@
 pub mod RingOrder
-pub mod Older
+pub mod Round
 pub mod Composing
 pub mod OnCard
 pub mod Following

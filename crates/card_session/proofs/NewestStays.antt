@@ -1,15 +1,14 @@
 -- The newest minute of a card at each moment of a keep, and of a withdrawal.
-use Rattle.std.proofs.Common.{◌≡◌, inl, inr, ⊎_elim, ℕ, suc, ◌+◌, ◌-◌, ◌*◌, ◌/◌, ◌%◌, ◌<◌, ◌≤◌, max, Bool, true, false, cond, Option, Some, None, List, [], ◌∷◌, ◌++◌, length, refl, sym, ◌∙◌, ap, subst, arith}
-use Rattle.std.specs.Prelude.{◌⊎◌, nat_eq, nat_le}
+use Rattle.std.proofs.Common.{◌≡◌, inl, inr, ⊎_elim, ℕ, suc, ◌+◌, ◌-◌, ◌*◌, ◌/◌, ◌%◌, ◌<◌, ◌≤◌, max, Bool, true, false, cond, Some, List, [], ◌∷◌, ◌++◌, refl, sym, ◌∙◌, ap, subst, arith}
+use Rattle.std.specs.Prelude.{◌⊎◌, nat_le}
 use Rattle.std.proofs.lemmas.Bool.{cases_lt}
 use Rattle.std.proofs.lemmas.Bool.Decides.{nat_tests}
 use Rattle.activity_codec.specs.declared.values.Activity.{Activity}
 use Rattle.activity_codec.specs.declared.entries.Entry.{Entry}
-use Rattle.activity_codec.specs.Words.{word_minute, word_absent}
+use Rattle.activity_codec.specs.Words.{word_absent}
 use Rattle.tacho_types.specs.declared.texts.Registration.{Registration}
 use Rattle.card_layout.specs.declared.files.Application.{Application}
 use Rattle.card_layout.specs.Application.{IsApplication}
-use Rattle.card_records.specs.declared.vehicle.Vehicle.{Vehicle}
 use Rattle.card_model.specs.Days.{Day, AreDays, last_word}
 use Rattle.card_model.specs.Changes.{Remain, OnNewest, fitting, with_newest, with_word, until, cut, date_of, trimmed}
 use Rattle.card_model.proofs.Retention.{remain_fitting, remain_some}
@@ -21,20 +20,21 @@ use Rattle.card_retention.proofs.Flat.{Ends}
 use Rattle.card_retention.proofs.Moments.{kept_newest}
 use Rattle.card_retention.proofs.Newest.{at_mark}
 use Rattle.card_retention.proofs.Stops.{absent_shut}
-use Rattle.card_image.specs.Fields.{last_use_of, card_days, end_mark}
+use Rattle.card_image.specs.Fields.{card_days, end_mark}
 use Rattle.card_image.specs.View.{card_view}
-use Rattle.card_session.specs.Books.{Book, mark_of, latest_of, closing_word, with_change, gap_closed, closed_days, closed, last_used, entered_days, travelled, with_entry, vehicle_after, used_until, begun_vehicle, vehicle_counter, goes_on_in}
+use Rattle.card_session.specs.Vehicles.{Vehicles, last_use_in}
+use Rattle.card_session.specs.Books.{Book, mark_of, latest_of, closing_word, with_change, gap_closed, closed_days, closed, last_used, entered_days, travelled, with_entry}
 use Rattle.card_session.specs.Sessions.{IsOpenBook, newest_in, book_of}
-use Rattle.card_session.specs.Moments.{IsBook, IsBeforeUse, IsBeforeMark, IsKeepMoment, IsClosingWord, IsCloseMoment}
+use Rattle.card_session.specs.Moments.{IsBook, IsBeforeMark, IsKeepMoment, IsClosingWord, IsCloseMoment}
 use Rattle.card_session.specs.Cards.{IsCard}
 use Rattle.card_session.specs.Parts.{IsBeforeGapOf}
-use Rattle.card_session.proofs.Preparing.{gap_are, gap_ready, words_last, open_date, used_at, entry_last}
+use Rattle.card_session.proofs.Preparing.{gap_are, gap_ready, words_last, open_date, used_at, entry_last, use_at}
 use Rattle.card_session.proofs.Lasting.{entered_as}
 use Rattle.card_session.proofs.Alike.{Alike, alike_km, are_bare, trimmed_alike, open_alike, word_alike}
-use Rattle.card_session.proofs.Marks.{mark_told, measured_mark}
+use Rattle.card_session.proofs.Marks.{mark_told, use_before}
 use Rattle.card_session.proofs.OnMark.{begun_newest, newest_of_before}
 use Rattle.card_session.proofs.Surviving.{Survives, keep_survives_begun, closing_survives}
-use Rattle.card_session.proofs.Stopping.{book_days, mark_at, before_use, mark_moves, closing_absent}
+use Rattle.card_session.proofs.Stopping.{book_days, mark_at, before_use, mark_moves, used_whole, closing_absent}
 use Rattle.card_session.proofs.Valid.{flat_of, closing_newest}
 use Rattle.card_session.proofs.InsertingBooks.{trimmed_low}
 use Rattle.card_session.proofs.Committed.{entered_tells}
@@ -124,17 +124,6 @@ ends_on e (d ∷ f ∷ ds) tells low = ends_on e (f ∷ ds) tells low
 
 -- ---- of a book: an entry
 
-pub use_before : (registration : Registration) (odometer minute : ℕ) (old now : Option Vehicle) → IsBeforeUse registration odometer minute old now → last_use_of now ≡ last_use_of old
-use_before registration odometer minute old now moment = ⊎_elim (λ same. ap last_use_of same) (λ set. ap last_use_of set.1 ∙ measured_mark odometer old) moment
-
-pub use_at : (registration : Registration) (odometer minute : ℕ) (o : Option Vehicle) → last_use_of (Some (vehicle_after registration odometer minute o)) ≡ 60 * minute
-use_at registration odometer minute None = refl
-use_at registration odometer minute (Some v) = by (goes_on_in registration minute v)
-  where
-    by : (g : Bool) → (cond g (used_until odometer (60 * minute) v) (begun_vehicle registration odometer minute (vehicle_counter (Some v)))).last_use.0 ≡ 60 * minute
-    by true = refl
-    by false = refl
-
 module _ (size : ℕ) (long : 5544 ≤ size) (b : Book) (ordered : AreDays 0 b.days) (registration : Registration) (odometer more : ℕ) (e : Entry) (before : IsBeforeGapOf e.minute b) where
   abbrev gapped : List Day
   gapped = gap_closed size (mark_of b) e.minute b.days
@@ -151,7 +140,7 @@ module _ (size : ℕ) (long : 5544 ≤ size) (b : Book) (ordered : AreDays 0 b.d
   entered_newest : AreDays 0 (travelled more (entered_days size e gapped)) → newest_by_mark e.minute (travelled more (entered_days size e gapped)) ≡ closed_at (Some e)
   entered_newest whole =
       let tells : Tells e (entered_days size e gapped) = entered_tells size long e gapped (entered_days size e gapped) are (entered_as size e gapped are) in
-      let last = words_last size long (record { days = gapped; vehicle = b.vehicle }) are e (gap_ready size long b ordered e.minute before e refl) in
+      let last = words_last size long (record { days = gapped; vehicles = b.vehicles }) are e (gap_ready size long b ordered e.minute before e refl) in
       newest_alike e.minute (trimmed e.minute (entered_days size e gapped)) (trimmed e.minute (travelled more (entered_days size e gapped)))
       (trimmed_alike e.minute (entered_days size e gapped) (travelled more (entered_days size e gapped)) (alike_km more (entered_days size e gapped)))
       ∙ ap (newest_minute e.minute) (flat_of e.minute 0 (entered_days size e gapped) (are_bare more 0 (entered_days size e gapped) whole) last.0)
@@ -169,14 +158,14 @@ module _ (size : ℕ) (long : 5544 ≤ size) (b : Book) (ordered : AreDays 0 b.d
       omega (arith, in_)
 
   -- AT EACH MOMENT it is the one or the other
-  pub keep_newest : newest_word b.days ≤ mark_of b → (ds : List Day) (v : Option Vehicle) → AreDays 0 ds
+  pub keep_newest : newest_word b.days ≤ mark_of b → (ds : List Day) (v : Vehicles) → AreDays 0 ds
       → IsKeepMoment size registration odometer more e b ds v
-      → ((last_use_of v ≡ last_use_of b.vehicle) × (newest_by_mark (mark_of b) ds ≡ newest_by_mark (mark_of b) b.days)) ⊎ ((last_use_of v ≡ 60 * e.minute) × (newest_by_mark e.minute ds ≡ closed_at (Some e)))
-  keep_newest low ds v whole (inl old) = inl (ap last_use_of old.0, newest_stays low ds old.1)
+      → ((last_use_in v ≡ last_use_in b.vehicles) × (newest_by_mark (mark_of b) ds ≡ newest_by_mark (mark_of b) b.days)) ⊎ ((last_use_in v ≡ 60 * e.minute) × (newest_by_mark e.minute ds ≡ closed_at (Some e)))
+  keep_newest low ds v whole (inl old) = inl (ap last_use_in old.0, newest_stays low ds old.1)
   keep_newest low ds v whole (inr new) = ⊎_elim
-      (λ unused. inl (use_before registration odometer e.minute b.vehicle v unused, newest_stays low ds (inr (inr (inr new.0)))))
+      (λ unused. inl (use_before registration odometer e.minute b.vehicles v unused, newest_stays low ds (inr (inr (inr new.0)))))
       (λ used. inr (
-        ap last_use_of used ∙ use_at registration odometer e.minute b.vehicle,
+        ap last_use_in used ∙ use_at registration odometer e.minute b.vehicles,
         ap (newest_by_mark e.minute) new.0 ∙ entered_newest (subst (λ (l : List Day). AreDays 0 l) new.0 whole),
       ))
       new.1
@@ -189,9 +178,9 @@ word_drops room date (d ∷ []) kept wide are left = ⊎_elim (λ same. ap newes
 word_drops room date (d ∷ e ∷ ds) kept wide are left = ⊎_elim (λ same. ap newest_word same) (λ gone. word_drops room d.date (e ∷ ds) kept wide are.2 gone.1) left
 
 -- The newest minute stays; the last use stays or is that minute's; and no word is later than those of before and that minute.
-pub record Rewrites (b : Book) (ds : List Day) (v : Option Vehicle) : Type 0 where
-  pub newest : newest_by_mark (last_use_of v / 60) ds ≡ newest_by_mark (mark_of b) b.days
-  pub used : (last_use_of v ≡ last_use_of b.vehicle) ⊎ (last_use_of v ≡ 60 * newest_by_mark (mark_of b) b.days)
+pub record Rewrites (b : Book) (ds : List Day) (v : Vehicles) : Type 0 where
+  pub newest : newest_by_mark (last_use_in v / 60) ds ≡ newest_by_mark (mark_of b) b.days
+  pub used : (last_use_in v ≡ last_use_in b.vehicles) ⊎ (last_use_in v ≡ 60 * newest_by_mark (mark_of b) b.days)
   pub word : newest_word ds ≤ max (newest_word b.days) (newest_by_mark (mark_of b) b.days)
 
 module _ (size : ℕ) (long : 5544 ≤ size) (b : Book) (ordered : AreDays 0 b.days) (act : Activity) (may : IsOpenBook b) where
@@ -199,7 +188,7 @@ module _ (size : ℕ) (long : 5544 ≤ size) (b : Book) (ordered : AreDays 0 b.d
   w = closing_word (suc (mark_of b)) act (latest_of b.days)
 
   abbrev marked : Book
-  marked = record { days = closed_days size (mark_of b) act b.days; vehicle = last_used (60 * suc (mark_of b)) b.vehicle }
+  marked = record { days = closed_days size (mark_of b) act b.days; vehicles = last_used (60 * suc (mark_of b)) b.vehicles }
 
   changed : is_open (mark_of b) b.days ≡ true → closed_days size (mark_of b) act b.days ≡ with_change size w b.days
   changed is = ap (λ (o : Bool). cond o (with_change size w b.days) b.days) is
@@ -230,18 +219,14 @@ module _ (size : ℕ) (long : 5544 ≤ size) (b : Book) (ordered : AreDays 0 b.d
       ∙ ap (λ (o : Bool). cond o (suc (suc (mark_of b))) (max (suc (mark_of b)) (newest_word (with_change size w b.days)))) (change_shut (suc (mark_of b)) is)
       ∙ most
 
-  use_moves : is_open (mark_of b) b.days ≡ true → last_use_of (last_used (60 * suc (mark_of b)) b.vehicle) ≡ 60 * suc (mark_of b)
-  use_moves is = by b.vehicle (mark_moves b ordered is)
-    where
-      by : (o : Option Vehicle) → last_use_of (last_used (60 * suc (mark_of b)) o) / 60 ≡ suc (mark_of b) → last_use_of (last_used (60 * suc (mark_of b)) o) ≡ 60 * suc (mark_of b)
-      by (Some u) at = refl
-      by None at = absurd (omega (arith, at))
+  use_moves : is_open (mark_of b) b.days ≡ true → last_use_in (last_used (60 * suc (mark_of b)) b.vehicles) ≡ 60 * suc (mark_of b)
+  use_moves is = used_whole b.vehicles (mark_of b) (mark_moves b ordered is)
 
   -- the end mark is the old one
-  waiting : (ds : List Day) (v : Option Vehicle) → v ≡ b.vehicle → IsClosingWord size act b ds → Rewrites b ds v
+  waiting : (ds : List Day) (v : Vehicles) → v ≡ b.vehicles → IsClosingWord size act b ds → Rewrites b ds v
   waiting ds v same moment = record {
-    newest = ap (λ (o : Option Vehicle). newest_by_mark (last_use_of o / 60) ds) same ∙ newest;
-    used = inl (ap last_use_of same);
+    newest = ap (λ (o : Vehicles). newest_by_mark (last_use_in o / 60) ds) same ∙ newest;
+    used = inl (ap last_use_in same);
     word = word;
   }
     where
@@ -260,15 +245,15 @@ module _ (size : ℕ) (long : 5544 ≤ size) (b : Book) (ordered : AreDays 0 b.d
           (λ there. let is : newest_word ds ≡ suc (mark_of b) = ap newest_word (there ∙ changed rest.0) ∙ last_is rest.0 in omega (arith, is, open_newest rest.0)) rest.1) moment
 
   -- or it is the closing word's
-  moved : (ds : List Day) (v : Option Vehicle) → AreDays 0 ds → IsBook (closed size act b) ds v → Rewrites b ds v
+  moved : (ds : List Day) (v : Vehicles) → AreDays 0 ds → IsBook (closed size act b) ds v → Rewrites b ds v
   moved ds v whole book = by (is_open (mark_of b) b.days) refl book
     where
       by : (o : Bool) → is_open (mark_of b) b.days ≡ o → IsBook (cond o marked b) ds v → Rewrites b ds v
       by false is book = waiting ds v book.1 (inl book.0)
       by true is book =
           let days : ds ≡ with_change size w b.days = book.0 ∙ changed is in
-          let seconds : last_use_of v ≡ 60 * suc (mark_of b) = ap last_use_of book.1 ∙ use_moves is in
-          let mark : last_use_of v / 60 ≡ suc (mark_of b) = omega (arith, seconds) in
+          let seconds : last_use_in v ≡ 60 * suc (mark_of b) = ap last_use_in book.1 ∙ use_moves is in
+          let mark : last_use_in v / 60 ≡ suc (mark_of b) = omega (arith, seconds) in
           let word : newest_word ds ≡ suc (mark_of b) = ap newest_word days ∙ last_is is in
           record {
             newest = ap (λ (n : ℕ). newest_by_mark n ds) mark ∙ ap (newest_by_mark (suc (mark_of b))) days ∙ change_newest (subst (λ (l : List Day). AreDays 0 l) days whole) is ∙ sym (open_newest is);
@@ -276,7 +261,7 @@ module _ (size : ℕ) (long : 5544 ≤ size) (b : Book) (ordered : AreDays 0 b.d
             word = omega (arith, word, open_newest is);
           }
 
-  pub close_newest : (ds : List Day) (v : Option Vehicle) → AreDays 0 ds → IsCloseMoment size act b ds v → Rewrites b ds v
+  pub close_newest : (ds : List Day) (v : Vehicles) → AreDays 0 ds → IsCloseMoment size act b ds v → Rewrites b ds v
   close_newest ds v whole (inl old) = waiting ds v old.0 old.1
   close_newest ds v whole (inr book) = moved ds v whole book
 
@@ -335,7 +320,7 @@ module _ (app : Application) (sound : IsApplication app) (x : List ℕ) (ordered
       (λ new. ⊎_elim
       (λ unused. survives low (book_of app y).days (inr (inr (inr new.0))))
       (λ after.
-      let now : end_mark app y ≡ e.minute = mark_told app y ∙ ap (λ (o : Option Vehicle). last_use_of o / 60) after ∙ used_at registration odometer e.minute b.vehicle in
+      let now : end_mark app y ≡ e.minute = mark_told app y ∙ ap (λ (o : Vehicles). last_use_in o / 60) after ∙ used_at registration odometer e.minute b.vehicles in
       let stays : end_mark app y ≡ mark_of (book_of app x) = same ∙ mark_told app x in
       absurd (omega (arith, before.1, now, stays)))
       new.1) card.told
@@ -364,6 +349,6 @@ module _ (app : Application) (sound : IsApplication app) (x : List ℕ) (ordered
   newest_after at = ⊎_elim
       (λ old. absurd (omega (arith, before.1, at, mark_at app b y old.0)))
       (λ new. ⊎_elim
-      (λ unused. absurd (omega (arith, before.1, at, mark_told app y, before_use registration odometer e.minute b.vehicle (book_of app y).vehicle unused)))
+      (λ unused. absurd (omega (arith, before.1, at, mark_told app y, before_use registration odometer e.minute b.vehicles (book_of app y).vehicles unused)))
       (λ after. newest_at app y e.minute at ∙ ap (newest_by_mark e.minute) new.0 ∙ entered_newest app.activity sound.string_least b ordered registration odometer more e before (subst (λ (ds : List Day). AreDays 0 ds) new.0 card.holds.ordered))
       new.1) card.told

@@ -1,28 +1,25 @@
 -- What a write on the days of a card, or on its vehicle entries, leaves of the card.
-use Rattle.std.proofs.Common.{◌≡◌, inl, inr, ⊎_elim, ℕ, ◌+◌, ◌-◌, ◌<◌, ◌≤◌, List, [], ◌∷◌, ◌++◌, length, Option, Some, None, refl, sym, ◌∙◌, ap, subst, arith}
+use Rattle.std.proofs.Common.{◌≡◌, ⊎_elim, ℕ, ◌+◌, ◌-◌, ◌<◌, ◌≤◌, List, [], ◌∷◌, ◌++◌, length, Option, Some, None, option_map, refl, sym, ◌∙◌, ap, subst, arith}
 use Rattle.std.specs.Prelude.{◌⊎◌}
 use Rattle.byte_fields.proofs.Images.{part_before, part_after, outside_wider}
 use Rattle.card_layout.specs.declared.files.Application.{Application}
 use Rattle.card_layout.specs.Application.{IsApplication}
 use Rattle.card_layout.specs.Files.{files_of, image_size_of}
 use Rattle.tach_media.specs.Medium.{State, SameOutside, LiesInside, LeavesOnly, bytes_at}
-use Rattle.card_records.specs.declared.vehicle.Vehicle.{Vehicle}
-use Rattle.card_records.specs.Vehicles.{vehicle_of}
 use Rattle.card_model.specs.Days.{Day}
 use Rattle.card_model.specs.Image.{StringShape, IsStringShape, Holds}
 use Rattle.card_model.proofs.Walking.{walked}
 use Rattle.card_model.proofs.Elsewhere.{holds_elsewhere, days_elsewhere}
-use Rattle.gated_ring.specs.Ring.{Shape, IsShape, PointsInside, IsNewest, indices, entry_at, place_of, size_of as ring_size}
+use Rattle.gated_ring.specs.Ring.{Shape, IsShape, PointsInside, IsNewest, place_of, size_of as ring_size}
 use Rattle.tach_media.proofs.Ranges.{lies_part}
 use Rattle.gated_ring.proofs.Places.{place_high}
-use Rattle.gated_ring.proofs.Orders.{Each}
-use Rattle.gated_ring.proofs.Listing.{indices_below}
-use Rattle.gated_ring.proofs.Elsewhere.{points_elsewhere, indices_elsewhere, entry_elsewhere, newest_elsewhere, list_elsewhere, dense_elsewhere}
+use Rattle.gated_ring.proofs.Elsewhere.{points_elsewhere, newest_elsewhere}
 use Rattle.card_image.specs.Fields.{day_string, vehicle_ring, vehicle_at, newest_vehicle, last_of, card_days}
+use Rattle.card_records.specs.declared.vehicle.Vehicle.{Vehicle}
+use Rattle.card_session.specs.Vehicles.{Vehicles, ring_round, on_newest, renewed}
 use Rattle.card_session.specs.Sessions.{MayKeep, book_of}
 use Rattle.card_session.specs.Cards.{IsCard, days_and_vehicles}
-use Rattle.card_session.proofs.Older.{keeps_same}
-use Rattle.card_session.specs.Vehicles.{KeepsVehicles}
+use Rattle.card_session.proofs.Round.{vehicles_is, vehicles_same, round_empty}
 
 -- ---- where they lie
 
@@ -55,25 +52,27 @@ pub ring_inside : (app : Application) → (vehicle_ring app).base + ring_size (v
 unfolding files_of
 ring_inside app = omega arith
 
--- the last of some indices below a number is below it
-last_below : (n : ℕ) (js : List ℕ) → Each (λ j. j < n) js → (i : ℕ) → last_of js ≡ Some i → i < n
-last_below n [] all i is = absurd (cc)
-last_below n (j ∷ []) all i is = subst (λ (k : ℕ). k < n) (some_is j i is) all.0
-  where
-    some_is : (j i : ℕ) → Some j ≡ Some i → j ≡ i
-    some_is j i is = cc
-last_below n (j ∷ k ∷ js) all i is = last_below n (k ∷ js) all.1 i is
-
 last_is : (older : List ℕ) (i : ℕ) → last_of (older ++ i ∷ []) ≡ Some i
 last_is [] i = refl
 last_is (j ∷ []) i = refl
 last_is (j ∷ k ∷ js) i = last_is (k ∷ js) i
 
 -- the newest vehicle entry by its index
-pub newest_told : (app : Application) (x : List ℕ) (o : Option ℕ) → IsNewest (vehicle_ring app) x o → (book_of app x).vehicle ≡ vehicle_at app x o
+pub newest_told : (app : Application) (x : List ℕ) (o : Option ℕ) → IsNewest (vehicle_ring app) x o → (book_of app x).vehicles.newest ≡ vehicle_at app x o
 unfolding book_of newest_vehicle
 newest_told app x None none = ap (λ (js : List ℕ). vehicle_at app x (last_of js)) none
 newest_told app x (Some i) last = ap (λ (js : List ℕ). vehicle_at app x (last_of js)) last.indices_are ∙ ap (vehicle_at app x) (last_is last.older i)
+
+-- and all of them round the ring
+pub ring_told : (app : Application) (x : List ℕ) → (book_of app x).vehicles.ring ≡ ring_round app x
+unfolding book_of
+ring_told app x = refl
+
+-- where there is none, none changes
+pub none_renewed : (app : Application) (x : List ℕ) → PointsInside (vehicle_ring app) x → IsNewest (vehicle_ring app) x None → (f : Vehicle → Vehicle) → renewed f (book_of app x).vehicles ≡ (book_of app x).vehicles
+none_renewed app x points none f =
+    vehicles_is (renewed f (book_of app x).vehicles) (book_of app x).vehicles (ap (option_map f) (newest_told app x None none) ∙ sym (newest_told app x None none))
+    (ap (on_newest f) (ring_told app x) ∙ round_empty app x points f none ∙ sym (ring_told app x))
 
 module _ (app : Application) (sound : IsApplication app) (x : List ℕ) (fits : image_size_of app ≤ length x) where
   string_fits : (c : List ℕ) → length c ≡ length x → (day_string app).base + (4 + (day_string app).size) ≤ length c
@@ -90,15 +89,9 @@ module _ (app : Application) (sound : IsApplication app) (x : List ℕ) (fits : 
       pub ring_same : bytes_at c (vehicle_ring app).base (ring_size (vehicle_ring app)) ≡ bytes_at x (vehicle_ring app).base (ring_size (vehicle_ring app))
       ring_same = part_after (day_string app).base (4 + (day_string app).size) (vehicle_ring app).base (ring_size (vehicle_ring app)) x c outside (omega (arith, ring_behind app))
 
-      vehicle_at_same : (o : Option ℕ) → ((i : ℕ) → o ≡ Some i → i < app.vehicles) → vehicle_at app c o ≡ vehicle_at app x o
-      vehicle_at_same None below = refl
-      vehicle_at_same (Some i) below = ap (λ (l : List ℕ). Some (vehicle_of l)) (entry_elsewhere (vehicle_ring app) (ring_shape app sound) x c ring_same i (below i refl))
-
-      pub vehicle_still : (book_of app c).vehicle ≡ (book_of app x).vehicle
-      unfolding book_of newest_vehicle
-      vehicle_still =
-          ap (λ (js : List ℕ). vehicle_at app c (last_of js)) (indices_elsewhere (vehicle_ring app) (ring_shape app sound) x c ring_same known)
-          ∙ vehicle_at_same (last_of (indices (vehicle_ring app) x)) (last_below app.vehicles (indices (vehicle_ring app) x) (indices_below (vehicle_ring app) x known))
+      pub vehicles_still : (book_of app c).vehicles ≡ (book_of app x).vehicles
+      unfolding book_of
+      vehicles_still = vehicles_same app (ring_shape app sound) x c ring_same known
 
       pub points_still : PointsInside (vehicle_ring app) c
       points_still = points_elsewhere (vehicle_ring app) (ring_shape app sound) x c ring_same known
@@ -106,15 +99,14 @@ module _ (app : Application) (sound : IsApplication app) (x : List ℕ) (fits : 
       pub newest_still : (o : Option ℕ) → IsNewest (vehicle_ring app) x o → IsNewest (vehicle_ring app) c o
       newest_still o newest = newest_elsewhere (vehicle_ring app) (ring_shape app sound) x c ring_same known o newest
 
-      pub days_written : (P : List Day → Option Vehicle → Type 0) (days : List Day) → Holds (day_string app) c days → P days (book_of app x).vehicle → IsCard app P x c
+      pub days_written : (P : List Day → Vehicles → Type 0) (days : List Day) → Holds (day_string app) c days → P days (book_of app x).vehicles → IsCard app P x c
       days_written P days holds told =
           let are : (book_of app c).days ≡ days = days_told c outside.same_length days holds in
           record {
             outside = outside_wider (day_string app).base (days_and_vehicles app) (day_string app).base (4 + (day_string app).size) x c outside (omega arith) (omega arith);
             holds = subst (λ (ds : List Day). Holds (day_string app) c ds) (sym are) holds;
             points = points_still;
-            older = keeps_same app x c (list_elsewhere (vehicle_ring app) (ring_shape app sound) x c ring_same known) (dense_elsewhere (vehicle_ring app) (ring_shape app sound) x c ring_same known);
-            told = subst (λ (v : Option Vehicle). P (book_of app c).days v) (sym vehicle_still) (subst (λ (ds : List Day). P ds (book_of app x).vehicle) (sym are) told);
+            told = subst (λ (v : Vehicles). P (book_of app c).days v) (sym vehicles_still) (subst (λ (ds : List Day). P ds (book_of app x).vehicles) (sym are) told);
           }
 
     -- A WRITE ON THE VEHICLE ENTRIES
@@ -129,13 +121,12 @@ module _ (app : Application) (sound : IsApplication app) (x : List ℕ) (fits : 
       pub string_still : bytes_at c (day_string app).base (4 + (day_string app).size) ≡ bytes_at x (day_string app).base (4 + (day_string app).size)
       string_still = string_same
 
-      pub vehicles_written : (P : List Day → Option Vehicle → Type 0) → Holds (day_string app) x (book_of app x).days → PointsInside (vehicle_ring app) c → KeepsVehicles app x c → P (book_of app x).days (book_of app c).vehicle → IsCard app P x c
-      vehicles_written P holds points older told = record {
+      pub vehicles_written : (P : List Day → Vehicles → Type 0) → Holds (day_string app) x (book_of app x).days → PointsInside (vehicle_ring app) c → P (book_of app x).days (book_of app c).vehicles → IsCard app P x c
+      vehicles_written P holds points told = record {
         outside = outside_wider (day_string app).base (days_and_vehicles app) (vehicle_ring app).base (ring_size (vehicle_ring app)) x c outside (omega (arith, ring_behind app)) (omega (arith, ring_behind app));
         holds = subst (λ (ds : List Day). Holds (day_string app) c ds) (sym days_still) (holds_elsewhere (day_string app) x c string_same (book_of app x).days holds);
         points = points;
-        older = older;
-        told = subst (λ (ds : List Day). P ds (book_of app c).vehicle) (sym days_still) told;
+        told = subst (λ (ds : List Day). P ds (book_of app c).vehicles) (sym days_still) told;
       }
 
 -- ---- what may be written

@@ -6,7 +6,6 @@ use Rattle.card_layout.specs.declared.files.Application.{Application}
 use Rattle.card_layout.specs.Files.{image_size_of}
 use Rattle.tach_media.specs.Medium.{State, IsCoherent, LeavesOnly, HasCause, SameOutside}
 use Rattle.tach_media.proofs.Runs.{weaken, where_told, at_image}
-use Rattle.card_records.specs.declared.vehicle.Vehicle.{Vehicle}
 use Rattle.card_model.specs.Days.{Day, AreDays}
 use Rattle.card_model.specs.Changes.{Remain, fitting, with_newest, with_word, with_km, OnNewest, TakesWord, IsNext, new_day, date_of}
 use Rattle.card_model.specs.Image.{StringShape, Holds}
@@ -15,21 +14,22 @@ use Rattle.cyclic_days.specs.Held.{Held, Knows}
 use Rattle.cyclic_days.specs.Moments.{IfKnown, IsChanging, IsChanged, KnowsChanged, IsDayBeginning, IsDayBegun, KnowsBegun}
 use Rattle.cyclic_days.specs.Steps.{IsMeasured, IsMeasuring, KnowsMeasured}
 use Rattle.card_image.specs.Fields.{day_string, vehicle_ring}
+use Rattle.card_session.specs.Vehicles.{Vehicles}
 use Rattle.card_session.specs.Books.{Book, with_change, with_new_day, day_words}
 use Rattle.card_session.specs.Sessions.{Session, IsValue, KnowsCard, MayKeep, book_of}
 use Rattle.card_session.specs.Moments.{IsBook}
 use Rattle.card_session.specs.Cards.{IsCard}
 use Rattle.card_session.specs.Parts.{DoesPart, IsPartDone, IsPartMoment, HasSame, TakesSome, with_some, IsAdding, BeginsDay, with_day, IsBeforeDay, HasDay}
-use Rattle.card_session.proofs.OnCard.{days_told, vehicle_still, points_still, newest_still, days_written}
+use Rattle.card_session.proofs.OnCard.{days_told, vehicles_still, points_still, newest_still, days_written}
 
 -- what is kept is told, where beside the days nothing that a session keeps has changed
 knows_as : (s t : Session) (y : List ℕ) → HasSame s t → Knows t.days y (book_of s.application y).days → PointsInside (vehicle_ring s.application) y → IsNewest (vehicle_ring s.application) y s.newest
-    → s.vehicle ≡ (book_of s.application y).vehicle → KnowsCard t y
+    → s.vehicle ≡ (book_of s.application y).vehicles.newest → KnowsCard t y
 knows_as s t y same days points newest vehicle = record {
   days = subst (λ (p : Application). Knows t.days y (book_of p y).days) (sym same.application) days;
   points = subst (λ (p : Application). PointsInside (vehicle_ring p) y) (sym same.application) points;
   newest = subst (λ (p : Application). IsNewest (vehicle_ring p) y t.newest) (sym same.application) (subst (λ (o : Option ℕ). IsNewest (vehicle_ring s.application) y o) (sym same.newest) newest);
-  vehicle = same.vehicle ∙ vehicle ∙ ap (λ (p : Application). (book_of p y).vehicle) (sym same.application);
+  vehicle = same.vehicle ∙ vehicle ∙ ap (λ (p : Application). (book_of p y).vehicles.newest) (sym same.application);
 }
 
 -- what a moment of the calls holds, by lists
@@ -55,8 +55,8 @@ module _ (s t : Session) (value : IsValue s) (same : HasSame s t) (old new : Sta
   fits x was = omega (arith, card.fits, whole.sized x was)
 
   -- a moment of a call on the days, by the list that is held
-  pub written : (Q : List Day → Option Vehicle → Type 0) (x c : List ℕ) → old.image ≡ Some x → KnowsCard s x → SameOutside s.days.shape.base (4 + s.days.shape.size) x c
-      → (kept : List Day) → Holds r c kept → Q kept (book_of app x).vehicle → IsCard app Q x c
+  pub written : (Q : List Day → Vehicles → Type 0) (x c : List ℕ) → old.image ≡ Some x → KnowsCard s x → SameOutside s.days.shape.base (4 + s.days.shape.size) x c
+      → (kept : List Day) → Holds r c kept → Q kept (book_of app x).vehicles → IsCard app Q x c
   written Q x c was knows outside kept holds is =
       days_written app value.sizes x (fits x was) c knows.points (subst (λ (q : StringShape). SameOutside q.base (4 + q.size) x c) value.days outside) Q kept holds is
 
@@ -69,7 +69,7 @@ module _ (s t : Session) (value : IsValue s) (same : HasSame s t) (old new : Sta
       let are : (book_of app y).days ≡ after = days_told app value.sizes x (fits x was) y beside.same_length after holds in (
         holds,
         knows_as s t y same (subst (λ (ds : List Day). Knows t.days y ds) (sym are) told) (points_still app value.sizes x (fits x was) y knows.points beside)
-            (newest_still app value.sizes x (fits x was) y knows.points beside s.newest knows.newest) (knows.vehicle ∙ sym (vehicle_still app value.sizes x (fits x was) y knows.points beside)),
+            (newest_still app value.sizes x (fits x was) y knows.points beside s.newest knows.newest) (knows.vehicle ∙ sym (ap (λ (v : Vehicles). v.newest) (vehicles_still app value.sizes x (fits x was) y knows.points beside))),
       )
 
   abbrev size : ℕ
@@ -146,10 +146,10 @@ module _ (s t : Session) (value : IsValue s) (same : HasSame s t) (old new : Sta
   module _ (km : ℕ) where
     -- the days so measured
     abbrev with_distance : Book → Book
-    with_distance b = record { days = with_newest (with_km km) b.days; vehicle = b.vehicle }
+    with_distance b = record { days = with_newest (with_km km) b.days; vehicles = b.vehicles }
 
-    abbrev IsSetting : Book → List Day → Option Vehicle → Type 0
-    IsSetting b days vehicle = ((days ≡ b.days) ⊎ (days ≡ with_newest (with_km km) b.days)) × (vehicle ≡ b.vehicle)
+    abbrev IsSetting : Book → List Day → Vehicles → Type 0
+    IsSetting b days vehicles = ((days ≡ b.days) ⊎ (days ≡ with_newest (with_km km) b.days)) × (vehicles ≡ b.vehicles)
 
     pub distance_part : t.days.shape ≡ s.days.shape
         → (failed ≡ false → IfSome old.image (λ x. IfSome new.image (IfKnown s.days (IsMeasured s.days.shape km) x)))

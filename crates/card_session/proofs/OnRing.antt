@@ -1,5 +1,5 @@
 -- What the calls on the vehicle entries make of a card that a session knows.
-use Rattle.std.proofs.Common.{◌≡◌, ◌≢◌, inl, inr, ⊎_elim, ℕ, ◌+◌, ◌*◌, ◌^◌, ◌<◌, ◌≤◌, Bool, true, false, cond, List, [], ◌∷◌, ◌++◌, length, length-drop, drop, Option, Some, None, option_map, IfSome, refl, sym, ◌∙◌, ap, subst, arith}
+use Rattle.std.proofs.Common.{◌≡◌, ◌≢◌, inl, inr, ⊎_elim, ℕ, ◌+◌, ◌*◌, ◌^◌, ◌<◌, ◌≤◌, Bool, false, List, [], ◌∷◌, ◌++◌, length, length-drop, drop, Option, Some, None, option_map, IfSome, refl, sym, ◌∙◌, ap, subst, arith}
 use Rattle.std.specs.Prelude.{◌⊎◌}
 use Rattle.std.proofs.lemmas.List.{append-nil, length-take-le}
 use Rattle.byte_fields.specs.Fields.{field_at}
@@ -12,30 +12,29 @@ use Rattle.tach_media.specs.Medium.{State, IsCoherent, LeavesOnly, HasCause, Sam
 use Rattle.tach_media.proofs.Runs.{weaken, where_told, at_image}
 use Rattle.tacho_types.specs.declared.numbers.Odometer.{Odometer}
 use Rattle.tacho_types.specs.declared.numbers.TimeReal.{TimeReal}
-use Rattle.tacho_types.specs.declared.texts.Registration.{Registration}
 use Rattle.tacho_types.specs.Numbers.{time_bytes, time_of, odometer_bytes, odometer_of}
 use Rattle.card_records.specs.declared.vehicle.Vehicle.{Vehicle}
 use Rattle.card_records.specs.Vehicles.{vehicle_of, vehicle_bytes, vehicle_widths}
 use Rattle.card_model.specs.Days.{Day}
 use Rattle.card_model.specs.Image.{StringShape, Holds}
 use Rattle.card_records.proofs.Changes.{vehicle_gate}
-use Rattle.gated_ring.specs.Ring.{number_at, gate_number, Shape, PointsInside, IsNewest, IsLast, entry_at, taken, with_head, place_of, size_of as ring_size}
-use Rattle.gated_ring.specs.Change.{IsSet, OrUnwritten, IsAdding, IsAdded, IsAddStep, SameOthers}
+use Rattle.gated_ring.specs.Ring.{number_at, gate_number, Shape, PointsInside, IsNewest, entry_at, taken, with_head, place_of, size_of as ring_size}
+use Rattle.gated_ring.specs.Change.{IsSet, IsShortened, IsExtended, OrUnwritten, IsAdding, IsAdded, IsAddStep, SameOthers}
 use Rattle.gated_ring.proofs.Listing.{taken_below}
 use Rattle.gated_ring.proofs.NewestMoments.{newest_set, newest_added, newest_stays, newest_bytes}
 use Rattle.gated_ring.proofs.Places.{place_high}
 use Rattle.gated_ring.proofs.Dense.{drop_all}
 use Rattle.cyclic_days.specs.Held.{Held, Knows}
 use Rattle.cyclic_days.proofs.Elsewhere.{knows_elsewhere}
-use Rattle.card_image.specs.Fields.{day_string, vehicle_ring, vehicle_at}
+use Rattle.card_image.specs.Fields.{day_string, vehicle_ring}
+use Rattle.card_session.specs.Vehicles.{Vehicles, ring_round, on_newest, renewed, behind_first, with_vehicle, with_room}
 use Rattle.card_session.specs.Books.{Book, measured, used}
 use Rattle.card_session.specs.Sessions.{Session, IsValue, KnowsCard, MayKeep, book_of}
 use Rattle.card_session.specs.Moments.{IsBook}
 use Rattle.card_session.specs.Cards.{IsCard}
 use Rattle.card_session.specs.Parts.{DoesPart, IsPartDone, IsPartMoment, AnyBook, SameButVehicle}
-use Rattle.card_session.proofs.OnCard.{newest_told, days_still, string_still, vehicles_written, ring_inside, ring_shape}
-use Rattle.card_session.proofs.Older.{keeps_still, keeps_set, keeps_extended, keeps_step}
-use Rattle.card_session.specs.Vehicles.{StaysInUse, IsFresh, KeepsVehicles}
+use Rattle.card_session.proofs.OnCard.{newest_told, ring_told, days_still, string_still, vehicles_written, ring_inside}
+use Rattle.card_session.proofs.Round.{vehicles_is, round_set, round_extended, round_freed}
 
 -- ---- fields of a vehicle entry that are written
 
@@ -92,12 +91,12 @@ part_length x p n inside = length-take-le n (drop p x) (omega (arith, inside, le
 -- ---- the calls
 
 knows_as : (s t : Session) (y : List ℕ) → SameButVehicle s t → Knows s.days y (book_of s.application y).days → PointsInside (vehicle_ring s.application) y → IsNewest (vehicle_ring s.application) y t.newest
-    → t.vehicle ≡ (book_of s.application y).vehicle → KnowsCard t y
+    → t.vehicle ≡ (book_of s.application y).vehicles.newest → KnowsCard t y
 knows_as s t y same days points newest vehicle = record {
   days = subst (λ (p : Application). Knows t.days y (book_of p y).days) (sym same.application) (subst (λ (h : Held). Knows h y (book_of s.application y).days) (sym same.days) days);
   points = subst (λ (p : Application). PointsInside (vehicle_ring p) y) (sym same.application) points;
   newest = subst (λ (p : Application). IsNewest (vehicle_ring p) y t.newest) (sym same.application) newest;
-  vehicle = vehicle ∙ ap (λ (p : Application). (book_of p y).vehicle) (sym same.application);
+  vehicle = vehicle ∙ ap (λ (p : Application). (book_of p y).vehicles.newest) (sym same.application);
 }
 
 module _ (s t : Session) (value : IsValue s) (same : SameButVehicle s t) (old new : State) (failed : Bool) (card : MayKeep s.application old) (whole : IsCoherent old) where
@@ -111,7 +110,7 @@ module _ (s t : Session) (value : IsValue s) (same : SameButVehicle s t) (old ne
   fits x was = omega (arith, card.fits, whole.sized x was)
 
   -- after a write on the entries
-  known : (x y : List ℕ) → old.image ≡ Some x → KnowsCard s x → SameOutside ring.base (ring_size ring) x y → PointsInside ring y → IsNewest ring y t.newest → t.vehicle ≡ (book_of app y).vehicle → KnowsCard t y
+  known : (x y : List ℕ) → old.image ≡ Some x → KnowsCard s x → SameOutside ring.base (ring_size ring) x y → PointsInside ring y → IsNewest ring y t.newest → t.vehicle ≡ (book_of app y).vehicles.newest → KnowsCard t y
   known x y was knows outside points newest vehicle =
       let days : Knows s.days y (book_of app x).days = knows_elsewhere s.days x y (subst (λ (q : StringShape). bytes_at y q.base (4 + q.size) ≡ bytes_at x q.base (4 + q.size)) (sym value.days) (string_still app value.sizes x (fits x was) y outside)) (book_of app x).days knows.days in
       knows_as s t y same (subst (λ (ds : List Day). Knows s.days y ds) (sym (days_still app value.sizes x (fits x was) y outside)) days) points newest vehicle
@@ -121,12 +120,12 @@ module _ (s t : Session) (value : IsValue s) (same : SameButVehicle s t) (old ne
 
   -- SET A FIELD of the newest vehicle entry
   module _ (i offset : ℕ) (bytes : List ℕ) (u : Vehicle → Vehicle) (here : s.newest ≡ Some i) (still : t.newest ≡ s.newest) (vehicle : t.vehicle ≡ option_map u s.vehicle)
-      (makes : (e : List ℕ) → length e ≡ 31 → vehicle_of (put offset bytes e) ≡ u (vehicle_of e)) (stays : (v : Vehicle) → StaysInUse v (u v)) where
+      (makes : (e : List ℕ) → length e ≡ 31 → vehicle_of (put offset bytes e) ≡ u (vehicle_of e)) where
     abbrev with_field : Book → Book
-    with_field b = record { days = b.days; vehicle = option_map u b.vehicle }
+    with_field b = record { days = b.days; vehicles = renewed u b.vehicles }
 
-    abbrev IsSettingField : Book → List Day → Option Vehicle → Type 0
-    IsSettingField b days now = (days ≡ b.days) × ((now ≡ b.vehicle) ⊎ (now ≡ option_map u b.vehicle))
+    abbrev IsSettingField : Book → List Day → Vehicles → Type 0
+    IsSettingField b days now = (days ≡ b.days) × ((now ≡ b.vehicles) ⊎ (now ≡ renewed u b.vehicles))
 
     newest_at : (x : List ℕ) → KnowsCard s x → IsNewest ring x (Some i)
     newest_at x knows = subst (λ (o : Option ℕ). IsNewest ring x o) here knows.newest
@@ -134,38 +133,39 @@ module _ (s t : Session) (value : IsValue s) (same : SameButVehicle s t) (old ne
     set_outside : (x y : List ℕ) → KnowsCard s x → IsSet ring i offset bytes x y → SameOutside ring.base (ring_size ring) x y
     set_outside x y knows is = outside_wider ring.base (ring_size ring) (place_of ring i) ring.width x y is.outside (omega arith) (omega (arith, place_high ring i (newest_at x knows).below))
 
-    set_vehicle : (x y : List ℕ) → old.image ≡ Some x → KnowsCard s x → IsSet ring i offset bytes x y → (book_of app y).vehicle ≡ option_map u (book_of app x).vehicle
-    set_vehicle x y was knows is =
+    set_makes : (x : List ℕ) → old.image ≡ Some x → KnowsCard s x → vehicle_of (put offset bytes (entry_at ring x i)) ≡ u (vehicle_of (entry_at ring x i))
+    set_makes x was knows = makes (entry_at ring x i) (part_length x (place_of ring i) 31 (omega (arith, fits x was, ring_inside app, place_high ring i (newest_at x knows).below)))
+
+    set_newest : (x y : List ℕ) → old.image ≡ Some x → KnowsCard s x → IsSet ring i offset bytes x y → (book_of app y).vehicles.newest ≡ option_map u (book_of app x).vehicles.newest
+    set_newest x y was knows is =
         let newest = newest_at x knows in
-        let len : length (entry_at ring x i) ≡ 31 = part_length x (place_of ring i) 31 (omega (arith, fits x was, ring_inside app, place_high ring i newest.below)) in
         newest_told app y (Some i) (newest_set ring i offset bytes x y knows.points is (Some i) newest)
         ∙ ap (λ (l : List ℕ). Some (vehicle_of l)) is.entry
-        ∙ ap (λ (v : Vehicle). Some v) (makes (entry_at ring x i) len)
+        ∙ ap (λ (v : Vehicle). Some v) (set_makes x was knows)
         ∙ ap (option_map u) (sym (newest_told app x (Some i) newest))
+
+    set_vehicles : (x y : List ℕ) → old.image ≡ Some x → KnowsCard s x → IsSet ring i offset bytes x y → (book_of app y).vehicles ≡ renewed u (book_of app x).vehicles
+    set_vehicles x y was knows is =
+        vehicles_is (book_of app y).vehicles (renewed u (book_of app x).vehicles) (set_newest x y was knows is)
+        (ring_told app y ∙ round_set app x knows.points y i offset bytes (newest_at x knows) is u (set_makes x was knows) ∙ ap (on_newest u) (sym (ring_told app x)))
 
     set_points : (x y : List ℕ) → KnowsCard s x → IsSet ring i offset bytes x y → PointsInside ring y
     set_points x y knows is = subst (λ (n : ℕ). n < ring.count) (sym is.pointer_is) knows.points
-
-    set_older : (x y : List ℕ) → old.image ≡ Some x → KnowsCard s x → IsSet ring i offset bytes x y → KeepsVehicles app x y
-    set_older x y was knows is =
-        let newest = newest_at x knows in
-        let len : length (entry_at ring x i) ≡ 31 = part_length x (place_of ring i) 31 (omega (arith, fits x was, ring_inside app, place_high ring i newest.below)) in
-        keeps_set app x y i offset bytes knows.points newest is (subst (λ (w : Vehicle). StaysInUse (vehicle_of (entry_at ring x i)) w) (sym (makes (entry_at ring x i) len)) (stays (vehicle_of (entry_at ring x i))))
 
     pub set_part : (failed ≡ false → IfSome old.image (λ x. IfSome new.image (IsSet ring i offset bytes x))) → LeavesOnly old new (OrUnwritten (IsSet ring i offset bytes)) → HasCause old new failed
         → DoesPart old new failed (IsPartDone s t AnyBook with_field) (IsPartMoment s AnyBook IsSettingField)
     set_part set moments cause = record {
       done = λ fine. where_told old.image new.image _ (λ x y was is knows any.
-          let one = at_image (λ y. IsSet ring i offset bytes x y) is (at_image (λ x. IfSome new.image (IsSet ring i offset bytes x)) was (set fine)) in
-          let now = set_vehicle x y was knows one in (
-            vehicles_written app value.sizes x (fits x was) y (set_outside x y knows one) (IsBook (with_field (book_of app x))) (holds_at x knows) (set_points x y knows one) (set_older x y was knows one) (refl, now),
-            known x y was knows (set_outside x y knows one) (set_points x y knows one) (subst (λ (o : Option ℕ). IsNewest ring y o) (sym still) (newest_set ring i offset bytes x y knows.points one s.newest knows.newest)) (vehicle ∙ ap (option_map u) knows.vehicle ∙ sym now),
+          let one = at_image (λ y. IsSet ring i offset bytes x y) is (at_image (λ x. IfSome new.image (IsSet ring i offset bytes x)) was (set fine)) in (
+            vehicles_written app value.sizes x (fits x was) y (set_outside x y knows one) (IsBook (with_field (book_of app x))) (holds_at x knows) (set_points x y knows one) (refl, set_vehicles x y was knows one),
+            known x y was knows (set_outside x y knows one) (set_points x y knows one) (subst (λ (o : Option ℕ). IsNewest ring y o) (sym still) (newest_set ring i offset bytes x y knows.points one s.newest knows.newest))
+                (vehicle ∙ ap (option_map u) knows.vehicle ∙ sym (set_newest x y was knows one)),
           ));
       leaves = weaken moments (λ x c was is knows any.
           ⊎_elim
           (λ unwritten. subst (λ (l : List ℕ). IsCard app (IsSettingField (book_of app x)) x l) (sym unwritten)
-          (vehicles_written app value.sizes x (fits x was) x (outside_same ring.base (ring_size ring) x) (IsSettingField (book_of app x)) (holds_at x knows) knows.points (keeps_still app x) (refl, inl refl)))
-          (λ set. vehicles_written app value.sizes x (fits x was) c (set_outside x c knows set) (IsSettingField (book_of app x)) (holds_at x knows) (set_points x c knows set) (set_older x c was knows set) (refl, inr (set_vehicle x c was knows set)))
+          (vehicles_written app value.sizes x (fits x was) x (outside_same ring.base (ring_size ring) x) (IsSettingField (book_of app x)) (holds_at x knows) knows.points (refl, inl refl)))
+          (λ set. vehicles_written app value.sizes x (fits x was) c (set_outside x c knows set) (IsSettingField (book_of app x)) (holds_at x knows) (set_points x c knows set) (refl, inr (set_vehicles x c was knows set)))
           is);
       cause = inl cause;
     }
@@ -177,12 +177,12 @@ module _ (s t : Session) (value : IsValue s) (same : SameButVehicle s t) (old ne
         set_part (subst (λ (k : Shape). failed ≡ false → IfSome old.image (λ x. IfSome new.image (IsSet k i offset bytes x))) is set) (subst (λ (k : Shape). LeavesOnly old new (OrUnwritten (IsSet k i offset bytes))) is moments) cause
 
   -- A NEW ENTRY
-  module _ (index : ℕ) (v : Vehicle) (head : List ℕ) (len : length head ≡ 31) (spelled : vehicle_of head ≡ v) (begins : IsFresh v) (now : t.vehicle ≡ Some v) where
+  module _ (index : ℕ) (v : Vehicle) (head : List ℕ) (len : length head ≡ 31) (spelled : vehicle_of head ≡ v) (now : t.vehicle ≡ Some v) where
     abbrev with_new : Book → Book
-    with_new b = record { days = b.days; vehicle = Some v }
+    with_new b = record { days = b.days; vehicles = with_vehicle v b.vehicles }
 
-    abbrev IsAddingNew : Book → List Day → Option Vehicle → Type 0
-    IsAddingNew b days vehicle = (days ≡ b.days) × ((vehicle ≡ b.vehicle) ⊎ (vehicle ≡ Some v))
+    abbrev IsAddingNew : Book → List Day → Vehicles → Type 0
+    IsAddingNew b days vehicles = (days ≡ b.days) × ((vehicles ≡ b.vehicles) ⊎ ((vehicles ≡ with_room b.vehicles) ⊎ (vehicles ≡ with_vehicle v b.vehicles)))
 
     two : 2 ≤ ring.count
     two = omega (arith, value.sizes.vehicles_least)
@@ -194,27 +194,36 @@ module _ (s t : Session) (value : IsValue s) (same : SameButVehicle s t) (old ne
         let none : drop (length head) (entry_at ring x (taken ring x)) ≡ [] = drop_all (length head) (entry_at ring x (taken ring x)) (omega (arith, len, part_length x (place_of ring (taken ring x)) 31 (omega (arith, fits x was, ring_inside app, place_high ring (taken ring x) below)))) in
         ap (λ (l : List ℕ). head ++ l) none ∙ append-nil head
 
-    fresh_at : (x : List ℕ) → old.image ≡ Some x → PointsInside ring x → IsFresh (vehicle_of (with_head ring x (taken ring x) head))
-    fresh_at x was points = subst IsFresh (sym (ap vehicle_of (head_whole x was points) ∙ spelled)) begins
-
-    new_vehicle : (x y : List ℕ) → old.image ≡ Some x → PointsInside ring x → IsNewest ring y (Some (taken ring x)) → entry_at ring y (taken ring x) ≡ with_head ring x (taken ring x) head → (book_of app y).vehicle ≡ Some v
-    new_vehicle x y was points newest entry =
+    new_newest : (x y : List ℕ) → old.image ≡ Some x → PointsInside ring x → IsNewest ring y (Some (taken ring x)) → entry_at ring y (taken ring x) ≡ with_head ring x (taken ring x) head → (book_of app y).vehicles.newest ≡ Some v
+    new_newest x y was points newest entry =
         newest_told app y (Some (taken ring x)) newest
         ∙ ap (λ (l : List ℕ). Some (vehicle_of l)) (entry ∙ head_whole x was points)
         ∙ ap (λ (w : Vehicle). Some w) spelled
 
-    old_vehicle : (x c : List ℕ) → KnowsCard s x → (o : Option ℕ) → s.newest ≡ o → IsNewest ring c o → ((i : ℕ) → o ≡ Some i → entry_at ring c i ≡ entry_at ring x i) → (book_of app c).vehicle ≡ (book_of app x).vehicle
-    old_vehicle x c knows None is newest same_entry = newest_told app c None newest ∙ sym (newest_told app x None (subst (λ (o : Option ℕ). IsNewest ring x o) is knows.newest))
-    old_vehicle x c knows (Some i) is newest same_entry =
+    new_vehicles : (x y : List ℕ) → old.image ≡ Some x → PointsInside ring x → SameOthers ring (taken ring x) x y → IsExtended ring head x y → (book_of app y).vehicles ≡ with_vehicle v (book_of app x).vehicles
+    new_vehicles x y was points others long =
+        vehicles_is (book_of app y).vehicles (with_vehicle v (book_of app x).vehicles) (new_newest x y was points (newest_added ring head x y points long) long.entry)
+        (ring_told app y ∙ round_extended app x points y others head long
+        ∙ ap (λ (w : Vehicle). behind_first (ring_round app x) ++ Some w ∷ []) (ap vehicle_of (head_whole x was points) ∙ spelled)
+        ∙ ap (λ (l : List (Option Vehicle)). behind_first l ++ Some v ∷ []) (sym (ring_told app x)))
+
+    old_newest : (x c : List ℕ) → KnowsCard s x → (o : Option ℕ) → s.newest ≡ o → IsNewest ring c o → ((i : ℕ) → o ≡ Some i → entry_at ring c i ≡ entry_at ring x i) → (book_of app c).vehicles.newest ≡ (book_of app x).vehicles.newest
+    old_newest x c knows None is newest same_entry = newest_told app c None newest ∙ sym (newest_told app x None (subst (λ (o : Option ℕ). IsNewest ring x o) is knows.newest))
+    old_newest x c knows (Some i) is newest same_entry =
         newest_told app c (Some i) newest ∙ ap (λ (l : List ℕ). Some (vehicle_of l)) (same_entry i refl) ∙ sym (newest_told app x (Some i) (subst (λ (o : Option ℕ). IsNewest ring x o) is knows.newest))
 
-    at_step : (x c : List ℕ) → old.image ≡ Some x → KnowsCard s x → IsAddStep ring head x c → ((book_of app c).vehicle ≡ (book_of app x).vehicle) ⊎ ((book_of app c).vehicle ≡ Some v)
+    freed_vehicles : (x c : List ℕ) → KnowsCard s x → IsAddStep ring head x c → IsShortened ring x c → (book_of app c).vehicles ≡ with_room (book_of app x).vehicles
+    freed_vehicles x c knows step short =
+        vehicles_is (book_of app c).vehicles (with_room (book_of app x).vehicles)
+        (old_newest x c knows s.newest refl (newest_stays ring two x knows.points c short.indices_are step.others s.newest knows.newest)
+        (λ i is. newest_bytes ring two x knows.points c short.indices_are step.others i (subst (λ (o : Option ℕ). IsNewest ring x o) is knows.newest)))
+        (ring_told app c ∙ round_freed app x knows.points c step.others two short.shut step.pointer_is ∙ ap (λ (l : List (Option Vehicle)). None ∷ behind_first l) (sym (ring_told app x)))
+
+    at_step : (x c : List ℕ) → old.image ≡ Some x → KnowsCard s x → IsAddStep ring head x c
+        → ((book_of app c).vehicles ≡ (book_of app x).vehicles) ⊎ (((book_of app c).vehicles ≡ with_room (book_of app x).vehicles) ⊎ ((book_of app c).vehicles ≡ with_vehicle v (book_of app x).vehicles))
     at_step x c was knows step =
-        ⊎_elim (λ unwritten. inl (ap (λ (l : List ℕ). (book_of app l).vehicle) unwritten))
-        (λ changed. ⊎_elim
-        (λ short. inl (old_vehicle x c knows s.newest refl (newest_stays ring two x knows.points c short.indices_are step.others s.newest knows.newest)
-        (λ i is. newest_bytes ring two x knows.points c short.indices_are step.others i (subst (λ (o : Option ℕ). IsNewest ring x o) is knows.newest))))
-        (λ long. inr (new_vehicle x c was knows.points (newest_added ring head x c knows.points long) long.entry)) changed)
+        ⊎_elim (λ unwritten. inl (ap (λ (l : List ℕ). (book_of app l).vehicles) unwritten))
+        (λ changed. inr (⊎_elim (λ short. inl (freed_vehicles x c knows step short)) (λ long. inr (new_vehicles x c was knows.points step.others long)) changed))
         step.list
 
     pub new_part : (failed ≡ false → t.newest ≡ Some index) → (failed ≡ false → IfSome old.image (λ x. PointsInside ring x → index ≡ taken ring x))
@@ -225,13 +234,14 @@ module _ (s t : Session) (value : IsValue s) (same : SameButVehicle s t) (old ne
           let one = at_image (λ y. IsAdded ring head x y) is (at_image (λ x. IfSome new.image (IsAdded ring head x)) was (added fine)) in
           let at : index ≡ taken ring x = at_image (λ x. PointsInside ring x → index ≡ taken ring x) was (placed fine) knows.points in
           let last : IsNewest ring y (Some (taken ring x)) = newest_added ring head x y knows.points (one.list knows.points) in
-          let vehicle = new_vehicle x y was knows.points last (one.list knows.points).entry in (
-            vehicles_written app value.sizes x (fits x was) y one.outside (IsBook (with_new (book_of app x))) (holds_at x knows) (one.points knows.points) (keeps_extended app x y knows.points head (one.list knows.points) (one.dense knows.points) (fresh_at x was knows.points)) (refl, vehicle),
-            known x y was knows one.outside (one.points knows.points) (subst (λ (o : Option ℕ). IsNewest ring y o) (sym (newest fine ∙ ap (λ (n : ℕ). Some n) at)) last) (now ∙ sym vehicle),
+          let vehicles = new_vehicles x y was knows.points (one.others knows.points) (one.list knows.points) in (
+            vehicles_written app value.sizes x (fits x was) y one.outside (IsBook (with_new (book_of app x))) (holds_at x knows) (one.points knows.points) (refl, vehicles),
+            known x y was knows one.outside (one.points knows.points) (subst (λ (o : Option ℕ). IsNewest ring y o) (sym (newest fine ∙ ap (λ (n : ℕ). Some n) at)) last)
+                (now ∙ sym (new_newest x y was knows.points last (one.list knows.points).entry)),
           ));
       leaves = weaken moments (λ x c was is knows any.
           let step = is.step knows.points in
-          vehicles_written app value.sizes x (fits x was) c is.outside (IsAddingNew (book_of app x)) (holds_at x knows) step.points (keeps_step app x c knows.points head step (fresh_at x was knows.points)) (refl, at_step x c was knows step));
+          vehicles_written app value.sizes x (fits x was) c is.outside (IsAddingNew (book_of app x)) (holds_at x knows) step.points (refl, at_step x c was knows step));
       cause = inl cause;
     }
 

@@ -1,26 +1,25 @@
 -- What a part of a keep asks of a book, once the part before it is done, and what an entry leaves.
-use Rattle.std.proofs.Common.{◌≡◌, ◌≢◌, ℕ, suc, ◌+◌, ◌-◌, ◌*◌, ◌/◌, ◌%◌, ◌<◌, ◌≤◌, max, Bool, true, false, cond, not, Option, Some, None, List, [], ◌∷◌, ◌++◌, length, refl, sym, ◌∙◌, ap, subst, inl, inr, ⊎_elim, arith}
+use Rattle.std.proofs.Common.{◌≡◌, ◌≢◌, ℕ, suc, ◌+◌, ◌-◌, ◌*◌, ◌/◌, ◌%◌, ◌<◌, ◌≤◌, Bool, true, false, cond, not, Option, Some, None, List, [], ◌∷◌, ◌++◌, length, refl, sym, ◌∙◌, ap, subst, inl, inr, ⊎_elim, arith, option_map}
 use Rattle.std.specs.Prelude.{nat_eq, nat_lt, ◌&&◌, ◌⊎◌}
-use Rattle.std.proofs.lemmas.Bool.{eqb-true, and_parts, not-true, ltb-true}
-use Rattle.activity_codec.specs.declared.values.Activity.{Activity}
+use Rattle.std.proofs.lemmas.Bool.{eqb-true, and_parts, ltb-true}
 use Rattle.activity_codec.specs.declared.values.Activity.TheVariants.{Rest}
 use Rattle.activity_codec.specs.declared.entries.Entry.{Entry}
 use Rattle.activity_codec.specs.Words.{word_minute, word_absent}
-use Rattle.card_records.specs.declared.vehicle.Vehicle.{Vehicle}
 use Rattle.tacho_types.specs.declared.texts.Registration.{Registration}
-use Rattle.card_image.specs.Fields.{last_use_of}
 use Rattle.card_model.specs.Days.{Day, AreDays, last_word}
-use Rattle.card_model.specs.Changes.{OnNewest, TakesWord, Remain, fitting, with_newest, with_word, with_km, new_day, date_of, AreStrict, IsNext}
+use Rattle.card_model.specs.Changes.{OnNewest, TakesWord, Remain, fitting, with_newest, with_word, new_day, date_of, AreStrict}
 use Rattle.card_model.proofs.Retention.{remain_some, remain_fitting}
 use Rattle.card_retention.specs.Expected.{is_newest}
-use Rattle.card_retention.specs.Shown.{sizes, is_open, with_closing}
+use Rattle.card_retention.specs.Shown.{sizes, is_open}
 use Rattle.card_retention.specs.Entries.{EndsBy, newest_word}
 use Rattle.card_retention.proofs.Entering.{last_append, date_newest}
 use Rattle.card_retention.proofs.Stops.{are_left}
 use Rattle.cyclic_days.proofs.Lists.{longer_day}
-use Rattle.card_session.specs.Books.{Book, mark_of, latest_of, closing_word, with_change, gap_closed, entry_word, bare_word, day_words, tells_state, entered_days, with_new_day, km_after, travelled, goes_on_in, used_until, begun_vehicle, vehicle_counter, vehicle_after}
+use Rattle.card_records.specs.declared.vehicle.Vehicle.{Vehicle}
+use Rattle.card_session.specs.Vehicles.{Vehicles, with_vehicle, on_newest, last_use_in}
+use Rattle.card_session.specs.Books.{Book, mark_of, latest_of, closing_word, with_change, entry_word, bare_word, day_words, tells_state, entered_days, with_new_day, travelled, goes_on_in, used_until, begun_vehicle, vehicle_counter, vehicles_with, goes_on_with}
 use Rattle.card_session.specs.Sessions.{EndsStrictly, IsOpenBook, newest_in}
-use Rattle.card_session.specs.Moments.{IsBeforeGap, IsBeforeWords, entry_len, is_told}
+use Rattle.card_session.specs.Moments.{IsBeforeGap, entry_len, is_told}
 use Rattle.card_session.specs.Parts.{TakesSome, with_some, IsAdding, IsBeforeGapOf, with_gap_closed, IsClosingGap, IsBeforeEntry, with_entry_words, IsWriting, BeginsDay, with_day, IsBeforeDay, HasDay, entered}
 use Rattle.card_session.proofs.Composing.{book_is}
 use Rattle.card_session.proofs.Following.{closing_minute, entry_minute, takes_closing, takes_entry, begins_day, words_strict}
@@ -118,15 +117,15 @@ module _ (size : ℕ) (long : 5544 ≤ size) where
     pub gap_makes : (word : Option ℕ) → word ≡ cond gap (Some closing) None → with_some size word b ≡ with_gap_closed size minute b
     gap_makes word is = ap (λ (o : Option ℕ). with_some size o b) is ∙ by gap
       where
-        by : (g : Bool) → with_some size (cond g (Some closing) None) b ≡ (let c : Book = record { days = cond g (with_newest (with_word closing) (fitting (size - 2) b.days)) b.days; vehicle = b.vehicle } in c)
+        by : (g : Bool) → with_some size (cond g (Some closing) None) b ≡ (let c : Book = record { days = cond g (with_newest (with_word closing) (fitting (size - 2) b.days)) b.days; vehicles = b.vehicles } in c)
         by true = refl
-        by false = sym (book_is b b.days b.vehicle refl refl)
+        by false = sym (book_is b b.days b.vehicles refl refl)
 
-    pub gap_moments : (word : Option ℕ) → word ≡ cond gap (Some closing) None → (ds : List Day) (v : Option Vehicle) → IsAdding size word b ds v → IsClosingGap size minute b ds v
+    pub gap_moments : (word : Option ℕ) → word ≡ cond gap (Some closing) None → (ds : List Day) (v : Vehicles) → IsAdding size word b ds v → IsClosingGap size minute b ds v
     gap_moments word is ds v adding = by gap refl (subst (λ (o : Option ℕ). IsAdding size o b ds v) is adding)
       where
         by : (g : Bool) → gap ≡ g → IsAdding size (cond g (Some closing) None) b ds v
-            → (IsBeforeGap size (mark_of b) minute b.days ds ⊎ (ds ≡ cond g (with_newest (with_word closing) (fitting (size - 2) b.days)) b.days)) × (v ≡ b.vehicle)
+            → (IsBeforeGap size (mark_of b) minute b.days ds ⊎ (ds ≡ cond g (with_newest (with_word closing) (fitting (size - 2) b.days)) b.days)) × (v ≡ b.vehicles)
         by true is adding =
             let both = and_parts (is_open (mark_of b) b.days) (nat_lt (suc (mark_of b)) minute) is in
             (⊎_elim (λ left. inl (inr (both.0, ltb-true (suc (mark_of b)) minute both.1, left))) (λ done. inr done) adding.0, adding.1)
@@ -170,13 +169,13 @@ module _ (size : ℕ) (long : 5544 ≤ size) where
       in_newest = ap (λ (n : Bool). cond n (cond (tells_state e b.days) b.days (with_change size (entry_word e) b.days)) (with_new_day size e b.days)) newest
 
       pub change_makes : (word : Option ℕ) → word ≡ cond (tells_state e b.days) None (Some (entry_word e)) → with_some size word b ≡ with_entry_words size e b
-      change_makes word is = ap (λ (o : Option ℕ). with_some size o b) is ∙ by (tells_state e b.days) ∙ ap (λ (l : List Day). let c : Book = record { days = l; vehicle = b.vehicle } in c) (sym in_newest)
+      change_makes word is = ap (λ (o : Option ℕ). with_some size o b) is ∙ by (tells_state e b.days) ∙ ap (λ (l : List Day). let c : Book = record { days = l; vehicles = b.vehicles } in c) (sym in_newest)
         where
-          by : (t : Bool) → with_some size (cond t None (Some (entry_word e))) b ≡ (let c : Book = record { days = cond t b.days (with_change size (entry_word e) b.days); vehicle = b.vehicle } in c)
-          by true = sym (book_is b b.days b.vehicle refl refl)
+          by : (t : Bool) → with_some size (cond t None (Some (entry_word e))) b ≡ (let c : Book = record { days = cond t b.days (with_change size (entry_word e) b.days); vehicles = b.vehicles } in c)
+          by true = sym (book_is b b.days b.vehicles refl refl)
           by false = refl
 
-      pub change_moments : (word : Option ℕ) → word ≡ cond (tells_state e b.days) None (Some (entry_word e)) → (ds : List Day) (v : Option Vehicle) → IsAdding size word b ds v → IsWriting size e b ds v
+      pub change_moments : (word : Option ℕ) → word ≡ cond (tells_state e b.days) None (Some (entry_word e)) → (ds : List Day) (v : Vehicles) → IsAdding size word b ds v → IsWriting size e b ds v
       change_moments word is ds v adding =
           let done = by (tells_state e b.days) refl (subst (λ (o : Option ℕ). IsAdding size o b ds v) is adding) in
           (⊎_elim (λ left. inl (⊎_elim (λ same. inl same) (λ gone. inr (untold gone.0, subst (λ (n : ℕ). Remain (size - n) b.days ds) (sym two) gone.1)) left)) (λ last. inr (last ∙ sym in_newest)) done.0, done.1)
@@ -188,7 +187,7 @@ module _ (size : ℕ) (long : 5544 ≤ size) where
           untold not_told = ap (λ (n : Bool). n && tells_state e b.days) newest ∙ not_told
 
           by : (told : Bool) → tells_state e b.days ≡ told → IsAdding size (cond told None (Some (entry_word e))) b ds v
-              → (((ds ≡ b.days) ⊎ ((tells_state e b.days ≡ false) × Remain (size - 2) b.days ds)) ⊎ (ds ≡ cond told b.days (with_change size (entry_word e) b.days))) × (v ≡ b.vehicle)
+              → (((ds ≡ b.days) ⊎ ((tells_state e b.days ≡ false) × Remain (size - 2) b.days ds)) ⊎ (ds ≡ cond told b.days (with_change size (entry_word e) b.days))) × (v ≡ b.vehicles)
           by true told_is adding = (inl (inl adding.0), adding.1)
           by false told_is adding = (⊎_elim (λ left. inl (inr (told_is, left))) (λ last. inr last) adding.0, adding.1)
 
@@ -200,9 +199,9 @@ module _ (size : ℕ) (long : 5544 ≤ size) where
       new_is = ap (λ (n : Bool). cond n (cond (tells_state e b.days) b.days (with_change size (entry_word e) b.days)) (with_new_day size e b.days)) other
 
       pub day_makes : with_day size e b ≡ with_entry_words size e b
-      day_makes = ap (λ (l : List Day). let c : Book = record { days = l; vehicle = b.vehicle } in c) (sym new_is)
+      day_makes = ap (λ (l : List Day). let c : Book = record { days = l; vehicles = b.vehicles } in c) (sym new_is)
 
-      pub day_moments : (ds : List Day) (v : Option Vehicle) → IsBeforeDay size e b ds v → IsWriting size e b ds v
+      pub day_moments : (ds : List Day) (v : Vehicles) → IsBeforeDay size e b ds v → IsWriting size e b ds v
       day_moments ds v is = (⊎_elim (λ left. inl (inr (ap (λ (n : Bool). n && tells_state e b.days) other, subst (λ (n : ℕ). Remain (size - n) b.days ds) (sym len) left))) (λ done. inr (done ∙ sym new_is)) is.0, is.1)
         where
           len : entry_len e b.days ≡ 12 + 2 * length (day_words e)
@@ -255,14 +254,27 @@ module _ (size : ℕ) (long : 5544 ≤ size) where
         by true is false = some_word (entry_word e) (fitting (size - 2) b.days) (remain_some (λ d. Unit {0}) (size - 2) 0 b.days (fitting (size - 2) b.days) (omega (arith, long)) are (remain_fitting (size - 2) b.days) (on_day b.days (some_day b.days is)))
         by false is told = some_append (fitting (size - (12 + 2 * length (day_words e))) b.days) (new_day b.days (date_of e.minute) (day_words e))
 
--- the end mark of a vehicle entry in use
-pub used_at : (registration : Registration) (odometer minute : ℕ) (o : Option Vehicle) → last_use_of (Some (vehicle_after registration odometer minute o)) / 60 ≡ minute
-used_at registration odometer minute None = omega arith
-used_at registration odometer minute (Some v) = by (goes_on_in registration minute v)
+-- the last use of one of two
+use_either : (g : Bool) (v w : Vehicles) (n : ℕ) → last_use_in v ≡ n → last_use_in w ≡ n → last_use_in (cond g v w) ≡ n
+use_either true v w n one two = one
+use_either false v w n one two = two
+
+-- the last use, and the end mark, of the vehicle entries with a minute
+pub use_at : (registration : Registration) (odometer minute : ℕ) (v : Vehicles) → last_use_in (vehicles_with registration odometer minute v) ≡ 60 * minute
+use_at registration odometer minute v = by v.newest
   where
-    by : (g : Bool) → (cond g (used_until odometer (60 * minute) v) (begun_vehicle registration odometer minute (vehicle_counter (Some v)))).last_use.0 / 60 ≡ minute
-    by true = omega arith
-    by false = omega arith
+    by : (o : Option Vehicle)
+        → last_use_in
+        (cond (goes_on_with registration minute o) (let u : Vehicles = record { newest = option_map (used_until odometer (60 * minute)) o; ring = on_newest (used_until odometer (60 * minute)) v.ring } in u)
+        (with_vehicle (begun_vehicle registration odometer minute (vehicle_counter o)) v))
+        ≡ 60 * minute
+    by None = refl
+    by (Some u) =
+        let going : Vehicles = record { newest = Some (used_until odometer (60 * minute) u); ring = on_newest (used_until odometer (60 * minute)) v.ring } in
+        use_either (goes_on_in registration minute u) going (with_vehicle (begun_vehicle registration odometer minute (vehicle_counter (Some u))) v) (60 * minute) refl refl
+
+pub used_at : (registration : Registration) (odometer minute : ℕ) (v : Vehicles) → last_use_in (vehicles_with registration odometer minute v) / 60 ≡ minute
+used_at registration odometer minute v = let seconds = use_at registration odometer minute v in omega (arith, seconds)
 
 -- AN ENTRY, whole: its minute is the newest one and the end mark, and a word may follow
 pub entry_last : (size : ℕ) → 5544 ≤ size → (registration : Registration) (odometer more : ℕ) (e : Entry) (b : Book) → AreDays 0 b.days → IsBeforeGapOf e.minute b
@@ -270,7 +282,7 @@ pub entry_last : (size : ℕ) → 5544 ≤ size → (registration : Registration
 entry_last size long registration odometer more e b are before =
     let g : Book = with_gap_closed size e.minute b in
     let last = words_last size long g (gap_are size long b are e.minute before) e (gap_ready size long b are e.minute before e refl) in
-    let mark = used_at registration odometer e.minute b.vehicle in
+    let mark = used_at registration odometer e.minute b.vehicles in
     let word : newest_word (entered size registration odometer more e b).days ≤ e.minute = omega (arith, newest_km more (entered_days size e g.days), last.0) in (
       record { ends = ends_by (mark_of (entered size registration odometer more e b)) (entered size registration odometer more e b).days (omega (arith, word, mark)); strict = strict_km more (entered_days size e g.days) last.1 },
       omega (arith, word, mark),

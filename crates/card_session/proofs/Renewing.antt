@@ -13,7 +13,6 @@ use Rattle.tacho_types.specs.declared.texts.Registration.{Registration}
 use Rattle.card_layout.specs.declared.files.Application.{Application}
 use Rattle.card_layout.specs.Application.{IsApplication}
 use Rattle.card_layout.specs.Files.{image_size_of, place_of}
-use Rattle.card_records.specs.declared.vehicle.Vehicle.{Vehicle}
 use Rattle.card_model.specs.Days.{Day, AreDays}
 use Rattle.card_model.specs.Changes.{trimmed}
 use Rattle.card_model.proofs.Trims.{are_trimmed, trim_from_moment, trimmed_twice}
@@ -21,11 +20,12 @@ use Rattle.card_retention.specs.Expected.{is_newest}
 use Rattle.card_retention.specs.Shown.{sizes, is_open}
 use Rattle.card_retention.specs.Entries.{newest_minute, newest_word, closed_at}
 use Rattle.gated_ring.specs.Ring.{PointsInside}
-use Rattle.card_image.specs.Fields.{file, vehicle_ring, last_use_of, last_use, card_days, end_mark, session_time}
+use Rattle.card_image.specs.Fields.{file, vehicle_ring, last_use, card_days, end_mark, session_time}
 use Rattle.card_image.specs.Beside.{HaveSameDays, HaveSameVehicles}
 use Rattle.card_image.specs.Judging.{IsValid}
 use Rattle.card_image.specs.View.{card_view}
 use Rattle.card_image.proofs.Beside.{days_same, last_use_same}
+use Rattle.card_session.specs.Vehicles.{Vehicles, last_use_in}
 use Rattle.card_session.specs.Books.{Book, mark_of, with_entry, closed}
 use Rattle.card_session.specs.Sessions.{Session, IsSession, IsOpenBook, newest_in, book_of}
 use Rattle.card_session.specs.Moments.{IsBook, IsKeepMoment, IsCloseMoment}
@@ -34,11 +34,11 @@ use Rattle.card_session.specs.Parts.{IsBeforeGapOf}
 use Rattle.card_session.specs.Inserting.{AreOwed, Follow, lacked, with_cut, with_owed, IsBeforeAll, IsReplaying, EndsCut, repaired, IsRepairMoment, IsStill, IsRepaired, IsRepairing, IsNoted, IsNoting, IsShut, IsShutting, InsertsOpen, InsertingOpen, InsertsClosed, InsertingClosed}
 use Rattle.card_session.specs.Repairs.{mark_behind, BeginsLater, lacked_by, newest_behind, NewestSoFar}
 use Rattle.card_session.proofs.Composing.{told_book}
-use Rattle.card_session.proofs.Marks.{session_same, mark_told}
-use Rattle.card_session.proofs.Preparing.{used_at}
+use Rattle.card_session.proofs.Marks.{session_same, mark_told, use_before}
+use Rattle.card_session.proofs.Preparing.{use_at, used_at}
 use Rattle.card_session.proofs.Stopping.{days_there, ended_same}
 use Rattle.card_session.proofs.Valid.{valid_words}
-use Rattle.card_session.proofs.NewestStays.{newest_by_mark, use_before, use_at, next_newest, next_low, keep_newest, Rewrites, close_newest, closed_in, closed_open, view_newest, view_word}
+use Rattle.card_session.proofs.NewestStays.{newest_by_mark, next_newest, next_low, keep_newest, Rewrites, close_newest, closed_in, closed_open, view_newest, view_word}
 use Rattle.card_session.proofs.InsertingBooks.{lacked_follow, lacked_each, cut_ready, trimmed_low}
 use Rattle.card_session.proofs.InsertingCards.{noted_same, noting_same}
 use Rattle.card_session.proofs.InsertingUse.{use_inside}
@@ -57,15 +57,15 @@ pub record Renews (app : Application) (x y : List ℕ) : Type 0 where
   pub word : (card_view app y).word ≤ max (card_view app x).word (card_view app x).newest
 
 module _ (app : Application) where
-  renews_by : (x y : List ℕ) → Rewrites (book_of app x) (book_of app y).days (book_of app y).vehicle → Renews app x y
+  renews_by : (x y : List ℕ) → Rewrites (book_of app x) (book_of app y).days (book_of app y).vehicles → Renews app x y
   unfolding card_view book_of
   renews_by x y r = record { newest = r.newest; used = r.used; word = r.word }
 
-  no_change : (b : Book) → Rewrites b b.days b.vehicle
+  no_change : (b : Book) → Rewrites b b.days b.vehicles
   no_change b = record { newest = refl; used = inl refl; word = omega arith }
 
   renews_same : (x y : List ℕ) → book_of app y ≡ book_of app x → Renews app x y
-  renews_same x y is = renews_by x y (subst (λ (k : Book). Rewrites (book_of app x) k.days k.vehicle) (sym is) (no_change (book_of app x)))
+  renews_same x y is = renews_by x y (subst (λ (k : Book). Rewrites (book_of app x) k.days k.vehicles) (sym is) (no_change (book_of app x)))
 
   renews_then : (x y z : List ℕ) → Renews app x y → Renews app y z → Renews app x z
   renews_then x y z first next = record {
@@ -141,12 +141,12 @@ in_beside app sound x c days vehicles points =
 pub closing_renews : (s : Session) (act : Activity) (x y : List ℕ) → IsApplication s.application → image_size_of s.application ≤ length x → IsSession s x → IsCardClosing s act x y → Renews s.application x y
 closing_renews s act x y sound fits knows closing = ⊎_elim
     (λ card. renews_by s.application x y
-    (close_newest s.application.activity sound.string_least (book_of s.application x) (days_there s x knows) act knows.book (book_of s.application y).days (book_of s.application y).vehicle card.holds.ordered card.told))
+    (close_newest s.application.activity sound.string_least (book_of s.application x) (days_there s x knows) act knows.book (book_of s.application y).days (book_of s.application y).vehicles card.holds.ordered card.told))
     (λ done.
     let app = s.application in
     let first : Renews app x done.before =
     renews_by app x done.before
-    (close_newest app.activity sound.string_least (book_of app x) (days_there s x knows) act knows.book (book_of app done.before).days (book_of app done.before).vehicle done.card.holds.ordered (inr done.card.told)) in
+    (close_newest app.activity sound.string_least (book_of app x) (days_there s x knows) act knows.book (book_of app done.before).days (book_of app done.before).vehicles done.card.holds.ordered (inr done.card.told)) in
     let beside = ended_same app sound done.before (omega (arith, fits, done.card.outside.same_length)) done.card.points in
     let last : Renews app done.before (ended app done.before) = renews_beside app sound done.before (ended app done.before) beside.0 beside.1 done.card.points in
     subst (λ (l : List ℕ). Renews app x l) (sym done.session) (renews_then app x done.before (ended app done.before) first last))
@@ -155,16 +155,16 @@ closing_renews s act x y sound fits knows closing = ⊎_elim
 -- ---- a keep
 
 module _ (app : Application) (x : List ℕ) (registration : Registration) (odometer more : ℕ) (e : Entry) (y : List ℕ) (card : IsCard app (IsKeepMoment app.activity registration odometer more e (book_of app x)) x y) where
-  use_told : (z : List ℕ) → last_use app z ≡ last_use_of (book_of app z).vehicle
+  use_told : (z : List ℕ) → last_use app z ≡ last_use_in (book_of app z).vehicles
   unfolding book_of
   use_told z = refl
 
   keep_used : ((end_mark app y ≡ end_mark app x) × (last_use app y ≡ last_use app x)) ⊎ ((end_mark app y ≡ e.minute) × (last_use app y ≡ 60 * e.minute))
   keep_used = ⊎_elim
-      (λ old. let same : last_use app y ≡ last_use app x = use_told y ∙ ap last_use_of old.0 ∙ sym (use_told x) in inl (ap (λ (n : ℕ). n / 60) same, same))
+      (λ old. let same : last_use app y ≡ last_use app x = use_told y ∙ ap last_use_in old.0 ∙ sym (use_told x) in inl (ap (λ (n : ℕ). n / 60) same, same))
       (λ new. ⊎_elim
-      (λ unused. let same : last_use app y ≡ last_use app x = use_told y ∙ use_before registration odometer e.minute (book_of app x).vehicle (book_of app y).vehicle unused ∙ sym (use_told x) in inl (ap (λ (n : ℕ). n / 60) same, same))
-      (λ after. let at : last_use app y ≡ 60 * e.minute = use_told y ∙ ap last_use_of after ∙ use_at registration odometer e.minute (book_of app x).vehicle in inr (omega (arith, at), at))
+      (λ unused. let same : last_use app y ≡ last_use app x = use_told y ∙ use_before registration odometer e.minute (book_of app x).vehicles (book_of app y).vehicles unused ∙ sym (use_told x) in inl (ap (λ (n : ℕ). n / 60) same, same))
+      (λ after. let at : last_use app y ≡ 60 * e.minute = use_told y ∙ ap last_use_in after ∙ use_at registration odometer e.minute (book_of app x).vehicles in inr (omega (arith, at), at))
       new.1) card.told
 
   pub keep_stored : nat_eq (session_time app x) 0 ≡ false → ((end_mark app y ≡ end_mark app x) × ((card_view app y).stored ≡ (card_view app x).stored)) ⊎ ((end_mark app y ≡ e.minute) × ((card_view app y).stored ≡ 60 * e.minute))
@@ -177,7 +177,7 @@ module _ (app : Application) (x : List ℕ) (registration : Registration) (odome
   -- once the end mark has moved no word is later
   pub keep_word : IsApplication app → AreDays 0 (book_of app x).days → IsBeforeGapOf e.minute (book_of app x) → end_mark app y ≡ e.minute → (card_view app y).word ≤ e.minute
   keep_word sound ordered before at = ⊎_elim
-      (λ old. let same : end_mark app y ≡ mark_of (book_of app x) = mark_told app y ∙ ap (λ (o : Option Vehicle). last_use_of o / 60) old.0 in absurd (omega (arith, before.1, at, same)))
+      (λ old. let same : end_mark app y ≡ mark_of (book_of app x) = mark_told app y ∙ ap (λ (o : Vehicles). last_use_in o / 60) old.0 in absurd (omega (arith, before.1, at, same)))
       (λ new. let is : (card_view app y).word ≡ newest_word (with_entry app.activity registration odometer more (book_of app x) e).days = view_word app y ∙ words_told app y ∙ ap newest_word new.0 in
       omega (arith, is, next_low app.activity sound.string_least (book_of app x) ordered registration odometer more e before)) card.told
 
@@ -233,13 +233,13 @@ newest_least m ds = by (is_open m (trimmed m ds))
 -- ---- a replay
 
 module _ (size : ℕ) (long : 5544 ≤ size) (registration : Registration) (odometer latest : ℕ) where
-  abbrev SoFar : Book → List Entry → List Day → Option Vehicle → Type 0
-  SoFar b es ds v = NewestSoFar (mark_of b) (newest_by_mark (mark_of b) b.days) es (last_use_of v / 60) (newest_by_mark (last_use_of v / 60) ds) × (last_use_of v ≤ max (last_use_of b.vehicle) (60 * latest))
+  abbrev SoFar : Book → List Entry → List Day → Vehicles → Type 0
+  SoFar b es ds v = NewestSoFar (mark_of b) (newest_by_mark (mark_of b) b.days) es (last_use_in v / 60) (newest_by_mark (last_use_in v / 60) ds) × (last_use_in v ≤ max (last_use_in b.vehicles) (60 * latest))
 
   -- none of them is there yet
-  none_so_far : (b : Book) (es : List Entry) (ds : List Day) (v : Option Vehicle) → last_use_of v ≡ last_use_of b.vehicle → newest_by_mark (mark_of b) ds ≡ newest_by_mark (mark_of b) b.days → SoFar b es ds v
+  none_so_far : (b : Book) (es : List Entry) (ds : List Day) (v : Vehicles) → last_use_in v ≡ last_use_in b.vehicles → newest_by_mark (mark_of b) ds ≡ newest_by_mark (mark_of b) b.days → SoFar b es ds v
   none_so_far b es ds v same is =
-      let at : last_use_of v / 60 ≡ mark_of b = ap (λ (n : ℕ). n / 60) same in
+      let at : last_use_in v / 60 ≡ mark_of b = ap (λ (n : ℕ). n / 60) same in
       (record { done = []; rest = es; split = refl; behind = inl at; newest = ap (λ (n : ℕ). newest_by_mark n ds) at ∙ is }, omega (arith, same))
 
   module _ (e : Entry) (b : Book) (are : AreDays 0 b.days) (gap : IsBeforeGapOf e.minute b) (some : 1440 ≤ e.minute) where
@@ -250,7 +250,7 @@ module _ (size : ℕ) (long : 5544 ≤ size) (registration : Registration) (odom
     next_are = with_are size long registration odometer 0 b are e gap some
 
     next_mark : mark_of next ≡ e.minute
-    next_mark = used_at registration odometer e.minute b.vehicle
+    next_mark = used_at registration odometer e.minute b.vehicles
 
     next_is : newest_by_mark (mark_of next) next.days ≡ closed_at (Some e)
     next_is = ap (λ (n : ℕ). newest_by_mark n next.days) next_mark ∙ next_newest size long b are registration odometer 0 e gap next_are
@@ -276,21 +276,21 @@ module _ (size : ℕ) (long : 5544 ≤ size) (registration : Registration) (odom
       replay_newest es (next e b are gap many.0) (next_are e b are gap many.0) (with_before size long registration odometer 0 b are e gap many.0 es before.1.1) many.1
       ∙ ap (λ (n : ℕ). newest_behind n es) (next_is e b are gap many.0)
 
-  replay_used : (es : List Entry) (b : Book) → AllByRecursion (λ e. e.minute < latest) es → last_use_of (with_owed size registration odometer es b).vehicle ≤ max (last_use_of b.vehicle) (60 * latest)
+  replay_used : (es : List Entry) (b : Book) → AllByRecursion (λ e. e.minute < latest) es → last_use_in (with_owed size registration odometer es b).vehicles ≤ max (last_use_in b.vehicles) (60 * latest)
   replay_used [] b early = omega arith
   replay_used (e ∷ es) b early =
-      omega (arith, early.0, replay_used es (with_entry size registration odometer 0 b e) early.1, use_at registration odometer e.minute b.vehicle)
+      omega (arith, early.0, replay_used es (with_entry size registration odometer 0 b e) early.1, use_at registration odometer e.minute b.vehicles)
 
   -- AT EACH MOMENT with the first of them
   replay_so_far : (es : List Entry) (b : Book) → AreDays 0 b.days → newest_word b.days ≤ mark_of b → IsBeforeAll es b → AllByRecursion (λ e. 1440 ≤ e.minute) es → AllByRecursion (λ e. e.minute < latest) es
-      → (ds : List Day) (v : Option Vehicle) → AreDays 0 ds → IsReplaying size registration odometer es b ds v → SoFar b es ds v
-  replay_so_far [] b are low before many early ds v whole is = none_so_far b [] ds v (ap last_use_of is.1) (ap (newest_by_mark (mark_of b)) is.0)
+      → (ds : List Day) (v : Vehicles) → AreDays 0 ds → IsReplaying size registration odometer es b ds v → SoFar b es ds v
+  replay_so_far [] b are low before many early ds v whole is = none_so_far b [] ds v (ap last_use_in is.1) (ap (newest_by_mark (mark_of b)) is.0)
   replay_so_far (e ∷ es) b are low before many early ds v whole (inl moment) =
       let gap : IsBeforeGapOf e.minute b = (before.0, before.1.0) in
       ⊎_elim
       (λ old. none_so_far b (e ∷ es) ds v old.0 old.1)
       (λ new.
-      let at : last_use_of v / 60 ≡ e.minute = omega (arith, new.0) in (
+      let at : last_use_in v / 60 ≡ e.minute = omega (arith, new.0) in (
         record { done = e ∷ []; rest = es; split = refl; behind = inl at; newest = ap (λ (n : ℕ). newest_by_mark n ds) at ∙ new.1 },
         omega (arith, new.0, early.0),
       ))
@@ -300,8 +300,8 @@ module _ (size : ℕ) (long : 5544 ≤ size) (registration : Registration) (odom
       let one =
       replay_so_far es (next e b are gap many.0) (next_are e b are gap many.0) (next_below e b are gap many.0) (with_before size long registration odometer 0 b are e gap many.0 es before.1.1) many.1 early.1
       ds v whole later in (
-        and_first e b are gap many.0 es (last_use_of v / 60) (newest_by_mark (last_use_of v / 60) ds) one.0,
-        omega (arith, one.1, early.0, use_at registration odometer e.minute b.vehicle),
+        and_first e b are gap many.0 es (last_use_in v / 60) (newest_by_mark (last_use_in v / 60) ds) one.0,
+        omega (arith, one.1, early.0, use_at registration odometer e.minute b.vehicles),
       )
 
   -- ---- a repair
@@ -325,16 +325,16 @@ module _ (size : ℕ) (long : 5544 ≤ size) (registration : Registration) (odom
     pub repair_newest : newest_by_mark (mark_of (repaired size registration odometer owed b)) (repaired size registration odometer owed b).days ≡ newest_behind (newest_by_mark (mark_of b) b.days) lacks
     repair_newest = replay_newest lacks cut cut_are cut_before (lacked_many (mark_of b) owed ordered) ∙ ap (λ (n : ℕ). newest_behind n lacks) cut_is
 
-    pub repair_used : last_use_of (repaired size registration odometer owed b).vehicle ≤ max (last_use_of b.vehicle) (60 * latest)
+    pub repair_used : last_use_in (repaired size registration odometer owed b).vehicles ≤ max (last_use_in b.vehicles) (60 * latest)
     repair_used = replay_used lacks cut early
 
-    pub repair_so_far : (ds : List Day) (v : Option Vehicle) → AreDays 0 ds → IsRepairMoment size registration odometer owed b ds v → SoFar b lacks ds v
+    pub repair_so_far : (ds : List Day) (v : Vehicles) → AreDays 0 ds → IsRepairMoment size registration odometer owed b ds v → SoFar b lacks ds v
     repair_so_far ds v whole (inl cutting) =
-        none_so_far b lacks ds v (ap last_use_of cutting.1)
+        none_so_far b lacks ds v (ap last_use_in cutting.1)
         (ap (newest_minute (mark_of b)) (⊎_elim (λ shorter. trim_from_moment (mark_of b) b.days ds shorter) (λ done. ap (trimmed (mark_of b)) done ∙ trimmed_twice (mark_of b) b.days) cutting.0))
     repair_so_far ds v whole (inr replaying) =
         let one = replay_so_far lacks cut cut_are (trimmed_low (mark_of b) b.days are) cut_before (lacked_many (mark_of b) owed ordered) early ds v whole replaying in
-        (subst (λ (n : ℕ). NewestSoFar (mark_of b) n lacks (last_use_of v / 60) (newest_by_mark (last_use_of v / 60) ds)) cut_is one.0, one.1)
+        (subst (λ (n : ℕ). NewestSoFar (mark_of b) n lacks (last_use_in v / 60) (newest_by_mark (last_use_in v / 60) ds)) cut_is one.0, one.1)
 
 -- ---- a card whose session was left open
 
@@ -355,7 +355,7 @@ module _ (app : Application) (sound : IsApplication app) (x : List ℕ) (fits : 
   early : AllByRecursion (λ e. e.minute < now / 60) lacking
   early = recursion_from_All (λ e. e.minute < now / 60) lacking (lacked_each (λ e. e.minute < now / 60) (mark_of (book_of app x)) owed are_owed.1)
 
-  told : (y : List ℕ) → session_time app y ≡ session_time app x → SoFar app.activity sound.string_least registration odometer (now / 60) (book_of app x) lacking (book_of app y).days (book_of app y).vehicle → StandsNewest y
+  told : (y : List ℕ) → session_time app y ≡ session_time app x → SoFar app.activity sound.string_least registration odometer (now / 60) (book_of app x) lacking (book_of app y).days (book_of app y).vehicles → StandsNewest y
   unfolding card_view book_of
   told y same one = record { so_far = one.0; session = inl same; used = omega (arith, one.1) }
 
@@ -389,13 +389,13 @@ module _ (app : Application) (sound : IsApplication app) (x : List ℕ) (fits : 
     still_newest : StandsNewest y
     still_newest =
         told y (session_same app (IsBook (book_of app x)) x y still)
-        (none_so_far app.activity sound.string_least registration odometer (now / 60) (book_of app x) lacking (book_of app y).days (book_of app y).vehicle (ap last_use_of still.told.1) (ap (newest_by_mark (mark_of (book_of app x))) still.told.0))
+        (none_so_far app.activity sound.string_least registration odometer (now / 60) (book_of app x) lacking (book_of app y).days (book_of app y).vehicles (ap last_use_in still.told.1) (ap (newest_by_mark (mark_of (book_of app x))) still.told.0))
 
     repairing_newest : (z : List ℕ) → IsRepairing app registration odometer owed y z → StandsNewest z
     repairing_newest z card =
         told z (session_same app (IsRepairMoment app.activity registration odometer owed (book_of app y)) y z card ∙ session_same app (IsBook (book_of app x)) x y still)
-        (repair_so_far app.activity sound.string_least registration odometer (now / 60) (book_of app x) x_are x_strict owed are_owed.0 early (book_of app z).days (book_of app z).vehicle card.holds.ordered
-        (subst (λ (k : Book). IsRepairMoment app.activity registration odometer owed k (book_of app z).days (book_of app z).vehicle) (told_book app (book_of app x) x y still) card.told))
+        (repair_so_far app.activity sound.string_least registration odometer (now / 60) (book_of app x) x_are x_strict owed are_owed.0 early (book_of app z).days (book_of app z).vehicles card.holds.ordered
+        (subst (λ (k : Book). IsRepairMoment app.activity registration odometer owed k (book_of app z).days (book_of app z).vehicles) (told_book app (book_of app x) x y still) card.told))
 
     module _ (z : List ℕ) (card : IsRepaired app registration odometer owed y z) where
       abbrev z_is : book_of app z ≡ repaired app.activity registration odometer owed (book_of app x)
@@ -408,7 +408,7 @@ module _ (app : Application) (sound : IsApplication app) (x : List ℕ) (fits : 
       unfolding card_view book_of
       by_book c = refl
 
-      use_by : (c : List ℕ) → last_use app c ≡ last_use_of (book_of app c).vehicle
+      use_by : (c : List ℕ) → last_use app c ≡ last_use_in (book_of app c).vehicles
       unfolding book_of
       use_by c = refl
 
@@ -419,7 +419,7 @@ module _ (app : Application) (sound : IsApplication app) (x : List ℕ) (fits : 
 
       full_used : last_use app z ≤ max (last_use app x) now
       full_used =
-          let is : last_use app z ≡ last_use_of (repaired app.activity registration odometer owed (book_of app x)).vehicle = use_by z ∙ ap (λ (k : Book). last_use_of k.vehicle) z_is in
+          let is : last_use app z ≡ last_use_in (repaired app.activity registration odometer owed (book_of app x)).vehicles = use_by z ∙ ap (λ (k : Book). last_use_in k.vehicles) z_is in
           let most = repair_used app.activity sound.string_least registration odometer (now / 60) (book_of app x) x_are x_strict owed are_owed.0 early in
           omega (arith, is, most, use_by x)
 
@@ -436,10 +436,10 @@ module _ (app : Application) (sound : IsApplication app) (x : List ℕ) (fits : 
             let low = noted_low app sound x fits registration long odometer now owed are_owed.0 valid open_ y still z card c noted in
             renews_then app z c w noted_renews
             (renews_by app c w
-            (close_newest app.activity sound.string_least (book_of app c) (book_are app sound c fine low) Rest (book_may app sound c fine low) (book_of app w).days (book_of app w).vehicle shutting.holds.ordered shutting.told))
+            (close_newest app.activity sound.string_least (book_of app c) (book_are app sound c fine low) Rest (book_may app sound c fine low) (book_of app w).days (book_of app w).vehicles shutting.holds.ordered shutting.told))
 
         shut_renews : (w : List ℕ) → IsShut app c w → Renews app z w
-        shut_renews w shut = shutting_renews w (record { outside = shut.outside; holds = shut.holds; points = shut.points; older = shut.older; told = inr shut.told })
+        shut_renews w shut = shutting_renews w (record { outside = shut.outside; holds = shut.holds; points = shut.points; told = inr shut.told })
 
         use_renews : (w v : List ℕ) → IsShut app c w → Same app w v → Renews app z v
         use_renews w v shut side = renews_then app z w v (shut_renews w shut) (renews_beside app sound w v side.0 side.1 shut.points)
@@ -543,10 +543,10 @@ module _ (app : Application) (sound : IsApplication app) (x : List ℕ) (fits : 
     words_renew : (z : List ℕ) → IsShutting app y z → Renews app x z
     words_renew z card =
         renews_then app x y z (renews_same app x y same_is)
-        (renews_by app y z (close_newest app.activity sound.string_least (book_of app y) still.holds.ordered Rest y_may (book_of app z).days (book_of app z).vehicle card.holds.ordered card.told))
+        (renews_by app y z (close_newest app.activity sound.string_least (book_of app y) still.holds.ordered Rest y_may (book_of app z).days (book_of app z).vehicles card.holds.ordered card.told))
 
     shut_renew : (z : List ℕ) → IsShut app y z → Renews app x z
-    shut_renew z card = words_renew z (record { outside = card.outside; holds = card.holds; points = card.points; older = card.older; told = inr card.told })
+    shut_renew z card = words_renew z (record { outside = card.outside; holds = card.holds; points = card.points; told = inr card.told })
 
     shut_room : (z : List ℕ) → IsShut app y z → place_of app (file 0x0507) + 19 ≤ length z
     shut_room z card = omega (arith, use_inside app, fits, still.outside.same_length, card.outside.same_length)

@@ -12,7 +12,6 @@ use Rattle.tacho_types.specs.declared.texts.Registration.{Registration}
 use Rattle.card_layout.specs.declared.files.Application.{Application}
 use Rattle.card_layout.specs.Application.{IsApplication}
 use Rattle.card_layout.specs.Files.{image_size_of, place_of}
-use Rattle.card_records.specs.declared.vehicle.Vehicle.{Vehicle}
 use Rattle.card_model.specs.Days.{Day, AreDays}
 use Rattle.card_model.specs.Changes.{date_of, trimmed}
 use Rattle.card_model.proofs.Trims.{trim_from_moment, trimmed_twice}
@@ -23,10 +22,11 @@ use Rattle.card_retention.proofs.Stops.{stop_none}
 use Rattle.card_retention.proofs.Closing.{lives_trimmed}
 use Rattle.card_retention.proofs.Moments.{rests_later}
 use Rattle.gated_ring.specs.Ring.{PointsInside}
-use Rattle.card_image.specs.Fields.{file, vehicle_ring, last_use_of, card_days, end_mark, session_time}
+use Rattle.card_image.specs.Fields.{file, vehicle_ring, card_days, end_mark, session_time}
 use Rattle.card_image.specs.Beside.{HaveSameDays, HaveSameVehicles}
 use Rattle.card_image.specs.Judging.{IsValid}
 use Rattle.card_image.proofs.Beside.{days_same, last_use_same, session_same as session_beside}
+use Rattle.card_session.specs.Vehicles.{Vehicles, last_use_in}
 use Rattle.card_session.specs.Books.{Book, mark_of, closed, closed_days, last_used}
 use Rattle.card_session.specs.Sessions.{EndsStrictly, book_of}
 use Rattle.card_session.specs.Moments.{IsBook, IsCloseMoment}
@@ -56,7 +56,7 @@ up_to m next (e ∷ es) follow low =
 
 pub owed_at : (size : ℕ) (registration : Registration) (odometer : ℕ) (es : List Entry) (b : Book) → mark_of (with_owed size registration odometer es b) ≡ mark_behind (mark_of b) es
 owed_at size registration odometer [] b = refl
-owed_at size registration odometer (e ∷ es) b = owed_at size registration odometer es _ ∙ ap (λ (m : ℕ). mark_behind m es) (used_at registration odometer e.minute b.vehicle)
+owed_at size registration odometer (e ∷ es) b = owed_at size registration odometer es _ ∙ ap (λ (m : ℕ). mark_behind m es) (used_at registration odometer e.minute b.vehicles)
 
 bytes_same : (slack : Bound) (es : List Entry) → (and_entries slack es).bytes ≡ slack.bytes
 bytes_same slack [] = refl
@@ -136,9 +136,9 @@ module _ (size : ℕ) (long : 5544 ≤ size) (registration : Registration) (odom
       (omega (arith, at, enough))
 
   -- none of them is there yet
-  pub none_yet : (ds : List Day) (v : Option Vehicle) → v ≡ b.vehicle → trimmed (mark_of b) ds ≡ trimmed (mark_of b) b.days → HasFirst size slack covered next (mark_of b) c ls (last_use_of v / 60) ds
+  pub none_yet : (ds : List Day) (v : Vehicles) → v ≡ b.vehicles → trimmed (mark_of b) ds ≡ trimmed (mark_of b) b.days → HasFirst size slack covered next (mark_of b) c ls (last_use_in v / 60) ds
   none_yet ds v same whole =
-      let at : last_use_of v / 60 ≡ mark_of b = ap (λ (o : Option Vehicle). last_use_of o / 60) same in
+      let at : last_use_in v / 60 ≡ mark_of b = ap (λ (o : Vehicles). last_use_in o / 60) same in
       record {
         done = [];
         rest = ls;
@@ -148,7 +148,7 @@ module _ (size : ℕ) (long : 5544 ≤ size) (registration : Registration) (odom
             (subst (λ (l : List Day). Rests size slack covered (first_minute next ls) (mark_of b) c l) (sym whole) (rests_later size slack covered from (first_minute next ls) (mark_of b) c (trimmed (mark_of b) b.days) later rests));
       }
 
-  pub repair_stops : BeginsLater (mark_of b) ls (trimmed (mark_of b) b.days) → (ds : List Day) (v : Option Vehicle) → AreDays 0 ds → IsRepairMoment size registration odometer owed b ds v → HasFirst size slack covered next (mark_of b) c ls (last_use_of v / 60) ds
+  pub repair_stops : BeginsLater (mark_of b) ls (trimmed (mark_of b) b.days) → (ds : List Day) (v : Vehicles) → AreDays 0 ds → IsRepairMoment size registration odometer owed b ds v → HasFirst size slack covered next (mark_of b) c ls (last_use_in v / 60) ds
   repair_stops begins ds v ordered (inl cutting) =
       none_yet ds v cutting.1 (⊎_elim (λ shorter. trim_from_moment (mark_of b) b.days ds shorter) (λ done. ap (trimmed (mark_of b)) done ∙ trimmed_twice (mark_of b) b.days) cutting.0)
   repair_stops begins ds v ordered (inr replaying) = replay_stops size long registration odometer covered ls slack from next c cut cut_lives least before many up later begins ds v ordered replaying
@@ -190,7 +190,7 @@ module _ (app : Application) (slack : Bound) (covered next : ℕ) (c : Counted) 
   unfolding book_of
   newest_told b is low = subst (λ (k : Book). newest_minute (mark_of k) k.days < next) (sym is) low
 
-  first_told : (mark : ℕ) (es : List Entry) → HasFirst app.activity slack covered next mark c es (last_use_of (book_of app y).vehicle / 60) (book_of app y).days → HasFirst app.activity slack covered next mark c es (end_mark app y) (card_days app y)
+  first_told : (mark : ℕ) (es : List Entry) → HasFirst app.activity slack covered next mark c es (last_use_in (book_of app y).vehicles / 60) (book_of app y).days → HasFirst app.activity slack covered next mark c es (end_mark app y) (card_days app y)
   unfolding book_of
   first_told mark es first = first
 
@@ -291,7 +291,7 @@ module _ (app : Application) (sound : IsApplication app) (x : List ℕ) (fits : 
     still_leaves y card = (
       session_same app (IsBook b) x y card,
       first_told app slack covered next c y (mark_of b) lacks
-          (none_yet app.activity sound.string_least registration odometer covered b asked.are asked.strict owed ordered slack from next c asked.rests least asked.later asked.enough (book_of app y).days (book_of app y).vehicle card.told.1
+          (none_yet app.activity sound.string_least registration odometer covered b asked.are asked.strict owed ordered slack from next c asked.rests least asked.later asked.enough (book_of app y).days (book_of app y).vehicles card.told.1
           (ap (trimmed (mark_of b)) card.told.0)),
     )
 
@@ -299,8 +299,8 @@ module _ (app : Application) (sound : IsApplication app) (x : List ℕ) (fits : 
     repairing_leaves y z still card = (
       session_same app (IsRepairMoment app.activity registration odometer owed (book_of app y)) y z card ∙ session_same app (IsBook b) x y still,
       first_told app slack covered next c z (mark_of b) lacks
-          (repair_stops app.activity sound.string_least registration odometer covered b asked.are asked.strict owed ordered slack from next c asked.rests least asked.later asked.enough asked.begins (book_of app z).days (book_of app z).vehicle card.holds.ordered
-          (subst (λ (k : Book). IsRepairMoment app.activity registration odometer owed k (book_of app z).days (book_of app z).vehicle) (told_book app b x y still) card.told)),
+          (repair_stops app.activity sound.string_least registration odometer covered b asked.are asked.strict owed ordered slack from next c asked.rests least asked.later asked.enough asked.begins (book_of app z).days (book_of app z).vehicles card.holds.ordered
+          (subst (λ (k : Book). IsRepairMoment app.activity registration odometer owed k (book_of app z).days (book_of app z).vehicles) (told_book app b x y still) card.told)),
     )
 
     module _ (y z : List ℕ) (still : IsStill app x y) (card : IsRepaired app registration odometer owed y z) where
@@ -358,10 +358,10 @@ module _ (app : Application) (sound : IsApplication app) (x : List ℕ) (fits : 
 
 -- ---- a card without a session, whose words are closed
 
-pub closed_still : (size : ℕ) (b : Book) → is_open (mark_of b) b.days ≡ false → (ds : List Day) (v : Option Vehicle) → IsCloseMoment size Rest b ds v → IsBook b ds v
+pub closed_still : (size : ℕ) (b : Book) → is_open (mark_of b) b.days ≡ false → (ds : List Day) (v : Vehicles) → IsCloseMoment size Rest b ds v → IsBook b ds v
 closed_still size b shut ds v (inl old) = (⊎_elim (λ same. same) (λ opened. let no : true ≡ false = sym opened.0 ∙ shut in absurd (cc)) old.1, old.0)
 closed_still size b shut ds v (inr book) =
-    subst (λ (k : Book). IsBook k ds v) (ap (λ (o : Bool). cond o (let c : Book = record { days = closed_days size (mark_of b) Rest b.days; vehicle = last_used (60 * suc (mark_of b)) b.vehicle } in c) b) shut) book
+    subst (λ (k : Book). IsBook k ds v) (ap (λ (o : Bool). cond o (let c : Book = record { days = closed_days size (mark_of b) Rest b.days; vehicles = last_used (60 * suc (mark_of b)) b.vehicles } in c) b) shut) book
 
 module _ (app : Application) (sound : IsApplication app) (x : List ℕ) (fits : image_size_of app ≤ length x) (registration : Registration) (long : length registration.0 ≡ 15) (now : ℕ)
     (slack : Bound) (covered from : ℕ) (c : Counted) (goes : GoesOn app slack covered from c x) (shut : is_open (end_mark app x) (card_days app x) ≡ false) where
@@ -379,11 +379,11 @@ module _ (app : Application) (sound : IsApplication app) (x : List ℕ) (fits : 
 
     shut_book : (z : List ℕ) → IsShutting app y z → book_of app z ≡ book_of app x
     shut_book z card =
-        let is = closed_still app.activity (book_of app y) (shut_told y same_book) (book_of app z).days (book_of app z).vehicle card.told in
-        told_book app (book_of app y) y z (record { outside = card.outside; holds = card.holds; points = card.points; older = card.older; told = is }) ∙ same_book
+        let is = closed_still app.activity (book_of app y) (shut_told y same_book) (book_of app z).days (book_of app z).vehicles card.told in
+        told_book app (book_of app y) y z (record { outside = card.outside; holds = card.holds; points = card.points; told = is }) ∙ same_book
 
     closing : (z : List ℕ) → IsShut app y z → IsShutting app y z
-    closing z card = record { outside = card.outside; holds = card.holds; points = card.points; older = card.older; told = inr card.told }
+    closing z card = record { outside = card.outside; holds = card.holds; points = card.points; told = inr card.told }
 
     use_still : (z w : List ℕ) → IsShut app y z → Same app z w → GoesOn app slack covered from c w
     use_still z w card beside = goes_beside app sound z w beside.0 beside.1 card.points slack covered from c (goes_told z (shut_book z (closing z card)))
@@ -425,7 +425,7 @@ module _ (app : Application) (sound : IsApplication app) (x : List ℕ) (fits : 
     still_left : Leaves y
     still_left =
         close_leaves app sound x slack covered from c least goes Rest next y later before
-        (record { outside = still.outside; holds = still.holds; points = still.points; older = still.older; told = inl (still.told.1, inl still.told.0) })
+        (record { outside = still.outside; holds = still.holds; points = still.points; told = inl (still.told.1, inl still.told.0) })
 
     closing_left : (z : List ℕ) → IsShutting app y z → Leaves z
     closing_left z card = ⊎_elim

@@ -5,7 +5,6 @@ use Rattle.std.specs.List.{AllByRecursion}
 use Rattle.std.proofs.lemmas.Bool.Decides.{nat_tests}
 use Rattle.activity_codec.specs.declared.entries.Entry.{Entry}
 use Rattle.tacho_types.specs.declared.texts.Registration.{Registration}
-use Rattle.card_records.specs.declared.vehicle.Vehicle.{Vehicle}
 use Rattle.card_model.specs.Days.{Day, IsDay, AreDays}
 use Rattle.card_model.specs.Changes.{Remain, OnNewest, TakesWord, IsLater, fitting, with_newest, with_word, with_km, new_day, date_of, trimmed}
 use Rattle.card_model.proofs.Retention.{remain_fitting, remain_some}
@@ -16,7 +15,7 @@ use Rattle.card_retention.specs.Shown.{Bound, Fits, Rests, Lives, sizes}
 use Rattle.card_retention.proofs.Entering.{fits_sizes, newest_more}
 use Rattle.card_retention.proofs.Growing.{sizes_word, left_newest, left_of}
 use Rattle.card_retention.proofs.Stops.{are_left, stop_none}
-use Rattle.card_image.specs.Fields.{last_use_of}
+use Rattle.card_session.specs.Vehicles.{Vehicles, last_use_in}
 use Rattle.card_session.specs.Books.{Book, mark_of, with_change, gap_closed, entered_days, travelled, with_entry, with_new_day, day_words, entry_word, tells_state, km_after}
 use Rattle.card_session.specs.Sessions.{IsOpenBook, newest_in}
 use Rattle.card_session.specs.Moments.{IsBook, IsKeepMoment}
@@ -126,7 +125,7 @@ module _ (size : ℕ) (long : 5544 ≤ size) (registration : Registration) (odom
     with_later [] follow = tt
     with_later (f ∷ es) follow = λ other.
         let there = apart (e.minute / 1440) (f.minute / 1440) (next_book b e) (entered_newest size long (with_gap_closed size e.minute b) (gap_are size long b are e.minute gap) e ready some 0) other in
-        later (mark_of (next_book b e)) e.minute f.minute (used_at registration odometer e.minute b.vehicle) follow.0 there
+        later (mark_of (next_book b e)) e.minute f.minute (used_at registration odometer e.minute b.vehicles) follow.0 there
       where
         later : (m k n : ℕ) → m ≡ k → k < n → k / 1440 ≢ n / 1440 → m / 1440 < n / 1440
         later m k n at low apart = omega (arith, at, low, apart)
@@ -135,7 +134,7 @@ module _ (size : ℕ) (long : 5544 ≤ size) (registration : Registration) (odom
   module _ (slack : Bound) (from : ℕ) (c : Counted) (b : Book) (l : Lives size slack covered from (mark_of b) c b.days) (least : 16 ≤ slack.bytes) (e : Entry) (gap : IsBeforeGapOf e.minute b) (after : from ≤ e.minute) (some : 1440 ≤ e.minute) where
     with_lives : Lives size (and_entry slack e) covered (suc e.minute) (mark_of (next_book b e)) (counted_with covered c e) (next_book b e).days
     with_lives =
-        subst (λ (m : ℕ). Lives size (and_entry slack e) covered (suc e.minute) m (counted_with covered c e) (next_book b e).days) (sym (used_at registration odometer e.minute b.vehicle))
+        subst (λ (m : ℕ). Lives size (and_entry slack e) covered (suc e.minute) m (counted_with covered c e) (next_book b e).days) (sym (used_at registration odometer e.minute b.vehicles))
         (goes_on size slack covered from c b l long least e gap after 0 (with_are b l.rests.ordered e gap some))
 
   follow_first : (m next : ℕ) (es : List Entry) → Follow m es → m < next → suc m ≤ first_minute next es
@@ -171,9 +170,9 @@ module _ (size : ℕ) (long : 5544 ≤ size) (registration : Registration) (odom
   -- AT EACH MOMENT
   pub replay_stops : (es : List Entry) (slack : Bound) (from next : ℕ) (c : Counted) (b : Book) → Lives size slack covered from (mark_of b) c b.days → 16 ≤ slack.bytes → IsBeforeAll es b
       → AllByRecursion (λ e. 1440 ≤ e.minute) es → AllByRecursion (λ e. e.minute < next) es → from ≤ first_minute next es → BeginsLater (mark_of b) es b.days
-      → (ds : List Day) (v : Option Vehicle) → AreDays 0 ds → IsReplaying size registration odometer es b ds v → HasFirst size slack covered next (mark_of b) c es (last_use_of v / 60) ds
+      → (ds : List Day) (v : Vehicles) → AreDays 0 ds → IsReplaying size registration odometer es b ds v → HasFirst size slack covered next (mark_of b) c es (last_use_in v / 60) ds
   replay_stops [] slack from next c b l least before many up after begins ds v are is =
-      let at : last_use_of v / 60 ≡ mark_of b = ap (λ (o : Option Vehicle). last_use_of o / 60) is.1 in
+      let at : last_use_in v / 60 ≡ mark_of b = ap (λ (o : Vehicles). last_use_in o / 60) is.1 in
       record {
         done = [];
         rest = [];
@@ -183,17 +182,17 @@ module _ (size : ℕ) (long : 5544 ≤ size) (registration : Registration) (odom
             (subst (λ (l : List Day). Rests size slack covered next (mark_of b) c (trimmed (mark_of b) l)) (sym is.0) (stop_none size slack covered from (mark_of b) c b.days l next after long least));
       }
   replay_stops (e ∷ es) slack from next c b l least before many up after begins ds v are (inl moment) = ⊎_elim
-      (λ old. stopped (ap (λ (o : Option Vehicle). last_use_of o / 60) old.0) (before_stop size slack covered from c b l long least e gap after begins registration odometer 0 ds are old.1))
+      (λ old. stopped (ap (λ (o : Vehicles). last_use_in o / 60) old.0) (before_stop size slack covered from c b l long least e gap after begins registration odometer 0 ds are old.1))
       (λ new. ⊎_elim
-      (λ unused. stopped (before_use registration odometer e.minute b.vehicle v unused) (before_stop size slack covered from c b l long least e gap after begins registration odometer 0 ds are (inr (inr (inr new.0)))))
+      (λ unused. stopped (before_use registration odometer e.minute b.vehicles v unused) (before_stop size slack covered from c b l long least e gap after begins registration odometer 0 ds are (inr (inr (inr new.0)))))
       (λ used.
-      let at : last_use_of v / 60 ≡ mark_of (next_book b e) = ap (λ (o : Option Vehicle). last_use_of o / 60) used in
+      let at : last_use_in v / 60 ≡ mark_of (next_book b e) = ap (λ (o : Vehicles). last_use_in o / 60) used in
       let low = follow_first e.minute next es before.1.1 up.0 in
       record {
         done = e ∷ [];
         rest = es;
         split = refl;
-        behind = at ∙ used_at registration odometer e.minute b.vehicle;
+        behind = at ∙ used_at registration odometer e.minute b.vehicles;
         shows = subst (λ (n : ℕ). Rests size (and_entry slack e) covered (first_minute next es) n (counted_with covered c e) (trimmed n ds)) (sym at)
             (subst (λ (l : List Day). Rests size (and_entry slack e) covered (first_minute next es) (mark_of (next_book b e)) (counted_with covered c e) (trimmed (mark_of (next_book b e)) l)) (sym new.0)
             (stop_none size (and_entry slack e) covered (suc e.minute) (mark_of (next_book b e)) (counted_with covered c e) (next_book b e).days (with_lives slack from c b l least e gap after many.0) (first_minute next es) low long least));
@@ -204,11 +203,11 @@ module _ (size : ℕ) (long : 5544 ≤ size) (registration : Registration) (odom
       gap : IsBeforeGapOf e.minute b
       gap = (before.0, before.1.0)
 
-      stopped : last_use_of v / 60 ≡ mark_of b → Rests size slack covered e.minute (mark_of b) c (trimmed (mark_of b) ds) → HasFirst size slack covered next (mark_of b) c (e ∷ es) (last_use_of v / 60) ds
+      stopped : last_use_in v / 60 ≡ mark_of b → Rests size slack covered e.minute (mark_of b) c (trimmed (mark_of b) ds) → HasFirst size slack covered next (mark_of b) c (e ∷ es) (last_use_in v / 60) ds
       stopped at rests = record { done = []; rest = e ∷ es; split = refl; behind = at; shows = subst (λ (n : ℕ). Rests size slack covered e.minute n c (trimmed n ds)) (sym at) rests }
   replay_stops (e ∷ es) slack from next c b l least before many up after begins ds v are (inr later) =
       let gap : IsBeforeGapOf e.minute b = (before.0, before.1.0) in
-      and_first slack next (mark_of b) (last_use_of v / 60) c e es ds
-      (subst (λ (m : ℕ). HasFirst size (and_entry slack e) covered next m (counted_with covered c e) es (last_use_of v / 60) ds) (used_at registration odometer e.minute b.vehicle)
+      and_first slack next (mark_of b) (last_use_in v / 60) c e es ds
+      (subst (λ (m : ℕ). HasFirst size (and_entry slack e) covered next m (counted_with covered c e) es (last_use_in v / 60) ds) (used_at registration odometer e.minute b.vehicles)
       (replay_stops es (and_entry slack e) (suc e.minute) next (counted_with covered c e) (next_book b e) (with_lives slack from c b l least e gap after many.0) least
       (with_before b l.rests.ordered e gap many.0 es before.1.1) many.1 up.1 (follow_first e.minute next es before.1.1 up.0) (with_later b l.rests.ordered e gap many.0 es before.1.1) ds v are later))

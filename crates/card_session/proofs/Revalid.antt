@@ -12,7 +12,6 @@ use Rattle.tacho_types.specs.declared.texts.Registration.{Registration}
 use Rattle.card_layout.specs.declared.files.Application.{Application}
 use Rattle.card_layout.specs.Application.{IsApplication}
 use Rattle.card_layout.specs.Files.{image_size_of, place_of}
-use Rattle.card_records.specs.declared.vehicle.Vehicle.{Vehicle}
 use Rattle.card_model.specs.Days.{Day, AreDays, AreWords, Ascend, last_word, len_of}
 use Rattle.card_model.specs.Changes.{OnNewest, date_of, trimmed, with_newest, with_word}
 use Rattle.card_model.specs.Checks.{first_failing, first_bad, file_place}
@@ -23,13 +22,14 @@ use Rattle.card_model.proofs.Trims.{are_trimmed, trim_from_moment, trimmed_twice
 use Rattle.card_retention.specs.Entries.{newest_word}
 use Rattle.gated_ring.specs.Ring.{PointsInside}
 use Rattle.gated_ring.proofs.Elsewhere.{points_elsewhere}
-use Rattle.card_image.specs.Fields.{file, day_string, vehicle_ring, last_of, last_use_of, card_days, end_mark, session_time}
+use Rattle.card_image.specs.Fields.{file, day_string, vehicle_ring, last_of, card_days, end_mark, session_time}
 use Rattle.card_image.specs.Beside.{HaveSameDays, HaveSameVehicles, HaveSameSizes, HaveSamePlacePointer}
 use Rattle.card_image.specs.Judging.{PlacedWord, minute_at, words_placed, days_placed, tells_none, leaves_gap, closing_checks, words_behind_mark, newest_rises, word_checks, IsValid}
 use Rattle.card_image.proofs.Beside.{days_same, session_same as session_beside}
 use Rattle.card_image.proofs.DaysBeside.{bad_elsewhere}
 use Rattle.card_judge.specs.Words.{first_of}
 use Rattle.card_judge.proofs.Checking.{checks_open, checks_closed}
+use Rattle.card_session.specs.Vehicles.{Vehicles, last_use_in}
 use Rattle.card_session.specs.Books.{Book, mark_of, with_entry, closed}
 use Rattle.card_session.specs.Sessions.{EndsStrictly, IsOpenBook, book_of}
 use Rattle.card_session.specs.Moments.{IsBook, IsCloseMoment}
@@ -212,7 +212,7 @@ module _ (app : Application) (x y : List ℕ) (valid : IsValid app x) (sizes : H
       (subst EndsStrictly (flat_of (end_mark app y) 0 (card_days app y) fine.ordered low) fine.strict)
 
 module _ (app : Application) (sound : IsApplication app) where
-  pub card_fine : (P : List Day → Option Vehicle → Type 0) (z y : List ℕ) → image_size_of app ≤ length z → IsCard app P z y → EndsStrictly (trimmed (mark_of (book_of app y)) (book_of app y).days) → Fine app y
+  pub card_fine : (P : List Day → Vehicles → Type 0) (z y : List ℕ) → image_size_of app ≤ length z → IsCard app P z y → EndsStrictly (trimmed (mark_of (book_of app y)) (book_of app y).days) → Fine app y
   unfolding book_of
   card_fine P z y fits card strict = record {
     days = holds_passes (day_string app) (string_shape app sound) y (omega (arith, card.outside.same_length, fits, ring_behind app, ring_inside app)) (book_of app y).days card.holds;
@@ -269,10 +269,10 @@ module _ (app : Application) (sound : IsApplication app) (z : List ℕ) (fine : 
     pub shutting_fine : IsShutting app z w → Fine app w
     shutting_fine card =
         card_fine app sound (IsCloseMoment app.activity Rest (book_of app z)) z w fits card
-        (close_strict app.activity sound.string_least (book_of app z) book_are Rest book_may book_strict (book_of app w).days (book_of app w).vehicle card.holds.ordered card.told)
+        (close_strict app.activity sound.string_least (book_of app z) book_are Rest book_may book_strict (book_of app w).days (book_of app w).vehicles card.holds.ordered card.told)
 
     pub shut_fine : IsShut app z w → Fine app w
-    shut_fine card = shutting_fine (record { outside = card.outside; holds = card.holds; points = card.points; older = card.older; told = inr card.told })
+    shut_fine card = shutting_fine (record { outside = card.outside; holds = card.holds; points = card.points; told = inr card.told })
 
     pub shut_low : IsShut app z w → Low app w
     shut_low card = low_told app w (closed app.activity Rest (book_of app z)) (told_book app (closed app.activity Rest (book_of app z)) z w card) (closed_low app.activity sound.string_least (book_of app z) book_are Rest book_may book_low)
@@ -281,9 +281,9 @@ module _ (app : Application) (sound : IsApplication app) (z : List ℕ) (fine : 
 
 module _ (size : ℕ) (long : 5544 ≤ size) (registration : Registration) (odometer : ℕ) where
   replay_strict : (es : List Entry) (b : Book) → AreDays 0 b.days → EndsStrictly (trimmed (mark_of b) b.days) → IsBeforeAll es b → AllByRecursion (λ e. 1440 ≤ e.minute) es
-      → (ds : List Day) (v : Option Vehicle) → AreDays 0 ds → IsReplaying size registration odometer es b ds v → EndsStrictly (trimmed (last_use_of v / 60) ds)
+      → (ds : List Day) (v : Vehicles) → AreDays 0 ds → IsReplaying size registration odometer es b ds v → EndsStrictly (trimmed (last_use_in v / 60) ds)
   replay_strict [] b are strict before many ds v ordered is =
-      subst (λ (l : List Day). EndsStrictly (trimmed (last_use_of v / 60) l)) (sym is.0) (subst (λ (o : Option Vehicle). EndsStrictly (trimmed (last_use_of o / 60) b.days)) (sym is.1) strict)
+      subst (λ (l : List Day). EndsStrictly (trimmed (last_use_in v / 60) l)) (sym is.0) (subst (λ (o : Vehicles). EndsStrictly (trimmed (last_use_in o / 60) b.days)) (sym is.1) strict)
   replay_strict (e ∷ es) b are strict before many ds v ordered (inl moment) =
       let gap : IsBeforeGapOf e.minute b = (before.0, before.1.0) in
       keep_strict size long b are strict e gap registration odometer 0 ds v ordered moment
@@ -293,7 +293,7 @@ module _ (size : ℕ) (long : 5544 ≤ size) (registration : Registration) (odom
       replay_strict es (with_entry size registration odometer 0 b e) next (after_strict size long b are strict e gap registration odometer 0 next) (with_before size long registration odometer 0 b are e gap many.0 es before.1.1)
       many.1 ds v ordered later
 
-  all_done : (es : List Entry) (b : Book) → IsReplaying size registration odometer es b (with_owed size registration odometer es b).days (with_owed size registration odometer es b).vehicle
+  all_done : (es : List Entry) (b : Book) → IsReplaying size registration odometer es b (with_owed size registration odometer es b).days (with_owed size registration odometer es b).vehicles
   all_done [] b = (refl, refl)
   all_done (e ∷ es) b = inr (all_done es (with_entry size registration odometer 0 b e))
 
@@ -310,15 +310,15 @@ module _ (size : ℕ) (long : 5544 ≤ size) (registration : Registration) (odom
     repair_low : newest_word (repaired size registration odometer owed b).days ≤ mark_of (repaired size registration odometer owed b)
     repair_low = replay_low size long registration odometer 0 ls cut (are_trimmed (mark_of b) 0 b.days are) (trimmed_low (mark_of b) b.days are) before (lacked_many (mark_of b) owed ordered)
 
-    repair_strict : (ds : List Day) (v : Option Vehicle) → AreDays 0 ds → IsRepairMoment size registration odometer owed b ds v → EndsStrictly (trimmed (last_use_of v / 60) ds)
+    repair_strict : (ds : List Day) (v : Vehicles) → AreDays 0 ds → IsRepairMoment size registration odometer owed b ds v → EndsStrictly (trimmed (last_use_in v / 60) ds)
     repair_strict ds v are_kept (inl cutting) =
         let whole : trimmed (mark_of b) ds ≡ trimmed (mark_of b) b.days = ⊎_elim (λ shorter. trim_from_moment (mark_of b) b.days ds shorter) (λ done. ap (trimmed (mark_of b)) done ∙ trimmed_twice (mark_of b) b.days) cutting.0 in
-        subst (λ (o : Option Vehicle). EndsStrictly (trimmed (last_use_of o / 60) ds)) (sym cutting.1) (subst EndsStrictly (sym whole) strict)
+        subst (λ (o : Vehicles). EndsStrictly (trimmed (last_use_in o / 60) ds)) (sym cutting.1) (subst EndsStrictly (sym whole) strict)
     repair_strict ds v are_kept (inr replaying) =
         replay_strict ls cut (are_trimmed (mark_of b) 0 b.days are) (subst EndsStrictly (sym (trimmed_twice (mark_of b) b.days)) strict) before (lacked_many (mark_of b) owed ordered) ds v are_kept replaying
 
     repaired_strict : AreDays 0 (repaired size registration odometer owed b).days → EndsStrictly (trimmed (mark_of (repaired size registration odometer owed b)) (repaired size registration odometer owed b).days)
-    repaired_strict whole = repair_strict (repaired size registration odometer owed b).days (repaired size registration odometer owed b).vehicle whole (inr (all_done ls cut))
+    repaired_strict whole = repair_strict (repaired size registration odometer owed b).days (repaired size registration odometer owed b).vehicles whole (inr (all_done ls cut))
 
 -- ---- a card whose session was left open
 
@@ -347,8 +347,8 @@ module _ (app : Application) (sound : IsApplication app) (x : List ℕ) (fits : 
     repairing_fine : (z : List ℕ) → IsRepairing app registration odometer owed y z → Fine app z
     repairing_fine z card =
         card_fine app sound (IsRepairMoment app.activity registration odometer owed (book_of app y)) y z still_fits card
-        (repair_strict app.activity sound.string_least registration odometer (book_of app x) days_are cut_strict owed ordered (book_of app z).days (book_of app z).vehicle card.holds.ordered
-        (subst (λ (k : Book). IsRepairMoment app.activity registration odometer owed k (book_of app z).days (book_of app z).vehicle) (told_book app (book_of app x) x y still) card.told))
+        (repair_strict app.activity sound.string_least registration odometer (book_of app x) days_are cut_strict owed ordered (book_of app z).days (book_of app z).vehicles card.holds.ordered
+        (subst (λ (k : Book). IsRepairMoment app.activity registration odometer owed k (book_of app z).days (book_of app z).vehicles) (told_book app (book_of app x) x y still) card.told))
 
     module _ (z : List ℕ) (card : IsRepaired app registration odometer owed y z) where
       pub full_is : book_of app z ≡ full

@@ -10,7 +10,6 @@ use Rattle.tacho_types.specs.declared.texts.Registration.{Registration}
 use Rattle.card_layout.specs.declared.files.Application.{Application}
 use Rattle.card_layout.specs.Application.{IsApplication}
 use Rattle.card_layout.specs.Files.{image_size_of, place_of}
-use Rattle.card_records.specs.declared.vehicle.Vehicle.{Vehicle}
 use Rattle.card_model.specs.Days.{Day, AreDays}
 use Rattle.card_model.specs.Changes.{AllLater, date_of, trimmed}
 use Rattle.card_model.proofs.Trims.{are_trimmed}
@@ -21,10 +20,11 @@ use Rattle.card_retention.specs.Shown.{AllUpTo, sizes}
 use Rattle.card_retention.proofs.Listing.{Lists, day_none}
 use Rattle.card_retention.proofs.ListTrims.{lists_trimmed}
 use Rattle.gated_ring.specs.Ring.{PointsInside}
-use Rattle.card_image.specs.Fields.{file, vehicle_ring, last_use_of, card_days, end_mark, session_time}
+use Rattle.card_image.specs.Fields.{file, vehicle_ring, card_days, end_mark, session_time}
 use Rattle.card_image.specs.Beside.{HaveSameDays, HaveSameVehicles}
 use Rattle.card_image.specs.Judging.{IsValid}
 use Rattle.card_image.proofs.Beside.{days_same}
+use Rattle.card_session.specs.Vehicles.{Vehicles, last_use_in}
 use Rattle.card_session.specs.Books.{Book, mark_of, gap_closed, with_entry, closed}
 use Rattle.card_session.specs.Sessions.{book_of}
 use Rattle.card_session.specs.Moments.{IsBook, IsCloseMoment}
@@ -110,10 +110,10 @@ module _ (size : ℕ) (long : 5544 ≤ size) (registration : Registration) (odom
         commit_shows size long b are e gap (silent_end (mark_of b) b.days are low) all up listed (λ other. begins (sym (newest_gapped size long b are e.minute (e.minute / 1440)) ∙ other)) 0 next_are
 
     next_listed : Lists (mark_of (with_entry size registration odometer 0 b e)) (all ++ e ∷ []) (with_entry size registration odometer 0 b e).days
-    next_listed = subst (λ (n : ℕ). Lists n (all ++ e ∷ []) (with_entry size registration odometer 0 b e).days) (sym (used_at registration odometer e.minute b.vehicle)) next_shown
+    next_listed = subst (λ (n : ℕ). Lists n (all ++ e ∷ []) (with_entry size registration odometer 0 b e).days) (sym (used_at registration odometer e.minute b.vehicles)) next_shown
 
     next_up : AllUpTo (mark_of (with_entry size registration odometer 0 b e)) (all ++ e ∷ [])
-    next_up = subst (λ (n : ℕ). AllUpTo n (all ++ e ∷ [])) (sym (used_at registration odometer e.minute b.vehicle)) (up_and (mark_of b) all e (omega (arith, gap.1)) up)
+    next_up = subst (λ (n : ℕ). AllUpTo n (all ++ e ∷ [])) (sym (used_at registration odometer e.minute b.vehicles)) (up_and (mark_of b) all e (omega (arith, gap.1)) up)
 
     next_low : newest_word (with_entry size registration odometer 0 b e).days ≤ mark_of (with_entry size registration odometer 0 b e)
     next_low = replay_low size long registration odometer 0 (e ∷ []) b are low (gap.0, (gap.1, tt)) (some, tt)
@@ -131,24 +131,24 @@ module _ (size : ℕ) (long : 5544 ≤ size) (registration : Registration) (odom
 
   -- AT EACH MOMENT the first of them are
   replay_shown : (es all : List Entry) (b : Book) → AreDays 0 b.days → newest_word b.days ≤ mark_of b → AllUpTo (mark_of b) all → Lists (mark_of b) all b.days → IsBeforeAll es b → AllByRecursion (λ e. 1440 ≤ e.minute) es
-      → BeginsLater (mark_of b) es b.days → (ds : List Day) (v : Option Vehicle) → IsReplaying size registration odometer es b ds v → HasShown (mark_of b) all es (last_use_of v / 60) ds
+      → BeginsLater (mark_of b) es b.days → (ds : List Day) (v : Vehicles) → IsReplaying size registration odometer es b ds v → HasShown (mark_of b) all es (last_use_in v / 60) ds
   replay_shown [] all b are low up listed before many begins ds v is =
-      let at : last_use_of v / 60 ≡ mark_of b = ap (λ (o : Option Vehicle). last_use_of o / 60) is.1 in
+      let at : last_use_in v / 60 ≡ mark_of b = ap (λ (o : Vehicles). last_use_in o / 60) is.1 in
       record {
         done = [];
         rest = [];
         split = refl;
         behind = at;
-        shows = none_more (last_use_of v / 60) all ds (subst (λ (n : ℕ). Lists n all ds) (sym at) (subst (λ (l : List Day). Lists (mark_of b) all l) (sym is.0) listed));
+        shows = none_more (last_use_in v / 60) all ds (subst (λ (n : ℕ). Lists n all ds) (sym at) (subst (λ (l : List Day). Lists (mark_of b) all l) (sym is.0) listed));
       }
   replay_shown (e ∷ es) all b are low up listed before many begins ds v (inl moment) = ⊎_elim
-      (λ old. waits (ap (λ (o : Option Vehicle). last_use_of o / 60) old.0)
+      (λ old. waits (ap (λ (o : Vehicles). last_use_in o / 60) old.0)
       (keep_survives size long b are (Lists (mark_of b) all) (Lists (mark_of b) all) (lists_survive (mark_of b) all up) listed e gap clear registration odometer 0 ds old.1))
       (λ new. ⊎_elim
-      (λ unused. waits (before_use registration odometer e.minute b.vehicle v unused)
+      (λ unused. waits (before_use registration odometer e.minute b.vehicles v unused)
       (keep_survives size long b are (Lists (mark_of b) all) (Lists (mark_of b) all) (lists_survive (mark_of b) all up) listed e gap clear registration odometer 0 ds (inr (inr (inr new.0)))))
       (λ used.
-      let at : last_use_of v / 60 ≡ e.minute = ap (λ (o : Option Vehicle). last_use_of o / 60) used ∙ used_at registration odometer e.minute b.vehicle in
+      let at : last_use_in v / 60 ≡ e.minute = ap (λ (o : Vehicles). last_use_in o / 60) used ∙ used_at registration odometer e.minute b.vehicles in
       record {
         done = e ∷ [];
         rest = es;
@@ -165,8 +165,8 @@ module _ (size : ℕ) (long : 5544 ≤ size) (registration : Registration) (odom
       clear : is_newest (e.minute / 1440) (sizes (gap_closed size (mark_of b) e.minute b.days)) ≡ false → mark_of b / 1440 < e.minute / 1440
       clear other = begins (sym (newest_gapped size long b are e.minute (e.minute / 1440)) ∙ other)
 
-      waits : last_use_of v / 60 ≡ mark_of b → Lists (mark_of b) all ds → HasShown (mark_of b) all (e ∷ es) (last_use_of v / 60) ds
-      waits at lists = record { done = []; rest = e ∷ es; split = refl; behind = at; shows = none_more (last_use_of v / 60) all ds (subst (λ (n : ℕ). Lists n all ds) (sym at) lists) }
+      waits : last_use_in v / 60 ≡ mark_of b → Lists (mark_of b) all ds → HasShown (mark_of b) all (e ∷ es) (last_use_in v / 60) ds
+      waits at lists = record { done = []; rest = e ∷ es; split = refl; behind = at; shows = none_more (last_use_in v / 60) all ds (subst (λ (n : ℕ). Lists n all ds) (sym at) lists) }
   replay_shown (e ∷ es) all b are low up listed before many begins ds v (inr later) =
       let gap : IsBeforeGapOf e.minute b = (before.0, before.1.0) in
       let next : Book = with_entry size registration odometer 0 b e in
@@ -176,8 +176,8 @@ module _ (size : ℕ) (long : 5544 ≤ size) (registration : Registration) (odom
         done = e ∷ one.done;
         rest = one.rest;
         split = ap (λ (l : List Entry). e ∷ l) one.split;
-        behind = one.behind ∙ ap (λ (m : ℕ). mark_behind m one.done) (used_at registration odometer e.minute b.vehicle);
-        shows = subst (λ (l : List Entry). Lists (last_use_of v / 60) l ds) (append_assoc all (e ∷ []) one.done) one.shows;
+        behind = one.behind ∙ ap (λ (m : ℕ). mark_behind m one.done) (used_at registration odometer e.minute b.vehicles);
+        shows = subst (λ (l : List Entry). Lists (last_use_in v / 60) l ds) (append_assoc all (e ∷ []) one.done) one.shows;
       }
 
   -- ---- a repair
@@ -200,12 +200,12 @@ module _ (size : ℕ) (long : 5544 ≤ size) (registration : Registration) (odom
     repair_lists =
         replay_lists lacks all cut (are_trimmed (mark_of b) 0 b.days are) (trimmed_low (mark_of b) b.days are) up cut_listed cut_before (lacked_many (mark_of b) owed ordered) begins
 
-    none_shown : (ds : List Day) (v : Option Vehicle) → v ≡ b.vehicle → Lists (mark_of b) all ds → HasShown (mark_of b) all lacks (last_use_of v / 60) ds
+    none_shown : (ds : List Day) (v : Vehicles) → v ≡ b.vehicles → Lists (mark_of b) all ds → HasShown (mark_of b) all lacks (last_use_in v / 60) ds
     none_shown ds v same lists =
-        let at : last_use_of v / 60 ≡ mark_of b = ap (λ (o : Option Vehicle). last_use_of o / 60) same in
-        record { done = []; rest = lacks; split = refl; behind = at; shows = none_more (last_use_of v / 60) all ds (subst (λ (n : ℕ). Lists n all ds) (sym at) lists) }
+        let at : last_use_in v / 60 ≡ mark_of b = ap (λ (o : Vehicles). last_use_in o / 60) same in
+        record { done = []; rest = lacks; split = refl; behind = at; shows = none_more (last_use_in v / 60) all ds (subst (λ (n : ℕ). Lists n all ds) (sym at) lists) }
 
-    repair_shown : (ds : List Day) (v : Option Vehicle) → IsRepairMoment size registration odometer owed b ds v → HasShown (mark_of b) all lacks (last_use_of v / 60) ds
+    repair_shown : (ds : List Day) (v : Vehicles) → IsRepairMoment size registration odometer owed b ds v → HasShown (mark_of b) all lacks (last_use_in v / 60) ds
     repair_shown ds v (inl cutting) = ⊎_elim
         (λ shorter. none_shown ds v cutting.1 (lists_front (mark_of b) all b.days ds shorter.gone shorter.is shorter.later are up listed))
         (λ done. none_shown ds v cutting.1 (subst (λ (l : List Day). Lists (mark_of b) all l) (sym done) cut_listed)) cutting.0
@@ -242,7 +242,7 @@ module _ (app : Application) (sound : IsApplication app) (x : List ℕ) (fits : 
   unfolding book_of
   up_told = up
 
-  first_told : (y : List ℕ) → HasShown (mark_of (book_of app x)) all (lacked (mark_of (book_of app x)) owed) (last_use_of (book_of app y).vehicle / 60) (book_of app y).days → ShowsMore app all owed x y
+  first_told : (y : List ℕ) → HasShown (mark_of (book_of app x)) all (lacked (mark_of (book_of app x)) owed) (last_use_in (book_of app y).vehicles / 60) (book_of app y).days → ShowsMore app all owed x y
   unfolding book_of
   first_told y first = first
 
@@ -263,13 +263,13 @@ module _ (app : Application) (sound : IsApplication app) (x : List ℕ) (fits : 
 
     still_shows : ShowsMore app all owed x y
     still_shows =
-        first_told y (none_shown app.activity sound.string_least registration odometer (book_of app x) x_are x_strict owed ordered x_later all up_told listed_told (book_of app y).days (book_of app y).vehicle still.told.1
+        first_told y (none_shown app.activity sound.string_least registration odometer (book_of app x) x_are x_strict owed ordered x_later all up_told listed_told (book_of app y).days (book_of app y).vehicles still.told.1
         (subst (λ (l : List Day). Lists (mark_of (book_of app x)) all l) (sym still.told.0) listed_told))
 
     repairing_shows : (z : List ℕ) → IsRepairing app registration odometer owed y z → ShowsMore app all owed x z
     repairing_shows z card =
-        first_told z (repair_shown app.activity sound.string_least registration odometer (book_of app x) x_are x_strict owed ordered x_later all up_told listed_told (book_of app z).days (book_of app z).vehicle
-        (subst (λ (k : Book). IsRepairMoment app.activity registration odometer owed k (book_of app z).days (book_of app z).vehicle) (told_book app (book_of app x) x y still) card.told))
+        first_told z (repair_shown app.activity sound.string_least registration odometer (book_of app x) x_are x_strict owed ordered x_later all up_told listed_told (book_of app z).days (book_of app z).vehicles
+        (subst (λ (k : Book). IsRepairMoment app.activity registration odometer owed k (book_of app z).days (book_of app z).vehicles) (told_book app (book_of app x) x y still) card.told))
 
     module _ (z : List ℕ) (card : IsRepaired app registration odometer owed y z) where
       abbrev z_is : book_of app z ≡ repaired app.activity registration odometer owed (book_of app x)
@@ -308,7 +308,7 @@ module _ (app : Application) (sound : IsApplication app) (x : List ℕ) (fits : 
 
         use_shows : (w v : List ℕ) → IsShut app c w → Same app w v → All_shown v
         use_shows w v shut side =
-            shows_beside app sound w v side.0 side.1 shut.points more (shutting_shows w (record { outside = shut.outside; holds = shut.holds; points = shut.points; older = shut.older; told = inr shut.told }))
+            shows_beside app sound w v side.0 side.1 shut.points more (shutting_shows w (record { outside = shut.outside; holds = shut.holds; points = shut.points; told = inr shut.told }))
 
         room : (w : List ℕ) → IsShut app c w → place_of app (file 0x0507) + 19 ≤ length w
         room w shut = omega (arith, use_inside app, noted_fits app sound x fits registration long odometer now owed ordered valid open_ y still z card c noted, shut.outside.same_length)
@@ -348,7 +348,7 @@ module _ (app : Application) (sound : IsApplication app) (x : List ℕ) (fits : 
 
     opened_shown : (z w : List ℕ) → IsShut app y z → Same app z w → ShowsEntries app all w
     opened_shown z w shut side =
-        shows_beside app sound z w side.0 side.1 shut.points all (words_shown z (record { outside = shut.outside; holds = shut.holds; points = shut.points; older = shut.older; told = inr shut.told }))
+        shows_beside app sound z w side.0 side.1 shut.points all (words_shown z (record { outside = shut.outside; holds = shut.holds; points = shut.points; told = inr shut.told }))
 
     shut_room : (z : List ℕ) → IsShut app y z → place_of app (file 0x0507) + 19 ≤ length z
     shut_room z shut = omega (arith, use_inside app, fits, still.outside.same_length, shut.outside.same_length)

@@ -9,7 +9,6 @@ use Rattle.tacho_types.specs.declared.texts.Registration.{Registration}
 use Rattle.card_layout.specs.declared.files.Application.{Application}
 use Rattle.card_layout.specs.Application.{IsApplication}
 use Rattle.card_layout.specs.Files.{image_size_of, place_of}
-use Rattle.card_records.specs.declared.vehicle.Vehicle.{Vehicle}
 use Rattle.card_model.specs.Days.{Day, AreDays, len_of}
 use Rattle.card_model.specs.Changes.{date_of, trimmed}
 use Rattle.card_model.specs.Checks.{Check, check, first_failing, first_bad}
@@ -234,8 +233,7 @@ module _ (app : Application) (sound : IsApplication app) (x : List ℕ) (fits : 
             outside = card.outside;
             holds = card.holds;
             points = card.points;
-            older = card.older;
-            told = closed_still app.activity (book_of app y) (shut_told y y_is) (book_of app z).days (book_of app z).vehicle card.told;
+            told = closed_still app.activity (book_of app y) (shut_told y y_is) (book_of app z).days (book_of app z).vehicles card.told;
           })
           ∙ y_is
 
@@ -250,7 +248,7 @@ module _ (app : Application) (sound : IsApplication app) (x : List ℕ) (fits : 
   closed_valid y (inr (x1, still, inl shutting)) =
       still_valid y (x_are x1 still) (days_told y (z_is x1 still y shutting)) (mark_is y (z_is x1 still y shutting)) (z_fine x1 still y shutting) (inr (x1, still, inl shutting))
   closed_valid y (inr (x1, still, inr (x2, done, opening))) =
-      let card : IsShutting app x1 x2 = record { outside = done.outside; holds = done.holds; points = done.points; older = done.older; told = inr done.told } in
+      let card : IsShutting app x1 x2 = record { outside = done.outside; holds = done.holds; points = done.points; told = inr done.told } in
       let side = opening_same app registration now long x2 y (z_room x1 still x2 card) opening in
       still_valid y (x_are x1 still)
       (days_same app x2 y side.0 ∙ days_told x2 (z_is x1 still x2 card))

@@ -1,18 +1,17 @@
 -- What a stop in a keep or in a withdrawal leaves of the days, by the stated overwriting.
-use Rattle.std.proofs.Common.{◌≡◌, inl, inr, ⊎_elim, ℕ, suc, ◌+◌, ◌-◌, ◌*◌, ◌/◌, ◌%◌, ◌<◌, ◌≤◌, max, Bool, true, false, cond, ◌&&◌, Option, Some, None, List, [], ◌∷◌, length, refl, sym, ◌∙◌, ap, subst, arith}
-use Rattle.std.specs.Prelude.{◌⊎◌, ◌==◌, nat_eq, nat_lt}
+use Rattle.std.proofs.Common.{◌≡◌, inl, inr, ⊎_elim, ℕ, suc, ◌+◌, ◌-◌, ◌*◌, ◌/◌, ◌%◌, ◌<◌, ◌≤◌, max, Bool, true, false, cond, ◌&&◌, Option, Some, None, List, [], ◌∷◌, length, refl, sym, ◌∙◌, ap, subst, arith, option_map}
+use Rattle.std.specs.Prelude.{◌⊎◌, ◌==◌, nat_lt}
 use Rattle.std.proofs.lemmas.Bool.{lt-ltb}
 use Rattle.activity_codec.specs.declared.values.Activity.{Activity}
 use Rattle.activity_codec.specs.declared.values.Activity.TheVariants.{Rest, Available, Work, Driving}
 use Rattle.activity_codec.specs.declared.entries.Entry.{Entry}
 use Rattle.activity_codec.specs.Words.{word_minute, word_absent, activity_number}
 use Rattle.tacho_types.specs.declared.texts.Registration.{Registration}
-use Rattle.card_records.specs.declared.vehicle.Vehicle.{Vehicle}
 use Rattle.card_layout.specs.declared.files.Application.{Application}
 use Rattle.card_layout.specs.Application.{IsApplication}
 use Rattle.card_model.specs.Days.{Day, AreDays}
-use Rattle.card_model.specs.Changes.{Remain, OnNewest, fitting, with_newest, with_word, date_of, trimmed}
-use Rattle.card_model.proofs.Retention.{remain_all, remain_fitting}
+use Rattle.card_model.specs.Changes.{OnNewest, fitting, with_newest, with_word, date_of, trimmed}
+use Rattle.card_model.proofs.Retention.{remain_all}
 use Rattle.card_model.proofs.Trims.{are_trimmed}
 use Rattle.card_retention.specs.Expected.{Counted, is_newest, with_entry as counted_with}
 use Rattle.card_retention.specs.Shown.{Bound, AllUpTo, Rests, Lives, sizes, is_open, with_closing}
@@ -27,17 +26,19 @@ use Rattle.tach_media.proofs.Images.{part_in}
 use Rattle.card_records.specs.CurrentUses.{current_use_of}
 use Rattle.tach_media.specs.Medium.{SameOutside, bytes_at}
 use Rattle.gated_ring.specs.Ring.{PointsInside, size_of as ring_size}
-use Rattle.card_image.specs.Fields.{file, day_string, vehicle_ring, last_use_of, card_days, end_mark, current_use, session_time}
+use Rattle.card_image.specs.Fields.{file, day_string, vehicle_ring, card_days, end_mark, current_use, session_time, last_use_of}
 use Rattle.card_image.specs.Beside.{HaveSameDays, HaveSameVehicles}
 use Rattle.card_image.proofs.Beside.{days_same, last_use_same}
-use Rattle.card_session.specs.Books.{Book, mark_of, latest_of, closing_word, with_change, gap_closed, closed_days, closed, last_used, entry_word, bare_word, day_words, entered_days, travelled, vehicle_after, with_entry, measured_to, goes_on_with}
+use Rattle.card_records.specs.declared.vehicle.Vehicle.{Vehicle}
+use Rattle.card_session.specs.Vehicles.{Vehicles, last_use_in}
+use Rattle.card_session.specs.Books.{Book, mark_of, latest_of, closing_word, gap_closed, closed_days, closed, last_used, entered_days, travelled, with_entry, used}
 use Rattle.card_session.specs.Sessions.{Session, IsSession, book_of}
 use Rattle.card_session.specs.Moments.{IsBook, IsBeforeGap, IsBeforeWords, IsBeforeMark, IsBeforeUse, IsKeepMoment, IsClosingWord, IsCloseMoment, entry_len}
 use Rattle.card_session.specs.Cards.{IsCard, IsCardClosed, IsCardClosing, ended}
 use Rattle.card_session.specs.Parts.{IsBeforeGapOf}
 use Rattle.card_session.specs.Overwriting.{GoesOn, IsRepairable, ShowsEntries, BeginsBehind, and_entry}
 use Rattle.card_session.proofs.OnCard.{ring_behind}
-use Rattle.card_session.proofs.Marks.{mark_told, measured_mark}
+use Rattle.card_session.proofs.Marks.{mark_told, use_before}
 use Rattle.card_session.proofs.Following.{closing_minute}
 use Rattle.card_session.proofs.Preparing.{gap_are, used_at, open_date}
 use Rattle.card_session.proofs.Lasting.{entered_as}
@@ -82,14 +83,22 @@ none_later date [] are on = on
 none_later date (d ∷ []) are on = omega (arith, are.0, on)
 none_later date (d ∷ f ∷ ds) are on = none_later d.date (f ∷ ds) are.2 on
 
-pub mark_moves : (b : Book) → AreDays 0 b.days → is_open (mark_of b) b.days ≡ true → last_use_of (last_used (60 * suc (mark_of b)) b.vehicle) / 60 ≡ suc (mark_of b)
-mark_moves b are is = by b.vehicle refl
+pub mark_moves : (b : Book) → AreDays 0 b.days → is_open (mark_of b) b.days ≡ true → last_use_in (last_used (60 * suc (mark_of b)) b.vehicles) / 60 ≡ suc (mark_of b)
+mark_moves b are is = by b.vehicles.newest refl
   where
-    by : (o : Option Vehicle) → b.vehicle ≡ o → last_use_of (last_used (60 * suc (mark_of b)) o) / 60 ≡ suc (mark_of b)
+    by : (o : Option Vehicle) → b.vehicles.newest ≡ o → last_use_of (option_map (used (60 * suc (mark_of b))) o) / 60 ≡ suc (mark_of b)
     by (Some u) there = omega arith
     by None there =
         let zero : mark_of b ≡ 0 = ap (λ (o : Option Vehicle). last_use_of o / 60) there in
         absurd (none_later 0 b.days are (subst (λ (m : ℕ). OnNewest (λ d. d.date ≡ date_of (suc m)) b.days) zero (open_date (mark_of b) b.days is)))
+
+-- there it stands in whole minutes
+pub used_whole : (v : Vehicles) (n : ℕ) → last_use_in (last_used (60 * suc n) v) / 60 ≡ suc n → last_use_in (last_used (60 * suc n) v) ≡ 60 * suc n
+used_whole v n at = by v.newest at
+  where
+    by : (o : Option Vehicle) → last_use_of (option_map (used (60 * suc n)) o) / 60 ≡ suc n → last_use_of (option_map (used (60 * suc n)) o) ≡ 60 * suc n
+    by (Some u) at = refl
+    by None at = absurd (omega (arith, at))
 
 module _ (size : ℕ) (slack : Bound) (covered from : ℕ) (c : Counted) (b : Book) (l : Lives size slack covered from (mark_of b) c b.days) (long : 5544 ≤ size) (least : 16 ≤ slack.bytes) where
   -- ---- a keep
@@ -185,7 +194,7 @@ module _ (size : ℕ) (slack : Bound) (covered from : ℕ) (c : Counted) (b : Bo
         rest.1) moment
 
     abbrev marked : Book
-    marked = record { days = closed_days size (mark_of b) act b.days; vehicle = last_used (60 * suc (mark_of b)) b.vehicle }
+    marked = record { days = closed_days size (mark_of b) act b.days; vehicles = last_used (60 * suc (mark_of b)) b.vehicles }
 
     closed_goes : AreDays 0 (closed size act b).days → Lives size slack covered next (mark_of (closed size act b)) c (closed size act b).days
     closed_goes ordered = by (is_open (mark_of b) b.days) refl ordered
@@ -214,14 +223,12 @@ book_days app x = refl
 pub days_there : (s : Session) (x : List ℕ) → IsSession s x → AreDays 0 (book_of s.application x).days
 days_there s x knows = knows.card.days.holds.ordered
 
-pub mark_at : (app : Application) (b : Book) (y : List ℕ) → (book_of app y).vehicle ≡ b.vehicle → end_mark app y ≡ mark_of b
-mark_at app b y same = mark_told app y ∙ ap (λ (o : Option Vehicle). last_use_of o / 60) same
+pub mark_at : (app : Application) (b : Book) (y : List ℕ) → (book_of app y).vehicles ≡ b.vehicles → end_mark app y ≡ mark_of b
+mark_at app b y same = mark_told app y ∙ ap (λ (o : Vehicles). last_use_in o / 60) same
 
 -- where an entry's use is still to be written
-pub before_use : (registration : Registration) (odometer minute : ℕ) (old now : Option Vehicle) → IsBeforeUse registration odometer minute old now → last_use_of now / 60 ≡ last_use_of old / 60
-before_use registration odometer minute old now moment = ⊎_elim
-    (λ same. ap (λ (o : Option Vehicle). last_use_of o / 60) same)
-    (λ set. ap (λ (o : Option Vehicle). last_use_of o / 60) set.1 ∙ ap (λ (n : ℕ). n / 60) (measured_mark odometer old)) moment
+pub before_use : (registration : Registration) (odometer minute : ℕ) (old now : Vehicles) → IsBeforeUse registration odometer minute old now → last_use_in now / 60 ≡ last_use_in old / 60
+before_use registration odometer minute old now moment = ap (λ (n : ℕ). n / 60) (use_before registration odometer minute old now moment)
 
 module _ (app : Application) (slack : Bound) (covered from : ℕ) (c : Counted) (y : List ℕ) (m : ℕ) (at : end_mark app y ≡ m) where
   repairable_at : Rests app.activity slack covered from m c (trimmed m (book_of app y).days) → IsRepairable app slack covered from c y
@@ -282,13 +289,13 @@ closed_mark : (size : ℕ) (act : Activity) (b : Book) → AreDays 0 b.days → 
 closed_mark size act b are = by (is_open (mark_of b) b.days) refl
   where
     ends : Book
-    ends = record { days = closed_days size (mark_of b) act b.days; vehicle = last_used (60 * suc (mark_of b)) b.vehicle }
+    ends = record { days = closed_days size (mark_of b) act b.days; vehicles = last_used (60 * suc (mark_of b)) b.vehicles }
 
     by : (o : Bool) → is_open (mark_of b) b.days ≡ o → (mark_of (cond o ends b) ≡ mark_of b) ⊎ (mark_of (cond o ends b) ≡ suc (mark_of b))
     by true is = inr (mark_moves b are is)
     by false is = inl refl
 
-card_mark : (s : Session) (act : Activity) (x y : List ℕ) → IsSession s x → IsBook (closed s.application.activity act (book_of s.application x)) (book_of s.application y).days (book_of s.application y).vehicle
+card_mark : (s : Session) (act : Activity) (x y : List ℕ) → IsSession s x → IsBook (closed s.application.activity act (book_of s.application x)) (book_of s.application y).days (book_of s.application y).vehicles
     → (end_mark s.application y ≡ end_mark s.application x) ⊎ (end_mark s.application y ≡ suc (end_mark s.application x))
 card_mark s act x y knows book =
     let at = mark_at s.application (closed s.application.activity act (book_of s.application x)) y book.1 in
@@ -323,9 +330,9 @@ module _ (app : Application) (sound : IsApplication app) (x : List ℕ) (slack :
       (λ old. let at = mark_at app b y old.0 in
       inl (at ∙ sym (mark_told app x), repairable_at app slack covered e.minute c y (mark_of b) at (before_stop app.activity slack covered from c b lives_there sound.string_least least e before later clear_at registration odometer more (book_of app y).days card.holds.ordered old.1)))
       (λ new. ⊎_elim
-      (λ unused. let at : end_mark app y ≡ mark_of b = mark_told app y ∙ before_use registration odometer e.minute b.vehicle (book_of app y).vehicle unused in
+      (λ unused. let at : end_mark app y ≡ mark_of b = mark_told app y ∙ before_use registration odometer e.minute b.vehicles (book_of app y).vehicles unused in
       inl (at ∙ sym (mark_told app x), repairable_at app slack covered e.minute c y (mark_of b) at (before_stop app.activity slack covered from c b lives_there sound.string_least least e before later clear_at registration odometer more (book_of app y).days card.holds.ordered (inr (inr (inr new.0))))))
-      (λ after. let at : end_mark app y ≡ e.minute = mark_told app y ∙ ap (λ (o : Option Vehicle). last_use_of o / 60) after ∙ used_at registration odometer e.minute b.vehicle in
+      (λ after. let at : end_mark app y ≡ e.minute = mark_told app y ∙ ap (λ (o : Vehicles). last_use_in o / 60) after ∙ used_at registration odometer e.minute b.vehicles in
       inr (
         at,
         goes_at app (and_entry slack e) covered (suc e.minute) (counted_with covered c e) y e.minute at
@@ -344,7 +351,7 @@ module _ (app : Application) (sound : IsApplication app) (x : List ℕ) (slack :
 
   -- with the closing word, and the end mark at it
   pub closed_leaves : (act : Activity) (next : ℕ) (y : List ℕ) → from ≤ next → newest_minute (end_mark app x) (card_days app x) < next → AreDays 0 (book_of app y).days
-      → IsBook (closed app.activity act b) (book_of app y).days (book_of app y).vehicle → GoesOn app slack covered next c y
+      → IsBook (closed app.activity act b) (book_of app y).days (book_of app y).vehicles → GoesOn app slack covered next c y
   closed_leaves act next y later before ordered book =
       goes_at app slack covered next c y (mark_of (closed app.activity act b)) (mark_at app (closed app.activity act b) y book.1)
       (subst (λ (ds : List Day). Lives app.activity slack covered next (mark_of (closed app.activity act b)) c ds) (sym book.0)
@@ -394,7 +401,7 @@ module _ (app : Application) (sound : IsApplication app) (x : List ℕ) (ordered
       (λ new. ⊎_elim
       (λ unused. shown_at y (same ∙ mark_told app x) (survives (book_of app y).days (inr (inr (inr new.0)))))
       (λ after.
-      let now : end_mark app y ≡ e.minute = mark_told app y ∙ ap (λ (o : Option Vehicle). last_use_of o / 60) after ∙ used_at registration odometer e.minute (book_of app x).vehicle in
+      let now : end_mark app y ≡ e.minute = mark_told app y ∙ ap (λ (o : Vehicles). last_use_in o / 60) after ∙ used_at registration odometer e.minute (book_of app x).vehicles in
       let then : end_mark app y ≡ mark_of (book_of app x) = same ∙ mark_told app x in
       absurd (omega (arith, before.1, now, then)))
       new.1)

@@ -28,7 +28,6 @@ use Rattle.card_session.proofs.Composing.{part_of, part_none, card_as}
 use Rattle.card_session.proofs.OnCard.{newest_told}
 use Rattle.card_session.proofs.Following.{gap_told, day_told, change_told, km_is}
 use Rattle.card_session.proofs.Preparing.{gap_asks, gap_makes, gap_moments, change_asks, change_makes, change_moments, day_asks, day_makes, day_moments}
-use Rattle.card_session.proofs.Older.{keeps_still}
 
 -- ---- values
 
@@ -87,7 +86,6 @@ module _ (s : Session) (value : IsValue s) (t : Session) where
       outside = outside_same (day_string app).base (days_and_vehicles app) x;
       holds = subst (λ (q : StringShape). Holds q x (Days x)) value.days knows.days.holds;
       points = knows.points;
-      older = keeps_still app x;
       told = (refl, refl);
     },
     subst (λ (u : Session). KnowsCard u x) (sym is) knows,
@@ -141,11 +139,11 @@ module _ (s : Session) (value : IsValue s) (t : Session) where
 
   -- the distance
   pub km_part : {old new : State} {failed : Bool} (more km : ℕ) (tail : Option Tail) → Tells tail → km ≡ km_after more (km_told tail)
-      → DoesPart old new failed (IsPartDone s t HasDay (λ b. let c : Book = record { days = with_newest (with_km km) b.days; vehicle = b.vehicle } in c)) (IsPartMoment s HasDay (λ b ds v. ((ds ≡ b.days) ⊎ (ds ≡ with_newest (with_km km) b.days)) × (v ≡ b.vehicle)))
+      → DoesPart old new failed (IsPartDone s t HasDay (λ b. let c : Book = record { days = with_newest (with_km km) b.days; vehicles = b.vehicles } in c)) (IsPartMoment s HasDay (λ b ds v. ((ds ≡ b.days) ⊎ (ds ≡ with_newest (with_km km) b.days)) × (v ≡ b.vehicles)))
       → DoesPart old new failed (IsPartDone s t HasDay (with_more more)) (IsPartMoment s HasDay (IsTravelling more))
   km_part more km tail told is part =
-      part_of s t HasDay HasDay (λ b. let c : Book = record { days = with_newest (with_km km) b.days; vehicle = b.vehicle } in c) (with_more more) (λ b ds v. ((ds ≡ b.days) ⊎ (ds ≡ with_newest (with_km km) b.days)) × (v ≡ b.vehicle)) (IsTravelling more) part
-      (λ x knows some. some) (λ x knows some. ap (λ (ds : List Day). let c : Book = record { days = ds; vehicle = (book_of app x).vehicle } in c) (days_is x knows))
+      part_of s t HasDay HasDay (λ b. let c : Book = record { days = with_newest (with_km km) b.days; vehicles = b.vehicles } in c) (with_more more) (λ b ds v. ((ds ≡ b.days) ⊎ (ds ≡ with_newest (with_km km) b.days)) × (v ≡ b.vehicles)) (IsTravelling more) part
+      (λ x knows some. some) (λ x knows some. ap (λ (ds : List Day). let c : Book = record { days = ds; vehicles = (book_of app x).vehicles } in c) (days_is x knows))
       (λ x knows some ds v moment. (⊎_elim (λ still. inl still) (λ set. inr (set ∙ days_is x knows)) moment.0, moment.1))
     where
       days_is : (x : List ℕ) → KnowsCard s x → with_newest (with_km km) (Days x) ≡ travelled more (Days x)
@@ -156,7 +154,7 @@ module _ (s : Session) (value : IsValue s) (t : Session) where
 -- ---- the newest vehicle entry
 
 -- it does not go on with a minute, or there is none
-pub not_going : (s : Session) (minute : ℕ) → (s.newest ≡ None) ⊎ (goes_on_with s.registration minute s.vehicle ≡ false) → (x : List ℕ) → KnowsCard s x → goes_on_with s.registration minute (book_of s.application x).vehicle ≡ false
+pub not_going : (s : Session) (minute : ℕ) → (s.newest ≡ None) ⊎ (goes_on_with s.registration minute s.vehicle ≡ false) → (x : List ℕ) → KnowsCard s x → goes_on_with s.registration minute (book_of s.application x).vehicles.newest ≡ false
 not_going s minute (inl none) x knows =
     ap (goes_on_with s.registration minute) (newest_told s.application x None (subst (λ (o : Option ℕ). IsNewest (vehicle_ring s.application) x o) none knows.newest))
 not_going s minute (inr other) x knows = ap (goes_on_with s.registration minute) (sym knows.vehicle) ∙ other

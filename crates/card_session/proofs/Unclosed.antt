@@ -89,17 +89,17 @@ module _ (app : Application) (sound : IsApplication app) (x : List ℕ) (fits : 
       y_fine : Fine app y
       y_fine = shutting_fine app sound x1 one_fine one_low one_fits y card
 
-      moment : IsCloseMoment app.activity Rest (book_of app x) (book_of app y).days (book_of app y).vehicle
-      moment = subst (λ (k : Book). IsCloseMoment app.activity Rest k (book_of app y).days (book_of app y).vehicle) one_is card.told
+      moment : IsCloseMoment app.activity Rest (book_of app x) (book_of app y).days (book_of app y).vehicles
+      moment = subst (λ (k : Book). IsCloseMoment app.activity Rest k (book_of app y).days (book_of app y).vehicles) one_is card.told
 
       -- no word stands behind the old end mark
-      waits : (book_of app y).vehicle ≡ (book_of app x).vehicle → newest_word (book_of app y).days ≡ newest_word (book_of app x).days → IsValid app y
+      waits : (book_of app y).vehicles ≡ (book_of app x).vehicles → newest_word (book_of app y).days ≡ newest_word (book_of app x).days → IsValid app y
       waits mark word =
           fine_low app x y valid same.0 same.1 y_fine
           (subst (λ (ds : List Day). newest_word ds ≤ end_mark app y) (book_days app y) (omega (arith, mark_at app (book_of app x) y mark, word, x_low)))
 
       -- that word alone does
-      stands : (book_of app y).vehicle ≡ (book_of app x).vehicle → (book_of app y).days ≡ closed_days app.activity (mark_of (book_of app x)) Rest (book_of app x).days → IsValid app y
+      stands : (book_of app y).vehicles ≡ (book_of app x).vehicles → (book_of app y).days ≡ closed_days app.activity (mark_of (book_of app x)) Rest (book_of app x).days → IsValid app y
       stands mark there =
           let at : end_mark app y ≡ mark_of (book_of app x) = mark_at app (book_of app x) y mark in
           let days : card_days app y ≡ with_newest (with_word w) kept =
@@ -112,10 +112,10 @@ module _ (app : Application) (sound : IsApplication app) (x : List ℕ) (fits : 
           (subst EndsStrictly (sym days) (closing_rises app.activity sound.string_least (book_of app x) are Rest may open_))
 
       -- the end mark is that word's
-      moved : IsBook (closed app.activity Rest (book_of app x)) (book_of app y).days (book_of app y).vehicle → IsValid app y
+      moved : IsBook (closed app.activity Rest (book_of app x)) (book_of app y).days (book_of app y).vehicles → IsValid app y
       moved book =
           let is : book_of app y ≡ closed app.activity Rest (book_of app x) =
-          told_book app (closed app.activity Rest (book_of app x)) x1 y (record { outside = card.outside; holds = card.holds; points = card.points; older = card.older; told = book }) in
+          told_book app (closed app.activity Rest (book_of app x)) x1 y (record { outside = card.outside; holds = card.holds; points = card.points; told = book }) in
           fine_low app x y valid same.0 same.1 y_fine
           (low_told app y (closed app.activity Rest (book_of app x)) is (closed_low app.activity sound.string_least (book_of app x) are Rest may x_low))
 

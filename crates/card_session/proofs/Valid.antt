@@ -14,7 +14,6 @@ use Rattle.card_layout.specs.declared.files.Fid.{Fid}
 use Rattle.card_layout.specs.Application.{IsApplication, first_bad_field, place_of_field}
 use Rattle.card_layout.specs.Files.{files_of, image_size_of, place_of}
 use Rattle.tach_media.specs.Medium.{bytes_at}
-use Rattle.card_records.specs.declared.vehicle.Vehicle.{Vehicle}
 use Rattle.gated_ring.specs.Ring.{Shape, pointer, PointsInside}
 use Rattle.card_model.specs.Days.{Day, AreDays, AreWords, Ascend, len_of, last_word}
 use Rattle.card_model.specs.Changes.{OnNewest, AreStrict, Increase, fitting, date_of, trimmed, TakesWord}
@@ -28,9 +27,10 @@ use Rattle.card_retention.specs.Expected.{is_newest}
 use Rattle.card_retention.specs.Shown.{sizes, is_open}
 use Rattle.card_retention.specs.Entries.{newest_word}
 use Rattle.card_retention.proofs.Flat.{UpTo, flat_newest}
-use Rattle.card_image.specs.Fields.{file, file_bytes, day_string, vehicle_ring, place_ring, last_use_of, card_days, end_mark, session_time}
+use Rattle.card_image.specs.Fields.{file, file_bytes, day_string, vehicle_ring, place_ring, card_days, end_mark, session_time}
 use Rattle.card_image.specs.Beside.{HaveSameSizes, HaveSamePlacePointer}
 use Rattle.card_image.specs.Judging.{file_check, first_bad_of, first_bad_file, pointer_bad, word_checks, words_behind_mark, days_placed, newest_rises, rising_checks, words_placed, IsValid}
+use Rattle.card_session.specs.Vehicles.{Vehicles, last_use_in}
 use Rattle.card_session.specs.Books.{Book, mark_of, latest_of, closing_word, with_change, closed_days, closed, last_used, with_entry}
 use Rattle.card_session.specs.Sessions.{EndsStrictly, IsOpenBook, book_of, newest_in}
 use Rattle.card_session.specs.Moments.{IsBook, IsBeforeMark, IsKeepMoment, IsCloseMoment}
@@ -140,7 +140,7 @@ module _ (app : Application) (x : List ℕ) (valid : IsValid app x) where
       (ap (λ (l : List ℕ). cond (nat_lt (big_number 1 l) app.places) None (Some 0)) places ∙ parts.1)
       words
 
-  module _ (sound : IsApplication app) (fits : image_size_of app ≤ length x) (y : List ℕ) (P : List Day → Option Vehicle → Type 0) (card : IsCard app P x y) where
+  module _ (sound : IsApplication app) (fits : image_size_of app ≤ length x) (y : List ℕ) (P : List Day → Vehicles → Type 0) (card : IsCard app P x y) where
     pub places_still : HaveSamePlacePointer app x y
     unfolding files_of
     places_still = behind_vehicles app P x y card (place_ring app).base (place_ring app).pointer_width (omega arith)
@@ -168,7 +168,7 @@ flat_of m date (d ∷ ds) are low = flat_newest m date (d ∷ ds) are (up date d
 
 -- ---- at each moment of a keep, of its days
 
-at_mark : (ds : List Day) (v : Option Vehicle) (m : ℕ) → last_use_of v / 60 ≡ m → EndsStrictly (trimmed m ds) → EndsStrictly (trimmed (last_use_of v / 60) ds)
+at_mark : (ds : List Day) (v : Vehicles) (m : ℕ) → last_use_in v / 60 ≡ m → EndsStrictly (trimmed m ds) → EndsStrictly (trimmed (last_use_in v / 60) ds)
 at_mark ds v m is strict = subst (λ (n : ℕ). EndsStrictly (trimmed n ds)) (sym is) strict
 
 module _ (size : ℕ) (long : 5544 ≤ size) (b : Book) (are : AreDays 0 b.days) (strict : EndsStrictly (trimmed (mark_of b) b.days)) (e : Entry) (before : IsBeforeGapOf e.minute b)
@@ -186,12 +186,12 @@ module _ (size : ℕ) (long : 5544 ≤ size) (b : Book) (are : AreDays 0 b.days)
       keep_survives_begun size long b are (λ ds. EndsStrictly (trimmed (mark_of b) ds)) (λ ds. EndsStrictly (trimmed (mark_of b) ds)) (strict_survives (mark_of b)) strict e before
       (λ days d on strict. begun_strict (mark_of b) days d on) registration odometer more kept moment
 
-  pub keep_strict : (ds : List Day) (v : Option Vehicle) → AreDays 0 ds → IsKeepMoment size registration odometer more e b ds v → EndsStrictly (trimmed (last_use_of v / 60) ds)
-  keep_strict ds v ordered (inl old) = at_mark ds v (mark_of b) (ap (λ (o : Option Vehicle). last_use_of o / 60) old.0) (before_strict ds old.1)
+  pub keep_strict : (ds : List Day) (v : Vehicles) → AreDays 0 ds → IsKeepMoment size registration odometer more e b ds v → EndsStrictly (trimmed (last_use_in v / 60) ds)
+  keep_strict ds v ordered (inl old) = at_mark ds v (mark_of b) (ap (λ (o : Vehicles). last_use_in o / 60) old.0) (before_strict ds old.1)
   keep_strict ds v ordered (inr new) = ⊎_elim
-      (λ unused. at_mark ds v (mark_of b) (before_use registration odometer e.minute b.vehicle v unused) (before_strict ds (inr (inr (inr new.0)))))
+      (λ unused. at_mark ds v (mark_of b) (before_use registration odometer e.minute b.vehicles v unused) (before_strict ds (inr (inr (inr new.0)))))
       (λ used.
-      at_mark ds v (mark_of after) (ap (λ (o : Option Vehicle). last_use_of o / 60) used)
+      at_mark ds v (mark_of after) (ap (λ (o : Vehicles). last_use_in o / 60) used)
       (subst (λ (l : List Day). EndsStrictly (trimmed (mark_of after) l)) (sym new.0) (after_strict (subst (λ (l : List Day). AreDays 0 l) new.0 ordered))))
       new.1
 
@@ -199,7 +199,7 @@ module _ (size : ℕ) (long : 5544 ≤ size) (b : Book) (are : AreDays 0 b.days)
 
 module _ (size : ℕ) (long : 5544 ≤ size) (b : Book) (are : AreDays 0 b.days) (act : Activity) (may : IsOpenBook b) where
   abbrev marked : Book
-  marked = record { days = closed_days size (mark_of b) act b.days; vehicle = last_used (60 * suc (mark_of b)) b.vehicle }
+  marked = record { days = closed_days size (mark_of b) act b.days; vehicles = last_used (60 * suc (mark_of b)) b.vehicles }
 
   abbrev v : ℕ
   v = closing_word (suc (mark_of b)) act (latest_of b.days)
@@ -247,12 +247,12 @@ module _ (size : ℕ) (long : 5544 ≤ size) (b : Book) (are : AreDays 0 b.days)
             (subst (λ (ds : List Day). EndsStrictly (trimmed (suc (mark_of b)) ds)) (sym (changed is))
             (subst EndsStrictly (sym (flat_of (suc (mark_of b)) 0 (with_change size v b.days) (subst (λ (ds : List Day). AreDays 0 ds) (changed is) ordered) (omega (arith, closing_newest is)))) (closing_rises is)))
 
-    pub close_strict : (ds : List Day) (o : Option Vehicle) → AreDays 0 ds → IsCloseMoment size act b ds o → EndsStrictly (trimmed (last_use_of o / 60) ds)
+    pub close_strict : (ds : List Day) (o : Vehicles) → AreDays 0 ds → IsCloseMoment size act b ds o → EndsStrictly (trimmed (last_use_in o / 60) ds)
     close_strict ds o ordered (inl old) =
-        at_mark ds o (mark_of b) (ap (λ (u : Option Vehicle). last_use_of u / 60) old.0)
+        at_mark ds o (mark_of b) (ap (λ (u : Vehicles). last_use_in u / 60) old.0)
         (closing_survives size long b are (λ ds. EndsStrictly (trimmed (mark_of b) ds)) (λ ds. EndsStrictly (trimmed (mark_of b) ds)) (strict_survives (mark_of b)) strict act ds old.1)
     close_strict ds o ordered (inr book) =
-        at_mark ds o (mark_of (closed size act b)) (ap (λ (u : Option Vehicle). last_use_of u / 60) book.1)
+        at_mark ds o (mark_of (closed size act b)) (ap (λ (u : Vehicles). last_use_in u / 60) book.1)
         (subst (λ (l : List Day). EndsStrictly (trimmed (mark_of (closed size act b)) l)) (sym book.0) (closed_strict (subst (λ (l : List Day). AreDays 0 l) book.0 ordered)))
 
 -- ---- at each moment
@@ -282,11 +282,11 @@ module _ (app : Application) (sound : IsApplication app) (x : List ℕ) (fits : 
       → IsCard app (IsKeepMoment app.activity registration odometer more e (book_of app x)) x y → IsValid app y
   keep_valid registration odometer more e y before card =
       valid_open app x valid sound fits y (IsKeepMoment app.activity registration odometer more e b) card open_session
-      (strict_at y (last_use_of (book_of app y).vehicle / 60) (mark_told app y)
-      (keep_strict app.activity sound.string_least b ordered strict_there e before registration odometer more (book_of app y).days (book_of app y).vehicle card.holds.ordered card.told))
+      (strict_at y (last_use_in (book_of app y).vehicles / 60) (mark_told app y)
+      (keep_strict app.activity sound.string_least b ordered strict_there e before registration odometer more (book_of app y).days (book_of app y).vehicles card.holds.ordered card.told))
 
   pub close_valid : (act : Activity) (y : List ℕ) → IsOpenBook (book_of app x) → IsCard app (IsCloseMoment app.activity act (book_of app x)) x y → IsValid app y
   close_valid act y may card =
       valid_open app x valid sound fits y (IsCloseMoment app.activity act b) card open_session
-      (strict_at y (last_use_of (book_of app y).vehicle / 60) (mark_told app y)
-      (close_strict app.activity sound.string_least b ordered act may strict_there (book_of app y).days (book_of app y).vehicle card.holds.ordered card.told))
+      (strict_at y (last_use_in (book_of app y).vehicles / 60) (mark_told app y)
+      (close_strict app.activity sound.string_least b ordered act may strict_there (book_of app y).days (book_of app y).vehicles card.holds.ordered card.told))

@@ -1,10 +1,10 @@
--- What a session makes of a card's days and of its newest vehicle entry (profile): entry by entry, and by the word that closes.
-use Rattle.std.specs.Prelude.{◌≡◌, ℕ, suc, ◌+◌, ◌-◌, ◌*◌, ◌/◌, ◌%◌, min, Bool, true, false, not, ◌&&◌, Option, Some, None, option_map, Result, Ok, Err, List, [], ◌∷◌, ◌++◌, length, bytes_eq, nat_eq, nat_lt, nat_le, if◌then◌else◌}
+-- What a session makes of a card's days and of its vehicle entries (profile): entry by entry, and by the word that closes.
+use Rattle.std.specs.Prelude.{◌≡◌, ℕ, suc, ◌+◌, ◌-◌, ◌*◌, ◌/◌, ◌%◌, min, Bool, true, false, ◌&&◌, Option, Some, None, Result, Ok, Err, List, [], ◌∷◌, ◌++◌, length, bytes_eq, nat_eq, if◌then◌else◌}
 use Rattle.activity_codec.specs.declared.values.Activity.{Activity}
 use Rattle.activity_codec.specs.declared.values.Activity.TheVariants.{Rest}
 use Rattle.activity_codec.specs.declared.values.Slot.TheVariants.{Driver}
 use Rattle.activity_codec.specs.declared.entries.Entry.{Entry}
-use Rattle.activity_codec.specs.Words.{word_of, word_slot, word_minute, word_absent}
+use Rattle.activity_codec.specs.Words.{word_of, word_slot}
 use Rattle.tacho_types.specs.declared.texts.Registration.{Registration}
 use Rattle.tacho_types.specs.declared.decimal.Bcd2.{Bcd2}
 use Rattle.tacho_types.specs.declared.decimal.BadValue.{BadValue}
@@ -14,16 +14,16 @@ use Rattle.card_model.specs.Days.{Day, last_word}
 use Rattle.card_model.specs.Changes.{date_of, fitting, with_newest, with_word, with_km, new_day, counter_after}
 use Rattle.card_retention.specs.Expected.{is_newest}
 use Rattle.card_retention.specs.Shown.{sizes, is_open, entry_state, with_closing}
-use Rattle.card_image.specs.Fields.{last_use_of}
+use Rattle.card_session.specs.Vehicles.{Vehicles, last_use_in, renewed, with_vehicle}
 
--- the days of a card and its newest vehicle entry
+-- the days of a card and its vehicle entries
 pub record Book : Type 0 where
   pub days : List Day
-  pub vehicle : Option Vehicle
+  pub vehicles : Vehicles
 
 -- the minute up to which the card's minutes count
 abbrev pub mark_of : Book → ℕ
-mark_of b = last_use_of b.vehicle / 60
+mark_of b = last_use_in b.vehicles / 60
 
 -- the newest day's latest word, 0 without a day
 abbrev pub latest_of : List Day → ℕ
@@ -125,31 +125,31 @@ measured odometer v = record v { odometer_end = record { 0 = odometer } }
 abbrev pub used : (seconds : ℕ) → Vehicle → Vehicle
 used seconds v = record v { last_use = record { 0 = seconds } }
 
--- the newest vehicle entry with another odometer value at its end
-abbrev pub measured_to : (odometer : ℕ) → Option Vehicle → Option Vehicle
-measured_to odometer vehicle = option_map (measured odometer) vehicle
+-- the vehicle entries, of which the newest has another odometer value at its end, or another last use
+abbrev pub measured_to : (odometer : ℕ) → Vehicles → Vehicles
+measured_to odometer v = renewed (measured odometer) v
 
-abbrev pub vehicle_after : Registration → (odometer minute : ℕ) → Option Vehicle → Vehicle
-vehicle_after registration odometer minute None = begun_vehicle registration odometer minute (vehicle_counter None)
-vehicle_after registration odometer minute (Some v) =
-    if goes_on_in registration minute v then used_until odometer (60 * minute) v
-    else begun_vehicle registration odometer minute (vehicle_counter (Some v))
+abbrev pub last_used : (seconds : ℕ) → Vehicles → Vehicles
+last_used seconds v = renewed (used seconds) v
+
+-- THE VEHICLE ENTRIES WITH A MINUTE: the newest one goes on, or a new one stands behind all others.
+abbrev pub vehicles_with : Registration → (odometer minute : ℕ) → Vehicles → Vehicles
+vehicles_with registration odometer minute v =
+    if goes_on_with registration minute v.newest
+    then renewed (used_until odometer (60 * minute)) v
+    else with_vehicle (begun_vehicle registration odometer minute (vehicle_counter v.newest)) v
 
 -- An entry more, so many km behind the one before.
 abbrev pub with_entry : (size : ℕ) → Registration → (odometer more : ℕ) → Book → Entry → Book
 with_entry size registration odometer more b e =
     record {
       days = travelled more (entered_days size e (gap_closed size (mark_of b) e.minute b.days));
-      vehicle = Some (vehicle_after registration odometer e.minute b.vehicle);
+      vehicles = vehicles_with registration odometer e.minute b.vehicles;
     }
-
--- the newest vehicle entry with another last use
-abbrev pub last_used : (seconds : ℕ) → Option Vehicle → Option Vehicle
-last_used seconds vehicle = option_map (used seconds) vehicle
 
 -- The closing word of an insertion or of a withdrawal, and the end mark at it.
 abbrev pub closed : (size : ℕ) → Activity → Book → Book
 closed size act b =
     if is_open (mark_of b) b.days
-    then record { days = closed_days size (mark_of b) act b.days; vehicle = last_used (60 * suc (mark_of b)) b.vehicle }
+    then record { days = closed_days size (mark_of b) act b.days; vehicles = last_used (60 * suc (mark_of b)) b.vehicles }
     else b

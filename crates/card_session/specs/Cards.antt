@@ -1,41 +1,39 @@
 -- What the calls of a session leave of a card, after them and at each moment.
-use Rattle.std.specs.Prelude.{◌≡◌, ◌⊎◌, ℕ, suc, ◌+◌, ◌-◌, ◌*◌, Option, Some, None, List, [], ◌∷◌}
+use Rattle.std.specs.Prelude.{◌≡◌, ◌⊎◌, ℕ, ◌+◌, ◌-◌, ◌*◌, Option, Some, None, List, [], ◌∷◌}
 use Rattle.activity_codec.specs.declared.values.Activity.{Activity}
 use Rattle.activity_codec.specs.declared.entries.Entry.{Entry}
 use Rattle.card_layout.specs.declared.files.Application.{Application}
 use Rattle.card_layout.specs.Files.{place_of}
 use Rattle.tach_media.specs.Medium.{SameOutside, put}
 use Rattle.tacho_types.specs.declared.numbers.Odometer.{Odometer}
-use Rattle.card_records.specs.declared.vehicle.Vehicle.{Vehicle}
 use Rattle.card_model.specs.Days.{Day}
 use Rattle.card_model.specs.Image.{Holds}
 use Rattle.gated_ring.specs.Ring.{PointsInside, size_of as ring_size}
 use Rattle.card_image.specs.Fields.{file, day_string, vehicle_ring}
 use Rattle.card_image.specs.Judging.{IsValid}
-use Rattle.card_session.specs.Books.{Book, with_entry, closed}
+use Rattle.card_session.specs.Books.{with_entry, closed}
 use Rattle.card_session.specs.Sessions.{Session, IsSession, book_of}
 use Rattle.card_session.specs.Moments.{IsBook, IsKeepMoment, IsCloseMoment}
-use Rattle.card_session.specs.Vehicles.{KeepsVehicles}
+use Rattle.card_session.specs.Vehicles.{Vehicles}
 
 -- how many bytes the days and the vehicle entries have, which stand one after the other
 abbrev pub days_and_vehicles : Application → ℕ
 days_and_vehicles app = 4 + (day_string app).size + ring_size (vehicle_ring app)
 
 -- Outside the days and the vehicle entries nothing differs; the string holds its days, the pointer of the vehicle entries is an
--- index; the vehicle entries go on from those of before; and the days and the newest vehicle entry are so.
-pub record IsCard (app : Application) (P : List Day → Option Vehicle → Type 0) (x c : List ℕ) : Type 0 where
+-- index; and the days and the vehicle entries are so.
+pub record IsCard (app : Application) (P : List Day → Vehicles → Type 0) (x c : List ℕ) : Type 0 where
   pub outside : SameOutside (day_string app).base (days_and_vehicles app) x c
   pub holds : Holds (day_string app) c (book_of app c).days
   pub points : PointsInside (vehicle_ring app) c
-  pub older : KeepsVehicles app x c
-  pub told : P (book_of app c).days (book_of app c).vehicle
+  pub told : P (book_of app c).days (book_of app c).vehicles
 
 -- the km that an entry adds: none at a session's first
 abbrev pub grown : Option Odometer → ℕ → ℕ
 grown None odometer = 0
 grown (Some before) odometer = odometer - before.0
 
--- after a keep: the entry is on the card, and nothing else has changed but its distance and its vehicle
+-- after a keep: the entry is on the card, and nothing else has changed but its distance and its vehicles
 pub record IsCardKept (s next : Session) (e : Entry) (odometer : ℕ) (x y : List ℕ) : Type 0 where
   pub card : IsCard s.application (IsBook (with_entry s.application.activity s.registration odometer (grown s.odometer odometer) (book_of s.application x) e)) x y
   pub knows : IsSession next y

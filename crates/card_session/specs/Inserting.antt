@@ -1,5 +1,5 @@
 -- What an insertion makes of a card, and what is left of it at each moment (profile).
-use Rattle.std.specs.Prelude.{◌≡◌, ◌≢◌, ◌⊎◌, ℕ, suc, ◌+◌, ◌/◌, ◌<◌, ◌≤◌, Option, List, [], ◌∷◌, length, nat_eq, nat_lt, All, if◌then◌else◌}
+use Rattle.std.specs.Prelude.{◌≡◌, ◌≢◌, ◌⊎◌, ℕ, ◌+◌, ◌/◌, ◌<◌, ◌≤◌, List, [], ◌∷◌, length, nat_eq, nat_lt, All, if◌then◌else◌}
 use Rattle.activity_codec.specs.declared.values.Activity.TheVariants.{Rest}
 use Rattle.activity_codec.specs.declared.entries.Entry.{Entry}
 use Rattle.card_layout.specs.declared.files.Application.{Application}
@@ -7,7 +7,6 @@ use Rattle.card_layout.specs.Files.{place_of, size_of}
 use Rattle.tach_media.specs.Medium.{State, LiesInside, IsPartlyWritten, put}
 use Rattle.tacho_types.specs.declared.texts.Registration.{Registration}
 use Rattle.tacho_types.specs.Numbers.{time_bytes}
-use Rattle.card_records.specs.declared.vehicle.Vehicle.{Vehicle}
 use Rattle.card_records.specs.declared.card_event.CardEvent.{CardEvent}
 use Rattle.card_records.specs.declared.current_use.CurrentUse.{CurrentUse}
 use Rattle.card_records.specs.Noting.{HoldsEvent, IsNotingEvent, IsEventNoted}
@@ -15,10 +14,11 @@ use Rattle.card_model.specs.Days.{Day}
 use Rattle.card_model.specs.Changes.{Shorter, date_of, trimmed}
 use Rattle.card_image.specs.Fields.{file, current_use, session_time}
 use Rattle.card_session.specs.declared.words.TheConstants.{LATEST_MINUTE}
+use Rattle.card_session.specs.Vehicles.{Vehicles}
 use Rattle.card_session.specs.Books.{Book, mark_of, with_entry, closed}
 use Rattle.card_session.specs.Sessions.{Session, KnowsCard, IsSession, IsOpenBook, EndsStrictly, MayKeep, newest_in, book_of}
 use Rattle.card_session.specs.Moments.{IsBook, IsKeepMoment, IsCloseMoment}
-use Rattle.card_session.specs.Cards.{IsCard, ended}
+use Rattle.card_session.specs.Cards.{IsCard}
 
 -- ---- what is handed to it
 
@@ -46,15 +46,15 @@ lacked mark (e ∷ es) = if nat_lt mark e.minute then e ∷ es else lacked mark 
 abbrev pub replayed_count : (session mark : ℕ) → List Entry → ℕ
 replayed_count session mark owed = if nat_eq session 0 then 0 else length (lacked mark owed)
 
--- ---- of the days and the newest vehicle entry
+-- ---- of the days and the vehicle entries
 
 -- THE CUT behind the end mark
 abbrev pub with_cut : (minute : ℕ) → Book → Book
-with_cut minute b = record { days = trimmed minute b.days; vehicle = b.vehicle }
+with_cut minute b = record { days = trimmed minute b.days; vehicles = b.vehicles }
 
 -- a moment of it: of the days only some of those later than the minute's day are gone
-abbrev pub IsCutting : (minute : ℕ) → Book → List Day → Option Vehicle → Type 0
-IsCutting minute b days vehicle = (Shorter (date_of minute) b.days days ⊎ (days ≡ trimmed minute b.days)) × (vehicle ≡ b.vehicle)
+abbrev pub IsCutting : (minute : ℕ) → Book → List Day → Vehicles → Type 0
+IsCutting minute b days vehicles = (Shorter (date_of minute) b.days days ⊎ (days ≡ trimmed minute b.days)) × (vehicles ≡ b.vehicles)
 
 -- ENTRIES in their order, none of which adds a distance
 abbrev pub with_owed : (size : ℕ) → Registration → (odometer : ℕ) → List Entry → Book → Book
@@ -66,10 +66,10 @@ abbrev pub IsBeforeAll : List Entry → Book → Type 0
 IsBeforeAll es b = IsOpenBook b × Follow (newest_in b) es
 
 -- a moment of them: the first few are on the card, and it is a moment of the keep of the next
-abbrev pub IsReplaying : (size : ℕ) → Registration → (odometer : ℕ) → List Entry → Book → List Day → Option Vehicle → Type 0
-IsReplaying size registration odometer [] b days vehicle = IsBook b days vehicle
-IsReplaying size registration odometer (e ∷ es) b days vehicle =
-    IsKeepMoment size registration odometer 0 e b days vehicle ⊎ IsReplaying size registration odometer es (with_entry size registration odometer 0 b e) days vehicle
+abbrev pub IsReplaying : (size : ℕ) → Registration → (odometer : ℕ) → List Entry → Book → List Day → Vehicles → Type 0
+IsReplaying size registration odometer [] b days vehicles = IsBook b days vehicles
+IsReplaying size registration odometer (e ∷ es) b days vehicles =
+    IsKeepMoment size registration odometer 0 e b days vehicles ⊎ IsReplaying size registration odometer es (with_entry size registration odometer 0 b e) days vehicles
 
 -- the words of the newest day that a cut at the end mark leaves increase
 abbrev pub EndsCut : Book → Type 0
@@ -79,9 +79,9 @@ EndsCut b = EndsStrictly (trimmed (mark_of b) b.days)
 abbrev pub repaired : (size : ℕ) → Registration → (odometer : ℕ) → (owed : List Entry) → Book → Book
 repaired size registration odometer owed b = with_owed size registration odometer (lacked (mark_of b) owed) (with_cut (mark_of b) b)
 
-abbrev pub IsRepairMoment : (size : ℕ) → Registration → (odometer : ℕ) → (owed : List Entry) → Book → List Day → Option Vehicle → Type 0
-IsRepairMoment size registration odometer owed b days vehicle =
-    IsCutting (mark_of b) b days vehicle ⊎ IsReplaying size registration odometer (lacked (mark_of b) owed) (with_cut (mark_of b) b) days vehicle
+abbrev pub IsRepairMoment : (size : ℕ) → Registration → (odometer : ℕ) → (owed : List Entry) → Book → List Day → Vehicles → Type 0
+IsRepairMoment size registration odometer owed b days vehicles =
+    IsCutting (mark_of b) b days vehicles ⊎ IsReplaying size registration odometer (lacked (mark_of b) owed) (with_cut (mark_of b) b) days vehicles
 
 -- ---- of a card: its steps, each as it is done and at its moments
 

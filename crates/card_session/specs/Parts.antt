@@ -1,16 +1,16 @@
 -- What the parts of a session's calls do, each after it and at each of its moments.
-use Rattle.std.specs.Prelude.{◌≡◌, ◌≢◌, ◌⊎◌, ℕ, ◌+◌, ◌-◌, ◌*◌, ◌<◌, Bool, false, Option, Some, None, List, [], length, IfSome}
+use Rattle.std.specs.Prelude.{◌≡◌, ◌≢◌, ◌⊎◌, ℕ, ◌+◌, ◌-◌, ◌*◌, ◌<◌, Bool, false, Option, Some, None, option_map, List, [], length, IfSome}
 use Rattle.activity_codec.specs.declared.entries.Entry.{Entry}
 use Rattle.tach_media.specs.Medium.{State, LeavesOnly, HasCause}
-use Rattle.card_records.specs.declared.vehicle.Vehicle.{Vehicle}
+use Rattle.card_session.specs.Vehicles.{Vehicles, with_room, with_vehicle}
 use Rattle.card_model.specs.Days.{Day}
 use Rattle.card_model.specs.Changes.{Remain, OnNewest, TakesWord, IsNext, date_of}
 use Rattle.card_retention.specs.Entries.{newest_word}
 use Rattle.tacho_types.specs.declared.texts.Registration.{Registration}
 use Rattle.cyclic_days.specs.Steps.{IsIdle}
-use Rattle.card_session.specs.Books.{Book, mark_of, with_change, with_new_day, day_words, gap_closed, entered_days, travelled, vehicle_after, with_entry, measured_to, last_used, begun_vehicle, vehicle_counter}
+use Rattle.card_session.specs.Books.{Book, mark_of, with_change, with_new_day, day_words, gap_closed, entered_days, travelled, used, vehicles_with, with_entry, measured_to, last_used, begun_vehicle, vehicle_counter}
 use Rattle.card_session.specs.Sessions.{Session, KnowsCard, IsOpenBook, EndsStrictly, newest_in, book_of}
-use Rattle.card_session.specs.Moments.{IsBook, IsBeforeGap, IsBeforeWords, IsBeforeUse, IsKeepMoment}
+use Rattle.card_session.specs.Moments.{IsBook, IsBeforeGap, IsBeforeWords, IsBeforeUse}
 use Rattle.card_session.specs.Cards.{IsCard}
 
 -- After Ok the image is so related to the one before, and at each moment so. A part may make no call.
@@ -24,7 +24,7 @@ abbrev pub IsPartDone : (s next : Session) → (Book → Type 0) → (Book → B
 IsPartDone s next P f x y = KnowsCard s x → P (book_of s.application x) → IsCard s.application (IsBook (f (book_of s.application x))) x y × KnowsCard next y
 
 -- a moment of it
-abbrev pub IsPartMoment : Session → (Book → Type 0) → (Book → List Day → Option Vehicle → Type 0) → List ℕ → List ℕ → Type 0
+abbrev pub IsPartMoment : Session → (Book → Type 0) → (Book → List Day → Vehicles → Type 0) → List ℕ → List ℕ → Type 0
 IsPartMoment s P Q x c = KnowsCard s x → P (book_of s.application x) → IsCard s.application (Q (book_of s.application x)) x c
 
 -- beside the days nothing that a session keeps has changed
@@ -43,87 +43,90 @@ TakesSome word b = IfSome word (λ w. OnNewest (TakesWord w) b.days)
 
 abbrev pub with_some : (size : ℕ) → Option ℕ → Book → Book
 with_some size None b = b
-with_some size (Some w) b = record { days = with_change size w b.days; vehicle = b.vehicle }
+with_some size (Some w) b = record { days = with_change size w b.days; vehicles = b.vehicles }
 
-abbrev pub IsAdding : (size : ℕ) → Option ℕ → Book → List Day → Option Vehicle → Type 0
-IsAdding size None b days vehicle = (days ≡ b.days) × (vehicle ≡ b.vehicle)
-IsAdding size (Some w) b days vehicle = (Remain (size - 2) b.days days ⊎ (days ≡ with_change size w b.days)) × (vehicle ≡ b.vehicle)
+abbrev pub IsAdding : (size : ℕ) → Option ℕ → Book → List Day → Vehicles → Type 0
+IsAdding size None b days vehicles = (days ≡ b.days) × (vehicles ≡ b.vehicles)
+IsAdding size (Some w) b days vehicles = (Remain (size - 2) b.days days ⊎ (days ≡ with_change size w b.days)) × (vehicles ≡ b.vehicles)
 
 -- CLOSE THE GAP before a minute: no word and no mark reaches it
 abbrev pub IsBeforeGapOf : (minute : ℕ) → Book → Type 0
 IsBeforeGapOf minute b = IsOpenBook b × (newest_in b < minute)
 
 abbrev pub with_gap_closed : (size minute : ℕ) → Book → Book
-with_gap_closed size minute b = record { days = gap_closed size (mark_of b) minute b.days; vehicle = b.vehicle }
+with_gap_closed size minute b = record { days = gap_closed size (mark_of b) minute b.days; vehicles = b.vehicles }
 
-abbrev pub IsClosingGap : (size minute : ℕ) → Book → List Day → Option Vehicle → Type 0
-IsClosingGap size minute b days vehicle = (IsBeforeGap size (mark_of b) minute b.days days ⊎ (days ≡ gap_closed size (mark_of b) minute b.days)) × (vehicle ≡ b.vehicle)
+abbrev pub IsClosingGap : (size minute : ℕ) → Book → List Day → Vehicles → Type 0
+IsClosingGap size minute b days vehicles = (IsBeforeGap size (mark_of b) minute b.days days ⊎ (days ≡ gap_closed size (mark_of b) minute b.days)) × (vehicles ≡ b.vehicles)
 
 -- BEGIN THE DAY of an entry
 abbrev pub BeginsDay : Entry → Book → Type 0
 BeginsDay e b = IsNext b.days (date_of e.minute) (day_words e)
 
 abbrev pub with_day : (size : ℕ) → Entry → Book → Book
-with_day size e b = record { days = with_new_day size e b.days; vehicle = b.vehicle }
+with_day size e b = record { days = with_new_day size e b.days; vehicles = b.vehicles }
 
-abbrev pub IsBeforeDay : (size : ℕ) → Entry → Book → List Day → Option Vehicle → Type 0
-IsBeforeDay size e b days vehicle = (Remain (size - (12 + 2 * length (day_words e))) b.days days ⊎ (days ≡ with_new_day size e b.days)) × (vehicle ≡ b.vehicle)
+abbrev pub IsBeforeDay : (size : ℕ) → Entry → Book → List Day → Vehicles → Type 0
+IsBeforeDay size e b days vehicles = (Remain (size - (12 + 2 * length (day_words e))) b.days days ⊎ (days ≡ with_new_day size e b.days)) × (vehicles ≡ b.vehicles)
 
 -- AN ENTRY'S WORDS: no word reaches its minute
 abbrev pub IsBeforeEntry : Entry → Book → Type 0
 IsBeforeEntry e b = EndsStrictly b.days × (newest_word b.days < e.minute)
 
 abbrev pub with_entry_words : (size : ℕ) → Entry → Book → Book
-with_entry_words size e b = record { days = entered_days size e b.days; vehicle = b.vehicle }
+with_entry_words size e b = record { days = entered_days size e b.days; vehicles = b.vehicles }
 
-abbrev pub IsWriting : (size : ℕ) → Entry → Book → List Day → Option Vehicle → Type 0
-IsWriting size e b days vehicle = (IsBeforeWords size e b.days days ⊎ (days ≡ entered_days size e b.days)) × (vehicle ≡ b.vehicle)
+abbrev pub IsWriting : (size : ℕ) → Entry → Book → List Day → Vehicles → Type 0
+IsWriting size e b days vehicles = (IsBeforeWords size e b.days days ⊎ (days ≡ entered_days size e b.days)) × (vehicles ≡ b.vehicles)
 
 -- THE DISTANCE of the newest day
 abbrev pub HasDay : Book → Type 0
 HasDay b = b.days ≢ []
 
 abbrev pub with_more : (km : ℕ) → Book → Book
-with_more km b = record { days = travelled km b.days; vehicle = b.vehicle }
+with_more km b = record { days = travelled km b.days; vehicles = b.vehicles }
 
-abbrev pub IsTravelling : (km : ℕ) → Book → List Day → Option Vehicle → Type 0
-IsTravelling km b days vehicle = ((days ≡ b.days) ⊎ (days ≡ travelled km b.days)) × (vehicle ≡ b.vehicle)
+abbrev pub IsTravelling : (km : ℕ) → Book → List Day → Vehicles → Type 0
+IsTravelling km b days vehicles = ((days ≡ b.days) ⊎ (days ≡ travelled km b.days)) × (vehicles ≡ b.vehicles)
 
 -- THE USE OF THE VEHICLE
 abbrev pub AnyBook : Book → Type 0
 AnyBook b = Unit {0}
 
 abbrev pub with_use : Registration → (odometer minute : ℕ) → Book → Book
-with_use registration odometer minute b = record { days = b.days; vehicle = Some (vehicle_after registration odometer minute b.vehicle) }
+with_use registration odometer minute b = record { days = b.days; vehicles = vehicles_with registration odometer minute b.vehicles }
 
-abbrev pub IsUsing : Registration → (odometer minute : ℕ) → Book → List Day → Option Vehicle → Type 0
-IsUsing registration odometer minute b days vehicle =
-    (days ≡ b.days) × (IsBeforeUse registration odometer minute b.vehicle vehicle ⊎ (vehicle ≡ Some (vehicle_after registration odometer minute b.vehicle)))
+abbrev pub IsUsing : Registration → (odometer minute : ℕ) → Book → List Day → Vehicles → Type 0
+IsUsing registration odometer minute b days vehicles =
+    (days ≡ b.days) × (IsBeforeUse registration odometer minute b.vehicles vehicles ⊎ (vehicles ≡ vehicles_with registration odometer minute b.vehicles))
 
 -- one of its fields: the odometer value at its end, or the last use
 abbrev pub with_measured : (odometer : ℕ) → Book → Book
-with_measured odometer b = record { days = b.days; vehicle = measured_to odometer b.vehicle }
+with_measured odometer b = record { days = b.days; vehicles = measured_to odometer b.vehicles }
 
-abbrev pub IsSettingOdometer : (odometer : ℕ) → Book → List Day → Option Vehicle → Type 0
-IsSettingOdometer odometer b days vehicle = (days ≡ b.days) × ((vehicle ≡ b.vehicle) ⊎ (vehicle ≡ measured_to odometer b.vehicle))
+abbrev pub IsSettingOdometer : (odometer : ℕ) → Book → List Day → Vehicles → Type 0
+IsSettingOdometer odometer b days vehicles = (days ≡ b.days) × ((vehicles ≡ b.vehicles) ⊎ (vehicles ≡ measured_to odometer b.vehicles))
 
 abbrev pub with_last_use : (seconds : ℕ) → Book → Book
-with_last_use seconds b = record { days = b.days; vehicle = last_used seconds b.vehicle }
+with_last_use seconds b = record { days = b.days; vehicles = last_used seconds b.vehicles }
 
 -- a session that would know the card with another last use
 abbrev pub used_session : (seconds : ℕ) → Session → Session
-used_session seconds s = record s { vehicle = last_used seconds s.vehicle }
+used_session seconds s = record s { vehicle = option_map (used seconds) s.vehicle }
 
-abbrev pub IsSettingUse : (seconds : ℕ) → Book → List Day → Option Vehicle → Type 0
-IsSettingUse seconds b days vehicle = (days ≡ b.days) × ((vehicle ≡ b.vehicle) ⊎ (vehicle ≡ last_used seconds b.vehicle))
+abbrev pub IsSettingUse : (seconds : ℕ) → Book → List Day → Vehicles → Type 0
+IsSettingUse seconds b days vehicles = (days ≡ b.days) × ((vehicles ≡ b.vehicles) ⊎ (vehicles ≡ last_used seconds b.vehicles))
 
 -- or a new one
 abbrev pub with_new_use : Registration → (odometer minute : ℕ) → Book → Book
-with_new_use registration odometer minute b = record { days = b.days; vehicle = Some (begun_vehicle registration odometer minute (vehicle_counter b.vehicle)) }
+with_new_use registration odometer minute b =
+    record { days = b.days; vehicles = with_vehicle (begun_vehicle registration odometer minute (vehicle_counter b.vehicles.newest)) b.vehicles }
 
-abbrev pub IsAddingUse : Registration → (odometer minute : ℕ) → Book → List Day → Option Vehicle → Type 0
-IsAddingUse registration odometer minute b days vehicle =
-    (days ≡ b.days) × ((vehicle ≡ b.vehicle) ⊎ (vehicle ≡ Some (begun_vehicle registration odometer minute (vehicle_counter b.vehicle))))
+abbrev pub IsAddingUse : Registration → (odometer minute : ℕ) → Book → List Day → Vehicles → Type 0
+IsAddingUse registration odometer minute b days vehicles =
+    (days ≡ b.days)
+    × ((vehicles ≡ b.vehicles)
+    ⊎ ((vehicles ≡ with_room b.vehicles) ⊎ (vehicles ≡ with_vehicle (begun_vehicle registration odometer minute (vehicle_counter b.vehicles.newest)) b.vehicles)))
 
 -- beside the newest vehicle entry nothing that a session keeps has changed
 pub record SameButVehicle (s t : Session) : Type 0 where

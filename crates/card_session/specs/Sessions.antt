@@ -12,8 +12,9 @@ use Rattle.card_model.specs.Days.{Day}
 use Rattle.card_model.specs.Changes.{AreStrict}
 use Rattle.cyclic_days.specs.Held.{Held, Knows}
 use Rattle.card_retention.specs.Entries.{EndsBy, newest_word}
-use Rattle.card_image.specs.Fields.{file, day_string, vehicle_ring, newest_vehicle, card_days, last_use_of}
+use Rattle.card_image.specs.Fields.{file, day_string, vehicle_ring, card_days, last_use_of}
 use Rattle.card_session.specs.declared.words.TheConstants.{LATEST_MINUTE}
+use Rattle.card_session.specs.Vehicles.{vehicles_of}
 use Rattle.card_session.specs.Books.{Book, mark_of}
 
 pub record Session : Type 0 where
@@ -37,16 +38,16 @@ pub record IsValue (s : Session) : Type 0 where
   pub newest : IfSome s.newest (λ i. i < s.application.vehicles)
   pub mark : last_use_of s.vehicle / 60 ≤ LATEST_MINUTE
 
--- what an image tells of the days and of the newest vehicle
+-- what an image tells of the days and of the vehicles
 unfoldable pub book_of : Application → List ℕ → Book
-book_of app x = record { days = card_days app x; vehicle = newest_vehicle app x }
+book_of app x = record { days = card_days app x; vehicles = vehicles_of app x }
 
 -- What is kept of the days and of the vehicles is what the image tells.
 pub record KnowsCard (s : Session) (x : List ℕ) : Type 0 where
   pub days : Knows s.days x (book_of s.application x).days
   pub points : PointsInside (vehicle_ring s.application) x
   pub newest : IsNewest (vehicle_ring s.application) x s.newest
-  pub vehicle : s.vehicle ≡ (book_of s.application x).vehicle
+  pub vehicle : s.vehicle ≡ (book_of s.application x).vehicles.newest
 
 -- the words of the newest day, if there is one, increase
 abbrev pub EndsStrictly : List Day → Type 0

@@ -1,52 +1,60 @@
--- The vehicle entries of a card, as the calls of a session leave them: change by change (profile).
-use Rattle.std.specs.Prelude.{◌≡◌, ◌⊎◌, ℕ, ◌+◌, ◌≤◌, List, [], ◌∷◌, ◌++◌, length}
+-- The vehicle entries of a card, all of them, in their order; and how one changes, or a new one comes (profile).
+use Rattle.std.specs.Prelude.{ℕ, Bool, true, false, Option, Some, None, option_map, List, [], ◌∷◌, ◌++◌, map, if◌then◌else◌}
 use Rattle.card_layout.specs.declared.files.Application.{Application}
 use Rattle.card_records.specs.declared.vehicle.Vehicle.{Vehicle}
 use Rattle.card_records.specs.Vehicles.{vehicle_of}
-use Rattle.gated_ring.specs.Ring.{ring_list, IsDense}
-use Rattle.card_image.specs.Fields.{vehicle_ring}
+use Rattle.gated_ring.specs.Ring.{is_there, entry_at, order, taken}
+use Rattle.card_image.specs.Fields.{vehicle_ring, newest_vehicle, last_use_of}
 
--- how entries change: the last one goes on, a new one begins behind them, or the first one gives way
-pub data Kind : Type 0 where
-  GoesOn : Kind
-  Begins : Kind
-  Drops : Kind
+-- THE VEHICLE ENTRIES OF A CARD: the newest one; and the places of its ring, from the one that the next entry takes round to the one before it,
+-- None where no entry stands.
+pub record Vehicles : Type 0 where
+  pub newest : Option Vehicle
+  pub ring : List (Option Vehicle)
 
--- a vehicle that goes on has another odometer at its end and another last use alone
-abbrev pub StaysInUse : Vehicle → Vehicle → Type 0
-StaysInUse v w = w ≡ record v { odometer_end = w.odometer_end; last_use = w.last_use }
+-- what stands at a place of an image's ring, and all of them
+abbrev pub standing_at : Application → List ℕ → ℕ → Option Vehicle
+standing_at app x i = if is_there (vehicle_ring app) x i then Some (vehicle_of (entry_at (vehicle_ring app) x i)) else None
 
--- one that begins ends as it begins
-abbrev pub IsFresh : Vehicle → Type 0
-IsFresh v = (v.odometer_end ≡ v.odometer_begin) × (v.last_use ≡ v.first_use)
+unfoldable pub ring_round : Application → List ℕ → List (Option Vehicle)
+ring_round app x = map (standing_at app x) (order (vehicle_ring app) (taken (vehicle_ring app) x))
 
--- ENTRIES CHANGE so; all others stay, byte for byte, in their order.
-abbrev pub IsChange : Kind → (before now : List (List ℕ)) → Type 0
-IsChange GoesOn before now =
-    (front : List (List ℕ)) × (e : List ℕ) × (f : List ℕ) × (before ≡ front ++ e ∷ []) × (now ≡ front ++ f ∷ []) × StaysInUse (vehicle_of e) (vehicle_of f)
-IsChange Begins before now = (e : List ℕ) × (now ≡ before ++ e ∷ []) × IsFresh (vehicle_of e)
-IsChange Drops before now = (e : List ℕ) × (before ≡ e ∷ now)
+abbrev pub vehicles_of : Application → List ℕ → Vehicles
+vehicles_of app x = record { newest = newest_vehicle app x; ring = ring_round app x }
 
--- one change after another
-abbrev pub AreChanges : List Kind → (before now : List (List ℕ)) → Type 0
-AreChanges [] before now = now ≡ before
-AreChanges (k ∷ ks) before now = (between : List (List ℕ)) × IsChange k before between × AreChanges ks between now
+-- those that stand, the oldest first
+abbrev pub standing : List (Option Vehicle) → List Vehicle
+standing [] = []
+standing (None ∷ os) = standing os
+standing (Some v ∷ os) = v ∷ standing os
 
--- none gave way
-abbrev pub NoneDropped : List Kind → Type 0
-NoneDropped [] = Unit {0}
-NoneDropped (GoesOn ∷ ks) = NoneDropped ks
-NoneDropped (Begins ∷ ks) = NoneDropped ks
-NoneDropped (Drops ∷ ks) = ⊥
+-- when the newest one was last used, in seconds; 0 without one
+abbrev pub last_use_in : Vehicles → ℕ
+last_use_in v = last_use_of v.newest
 
--- ENTRIES GO ON FROM OTHERS, by such changes.
-pub record GoesOnFrom (before now : List (List ℕ)) : Type 0 where
-  pub kinds : List Kind
-  pub changes : AreChanges kinds before now
+-- some entry stands there
+abbrev pub any_stands : List (Option Vehicle) → Bool
+any_stands [] = false
+any_stands (None ∷ os) = any_stands os
+any_stands (Some v ∷ os) = true
 
--- So do the vehicle entries of a card, of one image and of a later one. A dense ring of them stays dense, and only where it is full, or
--- lacks one entry, did some give way.
-pub record KeepsVehicles (app : Application) (x c : List ℕ) : Type 0 where
-  pub goes : GoesOnFrom (ring_list (vehicle_ring app) x) (ring_list (vehicle_ring app) c)
-  pub dense : IsDense (vehicle_ring app) x → IsDense (vehicle_ring app) c
-  pub full : IsDense (vehicle_ring app) x → NoneDropped goes.kinds ⊎ (app.vehicles ≤ length (ring_list (vehicle_ring app) c) + 1)
+-- THE LAST THAT STANDS there is changed so
+abbrev pub on_newest : (Vehicle → Vehicle) → List (Option Vehicle) → List (Option Vehicle)
+on_newest f [] = []
+on_newest f (o ∷ os) = if any_stands os then o ∷ on_newest f os else option_map f o ∷ os
+
+abbrev pub renewed : (Vehicle → Vehicle) → Vehicles → Vehicles
+renewed f v = record { newest = option_map f v.newest; ring = on_newest f v.ring }
+
+-- all but the first
+abbrev pub behind_first : List (Option Vehicle) → List (Option Vehicle)
+behind_first [] = []
+behind_first (o ∷ os) = os
+
+-- THE FIRST GIVES WAY: a new one stands behind all others
+abbrev pub with_vehicle : Vehicle → Vehicles → Vehicles
+with_vehicle w v = record { newest = Some w; ring = behind_first v.ring ++ Some w ∷ [] }
+
+-- or is still to come
+abbrev pub with_room : Vehicles → Vehicles
+with_room v = record { newest = v.newest; ring = None ∷ behind_first v.ring }

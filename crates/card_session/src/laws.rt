@@ -1,4 +1,4 @@
-ghost use Rattle.std.specs.Prelude.{◌≡◌, ◌⊎◌, ℕ, suc, ◌*◌, ◌<◌, ◌≤◌, ◌^◌, max, false, Some, List, [], ◌∷◌, ◌++◌, length};
+ghost use Rattle.std.specs.Prelude.{◌≡◌, ◌⊎◌, ℕ, suc, ◌*◌, ◌<◌, ◌≤◌, ◌^◌, max, false, Some, List, [], ◌∷◌, ◌++◌, length, map};
 ghost use Rattle.activity_codec.specs.declared.entries.Entry.{Entry};
 ghost use Rattle.activity_codec.specs.declared.values.Activity.{Activity};
 ghost use Rattle.tacho_types.specs.declared.texts.Registration.{Registration};
@@ -9,14 +9,23 @@ ghost use Rattle.card_model.specs.Changes.{trimmed};
 ghost use Rattle.card_retention.specs.Expected.{Counted, with_entry};
 ghost use Rattle.card_retention.specs.Shown.{Bound, AllUpTo, is_open};
 ghost use Rattle.card_retention.specs.Entries.{newest_minute, newest_word, closed_at};
-ghost use Rattle.card_image.specs.Fields.{file_bytes, card_days, card_number, end_mark, session_time};
+ghost use Rattle.card_records.specs.Vehicles.{vehicle_of};
+ghost use Rattle.gated_ring.specs.Ring.{PointsInside, ring_list};
+ghost use Rattle.card_image.specs.Fields.{file_bytes, vehicle_ring, last_of, card_days, card_number, end_mark, session_time};
 ghost use Rattle.card_image.specs.Judging.{IsValid};
 ghost use Rattle.card_image.specs.View.{card_view};
+ghost use Rattle.card_session.specs.Vehicles.{vehicles_of, standing};
 ghost use Rattle.card_session.specs.Sessions.{Session, IsSession};
 ghost use Rattle.card_session.specs.Cards.{IsCardKept, IsCardKeeping, IsCardClosed, IsCardClosing, MayEnd};
 ghost use Rattle.card_session.specs.Inserting.{AreOwed, IsCardInserted, IsCardInserting};
 ghost use Rattle.card_session.specs.Repairs.{first_minute, mark_behind, newest_behind, BeginsLater, NewestSoFar, lacked_by, ShowsFirst, ShowsOwed, ShowsMore};
 ghost use Rattle.card_session.specs.Overwriting.{GoesOn, IsRepairable, ShowsEntries, TellsNoLater, BeginsBehind, and_entry};
+
+/// The vehicle entries that stand in a card's ring are its list, the newest last.
+pub fn vehicles_are_the_list_of_their_ring()
+    ensures list { (app : Application) (x : List ℕ) → PointsInside (vehicle_ring app) x → standing (vehicles_of app x).ring ≡ map vehicle_of (ring_list (vehicle_ring app) x) }
+    ensures newest { (app : Application) (x : List ℕ) → PointsInside (vehicle_ring app) x → last_of (standing (vehicles_of app x).ring) ≡ (vehicles_of app x).newest }
+{}
 
 /// A stop in a keep leaves the session time, the events and the number of a card.
 pub fn a_keep_leaves_the_session()

@@ -20,6 +20,7 @@ pub use laws::{
     an_insertion_leaves_the_entries, an_insertion_leaves_the_newest_minute,
     an_insertion_leaves_the_number, an_insertion_leaves_the_stored_time,
     an_insertion_opens_a_session, an_insertion_shows_the_entries,
+    vehicles_are_the_list_of_their_ring,
 };
 pub use session::{CardSession, Kept};
 pub use words::LATEST_MINUTE;

@@ -6,7 +6,7 @@ ghost use Rattle.tach_media.specs.Medium.{LeavesOnly, HasCause, IsSettled, last_
 ghost use Rattle.cyclic_days.specs.Held.{tail_of};
 ghost use Rattle.cyclic_days.specs.Plans.{most_drops};
 ghost use Rattle.card_image.specs.Fields.{file, day_string, vehicle_ring, last_use_of};
-ghost use Rattle.card_session.specs.Books.{goes_on_in, goes_on_with, measured_to, closed};
+ghost use Rattle.card_session.specs.Books.{goes_on_in, goes_on_with, measured, closed};
 ghost use Rattle.card_session.specs.declared.words.TheConstants.{LATEST_MINUTE};
 ghost use Rattle.card_session.specs.Telling.{minute_told};
 ghost use Rattle.activity_codec.specs.Activity.{activity_of};
@@ -262,7 +262,7 @@ impl CardSession {
         requires fits { odometer.0 < 2 ^ 24 }
         ensures same { SameButVehicle self.old self.new }
         ensures newest { self.new.newest ≡ self.old.newest }
-        ensures vehicle { OnOk result (self.new.vehicle ≡ measured_to odometer.0 (Some vehicle)) }
+        ensures vehicle { OnOk result (self.new.vehicle ≡ Some (measured odometer.0 vehicle)) }
         ensures part { DoesPart (M.state port.old) (M.state port.new) (is_err result) (IsPartDone self.old self.new AnyBook (with_measured odometer.0)) (IsPartMoment self.old AnyBook (IsSettingOdometer odometer.0)) }
         ensures called { HasCause (M.state port.old) (M.state port.new) (is_err result) }
         ensures most { (M.state port.new).clock ≤ (M.state port.old).clock + 1 }

@@ -1,5 +1,5 @@
--- What the moments of each call make of a card's days and of its newest vehicle entry, deed by deed.
-use Rattle.std.proofs.Common.{◌≡◌, ◌⊎◌, inl, inr, ⊎_elim, ℕ, suc, ◌+◌, ◌*◌, ◌/◌, ◌<◌, ◌≤◌, Bool, true, false, cond, Option, Some, None, List, [], ◌∷◌, ◌++◌, append_assoc, length, refl, sym, ◌∙◌, ap, subst, arith}
+-- What the moments of each call make of a card's days and of its vehicle entries, deed by deed.
+use Rattle.std.proofs.Common.{◌≡◌, ◌⊎◌, inl, inr, ⊎_elim, ℕ, suc, ◌+◌, ◌*◌, ◌/◌, ◌<◌, ◌≤◌, Bool, true, false, cond, Option, Some, None, List, [], ◌∷◌, ◌++◌, append_assoc, length, refl, sym, ◌∙◌, ap, subst, arith, option_map}
 use Rattle.std.proofs.lemmas.List.{append-nil}
 use Rattle.activity_codec.specs.declared.values.Activity.{Activity}
 use Rattle.activity_codec.specs.declared.values.Activity.TheVariants.{Rest}
@@ -8,17 +8,16 @@ use Rattle.tacho_types.specs.declared.texts.Registration.{Registration}
 use Rattle.card_layout.specs.declared.files.Application.{Application}
 use Rattle.card_layout.specs.Application.{IsApplication}
 use Rattle.card_layout.specs.Files.{place_of, image_size_of}
-use Rattle.card_records.specs.declared.vehicle.Vehicle.{Vehicle}
 use Rattle.card_retention.specs.Shown.{AllUpTo, is_open}
 use Rattle.gated_ring.specs.Ring.{PointsInside}
-use Rattle.gated_ring.proofs.Elsewhere.{list_elsewhere, dense_elsewhere}
-use Rattle.card_image.specs.Fields.{file, vehicle_ring, last_use_of, end_mark}
+use Rattle.card_image.specs.Fields.{file, vehicle_ring, end_mark, last_use_of}
 use Rattle.card_image.specs.Beside.{HaveSameDays, HaveSameVehicles}
-use Rattle.card_session.specs.Books.{Book, mark_of, with_entry, closed, closed_days, last_used}
+use Rattle.card_records.specs.declared.vehicle.Vehicle.{Vehicle}
+use Rattle.card_session.specs.Books.{Book, mark_of, with_entry, closed, closed_days, last_used, used}
 use Rattle.card_session.specs.Sessions.{Session, book_of}
-use Rattle.card_session.specs.Moments.{IsBook, IsKeepMoment, IsCloseMoment}
-use Rattle.card_session.specs.Cards.{IsCard, IsCardKept, IsCardKeeping, IsCardClosed, IsCardClosing, ended, grown}
-use Rattle.card_session.specs.Vehicles.{KeepsVehicles}
+use Rattle.card_session.specs.Moments.{IsKeepMoment, IsCloseMoment}
+use Rattle.card_session.specs.Cards.{IsCardKeeping, IsCardClosing, ended, grown}
+use Rattle.card_session.specs.Vehicles.{Vehicles, last_use_in}
 use Rattle.card_session.specs.Inserting.{Follow, lacked, with_cut, with_owed, IsReplaying, repaired, IsRepairMoment, IsStill, IsRepaired, IsRepairing, IsNoted, IsNoting, IsShut, IsShutting, InsertingClosed, InsertingOpen}
 use Rattle.card_session.proofs.Composing.{book_is, told_book}
 use Rattle.card_session.proofs.InsertingBooks.{lacked_follow}
@@ -27,11 +26,9 @@ use Rattle.card_session.proofs.InsertingUse.{use_inside}
 use Rattle.card_session.proofs.InsertingOpen.{opening_same, reopening_same}
 use Rattle.card_session.proofs.InsertingAgain.{noted_keeps}
 use Rattle.card_session.proofs.Marks.{mark_told}
-use Rattle.card_session.proofs.Older.{keeps_same, keeps_still, keeps_then}
-use Rattle.card_session.proofs.OnCard.{ring_shape}
 use Rattle.card_session.proofs.Preparing.{used_at}
 use Rattle.card_session.proofs.Stopping.{before_use, ended_same}
-use Rattle.card_steps.specs.Deeds.{EntryKept, Deed, Keep, Close, Cut, Step, Done, Broken, Makes, MadeBy, kept_by, kept_in, IsMadeOf, IsMade}
+use Rattle.card_steps.specs.Deeds.{EntryKept, Keep, Close, Cut, Step, Done, Broken, Makes, MadeBy, kept_by, kept_in, IsMadeOf, IsMade}
 use Rattle.card_steps.proofs.Lists.{same_parts}
 use Rattle.card_steps.proofs.SameBook.{same_book}
 
@@ -51,15 +48,18 @@ up_later m n le [] up = tt
 up_later m n le (e ∷ es) up = (omega (arith, up.0, le), up_later m n le es up.1)
 
 -- a closing leaves the end mark or moves it on
-used_low : (v : Option Vehicle) → last_use_of v / 60 ≤ last_use_of (last_used (60 * suc (last_use_of v / 60)) v) / 60
-used_low None = omega arith
-used_low (Some v) = omega arith
+used_low : (v : Vehicles) → last_use_in v / 60 ≤ last_use_in (last_used (60 * suc (last_use_in v / 60)) v) / 60
+used_low v = by v.newest
+  where
+    by : (o : Option Vehicle) → last_use_of o / 60 ≤ last_use_of (option_map (used (60 * suc (last_use_of o / 60))) o) / 60
+    by None = omega arith
+    by (Some u) = omega arith
 
 closed_low : (size : ℕ) (act : Activity) (b : Book) → mark_of b ≤ mark_of (closed size act b)
 closed_low size act b = by (is_open (mark_of b) b.days)
   where
-    by : (o : Bool) → mark_of b ≤ mark_of (cond o (let c : Book = record { days = closed_days size (mark_of b) act b.days; vehicle = last_used (60 * suc (mark_of b)) b.vehicle } in c) b)
-    by true = used_low b.vehicle
+    by : (o : Bool) → mark_of b ≤ mark_of (cond o (let c : Book = record { days = closed_days size (mark_of b) act b.days; vehicles = last_used (60 * suc (mark_of b)) b.vehicles } in c) b)
+    by true = used_low b.vehicles
     by false = omega arith
 
 module _ (size : ℕ) (start : Book) where
@@ -86,29 +86,29 @@ module _ (size : ℕ) (start : Book) where
     keep_done : (more : List Entry) → IsMadeOf size start more b → (c : Book) → c ≡ with_entry size registration odometer km b e → IsMadeOf size start (more ++ e ∷ []) c
     keep_done more m c is = step_made more (Done (Keep kept_so)) b c is m
 
-    keep_broken : (more : List Entry) → IsMadeOf size start more b → (c : Book) → IsKeepMoment size registration odometer km e b c.days c.vehicle → IsMadeOf size start more c
+    keep_broken : (more : List Entry) → IsMadeOf size start more b → (c : Book) → IsKeepMoment size registration odometer km e b c.days c.vehicles → IsMadeOf size start more c
     keep_broken more m c moment = quiet_made more (Broken (Keep kept_so)) b c refl moment m
 
     -- the end mark is the old one, or it is done
-    keep_sides : (c : Book) → IsKeepMoment size registration odometer km e b c.days c.vehicle → (mark_of c ≡ mark_of b) ⊎ (c ≡ with_entry size registration odometer km b e)
-    keep_sides c (inl old) = inl (ap (λ (v : Option Vehicle). last_use_of v / 60) old.0)
+    keep_sides : (c : Book) → IsKeepMoment size registration odometer km e b c.days c.vehicles → (mark_of c ≡ mark_of b) ⊎ (c ≡ with_entry size registration odometer km b e)
+    keep_sides c (inl old) = inl (ap (λ (v : Vehicles). last_use_in v / 60) old.0)
     keep_sides c (inr new) = ⊎_elim
-        (λ unused. inl (before_use registration odometer e.minute b.vehicle c.vehicle unused))
-        (λ used. inr (book_is (with_entry size registration odometer km b e) c.days c.vehicle new.0 used))
+        (λ unused. inl (before_use registration odometer e.minute b.vehicles c.vehicles unused))
+        (λ used. inr (book_is (with_entry size registration odometer km b e) c.days c.vehicles new.0 used))
         new.1
 
   -- ---- A CLOSING
 
-  closing_made : (act : Activity) (b c : Book) (more : List Entry) → IsCloseMoment size act b c.days c.vehicle → IsMadeOf size start more b → IsMadeOf size start more c
+  closing_made : (act : Activity) (b c : Book) (more : List Entry) → IsCloseMoment size act b c.days c.vehicles → IsMadeOf size start more b → IsMadeOf size start more c
   closing_made act b c more (inl before) m = ⊎_elim
-      (λ same. same_made more b c (book_is b c.days c.vehicle same before.0) m)
+      (λ same. same_made more b c (book_is b c.days c.vehicles same before.0) m)
       (λ word. quiet_made more (Broken (Close act)) b c refl (inl before) m)
       before.1
-  closing_made act b c more (inr book) m = quiet_made more (Done (Close act)) b c refl (book_is (closed size act b) c.days c.vehicle book.0 book.1) m
+  closing_made act b c more (inr book) m = quiet_made more (Done (Close act)) b c refl (book_is (closed size act b) c.days c.vehicles book.0 book.1) m
 
-  closing_low : (act : Activity) (b c : Book) → IsCloseMoment size act b c.days c.vehicle → mark_of b ≤ mark_of c
-  closing_low act b c (inl before) = let same : mark_of c ≡ mark_of b = ap (λ (v : Option Vehicle). last_use_of v / 60) before.0 in omega (arith, same)
-  closing_low act b c (inr book) = let same : mark_of c ≡ mark_of (closed size act b) = ap (λ (v : Option Vehicle). last_use_of v / 60) book.1 in omega (arith, same, closed_low size act b)
+  closing_low : (act : Activity) (b c : Book) → IsCloseMoment size act b c.days c.vehicles → mark_of b ≤ mark_of c
+  closing_low act b c (inl before) = let same : mark_of c ≡ mark_of b = ap (λ (v : Vehicles). last_use_in v / 60) before.0 in omega (arith, same)
+  closing_low act b c (inr book) = let same : mark_of c ≡ mark_of (closed size act b) = ap (λ (v : Vehicles). last_use_in v / 60) book.1 in omega (arith, same, closed_low size act b)
 
   -- ---- A REPAIR
 
@@ -134,7 +134,7 @@ module _ (size : ℕ) (start : Book) where
   whole_same : (low : ℕ) (more es : List Entry) (b c : Book) → c ≡ b → Whole low more es b → Whole low more es c
   whole_same low more es b c same w = subst (Whole low more es) (sym same) w
 
-  whole_closing : (act : Activity) (low : ℕ) (more es : List Entry) (b c : Book) → IsCloseMoment size act b c.days c.vehicle → Whole low more es b → Whole low more es c
+  whole_closing : (act : Activity) (low : ℕ) (more es : List Entry) (b c : Book) → IsCloseMoment size act b c.days c.vehicles → Whole low more es b → Whole low more es c
   whole_closing act low more es b c moment w =
       let on : mark_of b ≤ mark_of c = closing_low act b c moment in
       record { above = omega (arith, w.above, on); up = up_later (mark_of b) (mark_of c) on es w.up; made = closing_made act b c (more ++ es) moment w.made }
@@ -170,10 +170,10 @@ module _ (size : ℕ) (start : Book) where
     next_book e b = with_entry size registration odometer 0 b e
 
     next_mark : (e : Entry) (b : Book) → mark_of (next_book e b) ≡ e.minute
-    next_mark e b = used_at registration odometer e.minute b.vehicle
+    next_mark e b = used_at registration odometer e.minute b.vehicles
 
-    replaying_parted : (es : List Entry) (b c : Book) (more : List Entry) → Follow (mark_of b) es → IsReplaying size registration odometer es b c.days c.vehicle → IsMadeOf size start more b → Parted (mark_of b) more es c
-    replaying_parted [] b c more follow is m = none_done b c more [] (ap (λ (v : Option Vehicle). last_use_of v / 60) is.1) tt (same_made more b c (book_is b c.days c.vehicle is.0 is.1) m)
+    replaying_parted : (es : List Entry) (b c : Book) (more : List Entry) → Follow (mark_of b) es → IsReplaying size registration odometer es b c.days c.vehicles → IsMadeOf size start more b → Parted (mark_of b) more es c
+    replaying_parted [] b c more follow is m = none_done b c more [] (ap (λ (v : Vehicles). last_use_in v / 60) is.1) tt (same_made more b c (book_is b c.days c.vehicles is.0 is.1) m)
     replaying_parted (e ∷ es) b c more follow (inl moment) m = ⊎_elim
         (λ old. none_done b c more (e ∷ es) old follow (keep_broken registration odometer 0 e b more m c moment))
         (λ done. one_done (mark_of b) more es e c follow.0 (ap (λ (k : Book). mark_of k) done ∙ next_mark e b) follow.1 (keep_done registration odometer 0 e b more m c done))
@@ -200,10 +200,10 @@ module _ (size : ℕ) (start : Book) where
       cut_done : IsMadeOf size start more (with_cut (mark_of b) b)
       cut_done = quiet_made more (Done Cut) b (with_cut (mark_of b) b) refl refl m
 
-      repair_parted : (c : Book) → IsRepairMoment size registration odometer owed b c.days c.vehicle → Parted (mark_of b) more (lacked (mark_of b) owed) c
-      repair_parted c (inl cutting) = none_done b c more (lacked (mark_of b) owed) (ap (λ (v : Option Vehicle). last_use_of v / 60) cutting.1) follows (⊎_elim
+      repair_parted : (c : Book) → IsRepairMoment size registration odometer owed b c.days c.vehicles → Parted (mark_of b) more (lacked (mark_of b) owed) c
+      repair_parted c (inl cutting) = none_done b c more (lacked (mark_of b) owed) (ap (λ (v : Vehicles). last_use_in v / 60) cutting.1) follows (⊎_elim
           (λ shorter. quiet_made more (Broken Cut) b c refl cutting m)
-          (λ done. quiet_made more (Done Cut) b c refl (book_is (with_cut (mark_of b) b) c.days c.vehicle done cutting.1) m) cutting.0)
+          (λ done. quiet_made more (Done Cut) b c refl (book_is (with_cut (mark_of b) b) c.days c.vehicles done cutting.1) m) cutting.0)
       repair_parted c (inr replaying) = replaying_parted (lacked (mark_of b) owed) (with_cut (mark_of b) b) c more follows replaying cut_done
 
       repair_whole : Whole (mark_of b) more (lacked (mark_of b) owed) (repaired size registration odometer owed b)
@@ -212,44 +212,35 @@ module _ (size : ℕ) (start : Book) where
 -- ---- OF A CARD
 
 pub made_start : (app : Application) (image : List ℕ) → IsMade app image [] image
-made_start app image = record { deeds = record { steps = []; kept = refl; made = refl }; vehicles = keeps_still app image }
+made_start app image = record { deeds = record { steps = []; kept = refl; made = refl } }
 
--- after a step from one image to another
-made_on : (app : Application) (image : List ℕ) (more es : List Entry) (x y : List ℕ) → IsMade app image more x → KeepsVehicles app x y → IsMadeOf app.activity (book_of app image) es (book_of app y) → IsMade app image es y
-made_on app image more es x y m keeps deeds = record { deeds = deeds; vehicles = keeps_then app image x y m.vehicles keeps }
+made_by : (app : Application) (image : List ℕ) (more : List Entry) (x : List ℕ) → IsMadeOf app.activity (book_of app image) more (book_of app x) → IsMade app image more x
+made_by app image more x deeds = record { deeds = deeds }
 
-pub made_same : (app : Application) (image : List ℕ) (more : List Entry) (x y : List ℕ) → book_of app y ≡ book_of app x → KeepsVehicles app x y → IsMade app image more x → IsMade app image more y
-made_same app image more x y same keeps m = made_on app image more more x y m keeps (same_made app.activity (book_of app image) more (book_of app x) (book_of app y) same m.deeds)
-
--- what leaves the vehicle entries
-pub beside_vehicles : (app : Application) → IsApplication app → (x y : List ℕ) → PointsInside (vehicle_ring app) x → HaveSameVehicles app x y → KeepsVehicles app x y
-beside_vehicles app sound x y points same = keeps_same app x y (list_elsewhere (vehicle_ring app) (ring_shape app sound) x y same points) (dense_elsewhere (vehicle_ring app) (ring_shape app sound) x y same points)
+pub made_same : (app : Application) (image : List ℕ) (more : List Entry) (x y : List ℕ) → book_of app y ≡ book_of app x → IsMade app image more x → IsMade app image more y
+made_same app image more x y same m = record { deeds = same_made app.activity (book_of app image) more (book_of app x) (book_of app y) same m.deeds }
 
 -- a keep
 module _ (s : Session) (image : List ℕ) (more : List Entry) (e : Entry) (odometer : ℕ) (x y : List ℕ) (m : IsMade s.application image more x) (keeping : IsCardKeeping s e odometer x y) where
   pub keep_stopped : IsMade s.application image more y
-  keep_stopped = made_on s.application image more more x y m keeping.card.older
-      (keep_broken s.application.activity (book_of s.application image) s.registration odometer (grown s.odometer odometer) e (book_of s.application x) more m.deeds (book_of s.application y) keeping.card.told)
+  keep_stopped = record { deeds = keep_broken s.application.activity (book_of s.application image) s.registration odometer (grown s.odometer odometer) e (book_of s.application x) more m.deeds (book_of s.application y) keeping.card.told }
 
   pub keep_made : end_mark s.application x < e.minute → end_mark s.application y ≡ e.minute → IsMade s.application image (more ++ e ∷ []) y
   keep_made late at = ⊎_elim
       (λ old. absurd (omega (arith, late, at, old, mark_told s.application x, mark_told s.application y)))
-      (λ done. made_on s.application image more (more ++ e ∷ []) x y m keeping.card.older
-      (keep_done s.application.activity (book_of s.application image) s.registration odometer (grown s.odometer odometer) e (book_of s.application x) more m.deeds (book_of s.application y) done))
+      (λ done. made_by s.application image (more ++ e ∷ []) y (keep_done s.application.activity (book_of s.application image) s.registration odometer (grown s.odometer odometer) e (book_of s.application x) more m.deeds (book_of s.application y) done))
       (keep_sides s.application.activity (book_of s.application image) s.registration odometer (grown s.odometer odometer) e (book_of s.application x) (book_of s.application y) keeping.card.told)
 
 -- a withdrawal
 pub close_made : (s : Session) (act : Activity) (image : List ℕ) (more : List Entry) (x y : List ℕ) → IsApplication s.application → image_size_of s.application ≤ length x → IsMade s.application image more x → IsCardClosing s act x y → IsMade s.application image more y
 close_made s act image more x y sound fits m (inl card) =
-    made_on s.application image more more x y m card.older (closing_made s.application.activity (book_of s.application image) act (book_of s.application x) (book_of s.application y) more card.told m.deeds)
+    record { deeds = closing_made s.application.activity (book_of s.application image) act (book_of s.application x) (book_of s.application y) more card.told m.deeds }
 close_made s act image more x y sound fits m (inr done) =
     let k : List ℕ = done.before in
     let side = ended_same s.application sound k (omega (arith, fits, done.card.outside.same_length)) done.card.points in
     let same : book_of s.application y ≡ book_of s.application k = ap (book_of s.application) done.session ∙ same_book s.application sound k (ended s.application k) done.card.points side.0 side.1 in
-    let keeps : KeepsVehicles s.application k y = subst (KeepsVehicles s.application k) (sym done.session) (beside_vehicles s.application sound k (ended s.application k) done.card.points side.1) in
-    made_same s.application image more k y same keeps
-    (made_on s.application image more more x k m done.card.older
-    (closing_made s.application.activity (book_of s.application image) act (book_of s.application x) (book_of s.application k) more (inr done.card.told) m.deeds))
+    made_same s.application image more k y same
+    (record { deeds = closing_made s.application.activity (book_of s.application image) act (book_of s.application x) (book_of s.application k) more (inr done.card.told) m.deeds })
 
 -- of some entries the first are kept, up to a card's end mark, and the others come behind it
 pub record PartedAt (app : Application) (image : List ℕ) (more es : List Entry) (y : List ℕ) : Type 0 where
@@ -273,10 +264,6 @@ module _ (app : Application) (sound : IsApplication app) (registration : Registr
   beside : (y z : List ℕ) → PointsInside (vehicle_ring app) y → HaveSameDays app y z → HaveSameVehicles app y z → book_of app z ≡ book_of app y
   beside y z points days vehicles = same_book app sound y z points days vehicles
 
-  -- a step more, from the card as it was
-  on : (y z : List ℕ) → KeepsVehicles app x y → KeepsVehicles app y z → KeepsVehicles app x z
-  on y z first next = keeps_then app x y z first next
-
   still_book : (y : List ℕ) → IsStill app x y → book_of app y ≡ book_of app x
   still_book y still = told_book app (book_of app x) x y still
 
@@ -284,23 +271,23 @@ module _ (app : Application) (sound : IsApplication app) (registration : Registr
   module _ (y : List ℕ) (still : IsStill app x y) where
     shut_made : (z : List ℕ) → IsShutting app y z → IsMade app image more z
     shut_made z card =
-        let was = made_same app image more x y (still_book y still) still.older m in
-        made_on app image more more y z was card.older (closing_made app.activity start_book Rest (book_of app y) (book_of app z) more card.told was.deeds)
+        let was = made_same app image more x y (still_book y still) m in
+        record { deeds = closing_made app.activity start_book Rest (book_of app y) (book_of app z) more card.told was.deeds }
 
     room_left : (z : List ℕ) → IsShut app y z → place_of app (file 0x0507) + 19 ≤ length z
     room_left z card = omega (arith, use_inside app, fits, still.outside.same_length, card.outside.same_length)
 
     shut_done : (z : List ℕ) → IsShut app y z → IsMade app image more z
     shut_done z card =
-        let was = made_same app image more x y (still_book y still) still.older m in
-        made_on app image more more y z was card.older (closing_made app.activity start_book Rest (book_of app y) (book_of app z) more (inr card.told) was.deeds)
+        let was = made_same app image more x y (still_book y still) m in
+        record { deeds = closing_made app.activity start_book Rest (book_of app y) (book_of app z) more (inr card.told) was.deeds }
 
   pub closed_made : (y : List ℕ) → InsertingClosed app registration now x y → IsMade app image more y
-  closed_made y (inl still) = made_same app image more x y (still_book y still) still.older m
+  closed_made y (inl still) = made_same app image more x y (still_book y still) m
   closed_made y (inr (x1, still, inl shutting)) = shut_made x1 still y shutting
   closed_made y (inr (x1, still, inr (x2, shut, opening))) =
       let side = opening_same app registration now long x2 y (room_left x1 still x2 shut) opening in
-      made_same app image more x2 y (beside x2 y shut.points side.0 side.1) (beside_vehicles app sound x2 y shut.points side.1) (shut_done x1 still x2 shut)
+      made_same app image more x2 y (beside x2 y shut.points side.0 side.1) (shut_done x1 still x2 shut)
 
   -- of one whose session was left open
   module _ (odometer : ℕ) (owed : List Entry) (ordered : Follow 1439 owed) where
@@ -324,7 +311,7 @@ module _ (app : Application) (sound : IsApplication app) (registration : Registr
     module _ (y : List ℕ) (still : IsStill app x y) where
       repairing_parts : (z : List ℕ) → IsRepairing app registration odometer owed y z → Parts z
       repairing_parts z card = repair_parted app.activity start_book registration odometer owed ordered (book_of app x) more m.deeds (book_of app z)
-          (subst (λ (k : Book). IsRepairMoment app.activity registration odometer owed k (book_of app z).days (book_of app z).vehicle) (still_book y still) card.told)
+          (subst (λ (k : Book). IsRepairMoment app.activity registration odometer owed k (book_of app z).days (book_of app z).vehicles) (still_book y still) card.told)
 
       module _ (z : List ℕ) (card : IsRepaired app registration odometer owed y z) where
         repaired_all : All_there z
@@ -366,16 +353,6 @@ module _ (app : Application) (sound : IsApplication app) (registration : Registr
         let side = reopening_same app registration now long x4 y (room x1 still x2 mended x3 noted x4 shut) reopening in
         all_parts y (whole_same app.activity start_book mark more lacks (book_of app x4) (book_of app y) (beside x4 y shut.points side.0 side.1) (shut_all x1 still x2 mended x3 noted x4 shut))
 
-    open_vehicles : (y : List ℕ) → InsertingOpen app registration odometer owed now x y → KeepsVehicles app x y
-    open_vehicles y (inl still) = still.older
-    open_vehicles y (inr (x1, still, inl repairing)) = on x1 y still.older repairing.older
-    open_vehicles y (inr (x1, still, inr (x2, mended, inl noting))) = on x2 y (on x1 x2 still.older mended.older) (beside_vehicles app sound x2 y mended.points (noting_same app now x2 y noting).1)
-    open_vehicles y (inr (x1, still, inr (x2, mended, inr (x3, noted, inl shutting)))) =
-        on x3 y (on x2 x3 (on x1 x2 still.older mended.older) (beside_vehicles app sound x2 x3 mended.points (noted_same app now x2 x3 noted).1)) shutting.older
-    open_vehicles y (inr (x1, still, inr (x2, mended, inr (x3, noted, inr (x4, shut, reopening))))) =
-        let side = reopening_same app registration now long x4 y (room x1 still x2 mended x3 noted x4 shut) reopening in
-        on x4 y (on x3 x4 (on x2 x3 (on x1 x2 still.older mended.older) (beside_vehicles app sound x2 x3 mended.points (noted_same app now x2 x3 noted).1)) shut.older) (beside_vehicles app sound x4 y shut.points side.1)
-
     pub open_parted : (y : List ℕ) → InsertingOpen app registration odometer owed now x y → PartedAt app image more (lacked (end_mark app x) owed) y
     open_parted y inserting =
         let p = open_parts y inserting in
@@ -385,5 +362,5 @@ module _ (app : Application) (sound : IsApplication app) (registration : Registr
           split = ap (λ (n : ℕ). lacked n owed) (mark_told app x) ∙ p.split;
           up = subst (λ (n : ℕ). AllUpTo n p.done) (sym (mark_told app y)) p.up;
           behind = subst (λ (n : ℕ). Follow n p.rest) (sym (mark_told app y)) p.behind;
-          made = made_on app image more (more ++ p.done) x y m (open_vehicles y inserting) p.made;
+          made = record { deeds = p.made };
         }

@@ -70,7 +70,7 @@ module _ (app : Application) (sound : IsApplication app) (image : List ℕ) (sta
     pub each_beside : LeavesOnly old new (LeavesString app) → EachHolds app image brought next began new
     each_beside leaves =
         each_on (LeavesString app) old new began_before leaves
-        (λ x y is same. let t = told x is in (same.sizes ∙ t.0, later_holds app image brought n next y le (beside_holds app image x y same.book same.vehicles brought n same.session t.1))) each
+        (λ x y is same. let t = told x is in (same.sizes ∙ t.0, later_holds app image brought n next y le (beside_holds app image x y same.book brought n same.session t.1))) each
 
     -- an insertion
     module _ (registration : Registration) (odometer now : ℕ) (owed : List Entry) (long : length registration.0 ≡ 15) (are : AreOwed now owed) where

@@ -9,7 +9,6 @@ use Rattle.tacho_types.specs.declared.texts.Registration.{Registration}
 use Rattle.card_layout.specs.declared.files.Application.{Application}
 use Rattle.card_layout.specs.Application.{IsApplication}
 use Rattle.card_layout.specs.Files.{image_size_of, place_of}
-use Rattle.card_records.specs.declared.vehicle.Vehicle.{Vehicle}
 use Rattle.card_model.specs.Days.{Day, AreDays}
 use Rattle.card_model.specs.Changes.{trimmed}
 use Rattle.card_model.proofs.Trims.{are_trimmed, trim_from_moment, trimmed_twice}
@@ -18,10 +17,11 @@ use Rattle.card_retention.specs.Entries.{newest_minute, newest_word}
 use Rattle.card_retention.specs.Shown.{Bound, is_open}
 use Rattle.card_retention.proofs.Closing.{lives_trimmed}
 use Rattle.card_retention.proofs.ListTrims.{entries_trimmed}
-use Rattle.card_image.specs.Fields.{file, last_use_of, card_days, end_mark, session_time}
+use Rattle.card_image.specs.Fields.{file, card_days, end_mark, session_time}
 use Rattle.card_image.specs.Judging.{IsValid}
 use Rattle.card_image.specs.View.{card_view}
 use Rattle.card_image.proofs.Beside.{days_same, session_same as session_beside}
+use Rattle.card_session.specs.Vehicles.{Vehicles, last_use_in}
 use Rattle.card_session.specs.Books.{Book, mark_of, with_entry, closed}
 use Rattle.card_session.specs.Sessions.{EndsStrictly, IsOpenBook, book_of}
 use Rattle.card_session.specs.Moments.{IsBook, IsCloseMoment}
@@ -123,17 +123,17 @@ module _ (size : ℕ) (long : 5544 ≤ size) (registration : Registration) (odom
       ∙ repair_newest size long registration odometer next b are strict owed ordered up
 
   -- a moment of it
-  abbrev Moment : List Day → Option Vehicle → Type 0
-  Moment ds v = ReplaysOf size slack covered next (mark_of b) c all ls (last_use_of v / 60) ds
+  abbrev Moment : List Day → Vehicles → Type 0
+  Moment ds v = ReplaysOf size slack covered next (mark_of b) c all ls (last_use_in v / 60) ds
 
-  pub cut_moment : (ds : List Day) (v : Option Vehicle) → AreDays 0 ds → v ≡ b.vehicle → trimmed (mark_of b) ds ≡ trimmed (mark_of b) b.days → Moment ds v
+  pub cut_moment : (ds : List Day) (v : Vehicles) → AreDays 0 ds → v ≡ b.vehicles → trimmed (mark_of b) ds ≡ trimmed (mark_of b) b.days → Moment ds v
   cut_moment ds v whole same is =
-      none_there size long registration odometer covered slack next (mark_of b) c all ls (last_use_of v / 60) ds (ap (λ (o : Option Vehicle). last_use_of o / 60) same)
+      none_there size long registration odometer covered slack next (mark_of b) c all ls (last_use_in v / 60) ds (ap (λ (o : Vehicles). last_use_in o / 60) same)
       (⊎_elim
       (λ broke. inl (broke_later size slack covered (mark_of b) c all from (first_minute next ls) ds later (broke_same size slack covered (mark_of b) c all from b.days ds is are whole broke.0)))
       (λ begun. inr (begun_later size slack covered (mark_of b) c all from (first_minute next ls) ds later (begun_same size slack covered (mark_of b) c all from b.days ds is are whole begun.0), begun.1)) may)
 
-  pub repair_moment : (ds : List Day) (v : Option Vehicle) → AreDays 0 ds → IsRepairMoment size registration odometer owed b ds v → Moment ds v
+  pub repair_moment : (ds : List Day) (v : Vehicles) → AreDays 0 ds → IsRepairMoment size registration odometer owed b ds v → Moment ds v
   repair_moment ds v whole (inl cutting) =
       cut_moment ds v whole cutting.1 (⊎_elim (λ shorter. trim_from_moment (mark_of b) b.days ds shorter) (λ done. ap (trimmed (mark_of b)) done ∙ twice) cutting.0)
   repair_moment ds v whole (inr replaying) =
@@ -220,7 +220,7 @@ module _ (app : Application) (sound : IsApplication app) (x : List ℕ) (fits : 
   few : 16 ≤ (and_entries slack lacks).bytes
   few = omega (arith, least, bytes_same slack lacks)
 
-  first_told : (y : List ℕ) → ReplaysOf app.activity slack covered next (mark_of (book_of app x)) c all lacks (last_use_of (book_of app y).vehicle / 60) (book_of app y).days
+  first_told : (y : List ℕ) → ReplaysOf app.activity slack covered next (mark_of (book_of app x)) c all lacks (last_use_in (book_of app y).vehicles / 60) (book_of app y).days
       → ReplaysOf app.activity slack covered next (mark_of (book_of app x)) c all lacks (end_mark app y) (card_days app y)
   unfolding book_of
   first_told y one = one
@@ -235,7 +235,7 @@ module _ (app : Application) (sound : IsApplication app) (x : List ℕ) (fits : 
     still_first y still = (
       session_same app (IsBook (book_of app x)) x y still,
       first_told y
-          (cut_moment app.activity sound.string_least registration odometer (book_of app x) asked.are asked.strict owed ordered slack covered from next c all least asked.may asked.later asked.enough (book_of app y).days (book_of app y).vehicle still.holds.ordered still.told.1
+          (cut_moment app.activity sound.string_least registration odometer (book_of app x) asked.are asked.strict owed ordered slack covered from next c all least asked.may asked.later asked.enough (book_of app y).days (book_of app y).vehicles still.holds.ordered still.told.1
           (ap (trimmed (mark_of (book_of app x))) still.told.0)),
     )
 
@@ -243,8 +243,8 @@ module _ (app : Application) (sound : IsApplication app) (x : List ℕ) (fits : 
     repairing_first y z still card = (
       session_same app (IsRepairMoment app.activity registration odometer owed (book_of app y)) y z card ∙ session_same app (IsBook (book_of app x)) x y still,
       first_told z
-          (repair_moment app.activity sound.string_least registration odometer (book_of app x) asked.are asked.strict owed ordered slack covered from next c all least asked.may asked.later asked.enough (book_of app z).days (book_of app z).vehicle card.holds.ordered
-          (subst (λ (k : Book). IsRepairMoment app.activity registration odometer owed k (book_of app z).days (book_of app z).vehicle) (told_book app (book_of app x) x y still) card.told)),
+          (repair_moment app.activity sound.string_least registration odometer (book_of app x) asked.are asked.strict owed ordered slack covered from next c all least asked.may asked.later asked.enough (book_of app z).days (book_of app z).vehicles card.holds.ordered
+          (subst (λ (k : Book). IsRepairMoment app.activity registration odometer owed k (book_of app z).days (book_of app z).vehicles) (told_book app (book_of app x) x y still) card.told)),
     )
 
     -- the repair is done
@@ -304,9 +304,9 @@ module _ (app : Application) (sound : IsApplication app) (x : List ℕ) (fits : 
               all_first v (at ∙ mark ∙ z_mark)
               (close_broke app sound w w_are w_open Rest (and_entries slack lacks) covered next next (with_entries covered c lacks) (all ++ lacks) few (omega arith) w_late w_goes v shutting at)
 
-          v_all : IsBook (closed app.activity Rest (book_of app w)) (book_of app v).days (book_of app v).vehicle → All_on v
+          v_all : IsBook (closed app.activity Rest (book_of app w)) (book_of app v).days (book_of app v).vehicles → All_on v
           v_all book =
-              let is : book_of app v ≡ closed app.activity Rest (book_of app w) = told_book app (closed app.activity Rest (book_of app w)) w v (record { outside = shutting.outside; holds = shutting.holds; points = shutting.points; older = shutting.older; told = book }) in
+              let is : book_of app v ≡ closed app.activity Rest (book_of app w) = told_book app (closed app.activity Rest (book_of app w)) w v (record { outside = shutting.outside; holds = shutting.holds; points = shutting.points; told = book }) in
               record {
                 goes = close_goes app sound w w_are w_open Rest (and_entries slack lacks) covered next next (with_entries covered c lacks) (all ++ lacks) few (omega arith) w_late w_goes v shutting.holds.ordered book
                     (close_shows app sound w w_are (all ++ lacks) w_goes.until w_goes.lists Rest v shutting);
@@ -340,7 +340,7 @@ module _ (app : Application) (sound : IsApplication app) (x : List ℕ) (fits : 
             (λ book. inr (v_all w w_days w_mark v shutting book)) shutting.told
 
         shut_all : (v : List ℕ) → IsShut app w v → All_on v
-        shut_all v shut = v_all w w_days w_mark v (record { outside = shut.outside; holds = shut.holds; points = shut.points; older = shut.older; told = inr shut.told }) shut.told
+        shut_all v shut = v_all w w_days w_mark v (record { outside = shut.outside; holds = shut.holds; points = shut.points; told = inr shut.told }) shut.told
 
         -- the current use
         use_all : (v u : List ℕ) → IsShut app w v → Same app v u → All_on u
@@ -425,12 +425,12 @@ module _ (app : Application) (sound : IsApplication app) (x : List ℕ) (fits : 
 
     shut_book : (z : List ℕ) → IsShutting app y z → book_of app z ≡ book_of app x
     shut_book z card =
-        let is = closed_still app.activity (book_of app y) (shut_there y same_book) (book_of app z).days (book_of app z).vehicle card.told in
-        told_book app (book_of app y) y z (record { outside = card.outside; holds = card.holds; points = card.points; older = card.older; told = is }) ∙ same_book
+        let is = closed_still app.activity (book_of app y) (shut_there y same_book) (book_of app z).days (book_of app z).vehicles card.told in
+        told_book app (book_of app y) y z (record { outside = card.outside; holds = card.holds; points = card.points; told = is }) ∙ same_book
 
     use_same : (z w : List ℕ) → IsShut app y z → Same app z w → (card_days app w ≡ card_days app x) × (end_mark app w ≡ end_mark app x)
     use_same z w card side =
-        let first = same_told z (shut_book z (record { outside = card.outside; holds = card.holds; points = card.points; older = card.older; told = inr card.told })) in
+        let first = same_told z (shut_book z (record { outside = card.outside; holds = card.holds; points = card.points; told = inr card.told })) in
         (days_same app z w side.0 ∙ first.0, mark_beside app sound z w side.0 side.1 card.points ∙ first.1)
 
     room_left : (z : List ℕ) → IsShut app y z → place_of app (file 0x0507) + 19 ≤ length z

@@ -15,10 +15,10 @@ use Rattle.card_retention.specs.Shown.{Bound, AllBefore, AllUpTo, Tells, Lives, 
 use Rattle.card_retention.specs.Retains.{entries_in, begun_on}
 use Rattle.card_retention.proofs.Listing.{Lists}
 use Rattle.card_retention.proofs.ListTrims.{entries_trimmed, lists_trimmed}
-use Rattle.card_records.specs.declared.vehicle.Vehicle.{Vehicle}
-use Rattle.card_image.specs.Fields.{card_days, end_mark, last_use_of}
+use Rattle.card_image.specs.Fields.{card_days, end_mark}
 use Rattle.card_image.specs.View.{card_view}
 use Rattle.card_image.proofs.Newest.{newest_of_entries}
+use Rattle.card_session.specs.Vehicles.{Vehicles, last_use_in}
 use Rattle.card_session.specs.Books.{Book, mark_of, gap_closed, entered_days, travelled, with_entry as book_with}
 use Rattle.card_session.specs.Moments.{IsBeforeMark}
 use Rattle.card_session.specs.Parts.{IsBeforeGapOf}
@@ -185,8 +185,8 @@ module _ (s : Session) (e : Entry) (odometer : ℕ) (x y : List ℕ) (slack : Bo
     begun_side = ⊎_elim
         (λ old. inl (begun_stopped (mark_at app b y old.0 ∙ sym told) (stops_at (book_of s.application y).days old.1)))
         (λ new. ⊎_elim
-        (λ unused. inl (begun_stopped (mark_told app y ∙ before_use s.registration odometer e.minute b.vehicle (book_of s.application y).vehicle unused ∙ sym told) (stops_at (book_of s.application y).days (inr (inr (inr new.0))))))
-        (λ after. inr (begun_done (mark_told app y ∙ ap (λ (o : Option Vehicle). last_use_of o / 60) after ∙ used_at s.registration odometer e.minute b.vehicle) new.0))
+        (λ unused. inl (begun_stopped (mark_told app y ∙ before_use s.registration odometer e.minute b.vehicles (book_of s.application y).vehicles unused ∙ sym told) (stops_at (book_of s.application y).days (inr (inr (inr new.0))))))
+        (λ after. inr (begun_done (mark_told app y ∙ ap (λ (o : Vehicles). last_use_in o / 60) after ∙ used_at s.registration odometer e.minute b.vehicles) new.0))
         new.1) keeping.card.told
 
   -- ---- either

@@ -63,10 +63,10 @@ module _ (s t : Session) (image : List ℕ) (done : List Entry) (e : Entry) (odo
       moment.side
     where
       whole : IsCardKeeping s e odometer x y
-      whole = record { card = record { outside = kept.card.outside; holds = kept.card.holds; points = kept.card.points; older = kept.card.older; told = inr (kept.card.told.0, inr kept.card.told.1) } }
+      whole = record { card = record { outside = kept.card.outside; holds = kept.card.holds; points = kept.card.points; told = inr (kept.card.told.0, inr kept.card.told.1) } }
 
       at : end_mark s.application y ≡ e.minute
-      at = mark_at s.application (with_entry s.application.activity s.registration odometer (grown s.odometer odometer) (book_of s.application x) e) y kept.card.told.1 ∙ used_at s.registration odometer e.minute (book_of s.application x).vehicle
+      at = mark_at s.application (with_entry s.application.activity s.registration odometer (grown s.odometer odometer) (book_of s.application x) e) y kept.card.told.1 ∙ used_at s.registration odometer e.minute (book_of s.application x).vehicles
 
       moment : IsKeepShown s.application (bound_since image done) (own_covered image) (counted_since image done) (all_since image done) e x y
       moment = shown s image done e odometer n x y sound knows session late before g whole

@@ -6,14 +6,14 @@ use Rattle.card_layout.specs.Application.{IsApplication}
 use Rattle.card_layout.specs.declared.files.Application.{Application}
 use Rattle.card_model.specs.Days.{Day, AreDays}
 use Rattle.card_model.specs.Changes.{trimmed}
-use Rattle.card_records.specs.declared.vehicle.Vehicle.{Vehicle}
 use Rattle.card_retention.specs.Expected.{Counted, with_entry}
 use Rattle.card_retention.specs.Entries.{last_entry, closed_at, newest_minute}
 use Rattle.card_retention.specs.Shown.{Bound, AllUpTo, Tells, Lives}
 use Rattle.card_retention.proofs.Listing.{Lists}
-use Rattle.card_image.specs.Fields.{card_days, end_mark, last_use_of}
+use Rattle.card_image.specs.Fields.{card_days, end_mark}
 use Rattle.card_image.specs.View.{card_view}
 use Rattle.card_image.proofs.Newest.{newest_of_entries}
+use Rattle.card_session.specs.Vehicles.{Vehicles, last_use_in}
 use Rattle.card_session.specs.Books.{Book, mark_of, gap_closed, entered_days, travelled, with_entry as book_with}
 use Rattle.card_session.specs.Moments.{IsBeforeMark}
 use Rattle.card_session.specs.Parts.{IsBeforeGapOf}
@@ -118,8 +118,8 @@ module _ (s : Session) (e : Entry) (odometer : ℕ) (x y : List ℕ) (slack : Bo
     side = ⊎_elim
         (λ old. inl (stopped (mark_at app b y old.0 ∙ sym told) (stops_at (book_of s.application y).days old.1)))
         (λ new. ⊎_elim
-        (λ unused. inl (stopped (mark_told app y ∙ before_use s.registration odometer e.minute b.vehicle (book_of s.application y).vehicle unused ∙ sym told) (stops_at (book_of s.application y).days (inr (inr (inr new.0))))))
-        (λ used. inr (moved (mark_told app y ∙ ap (λ (o : Option Vehicle). last_use_of o / 60) used ∙ used_at s.registration odometer e.minute b.vehicle) new.0))
+        (λ unused. inl (stopped (mark_told app y ∙ before_use s.registration odometer e.minute b.vehicles (book_of s.application y).vehicles unused ∙ sym told) (stops_at (book_of s.application y).days (inr (inr (inr new.0))))))
+        (λ used. inr (moved (mark_told app y ∙ ap (λ (o : Vehicles). last_use_in o / 60) used ∙ used_at s.registration odometer e.minute b.vehicles) new.0))
         new.1) keeping.card.told;
     bound = omega (arith, newest_of_entries app y these, le-max_left (card_view app y).mark (closed_at (last_entry (card_view app y).held.entries)));
   }

@@ -8,7 +8,6 @@ use Rattle.activity_codec.specs.declared.entries.Entry.{Entry}
 use Rattle.tacho_types.specs.declared.texts.Registration.{Registration}
 use Rattle.card_model.specs.Days.{Day, AreDays}
 use Rattle.card_model.specs.Changes.{trimmed}
-use Rattle.card_records.specs.declared.vehicle.Vehicle.{Vehicle}
 use Rattle.card_retention.specs.Expected.{Counted, is_newest, with_entry as counted_with}
 use Rattle.card_retention.specs.Entries.{closed_at, entries_up_to, newest_word}
 use Rattle.card_retention.specs.Retains.{entries_in, begun_on}
@@ -17,7 +16,7 @@ use Rattle.card_retention.proofs.Listing.{Lists}
 use Rattle.card_retention.proofs.ListTrims.{entries_trimmed, lists_trimmed}
 use Rattle.card_retention.proofs.Moments.{rests_later}
 use Rattle.card_retention.proofs.Stops.{stop_none}
-use Rattle.card_image.specs.Fields.{last_use_of}
+use Rattle.card_session.specs.Vehicles.{Vehicles, last_use_in}
 use Rattle.card_session.specs.Books.{Book, mark_of, gap_closed, with_entry}
 use Rattle.card_session.specs.Moments.{IsKeepMoment, IsBeforeMark}
 use Rattle.card_session.specs.Parts.{IsBeforeGapOf}
@@ -112,7 +111,7 @@ module _ (size : ℕ) (long : 5544 ≤ size) (registration : Registration) (odom
       → Lists e.minute (all ++ e ∷ []) (with_entry size registration odometer 0 b e).days → newest_word (with_entry size registration odometer 0 b e).days ≤ e.minute
       → GoesIn size slack covered (suc e.minute) c (all ++ e ∷ []) (with_entry size registration odometer 0 b e)
   made slack c all b e le until lives lists low =
-      let at : mark_of (with_entry size registration odometer 0 b e) ≡ e.minute = used_at registration odometer e.minute b.vehicle in
+      let at : mark_of (with_entry size registration odometer 0 b e) ≡ e.minute = used_at registration odometer e.minute b.vehicles in
       record {
         lives = subst (λ (m : ℕ). Lives size slack covered (suc e.minute) m c (with_entry size registration odometer 0 b e).days) (sym at) lives;
         until = subst (λ (m : ℕ). AllUpTo m (all ++ e ∷ [])) (sym at) (until_more (mark_of b) e le all until);
@@ -211,15 +210,15 @@ module _ (size : ℕ) (long : 5544 ≤ size) (registration : Registration) (odom
     one = with_entry size registration odometer 0 b e
 
     at_one : mark_of one ≡ e.minute
-    at_one = used_at registration odometer e.minute b.vehicle
+    at_one = used_at registration odometer e.minute b.vehicles
 
-    waits : (ds : List Day) (v : Option Vehicle) → AreDays 0 ds → last_use_of v / 60 ≡ mark_of b → IsBeforeMark size b one e ds → ReplaysOf size slack covered next (mark_of b) c all (e ∷ es) (last_use_of v / 60) ds
-    waits ds v whole at moment = none_there slack next (mark_of b) c all (e ∷ es) (last_use_of v / 60) ds at (comes.stop ds whole moment)
+    waits : (ds : List Day) (v : Vehicles) → AreDays 0 ds → last_use_in v / 60 ≡ mark_of b → IsBeforeMark size b one e ds → ReplaysOf size slack covered next (mark_of b) c all (e ∷ es) (last_use_in v / 60) ds
+    waits ds v whole at moment = none_there slack next (mark_of b) c all (e ∷ es) (last_use_in v / 60) ds at (comes.stop ds whole moment)
 
-    there : (ds : List Day) (v : Option Vehicle) → ds ≡ one.days → last_use_of v / 60 ≡ e.minute → ReplaysOf size slack covered next (mark_of b) c all (e ∷ es) (last_use_of v / 60) ds
+    there : (ds : List Day) (v : Vehicles) → ds ≡ one.days → last_use_in v / 60 ≡ e.minute → ReplaysOf size slack covered next (mark_of b) c all (e ∷ es) (last_use_in v / 60) ds
     there ds v is at =
-        and_first slack next (mark_of b) c all e es (last_use_of v / 60) ds
-        (none_there (and_entry slack e) next e.minute (counted_with covered c e) (all ++ e ∷ []) es (last_use_of v / 60) ds at (inl broke))
+        and_first slack next (mark_of b) c all e es (last_use_in v / 60) ds
+        (none_there (and_entry slack e) next e.minute (counted_with covered c e) (all ++ e ∷ []) es (last_use_in v / 60) ds at (inl broke))
       where
         first : BrokeOf size (and_entry slack e) covered (first_minute next es) (mark_of one) (counted_with covered c e) (all ++ e ∷ []) one.days
         first = broke_of (and_entry slack e) (suc e.minute) (first_minute next es) (counted_with covered c e) (all ++ e ∷ []) one comes.goes least behind
@@ -228,19 +227,19 @@ module _ (size : ℕ) (long : 5544 ≤ size) (registration : Registration) (odom
         broke = subst (λ (l : List Day). BrokeOf size (and_entry slack e) covered (first_minute next es) e.minute (counted_with covered c e) (all ++ e ∷ []) l) (sym is)
             (subst (λ (m : ℕ). BrokeOf size (and_entry slack e) covered (first_minute next es) m (counted_with covered c e) (all ++ e ∷ []) one.days) at_one first)
 
-    first_moments : (ds : List Day) (v : Option Vehicle) → AreDays 0 ds → IsKeepMoment size registration odometer 0 e b ds v → ReplaysOf size slack covered next (mark_of b) c all (e ∷ es) (last_use_of v / 60) ds
+    first_moments : (ds : List Day) (v : Vehicles) → AreDays 0 ds → IsKeepMoment size registration odometer 0 e b ds v → ReplaysOf size slack covered next (mark_of b) c all (e ∷ es) (last_use_in v / 60) ds
     first_moments ds v whole moment = ⊎_elim
-        (λ old. waits ds v whole (ap (λ (o : Option Vehicle). last_use_of o / 60) old.0) old.1)
+        (λ old. waits ds v whole (ap (λ (o : Vehicles). last_use_in o / 60) old.0) old.1)
         (λ new. ⊎_elim
-        (λ unused. waits ds v whole (before_use registration odometer e.minute b.vehicle v unused) (inr (inr (inr new.0))))
-        (λ used. there ds v new.0 (ap (λ (o : Option Vehicle). last_use_of o / 60) used ∙ at_one))
+        (λ unused. waits ds v whole (before_use registration odometer e.minute b.vehicles v unused) (inr (inr (inr new.0))))
+        (λ used. there ds v new.0 (ap (λ (o : Vehicles). last_use_in o / 60) used ∙ at_one))
         new.1)
         moment
 
-    later_moments : (ds : List Day) (v : Option Vehicle) → ReplaysOf size (and_entry slack e) covered next (mark_of one) (counted_with covered c e) (all ++ e ∷ []) es (last_use_of v / 60) ds → ReplaysOf size slack covered next (mark_of b) c all (e ∷ es) (last_use_of v / 60) ds
+    later_moments : (ds : List Day) (v : Vehicles) → ReplaysOf size (and_entry slack e) covered next (mark_of one) (counted_with covered c e) (all ++ e ∷ []) es (last_use_in v / 60) ds → ReplaysOf size slack covered next (mark_of b) c all (e ∷ es) (last_use_in v / 60) ds
     later_moments ds v rest =
-        and_first slack next (mark_of b) c all e es (last_use_of v / 60) ds
-        (subst (λ (m : ℕ). ReplaysOf size (and_entry slack e) covered next m (counted_with covered c e) (all ++ e ∷ []) es (last_use_of v / 60) ds) at_one rest)
+        and_first slack next (mark_of b) c all e es (last_use_in v / 60) ds
+        (subst (λ (m : ℕ). ReplaysOf size (and_entry slack e) covered next m (counted_with covered c e) (all ++ e ∷ []) es (last_use_in v / 60) ds) at_one rest)
 
   -- ENTRIES, one after the other, from a book that goes on
   replay_all : (es : List Entry) (slack : Bound) (from next : ℕ) (c : Counted) (all : List Entry) (b : Book) → GoesIn size slack covered from c all b → 16 ≤ slack.bytes → IsBeforeAll es b → AllByRecursion (λ e. 1440 ≤ e.minute) es
@@ -258,9 +257,9 @@ module _ (size : ℕ) (long : 5544 ≤ size) (registration : Registration) (odom
 
   replay_moments : (es : List Entry) (slack : Bound) (from next : ℕ) (c : Counted) (all : List Entry) (b : Book) → GoesIn size slack covered from c all b → 16 ≤ slack.bytes → IsBeforeAll es b → AllByRecursion (λ e. 1440 ≤ e.minute) es
       → AllByRecursion (λ e. e.minute < next) es → from ≤ first_minute next es → BeginsLater (mark_of b) es b.days
-      → (ds : List Day) (v : Option Vehicle) → AreDays 0 ds → IsReplaying size registration odometer es b ds v → ReplaysOf size slack covered next (mark_of b) c all es (last_use_of v / 60) ds
+      → (ds : List Day) (v : Vehicles) → AreDays 0 ds → IsReplaying size registration odometer es b ds v → ReplaysOf size slack covered next (mark_of b) c all es (last_use_in v / 60) ds
   replay_moments [] slack from next c all b g least before many up after begins ds v whole is =
-      none_there slack next (mark_of b) c all [] (last_use_of v / 60) ds (ap (λ (o : Option Vehicle). last_use_of o / 60) is.1)
+      none_there slack next (mark_of b) c all [] (last_use_in v / 60) ds (ap (λ (o : Vehicles). last_use_in o / 60) is.1)
       (inl (subst (λ (l : List Day). BrokeOf size slack covered next (mark_of b) c all l) (sym is.0) (broke_of slack from next c all b g least after)))
   replay_moments (e ∷ es) slack from next c all b g least before many up after begins ds v whole (inl moment) =
       let gap : IsBeforeGapOf e.minute b = (before.0, before.1.0) in
@@ -294,7 +293,7 @@ module _ (size : ℕ) (long : 5544 ≤ size) (registration : Registration) (odom
         subst (λ (l : List Entry). GoesIn size (and_entries (and_entry slack e) es) covered next (with_entries covered (counted_with covered c e) es) l (with_owed size registration odometer es (with_entry size registration odometer 0 b e))) (append_assoc all (e ∷ []) es)
         (replay_all es (and_entry slack e) (suc e.minute) next (counted_with covered c e) (all ++ e ∷ []) (with_entry size registration odometer 0 b e) comes.goes least ready many.1 up.1 behind_it begins_later)
 
-    from_moments : (ds : List Day) (v : Option Vehicle) → AreDays 0 ds → IsReplaying size registration odometer (e ∷ es) b ds v → ReplaysOf size slack covered next (mark_of b) c all (e ∷ es) (last_use_of v / 60) ds
+    from_moments : (ds : List Day) (v : Vehicles) → AreDays 0 ds → IsReplaying size registration odometer (e ∷ es) b ds v → ReplaysOf size slack covered next (mark_of b) c all (e ∷ es) (last_use_in v / 60) ds
     from_moments ds v whole (inl moment) = first_moments slack from next c all b least e es comes behind_it ds v whole moment
     from_moments ds v whole (inr later) =
         later_moments slack from next c all b least e es comes behind_it ds v
@@ -331,7 +330,7 @@ module _ (size : ℕ) (long : 5544 ≤ size) (registration : Registration) (odom
         from_all slack from next c all b are least e es (first_comes e es (before.0, before.1.0) many.0 after starts) before many up
 
     pub start_moments : (es : List Entry) → Starts slack from c all es b → IsBeforeAll es b → AllByRecursion (λ e. 1440 ≤ e.minute) es → AllByRecursion (λ e. e.minute < next) es → from ≤ first_minute next es
-        → (ds : List Day) (v : Option Vehicle) → AreDays 0 ds → IsReplaying size registration odometer es b ds v → ReplaysOf size slack covered next (mark_of b) c all es (last_use_of v / 60) ds
+        → (ds : List Day) (v : Vehicles) → AreDays 0 ds → IsReplaying size registration odometer es b ds v → ReplaysOf size slack covered next (mark_of b) c all es (last_use_in v / 60) ds
     start_moments [] (inl (g, begins)) before many up after ds v whole is = replay_moments [] slack from next c all b g least before many up after tt ds v whole is
     start_moments [] (inr (begun, here)) before many up after ds v whole is = absurd here
     start_moments (e ∷ es) starts before many up after ds v whole is =

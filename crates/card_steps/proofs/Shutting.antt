@@ -6,13 +6,13 @@ use Rattle.card_layout.specs.Application.{IsApplication}
 use Rattle.card_layout.specs.declared.files.Application.{Application}
 use Rattle.card_model.specs.Days.{Day, AreDays}
 use Rattle.card_model.specs.Changes.{OnNewest, date_of}
-use Rattle.card_records.specs.declared.vehicle.Vehicle.{Vehicle}
 use Rattle.card_retention.specs.Expected.{Counted}
 use Rattle.card_retention.specs.Entries.{newest_minute, newest_word}
 use Rattle.card_retention.specs.Shown.{Bound, AllUpTo, is_open}
 use Rattle.card_retention.proofs.ListTrims.{entries_trimmed, lists_trimmed}
 use Rattle.card_retention.proofs.Stops.{stop_none}
 use Rattle.card_image.specs.Fields.{card_days, end_mark}
+use Rattle.card_session.specs.Vehicles.{Vehicles}
 use Rattle.card_session.specs.Books.{Book, mark_of, closed, closed_days, closing_word, latest_of, last_used, with_change}
 use Rattle.card_session.specs.Moments.{IsBook, IsCloseMoment}
 use Rattle.card_session.specs.Sessions.{IsOpenBook, book_of}
@@ -39,7 +39,7 @@ up_more mark m (e ∷ all) le up = (omega (arith, le, up.0), up_more mark m all 
 
 module _ (app : Application) (sound : IsApplication app) (x : List ℕ) (ordered : AreDays 0 (book_of app x).days) (may : IsOpenBook (book_of app x)) (act : Activity) (slack : Bound) (covered from next : ℕ) (c : Counted) (all : List Entry) (least : 16 ≤ slack.bytes) (later : from ≤ next)
     (late : newest_minute (end_mark app x) (card_days app x) < next) (g : Goes app slack covered from c all x) where
-  abbrev Closing : List Day → Option Vehicle → Type 0
+  abbrev Closing : List Day → Vehicles → Type 0
   Closing = IsCloseMoment app.activity act (book_of app x)
 
   -- with the old end mark
@@ -63,12 +63,12 @@ module _ (app : Application) (sound : IsApplication app) (x : List ℕ) (ordered
         up = subst (λ (m : ℕ). AllUpTo m all) (sym at) g.until
 
   -- with the closing word, and the end mark at it
-  module _ (y : List ℕ) (are : AreDays 0 (book_of app y).days) (book : IsBook (closed app.activity act (book_of app x)) (book_of app y).days (book_of app y).vehicle) where
+  module _ (y : List ℕ) (are : AreDays 0 (book_of app y).days) (book : IsBook (closed app.activity act (book_of app x)) (book_of app y).days (book_of app y).vehicles) where
     at_closed : end_mark app y ≡ mark_of (closed app.activity act (book_of app x))
     at_closed = mark_at app (closed app.activity act (book_of app x)) y book.1
 
     abbrev ends : Book
-    ends = record { days = closed_days app.activity (mark_of (book_of app x)) act (book_of app x).days; vehicle = last_used (60 * suc (mark_of (book_of app x))) (book_of app x).vehicle }
+    ends = record { days = closed_days app.activity (mark_of (book_of app x)) act (book_of app x).days; vehicles = last_used (60 * suc (mark_of (book_of app x))) (book_of app x).vehicles }
 
     abbrev w : ℕ
     w = closing_word (suc (mark_of (book_of app x))) act (latest_of (book_of app x).days)

@@ -15,7 +15,6 @@ use Rattle.card_image.specs.Fields.{card_days, end_mark, session_time}
 use Rattle.card_image.specs.Own.{own_view, own_covered}
 use Rattle.card_session.specs.Books.{Book, mark_of}
 use Rattle.card_session.specs.Sessions.{book_of}
-use Rattle.card_session.specs.Vehicles.{KeepsVehicles}
 use Rattle.card_session.specs.Inserting.{Follow}
 use Rattle.card_session.specs.Overwriting.{BeginsBehind, and_entry}
 use Rattle.card_session.specs.Repairs.{first_minute, mark_behind, and_entries, with_entries, newest_behind, BeginsLater}
@@ -281,9 +280,9 @@ module _ (app : Application) (image : List ℕ) (more rest : List Entry) (next :
       stands = inl (all_goes at goes);
     }
 
--- ---- the days, the newest vehicle and the session stay, and a later bound
+-- ---- the days, the vehicle entries and the session stay, and a later bound
 
-module _ (app : Application) (image : List ℕ) (x y : List ℕ) (same : book_of app y ≡ book_of app x) (keeps : KeepsVehicles app x y) where
+module _ (app : Application) (image : List ℕ) (x y : List ℕ) (same : book_of app y ≡ book_of app x) where
   days : card_days app y ≡ card_days app x
   days = sym (book_days app y) ∙ ap (λ (b : Book). b.days) same ∙ book_days app x
 
@@ -295,7 +294,7 @@ module _ (app : Application) (image : List ℕ) (x y : List ℕ) (same : book_of
     from = s.from;
     later = s.later;
     goes = goes_moved app (bound_since image more) (own_covered image) s.from (counted_since image more) (all_since image more) x y days mark s.goes;
-    tied = tied_still app image more x y (ap (λ (n : ℕ). n / 1440) mark) (made_same app image more x y same keeps s.tied.made) s.tied;
+    tied = tied_still app image more x y (ap (λ (n : ℕ). n / 1440) mark) (made_same app image more x y same s.tied.made) s.tied;
   }
 
   module _ (more rest : List Entry) (from : ℕ) where
@@ -325,7 +324,7 @@ module _ (app : Application) (image : List ℕ) (x y : List ℕ) (same : book_of
           left = ⊎_elim
               (λ old. inl (broke_still h.more h.rest broke.from old))
               (λ begun. inr (begun_still h.more h.rest broke.from begun.0, subst (λ (m : ℕ). IsOnDay m h.rest) (sym mark) begun.1)) broke.left;
-          tied = tied_still app image h.more x y (ap (λ (n : ℕ). n / 1440) mark) (made_same app image h.more x y same keeps broke.tied.made) broke.tied;
+          tied = tied_still app image h.more x y (ap (λ (n : ℕ). n / 1440) mark) (made_same app image h.more x y same broke.tied.made) broke.tied;
         })) h.stands;
   }
 

@@ -211,7 +211,7 @@ module _ (app : Application) (sound : IsApplication app) (x : List ℕ) (ordered
   unfolding book_of
   written_told y moment = moment
 
-  pub close_stays : (y : List ℕ) → IsCard app (IsCloseMoment app.activity act (book_of app x)) x y → (book_of app y).vehicle ≡ (book_of app x).vehicle → IsClosingWord app.activity act (book_of app x) (book_of app y).days
+  pub close_stays : (y : List ℕ) → IsCard app (IsCloseMoment app.activity act (book_of app x)) x y → (book_of app y).vehicles ≡ (book_of app x).vehicles → IsClosingWord app.activity act (book_of app x) (book_of app y).days
       → Goes app slack covered next c all y × (end_mark app y ≡ end_mark app x)
   close_stays y card vehicle moment =
       let at : end_mark app y ≡ end_mark app x = mark_at app (book_of app x) y vehicle ∙ sym (mark_told app x) in
@@ -266,7 +266,7 @@ module _ (app : Application) (sound : IsApplication app) (x : List ℕ) (fits : 
 
     use_goes : (z w : List ℕ) → IsShut app y z → Same app z w → Goes app slack covered next c all w × (end_mark app w / 1440 ≡ end_mark app x / 1440)
     use_goes z w card side =
-        let first = shutting_goes z (record { outside = card.outside; holds = card.holds; points = card.points; older = card.older; told = inr card.told }) in
+        let first = shutting_goes z (record { outside = card.outside; holds = card.holds; points = card.points; told = inr card.told }) in
         let days : card_days app w ≡ card_days app z = days_same app z w side.0 in
         let mark : end_mark app w ≡ end_mark app z = mark_beside app sound z w side.0 side.1 card.points in
         (goes_moved app slack covered next c all z w days mark first.0, ap (λ (m : ℕ). m / 1440) mark ∙ first.1)

@@ -35,7 +35,7 @@ module _ (s : Session) (act : Activity) (x : List ℕ) (slack : Bound) (covered 
   )
 
   -- with the closing word, and the end mark at it
-  goes : (y : List ℕ) → IsCard s.application (IsCloseMoment s.application.activity act (book_of s.application x)) x y → IsBook (closed s.application.activity act (book_of s.application x)) (book_of s.application y).days (book_of s.application y).vehicle
+  goes : (y : List ℕ) → IsCard s.application (IsCloseMoment s.application.activity act (book_of s.application x)) x y → IsBook (closed s.application.activity act (book_of s.application x)) (book_of s.application y).days (book_of s.application y).vehicles
       → IsClosedShown s.application slack covered next c all x y
   goes y card book =
       close_done app sound x (days_there s x knows) knows.book act slack covered from next c all least later late g y card.holds.ordered book (close_shows app sound x (days_there s x knows) all g.until g.lists act y card)
@@ -44,7 +44,7 @@ module _ (s : Session) (act : Activity) (x : List ℕ) (slack : Bound) (covered 
   ended_goes : (k : List ℕ) → image_size_of s.application ≤ length x → IsCard s.application (IsBook (closed s.application.activity act (book_of s.application x))) x k → IsClosedShown s.application slack covered next c all x (ended s.application k)
   ended_goes k fits card =
       let room : image_size_of app ≤ length k = omega (arith, fits, card.outside.same_length) in
-      let before = goes k (record { outside = card.outside; holds = card.holds; points = card.points; older = card.older; told = inr card.told }) card.told in
+      let before = goes k (record { outside = card.outside; holds = card.holds; points = card.points; told = inr card.told }) card.told in
       let mark : end_mark app (ended app k) ≡ end_mark app k = ended_mark app sound k room card.points in
       let days : card_days app (ended app k) ≡ card_days app k = ended_days app sound k room card.points in
       record {

@@ -1,4 +1,4 @@
--- What sessions have made of a card's days and of its newest vehicle entry since an image of it, deed by deed (profile).
+-- What sessions have made of a card's days and of its vehicle entries since an image of it, deed by deed (profile).
 use Rattle.std.specs.Prelude.{◌≡◌, ℕ, List, [], ◌∷◌, ◌++◌}
 use Rattle.activity_codec.specs.declared.values.Activity.{Activity}
 use Rattle.activity_codec.specs.declared.entries.Entry.{Entry}
@@ -8,7 +8,6 @@ use Rattle.card_session.specs.Books.{Book, mark_of, with_entry, closed}
 use Rattle.card_session.specs.Sessions.{book_of}
 use Rattle.card_session.specs.Moments.{IsKeepMoment, IsCloseMoment}
 use Rattle.card_session.specs.Inserting.{with_cut, IsCutting}
-use Rattle.card_session.specs.Vehicles.{KeepsVehicles}
 
 -- an entry that is kept: in which vehicle, with which odometer value, and how many km behind the one before
 pub record EntryKept : Type 0 where
@@ -24,7 +23,7 @@ pub data Deed : Type 0 where
   Close : Activity → Deed
   Cut : Deed
 
--- what that makes of the days, with their words and distances, and of the newest vehicle entry
+-- what that makes of the days, with their words and distances, and of the vehicle entries
 abbrev pub after : (size : ℕ) → Deed → Book → Book
 after size (Keep k) b = with_entry size k.registration k.odometer k.km b k.entry
 after size (Close act) b = closed size act b
@@ -32,9 +31,9 @@ after size Cut b = with_cut (mark_of b) b
 
 -- and a moment of it
 abbrev pub IsDuring : (size : ℕ) → Deed → (b c : Book) → Type 0
-IsDuring size (Keep k) b c = IsKeepMoment size k.registration k.odometer k.km k.entry b c.days c.vehicle
-IsDuring size (Close act) b c = IsCloseMoment size act b c.days c.vehicle
-IsDuring size Cut b c = IsCutting (mark_of b) b c.days c.vehicle
+IsDuring size (Keep k) b c = IsKeepMoment size k.registration k.odometer k.km k.entry b c.days c.vehicles
+IsDuring size (Close act) b c = IsCloseMoment size act b c.days c.vehicles
+IsDuring size Cut b c = IsCutting (mark_of b) b c.days c.vehicles
 
 -- a deed that was done, or that was broken off at a moment of it
 pub data Step : Type 0 where
@@ -67,8 +66,7 @@ pub record IsMadeOf (size : ℕ) (start : Book) (more : List Entry) (b : Book) :
   pub kept : kept_in steps ≡ more
   pub made : MadeBy size steps start b
 
--- THE DAYS of a card, with their words and distances, AND ITS NEWEST VEHICLE ENTRY are those that the keeps of these entries make of an
--- image at the start; and its older vehicle entries go on from those of that image.
+-- THE DAYS of a card, with their words and distances, AND ITS VEHICLE ENTRIES, all of them, are those that the keeps of these entries make of
+-- an image at the start.
 pub record IsMade (app : Application) (image : List ℕ) (more : List Entry) (x : List ℕ) : Type 0 where
   pub deeds : IsMadeOf app.activity (book_of app image) more (book_of app x)
-  pub vehicles : KeepsVehicles app image x

@@ -6,7 +6,6 @@ use Rattle.card_layout.specs.declared.files.Application.{Application}
 use Rattle.card_image.specs.Fields.{session_time}
 use Rattle.card_image.specs.Own.{own_sizes, own_view, KeepsOf}
 use Rattle.card_session.specs.Sessions.{book_of}
-use Rattle.card_session.specs.Vehicles.{KeepsVehicles}
 use Rattle.card_steps.specs.Since.{all_since, HoldsSince}
 
 -- of the entries that came since the start, those up to a card's end mark are kept with its own, but for what the overwriting took
@@ -18,9 +17,8 @@ pub record EachHolds (app : Application) (image : List ℕ) (brought : List Entr
   pub now : (x : List ℕ) → card.may_leave x → (own_sizes x ≡ app) × HoldsSince app image brought next x
   pub since : (x : List ℕ) → card.left_since began x → (own_sizes x ≡ app) × KeepsSince image brought x
 
--- a write beside them leaves the sizes, the days with the newest vehicle, the vehicle entries, and the session time
+-- a write beside them leaves the sizes, the days with the vehicle entries, and the session time
 pub record LeavesString (app : Application) (x y : List ℕ) : Type 0 where
   pub sizes : own_sizes y ≡ own_sizes x
   pub book : book_of app y ≡ book_of app x
-  pub vehicles : KeepsVehicles app x y
   pub session : session_time app y ≡ session_time app x

@@ -19,7 +19,6 @@ ghost use Rattle.card_session.specs.Cards.{IsCardKept, IsCardKeeping, IsCardClos
 ghost use Rattle.card_session.specs.Inserting.{AreOwed, Follow, IsCardInserted, IsCardInserting};
 ghost use Rattle.card_session.specs.Repairs.{first_minute, newest_behind, lacked_by};
 ghost use Rattle.card_session.specs.Overwriting.{BeginsBehind};
-ghost use Rattle.card_session.specs.Vehicles.{KeepsVehicles};
 ghost use Rattle.card_steps.specs.Carried.{Goes, Broke, Begun, IsFresh, IsStated};
 ghost use Rattle.card_steps.specs.Shows.{IsKeepShown};
 ghost use Rattle.card_steps.specs.Closes.{IsClosedShown, IsCloseShown};
@@ -136,7 +135,7 @@ pub fn an_insertion_keeps_the_string()
 
 /// So does what leaves days, vehicle entries and session time, as a note does. A later bound does, and further entries that are brought.
 pub fn a_string_holds_on()
-    ensures beside { (app : Application) (image : List ℕ) (brought : List Entry) (n : ℕ) (x y : List ℕ) → book_of app y ≡ book_of app x → KeepsVehicles app x y → session_time app y ≡ session_time app x →
+    ensures beside { (app : Application) (image : List ℕ) (brought : List Entry) (n : ℕ) (x y : List ℕ) → book_of app y ≡ book_of app x → session_time app y ≡ session_time app x →
         HoldsSince app image brought n x → HoldsSince app image brought n y }
     ensures later { (app : Application) (image : List ℕ) (brought : List Entry) (n next : ℕ) (x : List ℕ) → n ≤ next → HoldsSince app image brought n x → HoldsSince app image brought next x }
     ensures brought { (app : Application) (image : List ℕ) (brought es : List Entry) (m n next : ℕ) (x : List ℕ) → Follow m (brought ++ es) → n ≤ first_minute next es → HoldsSince app image brought n x → HoldsSince app image (brought ++ es) next x }

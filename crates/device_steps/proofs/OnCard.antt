@@ -10,14 +10,14 @@ use Rattle.card_layout.specs.declared.files.Application.{Application}
 use Rattle.card_layout.specs.declared.files.TheConstants.{APPLICATION_RANGE}
 use Rattle.card_layout.specs.Application.{application_of, IsApplication}
 use Rattle.card_layout.specs.Files.{files_of}
-use Rattle.card_records.specs.declared.vehicle.Vehicle.{Vehicle}
 use Rattle.card_model.specs.Days.{Day}
 use Rattle.card_retention.specs.Expected.{Counted, with_entry}
 use Rattle.card_retention.specs.Shown.{Bound}
 use Rattle.card_retention.specs.Entries.{newest_word}
-use Rattle.card_image.specs.Fields.{session_time, last_use_of, card_days, end_mark}
+use Rattle.card_image.specs.Fields.{session_time, card_days, end_mark}
 use Rattle.card_image.specs.View.{CardView, Held, card_view}
 use Rattle.card_image.specs.Own.{own_sizes, own_view}
+use Rattle.card_session.specs.Vehicles.{Vehicles, last_use_in}
 use Rattle.card_session.specs.Books.{mark_of}
 use Rattle.card_session.specs.Sessions.{Session, IsSession, book_of}
 use Rattle.card_session.specs.Cards.{IsCard, IsCardKeeping, IsCardKept}
@@ -69,7 +69,7 @@ unfolding card_view
 word-is app x = refl
 
 -- a keep leaves the sizes
-pub sizes-same : (app : Application) (P : List Day → Option Vehicle → Type 0) (x y : List ℕ) → IsCard app P x y → own_sizes y ≡ own_sizes x
+pub sizes-same : (app : Application) (P : List Day → Vehicles → Type 0) (x y : List ℕ) → IsCard app P x y → own_sizes y ≡ own_sizes x
 unfolding own_sizes files_of
 sizes-same app P x y is = ap application_of (before_days app P x y is APPLICATION_RANGE.base APPLICATION_RANGE.len (omega arith))
 
@@ -99,7 +99,7 @@ module _ (s : Session) (slack : Bound) (covered from : ℕ) (c : Counted) (all :
     as-moment = record { card = card_as app _ _ x y (λ ds v both. inr (both.0, inr both.1)) kept.card }
 
     marked : mark_of (book_of app y) ≡ e.minute
-    marked = ap (λ (o : Option Vehicle). last_use_of o / 60) kept.card.told.1 ∙ used_at s.registration odometer e.minute (book_of app x).vehicle
+    marked = ap (λ (o : Vehicles). last_use_in o / 60) kept.card.told.1 ∙ used_at s.registration odometer e.minute (book_of app x).vehicles
 
     pub done : IsDone app slack covered c all e x y
     done = ⊎_elim

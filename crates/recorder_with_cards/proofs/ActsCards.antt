@@ -17,7 +17,10 @@ use Rattle.slot_machine.specs.Calls.{seat_in, card_in, logged}
 use Rattle.safety_model.specs.Safe.{Devices}
 use Rattle.run_rings.specs.Notes.{course_behind}
 use Rattle.run_course.specs.Moments.{and_break, and_refused}
+use Rattle.run_course.proofs.Lookups.{break-more, refusal-more}
 use Rattle.run_moments.specs.Reached.{course_at}
+use Rattle.run_evented.specs.Uses.{notes_now, uses_in}
+use Rattle.run_evented.proofs.Exact.{fewer-none}
 use Rattle.run_ringed.proofs.SoFar.{left-itself, failed-more}
 use Rattle.run_keeping.specs.Keeping.{with_lines}
 use Rattle.run_outcome.specs.declared.outcome.Outcome.{Outcome}
@@ -35,6 +38,8 @@ use Rattle.run_acts.proofs.RingedSecond.{cut-is, here-append, power-here}
 use Rattle.run_acts.proofs.CardEnds.{IsLater, ends-shown, cut-short}
 use Rattle.run_acts.proofs.CardTurn.{lines-later}
 use Rattle.run_acts.proofs.CardSecond.{quiet-shown, quiet-action}
+use Rattle.run_acts.proofs.CardShown.{FindsStill}
+use Rattle.run_acts.proofs.CardUses.{FoundTo, still-found}
 use Rattle.run_acts.proofs.CardStays.{shows-self}
 use Rattle.run_acts.proofs.CardActs.{quiet-goes}
 use Rattle.recorder_with_cards.proofs.ActsRecorded.{refuses}
@@ -58,12 +63,23 @@ pulled-cards d slot begun speed run out o done s now front rest are is allowed v
     line : Break
     line = Tear s.number slot false (suc (length front)) false
 
+    to : FoundTo log s.number (length front)
+    to k x lt = w.within.moment.up_to.found (In k) x lt
+
+    -- its line tells of no find
+    finds : (c : Card) → FindsStill log (and_break log line) (uses_in o c (notes_now w.within.b.run.log done log s)) (uses_in o c (notes_now w.within.b.run.log done (and_break log line) s))
+    finds c none = (
+      fewer-none log (and_break log line) (line ∷ []) refl none,
+      still-found o w.within.b.run.log done s (power-here o done s (In (length front)) [] None [] (values_of run out) d w.within) c log (and_break log line) front (Pull slot ∷ rest) are
+      (goes-torn log s front slot false w.within.moment.up_to.uncut).same to (λ k x lt. (break-more log line s.number).found (In k) x ∙ to k x lt),
+    )
+
     by : (card : Option Card) → card_in (seat_in run.keeper.cabin.slots.seats slot) ≡ card → (card_in (seat_in run.keeper.cabin.slots.seats slot) ≡ None → ⊥) →
         CardsIn o done s w.within.b.run.log (front ++ Pull slot ∷ []) (log_of (record out { breaks = with_lines (pulled_breaks card slot (record { second = run.next; begun = begun; late = false })) out.breaks })) d
     by None none_ one = absurd (one none_)
     by (Some card) some one =
         let goes = goes-torn log s front slot false w.within.moment.up_to.uncut in
-        let told = quiet-shown o done s w.within.b.run.log front (front ++ Pull slot ∷ []) log (and_break log line) d d cards (failed-more log (and_break log line) goes.lines)
+        let told = quiet-shown o done s w.within.b.run.log front (front ++ Pull slot ∷ []) log (and_break log line) d d cards finds (failed-more log (and_break log line) goes.lines)
         (quiet-action o done s w.within.b.run.log front (Pull slot) log (and_break log line) goes.same (inr (inr tt))) (left-itself o d) (shows-self o d) in
         subst (λ (u : ℕ). CardsIn o done s w.within.b.run.log (front ++ Pull slot ∷ []) (and_break log (Tear u slot false begun false)) d) now.number
         (subst (λ (k : ℕ). CardsIn o done s w.within.b.run.log (front ++ Pull slot ∷ []) (and_break log (Tear s.number slot false k false)) d) (sym is) told)
@@ -86,7 +102,12 @@ refused-cards o done s speed run before d now front a rest are w cards fault is 
     let few : length front ≤ length s.actions = w.within.moment.is in
     let same : course_behind log was s front ≡ course_at log was s (In (length front)) = behind-at log was s front (a ∷ rest) are uncut few in
     let faults : refusal (course_behind log was s front).slots s.speed a ≡ Some fault = ap (λ (c : Course). refusal c.slots s.speed a) same ∙ refuses o done s speed run before d now front a rest are w (Some fault) is in
-    let on = quiet-shown o done s w.within.b.run.log front (front ++ a ∷ []) log later d d cards (failed-more log later goes.lines)
+    let on = quiet-shown o done s w.within.b.run.log front (front ++ a ∷ []) log later d d cards
+    (λ c none. (
+      none,
+      still-found o w.within.b.run.log done s (power-here o done s (In (length front)) [] None [] (values_of run before) d w.within) c log later front (a ∷ rest) are goes.same (λ k x lt. w.within.moment.up_to.found (In k) x lt)
+      (λ k x lt. (refusal-more log later.refused s.number).found (In k) x ∙ w.within.moment.up_to.found (In k) x lt),
+    )) (failed-more log later goes.lines)
     (quiet-action o done s w.within.b.run.log front a log later goes.same (inr (inl (fault, ap (λ (c : Course). refusal c.slots s.speed a) (course-refused log was s front line) ∙ faults)))) (left-itself o d) (shows-self o d) in
     subst (λ (q : Outcome). CardsIn o done s w.within.b.run.log (front ++ a ∷ []) (log_of q) d) (sym told) on
 
@@ -126,5 +147,5 @@ pub cut-cards : (o : Origin) (done : List TraceSecond) (s : TraceSecond) (n : �
 cut-cards o done s n run out d e w told front rest are l uncut cards =
     let cut : RunLog = with_cut (log_of told) s front in
     let power = power-here o done s (In n) [] None [] (values_of run out) d w.within in
-    ends-shown o done s w.within.b.run.log cut l power front cut e e cards (λ u is. is)
+    ends-shown o done s w.within.b.run.log cut l power front cut e e cards (λ c none. (none, refl)) (λ u is. is)
     (cut-short o done s w.within.b.run.log cut l power front rest are (cut-is (log_of told) s.number (length front) uncut)) (left-itself o e) (shows-self o e)

@@ -10,9 +10,13 @@ use Rattle.log_model.specs.declared.lines.Break.{Break}
 use Rattle.log_model.specs.Log.{RunLog, Phase, kept_after}
 use Rattle.log_model.specs.Course.{Visit, Went, went}
 use Rattle.std.specs.List.{AllByRecursion}
+use Rattle.side_model.specs.Done.{done_by}
+use Rattle.side_model.specs.Noted.{Note, noted_in}
 use Rattle.safety_model.specs.Safe.{Devices}
 use Rattle.run_events.specs.Seconds.{gap_by}
 use Rattle.run_events.proofs.Later.{seen-same}
+use Rattle.run_evented.specs.Uses.{notes_now, uses_in}
+use Rattle.run_evented.proofs.Noted.{notes-alike}
 use Rattle.run_rings.specs.Notes.{course_behind}
 use Rattle.run_recorded.specs.Origin.{Origin}
 use Rattle.run_outcome.specs.declared.outcome.Outcome.{Outcome}
@@ -61,15 +65,18 @@ module _ (o : Origin) (done : List TraceSecond) (s : TraceSecond) (at : Phase) (
       ∙ (λ i. cond (seen_behind w.b.run.log done s front v.log).told.lit (cond (seen_behind w.b.run.log done s front v.log).told.starts
       (before-same as_accepted w.b.run.log v.log s.number kept (seen_spans (seen_of w.b.run.log done)) (seen_behind w.b.run.log done s front v.log) (seen_behind w.b.run.log done s front v.log) refl (λ slot. refl) low i) []) [])
 
-  same : ◌≡◌ {A = List Event × List Seen} (gap_events as_accepted v.log done ++ gap_behind v.log done s front v.log, seen_of v.log done ++ seen_behind v.log done s front v.log ∷ [])
-      (gap_events as_accepted w.b.run.log done ++ gap_behind w.b.run.log done s front v.log, seen_of w.b.run.log done ++ seen_behind w.b.run.log done s front v.log ∷ [])
-  same = λ i. (gaps-are i ++ gap-is i, seen-is i ++ now-is i ∷ [])
+  notes-are : notes_now v.log done v.log s ≡ notes_now w.b.run.log done v.log s
+  notes-are = λ i. notes-alike w.b.run.log v.log done l.behind.same i ++ noted_in v.log (done_by v.log (l.behind.went_is i).before s)
+
+  same : ◌≡◌ {A = List Event × List Seen × List Note} (gap_events as_accepted v.log done ++ gap_behind v.log done s front v.log, seen_of v.log done ++ seen_behind v.log done s front v.log ∷ [], notes_now v.log done v.log s)
+      (gap_events as_accepted w.b.run.log done ++ gap_behind w.b.run.log done s front v.log, seen_of w.b.run.log done ++ seen_behind w.b.run.log done s front v.log ∷ [], notes_now w.b.run.log done v.log s)
+  same = λ i. (gaps-are i ++ gap-is i, seen-is i ++ now-is i ∷ [], notes-are i)
 
   pub to-began : CardsIn o done s v.log front v.log d → CardsIn o done s w.b.run.log front v.log d
-  to-began h = subst (λ (p : List Event × List Seen). CardsShown o v.log p.0 p.1 d) same h
+  to-began h = subst (λ (p : List Event × List Seen × List Note). CardsShown o v.log p.0 p.1 (λ c. uses_in o c p.2) d) same h
 
   pub to-log : CardsIn o done s w.b.run.log front v.log d → CardsIn o done s v.log front v.log d
-  to-log h = subst (λ (p : List Event × List Seen). CardsShown o v.log p.0 p.1 d) (sym same) h
+  to-log h = subst (λ (p : List Event × List Seen × List Note). CardsShown o v.log p.0 p.1 (λ c. uses_in o c p.2) d) (sym same) h
 
 -- ---- the first of some actions
 

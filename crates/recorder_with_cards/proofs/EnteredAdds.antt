@@ -20,7 +20,7 @@ use Rattle.log_model.specs.declared.lines.Break.TheVariants.{Tear}
 use Rattle.log_model.specs.declared.lines.Find.{Find}
 use Rattle.log_model.specs.declared.lines.Verdict.{Verdict}
 use Rattle.log_model.specs.declared.lines.Verdict.TheVariants as verdict
-use Rattle.log_model.specs.Log.{RunLog, Phase, In, same_phase, phase_of, is_torn_in, found_in}
+use Rattle.log_model.specs.Log.{RunLog, Phase, In, same_phase, phase_of, is_torn_in, found_in, is_accepting}
 use Rattle.log_model.specs.Slots.{Slots, Sitting, in_slot, other_slot}
 use Rattle.log_model.specs.Course.{Told, Visit, Course, Before, card_in, with_slot, visits, went}
 use Rattle.event_model.specs.declared.kinds.TheConstants.{CARD_NOT_VALID, TIME_OVERLAP, INSERTION_WHILE_DRIVING, SESSION_NOT_CLOSED, CARD_FAULT}
@@ -49,6 +49,7 @@ use Rattle.run_events.specs.Shown.{by_kind}
 use Rattle.run_recorded.specs.Origin.{Origin}
 use Rattle.run_evented.specs.Opened.{session_in, HasComeBefore}
 use Rattle.run_evented.specs.Evented.{Evented}
+use Rattle.run_evented.specs.Uses.{FindsMore}
 use Rattle.run_evented.specs.Noting.{Ended, NotesThese}
 use Rattle.run_evented.specs.SoFar.{puts_into, Adds, EventedNow, NotesUnsure, BeginsNow, AreBare, ComesInTurn, IsOpenWith, stage_in, fault_with, judged_with, crew_at}
 use Rattle.run_evented.proofs.Cutting.{failure-cuts}
@@ -94,6 +95,16 @@ IsOpened Unasked o told done s card d = Unit {0}
 IsOpened (Unnoted entered clock) o told done s card d = IsOpenWith o told done s card (verdict.Accepted entered.replayed) entered.look.session d
 IsOpened (Seated entered clock entry) o told done s card d = IsOpenWith o told done s card (verdict.Accepted entered.replayed) entered.look.session d
 IsOpened (Lost entered clock entry) o told done s card d = IsOpenWith o told done s card (verdict.Accepted entered.replayed) entered.look.session d
+
+-- where no call failed the session of an accepted card is the one of the use that the notes before it have left; of no other a use is found
+abbrev pub AreFound : Ending → Origin → (began : RunLog) → List TraceSecond → TraceSecond → RunLog → Entering → Type 0
+AreFound (Unfit fid place) o began done s log e = FindsMore o began done s log (and_find log (find_of e (verdict.NotValid fid place))) e.which []
+AreFound (Ahead stored) o began done s log e = FindsMore o began done s log (and_find log (find_of e (verdict.TimeOverlap stored e.at.second))) e.which []
+AreFound Fell o began done s log e = Unit {0}
+AreFound Unasked o began done s log e = Unit {0}
+AreFound (Unnoted entered clock) o began done s log e = FindsMore o began done s log (and_find log (find_of e (verdict.Accepted entered.replayed))) e.which (entered.look.session ∷ [])
+AreFound (Seated entered clock entry) o began done s log e = FindsMore o began done s log (and_find log (find_of e (verdict.Accepted entered.replayed))) e.which (entered.look.session ∷ [])
+AreFound (Lost entered clock entry) o began done s log e = FindsMore o began done s log (and_find log (find_of e (verdict.Accepted entered.replayed))) e.which (entered.look.session ∷ [])
 
 -- AS A CARD IS JUDGED in a second behind these: the image that it is told by, which a stop might have left; that is the one of the start, or it has come
 -- before
@@ -222,8 +233,8 @@ module _ (d : Devices) (o : Origin) (done : List TraceSecond) (p : Progress) (sp
       never wrong = absurd (cc)
 
   -- a find, by its session
-  find-on : (v : Verdict) (session : ℕ) → IsOpenWith o (went p.log done).told done s e.which v session d → Adds o done s (stage_in n) log (stage_in n) (and_find log (find_of e v)) (judged_with session s.number s.speed e.slot e.which crew v) d
-  find-on v session opened = find-adds d o done p span s b n log r (find_of e v) (found-at v) first (record { card = e.which; accepted = None }) sits none enters session opened
+  find-on : (v : Verdict) (session : ℕ) → IsOpenWith o (went p.log done).told done s e.which v session d → FindsMore o p.log done s log (and_find log (find_of e v)) e.which (cond (is_accepting v) (session ∷ []) []) → Adds o done s (stage_in n) log (stage_in n) (and_find log (find_of e v)) (judged_with session s.number s.speed e.slot e.which crew v) d
+  find-on v session opened finds = find-adds d o done p span s b n log r (find_of e v) (found-at v) first (record { card = e.which; accepted = None }) sits none enters session opened finds
 
   -- who sits there by a log of this moment is the one that is out
   one-visit : (q : Option Sitting) (x : Sitting) → x.card ≡ e.which → q ≡ Some x → map {B = Visit} (λ (c : Card). record { phase = In n; slot = e.slot; card = c }) (card_in q) ≡ record { phase = In n; slot = e.slot; card = e.which } ∷ []
@@ -328,9 +339,9 @@ module _ (d : Devices) (o : Origin) (done : List TraceSecond) (p : Progress) (sp
         )
 
     -- ACCEPTED, AND TORN OUT in the same call
-    lost-adds : (session : ℕ) → IsOpenWith o (went p.log done).told done s e.which (verdict.Accepted replayed) session d → (n ≡ 0 → 0 < s.speed) →
+    lost-adds : (session : ℕ) → IsOpenWith o (went p.log done).told done s e.which (verdict.Accepted replayed) session d → FindsMore o p.log done s log (and_find log (find_of e (verdict.Accepted replayed))) e.which (session ∷ []) → (n ≡ 0 → 0 < s.speed) →
         Adds o done s (stage_in n) log (stage_in n) (and_break log1 (tear_of e.slot e.at)) (moving_events s.speed s.number with_it ++ noted_with CARD_FAULT s.number s.number bare ∷ unclosed_events session s.number with_it) d
-    lost-adds session opened moves =
+    lost-adds session opened finds moves =
         let judged : List Event = judged_with session s.number s.speed e.slot e.which crew (verdict.Accepted replayed) in
         let fault : Event = fault_with s.number e.slot (crew_at p done s (In n) log1) in
         let one : Event = noted_with CARD_FAULT s.number s.number bare in
@@ -344,16 +355,16 @@ module _ (d : Devices) (o : Origin) (done : List TraceSecond) (p : Progress) (sp
         ∙ sym (by-more moving (unclosed ++ one ∷ []) kind) ∙ ap (λ (l : List Event). by_kind l kind) (sym are))
         (lost-kinds s.speed session s.number with_it bare)
         (steps-follow d o done s (stage_in n) (stage_in n) (stage_in n) log log1 (and_break log1 (tear_of e.slot e.at)) judged (fault ∷ [])
-        (find-on (verdict.Accepted replayed) session opened)
+        (find-on (verdict.Accepted replayed) session opened finds)
         (tear-on log1 reached sat refl sits-then stays-then turn-then (λ m is. found-else (In n) (other_slot e.slot) (other-off (In n)) ∙ other_unfound m is) (λ is rest. absurd (moving-not rest (moves is)))))
       where
         moving-not : s.speed ≡ 0 → 0 < s.speed → ⊥
         moving-not rest moves = omega (arith, rest, moves)
 
-  accepted-adds : (replayed session : ℕ) → IsOpenWith o (went p.log done).told done s e.which (verdict.Accepted replayed) session d →
+  accepted-adds : (replayed session : ℕ) → IsOpenWith o (went p.log done).told done s e.which (verdict.Accepted replayed) session d → FindsMore o p.log done s log (and_find log (find_of e (verdict.Accepted replayed))) e.which (session ∷ []) →
       Adds o done s (stage_in n) log (stage_in n) (and_find log (find_of e (verdict.Accepted replayed))) (moving_events s.speed s.number with_it ++ unclosed_events session s.number with_it) d
-  accepted-adds replayed session opened =
-      subst (λ (es : List Event). Adds o done s (stage_in n) log (stage_in n) (and_find log (find_of e (verdict.Accepted replayed))) es d) (judged-as session s.number s.speed e.slot e.which crew replayed) (find-on (verdict.Accepted replayed) session opened)
+  accepted-adds replayed session opened finds =
+      subst (λ (es : List Event). Adds o done s (stage_in n) log (stage_in n) (and_find log (find_of e (verdict.Accepted replayed))) es d) (judged-as session s.number s.speed e.slot e.which crew replayed) (find-on (verdict.Accepted replayed) session opened finds)
 
   -- lines that are none
   found-only : (f : Find) → and_find log f ≡ record log { breaks = log.breaks ++ []; finds = log.finds ++ f ∷ [] }
@@ -368,23 +379,23 @@ module _ (d : Devices) (o : Origin) (done : List TraceSecond) (p : Progress) (sp
   abbrev AddsTo : RunLog → List Event → Type 0
   AddsTo later es = Adds o done s (stage_in n) log (stage_in n) later es d
 
-  pub ending-adds : (ending : Ending) → IsOpened ending o (went p.log done).told done s e.which d → (n ≡ 0 → FallsMoving ending s.speed) → Adds o done s (stage_in n) log (stage_in n) (log_with ending e log) (added_by ending s.speed s.number bare with_it bare) d
-  ending-adds (Unfit fid place) opened moves = subst (λ (l : RunLog). AddsTo l (noted_with CARD_NOT_VALID s.number s.number bare ∷ [])) (found-only (find_of e (verdict.NotValid fid place))) (find-on (verdict.NotValid fid place) 0 (λ wrong. absurd (unaccepted wrong)))
+  pub ending-adds : (ending : Ending) → IsOpened ending o (went p.log done).told done s e.which d → AreFound ending o p.log done s log e → (n ≡ 0 → FallsMoving ending s.speed) → Adds o done s (stage_in n) log (stage_in n) (log_with ending e log) (added_by ending s.speed s.number bare with_it bare) d
+  ending-adds (Unfit fid place) opened finds moves = subst (λ (l : RunLog). AddsTo l (noted_with CARD_NOT_VALID s.number s.number bare ∷ [])) (found-only (find_of e (verdict.NotValid fid place))) (find-on (verdict.NotValid fid place) 0 (λ wrong. absurd (unaccepted wrong)) finds)
     where
       unaccepted : false ≡ true → ⊥
       unaccepted wrong = absurd (cc)
-  ending-adds (Ahead stored) opened moves =
-      subst (λ (l : RunLog). AddsTo l (noted_with TIME_OVERLAP s.number stored bare ∷ [])) (found-only (find_of e (verdict.TimeOverlap stored e.at.second))) (find-on (verdict.TimeOverlap stored e.at.second) 0 (λ wrong. absurd (unaccepted wrong)))
+  ending-adds (Ahead stored) opened finds moves =
+      subst (λ (l : RunLog). AddsTo l (noted_with TIME_OVERLAP s.number stored bare ∷ [])) (found-only (find_of e (verdict.TimeOverlap stored e.at.second))) (find-on (verdict.TimeOverlap stored e.at.second) 0 (λ wrong. absurd (unaccepted wrong)) finds)
     where
       unaccepted : false ≡ true → ⊥
       unaccepted wrong = absurd (cc)
-  ending-adds Fell opened moves = subst (λ (l : RunLog). AddsTo l (noted_with CARD_FAULT s.number s.number bare ∷ [])) (torn-only (tear_of e.slot e.at)) (tear-on log r (record { card = e.which; accepted = None }) refl sits stays first other_unfound (λ is rest. refl))
-  ending-adds Unasked opened moves = subst (λ (l : RunLog). AddsTo l []) no-lines (adds-nothing d o done s (stage_in n) log)
-  ending-adds (Unnoted entered clock) opened moves =
-      subst (λ (l : RunLog). AddsTo l (moving_events s.speed s.number with_it ++ unclosed_events entered.look.session s.number with_it)) (found-only (find_of e (verdict.Accepted entered.replayed))) (accepted-adds entered.replayed entered.look.session opened)
-  ending-adds (Seated entered clock entry) opened moves =
-      subst (λ (l : RunLog). AddsTo l (moving_events s.speed s.number with_it ++ unclosed_events entered.look.session s.number with_it)) (found-only (find_of e (verdict.Accepted entered.replayed))) (accepted-adds entered.replayed entered.look.session opened)
-  ending-adds (Lost entered clock entry) opened moves = lost-adds entered.replayed entered.look.session opened moves
+  ending-adds Fell opened finds moves = subst (λ (l : RunLog). AddsTo l (noted_with CARD_FAULT s.number s.number bare ∷ [])) (torn-only (tear_of e.slot e.at)) (tear-on log r (record { card = e.which; accepted = None }) refl sits stays first other_unfound (λ is rest. refl))
+  ending-adds Unasked opened finds moves = subst (λ (l : RunLog). AddsTo l []) no-lines (adds-nothing d o done s (stage_in n) log)
+  ending-adds (Unnoted entered clock) opened finds moves =
+      subst (λ (l : RunLog). AddsTo l (moving_events s.speed s.number with_it ++ unclosed_events entered.look.session s.number with_it)) (found-only (find_of e (verdict.Accepted entered.replayed))) (accepted-adds entered.replayed entered.look.session opened finds)
+  ending-adds (Seated entered clock entry) opened finds moves =
+      subst (λ (l : RunLog). AddsTo l (moving_events s.speed s.number with_it ++ unclosed_events entered.look.session s.number with_it)) (found-only (find_of e (verdict.Accepted entered.replayed))) (accepted-adds entered.replayed entered.look.session opened finds)
+  ending-adds (Lost entered clock entry) opened finds moves = lost-adds entered.replayed entered.look.session opened finds moves
 
   -- and its lines are of the moment
   pub ending-reached : (ending : Ending) → Reaches p s (In n) (log_with ending e log)
@@ -398,17 +409,17 @@ module _ (d : Devices) (o : Origin) (done : List TraceSecond) (p : Progress) (sp
   ending-reached (Lost entered clock entry) = (lines-reached p s (In n) (log1 entered.replayed) (reached entered.replayed)).0 e.slot true (tear_of e.slot e.at) torn-at
 
   -- IT IS NOTED: the second goes on;
-  pub judged-goes : (old : Devices) (ending : Ending) → IsOpened ending o (went p.log done).told done s e.which d → (n ≡ 0 → FallsMoving ending s.speed) → EventedNow o done s p (stage_in n) log old → NotesSo false o (events_by ending s.speed s.number bare with_it bare) old d →
+  pub judged-goes : (old : Devices) (ending : Ending) → IsOpened ending o (went p.log done).told done s e.which d → AreFound ending o p.log done s log e → (n ≡ 0 → FallsMoving ending s.speed) → EventedNow o done s p (stage_in n) log old → NotesSo false o (events_by ending s.speed s.number bare with_it bare) old d →
       events_by ending s.speed s.number bare with_it bare ≡ added_by ending s.speed s.number bare with_it bare → HaveLeftMore o old d → EventedNow o done s p (stage_in n) (log_with ending e log) d
-  judged-goes old ending opened moves now notes same left =
-      call-notes old d o done s p (stage_in n) (stage_in n) log (log_with ending e log) (added_by ending s.speed s.number bare with_it bare) now (ending-adds ending opened moves) (subst (λ (es : List Event). NotesThese o es old d) same notes) left
+  judged-goes old ending opened finds moves now notes same left =
+      call-notes old d o done s p (stage_in n) (stage_in n) log (log_with ending e log) (added_by ending s.speed s.number bare with_it bare) now (ending-adds ending opened finds moves) (subst (λ (es : List Event). NotesThese o es old d) same notes) left
 
   -- or the unit failed in that, and the cut that is told ends it.
-  pub judged-cut : (old : Devices) (ending : Ending) → IsOpened ending o (went p.log done).told done s e.which d → (n ≡ 0 → FallsMoving ending s.speed) → EventedNow o done s p (stage_in n) log old → NotesSo true o (events_by ending s.speed s.number bare with_it bare) old d → HaveLeftMore o old d →
+  pub judged-cut : (old : Devices) (ending : Ending) → IsOpened ending o (went p.log done).told done s e.which d → AreFound ending o p.log done s log e → (n ≡ 0 → FallsMoving ending s.speed) → EventedNow o done s p (stage_in n) log old → NotesSo true o (events_by ending s.speed s.number bare with_it bare) old d → HaveLeftMore o old d →
       (waits : List Visit) (mid now after : Device → ℕ) → Moment p before s (In n) (log_with ending e log) waits mid now → IsMore now after → RoseBy 1 (mid Recorder) (after Recorder) → (rest : List Action) → IsLeft s (In n) rest →
       Evented o (done ++ s ∷ []) (and_break (log_with ending e log) (cut_at s.number true n)) p.unfound (suc p.next) IsLost d
-  judged-cut old ending opened moves now notes left waits mid counted after m rose broke rest is_left =
-      failure-cuts old d o done p span s b (stage_in n) (stage_in n) log (log_with ending e log) (added_by ending s.speed s.number bare with_it bare) now (ending-adds ending opened moves)
+  judged-cut old ending opened finds moves now notes left waits mid counted after m rose broke rest is_left =
+      failure-cuts old d o done p span s b (stage_in n) (stage_in n) log (log_with ending e log) (added_by ending s.speed s.number bare with_it bare) now (ending-adds ending opened finds moves)
       (unsure-added o ending s.speed s.number bare with_it bare old d notes) left (In n) waits mid counted after m rose broke rest is_left (λ ended. absurd (going n ended))
     where
       going : (k : ℕ) → stage_in k ≡ Ended → ⊥

@@ -32,7 +32,9 @@ use Rattle.run_told.specs.Told.{arranged}
 use Rattle.run_outcome.specs.declared.outcome.Outcome.{Outcome}
 use Rattle.run_recorded.specs.Origin.{Origin}
 use Rattle.run_recorded.specs.Beside.{HaveLeftMore}
+use Rattle.run_recorded.specs.Whole.{NothingFailed}
 use Rattle.run_evented.specs.Evented.{images_in}
+use Rattle.run_evented.specs.Uses.{uses_from, insertions_at, notes_now, uses_in, use_now}
 use Rattle.run_keeping.specs.declared.keeper.Keeper.{Keeper}
 use Rattle.run_keeping.specs.declared.keeper.Moment.{Moment as KeepingAt}
 use Rattle.run_keeping.specs.Keeping.{tear_of}
@@ -44,8 +46,10 @@ use Rattle.run_entering.specs.CardEvents.{events_in, all_noted, AreBeingNoted, o
 use Rattle.run_entering.specs.CardBrought.{moving_on, brought_on, is_cut_short, BringsOnCard}
 use Rattle.run_entering.proofs.CardBrought.{IsSitting}
 use Rattle.run_within.specs.Within.{Within}
+use Rattle.run_acts.specs.Closings.{notes_within}
 use Rattle.run_acts.specs.Entered.{values_with, MayJudge, HasGone, AreSound}
 use Rattle.run_acts.specs.Recording.{IsOrigin, log_of}
+use Rattle.run_acts.specs.Stays.{AllStay}
 use Rattle.run_acts.specs.OnCards.{unclosed_at, unclosed_by, events_by, accepts, moving_at, movings, StillShows, IsUse, AreUses}
 use Rattle.run_acts.specs.RunCards.{vehicle_in, sizes_in}
 use Rattle.run_acts.proofs.OnCards.{events-none, still-same}
@@ -53,9 +57,10 @@ use Rattle.run_acts.proofs.CardStays.{valid-found}
 use Rattle.run_acts.proofs.EnteredFacts.{mine, mine-back, each, now-is, card-tells, card-began, card-run, unit-told, left}
 use Rattle.run_acts.proofs.RingedLines.{phase_at, tear-told}
 use Rattle.recorder_with_cards.specs.JudgedRings.{TellsHere}
-use Rattle.recorder_with_cards.specs.JudgedCards.{NotesNone, BringsNow, IsJudgedOnCards}
+use Rattle.recorder_with_cards.specs.JudgedCards.{NotesNone, BringsNow, uses_then, IsJudgedOnCards}
 use Rattle.recorder_with_cards.proofs.EnteredAdds.{log_with}
 use Rattle.recorder_with_cards.proofs.EnteredLines.{TellsOf, verdicts_of, ending-tells, ending-here, tells-same}
+use Rattle.recorder_with_cards.proofs.EnteredUses.{FindsBy, ending-finds, use-is}
 
 -- ---- events by type
 
@@ -186,7 +191,8 @@ same-self B = refl
 
 module _ (o : Origin) (done : List TraceSecond) (s : TraceSecond) (n : ℕ) (waits fewer : List Visit) (e : Entering) (k : Keeper) (out : Outcome) (unfound next_ begun : ℕ) (minutes : Kept) (U X Z : State) (w : Within o done s (In n) waits None [] (values_with k out unfound next_ begun minutes) (arranged e.which U X Z)) (m : MayJudge o done s n waits fewer e k out unfound next_ begun minutes U X Z w)
     (origin : IsOrigin o) (vehicle : k.memory.registration ≡ vehicle_in o) (moves : s.speed ≡ e.speed)
-    (failed : Bool) (k' : Keeper) (noted noted' : ℕ) (out' : Outcome) (W Y : State) (way : Way) (g : HasGone e failed k k' noted noted' out out' U W X Y Z way) (sound : AreSound U W X Y) (works : IsSitting (ending_of way) → Y.works ≡ true) where
+    (failed : Bool) (k' : Keeper) (noted noted' : ℕ) (out' : Outcome) (W Y : State) (way : Way) (g : HasGone e failed k k' noted noted' out out' U W X Y Z way) (sound : AreSound U W X Y) (works : IsSitting (ending_of way) → Y.works ≡ true)
+    (stay : AllStay o (log_of out) (notes_within w.b done s (In n) (log_of out)) k.memory.registration k.cabin (arranged e.which U X Z)) where
   second : e.at.second ≡ s.number
   second = now-is o done s n waits fewer e k out unfound next_ begun minutes U X Z w m
 
@@ -208,6 +214,11 @@ module _ (o : Origin) (done : List TraceSecond) (s : TraceSecond) (n : ℕ) (wai
       (subst (λ (x : ℕ). TellsOf (log_of out) (log_with (ending_of way) e (log_of out)) s.number x e.slot (verdicts_of (ending_of way) e)) begun-is
       (subst (λ (x : ℕ). TellsOf (log_of out) (log_with (ending_of way) e (log_of out)) x e.at.begun e.slot (verdicts_of (ending_of way) e)) second
       (ending-tells (ending_of way) e (log_of out) early)))
+
+  -- where no call failed its lines tell the uses
+  finds : NothingFailed (log_with (ending_of way) e (log_of out)) → NothingFailed (log_of out)
+      × FindsBy o w.b.run.log done s e.slot e.which (notes_within w.b done s (In n) (log_of out)) (log_of out) (log_with (ending_of way) e (log_of out)) (verdicts_of (ending_of way) e)
+  finds = ending-finds o done s n waits fewer (values_with k out unfound next_ begun minutes) (arranged e.which U X Z) w e m.next_ m.none m.order second begun-is (ending_of way)
 
   found-is : found_in (log_of out') s.number (In n) e.slot ≡ verdicts_of (ending_of way) e
   found-is = tells.own ∙ ap (λ (vs : List Verdict). vs ++ verdicts_of (ending_of way) e) m.none
@@ -267,11 +278,27 @@ module _ (o : Origin) (done : List TraceSecond) (s : TraceSecond) (n : ℕ) (wai
         × (clear → (kind : ℕ) → events_in (sizes_in o e.which) kind y ≡ all_noted (events_in (sizes_in o e.which) kind x) (events_by kind [] (movings e.which (vehicle_in o) s.speed us) (unclosed_by uses us)))
         × ((kind : ℕ) → NotesNone kind s.speed → events_in (sizes_in o e.which) kind y ≡ events_in (sizes_in o e.which) kind x)
 
+    -- where no call failed this was found on it, by the notes before it
+    abbrev TellsFound : List Verdict → Type 0
+    TellsFound vs = NothingFailed (log_of out') → NothingFailed (log_of out)
+        × (uses_then o w.b.run.log done s e.which out' ≡ uses_then o w.b.run.log done s e.which out ++ uses_from (vehicle_in o) (use_now o e.which (notes_within w.b done s (In n) (log_of out))) (insertions_at s.number e.slot e.which vs))
+
+    tells_found : TellsFound (verdicts_of (ending_of way) e)
+    tells_found fine = let told = finds (subst NothingFailed log-is fine) in (told.0, ap (λ (l : RunLog). uses_in o e.which (notes_now w.b.run.log done l s)) log-is ∙ told.1.own e.which (same-self e.which))
+
+    -- it tells the use that they have left
+    once : (replayed : ℕ) (x : List ℕ) → X.may_leave x → NothingFailed (log_of out) →
+        current_use (own_sizes x) x ∷ [] ≡ uses_from (vehicle_in o) (use_now o e.which (notes_within w.b done s (In n) (log_of out))) (insertions_at s.number e.slot e.which (verdict.Accepted replayed ∷ []))
+    once replayed x at fine = ap (λ (use : CurrentUse). use ∷ [])
+        (use-is o done s n waits fewer (values_with k out unfound next_ begun minutes) (arranged e.which U X Z) w e.slot e.which m.next_ m.none m.order origin k.memory.registration stay m.bare fine valid x
+        (mine-back e.which U X Z (λ (q : State). q.may_leave x) at))
+
     -- as it is told of the devices in their order
-    brings : (vs : List Verdict) (uses : List CurrentUse) → AreUses (images_in o (arranged e.which W Y Z) e.which) uses (accepts s.number vs) → ((y : List ℕ) → Y.may_leave y → Step Clear uses (accepts s.number vs) y)
-        → BringsNow o e.which s.number s.speed Clear vs (arranged e.which U X Z) (arranged e.which W Y Z)
-    brings vs uses are steps = record {
+    brings : (vs : List Verdict) (uses : List CurrentUse) → TellsFound vs → (NothingFailed (log_of out) → uses ≡ uses_from (vehicle_in o) (use_now o e.which (notes_within w.b done s (In n) (log_of out))) (insertions_at s.number e.slot e.which vs)) → AreUses (images_in o (arranged e.which W Y Z) e.which) uses (accepts s.number vs) → ((y : List ℕ) → Y.may_leave y → Step Clear uses (accepts s.number vs) y)
+        → BringsNow o e.which s.number s.speed Clear vs (log_of out') (uses_then o w.b.run.log done s e.which out) (uses_then o w.b.run.log done s e.which out') (arranged e.which U X Z) (arranged e.which W Y Z)
+    brings vs uses found exact are steps = record {
       uses = uses;
+      exact = λ fine. let told = found fine in told.1 ∙ ap (λ (l : List CurrentUse). uses_then o w.b.run.log done s e.which out ++ l) (sym (exact told.0));
       are = are;
       notes = λ y at.
           let was = steps y (mine e.which W Y Z (λ (q : State). q.may_leave y) at) in
@@ -279,9 +306,9 @@ module _ (o : Origin) (done : List TraceSecond) (s : TraceSecond) (n : ℕ) (wai
     }
 
     -- nothing is noted of it
-    plain : (vs : List Verdict) → accepts s.number vs ≡ [] → ((y : List ℕ) → Y.may_leave y → (x : List ℕ) × X.may_leave x × ((kind : ℕ) → (Clear ⊎ NotesNone kind s.speed) → events_in (sizes_in o e.which) kind y ≡ events_in (sizes_in o e.which) kind x))
-        → BringsNow o e.which s.number s.speed Clear vs (arranged e.which U X Z) (arranged e.which W Y Z)
-    plain vs none same = brings vs [] (subst (AreUses (images_in o (arranged e.which W Y Z) e.which) []) (sym none) tt) (λ y at.
+    plain : (vs : List Verdict) → TellsFound vs → accepts s.number vs ≡ [] → insertions_at s.number e.slot e.which vs ≡ [] → ((y : List ℕ) → Y.may_leave y → (x : List ℕ) × X.may_leave x × ((kind : ℕ) → (Clear ⊎ NotesNone kind s.speed) → events_in (sizes_in o e.which) kind y ≡ events_in (sizes_in o e.which) kind x))
+        → BringsNow o e.which s.number s.speed Clear vs (log_of out') (uses_then o w.b.run.log done s e.which out) (uses_then o w.b.run.log done s e.which out') (arranged e.which U X Z) (arranged e.which W Y Z)
+    plain vs found none inserts same = brings vs [] found (λ fine. ap (uses_from (vehicle_in o) (use_now o e.which (notes_within w.b done s (In n) (log_of out)))) (sym inserts)) (subst (AreUses (images_in o (arranged e.which W Y Z) e.which) []) (sym none) tt) (λ y at.
         let was = same y at in (
           was.0,
           was.1,
@@ -322,31 +349,31 @@ module _ (o : Origin) (done : List TraceSecond) (s : TraceSecond) (n : ℕ) (wai
           moving_as = λ i. record { kind = INSERTION_WHILE_DRIVING; begin = record { 0 = second i }; end = record { 0 = second i }; registration = vehicle i }
 
     -- ---- by its way
-    by-way : (v : Way) → way ≡ v → IsWay v k.memory.registration e failed U.image X Y → BringsOnCard v k.memory.registration e failed X Y → BringsNow o e.which s.number s.speed Clear (verdicts_of (ending_of v) e) (arranged e.which U X Z) (arranged e.which W Y Z)
-    by-way Unread is so b = plain [] refl (λ y at. (y, b y at, λ kind h. refl))
-    by-way (Unsized field) is so b = plain (verdicts_of (ending_of (Unsized field)) e) refl (λ y at. (y, b y at, λ kind h. refl))
-    by-way (Judged a (Unfit fid place)) is so b = plain (verdict.NotValid fid place ∷ []) refl (λ y at. let was = b y at in (was.0, was.1, λ kind h. subst (λ (p : Application). events_in p kind y ≡ events_in p kind was.0) (app-is a was.0 y was.2 was.1) (was.3 kind)))
-    by-way (Judged a (Ahead stored)) is so b = plain (verdict.TimeOverlap stored e.at.second ∷ []) refl (λ y at. let was = b y at in (was.0, was.1, λ kind h. subst (λ (p : Application). events_in p kind y ≡ events_in p kind was.0) (app-is a was.0 y was.2 was.1) (was.3 kind)))
-    by-way (Judged a Fell) is so b = plain [] refl (λ y at. let was = b y at in
+    by-way : (v : Way) → way ≡ v → TellsFound (verdicts_of (ending_of v) e) → IsWay v k.memory.registration e failed U.image X Y → BringsOnCard v k.memory.registration e failed X Y → BringsNow o e.which s.number s.speed Clear (verdicts_of (ending_of v) e) (log_of out') (uses_then o w.b.run.log done s e.which out) (uses_then o w.b.run.log done s e.which out') (arranged e.which U X Z) (arranged e.which W Y Z)
+    by-way Unread is told so b = plain [] told refl refl (λ y at. (y, b y at, λ kind h. refl))
+    by-way (Unsized field) is told so b = plain (verdicts_of (ending_of (Unsized field)) e) told refl refl (λ y at. (y, b y at, λ kind h. refl))
+    by-way (Judged a (Unfit fid place)) is told so b = plain (verdict.NotValid fid place ∷ []) told refl refl (λ y at. let was = b y at in (was.0, was.1, λ kind h. subst (λ (p : Application). events_in p kind y ≡ events_in p kind was.0) (app-is a was.0 y was.2 was.1) (was.3 kind)))
+    by-way (Judged a (Ahead stored)) is told so b = plain (verdict.TimeOverlap stored e.at.second ∷ []) told refl refl (λ y at. let was = b y at in (was.0, was.1, λ kind h. subst (λ (p : Application). events_in p kind y ≡ events_in p kind was.0) (app-is a was.0 y was.2 was.1) (was.3 kind)))
+    by-way (Judged a Fell) is told so b = plain [] told refl refl (λ y at. let was = b y at in
         (was.0, was.1, λ kind h. ⊎_elim (λ clear. absurd (torn-then Fell (ap ending_of is) ((log_of out).finds ++ []) refl clear)) (λ quiet. quiet-one a was.0 y was.2 was.1 true kind (was.3 kind) quiet) h))
-    by-way (Judged a Unasked) is so b = plain [] refl (λ y at. let was = b y at in (was.0, was.1, λ kind h. subst (λ (p : Application). events_in p kind y ≡ events_in p kind was.0) (app-is a was.0 y was.2 was.1) (was.3 kind)))
-    by-way (Judged a (Unnoted entered clock)) is so b =
+    by-way (Judged a Unasked) is told so b = plain [] told refl refl (λ y at. let was = b y at in (was.0, was.1, λ kind h. subst (λ (p : Application). events_in p kind y ≡ events_in p kind was.0) (app-is a was.0 y was.2 was.1) (was.3 kind)))
+    by-way (Judged a (Unnoted entered clock)) is told so b =
         let one = b now-left.0 now-left.2 in
-        brings (verdict.Accepted entered.replayed ∷ []) (current_use (own_sizes one.0) one.0 ∷ []) ((one.0, since one.0 one.1, refl), tt) (λ y at. let was = b y at in (
+        brings (verdict.Accepted entered.replayed ∷ []) (current_use (own_sizes one.0) one.0 ∷ []) told (once entered.replayed one.0 one.1) ((one.0, since one.0 one.1, refl), tt) (λ y at. let was = b y at in (
           was.0,
           was.1,
           (λ clear kind. absurd (let clash : true ≡ false = sym so.0 ∙ clear.0 in cc)),
           (λ kind quiet. quiet-one a was.0 y was.2 was.1 true kind (was.3 kind) quiet),
         ))
-    by-way (Judged a (Lost entered clock entry)) is so b =
+    by-way (Judged a (Lost entered clock entry)) is told so b =
         let one = b now-left.0 now-left.2 in
-        brings (verdict.Accepted entered.replayed ∷ []) (current_use (own_sizes one.0) one.0 ∷ []) ((one.0, since one.0 one.1, refl), tt) (λ y at. let was = b y at in (
+        brings (verdict.Accepted entered.replayed ∷ []) (current_use (own_sizes one.0) one.0 ∷ []) told (once entered.replayed one.0 one.1) ((one.0, since one.0 one.1, refl), tt) (λ y at. let was = b y at in (
           was.0,
           was.1,
           (λ clear kind. absurd (torn-then (Lost entered clock entry) (ap ending_of is) ((log_of out).finds ++ finds_by (Lost entered clock entry) e) refl clear)),
           (λ kind quiet. quiet-both a was.0 y was.2 was.1 true kind (was.3 kind) quiet),
         ))
-    by-way (Judged a (Seated entered clock entry)) is so b = by failed refl b
+    by-way (Judged a (Seated entered clock entry)) is told so b = by failed refl b
       where
         one_ : (f : Bool) → BringsOnCard (Judged a (Seated entered clock entry)) k.memory.registration e f X Y → (x : List ℕ) × X.may_leave x × (own_sizes x ≡ a) × ShowsMore a (brought_on (Seated entered clock entry) a k.memory.registration e x) (is_cut_short (Seated entered clock entry) f) x now-left.0
         one_ f h = h now-left.0 now-left.2
@@ -357,10 +384,10 @@ module _ (o : Origin) (done : List TraceSecond) (s : TraceSecond) (n : ℕ) (wai
             let there_ : Y.image ≡ Some y = sound.card_behind.only y (works (subst (λ (v : Way). IsSitting (ending_of v)) (sym is) tt)) at in
             let here_ = now-left.1 in cc
 
-        by : (f : Bool) → failed ≡ f → BringsOnCard (Judged a (Seated entered clock entry)) k.memory.registration e f X Y → BringsNow o e.which s.number s.speed Clear (verdict.Accepted entered.replayed ∷ []) (arranged e.which U X Z) (arranged e.which W Y Z)
+        by : (f : Bool) → failed ≡ f → BringsOnCard (Judged a (Seated entered clock entry)) k.memory.registration e f X Y → BringsNow o e.which s.number s.speed Clear (verdict.Accepted entered.replayed ∷ []) (log_of out') (uses_then o w.b.run.log done s e.which out) (uses_then o w.b.run.log done s e.which out') (arranged e.which U X Z) (arranged e.which W Y Z)
         by true fails h =
             let one = one_ true h in
-            brings (verdict.Accepted entered.replayed ∷ []) (current_use (own_sizes one.0) one.0 ∷ []) ((one.0, since one.0 one.1, refl), tt) (λ y at. let was = h y at in (
+            brings (verdict.Accepted entered.replayed ∷ []) (current_use (own_sizes one.0) one.0 ∷ []) told (once entered.replayed one.0 one.1) ((one.0, since one.0 one.1, refl), tt) (λ y at. let was = h y at in (
               was.0,
               was.1,
               (λ clear kind. absurd (let clash : true ≡ false = sym fails ∙ clear.0 in cc)),
@@ -368,7 +395,7 @@ module _ (o : Origin) (done : List TraceSecond) (s : TraceSecond) (n : ℕ) (wai
             ))
         by false fine h =
             let one = one_ false h in
-            brings (verdict.Accepted entered.replayed ∷ []) (current_use (own_sizes one.0) one.0 ∷ []) ((one.0, since one.0 one.1, refl), tt) (λ y at.
+            brings (verdict.Accepted entered.replayed ∷ []) (current_use (own_sizes one.0) one.0 ∷ []) told (once entered.replayed one.0 one.1) ((one.0, since one.0 one.1, refl), tt) (λ y at.
             subst (λ (z : List ℕ). Step Clear (current_use (own_sizes one.0) one.0 ∷ []) (s.number ∷ []) z) (only y at) (
               one.0,
               one.1,
@@ -376,20 +403,21 @@ module _ (o : Origin) (done : List TraceSecond) (s : TraceSecond) (n : ℕ) (wai
               (λ kind quiet. quiet-both a one.0 now-left.0 one.2 one.1 false kind (one.3 kind) quiet),
             ))
 
-    own-brings : BringsNow o e.which s.number s.speed Clear (found_in (log_of out') s.number (In n) e.slot) (arranged e.which U X Z) (arranged e.which W Y Z)
+    own-brings : BringsNow o e.which s.number s.speed Clear (found_in (log_of out') s.number (In n) e.slot) (log_of out') (uses_then o w.b.run.log done s e.which out) (uses_then o w.b.run.log done s e.which out') (arranged e.which U X Z) (arranged e.which W Y Z)
     own-brings =
-        subst (λ (vs : List Verdict). BringsNow o e.which s.number s.speed Clear vs (arranged e.which U X Z) (arranged e.which W Y Z)) (sym found-is) (by-way way refl g.entered.is there.1)
+        subst (λ (vs : List Verdict). BringsNow o e.which s.number s.speed Clear vs (log_of out') (uses_then o w.b.run.log done s e.which out) (uses_then o w.b.run.log done s e.which out') (arranged e.which U X Z) (arranged e.which W Y Z)) (sym found-is) (by-way way refl tells_found g.entered.is there.1)
 
   -- SO IT IS OF BOTH CARDS
-  pub judged-cards : IsJudgedOnCards failed o s n e.slot e.which out out' (arranged e.which U X Z) (arranged e.which W Y Z)
+  pub judged-cards : IsJudgedOnCards failed o w.b.run.log done s n e.slot e.which out out' (arranged e.which U X Z) (arranged e.which W Y Z)
   judged-cards = record {
     own = λ c valid is.
         let same : c ≡ e.which = same-is e.which c is in
-        subst (λ (q : Card). BringsNow o q s.number s.speed Clear (found_in (log_of out') s.number (In n) e.slot) (arranged e.which U X Z) (arranged e.which W Y Z)) (sym same)
+        subst (λ (q : Card). BringsNow o q s.number s.speed Clear (found_in (log_of out') s.number (In n) e.slot) (log_of out') (uses_then o w.b.run.log done s q out) (uses_then o w.b.run.log done s q out') (arranged e.which U X Z) (arranged e.which W Y Z)) (sym same)
         (own-brings (subst (λ (q : Card). IsOwnValid (card_image o.recording q)) same valid));
     beside = λ c valid away. each e.which U W X Y Z (λ (q : Card) (a b : State). same_card e.which q ≡ false → StillShows (sizes_in o q) a b)
         (λ apart. absurd (let clash : true ≡ false = sym (same-self e.which) ∙ apart in cc)) (λ apart. still-same (sizes_in o (other e.which)) Z) c away;
     others = tells.others;
+    still = λ fine c away. let told = finds (subst NothingFailed log-is fine) in ap (λ (l : RunLog). uses_in o c (notes_now w.b.run.log done l s)) log-is ∙ told.1.others c away;
     here = subst (λ (l : RunLog). TellsHere (log_of out) l s.number) (sym log-is) (subst (λ (u : ℕ). TellsHere (log_of out) (log_with (ending_of way) e (log_of out)) u) second (ending-here (ending_of way) e (log_of out)));
     cut = tells.cut;
     same = λ x is. tells-same (log_of out) (log_of out') s.number x e.slot (verdicts_of (ending_of way) e) w.moment.up_to.uncut

@@ -52,12 +52,14 @@ use Rattle.run_within.specs.Within.{Within, course_in, told_before}
 use Rattle.run_evented.specs.Opened.{HasComeBefore}
 use Rattle.run_evented.specs.Evented.{number_in}
 use Rattle.run_evented.specs.SoFar.{EventedNow, BeginsNow, stage_in}
+use Rattle.run_acts.specs.Closings.{notes_within}
 use Rattle.run_acts.specs.Entered.{values_with, MayJudge, HasGone, AreSound}
 use Rattle.run_acts.specs.EventCrews.{AreKnownBy}
 use Rattle.run_acts.specs.Evented.{EventsGoOn}
 use Rattle.run_acts.specs.Named.{ValidHere, CrewValid, NamesValid}
 use Rattle.run_acts.specs.NotedEvents.{AreTold, NotesSo, NotesEvents}
 use Rattle.run_acts.specs.Recording.{IsOrigin, log_of}
+use Rattle.run_acts.specs.Stays.{AllStay}
 use Rattle.run_acts.proofs.EnteredFacts.{before, mine-back, now-is, card-began, known as known-behind, left, breakdowns, broke-once, unit-broke}
 use Rattle.run_acts.proofs.EnteredTurned.{own-card}
 use Rattle.run_acts.proofs.EnteredWhole.{found-in}
@@ -69,8 +71,9 @@ use Rattle.recorder_with_cards.specs.EnteredEvents.{events_in}
 use Rattle.recorder_with_cards.specs.EnteredTold.{moving_events, unclosed_events, events_by, IsLow}
 use Rattle.recorder_with_cards.specs.Judged.{IsInTurn}
 use Rattle.recorder_with_cards.proofs.CameFirst.{came-first}
-use Rattle.recorder_with_cards.proofs.EnteredAdds.{IsOpened, FallsMoving, log_with, added_by, ending-opened, ending-fails, judged-goes, judged-cut}
+use Rattle.recorder_with_cards.proofs.EnteredAdds.{IsOpened, AreFound, FallsMoving, log_with, added_by, ending-opened, ending-fails, judged-goes, judged-cut}
 use Rattle.recorder_with_cards.proofs.EnteredNamed.{IsNumbered, ending-tells}
+use Rattle.recorder_with_cards.proofs.EnteredUses.{way-found}
 
 -- ---- what is known of a card's sizes changes no number
 
@@ -243,7 +246,8 @@ module _ (o : Origin) (done : List TraceSecond) (s : TraceSecond) (n : ℕ) (wai
   rest-left : IsLeft s (In n) (drop n s.actions)
   rest-left = (take n s.actions, sym (take-append-drop n s.actions), length-take-le n s.actions w.moment.is)
 
-  module _ (failed : Bool) (k' : Keeper) (noted noted' : ℕ) (out' : Outcome) (W Y : State) (way : Way) (g : HasGone e failed k k' noted noted' out out' U W X Y Z way) (sound : AreSound U W X Y) where
+  module _ (failed : Bool) (k' : Keeper) (noted noted' : ℕ) (out' : Outcome) (W Y : State) (way : Way) (g : HasGone e failed k k' noted noted' out out' U W X Y Z way) (sound : AreSound U W X Y)
+      (stay : AllStay o v.log (notes_within w.b done s (In n) v.log) k.memory.registration k.cabin (arranged e.which U X Z)) where
     abbrev later : Devices
     later = arranged e.which W Y Z
 
@@ -277,6 +281,12 @@ module _ (o : Origin) (done : List TraceSecond) (s : TraceSecond) (n : ℕ) (wai
         (more.card e.which y.0 (mine-back e.which U X Z (λ (a : State). a.left_since (found_of o.found e.which).began y.0) (sound.card_before.counts_now (found_of o.found e.which).began y.0 began y.1)))
         (⊎_elim (λ whole. inl (whole y.0 y.1)) (λ come. inr come) (came-first o done s n waits fewer e k out unfound next_ begun minutes U X Z w m sound.card_before)) way y.2
 
+    -- and where no call failed its session is the one that the notes before it have left
+    found_so : AreFound (ending_of way) o w.b.run.log done s v.log e
+    found_so =
+        let y = found-in o done s n waits fewer e k out unfound next_ begun minutes U X Z w m failed k' noted noted' out' W Y way g sound in
+        way-found o done s n waits fewer v d w e m.next_ m.none m.order second begun-is origin k.memory.registration stay m.bare y.0 (mine-back e.which U X Z (λ (a : State). a.may_leave y.0) y.1) e.at.second U.image way y.2
+
     tells : AreTold (number_in o) (events_in (notes_by (ending_of way) e noted cabin)) brings
     tells = subst (λ (x : ℕ). AreTold (number_in o) (events_in (notes_by (ending_of way) e noted cabin)) (events_by (ending_of way) x s.number bare with_it bare)) (sym speed)
         (ending-tells (number_in o) s.number small e second noted cabin crew (sized-named (number_in o) crew e.which (sizes_by way) k.cabin named) (waits-bare e.slot c.slots e.which m.next_.sits_)
@@ -301,11 +311,11 @@ module _ (o : Origin) (done : List TraceSecond) (s : TraceSecond) (n : ℕ) (wai
     module _ (now : EventedNow o done s w.b.run (stage_in n) v.log (arranged e.which U X Z)) (notes : NotesEvents (events_in (notes_by (ending_of way) e noted cabin)) failed (arranged e.which U X Z) (arranged e.which W Y Z)) where
       by : (b : Bool) → failed ≡ b → NotesSo b o brings (arranged e.which U X Z) (arranged e.which W Y Z) → EventsGoOn b o done s w.b.run (In n) (stage_in n) (log_with (ending_of way) e v.log) (arranged e.which W Y Z)
       by false is so = judged-goes (arranged e.which W Y Z) o done w.b.run w.b.span s begins n v.log reaches e second begun-is early m.next_.sits_ m.none m.next_.enters m.next_.stays_in turn.first turn.other_unfound turn.apart turn.starts
-          (arranged e.which U X Z) (ending_of way) opened moves now so (noted-all way k.memory.registration e U.image X Y (subst (λ (b : Bool). IsWay way k.memory.registration e b U.image X Y) is g.entered.is) s.speed s.number bare with_it bare) more
+          (arranged e.which U X Z) (ending_of way) opened found_so moves now so (noted-all way k.memory.registration e U.image X Y (subst (λ (b : Bool). IsWay way k.memory.registration e b U.image X Y) is g.entered.is) s.speed s.number bare with_it bare) more
       by true is so =
           let f = fails is in
           judged-cut (arranged e.which W Y Z) o done w.b.run w.b.span s begins n v.log reaches e second begun-is early m.next_.sits_ m.none m.next_.enters m.next_.stays_in turn.first turn.other_unfound turn.apart turn.starts
-          (arranged e.which U X Z) (ending_of way) opened moves now so more f.waits f.mid f.now (breakdowns_of (arranged e.which W Y Z)) f.moment f.more f.rose f.rest f.left
+          (arranged e.which U X Z) (ending_of way) opened found_so moves now so more f.waits f.mid f.now (breakdowns_of (arranged e.which W Y Z)) f.moment f.more f.rose f.rest f.left
 
       -- ITS EVENTS ARE NOTED, or the cut ends them
       pub judged-evented : EventsGoOn failed o done s w.b.run (In n) (stage_in n) (log_of out') (arranged e.which W Y Z)

@@ -16,10 +16,10 @@ use Rattle.card_layout.specs.Application.{IsApplication}
 use Rattle.card_layout.specs.Files.{files_of, place_of}
 use Rattle.card_layout.proofs.Sizes.{largest_image}
 use Rattle.gated_ring.specs.Ring.{size_of as ring_size}
-use Rattle.card_records.specs.declared.vehicle.Vehicle.{Vehicle}
 use Rattle.card_records.specs.Rings.{file, place_ring}
 use Rattle.card_model.specs.Days.{Day}
 use Rattle.card_image.specs.Own.{own_sizes, IsOwnValid}
+use Rattle.card_session.specs.Vehicles.{Vehicles}
 use Rattle.card_session.specs.Books.{closed}
 use Rattle.card_session.specs.Cards.{IsCard}
 use Rattle.card_session.specs.Sessions.{book_of}
@@ -114,7 +114,7 @@ module _ (app : Application) where
     put-same (place_of app (file 0x0507) + 4) registration.0 x (omega arith) room,
   )
 
-  card-stays : (P : List ℕ → List Day → Option Vehicle → Type 0) → Step (λ x c. IsCard app (P x) x c)
+  card-stays : (P : List ℕ → List Day → Vehicles → Type 0) → Step (λ x c. IsCard app (P x) x c)
   card-stays P x c room is = (let same = is.outside.same_length in omega (arith, room, same), file-ring app x c (card-places app x c (P x) is))
 
   noted-stays : (now : ℕ) → Step (IsNoted app now)

@@ -31,6 +31,7 @@ use Rattle.run_within.specs.Within.{told_before, course_in}
 use Rattle.run_within.proofs.Pulling.{sitting-now}
 use Rattle.run_within.proofs.Seats.{seat-tells}
 use Rattle.run_evented.specs.SoFar.{AreBare, interruption}
+use Rattle.run_evented.specs.Uses.{notes_now, uses_in}
 use Rattle.run_evented.proofs.Brought.{SameBefore, found-now}
 use Rattle.run_evented.proofs.Stood.{acceptance, stands-as, accepted-as, accepted-are}
 use Rattle.run_acts.specs.declared.run.Run.{Run}
@@ -48,7 +49,7 @@ use Rattle.run_acts.specs.OnCards.{is_card, has_card, as_accepted, enters, falls
 use Rattle.run_acts.specs.RunCards.{vehicle_in, sizes_in, so_far, seen_behind, gap_behind, CardsIn, CardsWaking}
 use Rattle.run_acts.proofs.CardCourse.{Finding, findings, sitting_at, powered-as}
 use Rattle.run_acts.proofs.CardSecond.{is_now, standing-is}
-use Rattle.run_acts.proofs.CardShown.{KeepsFailed}
+use Rattle.run_acts.proofs.CardShown.{FindsStill, KeepsFailed}
 use Rattle.run_acts.proofs.CardStays.{session-sizes}
 use Rattle.run_acts.proofs.CardWaking.{follows-powered, found-same as found-still, sits-enters, gap-noted}
 use Rattle.run_acts.proofs.RingedSecond.{power-here}
@@ -257,9 +258,10 @@ module _ (o : Origin) (done : List TraceSecond) (s : TraceSecond) (run : Run) (o
     pub gap-cards : (e : Devices) → HaveLeftMore o d e → KeepsFailed (log_of out) later → CardsWaking o done s w.within.b.run.log (log_of out) d → (failed : Bool) (after : Cards) (own : Registration) → own ≡ vehicle_in o → (gap : Option Span) →
         interruption w.within.b.run.log (seen_spans (seen_of w.within.b.run.log done)) s.number crew ≡ gap_list gap crew → (failed ≡ true → has_failed_in later s.number ≡ true) →
         ((c : Card) → is_some (session_of run.keeper.cabin.cards c) ≡ true → is_some (session_of after c) ≡ false → falls c (seen_behind w.within.b.run.log done s [] later) ≡ true) →
-        NotesOnCards failed run.keeper.cabin.cards after (λ card. gap_on gap own) d e → CardsIn o done s w.within.b.run.log [] later e
-    gap-cards e left keeps cards failed after own vehicle gap list fails fell notes =
-        gap-noted o done s w.within.b.run.log (log_of out) later d e off torn keeps left cards same
+        NotesOnCards failed run.keeper.cabin.cards after (λ card. gap_on gap own) d e →
+        ((c : Card) → FindsStill (log_of out) later (uses_in o c (notes_now w.within.b.run.log done (log_of out) s)) (uses_in o c (notes_now w.within.b.run.log done later s))) → CardsIn o done s w.within.b.run.log [] later e
+    gap-cards e left keeps cards failed after own vehicle gap list fails fell notes finds =
+        gap-noted o done s w.within.b.run.log (log_of out) later d e off torn keeps left cards same finds
         (λ c valid.
         let follows = follows-powered (log_of out) later (went w.within.b.run.log done).before s off torn c in
         let are : gaps_on c (vehicle_in o) (gap_behind w.within.b.run.log done s [] later) ≡ cond (has_card crew c) (gap_on gap (vehicle_in o)) [] =

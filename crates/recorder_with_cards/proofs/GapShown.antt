@@ -45,6 +45,7 @@ use Rattle.run_within.proofs.Seats.{card-seated}
 use Rattle.run_evented.specs.Evented.{NotesNothing, Evented}
 use Rattle.run_evented.specs.SoFar.{AreBare, interruption}
 use Rattle.run_evented.specs.Kept.{interruption_of}
+use Rattle.run_evented.proofs.Exact.{fewer-none}
 use Rattle.run_ringed.specs.SoFar.{HasMoreBreaks}
 use Rattle.run_ringed.proofs.SoFar.{failed-more}
 use Rattle.run_acts.specs.declared.run.Run.{Run}
@@ -55,7 +56,8 @@ use Rattle.run_acts.specs.Recording.{log_of, values_of, RunWithin}
 use Rattle.run_acts.specs.RunRinged.{with_cut}
 use Rattle.run_acts.specs.OnCards.{falls}
 use Rattle.run_acts.specs.RunCards.{vehicle_in, seen_behind, CardsBehind, CardsIn, CardsWaking}
-use Rattle.run_acts.proofs.RingedSecond.{cut-found, cut-failed}
+use Rattle.run_acts.proofs.CardUses.{woken-found}
+use Rattle.run_acts.proofs.RingedSecond.{cut-found, cut-failed, power-here}
 use Rattle.recorder_with_cards.specs.JudgedRings.{TellsHere}
 use Rattle.recorder_with_cards.specs.CardsWoken.{CardsWoken}
 use Rattle.recorder_with_cards.proofs.RingsHere.{here-then, here-cut}
@@ -254,7 +256,7 @@ module _ (o : Origin) (done : List TraceSecond) (s : TraceSecond) (run : Run) (o
   tells = record { breaks = lines; finds = ([], sym (append-nil (log_of out).finds), tt) }
 
   -- by a log with all these lines
-  module _ (later : RunLog) (more : HasMoreBreaks (log_of (record out { breaks = after })) later) (found : (slot : Slot) → found_in later s.number (In 0) slot ≡ found_in (log_of (record out { breaks = after })) s.number (In 0) slot) where
+  module _ (later : RunLog) (more : HasMoreBreaks (log_of (record out { breaks = after })) later) (found : (k : ℕ) (slot : Slot) → found_in later s.number (In k) slot ≡ found_in (log_of (record out { breaks = after })) s.number (In k) slot) where
     all : HasMoreBreaks (log_of out) later
     all = (lines.0 ++ more.0, more.1 ∙ ap (λ (bs : List Break). bs ++ more.0) lines.1 ∙ append_assoc (log_of out).breaks lines.0 more.0)
 
@@ -275,19 +277,24 @@ module _ (o : Origin) (done : List TraceSecond) (s : TraceSecond) (run : Run) (o
         sat-both (log_of out) s.number (In 0) (unmoved (not (went w.within.b.run.log done).before.running)) l.slot (fresh (not (went w.within.b.run.log done).before.running) (went w.within.b.run.log done).before.slots) (record { card = c; accepted = Some sits.0 }) sits.1 in
         torn-sitting later (went w.within.b.run.log done).before s c l.slot sat.0 off sat.1 (ap (λ (k : Card). same_card k c) sat.2 ∙ same-self c) (torn-then l.slot l.tear)
 
+    -- no find is told
+    same : (k : ℕ) (slot : Slot) → found_in later s.number (In k) slot ≡ found_in (log_of out) s.number (In k) slot
+    same k slot = found k slot ∙ finds-same (log_of out) (log_of (record out { breaks = after })) refl s.number (In k) slot
+
     shown : (failed ≡ true → has_failed_in later s.number ≡ true) → CardsIn o done s w.within.b.run.log [] later e
     shown fails =
-        gap-cards o done s run out d w low stands off bare later (λ slot. found slot ∙ finds-same (log_of out) (log_of (record out { breaks = after })) refl s.number (In 0) slot) (λ slot torn. torn-more (log_of out) later s.number (In 0) slot all torn)
+        gap-cards o done s run out d w low stands off bare later (λ slot. same 0 slot) (λ slot torn. torn-more (log_of out) later s.number (In 0) slot all torn)
         e left (failed-more (log_of out) later all) cards failed new.keeper.cabin.cards run.keeper.memory.registration vehicle gap (list _) fails fell notes
+        (λ c none. (fewer-none (log_of out) later all.0 all.1 none, woken-found o w.within.b.run.log done s (power-here o done s (In 0) [] None [] (values_of run out) d w.within) off c (log_of out) later same (λ k slot lt. w.within.moment.up_to.found (In k) slot lt)))
 
   by : (b : Bool) → failed ≡ b → GapOn b o done s w.within.b.run.log (log_of (record out { breaks = after })) e
-  by false well = shown (log_of (record out { breaks = after })) ([], sym (append-nil after.items)) (λ slot. refl) (λ fails. absurd (let clash : true ≡ false = sym fails ∙ well in cc))
+  by false well = shown (log_of (record out { breaks = after })) ([], sym (append-nil after.items)) (λ k slot. refl) (λ fails. absurd (let clash : true ≡ false = sym fails ∙ well in cc))
   by true fails =
       let free = uncut fails in
       let cut : RunLog = with_cut (log_of (record out { breaks = after })) s [] in
       cut-cards o done s 0 run out d e w (record out { breaks = after }) [] s.actions refl
       (waking-later o done s (In 0) [] None [] (values_of run out) d w.within cut (here-then (log_of out) (log_of (record out { breaks = after })) cut s.number tells (here-cut (log_of (record out { breaks = after })) s [])) some) free
-      (shown cut (cut_at s.number true 0 ∷ [], refl) (λ slot. cut-found (log_of (record out { breaks = after })) s.number 0 free (In 0) slot) (λ f. cut-failed (log_of (record out { breaks = after })) s.number 0 free))
+      (shown cut (cut_at s.number true 0 ∷ [], refl) (λ k slot. cut-found (log_of (record out { breaks = after })) s.number 0 free (In k) slot) (λ f. cut-failed (log_of (record out { breaks = after })) s.number 0 free))
 
   pub gap-shown : GapOn failed o done s w.within.b.run.log (log_of (record out { breaks = after })) e
   gap-shown = by failed refl

@@ -234,8 +234,10 @@ module _ (slot : Slot) (card : Card) (at : Moment) (speed : ℕ) (old : Run) (be
 
         -- what it brings the card of events
         pub next-cards : (judged_failed : Bool) (after : Outcome) (later : Devices) → CardsJudged slot card at speed judged_failed mid told after e later → mid.keeper.memory.registration ≡ vehicle_in o → HaveTime later →
-            IsJudgedOnCards judged_failed o s (suc (length front)) slot card told after e later
-        next-cards judged_failed after later judges vehicle end = judges o done s (suc n) waits [] at-is now.speed_is next vehicle end
+            IsJudgedOnCards judged_failed o h.within.b.run.log done s (suc (length front)) slot card told after e later
+        next-cards judged_failed after later judges vehicle end =
+            subst (λ (b : Beginning). IsJudgedOnCards judged_failed o b.run.log done s (suc n) slot card told after e later) (on.began ∙ put.goes.began)
+            (judges o done s (suc n) waits [] at-is now.speed_is next vehicle end)
 
   -- ---- ITS EVENTS
 

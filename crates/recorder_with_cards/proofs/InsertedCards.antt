@@ -31,7 +31,10 @@ use Rattle.run_keeping.specs.declared.keeper.Moment.{Moment}
 use Rattle.side_model.specs.Done.{has_failed_in}
 use Rattle.run_recorded.specs.Origin.{Origin}
 use Rattle.run_recorded.specs.Beside.{HaveLeftMore}
+use Rattle.run_recorded.specs.Whole.{NothingFailed}
 use Rattle.run_evented.specs.Evented.{images_in}
+use Rattle.run_evented.specs.Uses.{notes_now, uses_in}
+use Rattle.run_evented.proofs.Exact.{fewer-none, no-cut}
 use Rattle.run_entering.specs.CardEvents.{events_in, all_noted}
 use Rattle.run_rings.specs.Notes.{TellSameTo, course_behind}
 use Rattle.run_ringed.specs.SoFar.{HasMoreBreaks}
@@ -45,6 +48,8 @@ use Rattle.run_acts.specs.OnCards.{unclosed_by, events_by, accepts, moving_at, m
 use Rattle.run_acts.specs.RunCards.{vehicle_in, sizes_in, seen_behind, CardsIn, CardsGoOn, StillShow}
 use Rattle.run_acts.proofs.CardCourse.{quiet-same, behind-more, behind-same}
 use Rattle.run_acts.proofs.CardSecond.{any-more, quiet-shown, put-shown}
+use Rattle.run_acts.proofs.CardShown.{FindsUses, FindsStill}
+use Rattle.run_acts.proofs.CardUses.{tears-none, lines-still}
 use Rattle.run_acts.proofs.RingedLines.{AreTears, TellsBeside, tears-beside}
 use Rattle.run_acts.proofs.RingedSecond.{tears-here_, cut-found, cut-torn, cut-failed}
 use Rattle.recorder_with_cards.specs.JudgedRings.{TellsHere}
@@ -201,11 +206,17 @@ module _ (o : Origin) (done : List TraceSecond) (s : TraceSecond) (front rest : 
   more-told : HasMoreBreaks (log_of before) (log_of told)
   more-told = here-more (log_of before) (log_of told) s.number here-told
 
+  -- where no call failed no line was told
+  quiet-lines : (c : Card) → FindsStill (log_of before) (log_of told) (uses_in o c (notes_now w.within.b.run.log done (log_of before) s)) (uses_in o c (notes_now w.within.b.run.log done (log_of told) s))
+  quiet-lines =
+      lines-still o w.within.b.run.log done s (log_of before) (log_of told) lines log_is
+      (λ none. tears-none (record { second = s.number; begun = suc (length front); late = false }) lines (log_of before) tears (subst NothingFailed log_is none))
+
   -- the cards as this one is to be judged
   settled-on : CardsIn o done s w.within.b.run.log front (log_of told) e
   settled-on =
       let same : course_behind (log_of told) was s front ≡ course_behind (log_of before) was s front = behind-same (log_of before) (log_of told) s was front same-told in
-      quiet-shown o done s w.within.b.run.log front front (log_of before) (log_of told) d e cards (failed-more (log_of before) (log_of told) more-told)
+      quiet-shown o done s w.within.b.run.log front front (log_of before) (log_of told) d e cards quiet-lines (failed-more (log_of before) (log_of told) more-told)
       (quiet-same (course_behind (log_of before) was s front) (course_behind (log_of told) was s front) (ap (λ (q : Course). q.found) same) (ap (λ (q : Course). q.entered) same) (ap (λ (q : Course). q.torn) same)) left still
 
   none-told : found_in (log_of told) s.number (In (suc (length front))) slot ≡ []
@@ -224,12 +235,12 @@ module _ (o : Origin) (done : List TraceSecond) (s : TraceSecond) (front rest : 
       let found : found_in cut s.number (In (length front + 1)) slot ≡ [] = ap (λ (k : ℕ). found_in cut s.number (In k) slot) longer ∙ cut-found (log_of told) s.number (length (front ++ Insert slot card ∷ [])) uncut-told (In (suc (length front))) slot ∙ none-told in
       put-shown o done s w.within.b.run.log front slot card (log_of before) cut d e cards (failed-more (log_of before) cut told-cut.goes.lines) told-cut.goes.same told-cut.goes.begun
       (ap (λ (q : Course). refusal q.slots s.speed (Insert slot card)) (course-cut (log_of before) (log_of told) s front rest (Insert slot card) are uncut more-told same-told uncut-told was) ∙ allowed)
-      left (λ c valid other. still c valid)
+      left (λ c valid other. still c valid) (λ c other none. no-cut (log_of told) s.number (length (front ++ Insert slot card ∷ [])) none)
       (λ c valid own entered.
       let x : Seen = seen_behind w.within.b.run.log done s (front ++ Insert slot card ∷ []) cut in
-      subst (λ (vs : List Verdict). (more : List CurrentUse) × AreUses (images_in o e c) more (accepts s.number vs)
+      subst (λ (vs : List Verdict). (more : List CurrentUse) × FindsUses (log_of before) cut (uses_in o c (notes_now w.within.b.run.log done (log_of before) s)) more (uses_in o c (notes_now w.within.b.run.log done cut s)) × AreUses (images_in o e c) more (accepts s.number vs)
       × NotesThem (sizes_in o c) (λ kind. is_sure_in c kind cut x) (λ kind. events_by kind [] (movings c (vehicle_in o) s.speed (accepts s.number vs)) (unclosed_by more (accepts s.number vs))) (card_of d c) (card_of e c)) (sym found)
-      ([], tt, λ y at. let now = still c valid y at in (now.0, now.1, λ kind sure. now.2 kind ∙ ap (all_noted (events_in (sizes_in o c) kind now.0)) (sym (nothing kind (nat_lt 0 s.speed))))))
+      ([], (λ none. no-cut (log_of told) s.number (length (front ++ Insert slot card ∷ [])) none), tt, λ y at. let now = still c valid y at in (now.0, now.1, λ kind sure. now.2 kind ∙ ap (all_noted (events_in (sizes_in o c) kind now.0)) (sym (nothing kind (nat_lt 0 s.speed))))))
     where
       empty : (q8 q5 q6 : Bool) → cond {A = List CardEvent} q8 [] (cond q5 [] (cond q6 [] [])) ≡ []
       empty true q5 q6 = refl
@@ -242,7 +253,7 @@ module _ (o : Origin) (done : List TraceSecond) (s : TraceSecond) (front rest : 
       nothing kind false = empty (kind == POWER_INTERRUPTION) (kind == INSERTION_WHILE_DRIVING) (kind == SESSION_NOT_CLOSED)
 
   -- ---- or the card is judged
-  module _ (failed : Bool) (after : Outcome) (f : Devices) (j : IsJudgedOnCards failed o s (suc (length front)) slot card told after e f) where
+  module _ (failed : Bool) (after : Outcome) (f : Devices) (j : IsJudgedOnCards failed o w.within.b.run.log done s (suc (length front)) slot card told after e f) where
     uncut-after : cut_in (log_of after) s.number ≡ None
     uncut-after = j.cut ∙ uncut-told
 
@@ -269,16 +280,22 @@ module _ (o : Origin) (done : List TraceSecond) (s : TraceSecond) (front rest : 
         → refusal (course_behind later was s front).slots s.speed (Insert slot card) ≡ None
         → found_in later s.number (In (suc (length front))) slot ≡ found_in (log_of after) s.number (In (suc (length front))) slot
         → is_torn_in later s.number (In (suc (length front))) slot ≡ is_torn_in (log_of after) s.number (In (suc (length front))) slot
-        → (failed ≡ true → has_failed_in later s.number ≡ true) → CardsIn o done s w.within.b.run.log (front ++ Insert slot card ∷ []) later f
-    in-log later lines_ same begun allowed_ found torn fails =
+        → (NothingFailed later → later ≡ log_of after) → (failed ≡ true → has_failed_in later s.number ≡ true) → CardsIn o done s w.within.b.run.log (front ++ Insert slot card ∷ []) later f
+    in-log later lines_ same begun allowed_ found torn alike fails =
         put-shown o done s w.within.b.run.log front slot card (log_of told) later e f settled-on (failed-more (log_of told) later lines_) same begun allowed_ j.left j.beside
+        (λ c other none.
+        let is : later ≡ log_of after = alike none in
+        (fewer-none (log_of told) later lines_.0 lines_.1 none, ap (λ (l : RunLog). uses_in o c (notes_now w.within.b.run.log done l s)) is ∙ j.still (subst NothingFailed is none) c other))
         (λ c valid own entered.
         let x : Seen = seen_behind w.within.b.run.log done s (front ++ Insert slot card ∷ []) later in
         let b = j.own c valid own in
         let verdicts_ : found_in later s.number (In (length front + 1)) slot ≡ found_in (log_of after) s.number (In (suc (length front))) slot = ap (λ (k : ℕ). found_in later s.number (In k) slot) longer ∙ found in
-        subst (λ (vs : List Verdict). (more : List CurrentUse) × AreUses (images_in o f c) more (accepts s.number vs)
+        subst (λ (vs : List Verdict). (more : List CurrentUse) × FindsUses (log_of told) later (uses_in o c (notes_now w.within.b.run.log done (log_of told) s)) more (uses_in o c (notes_now w.within.b.run.log done later s)) × AreUses (images_in o f c) more (accepts s.number vs)
         × NotesThem (sizes_in o c) (λ kind. is_sure_in c kind later x) (λ kind. events_by kind [] (movings c (vehicle_in o) s.speed (accepts s.number vs)) (unclosed_by more (accepts s.number vs))) (card_of e c) (card_of f c)) (sym verdicts_) (
           b.uses,
+          (λ none.
+          let is : later ≡ log_of after = alike none in
+          (fewer-none (log_of told) later lines_.0 lines_.1 none, ap (λ (l : RunLog). uses_in o c (notes_now w.within.b.run.log done l s)) is ∙ b.exact (subst NothingFailed is none))),
           b.are,
           judged-them (sizes_in o c) (vehicle_in o) c later x failed (is_torn_in (log_of after) s.number (In (suc (length front))) slot) (accepts s.number (found_in (log_of after) s.number (In (suc (length front))) slot)) b.uses (card_of e c) (card_of f c) entered fails
               (λ is. ap (λ (q : Course). mine c q.torn) (behind-more later was s front (Insert slot card))
@@ -289,7 +306,7 @@ module _ (o : Origin) (done : List TraceSecond) (s : TraceSecond) (front rest : 
     by : (b : Bool) → failed ≡ b → CardsGoOn b o done s w.within.b.run.log (front ++ Insert slot card ∷ []) (log_of after) f
     by false is = in-log (log_of after) more-after same-after goes.begun
         (ap (λ (q : Course). refusal q.slots s.speed (Insert slot card)) (course-then (log_of told) (log_of after) s front rest (Insert slot card) are uncut-told more-after same-after uncut-after was) ∙ allowed-told)
-        refl refl (λ fails. absurd (let clash : true ≡ false = sym fails ∙ is in cc))
+        refl refl (λ none. refl) (λ fails. absurd (let clash : true ≡ false = sym fails ∙ is in cc))
     by true is =
         let cuts : IsCutIn w.within.b.run.log (log_of told) (with_cut (log_of after) s (front ++ Insert slot card ∷ [])) done s front (Insert slot card) rest =
         is-cut (log_of told) (log_of after) s front rest (Insert slot card) are uncut-told more-after same-after uncut-after o done (In (length front)) [] None [] (values_of old before) d w.within
@@ -298,6 +315,7 @@ module _ (o : Origin) (done : List TraceSecond) (s : TraceSecond) (front rest : 
         (ap (λ (q : Course). refusal q.slots s.speed (Insert slot card)) (course-cut (log_of told) (log_of after) s front rest (Insert slot card) are uncut-told more-after same-after uncut-after was) ∙ allowed-told)
         (cut-found (log_of after) s.number (length (front ++ Insert slot card ∷ [])) uncut-after (In (suc (length front))) slot)
         (cut-torn (log_of after) s.number (length (front ++ Insert slot card ∷ [])) uncut-after (In (suc (length front))) slot)
+        (λ none. no-cut (log_of after) s.number (length (front ++ Insert slot card ∷ [])) none)
         (λ fails. cut-failed (log_of after) s.number (length (front ++ Insert slot card ∷ [])) uncut-after)
 
     -- SO THE EVENTS OF THE CARDS GO ON

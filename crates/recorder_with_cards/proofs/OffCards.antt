@@ -27,7 +27,9 @@ use Rattle.run_events.specs.Choice.{AreEarlier}
 use Rattle.run_events.proofs.Growing.{seen-more}
 use Rattle.run_events.proofs.Later.{told-number, seen-same}
 use Rattle.run_evented.proofs.Brought.{lit-course, told-speed}
+use Rattle.run_evented.specs.Uses.{notes_in, uses_in}
 use Rattle.run_evented.proofs.Lines.{early}
+use Rattle.run_evented.proofs.Exact.{fewer-none}
 use Rattle.run_ringed.proofs.SoFar.{failed-more}
 use Rattle.run_acts.specs.OnCards.{as_accepted, accepted_in, gaps_on}
 use Rattle.run_acts.specs.RunCards.{vehicle_in, sizes_in, CardShown, CardsBehind}
@@ -36,7 +38,7 @@ use Rattle.run_acts.proofs.CardCourse.{Finding, findings, behind-same}
 use Rattle.run_acts.proofs.CardShown.{Follows, goes-on}
 use Rattle.run_acts.proofs.CardSecond.{is_now, standing-is}
 use Rattle.run_acts.proofs.CardGaps.{kept-before, between-same, before-same, low-spans}
-use Rattle.recorder_with_cards.proofs.OffRings.{order, number, same, front-same, power, tells}
+use Rattle.recorder_with_cards.proofs.OffRings.{order, number, same, front-same, power, tells, notes-same}
 
 -- a cut leaves what was found, entered and torn out
 record SameMoves (x y : Course) : Type 0 where
@@ -164,11 +166,13 @@ module _ (rule : Rule) (start : Start) (from first : ℕ) (p : Progress) (t : To
 
   cut-behind : (o : Origin) (d : Devices) → CardsBehind o (front ++ r ∷ []) p.log d → CardsBehind o (front ++ r ∷ []) (and_break p.log (cut_at (p.next - 1) false p.begun)) d
   cut-behind o d h c valid =
-      subst (λ (xs : List Seen). CardShown o c (and_break p.log (cut_at (p.next - 1) false p.begun)) (gap_events as_accepted (and_break p.log (cut_at (p.next - 1) false p.begun)) (front ++ r ∷ [])) xs d)
+      subst (λ (xs : List Seen). CardShown o c (and_break p.log (cut_at (p.next - 1) false p.begun)) (gap_events as_accepted (and_break p.log (cut_at (p.next - 1) false p.begun)) (front ++ r ∷ [])) xs (uses_in o c (notes_in (and_break p.log (cut_at (p.next - 1) false p.begun)) (front ++ r ∷ []))) d)
       (sym (seen-more (and_break p.log (cut_at (p.next - 1) false p.begun)) front r ∙ ap (λ (xs : List Seen). xs ++ seen_next (and_break p.log (cut_at (p.next - 1) false p.begun)) front r ∷ []) seen-is))
       (goes-on o c p.log (and_break p.log (cut_at (p.next - 1) false p.begun)) (gap_events as_accepted p.log (front ++ r ∷ [])) (gap_events as_accepted (and_break p.log (cut_at (p.next - 1) false p.begun)) (front ++ r ∷ [])) (seen_of p.log front)
-      (seen_next p.log front r) (seen_next (and_break p.log (cut_at (p.next - 1) false p.begun)) front r) d d
-      (subst (λ (xs : List Seen). CardShown o c p.log (gap_events as_accepted p.log (front ++ r ∷ [])) xs d) (seen-more p.log front r) (h c valid))
+      (seen_next p.log front r) (seen_next (and_break p.log (cut_at (p.next - 1) false p.begun)) front r)
+      (uses_in o c (notes_in p.log (front ++ r ∷ []))) (uses_in o c (notes_in (and_break p.log (cut_at (p.next - 1) false p.begun)) (front ++ r ∷ []))) d d
+      (subst (λ (xs : List Seen). CardShown o c p.log (gap_events as_accepted p.log (front ++ r ∷ [])) xs (uses_in o c (notes_in p.log (front ++ r ∷ []))) d) (seen-more p.log front r) (h c valid))
+      (λ none. (fewer-none p.log (and_break p.log (cut_at (p.next - 1) false p.begun)) (cut_at (p.next - 1) false p.begun ∷ []) refl none, ap (uses_in o c) (notes-same rule start from first p t span front r f count)))
       (failed-more p.log (and_break p.log (cut_at (p.next - 1) false p.begun)) (cut_at (p.next - 1) false p.begun ∷ [], refl)) (follows c) (accepted-is c) (ap (gaps_on c (vehicle_in o)) gaps) (λ z there. there) (still-same (sizes_in o c) (card_of d c)))
 
 -- THE LAST SECOND OF A SPAN TURNS OUT TO BE A CUT'S

@@ -43,7 +43,7 @@ use Rattle.run_rings.proofs.Same.{rings-left}
 use Rattle.run_recorded.specs.Origin.{Origin}
 use Rattle.run_ringed.specs.Ringed.{Seating, Ringed, notes_in, noted_next, since_behind}
 use Rattle.run_ringed.specs.SoFar.{AreEarlier, RingedBehind, AreFewer}
-use Rattle.run_ringed.proofs.Noted.{second-notes}
+use Rattle.run_evented.proofs.Noted.{second-notes}
 use Rattle.run_ringed.proofs.OnCards.{call-failed-more, places-itself}
 use Rattle.run_ringed.proofs.Rings.{fewer-sit, rings-stay, come-before}
 use Rattle.run_ringed.proofs.SoFar.{failed-more, goes-alike, left-itself}

@@ -59,6 +59,7 @@ use Rattle.run_recorded.specs.Seconds.{empty_log}
 use Rattle.run_recorded.proofs.Ends.{ends-run}
 use Rattle.event_model.specs.Events.{Seen, seen_of}
 use Rattle.run_evented.specs.Evented.{limit_in, images_in, Evented}
+use Rattle.run_evented.specs.Uses.{uses_from, use_behind, vehicle_of, use_in, insertions_on, uses_in}
 use Rattle.run_evented.proofs.Ends.{nothing-noted, events-shown}
 use Rattle.run_ringed.specs.OnCards.{places_in, HasPlaces}
 use Rattle.run_ringed.specs.Ringed.{Seating, Ringed, notes_in, since_behind}
@@ -88,7 +89,8 @@ use Rattle.run_acts.specs.Evented.{RunEvented}
 use Rattle.run_acts.specs.Ringing.{seating_of}
 use Rattle.run_acts.specs.RunRinged.{seats_of, RunRinged}
 use Rattle.run_acts.specs.OnCards.{accepted_on, ShowsOn, AreUses}
-use Rattle.run_acts.specs.RunCards.{vehicle_of, vehicle_in, sizes_in}
+use Rattle.run_acts.specs.RunCards.{vehicle_in, sizes_in}
+use Rattle.run_acts.proofs.StayUses.{shown-use}
 use Rattle.run_acts.proofs.OnCards.{start-shown}
 use Rattle.run_acts.proofs.Numbers.{own-long}
 use Rattle.recorder_with_cards.specs.Carded.{RunCarded}
@@ -200,9 +202,8 @@ module _ (x a b : List ℕ) (start : ℕ) (items : List Item) (began now : Devic
           told = all.told;
           owed = all.owed;
           only = λ c. ⊎_elim (λ none_. inl none_) (λ valid. inr (subst IsOwnValid (of_image c) valid)) (all.only c);
-          shows = λ c valid. subst (λ (i : List ℕ). ShowsStays run.keeper.memory.registration i (all.stays c) (card_of now c)) (of_image c) (own none c valid).shows;
-          closed = λ c valid.
-              sym (noted-at-end (session_of run.keeper.cabin.cards c) (sits_in run.keeper.cabin.slots.seats c) (spells (all.stays c)) (sits-at-end o ss run out now h.evented.recorded sits c)) ∙ (own none c valid).spell;
+          shows = stay_shows none;
+          closed = stay_spells none;
           timely = λ c valid. subst (λ (i : List ℕ). AreTimely run.keeper.memory.registration (own_sizes i).activity (all.stays c) (start_shown i)) (of_image c) (own none c valid).timely;
         };
     kept = end-kept o ss run out now h.evented.recorded h.spans h.ringed.spans_are h.stored;
@@ -218,6 +219,10 @@ module _ (x a b : List ℕ) (start : ℕ) (items : List Item) (began now : Devic
         record {
           uses = one.uses;
           are = subst (λ (n : ℕ). AreUses ((card_of now c).left_since n) one.uses (accepted_on c (seen_of r.log r.trace))) (clocks c) one.are;
+          exact = λ none. one.exact none ∙ ap (λ (i : List ℕ). uses_from (vehicle_of x) (use_in i) (insertions_on c (notes_in (log_of out) (seconds_of start items)))) (sym (images c));
+          left = λ none y there.
+              shown-use run.keeper.memory.registration (card_image r c) ((h.evented.recorded.stay none).stays c) (insertions_on c (notes_in (log_of out) (seconds_of start items))) (card_of now c) (stay_spells none c valid) (stay_shows none c valid) y there
+              ∙ (λ i. use_behind (record { 0 = (h.evented.recorded.stay none).says i }) (use_in (card_image r c)) (insertions_on c (notes_in (log_of out) (seconds_of start items))));
           shows = subst (λ (i : List ℕ). ShowsOn c (vehicle_of x) one.uses (own_sizes i) i r.log r.trace (card_of now c)) (sym (images c)) one.shows;
         };
   }
@@ -237,6 +242,15 @@ module _ (x a b : List ℕ) (start : ℕ) (items : List Item) (began now : Devic
       own : (none : NothingFailed (log_of out)) (c : Card) → IsOwnValid (card_image r c) →
           HasStays (found_of o.found c) run.keeper.memory.registration (spells_of c (notes_in (log_of out) ss)) (sits_in run.keeper.cabin.slots.seats c) ((h.evented.recorded.stay none).stays c) (session_of run.keeper.cabin.cards c) (card_of now c)
       own none c valid = (h.evented.recorded.stay none).each c (subst IsOwnValid (sym (of_image c)) valid)
+
+      -- each card shows its stays, which are as they are noted
+      stay_shows : (none : NothingFailed (log_of out)) (c : Card) → IsOwnValid (card_image r c) → ShowsStays run.keeper.memory.registration (card_image r c) ((h.evented.recorded.stay none).stays c) (card_of now c)
+      stay_shows none c valid = subst (λ (i : List ℕ). ShowsStays run.keeper.memory.registration i ((h.evented.recorded.stay none).stays c) (card_of now c)) (of_image c) (own none c valid).shows
+
+      stay_spells : (none : NothingFailed (log_of out)) (c : Card) → IsOwnValid (card_image r c) → spells ((h.evented.recorded.stay none).stays c) ≡ spells_of c (notes_in (log_of out) (seconds_of start items))
+      stay_spells none c valid =
+          sym (noted-at-end (session_of run.keeper.cabin.cards c) (sits_in run.keeper.cabin.slots.seats c) (spells ((h.evented.recorded.stay none).stays c)) (sits-at-end o (seconds_of start items) run out now h.evented.recorded sits c))
+          ∙ (own none c valid).spell
 
       clocks : (c : Card) → (found_of o.found c).began ≡ (card_of began c).clock
       clocks = both (λ c. (found_of o.found c).began ≡ (card_of began c).clock) refl refl
@@ -458,6 +472,7 @@ module _ (x a b : List ℕ) (start : ℕ) (began now : Devices) (opened : Opened
       vehicle = ap (λ (bs : List ℕ). record { 0 = bs }) (ap (λ (i : Identity). i.registration.0) memory ∙ ready.memory.registration);
       cards = λ c valid. record {
         uses = [];
+        exact = λ none. ap (uses_in first-o c) (sym (no-notes (log_of out)));
         are = subst (λ (seen : List Seen). AreUses (images_in first-o now c) [] (accepted_on c seen)) (sym (no-seen (log_of out))) tt;
         shows = start-shown c (vehicle_in first-o) (sizes_in first-o c) (card_image first-o.recording c) (log_of out) (card_of now c) (λ y left. only c y ((whole c).counts_now (found_of f c).began y (there.clocks c) left));
       };

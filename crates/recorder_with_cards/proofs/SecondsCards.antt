@@ -15,7 +15,7 @@ use Rattle.run_course.specs.Followed.{Progress, Followed, IsSupplied}
 use Rattle.run_course.specs.Seconds.{GoesOnBy}
 use Rattle.run_course.proofs.Logs.{went-refused}
 use Rattle.run_course.proofs.Steps.{with-supply}
-use Rattle.run_course.proofs.Told.{lost-dark}
+use Rattle.run_course.proofs.Told.{lost-dark, lit-power}
 use Rattle.run_outcome.specs.declared.outcome.Outcome.{Outcome}
 use Rattle.run_outcome.specs.Lines.{Listed}
 use Rattle.log_model.specs.declared.lines.Break.{Break}
@@ -36,6 +36,7 @@ use Rattle.run_acts.specs.Turning.{IsTurnOf, IsLitTurn, cut_where, told_of, late
 use Rattle.run_acts.specs.RunRinged.{RunRinged, InSecondRinged}
 use Rattle.run_acts.specs.RunCards.{vehicle_in, CardsBehind, CardsIn, CardsAtBy}
 use Rattle.run_acts.proofs.CardEnds.{IsLater, second-begins, plain-second, plain-same}
+use Rattle.run_acts.proofs.CardUses.{untold-to}
 use Rattle.recorder_with_cards.specs.Carded.{RunCarded, InSecondCardedBy, InSecondCarded}
 use Rattle.recorder_with_cards.proofs.SecondsRecorded.{refused_dark, lost-away, lost-supply}
 use Rattle.recorder_with_cards.proofs.SecondsRinged.{refused-all, lost, away, dark-ringed, off-ringed}
@@ -83,11 +84,19 @@ runs before next (IsLit []) h power = absurd h
 runs before next IsDue h power = absurd h
 runs before next IsLost h power = absurd h
 
-pub begins-cards : (o : Origin) (done : List TraceSecond) (run : Run) (out : Outcome) (d : Devices) → RunCarded o done run out d → run.power ≡ Lit → (s : TraceSecond) → CardsIn o done s (log_of out) (take 0 s.actions) (log_of out) d
-begins-cards o done run out d h lit s =
+lit-has : (before : Before) (s : TraceSecond) (next : ℕ) (supply : Supply) → Supplies Lit supply → IsSupplied supply before next → s.number ≡ next → s.has_power ≡ true → has_power before s ≡ true
+lit-has before s next (IsLit (t ∷ span)) h power number given = lit-power (t ∷ span) before s next power number given
+lit-has before s next (IsLit []) h power number given = absurd h
+lit-has before s next IsDue h power number given = absurd h
+lit-has before s next IsLost h power number given = absurd h
+
+pub begins-cards : (o : Origin) (done : List TraceSecond) (run : Run) (out : Outcome) (d : Devices) → RunCarded o done run out d → run.power ≡ Lit → (s : TraceSecond) → s.number ≡ run.next → s.has_power ≡ true → CardsIn o done s (log_of out) (take 0 s.actions) (log_of out) d
+begins-cards o done run out d h lit s number given =
     let r = h.ringed.evented.recorded in
     subst (λ (front : List Action). CardsIn o done s (log_of out) front (log_of out) d) (sym (first-are s.actions [] s.actions 0 refl refl))
-    (second-begins o done s (log_of out) d h.cards (runs (went (log_of out) done).before run.next r.supply (subst (λ (p : Power). Supplies p r.supply) lit r.powers) r.recorded.recorded.followed.power))
+    (second-begins o done s (log_of out) d h.cards (runs (went (log_of out) done).before run.next r.supply (subst (λ (p : Power). Supplies p r.supply) lit r.powers) r.recorded.recorded.followed.power)
+    (lit-has (went (log_of out) done).before s run.next r.supply (subst (λ (p : Power). Supplies p r.supply) lit r.powers) r.recorded.recorded.followed.power number given)
+    (untold-to o done (progress (values_of run out) r.supply r.recorded.book) r.recorded.recorded.followed s.number (omega (arith, number)) 0))
 
 -- ---- an `off` line: the trace gives no power
 off-behind : (o : Origin) (d : Devices) (log : RunLog) (n : ℕ) (done : List TraceSecond) (next : ℕ) → CardsBehind o done log d → CardsBehind o (done ++ dark (suc n) next) log d

@@ -68,5 +68,6 @@ side-shown r began now x decodes events spans are stored rings = record {
     over_count = events.over_count;
   };
   first = events.are_first;
+  exact = events.exact;
   insertions = λ dense. rings.insertions (record { points = insertions-inside r.unit decodes; dense = dense });
 }

@@ -28,7 +28,10 @@ use Rattle.run_course.proofs.Told.{comes-power}
 use Rattle.run_moments.proofs.Reached.{TellsNothing, nothing-told}
 use Rattle.run_events.specs.Gaps.{AreKnownGaps}
 use Rattle.run_events.proofs.Later.{seen-same}
+use Rattle.run_evented.specs.Uses.{notes_in, uses_in}
 use Rattle.run_evented.proofs.Lines.{same-before, early-before}
+use Rattle.run_evented.proofs.Noted.{notes-alike}
+use Rattle.run_evented.proofs.Exact.{no-cut, found-none}
 use Rattle.run_outcome.specs.declared.outcome.Outcome.{Outcome}
 use Rattle.run_keeping.specs.declared.keeper.Moment.{Moment}
 use Rattle.run_keeping.specs.Books.{HaveTime}
@@ -62,21 +65,23 @@ use Rattle.recorder_with_cards.proofs.WokenRinged.{SatThere, sat-both, in-both, 
 use Rattle.recorder_with_cards.proofs.WokenCards.{slot-cards, slot-cut, cut-waking}
 
 -- ---- calls of the unit leave the cards
-pub unit-alone : (o : Origin) (log : RunLog) (gaps : List Event) (seen : List Seen) (U W X Y : State) → CardsShown o log gaps seen (devices U X Y) → CardsShown o log gaps seen (devices W X Y)
-unit-alone o log gaps seen U W X Y h A valid = let one = h A valid in record { uses = one.uses; are = one.are; shows = one.shows }
-unit-alone o log gaps seen U W X Y h B valid = let one = h B valid in record { uses = one.uses; are = one.are; shows = one.shows }
+pub unit-alone : (o : Origin) (done : List TraceSecond) (log : RunLog) (U W X Y : State) → CardsBehind o done log (devices U X Y) → CardsBehind o done log (devices W X Y)
+unit-alone o done log U W X Y h A valid = let one = h A valid in record { uses = one.uses; are = one.are; exact = one.exact; shows = one.shows }
+unit-alone o done log U W X Y h B valid = let one = h B valid in record { uses = one.uses; are = one.are; exact = one.exact; shows = one.shows }
 
 -- ---- WHAT WAS KEPT is found, and changes no event that is sure
 pub learned-cards : (o : Origin) (done : List TraceSecond) (log : RunLog) (i k : ℕ) (d : Devices) → AreInOrder o.from done → AreKnownGaps log (take i log.breaks) (seen_spans (seen_of log done)) → CardsBehind o done log d → CardsBehind o done (found_log i k log) d
 learned-cards o done log i k d order known h c valid =
     let later : RunLog = found_log i k log in
-    let same : seen_of later done ≡ seen_of log done = seen-same log later done (all-before (λ (u : ℕ). SameAt log later u) o.from done order (λ u lt. same-found log i k u)) in
-    let one : CardShown o c later (gap_events as_accepted later done) (seen_of log done ++ []) d =
-    plain-on o c log later (gap_events as_accepted log done) (gap_events as_accepted later done) (seen_of log done) [] d d (h c valid) (still-failed log i k) tt
+    let alike = all-before (λ (u : ℕ). SameAt log later u) o.from done order (λ u lt. same-found log i k u) in
+    let same : seen_of later done ≡ seen_of log done = seen-same log later done alike in
+    let one : CardShown o c later (gap_events as_accepted later done) (seen_of log done ++ []) (uses_in o c (notes_in later done)) d =
+    plain-on o c log later (gap_events as_accepted log done) (gap_events as_accepted later done) (seen_of log done) [] (uses_in o c (notes_in log done)) (uses_in o c (notes_in later done)) d d (h c valid)
+    (λ none. (found-none i k log none, ap (uses_in o c) (notes-alike log later done alike))) (still-failed log i k) tt
     (λ sure. gaps-found c (vehicle_in o) log later (take i log.breaks) done known same (λ u told. sym (kept-found log i k u told)) (still-failed log i k)
     (subst (λ (xs : List Seen). are_sure_on c POWER_INTERRUPTION later xs ≡ true) (append-nil (seen_of log done)) sure))
     (λ z there. there) (still-same (sizes_in o c) (card_of d c)) in
-    subst (λ (xs : List Seen). CardShown o c later (gap_events as_accepted later done) xs d) (append-nil (seen_of log done) ∙ sym same) one
+    subst (λ (xs : List Seen). CardShown o c later (gap_events as_accepted later done) xs (uses_in o c (notes_in later done)) d) (append-nil (seen_of log done) ∙ sym same) one
 
 -- ---- lines that a second told
 pub waking-later : (o : Origin) (done : List TraceSecond) (s : TraceSecond) (at : Phase) (waits : List Visit) (speed : Option ℕ) (rest : List Minute) (v : Values) (d : Devices) (w : Within o done s at waits speed rest v d) (later : RunLog) → TellsHere v.log later s.number → 0 < s.number →
@@ -119,8 +124,8 @@ module _ (o : Origin) (done : List TraceSecond) (s : TraceSecond) (p : Progress)
   waking : CardsWaking o done s p.log (with_cut p.log s []) d
   waking =
       waking-passed o done s p.log p.log (with_cut p.log s []) d d comes.running (λ slot is. cut-torn p.log s.number 0 none.cut (In 0) slot ∙ is) (failed-more p.log (with_cut p.log s []) (cut_at s.number true 0 ∷ [], refl)) (left-itself o d)
-      (waking-begins o done s p.log d h comes.running (λ slot. none.found (In 0) slot))
-      (found-same p.log (with_cut p.log s []) (went p.log done).before s comes.running (λ slot is. cut-torn p.log s.number 0 none.cut (In 0) slot ∙ is) (λ slot. cut-found p.log s.number 0 none.cut (In 0) slot)) (shows-self o d)
+      (waking-begins o done s p.log d h comes.running (λ slot. none.found (In 0) slot) power (λ k slot lt. none.found (In k) slot))
+      (found-same p.log (with_cut p.log s []) (went p.log done).before s comes.running (λ slot is. cut-torn p.log s.number 0 none.cut (In 0) slot ∙ is) (λ slot. cut-found p.log s.number 0 none.cut (In 0) slot)) (λ c failed. no-cut p.log s.number 0 failed) (shows-self o d)
 
   pub unpowered-cards : CardsBehind o (done ++ s ∷ []) (with_cut p.log s []) d
   unpowered-cards = cut-waking o done s p.log (with_cut p.log s []) d later power comes.running (cut-is p.log s.number 0 none.cut) (cut-failed p.log s.number 0 none.cut) waking
@@ -130,7 +135,11 @@ pub wakes-cards : (o : Origin) (done : List TraceSecond) (s : TraceSecond) (b : 
     CardsWaking o done s b.run.log (log_of out) d
 wakes-cards o done s b waits run out d waking log h =
     let off : (went (log_of out) done).before.running ≡ false = ap (λ (l : RunLog). (went l done).before.running) log ∙ waking.waking.starts in
-    subst (λ (l : RunLog). CardsWaking o done s l (log_of out) d) log (waking-begins o done s (log_of out) d h off (λ slot. waking.waking.none slot (in-both slot)))
+    let lit : has_power (went (log_of out) done).before s ≡ true =
+    ap (λ (l : RunLog). has_power (went l done).before s) log ∙ ap (λ (x : Beginning). has_power (went x.run.log done).before s) (sym waking.waking.began)
+    ∙ power-here o done s (In 0) waits None [] (values_of run out) d waking.waking.within in
+    subst (λ (l : RunLog). CardsWaking o done s l (log_of out) d) log
+    (waking-begins o done s (log_of out) d h off (λ slot. waking.waking.none slot (in-both slot)) lit (λ k slot lt. waking.waking.within.moment.up_to.found (In k) slot lt))
 
 -- ---- THE CARD OF A SLOT IS JUDGED: its events go on; or the unit failed in that, and they are as the cut leaves them that is told next
 abbrev pub WakesOn : (failed : Bool) → Origin → List TraceSecond → TraceSecond → (began log : RunLog) → Devices → Type 0
@@ -139,7 +148,7 @@ WakesOn true o done s began log d = CardsBehind o (done ++ s ∷ []) (with_cut l
 
 module _ (o : Origin) (done : List TraceSecond) (s : TraceSecond) (waits fewer : List Visit) (slot : Slot) (card : Card) (old : Run) (before after : Outcome) (d e : Devices) (next : RunNext o done s 0 waits fewer old before d slot card)
     (off : (went next.goes.within.b.run.log done).before.running ≡ false) (first : slot ≡ Driver → found_in (log_of before) s.number (In 0) CoDriver ≡ []) (some : 0 < s.number) (cards : CardsWaking o done s next.goes.within.b.run.log (log_of before) d)
-    (failed : Bool) (j : IsJudgedOnCards failed o s 0 slot card before after d e) where
+    (failed : Bool) (j : IsJudgedOnCards failed o next.goes.within.b.run.log done s 0 slot card before after d e) where
   abbrev began : RunLog
   began = next.goes.within.b.run.log
 

@@ -31,7 +31,10 @@ use Rattle.safety_model.specs.Safe.{Devices, card_of}
 use Rattle.run_outcome.specs.declared.outcome.Outcome.{Outcome}
 use Rattle.run_recorded.specs.Origin.{Origin}
 use Rattle.run_recorded.specs.Beside.{HaveLeftMore}
+use Rattle.run_recorded.specs.Whole.{NothingFailed}
 use Rattle.run_evented.specs.Evented.{images_in}
+use Rattle.run_evented.specs.Uses.{notes_now, uses_in}
+use Rattle.run_evented.proofs.Exact.{fewer-none, no-cut}
 use Rattle.run_ringed.specs.SoFar.{HasMoreBreaks}
 use Rattle.run_ringed.specs.Waking.{NoneFound, IsFoundAnew}
 use Rattle.run_ringed.proofs.SoFar.{left-itself, failed-more}
@@ -87,21 +90,29 @@ anew-by log later u CoDriver vs none own others found = (others, own, found)
 
 module _ (o : Origin) (done : List TraceSecond) (s : TraceSecond) (slot : Slot) (card : Card) (before after : Outcome) (d e : Devices) (began : RunLog) (off : (went began done).before.running ≡ false) (q : Sitting) (sits : in_slot (went began done).before.slots slot ≡ Some q) (card_is : q.card ≡ card)
     (own_none : found_in (log_of before) s.number (In 0) slot ≡ []) (first : slot ≡ Driver → found_in (log_of before) s.number (In 0) CoDriver ≡ []) (uncut_before : cut_in (log_of before) s.number ≡ None) (cards : CardsWaking o done s began (log_of before) d)
-    (failed : Bool) (j : IsJudgedOnCards failed o s 0 slot card before after d e) where
+    (failed : Bool) (j : IsJudgedOnCards failed o began done s 0 slot card before after d e) where
   uncut : cut_in (log_of after) s.number ≡ None
   uncut = j.cut ∙ uncut_before
 
   -- by a log in which the same is found
   in-log : (later : RunLog) → HasMoreBreaks (log_of before) later → ((sl : Slot) → found_in later s.number (In 0) sl ≡ found_in (log_of after) s.number (In 0) sl) → is_torn_in later s.number (In 0) slot ≡ is_torn_in (log_of after) s.number (In 0) slot
-      → (failed ≡ true → has_failed_in later s.number ≡ true) → CardsWaking o done s began later e
-  in-log later more found torn fails =
+      → (NothingFailed later → later ≡ log_of after) → (failed ≡ true → has_failed_in later s.number ≡ true) → CardsWaking o done s began later e
+  in-log later more found torn alike fails =
       waking-judged o done s began (log_of before) later d e off (λ sl is. torn-more (log_of before) later s.number (In 0) sl more is) (failed-more (log_of before) later more) j.left cards slot q sits (found_in (log_of after) s.number (In 0) slot)
       (anew-by (log_of before) later s.number slot (found_in (log_of after) s.number (In 0) slot) first own_none (found (other_slot slot) ∙ j.others) (found slot))
       (λ c valid other. j.beside c valid (ap (λ (k : Card). same_card k c) (sym card_is) ∙ other))
+      (λ c other none.
+      let is : later ≡ log_of after = alike none in (
+        fewer-none (log_of before) later more.0 more.1 none,
+        ap (λ (l : RunLog). uses_in o c (notes_now began done l s)) is ∙ j.still (subst NothingFailed is none) c (ap (λ (k : Card). same_card k c) (sym card_is) ∙ other),
+      ))
       (λ c valid own entered.
       let x : Seen = seen_behind began done s [] later in
       let b = j.own c valid (ap (λ (k : Card). same_card k c) (sym card_is) ∙ own) in (
         b.uses,
+        (λ none.
+        let is : later ≡ log_of after = alike none in
+        (fewer-none (log_of before) later more.0 more.1 none, ap (λ (l : RunLog). uses_in o c (notes_now began done l s)) is ∙ b.exact (subst NothingFailed is none))),
         b.are,
         judged-them (sizes_in o c) (vehicle_in o) c later x failed (is_torn_in (log_of after) s.number (In 0) slot) (accepts s.number (found_in (log_of after) s.number (In 0) slot)) b.uses (card_of d c) (card_of e c) entered fails
             (λ is. torn-sitting later (went began done).before s c slot q off sits own (torn ∙ is))
@@ -110,12 +121,12 @@ module _ (o : Origin) (done : List TraceSecond) (s : TraceSecond) (slot : Slot) 
 
   -- the second goes on, or the cut is told next
   pub slot-cards : failed ≡ false → CardsWaking o done s began (log_of after) e
-  slot-cards well = in-log (log_of after) (here-more (log_of before) (log_of after) s.number j.here) (λ sl. refl) refl (λ fails. absurd (let clash : true ≡ false = sym fails ∙ well in cc))
+  slot-cards well = in-log (log_of after) (here-more (log_of before) (log_of after) s.number j.here) (λ sl. refl) refl (λ none. refl) (λ fails. absurd (let clash : true ≡ false = sym fails ∙ well in cc))
 
   pub slot-cut : CardsWaking o done s began (with_cut (log_of after) s []) e
   slot-cut =
       in-log (with_cut (log_of after) s []) (here-more (log_of before) (with_cut (log_of after) s []) s.number (here-then (log_of before) (log_of after) (with_cut (log_of after) s []) s.number j.here (here-cut (log_of after) s [])))
-      (λ sl. cut-found (log_of after) s.number 0 uncut (In 0) sl) (cut-torn (log_of after) s.number 0 uncut (In 0) slot) (λ fails. cut-failed (log_of after) s.number 0 uncut)
+      (λ sl. cut-found (log_of after) s.number 0 uncut (In 0) sl) (cut-torn (log_of after) s.number 0 uncut (In 0) slot) (λ none. no-cut (log_of after) s.number 0 none) (λ fails. cut-failed (log_of after) s.number 0 uncut)
 
 -- ---- THE UNIT FAILED in that, and power is cut: of the interruption nothing is sure
 
@@ -196,6 +207,6 @@ module _ (o : Origin) (done : List TraceSecond) (s : TraceSecond) (began cut : R
   pub cut-waking : CardsWaking o done s began cut e → CardsBehind o (done ++ s ∷ []) cut e
   cut-waking cards =
       ends-shown o done s began cut l power [] cut e e
-      (gap-noted o done s began cut cut e e off (λ slot is. is) (λ u is. is) (left-itself o e) cards (λ slot. refl)
+      (gap-noted o done s began cut cut e e off (λ slot is. is) (λ u is. is) (left-itself o e) cards (λ slot. refl) (λ c none. (none, refl))
       (λ c valid z there. (z, there, λ kind sure. sym (ap (all_noted (events_in (sizes_in o c) kind z)) (nothing c kind sure)))))
-      (λ u is. is) quiet (left-itself o e) (shows-self o e)
+      (λ c none. (none, refl)) (λ u is. is) quiet (left-itself o e) (shows-self o e)

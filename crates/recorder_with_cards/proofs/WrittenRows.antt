@@ -2,7 +2,7 @@
 use Rattle.std.proofs.Common.{◌≡◌, ◌+◌, ◌*◌, ℕ, List, [], ◌∷◌, Option, Some, None, refl}
 use Rattle.activity_codec.specs.declared.values.Activity.TheVariants.{Work}
 use Rattle.activity_codec.specs.declared.entries.Entry.{Entry}
-use Rattle.card_records.specs.declared.vehicle.Vehicle.{Vehicle}
+use Rattle.card_session.specs.Vehicles.{Vehicles}
 use Rattle.card_session.specs.Books.{Book}
 use Rattle.card_session.proofs.Rows.{midnight, day, this_vehicle, using, work}
 use Rattle.card_steps.specs.Deeds.{EntryKept, Keep, Close, Step, Done, MadeBy, kept_in}
@@ -15,14 +15,14 @@ keep odometer km minute = Done (Keep (record { entry = work minute; registration
 abbrev steps : List Step
 steps = keep 100 0 600 ∷ keep 101 1 601 ∷ keep 103 2 603 ∷ Done (Close Work) ∷ []
 
-abbrev written : (km : ℕ) → List ℕ → Option Vehicle → Book
-written km words vehicle = record { days = day km words ∷ []; vehicle = vehicle }
+abbrev written : (km : ℕ) → List ℕ → Vehicles → Book
+written km words vehicles = record { days = day km words ∷ []; vehicles = vehicles }
 
 entries : kept_in steps ≡ work 600 ∷ work 601 ∷ work 603 ∷ []
 entries = refl
 
--- the day has 3 km and five words, the last of which closes; the vehicle was used from 10:00 to 10:04, over 3 km
-made : MadeBy 5544 steps (record { days = []; vehicle = None }) (written 3 (0x2000 ∷ 0x1258 ∷ 0x225A ∷ 0x125B ∷ 0x325C ∷ []) (using 103 604))
+-- the day has 3 km and five words, the last of which closes; the vehicle was used from 10:00 to 10:04, over 3 km, in one entry (of a ring of two)
+made : MadeBy 5544 steps (record { days = []; vehicles = record { newest = None; ring = None ∷ None ∷ [] } }) (written 3 (0x2000 ∷ 0x1258 ∷ 0x225A ∷ 0x125B ∷ 0x325C ∷ []) (using 103 604))
 made = (
   written 0 (0x2000 ∷ 0x1258 ∷ []) (using 100 600),
   refl,

@@ -150,7 +150,7 @@ pub record AreOfRun (r : Recording) (vehicle : Registration) (spans : List SpanF
   pub vehicle_is : vehicle.0 ≡ registration_in r.unit
   pub spans_are : AreSpansFrom r.rule r.log (told_of r) (stored_odometer r.unit) (last_kept r.unit) spans
 
--- THE DAYS WITH WORDS, CLOSING WORDS AND DISTANCES, AND THE NEWEST VEHICLE ENTRY of each image of an accepted card are what these make of the
+-- THE DAYS WITH WORDS, CLOSING WORDS AND DISTANCES, AND THE VEHICLE ENTRIES of each image of an accepted card are what these make of the
 -- start's.
 pub record HasAllDue (r : Recording) (now : Devices) : Type 0 where
   pub vehicle : Registration

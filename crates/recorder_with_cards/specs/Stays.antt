@@ -16,7 +16,7 @@ use Rattle.run_acts.specs.Stays.{Stay, start_shown, AreTimely, registration_in, 
 
 -- THE STAYS OF A RUN's cards, in the vehicle that the unit's image says. THE ACCEPTANCES that the log tells, each in its order, are those of the one
 -- card's stays and of the other's, and so many entries were owed as they tell. Only a card that was valid has some. EACH IMAGE that a stop may leave of it has exactly those days, with their
--- words and distances, and that newest vehicle entry, that they make of its image at the start: in each it was inserted, kept its minutes, each
+-- words and distances, and those vehicle entries, all of them, that they make of its image at the start: in each it was inserted, kept its minutes, each
 -- with so many km as the odometer has grown since the one before, and was withdrawn with an activity, or was not; and a session that was left
 -- open was cut at its end mark, and got the entries that the card lacked, as the next stay began. THEY ARE EXACTLY THE INSERTIONS of the card that
 -- the run notes, each of that second and slot, in their order; and those were withdrawn of which the run notes a withdrawal, and no other. EACH BEGAN IN TIME: in a

@@ -1,4 +1,4 @@
--- What a run leaves on a card beside its entries (profile): the words and the distances of its days, and its newest vehicle entry.
+-- What a run leaves on a card beside its entries (profile): the words and the distances of its days, and its vehicle entries.
 use Rattle.std.specs.Prelude.{ℕ, List}
 use Rattle.trace_model.specs.declared.Card.{Card}
 use Rattle.card_image.specs.Own.{own_sizes, IsOwnValid}
@@ -8,7 +8,7 @@ use Rattle.safety_model.specs.Cards.{CardShows}
 use Rattle.safety_model.specs.Safe.{Devices, card_of}
 
 -- AN IMAGE OF A CARD shows its entries at the start and some of the others that are expected, from their front; and its days, with their
--- words and distances, and its newest vehicle entry are those that the keeps of just these others, one after another, make of the start's.
+-- words and distances, and its vehicle entries are those that the keeps of just these others, one after another, make of the start's.
 pub record IsWritten (r : Recording) (c : Card) (x : List ℕ) : Type 0 where
   pub shows : CardShows r c x
   pub made : IsMade (own_sizes (card_image r c)) (card_image r c) shows.more x

@@ -14,6 +14,8 @@ use Rattle.run_keeping.specs.declared.keeper.Moment.{Moment}
 use Rattle.run_keeping.specs.Keeping.{with_lines}
 use Rattle.run_recorded.specs.Origin.{Origin}
 use Rattle.run_recorded.specs.Beside.{HaveLeftMore}
+use Rattle.run_recorded.specs.Whole.{NothingFailed}
+use Rattle.run_evented.proofs.Exact.{no-cut}
 use Rattle.run_ringed.proofs.SoFar.{failed-more}
 use Rattle.run_acts.specs.declared.run.Run.{Run}
 use Rattle.run_acts.specs.Acting.{IsSettled, IsClosed, Closing, Bare, Closed, Fell, closed_breaks, noted_breaks, left_run, told_of}
@@ -25,6 +27,7 @@ use Rattle.run_acts.specs.RunCards.{CardsIn, StillShow, CardsGoOn, CardsPlace}
 use Rattle.run_acts.proofs.CardCourse.{PutsNone}
 use Rattle.run_acts.proofs.CardSecond.{quiet-shown, quiet-action}
 use Rattle.run_acts.proofs.CardStays.{place-still}
+use Rattle.run_acts.proofs.CardUses.{tears-none, lines-still}
 use Rattle.run_acts.proofs.RingedLines.{AreTears, TellsTears, tears-both, up-to-tells}
 use Rattle.run_acts.proofs.RingedSecond.{goes-to, is-cut, more-left}
 use Rattle.run_acts.proofs.RingedPlace.{noted-tears}
@@ -37,11 +40,13 @@ pub quiet-goes : (o : Origin) (done : List TraceSecond) (s : TraceSecond) (front
     CardsIn o done s w.within.b.run.log front (log_of out) d → (failed : Bool) → CardsGoOn failed o done s w.within.b.run.log (front ++ a ∷ []) later e
 quiet-goes o done s front rest a are run out d e w puts lines later is tears left still cards false =
     let g = goes-to o done s front rest a are (values_of run out) d w.within lines later is tears in
-    quiet-shown o done s w.within.b.run.log front (front ++ a ∷ []) (log_of out) later d e cards (failed-more (log_of out) later g.lines) (quiet-action o done s w.within.b.run.log front a (log_of out) later g.same (inr (inr puts))) left still
+    quiet-shown o done s w.within.b.run.log front (front ++ a ∷ []) (log_of out) later d e cards
+    (lines-still o w.within.b.run.log done s (log_of out) later lines is (λ none. tears-none (record { second = s.number; begun = suc (length front); late = false }) lines (log_of out) tears (subst NothingFailed is none)))
+    (failed-more (log_of out) later g.lines) (quiet-action o done s w.within.b.run.log front a (log_of out) later g.same (inr (inr puts))) left still
 quiet-goes o done s front rest a are run out d e w puts lines later is tears left still cards true =
     let g = (is-cut o done s front rest a are (values_of run out) d w.within lines later is tears).goes in
     let cut : RunLog = with_cut later s (front ++ a ∷ []) in
-    quiet-shown o done s w.within.b.run.log front (front ++ a ∷ []) (log_of out) cut d e cards (failed-more (log_of out) cut g.lines) (quiet-action o done s w.within.b.run.log front a (log_of out) cut g.same (inr (inr puts))) left still
+    quiet-shown o done s w.within.b.run.log front (front ++ a ∷ []) (log_of out) cut d e cards (λ c none. no-cut later s.number (length (front ++ a ∷ [])) none) (failed-more (log_of out) cut g.lines) (quiet-action o done s w.within.b.run.log front a (log_of out) cut g.same (inr (inr puts))) left still
 
 -- ---- a place
 

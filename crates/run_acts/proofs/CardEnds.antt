@@ -19,7 +19,8 @@ use Rattle.log_model.specs.Same.{SameAt}
 use Rattle.log_model.specs.Course.{Course, Visit, Before, Told, Went, begins, both_told, unmoved, fresh, all_acted, acted, cut_told, lit_course, dark_course, second_told, has_power, went}
 use Rattle.event_model.specs.declared.kinds.TheConstants.{POWER_INTERRUPTION}
 use Rattle.event_model.specs.Events.{Event, Seen, number_of, seen_of, seen_spans, seen_by, gap_events, gaps_between, last_number, accepted_at, first_card}
-use Rattle.side_model.specs.Done.{course_powered}
+use Rattle.side_model.specs.Done.{course_powered, done_by}
+use Rattle.side_model.specs.Noted.{Note, noted_in}
 use Rattle.safety_model.specs.Recording.{card_image}
 use Rattle.safety_model.specs.Safe.{Devices, card_of}
 use Rattle.run_course.proofs.Told.{lit-told, dark-told}
@@ -28,17 +29,22 @@ use Rattle.run_events.specs.Choice.{AreEarlier}
 use Rattle.run_events.proofs.Growing.{seen-more}
 use Rattle.run_events.proofs.Later.{told-number, seen-same}
 use Rattle.run_evented.proofs.Brought.{lit-course, told-speed}
-use Rattle.run_rings.specs.Notes.{TellSameTo, course_behind}
+use Rattle.run_rings.specs.Notes.{notes_to, TellSameTo, course_behind, sits_accepted}
+use Rattle.run_rings.proofs.Actions.{power-notes}
 use Rattle.run_recorded.specs.Origin.{Origin}
 use Rattle.run_recorded.specs.Beside.{HaveLeftMore}
 use Rattle.run_evented.specs.Evented.{images_in}
+use Rattle.run_evented.specs.Uses.{notes_in, noted_next, notes_now, uses_in}
+use Rattle.run_evented.proofs.Noted.{second-notes}
+use Rattle.run_evented.proofs.Exact.{fewer-none, next-notes, idle-notes, dark-notes}
 use Rattle.run_ringed.specs.SoFar.{GoesBehind}
 use Rattle.run_ringed.proofs.SoFar.{failed-more}
 use Rattle.run_acts.specs.OnCards.{as_accepted, accepted_in, accepted_on, gaps_on, enters, falls, are_sure_on, StillShows}
 use Rattle.run_acts.specs.RunCards.{vehicle_in, sizes_in, CardShown, CardsShown, CardsBehind, so_far, seen_behind, gap_behind, CardsIn, CardsWaking, StillShow}
 use Rattle.run_acts.proofs.OnCards.{gaps-next, gaps-append, still-same}
 use Rattle.run_acts.proofs.CardCourse.{Finding, findings, IsQuiet, quiet-same, quiet-then, both-quiet, behind-same, cut-quiet, acted-append, powered-quiet, powered-as, IsPowered, sitting_at}
-use Rattle.run_acts.proofs.CardShown.{KeepsFailed, Follows, goes-on, plain-on}
+use Rattle.run_acts.proofs.CardShown.{FindsStill, KeepsFailed, Follows, goes-on, plain-on}
+use Rattle.run_acts.proofs.CardUses.{FoundTo, none-sits, uses-to}
 use Rattle.run_acts.proofs.CardSecond.{is_now, any-more, standing-is}
 use Rattle.run_acts.proofs.CardGaps.{kept-before, between-same, before-same, low-spans}
 
@@ -71,20 +77,35 @@ module _ (o : Origin) (done : List TraceSecond) (s : TraceSecond) (log : RunLog)
   abbrev begun : Seen
   begun = seen_behind log done s [] log
 
+  -- no log tells of a find in it yet, so it finds no use
+  begins-still : has_power (went log done).before s ≡ true → FoundTo log s.number 0 → notes_to log (went log done).before s [] ≡ [] → (c : Card) → FindsStill log log (uses_in o c (notes_in log done)) (uses_in o c (notes_now log done log s))
+  begins-still power told none c failed = (
+    failed,
+    uses-to o log done s power c log [] s.actions refl told ∙ ap (λ (l : List Note). uses_in o c (notes_in log done ++ l)) none ∙ ap (uses_in o c) (append-nil (notes_in log done)),
+  )
+
   -- in a span that goes on
-  pub second-begins : CardsBehind o done log d → (went log done).before.running ≡ true → CardsIn o done s log [] log d
-  second-begins h on c valid =
-      plain-on o c log log (gap_events as_accepted log done) (gap_events as_accepted log done ++ gap_behind log done s [] log) (seen_of log done) (seen_behind log done s [] log ∷ []) d d (h c valid) (λ u is. is)
+  pub second-begins : CardsBehind o done log d → (went log done).before.running ≡ true → has_power (went log done).before s ≡ true → FoundTo log s.number 0 → CardsIn o done s log [] log d
+  second-begins h on power told c valid =
+      plain-on o c log log (gap_events as_accepted log done) (gap_events as_accepted log done ++ gap_behind log done s [] log) (seen_of log done) (seen_behind log done s [] log ∷ [])
+      (uses_in o c (notes_in log done)) (uses_in o c (notes_now log done log s)) d d (h c valid) (begins-still power told ((power-notes log was s).1 on) c) (λ u is. is)
       (plain-found c (seen_behind log done s [] log) (powered-quiet log was s on).found, tt)
       (λ sure. no-more c (vehicle_in o) (gap_events as_accepted log done) (gap_behind log done s [] log) (gap-off log (seen_spans (seen_of log done)) (seen_behind log done s [] log) (inr (ap not on))))
       (λ z there. there) (still-same (sizes_in o c) (card_of d c))
 
   -- power begins with it, and no card was looked at yet
-  pub waking-begins : CardsBehind o done log d → (went log done).before.running ≡ false → ((slot : Slot) → found_in log s.number (In 0) slot ≡ []) → CardsWaking o done s log log d
-  waking-begins h off none c valid =
-      plain-on o c log log (gap_events as_accepted log done) (gap_events as_accepted log done) (seen_of log done) (seen_behind log done s [] log ∷ []) d d (h c valid) (λ u is. is)
+  pub waking-begins : CardsBehind o done log d → (went log done).before.running ≡ false → ((slot : Slot) → found_in log s.number (In 0) slot ≡ []) → has_power (went log done).before s ≡ true → FoundTo log s.number 0 → CardsWaking o done s log log d
+  waking-begins h off none power told c valid =
+      plain-on o c log log (gap_events as_accepted log done) (gap_events as_accepted log done) (seen_of log done) (seen_behind log done s [] log ∷ [])
+      (uses_in o c (notes_in log done)) (uses_in o c (notes_now log done log s)) d d (h c valid) (begins-still power told nothing c) (λ u is. is)
       (plain-found c (seen_behind log done s [] log) found, tt) (λ sure. refl) (λ z there. there) (still-same (sizes_in o c) (card_of d c))
     where
+      nothing : notes_to log (went log done).before s [] ≡ []
+      nothing =
+          (power-notes log (went log done).before s).0 off
+          ∙ (λ i. sits_accepted s.number Driver (went log done).before.slots.driver (none Driver i) ++ sits_accepted s.number CoDriver (went log done).before.slots.codriver (none CoDriver i))
+          ∙ (λ i. none-sits s.number Driver (went log done).before.slots.driver i ++ none-sits s.number CoDriver (went log done).before.slots.codriver i)
+
       found : (course_powered log was s).found ≡ []
       found =
           (powered-as log was s off).found
@@ -140,13 +161,18 @@ module _ (o : Origin) (done : List TraceSecond) (s : TraceSecond) (began later :
   low : AllByRecursion (λ (span : List Seen). last_number span < s.number) (seen_spans (seen_of began done))
   low = low-spans s.number l.some (seen_of began done) l.early
 
+  -- its notes are those of before, with its own
+  ended-notes : notes_in later (done ++ s ∷ []) ≡ notes_now began done later s
+  ended-notes = second-notes began later done s l.behind.same ∙ ap (λ (w : Went). notes_in began done ++ noted_in later (done_by later w.before s)) l.behind.went_is
+
   -- behind these actions, which are all that were carried out
-  pub ends-shown : (front : List Action) (log : RunLog) (d e : Devices) → CardsIn o done s began front log d → KeepsFailed log later
+  pub ends-shown : (front : List Action) (log : RunLog) (d e : Devices) → CardsIn o done s began front log d → ((c : Card) → FindsStill log later (uses_in o c (notes_now began done log s)) (uses_in o c (notes_now began done later s))) → KeepsFailed log later
       → IsQuiet (course_behind log (went began done).before s front) (lit_course later s (not (went began done).before.running) (went began done).before.slots) → HaveLeftMore o d e → StillShow o d e → CardsBehind o (done ++ s ∷ []) later e
-  ends-shown front log d e h keeps q left still c valid =
-      subst (λ (xs : List Seen). CardShown o c later (gap_events as_accepted later (done ++ s ∷ [])) xs e) (sym (seen-more later done s ∙ ap (λ (xs : List Seen). xs ++ x ∷ []) seen-is))
-      (goes-on o c log later (gap_events as_accepted began done ++ gap_behind began done s front log) (gap_events as_accepted later (done ++ s ∷ [])) (seen_of began done) (seen_behind began done s front log) (seen_next later done s) d e
-      (h c valid) keeps follows accepted (ap (gaps_on c (vehicle_in o)) gaps) (left.card c) (still c valid))
+  ends-shown front log d e h finds keeps q left still c valid =
+      subst (λ (xs : List Seen). CardShown o c later (gap_events as_accepted later (done ++ s ∷ [])) xs (uses_in o c (notes_in later (done ++ s ∷ []))) e) (sym (seen-more later done s ∙ ap (λ (xs : List Seen). xs ++ x ∷ []) seen-is))
+      (goes-on o c log later (gap_events as_accepted began done ++ gap_behind began done s front log) (gap_events as_accepted later (done ++ s ∷ [])) (seen_of began done) (seen_behind began done s front log) (seen_next later done s)
+      (uses_in o c (notes_now began done log s)) (uses_in o c (notes_in later (done ++ s ∷ []))) d e
+      (h c valid) (λ none. let told = finds c none in (told.0, ap (uses_in o c) ended-notes ∙ told.1)) keeps follows accepted (ap (gaps_on c (vehicle_in o)) gaps) (left.card c) (still c valid))
     where
       k : Course
       k = course_behind log (went began done).before s front
@@ -226,10 +252,21 @@ plain-next log done s (inr goes) = (
   inr ((lit-told log (went log done).before s goes.0).starts ∙ ap not goes.1),
 )
 
+-- it notes nothing
+plain-notes : (log : RunLog) (done : List TraceSecond) (s : TraceSecond) → IsPlainNext log done s → noted_next log done s ≡ []
+plain-notes log done s (inl off) = dark-notes log (went log done).before s off
+plain-notes log done s (inr goes) = idle-notes log (went log done).before s goes.2 (plain-next log done s (inr goes)).0
+
 pub plain-second : (o : Origin) (done : List TraceSecond) (s : TraceSecond) (log later : RunLog) (d : Devices) → IsLater log later done s.number → IsPlainNext later done s → CardsBehind o done log d → CardsBehind o (done ++ s ∷ []) later d
 plain-second o done s log later d l plain h c valid =
-    subst (λ (xs : List Seen). CardShown o c later (gap_events as_accepted later (done ++ s ∷ [])) xs d) (sym (seen-more later done s ∙ ap (λ (xs : List Seen). xs ++ seen_next later done s ∷ []) same))
-    (plain-on o c log later (gap_events as_accepted log done) (gap_events as_accepted later (done ++ s ∷ [])) (seen_of log done) (seen_next later done s ∷ []) d d (h c valid) (failed-more log later (l.more, l.breaks))
+    subst (λ (xs : List Seen). CardShown o c later (gap_events as_accepted later (done ++ s ∷ [])) xs (uses_in o c (notes_in later (done ++ s ∷ []))) d) (sym (seen-more later done s ∙ ap (λ (xs : List Seen). xs ++ seen_next later done s ∷ []) same))
+    (plain-on o c log later (gap_events as_accepted log done) (gap_events as_accepted later (done ++ s ∷ [])) (seen_of log done) (seen_next later done s ∷ [])
+    (uses_in o c (notes_in log done)) (uses_in o c (notes_in later (done ++ s ∷ []))) d d (h c valid)
+    (λ none. (
+      fewer-none log later l.more l.breaks none,
+      ap (uses_in o c) (second-notes log later done s l.behind.same ∙ ap (λ (ns : List Note). notes_in log done ++ ns) (plain-notes later done s plain) ∙ append-nil (notes_in log done)),
+    ))
+    (failed-more log later (l.more, l.breaks))
     (plain-found c (seen_next later done s) is.0, tt) (λ sure. ap (gaps_on c (vehicle_in o)) gaps) (λ z there. there) (still-same (sizes_in o c) (card_of d c)))
   where
     is : ((seen_next later done s).told.course.found ≡ []) × (((seen_next later done s).told.lit ≡ false) ⊎ ((seen_next later done s).told.starts ≡ false))
@@ -252,6 +289,9 @@ plain-same o done s log d plain h c valid =
     let is = plain-next log done s plain in
     let gaps : gap_events as_accepted log (done ++ s ∷ []) ≡ gap_events as_accepted log done =
     gaps-next log done s ∙ ap (λ (es : List Event). gap_events as_accepted log done ++ es) (gap-off log (seen_spans (seen_of log done)) (seen_next log done s) is.1) ∙ append-nil (gap_events as_accepted log done) in
-    subst (λ (xs : List Seen). CardShown o c log (gap_events as_accepted log (done ++ s ∷ [])) xs d) (sym (seen-more log done s))
-    (plain-on o c log log (gap_events as_accepted log done) (gap_events as_accepted log (done ++ s ∷ [])) (seen_of log done) (seen_next log done s ∷ []) d d (h c valid) (λ u is. is)
+    subst (λ (xs : List Seen). CardShown o c log (gap_events as_accepted log (done ++ s ∷ [])) xs (uses_in o c (notes_in log (done ++ s ∷ []))) d) (sym (seen-more log done s))
+    (plain-on o c log log (gap_events as_accepted log done) (gap_events as_accepted log (done ++ s ∷ [])) (seen_of log done) (seen_next log done s ∷ [])
+    (uses_in o c (notes_in log done)) (uses_in o c (notes_in log (done ++ s ∷ []))) d d (h c valid)
+    (λ none. (none, ap (uses_in o c) (next-notes log done s ∙ ap (λ (ns : List Note). notes_in log done ++ ns) (plain-notes log done s plain) ∙ append-nil (notes_in log done))))
+    (λ u is. is)
     (plain-found c (seen_next log done s) is.0, tt) (λ sure. ap (gaps_on c (vehicle_in o)) gaps) (λ z there. there) (still-same (sizes_in o c) (card_of d c)))

@@ -26,6 +26,7 @@ use Rattle.safety_model.specs.Recording.{card_image}
 use Rattle.safety_model.specs.Safe.{Devices, card_of}
 use Rattle.run_events.specs.Seconds.{gap_by, gap_before, seen_next}
 use Rattle.run_evented.specs.Evented.{images_in}
+use Rattle.run_evented.specs.Uses.{notes_now, uses_in}
 use Rattle.run_evented.proofs.Bringing.{before-as}
 use Rattle.run_rings.specs.Notes.{TellSameTo, course_behind}
 use Rattle.run_recorded.specs.Origin.{Origin}
@@ -34,7 +35,7 @@ use Rattle.run_acts.specs.OnCards.{as_accepted, accepted_in, accepted_on, unclos
 use Rattle.run_acts.specs.RunCards.{vehicle_in, sizes_in, CardShown, CardsShown, CardsBehind, so_far, seen_behind, gap_behind, CardsIn, CardsWaking, StillShow}
 use Rattle.run_acts.proofs.OnCards.{flat-one, gaps-append}
 use Rattle.run_acts.proofs.CardCourse.{Finding, findings, IsQuiet, IsPutIn, quiet-same, quiet-then, both-quiet, acted-quiet, acted-puts, behind-more, behind-same, cut-quiet, powered-quiet, PutsNone}
-use Rattle.run_acts.proofs.CardShown.{KeepsFailed, Follows, card-more, goes-on, sure-on, sure-last, moved-same}
+use Rattle.run_acts.proofs.CardShown.{FindsUses, FindsStill, KeepsFailed, Follows, card-more, goes-on, sure-on, sure-last, moved-same}
 
 -- ---- lists
 
@@ -145,13 +146,13 @@ movings-append c own speed us vs = by (nat_lt 0 speed) us
     by false xs = refl
 
 -- THE SECOND GOES ON, and this is found of the card
-pub judged-on : (o : Origin) (c : Card) (log later : RunLog) (gaps now : List Event) (front : List Seen) (x y : Seen) (d e : Devices) → CardShown o c log gaps (front ++ x ∷ []) d → KeepsFailed log later → Follows c x y
+pub judged-on : (o : Origin) (c : Card) (log later : RunLog) (gaps now : List Event) (front : List Seen) (x y : Seen) (was found : List CurrentUse) (d e : Devices) → CardShown o c log gaps (front ++ x ∷ []) was d → KeepsFailed log later → Follows c x y
     → (us : List ℕ) → accepted_in c y ≡ accepted_in c x ++ us → gaps_on c (vehicle_in o) now ≡ gaps_on c (vehicle_in o) gaps → ((z : List ℕ) → images_in o d c z → images_in o e c z)
-    → (more : List CurrentUse) → AreUses (images_in o e c) more us
+    → (more : List CurrentUse) → FindsUses log later was more found → AreUses (images_in o e c) more us
     → NotesThem (sizes_in o c) (λ kind. is_sure_in c kind later y) (λ kind. events_by kind [] (movings c (vehicle_in o) y.told.second.speed us) (unclosed_by more us)) (card_of d c) (card_of e c)
-    → CardShown o c later now (front ++ y ∷ []) e
-judged-on o c log later gaps now front x y d e h keeps f us accepted gap left more are notes =
-    card-more o c log later gaps now (front ++ x ∷ []) (front ++ y ∷ []) d e [] (movings c (vehicle_in o) y.told.second.speed us) us more h (
+    → CardShown o c later now (front ++ y ∷ []) found e
+judged-on o c log later gaps now front x y was found d e h keeps f us accepted gap left more finds are notes =
+    card-more o c log later gaps now (front ++ x ∷ []) (front ++ y ∷ []) was found d e [] (movings c (vehicle_in o) y.told.second.speed us) us more h finds (
       flat-one (accepted_in c) front y ∙ ap (λ (ns : List ℕ). accepted_on c front ++ ns) accepted ∙ sym (append_assoc (accepted_on c front) (accepted_in c x) us) ∙ ap (λ (ns : List ℕ). ns ++ us) (sym (flat-one (accepted_in c) front x)),
       flat-one (moved_in c (vehicle_in o)) front y ∙ ap (λ (es : List CardEvent). flat_map (moved_in c (vehicle_in o)) front ++ es) moved
           ∙ sym (append_assoc (flat_map (moved_in c (vehicle_in o)) front) (moved_in c (vehicle_in o) x) (movings c (vehicle_in o) y.told.second.speed us))
@@ -176,11 +177,12 @@ module _ (o : Origin) (done : List TraceSecond) (s : TraceSecond) (began : RunLo
   spans = seen_spans (seen_of began done)
 
   -- AN ACTION of which nothing is found, or lines alone
-  pub quiet-shown : (front back : List Action) (log later : RunLog) (d e : Devices) → CardsIn o done s began front log d → KeepsFailed log later → IsQuiet (course_behind log (went began done).before s front) (course_behind later (went began done).before s back)
+  pub quiet-shown : (front back : List Action) (log later : RunLog) (d e : Devices) → CardsIn o done s began front log d → ((c : Card) → FindsStill log later (uses_in o c (notes_now began done log s)) (uses_in o c (notes_now began done later s))) → KeepsFailed log later → IsQuiet (course_behind log (went began done).before s front) (course_behind later (went began done).before s back)
       → HaveLeftMore o d e → StillShow o d e → CardsIn o done s began back later e
-  quiet-shown front back log later d e h keeps q left still c valid =
-      goes-on o c log later (gap_events as_accepted began done ++ gap_behind began done s front log) (gap_events as_accepted began done ++ gap_behind began done s back later) (seen_of began done) (seen_behind began done s front log) (seen_behind began done s back later) d e
-      (h c valid) keeps (follows-quiet was s c (course_behind log was s front) (course_behind later was s back) q) (accepted-quiet was s c (course_behind log was s front) (course_behind later was s back) q)
+  quiet-shown front back log later d e h finds keeps q left still c valid =
+      goes-on o c log later (gap_events as_accepted began done ++ gap_behind began done s front log) (gap_events as_accepted began done ++ gap_behind began done s back later) (seen_of began done) (seen_behind began done s front log) (seen_behind began done s back later)
+      (uses_in o c (notes_now began done log s)) (uses_in o c (notes_now began done later s)) d e
+      (h c valid) (finds c) keeps (follows-quiet was s c (course_behind log was s front) (course_behind later was s back) q) (accepted-quiet was s c (course_behind log was s front) (course_behind later was s back) q)
       (ap (λ (es : List Event). gaps_on c (vehicle_in o) (gap_events as_accepted began done ++ es)) (gap-quiet was s began spans (course_behind log was s front) (course_behind later was s back) q))
       (left.card c) (still c valid)
 
@@ -196,12 +198,14 @@ module _ (o : Origin) (done : List TraceSecond) (s : TraceSecond) (began : RunLo
   pub put-shown : (front : List Action) (slot : Slot) (card : Card) (log later : RunLog) (d e : Devices) → CardsIn o done s began front log d → KeepsFailed log later → TellSameTo log later s.number (length front) → begins (cut_in later s.number) (length front) ≡ true
       → refusal (course_behind later (went began done).before s front).slots s.speed (Insert slot card) ≡ None → HaveLeftMore o d e
       → ((c : Card) → IsOwnValid (card_image o.recording c) → same_card card c ≡ false → StillShows (sizes_in o c) (card_of d c) (card_of e c))
+      → ((c : Card) → same_card card c ≡ false → FindsStill log later (uses_in o c (notes_now began done log s)) (uses_in o c (notes_now began done later s)))
       → ((c : Card) → IsOwnValid (card_image o.recording c) → same_card card c ≡ true → enters c (seen_behind began done s (front ++ Insert slot card ∷ []) later) ≡ true →
-      (more : List CurrentUse) × AreUses (images_in o e c) more (accepts s.number (found_in later s.number (In (length front + 1)) slot))
+      (more : List CurrentUse) × FindsUses log later (uses_in o c (notes_now began done log s)) more (uses_in o c (notes_now began done later s))
+      × AreUses (images_in o e c) more (accepts s.number (found_in later s.number (In (length front + 1)) slot))
       × NotesThem (sizes_in o c) (λ kind. is_sure_in c kind later (seen_behind began done s (front ++ Insert slot card ∷ []) later))
       (λ kind. events_by kind [] (movings c (vehicle_in o) s.speed (accepts s.number (found_in later s.number (In (length front + 1)) slot))) (unclosed_by more (accepts s.number (found_in later s.number (In (length front + 1)) slot)))) (card_of d c) (card_of e c))
       → CardsIn o done s began (front ++ Insert slot card ∷ []) later e
-  put-shown front slot card log later d e h keeps same begun allowed left others mine c valid = by (same_card card c) refl
+  put-shown front slot card log later d e h keeps same begun allowed left others finds mine c valid = by (same_card card c) refl
     where
       v : Visit
       v = record { phase = In (length front + 1); slot = slot; card = card }
@@ -234,10 +238,11 @@ module _ (o : Origin) (done : List TraceSecond) (s : TraceSecond) (began : RunLo
           ap (flat_map (λ (f : Finding). cond (same_card f.0.card c && is_accepting f.1) (s.number ∷ []) [])) put.found
           ∙ flat-append (λ (f : Finding). cond (same_card f.0.card c && is_accepting f.1) (s.number ∷ []) []) (course_behind log was s front).found (map (λ (w : Verdict). (record { phase = In (length front + 1); slot = slot; card = card }, w)) (found_in later s.number (In (length front + 1)) slot))
 
-      by : (b : Bool) → same_card card c ≡ b → CardShown o c later (gap_events as_accepted began done ++ gap_behind began done s (front ++ Insert slot card ∷ []) later) (seen_of began done ++ seen_behind began done s (front ++ Insert slot card ∷ []) later ∷ []) e
+      by : (b : Bool) → same_card card c ≡ b →
+          CardShown o c later (gap_events as_accepted began done ++ gap_behind began done s (front ++ Insert slot card ∷ []) later) (seen_of began done ++ seen_behind began done s (front ++ Insert slot card ∷ []) later ∷ []) (uses_in o c (notes_now began done later s)) e
       by false other =
           goes-on o c log later (gap_events as_accepted began done ++ gap_behind began done s front log) (gap_events as_accepted began done ++ gap_behind began done s (front ++ Insert slot card ∷ []) later) (seen_of began done) (seen_behind began done s front log)
-          (seen_behind began done s (front ++ Insert slot card ∷ []) later) d e (h c valid) keeps follows
+          (seen_behind began done s (front ++ Insert slot card ∷ []) later) (uses_in o c (notes_now began done log s)) (uses_in o c (notes_now began done later s)) d e (h c valid) (finds c other) keeps follows
           (found ∙ ap (λ (us : List ℕ). accepted_in c (seen_behind began done s front log) ++ us) (accepted-other c s.number (record { phase = In (length front + 1); slot = slot; card = card }) (found_in later s.number (In (length front + 1)) slot) other)
           ∙ append-nil (accepted_in c (seen_behind began done s front log)))
           gap (left.card c) (others c valid other)
@@ -245,6 +250,6 @@ module _ (o : Origin) (done : List TraceSecond) (s : TraceSecond) (began : RunLo
           let enters_ = enters-put was s c (record { phase = In (length front + 1); slot = slot; card = card }) (found_in later s.number (In (length front + 1)) slot) (course_behind log was s front) (course_behind later was s (front ++ Insert slot card ∷ [])) put own in
           let got = mine c valid own enters_ in
           judged-on o c log later (gap_events as_accepted began done ++ gap_behind began done s front log) (gap_events as_accepted began done ++ gap_behind began done s (front ++ Insert slot card ∷ []) later) (seen_of began done) (seen_behind began done s front log)
-          (seen_behind began done s (front ++ Insert slot card ∷ []) later) d e (h c valid) keeps follows (accepts s.number (found_in later s.number (In (length front + 1)) slot))
+          (seen_behind began done s (front ++ Insert slot card ∷ []) later) (uses_in o c (notes_now began done log s)) (uses_in o c (notes_now began done later s)) d e (h c valid) keeps follows (accepts s.number (found_in later s.number (In (length front + 1)) slot))
           (found ∙ ap (λ (us : List ℕ). accepted_in c (seen_behind began done s front log) ++ us) (accepted-mine c s.number (record { phase = In (length front + 1); slot = slot; card = card }) (found_in later s.number (In (length front + 1)) slot) own))
-          gap (left.card c) got.0 got.1 got.2
+          gap (left.card c) got.0 got.1 got.2 got.3

@@ -18,13 +18,24 @@ use Rattle.safety_model.specs.Recording.{card_image}
 use Rattle.safety_model.specs.Safe.{Devices, card_of}
 use Rattle.run_evented.specs.Evented.{images_in}
 use Rattle.run_recorded.specs.Origin.{Origin}
+use Rattle.run_recorded.specs.Whole.{NothingFailed}
 use Rattle.run_entering.specs.CardEvents.{events_in, all_noted}
 use Rattle.run_acts.specs.OnCards.{unclosed_by, events_by, accepted_in, accepted_on, moving_at, moved_in, gaps_on, enters, falls, may_note, is_clear, is_sure_in, are_sure_on, NotesThem, StillShows, AreUses}
 use Rattle.run_acts.specs.RunCards.{vehicle_in, sizes_in, CardShown, CardsShown}
 use Rattle.run_acts.proofs.OnCards.{all-append, and-first, and-second, and-both, uses-append, uses-still, uses-long, unclosed-append, events-append, events-none, them-more, notes-still, flat-one}
 
+-- ---- the uses that were found, where no call failed: these more, or none
+abbrev pub FindsUses : (log later : RunLog) → (was more found : List CurrentUse) → Type 0
+FindsUses log later was more found = NothingFailed later → NothingFailed log × (found ≡ was ++ more)
+
+abbrev pub FindsStill : (log later : RunLog) → (was found : List CurrentUse) → Type 0
+FindsStill log later was found = NothingFailed later → NothingFailed log × (found ≡ was)
+
+pub still-finds : (log later : RunLog) (was found : List CurrentUse) → FindsStill log later was found → FindsUses log later was [] found
+still-finds log later was found h none = let g = h none in (g.0, g.1 ∙ sym (append-nil was))
+
 -- ---- A STEP, whatever it notes
-module _ (o : Origin) (c : Card) (log later : RunLog) (gaps now : List Event) (seen xs : List Seen) (d e : Devices) where
+module _ (o : Origin) (c : Card) (log later : RunLog) (gaps now : List Event) (seen xs : List Seen) (was found : List CurrentUse) (d e : Devices) where
   abbrev own : Registration
   own = vehicle_in o
 
@@ -55,11 +66,12 @@ module _ (o : Origin) (c : Card) (log later : RunLog) (gaps now : List Event) (s
               ≡ cond (kind == INSERTION_WHILE_DRIVING) (flat_map (moved_in c own) seen ++ ms) (cond (kind == SESSION_NOT_CLOSED) (unclosed_by uses (accepted_on c seen) ++ unclosed_by more us) [])
           rest = refl
 
-  pub card-more : (gs ms : List CardEvent) (us : List ℕ) (more : List CurrentUse) → CardShown o c log gaps seen d → Grows gs ms us → ((kind : ℕ) → are_sure_on c kind later xs ≡ true → are_sure_on c kind log seen ≡ true)
+  pub card-more : (gs ms : List CardEvent) (us : List ℕ) (more : List CurrentUse) → CardShown o c log gaps seen was d → FindsUses log later was more found → Grows gs ms us → ((kind : ℕ) → are_sure_on c kind later xs ≡ true → are_sure_on c kind log seen ≡ true)
       → ((x : List ℕ) → images_in o d c x → images_in o e c x) → AreUses (images_in o e c) more us
-      → NotesThem (sizes_in o c) (λ kind. are_sure_on c kind later xs) (λ kind. events_by kind gs ms (unclosed_by more us)) (card_of d c) (card_of e c) → CardShown o c later now xs e
-  card-more gs ms us more h g back left are notes = record {
+      → NotesThem (sizes_in o c) (λ kind. are_sure_on c kind later xs) (λ kind. events_by kind gs ms (unclosed_by more us)) (card_of d c) (card_of e c) → CardShown o c later now xs found e
+  card-more gs ms us more h finds g back left are notes = record {
     uses = h.uses ++ more;
+    exact = λ none. let told = finds none in ap (λ (l : List CurrentUse). l ++ more) (h.exact told.0) ∙ sym told.1;
     are = subst (AreUses (images_in o e c) (h.uses ++ more)) (sym g.0) (uses-append (images_in o e c) h.uses more (accepted_on c seen) us (uses-still (images_in o d c) (images_in o e c) left h.uses (accepted_on c seen) h.are) are);
     shows = them-more (sizes_in o c) (card_image o.recording c) (λ kind. are_sure_on c kind log seen) (λ kind. are_sure_on c kind later xs)
         (λ kind. events_by kind (gaps_on c own gaps) (flat_map (moved_in c own) seen) (unclosed_by h.uses (accepted_on c seen))) (λ kind. events_by kind gs ms (unclosed_by more us))
@@ -68,9 +80,9 @@ module _ (o : Origin) (c : Card) (log later : RunLog) (gaps now : List Event) (s
   }
 
   -- nothing is noted
-  pub card-stays : CardShown o c log gaps seen d → Grows [] [] [] → ((kind : ℕ) → are_sure_on c kind later xs ≡ true → are_sure_on c kind log seen ≡ true)
-      → ((x : List ℕ) → images_in o d c x → images_in o e c x) → StillShows (sizes_in o c) (card_of d c) (card_of e c) → CardShown o c later now xs e
-  card-stays h g back left still = card-more [] [] [] [] h g back left tt (notes-still (sizes_in o c) (λ kind. are_sure_on c kind later xs) (card_of d c) (card_of e c) still)
+  pub card-stays : CardShown o c log gaps seen was d → FindsStill log later was found → Grows [] [] [] → ((kind : ℕ) → are_sure_on c kind later xs ≡ true → are_sure_on c kind log seen ≡ true)
+      → ((x : List ℕ) → images_in o d c x → images_in o e c x) → StillShows (sizes_in o c) (card_of d c) (card_of e c) → CardShown o c later now xs found e
+  card-stays h finds g back left still = card-more [] [] [] [] h (still-finds log later was found finds) g back left tt (notes-still (sizes_in o c) (λ kind. are_sure_on c kind later xs) (card_of d c) (card_of e c) still)
 
 -- ---- what is sure goes on
 
@@ -135,11 +147,11 @@ pub moved-same : (c : Card) (own : Registration) (x y : Seen) → y.told.second.
 moved-same c own x y speed accepted = λ i. cond (nat_lt 0 (speed i)) (map (moving_at c own) (accepted i)) []
 
 -- THE SECOND GOES ON, and nothing is noted of this card
-pub goes-on : (o : Origin) (c : Card) (log later : RunLog) (gaps now : List Event) (front : List Seen) (x y : Seen) (d e : Devices) → CardShown o c log gaps (front ++ x ∷ []) d → KeepsFailed log later → Follows c x y
+pub goes-on : (o : Origin) (c : Card) (log later : RunLog) (gaps now : List Event) (front : List Seen) (x y : Seen) (was found : List CurrentUse) (d e : Devices) → CardShown o c log gaps (front ++ x ∷ []) was d → FindsStill log later was found → KeepsFailed log later → Follows c x y
     → accepted_in c y ≡ accepted_in c x → gaps_on c (vehicle_in o) now ≡ gaps_on c (vehicle_in o) gaps → ((z : List ℕ) → images_in o d c z → images_in o e c z) → StillShows (sizes_in o c) (card_of d c) (card_of e c)
-    → CardShown o c later now (front ++ y ∷ []) e
-goes-on o c log later gaps now front x y d e h keeps f accepted gap left still =
-    card-stays o c log later gaps now (front ++ x ∷ []) (front ++ y ∷ []) d e h (
+    → CardShown o c later now (front ++ y ∷ []) found e
+goes-on o c log later gaps now front x y was found d e h finds keeps f accepted gap left still =
+    card-stays o c log later gaps now (front ++ x ∷ []) (front ++ y ∷ []) was found d e h finds (
       flat-one (accepted_in c) front y ∙ ap (λ (us : List ℕ). accepted_on c front ++ us) accepted ∙ sym (flat-one (accepted_in c) front x) ∙ sym (append-nil (accepted_on c (front ++ x ∷ []))),
       flat-one (moved_in c (vehicle_in o)) front y ∙ ap (λ (es : List CardEvent). flat_map (moved_in c (vehicle_in o)) front ++ es) (moved-same c (vehicle_in o) x y f.speed accepted) ∙ sym (flat-one (moved_in c (vehicle_in o)) front x) ∙ sym (append-nil (flat_map (moved_in c (vehicle_in o)) (front ++ x ∷ []))),
       λ sure. gap ∙ sym (append-nil (gaps_on c (vehicle_in o) gaps)),
@@ -168,11 +180,11 @@ flat-both h [] ys = refl
 flat-both h (x ∷ xs) ys = (λ i. h x ++ flat-both h xs ys i) ∙ sym (append_assoc (h x) (flat_map h xs) (flat_map h ys))
 
 -- SECONDS MORE in which it is not accepted
-pub plain-on : (o : Origin) (c : Card) (log later : RunLog) (gaps now : List Event) (seen xs : List Seen) (d e : Devices) → CardShown o c log gaps seen d → KeepsFailed log later → AllByRecursion (IsPlainSeen c) xs
+pub plain-on : (o : Origin) (c : Card) (log later : RunLog) (gaps now : List Event) (seen xs : List Seen) (was found : List CurrentUse) (d e : Devices) → CardShown o c log gaps seen was d → FindsStill log later was found → KeepsFailed log later → AllByRecursion (IsPlainSeen c) xs
     → (are_sure_on c POWER_INTERRUPTION later (seen ++ xs) ≡ true → gaps_on c (vehicle_in o) now ≡ gaps_on c (vehicle_in o) gaps) → ((z : List ℕ) → images_in o d c z → images_in o e c z) → StillShows (sizes_in o c) (card_of d c) (card_of e c)
-    → CardShown o c later now (seen ++ xs) e
-plain-on o c log later gaps now seen xs d e h keeps plain gap left still =
-    card-stays o c log later gaps now seen (seen ++ xs) d e h (
+    → CardShown o c later now (seen ++ xs) found e
+plain-on o c log later gaps now seen xs was found d e h finds keeps plain gap left still =
+    card-stays o c log later gaps now seen (seen ++ xs) was found d e h finds (
       flat-both (accepted_in c) seen xs ∙ ap (λ (us : List ℕ). accepted_on c seen ++ us) (plain-accepted c xs plain),
       flat-both (moved_in c (vehicle_in o)) seen xs ∙ ap (λ (es : List CardEvent). flat_map (moved_in c (vehicle_in o)) seen ++ es) (plain-moved c (vehicle_in o) xs plain),
       λ sure. gap sure ∙ sym (append-nil (gaps_on c (vehicle_in o) gaps)),

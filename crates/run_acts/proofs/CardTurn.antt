@@ -44,6 +44,9 @@ use Rattle.run_acts.proofs.RingedLines.{AreTears, TellsBeside, TellsTears, tears
 use Rattle.run_acts.proofs.RingedSecond.{cut-is, cut-torn, cut-found, here-append, tears-here_, goes-by, goes-behind, power-here, more-left}
 use Rattle.run_acts.proofs.CardEnds.{IsLater, IsPlainNext, second-begins, ends-shown, whole-quiet, plain-same}
 use Rattle.run_acts.proofs.CardStays.{timed-still}
+use Rattle.run_recorded.specs.Whole.{NothingFailed}
+use Rattle.run_evented.proofs.Exact.{no-cut}
+use Rattle.run_acts.proofs.CardUses.{FoundTo, tears-none, lines-still, untold-to}
 
 -- lines of a second more
 pub lines-later : (o : Origin) (done : List TraceSecond) (s : TraceSecond) (at : Phase) (waits : List Visit) (speed : Option ℕ) (rest : List Minute) (v : Values) (d : Devices) (w : Within o done s at waits speed rest v d) (lines : List Break) (later : RunLog) → later ≡ record v.log { breaks = v.log.breaks ++ lines } →
@@ -165,11 +168,11 @@ module _ {U A0 B0 : State} {chip_a chip_b : CardState} (n speed begun : ℕ) (ol
     left = more-left o d e (w.powered.lit.unit.unit_holds [] []).later w.there.clocks (record { unit = h.4.keeps; card_a = h.4.card_a.keeps; card_b = h.4.card_b.keeps })
 
     -- by a log behind it
-    ended : (later : RunLog) (lines : List Break) → later ≡ record log { breaks = log.breaks ++ lines } → AllByRecursion (λ (b : Break). second_of b ≡ L.number) lines → TellSameTo log later L.number (length L.actions) → CardsBehind o (D ++ L ∷ []) later e
-    ended later lines is here same =
+    ended : (later : RunLog) (lines : List Break) → later ≡ record log { breaks = log.breaks ++ lines } → (NothingFailed later → lines ≡ []) → AllByRecursion (λ (b : Break). second_of b ≡ L.number) lines → TellSameTo log later L.number (length L.actions) → CardsBehind o (D ++ L ∷ []) later e
+    ended later lines is quiet_ here same =
         let l = lines-later o D L Keeping [] (Some L.speed) rest v d w lines later is here (omega (arith, number, low, some)) in
         let power = power-here o D L Keeping [] (Some L.speed) rest v d w in
-        ends-shown o D L w.b.run.log later l power L.actions log d e r (failed-more log later (lines, ap (λ (x : RunLog). x.breaks) is)) (whole-quiet o D L w.b.run.log later l power log same) left (timed-still o origin d e timed)
+        ends-shown o D L w.b.run.log later l power L.actions log d e r (lines-still o w.b.run.log D L log later lines is quiet_) (failed-more log later (lines, ap (λ (x : RunLog). x.breaks) is)) (whole-quiet o D L w.b.run.log later l power log same) left (timed-still o origin d e timed)
 
     same-kept : TellSameTo log kept_log L.number (length L.actions)
     same-kept = record {
@@ -198,12 +201,13 @@ module _ {U A0 B0 : State} {chip_a chip_b : CardState} (n speed begun : ℕ) (ol
         by : (f : Bool) → T.failed ≡ f → CardsBehind o (D ++ L ∷ []) (log_of after) e
         by false fine =
             let after_is : after ≡ T.told = T.outcome ∙ ap (λ (b : Bool). cut_breaks b (old.next + n - 1) begun T.told) fine in
-            subst (λ (out : Outcome). CardsBehind o (D ++ L ∷ []) (log_of out) e) (sym after_is) (ended kept_log told-tears.lines told-is lines-here same-kept)
+            subst (λ (out : Outcome). CardsBehind o (D ++ L ∷ []) (log_of out) e) (sym after_is) (ended kept_log told-tears.lines told-is
+            (λ failed. tears-none (record { second = L.number; begun = length L.actions; late = true }) told-tears.lines log tears (subst NothingFailed told-is failed)) lines-here same-kept)
         by true broke =
             let after_is : after ≡ cut_breaks true (old.next + n - 1) begun T.told = T.outcome ∙ ap (λ (b : Bool). cut_breaks b (old.next + n - 1) begun T.told) broke in
             let log_is : and_break kept_log (cut_at L.number true (length L.actions)) ≡ log_of after = (λ i. and_break kept_log (cut_at (number i) true (acts i))) ∙ sym (ap log_of after_is) in
             subst (λ (l : RunLog). CardsBehind o (D ++ L ∷ []) l e) log_is
-            (ended (and_break kept_log (cut_at L.number true (length L.actions))) (told-tears.lines ++ cut_at L.number true (length L.actions) ∷ []) cut-lines (here-append L.number told-tears.lines (cut_at L.number true (length L.actions) ∷ []) lines-here (refl, tt)) same-cut)
+            (ended (and_break kept_log (cut_at L.number true (length L.actions))) (told-tears.lines ++ cut_at L.number true (length L.actions) ∷ []) cut-lines (λ failed. no-cut kept_log L.number (length L.actions) failed) (here-append L.number told-tears.lines (cut_at L.number true (length L.actions) ∷ []) lines-here (refl, tt)) same-cut)
 
   -- ---- ONE SECOND, OR SEVERAL
   module _ (o : Origin) (done : List TraceSecond) (s : TraceSecond) (now : IsNow s speed old) (actions : length s.actions ≡ begun) (none : 0 < n - 1 → s.actions ≡ []) (r : RunWithin o done s (In (length s.actions)) [] [] old before d) (time : HaveTime e)
@@ -219,7 +223,7 @@ module _ {U A0 B0 : State} {chip_a chip_b : CardState} (n speed begun : ℕ) (ol
         let l = lines-later o done s (In (length s.actions)) [] None [] v d r.within [] log_ (ap (λ (bs : List Break). record log_ { breaks = bs }) (sym (append-nil log_.breaks))) tt (omega (arith, at_, low)) in
         let power = power-here o done s (In (length s.actions)) [] None [] v d r.within in
         let uncut = r.within.moment.up_to.uncut in
-        ends-shown o done s r.within.b.run.log log_ l power s.actions log_ d d cards (λ u is. is)
+        ends-shown o done s r.within.b.run.log log_ l power s.actions log_ d d cards (λ c failed. (failed, refl)) (λ u is. is)
         (whole-quiet o done s r.within.b.run.log log_ l power log_ (record { begun = λ k lt. ap (λ (q : Option ℕ). begins q k) uncut; begun_later = λ k lt. ap (λ (q : Option ℕ). begins q k) uncut; torn = λ k slot le. refl; found = λ k slot le. refl }))
         (left-itself o d) (stay-self o d)
 
@@ -254,11 +258,20 @@ module _ {U A0 B0 : State} {chip_a chip_b : CardState} (n speed begun : ℕ) (ol
       goes-l : IsGoing (went log_ (done ++ s ∷ driven c (s.number + 1) s.speed [])).before
       goes-l = subst (λ (ss : List TraceSecond). IsGoing (went log_ ss).before) done-is (goes c)
 
+      -- the log tells of no find in a later second
+      untold_ : FoundTo log_ (last_of (suc c) s).number 0
+      untold_ =
+          let p : Progress = progress after_one.values (IsLit (after_one.told ∷ after_one.span)) after_one.recorded.book in
+          let number = last-number (suc c) s in
+          let first = next-one in
+          subst (λ (l : RunLog). FoundTo l (last_of (suc c) s).number 0) after_one.log (untold-to o (done ++ s ∷ []) p after_one.recorded.recorded.followed (last_of (suc c) s).number (omega (arith, number, first)) 0)
+
       several-shown : suc c ≡ n - 1 → CardsBehind o (before_last (suc c) s done ++ last_of (suc c) s ∷ []) (log_of after) e
       several-shown is =
           let D : List TraceSecond = done ++ s ∷ driven c (s.number + 1) s.speed [] in
           let L : TraceSecond = last_of (suc c) s in
-          let begun_ : CardsIn o D L log_ [] log_ d = second-begins o D L log_ d behind-all goes-l.running in
+          let power = lit-power (second_told log_ (went log_ D).before L ∷ []) (went log_ D).before L L.number goes-l refl refl in
+          let begun_ : CardsIn o D L log_ [] log_ d = second-begins o D L log_ d behind-all goes-l.running power untold_ in
           let log_is = (x.goes_on (omega arith)).0 in
           last-shown o r.origin D L T.decided (old.next + suc c) x.begun x.fed (number-of (suc c) is) (acts-of (suc c) is)
           (timed-last n speed begun old new before after d e g lit some minute small h o done s now actions none r time (suc c) is D L (old.next + suc c) x.begun (last-number (suc c) s) refl (acts-of (suc c) is) x.fed x.travelled_before x.from)

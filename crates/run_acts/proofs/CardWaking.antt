@@ -20,12 +20,13 @@ use Rattle.safety_model.specs.Safe.{Devices, card_of}
 use Rattle.run_recorded.specs.Origin.{Origin}
 use Rattle.run_recorded.specs.Beside.{HaveLeftMore}
 use Rattle.run_evented.specs.Evented.{images_in}
+use Rattle.run_evented.specs.Uses.{notes_now, uses_in}
 use Rattle.run_ringed.specs.Waking.{IsFoundAnew}
 use Rattle.run_acts.specs.OnCards.{as_accepted, unclosed_by, events_by, accepts, movings, accepted_in, accepted_on, moved_in, gaps_on, enters, falls, is_sure_in, are_sure_on, NotesThem, StillShows, AreUses}
 use Rattle.run_acts.specs.RunCards.{vehicle_in, sizes_in, CardShown, so_far, seen_behind, gap_behind, CardsIn, CardsWaking, StillShow}
 use Rattle.run_acts.proofs.OnCards.{flat-one, gaps-append}
 use Rattle.run_acts.proofs.CardCourse.{Finding, findings, sitting_at, IsPowered, powered-as}
-use Rattle.run_acts.proofs.CardShown.{KeepsFailed, Follows, card-more, goes-on, moved-same, sure-on, sure-last}
+use Rattle.run_acts.proofs.CardShown.{FindsUses, FindsStill, still-finds, KeepsFailed, Follows, card-more, goes-on, moved-same, sure-on, sure-last}
 use Rattle.run_acts.proofs.CardSecond.{any-more, flat-append, accepted-mine, accepted-other, judged-on}
 use Rattle.run_acts.proofs.CardEnds.{no-findings}
 
@@ -151,6 +152,13 @@ module _ (o : Origin) (done : List TraceSecond) (s : TraceSecond) (began log lat
   abbrev y : Seen
   y = seen_behind began done s [] later
 
+  -- the uses that were found, and then
+  abbrev pub before_them : Card → List CurrentUse
+  before_them c = uses_in o c (notes_now began done log s)
+
+  abbrev pub behind_them : Card → List CurrentUse
+  behind_them c = uses_in o c (notes_now began done later s)
+
   accepted-of : (c : Card) (fs : List Finding) → (course_powered later (went began done).before s).found ≡ (course_powered log (went began done).before s).found ++ fs
       → accepted_in c (seen_behind began done s [] later) ≡ accepted_in c (seen_behind began done s [] log) ++ flat_map (λ (f : Finding). cond (same_card f.0.card c && is_accepting f.1) (s.number ∷ []) []) fs
   accepted-of c fs found =
@@ -158,19 +166,21 @@ module _ (o : Origin) (done : List TraceSecond) (s : TraceSecond) (began log lat
       ∙ flat-append (λ (f : Finding). cond (same_card f.0.card c && is_accepting f.1) (s.number ∷ []) []) (course_powered log (went began done).before s).found fs
 
   -- NOTHING IS FOUND MORE
-  pub waking-passed : CardsWaking o done s began log d → (course_powered later (went began done).before s).found ≡ (course_powered log (went began done).before s).found → StillShow o d e → CardsWaking o done s began later e
-  waking-passed h found still c valid =
-      goes-on o c log later (gap_events as_accepted began done) (gap_events as_accepted began done) (seen_of began done) (seen_behind began done s [] log) (seen_behind began done s [] later) d e (h c valid) keeps (follows-powered log later (went began done).before s off torn c)
+  pub waking-passed : CardsWaking o done s began log d → (course_powered later (went began done).before s).found ≡ (course_powered log (went began done).before s).found → ((c : Card) → FindsStill log later (uses_in o c (notes_now began done log s)) (uses_in o c (notes_now began done later s))) → StillShow o d e → CardsWaking o done s began later e
+  waking-passed h found finds still c valid =
+      goes-on o c log later (gap_events as_accepted began done) (gap_events as_accepted began done) (seen_of began done) (seen_behind began done s [] log) (seen_behind began done s [] later) (before_them c) (behind_them c) d e (h c valid) (finds c) keeps (follows-powered log later (went began done).before s off torn c)
       (accepted-of c [] (found ∙ sym (append-nil (course_powered log (went began done).before s).found)) ∙ append-nil (accepted_in c (seen_behind began done s [] log))) refl (left.card c) (still c valid)
 
   -- THE CARD OF A SLOT IS JUDGED ANEW
   pub waking-judged : CardsWaking o done s began log d → (slot : Slot) (q : Sitting) → in_slot (went began done).before.slots slot ≡ Some q → (verdicts : List Verdict) → IsFoundAnew log later s.number slot verdicts
       → ((c : Card) → IsOwnValid (card_image o.recording c) → same_card q.card c ≡ false → StillShows (sizes_in o c) (card_of d c) (card_of e c))
+      → ((c : Card) → same_card q.card c ≡ false → FindsStill log later (uses_in o c (notes_now began done log s)) (uses_in o c (notes_now began done later s)))
       → ((c : Card) → IsOwnValid (card_image o.recording c) → same_card q.card c ≡ true → enters c (seen_behind began done s [] later) ≡ true →
-      (more : List CurrentUse) × AreUses (images_in o e c) more (accepts s.number verdicts)
+      (more : List CurrentUse) × FindsUses log later (uses_in o c (notes_now began done log s)) more (uses_in o c (notes_now began done later s))
+      × AreUses (images_in o e c) more (accepts s.number verdicts)
       × NotesThem (sizes_in o c) (λ kind. is_sure_in c kind later (seen_behind began done s [] later)) (λ kind. events_by kind [] (movings c (vehicle_in o) s.speed (accepts s.number verdicts)) (unclosed_by more (accepts s.number verdicts))) (card_of d c) (card_of e c))
       → CardsWaking o done s began later e
-  waking-judged h slot q sits verdicts found others mine c valid = by (same_card q.card c) refl
+  waking-judged h slot q sits verdicts found others uses_then mine c valid = by (same_card q.card c) refl
     where
       v : Visit
       v = record { phase = In 0; slot = slot; card = q.card }
@@ -185,23 +195,24 @@ module _ (o : Origin) (done : List TraceSecond) (s : TraceSecond) (began log lat
           ++ flat_map (λ (f : Finding). cond (same_card f.0.card c && is_accepting f.1) (s.number ∷ []) []) (map (λ (w : Verdict). (record { phase = In 0; slot = slot; card = q.card }, w)) verdicts)
       accepted = accepted-of c (map (λ (w : Verdict). (record { phase = In 0; slot = slot; card = q.card }, w)) verdicts) finds
 
-      by : (b : Bool) → same_card q.card c ≡ b → CardShown o c later (gap_events as_accepted began done) (seen_of began done ++ seen_behind began done s [] later ∷ []) e
+      by : (b : Bool) → same_card q.card c ≡ b → CardShown o c later (gap_events as_accepted began done) (seen_of began done ++ seen_behind began done s [] later ∷ []) (uses_in o c (notes_now began done later s)) e
       by false other =
-          goes-on o c log later (gap_events as_accepted began done) (gap_events as_accepted began done) (seen_of began done) (seen_behind began done s [] log) (seen_behind began done s [] later) d e (h c valid) keeps (follows-powered log later (went began done).before s off torn c)
+          goes-on o c log later (gap_events as_accepted began done) (gap_events as_accepted began done) (seen_of began done) (seen_behind began done s [] log) (seen_behind began done s [] later) (before_them c) (behind_them c) d e (h c valid) (uses_then c other) keeps (follows-powered log later (went began done).before s off torn c)
           (accepted ∙ ap (λ (us : List ℕ). accepted_in c (seen_behind began done s [] log) ++ us) (accepted-other c s.number (record { phase = In 0; slot = slot; card = q.card }) verdicts other) ∙ append-nil (accepted_in c (seen_behind began done s [] log)))
           refl (left.card c) (others c valid other)
       by true own =
           let got = mine c valid own (sits-enters log later (went began done).before s off torn c slot q sits own) in
-          judged-on o c log later (gap_events as_accepted began done) (gap_events as_accepted began done) (seen_of began done) (seen_behind began done s [] log) (seen_behind began done s [] later) d e (h c valid) keeps (follows-powered log later (went began done).before s off torn c)
-          (accepts s.number verdicts) (accepted ∙ ap (λ (us : List ℕ). accepted_in c (seen_behind began done s [] log) ++ us) (accepted-mine c s.number (record { phase = In 0; slot = slot; card = q.card }) verdicts own)) refl (left.card c) got.0 got.1 got.2
+          judged-on o c log later (gap_events as_accepted began done) (gap_events as_accepted began done) (seen_of began done) (seen_behind began done s [] log) (seen_behind began done s [] later) (before_them c) (behind_them c) d e (h c valid) keeps (follows-powered log later (went began done).before s off torn c)
+          (accepts s.number verdicts) (accepted ∙ ap (λ (us : List ℕ). accepted_in c (seen_behind began done s [] log) ++ us) (accepted-mine c s.number (record { phase = In 0; slot = slot; card = q.card }) verdicts own)) refl (left.card c) got.0 got.1 got.2 got.3
 
   -- THE INTERRUPTION IS NOTED
   pub gap-noted : CardsWaking o done s began log d → ((slot : Slot) → found_in later s.number (In 0) slot ≡ found_in log s.number (In 0) slot)
+      → ((c : Card) → FindsStill log later (uses_in o c (notes_now began done log s)) (uses_in o c (notes_now began done later s)))
       → ((c : Card) → IsOwnValid (card_image o.recording c) → NotesThem (sizes_in o c) (λ kind. is_sure_in c kind later (seen_behind began done s [] later)) (λ kind. events_by kind (gaps_on c (vehicle_in o) (gap_behind began done s [] later)) [] []) (card_of d c) (card_of e c))
       → CardsIn o done s began [] later e
-  gap-noted h same notes c valid =
-      card-more o c log later (gap_events as_accepted began done) (gap_events as_accepted began done ++ gap_behind began done s [] later) (seen_of began done ++ seen_behind began done s [] log ∷ []) (seen_of began done ++ seen_behind began done s [] later ∷ []) d e
-      (gaps_on c (vehicle_in o) (gap_behind began done s [] later)) [] [] [] (h c valid) (
+  gap-noted h same finds notes c valid =
+      card-more o c log later (gap_events as_accepted began done) (gap_events as_accepted began done ++ gap_behind began done s [] later) (seen_of began done ++ seen_behind began done s [] log ∷ []) (seen_of began done ++ seen_behind began done s [] later ∷ []) (before_them c) (behind_them c) d e
+      (gaps_on c (vehicle_in o) (gap_behind began done s [] later)) [] [] [] (h c valid) (still-finds log later (before_them c) (behind_them c) (finds c)) (
         flat-one (accepted_in c) (seen_of began done) (seen_behind began done s [] later) ∙ ap (λ (us : List ℕ). accepted_on c (seen_of began done) ++ us) accepted ∙ sym (flat-one (accepted_in c) (seen_of began done) (seen_behind began done s [] log))
             ∙ sym (append-nil (accepted_on c (seen_of began done ++ seen_behind began done s [] log ∷ []))),
         flat-one (moved_in c (vehicle_in o)) (seen_of began done) (seen_behind began done s [] later)

@@ -89,3 +89,5 @@ pub mod CardTurn
 pub mod CardActs
 pub mod CardWrites
 pub mod Closings
+pub mod CardUses
+pub mod StayUses

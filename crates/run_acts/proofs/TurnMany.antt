@@ -170,6 +170,7 @@ evented-lit o done log unfound next t u xs ys d v = record {
   events = v.events;
   gaps = record { known = v.gaps.known; last = tt };
   found_open = v.found_open;
+  exact = v.exact;
 }
 
 record HasFirst (xs : List Second) : Type 0 where

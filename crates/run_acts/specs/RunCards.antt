@@ -1,8 +1,6 @@
 -- WHAT THE CARDS SHOW of their events, as a run with cards carries it (profile): between two seconds, and within one; and what calls make of that.
 use Rattle.std.specs.Prelude.{◌≡◌, ◌+◌, ◌-◌, ◌<◌, ◌++◌, ℕ, suc, Bool, true, false, not, None, List, [], ◌∷◌, length, flat_map}
 use Rattle.activity_codec.specs.declared.values.Slot.{Slot}
-use Rattle.byte_fields.specs.Images.{bytes_at}
-use Rattle.tacho_types.specs.declared.texts.Registration.{Registration}
 use Rattle.trace_model.specs.declared.Card.{Card}
 use Rattle.trace_model.specs.declared.Action.{Action}
 use Rattle.trace_model.specs.declared.Action.TheVariants.{Withdraw, Place}
@@ -18,13 +16,15 @@ use Rattle.log_model.specs.Log.{RunLog, In}
 use Rattle.log_model.specs.Slots.{refusal}
 use Rattle.log_model.specs.Course.{Before, Course, Visit, went}
 use Rattle.slot_machine.specs.Calls.{logged}
-use Rattle.unit_model.specs.declared.layout.TheConstants.{REGISTRATION}
 use Rattle.safety_model.specs.Recording.{card_image}
 use Rattle.safety_model.specs.Safe.{Devices, card_of}
 use Rattle.run_events.specs.Seconds.{gap_by}
 use Rattle.run_evented.specs.Evented.{images_in}
+pub use Rattle.run_evented.specs.Uses.{vehicle_of, vehicle_in}
+use Rattle.run_evented.specs.Uses.{notes_in, notes_now, uses_in}
 use Rattle.run_rings.specs.Notes.{course_behind}
 use Rattle.run_recorded.specs.Origin.{Origin}
+use Rattle.run_recorded.specs.Whole.{NothingFailed}
 use Rattle.run_ringed.specs.OnCards.{PlacesStay}
 use Rattle.log_model.specs.declared.lines.Break.{Break}
 use Rattle.run_outcome.specs.Lines.{Listed}
@@ -38,32 +38,26 @@ use Rattle.run_acts.specs.RunRinged.{with_cut}
 use Rattle.run_acts.specs.Settling.{settled_run}
 use Rattle.run_acts.specs.OnCards.{as_accepted, events_by, unclosed_by, accepted_on, moved_in, gaps_on, are_sure_on, ShowsThem, StillShows, AreUses}
 
--- the vehicle of a unit with this image
-abbrev pub vehicle_of : List ℕ → Registration
-vehicle_of x = record { 0 = bytes_at x REGISTRATION.place REGISTRATION.size }
-
-abbrev pub vehicle_in : Origin → Registration
-vehicle_in o = vehicle_of o.recording.unit
-
 -- the sizes of a card, by its image at the start
 abbrev pub sizes_in : Origin → Card → Application
 sizes_in o c = own_sizes (card_image o.recording c)
 
--- A CARD SHOWS the events of these seconds, and of these interruptions: at each of its acceptances a use was found on it, which an image of it told; each
--- image that it may leave shows the events of the types that are sure, on those of its image at the start.
-pub record CardShown (o : Origin) (c : Card) (log : RunLog) (gaps : List Event) (seen : List Seen) (d : Devices) : Type 0 where
+-- A CARD SHOWS the events of these seconds, and of these interruptions: at each of its acceptances a use was found on it, which an image of it told, and
+-- this one where no call failed; each image that it may leave shows the events of the types that are sure, on those of its image at the start.
+pub record CardShown (o : Origin) (c : Card) (log : RunLog) (gaps : List Event) (seen : List Seen) (found : List CurrentUse) (d : Devices) : Type 0 where
   pub uses : List CurrentUse
   pub are : AreUses (images_in o d c) uses (accepted_on c seen)
+  pub exact : NothingFailed log → uses ≡ found
   pub shows : ShowsThem (sizes_in o c) (card_image o.recording c) (λ kind. are_sure_on c kind log seen)
       (λ kind. events_by kind (gaps_on c (vehicle_in o) gaps) (flat_map (moved_in c (vehicle_in o)) seen) (unclosed_by uses (accepted_on c seen))) (card_of d c)
 
 -- so does each that was valid
-abbrev pub CardsShown : Origin → RunLog → List Event → List Seen → Devices → Type 0
-CardsShown o log gaps seen d = (c : Card) → IsOwnValid (card_image o.recording c) → CardShown o c log gaps seen d
+abbrev pub CardsShown : Origin → RunLog → List Event → List Seen → (found : Card → List CurrentUse) → Devices → Type 0
+CardsShown o log gaps seen found d = (c : Card) → IsOwnValid (card_image o.recording c) → CardShown o c log gaps seen (found c) d
 
 -- BETWEEN TWO SECONDS, behind these
 abbrev pub CardsBehind : Origin → List TraceSecond → RunLog → Devices → Type 0
-CardsBehind o done log d = CardsShown o log (gap_events as_accepted log done) (seen_of log done) d
+CardsBehind o done log d = CardsShown o log (gap_events as_accepted log done) (seen_of log done) (λ c. uses_in o c (notes_in log done)) d
 
 -- a second with power as it has gone so far, as far as the events of cards see it
 abbrev pub so_far : Before → TraceSecond → Course → Seen
@@ -92,11 +86,11 @@ gap_behind began done s front log = gap_by as_accepted began (seen_spans (seen_o
 -- WITHIN A SECOND: the interruption before it is noted
 abbrev pub CardsIn : Origin → List TraceSecond → TraceSecond → (began : RunLog) → (front : List Action) → (log : RunLog) → Devices → Type 0
 CardsIn o done s began front log d =
-    CardsShown o log (gap_events as_accepted began done ++ gap_behind began done s front log) (seen_of began done ++ seen_behind began done s front log ∷ []) d
+    CardsShown o log (gap_events as_accepted began done ++ gap_behind began done s front log) (seen_of began done ++ seen_behind began done s front log ∷ []) (λ c. uses_in o c (notes_now began done log s)) d
 
 -- or it is not noted yet, as its cards are judged at a power-on
 abbrev pub CardsWaking : Origin → List TraceSecond → TraceSecond → (began : RunLog) → (log : RunLog) → Devices → Type 0
-CardsWaking o done s began log d = CardsShown o log (gap_events as_accepted began done) (seen_of began done ++ seen_behind began done s [] log ∷ []) d
+CardsWaking o done s began log d = CardsShown o log (gap_events as_accepted began done) (seen_of began done ++ seen_behind began done s [] log ∷ []) (λ c. uses_in o c (notes_now began done log s)) d
 
 -- calls leave the events of each card that was valid
 abbrev pub StillShow : Origin → (d e : Devices) → Type 0

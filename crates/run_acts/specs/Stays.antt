@@ -1,6 +1,6 @@
--- What a card shows of its stays in a run in which no call failed (profile): its days, with their words and distances, and its newest vehicle
--- entry, exactly; one stay for each acceptance that the log tells, closed where the run notes its withdrawal, and nowhere else.
-use Rattle.std.specs.Prelude.{◌≡◌, ◌⊎◌, ◌≤◌, ℕ, ◌++◌, Bool, true, false, not, ◌||◌, Option, Some, None, List, [], ◌∷◌, is_some, length, map, filter, if◌then◌else◌}
+-- What a card shows of its stays in a run in which no call failed (profile): its days, with their words and distances, its vehicle entries
+-- and its current use, exactly; one stay for each acceptance that the log tells, closed where the run notes its withdrawal, and nowhere else.
+use Rattle.std.specs.Prelude.{◌≡◌, ◌⊎◌, ◌≤◌, ℕ, ◌++◌, Bool, true, false, not, ◌||◌, Option, Some, None, List, [], ◌∷◌, is_some, length, map, filter}
 use Rattle.std.specs.List.{AllByRecursion}
 use Rattle.activity_codec.specs.declared.values.Activity.{Activity}
 use Rattle.activity_codec.specs.declared.entries.Entry.{Entry}
@@ -12,9 +12,10 @@ use Rattle.unit_model.specs.declared.layout.TheConstants.{REGISTRATION}
 use Rattle.log_model.specs.Log.{RunLog, is_accepting}
 use Rattle.log_model.specs.declared.lines.Find.{Find}
 use Rattle.log_model.specs.declared.lines.Verdict.TheVariants.{Accepted as AcceptedWith}
-use Rattle.card_image.specs.Fields.{last_use_of}
 use Rattle.card_image.specs.View.{stored_of}
 use Rattle.card_image.specs.Own.{own_sizes, IsOwnValid}
+use Rattle.card_records.specs.declared.current_use.CurrentUse.{CurrentUse}
+use Rattle.card_image.specs.Fields.{current_use, last_use_of}
 use Rattle.card_session.specs.declared.session.Kept.{Kept}
 use Rattle.card_session.specs.Books.{Book, mark_of}
 use Rattle.card_session.specs.Sessions.{IsSession, book_of}
@@ -30,7 +31,7 @@ use Rattle.run_crew.specs.Cards.{session_of}
 use Rattle.run_rule.specs.Found.{CardFound, found_of}
 use Rattle.run_recorded.specs.Origin.{Origin}
 use Rattle.run_recorded.specs.Whole.{NothingFailed}
-use Rattle.run_keeping.specs.CardDeeds.{made_by, is_used, ShowsBook, keeps, last_odometer, opens}
+use Rattle.run_keeping.specs.CardDeeds.{made_by, is_open_in, ShowsBook, keeps, last_odometer, opens}
 use Rattle.run_acts.specs.Closings.{Spell, spells_of, with_last_shut}
 
 -- the registration of the vehicle, as the image of its unit says
@@ -54,14 +55,22 @@ closes (Some act) = Close act ∷ []
 abbrev pub deeds_of : Registration → (used : Bool) → Book → Stay → List Deed
 deeds_of vehicle used b s = opens used vehicle s.odometer (lacked (mark_of b) s.owed) ++ (keeps vehicle None s.kepts ++ closes s.closed)
 
--- a book, and whether a session is open with it
+-- a book, and the current use with it
 pub record Shown : Type 0 where
   pub book : Book
-  pub used : Bool
+  pub use : CurrentUse
+
+-- the session time that a stay leaves: its second; 0 where it was closed; and the use, of the vehicle
+abbrev pub open_from : (second : ℕ) → Option Activity → ℕ
+open_from u None = u
+open_from u (Some act) = 0
+
+abbrev pub use_after : Registration → Stay → CurrentUse
+use_after vehicle s = record { session = record { 0 = open_from s.found.second s.closed }; registration = vehicle }
 
 -- behind a stay, and behind some
 abbrev pub after_stay : Registration → (size : ℕ) → Stay → Shown → Shown
-after_stay vehicle size s p = record { book = made_by size (deeds_of vehicle p.used p.book s) p.book; used = not (is_some s.closed) }
+after_stay vehicle size s p = record { book = made_by size (deeds_of vehicle (is_open_in p.use) p.book s) p.book; use = use_after vehicle s }
 
 abbrev pub after_stays : Registration → (size : ℕ) → List Stay → Shown → Shown
 after_stays vehicle size [] p = p
@@ -69,13 +78,13 @@ after_stays vehicle size (s ∷ ss) p = after_stays vehicle size ss (after_stay 
 
 -- at the start
 abbrev pub start_shown : List ℕ → Shown
-start_shown image = record { book = book_of (own_sizes image) image; used = is_used (own_sizes image) image }
+start_shown image = record { book = book_of (own_sizes image) image; use = current_use (own_sizes image) image }
 
 -- ---- when they began
 
 -- the stored time of a card that shows this: no earlier second may be recorded on it
 abbrev pub stored_by : Shown → ℕ
-stored_by p = stored_of (last_use_of p.book.vehicle) (if p.used then 1 else 0) p.book.days
+stored_by p = stored_of (last_use_of p.book.vehicles.newest) p.use.session.0 p.book.days
 
 -- EACH STAY BEGAN IN TIME: it is told as accepted in a second that is not earlier than the stored time of what the card showed by then.
 abbrev pub AreTimely : Registration → (size : ℕ) → List Stay → Shown → Type 0
@@ -138,7 +147,7 @@ StaysIn vehicle stays (Some a) = GoesIn vehicle stays a
 -- and which of them were withdrawn, they are the noted ones; each began in time.
 pub record HasStays (f : CardFound) (vehicle : Registration) (noted : List Spell) (sits : Bool) (stays : List Stay) (session : Option Accepted) (card : State) : Type 0 where
   pub shows : ShowsBook (own_sizes f.image) (after_stays vehicle (own_sizes f.image).activity stays (start_shown f.image)).book
-      (after_stays vehicle (own_sizes f.image).activity stays (start_shown f.image)).used card
+      (after_stays vehicle (own_sizes f.image).activity stays (start_shown f.image)).use card
   pub goes : StaysIn vehicle stays session
   pub spell : as_noted session sits (spells stays) ≡ noted
   pub timely : AreTimely vehicle (own_sizes f.image).activity stays (start_shown f.image)
@@ -146,7 +155,7 @@ pub record HasStays (f : CardFound) (vehicle : Registration) (noted : List Spell
 -- so it is once the run is over, of a card with this image at the start, in this vehicle
 abbrev pub ShowsStays : Registration → (image : List ℕ) → List Stay → (card : State) → Type 0
 ShowsStays vehicle image stays card = ShowsBook (own_sizes image) (after_stays vehicle (own_sizes image).activity stays (start_shown image)).book
-    (after_stays vehicle (own_sizes image).activity stays (start_shown image)).used card
+    (after_stays vehicle (own_sizes image).activity stays (start_shown image)).use card
 
 -- ---- both cards
 

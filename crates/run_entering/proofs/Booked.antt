@@ -273,7 +273,7 @@ module _ (app : Application) (e : Entering) (k : Keeper) (U V X M Z : State) (un
         }
 
     -- a session is opened on it
-    taken-opens : e.at.second ≢ 0 → OpensOn app registration odometer entered.owed.items X M
+    taken-opens : e.at.second ≢ 0 → OpensOn app registration e.at.second odometer entered.owed.items X M
     taken-opens some =
         let u = told-one U.image (parts-of f w k.cabin.cards e.which U X Z m.powered).unit.tells in
         let moments = at_image (λ (u : List ℕ). LeavesOnly X M (λ x c. IsCardInserting app registration odometer (owed_on app u x) e.at.second x c)) u.1 enters.moments in
@@ -292,8 +292,8 @@ module _ (app : Application) (e : Entering) (k : Keeper) (U V X M Z : State) (un
           told = told-as fell entered M.clock entry f w e U X (told-so X_works works low most);
           untouched = λ same. inr (valid, written-as fell entered M.clock entry);
           opens = λ valid. opens-as fell entered M.clock entry k.memory.registration e (found_of f e.which) X M Y
-              (subst (λ (p : Application). OpensOn p k.memory.registration e.odometer.0 entered.owed.items X M) (own valid)
-              (subst (λ (r : Registration). OpensOn app r e.odometer.0 entered.owed.items X M) vehicle (subst (λ (n : ℕ). OpensOn app registration n entered.owed.items X M) reading (taken-opens some)))) behind.2.1;
+              (subst (λ (p : Application). OpensOn p k.memory.registration e.at.second e.odometer.0 entered.owed.items X M) (own valid)
+              (subst (λ (r : Registration). OpensOn app r e.at.second e.odometer.0 entered.owed.items X M) vehicle (subst (λ (n : ℕ). OpensOn app registration e.at.second n entered.owed.items X M) reading (taken-opens some)))) behind.2.1;
         }
 
 -- ---- A CARD ENTERS: it is revived, and its sizes are known

@@ -19,9 +19,9 @@ use Rattle.card_records.specs.declared.current_use.CurrentUse.{CurrentUse}
 use Rattle.card_records.specs.Events.{event_of}
 use Rattle.card_records.specs.Rings.{event_ring}
 use Rattle.card_records.specs.Noting.{IsEvent, HoldsEvent, IsNotingEvent, IsEventNoted}
-use Rattle.card_records.specs.declared.vehicle.Vehicle.{Vehicle}
 use Rattle.card_model.specs.Days.{Day}
 use Rattle.card_image.specs.Fields.{file, file_bytes, current_use, session_time}
+use Rattle.card_session.specs.Vehicles.{Vehicles}
 use Rattle.card_session.specs.Books.{closed}
 use Rattle.card_session.specs.Cards.{IsCard, IsCardKeeping, IsCardClosing, ended, grown}
 use Rattle.card_session.specs.Sessions.{Session, book_of}
@@ -78,7 +78,7 @@ length-put place bytes x le =
     omega (arith, front, length-append (take place x) (bytes ++ drop (place + length bytes) x))
 
 module _ (app : Application) where
-  pub card-same : (P : List Day → Option Vehicle → Type 0) (x c : List ℕ) → IsCard app P x c → SameEvents app x c
+  pub card-same : (P : List Day → Vehicles → Type 0) (x c : List ℕ) → IsCard app P x c → SameEvents app x c
   card-same P x c is = same-file app x c (events_same app P x c is)
 
   events_first : place_of app (file 0x0502) + size_of app (file 0x0502) ≤ place_of app (file 0x0507)

@@ -1,6 +1,6 @@
 -- What is made of a card that enters, deed by deed: a note beside its days, a read, and a session that is opened.
 use Rattle.std.proofs.Common.{◌≡◌, ◌∙◌, ⊎_elim, ℕ, Bool, true, false, List, [], Option, Some, None, ap}
-use Rattle.std.specs.Prelude.{Result, Ok, Err, IfErr, not, nat_eq}
+use Rattle.std.specs.Prelude.{Result, Ok, Err, IfErr}
 use Rattle.trace_model.specs.declared.Card.{Card}
 use Rattle.tach_media.specs.Medium.{State, IsCoherent, LeavesOnly, Unchanged, Reads}
 use Rattle.tacho_types.specs.declared.texts.Registration.{Registration}
@@ -17,8 +17,9 @@ use Rattle.device_steps.specs.declared.entering.NotEntered.TheVariants.{UnitFail
 use Rattle.device_steps.specs.Entering.{IsRefused}
 use Rattle.run_rule.specs.Found.{CardFound, Found, found_of}
 use Rattle.run_told.proofs.Woken.{MayHaveWritten}
-use Rattle.run_told.proofs.NotedCard.{note-book, note-session_time}
-use Rattle.run_keeping.specs.CardDeeds.{made_by, opens, DoesOn, OpensOn}
+use Rattle.run_told.proofs.NotedCard.{note-book}
+use Rattle.run_keeping.specs.CardDeeds.{made_by, is_open_in, opens, begun_use, DoesOn, OpensOn}
+use Rattle.run_keeping.proofs.CardUse.{note-use}
 use Rattle.run_keeping.proofs.CardDeeds.{does-none}
 use Rattle.run_entering.specs.declared.lines.Entering.{Entering}
 use Rattle.run_entering.specs.Entering.{Ending, Unfit, Ahead, Fell, Unasked, Unnoted, Seated, Lost, taken_as}
@@ -26,15 +27,15 @@ use Rattle.run_entering.specs.Told.{IsNotedBeside, OpensSo}
 
 -- a read
 pub does-read : (app : Application) (X Y : State) → LeavesOnly X Y Unchanged → DoesOn app [] X Y
-does-read app X Y run b used shows y left = ⊎_elim (λ was. shows y was) (λ never. absurd never.2) (run.now y left)
+does-read app X Y run b use shows y left = ⊎_elim (λ was. shows y was) (λ never. absurd never.2) (run.now y left)
 
 -- a note beside the days: of a valid card, at each moment
 pub does-note : (app : Application) → IsApplication app → (X Y : State) → IsCoherent X → ((x : List ℕ) → X.image ≡ Some x → IsValid app x) → LeavesOnly X Y (IsNote app) → DoesOn app [] X Y
-does-note app sound X Y whole valid run b used shows y left = ⊎_elim
+does-note app sound X Y whole valid run b use shows y left = ⊎_elim
     (λ was. shows y was)
     (λ noted.
     let here = shows noted.0 (whole.is_left noted.0 noted.1) in
-    (note-book app sound noted.0 (valid noted.0 noted.1) y noted.2 ∙ here.0, ap (λ (n : ℕ). not (nat_eq n 0)) (note-session_time app sound noted.0 (valid noted.0 noted.1) y noted.2) ∙ here.1))
+    (note-book app sound noted.0 (valid noted.0 noted.1) y noted.2 ∙ here.0, note-use app noted.0 y noted.2 ∙ here.1))
     (run.now y left)
 
 -- nothing is noted
@@ -50,20 +51,20 @@ read-alone app now X Y (Err (NotValid fid place)) never refused = let reads : Re
 read-alone app now X Y (Err (TimeOverlap stored at)) never refused = let reads : Reads X Y false = refused.0 in reads.leaves
 
 -- a card that is taken in, and noted on behind
-pub opens-as : (fell : Bool) (entered : Entered) (clock : ℕ) (entry : Option ℕ) (vehicle : Registration) (e : Entering) (f : CardFound) (X M Y : State) → OpensOn (own_sizes f.image) vehicle e.odometer.0 entered.owed.items X M → DoesOn (own_sizes f.image) [] M Y
+pub opens-as : (fell : Bool) (entered : Entered) (clock : ℕ) (entry : Option ℕ) (vehicle : Registration) (e : Entering) (f : CardFound) (X M Y : State) → OpensOn (own_sizes f.image) vehicle e.at.second e.odometer.0 entered.owed.items X M → DoesOn (own_sizes f.image) [] M Y
     → OpensSo (taken_as fell entered clock entry) vehicle e f X Y
 opens-as false entered clock None vehicle e f X M Y first next = tt
 opens-as true entered clock None vehicle e f X M Y first next = tt
-opens-as false entered clock (Some entry) vehicle e f X M Y first next = λ b used shows.
-    next (made_by (own_sizes f.image).activity (opens used vehicle e.odometer.0 (lacked (mark_of b) entered.owed.items)) b) true (first b used shows)
+opens-as false entered clock (Some entry) vehicle e f X M Y first next = λ b use shows.
+    next (made_by (own_sizes f.image).activity (opens (is_open_in use) vehicle e.odometer.0 (lacked (mark_of b) entered.owed.items)) b) (begun_use vehicle e.at.second) (first b use shows)
 opens-as true entered clock (Some entry) vehicle e f X M Y first next = tt
 
 -- a card that was revived before
 pub opens-woken : (ending : Ending) (vehicle : Registration) (e : Entering) (f : CardFound) (X M Y : State) → LeavesOnly X M Unchanged → OpensSo ending vehicle e f M Y → OpensSo ending vehicle e f X Y
-opens-woken (Unfit fid place) vehicle e f X M Y run next = λ b used shows. next b used (does-read (own_sizes f.image) X M run b used shows)
-opens-woken (Ahead stored) vehicle e f X M Y run next = λ b used shows. next b used (does-read (own_sizes f.image) X M run b used shows)
+opens-woken (Unfit fid place) vehicle e f X M Y run next = λ b use shows. next b use (does-read (own_sizes f.image) X M run b use shows)
+opens-woken (Ahead stored) vehicle e f X M Y run next = λ b use shows. next b use (does-read (own_sizes f.image) X M run b use shows)
 opens-woken Fell vehicle e f X M Y run next = tt
 opens-woken Unasked vehicle e f X M Y run next = tt
 opens-woken (Unnoted entered clock) vehicle e f X M Y run next = tt
-opens-woken (Seated entered clock entry) vehicle e f X M Y run next = λ b used shows. next b used (does-read (own_sizes f.image) X M run b used shows)
+opens-woken (Seated entered clock entry) vehicle e f X M Y run next = λ b use shows. next b use (does-read (own_sizes f.image) X M run b use shows)
 opens-woken (Lost entered clock entry) vehicle e f X M Y run next = tt

@@ -187,7 +187,7 @@ OpensSo (Ahead stored) vehicle e f card card_after = DoesOn (own_sizes f.image) 
 OpensSo Fell vehicle e f card card_after = Unit {0}
 OpensSo Unasked vehicle e f card card_after = Unit {0}
 OpensSo (Unnoted entered clock) vehicle e f card card_after = Unit {0}
-OpensSo (Seated entered clock entry) vehicle e f card card_after = OpensOn (own_sizes f.image) vehicle e.odometer.0 entered.owed.items card card_after
+OpensSo (Seated entered clock entry) vehicle e f card card_after = OpensOn (own_sizes f.image) vehicle e.at.second e.odometer.0 entered.owed.items card card_after
 OpensSo (Lost entered clock entry) vehicle e f card card_after = Unit {0}
 
 -- WHAT IS KNOWN BEHIND AN ENDING, of what was carried as the card was judged: what is carried, what was found of the cards, what a find tells;

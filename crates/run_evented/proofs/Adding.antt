@@ -4,13 +4,18 @@ use Rattle.std.specs.Prelude.{flat_map, is_some}
 use Rattle.std.specs.List.{AllByRecursion, list_any}
 use Rattle.activity_codec.specs.declared.values.Slot.{Slot}
 use Rattle.activity_codec.specs.Activity.{same_slot}
+use Rattle.trace_model.specs.declared.Card.{Card}
 use Rattle.trace_model.specs.Trace.{TraceSecond}
+use Rattle.card_image.specs.Own.{IsOwnValid}
 use Rattle.log_model.specs.declared.lines.Verdict.{Verdict}
 use Rattle.log_model.specs.Log.{RunLog, In, same_phase, is_accepting}
 use Rattle.log_model.specs.Course.{Told, Visit, Before, Course, has_power, second_told, went, Went}
 use Rattle.event_model.specs.Events.{Event, Seen, Tearing, number_of, seen_by, seen_of, seen_spans, events_of, torn_at, accepted_at}
 use Rattle.unit_course.specs.Followed.{Lit}
 use Rattle.unit_course.specs.Turn.{begins_with}
+use Rattle.side_model.specs.Done.{done_by}
+use Rattle.side_model.specs.Noted.{Note, noted_in}
+use Rattle.safety_model.specs.Recording.{card_image}
 use Rattle.safety_model.specs.Safe.{Devices}
 use Rattle.event_course.specs.Shown.{all_kinds}
 use Rattle.event_course.proofs.Shows.{each-kind}
@@ -23,10 +28,13 @@ use Rattle.run_moments.proofs.Reached.{second-reached}
 use Rattle.run_events.specs.Shown.{by_kind, ShowsEvents}
 use Rattle.run_events.specs.Seconds.{second_events, seen_next}
 use Rattle.run_events.specs.Choice.{IsTornIn}
+use Rattle.run_events.proofs.Later.{told-number}
 use Rattle.run_events.proofs.Shows.{nothing-more}
 use Rattle.run_recorded.specs.Origin.{Origin, rule_of, start_at, first_of}
 use Rattle.run_recorded.specs.Beside.{HaveLeftMore}
+use Rattle.run_recorded.specs.Whole.{NothingFailed}
 use Rattle.run_evented.specs.Opened.{IsOpenSo}
+use Rattle.run_evented.specs.Uses.{times_of, opened_in, notes_in, notes_now, uses_in, AreExactIn, FindsNone}
 use Rattle.run_evented.specs.Evented.{number_in, limit_in, brought_now}
 use Rattle.run_evented.specs.Noting.{Stage, Waking, Acting, Ended, is_told, AreOpen, EventedIn, NotesThese, stage_of}
 use Rattle.run_evented.specs.SoFar.{puts_into, planned, FitsSoFar, SoFar, Adds, StepsFollow, EventedNow, BeginsNow, ASecondBegins, ACallNotes, ASecondEnds}
@@ -34,6 +42,7 @@ use Rattle.run_evented.proofs.Bringing.{brought-as}
 use Rattle.run_evented.proofs.Brought.{lit-course}
 use Rattle.run_evented.proofs.Choices.{planned-put, fits-in}
 use Rattle.run_evented.proofs.Opened.{open-left, all-left}
+use Rattle.run_evented.proofs.Exact.{notes-before, opened-same, exact-begins}
 use Rattle.run_evented.proofs.Noting.{by-more, noted-more, nothing-brought, second-is_noted}
 use Rattle.run_evented.proofs.Whole.{whole-told}
 
@@ -64,6 +73,7 @@ adds-as d o done s stage log next later es fs same kinds adds = record {
     untold = λ kind there off. by-more more fs kind ∙ ap (λ (l : List Event). by_kind more kind ++ l) (same kind) ∙ sym (by-more more es kind) ∙ w.untold kind there off;
     fits = w.fits;
     open_now = w.open_now;
+    exact_now = w.exact_now;
   });
 }
 
@@ -76,6 +86,7 @@ later-images o done s stage log more d e left v = record {
   untold = v.untold;
   fits = v.fits;
   open_now = λ f there accepts. open-left o (went log done).told (done ++ s ∷ []) d e f.0.card s.number (v.own s.number f.0) left (v.open_now f there accepts);
+  exact_now = v.exact_now;
 }
 
 -- A CALL NOTES what its lines add
@@ -87,6 +98,7 @@ call-notes d e o done s p stage next log later es v adds says left = record {
   torn = v.torn;
   gaps = v.gaps;
   open_before = all-left o (went p.log done).told done d e v.sessions left v.open_before;
+  exact_before = v.exact_before;
   more = v.more ++ es;
   noted = noted-more o v.more es d e (ShowsEvents (number_in o) o.recording.unit p.log (λ kind. events_of kind (limit_in o) v.sessions v.tearing p.log done)) v.noted says;
   so_far = adds.on v.more (later-images o done s stage log v.more d e left v.so_far);
@@ -101,6 +113,7 @@ evented-in o done s p stage log d v = record {
   torn = v.torn;
   gaps = v.gaps;
   open_before = v.open_before;
+  exact_before = v.exact_before;
   here = v.so_far.here;
   own = v.so_far.own;
   more = v.more;
@@ -108,6 +121,7 @@ evented-in o done s p stage log d v = record {
   told = v.so_far.told;
   untold = v.so_far.untold;
   open_now = v.so_far.open_now;
+  exact_now = v.so_far.exact_now;
 }
 
 -- ---- BY A LOG of the second
@@ -137,6 +151,33 @@ module _ (o : Origin) (done : List TraceSecond) (p : Progress) (span : List Told
   pub open-of : (log : RunLog) → GoesOnBy p log s → (own : ℕ → Visit → ℕ) (d : Devices) → OpenBy own (seen_by log before_it s) d → AreOpen o log done s own d
   open-of log g own d h = subst (OpenIn log own d) (sym (went-same_ (rule_of o) (start_at o) o.from (first_of o) done p b.followed.order b.followed.next b.followed.unfound s log g)) h
 
+  -- the session times so far, by the log of its beginning
+  abbrev pub ExactBy : RunLog → (own : ℕ → Visit → ℕ) → Type 0
+  ExactBy log own = NothingFailed log → (c : Card) → IsOwnValid (card_image o.recording c) →
+      times_of (uses_in o c (notes_in p.log done)) ++ opened_in c own (seen_by log before_it s).told ≡ times_of (uses_in o c (notes_now p.log done log s))
+
+  notes-as : (log : RunLog) → GoesOnBy p log s → notes_now log done log s ≡ notes_now p.log done log s
+  notes-as log g = λ i. notes-before o done p b.followed s log g i
+      ++ noted_in log (done_by log (went-same_ (rule_of o) (start_at o) o.from (first_of o) done p b.followed.order b.followed.next b.followed.unfound s log g i).before s)
+
+  front-as : (log : RunLog) → GoesOnBy p log s → (own : ℕ → Visit → ℕ) (c : Card) → times_of (uses_in o c (notes_in log done)) ++ opened_in c own (seen_next log done s).told ≡ times_of (uses_in o c (notes_in p.log done)) ++ opened_in c own (seen_by log before_it s).told
+  front-as log g own c = λ i. times_of (uses_in o c (notes-before o done p b.followed s log g i)) ++ opened_in c own (next-as log g i).told
+
+  pub exact-by : (log : RunLog) → GoesOnBy p log s → (own : ℕ → Visit → ℕ) → AreExactIn o log done s own → ExactBy log own
+  exact-by log g own h none c valid = sym (front-as log g own c) ∙ h none c valid ∙ ap (λ (l : List Note). times_of (uses_in o c l)) (notes-as log g)
+
+  pub exact-of : (log : RunLog) → GoesOnBy p log s → (own : ℕ → Visit → ℕ) → ExactBy log own → AreExactIn o log done s own
+  exact-of log g own h none c valid = front-as log g own c ∙ h none c valid ∙ ap (λ (l : List Note). times_of (uses_in o c l)) (sym (notes-as log g))
+
+  -- a line that brings no acceptance
+  pub exact-still : (log later : RunLog) → GoesOnBy p log s → (own : ℕ → Visit → ℕ) → (NothingFailed later → NothingFailed log) → FindsNone o p.log done s log later →
+      (seen_by later before_it s).told.course.found ≡ (seen_by log before_it s).told.course.found → AreExactIn o log done s own → ExactBy later own
+  exact-still log later g own fewer finds found h none c valid =
+      ap (λ (us : List ℕ). times_of (uses_in o c (notes_in p.log done)) ++ us)
+      (opened-same c own (seen_by later before_it s).told (seen_by log before_it s).told (told-number later before_it s ∙ sym (told-number log before_it s)) found)
+      ∙ exact-by log g own h (fewer none) c valid
+      ∙ sym (ap times_of (finds none c valid))
+
   module _ (stage : Stage) (log later : RunLog) (g : GoesOnBy p log s) (g_later : GoesOnBy p later s) (d : Devices) (more es : List Event) (v : SoFar o done s stage log more d) where
     -- it fits as the second is seen
     pub fits-now : FitsSoFar stage s v.here (seen_by log before_it s)
@@ -146,21 +187,22 @@ module _ (o : Origin) (done : List TraceSecond) (p : Progress) (span : List Told
     open-now = open-by log g v.own d v.open_now
 
     abbrev pub added-by : (here : Tearing) (own : ℕ → Visit → ℕ) → ((kind : ℕ) → Contains all_kinds kind → is_told stage kind ≡ true → brought_now o later done s here own kind ≡ brought_now o log done s v.here v.own kind ++ by_kind es kind) →
-        ((kind : ℕ) → Contains all_kinds kind → is_told stage kind ≡ false → by_kind es kind ≡ []) → FitsSoFar stage s here (seen_by later before_it s) → OpenBy own (seen_by later before_it s) d → SoFar o done s stage later (more ++ es) d
-    added-by here own brings aside fits open_then = record {
+        ((kind : ℕ) → Contains all_kinds kind → is_told stage kind ≡ false → by_kind es kind ≡ []) → FitsSoFar stage s here (seen_by later before_it s) → OpenBy own (seen_by later before_it s) d → ExactBy later own → SoFar o done s stage later (more ++ es) d
+    added-by here own brings aside fits open_then exact_then = record {
       here = here;
       own = own;
       told = λ kind there is. by-more more es kind ∙ ap (λ (xs : List Event). xs ++ by_kind es kind) (v.told kind there is) ∙ sym (brings kind there is);
       untold = λ kind there off. by-more more es kind ∙ ap (λ (xs : List Event). xs ++ by_kind es kind) (v.untold kind there off) ∙ aside kind there off;
       fits = subst (FitsSoFar stage s here) (sym (next-as later g_later)) fits;
       open_now = open-of later g_later own d open_then;
+      exact_now = exact-of later g_later own exact_then;
     }
 
     abbrev pub added : (here : Tearing) (own : ℕ → Visit → ℕ) → ((kind : ℕ) → Contains all_kinds kind → is_told stage kind ≡ true →
         second_events kind (limit_in o) own here later (seen_spans (seen_of p.log done)) (seen_by later before_it s) ≡ second_events kind (limit_in o) v.own v.here log (seen_spans (seen_of p.log done)) (seen_by log before_it s) ++ by_kind es kind) →
-        ((kind : ℕ) → Contains all_kinds kind → is_told stage kind ≡ false → by_kind es kind ≡ []) → FitsSoFar stage s here (seen_by later before_it s) → OpenBy own (seen_by later before_it s) d → SoFar o done s stage later (more ++ es) d
-    added here own brings aside fits open_then = added-by here own
-        (λ kind there is. brought-as o done p b.followed s later g_later here own kind ∙ brings kind there is ∙ ap (λ (xs : List Event). xs ++ by_kind es kind) (sym (brought-as o done p b.followed s log g v.here v.own kind))) aside fits open_then
+        ((kind : ℕ) → Contains all_kinds kind → is_told stage kind ≡ false → by_kind es kind ≡ []) → FitsSoFar stage s here (seen_by later before_it s) → OpenBy own (seen_by later before_it s) d → ExactBy later own → SoFar o done s stage later (more ++ es) d
+    added here own brings aside fits open_then exact_then = added-by here own
+        (λ kind there is. brought-as o done p b.followed s later g_later here own kind ∙ brings kind there is ∙ ap (λ (xs : List Event). xs ++ by_kind es kind) (sym (brought-as o done p b.followed s log g v.here v.own kind))) aside fits open_then exact_then
 
 -- ---- of the types that are put off nothing is among these
 pub aside-acting : (es : List Event) → by_kind es 0x04 ≡ [] → by_kind es 0x07 ≡ [] → (kind : ℕ) → Contains all_kinds kind → is_told Acting kind ≡ false → by_kind es kind ≡ []
@@ -198,6 +240,7 @@ second-begins_now d o done p span s b v =
       torn = v.events.torn;
       gaps = v.gaps;
       open_before = v.found_open;
+      exact_before = v.exact;
       more = [];
       noted = λ c left. (c, v.events.noted.shows c left, λ log now. nothing-more (number_in o) log now c c (record { tables = λ kind there. refl; first_over = refl; over_count = refl }));
       so_far = record {
@@ -212,6 +255,7 @@ second-begins_now d o done p span s b v =
           waking = λ is slot. refl;
         };
         open_now = λ x there accepts. absurd (none-there x (subst (λ (fs : List (Visit × Verdict)). Contains fs x) found there));
+        exact_now = exact-begins o p.log done s (λ u x. 0) found;
       };
     }
   where

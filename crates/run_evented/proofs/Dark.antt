@@ -45,6 +45,7 @@ use Rattle.run_evented.proofs.Opened.{first-more}
 use Rattle.run_evented.specs.Opened.{IsFirst}
 use Rattle.run_evented.specs.Evented.{number_in, limit_in, events_now, IsChosen, APowerOnIsBroken, ADarkSecondBringsNothing}
 use Rattle.run_evented.proofs.Lines.{untold-now, same-before, front-same, number-next, low-cuts}
+use Rattle.run_evented.proofs.Exact.{no-cut, exact-dark}
 use Rattle.run_evented.proofs.Seconds.{broken-on}
 
 -- ---- a second without power
@@ -95,6 +96,7 @@ dark-brings d o done log later unfound next supply now order count v dark s numb
           nothing-in f (subst (λ (fs : List (Visit × Verdict)). Contains fs f) dull.0 (subst (λ (y : Told). Contains y.course.found f) (sym one) there)))
           (Contains-push_cases (went log done).told (next_told later done s) t
           (subst (λ (w : Went). Contains (w.told ++ next_told later done s ∷ []) t) (went-refused log later breaks finds done) (subst (λ (w : Went). Contains w.told t) (went-more later done s) among)));
+      exact = exact-dark o log later done s v.sessions breaks finds same lit dull.0 v.exact;
     }
 
 -- ---- a power-on that fails
@@ -143,6 +145,7 @@ power-on_broken d e o done p f v may s number given mid later more broke says le
     let choice : IsChosen o cut done s plain own e = record {
       fits = plain-fits x (went p.log done).before.slots (ap (λ (t : Told). t.course.torn) told) (ap (λ (t : Told). t.course.entered) told);
       found_open = λ y there accepts. nothing-in y (subst (λ (fs : List (Visit × Verdict)). Contains fs y) found there);
+      exact = λ none_failed c valid. no-cut p.log s.number 0 none_failed;
     } in
     let failed : has_failed_in cut s.number ≡ true = failed-here p.log.breaks s.number 0 in
     broken-on o done p f d e v s cut g plain own choice left failed

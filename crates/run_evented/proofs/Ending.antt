@@ -91,6 +91,7 @@ ends-added d o done p span s b at log r =
             untold = λ kind among off. absurd (never off);
             fits = record { put_in = v.fits.put_in; still = v.fits.still; before = v.fits.before; waking = λ is. absurd (asleep is) };
             open_now = v.open_now;
+            exact_now = v.exact_now;
           });
     }
   where

@@ -1,20 +1,20 @@
 -- The last second turns out to be a cut's; and the start and the end of a run.
-use Rattle.std.proofs.Common.{◌≡◌, ⊎_elim, ℕ, ◌+◌, ◌-◌, ◌<◌, ◌≤◌, Bool, true, false, cond, not, ◌&&◌, ◌||◌, nat_eq, Option, Some, None, is_some, List, [], ◌∷◌, ◌++◌, All, Contains, length, take, refl, ap, sym, subst, ◌∙◌, arith, append-nil, inl, inr}
+use Rattle.std.proofs.Common.{◌≡◌, ⊎_elim, ℕ, ◌+◌, ◌-◌, ◌<◌, ◌≤◌, Bool, true, false, cond, not, ◌&&◌, ◌||◌, nat_eq, nat_lt, Option, Some, None, is_some, List, [], ◌∷◌, ◌++◌, All, Contains, length, take, refl, ap, sym, subst, ◌∙◌, arith, append-nil, inl, inr}
 use Rattle.std.specs.Prelude.{◌==◌}
 use Rattle.std.specs.List.{AllByRecursion, list_any}
 use Rattle.std.proofs.lemmas.Bool.Decides.{nat_tests}
 use Rattle.std.proofs.lemmas.List.Elements.{Contains-push_cases, Contains-append_left, Contains-push}
 use Rattle.trace_model.specs.declared.Card.{Card}
 use Rattle.trace_model.specs.Trace.{TraceSecond}
-use Rattle.card_image.specs.Own.{own_number}
+use Rattle.card_image.specs.Own.{own_number, IsOwnValid}
 use Rattle.log_model.specs.declared.lines.Break.{Break}
 use Rattle.log_model.specs.declared.lines.Break.TheVariants.{Cut, Tear}
 use Rattle.log_model.specs.declared.lines.Verdict.{Verdict}
-use Rattle.log_model.specs.Log.{RunLog, cut_in, is_torn_in, kept_after}
+use Rattle.log_model.specs.Log.{RunLog, In, cut_in, is_torn_in, kept_after}
 use Rattle.log_model.specs.Causes.{second_of}
 use Rattle.log_model.specs.Same.{SameAt}
 use Rattle.log_model.specs.Spans.{AreInOrder}
-use Rattle.log_model.specs.Course.{Told, Visit, Went, has_power, second_told, went}
+use Rattle.log_model.specs.Course.{Told, Visit, Went, begins, has_power, second_told, went}
 use Rattle.log_model.proofs.Growth.{went-more}
 use Rattle.event_model.specs.declared.kinds.TheConstants.{DRIVING_WITHOUT_CARD, OVER_SPEEDING, POWER_INTERRUPTION, CARD_FAULT}
 use Rattle.event_model.specs.Events.{Event, Seen, Tearing, AreTorn, number_of, seen_of, events_of}
@@ -23,6 +23,8 @@ use Rattle.unit_course.specs.Followed.{Supply, Lit, Lost}
 use Rattle.unit_model.specs.declared.layout.TheConstants.{SPEED_LIMIT}
 use Rattle.unit_model.specs.Image as image
 use Rattle.event_course.specs.Noted.{StayFailed}
+use Rattle.side_model.specs.Done.{done_of}
+use Rattle.side_model.specs.Noted.{Note, notes_of}
 use Rattle.safety_model.specs.Recording.{card_image, told_of}
 use Rattle.safety_model.specs.Safe.{Devices, card_of}
 use Rattle.run_course.specs.Moments.{and_break}
@@ -40,11 +42,17 @@ use Rattle.run_events.proofs.Gaps.{gaps-begin, stay-later}
 use Rattle.run_events.proofs.Later.{told-number}
 use Rattle.run_events.proofs.Offs.{seen-off, off-shown, off-gaps}
 use Rattle.run_events.proofs.Shows.{noted-begins, noted-then, nothing-more}
+use Rattle.run_rings.specs.Notes.{notes_to, TellSameTo}
+use Rattle.run_rings.proofs.Notes.{later-lines, second-noted}
 use Rattle.run_recorded.specs.Origin.{Origin, rule_of, start_at, first_of}
+use Rattle.run_recorded.specs.Whole.{NothingFailed}
 use Rattle.run_evented.specs.Opened.{IsFirst}
+use Rattle.run_evented.specs.Uses.{uses_from, vehicle_of, use_in, insertions_on, times_of, opened_on, notes_in, noted_next, uses_in}
 use Rattle.run_evented.proofs.Opened.{come-as}
 use Rattle.run_evented.specs.Evented.{number_in, limit_in, Evented, NothingIsNoted, AnOffCutBringsNothing, EventsAreShown}
 use Rattle.run_evented.proofs.Lines.{untold-now}
+use Rattle.run_evented.proofs.Noted.{second-notes}
+use Rattle.run_evented.proofs.Exact.{fewer-none, next-notes, opened-append, opened-same}
 use Rattle.run_evented.proofs.Dark.{says-same, nothing-in}
 
 -- ---- a cut behind all of the last second
@@ -73,6 +81,9 @@ and-first false b is = absurd (cc)
 
 same-here : (u : ℕ) → nat_eq u u ≡ true
 same-here u = grind (arith, nat_tests)
+
+below : (k n : ℕ) → k < n → nat_lt k n ≡ true
+below k n lt = grind (arith, nat_tests)
 
 module _ (o : Origin) (front : List TraceSecond) (r : TraceSecond) (p : Progress) (t : Told) (span : List Told) (f : Followed (rule_of o) (start_at o) o.from (first_of o) (front ++ r ∷ []) (record p { supply = Lit (t ∷ span) })) (count : length r.actions ≡ p.begun) (d : Devices)
     (v : Evented o (front ++ r ∷ []) p.log p.unfound p.next (Lit (t ∷ span)) d) where
@@ -143,6 +154,35 @@ module _ (o : Origin) (front : List TraceSecond) (r : TraceSecond) (p : Progress
   told-as : (l : RunLog) → (went l (front ++ r ∷ [])).told ≡ (went l front).told ++ next_told l front r ∷ []
   told-as l = ap (λ (w : Went). w.told) (went-more l front r)
 
+  front-same : went later front ≡ went p.log front
+  front-same = went-later p.log later r.number (cut_at (p.next - 1) false p.begun ∷ []) refl (second-is, tt) [] (sym (append-nil p.log.finds)) tt o.from front order.0 (let n = order.1 in omega (arith, n))
+
+  -- it notes the same
+  tells : TellSameTo p.log later r.number (length r.actions)
+  tells = record {
+    begun = λ k lt. ap (λ (c : Option ℕ). begins c k) uncut;
+    begun_later = λ k lt. ap (λ (c : Option ℕ). begins c k) off.cut ∙ below k (length r.actions) lt;
+    torn = λ k slot le. off.torn (In k) slot;
+    found = λ k slot le. off.found (In k) slot;
+  }
+
+  next-same : noted_next later front r ≡ noted_next p.log front r
+  next-same =
+      second-noted later (went later front).before r (ap (λ (w : Went). has_power w.before r) front-same ∙ power)
+      ∙ ap (λ (w : Went). notes_to later w.before r r.actions) front-same
+      ∙ later-lines p.log later (went p.log front).before r r.actions tells
+      ∙ sym (second-noted p.log (went p.log front).before r power)
+
+  notes-same : notes_in later (front ++ r ∷ []) ≡ notes_in p.log (front ++ r ∷ [])
+  notes-same = second-notes p.log later front r same ∙ ap (λ (l : List Note). notes_in p.log front ++ l) next-same ∙ sym (next-notes p.log front r)
+
+  opened-same_ : (c : Card) → opened_on c v.sessions (went later (front ++ r ∷ [])).told ≡ opened_on c v.sessions (went p.log (front ++ r ∷ [])).told
+  opened-same_ c =
+      ap (opened_on c v.sessions) (told-as later) ∙ opened-append c v.sessions (went later front).told (next_told later front r ∷ [])
+      ∙ (λ i. opened_on c v.sessions (front-same i).told
+      ++ (opened-same c v.sessions (next_told later front r) (next_told p.log front r) (told-number later (went later front).before r ∙ sym (told-number p.log (went p.log front).before r)) found-same i ++ []))
+      ∙ sym (opened-append c v.sessions (went p.log front).told (next_told p.log front r ∷ [])) ∙ sym (ap (opened_on c v.sessions) (told-as p.log))
+
   pub off-evented : Evented o (front ++ r ∷ []) later p.unfound p.next Lost d
   off-evented = record {
     tearing = v.tearing;
@@ -166,11 +206,10 @@ module _ (o : Origin) (front : List TraceSecond) (r : TraceSecond) (p : Progress
               (first-off x.0.card (next_told p.log front r).second.number (v.sessions (next_told p.log front r).second.number x.0) was.3),
         ))
         (Contains-push_cases (went later front).told (next_told later front r) y (subst (λ (ts : List Told). Contains ts y) (told-as later) among));
+    exact = λ none_failed c valid.
+        opened-same_ c ∙ v.exact (fewer-none p.log later (cut_at (p.next - 1) false p.begun ∷ []) refl none_failed) c valid ∙ ap (λ (l : List Note). times_of (uses_in o c l)) (sym notes-same);
   }
     where
-      front-same : went later front ≡ went p.log front
-      front-same = went-later p.log later r.number (cut_at (p.next - 1) false p.begun ∷ []) refl (second-is, tt) [] (sym (append-nil p.log.finds)) tt o.from front order.0 (let n = order.1 in omega (arith, n))
-
       first-off : (c : Card) (u session : ℕ) → IsFirst (card_image o.recording) (went p.log (front ++ r ∷ [])).told (front ++ r ∷ []) c u session → IsFirst (card_image o.recording) (went later (front ++ r ∷ [])).told (front ++ r ∷ []) c u session
       first-off c u session h = ⊎_elim (λ is. inl is) (λ come. inr (come-as p.log later front r front-same entered-same (front ++ r ∷ []) c u come)) h
 
@@ -205,6 +244,10 @@ told-none : (log : RunLog) → (went log []).told ≡ []
 unfolding went
 told-none log = refl
 
+notes-none : (log : RunLog) → notes_in log [] ≡ []
+unfolding notes_of done_of
+notes-none log = refl
+
 pub nothing-noted : (d : Devices) → NothingIsNoted d
 nothing-noted d o only few =
     let log : RunLog = record { breaks = []; refused = []; finds = [] } in
@@ -222,6 +265,7 @@ nothing-noted d o only few =
       };
       gaps = gaps-begin;
       found_open = λ t f among there accepts. nothing-in t (subst (λ (ts : List Told). Contains ts t) (told-none log) among);
+      exact = λ none_failed c valid. ap (opened_on c own) (told-none log) ∙ ap (λ (l : List Note). times_of (uses_in o c l)) (sym (notes-none log));
     }
 
 -- ---- the end
@@ -249,6 +293,11 @@ events-shown began now o done log unfound next supply v r unit cards trace log_i
           subst (λ (start : Card → List ℕ). IsFirst start (told_of r) r.trace f.0.card t.second.number (v.sessions t.second.number f.0)) (sym (ext (card_image r) (card_image o.recording) cards))
           (subst (λ (l : RunLog). IsFirst (card_image o.recording) (went l r.trace).told r.trace f.0.card t.second.number (v.sessions t.second.number f.0)) (sym log_is)
           (subst (λ (ss : List TraceSecond). IsFirst (card_image o.recording) (went log ss).told ss f.0.card t.second.number (v.sessions t.second.number f.0)) (sym trace) was.3)));
+      exact = λ none_failed e valid.
+          ap (λ (l : RunLog). opened_on e v.sessions (went l r.trace).told) log_is
+          ∙ ap (λ (ss : List TraceSecond). opened_on e v.sessions (went log ss).told) trace
+          ∙ v.exact (subst NothingFailed log_is none_failed) e (subst IsOwnValid (cards e) valid)
+          ∙ sym (λ i. times_of (uses_from (vehicle_of (unit i)) (use_in (cards e i)) (insertions_on e (notes_of (log_is i) (done_of (log_is i) (trace i))))));
       tearing = v.tearing;
       are_torn = c.torn;
       events = λ kind among sure. shows.tables kind among sure;

@@ -19,6 +19,7 @@ use Rattle.run_evented.specs.SoFar.{FitsSoFar, fault_with, crew_at, ATearAdds}
 use Rattle.run_evented.specs.Bringing.{ChoiceBefore, TornSecond}
 use Rattle.run_evented.proofs.Bringing.{apart-of, fault-left, torn-first, accepted-first, found-alike, tear-brings}
 use Rattle.run_evented.proofs.Choices.{first_of_two, by-gap-kept, choice-first, torn-second, put-kept}
+use Rattle.run_evented.proofs.Exact.{no-tear}
 use Rattle.run_evented.proofs.Adding.{power-now, next-as, fits-now, open-now, added-by, aside-acting}
 
 awake : Acting ≡ Waking → ⊥
@@ -55,5 +56,6 @@ tear-adds d o done p span s b at log r slot card line tear untorn out none follo
         before = λ sl nobody. by-gap-kept at slot (is_torn_in log s.number at (other_slot slot)) s.number v.here s.number sl ∙ f.before sl (sym (accepted sl) ∙ nobody);
         waking = λ is. absurd (awake is);
       })
-      (λ e there accepts. open-now o done p span s b Acting log later r.goes r_later.goes d more (fault_with s.number slot (crew_at p done s at log) ∷ []) v e (subst (λ (fs : List (Visit × Verdict)). Contains fs e) found there) accepts);
+      (λ e there accepts. open-now o done p span s b Acting log later r.goes r_later.goes d more (fault_with s.number slot (crew_at p done s at log) ∷ []) v e (subst (λ (fs : List (Visit × Verdict)). Contains fs e) found there) accepts)
+      (λ none_failed c valid. no-tear s at slot line log tear none_failed);
 }

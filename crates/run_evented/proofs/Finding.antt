@@ -18,7 +18,7 @@ use Rattle.log_model.specs.declared.lines.Find.{Find}
 use Rattle.log_model.specs.declared.lines.Verdict.{Verdict}
 use Rattle.log_model.specs.declared.lines.Verdict.TheVariants.{Accepted, NotValid, TimeOverlap}
 use Rattle.log_model.specs.Log.{RunLog, Phase, In, Keeping, same_phase, is_torn_in, found_in, kept_after, is_accepting}
-use Rattle.log_model.specs.Slots.{Slots, Sitting, in_slot, other_slot, is_accepted, refusal}
+use Rattle.log_model.specs.Slots.{Slots, Sitting, same_card, in_slot, other_slot, is_accepted, refusal}
 use Rattle.log_model.specs.Course.{Told, Visit, Course, Before, Moved, card_in, visits, has_power, moved_by, unmoved, both_told, went}
 use Rattle.event_model.specs.declared.kinds.TheConstants.{CARD_NOT_VALID, TIME_OVERLAP, DRIVING_WITHOUT_CARD, INSERTION_WHILE_DRIVING, SESSION_NOT_CLOSED, OVER_SPEEDING, POWER_INTERRUPTION, CARD_FAULT}
 use Rattle.event_model.specs.Events.{Event, Crew, Seen, Tearing, number_of, noted_with, crew_of, with_card, accepted_card, course_by, seen_by, seen_of, seen_spans, torn_at, accepted_at, first_card, standing, beside_judged, crew_judged, found_events, is_first, beside_torn, fault_of, is_codriver_first, torn_in_turn}
@@ -37,6 +37,7 @@ use Rattle.run_events.specs.Running.{judged_notes}
 use Rattle.run_events.proofs.Later.{told-number}
 use Rattle.run_events.proofs.Notes.{one-judged}
 use Rattle.run_evented.specs.Opened.{IsOpenSo}
+use Rattle.run_evented.specs.Uses.{times_of, opened_in, notes_in, uses_in}
 use Rattle.run_evented.specs.Evented.{limit_in}
 use Rattle.run_evented.specs.Noting.{Stage, Waking, Acting, is_told}
 use Rattle.run_evented.specs.SoFar.{FitsSoFar, stage_in, AreBare, ComesInTurn, judged_with, crew_at, AFindAdds}
@@ -46,7 +47,8 @@ use Rattle.run_evented.proofs.Brought.{SameBefore, told-speed, begun-same, moved
 use Rattle.run_evented.proofs.Bringing.{kinds-then, few-at, before-as, crew-beside, paired}
 use Rattle.run_evented.proofs.Tearing.{and-none, same-self, phase-self, slot-self, slot-apart, slot-beside, other-twice, told_slot, both-slot, cards-kept, IsBeside, turn-few, only-other, few-alone, map-few, not-torn, few-torn}
 use Rattle.run_evented.proofs.Stood.{accepted_here, bare-card, stands-as}
-use Rattle.run_evented.proofs.Adding.{power-now, starts-now, fits-now, open-now, added, aside-acting, aside-waking}
+use Rattle.run_evented.proofs.Uses.{card-turned}
+use Rattle.run_evented.proofs.Adding.{power-now, starts-now, fits-now, open-now, exact-by, added, aside-acting, aside-waking}
 
 -- ---- what is found open
 abbrev with_session : (own : ℕ → Visit → ℕ) → Phase → Slot → (session : ℕ) → ℕ → Visit → ℕ
@@ -533,6 +535,30 @@ module _ (log : RunLog) (before : Before) (s : TraceSecond) (n : ℕ) (power : h
             (only-apart at f.slot (λ (sl : Slot). finds log s.number at moves sl start) own-before
             (beside-apart at f.slot (found_now log s.number at moves (other_slot f.slot)) (in_slot start.slots (other_slot f.slot)))))
 
+        -- the session times so far, and this one where it is accepted
+        pub opens-in : (c : Card) → opened_in c own_then y.told ≡ opened_in c own x.told ++ cond (same_card sits.card c) (cond (is_accepting f.verdict) (session ∷ []) []) []
+        opens-in c =
+            ap (λ (u : ℕ). flat_map (λ (g : Visit × Verdict). cond (same_card c g.0.card && is_accepting g.1) (own_then u g.0 ∷ []) []) y.told.course.found) number-y
+            ∙ ap (flat_map (λ (g : Visit × Verdict). cond (same_card c g.0.card && is_accepting g.1) (own_then s.number g.0 ∷ []) [])) found-pushed
+            ∙ flat_map-append (λ (g : Visit × Verdict). cond (same_card c g.0.card && is_accepting g.1) (own_then s.number g.0 ∷ []) []) x.told.course.found (e ∷ [])
+            ∙ (λ i. former x.told.course.found apart-all i ++ (append-nil (cond (same_card c sits.card && is_accepting f.verdict) (own_then s.number v ∷ []) []) ∙ last) i)
+            ∙ ap (λ (u : ℕ). flat_map (λ (g : Visit × Verdict). cond (same_card c g.0.card && is_accepting g.1) (own u g.0 ∷ []) []) x.told.course.found ++ cond (same_card sits.card c) (cond (is_accepting f.verdict) (session ∷ []) []) []) (sym number-x)
+          where
+            former : (fs : List (Visit × Verdict)) → AllByRecursion (IsApart at f.slot) fs →
+                flat_map (λ (g : Visit × Verdict). cond (same_card c g.0.card && is_accepting g.1) (own_then s.number g.0 ∷ []) []) fs ≡ flat_map (λ (g : Visit × Verdict). cond (same_card c g.0.card && is_accepting g.1) (own s.number g.0 ∷ []) []) fs
+            former [] all = refl
+            former (g ∷ fs) all = λ i. cond (same_card c g.0.card && is_accepting g.1) (own-kept s.number g.0 all.0 i ∷ []) [] ++ former fs all.1 i
+
+            split : (a b : Bool) → cond (a && b) (session ∷ []) [] ≡ cond a (cond b (session ∷ []) []) []
+            split true b = refl
+            split false b = refl
+
+            last : cond (same_card c sits.card && is_accepting f.verdict) (own_then s.number v ∷ []) [] ≡ cond (same_card sits.card c) (cond (is_accepting f.verdict) (session ∷ []) []) []
+            last =
+                ap (λ (k : ℕ). cond (same_card c sits.card && is_accepting f.verdict) (k ∷ []) []) (own-now s.number)
+                ∙ split (same_card c sits.card) (is_accepting f.verdict)
+                ∙ ap (λ (b : Bool). cond b (cond (is_accepting f.verdict) (session ∷ []) []) []) (card-turned c sits.card)
+
         pub opens : (P : Visit × Verdict → ℕ → Type 0) → ((g : Visit × Verdict) → Contains x.told.course.found g → is_accepting g.1 ≡ true → P g (own s.number g.0)) → (is_accepting f.verdict ≡ true → P e session) →
             (g : Visit × Verdict) → Contains y.told.course.found g → is_accepting g.1 ≡ true → P g (own_then s.number g.0)
         opens P old new g among accepts = ⊎_elim
@@ -569,7 +595,7 @@ module _ (log : RunLog) (before : Before) (s : TraceSecond) (n : ℕ) (power : h
 
 -- THE LAW
 pub find-adds : (dev : Devices) → AFindAdds dev
-find-adds dev o done p span s b n log r f here first sits there none enters session found_open = record {
+find-adds dev o done p span s b n log r f here first sits there none enters session found_open finds = record {
   kinds = judged-kinds session s.number s.speed f.slot sits.card (crew_at p done s (In n) log) f.verdict;
   on = λ more v.
       let before : Before = (went p.log done).before in
@@ -587,7 +613,14 @@ find-adds dev o done p span s b n log r f here first sits there none enters sess
       (aside n es (judged-none session s.number s.speed f.slot sits.card (crew_at p done s (In n) log) f.verdict))
       (fits log before s n power r.is r.up_to f here r_later.up_to sits there none enters v.here plain begun bare turn was)
       (opens log before s n power r.is r.up_to f here r_later.up_to sits there none enters v.here plain begun bare turn v.own session
-      (λ g k. IsOpenSo o (went p.log done).told (done ++ s ∷ []) dev g.0.card s.number k) (open-now o done p span s b (stage_in n) log later r.goes r_later.goes dev more es v) found_open);
+      (λ g k. IsOpenSo o (went p.log done).told (done ++ s ∷ []) dev g.0.card s.number k) (open-now o done p span s b (stage_in n) log later r.goes r_later.goes dev more es v) found_open)
+      (λ none_failed c valid.
+      let now : List ℕ = cond (same_card sits.card c) (cond (is_accepting f.verdict) (session ∷ []) []) [] in
+      ap (λ (us : List ℕ). times_of (uses_in o c (notes_in p.log done)) ++ us)
+      (opens-in log before s n power r.is r.up_to f here r_later.up_to sits there none enters v.here plain begun bare turn v.own session c)
+      ∙ sym (append_assoc (times_of (uses_in o c (notes_in p.log done))) (opened_in c v.own (seen_by log before s).told) now)
+      ∙ ap (λ (us : List ℕ). us ++ now) (exact-by o done p span s b log r.goes v.own v.exact_now none_failed c valid)
+      ∙ sym (finds none_failed c valid));
 }
   where
     comes : (running : Bool) → not running ≡ true → running ≡ false

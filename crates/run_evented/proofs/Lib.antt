@@ -1,5 +1,8 @@
 pub mod Opened
 pub mod Lines
+pub mod Noted
+pub mod Uses
+pub mod Exact
 pub mod Seconds
 pub mod Dark
 pub mod Ends

@@ -38,6 +38,7 @@ use Rattle.run_recorded.specs.Beside.{HaveLeftMore}
 use Rattle.run_evented.specs.Evented.{number_in, limit_in, events_now, brought_now, tearing_now, sessions_now, NotesMore, Evented}
 use Rattle.run_evented.specs.Noting.{Stage, Ended, is_told, ShowsThese, EventedIn, NotesThese, AStepIsNoted, AStageIsDone, stage_of, TheSecondBegins, TheSecondIsNoted, TheSecondIsCut, AreOpen}
 use Rattle.run_evented.proofs.Opened.{open-left, all-left}
+use Rattle.run_evented.proofs.Exact.{no-cut, exact-on, exact-begins}
 use Rattle.run_evented.proofs.Lines.{same-before, tells-so, front-same, early-before, sessions-on}
 use Rattle.run_evented.proofs.Seconds.{cut-goes, cut-failed, cut-untold}
 use Rattle.run_evented.proofs.Whole.{whole-told}
@@ -61,13 +62,14 @@ noted-more o more es d e P noted says c left =
     (was.0, was.1, λ log now. more-then (number_in o) log now more es was.0 at.0 c (was.2 log now) (at.2 log now))
 
 pub step-noted : (d e : Devices) → AStepIsNoted d e
-step-noted d e o done s p stage log later v here own es brings aside says left open_now = record {
+step-noted d e o done s p stage log later v here own es brings aside says left open_now exact_now = record {
   tearing = v.tearing;
   sessions = v.sessions;
   plain = v.plain;
   torn = v.torn;
   gaps = v.gaps;
   open_before = all-left o (went p.log done).told done d e v.sessions left v.open_before;
+  exact_before = v.exact_before;
   here = here;
   own = own;
   more = v.more ++ es;
@@ -75,6 +77,7 @@ step-noted d e o done s p stage log later v here own es brings aside says left o
   told = λ kind there is. by-more v.more es kind ∙ ap (λ (xs : List Event). xs ++ by_kind es kind) (v.told kind there is) ∙ sym (brings kind there is);
   untold = λ kind there not_yet. none-more v.more es kind (aside kind there not_yet) (v.untold kind there not_yet);
   open_now = open_now;
+  exact_now = exact_now;
 }
 
 pub bool-or : (b : Bool) → (b ≡ true) ⊎ (b ≡ false)
@@ -89,6 +92,7 @@ stage-done d e o done s p stage next log v es goes same brings aside says left =
   torn = v.torn;
   gaps = v.gaps;
   open_before = all-left o (went p.log done).told done d e v.sessions left v.open_before;
+  exact_before = v.exact_before;
   here = v.here;
   own = v.own;
   more = v.more ++ es;
@@ -99,6 +103,7 @@ stage-done d e o done s p stage next log v es goes same brings aside says left =
       (bool-or (is_told stage kind));
   untold = λ kind there not_yet. none-more v.more es kind (aside kind there not_yet) (v.untold kind there (not-before stage next kind goes not_yet));
   open_now = λ f there accepts. open-left o (went log done).told (done ++ s ∷ []) d e f.0.card s.number (v.own s.number f.0) left (v.open_now f there accepts);
+  exact_now = v.exact_now;
 }
   where
     append-none : (xs : List Event) → xs ++ [] ≡ xs
@@ -162,6 +167,7 @@ second-begins d o done p f v span is s number power =
       torn = v.events.torn;
       gaps = v.gaps;
       open_before = v.found_open;
+      exact_before = v.exact;
       here = plain;
       own = λ u x. 0;
       more = [];
@@ -169,6 +175,7 @@ second-begins d o done p f v span is s number power =
       told = λ kind there told. nothing-brought kind (limit_in o) (λ u x. 0) plain p.log (seen_spans (seen_of p.log done)) (seen_next p.log done s) (begins_with span) starts torn found told;
       untold = λ kind there untold. refl;
       open_now = λ x there accepts. absurd (none-there x (subst (λ (fs : List (Visit × Verdict)). Contains fs x) found there));
+      exact_now = exact-begins o p.log done s (λ u x. 0) found;
     }
   where
     none-there : (x : Visit × Verdict) → Contains [] x → ⊥
@@ -200,6 +207,7 @@ second-is_noted d o done p f span is s log mid now m v fits =
       gaps = goes-on p.log log p.unfound done s (same-before o done p f s log g) g.breaks.0 g.breaks.1 (front-same o done p f s log g) p.supply (Lit (span ++ next_told log done s ∷ [])) span span (next_told log done s) is refl v.gaps
           (ap (λ (t : Told). t.lit) told) (ap (λ (t : Told). t.starts) told);
       found_open = sessions-on o done p f s log g d d v.sessions v.own v.open_before (same-left o d) v.open_now;
+      exact = exact-on o done p f s log g v.sessions v.own v.exact_before v.exact_now;
     }
 
 pub empty-or : (es : List Event) → (es ≡ []) ⊎ (es ≡ [] → ⊥)
@@ -240,6 +248,7 @@ cut-by d e o done p f span is s at log waits mid now later m more broke rest is_
       gaps = breaks-off p.log cut p.unfound done s (same-before o done p f s cut g) g.breaks.0 g.breaks.1 (front-same o done p f s cut g) p.supply span is v.gaps (ap (λ (t : Told). t.lit) told) (ap (λ (t : Told). t.starts) told)
           (cut-untold o done p f s at log waits mid now m k);
       found_open = sessions-on o done p f s cut g d e v.sessions own v.open_before left open_now;
+      exact = λ none_failed c valid. no-cut log s.number k none_failed;
     }
 
 pub second-is_cut : (d e : Devices) → TheSecondIsCut d e

@@ -17,6 +17,7 @@ use Rattle.log_model.specs.Slots.{Slots, in_slot, other_slot}
 use Rattle.log_model.specs.Course.{Visit, Course, Before, Moved, card_in, visits, has_power, went}
 use Rattle.event_model.specs.declared.kinds.TheConstants.{DRIVING_WITHOUT_CARD, OVER_SPEEDING, POWER_INTERRUPTION, CARD_FAULT}
 use Rattle.event_model.specs.Events.{Event, Seen, Tearing, number_of, noted_with, with_card, accepted_card, seen_by, seen_of, seen_spans, torn_at, standing, found_events, is_first, beside_torn, fault_of, torn_in_turn}
+use Rattle.side_model.specs.Noted.{Note}
 use Rattle.safety_model.specs.Safe.{Devices}
 use Rattle.run_course.specs.Moments.{and_break, and_refused}
 use Rattle.run_course.proofs.Lookups.{break-more}
@@ -36,7 +37,10 @@ use Rattle.run_evented.proofs.Brought.{SameBefore, within-same, differ, faults-t
 use Rattle.run_evented.proofs.Bringing.{kinds-then, before-as, found-none, paired, torn-here, torn-beside, found-same, same, outs-none, outs-other, few-others, finds-same}
 use Rattle.run_evented.proofs.Refusing.{same-at, refusal-brings}
 use Rattle.run_evented.proofs.Tearing.{IsBeside, both-slot, cards-kept, turn-few, only-other, few-alone, map-few}
-use Rattle.run_evented.proofs.Adding.{power-now, OpenBy, fits-now, open-now, added, aside-acting}
+use Rattle.run_evented.specs.Uses.{notes_in, uses_in}
+use Rattle.run_evented.proofs.Noted.{second-alike}
+use Rattle.run_evented.proofs.Exact.{fewer-none}
+use Rattle.run_evented.proofs.Adding.{power-now, OpenBy, fits-now, open-now, exact-still, added, aside-acting}
 
 -- A REFUSAL
 pub refusal-adds : (d : Devices) → ARefusalAddsNothing d
@@ -52,7 +56,9 @@ refusal-adds d o done p span s b at log r line = record {
       ∙ sym (append-nil (second_events kind (limit_in o) v.own v.here log (seen_spans (seen_of p.log done)) (seen_by log before s))))
       (λ kind among off. refl)
       (subst (FitsSoFar Acting s v.here) (sym alike) (fits-now o done p span s b Acting log later r.goes r_later.goes d more [] v))
-      (subst (λ (x : Seen). OpenBy o done p span s b v.own x d) (sym alike) (open-now o done p span s b Acting log later r.goes r_later.goes d more [] v));
+      (subst (λ (x : Seen). OpenBy o done p span s b v.own x d) (sym alike) (open-now o done p span s b Acting log later r.goes r_later.goes d more [] v))
+      (exact-still o done p span s b log later r.goes v.own (λ none_failed. none_failed) (λ none_failed c valid. ap (λ (l : List Note). uses_in o c (notes_in p.log done ++ l)) (second-alike log later before s (same-at log line s.number)))
+      (ap (λ (x : Seen). x.told.course.found) alike) v.exact_now);
 }
 
 -- A CARD IS PULLED OUT, by the second's course
@@ -211,7 +217,7 @@ module _ (log : RunLog) (before : Before) (s : TraceSecond) (n : ℕ) (power : h
   }
 
 pub pull-adds : (dev : Devices) → APullAddsNothing dev
-pull-adds dev o done p span s b n log r slot line tear untorn empty none = record {
+pull-adds dev o done p span s b n log r slot line tear untorn finds empty none = record {
   kinds = tt;
   on = λ more v.
       let before : Before = (went p.log done).before in
@@ -223,5 +229,6 @@ pull-adds dev o done p span s b n log r slot line tear untorn empty none = recor
       (λ kind among off. refl)
       (fits-kept log before s n power r.is r.up_to slot line tear r_later.up_to untorn empty none v.here (fits-now o done p span s b Acting log later r.goes r_later.goes dev more [] v))
       (λ e among accepts. open-now o done p span s b Acting log later r.goes r_later.goes dev more [] v e
-      (subst (λ (l : List (Visit × Verdict)). Contains l e) (found-alike log before s n power r.is r.up_to slot line tear r_later.up_to untorn empty none v.here) among) accepts);
+      (subst (λ (l : List (Visit × Verdict)). Contains l e) (found-alike log before s n power r.is r.up_to slot line tear r_later.up_to untorn empty none v.here) among) accepts)
+      (exact-still o done p span s b log later r.goes v.own (λ none_failed. fewer-none log later (line ∷ []) refl none_failed) finds (found-alike log before s n power r.is r.up_to slot line tear r_later.up_to untorn empty none v.here) v.exact_now);
 }

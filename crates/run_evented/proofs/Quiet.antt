@@ -13,6 +13,7 @@ use Rattle.log_model.specs.Course.{Told, Visit, Went, second_told, went}
 use Rattle.log_model.proofs.Growth.{went-more}
 use Rattle.event_model.specs.Runs.{run_with, last_run, runs_behind}
 use Rattle.event_model.specs.Events.{Event, Seen, number_of, seen_of, seen_spans, is_bare, bare_event, over_event}
+use Rattle.side_model.specs.Noted.{Note}
 use Rattle.unit_course.specs.Followed.{Supply, Lit}
 use Rattle.safety_model.specs.Safe.{Devices}
 use Rattle.run_course.specs.Followed.{Progress, Followed}
@@ -32,6 +33,8 @@ use Rattle.run_evented.specs.Opened.{IsFirst}
 use Rattle.run_evented.specs.Evented.{number_in, limit_in}
 use Rattle.run_evented.specs.Going.{QuietSecondsBringNothing, SecondsAlikeEndNothing}
 use Rattle.run_evented.proofs.Dark.{says-same}
+use Rattle.run_evented.specs.Uses.{times_of, opened_on, notes_in, uses_in}
+use Rattle.run_evented.proofs.Exact.{next-notes, idle-notes, opened-append, all-none}
 use Rattle.run_evented.proofs.Unlit.{plain-last, behind-more}
 
 -- ---- quiet seconds
@@ -79,6 +82,15 @@ module _ (o : Origin) (done : List TraceSecond) (p : Progress) (f : Followed (ru
       ∙ ap (λ (w : Went). w.told) (told-all (suc n))
       ∙ ap (λ (ts : List Told). (went log done).told ++ ts) (quiet-last n p.next speed slots)
       ∙ sym (append_assoc (went log done).told (quiet_seconds n p.next speed slots) (quiet_second (p.next + n) speed slots ∷ [])))).1
+
+  -- and notes nothing
+  pub notes-on : (n : ℕ) → notes_in log (done ++ driven n p.next speed []) ≡ notes_in log done
+  notes-on zero = ap (notes_in log) (append-nil done)
+  notes-on (suc n) =
+      let front : List TraceSecond = done ++ driven n p.next speed [] in
+      ap (notes_in log) (sym (more-is n)) ∙ next-notes log front (plain_second n)
+      ∙ (λ i. notes-on n i ++ idle-notes log (went log front).before (plain_second n) refl (ap (λ (y : Told). y.course.found) (told-is n)) i)
+      ∙ append-nil (notes_in log done)
 
   record UpTo (n : ℕ) : Type 0 where
     seen : List Seen
@@ -149,6 +161,13 @@ quiet-brings_nothing d o done p f v t span is n speed seen q =
           absurd (omega (arith, gone.1)))
           (Contains-append_cases (went log done).told (quiet_seconds (suc n) p.next speed slots) y
           (subst (λ (w : Went). Contains w.told y) (quiet-are-told (rule_of o) (start_at o) o.from (first_of o) done p f t span is (suc n) speed) among));
+      exact = λ none_failed c valid.
+          ap (λ (w : Went). opened_on c v.sessions w.told) (quiet-are-told (rule_of o) (start_at o) o.from (first_of o) done p f t span is (suc n) speed)
+          ∙ opened-append c v.sessions (went log done).told (quiet_seconds (suc n) p.next speed slots)
+          ∙ ap (λ (us : List ℕ). opened_on c v.sessions (went log done).told ++ us) (all-none c v.sessions (quiet_seconds (suc n) p.next speed slots) (λ y among. quiet-found (suc n) p.next speed slots y among))
+          ∙ append-nil (opened_on c v.sessions (went log done).told)
+          ∙ v.exact none_failed c valid
+          ∙ ap (λ (l : List Note). times_of (uses_in o c l)) (sym (notes-on o done p f t span is speed (suc n)));
     }
 
 -- ---- nothing ends

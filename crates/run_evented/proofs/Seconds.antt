@@ -10,6 +10,7 @@ use Rattle.log_model.specs.Same.{SameAt}
 use Rattle.log_model.specs.Course.{Told, Visit, Went, went}
 use Rattle.event_model.specs.Events.{Event, Seen, Tearing, seen_of, seen_spans}
 use Rattle.side_model.specs.Done.{has_failed_in}
+use Rattle.side_model.specs.Noted.{Note}
 use Rattle.unit_course.specs.Lines.{cut_at}
 use Rattle.unit_course.specs.Followed.{Supply, Lit, Due, Lost, MayPower, IsDark, cuts_from}
 use Rattle.event_course.specs.Shown.{all_kinds}
@@ -35,8 +36,11 @@ use Rattle.run_recorded.specs.Origin.{Origin, rule_of, start_at, first_of}
 use Rattle.run_recorded.specs.Beside.{HaveLeftMore}
 use Rattle.run_recorded.specs.Seconds.{found_again}
 use Rattle.run_evented.specs.Opened.{AreOpenSo}
+use Rattle.run_evented.specs.Uses.{times_of, opened_on, uses_in}
 use Rattle.run_evented.specs.Evented.{number_in, limit_in, Evented, EventedBy, NotesMore, EventsStay, EventsAreFound, tearing_now, sessions_now, events_now, brought_now, IsChosen, ASecondIsNoted, ASecondIsBroken}
 use Rattle.run_evented.proofs.Opened.{all-left}
+use Rattle.run_evented.proofs.Noted.{notes-alike}
+use Rattle.run_evented.proofs.Exact.{found-none, exact-on}
 use Rattle.run_evented.proofs.Lines.{untold-now, same-before, tells-so, front-same, early-before, number-next, sessions-on, low-cuts}
 
 -- CALLS of which no event is told
@@ -55,6 +59,7 @@ events-stay d e o done log unfound next supply v says left = record {
   events = lines-shown (number_in o) o.recording.unit (limit_in o) log log unfound supply done v.tearing v.sessions {U = d.unit} {V = e.unit} v.events v.gaps (same-tells log unfound done) says;
   gaps = v.gaps;
   found_open = all-left o (went log done).told done d e v.sessions left v.found_open;
+  exact = v.exact;
 }
 
 -- POWER IS BACK
@@ -79,6 +84,10 @@ events-found d e o done p f v may k says left =
       events = lines-shown (number_in o) o.recording.unit (limit_in o) p.log later p.unfound p.supply done v.tearing v.sessions {U = d.unit} {V = e.unit} v.events v.gaps tells says;
       gaps = is-found p.log later p.unfound k p.supply done (dark-by p.supply p.next may) v.gaps same refl;
       found_open = subst (λ (ts : List Told). AreOpenSo o ts done e v.sessions) (sym (ap (λ (w : Went). w.told) (went-found p.log p.unfound k o.from done f.order))) (all-left o (went p.log done).told done d e v.sessions left v.found_open);
+      exact = λ none_failed c valid.
+          ap (λ (w : Went). opened_on c v.sessions w.told) (went-found p.log p.unfound k o.from done f.order)
+          ∙ v.exact (found-none p.unfound k p.log none_failed) c valid
+          ∙ ap (λ (l : List Note). times_of (uses_in o c l)) (sym (notes-alike p.log later done same));
     }
 
 -- ONE SECOND MORE
@@ -103,6 +112,7 @@ module _ (o : Origin) (done : List TraceSecond) (p : Progress) (f : Followed (ru
     events = second-shown (number_in o) o.recording.unit (limit_in o) p.log log p.unfound p.supply done s v.tearing here v.sessions own {U = d.unit} v.events v.gaps (tells-so o done p f s log g) (early-before o done p f s log g) choice.fits {V = e.unit} more are each;
     gaps = gaps;
     found_open = open-now;
+    exact = exact-on o done p f s log g v.sessions own v.exact choice.exact;
   }
 
   -- or a call failed in it
@@ -117,6 +127,7 @@ module _ (o : Origin) (done : List TraceSecond) (p : Progress) (f : Followed (ru
     events = failed-shown (number_in o) o.recording.unit (limit_in o) p.log log p.unfound p.supply done s v.tearing here v.sessions own {U = d.unit} v.events v.gaps (tells-so o done p f s log g) (early-before o done p f s log g) choice.fits failed behind-so {V = e.unit} each;
     gaps = gaps;
     found_open = open-now;
+    exact = exact-on o done p f s log g v.sessions own v.exact choice.exact;
   }
 
 pub second-noted : (d e : Devices) → ASecondIsNoted d e

@@ -45,6 +45,7 @@ use Rattle.run_evented.proofs.Bringing.{kinds-then, one-of, none-of, not-fault, 
 use Rattle.run_evented.proofs.Tearing.{and-none, same-self, slot-self, slot-apart, slot-beside, told_slot, both-slot, IsBeside, FirstBeside, turn-second, turn-few, only-other, few-alone, few-first, map-few}
 use Rattle.run_evented.proofs.Stood.{untorn-slot, stands-as, accepted-as, bare-as}
 use Rattle.run_evented.proofs.Noting.{by-more, bool-or}
+use Rattle.run_evented.proofs.Exact.{no-tear}
 use Rattle.run_evented.proofs.Adding.{power-now, starts-now, fits-now, open-now, added, aside-acting, aside-waking}
 
 slot-cases : (sl slot : Slot) → (sl ≡ slot) ⊎ (sl ≡ other_slot slot)
@@ -318,7 +319,8 @@ waking-tear_adds dev o done p s b log r bare slot sits line tear there turn rest
         before = λ sl nobody. was.before sl (sym (accepted sl) ∙ nobody);
         waking = was.waking;
       })
-      (λ e among accepts. open-now o done p [] s b Waking log later r.goes r_later.goes dev more es v e (subst (λ (l : List (Visit × Verdict)). Contains l e) found among) accepts);
+      (λ e among accepts. open-now o done p [] s b Waking log later r.goes r_later.goes dev more es v e (subst (λ (l : List (Visit × Verdict)). Contains l e) found among) accepts)
+      (λ none_failed c valid. no-tear s (In 0) slot line log tear none_failed);
 }
   where
     order-in : (slot : Slot) (log : RunLog) (s : TraceSecond) (t : Tearing) (y : Seen) → ComesInTurn slot log s.number → is_codriver_first t y (In 0) ≡ false → is_torn_in log s.number (In 0) (other_slot slot) ≡ true → FirstBeside (In 0) slot t y
@@ -384,6 +386,7 @@ with-more dev o done s stage log more v u sl = (
     untold = λ kind among off. ap (λ (l : List Event). by_kind l kind) (append-nil more) ∙ v.untold kind among off;
     fits = v.fits;
     open_now = v.open_now;
+    exact_now = v.exact_now;
   },
   refl,
 )
@@ -466,6 +469,7 @@ module _ (dev : Devices) (o : Origin) (done : List TraceSecond) (p : Progress) (
             ∙ ap (λ (l : List Event). l ++ by_kind intr kind) (v.untold kind among (acting-off (kind == DRIVING_WITHOUT_CARD) (kind == OVER_SPEEDING) (kind == POWER_INTERRUPTION) off)) ∙ intr-other kind (gap-off kind off);
         fits = record { put_in = v.fits.put_in; still = v.fits.still; before = v.fits.before; waking = λ is. absurd (awake is) };
         open_now = v.open_now;
+        exact_now = v.exact_now;
       },
       fits-waking.waking refl,
     )
@@ -554,7 +558,8 @@ module _ (dev : Devices) (o : Origin) (done : List TraceSecond) (p : Progress) (
                   (slot-cases sl slot);
               waking = λ is. absurd (awake is);
             })
-            (λ e among accepts. open-now o done p [] s b Acting log later r.goes r_later.goes dev more es v e (subst (λ (l : List (Visit × Verdict)). Contains l e) found among) accepts),
+            (λ e among accepts. open-now o done p [] s b Acting log later r.goes r_later.goes dev more es v e (subst (λ (l : List (Visit × Verdict)). Contains l e) found among) accepts)
+            (λ none_failed c valid. no-tear s (In 0) slot line log tear none_failed),
         set-other t slot,
         r_later,
       )

@@ -40,6 +40,7 @@ use Rattle.run_recorded.specs.Beside.{HaveLeftMore}
 use Rattle.run_recorded.specs.Seconds.{at_start, found_again}
 pub use Rattle.run_evented.specs.Opened.{session_in, images_in}
 use Rattle.run_evented.specs.Opened.{AreFirst, IsOpenSo, AreOpenSo}
+use Rattle.run_evented.specs.Uses.{TellExactly, AreExact, AreExactIn}
 
 -- the numbers of the cards, by their images at the start, and the limit of the unit
 abbrev pub number_in : Origin → Card → List ℕ
@@ -49,7 +50,7 @@ abbrev pub limit_in : Origin → ℕ
 limit_in o = number_of o.recording.unit SPEED_LIMIT
 
 -- WHAT IS CARRIED OF THE EVENTS behind these seconds: what no log tells of them, of cards that were torn out and of sessions that were found
--- open, of which nothing is chosen from the next second on; every image of the unit shows the events, by that; and it is known what was kept
+-- open (exactly, where no call failed), of which nothing is chosen from the next second on; every image of the unit shows the events, by that; and it is known what was kept
 -- between the power spans, but where a power-on failed. `unfound` is the first break of which it is not known.
 pub record Evented (o : Origin) (done : List TraceSecond) (log : RunLog) (unfound next : ℕ) (supply : Supply) (d : Devices) : Type 0 where
   pub tearing : Tearing
@@ -58,6 +59,7 @@ pub record Evented (o : Origin) (done : List TraceSecond) (log : RunLog) (unfoun
   pub events : HasEvents (number_in o) o.recording.unit (limit_in o) log done d.unit tearing sessions
   pub gaps : HasGaps log unfound supply done
   pub found_open : AreOpenSo o (went log done).told done d sessions
+  pub exact : AreExact o log done sessions
 
 -- how far a run has gone, as far as its events go
 abbrev pub EventedBy : Origin → List TraceSecond → Progress → Devices → Type 0
@@ -106,11 +108,12 @@ abbrev pub brought_now : Origin → RunLog → List TraceSecond → TraceSecond 
 brought_now o log done s here own kind = second_events kind (limit_in o) own here log (seen_spans (seen_of log done)) (seen_next log done s)
 
 -- WHAT NO LOG TELLS of a second is chosen so: of its tears, so that it fits it; and each acceptance found a session open that an image of the
--- card told, that of the start where it comes for the first time.
+-- card told, that of the start where it comes for the first time, and where no call failed that which the insertion before has left.
 pub record IsChosen (o : Origin) (log : RunLog) (done : List TraceSecond) (s : TraceSecond) (here : Tearing) (own : ℕ → Visit → ℕ) (d : Devices) : Type 0 where
   pub fits : IsTornIn here (seen_next log done s)
   pub found_open : (f : Visit × Verdict) → Contains (seen_next log done s).told.course.found f → is_accepting f.1 ≡ true →
       IsOpenSo o (went log done).told (done ++ s ∷ []) d f.0.card s.number (own s.number f.0)
+  pub exact : AreExactIn o log done s own
 
 -- A SECOND WITH POWER, to its end: all that it brings was noted.
 abbrev pub ASecondIsNoted : (d e : Devices) → Type 0
@@ -152,6 +155,7 @@ pub record ShowsEventsOf (r : Recording) (began now : Devices) (x : List ℕ) : 
   pub sessions : ℕ → Visit → ℕ
   pub are_sessions : AreSessions (λ c. (card_of now c).left_since (card_of began c).clock) session_in (told_of r) sessions
   pub are_first : AreFirst (card_image r) (told_of r) r.trace sessions
+  pub exact : TellExactly r sessions
   pub tearing : Tearing
   pub are_torn : AreTorn tearing (seen_of r.log r.trace)
   pub events : (kind : ℕ) → Contains told_kinds kind → are_sure r sessions tearing kind ≡ true → AreNoted (λ c. own_number (card_image r c)) (table_in kind r.unit) (events_in r sessions tearing kind) (table_in kind x)

@@ -1,4 +1,5 @@
 pub mod Opened
+pub mod Uses
 pub mod Evented
 pub mod Going
 pub mod Noting

@@ -27,6 +27,7 @@ use Rattle.run_events.specs.Choice.{IsTornIn, IsPlainFrom}
 use Rattle.run_recorded.specs.Origin.{Origin, rule_of, start_at, first_of}
 use Rattle.run_recorded.specs.Beside.{HaveLeftMore}
 use Rattle.run_evented.specs.Opened.{IsOpenSo, AreOpenSo}
+use Rattle.run_evented.specs.Uses.{AreExact, AreExactIn}
 use Rattle.run_evented.specs.Evented.{number_in, limit_in, events_now, brought_now, NotesMore, Evented, EventedBy}
 
 -- how far a second has come with its notes: at its power-on, before the interruption is noted; as its cards are judged and torn out; and once what
@@ -61,6 +62,7 @@ pub record EventedIn (o : Origin) (done : List TraceSecond) (s : TraceSecond) (p
   pub torn : AreTorn tearing (seen_of p.log done)
   pub gaps : HasGaps p.log p.unfound p.supply done
   pub open_before : AreOpenSo o (went p.log done).told done d sessions
+  pub exact_before : AreExact o p.log done sessions
   -- what no log tells of it, and what it has noted
   pub here : Tearing
   pub own : ℕ → Visit → ℕ
@@ -69,6 +71,7 @@ pub record EventedIn (o : Origin) (done : List TraceSecond) (s : TraceSecond) (p
   pub told : (kind : ℕ) → Contains all_kinds kind → is_told stage kind ≡ true → by_kind more kind ≡ brought_now o log done s here own kind
   pub untold : (kind : ℕ) → Contains all_kinds kind → is_told stage kind ≡ false → by_kind more kind ≡ []
   pub open_now : AreOpen o log done s own d
+  pub exact_now : AreExactIn o log done s own
 
 -- calls note these events
 abbrev pub NotesThese : Origin → List Event → (d e : Devices) → Type 0
@@ -79,7 +82,7 @@ NotesThese o es d e = (c : List ℕ) → e.unit.may_leave c → (x : List ℕ) �
 abbrev pub AStepIsNoted : (d e : Devices) → Type 0
 AStepIsNoted d e = (o : Origin) (done : List TraceSecond) (s : TraceSecond) (p : Progress) (stage : Stage) (log later : RunLog) → (v : EventedIn o done s p stage log d) → (here : Tearing) (own : ℕ → Visit → ℕ) (es : List Event) →
     ((kind : ℕ) → Contains all_kinds kind → is_told stage kind ≡ true → brought_now o later done s here own kind ≡ brought_now o log done s v.here v.own kind ++ by_kind es kind) →
-    ((kind : ℕ) → Contains all_kinds kind → is_told stage kind ≡ false → by_kind es kind ≡ []) → NotesThese o es d e → HaveLeftMore o d e → AreOpen o later done s own e →
+    ((kind : ℕ) → Contains all_kinds kind → is_told stage kind ≡ false → by_kind es kind ≡ []) → NotesThese o es d e → HaveLeftMore o d e → AreOpen o later done s own e → AreExactIn o later done s own →
     EventedIn o done s p stage later e
 
 -- A STAGE IS DONE: the events of the types that were put off are noted.

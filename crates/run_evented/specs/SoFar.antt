@@ -43,6 +43,7 @@ use Rattle.run_events.specs.Choice.{IsPlainFrom}
 use Rattle.run_recorded.specs.Origin.{Origin, rule_of, start_at, first_of}
 use Rattle.run_recorded.specs.Beside.{HaveLeftMore}
 use Rattle.run_evented.specs.Opened.{IsOpenSo, AreOpenSo}
+use Rattle.run_evented.specs.Uses.{AreExact, AreExactIn, FindsMore, FindsNone}
 use Rattle.run_evented.specs.Evented.{number_in, limit_in, brought_now, NotesMore, Evented, EventedBy}
 use Rattle.run_evented.specs.Noting.{Stage, Waking, Acting, Ended, is_told, AreOpen, ShowsThese, NotesThese, stage_of}
 use Rattle.run_evented.specs.Bringing.{NotFound}
@@ -79,6 +80,7 @@ pub record SoFar (o : Origin) (done : List TraceSecond) (s : TraceSecond) (stage
   pub untold : (kind : ℕ) → Contains all_kinds kind → is_told stage kind ≡ false → by_kind more kind ≡ []
   pub fits : FitsSoFar stage s here (seen_next log done s)
   pub open_now : AreOpen o log done s own d
+  pub exact_now : AreExactIn o log done s own
 
 -- LINES, or a stage that is done, ADD these events: from one log and stage to another. Steps follow one another by `more ++ es`.
 pub record Adds (o : Origin) (done : List TraceSecond) (s : TraceSecond) (stage : Stage) (log : RunLog) (next : Stage) (later : RunLog) (es : List Event) (d : Devices) : Type 0 where
@@ -99,6 +101,7 @@ pub record EventedNow (o : Origin) (done : List TraceSecond) (s : TraceSecond) (
   pub torn : AreTorn tearing (seen_of p.log done)
   pub gaps : HasGaps p.log p.unfound p.supply done
   pub open_before : AreOpenSo o (went p.log done).told done d sessions
+  pub exact_before : AreExact o p.log done sessions
   pub more : List Event
   pub noted : (c : List ℕ) → d.unit.may_leave c → (x : List ℕ) × ShowsEvents (number_in o) o.recording.unit p.log (λ kind. events_of kind (limit_in o) sessions tearing p.log done) x × ShowsThese o more x c
   pub so_far : SoFar o done s stage log more d
@@ -197,7 +200,7 @@ abbrev pub AFindAdds : Devices → Type 0
 AFindAdds d = (o : Origin) (done : List TraceSecond) (p : Progress) (span : List Told) (s : TraceSecond) → BeginsNow o done p span s → (n : ℕ) (log : RunLog) → Reaches p s (In n) log →
     (f : Find) → IsFindAt s (In n) f → (n ≡ 0 → AreBare (went p.log done).before.slots × ComesInTurn f.slot log s.number) →
     (x : Sitting) → in_slot (course_at log (went p.log done).before s (In n)).slots f.slot ≡ Some x → found_in log s.number (In n) f.slot ≡ [] → (moved_at log (went p.log done).before s (In n)).enters f.slot ≡ true →
-    (session : ℕ) → IsOpenWith o (went p.log done).told done s x.card f.verdict session d →
+    (session : ℕ) → IsOpenWith o (went p.log done).told done s x.card f.verdict session d → FindsMore o p.log done s log (and_find log f) x.card (if is_accepting f.verdict then session ∷ [] else []) →
     Adds o done s (stage_in n) log (stage_in n) (and_find log f) (judged_with session s.number s.speed f.slot x.card (crew_at p done s (In n) log) f.verdict) d
 
 -- A CARD IS TORN OUT AS IT IS JUDGED at a power-on: at rest before it is accepted.
@@ -226,7 +229,7 @@ ARefusalAddsNothing d = (o : Origin) (done : List TraceSecond) (p : Progress) (s
 -- a card is pulled out of a slot in an action: nobody is left in it
 abbrev pub APullAddsNothing : Devices → Type 0
 APullAddsNothing d = (o : Origin) (done : List TraceSecond) (p : Progress) (span : List Told) (s : TraceSecond) → BeginsNow o done p span s → (n : ℕ) (log : RunLog) → Reaches p s (In (suc n)) log →
-    (slot : Slot) (b : Break) → IsTearAt s (In (suc n)) slot false b → is_torn_in log s.number (In (suc n)) slot ≡ false →
+    (slot : Slot) (b : Break) → IsTearAt s (In (suc n)) slot false b → is_torn_in log s.number (In (suc n)) slot ≡ false → FindsNone o p.log done s log (and_break log b) →
     (moved_at log (went p.log done).before s (In (suc n))).leaving slot ++ visits (In (suc n)) slot (course_at log (went p.log done).before s (In (suc n))).slots ≡ [] → NotFound (In (suc n)) (other_slot slot) log s.number →
     Adds o done s Acting log Acting (and_break log b) [] d
 

@@ -14,12 +14,12 @@ use Rattle.card_layout.specs.Application.{IsApplication}
 use Rattle.card_layout.specs.Files.{image_size_of}
 use Rattle.card_layout.specs.Files.{files_of, place_of}
 use Rattle.card_model.specs.Days.{Day}
-use Rattle.card_records.specs.declared.vehicle.Vehicle.{Vehicle}
 use Rattle.card_image.specs.Fields.{file, card_number, session_time}
 use Rattle.card_image.proofs.Beside.{number_same}
 use Rattle.card_session.proofs.Marks.{sizes_still, behind_vehicles}
 use Rattle.card_image.specs.View.{CardView}
 use Rattle.card_image.specs.Own.{own_view, own_sizes, own_covered, own_number, IsOwnValid}
+use Rattle.card_session.specs.Vehicles.{Vehicles}
 use Rattle.card_session.specs.Sessions.{Session, IsSession}
 use Rattle.card_session.specs.Cards.{IsCard, IsCardKept, IsCardKeeping, grown}
 use Rattle.card_session.proofs.Stopping.{asked_at, days_there}
@@ -57,7 +57,7 @@ use Rattle.run_keeping.proofs.MarksOn.{moment-hold, kept-hold, same-marks}
 use Rattle.run_keeping.proofs.OnTheCard.{ready-here, each-kept, session-on, goes-on, ends-on}
 
 -- a keep leaves the card's number
-keep-number : (app : Application) (P : List Day → Option Vehicle → Type 0) (x y : List ℕ) → IsCard app P x y → card_number app y ≡ card_number app x
+keep-number : (app : Application) (P : List Day → Vehicles → Type 0) (x y : List ℕ) → IsCard app P x y → card_number app y ≡ card_number app x
 unfolding files_of
 keep-number app P x y is = number_same app x y (sizes_still app P x y is) (behind_vehicles app P x y is (place_of app (file 0x0520)) 17 (omega arith))
 

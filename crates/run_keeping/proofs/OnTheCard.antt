@@ -95,5 +95,5 @@ module _ (image : List ℕ) (has : List Entry) (s : Session) (e : Entry) (odomet
         let before = there was.0 was.1 in
         subst (λ (app : Application). MayEnd app y) (sym same)
         (keep_ends s.application sound was.0 before.0 before.1 (above_zero (session_time s.application was.0) before.2) (days_there s was.0 knows) s.registration odometer (grown s.odometer odometer) e y (asked_at s was.0 e.minute late knows)
-        (record { outside = was.2.card.outside; holds = was.2.card.holds; points = was.2.card.points; older = was.2.card.older; told = inr (was.2.card.told.0, inr was.2.card.told.1) })
-        (mark_at s.application (with_entry s.application.activity s.registration odometer (grown s.odometer odometer) (book_of s.application was.0) e) y was.2.card.told.1 ∙ used_at s.registration odometer e.minute (book_of s.application was.0).vehicle)))
+        (record { outside = was.2.card.outside; holds = was.2.card.holds; points = was.2.card.points; told = inr (was.2.card.told.0, inr was.2.card.told.1) })
+        (mark_at s.application (with_entry s.application.activity s.registration odometer (grown s.odometer odometer) (book_of s.application was.0) e) y was.2.card.told.1 ∙ used_at s.registration odometer e.minute (book_of s.application was.0).vehicles)))

@@ -1,4 +1,4 @@
--- What calls make of a card's days and of its newest vehicle entry, deed by deed, whichever of its images a stop may leave (profile).
+-- What calls make of a card's days and of its vehicle entries, deed by deed, whichever of its images a stop may leave (profile).
 use Rattle.std.specs.Prelude.{◌≡◌, ℕ, ◌++◌, Bool, true, false, not, Option, Some, None, List, [], ◌∷◌, map, nat_eq}
 use Rattle.activity_codec.specs.declared.values.Activity.{Activity}
 use Rattle.activity_codec.specs.declared.values.Activity.TheVariants.{Rest}
@@ -7,7 +7,8 @@ use Rattle.tach_media.specs.Medium.{State}
 use Rattle.tacho_types.specs.declared.numbers.Odometer.{Odometer}
 use Rattle.tacho_types.specs.declared.texts.Registration.{Registration}
 use Rattle.card_layout.specs.declared.files.Application.{Application}
-use Rattle.card_image.specs.Fields.{session_time}
+use Rattle.card_records.specs.declared.current_use.CurrentUse.{CurrentUse}
+use Rattle.card_image.specs.Fields.{current_use}
 use Rattle.card_session.specs.declared.session.Kept.{Kept}
 use Rattle.card_session.specs.Books.{Book, mark_of}
 use Rattle.card_session.specs.Sessions.{book_of}
@@ -20,18 +21,18 @@ abbrev pub made_by : (size : ℕ) → List Deed → Book → Book
 made_by size [] b = b
 made_by size (d ∷ ds) b = made_by size ds (after size d b)
 
--- a session is open on an image
-abbrev pub is_used : Application → List ℕ → Bool
-is_used app x = not (nat_eq (session_time app x) 0)
+-- a session is open in this use
+abbrev pub is_open_in : CurrentUse → Bool
+is_open_in use = not (nat_eq use.session.0 0)
 
--- A CARD SHOWS A BOOK, whichever of its images a stop may leave: these are its days and its newest vehicle entry; and a session is open on
--- it, or is not.
-abbrev pub ShowsBook : Application → Book → (used : Bool) → State → Type 0
-ShowsBook app b used card = (x : List ℕ) → card.may_leave x → (book_of app x ≡ b) × (is_used app x ≡ used)
+-- A CARD SHOWS A BOOK, whichever of its images a stop may leave: these are its days and its vehicle entries; and this is its current use: the
+-- session that is open on it, or none, and its vehicle.
+abbrev pub ShowsBook : Application → Book → CurrentUse → State → Type 0
+ShowsBook app b use card = (x : List ℕ) → card.may_leave x → (book_of app x ≡ b) × (current_use app x ≡ use)
 
--- CALLS DO THESE DEEDS on a card: of the book that it shows they make the one that it shows then. A session that is open on it stays so.
+-- CALLS DO THESE DEEDS on a card: of the book that it shows they make the one that it shows then. Its current use stays.
 abbrev pub DoesOn : Application → List Deed → (old new : State) → Type 0
-DoesOn app ds old new = (b : Book) (used : Bool) → ShowsBook app b used old → ShowsBook app (made_by app.activity ds b) used new
+DoesOn app ds old new = (b : Book) (use : CurrentUse) → ShowsBook app b use old → ShowsBook app (made_by app.activity ds b) use new
 
 -- ---- minutes that a session keeps
 
@@ -58,11 +59,18 @@ abbrev pub opens : (used : Bool) → Registration → (odometer : ℕ) → (lack
 opens false vehicle odometer lacks = Close Rest ∷ []
 opens true vehicle odometer lacks = Cut ∷ owed_keeps vehicle odometer lacks ++ Close Rest ∷ []
 
--- calls do it on a card: a session is open then
-abbrev pub OpensOn : Application → Registration → (odometer : ℕ) → (owed : List Entry) → (old new : State) → Type 0
-OpensOn app vehicle odometer owed old new = (b : Book) (used : Bool) → ShowsBook app b used old
-    → ShowsBook app (made_by app.activity (opens used vehicle odometer (lacked (mark_of b) owed)) b) true new
+-- the use of a session that begins, and of one that is closed: the vehicle stays
+abbrev pub begun_use : Registration → (second : ℕ) → CurrentUse
+begun_use vehicle u = record { session = record { 0 = u }; registration = vehicle }
+
+abbrev pub ended_use : CurrentUse → CurrentUse
+ended_use use = record { session = record { 0 = 0 }; registration = use.registration }
+
+-- calls do it on a card in a second: a session is open then, which began in it
+abbrev pub OpensOn : Application → Registration → (second odometer : ℕ) → (owed : List Entry) → (old new : State) → Type 0
+OpensOn app vehicle second odometer owed old new = (b : Book) (use : CurrentUse) → ShowsBook app b use old
+    → ShowsBook app (made_by app.activity (opens (is_open_in use) vehicle odometer (lacked (mark_of b) owed)) b) (begun_use vehicle second) new
 
 -- A WITHDRAWAL: the last words are closed with an activity; no session is open then
 abbrev pub ClosesOn : Application → Activity → (old new : State) → Type 0
-ClosesOn app act old new = (b : Book) (used : Bool) → ShowsBook app b used old → ShowsBook app (made_by app.activity (Close act ∷ []) b) false new
+ClosesOn app act old new = (b : Book) (use : CurrentUse) → ShowsBook app b use old → ShowsBook app (made_by app.activity (Close act ∷ []) b) (ended_use use) new

@@ -1,5 +1,4 @@
 pub mod Stands
-pub mod Noted
 pub mod OnCards
 pub mod Rings
 pub mod Withdrawn

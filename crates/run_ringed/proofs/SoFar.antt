@@ -35,7 +35,7 @@ use Rattle.run_recorded.specs.Beside.{HaveLeftMore}
 use Rattle.run_ringed.specs.Ringed.{Seating, Ringed, StaysInRings, GoOn, notes_in, noted_next, Since, since_behind, since_in}
 use Rattle.run_ringed.specs.SoFar.{noted_at, AreEarlier, RingedBehind, IsSecond, notes_so_far, RingedIn, AreFewer, HasMoreBreaks, ASecondBeginsInRings, RingsGoOn, AnActionNotesNothing, AnActionIsNoted, GoesBehind, TheSecondEndsInRings, ACutEndsInRings, DarkSecondsNoteNothing}
 use Rattle.run_ringed.proofs.Stands.{all-of, all-each}
-use Rattle.run_ringed.proofs.Noted.{second-notes}
+use Rattle.run_evented.proofs.Noted.{second-notes}
 use Rattle.run_ringed.specs.OnCards.{has_call_failed_in}
 use Rattle.run_ringed.proofs.OnCards.{any-front, call-failed-more, places-itself}
 use Rattle.run_ringed.proofs.Rings.{fewer-sit, rings-stay, come-before}

@@ -32,7 +32,7 @@ use Rattle.run_ringed.specs.Steps.{nobody}
 use Rattle.run_ringed.specs.Waking.{NoneFound, PowerBeginsInRings, IsFoundAnew, ASlotIsPassedAnew, ACardIsAcceptedAnew, AnAcceptanceIsCutAnew}
 use Rattle.run_ringed.specs.OnCards.{has_call_failed_in, PlacesStay}
 use Rattle.run_ringed.proofs.OnCards.{call-failed-more, places-itself}
-use Rattle.run_ringed.proofs.Noted.{notes-alike}
+use Rattle.run_evented.proofs.Noted.{notes-alike}
 use Rattle.run_ringed.proofs.Rings.{fewer-sit, rings-stay}
 use Rattle.run_ringed.proofs.Around.{insertion-around, insertion-cut}
 use Rattle.run_ringed.proofs.SoFar.{left-itself, failed-more, goes-alike, goes-earlier, cut-ends, come-in}

@@ -13,9 +13,9 @@ use Rattle.unit_notes.specs.Noting.{IsWithdrawn, IsWithdrawing}
 use Rattle.log_model.specs.Log.{RunLog}
 use Rattle.log_model.specs.Slots.{same_card}
 use Rattle.log_model.specs.Course.{went, Told}
-use Rattle.side_model.specs.Done.{done_by, done_of, has_failed_in}
+use Rattle.side_model.specs.Done.{has_failed_in}
 use Rattle.side_model.specs.Odometer.{SpanFrom, odometer_at}
-use Rattle.side_model.specs.Noted.{Acceptance, Withdrawal, InsertionNote, PlaceNote, Note, Accepts, Withdraws, Enters, noted_in, notes_of, insertions_of, places_of}
+use Rattle.side_model.specs.Noted.{Acceptance, Withdrawal, InsertionNote, PlaceNote, Note, Accepts, Withdraws, Enters, insertions_of, places_of}
 use Rattle.side_model.specs.Rings.{Holder, Stand, RingShows, IsInsertion, IsPlace, is_sure_insertion, is_sure_place}
 use Rattle.safety_model.specs.Recording.{Recording, card_image, told_of}
 use Rattle.safety_model.specs.Safe.{Devices, card_of}
@@ -23,6 +23,7 @@ use Rattle.safety_model.specs.Side.{holder_of, IsPrevious, TellsVehicle}
 use Rattle.card_image.specs.Fields.{newest_vehicle}
 use Rattle.card_image.specs.Own.{own_sizes}
 use Rattle.run_evented.specs.Opened.{HasComeBefore}
+pub use Rattle.run_evented.specs.Uses.{notes_in, noted_next}
 use Rattle.run_rule.specs.Found.{found_of}
 use Rattle.run_rings.specs.Carried.{Carries}
 pub use Rattle.run_rings.specs.Same.{HasSameRings, LeavesRings}
@@ -30,15 +31,6 @@ pub use Rattle.run_ringed.specs.OnCards.{HasRing, ShowsNotes}
 use Rattle.run_ringed.specs.OnCards.{has_call_failed_in, place_width, IsPlaceOn, PlacesOnCards, PlacesStay, PlaceIsTaken, HasPlaces, places_in, places_on, is_sure_on}
 use Rattle.run_recorded.specs.Origin.{Origin}
 use Rattle.run_recorded.specs.Beside.{HaveLeftMore}
-
--- ---- what is to be noted, by a log
-
--- what a run has noted behind these seconds, and what one second more notes
-abbrev pub notes_in : RunLog → List TraceSecond → List Note
-notes_in log ss = notes_of log (done_of log ss)
-
-abbrev pub noted_next : RunLog → List TraceSecond → TraceSecond → List Note
-noted_next log ss s = noted_in log (done_by log (went log ss).before s)
 
 -- ---- how rings show it
 

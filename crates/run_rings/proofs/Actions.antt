@@ -52,7 +52,7 @@ all-other log s n m (a ∷ as_) c lt =
     apart n m k lt = grind (arith, nat_tests)
 
 -- behind these actions nothing was found at the next one
-none-ahead : (log : RunLog) (before : Before) (s : TraceSecond) (front : List Action) → accepted_in s.number (In (length front + 1)) (course_behind log before s front).found ≡ []
+pub none-ahead : (log : RunLog) (before : Before) (s : TraceSecond) (front : List Action) → accepted_in s.number (In (length front + 1)) (course_behind log before s front).found ≡ []
 none-ahead log before s front =
     let zero_apart : nat_eq 0 (length front + 1) ≡ false = apart (length front) in
     all-other log s 0 (length front + 1) front (course_powered log before s) (omega arith)

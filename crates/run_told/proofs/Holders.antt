@@ -9,7 +9,6 @@ use Rattle.tacho_types.specs.Numbers.{time_bytes}
 use Rattle.card_layout.specs.declared.files.Application.{Application}
 use Rattle.card_layout.specs.Files.{files_of, place_of, size_of}
 use Rattle.tach_media.specs.Medium.{SameOutside, bytes_at}
-use Rattle.card_records.specs.declared.vehicle.Vehicle.{Vehicle}
 use Rattle.card_records.specs.declared.card_event.CardEvent.{CardEvent}
 use Rattle.card_records.specs.Noting.{IsNotingEvent, IsEventNoted}
 use Rattle.card_records.specs.Rings.{event_ring}
@@ -20,6 +19,7 @@ use Rattle.gated_ring.proofs.Places.{place_high}
 use Rattle.card_image.specs.Fields.{file, day_string, place_ring}
 use Rattle.card_image.specs.Beside.{HaveSame}
 use Rattle.card_session.specs.Cards.{IsCard, IsCardClosing, days_and_vehicles}
+use Rattle.card_session.specs.Vehicles.{Vehicles}
 use Rattle.card_session.specs.Books.{closed}
 use Rattle.card_session.specs.Sessions.{Session, book_of}
 use Rattle.card_session.specs.Moments.{IsBook, IsCloseMoment}
@@ -99,7 +99,7 @@ module _ (app : Application) (place size : ℕ) (apart : IsApart app place size)
   noted-file e x c noted = event-beside e.kind noted.place x c noted.takes.below noted.entry.outside
 
   -- THE DAYS and the vehicle entries leave it,
-  card-file : (P : List Day → Option Vehicle → Type 0) (x c : List ℕ) → IsCard app P x c → Same x c
+  card-file : (P : List Day → Vehicles → Type 0) (x c : List ℕ) → IsCard app P x c → Same x c
   card-file P x c is = ⊎_elim
       (λ behind. beside (day_string app).base (days_and_vehicles app) x c (inl behind) is.outside)
       (λ before. beside (day_string app).base (days_and_vehicles app) x c (inr before) is.outside)
@@ -132,7 +132,7 @@ module _ (app : Application) (place size : ℕ) (apart : IsApart app place size)
   then-stays : (x y c : List ℕ) → Stays x y → Stays y c → Stays x c
   then-stays x y c first next = (next.0 ∙ first.0, next.1 ∙ first.1)
 
-  card-stays : (P : List ℕ → List Day → Option Vehicle → Type 0) → Step (λ x c. IsCard app (P x) x c)
+  card-stays : (P : List ℕ → List Day → Vehicles → Type 0) → Step (λ x c. IsCard app (P x) x c)
   card-stays P x c fits is = (is.outside.same_length, card-file (P x) x c is)
 
   noted-stays : (now : ℕ) → Step (IsNoted app now)
@@ -222,7 +222,7 @@ module _ (app : Application) (x c : List ℕ) where
       (λ before. beside app place size u.apart (place_ring app).base (ring_size (place_ring app)) x c (inr before) noting.1.outside)
       u.places)
 
-  pub card-rest : (P : List Day → Option Vehicle → Type 0) → IsCard app P x c → HaveSameRest app x c
+  pub card-rest : (P : List Day → Vehicles → Type 0) → IsCard app P x c → HaveSameRest app x c
   card-rest P is = all-same (λ place size u. card-file app place size u.apart P x c is)
 
   pub inserting-rest : (registration : Registration) (odometer now : ℕ) (owed : List Entry) → length registration.0 ≡ 15 → place_of app (file 0x0507) + 19 ≤ length x → IsCardInserting app registration odometer owed now x c → HaveSameRest app x c
@@ -235,7 +235,7 @@ module _ (app : Application) (x c : List ℕ) where
   pub noted-places : (e : CardEvent) → IsEventNoted app e x c → HaveSameFile app 0x0506 x c
   noted-places e noted = noted-file app (place_of app (file 0x0506)) (size_of app (file 0x0506)) (places-apart app) e x c noted
 
-  pub card-places : (P : List Day → Option Vehicle → Type 0) → IsCard app P x c → HaveSameFile app 0x0506 x c
+  pub card-places : (P : List Day → Vehicles → Type 0) → IsCard app P x c → HaveSameFile app 0x0506 x c
   card-places P is = card-file app (place_of app (file 0x0506)) (size_of app (file 0x0506)) (places-apart app) P x c is
 
   pub inserting-places : (registration : Registration) (odometer now : ℕ) (owed : List Entry) → length registration.0 ≡ 15 → place_of app (file 0x0507) + 19 ≤ length x → IsCardInserting app registration odometer owed now x c → HaveSameFile app 0x0506 x c

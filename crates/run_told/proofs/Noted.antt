@@ -37,7 +37,7 @@ use Rattle.run_told.specs.Told.{AreFoundCards, IsOn, GoesOwing, owes_nothing, Al
 use Rattle.run_told.proofs.Parts.{both_of, as-steps, of-steps, CardLit, off-of, UnitLit, AreParts, MarksLit, parts-of, powered-of, powerless-of, owing-of, brought-on, at-card, at-other}
 use Rattle.run_told.proofs.Holders.{note-rest}
 use Rattle.run_told.proofs.OnCards.{own-holder-still, own-valid, valid-own, valid-or, no-marks, time-of, Rises, rises-run, none-falls, marks-on, brought-card, bound_of, held-on, valid-on, told-on}
-use Rattle.run_told.proofs.NotedCard.{note-ends, note-number, note-book, note-vehicles, note-session_time, note-goes, note-session}
+use Rattle.run_told.proofs.NotedCard.{note-ends, note-number, note-book, note-session_time, note-goes, note-session}
 
 -- ---- ON THE UNIT, whatever is put or owed
 
@@ -163,7 +163,7 @@ module _ (f : Found) (w : Carried) (c : Card) (U X Y : State) (two : f.card_a.nu
         same-sizes x n is note ∙ h.0,
         subst (λ (v : CardView). HoldsSince (own_sizes (found_of f c).image) (found_of f c).image (brought_by c (found_of f c).start w.book) (suc (max (found_of f c).start.word (since z v.newest))) n) (sym (same-view x n is note))
             (subst (λ (k : ℕ). HoldsSince (own_sizes (found_of f c).image) (found_of f c).image (brought_by c (found_of f c).start w.book) (suc (max (found_of f c).start.word k)) n) (both (le (own_view x).newest) (ge (own_view x).newest))
-            (beside_holds (own_sizes (found_of f c).image) (found_of f c).image x n (note-book (own_sizes (found_of f c).image) sound x (sound-at x is).1 n note) (note-vehicles (own_sizes (found_of f c).image) sound x (sound-at x is).1 n note)
+            (beside_holds (own_sizes (found_of f c).image) (found_of f c).image x n (note-book (own_sizes (found_of f c).image) sound x (sound-at x is).1 n note)
             (brought_by c (found_of f c).start w.book) (bound_of (found_of f c) (w.standing c) x) (note-session_time (own_sizes (found_of f c).image) sound x (sound-at x is).1 n note) h.1)),
       ))
       (λ x n is note. own-holder-still (own_sizes (found_of f c).image) x n (sound-at x is).0 (same-sizes x n is note ∙ (sound-at x is).0) (note-number (own_sizes (found_of f c).image) sound x (sound-at x is).1 n note) (note-rest (own_sizes (found_of f c).image) x n note)) whole one.held

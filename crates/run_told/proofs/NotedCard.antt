@@ -1,5 +1,5 @@
 -- An event or a place is noted on a card: its string and its session stay.
-use Rattle.std.proofs.Common.{◌≡◌, inl, inr, ⊎_elim, ℕ, ◌+◌, ◌/◌, ◌<◌, ◌≤◌, Option, Some, None, option_map, List, [], ◌∷◌, length, refl, ap, subst, ◌∙◌, sym, arith}
+use Rattle.std.proofs.Common.{◌≡◌, inl, inr, ⊎_elim, ℕ, ◌+◌, ◌/◌, ◌<◌, ◌≤◌, Option, option_map, List, [], ◌∷◌, length, refl, ap, subst, ◌∙◌, sym, arith}
 use Rattle.tach_media.specs.Medium.{bytes_at, SameOutside}
 use Rattle.byte_fields.specs.Images.{big_number}
 use Rattle.tach_media.proofs.Images.{part_after, part_put}
@@ -9,25 +9,20 @@ use Rattle.card_records.proofs.Sets.{set_inside}
 use Rattle.gated_ring.proofs.Places.{place_high}
 use Rattle.card_layout.specs.declared.files.Application.{Application}
 use Rattle.card_layout.specs.Application.{IsApplication, first_bad_field, place_of_field}
-use Rattle.card_records.specs.declared.vehicle.Vehicle.{Vehicle}
-use Rattle.card_records.specs.Vehicles.{vehicle_of}
 use Rattle.card_model.specs.Days.{Day}
-use Rattle.card_image.specs.Fields.{file, card_number, place_ring, day_string, vehicle_ring, card_days, last_of, vehicle_at, newest_vehicle, last_use, end_mark, session_time}
+use Rattle.card_image.specs.Fields.{file, card_number, place_ring, day_string, vehicle_ring, card_days, last_use, session_time}
 use Rattle.card_image.specs.Judging.{word_checks, IsValid}
-use Rattle.card_image.specs.Beside.{HaveSameDays, HaveSameVehicles, HaveSameIdentification}
+use Rattle.card_image.specs.Beside.{HaveSameIdentification}
 use Rattle.card_image.proofs.Beside.{days_same, session_same, last_use_same, number_same}
-use Rattle.gated_ring.specs.Ring.{place_of as entry_place, PointsInside, indices, IsNewest, size_of as ring_size}
-use Rattle.gated_ring.proofs.Orders.{Each}
-use Rattle.gated_ring.proofs.Listing.{indices_below}
-use Rattle.gated_ring.proofs.Elsewhere.{points_elsewhere, indices_elsewhere, entry_elsewhere, there_elsewhere}
+use Rattle.gated_ring.specs.Ring.{place_of as entry_place, PointsInside, size_of as ring_size}
+use Rattle.gated_ring.proofs.Elsewhere.{points_elsewhere, newest_elsewhere}
 use Rattle.cyclic_days.proofs.Elsewhere.{knows_elsewhere}
 use Rattle.cyclic_days.specs.Held.{Knows}
 use Rattle.card_session.specs.Books.{Book}
 use Rattle.card_session.specs.Sessions.{Session, IsSession, IsOpenBook, newest_in, book_of}
 use Rattle.card_session.proofs.OnCard.{ring_shape}
 use Rattle.card_steps.specs.Since.{GoesSince}
-use Rattle.card_session.specs.Vehicles.{KeepsVehicles}
-use Rattle.card_steps.proofs.Deeds.{beside_vehicles}
+use Rattle.card_steps.proofs.SameBook.{same_book}
 use Rattle.card_steps.proofs.Since.{goes_still}
 use Rattle.device_steps.specs.CardNotes.{IsNote}
 use Rattle.device_steps.proofs.CardNoted.{Leaves, left}
@@ -39,43 +34,6 @@ use Rattle.card_session.specs.Cards.{ended, MayEnd}
 use Rattle.card_session.proofs.InsertingAgain.{ended_keeps}
 use Rattle.card_session.proofs.InsertingUse.{use_inside}
 use Rattle.card_session.proofs.Stopping.{ended_same}
-
--- ---- the newest vehicle entry
-
-last_below : (n : ℕ) (js : List ℕ) → Each (λ j. j < n) js → (i : ℕ) → last_of js ≡ Some i → i < n
-last_below n [] all i is = cc
-last_below n (j ∷ []) all i is = subst (λ (k : ℕ). k < n) (some_is j i is) all.0
-  where
-    some_is : (j i : ℕ) → Some j ≡ Some i → j ≡ i
-    some_is j i is = cc
-last_below n (j ∷ k ∷ js) all i is = last_below n (k ∷ js) all.1 i is
-
-module _ (app : Application) (sound : IsApplication app) (x c : List ℕ) (known : PointsInside (vehicle_ring app) x) (same : HaveSameVehicles app x c) where
-  indices-same : indices (vehicle_ring app) c ≡ indices (vehicle_ring app) x
-  indices-same = indices_elsewhere (vehicle_ring app) (ring_shape app sound) x c same known
-
-  vehicle-same : (o : Option ℕ) → ((i : ℕ) → o ≡ Some i → i < app.vehicles) → vehicle_at app c o ≡ vehicle_at app x o
-  vehicle-same None below = refl
-  vehicle-same (Some i) below = ap (λ (l : List ℕ). Some (vehicle_of l)) (entry_elsewhere (vehicle_ring app) (ring_shape app sound) x c same i (below i refl))
-
-  pub newest-same : newest_vehicle app c ≡ newest_vehicle app x
-  unfolding newest_vehicle
-  newest-same =
-      ap (λ (js : List ℕ). vehicle_at app c (last_of js)) indices-same
-      ∙ vehicle-same (last_of (indices (vehicle_ring app) x)) (last_below app.vehicles (indices (vehicle_ring app) x) (indices_below (vehicle_ring app) x known))
-
-  pub newest-index : (o : Option ℕ) → IsNewest (vehicle_ring app) x o → IsNewest (vehicle_ring app) c o
-  newest-index None none = indices-same ∙ none
-  newest-index (Some i) last = record {
-    below = last.below;
-    there = there_elsewhere (vehicle_ring app) (ring_shape app sound) x c same i last.below ∙ last.there;
-    older = last.older;
-    indices_are = indices-same ∙ last.indices_are;
-  }
-
-  pub book-same : HaveSameDays app x c → book_of app c ≡ book_of app x
-  unfolding book_of
-  book-same days = ap (λ (v : Option Vehicle). record { days = card_days app c; vehicle = v }) newest-same ∙ ap (λ (ds : List Day). record { days = ds; vehicle = newest_vehicle app x }) (days_same app x c days)
 
 -- the number lies behind
 module _ (app : Application) where
@@ -105,10 +63,7 @@ module _ (app : Application) (sound : IsApplication app) (x : List ℕ) (valid :
   leaves = left app sound x valid c note
 
   pub note-book : book_of app c ≡ book_of app x
-  note-book = book-same app sound x c (pointer-passes (vehicle_ring app) x (valid-passes app x valid).vehicles) leaves.vehicles leaves.days
-
-  pub note-vehicles : KeepsVehicles app x c
-  note-vehicles = beside_vehicles app sound x c (pointer-passes (vehicle_ring app) x (valid-passes app x valid).vehicles) leaves.vehicles
+  note-book = same_book app sound x c (pointer-passes (vehicle_ring app) x (valid-passes app x valid).vehicles) leaves.days leaves.vehicles
 
   pub note-session_time : session_time app c ≡ session_time app x
   note-session_time = session_same app x c leaves.session
@@ -117,7 +72,7 @@ module _ (app : Application) (sound : IsApplication app) (x : List ℕ) (valid :
   note-number = number_same app x c leaves.sizes (note-identification app x c note)
 
   pub note-goes : (image : List ℕ) → (more : _) → (next : ℕ) → GoesSince app image more next x → GoesSince app image more next c
-  note-goes image more next goes = goes_still app image x c note-book note-vehicles more next goes
+  note-goes image more next goes = goes_still app image x c note-book more next goes
 
 -- ---- a card that would be valid, were its session ended
 
@@ -171,13 +126,13 @@ note-ends app sound x c long_x long_c valid note ends =
 pub note-session : (t : Session) (value : t.days.shape ≡ day_string t.application) (sound : IsApplication t.application) (x : List ℕ) (valid : IsValid t.application x) (c : List ℕ) → IsNote t.application x c → IsSession t x → IsSession t c
 note-session t value sound x valid c note knows =
     let leaves = left t.application sound x valid c note in
-    let same : book_of t.application c ≡ book_of t.application x = book-same t.application sound x c knows.card.points leaves.vehicles leaves.days in
+    let same : book_of t.application c ≡ book_of t.application x = same_book t.application sound x c knows.card.points leaves.days leaves.vehicles in
     record {
       card = record {
         days = subst (λ (b : Book). Knows t.days c b.days) (sym same) (knows_elsewhere t.days x c (subst (λ r. bytes_at c r.base (4 + r.size) ≡ bytes_at x r.base (4 + r.size)) (sym value) leaves.days) (book_of t.application x).days knows.card.days);
         points = points_elsewhere (vehicle_ring t.application) (ring_shape t.application sound) x c leaves.vehicles knows.card.points;
-        newest = newest-index t.application sound x c knows.card.points leaves.vehicles t.newest knows.card.newest;
-        vehicle = knows.card.vehicle ∙ ap (λ (b : Book). b.vehicle) (sym same);
+        newest = newest_elsewhere (vehicle_ring t.application) (ring_shape t.application sound) x c leaves.vehicles knows.card.points t.newest knows.card.newest;
+        vehicle = knows.card.vehicle ∙ ap (λ (b : Book). b.vehicles.newest) (sym same);
       };
       book = subst IsOpenBook (sym same) knows.book;
       minute = knows.minute ∙ ap newest_in (sym same);

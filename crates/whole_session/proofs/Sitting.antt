@@ -122,11 +122,11 @@ module _ (s : Session) (sound : IsApplication s.application) (image : List ℕ) 
   }
     where
       moment : IsCardKeeping s e odometer x y
-      moment = record { card = record { outside = now.card.outside; holds = now.card.holds; points = now.card.points; older = now.card.older; told = inr (now.card.told.0, inr now.card.told.1) } }
+      moment = record { card = record { outside = now.card.outside; holds = now.card.holds; points = now.card.points; told = inr (now.card.told.0, inr now.card.told.1) } }
 
       at : end_mark s.application y ≡ e.minute
       at = mark_at s.application (with_entry s.application.activity s.registration odometer (grown s.odometer odometer) (book_of s.application x) e) y now.card.told.1
-          ∙ used_at s.registration odometer e.minute (book_of s.application x).vehicle
+          ∙ used_at s.registration odometer e.minute (book_of s.application x).vehicles
 
       minute : t.minute ≡ e.minute
       minute =

@@ -4,7 +4,7 @@ use Rattle.card_session.proofs.laws.an_end_is_a_moment.Goals as goal
 
 pub returns-clause-keep : goal.returns-clause-keep
 returns-clause-keep c = λ s next e odometer x y kept. record {
-  card = record { outside = kept.card.outside; holds = kept.card.holds; points = kept.card.points; older = kept.card.older; told = inr (kept.card.told.0, inr kept.card.told.1) };
+  card = record { outside = kept.card.outside; holds = kept.card.holds; points = kept.card.points; told = inr (kept.card.told.0, inr kept.card.told.1) };
 }
 
 pub returns-clause-withdrawal : goal.returns-clause-withdrawal

@@ -2,7 +2,7 @@ use Rattle.card_steps.proofs.Since.{beside_holds, later_holds, brought_holds}
 use Rattle.card_steps.proofs.laws.a_string_holds_on.Goals as goal
 
 pub returns-clause-beside : goal.returns-clause-beside
-returns-clause-beside c = λ app image brought n x y same keeps session holds. beside_holds app image x y same keeps brought n session holds
+returns-clause-beside c = λ app image brought n x y same session holds. beside_holds app image x y same brought n session holds
 
 pub returns-clause-later : goal.returns-clause-later
 returns-clause-later c = λ app image brought n next x le holds. later_holds app image brought n next x le holds

@@ -215,7 +215,7 @@ returns-clause-evented g c = λ room o done s n waits fewer at speed next turn e
     } in
     let small : s.number < 2 ^ 32 = let second = c.requires.at in let here = ap (λ (m : Moment). m.second) at in let few = c.requires.small in omega (arith, second, here, few) in
     judged-evented o done s n waits fewer e run.keeper c.args.outcome.now run.unfound run.next run.begun run.minutes U X Y next.goes.within may next.goes.origin turn speed small (ungiven_of h.span) h.cabin
-    failed c.accept-answer.new.keeper run.noted c.accept-answer.new.noted c.accept-answer.new.outcome V Z w.0 gone sound events
+    failed c.accept-answer.new.keeper run.noted c.accept-answer.new.noted c.accept-answer.new.outcome V Z w.0 gone sound next.goes.stay events
     (judged-notes e failed w.0 run.keeper run.noted U V X Z Y (g.met.M.Medium.coherent c.args.unit.now) (g.met.M.Medium.coherent c.accept-answer.new.unit) c.requires.held.is_unit c.accept-answer.ensures.cause.works w.1.notes)
 
 -- ---- what is noted
@@ -335,6 +335,7 @@ returns-clause-cards g c = λ room o done s n waits fewer at speed next vehicle 
     judged-cards o done s n waits fewer e run.keeper c.args.outcome.now run.unfound run.next run.begun run.minutes U X Y next.goes.within may next.goes.origin vehicle speed
     failed c.accept-answer.new.keeper run.noted c.accept-answer.new.noted c.accept-answer.new.outcome V Z w.0 gone sound
     (sits-works e (measured w.0 e run.keeper) c.accept-answer.new.keeper run.noted (ending_of w.0) (g.C.Chip.card c.accept-answer.new.card) Z w.1.left.keeper c.accept-answer.ensures.card)
+    next.goes.stay
 
 -- ---- where no tear of a failed call is told no card has broken down
 

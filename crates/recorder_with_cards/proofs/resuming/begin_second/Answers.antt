@@ -177,7 +177,7 @@ returns-then-is_lit-clause-cards g c = λ o done s now rec time.
     in-carded_lit o done s new out d 0 (record {
       ringed = w;
       vehicle = ap (λ (r : Run). r.keeper.memory.registration) c.end_minute.ensures.run ∙ over-vehicle (run.next % 60 == 0) run ∙ rec.vehicle;
-      cards = begins-cards o done run out d rec lit s;
+      cards = begins-cards o done run out d rec lit s now.number now.given;
     })
 
 pub returns-in_err-power_on-clause-cards : goal.returns-in_err-power_on-clause-cards

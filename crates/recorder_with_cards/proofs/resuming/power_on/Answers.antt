@@ -309,7 +309,7 @@ returns-in-Ok-clause-cards g c = λ room o done s now all has time.
             (subst (λ (b : Bool). Stores b o (log_of out) run.unfound run.keeper.odometer all.ringed.spans (devices U X Y)) c.requires.dark all.ringed.stored));
       };
       vehicle = all.vehicle;
-      cards = unit-alone o (log_of out) _ _ U V X Y all.cards;
+      cards = unit-alone o done (log_of out) U V X Y all.cards;
     }) has time
 
 pub returns-in-Err-BadUnit-clause-cards : goal.returns-in-Err-BadUnit-clause-cards
@@ -348,7 +348,7 @@ returns-in-Err-Failed-clause-cards g c = λ room o done s now all has time.
     let low = c.requires.going.low in
     let number = now.number in
     let positive : 0 < s.number = omega (arith, low, number) in
-    let cut_shown = unpowered-cards o done s progressed rec.recorded.recorded.followed comes now.number now.given positive e (unit-alone o (log_of out) _ _ U V X Y all.cards) in
+    let cut_shown = unpowered-cards o done s progressed rec.recorded.recorded.followed comes now.number now.given positive e (unit-alone o done (log_of out) U V X Y all.cards) in
     let is_log : with_cut (log_of out) s [] ≡ log_of after = ap (λ (u : ℕ). and_break (log_of out) (cut_at u true 0)) now.number ∙ sym (ap log_of told) in
     let r = returns-in-Err-Failed-clause-ringed g c room o done s now all.ringed has time in
     in-carded_cut o done s c.cut.new.self after e 0 (record {

@@ -1326,7 +1326,7 @@ returns-in_err-mend-clause-cards g c = λ room o origin done s supply v r stay m
     let next_is = ap (λ (x : Values). x.next) values in
     let low = c.requires.going.low in
     let positive : 0 < s.number = omega (arith, number, next_is, low) in
-    let cut = unpowered-cards o done s q read.followed read.followed.power number given positive (devices W X Y) (subst (λ (l : RunLog). CardsBehind o done l (devices W X Y)) log (unit-alone o (log_of out) _ _ U W X Y shown)) in
+    let cut = unpowered-cards o done s q read.followed read.followed.power number given positive (devices W X Y) (subst (λ (l : RunLog). CardsBehind o done l (devices W X Y)) log (unit-alone o done (log_of out) U W X Y shown)) in
     subst (λ (f : Bool). CardsWoken f (log_of out) o done s run (log_of out) (devices W X Y)) failed (vehicle, subst (λ (l : RunLog). CardsBehind o (done ++ s ∷ []) (with_cut l s []) (devices W X Y)) (sym log) cut)
 
 pub returns-in_err-accept_anew-clause-cards : goal.returns-in_err-accept_anew-clause-cards
@@ -1366,7 +1366,7 @@ returns-in_err-accept_anew-clause-cards g c = λ room o origin done s supply v r
     let positive : 0 < s.number = omega (arith, number, next_is, low) in
     let log_is : log_of c.args.outcome.now ≡ woke.0.run.log = ap (λ (x : Values). x.log) values ∙ sym (ap (λ (q : Progress). q.log) is.0) in
     let vehicle_mid : mid.keeper.memory.registration ≡ vehicle_in o = ap (λ (k : Keeper). k.memory.registration) begun.keeper ∙ vehicle in
-    let cards_begun = wakes-cards o done s woke.0 (waiting_in Driver first_card ++ others) mid c.args.outcome.now (devices W X Y) woke.1 log_is (unit-alone o (log_of c.args.outcome.now) _ _ U W X Y shown) in
+    let cards_begun = wakes-cards o done s woke.0 (waiting_in Driver first_card ++ others) mid c.args.outcome.now (devices W X Y) woke.1 log_is (unit-alone o done (log_of c.args.outcome.now) U W X Y shown) in
     let cards_one = driver-woken o done s woke.0 first_card others mid c.args.outcome.now (devices W X Y) woke.1 once refl bare positive vehicle_mid cards_begun c.moment-at.result now c.args.speed speed_is (is_err c.accept_anew.result) one out1 c.accept_anew.ensures.accepted (devices V1 X1 Y1)
     (λ none P. same-devices P g.M.Medium.state g.C.Chip.state g.D.Chip.state c.mend.new.unit c.accept_anew.new.unit c.args.card_a.now c.accept_anew.new.card_a c.args.card_b.now c.accept_anew.new.card_b (c.accept_anew.ensures.still none)) time recorded_one (c.accept_anew.ensures.cards (omega (arith, room, few))) in
     let vehicle_one : one.keeper.memory.registration ≡ vehicle_in o = ap (λ (m : Identity). m.registration) same_one.0 ∙ vehicle_mid in
@@ -1430,7 +1430,7 @@ returns-in_err-accept_anew-2-clause-cards g c = λ room o origin done s supply v
     let positive : 0 < s.number = omega (arith, number, next_is, low) in
     let log_is : log_of c.args.outcome.now ≡ woke.0.run.log = ap (λ (x : Values). x.log) values ∙ sym (ap (λ (q : Progress). q.log) is.0) in
     let vehicle_mid : mid.keeper.memory.registration ≡ vehicle_in o = ap (λ (k : Keeper). k.memory.registration) begun.keeper ∙ vehicle in
-    let cards_begun = wakes-cards o done s woke.0 (waiting_in Driver first_card ++ others) mid c.args.outcome.now (devices W X Y) woke.1 log_is (unit-alone o (log_of c.args.outcome.now) _ _ U W X Y shown) in
+    let cards_begun = wakes-cards o done s woke.0 (waiting_in Driver first_card ++ others) mid c.args.outcome.now (devices W X Y) woke.1 log_is (unit-alone o done (log_of c.args.outcome.now) U W X Y shown) in
     let cards_one = driver-woken o done s woke.0 first_card others mid c.args.outcome.now (devices W X Y) woke.1 once refl bare positive vehicle_mid cards_begun c.moment-at.result now c.args.speed speed_is (is_err c.accept_anew.result) one out1 c.accept_anew.ensures.accepted (devices V1 X1 Y1)
     (λ none P. same-devices P g.M.Medium.state g.C.Chip.state g.D.Chip.state c.mend.new.unit c.accept_anew.new.unit c.args.card_a.now c.accept_anew.new.card_a c.args.card_b.now c.accept_anew.new.card_b (c.accept_anew.ensures.still none)) (time-before (devices V1 X1 Y1) (devices (g.M.Medium.state c.accept_anew-2.new.unit) (g.C.Chip.state c.accept_anew-2.new.card_a) (g.D.Chip.state c.accept_anew-2.new.card_b)) c.accept_anew-2.ensures.clock c.accept_anew-2.ensures.clock_a c.accept_anew-2.ensures.clock_b time) recorded_one (c.accept_anew.ensures.cards (omega (arith, room, few))) in
     let vehicle_one : one.keeper.memory.registration ≡ vehicle_in o = ap (λ (m : Identity). m.registration) same_one.0 ∙ vehicle_mid in
@@ -1508,7 +1508,7 @@ returns-then-is_first-clause-cards g c = λ room o origin done s supply v r stay
     let positive : 0 < s.number = omega (arith, number, next_is, low) in
     let log_is : log_of c.args.outcome.now ≡ woke.0.run.log = ap (λ (x : Values). x.log) values ∙ sym (ap (λ (q : Progress). q.log) is.0) in
     let vehicle_mid : mid.keeper.memory.registration ≡ vehicle_in o = ap (λ (k : Keeper). k.memory.registration) begun.keeper ∙ vehicle in
-    let cards_begun = wakes-cards o done s woke.0 (waiting_in Driver first_card ++ others) mid c.args.outcome.now (devices W X Y) woke.1 log_is (unit-alone o (log_of c.args.outcome.now) _ _ U W X Y shown) in
+    let cards_begun = wakes-cards o done s woke.0 (waiting_in Driver first_card ++ others) mid c.args.outcome.now (devices W X Y) woke.1 log_is (unit-alone o done (log_of c.args.outcome.now) U W X Y shown) in
     let cards_one = driver-woken o done s woke.0 first_card others mid c.args.outcome.now (devices W X Y) woke.1 once refl bare positive vehicle_mid cards_begun c.moment-at.result now c.args.speed speed_is (is_err c.accept_anew.result) one out1 c.accept_anew.ensures.accepted (devices V1 X1 Y1)
     (λ none P. same-devices P g.M.Medium.state g.C.Chip.state g.D.Chip.state c.mend.new.unit c.accept_anew.new.unit c.args.card_a.now c.accept_anew.new.card_a c.args.card_b.now c.accept_anew.new.card_b (c.accept_anew.ensures.still none)) (time-before (devices V1 X1 Y1) (devices (g.M.Medium.state c.accept_anew-2.new.unit) (g.C.Chip.state c.accept_anew-2.new.card_a) (g.D.Chip.state c.accept_anew-2.new.card_b)) c.accept_anew-2.ensures.clock c.accept_anew-2.ensures.clock_a c.accept_anew-2.ensures.clock_b time) recorded_one (c.accept_anew.ensures.cards (omega (arith, room, few))) in
     let vehicle_one : one.keeper.memory.registration ≡ vehicle_in o = ap (λ (m : Identity). m.registration) same_one.0 ∙ vehicle_mid in
@@ -1601,7 +1601,7 @@ returns-clause-cards g c = λ room o origin done s supply v r stay may number gi
     let positive : 0 < s.number = omega (arith, number, next_is, low) in
     let log_is : log_of c.args.outcome.now ≡ woke.0.run.log = ap (λ (x : Values). x.log) values ∙ sym (ap (λ (q : Progress). q.log) is.0) in
     let vehicle_mid : mid.keeper.memory.registration ≡ vehicle_in o = ap (λ (k : Keeper). k.memory.registration) begun.keeper ∙ vehicle in
-    let cards_begun = wakes-cards o done s woke.0 (waiting_in Driver first_card ++ others) mid c.args.outcome.now (devices W X Y) woke.1 log_is (unit-alone o (log_of c.args.outcome.now) _ _ U W X Y shown) in
+    let cards_begun = wakes-cards o done s woke.0 (waiting_in Driver first_card ++ others) mid c.args.outcome.now (devices W X Y) woke.1 log_is (unit-alone o done (log_of c.args.outcome.now) U W X Y shown) in
     let cards_one = driver-woken o done s woke.0 first_card others mid c.args.outcome.now (devices W X Y) woke.1 once refl bare positive vehicle_mid cards_begun c.moment-at.result now c.args.speed speed_is (is_err c.accept_anew.result) one out1 c.accept_anew.ensures.accepted (devices V1 X1 Y1)
     (λ none P. same-devices P g.M.Medium.state g.C.Chip.state g.D.Chip.state c.mend.new.unit c.accept_anew.new.unit c.args.card_a.now c.accept_anew.new.card_a c.args.card_b.now c.accept_anew.new.card_b (c.accept_anew.ensures.still none)) (time-before (devices V1 X1 Y1) (devices (g.M.Medium.state c.accept_anew-2.new.unit) (g.C.Chip.state c.accept_anew-2.new.card_a) (g.D.Chip.state c.accept_anew-2.new.card_b)) c.accept_anew-2.ensures.clock c.accept_anew-2.ensures.clock_a c.accept_anew-2.ensures.clock_b time_two) recorded_one (c.accept_anew.ensures.cards (omega (arith, room, few))) in
     let vehicle_one : one.keeper.memory.registration ≡ vehicle_in o = ap (λ (m : Identity). m.registration) same_one.0 ∙ vehicle_mid in

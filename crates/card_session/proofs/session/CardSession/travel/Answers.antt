@@ -29,7 +29,7 @@ returns-clause-part g c =
     let s : Session = session i.application i.days i.vehicles i.newest i.vehicle i.registration i.minute i.odometer in
     let t : Session = session i.application c.set_distance.new.self i.vehicles i.newest i.vehicle i.registration i.minute i.odometer in
     km_part c.args.self.now value t c.args.km km c.tail.result (subst (λ (h : Held). (x : List ℕ) (days : List Day) → Knows h x days → c.tail.result ≡ tail_in h.shape x days) (ap (λ (s : Session). s.days) c.self.view_is) c.tail.ensures.newest) c.distance-km.ensures
-    (subst (λ (u : Session). DoesPart old new (is_err r) (IsPartDone u t HasDay (λ b. let n : Book = record { days = with_newest (with_km km) b.days; vehicle = b.vehicle } in n)) (IsPartMoment u HasDay (λ b ds v. ((ds ≡ b.days) ⊎ (ds ≡ with_newest (with_km km) b.days)) × (v ≡ b.vehicle)))) c.self.view_is
+    (subst (λ (u : Session). DoesPart old new (is_err r) (IsPartDone u t HasDay (λ b. let n : Book = record { days = with_newest (with_km km) b.days; vehicles = b.vehicles } in n)) (IsPartMoment u HasDay (λ b ds v. ((ds ≡ b.days) ⊎ (ds ≡ with_newest (with_km km) b.days)) × (v ≡ b.vehicles)))) c.self.view_is
     (distance_part s t c.self.invariant (days_else i.application i.days i.vehicles i.newest i.vehicle i.registration i.minute i.odometer s refl c.set_distance.new.self)
     old new (is_err r) (subst (λ (p : Application). MayKeep p old) (ap (λ (u : Session). u.application) (sym c.self.view_is)) c.requires.card) (g.met.M.Medium.coherent c.args.port.now) km
     e.shape (λ fine. ok_gives r e.measured fine) (λ fine. ok_gives r e.knows fine) e.moments e.cause))

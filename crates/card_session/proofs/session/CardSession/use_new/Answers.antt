@@ -12,7 +12,6 @@ use Rattle.card_session.specs.Books.{Book, begun_vehicle, vehicle_counter}
 use Rattle.card_session.proofs.Composing.{failed_part}
 use Rattle.card_session.proofs.Keeping.{new_use_as}
 use Rattle.card_session.proofs.OnCard.{ring_in}
-use Rattle.card_session.specs.Vehicles.{IsFresh}
 use Rattle.card_session.proofs.OnRing.{new_with, vehicle_opens}
 use Rattle.card_session.proofs.Told.{ring_else}
 use Rattle.card_session.proofs.session.CardSession.use_new.Goals as goal
@@ -45,7 +44,7 @@ returns-in_err-index-clause-part g c =
     failed_part s t _ AnyBook (with_new_use s.registration k.odometer.0 k.entry.minute) (with_new_use s.registration k.odometer.0 k.entry.minute) (IsAddingUse s.registration k.odometer.0 k.entry.minute) (IsAddingUse s.registration k.odometer.0 k.entry.minute)
     (new_use_as s k.odometer.0 k.entry.minute t v begun_is
     (new_with s t value (record { application = refl; days = refl; registration = refl; minute = refl; odometer = refl }) old (g.M.Medium.state c.add.new.medium) true c.requires.card (g.met.M.Medium.coherent c.args.port.now) 0 v head
-    vehicle_long c.write_vehicle.ensures.reads_back (subst IsFresh (sym begun_is) (refl, refl)) refl c.self.inside.vehicles (c.self.invariant.vehicles ∙ ap (λ (s : Session). vehicle_ring s.application) c.self.view_is) (λ fine. absurd (cc)) (λ fine. absurd (cc)) (λ fine. absurd (cc)) e.moments e.cause)) failed
+    vehicle_long c.write_vehicle.ensures.reads_back refl c.self.inside.vehicles (c.self.invariant.vehicles ∙ ap (λ (s : Session). vehicle_ring s.application) c.self.view_is) (λ fine. absurd (cc)) (λ fine. absurd (cc)) (λ fine. absurd (cc)) e.moments e.cause)) failed
     (λ b ds u any q. q)
 
 pub returns-clause-part : goal.returns-clause-part
@@ -64,4 +63,4 @@ returns-clause-part g c =
     let index = c.in_ok-index.index in
     new_use_as s k.odometer.0 k.entry.minute _ v begun_is
     (new_with s _ value (ring_else i.application i.days i.vehicles i.newest i.vehicle i.registration i.minute i.odometer s c.self.view_is c.add.new.self (Some index) (Some v)) old (g.M.Medium.state c.add.new.medium) false c.requires.card (g.met.M.Medium.coherent c.args.port.now) index v head
-    vehicle_long c.write_vehicle.ensures.reads_back (subst IsFresh (sym begun_is) (refl, refl)) refl c.self.inside.vehicles (c.self.invariant.vehicles ∙ ap (λ (s : Session). vehicle_ring s.application) c.self.view_is) (λ fine. refl) (λ fine. e.index) (λ fine. e.added) e.moments e.cause)
+    vehicle_long c.write_vehicle.ensures.reads_back refl c.self.inside.vehicles (c.self.invariant.vehicles ∙ ap (λ (s : Session). vehicle_ring s.application) c.self.view_is) (λ fine. refl) (λ fine. e.index) (λ fine. e.added) e.moments e.cause)

@@ -16,7 +16,7 @@ use Rattle.event_model.specs.Events.{Seen}
 use Rattle.side_model.specs.Done.{CarriedOut, Done, carried_from, course_powered, done_by, done_from, done_of}
 use Rattle.side_model.specs.Noted.{Note, accepted_at, noted_by, noted_in, notes_of}
 use Rattle.run_events.proofs.Later.{seen-by-same, told-number}
-use Rattle.run_ringed.specs.Ringed.{notes_in, noted_next}
+use Rattle.run_evented.specs.Uses.{notes_in, noted_next}
 
 flat-same : {X : Type 0} (f g : X → List Note) → ((x : X) → f x ≡ g x) → (xs : List X) → flat_map f xs ≡ flat_map g xs
 flat-same f g each [] = refl
@@ -85,12 +85,15 @@ module _ (log later : RunLog) where
       (flat-same (λ a. noted_by later d.told.second.number a a.action ++ accepted_at d (In (a.before + 1))) (λ a. noted_by log d.told.second.number a a.action ++ accepted_at d (In (a.before + 1)))
       (λ a. ap (λ (l : List Note). l ++ accepted_at d (In (a.before + 1))) (noted-by-same d.told.second.number same a a.action)) d.carried)
 
+  -- what a second notes that both tell alike
+  pub second-alike : (before : Before) (s : TraceSecond) → SameAt log later s.number → noted_in later (done_by later before s) ≡ noted_in log (done_by log before s)
+  second-alike before s same = ap (noted_in later) (done-by-same before s same) ∙ noted-in-same (done_by log before s) (subst (λ (u : ℕ). SameAt log later u) (sym (told-number log before s)) same)
+
   notes-going : (before : Before) (ss : List TraceSecond) → All (λ s. SameAt log later s.number) ss → flat_map (noted_in later) (done_from later before ss) ≡ flat_map (noted_in log) (done_from log before ss)
   notes-going before [] all = refl
   notes-going before (s ∷ ss) all =
       let same : SameAt log later s.number = All-head (λ (s : TraceSecond). SameAt log later s.number) s ss all in
-      let here : noted_in later (done_by later before s) ≡ noted_in log (done_by log before s) =
-      ap (noted_in later) (done-by-same before s same) ∙ noted-in-same (done_by log before s) (subst (λ (u : ℕ). SameAt log later u) (sym (told-number log before s)) same) in
+      let here : noted_in later (done_by later before s) ≡ noted_in log (done_by log before s) = second-alike before s same in
       let rest : flat_map (noted_in later) (done_from later (before_next before (second_told later before s)) ss) ≡ flat_map (noted_in log) (done_from log (before_next before (second_told log before s)) ss) =
       notes-going (before_next before (second_told later before s)) ss (All-tail (λ (s : TraceSecond). SameAt log later s.number) s ss all)
       ∙ ap (λ (t : Told). flat_map (noted_in log) (done_from log (before_next before t) ss)) (second-same before s same) in
