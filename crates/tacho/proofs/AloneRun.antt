@@ -1,5 +1,5 @@
 -- WHAT A RUN WITH CARDS PROMISES is what a run on the unit alone promises, where its trace has no card's line.
-use Rattle.std.proofs.Common.{◌≡◌, ◌∙◌, ◌⊎◌, ℕ, ◌+◌, ◌<◌, Bool, true, false, cond, List, [], ◌∷◌, length, refl, ap, sym, subst}
+use Rattle.std.proofs.Common.{◌≡◌, ◌∙◌, ℕ, cond, List, [], ◌∷◌, refl, ap, sym, subst}
 use Rattle.std.specs.Prelude.{nat_eq}
 use Rattle.trace_model.specs.declared.Card.{Card}
 use Rattle.trace_model.specs.declared.Item.{Item}
@@ -11,7 +11,7 @@ use Rattle.tach_media.specs.Medium.{State}
 use Rattle.log_model.specs.Log.{RunLog}
 use Rattle.log_model.specs.Course.{Told, Visit, went}
 use Rattle.log_model.specs.Spans.{spans_of}
-use Rattle.log_model.specs.Causes.{HasCauses, cuts, device_of}
+use Rattle.log_model.specs.Causes.{HasCauses, device_of}
 use Rattle.event_model.specs.declared.kinds.TheConstants.{OVER_SPEEDING}
 use Rattle.event_model.specs.Events.{Event, Tearing, events_of}
 use Rattle.history_model.specs.Minutes.{HistoryMinute}
@@ -24,9 +24,9 @@ use Rattle.safety_model.specs.Recording.{Recording, card_image, start_of}
 use Rattle.safety_model.specs.Recording.{history_of as history_in, lost_of as lost_in}
 use Rattle.safety_model.specs.Unit.{UnitSafe, HasEachDecided, IsFilled}
 use Rattle.safety_model.specs.Side.{first_begin as first_in}
-use Rattle.side_model.specs.Noted.{Note, insertions_of, places_of}
+use Rattle.side_model.specs.Noted.{insertions_of, places_of}
 use Rattle.side_model.specs.Tables.{table_in, AreNoted}
-use Rattle.event_course.specs.Plain.{IsWithoutCards, OnlySelect, plain_events}
+use Rattle.event_course.specs.Plain.{IsWithoutCards, OnlySelect}
 use Rattle.event_course.specs.Noted.{are_sure}
 use Rattle.event_course.specs.Shown.{first_begin, first_on, count_on, ShowsRun}
 use Rattle.event_course.proofs.Bridge.{events-plain}
