@@ -140,6 +140,7 @@ module _ (U V : State) (is : IsRead U V) where
         over_count = h.shows.over_count;
       };
       first = h.first;
+      exact = h.exact;
       insertions = λ dense. subst (λ (k : Card → State). RingShows insertion_ring (is_sure_insertion r.log h.shows.spans (holder_of r)) (λ n e. IsInsertion r.log h.shows.spans (holder_of r)
           (λ c registration time. IsPrevious r (card_of p c).clock (k c) registration time × (TellsAtStart r c registration time ⊎ HasComeBefore (told_of r) r.trace c n.accepted.second)) n e) (insertions_of (notes_in r)) r.unit y)
           (λ i c. same-card c i) (h.insertions dense);
@@ -194,7 +195,7 @@ module _ (U V : State) (is : IsRead U V) where
                 owed = s.owed;
                 only = s.only;
                 shows = λ c valid. subst (λ (x : State). ShowsStays s.vehicle (card_image r c) (s.stays c) x) (same-card c) (s.shows c valid);
-                ends = s.ends;
+                closed = s.closed;
               };
           kept = more-found (U.left_since p.unit.clock) (V.left_since p.unit.clock) (λ y left. is.leaves.keeps p.unit.clock y before left) r.log (spans_of (told_of r)) h.kept;
           dense = record { insertions = λ dense y left. h.dense.insertions dense y (now-back y left); places = λ dense y left. h.dense.places dense y (now-back y left) };
