@@ -50,7 +50,8 @@ agreed-days j m x agrees day = elim (cases_lt 0 j.kept) as (λ v. HasDays j.kept
       let older : List ℕ = (agrees.newest some).0 in
       let n = (agrees.newest some).1 in
       let is : unit_days x ≡ map (day_at x) older ++ day_at x j.index ∷ [] = all_days x ∙ ap (map (day_at x)) n.order_is ∙ map-append (day_at x) older (j.index ∷ []) in
-      let today : day_of (day_at x j.index) ≡ j.kept / 1440 = let date = date_in x j.index ∙ n.date in omega (arith, date) in
+      let whole : 86400 * (j.kept / 1440) / 86400 ≡ j.kept / 1440 = omega arith in
+      let today : day_of (day_at x j.index) ≡ j.kept / 1440 = ap (λ (d : ℕ). d / 86400) (date_in x j.index ∙ n.date) ∙ whole in
       record {
         low = subst (All (λ (d : StoredDay). day_of d ≤ j.kept / 1440)) (sym is)
             (All-push (λ (d : StoredDay). day_of d ≤ j.kept / 1440) (map (day_at x) older) (day_at x j.index)
@@ -63,7 +64,7 @@ agreed-days j m x agrees day = elim (cases_lt 0 j.kept) as (λ v. HasDays j.kept
       let later : 0 < m / 1440 = omega (arith, day) in
       record {
         low = subst (All (λ (d : StoredDay). day_of d ≤ j.kept / 1440)) (sym is) (All-nil (λ (d : StoredDay). day_of d ≤ j.kept / 1440));
-        last = subst (IsLast j.kept m) (sym is) (let zero_kept : j.kept / 1440 ≡ 0 = omega (arith, none) in omega (arith, zero_kept, later));
+        last = subst (IsLast j.kept m) (sym is) (let zero_kept : j.kept / 1440 ≡ 0 = omega (arith, none) in let lt : j.kept / 1440 < m / 1440 = omega (arith, zero_kept, later) in lt);
       }
 ]
 
@@ -98,7 +99,8 @@ module _ (k : ℕ) (m : Coming) (x : List ℕ) where
       by false is =
           let other : day_of d ≢ m.minute / 1440 = grind (arith, nat_tests, is) in
           let le : k / 1440 ≤ m.minute / 1440 = omega (arith, later) in
-          let lt : k / 1440 < m.minute / 1440 = omega (arith, le, other, last) in
+          let newest : day_of d ≡ k / 1440 = last in
+          let lt : k / 1440 < m.minute / 1440 = ⊎_elim (λ (lt : k / 1440 < m.minute / 1440). lt) (λ ge. absurd (other (omega (arith, le, ge, newest)))) (cases_lt (k / 1440) (m.minute / 1440)) in
           All-cons IsEither (closed_day k d) (begun_day m ∷ []) (inl (All-head IsOld d [] h)) (All-cons IsEither (begun_day m) [] (inr (lt, day-begun, refl)) (All-nil IsEither))
   with-all later (d ∷ e ∷ ds) h last =
       All-cons IsEither d (days_with k m (e ∷ ds)) (inl (All-head IsOld d (e ∷ ds) h)) (with-all later (e ∷ ds) (All-tail IsOld d (e ∷ ds) h) last)
