@@ -33,11 +33,12 @@ use Rattle.unit_model.specs.declared.layout.TheConstants.{HIGHEST_ODOMETER}
 use Rattle.unit_model.specs.Image.{number_of, last_kept, odometer_at}
 use Rattle.unit_model.specs.Decoding.{Decodes}
 use Rattle.unit_rule.specs.Odometer.{HasTravelled}
+use Rattle.unit_rule.specs.Rule.{started}
 use Rattle.unit_rule.proofs.Travelling.{travelled-opened}
 use Rattle.unit_journal.specs.Image.{IsFoundBy}
 use Rattle.unit_journal.proofs.Beside.{passes_beside}
 use Rattle.unit_memory.specs.declared.format.Identity.{Identity}
-use Rattle.safety_model.specs.Recording.{Recording, card_image, brought}
+use Rattle.safety_model.specs.Recording.{Recording, card_image, brought, history_of, lost_of}
 use Rattle.safety_model.specs.Safe.{Devices, card_of, breakdowns_of, MayBegin}
 use Rattle.slot_machine.specs.Kept.{nothing_yet}
 use Rattle.run_crew.specs.declared.cards.Accepted.{Accepted}
@@ -101,6 +102,7 @@ use Rattle.recorder_with_cards.proofs.SideShown.{insertions-inside, places-insid
 use Rattle.recorder_with_cards.proofs.Written.{are-written, keep-holders}
 use Rattle.recorder_with_cards.specs.Placed.{ShowsPlaces}
 use Rattle.recorder_with_cards.proofs.KeptAfter.{end-kept}
+use Rattle.recorder_with_cards.proofs.LastKept.{tells-last}
 use Rattle.run_acts.specs.Closings.{spells_of}
 use Rattle.run_acts.specs.Stays.{start_shown, AreTimely, registration_in, AreMerged, spells, sits_in, HasStays, ShowsStays}
 use Rattle.recorder_with_cards.proofs.AtEnd.{noted-at-end, sits-at-end}
@@ -207,6 +209,10 @@ module _ (x a b : List ℕ) (start : ℕ) (items : List Item) (began now : Devic
           timely = λ c valid. subst (λ (i : List ℕ). AreTimely run.keeper.memory.registration (own_sizes i).activity (all.stays c) (start_shown i)) (of_image c) (own none c valid).timely;
         };
     kept = end-kept o ss run out now h.evented.recorded h.spans h.ringed.spans_are h.stored;
+    last =
+        let hr = h.evented.recorded.recorded in
+        tells-last (started x began.unit.clock) (history_of r) (lost_of r) hr.due hr.book out.marks.items now.unit hr.recorded.followed.follows
+        (is-carried (seconds_of start items) (values_of run out) (carried (values_of run out) hr.due hr.book hr.standing hr.brought) h.evented.recorded.supply hr.held).unit;
     dense = record {
       insertions = λ dense y left. (h.ringed.ringed.insertions (record { points = insertions-inside x may.decodes; dense = dense }) y left).shows.carries.dense;
       places = λ dense y left. (h.ringed.ringed.places (record { points = places-inside x may.decodes; dense = dense }) y left).carries.dense;

@@ -18,7 +18,7 @@ use Rattle.history_model.specs.Minutes.{HistoryMinute}
 use Rattle.history_model.specs.Presence.{Start}
 use Rattle.message_model.specs.Records.{insertion_ring, unit_place_ring}
 use Rattle.unit_model.specs.declared.layout.TheConstants.{SPEED_LIMIT, FIRST_OVER, OVER_COUNT}
-use Rattle.unit_model.specs.Image.{recorded, number_of}
+use Rattle.unit_model.specs.Image.{recorded, last_kept, number_of}
 use Rattle.card_image.specs.Own.{own_number}
 use Rattle.safety_model.specs.Recording.{Recording, card_image, start_of}
 use Rattle.safety_model.specs.Recording.{history_of as history_in, lost_of as lost_in}
@@ -34,6 +34,7 @@ use Rattle.run_rule.specs.Between.{devices}
 use Rattle.run_outcome.specs.declared.outcome.Outcome.{Outcome}
 use Rattle.recorder_with_cards.specs.Words.{log_of}
 use Rattle.recorder_with_cards.specs.Ends.{recording_of, EndsTrace}
+use Rattle.recorder_with_cards.specs.LastKept.{TellsLast}
 use Rattle.tacho.specs.Blank.{no_image}
 use Rattle.tacho.specs.Alone.{IsForUnit, NoVerdict, history_of, lost_of, IsAlone}
 use Rattle.tacho.proofs.Cardless.{AreCardless, cardless, plain-told}
@@ -114,6 +115,8 @@ module _ (x : List ℕ) (start : ℕ) (items : List Item) (out : Outcome) (U V A
       insertions = λ dense y left. shows-old insertion_ring _ _ _ x y (ap insertions_of (notes-nothing log ss selects)) ((h.side.shows y left).insertions dense) (h.dense.insertions dense y left);
       places = λ dense y left. shows-old unit_place_ring _ _ _ x y (ap places_of (notes-nothing log ss selects)) ((h.side.shows y left).places dense) (h.dense.places dense y left);
       kept = h.kept;
+      last = subst (λ (is : List HistoryMinute). TellsLast (recorded x) (last_kept x) is (lost_of cards out start items) out.marks.items U.clock V) history-same
+          (subst (λ (ls : List (List HistoryMinute)). TellsLast (recorded x) (last_kept x) (history_in r) ls out.marks.items U.clock V) lost-same h.last);
       complete = h.ends.caused.complete.unit;
       whole = λ none.
           let w = h.ends.whole (none, no-failed-tears _ _ _ ss log selects h.ends.caused.causes) in (

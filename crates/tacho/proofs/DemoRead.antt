@@ -199,6 +199,11 @@ module _ (U V : State) (is : IsRead U V) where
                 timely = s.timely;
               };
           kept = more-found (U.left_since p.unit.clock) (V.left_since p.unit.clock) (λ y left. is.leaves.keeps p.unit.clock y before left) r.log (spans_of (told_of r)) h.kept;
+          last = record {
+            shown = λ y left. h.last.shown y (back p.unit.clock y before left);
+            began = h.last.began;
+            held = λ m at y left. h.last.held m at y (back m.clock y (h.ends.safe.unit.marked m at).clock left);
+          };
           dense = record { insertions = λ dense y left. h.dense.insertions dense y (now-back y left); places = λ dense y left. h.dense.places dense y (now-back y left) };
           holders = λ c valid y left. h.holders c valid y (told-back c y left);
           places = record { spans = h.places.spans; are_spans = h.places.are_spans; shows = λ c valid dense y left. h.places.shows c valid dense y (card-back c y left) };
