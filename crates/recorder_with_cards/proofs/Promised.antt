@@ -104,7 +104,7 @@ use Rattle.recorder_with_cards.specs.Placed.{ShowsPlaces}
 use Rattle.recorder_with_cards.proofs.KeptAfter.{end-kept}
 use Rattle.recorder_with_cards.proofs.LastKept.{tells-last}
 use Rattle.run_acts.specs.Closings.{spells_of}
-use Rattle.run_acts.specs.Stays.{registration_in, AreMerged, spells, sits_in, HasStays, ShowsStays}
+use Rattle.run_acts.specs.Stays.{start_shown, AreTimely, registration_in, AreMerged, spells, sits_in, HasStays, ShowsStays}
 use Rattle.recorder_with_cards.proofs.AtEnd.{noted-at-end, sits-at-end}
 use Rattle.run_recorded.specs.Whole.{NothingFailed}
 use Rattle.run_crew.specs.Cabin.{Stands}
@@ -206,6 +206,7 @@ module _ (x a b : List ℕ) (start : ℕ) (items : List Item) (began now : Devic
           only = λ c. ⊎_elim (λ none_. inl none_) (λ valid. inr (subst IsOwnValid (of_image c) valid)) (all.only c);
           shows = stay_shows none;
           closed = stay_spells none;
+          timely = λ c valid. subst (λ (i : List ℕ). AreTimely run.keeper.memory.registration (own_sizes i).activity (all.stays c) (start_shown i)) (of_image c) (own none c valid).timely;
         };
     kept = end-kept o ss run out now h.evented.recorded h.spans h.ringed.spans_are h.stored;
     last =

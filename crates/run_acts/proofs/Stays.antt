@@ -1,5 +1,5 @@
 -- The stays of a card, over what each call makes of it.
-use Rattle.std.proofs.Common.{◌≡◌, ◌∙◌, inl, inr, ℕ, Bool, true, false, List, [], ◌∷◌, ◌++◌, append_assoc, Option, Some, None, refl, ap, sym, subst}
+use Rattle.std.proofs.Common.{◌≡◌, ◌≤◌, ◌∙◌, inl, inr, ℕ, Bool, true, false, List, [], ◌∷◌, ◌++◌, append_assoc, Option, Some, None, refl, ap, sym, subst, arith}
 use Rattle.std.specs.Prelude.{not, is_some}
 use Rattle.std.specs.List.{AllByRecursion}
 use Rattle.std.proofs.lemmas.List.{append-nil}
@@ -9,8 +9,10 @@ use Rattle.tach_media.specs.Medium.{State}
 use Rattle.tacho_types.specs.declared.numbers.Odometer.{Odometer}
 use Rattle.tacho_types.specs.declared.texts.Registration.{Registration}
 use Rattle.card_layout.specs.declared.files.Application.{Application}
+use Rattle.card_image.specs.View.{card_view}
 use Rattle.card_image.specs.Own.{own_sizes}
 use Rattle.card_image.specs.Fields.{current_use}
+use Rattle.card_records.specs.declared.current_use.CurrentUse.{CurrentUse}
 use Rattle.card_session.specs.declared.session.Kept.{Kept}
 use Rattle.card_session.specs.Books.{Book, mark_of}
 use Rattle.card_session.specs.Sessions.{book_of}
@@ -23,7 +25,7 @@ use Rattle.run_keeping.specs.Deeds.{KeepsOn}
 use Rattle.run_keeping.proofs.CardDeeds.{made-append, keeps-append, last-append}
 use Rattle.log_model.specs.declared.lines.Find.{Find}
 use Rattle.run_acts.specs.Closings.{Spell, last_shut, with_last_shut}
-use Rattle.run_acts.specs.Stays.{Stay, Shown, closes, deeds_of, use_after, after_stay, after_stays, start_shown, founds, stay_spell, spells, as_noted, AreMerged, TellsOwed, GoesIn, StaysIn, HasStays}
+use Rattle.run_acts.specs.Stays.{Stay, Shown, closes, deeds_of, use_after, after_stay, after_stays, start_shown, stored_by, AreTimely, founds, stay_spell, spells, as_noted, AreMerged, TellsOwed, GoesIn, StaysIn, HasStays}
 
 -- ---- the last of some stays
 
@@ -70,6 +72,29 @@ on-last-owed f goes (t ∷ ss) all = last-owed f goes t ss all
 pub owed-more : (ss : List Stay) (s : Stay) → AllByRecursion TellsOwed ss → TellsOwed s → AllByRecursion TellsOwed (ss ++ s ∷ [])
 owed-more [] s all one = (one, tt)
 owed-more (t ∷ ss) s all one = (all.0, owed-more ss s all.1 one)
+
+-- which began when it did
+last-timely : (f : Stay → Stay) → ((s : Stay) → (f s).found ≡ s.found) → (vehicle : Registration) (size : ℕ) (t : Stay) (ss : List Stay) (p : Shown) → AreTimely vehicle size (t ∷ ss) p → AreTimely vehicle size (last_as f t ss) p
+unfolding last_as
+last-timely f same vehicle size t [] p h = (subst (λ (g : Find). stored_by p ≤ g.second) (sym (same t)) h.0, tt)
+last-timely f same vehicle size t (x ∷ ss) p h = (h.0, last-timely f same vehicle size x ss (after_stay vehicle size t p) h.1)
+
+on-last-timely : (f : Stay → Stay) → ((s : Stay) → (f s).found ≡ s.found) → (vehicle : Registration) (size : ℕ) (ss : List Stay) (p : Shown) → AreTimely vehicle size ss p → AreTimely vehicle size (on_last f ss) p
+unfolding on_last
+on-last-timely f same vehicle size [] p h = tt
+on-last-timely f same vehicle size (t ∷ ss) p h = last-timely f same vehicle size t ss p h
+
+timely-more : (vehicle : Registration) (size : ℕ) (ss : List Stay) (s : Stay) (p : Shown) → AreTimely vehicle size ss p → stored_by (after_stays vehicle size ss p) ≤ s.found.second → AreTimely vehicle size (ss ++ s ∷ []) p
+timely-more vehicle size [] s p h le = (le, tt)
+timely-more vehicle size (t ∷ ss) s p h le = (h.0, timely-more vehicle size ss s (after_stay vehicle size t p) h.1 le)
+
+-- an image has the stored time of what it shows
+stored-own : (app : Application) (x : List ℕ) → (card_view app x).stored ≡ stored_by (record { book = book_of app x; use = current_use app x })
+unfolding card_view book_of
+stored-own app x = refl
+
+stored-shown : (app : Application) (x : List ℕ) (p : Shown) → book_of app x ≡ p.book → current_use app x ≡ p.use → (card_view app x).stored ≡ stored_by p
+stored-shown app x p is on = stored-own app x ∙ ap (λ (b : Book). stored_by (record { book = b; use = current_use app x })) is ∙ ap (λ (u : CurrentUse). stored_by (record { book = p.book; use = u })) on
 
 -- with none there is none
 pub on-last-none : (f : Stay → Stay) (ss : List Stay) → ss ≡ [] → on_last f ss ≡ []
@@ -163,16 +188,16 @@ module _ (f : CardFound) (vehicle : Registration) where
 
   -- at the start
   pub stays-start : (sits : Bool) (X : State) → ((y : List ℕ) → X.may_leave y → y ≡ f.image) → HasStays f vehicle [] sits [] None X
-  stays-start sits X only = record { shows = λ y left. (ap (book_of app) (only y left), ap (current_use app) (only y left)); goes = tt; spell = refl }
+  stays-start sits X only = record { shows = λ y left. (ap (book_of app) (only y left), ap (current_use app) (only y left)); goes = tt; spell = refl; timely = tt }
 
   -- nothing is done on it
   pub stays-still : (noted : List Spell) (sits : Bool) (ss : List Stay) (s : Option Accepted) (X Y : State) → DoesOn app [] X Y → HasStays f vehicle noted sits ss s X → HasStays f vehicle noted sits ss s Y
-  stays-still noted sits ss s X Y does h = record { shows = does (shown_by ss).book (shown_by ss).use h.shows; goes = h.goes; spell = h.spell }
+  stays-still noted sits ss s X Y does h = record { shows = does (shown_by ss).book (shown_by ss).use h.shows; goes = h.goes; spell = h.spell; timely = h.timely }
 
   -- its session and its seat become others, as it is noted, or its session is gone
   pub stays-moved : (noted now : List Spell) (sits sits_now : Bool) (ss : List Stay) (s t : Option Accepted) (X : State) → (StaysIn vehicle ss s → StaysIn vehicle ss t) → (as_noted s sits (spells ss) ≡ noted → as_noted t sits_now (spells ss) ≡ now) →
       HasStays f vehicle noted sits ss s X → HasStays f vehicle now sits_now ss t X
-  stays-moved noted now sits sits_now ss s t X goes spell h = record { shows = h.shows; goes = goes h.goes; spell = spell h.spell }
+  stays-moved noted now sits sits_now ss s t X goes spell h = record { shows = h.shows; goes = goes h.goes; spell = spell h.spell; timely = h.timely }
 
   -- it keeps some minutes
   module _ (noted : List Spell) (sits : Bool) (ss : List Stay) (ks : List Kept) (a b : Accepted) (X Y : State) (on : KeepsOn f ks (Some a) (Some b) X Y) (h : HasStays f vehicle noted sits ss (Some a) X) where
@@ -225,17 +250,26 @@ module _ (f : CardFound) (vehicle : Registration) where
         odometer = on.1 ∙ ap (λ (o : Option Odometer). last_odometer o ks) g.odometer ∙ sym (last-append None g.stay.kepts ks);
       };
       spell = noted-alike a b sits (spells (on_last (with_kepts ks) ss)) ∙ ap (λ (l : List Spell). as_noted (Some a) sits l) (on-last-kept ks ss) ∙ h.spell;
+      timely = on-last-timely (with_kepts ks) (λ s. refl) vehicle size ss (start_shown f.image) h.timely;
     }
 
   -- it is put in, and accepted
   module _ (noted now : List Spell) (sits sits_now : Bool) (ss : List Stay) (found : Find) (odometer : ℕ) (owed : List Entry) (a : Accepted) (X Y : State) (is : a.session.registration ≡ vehicle) (fresh : a.session.odometer ≡ None) (on : OpensOn app vehicle found.second odometer owed X Y)
-      (there : sits_now ≡ true) (more : now ≡ noted ++ record { second = found.second; slot = found.slot; withdrawn = false } ∷ []) (h : HasStays f vehicle noted sits ss None X) where
+      (there : sits_now ≡ true) (more : now ≡ noted ++ record { second = found.second; slot = found.slot; withdrawn = false } ∷ []) (early : (x : List ℕ) × X.may_leave x × ((card_view app x).stored ≤ found.second)) (h : HasStays f vehicle noted sits ss None X) where
     abbrev new_stay : Stay
     new_stay = record { found = found; odometer = odometer; owed = owed; kepts = []; closed = None }
 
     new-book : made_by size (deeds_of vehicle (is_open_in (shown_by ss).use) (shown_by ss).book new_stay) (shown_by ss).book
         ≡ made_by size (opens (is_open_in (shown_by ss).use) vehicle odometer (lacked (mark_of (shown_by ss).book) owed)) (shown_by ss).book
     new-book = parts new_stay (shown_by ss)
+
+    -- it begins in time
+    in-time : stored_by (shown_by ss) ≤ found.second
+    in-time =
+        let shown = h.shows early.0 early.1 in
+        let same = stored-shown app early.0 (shown_by ss) shown.0 shown.1 in
+        let le = early.2 in
+        omega (arith, same, le)
 
     pub stays-open : HasStays f vehicle now sits_now (ss ++ new_stay ∷ []) (Some a) Y
     stays-open = record {
@@ -245,6 +279,7 @@ module _ (f : CardFound) (vehicle : Registration) where
       spell =
           ap (λ (b : Bool). as_noted (Some a) b (spells (ss ++ new_stay ∷ []))) there ∙ spells-more ss new_stay
           ∙ ap (λ (l : List Spell). l ++ stay_spell new_stay ∷ []) h.spell ∙ sym more;
+      timely = timely-more vehicle size ss new_stay (start_shown f.image) h.timely in-time;
     }
 
   -- it is withdrawn
@@ -278,4 +313,5 @@ module _ (f : CardFound) (vehicle : Registration) where
           (on (after_stay vehicle size last_stay earlier).book (after_stay vehicle size last_stay earlier).use stood));
       goes = tt;
       spell = on-last-shut act ss ∙ sym (ap (λ (b : Bool). as_noted (Some a) b (spells ss)) gone) ∙ h.spell;
+      timely = on-last-timely (with_end act) (λ s. refl) vehicle size ss (start_shown f.image) h.timely;
     }

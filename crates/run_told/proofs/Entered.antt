@@ -524,6 +524,7 @@ module _ (f : Found) (w : Carried) (c : Card) (U V X Y : State) (two : f.card_a.
         on = unit_whole.is_left told-u.0 told-u.1;
         there = whole.is_left told-x.0 told-x.1;
         valid = valid-own (own_sizes (found_of f c).image) told-x.0 is-own was.0;
+        sizes = is-own;
         early = subst (λ (k : CardView). k.stored ≤ now) (sym (own-is (own_sizes (found_of f c).image) told-x.0 is-own)) was.1;
         owes = sym (owed-view told-u.0 told-x.0 told-u.1 told-x.1 e y.0 ok y.1);
         number = sym (put-number told-u.0 told-x.0 told-u.1 told-x.1 e y.0 ok y.1);

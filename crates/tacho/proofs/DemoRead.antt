@@ -196,6 +196,7 @@ module _ (U V : State) (is : IsRead U V) where
                 only = s.only;
                 shows = λ c valid. subst (λ (x : State). ShowsStays s.vehicle (card_image r c) (s.stays c) x) (same-card c) (s.shows c valid);
                 closed = s.closed;
+                timely = s.timely;
               };
           kept = more-found (U.left_since p.unit.clock) (V.left_since p.unit.clock) (λ y left. is.leaves.keeps p.unit.clock y before left) r.log (spans_of (told_of r)) h.kept;
           last = record {
