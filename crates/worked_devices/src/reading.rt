@@ -139,6 +139,28 @@ fn card_words<M: Medium>(alloc: Global, card: &mut M, length: u16) -> Result<Vec
     Ok(words)
 }
 
+/// The words of the one day of a card.
+fn day_of_card<M: Medium>(alloc: Global, card: &mut M) -> Result<Vec<u16>, Untold> {
+    let pointers: [u8; 4] = bytes(card, DAYS)?;
+    if pointers != [0; 4] {
+        return Err(Untold::Days);
+    }
+    let head: [u8; HEAD] = bytes(card, DAYS + 4)?;
+    card_words(alloc, card, u16::from_be_bytes([head[2], head[3]]))
+}
+
+/// The minute of the last use in its newest vehicle entry.
+fn last_of_card<M: Medium>(card: &mut M) -> Result<u32, Untold> {
+    let newest: [u8; 2] = bytes(card, VEHICLES)?;
+    let entry = u16::from_be_bytes(newest) as u32;
+    let place = VEHICLES + 2 + VEHICLE * entry + LAST_USE;
+    if place > LARGEST_IMAGE - 4 {
+        return Err(Untold::Size);
+    }
+    let used: [u8; 4] = bytes(card, place)?;
+    Ok(u32::from_be_bytes(used) / 60)
+}
+
 /// What a card of the largest sizes tells that has one day alone.
 pub fn told_by_card<C: Chip>(alloc: Global, card: &mut C) -> Result<Told, Untold> {
     card.revive()?;
@@ -148,23 +170,9 @@ pub fn told_by_card<C: Chip>(alloc: Global, card: &mut C) -> Result<Told, Untold
     let Ok(mut port) = Port::load(&mut *card) else {
         return Err(Untold::Image);
     };
-    let pointers: [u8; 4] = bytes(&mut port, DAYS)?;
-    if pointers != [0; 4] {
-        return Err(Untold::Days);
-    }
-    let head: [u8; HEAD] = bytes(&mut port, DAYS + 4)?;
-    let words = card_words(alloc, &mut port, u16::from_be_bytes([head[2], head[3]]))?;
-    let newest: [u8; 2] = bytes(&mut port, VEHICLES)?;
-    let entry = u16::from_be_bytes(newest) as u32;
-    let place = VEHICLES + 2 + VEHICLE * entry + LAST_USE;
-    if place > LARGEST_IMAGE - 4 {
-        return Err(Untold::Size);
-    }
-    let used: [u8; 4] = bytes(&mut port, place)?;
-    Ok(Told {
-        words,
-        last: u32::from_be_bytes(used) / 60,
-    })
+    let last = last_of_card(&mut port)?;
+    let words = day_of_card(alloc, &mut port)?;
+    Ok(Told { words, last })
 }
 
 /// Whether its words are these.
