@@ -57,7 +57,7 @@ deeds_of vehicle used b s = opens used vehicle s.odometer (lacked (mark_of b) s.
 -- a book, and the current use with it
 pub record Shown : Type 0 where
   pub book : Book
-  pub use : CurrentUse
+  pub held : CurrentUse
 
 -- the session time that a stay leaves: its second; 0 where it was closed; and the use, of the vehicle
 abbrev pub open_from : (second : ℕ) → Option Activity → ℕ
@@ -69,7 +69,7 @@ use_after vehicle s = record { session = record { 0 = open_from s.found.second s
 
 -- behind a stay, and behind some
 abbrev pub after_stay : Registration → (size : ℕ) → Stay → Shown → Shown
-after_stay vehicle size s p = record { book = made_by size (deeds_of vehicle (is_open_in p.use) p.book s) p.book; use = use_after vehicle s }
+after_stay vehicle size s p = record { book = made_by size (deeds_of vehicle (is_open_in p.held) p.book s) p.book; held = use_after vehicle s }
 
 abbrev pub after_stays : Registration → (size : ℕ) → List Stay → Shown → Shown
 after_stays vehicle size [] p = p
@@ -77,7 +77,7 @@ after_stays vehicle size (s ∷ ss) p = after_stays vehicle size ss (after_stay 
 
 -- at the start
 abbrev pub start_shown : List ℕ → Shown
-start_shown image = record { book = book_of (own_sizes image) image; use = current_use (own_sizes image) image }
+start_shown image = record { book = book_of (own_sizes image) image; held = current_use (own_sizes image) image }
 
 -- ---- how many
 
@@ -135,14 +135,14 @@ StaysIn vehicle stays (Some a) = GoesIn vehicle stays a
 -- and which of them were withdrawn, they are the noted ones.
 pub record HasStays (f : CardFound) (vehicle : Registration) (noted : List Spell) (sits : Bool) (stays : List Stay) (session : Option Accepted) (card : State) : Type 0 where
   pub shows : ShowsBook (own_sizes f.image) (after_stays vehicle (own_sizes f.image).activity stays (start_shown f.image)).book
-      (after_stays vehicle (own_sizes f.image).activity stays (start_shown f.image)).use card
+      (after_stays vehicle (own_sizes f.image).activity stays (start_shown f.image)).held card
   pub goes : StaysIn vehicle stays session
   pub spell : as_noted session sits (spells stays) ≡ noted
 
 -- so it is once the run is over, of a card with this image at the start, in this vehicle
 abbrev pub ShowsStays : Registration → (image : List ℕ) → List Stay → (card : State) → Type 0
 ShowsStays vehicle image stays card = ShowsBook (own_sizes image) (after_stays vehicle (own_sizes image).activity stays (start_shown image)).book
-    (after_stays vehicle (own_sizes image).activity stays (start_shown image)).use card
+    (after_stays vehicle (own_sizes image).activity stays (start_shown image)).held card
 
 -- ---- both cards
 
