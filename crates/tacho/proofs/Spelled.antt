@@ -6,7 +6,7 @@ use Rattle.std.proofs.lemmas.Bool.Decides.{nat_tests}
 use Rattle.std.proofs.lemmas.Fmt.{decimal_is_IsNumeral}
 use Rattle.activity_codec.proofs.ByTest.{by_test}
 use Rattle.tacho.specs.Texts.{number_in}
-held lib.Pointwise.{bytes_decides}
+use lib.Pointwise.{bytes_decides}
 
 same-text : (text other : List ℕ) → bytes_eq text other ≡ true → text ≡ other
 same-text text other is = (bytes_decides text other).0 is
