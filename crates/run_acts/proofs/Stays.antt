@@ -89,12 +89,12 @@ timely-more vehicle size [] s p h le = (le, tt)
 timely-more vehicle size (t ∷ ss) s p h le = (h.0, timely-more vehicle size ss s (after_stay vehicle size t p) h.1 le)
 
 -- an image has the stored time of what it shows
-stored-own : (app : Application) (x : List ℕ) → (card_view app x).stored ≡ stored_by (record { book = book_of app x; use = current_use app x })
+stored-own : (app : Application) (x : List ℕ) → (card_view app x).stored ≡ stored_by (record { book = book_of app x; held = current_use app x })
 unfolding card_view book_of
 stored-own app x = refl
 
-stored-shown : (app : Application) (x : List ℕ) (p : Shown) → book_of app x ≡ p.book → current_use app x ≡ p.use → (card_view app x).stored ≡ stored_by p
-stored-shown app x p is on = stored-own app x ∙ ap (λ (b : Book). stored_by (record { book = b; use = current_use app x })) is ∙ ap (λ (u : CurrentUse). stored_by (record { book = p.book; use = u })) on
+stored-shown : (app : Application) (x : List ℕ) (p : Shown) → book_of app x ≡ p.book → current_use app x ≡ p.held → (card_view app x).stored ≡ stored_by p
+stored-shown app x p is on = stored-own app x ∙ ap (λ (b : Book). stored_by (record { book = b; held = current_use app x })) is ∙ ap (λ (u : CurrentUse). stored_by (record { book = p.book; held = u })) on
 
 -- with none there is none
 pub on-last-none : (f : Stay → Stay) (ss : List Stay) → ss ≡ [] → on_last f ss ≡ []
@@ -173,17 +173,17 @@ module _ (f : CardFound) (vehicle : Registration) where
   shown_by ss = after_stays vehicle size ss (start_shown f.image)
 
   abbrev Shows : Shown → State → Type 0
-  Shows p X = ShowsBook app p.book p.use X
+  Shows p X = ShowsBook app p.book p.held X
 
   -- one more behind some
   behind : (front : List Stay) (s : Stay) → shown_by (front ++ s ∷ []) ≡ after_stay vehicle size s (shown_by front)
   behind front s = stays-append vehicle size front (s ∷ []) (start_shown f.image)
 
   -- what the deeds of a stay make is that of its parts
-  parts : (s : Stay) (p : Shown) → made_by size (deeds_of vehicle (is_open_in p.use) p.book s) p.book
-      ≡ made_by size (closes s.closed) (made_by size (keeps vehicle None s.kepts) (made_by size (opens (is_open_in p.use) vehicle s.odometer (lacked (mark_of p.book) s.owed)) p.book))
+  parts : (s : Stay) (p : Shown) → made_by size (deeds_of vehicle (is_open_in p.held) p.book s) p.book
+      ≡ made_by size (closes s.closed) (made_by size (keeps vehicle None s.kepts) (made_by size (opens (is_open_in p.held) vehicle s.odometer (lacked (mark_of p.book) s.owed)) p.book))
   parts s p =
-      let first : List Deed = opens (is_open_in p.use) vehicle s.odometer (lacked (mark_of p.book) s.owed) in
+      let first : List Deed = opens (is_open_in p.held) vehicle s.odometer (lacked (mark_of p.book) s.owed) in
       made-append size first (keeps vehicle None s.kepts ++ closes s.closed) p.book ∙ made-append size (keeps vehicle None s.kepts) (closes s.closed) (made_by size first p.book)
 
   -- at the start
@@ -192,7 +192,7 @@ module _ (f : CardFound) (vehicle : Registration) where
 
   -- nothing is done on it
   pub stays-still : (noted : List Spell) (sits : Bool) (ss : List Stay) (s : Option Accepted) (X Y : State) → DoesOn app [] X Y → HasStays f vehicle noted sits ss s X → HasStays f vehicle noted sits ss s Y
-  stays-still noted sits ss s X Y does h = record { shows = does (shown_by ss).book (shown_by ss).use h.shows; goes = h.goes; spell = h.spell; timely = h.timely }
+  stays-still noted sits ss s X Y does h = record { shows = does (shown_by ss).book (shown_by ss).held h.shows; goes = h.goes; spell = h.spell; timely = h.timely }
 
   -- its session and its seat become others, as it is noted, or its session is gone
   pub stays-moved : (noted now : List Spell) (sits sits_now : Bool) (ss : List Stay) (s t : Option Accepted) (X : State) → (StaysIn vehicle ss s → StaysIn vehicle ss t) → (as_noted s sits (spells ss) ≡ noted → as_noted t sits_now (spells ss) ≡ now) →
@@ -211,15 +211,15 @@ module _ (f : CardFound) (vehicle : Registration) where
     before = shown_by g.front
 
     abbrev opened : Book
-    opened = made_by size (opens (is_open_in before.use) vehicle g.stay.odometer (lacked (mark_of before.book) g.stay.owed)) before.book
+    opened = made_by size (opens (is_open_in before.held) vehicle g.stay.odometer (lacked (mark_of before.book) g.stay.owed)) before.book
 
     was : Shows (after_stay vehicle size g.stay before) X
     was = subst (λ (p : Shown). Shows p X) (ap shown_by g.are ∙ behind g.front g.stay) h.shows
 
-    was-book : made_by size (deeds_of vehicle (is_open_in before.use) before.book g.stay) before.book ≡ made_by size (keeps vehicle None g.stay.kepts) opened
+    was-book : made_by size (deeds_of vehicle (is_open_in before.held) before.book g.stay) before.book ≡ made_by size (keeps vehicle None g.stay.kepts) opened
     was-book = parts g.stay before ∙ ap (λ (o : Option Activity). made_by size (closes o) (made_by size (keeps vehicle None g.stay.kepts) opened)) g.still
 
-    now-book : made_by size (deeds_of vehicle (is_open_in before.use) before.book kept_stay) before.book
+    now-book : made_by size (deeds_of vehicle (is_open_in before.held) before.book kept_stay) before.book
         ≡ made_by size (keeps vehicle (last_odometer None g.stay.kepts) ks) (made_by size (keeps vehicle None g.stay.kepts) opened)
     now-book =
         parts kept_stay before ∙ ap (λ (o : Option Activity). made_by size (closes o) (made_by size (keeps vehicle None (g.stay.kepts ++ ks)) opened)) g.still
@@ -231,9 +231,9 @@ module _ (f : CardFound) (vehicle : Registration) where
 
     made : Shows (after_stay vehicle size kept_stay before) Y
     made = subst (λ (c : Book). ShowsBook app c (use_after vehicle g.stay) Y)
-        (ap (λ (ds : List Deed). made_by size ds (made_by size (deeds_of vehicle (is_open_in before.use) before.book g.stay) before.book)) same-keeps
+        (ap (λ (ds : List Deed). made_by size ds (made_by size (deeds_of vehicle (is_open_in before.held) before.book g.stay) before.book)) same-keeps
         ∙ ap (made_by size (keeps vehicle (last_odometer None g.stay.kepts) ks)) was-book ∙ sym now-book)
-        (on.2 (after_stay vehicle size g.stay before).book (after_stay vehicle size g.stay before).use was)
+        (on.2 (after_stay vehicle size g.stay before).book (after_stay vehicle size g.stay before).held was)
 
     now-are : on_last (with_kepts ks) ss ≡ g.front ++ kept_stay ∷ []
     now-are = ap (on_last (with_kepts ks)) g.are ∙ on-last (with_kepts ks) g.front g.stay
@@ -259,8 +259,8 @@ module _ (f : CardFound) (vehicle : Registration) where
     abbrev new_stay : Stay
     new_stay = record { found = found; odometer = odometer; owed = owed; kepts = []; closed = None }
 
-    new-book : made_by size (deeds_of vehicle (is_open_in (shown_by ss).use) (shown_by ss).book new_stay) (shown_by ss).book
-        ≡ made_by size (opens (is_open_in (shown_by ss).use) vehicle odometer (lacked (mark_of (shown_by ss).book) owed)) (shown_by ss).book
+    new-book : made_by size (deeds_of vehicle (is_open_in (shown_by ss).held) (shown_by ss).book new_stay) (shown_by ss).book
+        ≡ made_by size (opens (is_open_in (shown_by ss).held) vehicle odometer (lacked (mark_of (shown_by ss).book) owed)) (shown_by ss).book
     new-book = parts new_stay (shown_by ss)
 
     -- it begins in time
@@ -274,7 +274,7 @@ module _ (f : CardFound) (vehicle : Registration) where
     pub stays-open : HasStays f vehicle now sits_now (ss ++ new_stay ∷ []) (Some a) Y
     stays-open = record {
       shows = subst (λ (p : Shown). Shows p Y) (sym (behind ss new_stay))
-          (subst (λ (c : Book). ShowsBook app c (use_after vehicle new_stay) Y) (sym new-book) (on (shown_by ss).book (shown_by ss).use h.shows));
+          (subst (λ (c : Book). ShowsBook app c (use_after vehicle new_stay) Y) (sym new-book) (on (shown_by ss).book (shown_by ss).held h.shows));
       goes = record { front = ss; stay = new_stay; are = refl; still = refl; registered = is; odometer = fresh };
       spell =
           ap (λ (b : Bool). as_noted (Some a) b (spells (ss ++ new_stay ∷ []))) there ∙ spells-more ss new_stay
@@ -294,9 +294,9 @@ module _ (f : CardFound) (vehicle : Registration) where
     earlier = shown_by h.goes.front
 
     abbrev begun : Book
-    begun = made_by size (opens (is_open_in earlier.use) vehicle last_stay.odometer (lacked (mark_of earlier.book) last_stay.owed)) earlier.book
+    begun = made_by size (opens (is_open_in earlier.held) vehicle last_stay.odometer (lacked (mark_of earlier.book) last_stay.owed)) earlier.book
 
-    open-book : made_by size (deeds_of vehicle (is_open_in earlier.use) earlier.book last_stay) earlier.book ≡ made_by size (keeps vehicle None last_stay.kepts) begun
+    open-book : made_by size (deeds_of vehicle (is_open_in earlier.held) earlier.book last_stay) earlier.book ≡ made_by size (keeps vehicle None last_stay.kepts) begun
     open-book = parts last_stay earlier ∙ ap (λ (o : Option Activity). made_by size (closes o) (made_by size (keeps vehicle None last_stay.kepts) begun)) h.goes.still
 
     stood : Shows (after_stay vehicle size last_stay earlier) X
@@ -310,7 +310,7 @@ module _ (f : CardFound) (vehicle : Registration) where
       shows = subst (λ (p : Shown). Shows p Y) (sym (ap shown_by shut-are ∙ behind h.goes.front closed_stay))
           (subst (λ (c : Book). ShowsBook app c (use_after vehicle closed_stay) Y)
           (ap (made_by size (Close act ∷ [])) open-book ∙ sym (parts closed_stay earlier))
-          (on (after_stay vehicle size last_stay earlier).book (after_stay vehicle size last_stay earlier).use stood));
+          (on (after_stay vehicle size last_stay earlier).book (after_stay vehicle size last_stay earlier).held stood));
       goes = tt;
       spell = on-last-shut act ss ∙ sym (ap (λ (b : Bool). as_noted (Some a) b (spells ss)) gone) ∙ h.spell;
       timely = on-last-timely (with_end act) (λ s. refl) vehicle size ss (start_shown f.image) h.timely;

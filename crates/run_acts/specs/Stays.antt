@@ -58,7 +58,7 @@ deeds_of vehicle used b s = opens used vehicle s.odometer (lacked (mark_of b) s.
 -- a book, and the current use with it
 pub record Shown : Type 0 where
   pub book : Book
-  pub use : CurrentUse
+  pub held : CurrentUse
 
 -- the session time that a stay leaves: its second; 0 where it was closed; and the use, of the vehicle
 abbrev pub open_from : (second : ℕ) → Option Activity → ℕ
@@ -70,7 +70,7 @@ use_after vehicle s = record { session = record { 0 = open_from s.found.second s
 
 -- behind a stay, and behind some
 abbrev pub after_stay : Registration → (size : ℕ) → Stay → Shown → Shown
-after_stay vehicle size s p = record { book = made_by size (deeds_of vehicle (is_open_in p.use) p.book s) p.book; use = use_after vehicle s }
+after_stay vehicle size s p = record { book = made_by size (deeds_of vehicle (is_open_in p.held) p.book s) p.book; held = use_after vehicle s }
 
 abbrev pub after_stays : Registration → (size : ℕ) → List Stay → Shown → Shown
 after_stays vehicle size [] p = p
@@ -78,13 +78,13 @@ after_stays vehicle size (s ∷ ss) p = after_stays vehicle size ss (after_stay 
 
 -- at the start
 abbrev pub start_shown : List ℕ → Shown
-start_shown image = record { book = book_of (own_sizes image) image; use = current_use (own_sizes image) image }
+start_shown image = record { book = book_of (own_sizes image) image; held = current_use (own_sizes image) image }
 
 -- ---- when they began
 
 -- the stored time of a card that shows this: no earlier second may be recorded on it
 abbrev pub stored_by : Shown → ℕ
-stored_by p = stored_of (last_use_of p.book.vehicles.newest) p.use.session.0 p.book.days
+stored_by p = stored_of (last_use_of p.book.vehicles.newest) p.held.session.0 p.book.days
 
 -- EACH STAY BEGAN IN TIME: it is told as accepted in a second that is not earlier than the stored time of what the card showed by then.
 abbrev pub AreTimely : Registration → (size : ℕ) → List Stay → Shown → Type 0
@@ -147,7 +147,7 @@ StaysIn vehicle stays (Some a) = GoesIn vehicle stays a
 -- and which of them were withdrawn, they are the noted ones; each began in time.
 pub record HasStays (f : CardFound) (vehicle : Registration) (noted : List Spell) (sits : Bool) (stays : List Stay) (session : Option Accepted) (card : State) : Type 0 where
   pub shows : ShowsBook (own_sizes f.image) (after_stays vehicle (own_sizes f.image).activity stays (start_shown f.image)).book
-      (after_stays vehicle (own_sizes f.image).activity stays (start_shown f.image)).use card
+      (after_stays vehicle (own_sizes f.image).activity stays (start_shown f.image)).held card
   pub goes : StaysIn vehicle stays session
   pub spell : as_noted session sits (spells stays) ≡ noted
   pub timely : AreTimely vehicle (own_sizes f.image).activity stays (start_shown f.image)
@@ -155,7 +155,7 @@ pub record HasStays (f : CardFound) (vehicle : Registration) (noted : List Spell
 -- so it is once the run is over, of a card with this image at the start, in this vehicle
 abbrev pub ShowsStays : Registration → (image : List ℕ) → List Stay → (card : State) → Type 0
 ShowsStays vehicle image stays card = ShowsBook (own_sizes image) (after_stays vehicle (own_sizes image).activity stays (start_shown image)).book
-    (after_stays vehicle (own_sizes image).activity stays (start_shown image)).use card
+    (after_stays vehicle (own_sizes image).activity stays (start_shown image)).held card
 
 -- ---- both cards
 
