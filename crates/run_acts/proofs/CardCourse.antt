@@ -51,7 +51,7 @@ pub record IsJudged (v : Visit) (verdicts : List Verdict) (c d : Course) : Type 
 abbrev pub findings : List Verdict → List Visit → List Finding
 findings verdicts vs = flat_map (λ visit. map (λ v. (visit, v)) verdicts) vs
 
-no-verdicts : (vs : List Visit) → findings [] vs ≡ []
+pub no-verdicts : (vs : List Visit) → findings [] vs ≡ []
 no-verdicts [] = refl
 no-verdicts (v ∷ vs) = no-verdicts vs
 

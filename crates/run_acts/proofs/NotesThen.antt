@@ -47,7 +47,7 @@ use Rattle.run_rings.proofs.Actions.{power-notes, selections, pulls, refusals, p
 use Rattle.run_recorded.specs.Origin.{Origin, rule_of, start_at, first_of}
 use Rattle.run_ringed.specs.Ringed.{notes_in}
 use Rattle.run_ringed.specs.SoFar.{GoesBehind, notes_so_far}
-use Rattle.run_ringed.proofs.Noted.{notes-alike, second-notes}
+use Rattle.run_evented.proofs.Noted.{notes-alike, second-notes}
 use Rattle.run_within.specs.Recorded.{Values, progress}
 use Rattle.run_within.specs.Turning.{last_of, before_last, BehindFirst}
 use Rattle.unit_course.specs.Followed.{Lit as IsLit}
