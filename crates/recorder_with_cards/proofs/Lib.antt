@@ -64,6 +64,7 @@ pub mod SideShown
 pub mod KeptAfter
 pub mod KeptRows
 pub mod WokenStored
+pub mod EnteredUses
 pub mod EnteredCards
 pub mod InsertedCards
 pub mod HereDone
