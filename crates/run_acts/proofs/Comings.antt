@@ -117,13 +117,13 @@ tells-withdrawn i time odometer x y w long points dense = record {
 
     one : (j : ℕ) → j < insertion_ring.count → (j ≡ i) ⊎ (j ≢ i) → told_in (cond (j == i) (with_withdrawal time odometer (entry_at insertion_ring x i)) (entry_at insertion_ring x j)) ≡ told_in (entry_at insertion_ring x j)
     one j below (inl at) =
-        let yes : (j == i) ≡ true = grind (arith, nat_tests, at) in
-        ap (λ (b : Bool). told_in (cond b (with_withdrawal time odometer (entry_at insertion_ring x i)) (entry_at insertion_ring x j))) yes
+        let same_one : (j == i) ≡ true = grind (arith, nat_tests, at) in
+        ap (λ (b : Bool). told_in (cond b (with_withdrawal time odometer (entry_at insertion_ring x i)) (entry_at insertion_ring x j))) same_one
         ∙ told-still time odometer (entry_at insertion_ring x i) (entry-long x i was-long (subst (λ (n : ℕ). n < insertion_ring.count) at below))
         ∙ ap (λ (n : ℕ). told_in (entry_at insertion_ring x n)) (sym at)
     one j below (inr other) =
-        let no : (j == i) ≡ false = grind (arith, nat_tests, other) in
-        ap (λ (b : Bool). told_in (cond b (with_withdrawal time odometer (entry_at insertion_ring x i)) (entry_at insertion_ring x j))) no
+        let apart : (j == i) ≡ false = grind (arith, nat_tests, other) in
+        ap (λ (b : Bool). told_in (cond b (with_withdrawal time odometer (entry_at insertion_ring x i)) (entry_at insertion_ring x j))) apart
 
     each : (js : List ℕ) → Each (λ j. j < insertion_ring.count) js →
         map told_in (map (λ (j : ℕ). cond (j == i) (with_withdrawal time odometer (entry_at insertion_ring x i)) (entry_at insertion_ring x j)) js) ≡ map told_in (map (entry_at insertion_ring x) js)
