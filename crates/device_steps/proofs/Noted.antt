@@ -9,7 +9,7 @@ use Rattle.tach_media.specs.Medium.{State, IsCoherent, LeavesOnly, bytes_at}
 use Rattle.unit_model.specs.Days.{ShownDay}
 use Rattle.unit_model.specs.Image.{recorded, last_kept}
 use Rattle.unit_model.specs.Decoding.{Decodes}
-use Rattle.unit_model.specs.declared.layout.TheConstants.{DAYS, FIRST_OVER, INSERTIONS, LAST_KEPT, ODOMETER, OWED, SPARE_COUNTS}
+use Rattle.unit_model.specs.declared.layout.TheConstants.{DAYS, FIRST_OVER, INSERTIONS, LAST_KEPT, ODOMETER, OWED, SPARE_COUNTS, SPARE_ROWS}
 use Rattle.unit_model.proofs.WholeDays.{decoded_of}
 use Rattle.owed_model.specs.Owed.{rows_in, row_in, row_index, row_view, seen_row}
 use Rattle.unit_journal.specs.Beside.{SameJournal}
@@ -24,6 +24,7 @@ use Rattle.joint_rule.proofs.CardLaws.{dark-beside, rule-beside}
 use Rattle.joint_rule.proofs.Viewed.{seen-run}
 use Rattle.unit_rule.specs.Rule.{Started}
 use Rattle.unit_rule.specs.Marks.{Holds}
+use Rattle.unit_rule.proofs.Moves.{issued-parts}
 use Rattle.unit_rule.proofs.Elsewhere.{holds-elsewhere}
 use Rattle.unit_rule.proofs.Found.{left-decodes}
 use Rattle.device_steps.specs.Rule.{Both, opened, number_of, unit_seen, card_seen, AnyString, CardHolds, CardRests}
@@ -47,9 +48,12 @@ module _ (x c : List ℕ) (keeps : KeepsJournal x c) where
     same_length = keeps.same_length;
   }
 
-  -- what the unit was issued with
-  issued_noted : bytes_at c 0 LAST_KEPT.place ≡ bytes_at x 0 LAST_KEPT.place
-  issued_noted = front_part 0 LAST_KEPT.place (omega arith)
+  -- the spare bytes behind the counts, and behind the owed rows
+  counts_noted : bytes_at c SPARE_COUNTS.place SPARE_COUNTS.size ≡ bytes_at x SPARE_COUNTS.place SPARE_COUNTS.size
+  counts_noted = rest_part 0 SPARE_COUNTS.size (omega arith)
+
+  spare_noted : bytes_at c SPARE_ROWS.place SPARE_ROWS.size ≡ bytes_at x SPARE_ROWS.place SPARE_ROWS.size
+  spare_noted = rest_part (SPARE_ROWS.place - SPARE_COUNTS.place) SPARE_ROWS.size (omega arith)
 
   rows_noted : rows_in c ≡ rows_in x
   rows_noted = rest_part (OWED.place - SPARE_COUNTS.place) OWED.size (omega arith)
@@ -63,7 +67,11 @@ module _ (x c : List ℕ) (keeps : KeepsJournal x c) where
       ∙ ap (λ (rows : List ℕ). record { days = recorded x; last = last_kept x; row_a = seen_row (option_map (row_in rows) (row_index a rows)); row_b = seen_row (option_map (row_in rows) (row_index b rows)) }) rows_noted
 
 pub noted-holds : (s : Started) {U V : State} (due : ℕ) (b : Book) (marks : List Mark) → IsCoherent U → LeavesOnly U V LeavesJournal → Holds s due b marks U → Holds s due b marks V
-noted-holds s {U} {V} due b marks whole run h = holds-elsewhere s due b marks h whole LeavesJournal run (λ x c is. (same_journal x c is.keeps, issued_noted x c is.keeps, is.decodes))
+noted-holds s {U} {V} due b marks whole run h = holds-elsewhere s due b marks h whole LeavesJournal run (λ x c is. (
+  same_journal x c is.keeps,
+  issued-parts x c (front_part x c is.keeps 0 LAST_KEPT.place (omega arith)) (counts_noted x c is.keeps) (spare_noted x c is.keeps) is.keeps.behind,
+  is.decodes,
+))
 
 module _ (r : Both) (c : Card) (s : Started) (due : ℕ) (b : Book) (marks : List Mark) (z : Standing) {U V : State} (X : State) (whole : IsCoherent U) (h : Holds s due b marks U) (run : LeavesOnly U V LeavesJournal) where
   abbrev Same : UnitView → UnitView → Type 0

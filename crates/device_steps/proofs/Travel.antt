@@ -7,14 +7,14 @@ use Rattle.log_model.specs.declared.lines.Mark.{Mark}
 use Rattle.unit_model.specs.Days.{UnitMinute}
 use Rattle.unit_model.specs.Image.{last_kept}
 use Rattle.owed_model.specs.Rows.{IsPutting}
-use Rattle.unit_journal.specs.Keeping.{IsKeeping, IsKept}
+use Rattle.unit_journal.specs.Keeping.{IsKept}
 use Rattle.history_model.specs.Minutes.{HistoryMinute}
 use Rattle.history_model.specs.Book.{Book, kept, broken}
 use Rattle.joint_rule.specs.Filling.{seen_by_unit}
 use Rattle.unit_course.specs.Legs.{Travel, travelled, stranded}
 use Rattle.unit_rule.specs.Rule.{Started}
 use Rattle.unit_rule.specs.Marks.{Holds}
-use Rattle.unit_rule.specs.Odometer.{HasTravelled, odometer_by, odometer_after}
+use Rattle.unit_rule.specs.Odometer.{HasTravelled, IsKeepingDays, odometer_by, odometer_after}
 use Rattle.unit_rule.proofs.Travelling.{travelled-kept, travelled-broken}
 use Rattle.unit_rule.proofs.Elsewhere.{rows-elsewhere, travelled-elsewhere}
 use Rattle.device_steps.specs.Travel.{HasGone}
@@ -24,7 +24,7 @@ pub put-travelled : (start : ℕ) (b : Book) (g : Travel) {U V : State} → HasT
 put-travelled start b g t whole number e run = travelled-elsewhere start b g t whole (IsPutting number e) run (λ x c is. rows-elsewhere x c is.outside)
 
 -- a minute is kept
-pub keep-gone : {U V : State} (k : UnitMinute) (odometer : ℕ) (i : HistoryMinute) → k ≡ seen_by_unit i → IsCoherent U → LeavesOnly U V (IsKeeping k odometer) → (s : Started) (due : ℕ) (b : Book) (marks : List Mark) → Holds s due b marks U → b.maybe ≡ None → due ≤ i.minute →
+pub keep-gone : {U V : State} (k : UnitMinute) (odometer : ℕ) (i : HistoryMinute) → k ≡ seen_by_unit i → IsCoherent U → LeavesOnly U V (IsKeepingDays k odometer) → (s : Started) (due : ℕ) (b : Book) (marks : List Mark) → Holds s due b marks U → b.maybe ≡ None → due ≤ i.minute →
     (start : ℕ) (g : Travel) (leg : ℕ) → HasTravelled start b g U → odometer ≡ odometer_by (odometer_after start g.before) leg →
     (failed : Bool) → IsCoherent V → (failed ≡ false → V.works ≡ true) → (failed ≡ false → IfSome U.image (λ x. IfSome V.image (IsKept k x))) → HasGone start b g i leg failed V
 keep-gone {U} {V} k odometer i is whole run s due b marks h none late start g leg t odometer_is failed after works said = record {
@@ -32,5 +32,5 @@ keep-gone {U} {V} k odometer i is whole run s due b marks h none late start g le
   dark = travelled-broken start b g t whole s due marks h i odometer leg odometer_is none late keeping;
 }
   where
-    keeping : LeavesOnly U V (IsKeeping (seen_by_unit i) odometer)
-    keeping = subst (λ (m : UnitMinute). LeavesOnly U V (IsKeeping m odometer)) is run
+    keeping : LeavesOnly U V (IsKeepingDays (seen_by_unit i) odometer)
+    keeping = subst (λ (m : UnitMinute). LeavesOnly U V (IsKeepingDays m odometer)) is run

@@ -8,5 +8,5 @@ use Rattle.unit_rule.specs.Odometer.{HasTravelled}
 
 -- a minute was to be kept up to which so much was travelled: where that ended well it is travelled, and else it may be
 pub record HasGone (start : ℕ) (b : Book) (g : Travel) (i : HistoryMinute) (leg : ℕ) (failed : Bool) (unit : State) : Type 0 where
-  pub lit : failed ≡ false → HasTravelled start (kept i b) (travelled leg g) unit
-  pub dark : HasTravelled start (broken i b) (stranded leg g) unit
+  pub lit : failed ≡ false → HasTravelled start (kept i b) (travelled i.minute leg g) unit
+  pub dark : HasTravelled start (broken i b) (stranded i.minute leg g) unit

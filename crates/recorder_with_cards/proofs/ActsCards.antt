@@ -71,7 +71,7 @@ pulled-cards d slot begun speed run out o done s now front rest are is allowed v
     finds c none = (
       fewer-none log (and_break log line) (line ∷ []) refl none,
       still-found o w.within.b.run.log done s (power-here o done s (In (length front)) [] None [] (values_of run out) d w.within) c log (and_break log line) front (Pull slot ∷ rest) are
-      (goes-torn log s front slot false w.within.moment.up_to.uncut).same to (λ k x lt. (break-more log line s.number).found (In k) x ∙ to k x lt),
+          (goes-torn log s front slot false w.within.moment.up_to.uncut).same to (λ k x lt. (break-more log line s.number).found (In k) x ∙ to k x lt),
     )
 
     by : (card : Option Card) → card_in (seat_in run.keeper.cabin.slots.seats slot) ≡ card → (card_in (seat_in run.keeper.cabin.slots.seats slot) ≡ None → ⊥) →
@@ -106,7 +106,7 @@ refused-cards o done s speed run before d now front a rest are w cards fault is 
     (λ c none. (
       none,
       still-found o w.within.b.run.log done s (power-here o done s (In (length front)) [] None [] (values_of run before) d w.within) c log later front (a ∷ rest) are goes.same (λ k x lt. w.within.moment.up_to.found (In k) x lt)
-      (λ k x lt. (refusal-more log later.refused s.number).found (In k) x ∙ w.within.moment.up_to.found (In k) x lt),
+          (λ k x lt. (refusal-more log later.refused s.number).found (In k) x ∙ w.within.moment.up_to.found (In k) x lt),
     )) (failed-more log later goes.lines)
     (quiet-action o done s w.within.b.run.log front a log later goes.same (inr (inl (fault, ap (λ (c : Course). refusal c.slots s.speed a) (course-refused log was s front line) ∙ faults)))) (left-itself o d) (shows-self o d) in
     subst (λ (q : Outcome). CardsIn o done s w.within.b.run.log (front ++ a ∷ []) (log_of q) d) (sym told) on

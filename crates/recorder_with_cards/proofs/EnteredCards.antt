@@ -289,7 +289,7 @@ module _ (o : Origin) (done : List TraceSecond) (s : TraceSecond) (n : ℕ) (wai
     -- it tells the use that they have left
     once : (replayed : ℕ) (x : List ℕ) → X.may_leave x → NothingFailed (log_of out) →
         current_use (own_sizes x) x ∷ [] ≡ uses_from (vehicle_in o) (use_now o e.which (notes_within w.b done s (In n) (log_of out))) (insertions_at s.number e.slot e.which (verdict.Accepted replayed ∷ []))
-    once replayed x at fine = ap (λ (use : CurrentUse). use ∷ [])
+    once replayed x at fine = ap (λ (held : CurrentUse). held ∷ [])
         (use-is o done s n waits fewer (values_with k out unfound next_ begun minutes) (arranged e.which U X Z) w e.slot e.which m.next_ m.none m.order origin k.memory.registration stay m.bare fine valid x
         (mine-back e.which U X Z (λ (q : State). q.may_leave x) at))
 

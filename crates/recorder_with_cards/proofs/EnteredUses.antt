@@ -183,7 +183,7 @@ module _ (o : Origin) (done : List TraceSecond) (s : TraceSecond) (n : ℕ) (wai
     accepted a sizes replayed look is =
         find-more-found o done s n waits fewer v d w e.slot e.which next none order (find_of e (verdict.Accepted replayed)) (found-at (verdict.Accepted replayed)) refl look.session
         (λ fine valid accepts.
-        ap (λ (use : CurrentUse). use.session.0) (sym (use-is o done s n waits fewer v d w e.slot e.which next none order origin vehicle stay bare fine valid y at))
+        ap (λ (held : CurrentUse). held.session.0) (sym (use-is o done s n waits fewer v d w e.slot e.which next none order origin vehicle stay bare fine valid y at))
         ∙ ap (λ (b : Application). session_time b y) sizes ∙ sym is.session)
 
     ending-found : (a : Application) → own_sizes y ≡ a → (u : ℕ) (unit : Option (List ℕ)) (ending : Ending) → IsFound a u unit ending y → AreFound ending o w.b.run.log done s v.log e

@@ -294,8 +294,8 @@ module _ (o : Origin) (done : List TraceSecond) (s : TraceSecond) (front rest : 
         × NotesThem (sizes_in o c) (λ kind. is_sure_in c kind later x) (λ kind. events_by kind [] (movings c (vehicle_in o) s.speed (accepts s.number vs)) (unclosed_by more (accepts s.number vs))) (card_of e c) (card_of f c)) (sym verdicts_) (
           b.uses,
           (λ none.
-          let is : later ≡ log_of after = alike none in
-          (fewer-none (log_of told) later lines_.0 lines_.1 none, ap (λ (l : RunLog). uses_in o c (notes_now w.within.b.run.log done l s)) is ∙ b.exact (subst NothingFailed is none))),
+              let is : later ≡ log_of after = alike none in
+              (fewer-none (log_of told) later lines_.0 lines_.1 none, ap (λ (l : RunLog). uses_in o c (notes_now w.within.b.run.log done l s)) is ∙ b.exact (subst NothingFailed is none))),
           b.are,
           judged-them (sizes_in o c) (vehicle_in o) c later x failed (is_torn_in (log_of after) s.number (In (suc (length front))) slot) (accepts s.number (found_in (log_of after) s.number (In (suc (length front))) slot)) b.uses (card_of e c) (card_of f c) entered fails
               (λ is. ap (λ (q : Course). mine c q.torn) (behind-more later was s front (Insert slot card))

@@ -43,6 +43,7 @@ pub mod SecondsRecorded
 pub mod Written
 pub mod WrittenRows
 pub mod AtEnd
+pub mod LastKept
 pub mod Promised
 pub mod Later
 pub mod WakeNoted

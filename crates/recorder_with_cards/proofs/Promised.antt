@@ -34,11 +34,12 @@ use Rattle.unit_model.specs.declared.layout.TheConstants.{HIGHEST_ODOMETER}
 use Rattle.unit_model.specs.Image.{number_of, last_kept, odometer_at}
 use Rattle.unit_model.specs.Decoding.{Decodes}
 use Rattle.unit_rule.specs.Odometer.{HasTravelled}
+use Rattle.unit_rule.specs.Rule.{started}
 use Rattle.unit_rule.proofs.Travelling.{travelled-opened}
 use Rattle.unit_journal.specs.Image.{IsFoundBy}
 use Rattle.unit_journal.proofs.Beside.{passes_beside}
 use Rattle.unit_memory.specs.declared.format.Identity.{Identity}
-use Rattle.safety_model.specs.Recording.{Recording, card_image, brought}
+use Rattle.safety_model.specs.Recording.{Recording, card_image, brought, history_of, lost_of}
 use Rattle.safety_model.specs.Safe.{Devices, card_of, breakdowns_of, MayBegin}
 use Rattle.slot_machine.specs.Kept.{nothing_yet}
 use Rattle.run_crew.specs.declared.cards.Accepted.{Accepted}
@@ -102,10 +103,11 @@ use Rattle.recorder_with_cards.proofs.SideShown.{insertions-inside, places-insid
 use Rattle.recorder_with_cards.proofs.Written.{are-written, keep-holders}
 use Rattle.recorder_with_cards.specs.Placed.{ShowsPlaces}
 use Rattle.recorder_with_cards.proofs.KeptAfter.{end-kept}
+use Rattle.recorder_with_cards.proofs.LastKept.{tells-last}
 use Rattle.run_acts.specs.Closings.{spells_of}
 use Rattle.run_acts.specs.Comings.{TellsMore}
 use Rattle.run_acts.proofs.Comings.{tells-none}
-use Rattle.run_acts.specs.Stays.{Stay, Coming, comings_on, registration_in, AreMerged, spells, sits_in, HasStays, ShowsStays}
+use Rattle.run_acts.specs.Stays.{Stay, Coming, comings_on, registration_in, AreMerged, spells, sits_in, HasStays, ShowsStays, start_shown, AreTimely}
 use Rattle.recorder_with_cards.proofs.AtEnd.{noted-at-end, sits-at-end}
 use Rattle.run_recorded.specs.Whole.{NothingFailed}
 use Rattle.run_crew.specs.Cabin.{Stands}
@@ -219,8 +221,13 @@ module _ (x a b : List ℕ) (start : ℕ) (items : List Item) (began now : Devic
             merged = merged-by all.befores.comings run.keeper.memory.registration (all.stays A) (all.stays B) (found_of o.found A).image (found_of o.found B).image (card_image r A) (card_image r B) (of_image A) (of_image B) all.befores.merged;
             tells = λ dense. all.befores.tells (record { points = insertions-inside x may.decodes; dense = dense });
           };
+          timely = λ c valid. subst (λ (i : List ℕ). AreTimely run.keeper.memory.registration (own_sizes i).activity (all.stays c) (start_shown i)) (of_image c) (own none c valid).timely;
         };
     kept = end-kept o ss run out now h.evented.recorded h.spans h.ringed.spans_are h.stored;
+    last =
+        let hr = h.evented.recorded.recorded in
+        tells-last (started x began.unit.clock) (history_of r) (lost_of r) hr.due hr.book out.marks.items now.unit hr.recorded.followed.follows
+        (is-carried (seconds_of start items) (values_of run out) (carried (values_of run out) hr.due hr.book hr.standing hr.brought) h.evented.recorded.supply hr.held).unit;
     dense = record {
       insertions = λ dense y left. (h.ringed.ringed.insertions (record { points = insertions-inside x may.decodes; dense = dense }) y left).shows.carries.dense;
       places = λ dense y left. (h.ringed.ringed.places (record { points = places-inside x may.decodes; dense = dense }) y left).carries.dense;
@@ -389,10 +396,10 @@ module _ (x a b : List ℕ) (start : ℕ) (began now : Devices) (opened : Opened
     first-powerless : IsPowerless f (carried_first (start / 60)) now
     first-powerless = opened-powerless f (start / 60) now (ready.carried (start / 60) ready.later) waits
 
-    travels : HasTravelled (odometer_at x) not_begun not_travelled now.unit
+    travels : HasTravelled (odometer_at x) not_begun (not_travelled x) now.unit
     travels =
         let is = ready.journal.odometer in
-        travelled-opened (odometer_at x) now.unit x refl (let le : odometer_at x ≤ HIGHEST_ODOMETER = omega (arith, is, low) in le)
+        travelled-opened (odometer_at x) now.unit x refl (let le : odometer_at x ≤ HIGHEST_ODOMETER = omega (arith, is, low) in le) ready.journal.pointer
         (λ y left. ready.begins.unit.only y (unit_whole.counts_now now.unit.clock y (omega arith) left))
 
     -- its unit has one image

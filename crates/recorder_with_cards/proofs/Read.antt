@@ -119,8 +119,8 @@ module _ (o : Origin) (done : List TraceSecond) (supply : Supply) (v : Values) (
       behind = tt;
     }
 
-    verdicts : AreVerdicts o done v.log v.unfound e
-    verdicts = idle-verdicts o done done v.log v.log v.unfound v.unfound d e [] v.next r.beside.verdicts goes.left same tt
+    verdicts : AreVerdicts o done v.log v.unfound v.marks e
+    verdicts = idle-verdicts o done done v.log v.log v.unfound v.unfound v.marks d e [] v.next r.beside.verdicts goes.left same tt
         (kept-later (d.unit.left_since o.found.unit.began) (e.unit.left_since o.found.unit.began) goes.left.unit v.unfound v.log.breaks r.beside.verdicts.kept)
 
     spared : AreSpared o done v.log e

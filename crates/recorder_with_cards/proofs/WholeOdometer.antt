@@ -1,22 +1,24 @@
--- Where nothing failed, the odometer is the start's and the whole kilometres of each time with power.
-use Rattle.std.proofs.Common.{◌≡◌, ◌⊎◌, inl, inr, ⊎_elim, ℕ, zero, suc, ◌+◌, ◌-◌, ◌*◌, ◌/◌, ◌%◌, ◌<◌, ◌≤◌, Bool, true, false, cond, nat_lt, nat_le, Option, Some, None, List, [], ◌∷◌, ◌++◌, All, Contains, min, length, map, filter, drop, refl, ap, sym, subst, ◌∙◌, arith, length-append}
+-- Where nothing failed, the odometer is the start's and the whole kilometres of each time with power; and so are those of the days.
+use Rattle.std.proofs.Common.{◌≡◌, ◌⊎◌, inl, inr, ⊎_elim, ℕ, zero, suc, ◌+◌, ◌-◌, ◌*◌, ◌/◌, ◌%◌, ◌<◌, ◌≤◌, Bool, true, false, cond, ◌||◌, nat_lt, nat_le, Option, Some, None, List, [], ◌∷◌, ◌++◌, All, Contains, min, length, map, filter, drop, refl, ap, sym, subst, ◌∙◌, arith, length-append}
 use Rattle.std.specs.Prelude.{find, flat_map, option_to_list, unwrap_or, ◌==◌}
-use Rattle.std.specs.List.{range_with_len}
+use Rattle.std.specs.List.{range_with_len, AllByRecursion}
 use Rattle.std.proofs.lemmas.Bool.Decides.{nat_tests}
 use Rattle.std.proofs.lemmas.List.{drop-append-le}
 use Rattle.std.proofs.lemmas.List.Elements.{All-nil, All-cons, All-head, All-append, All-map, All-weaker, All-contains, Contains-append_left, Contains-append_right}
+use Rattle.std.proofs.lemmas.List.Folds.{list_any-append}
 use Rattle.std.proofs.lemmas.Grind.{flat_map-append}
 use Rattle.trace_model.specs.declared.Item.{Item}
 use Rattle.trace_model.specs.Trace.{TraceSecond}
 use Rattle.minute_model.specs.declared.Rule.{Rule}
 use Rattle.minute_model.specs.declared.Minute.{Minute}
+use Rattle.minute_model.specs.Activity.{last as last_told}
 use Rattle.log_model.specs.Log.{RunLog}
 use Rattle.log_model.specs.Course.{Told, went}
 use Rattle.log_model.specs.Spans.{spans_of, AreInOrder}
 use Rattle.history_model.specs.Minutes.{HistoryMinute}
 use Rattle.history_model.specs.Presence.{Start}
-use Rattle.history_model.specs.History.{decided_of, span_minutes, limited_to, limit_of, lost_minute, unit_history, lost_by, with_lost}
-use Rattle.history_model.specs.Growth.{Rises}
+use Rattle.history_model.specs.History.{decided_of, span_minutes, limited_to, cut_second, limit_by, any_long, limit_of, lost_minute, unit_history, lost_by, with_lost}
+use Rattle.history_model.specs.Growth.{Rises, closed_limit}
 use Rattle.log_model.proofs.Spanning.{seconds-order}
 use Rattle.history_model.proofs.Told.{rises}
 use Rattle.history_model.proofs.Decided.{decided-after, nothing-was-lost}
@@ -24,17 +26,19 @@ use Rattle.unit_model.specs.declared.layout.TheConstants.{DAY_SLOTS, HIGHEST_ODO
 use Rattle.unit_model.specs.Days.{UnitMinute, ShownDay, StoredDay, day_of, minute_at, minutes_shown, day_shown, days_shown, padded, with_minute, day_from, filled, newest_days, minutes_of}
 use Rattle.unit_model.specs.Image.{last_kept, odometer_at, recorded, unit_days}
 use Rattle.joint_rule.specs.Filling.{seen_by_unit, filled_with}
-use Rattle.unit_course.specs.Legs.{kilometres_of, AreWhole}
-use Rattle.unit_course.proofs.Legs.{legs-whole}
+use Rattle.unit_course.specs.Followed.{IsKnown}
+use Rattle.unit_course.specs.Legs.{kilometres_of, AreWhole, whole_legs}
+use Rattle.unit_course.proofs.Legs.{legs-whole, short-decides}
 use Rattle.unit_rule.specs.Odometer.{OdometerSafe}
-use Rattle.safety_model.specs.Recording.{Recording, start_of}
+use Rattle.safety_model.specs.Recording.{Recording, start_of, told_of, history_of}
 use Rattle.safety_model.specs.Unit.{HasEachDecided, IsFilled}
 use Rattle.safety_model.specs.Safe.{Devices}
+use Rattle.run_recorded.specs.Days.{IsBegunIn}
 use Rattle.run_recorded.specs.Whole.{NothingFailed}
 use Rattle.run_outcome.specs.declared.outcome.Outcome.{Outcome}
 use Rattle.run_acts.specs.Recording.{log_of}
 use Rattle.recorder_with_cards.specs.Ends.{recording_of, EndsTrace}
-use Rattle.recorder_with_cards.specs.Whole.{HasWholeOdometer, IsAllThere}
+use Rattle.recorder_with_cards.specs.Whole.{HasWholeOdometer, HasDayOdometer, IsAllThere}
 
 -- WHAT AN IMAGE SHOWS is not later than its last-kept minute
 range-low : (a n : ℕ) → All (λ t. t < a + n) (range_with_len a n)
@@ -177,12 +181,11 @@ none-lost : (rule : Rule) (start : Start) (log : RunLog) (n : ℕ) (ss : List Tr
 unfolding with_lost
 none-lost rule start log n ss order decided = nothing-was-lost rule start log n ss order decided
 
-pub whole-odometer : (rule : Rule) (start : Start) (log : RunLog) (n : ℕ) (ss : List TraceSecond) → AreInOrder n ss → HasEachDecided rule (went log ss).told (unit_history rule start log (went log ss).told) → (days : List ShownDay) (odometer : ℕ) (x : List ℕ) →
-    IsFilled days (unit_history rule start log (went log ss).told) x → OdometerSafe rule log (went log ss).told odometer x → HasWholeOdometer rule (went log ss).told odometer x
-whole-odometer rule start log n ss order decided days odometer x is safe =
-    safe.sum_is
-    ∙ ap (λ (legs : List ℕ). min (odometer + kilometres_of legs) HIGHEST_ODOMETER)
-    (legs-whole rule (limit_of log) (last_kept x) (spans_of (went log ss).told) safe.legs (all-whole rule start (went log ss).told (limit_of log) (last_kept x) [] (spans_of (went log ss).told) low (none-lost rule start log n ss order decided)) safe.are)
+-- each minute that a span decided is within the limit of its cut
+whole-spans : (rule : Rule) (start : Start) (log : RunLog) (n : ℕ) (ss : List TraceSecond) → AreInOrder n ss → HasEachDecided rule (went log ss).told (unit_history rule start log (went log ss).told) → (days : List ShownDay) (x : List ℕ) →
+    IsFilled days (unit_history rule start log (went log ss).told) x → AreWhole rule (limit_of log) (last_kept x) (spans_of (went log ss).told)
+whole-spans rule start log n ss order decided days x is =
+    all-whole rule start (went log ss).told (limit_of log) (last_kept x) [] (spans_of (went log ss).told) low (none-lost rule start log n ss order decided)
   where
     below : All (λ i. i.minute ≤ last_kept x) (unit_history rule start log (went log ss).told)
     below = history-low days (unit_history rule start log (went log ss).told) x (n / 60) ((n + length ss) / 60) (rises n rule start log ss order) is
@@ -193,7 +196,60 @@ whole-odometer rule start log n ss order decided days odometer x is safe =
         let le : i.0.minute ≤ last_kept x = All-contains (λ (j : HistoryMinute). j.minute ≤ last_kept x) (unit_history rule start log (went log ss).told) i.0 below i.1 in
         let same = i.2 in omega (arith, le, same)
 
+pub whole-odometer : (rule : Rule) (start : Start) (log : RunLog) (n : ℕ) (ss : List TraceSecond) → AreInOrder n ss → HasEachDecided rule (went log ss).told (unit_history rule start log (went log ss).told) → (days : List ShownDay) (odometer : ℕ) (x : List ℕ) →
+    IsFilled days (unit_history rule start log (went log ss).told) x → OdometerSafe rule log (went log ss).told odometer x → HasWholeOdometer rule (went log ss).told odometer x
+whole-odometer rule start log n ss order decided days odometer x is safe =
+    safe.sum_is
+    ∙ ap (λ (legs : List ℕ). min (odometer + kilometres_of legs) HIGHEST_ODOMETER)
+    (legs-whole rule (limit_of log) (last_kept x) (spans_of (went log ss).told) safe.legs (whole-spans rule start log n ss order decided days x is) safe.are)
+
+-- THE SPANS BEFORE one that has decided a minute: by the limits of their cuts they are whole too
+or-true : (b : Bool) → (b || true) ≡ true
+or-true true = refl
+or-true false = refl
+
+whole-earlier : (rule : Rule) (log : RunLog) (k : ℕ) (earlier : List (List Told)) (span : List Told) (later : List (List Told)) → nat_lt 1 (length span) ≡ true → AllByRecursion (IsKnown rule log.breaks) earlier →
+    AreWhole rule (limit_of log) k (earlier ++ span ∷ later) → AreWhole rule (closed_limit log) 0 earlier
+whole-earlier rule log k [] span later long known w = tt
+whole-earlier rule log k (e ∷ es) span later long known w = (here known.0, whole-earlier rule log k es span later long known.1 w.1)
+  where
+    any : any_long (es ++ span ∷ later) ≡ true
+    any = list_any-append (λ (s : List Told). nat_lt 1 (length s)) es (span ∷ later) ∙ ap (λ (b : Bool). any_long es || (b || any_long later)) long ∙ or-true (any_long es)
+
+    here : IsKnown rule log.breaks e → All (λ d. d.minute ≤ unwrap_or (closed_limit log e es) 0) (decided_of rule e)
+    here (inl none) = subst (All (λ (d : Minute). d.minute ≤ unwrap_or (closed_limit log e es) 0)) (sym none) (All-nil (λ (d : Minute). d.minute ≤ unwrap_or (closed_limit log e es) 0))
+    here (inr cut) = subst (λ (n : ℕ). All (λ (d : Minute). d.minute ≤ n) (decided_of rule e))
+        (ap (λ (b : Bool). unwrap_or (cond b (limit_by log (cut_second (last_told e))) None) k) any ∙ ap (λ (c : Option ℕ). unwrap_or (limit_by log c) k) cut.1 ∙ sym (ap (λ (c : Option ℕ). unwrap_or (limit_by log c) 0) cut.1)) w.0
+
+long-enough : (rule : Rule) (span : List Told) (d : Minute) → Contains (decided_of rule span) d → nat_lt 1 (length span) ≡ true
+long-enough rule span d at = by (nat_lt 1 (length span)) refl
+  where
+    by : (b : Bool) → nat_lt 1 (length span) ≡ b → b ≡ true
+    by true is = refl
+    by false is = absurd (let none = subst (λ (ds : List Minute). Contains ds d) (short-decides rule span is) at in omega (arith, none.1))
+
 -- OF A RUN WITH CARDS
+module _ (r : Recording) (begun_at : ℕ) (order : AreInOrder begun_at r.trace) (w : HasEachDecided r.rule (told_of r) (history_of r)) (x : List ℕ) (filled_ : IsFilled (recorded r.unit) (history_of r) x) where
+  day-whole : (day odometer : ℕ) → IsBegunIn r x day odometer → HasDayOdometer r day odometer
+  day-whole day odometer b =
+      let spans = subst (AreWhole r.rule (limit_of r.log) (last_kept x)) b.are (whole-spans r.rule (start_of r) r.log begun_at r.trace order w (recorded r.unit) x filled_) in
+      let legs : b.legs ≡ whole_legs r.rule b.earlier = legs-whole r.rule (closed_limit r.log) 0 b.earlier b.legs (whole-earlier r.rule r.log (last_kept x) b.earlier b.span b.later (long-enough r.rule b.span b.minute b.decided) b.known spans) b.closed in
+      record {
+        anew = b.anew;
+        earlier = b.earlier;
+        span = b.span;
+        later = b.later;
+        are = b.are;
+        minute = b.minute;
+        decided = b.decided;
+        day_is = ap (λ (n : ℕ). n / 1440) b.same ∙ b.day_is;
+        first = λ s d at in_ is.
+            let i = w s d at in_ in
+            let le = All-contains (λ (j : HistoryMinute). j.minute / 1440 ≡ day → b.i.minute ≤ j.minute) (history_of r) i.0 b.first i.1 (ap (λ (n : ℕ). n / 1440) i.2 ∙ is) in
+            subst (λ (n : ℕ). n ≤ d.minute) (sym b.same) (subst (λ (n : ℕ). b.i.minute ≤ n) i.2 le);
+        sum_is = b.sum_is ∙ ap (λ (ls : List ℕ). min (odometer_at r.unit + kilometres_of (ls ++ b.minute.travelled ∷ [])) HIGHEST_ODOMETER) legs;
+      }
+
 pub all-there : (unit card_a card_b : List ℕ) (start : ℕ) (items : List Item) (out : Outcome) (began now : Devices) → EndsTrace unit card_a card_b start items out began now → NothingFailed (log_of out) →
     IsAllThere (recording_of unit card_a card_b start items out) now
 all-there unit card_a card_b start items out began now h nothing =
@@ -202,4 +258,8 @@ all-there unit card_a card_b start items out began now h nothing =
     record {
       minutes = w;
       odometer = λ x left. whole-odometer r.rule (start_of r) r.log start r.trace (seconds-order start items) w.decided (recorded r.unit) (odometer_at r.unit) x (w.unit x left) (h.ends.odometer x left);
+      days = λ x left day odometer records. ⊎_elim
+          (λ was. inl was)
+          (λ begun. inr (day-whole r start (seconds-order start items) w.decided x (w.unit x left) day odometer begun))
+          (h.ends.days x left day odometer records);
     }

@@ -111,8 +111,8 @@ module _ (o : Origin) (done : List TraceSecond) (s : TraceSecond) (slot : Slot) 
       let b = j.own c valid (ap (λ (k : Card). same_card k c) (sym card_is) ∙ own) in (
         b.uses,
         (λ none.
-        let is : later ≡ log_of after = alike none in
-        (fewer-none (log_of before) later more.0 more.1 none, ap (λ (l : RunLog). uses_in o c (notes_now began done l s)) is ∙ b.exact (subst NothingFailed is none))),
+            let is : later ≡ log_of after = alike none in
+            (fewer-none (log_of before) later more.0 more.1 none, ap (λ (l : RunLog). uses_in o c (notes_now began done l s)) is ∙ b.exact (subst NothingFailed is none))),
         b.are,
         judged-them (sizes_in o c) (vehicle_in o) c later x failed (is_torn_in (log_of after) s.number (In 0) slot) (accepts s.number (found_in (log_of after) s.number (In 0) slot)) b.uses (card_of d c) (card_of e c) entered fails
             (λ is. torn-sitting later (went began done).before s c slot q off sits own (torn ∙ is))

@@ -5,9 +5,9 @@ use Rattle.trace_model.specs.Trace.{TraceSecond, seconds_of}
 use Rattle.minute_model.specs.declared.Rule.TheVariants.{Original}
 use Rattle.log_model.specs.Log.{RunLog}
 use Rattle.unit_model.specs.Decoding.{Decodes}
-use Rattle.unit_model.specs.Image.{last_kept}
+use Rattle.unit_model.specs.Image.{recorded, last_kept}
 use Rattle.card_image.specs.Own.{own_number, IsOwnValid}
-use Rattle.safety_model.specs.Recording.{Recording}
+use Rattle.safety_model.specs.Recording.{Recording, history_of, lost_of}
 use Rattle.safety_model.specs.Safe.{Devices, MayBegin, breakdowns_of}
 use Rattle.safety_model.specs.Side.{Side}
 use Rattle.run_rule.specs.Opening.{BeginsAs}
@@ -24,6 +24,7 @@ use Rattle.recorder_with_cards.specs.Stays.{HasAllStays}
 use Rattle.recorder_with_cards.specs.Still.{StayDense, KeepTheirHolders}
 use Rattle.recorder_with_cards.specs.Sessions.{TellFirst}
 use Rattle.recorder_with_cards.specs.KeptAfter.{TellsKept}
+use Rattle.recorder_with_cards.specs.LastKept.{TellsLast}
 use Rattle.recorder_with_cards.specs.Placed.{ShowTheirPlaces}
 use Rattle.recorder_with_cards.specs.CardEvents.{ShowTheirEvents}
 
@@ -66,7 +67,7 @@ pub record MayRecord (unit card_a card_b : List ℕ) (start : ℕ) : Type 0 wher
 -- WHAT A RUN PROMISES that was recorded: it could begin, the crash-safety theorem holds of it, every image that a stop may leave of the unit
 -- shows its auxiliary records, events and faults, insertions with their withdrawals, places, and the odometer, and every image of a card that was
 -- valid has been written so; and where no call failed each of these shows exactly what its stays in the slots make of it. What was found kept
--- after its cuts was so. Rings that were dense stay dense; each valid card stays its holder's, keeps all that no call writes, and shows the
+-- after its cuts was so, and the last-kept minute of each image of the unit is that of the last minute which it shows. Rings that were dense stay dense; each valid card stays its holder's, keeps all that no call writes, and shows the
 -- places that were entered by it and its events of the run. As a card comes for the first time, the session is told as open on it that its image
 -- at the start tells.
 pub record EndsTrace (unit card_a card_b : List ℕ) (start : ℕ) (items : List Item) (out : Outcome) (began now : Devices) : Type 0 where
@@ -76,6 +77,7 @@ pub record EndsTrace (unit card_a card_b : List ℕ) (start : ℕ) (items : List
   pub written : AreWritten (recording_of unit card_a card_b start items out) now
   pub stays : HasAllStays (recording_of unit card_a card_b start items out) now
   pub kept : TellsKept (recording_of unit card_a card_b start items out) began.unit.clock now.unit
+  pub last : TellsLast (recorded unit) (last_kept unit) (history_of (recording_of unit card_a card_b start items out)) (lost_of (recording_of unit card_a card_b start items out)) out.marks.items began.unit.clock now.unit
   pub dense : StayDense (recording_of unit card_a card_b start items out) now
   pub holders : KeepTheirHolders (recording_of unit card_a card_b start items out) began now
   pub places : ShowTheirPlaces (recording_of unit card_a card_b start items out) now

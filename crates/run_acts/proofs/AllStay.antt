@@ -247,8 +247,8 @@ module _ (o : Origin) where
   Are log notes r cabin d = AreStays o notes (acceptances_told log) r cabin d
 
   -- of one card
-  abbrev Has : Registration → List Note → Cabin → Card → List Stay → State → Type 0
-  Has r notes cabin c ss X = HasStays (f c) r (spells_of c notes) (sits_in cabin.slots.seats c) ss (session_of cabin.cards c) X
+  abbrev HasOf : Registration → List Note → Cabin → Card → List Stay → State → Type 0
+  HasOf r notes cabin c ss X = HasStays (f c) r (spells_of c notes) (sits_in cabin.slots.seats c) ss (session_of cabin.cards c) X
 
   abbrev TurnsOf : Card → (log later : RunLog) → (notes now : List Note) → Registration → (cabin after : Cabin) → (U V X Y : State) → List Stay → Type 0
   TurnsOf c log later notes now r cabin after U V X Y ss =
@@ -317,7 +317,7 @@ module _ (o : Origin) where
         befores = befores-as (acceptances_told log) (acceptances_told log) r h.stays h.stays U V refl (λ c. refl) go h.befores;
       }
     where
-      by : (h : Are log notes r cabin (devices U X Y)) (c : Card) → IsOwnValid (f c).image → Has r notes cabin c (h.stays c) (card_of (devices V X Y) c)
+      by : (h : Are log notes r cabin (devices U X Y)) (c : Card) → IsOwnValid (f c).image → HasOf r notes cabin c (h.stays c) (card_of (devices V X Y) c)
       by h A valid = h.each A valid
       by h B valid = h.each B valid
 
@@ -389,7 +389,7 @@ module _ (o : Origin) where
           only h t A = t.only (h.only A)
           only h t B = h.only B
 
-          each : (h : Are log notes r cabin (arranged A U X Z)) (t : TurnsOf A log later notes now r cabin after U V X Y (h.stays A)) (c : Card) → IsOwnValid (f c).image → Has r now after c (with_mine A t.now h.stays c) (card_of (arranged A V Y Z) c)
+          each : (h : Are log notes r cabin (arranged A U X Z)) (t : TurnsOf A log later notes now r cabin after U V X Y (h.stays A)) (c : Card) → IsOwnValid (f c).image → HasOf r now after c (with_mine A t.now h.stays c) (card_of (arranged A V Y Z) c)
           each h t A valid = t.shows valid (h.each A valid)
           each h t B valid =
               as-same (f B) r (spells_of B notes) (spells_of B now) (sits_in cabin.slots.seats B) (sits_in after.slots.seats B) (h.stays B) (session_of cabin.cards B) (session_of after.cards B) Z (spell none) seat same (h.each B valid)
@@ -416,7 +416,7 @@ module _ (o : Origin) where
           only h t A = h.only A
           only h t B = t.only (h.only B)
 
-          each : (h : Are log notes r cabin (arranged B U X Z)) (t : TurnsOf B log later notes now r cabin after U V X Y (h.stays B)) (c : Card) → IsOwnValid (f c).image → Has r now after c (with_mine B t.now h.stays c) (card_of (arranged B V Y Z) c)
+          each : (h : Are log notes r cabin (arranged B U X Z)) (t : TurnsOf B log later notes now r cabin after U V X Y (h.stays B)) (c : Card) → IsOwnValid (f c).image → HasOf r now after c (with_mine B t.now h.stays c) (card_of (arranged B V Y Z) c)
           each h t A valid =
               as-same (f A) r (spells_of A notes) (spells_of A now) (sits_in cabin.slots.seats A) (sits_in after.slots.seats A) (h.stays A) (session_of cabin.cards A) (session_of after.cards A) Z (spell none) seat same (h.each A valid)
           each h t B valid = t.shows valid (h.each B valid)

@@ -1,8 +1,8 @@
--- What an acceptance brings of a card that enters for the first time: so many entries as the unit owed to it at the start.
-use Rattle.std.proofs.Common.{◌≡◌, ◌⊎◌, inl, inr, ⊎_elim, ℕ, ◌≤◌, ◌<◌, None, List, [], ◌∷◌, ◌++◌, All, length, refl, ap, sym, subst, ◌∙◌, arith, append-nil}
+-- What an acceptance brings of a card that enters for the first time: so many entries as the unit owed to it at the start, and each of them is marked.
+use Rattle.std.proofs.Common.{◌≡◌, ◌⊎◌, inl, inr, ⊎_elim, ℕ, ◌≤◌, ◌<◌, None, List, [], ◌∷◌, ◌++◌, All, length, refl, ap, sym, subst, ◌∙◌, arith, append-nil, append_assoc}
 use Rattle.std.specs.Prelude.{option_to_list}
 use Rattle.std.proofs.lemmas.Bool.{cases_lt}
-use Rattle.std.proofs.lemmas.List.Elements.{All-head, All-append}
+use Rattle.std.proofs.lemmas.List.Elements.{All-nil, All-cons, All-head, All-append, Contains-append_left, Contains-append_right, Contains-push}
 use Rattle.activity_codec.specs.declared.entries.Entry.{Entry}
 use Rattle.trace_model.specs.declared.Card.{Card}
 use Rattle.trace_model.specs.declared.Card.TheVariants.{A, B}
@@ -11,9 +11,12 @@ use Rattle.tach_media.specs.Medium.{State, IsCoherent}
 use Rattle.minute_rules.specs.Kept.{Kept}
 use Rattle.card_image.specs.View.{CardView}
 use Rattle.card_image.specs.Own.{own_view}
+use Rattle.log_model.specs.declared.lines.Mark.{Mark}
+use Rattle.log_model.specs.Causes.{device_of}
 use Rattle.log_model.specs.Log.{In}
 use Rattle.log_model.specs.Course.{Told, Visit, went}
 use Rattle.history_model.specs.Minutes.{HistoryMinute, card_history, up_to}
+use Rattle.history_model.specs.Completeness.{IsMarked}
 use Rattle.history_model.specs.Presence.{CardStart}
 use Rattle.history_model.specs.Book.{Book, all}
 use Rattle.history_model.proofs.Filters.{all-front, all-back}
@@ -26,10 +29,10 @@ use Rattle.safety_model.specs.Safe.{entered_by}
 use Rattle.run_rule.specs.Found.{found_of, AnyKept}
 use Rattle.run_course.specs.Seconds.{kept_all}
 use Rattle.run_moments.specs.Lines.{times_of}
-use Rattle.run_told.specs.Told.{arranged, with_standing}
+use Rattle.run_told.specs.Told.{arranged, with_standing, card_marks}
 use Rattle.run_outcome.specs.declared.outcome.Outcome.{Outcome}
 use Rattle.run_recorded.specs.Origin.{Origin, rule_of, start_at}
-use Rattle.run_recorded.specs.Ends.{recording_by}
+use Rattle.run_recorded.specs.Ends.{recording_by, IsAllOwed}
 use Rattle.run_recorded.proofs.Beside.{before-next}
 use Rattle.run_recorded.proofs.Unentered.{IsBare, StaysOut, stays-out, others-told, entered-then, entered-at, minutes-bare, unit-bare, up-bare, bare-history}
 use Rattle.run_keeping.specs.declared.keeper.Keeper.{Keeper}
@@ -49,6 +52,15 @@ front-none mark (e ∷ more) due es is low high =
     let early = All-head (λ (d : Entry). d.minute ≤ mark) e more low in
     let late = All-head (λ (d : Entry). mark < d.minute) e (more ++ due) (subst (All (λ (d : Entry). mark < d.minute)) (sym is) high) in
     absurd (omega (arith, early, late))
+
+-- entries have the marks that are made of them
+own-marks : (c : Card) (clock : ℕ) (ms : List Mark) (es : List Entry) → All (λ (e : Entry). IsMarked (ms ++ card_marks c clock es) (device_of c) e.minute) es
+own-marks c clock ms [] = All-nil (λ (e : Entry). IsMarked (ms ++ []) (device_of c) e.minute)
+own-marks c clock ms (e ∷ es) =
+    let m : Mark = record { device = device_of c; minute = e.minute; clock = clock } in
+    All-cons (λ (d : Entry). IsMarked (ms ++ m ∷ card_marks c clock es) (device_of c) d.minute) e es
+    (m, Contains-append_right ms (m ∷ card_marks c clock es) m (Contains-append_left (m ∷ []) (card_marks c clock es) m (Contains-push [] m)), refl, refl)
+    (subst (λ (xs : List Mark). All (λ (d : Entry). IsMarked xs (device_of c) d.minute) es) (append_assoc ms (m ∷ []) (card_marks c clock es)) (own-marks c clock (ms ++ m ∷ []) es))
 
 module _ (o : Origin) (done : List TraceSecond) (s : TraceSecond) (n : ℕ) (waits fewer : List Visit) (e : Entering) (k : Keeper) (out : Outcome) (unfound next_ begun : ℕ) (minutes : Kept) (U X Z : State) (w : Within o done s (In n) waits None [] (values_with k out unfound next_ begun minutes) (arranged e.which U X Z)) (m : MayJudge o done s n waits fewer e k out unfound next_ begun minutes U X Z w) (coherent : IsCoherent X) where
   abbrev r : Recording
@@ -147,14 +159,21 @@ module _ (o : Origin) (done : List TraceSecond) (s : TraceSecond) (n : ℕ) (wai
       none-more : meets.more ≡ []
       none-more = front-none v.mark meets.more (owed e.which u v) st.owed whole-is (all-back (λ (d : Entry). d.minute ≤ v.mark) st.entries meets.more meets.had) late
 
-      all-brought : entered.replayed ≡ length (brought o.recording e.which).owed
-      all-brought = sym told.found.number ∙ ap length (ap (λ (es : List Entry). es ++ owed e.which u v) (sym none-more) ∙ whole-is ∙ owed-start)
+      all-owed : owed e.which u v ≡ (brought o.recording e.which).owed
+      all-owed = ap (λ (es : List Entry). es ++ owed e.which u v) (sym none-more) ∙ whole-is ∙ owed-start
 
-  pub brings : (entered : Entered) → IsToldSo o.found (with_standing e.which Out (before o done s n waits fewer e k out unfound next_ begun minutes U X Z w m)) e entered U X → BringsBy o w.b done times e.which s.number (Accepted entered.replayed)
-  brings entered told = ⊎_elim
+      -- so many are put on it, and each of them is marked
+      all-brought : (clock : ℕ) → IsAllOwed o.recording (out.marks.items ++ card_marks e.which clock entered.owed.items) e.which entered.replayed
+      all-brought clock = (
+        sym told.found.number ∙ ap length all-owed,
+        subst (All (λ (d : Entry). IsMarked (out.marks.items ++ card_marks e.which clock entered.owed.items) (device_of e.which) d.minute)) (sym told.found.owes ∙ all-owed) (own-marks e.which clock out.marks.items entered.owed.items),
+      )
+
+  pub brings : (entered : Entered) (clock : ℕ) → IsToldSo o.found (with_standing e.which Out (before o done s n waits fewer e k out unfound next_ begun minutes U X Z w m)) e entered U X → BringsBy o w.b done times (out.marks.items ++ card_marks e.which clock entered.owed.items) e.which s.number (Accepted entered.replayed)
+  brings entered clock told = ⊎_elim
       (λ whole. ⊎_elim
       (λ some. inr (inr (earlier some)))
-      (λ few. let none : often_entered r e.which ≡ 0 = omega (arith, few) in inl (all-brought none entered told whole))
+      (λ few. let none : often_entered r e.which ≡ 0 = omega (arith, few) in inl (all-brought none entered told whole clock))
       (cases_lt 0 (often_entered r e.which)))
       (λ may. inr (written-before may))
       (written-or o done s n waits fewer e k out unfound next_ begun minutes U X Z w m coherent)

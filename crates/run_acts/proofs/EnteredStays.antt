@@ -1,5 +1,5 @@
 -- The stays of a card that enters: a new one where it is accepted.
-use Rattle.std.proofs.Common.{◌≡◌, ◌∙◌, ◌⊎◌, inl, inr, ℕ, Bool, true, false, List, [], ◌∷◌, ◌++◌, Option, Some, None, refl, ap, sym, subst}
+use Rattle.std.proofs.Common.{◌≡◌, ◌∙◌, ◌⊎◌, inl, inr, ℕ, Bool, true, false, List, [], ◌∷◌, ◌++◌, Option, Some, None, refl, ap, sym, subst, arith}
 use Rattle.std.specs.Prelude.{filter}
 use Rattle.std.proofs.lemmas.List.{append-nil}
 use Rattle.std.proofs.lemmas.List.Elements.{filter-append}
@@ -15,7 +15,9 @@ use Rattle.log_model.specs.declared.lines.Break.{Break}
 use Rattle.log_model.specs.declared.lines.Verdict.{Verdict}
 use Rattle.log_model.specs.declared.lines.Find.{Find}
 use Rattle.log_model.specs.declared.lines.Verdict.TheVariants.{Accepted as AcceptedWith, NotValid, TimeOverlap}
+use Rattle.card_image.specs.View.{CardView}
 use Rattle.card_image.specs.Own.{own_sizes, IsOwnValid}
+use Rattle.device_steps.proofs.OnCard.{own-is}
 use Rattle.tacho_types.specs.declared.texts.Registration.{Registration}
 use Rattle.run_keeping.specs.CardDeeds.{DoesOn}
 use Rattle.card_layout.specs.declared.files.Application.{Application}
@@ -191,7 +193,8 @@ module _ (o : Origin) (e : Entering) (failed : Bool) (well : failed ≡ false) (
         stays-open f vehicle (spells_of e.which (notes (log_of out))) (spells_of e.which (notes (log_by (Seated entered clock entry)))) (sits_in k.cabin.slots.seats e.which) (sits_in (cabin_by (Seated entered clock entry) e noted cabin).slots.seats e.which) ss
         (find_of e (AcceptedWith entered.replayed)) e.odometer.0 entered.owed.items (record { session = entered.session; entry = entry; noted = and_one noted }) X Y is.1.vehicle is.1.fresh (opens valid)
         (put-own cabin.slots.seats e.slot e.which (Some entered.session.minute))
-        (ap (λ (l : RunLog). spells_of e.which (notes l)) (one-find (AcceptedWith entered.replayed)) ∙ (judges (AcceptedWith entered.replayed)).accepts refl) h;
+        (ap (λ (l : RunLog). spells_of e.which (notes l)) (one-find (AcceptedWith entered.replayed)) ∙ (judges (AcceptedWith entered.replayed)).accepts refl)
+        (let x = told.found.card_image in let seen = ap (λ (v : CardView). v.stored) (own-is (own_sizes f.image) x told.found.sizes) in let le = told.found.early in (x, told.found.there, omega (arith, seen, le))) h;
     comes = λ shown.
         let seen = tells.1 told.valid in
         let newest : entered.look.previous ≡ (after_stays vehicle (own_sizes f.image).activity ss (start_shown f.image)).book.vehicles.newest =

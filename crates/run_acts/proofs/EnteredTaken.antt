@@ -88,7 +88,7 @@ slot-put CoDriver card newest kept elsewhere = slot-there (put_in CoDriver card 
 
 module _ (o : Origin) (done : List TraceSecond) (s : TraceSecond) (n : ℕ) (waits fewer : List Visit) (e : Entering) (k : Keeper) (out : Outcome) (unfound next_ begun : ℕ) (minutes : Kept) (U X Z : State) (w : Within o done s (In n) waits None [] (values_with k out unfound next_ begun minutes) (arranged e.which U X Z)) (m : MayJudge o done s n waits fewer e k out unfound next_ begun minutes U X Z w) (failed : Bool) (k' : Keeper) (noted noted' : ℕ) (out' : Outcome) (W Y : State) (way : Way) (g : HasGone e failed k k' noted noted' out out' U W X Y Z way) (sound : AreSound U W X Y) (entered : Entered) (clock : ℕ) (told : IsToldSo o.found (with_standing e.which Out (before o done s n waits fewer e k out unfound next_ begun minutes U X Z w m)) e entered U X)
     (answered : IsNewestAt (start_at o) (w.b.run.book.sure ++ w.new) k.cabin.slots e.which entered.session.minute s.number)
-    (may : (many : ℕ) × (many ≤ often o w.b done (course_in w.b done s (In n) (values_with k out unfound next_ begun minutes).log) s.number e.which) × VerdictBy o w.b done many ((arranged e.which W Y Z).unit.left_since o.found.unit.began) ((card_of (arranged e.which W Y Z) e.which).left_since (found_of o.found e.which).began) e.which s.number (Accepted entered.replayed)) where
+    (may : (many : ℕ) × (many ≤ often o w.b done (course_in w.b done s (In n) (values_with k out unfound next_ begun minutes).log) s.number e.which) × VerdictBy o w.b done many (out.marks.items ++ card_marks e.which clock entered.owed.items) ((arranged e.which W Y Z).unit.left_since o.found.unit.began) ((card_of (arranged e.which W Y Z) e.which).left_since (found_of o.found e.which).began) e.which s.number (Accepted entered.replayed)) where
   -- the unit had kept this minute last
   last-is : last_kept (unit-told o done s n waits fewer e k out unfound next_ begun minutes U X Z w m).0 ≡ k.journal.kept
   last-is = (at_image (Agrees k.journal) (unit-told o done s n waits fewer e k out unfound next_ begun minutes U X Z w m).1 m.ready.agrees).kept

@@ -1,5 +1,5 @@
 -- What may be found of a card that enters.
-use Rattle.std.proofs.Common.{◌≡◌, inl, inr, ⊎_elim, ℕ, ◌≤◌, ◌<◌, Option, Some, is_some, None, option_map, List, [], ◌∷◌, drop, length, refl, ap, sym, subst, ◌∙◌, arith, true, false}
+use Rattle.std.proofs.Common.{◌≡◌, inl, inr, ⊎_elim, ℕ, ◌≤◌, ◌<◌, Option, Some, is_some, None, option_map, List, [], ◌∷◌, ◌++◌, drop, length, refl, ap, sym, subst, ◌∙◌, arith, true, false}
 use Rattle.activity_codec.specs.declared.entries.Entry.{Entry}
 use Rattle.trace_model.specs.declared.Card.{Card}
 use Rattle.trace_model.specs.declared.Card.TheVariants.{A, B}
@@ -22,7 +22,7 @@ use Rattle.joint_rule.specs.Views.{unit_view, owed}
 use Rattle.safety_model.specs.Recording.{card_image, unit_seen}
 use Rattle.safety_model.specs.Safe.{card_of}
 use Rattle.run_rule.specs.Found.{found_of}
-use Rattle.run_told.specs.Told.{arranged, with_standing}
+use Rattle.run_told.specs.Told.{arranged, with_standing, card_marks}
 use Rattle.run_told.proofs.OnCards.{valid-own}
 use Rattle.run_outcome.specs.declared.outcome.Outcome.{Outcome}
 use Rattle.run_recorded.specs.Origin.{Origin}
@@ -79,7 +79,7 @@ module _ (o : Origin) (done : List TraceSecond) (s : TraceSecond) (n : ℕ) (wai
 
   -- NOT VALID
   pub not-valid : (fid : Fid) (place : ℕ) (y : List ℕ) → X.may_leave y → own_bad_file y ≡ Some (fid, place) →
-      (many : ℕ) × (many ≤ often o w.b done (course_in w.b done s (In n) (values_with k out unfound next_ begun minutes).log) s.number e.which) × VerdictBy o w.b done many ((arranged e.which W Y Z).unit.left_since o.found.unit.began) ((card_of (arranged e.which W Y Z) e.which).left_since (found_of o.found e.which).began) e.which s.number (NotValid fid place)
+      (many : ℕ) × (many ≤ often o w.b done (course_in w.b done s (In n) (values_with k out unfound next_ begun minutes).log) s.number e.which) × VerdictBy o w.b done many out.marks.items ((arranged e.which W Y Z).unit.left_since o.found.unit.began) ((card_of (arranged e.which W Y Z) e.which).left_since (found_of o.found e.which).began) e.which s.number (NotValid fid place)
   not-valid fid place y there bad = (
     0,
     omega arith,
@@ -97,7 +97,7 @@ module _ (o : Origin) (done : List TraceSecond) (s : TraceSecond) (n : ℕ) (wai
 
   -- OF A LATER TIME
   pub later-time : (app : Application) (stored : ℕ) (y : List ℕ) → X.may_leave y → own_sizes y ≡ app → IsValid app y → stored ≡ (card_view app y).stored → s.number < stored →
-      (many : ℕ) × (many ≤ often o w.b done (course_in w.b done s (In n) (values_with k out unfound next_ begun minutes).log) s.number e.which) × VerdictBy o w.b done many ((arranged e.which W Y Z).unit.left_since o.found.unit.began) ((card_of (arranged e.which W Y Z) e.which).left_since (found_of o.found e.which).began) e.which s.number (TimeOverlap stored e.at.second)
+      (many : ℕ) × (many ≤ often o w.b done (course_in w.b done s (In n) (values_with k out unfound next_ begun minutes).log) s.number e.which) × VerdictBy o w.b done many out.marks.items ((arranged e.which W Y Z).unit.left_since o.found.unit.began) ((card_of (arranged e.which W Y Z) e.which).left_since (found_of o.found e.which).began) e.which s.number (TimeOverlap stored e.at.second)
   later-time app stored y there own valid is late =
       let seen : (own_view y).stored ≡ stored = ap (λ (v : CardView). v.stored) (own-is app y own) ∙ sym is in (
         often o w.b done (course_in w.b done s (In n) (values_with k out unfound next_ begun minutes).log) s.number e.which,
@@ -124,9 +124,9 @@ module _ (o : Origin) (done : List TraceSecond) (s : TraceSecond) (n : ℕ) (wai
       )
 
   -- ACCEPTED
-  pub accepted-may : (entered : Entered) (told : IsToldSo o.found (with_standing e.which Out (before o done s n waits fewer e k out unfound next_ begun minutes U X Z w m)) e entered U X) →
-      (many : ℕ) × (many ≤ often o w.b done (course_in w.b done s (In n) (values_with k out unfound next_ begun minutes).log) s.number e.which) × VerdictBy o w.b done many ((arranged e.which W Y Z).unit.left_since o.found.unit.began) ((card_of (arranged e.which W Y Z) e.which).left_since (found_of o.found e.which).began) e.which s.number (Accepted entered.replayed)
-  accepted-may entered told =
+  pub accepted-may : (entered : Entered) (clock : ℕ) (told : IsToldSo o.found (with_standing e.which Out (before o done s n waits fewer e k out unfound next_ begun minutes U X Z w m)) e entered U X) →
+      (many : ℕ) × (many ≤ often o w.b done (course_in w.b done s (In n) (values_with k out unfound next_ begun minutes).log) s.number e.which) × VerdictBy o w.b done many (out.marks.items ++ card_marks e.which clock entered.owed.items) ((arranged e.which W Y Z).unit.left_since o.found.unit.began) ((card_of (arranged e.which W Y Z) e.which).left_since (found_of o.found e.which).began) e.which s.number (Accepted entered.replayed)
+  accepted-may entered clock told =
       let valid = subst IsOwnValid (m.origin.image e.which) told.valid in
       let i = told.found.unit_image in
       let x = told.found.card_image in (
@@ -145,6 +145,6 @@ module _ (o : Origin) (done : List TraceSecond) (s : TraceSecond) (n : ℕ) (wai
               ap (λ (es : List Entry). length es) (sym (owed-as o e.which i (own_view x) (m.origin.number e.which valid))) ∙ told.found.number,
             ),
           ),
-          brings o done s n waits fewer e k out unfound next_ begun minutes U X Z w m coherent entered told,
+          brings o done s n waits fewer e k out unfound next_ begun minutes U X Z w m coherent entered clock told,
         ),
       )

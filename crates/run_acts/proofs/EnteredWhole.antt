@@ -150,7 +150,7 @@ module _ (o : Origin) (done : List TraceSecond) (s : TraceSecond) (n : ℕ) (wai
       not-noted g =
           let r = known o done s n waits fewer e k out unfound next_ begun minutes U X Z w m failed k' noted noted' out' W Y (Judged app (Unnoted entered clock)) g sound in
           unnoted o done s n waits fewer e k out unfound next_ begun minutes U X Z w m failed k' noted noted' out' W Y (Judged app (Unnoted entered clock)) g sound entered clock r.told (answered o done s n waits fewer e k out unfound next_ begun minutes U X Z w m sound.card_before entered r.told)
-          (accepted-may o done s n waits fewer e k out unfound next_ begun minutes U X Z w m sound.card_before sound.unit_before W Y (left o done s n waits fewer e k out unfound next_ begun minutes U X Z w m failed k' noted noted' out' W Y (Judged app (Unnoted entered clock)) g sound) entered r.told) (Ok app)
+          (accepted-may o done s n waits fewer e k out unfound next_ begun minutes U X Z w m sound.card_before sound.unit_before W Y (left o done s n waits fewer e k out unfound next_ begun minutes U X Z w m failed k' noted noted' out' W Y (Judged app (Unnoted entered clock)) g sound) entered clock r.told) (Ok app)
           (cards-behind o done s n waits fewer e k out unfound next_ begun minutes U X Z w m failed k' noted noted' out' W Y (Judged app (Unnoted entered clock)) g sound (λ (q : Cards). AreFoundCards o.found q) r.found) g.entered.is.0
           (values-behind o done s n waits fewer e k out unfound next_ begun minutes U X Z w m failed k' noted noted' out' W Y (Judged app (Unnoted entered clock)) g sound ∙ lined-as (out.breaks.items ++ []) out.breaks.items out.refused.items (out.finds.items ++ find_of e (Accepted entered.replayed) ∷ []) _ (and_marks (device_of e.which) clock (last_of entered.owed.items entered.replayed) out.marks).items (out.marks.items ++ card_marks e.which clock entered.owed.items) (with_sizes_of e.which (Ok app) k.cabin) unfound next_ begun minutes k.odometer (append-nil out.breaks.items) refl (all-marked r.told))
           r.taken
@@ -160,7 +160,7 @@ module _ (o : Origin) (done : List TraceSecond) (s : TraceSecond) (n : ℕ) (wai
         is-seated g =
             let r = known o done s n waits fewer e k out unfound next_ begun minutes U X Z w m failed k' noted noted' out' W Y (Judged app (Seated entered clock entry)) g sound in
             seated-so o done s n waits fewer e k out unfound next_ begun minutes U X Z w m failed k' noted noted' out' W Y (Judged app (Seated entered clock entry)) g sound entered clock r.told (answered o done s n waits fewer e k out unfound next_ begun minutes U X Z w m sound.card_before entered r.told)
-            (accepted-may o done s n waits fewer e k out unfound next_ begun minutes U X Z w m sound.card_before sound.unit_before W Y (left o done s n waits fewer e k out unfound next_ begun minutes U X Z w m failed k' noted noted' out' W Y (Judged app (Seated entered clock entry)) g sound) entered r.told) entry (Ok app)
+            (accepted-may o done s n waits fewer e k out unfound next_ begun minutes U X Z w m sound.card_before sound.unit_before W Y (left o done s n waits fewer e k out unfound next_ begun minutes U X Z w m failed k' noted noted' out' W Y (Judged app (Seated entered clock entry)) g sound) entered clock r.told) entry (Ok app)
             (cards-behind o done s n waits fewer e k out unfound next_ begun minutes U X Z w m failed k' noted noted' out' W Y (Judged app (Seated entered clock entry)) g sound (λ (q : Cards). AreFoundCards o.found q) r.found)
             (values-behind o done s n waits fewer e k out unfound next_ begun minutes U X Z w m failed k' noted noted' out' W Y (Judged app (Seated entered clock entry)) g sound ∙ lined-as (out.breaks.items ++ []) out.breaks.items out.refused.items (out.finds.items ++ find_of e (Accepted entered.replayed) ∷ []) _ (and_marks (device_of e.which) clock (last_of entered.owed.items entered.replayed) out.marks).items (out.marks.items ++ card_marks e.which clock entered.owed.items) (seated entered.look entered.session entered.row entry noted e (with_sizes_of e.which (Ok app) k.cabin)) unfound next_ begun minutes k.odometer (append-nil out.breaks.items) refl (all-marked r.told))
             (cards-behind o done s n waits fewer e k out unfound next_ begun minutes U X Z w m failed k' noted noted' out' W Y (Judged app (Seated entered clock entry)) g sound (λ (q : Cards). IsTakenOn (Seated entered clock entry) failed e k.journal.kept o.found (with_marks (card_marks e.which clock entered.owed.items) (with_standing e.which Out (before o done s n waits fewer e k out unfound next_ begun minutes U X Z w m))) q (arranged e.which W Y Z)) r.taken)
@@ -170,7 +170,7 @@ module _ (o : Origin) (done : List TraceSecond) (s : TraceSecond) (n : ℕ) (wai
             let r = known o done s n waits fewer e k out unfound next_ begun minutes U X Z w m failed k' noted noted' out' W Y (Judged app (Lost entered clock entry)) g sound in
             let found = cards-behind o done s n waits fewer e k out unfound next_ begun minutes U X Z w m failed k' noted noted' out' W Y (Judged app (Lost entered clock entry)) g sound (λ (q : Cards). AreFoundCards o.found q) r.found in
             lost-since o done s n waits fewer e k out unfound next_ begun minutes U X Z w m failed k' noted noted' out' W Y (Judged app (Lost entered clock entry)) g sound entered clock r.told (answered o done s n waits fewer e k out unfound next_ begun minutes U X Z w m sound.card_before entered r.told)
-            (accepted-may o done s n waits fewer e k out unfound next_ begun minutes U X Z w m sound.card_before sound.unit_before W Y (left o done s n waits fewer e k out unfound next_ begun minutes U X Z w m failed k' noted noted' out' W Y (Judged app (Lost entered clock entry)) g sound) entered r.told) entry (Ok app)
+            (accepted-may o done s n waits fewer e k out unfound next_ begun minutes U X Z w m sound.card_before sound.unit_before W Y (left o done s n waits fewer e k out unfound next_ begun minutes U X Z w m failed k' noted noted' out' W Y (Judged app (Lost entered clock entry)) g sound) entered clock r.told) entry (Ok app)
             (found-before o.found e.which (seated entered.look entered.session entered.row entry noted e (with_sizes_of e.which (Ok app) k.cabin)).cards found) found g.entered.broken
             (values-behind o done s n waits fewer e k out unfound next_ begun minutes U X Z w m failed k' noted noted' out' W Y (Judged app (Lost entered clock entry)) g sound ∙ lined-as (out.breaks.items ++ tear_of e.slot e.at ∷ []) _ out.refused.items (out.finds.items ++ find_of e (Accepted entered.replayed) ∷ []) _ (and_marks (device_of e.which) clock (last_of entered.owed.items entered.replayed) out.marks).items (out.marks.items ++ card_marks e.which clock entered.owed.items) (torn_out e.which e.at.second (seated entered.look entered.session entered.row entry noted e (with_sizes_of e.which (Ok app) k.cabin))) unfound next_ begun minutes k.odometer refl refl (all-marked r.told))
             (cards-behind o done s n waits fewer e k out unfound next_ begun minutes U X Z w m failed k' noted noted' out' W Y (Judged app (Lost entered clock entry)) g sound (λ (q : Cards). IsTakenOn (Lost entered clock entry) failed e k.journal.kept o.found (with_marks (card_marks e.which clock entered.owed.items) (with_standing e.which Out (before o done s n waits fewer e k out unfound next_ begun minutes U X Z w m))) q (arranged e.which W Y Z)) r.taken)

@@ -613,20 +613,20 @@ module _ (o : Origin) (done : List TraceSecond) (s : TraceSecond) (n : ℕ) (wai
 
   -- so another spell of it begins, and none of another card
   pub accepted-now : is_accepting f.verdict ≡ true → spells_of card (notes_within w.b done s (In n) later) ≡ spells_of card (notes_within w.b done s (In n) v.log) ++ record { second = s.number; slot = slot; withdrawn = false } ∷ []
-  accepted-now yes =
-      ap (λ (l : List Note). spells_of card l) (judged-notes ∙ ap (λ (b : Bool). notes_within w.b done s (In n) v.log ++ map (λ (x : Verdict). Accepts (record { second = s.number; slot = slot; card = card })) (cond b (f.verdict ∷ []) [])) yes)
+  accepted-now is =
+      ap (λ (l : List Note). spells_of card l) (judged-notes ∙ ap (λ (b : Bool). notes_within w.b done s (In n) v.log ++ map (λ (x : Verdict). Accepts (record { second = s.number; slot = slot; card = card })) (cond b (f.verdict ∷ []) [])) is)
       ∙ accepts-more card (notes_within w.b done s (In n) v.log) (record { second = s.number; slot = slot; card = card }) (same-itself card)
 
   pub rejected-now : is_accepting f.verdict ≡ false → (c : Card) → spells_of c (notes_within w.b done s (In n) later) ≡ spells_of c (notes_within w.b done s (In n) v.log)
-  rejected-now no c =
+  rejected-now is c =
       ap (λ (l : List Note). spells_of c l)
-      (judged-notes ∙ ap (λ (b : Bool). notes_within w.b done s (In n) v.log ++ map (λ (x : Verdict). Accepts (record { second = s.number; slot = slot; card = card })) (cond b (f.verdict ∷ []) [])) no ∙ append-nil (notes_within w.b done s (In n) v.log))
+      (judged-notes ∙ ap (λ (b : Bool). notes_within w.b done s (In n) v.log ++ map (λ (x : Verdict). Accepts (record { second = s.number; slot = slot; card = card })) (cond b (f.verdict ∷ []) [])) is ∙ append-nil (notes_within w.b done s (In n) v.log))
 
   pub elsewhere-now : (c : Card) → same_card c card ≡ false → spells_of c (notes_within w.b done s (In n) later) ≡ spells_of c (notes_within w.b done s (In n) v.log)
   elsewhere-now c other = by (is_accepting f.verdict) refl
     where
       by : (b : Bool) → is_accepting f.verdict ≡ b → spells_of c (notes_within w.b done s (In n) later) ≡ spells_of c (notes_within w.b done s (In n) v.log)
-      by false no = rejected-now no c
-      by true yes =
-          ap (λ (l : List Note). spells_of c l) (judged-notes ∙ ap (λ (b : Bool). notes_within w.b done s (In n) v.log ++ map (λ (x : Verdict). Accepts (record { second = s.number; slot = slot; card = card })) (cond b (f.verdict ∷ []) [])) yes)
+      by false is = rejected-now is c
+      by true is =
+          ap (λ (l : List Note). spells_of c l) (judged-notes ∙ ap (λ (b : Bool). notes_within w.b done s (In n) v.log ++ map (λ (x : Verdict). Accepts (record { second = s.number; slot = slot; card = card })) (cond b (f.verdict ∷ []) [])) is)
           ∙ accepts-others c (notes_within w.b done s (In n) v.log) (record { second = s.number; slot = slot; card = card }) other

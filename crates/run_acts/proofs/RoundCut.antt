@@ -114,14 +114,14 @@ module _ (o : Origin) (done : List TraceSecond) (s : TraceSecond) (q : Point) (a
     verdicts = verdicts-so o done s q all t v d e w k;
     there = k.goes.there w.there;
     few = w.few;
-    finds = finds-so o done s q all t v d e w k (course_in w.b done s q.at (told_values u v).log) th.from_now th.new_now before.brought th.so.same th.so.brought_is (λ late. let n = th.none late in let is = n.1 in (n.0, omega (arith, is)));
+    finds = finds-so o done s q all t v d e w k (course_in w.b done s q.at (told_values u v).log) th.from_now th.new_now (told_values u v).marks before.brought th.so.same th.so.stay th.so.brought_is (λ late. let n = th.none late in let is = n.1 in (n.0, omega (arith, is)));
     spared = spared-so o done s q all t v d e w k (course_in w.b done s q.at (told_values u v).log) u.keeper.cabin.slots th.so.same th.so.slate.stays;
     travels = subst (λ (bk : Book). HasTravelled (odometer_at o.recording.unit) bk (all_travelled th.ds_now w.b.travel) e.unit) th.so.book
         (subst (λ (h : Travel). HasTravelled (odometer_at o.recording.unit) before.book h e.unit) (sym th.travel) travels);
   }
 
   -- begun
-  pub cut-begun : IsPowerless o.found (carried_broken i before) e → HasTravelled (odometer_at o.recording.unit) (broken i before.book) (stranded m.travelled g) e.unit → CutWithin o done s q.at q.waits q.speed (told_values u v) e
+  pub cut-begun : IsPowerless o.found (carried_broken i before) e → HasTravelled (odometer_at o.recording.unit) (broken i before.book) (stranded m.minute m.travelled g) e.unit → CutWithin o done s q.at q.waits q.speed (told_values u v) e
   cut-begun powerless travels = record {
     b = w.b;
     lit = w.lit;
@@ -159,11 +159,11 @@ module _ (o : Origin) (done : List TraceSecond) (s : TraceSecond) (q : Point) (a
     verdicts = verdicts-so o done s q all t v d e w k;
     there = k.goes.there w.there;
     few = w.few;
-    finds = finds-so o done s q all t v d e w k (course_in w.b done s q.at (told_values u v).log) th.from_now th.new_now before.brought th.so.same th.so.brought_is (λ late. let n = th.none late in let is = n.1 in (n.0, omega (arith, is)));
+    finds = finds-so o done s q all t v d e w k (course_in w.b done s q.at (told_values u v).log) th.from_now th.new_now (told_values u v).marks before.brought th.so.same th.so.stay th.so.brought_is (λ late. let n = th.none late in let is = n.1 in (n.0, omega (arith, is)));
     spared = spared-so o done s q all t v d e w k (course_in w.b done s q.at (told_values u v).log) u.keeper.cabin.slots th.so.same th.so.slate.stays;
-    travels = subst (λ (j : HistoryMinute). HasTravelled (odometer_at o.recording.unit) (broken j (kept_all th.new_now w.b.run.book)) (stranded m.travelled (all_travelled th.ds_now w.b.travel)) e.unit) (sym i-is)
-        (subst (λ (bk : Book). HasTravelled (odometer_at o.recording.unit) (broken i bk) (stranded m.travelled (all_travelled th.ds_now w.b.travel)) e.unit) th.so.book
-        (subst (λ (h : Travel). HasTravelled (odometer_at o.recording.unit) (broken i before.book) (stranded m.travelled h) e.unit) (sym th.travel) travels));
+    travels = subst (λ (j : HistoryMinute). HasTravelled (odometer_at o.recording.unit) (broken j (kept_all th.new_now w.b.run.book)) (stranded m.minute m.travelled (all_travelled th.ds_now w.b.travel)) e.unit) (sym i-is)
+        (subst (λ (bk : Book). HasTravelled (odometer_at o.recording.unit) (broken i bk) (stranded m.minute m.travelled (all_travelled th.ds_now w.b.travel)) e.unit) th.so.book
+        (subst (λ (h : Travel). HasTravelled (odometer_at o.recording.unit) (broken i before.book) (stranded m.minute m.travelled h) e.unit) (sym th.travel) travels));
   }
 
   -- it is kept, and the unit failed as it noted the fault of a card
@@ -178,7 +178,7 @@ module _ (o : Origin) (done : List TraceSecond) (s : TraceSecond) (q : Point) (a
     so : SoFar o done s q w.b (outset o done s q all t v d w) (breakdowns_of d) (breakdowns_of e) t.keeper w.sp v t.marks.items c w.brought x behind (th.ds_now ++ m ∷ []) rest (th.new_now ++ i ∷ []) (suc th.from_now)
     so = one-on o done s q w.b (outset o done s q all t v d w) (breakdowns_of d) (breakdowns_of e) t.keeper w.sp v t.marks.items c w.brought k.few k.two m rest round true u before th.ds_now th.new_now th.from_now th.so last_one.0 more_broken.0 more_broken.1
 
-    pub cut-kept : IsPowerless o.found behind e → HasTravelled (odometer_at o.recording.unit) (kept i before.book) (travelled m.travelled g) e.unit → CutWithin o done s q.at q.waits q.speed (told_values x v) e
+    pub cut-kept : IsPowerless o.found behind e → HasTravelled (odometer_at o.recording.unit) (kept i before.book) (travelled m.minute m.travelled g) e.unit → CutWithin o done s q.at q.waits q.speed (told_values x v) e
     cut-kept powerless travels = record {
       b = w.b;
       lit = w.lit;
@@ -215,11 +215,11 @@ module _ (o : Origin) (done : List TraceSecond) (s : TraceSecond) (q : Point) (a
       verdicts = verdicts-so o done s q all t v d e w k;
       there = k.goes.there w.there;
       few = w.few;
-      finds = finds-so o done s q all t v d e w k (course_in w.b done s q.at (told_values x v).log) (suc th.from_now) (th.new_now ++ i ∷ []) behind.brought so.same so.brought_is
+      finds = finds-so o done s q all t v d e w k (course_in w.b done s q.at (told_values x v).log) (suc th.from_now) (th.new_now ++ i ∷ []) (told_values x v).marks behind.brought so.same so.stay so.brought_is
           (λ late. let n = th.none late in let is = n.1 in absurd (omega (arith, late, is, over, here)));
       spared = spared-so o done s q all t v d e w k (course_in w.b done s q.at (told_values x v).log) x.keeper.cabin.slots so.same so.slate.stays;
       travels = subst (λ (bk : Book). HasTravelled (odometer_at o.recording.unit) bk (all_travelled (th.ds_now ++ m ∷ []) w.b.travel) e.unit) so.book
-          (subst (λ (h : Travel). HasTravelled (odometer_at o.recording.unit) behind.book h e.unit) (sym (one-travelled th.ds_now m w.b.travel ∙ ap (travelled m.travelled) th.travel)) travels);
+          (subst (λ (h : Travel). HasTravelled (odometer_at o.recording.unit) behind.book h e.unit) (sym (one-travelled th.ds_now m w.b.travel ∙ ap (travelled m.minute m.travelled) th.travel)) travels);
     }
 
 -- behind all of them, as in the note of an event
@@ -275,7 +275,7 @@ module _ (o : Origin) (done : List TraceSecond) (s : TraceSecond) (q : Point) (a
     verdicts = verdicts-so o done s q all t v d e w k;
     there = k.goes.there w.there;
     few = w.few;
-    finds = finds-so o done s q all t v d e w k (course_in w.b done s q.at (told_values end v).log) thr.from_now thr.new_now all_.brought thr.so.same thr.so.brought_is (λ late. let n = thr.none late in let is = n.1 in (n.0, omega (arith, is)));
+    finds = finds-so o done s q all t v d e w k (course_in w.b done s q.at (told_values end v).log) thr.from_now thr.new_now (told_values end v).marks all_.brought thr.so.same thr.so.stay thr.so.brought_is (λ late. let n = thr.none late in let is = n.1 in (n.0, omega (arith, is)));
     spared = spared-so o done s q all t v d e w k (course_in w.b done s q.at (told_values end v).log) end.keeper.cabin.slots thr.so.same thr.so.slate.stays;
     travels = subst (λ (bk : Book). HasTravelled (odometer_at o.recording.unit) bk (all_travelled thr.ds_now w.b.travel) e.unit) thr.so.book
         (subst (λ (h : Travel). HasTravelled (odometer_at o.recording.unit) all_.book h e.unit) (sym thr.travel) travels);

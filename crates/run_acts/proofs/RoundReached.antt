@@ -132,7 +132,7 @@ module _ (o : Origin) (done : List TraceSecond) (s : TraceSecond) (q : Point) (b
       found = found-after o.found p s.number round t.keeper.cabin h.found;
     }
 
-    pub travel-on : all_travelled (ds ++ m ∷ []) b.travel ≡ travelled m.travelled (all_travelled ds b.travel)
+    pub travel-on : all_travelled (ds ++ m ∷ []) b.travel ≡ travelled m.minute m.travelled (all_travelled ds b.travel)
     travel-on = one-travelled ds m b.travel
 
     pub marked-on : IsFateOf (session_at (cabin_by round.driver p.driver s.number t.keeper.cabin).cards p.codriver) (kept_in (minute_of m k) CoDriver) round.codriver → AreMarkedSoFar t.marks.items (told_before b done) c s.number new →

@@ -58,22 +58,23 @@ module _ (o : Origin) (done : List TraceSecond) (s : TraceSecond) (q : Point) (a
   c = course_in w.b done s q.at (told_values t v).log
 
   -- what was found, and which cards may be written, stays so where the course has only tears more
-  pub verdicts-so : AreVerdicts o done w.b.run.log w.b.run.unfound e
+  pub verdicts-so : AreVerdicts o done w.b.run.log w.b.run.unfound w.b.marks e
   verdicts-so = record {
     kept = kept-later (d.unit.left_since o.found.unit.began) (e.unit.left_since o.found.unit.began) k.goes.left.unit w.b.run.unfound w.b.run.log.breaks w.verdicts.kept;
     each = λ x f verdict among seen.
-        seen-left o done w.b.run.log (d.unit.left_since o.found.unit.began) ((card_of d f.card).left_since (found_of o.found f.card).began) (e.unit.left_since o.found.unit.began) ((card_of e f.card).left_since (found_of o.found f.card).began)
+        seen-left o done w.b.run.log w.b.marks (d.unit.left_since o.found.unit.began) ((card_of d f.card).left_since (found_of o.found f.card).began) (e.unit.left_since o.found.unit.began) ((card_of e f.card).left_since (found_of o.found f.card).began)
         k.goes.left.unit (k.goes.left.card f.card) f.card x.second.number verdict (w.verdicts.each x f verdict among seen);
   }
 
-  pub finds-so : (g : Course) (from : ℕ) (new : List HistoryMinute) (brought : Card → List ℕ) → OnlyTears c g → brought ≡ w.brought → (s.number / 60 ≤ w.from → (new ≡ w.new) × (w.from ≤ from)) → IsFoundSo o w.b done g s.number from new brought e
-  finds-so g from new brought same more none = record {
+  pub finds-so : (g : Course) (from : ℕ) (new : List HistoryMinute) (marks : List Mark) (brought : Card → List ℕ) → OnlyTears c g → ((mark : Mark) → Contains t.marks.items mark → Contains marks mark) → brought ≡ w.brought →
+      (s.number / 60 ≤ w.from → (new ≡ w.new) × (w.from ≤ from)) → IsFoundSo o w.b done g s.number from new marks brought e
+  finds-so g from new marks brought same stay more none = record {
     may = λ x verdict at.
         let was = w.finds.may x verdict (subst (λ (fs : List (Visit × Verdict)). Contains fs (x, verdict)) same.found at) in (
           was.0,
           let le = was.1 in let times = ap (times_of x.card) same.entered in omega (arith, le, times),
-          verdict-left o w.b done was.0 (d.unit.left_since o.found.unit.began) ((card_of d x.card).left_since (found_of o.found x.card).began) (e.unit.left_since o.found.unit.began) ((card_of e x.card).left_since (found_of o.found x.card).began)
-              k.goes.left.unit (k.goes.left.card x.card) x.card s.number verdict was.2,
+          verdict-left o w.b done was.0 t.marks.items marks (d.unit.left_since o.found.unit.began) ((card_of d x.card).left_since (found_of o.found x.card).began) (e.unit.left_since o.found.unit.began) ((card_of e x.card).left_since (found_of o.found x.card).began)
+              stay k.goes.left.unit (k.goes.left.card x.card) x.card s.number verdict was.2,
         );
     taken = λ x verdict at accepts.
         let there = subst (λ (fs : List (Visit × Verdict)). Contains fs (x, verdict)) same.found at in
@@ -154,7 +155,7 @@ module _ (o : Origin) (done : List TraceSecond) (s : TraceSecond) (q : Point) (a
                 (so.slate.back card some);
             verdicts = verdicts-so;
             few = w.few;
-            finds = finds-so (course_in w.b done s q.at (told_values u v).log) th.from_now th.new_now Carried_.brought so.same so.brought_is (λ late. let n = th.none late in let is = n.1 in (n.0, omega (arith, is)));
+            finds = finds-so (course_in w.b done s q.at (told_values u v).log) th.from_now th.new_now (told_values u v).marks Carried_.brought so.same so.stay so.brought_is (λ late. let n = th.none late in let is = n.1 in (n.0, omega (arith, is)));
             there = k.goes.there w.there;
             spared = spared-so (course_in w.b done s q.at (told_values u v).log) u.keeper.cabin.slots so.same so.slate.stays;
             written = λ card some. may-still (course_in w.b done s q.at (told_values u v).log) u.keeper.cabin.slots so.same so.slate.stays card (w.written card (so.slate.had card some));

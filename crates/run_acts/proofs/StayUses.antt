@@ -28,8 +28,8 @@ abbrev spell_use : Registration → Spell → CurrentUse
 spell_use own s = record { session = record { 0 = cond s.withdrawn 0 s.second }; registration = own }
 
 abbrev spells_use : Registration → CurrentUse → List Spell → CurrentUse
-spells_use own use [] = use
-spells_use own use (s ∷ ss) = spells_use own (spell_use own s) ss
+spells_use own held [] = held
+spells_use own held (s ∷ ss) = spells_use own (spell_use own s) ss
 
 stay-spelled : (u : ℕ) (o : Option Activity) → open_from u o ≡ cond (is_some o) 0 u
 stay-spelled u None = refl
@@ -39,15 +39,15 @@ note-spelled : (u : ℕ) (o : Option ℕ) → left_open u o ≡ cond (is_some o)
 note-spelled u None = refl
 note-spelled u (Some w) = refl
 
-by-stays : (vehicle : Registration) (size : ℕ) (ss : List Stay) (p : Shown) → (after_stays vehicle size ss p).use ≡ spells_use vehicle p.use (spells ss)
+by-stays : (vehicle : Registration) (size : ℕ) (ss : List Stay) (p : Shown) → (after_stays vehicle size ss p).held ≡ spells_use vehicle p.held (spells ss)
 by-stays vehicle size [] p = refl
 by-stays vehicle size (s ∷ ss) p =
     by-stays vehicle size ss (after_stay vehicle size s p)
     ∙ ap (λ (n : ℕ). spells_use vehicle (record { session = record { 0 = n }; registration = vehicle }) (spells ss)) (stay-spelled s.found.second s.closed)
 
-by-notes : (own : Registration) (use : CurrentUse) (is : List InsertionNote) → use_behind own use is ≡ spells_use own use (map spell_of is)
-by-notes own use [] = refl
-by-notes own use (i ∷ is) =
+by-notes : (own : Registration) (held : CurrentUse) (is : List InsertionNote) → use_behind own held is ≡ spells_use own held (map spell_of is)
+by-notes own held [] = refl
+by-notes own held (i ∷ is) =
     by-notes own (left_by own i) is ∙ ap (λ (n : ℕ). spells_use own (record { session = record { 0 = n }; registration = own }) (map spell_of is)) (note-spelled i.accepted.second i.withdrawn)
 
 -- of one card

@@ -1,5 +1,5 @@
 -- The stays of a card, over what each call makes of it.
-use Rattle.std.proofs.Common.{◌≡◌, ◌∙◌, inl, inr, ℕ, Bool, true, false, List, [], ◌∷◌, ◌++◌, append_assoc, Option, Some, None, refl, ap, sym, subst}
+use Rattle.std.proofs.Common.{◌≡◌, ◌≤◌, ◌∙◌, inl, inr, ℕ, Bool, true, false, List, [], ◌∷◌, ◌++◌, append_assoc, Option, Some, None, refl, ap, sym, subst, arith}
 use Rattle.std.specs.Prelude.{not, is_some}
 use Rattle.std.specs.List.{AllByRecursion}
 use Rattle.std.proofs.lemmas.List.{append-nil}
@@ -9,8 +9,10 @@ use Rattle.tach_media.specs.Medium.{State}
 use Rattle.tacho_types.specs.declared.numbers.Odometer.{Odometer}
 use Rattle.tacho_types.specs.declared.texts.Registration.{Registration}
 use Rattle.card_layout.specs.declared.files.Application.{Application}
+use Rattle.card_image.specs.View.{card_view}
 use Rattle.card_image.specs.Own.{own_sizes}
 use Rattle.card_image.specs.Fields.{current_use}
+use Rattle.card_records.specs.declared.current_use.CurrentUse.{CurrentUse}
 use Rattle.card_session.specs.declared.session.Kept.{Kept}
 use Rattle.card_session.specs.Books.{Book, mark_of}
 use Rattle.card_session.specs.Sessions.{book_of}
@@ -23,7 +25,7 @@ use Rattle.run_keeping.specs.Deeds.{KeepsOn}
 use Rattle.run_keeping.proofs.CardDeeds.{made-append, keeps-append, last-append}
 use Rattle.log_model.specs.declared.lines.Find.{Find}
 use Rattle.run_acts.specs.Closings.{Spell, last_shut, with_last_shut}
-use Rattle.run_acts.specs.Stays.{Stay, Shown, Coming, comings_of, comings_on, closes, deeds_of, use_after, after_stay, after_stays, start_shown, founds, stay_spell, spells, as_noted, AreMerged, TellsOwed, GoesIn, StaysIn, HasStays}
+use Rattle.run_acts.specs.Stays.{Stay, Shown, Coming, comings_of, comings_on, closes, deeds_of, use_after, after_stay, after_stays, start_shown, founds, stay_spell, spells, as_noted, AreMerged, TellsOwed, GoesIn, StaysIn, HasStays, stored_by, AreTimely}
 
 -- ---- the last of some stays
 
@@ -70,6 +72,29 @@ on-last-owed f goes (t ∷ ss) all = last-owed f goes t ss all
 pub owed-more : (ss : List Stay) (s : Stay) → AllByRecursion TellsOwed ss → TellsOwed s → AllByRecursion TellsOwed (ss ++ s ∷ [])
 owed-more [] s all one = (one, tt)
 owed-more (t ∷ ss) s all one = (all.0, owed-more ss s all.1 one)
+
+-- which began when it did
+last-timely : (f : Stay → Stay) → ((s : Stay) → (f s).found ≡ s.found) → (vehicle : Registration) (size : ℕ) (t : Stay) (ss : List Stay) (p : Shown) → AreTimely vehicle size (t ∷ ss) p → AreTimely vehicle size (last_as f t ss) p
+unfolding last_as
+last-timely f same vehicle size t [] p h = (subst (λ (g : Find). stored_by p ≤ g.second) (sym (same t)) h.0, tt)
+last-timely f same vehicle size t (x ∷ ss) p h = (h.0, last-timely f same vehicle size x ss (after_stay vehicle size t p) h.1)
+
+on-last-timely : (f : Stay → Stay) → ((s : Stay) → (f s).found ≡ s.found) → (vehicle : Registration) (size : ℕ) (ss : List Stay) (p : Shown) → AreTimely vehicle size ss p → AreTimely vehicle size (on_last f ss) p
+unfolding on_last
+on-last-timely f same vehicle size [] p h = tt
+on-last-timely f same vehicle size (t ∷ ss) p h = last-timely f same vehicle size t ss p h
+
+timely-more : (vehicle : Registration) (size : ℕ) (ss : List Stay) (s : Stay) (p : Shown) → AreTimely vehicle size ss p → stored_by (after_stays vehicle size ss p) ≤ s.found.second → AreTimely vehicle size (ss ++ s ∷ []) p
+timely-more vehicle size [] s p h le = (le, tt)
+timely-more vehicle size (t ∷ ss) s p h le = (h.0, timely-more vehicle size ss s (after_stay vehicle size t p) h.1 le)
+
+-- an image has the stored time of what it shows
+stored-own : (app : Application) (x : List ℕ) → (card_view app x).stored ≡ stored_by (record { book = book_of app x; held = current_use app x })
+unfolding card_view book_of
+stored-own app x = refl
+
+stored-shown : (app : Application) (x : List ℕ) (p : Shown) → book_of app x ≡ p.book → current_use app x ≡ p.held → (card_view app x).stored ≡ stored_by p
+stored-shown app x p is on = stored-own app x ∙ ap (λ (b : Book). stored_by (record { book = b; held = current_use app x })) is ∙ ap (λ (u : CurrentUse). stored_by (record { book = p.book; held = u })) on
 
 -- with none there is none
 pub on-last-none : (f : Stay → Stay) (ss : List Stay) → ss ≡ [] → on_last f ss ≡ []
@@ -172,31 +197,31 @@ module _ (f : CardFound) (vehicle : Registration) where
   shown_by ss = after_stays vehicle size ss (start_shown f.image)
 
   abbrev Shows : Shown → State → Type 0
-  Shows p X = ShowsBook app p.book p.use X
+  Shows p X = ShowsBook app p.book p.held X
 
   -- one more behind some
   behind : (front : List Stay) (s : Stay) → shown_by (front ++ s ∷ []) ≡ after_stay vehicle size s (shown_by front)
   behind front s = stays-append vehicle size front (s ∷ []) (start_shown f.image)
 
   -- what the deeds of a stay make is that of its parts
-  parts : (s : Stay) (p : Shown) → made_by size (deeds_of vehicle (is_open_in p.use) p.book s) p.book
-      ≡ made_by size (closes s.closed) (made_by size (keeps vehicle None s.kepts) (made_by size (opens (is_open_in p.use) vehicle s.odometer (lacked (mark_of p.book) s.owed)) p.book))
+  parts : (s : Stay) (p : Shown) → made_by size (deeds_of vehicle (is_open_in p.held) p.book s) p.book
+      ≡ made_by size (closes s.closed) (made_by size (keeps vehicle None s.kepts) (made_by size (opens (is_open_in p.held) vehicle s.odometer (lacked (mark_of p.book) s.owed)) p.book))
   parts s p =
-      let first : List Deed = opens (is_open_in p.use) vehicle s.odometer (lacked (mark_of p.book) s.owed) in
+      let first : List Deed = opens (is_open_in p.held) vehicle s.odometer (lacked (mark_of p.book) s.owed) in
       made-append size first (keeps vehicle None s.kepts ++ closes s.closed) p.book ∙ made-append size (keeps vehicle None s.kepts) (closes s.closed) (made_by size first p.book)
 
   -- at the start
   pub stays-start : (sits : Bool) (X : State) → ((y : List ℕ) → X.may_leave y → y ≡ f.image) → HasStays f vehicle [] sits [] None X
-  stays-start sits X only = record { shows = λ y left. (ap (book_of app) (only y left), ap (current_use app) (only y left)); goes = tt; spell = refl }
+  stays-start sits X only = record { shows = λ y left. (ap (book_of app) (only y left), ap (current_use app) (only y left)); goes = tt; spell = refl; timely = tt }
 
   -- nothing is done on it
   pub stays-still : (noted : List Spell) (sits : Bool) (ss : List Stay) (s : Option Accepted) (X Y : State) → DoesOn app [] X Y → HasStays f vehicle noted sits ss s X → HasStays f vehicle noted sits ss s Y
-  stays-still noted sits ss s X Y does h = record { shows = does (shown_by ss).book (shown_by ss).use h.shows; goes = h.goes; spell = h.spell }
+  stays-still noted sits ss s X Y does h = record { shows = does (shown_by ss).book (shown_by ss).held h.shows; goes = h.goes; spell = h.spell; timely = h.timely }
 
   -- its session and its seat become others, as it is noted, or its session is gone
   pub stays-moved : (noted now : List Spell) (sits sits_now : Bool) (ss : List Stay) (s t : Option Accepted) (X : State) → (StaysIn vehicle ss s → StaysIn vehicle ss t) → (as_noted s sits (spells ss) ≡ noted → as_noted t sits_now (spells ss) ≡ now) →
       HasStays f vehicle noted sits ss s X → HasStays f vehicle now sits_now ss t X
-  stays-moved noted now sits sits_now ss s t X goes spell h = record { shows = h.shows; goes = goes h.goes; spell = spell h.spell }
+  stays-moved noted now sits sits_now ss s t X goes spell h = record { shows = h.shows; goes = goes h.goes; spell = spell h.spell; timely = h.timely }
 
   -- it keeps some minutes
   module _ (noted : List Spell) (sits : Bool) (ss : List Stay) (ks : List Kept) (a b : Accepted) (X Y : State) (on : KeepsOn f ks (Some a) (Some b) X Y) (h : HasStays f vehicle noted sits ss (Some a) X) where
@@ -210,15 +235,15 @@ module _ (f : CardFound) (vehicle : Registration) where
     before = shown_by g.front
 
     abbrev opened : Book
-    opened = made_by size (opens (is_open_in before.use) vehicle g.stay.odometer (lacked (mark_of before.book) g.stay.owed)) before.book
+    opened = made_by size (opens (is_open_in before.held) vehicle g.stay.odometer (lacked (mark_of before.book) g.stay.owed)) before.book
 
     was : Shows (after_stay vehicle size g.stay before) X
     was = subst (λ (p : Shown). Shows p X) (ap shown_by g.are ∙ behind g.front g.stay) h.shows
 
-    was-book : made_by size (deeds_of vehicle (is_open_in before.use) before.book g.stay) before.book ≡ made_by size (keeps vehicle None g.stay.kepts) opened
+    was-book : made_by size (deeds_of vehicle (is_open_in before.held) before.book g.stay) before.book ≡ made_by size (keeps vehicle None g.stay.kepts) opened
     was-book = parts g.stay before ∙ ap (λ (o : Option Activity). made_by size (closes o) (made_by size (keeps vehicle None g.stay.kepts) opened)) g.still
 
-    now-book : made_by size (deeds_of vehicle (is_open_in before.use) before.book kept_stay) before.book
+    now-book : made_by size (deeds_of vehicle (is_open_in before.held) before.book kept_stay) before.book
         ≡ made_by size (keeps vehicle (last_odometer None g.stay.kepts) ks) (made_by size (keeps vehicle None g.stay.kepts) opened)
     now-book =
         parts kept_stay before ∙ ap (λ (o : Option Activity). made_by size (closes o) (made_by size (keeps vehicle None (g.stay.kepts ++ ks)) opened)) g.still
@@ -230,9 +255,9 @@ module _ (f : CardFound) (vehicle : Registration) where
 
     made : Shows (after_stay vehicle size kept_stay before) Y
     made = subst (λ (c : Book). ShowsBook app c (use_after vehicle g.stay) Y)
-        (ap (λ (ds : List Deed). made_by size ds (made_by size (deeds_of vehicle (is_open_in before.use) before.book g.stay) before.book)) same-keeps
+        (ap (λ (ds : List Deed). made_by size ds (made_by size (deeds_of vehicle (is_open_in before.held) before.book g.stay) before.book)) same-keeps
         ∙ ap (made_by size (keeps vehicle (last_odometer None g.stay.kepts) ks)) was-book ∙ sym now-book)
-        (on.2 (after_stay vehicle size g.stay before).book (after_stay vehicle size g.stay before).use was)
+        (on.2 (after_stay vehicle size g.stay before).book (after_stay vehicle size g.stay before).held was)
 
     now-are : on_last (with_kepts ks) ss ≡ g.front ++ kept_stay ∷ []
     now-are = ap (on_last (with_kepts ks)) g.are ∙ on-last (with_kepts ks) g.front g.stay
@@ -249,26 +274,36 @@ module _ (f : CardFound) (vehicle : Registration) where
         odometer = on.1 ∙ ap (λ (o : Option Odometer). last_odometer o ks) g.odometer ∙ sym (last-append None g.stay.kepts ks);
       };
       spell = noted-alike a b sits (spells (on_last (with_kepts ks) ss)) ∙ ap (λ (l : List Spell). as_noted (Some a) sits l) (on-last-kept ks ss) ∙ h.spell;
+      timely = on-last-timely (with_kepts ks) (λ s. refl) vehicle size ss (start_shown f.image) h.timely;
     }
 
   -- it is put in, and accepted
   module _ (noted now : List Spell) (sits sits_now : Bool) (ss : List Stay) (found : Find) (odometer : ℕ) (owed : List Entry) (a : Accepted) (X Y : State) (is : a.session.registration ≡ vehicle) (fresh : a.session.odometer ≡ None) (on : OpensOn app vehicle found.second odometer owed X Y)
-      (there : sits_now ≡ true) (more : now ≡ noted ++ record { second = found.second; slot = found.slot; withdrawn = false } ∷ []) (h : HasStays f vehicle noted sits ss None X) where
+      (there : sits_now ≡ true) (more : now ≡ noted ++ record { second = found.second; slot = found.slot; withdrawn = false } ∷ []) (early : (x : List ℕ) × X.may_leave x × ((card_view app x).stored ≤ found.second)) (h : HasStays f vehicle noted sits ss None X) where
     abbrev new_stay : Stay
     new_stay = record { found = found; odometer = odometer; owed = owed; kepts = []; closed = None }
 
-    new-book : made_by size (deeds_of vehicle (is_open_in (shown_by ss).use) (shown_by ss).book new_stay) (shown_by ss).book
-        ≡ made_by size (opens (is_open_in (shown_by ss).use) vehicle odometer (lacked (mark_of (shown_by ss).book) owed)) (shown_by ss).book
+    new-book : made_by size (deeds_of vehicle (is_open_in (shown_by ss).held) (shown_by ss).book new_stay) (shown_by ss).book
+        ≡ made_by size (opens (is_open_in (shown_by ss).held) vehicle odometer (lacked (mark_of (shown_by ss).book) owed)) (shown_by ss).book
     new-book = parts new_stay (shown_by ss)
+
+    -- it begins in time
+    in-time : stored_by (shown_by ss) ≤ found.second
+    in-time =
+        let shown = h.shows early.0 early.1 in
+        let same = stored-shown app early.0 (shown_by ss) shown.0 shown.1 in
+        let le = early.2 in
+        omega (arith, same, le)
 
     pub stays-open : HasStays f vehicle now sits_now (ss ++ new_stay ∷ []) (Some a) Y
     stays-open = record {
       shows = subst (λ (p : Shown). Shows p Y) (sym (behind ss new_stay))
-          (subst (λ (c : Book). ShowsBook app c (use_after vehicle new_stay) Y) (sym new-book) (on (shown_by ss).book (shown_by ss).use h.shows));
+          (subst (λ (c : Book). ShowsBook app c (use_after vehicle new_stay) Y) (sym new-book) (on (shown_by ss).book (shown_by ss).held h.shows));
       goes = record { front = ss; stay = new_stay; are = refl; still = refl; registered = is; odometer = fresh };
       spell =
           ap (λ (b : Bool). as_noted (Some a) b (spells (ss ++ new_stay ∷ []))) there ∙ spells-more ss new_stay
           ∙ ap (λ (l : List Spell). l ++ stay_spell new_stay ∷ []) h.spell ∙ sym more;
+      timely = timely-more vehicle size ss new_stay (start_shown f.image) h.timely in-time;
     }
 
   -- it is withdrawn
@@ -283,9 +318,9 @@ module _ (f : CardFound) (vehicle : Registration) where
     earlier = shown_by h.goes.front
 
     abbrev begun : Book
-    begun = made_by size (opens (is_open_in earlier.use) vehicle last_stay.odometer (lacked (mark_of earlier.book) last_stay.owed)) earlier.book
+    begun = made_by size (opens (is_open_in earlier.held) vehicle last_stay.odometer (lacked (mark_of earlier.book) last_stay.owed)) earlier.book
 
-    open-book : made_by size (deeds_of vehicle (is_open_in earlier.use) earlier.book last_stay) earlier.book ≡ made_by size (keeps vehicle None last_stay.kepts) begun
+    open-book : made_by size (deeds_of vehicle (is_open_in earlier.held) earlier.book last_stay) earlier.book ≡ made_by size (keeps vehicle None last_stay.kepts) begun
     open-book = parts last_stay earlier ∙ ap (λ (o : Option Activity). made_by size (closes o) (made_by size (keeps vehicle None last_stay.kepts) begun)) h.goes.still
 
     stood : Shows (after_stay vehicle size last_stay earlier) X
@@ -299,7 +334,8 @@ module _ (f : CardFound) (vehicle : Registration) where
       shows = subst (λ (p : Shown). Shows p Y) (sym (ap shown_by shut-are ∙ behind h.goes.front closed_stay))
           (subst (λ (c : Book). ShowsBook app c (use_after vehicle closed_stay) Y)
           (ap (made_by size (Close act ∷ [])) open-book ∙ sym (parts closed_stay earlier))
-          (on (after_stay vehicle size last_stay earlier).book (after_stay vehicle size last_stay earlier).use stood));
+          (on (after_stay vehicle size last_stay earlier).book (after_stay vehicle size last_stay earlier).held stood));
       goes = tt;
       spell = on-last-shut act ss ∙ sym (ap (λ (b : Bool). as_noted (Some a) b (spells ss)) gone) ∙ h.spell;
+      timely = on-last-timely (with_end act) (λ s. refl) vehicle size ss (start_shown f.image) h.timely;
     }

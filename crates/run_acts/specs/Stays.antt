@@ -1,7 +1,7 @@
 -- What a card shows of its stays in a run in which no call failed (profile): its days, with their words and distances, its vehicle entries
 -- and its current use, exactly; one stay for each acceptance that the log tells, closed where the run notes its withdrawal, and nowhere else; and
 -- what its unit tells of the vehicle before, at each of them.
-use Rattle.std.specs.Prelude.{◌≡◌, ◌⊎◌, ℕ, ◌++◌, Bool, true, false, not, ◌||◌, Option, Some, None, List, [], ◌∷◌, is_some, length, map, filter}
+use Rattle.std.specs.Prelude.{◌≡◌, ◌⊎◌, ◌≤◌, ℕ, ◌++◌, Bool, true, false, not, ◌||◌, Option, Some, None, List, [], ◌∷◌, is_some, length, map, filter}
 use Rattle.std.specs.List.{AllByRecursion}
 use Rattle.activity_codec.specs.declared.values.Activity.{Activity}
 use Rattle.activity_codec.specs.declared.entries.Entry.{Entry}
@@ -14,10 +14,11 @@ use Rattle.message_model.specs.Records.{insertion_ring}
 use Rattle.log_model.specs.Log.{RunLog, is_accepting}
 use Rattle.log_model.specs.declared.lines.Find.{Find}
 use Rattle.log_model.specs.declared.lines.Verdict.TheVariants.{Accepted as AcceptedWith}
+use Rattle.card_image.specs.View.{stored_of}
 use Rattle.card_image.specs.Own.{own_sizes, IsOwnValid}
 use Rattle.card_records.specs.declared.current_use.CurrentUse.{CurrentUse}
 use Rattle.card_records.specs.declared.vehicle.Vehicle.{Vehicle}
-use Rattle.card_image.specs.Fields.{current_use}
+use Rattle.card_image.specs.Fields.{current_use, last_use_of}
 use Rattle.card_session.specs.declared.session.Kept.{Kept}
 use Rattle.card_session.specs.Books.{Book, mark_of}
 use Rattle.card_session.specs.Sessions.{IsSession, book_of}
@@ -62,7 +63,7 @@ deeds_of vehicle used b s = opens used vehicle s.odometer (lacked (mark_of b) s.
 -- a book, and the current use with it
 pub record Shown : Type 0 where
   pub book : Book
-  pub use : CurrentUse
+  pub held : CurrentUse
 
 -- the session time that a stay leaves: its second; 0 where it was closed; and the use, of the vehicle
 abbrev pub open_from : (second : ℕ) → Option Activity → ℕ
@@ -74,7 +75,7 @@ use_after vehicle s = record { session = record { 0 = open_from s.found.second s
 
 -- behind a stay, and behind some
 abbrev pub after_stay : Registration → (size : ℕ) → Stay → Shown → Shown
-after_stay vehicle size s p = record { book = made_by size (deeds_of vehicle (is_open_in p.use) p.book s) p.book; use = use_after vehicle s }
+after_stay vehicle size s p = record { book = made_by size (deeds_of vehicle (is_open_in p.held) p.book s) p.book; held = use_after vehicle s }
 
 abbrev pub after_stays : Registration → (size : ℕ) → List Stay → Shown → Shown
 after_stays vehicle size [] p = p
@@ -82,7 +83,18 @@ after_stays vehicle size (s ∷ ss) p = after_stays vehicle size ss (after_stay 
 
 -- at the start
 abbrev pub start_shown : List ℕ → Shown
-start_shown image = record { book = book_of (own_sizes image) image; use = current_use (own_sizes image) image }
+start_shown image = record { book = book_of (own_sizes image) image; held = current_use (own_sizes image) image }
+
+-- ---- when they began
+
+-- the stored time of a card that shows this: no earlier second may be recorded on it
+abbrev pub stored_by : Shown → ℕ
+stored_by p = stored_of (last_use_of p.book.vehicles.newest) p.held.session.0 p.book.days
+
+-- EACH STAY BEGAN IN TIME: it is told as accepted in a second that is not earlier than the stored time of what the card showed by then.
+abbrev pub AreTimely : Registration → (size : ℕ) → List Stay → Shown → Type 0
+AreTimely vehicle size [] p = Unit {0}
+AreTimely vehicle size (s ∷ ss) p = (stored_by p ≤ s.found.second) × AreTimely vehicle size ss (after_stay vehicle size s p)
 
 -- ---- how many
 
@@ -168,17 +180,18 @@ StaysIn vehicle stays None = Unit {0}
 StaysIn vehicle stays (Some a) = GoesIn vehicle stays a
 
 -- EACH IMAGE THAT A CARD MAY LEAVE shows exactly what these stays in the vehicle make of the image at the start; and by when and where they began,
--- and which of them were withdrawn, they are the noted ones.
+-- and which of them were withdrawn, they are the noted ones; each began in time.
 pub record HasStays (f : CardFound) (vehicle : Registration) (noted : List Spell) (sits : Bool) (stays : List Stay) (session : Option Accepted) (card : State) : Type 0 where
   pub shows : ShowsBook (own_sizes f.image) (after_stays vehicle (own_sizes f.image).activity stays (start_shown f.image)).book
-      (after_stays vehicle (own_sizes f.image).activity stays (start_shown f.image)).use card
+      (after_stays vehicle (own_sizes f.image).activity stays (start_shown f.image)).held card
   pub goes : StaysIn vehicle stays session
   pub spell : as_noted session sits (spells stays) ≡ noted
+  pub timely : AreTimely vehicle (own_sizes f.image).activity stays (start_shown f.image)
 
 -- so it is once the run is over, of a card with this image at the start, in this vehicle
 abbrev pub ShowsStays : Registration → (image : List ℕ) → List Stay → (card : State) → Type 0
 ShowsStays vehicle image stays card = ShowsBook (own_sizes image) (after_stays vehicle (own_sizes image).activity stays (start_shown image)).book
-    (after_stays vehicle (own_sizes image).activity stays (start_shown image)).use card
+    (after_stays vehicle (own_sizes image).activity stays (start_shown image)).held card
 
 -- ---- both cards
 

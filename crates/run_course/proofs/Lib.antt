@@ -13,6 +13,7 @@ pub mod Deciding
 pub mod Complete
 pub mod Staying
 pub mod Caused
+pub mod Reckoned
 pub mod Travelled
 pub mod Quiet
 pub mod Dark

@@ -1,10 +1,10 @@
 -- How far a run with cards has travelled, over its steps.
-use Rattle.std.proofs.Common.{◌≡◌, inl, inr, ⊎_elim, ℕ, suc, ◌+◌, ◌-◌, ◌/◌, ◌<◌, ◌≤◌, Bool, true, false, ◌||◌, nat_lt, Option, Some, None, List, [], ◌∷◌, ◌++◌, All, length, map, take, drop, refl, ap, sym, subst, ◌∙◌, arith, append_assoc, append-nil, is_some}
+use Rattle.std.proofs.Common.{◌≡◌, inl, inr, ⊎_elim, ℕ, suc, ◌+◌, ◌-◌, ◌/◌, ◌<◌, ◌≤◌, Bool, true, false, ◌||◌, nat_lt, Option, Some, None, List, [], ◌∷◌, ◌++◌, All, Contains, length, map, take, drop, refl, ap, sym, subst, ◌∙◌, arith, append_assoc, append-nil, is_some}
 use Rattle.std.specs.Prelude.{option_to_list, option_map, unwrap_or}
 use Rattle.std.specs.List.{AllByRecursion}
 use Rattle.std.proofs.lemmas.List.{map-append, append_cancel_right}
 use Rattle.std.proofs.lemmas.List.Folds.{list_any-append}
-use Rattle.std.proofs.lemmas.List.Elements.{All-nil, All-cons, All-head, All-tail, All-weaker, All-append, Contains-push_cases}
+use Rattle.std.proofs.lemmas.List.Elements.{All-nil, All-cons, All-head, All-tail, All-weaker, All-append, Contains-append_left, Contains-append_right, Contains-push_cases}
 use Rattle.trace_model.specs.Trace.{TraceSecond, driven, dark}
 use Rattle.minute_model.specs.declared.Rule.{Rule}
 use Rattle.minute_model.specs.declared.Minute.{Minute}
@@ -27,21 +27,22 @@ use Rattle.history_model.proofs.Told.{rises}
 use Rattle.unit_course.specs.Turn.{cut_last}
 use Rattle.unit_course.specs.Lines.{cut_at, found_from, tells_cut}
 use Rattle.unit_course.specs.Followed.{Supply, Lit, Due, Lost, IsKnown, MayPower, MayFail, IsDark, as_spans}
-use Rattle.unit_course.specs.Legs.{Travel, not_travelled, stranded_at, resumed, all_travelled, kilometres_of, travelled_by, IsLeg, AreLegs}
+use Rattle.unit_course.specs.Legs.{Reckoned, Travel, reckoned, not_travelled, stranded_at, resumed, all_travelled, kilometres_of, travelled_by, IsLeg, AreLegs}
 use Rattle.unit_course.specs.Travelled.{MayShow}
 use Rattle.unit_course.proofs.Lines.{kept-now, tells-front, tells-behind, tells-found, take-all}
 use Rattle.unit_course.proofs.Alike.{decided-empty}
 use Rattle.unit_course.proofs.Spans.{decided-cut, length-cut}
 use Rattle.unit_course.proofs.Parts.{known-append, known-nothing, known-more, beyond-mark, rising-all}
-use Rattle.unit_course.proofs.Legs.{travelled_by-push, travelled-all, travelled-none, travelled-earlier, nothing_of, kilometres-more, kilometres-leg, kilometres-none, legs-nothing, legs-alike, legs-agree, legs-parts, short-decides, short-shorter, found-again, leg-kept, leg-begun}
+use Rattle.unit_course.proofs.Legs.{travelled_by-push, travelled-all, travelled-none, travelled-earlier, travelled-begun, stranded-begun, nothing_of, kilometres-more, kilometres-leg, kilometres-none, legs-nothing, legs-alike, legs-agree, legs-parts, short-decides, short-shorter, found-again, leg-kept, leg-begun}
 use Rattle.unit_course.proofs.Travelled.{whole-legs}
 use Rattle.run_course.specs.Moments.{and_break}
 use Rattle.run_course.specs.Followed.{Progress, Followed, Comes, IsLost}
 use Rattle.run_course.specs.Seconds.{GoesOnBy, next_told, kept_all, broken_at}
-use Rattle.run_course.specs.Travelled.{AreClosedLegs, AreShutLegs, AreOpenLegs, AreEndedLegs, HasLegs, NothingIsTravelled, FoundIsTravelled, AFailureIsTravelled, ASecondIsTravelled, ABrokenSecondIsTravelled, ADarkMinuteIsTravelled, AnOffLineIsTravelled, AnOffCutIsTravelled, ShownLegsAreThose}
+use Rattle.run_course.specs.Travelled.{AreClosedLegs, AreShutLegs, AreOpenLegs, AreEndedLegs, IsReckoned, HasLegs, NothingIsTravelled, FoundIsTravelled, AFailureIsTravelled, ASecondIsTravelled, ABrokenSecondIsTravelled, ADarkMinuteIsTravelled, AnOffLineIsTravelled, AnOffCutIsTravelled, ShownLegsAreThose}
 use Rattle.run_course.proofs.Lookups.{kept-by}
 use Rattle.run_course.proofs.Logs.{found_log, went-found, kept-found, went-refused}
 use Rattle.run_course.proofs.Alike.{known-closed, known-open}
+use Rattle.run_course.proofs.Reckoned.{same-on, more-on, last-on, second-more, reckoned-on, reckoned-now}
 use Rattle.run_course.proofs.Core.{Core, lit-due, keeps-all, waits}
 use Rattle.run_course.proofs.Steps.{core-of, with-waiting, with-supply, due-core, lost-core, lit-parts, spans-now, front-now, kept-now as kept-same, tells-now, feeds, break-facts, comes-adds, cut-core, spans-cut, cut-facts, dark-spans, off-spans}
 use Rattle.run_course.proofs.Told.{lost-comes, solid-push, solid-cut}
@@ -298,7 +299,7 @@ module _ (rule : Rule) (start : Start) (from first : ℕ) (done : List TraceSeco
 -- THE STEPS
 pub nothing-travelled : NothingIsTravelled
 unfolding went spans_of
-nothing-travelled rule first p is = subst (λ (s : Supply). HasLegs rule first [] (record p { supply = s }) not_travelled) (sym is) (record {
+nothing-travelled rule first image p is = subst (λ (s : Supply). HasLegs rule first [] (record p { supply = s }) (not_travelled image)) (sym is) (record {
   ended = [];
   spans = refl;
   legs = inl (record {
@@ -306,6 +307,7 @@ nothing-travelled rule first p is = subst (λ (s : Supply). HasLegs rule first [
     sure = ap travelled_by (sym (decided-empty rule));
     none = refl;
   });
+  begun = λ e at. absurd (omega (arith, at.1));
 })
 
 legs-by : (rule : Rule) (first : ℕ) (done : List TraceSecond) (p : Progress) (g : Travel) → HasLegs rule first done p g → (s : Supply) → p.supply ≡ s → HasLegs rule first done (record p { supply = s }) g
@@ -331,6 +333,10 @@ found-travelled rule start from first done p f g h may k leg shown = by p.supply
       legs = ⊎_elim
           (λ s. found-shut rule first p.log p.unfound k leg p.book g shown (after-first rule start from first done p f) ended s)
           (λ o. found-open rule first p.log p.unfound k leg p.book g shown (after-first rule start from first done p f) ended o) legs;
+      begun = λ e at. reckoned-on rule p.log (found_log p.unfound k p.log) (take p.unfound p.log.breaks) (take (length (found_from p.unfound k p.log.breaks)) (found_from p.unfound k p.log.breaks))
+          (spans_of (went p.log done).told) (spans_of (went (found_log p.unfound k p.log) done).told) (kept-found p.log p.unfound k)
+          (λ u is. goes rule first p.log p.unfound k leg p.book g shown (after-first rule start from first done p f) u (tells-front u p.unfound p.log.breaks is))
+          (same-on rule (spans_of (went p.log done).told) (spans_of (went (found_log p.unfound k p.log) done).told) (ap (λ (w : Went). spans_of w.told) (went-found p.log p.unfound k from done f.order))) e (h.begun e at);
     }
 
     by : (s : Supply) → MayPower s p.next → HasLegs rule first done (record p { supply = s }) g →
@@ -353,6 +359,9 @@ failure-travelled rule start from first done p f g h may none s later by = at_su
           spans = adds.0 ∙ ap (λ (ss : List (List Told)). ss ++ (t ∷ []) ∷ []) (spans ∙ append-nil ended) ∙ sym (append-nil (ended ++ (t ∷ []) ∷ []));
           legs = ended-off rule first p.log later p.unfound ended ((t ∷ []) ∷ []) p.book g (front-now rule start from first done p order next within s later by)
               (kept-same rule start from first done p order next within s later by) (tells-now rule start from first done p order next within s later by) (short-none rule t, tt) refl legs;
+          begun = λ e at. reckoned-on rule p.log later (take p.unfound p.log.breaks) (take p.unfound later.breaks) (spans_of (went p.log done).told) (spans_of (went later (done ++ s ∷ [])).told)
+              (kept-same rule start from first done p order next within s later by) (λ u tells. ap (tells_cut u) (front-now rule start from first done p order next within s later by) ∙ tells)
+              (more-on rule (spans_of (went p.log done).told) (spans_of (went later (done ++ s ∷ [])).told) ((t ∷ []) ∷ []) adds.0) e (h.begun e at);
         }
 
     at_supply : (sp : Supply) → MayFail sp p.next → Followed rule start from first done (record p { supply = sp; waiting = [] }) → HasLegs rule first done (record p { supply = sp }) g →
@@ -404,6 +413,22 @@ module _ (rule : Rule) (start : Start) (from first : ℕ) (done : List TraceSeco
       (λ one. (short-shorter span t [] one, same (nothing-more (decided_of rule span) ds (sym decides ∙ short-decides rule (span ++ t ∷ []) one))))
       (subst (λ (es : List (List Told)). AreClosedLegs rule first p.log (take p.unfound p.log.breaks) es span p.book g.before) same-ended l.legs.earlier)
 
+  -- what was reckoned before, and these minutes
+  abbrev IsNow : Reckoned → Type 0
+  IsNow e = IsReckoned rule later (take p.unfound later.breaks) (spans_of (went later (done ++ s ∷ [])).told) e
+
+  reckoned-still : (ds : List Minute) → decided_of rule (span ++ t ∷ []) ≡ decided_of rule span ++ ds → (e : Reckoned) → Contains g.begun e → IsNow e
+  reckoned-still ds decides e at =
+      reckoned-on rule p.log later (take p.unfound p.log.breaks) (take p.unfound later.breaks) (spans_of (went p.log done).told) (spans_of (went later (done ++ s ∷ [])).told)
+      (kept-same rule start from first done p f.order f.next f.unfound s later by) (λ u tells. ap (tells_cut u) (front-now rule start from first done p f.order f.next f.unfound s later by) ∙ tells)
+      (second-more rule f.ended span t (spans_of (went p.log done).told) (spans_of (went later (done ++ s ∷ [])).told) f.spans now-spans
+      (λ m there. subst (λ (ms : List Minute). Contains ms m) (sym decides) (Contains-append_left (decided_of rule span) ds m there))) e (l.begun e at)
+
+  reckoned-here : (ds : List Minute) → decided_of rule (span ++ t ∷ []) ≡ decided_of rule span ++ ds → (d : Minute) → Contains ds d → IsNow (reckoned d.minute d.travelled g)
+  reckoned-here ds decides d at =
+      reckoned-now rule first later (take p.unfound later.breaks) f.ended (span ++ t ∷ []) p.book g.before (closed-now ds decides p.book (λ nil. refl)) (spans_of (went later (done ++ s ∷ [])).told) now-spans d
+      (subst (λ (ms : List Minute). Contains ms d) (sym decides) (Contains-append_right (decided_of rule span) ds d at))
+
   pub second-on : (ds : List Minute) → decided_of rule (span ++ t ∷ []) ≡ decided_of rule span ++ ds → HasLegs rule first (done ++ s ∷ []) (record {
     log = later;
     unfound = p.unfound;
@@ -424,6 +449,10 @@ module _ (rule : Rule) (start : Start) (from first : ℕ) (done : List TraceSeco
           sure = travelled-all (decided_of rule span) ds g l.legs.sure ∙ ap travelled_by (sym decides);
           none = travelled-none ds g l.legs.none;
         };
+        begun = λ e at. ⊎_elim
+            (λ old. reckoned-still ds decides e old)
+            (λ new. subst IsNow (sym new.2) (reckoned-here ds decides new.0 new.1))
+            (travelled-begun ds g e at);
       }
 
   tail-as : (past : List HistoryMinute) (d : Option Minute) (rest : List Minute) →
@@ -474,7 +503,19 @@ module _ (rule : Rule) (start : Start) (from first : ℕ) (done : List TraceSeco
             (as-append mine kept (decided_of rule span) front (as-after start (went p.log done).told closed (decided_of rule span)) (as-after start now p.book.sure front))
             (subst (λ (js : List HistoryMinute). AreAs js tail) after.1 (as-after start now (p.book.sure ++ kept) tail))
             (some-as (p.book.sure ++ kept) d) (travelled-all (decided_of rule span) front g l.legs.sure) (travelled-none front g l.legs.none);
+        begun = λ e at. ⊎_elim
+            (λ there. ⊎_elim
+            (λ old. reckoned-still (front ++ tail) decides e old)
+            (λ new. subst IsNow (sym new.2) (reckoned-here (front ++ tail) decides new.0 (Contains-append_left front tail new.0 new.1)))
+            (travelled-begun front g e there))
+            (λ last. subst IsNow (sym last.2)
+            (subst (λ (legs : List ℕ). IsNow (record { minute = last.0.minute; before = legs; leg = last.0.travelled })) (sym (travelled-earlier front g))
+            (reckoned-here (front ++ tail) decides last.0 (Contains-append_right front tail last.0 (among last.0 d last.1)))))
+            (stranded-begun d (all_travelled front g) e at);
       }
+    where
+      among : (m : Minute) (o : Option Minute) → o ≡ Some m → Contains (option_to_list o ++ rest) m
+      among m o is = subst (λ (q : Option Minute). Contains (option_to_list q ++ rest) m) (sym is) (Contains-append_left (m ∷ []) rest m (0, omega arith, refl))
 
 pub second-travelled : ASecondIsTravelled
 second-travelled rule start from first done p f g h span is none s later by ds decides = second-on rule start from first done p f g h span is none s later by ds decides
@@ -498,15 +539,23 @@ dark-travelled rule start from first done p f g h is n speed actions refused beg
       ended = l.ended;
       spans = dark-spans later n done p.next speed actions (subst (λ (w : Went). IsLost w.before) (sym same) k.power) some within ∙ ap (λ (w : Went). spans_of w.told) same ∙ l.spans;
       legs = ended-refused rule first p.log refused p.unfound l.ended p.book g l.legs;
+      begun = λ e at. reckoned-on rule p.log later (take p.unfound p.log.breaks) (take p.unfound p.log.breaks) (spans_of (went p.log done).told) (spans_of (went later (done ++ driven n p.next speed actions)).told)
+          (λ u tells. kept-by p.log u ∙ sym (kept-by later u)) (λ u tells. tells)
+          (same-on rule (spans_of (went p.log done).told) (spans_of (went later (done ++ driven n p.next speed actions)).told)
+          (dark-spans later n done p.next speed actions (subst (λ (w : Went). IsLost w.before) (sym same) k.power) some within ∙ ap (λ (w : Went). spans_of w.told) same)) e (l.begun e at);
     })
 
 pub off-travelled : AnOffLineIsTravelled
 off-travelled rule start from first done p f g h is n = by p.supply is h
   where
+    still : (e : Reckoned) → Contains g.begun e → IsReckoned rule p.log (take p.unfound p.log.breaks) (spans_of (went p.log (done ++ dark (suc n) p.next)).told) e
+    still e at = reckoned-on rule p.log p.log (take p.unfound p.log.breaks) (take p.unfound p.log.breaks) (spans_of (went p.log done).told) (spans_of (went p.log (done ++ dark (suc n) p.next)).told) (λ u tells. refl) (λ u tells. tells)
+        (same-on rule (spans_of (went p.log done).told) (spans_of (went p.log (done ++ dark (suc n) p.next)).told) (off-spans p.log (suc n) done p.next)) e (h.begun e at)
+
     by : (s : Supply) → IsDark s → HasLegs rule first done (record p { supply = s }) g → HasLegs rule first (done ++ dark (suc n) p.next) (record p { next = p.next + suc n; begun = 0; supply = Due }) g
     by (Lit span) is l = absurd is
-    by Due is l = record { ended = l.ended; spans = off-spans p.log (suc n) done p.next ∙ l.spans; legs = l.legs }
-    by Lost is l = record { ended = l.ended; spans = off-spans p.log (suc n) done p.next ∙ l.spans; legs = l.legs }
+    by Due is l = record { ended = l.ended; spans = off-spans p.log (suc n) done p.next ∙ l.spans; legs = l.legs; begun = still }
+    by Lost is l = record { ended = l.ended; spans = off-spans p.log (suc n) done p.next ∙ l.spans; legs = l.legs; begun = still }
 
 pub off-cut-travelled : AnOffCutIsTravelled
 off-cut-travelled rule start from first done p f0 g h t span is none n =
@@ -533,6 +582,10 @@ off-cut-travelled rule start from first done p f0 g h t span is none n =
       ended = core.ended ++ cut_last (t ∷ span) ∷ [];
       spans = off-spans later (suc n) done p.next ∙ spans ∙ ap (λ (es : List (List Told)). es ++ cut_last (t ∷ span) ∷ []) now ∙ sym (append-nil (core.ended ++ cut_last (t ∷ span) ∷ []));
       legs = ended;
+      begun = λ e at. reckoned-on rule p.log later (take p.unfound p.log.breaks) (take p.unfound later.breaks) (spans_of (went p.log done).told) (spans_of (went later (done ++ dark (suc n) p.next)).told) facts.4
+          (λ u tells. ap (tells_cut u) facts.3 ∙ tells)
+          (last-on rule f.ended (t ∷ span) (cut_last (t ∷ span)) (spans_of (went p.log done).told) (spans_of (went later (done ++ dark (suc n) p.next)).told) f.spans (off-spans later (suc n) done p.next ∙ spans)
+          (λ m there. subst (λ (ms : List Minute). Contains ms m) (sym (decided-cut rule (t ∷ span))) there)) e (l.begun e at);
     }
 
 -- AT ANY MOMENT: whatever the unit may show, these are the legs of its spans

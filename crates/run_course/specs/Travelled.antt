@@ -1,6 +1,6 @@
 -- How far a run with cards has travelled, over its steps: the legs of its spans (profile). What a leg is, and what the unit may show,
 -- says unit_course.
-use Rattle.std.specs.Prelude.{◌≡◌, ◌⊎◌, ℕ, suc, ◌+◌, ◌-◌, ◌%◌, ◌<◌, ◌≤◌, true, false, nat_lt, Option, Some, None, List, [], ◌∷◌, ◌++◌, All, length, take, option_to_list, option_map}
+use Rattle.std.specs.Prelude.{◌≡◌, ◌⊎◌, ℕ, suc, ◌+◌, ◌-◌, ◌%◌, ◌<◌, ◌≤◌, true, false, nat_lt, Option, Some, None, List, [], ◌∷◌, ◌++◌, All, Contains, length, take, option_to_list, option_map}
 use Rattle.std.specs.List.{AllByRecursion}
 use Rattle.trace_model.specs.declared.Action.{Action}
 use Rattle.trace_model.specs.Trace.{TraceSecond, driven, dark}
@@ -19,7 +19,7 @@ use Rattle.history_model.specs.Growth.{closed_limit}
 use Rattle.history_model.specs.Book.{Book, all, found, IsMark}
 use Rattle.unit_course.specs.Lines.{cut_at, found_from, tells_cut}
 use Rattle.unit_course.specs.Followed.{Supply, Lit, Due, Lost, MayPower, MayFail, IsDark, going_on, as_spans, IsKnown}
-use Rattle.unit_course.specs.Legs.{Travel, not_travelled, stranded_at, resumed, all_travelled, kilometres_of, travelled_by, IsLeg, AreLegs}
+use Rattle.unit_course.specs.Legs.{Reckoned, Travel, not_travelled, stranded_at, resumed, all_travelled, kilometres_of, travelled_by, IsLeg, AreLegs}
 use Rattle.unit_course.specs.Travelled.{MayShow}
 use Rattle.run_course.specs.Moments.{and_break}
 use Rattle.run_course.specs.Followed.{Progress, Followed}
@@ -68,15 +68,32 @@ AreLegsOf rule first log known_breaks ended (Lit span) b g = AreShutLegs rule fi
 AreLegsOf rule first log known_breaks ended Due b g = AreEndedLegs rule first log known_breaks ended b g
 AreLegsOf rule first log known_breaks ended Lost b g = AreEndedLegs rule first log known_breaks ended b g
 
+-- A MINUTE OF WHICH A KEEPING WAS BEGUN is one that a span has decided, with what was travelled in that up to it. The spans before it have cuts
+-- that are known, or decided nothing; their legs by the limits of their cuts have the kilometres of what was travelled before.
+pub record IsReckoned (rule : Rule) (log : RunLog) (known_breaks : List Break) (spans : List (List Told)) (e : Reckoned) : Type 0 where
+  pub earlier : List (List Told)
+  pub span : List Told
+  pub later : List (List Told)
+  pub are : spans ≡ earlier ++ span ∷ later
+  pub minute : Minute
+  pub decided : Contains (decided_of rule span) minute
+  pub number : minute.minute ≡ e.minute
+  pub leg : minute.travelled ≡ e.leg
+  pub known : AllByRecursion (IsKnown rule known_breaks) earlier
+  pub legs : List ℕ
+  pub closed : AreLegs rule (closed_limit log) 0 earlier legs
+  pub sums : kilometres_of legs ≡ kilometres_of e.before
+
 -- Behind these seconds the run has travelled this, by the spans so far; no minute waits.
 pub record HasLegs (rule : Rule) (first : ℕ) (done : List TraceSecond) (p : Progress) (g : Travel) : Type 0 where
   pub ended : List (List Told)
   pub spans : spans_of (went p.log done).told ≡ ended ++ as_spans (going_on p.supply)
   pub legs : AreLegsOf rule first p.log (take p.unfound p.log.breaks) ended p.supply p.book g
+  pub begun : (e : Reckoned) → Contains g.begun e → IsReckoned rule p.log (take p.unfound p.log.breaks) (spans_of (went p.log done).told) e
 
 -- AT THE START nothing is travelled.
 abbrev pub NothingIsTravelled : Type 0
-NothingIsTravelled = (rule : Rule) (first : ℕ) (p : Progress) → p.supply ≡ Due → HasLegs rule first [] p not_travelled
+NothingIsTravelled = (rule : Rule) (first : ℕ) (image : List ℕ) (p : Progress) → p.supply ≡ Due → HasLegs rule first [] p (not_travelled image)
 
 -- POWER IS BACK, and of what was kept this is shown;
 abbrev pub FoundIsTravelled : Type 0

@@ -262,7 +262,7 @@ module _ (app : Application) (e : Entering) (k : Keeper) (U V X M Z : State) (un
         record {
           valid = valid;
           named = accepted-number-by f w k.cabin.cards e.which U V X M Z m.found unit_whole unit_after whole after registration long odometer e.at.second few answer out bare m.powered m.late app own size enters valid entered ok;
-          found = record { unit_image = r.unit_image; card_image = r.card_image; on = r.on; there = r.there; valid = r.valid; early = r.early; number = r.number };
+          found = record { unit_image = r.unit_image; card_image = r.card_image; on = r.on; there = r.there; valid = r.valid; sizes = r.sizes; early = r.early; owes = r.owes; number = r.number };
           whole = accepted-whole-by f w k.cabin.cards e.which U V X M Z m.found unit_whole unit_after whole after registration long odometer e.at.second few answer out bare m.powered m.late app own size enters valid entered ok;
           most = most;
           answers = record {
@@ -335,7 +335,9 @@ module _ (e : Entering) (k : Keeper) (sizes : Result Application ℕ) (U X M Z :
       on = t.found.on;
       there = ⊎_elim (λ was. was) (λ never. absurd never.2) (run.now t.found.card_image t.found.there);
       valid = t.found.valid;
+      sizes = t.found.sizes;
       early = t.found.early;
+      owes = t.found.owes;
       number = t.found.number;
     };
     whole = t.whole;

@@ -27,11 +27,11 @@ use Rattle.run_entering.specs.Told.{IsNotedBeside, OpensSo}
 
 -- a read
 pub does-read : (app : Application) (X Y : State) → LeavesOnly X Y Unchanged → DoesOn app [] X Y
-does-read app X Y run b use shows y left = ⊎_elim (λ was. shows y was) (λ never. absurd never.2) (run.now y left)
+does-read app X Y run b held shows y left = ⊎_elim (λ was. shows y was) (λ never. absurd never.2) (run.now y left)
 
 -- a note beside the days: of a valid card, at each moment
 pub does-note : (app : Application) → IsApplication app → (X Y : State) → IsCoherent X → ((x : List ℕ) → X.image ≡ Some x → IsValid app x) → LeavesOnly X Y (IsNote app) → DoesOn app [] X Y
-does-note app sound X Y whole valid run b use shows y left = ⊎_elim
+does-note app sound X Y whole valid run b held shows y left = ⊎_elim
     (λ was. shows y was)
     (λ noted.
     let here = shows noted.0 (whole.is_left noted.0 noted.1) in
@@ -55,16 +55,16 @@ pub opens-as : (fell : Bool) (entered : Entered) (clock : ℕ) (entry : Option �
     → OpensSo (taken_as fell entered clock entry) vehicle e f X Y
 opens-as false entered clock None vehicle e f X M Y first next = tt
 opens-as true entered clock None vehicle e f X M Y first next = tt
-opens-as false entered clock (Some entry) vehicle e f X M Y first next = λ b use shows.
-    next (made_by (own_sizes f.image).activity (opens (is_open_in use) vehicle e.odometer.0 (lacked (mark_of b) entered.owed.items)) b) (begun_use vehicle e.at.second) (first b use shows)
+opens-as false entered clock (Some entry) vehicle e f X M Y first next = λ b held shows.
+    next (made_by (own_sizes f.image).activity (opens (is_open_in held) vehicle e.odometer.0 (lacked (mark_of b) entered.owed.items)) b) (begun_use vehicle e.at.second) (first b held shows)
 opens-as true entered clock (Some entry) vehicle e f X M Y first next = tt
 
 -- a card that was revived before
 pub opens-woken : (ending : Ending) (vehicle : Registration) (e : Entering) (f : CardFound) (X M Y : State) → LeavesOnly X M Unchanged → OpensSo ending vehicle e f M Y → OpensSo ending vehicle e f X Y
-opens-woken (Unfit fid place) vehicle e f X M Y run next = λ b use shows. next b use (does-read (own_sizes f.image) X M run b use shows)
-opens-woken (Ahead stored) vehicle e f X M Y run next = λ b use shows. next b use (does-read (own_sizes f.image) X M run b use shows)
+opens-woken (Unfit fid place) vehicle e f X M Y run next = λ b held shows. next b held (does-read (own_sizes f.image) X M run b held shows)
+opens-woken (Ahead stored) vehicle e f X M Y run next = λ b held shows. next b held (does-read (own_sizes f.image) X M run b held shows)
 opens-woken Fell vehicle e f X M Y run next = tt
 opens-woken Unasked vehicle e f X M Y run next = tt
 opens-woken (Unnoted entered clock) vehicle e f X M Y run next = tt
-opens-woken (Seated entered clock entry) vehicle e f X M Y run next = λ b use shows. next b use (does-read (own_sizes f.image) X M run b use shows)
+opens-woken (Seated entered clock entry) vehicle e f X M Y run next = λ b held shows. next b held (does-read (own_sizes f.image) X M run b held shows)
 opens-woken (Lost entered clock entry) vehicle e f X M Y run next = tt

@@ -142,12 +142,12 @@ pub record Answers (f : CardFound) (c : Card) (b : Book) (x : List ℕ) (minute 
   pub most : minute ≤ max f.start.word (trimmed_by f.start (f.start.entries ++ brought_by c f.start b))
   pub words : (own_view x).session ≡ 0 → (own_view x).word ≤ minute
 
--- what the find of an acceptance tells: so many entries were owed by images that a stop might have left then, and all of them, which are few, are
+-- what the find of an acceptance tells: so many entries were owed by images that a stop might have left then, and these, which are few, are put
 -- on it; the card was valid at the start, and told the number that it has; and it answered its newest minute
 pub record IsToldSo (f : Found) (w : Carried) (e : Entering) (entered : Entered) (unit card : State) : Type 0 where
   pub valid : IsOwnValid (found_of f e.which).image
   pub named : card_number_bytes entered.look.number ≡ (found_of f e.which).number
-  pub found : HasFoundSo f e.which unit card e.at.second entered.replayed
+  pub found : HasFoundSo f e.which unit card e.at.second entered.owed.items entered.replayed
   pub whole : entered.replayed ≡ length entered.owed.items
   pub most : length entered.owed.items ≤ most_owed
   pub answers : Answers (found_of f e.which) e.which w.book found.card_image entered.session.minute

@@ -19,16 +19,16 @@ use Rattle.run_evented.specs.Uses.{left_by, use_behind, uses_from, insertions_on
 
 -- ---- one after another
 
-pub uses-append : (own : Registration) (use : CurrentUse) (xs ys : List InsertionNote) → uses_from own use (xs ++ ys) ≡ uses_from own use xs ++ uses_from own (use_behind own use xs) ys
-uses-append own use [] ys = refl
-uses-append own use (x ∷ xs) ys = ap (λ (l : List CurrentUse). use ∷ l) (uses-append own (left_by own x) xs ys)
+pub uses-append : (own : Registration) (held : CurrentUse) (xs ys : List InsertionNote) → uses_from own held (xs ++ ys) ≡ uses_from own held xs ++ uses_from own (use_behind own held xs) ys
+uses-append own held [] ys = refl
+uses-append own held (x ∷ xs) ys = ap (λ (l : List CurrentUse). held ∷ l) (uses-append own (left_by own x) xs ys)
 
-pub behind-append : (own : Registration) (use : CurrentUse) (xs ys : List InsertionNote) → use_behind own use (xs ++ ys) ≡ use_behind own (use_behind own use xs) ys
-behind-append own use [] ys = refl
-behind-append own use (x ∷ xs) ys = behind-append own (left_by own x) xs ys
+pub behind-append : (own : Registration) (held : CurrentUse) (xs ys : List InsertionNote) → use_behind own held (xs ++ ys) ≡ use_behind own (use_behind own held xs) ys
+behind-append own held [] ys = refl
+behind-append own held (x ∷ xs) ys = behind-append own (left_by own x) xs ys
 
 pub times-append : (xs ys : List CurrentUse) → times_of (xs ++ ys) ≡ times_of xs ++ times_of ys
-times-append xs ys = map-append (λ (use : CurrentUse). use.session.0) xs ys
+times-append xs ys = map-append (λ (held : CurrentUse). held.session.0) xs ys
 
 -- ---- cards
 
@@ -84,33 +84,33 @@ goes-so w i later own some m s =
 
 module _ (vehicle : Registration) (c : Card) (w : Withdrawal) where
   -- this insertion stays, and of those behind it the same was found
-  stays-then : (use : CurrentUse) (i : InsertionNote) (later : List InsertionNote) (mine : Bool) → same_card c i.accepted.card ≡ mine →
+  stays-then : (held : CurrentUse) (i : InsertionNote) (later : List InsertionNote) (mine : Bool) → same_card c i.accepted.card ≡ mine →
       ((u : CurrentUse) → uses_from vehicle u (filter (of_card c) (with_withdrawal w later)) ≡ uses_from vehicle u (filter (of_card c) later)) →
-      uses_from vehicle use (filter (of_card c) (i ∷ with_withdrawal w later)) ≡ uses_from vehicle use (filter (of_card c) (i ∷ later))
-  stays-then use i later true mine rest =
-      ap (uses_from vehicle use) (filter-mine c i (with_withdrawal w later) mine) ∙ ap (λ (l : List CurrentUse). use ∷ l) (rest (left_by vehicle i)) ∙ sym (ap (uses_from vehicle use) (filter-mine c i later mine))
-  stays-then use i later false other rest =
-      ap (uses_from vehicle use) (filter-other c i (with_withdrawal w later) other) ∙ rest use ∙ sym (ap (uses_from vehicle use) (filter-other c i later other))
+      uses_from vehicle held (filter (of_card c) (i ∷ with_withdrawal w later)) ≡ uses_from vehicle held (filter (of_card c) (i ∷ later))
+  stays-then held i later true mine rest =
+      ap (uses_from vehicle held) (filter-mine c i (with_withdrawal w later) mine) ∙ ap (λ (l : List CurrentUse). held ∷ l) (rest (left_by vehicle i)) ∙ sym (ap (uses_from vehicle held) (filter-mine c i later mine))
+  stays-then held i later false other rest =
+      ap (uses_from vehicle held) (filter-other c i (with_withdrawal w later) other) ∙ rest held ∙ sym (ap (uses_from vehicle held) (filter-other c i later other))
 
   -- it is this insertion's, the last of its card
-  ends-here : (use : CurrentUse) (i : InsertionNote) (later : List InsertionNote) (mine : Bool) → same_card c i.accepted.card ≡ mine → same_card i.accepted.card w.card ≡ true → later_one w later ≡ false →
-      uses_from vehicle use (filter (of_card c) (record i { withdrawn = Some w.second } ∷ later)) ≡ uses_from vehicle use (filter (of_card c) (i ∷ later))
-  ends-here use i later true mine own last =
+  ends-here : (held : CurrentUse) (i : InsertionNote) (later : List InsertionNote) (mine : Bool) → same_card c i.accepted.card ≡ mine → same_card i.accepted.card w.card ≡ true → later_one w later ≡ false →
+      uses_from vehicle held (filter (of_card c) (record i { withdrawn = Some w.second } ∷ later)) ≡ uses_from vehicle held (filter (of_card c) (i ∷ later))
+  ends-here held i later true mine own last =
       let none : filter (of_card c) later ≡ [] = none-later c w (card-is c i.accepted.card mine ∙ card-is i.accepted.card w.card own) later last in
-      ap (uses_from vehicle use) (filter-mine c (record i { withdrawn = Some w.second }) later mine ∙ ap (λ (l : List InsertionNote). record i { withdrawn = Some w.second } ∷ l) none)
-      ∙ sym (ap (uses_from vehicle use) (filter-mine c i later mine ∙ ap (λ (l : List InsertionNote). i ∷ l) none))
-  ends-here use i later false other own last = ap (uses_from vehicle use) (filter-other c (record i { withdrawn = Some w.second }) later other) ∙ sym (ap (uses_from vehicle use) (filter-other c i later other))
+      ap (uses_from vehicle held) (filter-mine c (record i { withdrawn = Some w.second }) later mine ∙ ap (λ (l : List InsertionNote). record i { withdrawn = Some w.second } ∷ l) none)
+      ∙ sym (ap (uses_from vehicle held) (filter-mine c i later mine ∙ ap (λ (l : List InsertionNote). i ∷ l) none))
+  ends-here held i later false other own last = ap (uses_from vehicle held) (filter-other c (record i { withdrawn = Some w.second }) later other) ∙ sym (ap (uses_from vehicle held) (filter-other c i later other))
 
-  pub withdrawn-same : (is : List InsertionNote) (use : CurrentUse) → uses_from vehicle use (filter (of_card c) (with_withdrawal w is)) ≡ uses_from vehicle use (filter (of_card c) is)
-  withdrawn-same [] use = refl
-  withdrawn-same (i ∷ later) use = by (same_card i.accepted.card w.card) (later_one w later) refl refl (withdrawn-same later)
+  pub withdrawn-same : (is : List InsertionNote) (held : CurrentUse) → uses_from vehicle held (filter (of_card c) (with_withdrawal w is)) ≡ uses_from vehicle held (filter (of_card c) is)
+  withdrawn-same [] held = refl
+  withdrawn-same (i ∷ later) held = by (same_card i.accepted.card w.card) (later_one w later) refl refl (withdrawn-same later)
     where
       by : (own some : Bool) → same_card i.accepted.card w.card ≡ own → later_one w later ≡ some →
           ((u : CurrentUse) → uses_from vehicle u (filter (of_card c) (with_withdrawal w later)) ≡ uses_from vehicle u (filter (of_card c) later)) →
-          uses_from vehicle use (filter (of_card c) (with_withdrawal w (i ∷ later))) ≡ uses_from vehicle use (filter (of_card c) (i ∷ later))
-      by true true m s rest = ap (λ (l : List InsertionNote). uses_from vehicle use (filter (of_card c) l)) (goes-so w i later true true m s) ∙ stays-then use i later (same_card c i.accepted.card) refl rest
-      by true false m s rest = ap (λ (l : List InsertionNote). uses_from vehicle use (filter (of_card c) l)) (goes-so w i later true false m s) ∙ ends-here use i later (same_card c i.accepted.card) refl m s
-      by false some m s rest = ap (λ (l : List InsertionNote). uses_from vehicle use (filter (of_card c) l)) (goes-so w i later false some m s) ∙ stays-then use i later (same_card c i.accepted.card) refl rest
+          uses_from vehicle held (filter (of_card c) (with_withdrawal w (i ∷ later))) ≡ uses_from vehicle held (filter (of_card c) (i ∷ later))
+      by true true m s rest = ap (λ (l : List InsertionNote). uses_from vehicle held (filter (of_card c) l)) (goes-so w i later true true m s) ∙ stays-then held i later (same_card c i.accepted.card) refl rest
+      by true false m s rest = ap (λ (l : List InsertionNote). uses_from vehicle held (filter (of_card c) l)) (goes-so w i later true false m s) ∙ ends-here held i later (same_card c i.accepted.card) refl m s
+      by false some m s rest = ap (λ (l : List InsertionNote). uses_from vehicle held (filter (of_card c) l)) (goes-so w i later false some m s) ∙ stays-then held i later (same_card c i.accepted.card) refl rest
 
 -- ---- notes
 
@@ -121,21 +121,21 @@ NotAccepted c (Withdraws w) = Unit {0}
 NotAccepted c (Enters p) = Unit {0}
 
 module _ (vehicle : Registration) (c : Card) where
-  note-quiet : (use : CurrentUse) (is : List InsertionNote) (n : Note) → NotAccepted c n → uses_from vehicle use (filter (of_card c) (with_note is n)) ≡ uses_from vehicle use (filter (of_card c) is)
-  note-quiet use is (Accepts a) other =
+  note-quiet : (held : CurrentUse) (is : List InsertionNote) (n : Note) → NotAccepted c n → uses_from vehicle held (filter (of_card c) (with_note is n)) ≡ uses_from vehicle held (filter (of_card c) is)
+  note-quiet held is (Accepts a) other =
       let i : InsertionNote = record { accepted = a; withdrawn = None } in
-      ap (uses_from vehicle use) (filter-append (of_card c) is (i ∷ []) ∙ ap (λ (l : List InsertionNote). filter (of_card c) is ++ l) (filter-other c i [] other) ∙ append-nil (filter (of_card c) is))
-  note-quiet use is (Withdraws w) other = withdrawn-same vehicle c w is use
-  note-quiet use is (Enters p) other = refl
+      ap (uses_from vehicle held) (filter-append (of_card c) is (i ∷ []) ∙ ap (λ (l : List InsertionNote). filter (of_card c) is ++ l) (filter-other c i [] other) ∙ append-nil (filter (of_card c) is))
+  note-quiet held is (Withdraws w) other = withdrawn-same vehicle c w is held
+  note-quiet held is (Enters p) other = refl
 
-  notes-quiet : (use : CurrentUse) (is : List InsertionNote) (more : List Note) → AllByRecursion (NotAccepted c) more → uses_from vehicle use (filter (of_card c) (fold with_note is more)) ≡ uses_from vehicle use (filter (of_card c) is)
-  notes-quiet use is [] all = refl
-  notes-quiet use is (n ∷ more) all = notes-quiet use (with_note is n) more all.1 ∙ note-quiet use is n all.0
+  notes-quiet : (held : CurrentUse) (is : List InsertionNote) (more : List Note) → AllByRecursion (NotAccepted c) more → uses_from vehicle held (filter (of_card c) (fold with_note is more)) ≡ uses_from vehicle held (filter (of_card c) is)
+  notes-quiet held is [] all = refl
+  notes-quiet held is (n ∷ more) all = notes-quiet held (with_note is n) more all.1 ∙ note-quiet held is n all.0
 
   -- NOTES THAT ACCEPT IT NOT: the same uses were found
-  pub uses-quiet : (use : CurrentUse) (notes more : List Note) → AllByRecursion (NotAccepted c) more → uses_from vehicle use (insertions_on c (notes ++ more)) ≡ uses_from vehicle use (insertions_on c notes)
-  uses-quiet use notes more all =
-      ap (λ (l : List InsertionNote). uses_from vehicle use (filter (of_card c) l)) (fold-append with_note [] notes more) ∙ notes-quiet use (insertions_of notes) more all
+  pub uses-quiet : (held : CurrentUse) (notes more : List Note) → AllByRecursion (NotAccepted c) more → uses_from vehicle held (insertions_on c (notes ++ more)) ≡ uses_from vehicle held (insertions_on c notes)
+  uses-quiet held notes more all =
+      ap (λ (l : List InsertionNote). uses_from vehicle held (filter (of_card c) l)) (fold-append with_note [] notes more) ∙ notes-quiet held (insertions_of notes) more all
 
 -- ---- acceptances
 

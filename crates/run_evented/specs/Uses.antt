@@ -35,13 +35,13 @@ module _ (own : Registration) where
 
   -- that which these leave, one after another, where the first found this one
   abbrev pub use_behind : CurrentUse → List InsertionNote → CurrentUse
-  use_behind use [] = use
-  use_behind use (i ∷ is) = use_behind (left_by i) is
+  use_behind held [] = held
+  use_behind held (i ∷ is) = use_behind (left_by i) is
 
   -- and those that they found, one each
   abbrev pub uses_from : CurrentUse → List InsertionNote → List CurrentUse
-  uses_from use [] = []
-  uses_from use (i ∷ is) = use ∷ uses_from (left_by i) is
+  uses_from held [] = []
+  uses_from held (i ∷ is) = held ∷ uses_from (left_by i) is
 
 -- the vehicle of a unit, and the use of a card, by their images
 abbrev pub vehicle_of : List ℕ → Registration
@@ -72,7 +72,7 @@ use_left r c = use_behind (vehicle_of r.unit) (use_in (card_image r c)) (inserti
 
 -- the session times of uses
 abbrev pub times_of : List CurrentUse → List ℕ
-times_of uses = map (λ (use : CurrentUse). use.session.0) uses
+times_of uses = map (λ (held : CurrentUse). held.session.0) uses
 
 -- those that were found on a card, one for each acceptance: in a second, and in several
 abbrev pub opened_in : Card → (ℕ → Visit → ℕ) → Told → List ℕ

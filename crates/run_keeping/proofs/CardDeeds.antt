@@ -40,11 +40,11 @@ made-append size [] es b = refl
 made-append size (d ∷ ds) es b = made-append size ds es (after size d b)
 
 pub does-none : (app : Application) (X : State) → DoesOn app [] X X
-does-none app X b use shows = shows
+does-none app X b held shows = shows
 
 pub does-then : (app : Application) (ds es : List Deed) (X Y Z : State) → DoesOn app ds X Y → DoesOn app es Y Z → DoesOn app (ds ++ es) X Z
-does-then app ds es X Y Z first next b use shows =
-    subst (λ (k : Book). ShowsBook app k use Z) (sym (made-append app.activity ds es b)) (next (made_by app.activity ds b) use (first b use shows))
+does-then app ds es X Y Z first next b held shows =
+    subst (λ (k : Book). ShowsBook app k held Z) (sym (made-append app.activity ds es b)) (next (made_by app.activity ds b) held (first b held shows))
 
 -- ---- keeps
 
@@ -63,7 +63,7 @@ last-append before (k ∷ ks) ls = last-append (Some k.odometer) ks ls
 pub does-keep : (s t : Session) (e : Entry) (odometer : ℕ) (X Y : State) → IsCoherent X → IsCoherent Y → Y.works ≡ true → is_some Y.image ≡ is_some X.image → IfSome X.image (IsSession s)
     → IfSome X.image (λ x. IfSome Y.image (λ y. IsSession s x → IsCardKept s t e odometer x y))
     → DoesOn s.application (Keep (record { entry = e; registration = s.registration; odometer = odometer; km = grown s.odometer odometer }) ∷ []) X Y
-does-keep s t e odometer X Y whole after works tells session kept b use shows y left =
+does-keep s t e odometer X Y whole after works tells session kept b held shows y left =
     let told : Y.image ≡ Some y = after.only y works left in
     let was = told_too Y.image X.image y tells told in
     let k : IsCardKept s t e odometer was.0 y = at_image (λ (y : List ℕ). IsSession s was.0 → IsCardKept s t e odometer was.0 y) told
@@ -137,7 +137,7 @@ module _ (app : Application) (sound : IsApplication app) (vehicle : Registration
 -- of a card that works then
 pub does-insert : (app : Application) → IsApplication app → (vehicle : Registration) → length vehicle.0 ≡ 15 → (now : ℕ) → now ≢ 0 → now < 2 ^ 32 → (odometer : ℕ) (owed : List Entry) (X Y : State) → IsCoherent X → IsCoherent Y → Y.works ≡ true → is_some Y.image ≡ is_some X.image
     → image_size_of app ≤ X.size → IfSome X.image (λ x. IfSome Y.image (IsCardInserted app vehicle odometer owed now x)) → OpensOn app vehicle now odometer owed X Y
-does-insert app sound vehicle long now some few odometer owed X Y whole after works tells size inserted b use shows y left =
+does-insert app sound vehicle long now some few odometer owed X Y whole after works tells size inserted b held shows y left =
     let told : Y.image ≡ Some y = after.only y works left in
     let was = told_too Y.image X.image y tells told in
     let x : List ℕ = was.0 in
@@ -146,7 +146,7 @@ does-insert app sound vehicle long now some few odometer owed X Y whole after wo
     let fits : image_size_of app ≤ length x = omega (arith, size, whole.sized x was.1) in (
       inserted-book app sound vehicle long now some few odometer owed x fits y done
           ∙ ap (λ (u : CurrentUse). made_by app.activity (opens (is_open_in u) vehicle odometer (lacked (mark_of (book_of app x)) owed)) (book_of app x)) here.1
-          ∙ ap (λ (c : Book). made_by app.activity (opens (is_open_in use) vehicle odometer (lacked (mark_of c) owed)) c) here.0,
+          ∙ ap (λ (c : Book). made_by app.activity (opens (is_open_in held) vehicle odometer (lacked (mark_of c) owed)) c) here.0,
       inserted-use app sound vehicle long now some few odometer owed x fits y done,
     )
 
@@ -169,7 +169,7 @@ module _ (s : Session) (act : Activity) (sound : IsApplication s.application) (x
 
 pub does-close : (s : Session) (act : Activity) (X Y : State) → IsApplication s.application → IsCoherent X → image_size_of s.application ≤ X.size → IfSome X.image (IsSession s)
     → ((y : List ℕ) → Y.may_leave y → (x : List ℕ) × (X.image ≡ Some x) × (IsSession s x → IsCardClosed s act x y)) → ClosesOn s.application act X Y
-does-close s act X Y sound whole size session shut b use shows y left =
+does-close s act X Y sound whole size session shut b held shows y left =
     let was = shut y left in
     let x : List ℕ = was.0 in
     let done : IsCardClosed s act x y = was.2 (at_image (IsSession s) was.1 session) in

@@ -46,14 +46,14 @@ carried-snoc : (k : Keeper) (xs : List Done) (x : Done) (w : Carried) → carrie
 carried-snoc k [] x w = refl
 carried-snoc k (y ∷ ys) x w = carried-snoc k ys x (carried_after (present_at k.cabin y.minute.minute) (decided_minute k y.minute) y.round w)
 
-travel-snoc : (xs : List Done) (x : Done) (g : Travel) → all_travelled (map (λ (y : Done). y.minute) (xs ++ x ∷ [])) g ≡ travelled x.minute.travelled (all_travelled (map (λ (y : Done). y.minute) xs) g)
+travel-snoc : (xs : List Done) (x : Done) (g : Travel) → all_travelled (map (λ (y : Done). y.minute) (xs ++ x ∷ [])) g ≡ travelled x.minute.minute x.minute.travelled (all_travelled (map (λ (y : Done). y.minute) xs) g)
 travel-snoc [] x g = refl
-travel-snoc (y ∷ ys) x g = travel-snoc ys x (travelled y.minute.travelled g)
+travel-snoc (y ∷ ys) x g = travel-snoc ys x (travelled y.minute.minute y.minute.travelled g)
 
 -- the legs before power came last stay
 legs-before : (xs : List Done) (g : Travel) → (all_travelled (map (λ (y : Done). y.minute) xs) g).before ≡ g.before
 legs-before [] g = refl
-legs-before (y ∷ ys) g = legs-before ys (travelled y.minute.travelled g)
+legs-before (y ∷ ys) g = legs-before ys (travelled y.minute.minute y.minute.travelled g)
 
 rounds-snoc : (k : Keeper) (at : Moment) (xs : List Done) (x : Done) (t : Told) → AreRounds k at xs t → IsRound (present_at k.cabin x.minute.minute) (minute_of x.minute k) at false (told_by k at xs t).keeper x.round → AreRounds k at (xs ++ x ∷ []) t
 rounds-snoc k at [] x t all is = (is, tt)
@@ -213,7 +213,7 @@ module _ (ds : List Minute) (i : ℕ) (low : i < length ds) (at : Moment) (t u v
     carried_next w = carried_after here (decided_minute k m) r (carried_by k so.done w)
 
     next : (f : Found) (w : Carried) (start : ℕ) (travel : Travel) → MayBookAll f w ds t d → HasTravelled start w.book travel d.unit → t.keeper.odometer ≡ odometer_after start travel.before → HaveTime g
-        → (AreBooked f (carried_next w) v.keeper.cabin.cards v.marks.items g × HasTravelled start (carried_next w).book (travelled m.travelled (all_travelled (map (λ (x : Done). x.minute) so.done) travel)) g.unit) × AreTimedOn f d g
+        → (AreBooked f (carried_next w) v.keeper.cabin.cards v.marks.items g × HasTravelled start (carried_next w).book (travelled m.minute m.travelled (all_travelled (map (λ (x : Done). x.minute) so.done) travel)) g.unit) × AreTimedOn f d g
         × AllKeep f (kepts_on k (map (λ (x : Done). x.minute) (so.done ++ x ∷ []))) k.cabin.cards v.keeper.cabin.cards d g
     next f w start travel may gone stored time =
         let ahead = was f w start travel may gone stored time in
@@ -246,7 +246,7 @@ module _ (ds : List Minute) (i : ℕ) (low : i < length ds) (at : Moment) (t u v
           let carried = sym (carried-snoc k so.done x w) in
           let booked : AreBooked f (carried_by k (so.done ++ x ∷ []) w) v.keeper.cabin.cards v.marks.items g = subst (λ (q : Carried). AreBooked f q v.keeper.cabin.cards v.marks.items g) carried behind.0 in
           let far : HasTravelled start (carried_by k (so.done ++ x ∷ []) w).book (all_travelled (map (λ (y : Done). y.minute) (so.done ++ x ∷ [])) travel) g.unit = subst (λ (legs : Travel). HasTravelled start (carried_by k (so.done ++ x ∷ []) w).book legs g.unit) (sym (travel-snoc so.done x travel))
-          (subst (λ (q : Carried). HasTravelled start q.book (travelled m.travelled (all_travelled (map (λ (y : Done). y.minute) so.done) travel)) g.unit) carried behind.1) in
+          (subst (λ (q : Carried). HasTravelled start q.book (travelled m.minute m.travelled (all_travelled (map (λ (y : Done). y.minute) so.done) travel)) g.unit) carried behind.1) in
           ((booked, far), all.1, all.2);
       noted = more-noted k at so.done x t u p d.unit e.unit g.unit cards so.told so.noted noted;
     }

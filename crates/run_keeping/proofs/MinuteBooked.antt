@@ -186,7 +186,7 @@ module _ (m : KeptMinute) (present : Present) (says : TellsPresent m present) (t
     found2 : AreFoundCards f k2.cabin.cards
     found2 = found-by f fe present.driver second k1 k2 by1 found1
 
-    has : IsLitOwing f (w1 w) (owes_minute i) (devices V X Y) × AllGo f (w1 w) (owes_minute i) k1.cabin.cards (devices V X Y) × HasTravelled start (kept i w.book) (travelled leg g) V
+    has : IsLitOwing f (w1 w) (owes_minute i) (devices V X Y) × AllGo f (w1 w) (owes_minute i) k1.cabin.cards (devices V X Y) × HasTravelled start (kept i w.book) (travelled i.minute leg g) V
     has = owed f w start g leg (record { booked = may.booked; comes = may.comes }) gone odometer time
 
     first : HasTime present.driver (devices V1 X1 Y1) → IsBroughtOrCut failed1 f (w2 w) (but_to present.driver (owes_minute i)) k2.cabin.cards (devices V1 X1 Y1) × AreTimedOn f (devices V X Y) (devices V1 X1 Y1)
@@ -208,7 +208,7 @@ module _ (m : KeptMinute) (present : Present) (says : TellsPresent m present) (t
       ∙ ap (λ (n : ℕ). carried_brought Still present.codriver i.minute (carried_brought round.driver present.driver i.minute (carried_kept i n w))) (sym at)
       ∙ ap (λ (x : Fate). carried_brought x present.codriver i.minute (carried_brought round.driver present.driver i.minute (carried_kept i round.clock w))) (sym still)
       ∙ carried-both present i round w two in (
-        (subst (λ (v : Carried). IsPowerless f v (devices V1 X1 Y1)) is cut, travelled-noted start (kept i w.book) (travelled leg g) (has f w start g leg may gone odometer short).2 whole run),
+        (subst (λ (v : Carried). IsPowerless f v (devices V1 X1 Y1)) is cut, travelled-noted start (kept i w.book) (travelled i.minute leg g) (has f w start g leg may gone odometer short).2 whole run),
         timed-at f U V X Y (devices V1 X1 Y1) here.1,
         λ well. clash well,
       )
@@ -267,12 +267,12 @@ module _ (m : KeptMinute) (present : Present) (says : TellsPresent m present) (t
         ∙ ap (λ (x : Fate). carried_brought x present.codriver i.minute (carried_brought round.driver present.driver i.minute (carried_kept i round.clock w))) (sym second_fate)
         ∙ carried-both present i round w two in
         let found3 = found-by f fd present.codriver second k2 k3 by2 (found2 f w start g leg may gone odometer (short time)) in
-        let first_gone = travelled-noted start (kept i w.book) (travelled leg g) (has f w start g leg may gone odometer (short time)).2 whole1 run1 in
+        let first_gone = travelled-noted start (kept i w.book) (travelled i.minute leg g) (has f w start g leg may gone odometer (short time)).2 whole1 run1 in
         let all = behind f w start g leg may gone odometer time in
-        (by f w start g leg found3 round is failed all.0 (travelled-noted start (kept i w.book) (travelled leg g) first_gone whole2 run2), all.1, λ well. all.2)
+        (by f w start g leg found3 round is failed all.0 (travelled-noted start (kept i w.book) (travelled i.minute leg g) first_gone whole2 run2), all.1, λ well. all.2)
       where
         by : (f : Found) (w : Carried) (start : ℕ) (g : Travel) (leg : ℕ) → AreFoundCards f k3.cabin.cards → (round : Round) → w3 w ≡ carried_after present i round w → (b : Bool)
-            → IsBroughtOrCut b f (w3 w) (but_to present.codriver (but_to present.driver (owes_minute i))) k3.cabin.cards (devices V2 X2 Y2) → HasTravelled start (kept i w.book) (travelled leg g) V2
+            → IsBroughtOrCut b f (w3 w) (but_to present.codriver (but_to present.driver (owes_minute i))) k3.cabin.cards (devices V2 X2 Y2) → HasTravelled start (kept i w.book) (travelled i.minute leg g) V2
             → IsBooked f start w present i g leg b (Some round) k3.cabin.cards (devices V2 X2 Y2)
         by f w start g leg found round is false lit gone =
             let go = go-owes f (w3 w) (but_to present.codriver (but_to present.driver (owes_minute i))) owes_nothing k3.cabin.cards V2 X2 Y2 none-left lit.1 in

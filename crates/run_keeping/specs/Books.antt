@@ -78,19 +78,19 @@ carried_broken i w = record w { due = suc i.minute; book = broken i w.book }
 
 -- the unit failed before it had a minute, up to which this was travelled: that was not begun, or was
 abbrev pub IsLeftOff : Found → (start : ℕ) → Carried → HistoryMinute → Travel → (leg : ℕ) → Devices → Type 0
-IsLeftOff f start w i g leg d = (IsPowerless f w d × HasTravelled start w.book g d.unit) ⊎ (IsPowerless f (carried_broken i w) d × HasTravelled start (broken i w.book) (stranded leg g) d.unit)
+IsLeftOff f start w i g leg d = (IsPowerless f w d × HasTravelled start w.book g d.unit) ⊎ (IsPowerless f (carried_broken i w) d × HasTravelled start (broken i w.book) (stranded i.minute leg g) d.unit)
 
 -- HOW IT FAILED in a minute: before it had it; or it has it, and a card was torn out
 abbrev pub IsCutIn : Found → (start : ℕ) → Carried → Present → HistoryMinute → Travel → (leg : ℕ) → Option Round → Devices → Type 0
 IsCutIn f start w present i g leg None d = IsLeftOff f start w i g leg d
-IsCutIn f start w present i g leg (Some round) d = IsPowerless f (carried_after present i round w) d × HasTravelled start (kept i w.book) (travelled leg g) d.unit
+IsCutIn f start w present i g leg (Some round) d = IsPowerless f (carried_after present i round w) d × HasTravelled start (kept i w.book) (travelled i.minute leg g) d.unit
 
 -- THE BOOK BEHIND A MINUTE that was to be kept: it is kept, all that is carried stands, and the cards go with their sessions; or the unit
 -- failed in it.
 abbrev pub IsBooked : Found → (start : ℕ) → Carried → Present → HistoryMinute → Travel → (leg : ℕ) → (failed : Bool) → Option Round → Cards → Devices → Type 0
 IsBooked f start w present i g leg true round cards d = IsCutIn f start w present i g leg round d
 IsBooked f start w present i g leg false None cards d = ⊥
-IsBooked f start w present i g leg false (Some round) cards d = IsPowered f (carried_after present i round w) cards d × HasTravelled start (kept i w.book) (travelled leg g) d.unit
+IsBooked f start w present i g leg false (Some round) cards d = IsPowered f (carried_after present i round w) cards d × HasTravelled start (kept i w.book) (travelled i.minute leg g) d.unit
 
 -- WHAT IS ASKED: unit and cards are as the book says, and the minute may come.
 pub record MayBook (f : Found) (w : Carried) (present : Present) (m : KeptMinute) (t : Told) (d : Devices) : Type 0 where

@@ -23,16 +23,16 @@ made_by size (d ∷ ds) b = made_by size ds (after size d b)
 
 -- a session is open in this use
 abbrev pub is_open_in : CurrentUse → Bool
-is_open_in use = not (nat_eq use.session.0 0)
+is_open_in held = not (nat_eq held.session.0 0)
 
 -- A CARD SHOWS A BOOK, whichever of its images a stop may leave: these are its days and its vehicle entries; and this is its current use: the
 -- session that is open on it, or none, and its vehicle.
 abbrev pub ShowsBook : Application → Book → CurrentUse → State → Type 0
-ShowsBook app b use card = (x : List ℕ) → card.may_leave x → (book_of app x ≡ b) × (current_use app x ≡ use)
+ShowsBook app b held card = (x : List ℕ) → card.may_leave x → (book_of app x ≡ b) × (current_use app x ≡ held)
 
 -- CALLS DO THESE DEEDS on a card: of the book that it shows they make the one that it shows then. Its current use stays.
 abbrev pub DoesOn : Application → List Deed → (old new : State) → Type 0
-DoesOn app ds old new = (b : Book) (use : CurrentUse) → ShowsBook app b use old → ShowsBook app (made_by app.activity ds b) use new
+DoesOn app ds old new = (b : Book) (held : CurrentUse) → ShowsBook app b held old → ShowsBook app (made_by app.activity ds b) held new
 
 -- ---- minutes that a session keeps
 
@@ -64,13 +64,13 @@ abbrev pub begun_use : Registration → (second : ℕ) → CurrentUse
 begun_use vehicle u = record { session = record { 0 = u }; registration = vehicle }
 
 abbrev pub ended_use : CurrentUse → CurrentUse
-ended_use use = record { session = record { 0 = 0 }; registration = use.registration }
+ended_use held = record { session = record { 0 = 0 }; registration = held.registration }
 
 -- calls do it on a card in a second: a session is open then, which began in it
 abbrev pub OpensOn : Application → Registration → (second odometer : ℕ) → (owed : List Entry) → (old new : State) → Type 0
-OpensOn app vehicle second odometer owed old new = (b : Book) (use : CurrentUse) → ShowsBook app b use old
-    → ShowsBook app (made_by app.activity (opens (is_open_in use) vehicle odometer (lacked (mark_of b) owed)) b) (begun_use vehicle second) new
+OpensOn app vehicle second odometer owed old new = (b : Book) (held : CurrentUse) → ShowsBook app b held old
+    → ShowsBook app (made_by app.activity (opens (is_open_in held) vehicle odometer (lacked (mark_of b) owed)) b) (begun_use vehicle second) new
 
 -- A WITHDRAWAL: the last words are closed with an activity; no session is open then
 abbrev pub ClosesOn : Application → Activity → (old new : State) → Type 0
-ClosesOn app act old new = (b : Book) (use : CurrentUse) → ShowsBook app b use old → ShowsBook app (made_by app.activity (Close act ∷ []) b) (ended_use use) new
+ClosesOn app act old new = (b : Book) (held : CurrentUse) → ShowsBook app b held old → ShowsBook app (made_by app.activity (Close act ∷ []) b) (ended_use held) new

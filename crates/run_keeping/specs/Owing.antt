@@ -71,7 +71,7 @@ carried_brought fate present minute w = record w {
 
 -- behind the unit's part: it has the minute, and owes its entries to the cards; or it failed, and the minute was not begun, or was
 abbrev pub IsOwedOrCut : (failed : Bool) → Found → (start : ℕ) → Carried → HistoryMinute → Travel → (leg : ℕ) → Cards → Devices → Type 0
-IsOwedOrCut false f start w i g leg cards d = IsLitOwing f (carried_kept i d.unit.clock w) (owes_minute i) d × AllGo f (carried_kept i d.unit.clock w) (owes_minute i) cards d × HasTravelled start (kept i w.book) (travelled leg g) d.unit
+IsOwedOrCut false f start w i g leg cards d = IsLitOwing f (carried_kept i d.unit.clock w) (owes_minute i) d × AllGo f (carried_kept i d.unit.clock w) (owes_minute i) cards d × HasTravelled start (kept i w.book) (travelled i.minute leg g) d.unit
 IsOwedOrCut true f start w i g leg cards d = IsLeftOff f start w i g leg d
 
 -- THE UNIT WAS TO KEEP A MINUTE (`commit`)

@@ -182,7 +182,7 @@ second-decided rule start from first done p f span is s log goes c sp ds rest ne
 
 pub one-travelled : OneMoreIsTravelled
 one-travelled [] d g = refl
-one-travelled (x ∷ ds) d g = one-travelled ds d (travelled x.travelled g)
+one-travelled (x ∷ ds) d g = one-travelled ds d (travelled x.minute x.travelled g)
 
 -- MARKS
 none-in : (i : HistoryMinute) → Contains {X = HistoryMinute} [] i → ⊥

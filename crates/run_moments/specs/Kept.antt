@@ -97,7 +97,7 @@ TheCutHasDecided = (rule : Rule) (start : Start) (from first : ℕ) (done : List
 
 -- what was travelled up to the minutes that are kept
 abbrev pub OneMoreIsTravelled : Type 0
-OneMoreIsTravelled = (ds : List Minute) (d : Minute) (g : Travel) → all_travelled (ds ++ d ∷ []) g ≡ travelled d.travelled (all_travelled ds g)
+OneMoreIsTravelled = (ds : List Minute) (d : Minute) (g : Travel) → all_travelled (ds ++ d ∷ []) g ≡ travelled d.minute d.travelled (all_travelled ds g)
 
 -- ---- what is acknowledged
 

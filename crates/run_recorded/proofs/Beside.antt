@@ -1,32 +1,35 @@
 -- What was found of cards, and which cards may be written, as the seconds of a run go on.
-use Rattle.std.proofs.Common.{◌≡◌, ◌⊎◌, inl, inr, ⊎_elim, ℕ, zero, suc, ◌+◌, ◌-◌, ◌*◌, ◌%◌, ◌/◌, ◌<◌, ◌≤◌, Bool, true, false, cond, nat_eq, nat_le, ◌&&◌, List, [], ◌∷◌, ◌++◌, Contains, length, map, filter, drop, refl, ap, sym, subst, ◌∙◌, arith, append-nil, append_assoc, length-append}
+use Rattle.std.proofs.Common.{◌≡◌, ◌⊎◌, inl, inr, ⊎_elim, ℕ, zero, suc, ◌+◌, ◌-◌, ◌*◌, ◌%◌, ◌/◌, ◌<◌, ◌≤◌, Bool, true, false, cond, nat_eq, nat_le, ◌&&◌, List, [], ◌∷◌, ◌++◌, All, Contains, length, map, filter, drop, refl, ap, sym, subst, ◌∙◌, arith, append-nil, append_assoc, length-append}
 use Rattle.std.specs.Prelude.{flat_map}
 use Rattle.std.specs.List.{AllByRecursion}
 use Rattle.std.proofs.lemmas.Bool.Decides.{nat_tests}
 use Rattle.std.proofs.lemmas.Grind.{flat_map-append}
 use Rattle.std.proofs.lemmas.List.{map-append}
-use Rattle.std.proofs.lemmas.List.Elements.{Contains-append_left, Contains-append_right, Contains-append_cases, Contains-push, Contains-push_cases}
+use Rattle.std.proofs.lemmas.List.Elements.{All-weaker, Contains-append_left, Contains-append_right, Contains-append_cases, Contains-push, Contains-push_cases}
+use Rattle.activity_codec.specs.declared.entries.Entry.{Entry}
 use Rattle.trace_model.specs.declared.Card.{Card}
 use Rattle.trace_model.specs.declared.Action.{Action}
 use Rattle.trace_model.specs.Trace.{TraceSecond, driven, dark}
 use Rattle.minute_model.specs.Span.{AreNumbered}
 use Rattle.log_model.specs.declared.lines.Break.{Break}
 use Rattle.log_model.specs.declared.lines.Break.TheVariants.{Cut, Tear}
+use Rattle.log_model.specs.declared.lines.Mark.{Mark}
 use Rattle.log_model.specs.declared.lines.Refused.{Refused}
 use Rattle.log_model.specs.declared.lines.Verdict.{Verdict}
 use Rattle.log_model.specs.declared.lines.Verdict.TheVariants.{Accepted, NotValid, TimeOverlap}
 use Rattle.log_model.specs.Log.{RunLog}
 use Rattle.log_model.specs.Slots.{Slots, same_card}
 use Rattle.log_model.specs.Course.{Told, Went, Visit, went}
-use Rattle.log_model.specs.Causes.{is_cut}
+use Rattle.log_model.specs.Causes.{device_of, is_cut}
 use Rattle.log_model.specs.Spans.{seconds_in, AreInOrder}
 use Rattle.log_model.proofs.Spanning.{spanned}
+use Rattle.history_model.specs.Completeness.{IsMarked}
 use Rattle.unit_model.specs.Image.{last_kept}
 use Rattle.unit_course.specs.Lines.{cut_at, with_kept, found_from}
 use Rattle.unit_course.specs.Followed.{Lit, Lost}
 use Rattle.unit_course.specs.Turn.{cut_at_end}
 use Rattle.card_image.specs.Own.{IsOwnValid}
-use Rattle.safety_model.specs.Recording.{Recording, told_of}
+use Rattle.safety_model.specs.Recording.{Recording, told_of, brought}
 use Rattle.safety_model.specs.Cards.{is_overlap, entered, overlaps}
 use Rattle.safety_model.specs.Safe.{Devices, card_of, WasFound, IsUnfound, entered_by, IsVerdict}
 use Rattle.run_rule.specs.Found.{found_of}
@@ -218,27 +221,33 @@ verdict-on o done now log later unit card unit_now card_now c u (NotValid fid pl
 verdict-on o done now log later unit card unit_now card_now c u (TimeOverlap stored at) left_unit left_card same h =
     (h.0, h.1, (h.2.0, ⊎_elim (λ first. inl first) (λ again. inr (again.0, subst (λ (n : ℕ). 1 < n) (sym same) again.1, again.2, (again.3.0, left_card again.3.0 again.3.1, again.3.2))) h.2.1))
 
+-- what is acknowledged is so still
+pub marked-on : (marks acknowledged : List Mark) → ((mark : Mark) → Contains marks mark → Contains acknowledged mark) → (c : Card) (es : List Entry) → All (λ (e : Entry). IsMarked marks (device_of c) e.minute) es →
+    All (λ (e : Entry). IsMarked acknowledged (device_of c) e.minute) es
+marked-on marks acknowledged stay c es h = All-weaker (λ (e : Entry). IsMarked marks (device_of c) e.minute) (λ (e : Entry). IsMarked acknowledged (device_of c) e.minute) (λ e is. (is.0, stay is.0 is.1, is.2)) es h
+
 -- and brings as many
-brings-on : (o : Origin) (done now : List TraceSecond) (log later : RunLog) (c : Card) (u : ℕ) (v : Verdict) → ((t : ℕ) → t ≤ u → entered_by (recording_by o now later) c t ≡ entered_by (recording_by o done log) c t) →
-    BringsAll (recording_by o done log) c u v → BringsAll (recording_by o now later) c u v
-brings-on o done now log later c u (Accepted replayed) same h = ⊎_elim
-    (λ all. inl all)
+brings-on : (o : Origin) (done now : List TraceSecond) (log later : RunLog) (marks acknowledged : List Mark) (c : Card) (u : ℕ) (v : Verdict) → ((mark : Mark) → Contains marks mark → Contains acknowledged mark) →
+    ((t : ℕ) → t ≤ u → entered_by (recording_by o now later) c t ≡ entered_by (recording_by o done log) c t) → BringsAll (recording_by o done log) marks c u v → BringsAll (recording_by o now later) acknowledged c u v
+brings-on o done now log later marks acknowledged c u (Accepted replayed) stay same h = ⊎_elim
+    (λ all. inl (all.0, marked-on marks acknowledged stay c (brought o.recording c).owed all.1))
     (λ before. inr (⊎_elim
     (λ twice. inl (subst (λ (n : ℕ). 1 < n) (sym (same u (omega arith))) twice))
     (λ once. let early : once.0 ≤ u = omega (arith, once.1) in inr (once.0, once.1, subst (λ (n : ℕ). 0 < n) (sym (same once.0 early)) once.2))
     before))
     h
-brings-on o done now log later c u (NotValid fid place) same h = h
-brings-on o done now log later c u (TimeOverlap stored at) same h = h
+brings-on o done now log later marks acknowledged c u (NotValid fid place) stay same h = h
+brings-on o done now log later marks acknowledged c u (TimeOverlap stored at) stay same h = h
 
 -- both, in a second of this number
-abbrev IsSeenOf : Origin → List TraceSecond → RunLog → Devices → Visit → Verdict → ℕ → Type 0
-IsSeenOf o done log d x v n = IsVerdict (recording_by o done log) (d.unit.left_since o.found.unit.began) ((card_of d x.card).left_since (found_of o.found x.card).began) x.card n v × BringsAll (recording_by o done log) x.card n v
+abbrev IsSeenOf : Origin → List TraceSecond → RunLog → List Mark → Devices → Visit → Verdict → ℕ → Type 0
+IsSeenOf o done log marks d x v n = IsVerdict (recording_by o done log) (d.unit.left_since o.found.unit.began) ((card_of d x.card).left_since (found_of o.found x.card).began) x.card n v × BringsAll (recording_by o done log) marks x.card n v
 
-pub verdicts-on : (o : Origin) (done now : List TraceSecond) (log later : RunLog) (unfound found : ℕ) (d e : Devices) (more : List Told) (from : ℕ) → AreVerdicts o done log unfound d → HaveLeftMore o d e → TellsMore (went log done).told (went later now).told more from →
-    ((t : Told) (x : Visit) (v : Verdict) → Contains more t → Contains t.course.found (x, v) → MayBeFound o now later e t x v) →
-    AreFound (e.unit.left_since o.found.unit.began) found later.breaks → AreVerdicts o now later found e
-verdicts-on o done now log later unfound found d e more from old left tells fresh kept = record {
+pub verdicts-on : (o : Origin) (done now : List TraceSecond) (log later : RunLog) (unfound found : ℕ) (marks acknowledged : List Mark) (d e : Devices) (more : List Told) (from : ℕ) → AreVerdicts o done log unfound marks d → HaveLeftMore o d e →
+    ((mark : Mark) → Contains marks mark → Contains acknowledged mark) → TellsMore (went log done).told (went later now).told more from →
+    ((t : Told) (x : Visit) (v : Verdict) → Contains more t → Contains t.course.found (x, v) → MayBeFound o now later acknowledged e t x v) →
+    AreFound (e.unit.left_since o.found.unit.began) found later.breaks → AreVerdicts o now later found acknowledged e
+verdicts-on o done now log later unfound found marks acknowledged d e more from old left stay tells fresh kept = record {
   kept = kept;
   each = λ t x v at seen.
       let there = subst (λ (xs : List CardsTold). Contains xs (cards_of t)) tells.same (map-contains (went later now).told t at) in
@@ -248,15 +257,15 @@ verdicts-on o done now log later unfound found d e more from old left tells fres
       let number : m.0.second.number ≡ t.second.number = ap (λ (y : CardsTold). y.number) m.2 in
       let was = old.each m.0 x v m.1 (subst (λ (fs : List (Visit × Verdict)). Contains fs (x, v)) (sym (ap (λ (y : CardsTold). y.found) m.2)) seen) in
       let lt = tells.before m.0 m.1 in
-      subst (IsSeenOf o now later e x v) number (
+      subst (IsSeenOf o now later acknowledged e x v) number (
         verdict-on o done now log later (d.unit.left_since o.found.unit.began) ((card_of d x.card).left_since (found_of o.found x.card).began) (e.unit.left_since o.found.unit.began) ((card_of e x.card).left_since (found_of o.found x.card).began) x.card m.0.second.number v
             left.unit (left.card x.card) (entered-same o done now log later more from tells x.card m.0.second.number lt) was.0,
-        brings-on o done now log later x.card m.0.second.number v (λ n low. entered-same o done now log later more from tells x.card n (omega (arith, low, lt))) was.1,
+        brings-on o done now log later marks acknowledged x.card m.0.second.number v stay (λ n low. entered-same o done now log later more from tells x.card n (omega (arith, low, lt))) was.1,
       ))
       (λ behind.
       let m = mapped more (cards_of t) behind in
       let number : m.0.second.number ≡ t.second.number = ap (λ (y : CardsTold). y.number) m.2 in
-      subst (IsSeenOf o now later e x v) number
+      subst (IsSeenOf o now later acknowledged e x v) number
       (fresh m.0 x v m.1 (subst (λ (fs : List (Visit × Verdict)). Contains fs (x, v)) (sym (ap (λ (y : CardsTold). y.found) m.2)) seen)))
       (Contains-append_cases (map cards_of (went log done).told) (map cards_of more) (cards_of t) there);
 }
@@ -331,8 +340,8 @@ nothing-found more idle t x v at seen =
     let gone : Contains {X = Visit × Verdict} [] (x, v) = subst (λ (fs : List (Visit × Verdict)). Contains fs (x, v)) none seen in
     omega (arith, gone.1)
 
-pub idle-verdicts : (o : Origin) (done now : List TraceSecond) (log later : RunLog) (unfound found : ℕ) (d e : Devices) (more : List Told) (from : ℕ) → AreVerdicts o done log unfound d → HaveLeftMore o d e → TellsMore (went log done).told (went later now).told more from → AreIdle more → AreFound (e.unit.left_since o.found.unit.began) found later.breaks → AreVerdicts o now later found e
-idle-verdicts o done now log later unfound found d e more from old left tells idle kept = verdicts-on o done now log later unfound found d e more from old left tells (λ t x v at seen. absurd (nothing-found more idle t x v at seen)) kept
+pub idle-verdicts : (o : Origin) (done now : List TraceSecond) (log later : RunLog) (unfound found : ℕ) (marks : List Mark) (d e : Devices) (more : List Told) (from : ℕ) → AreVerdicts o done log unfound marks d → HaveLeftMore o d e → TellsMore (went log done).told (went later now).told more from → AreIdle more → AreFound (e.unit.left_since o.found.unit.began) found later.breaks → AreVerdicts o now later found marks e
+idle-verdicts o done now log later unfound found marks d e more from old left tells idle kept = verdicts-on o done now log later unfound found marks marks d e more from old left (λ mark among. among) tells (λ t x v at seen. absurd (nothing-found more idle t x v at seen)) kept
 
 pub idle-spared : (o : Origin) (done now : List TraceSecond) (log later : RunLog) (d e : Devices) (more : List Told) (from : ℕ) → AreSpared o done log d → TellsMore (went log done).told (went later now).told more from → AreIdle more →
     ((c : Card) → IsUntouched (found_of o.found c) (card_of d c) → IsUntouched (found_of o.found c) (card_of e c) ⊎ MayBeWritten (recording_by o now later) c) → AreSpared o now later e

@@ -1,6 +1,8 @@
 -- What a run promises at its end, of what was carried to it.
-use Rattle.std.proofs.Common.{◌≡◌, ◌⊎◌, inl, inr, ⊎_elim, ℕ, ◌<◌, ◌≤◌, List, [], ◌∷◌, ◌++◌, All, Contains, drop, refl, ap, sym, subst, ◌∙◌, arith}
+use Rattle.std.proofs.Common.{◌≡◌, ◌⊎◌, inl, inr, ⊎_elim, ℕ, ◌+◌, ◌/◌, ◌<◌, ◌≤◌, min, List, [], ◌∷◌, ◌++◌, All, Contains, length, take, drop, refl, ap, sym, subst, ◌∙◌, arith}
 use Rattle.std.specs.List.{AllByRecursion}
+use Rattle.std.proofs.lemmas.List.Sums.{sum_by-append}
+use Rattle.std.proofs.lemmas.List.Elements.{All-weaker, All-append, Contains-append_left}
 use Rattle.trace_model.specs.declared.Card.{Card}
 use Rattle.trace_model.specs.Trace.{TraceSecond}
 use Rattle.run_model.specs.declared.Device.{Device}
@@ -12,18 +14,24 @@ use Rattle.log_model.specs.declared.lines.Verdict.{Verdict}
 use Rattle.log_model.specs.Log.{RunLog}
 use Rattle.log_model.specs.Course.{Told, Visit, went}
 use Rattle.log_model.specs.Causes.{second_of, HasCauses, IsBegun, HasMoment}
+use Rattle.unit_model.specs.declared.layout.TheConstants.{HIGHEST_ODOMETER}
 use Rattle.unit_model.specs.Image.{last_kept, odometer_at}
+use Rattle.unit_journal.specs.DayOdometers.{RecordsDay}
 use Rattle.unit_model.specs.Decoding.{Decodes}
 use Rattle.history_model.specs.Minutes.{HistoryMinute}
 use Rattle.history_model.specs.Book.{Book, all, IsMark}
-use Rattle.unit_course.specs.Legs.{Travel}
+use Rattle.history_model.specs.Growth.{Rises}
+use Rattle.history_model.proofs.Told.{rises}
+use Rattle.unit_course.specs.Legs.{Travel, kilometres_of}
 use Rattle.unit_course.specs.Travelled.{MayShow}
 use Rattle.unit_rule.specs.Rule.{Started}
-use Rattle.unit_rule.specs.Odometer.{ShowsOdometer, OdometerSafe}
-use Rattle.unit_rule.proofs.Travelling.{odometer-safe}
+use Rattle.unit_course.proofs.Lines.{tells-front}
+use Rattle.unit_course.proofs.Parts.{beyond-mark, known-more}
+use Rattle.unit_rule.specs.Odometer.{ShowsOdometer, IsBegunBy, OdometerSafe}
+use Rattle.unit_rule.proofs.Travelling.{odometer-sum, odometer-safe}
 use Rattle.joint_rule.specs.Views.{UnitView, unit_view}
 use Rattle.card_image.specs.Own.{IsOwnValid}
-use Rattle.safety_model.specs.Recording.{Recording, card_image, start_of, told_of}
+use Rattle.safety_model.specs.Recording.{Recording, card_image, start_of, told_of, history_of}
 use Rattle.safety_model.specs.Cards.{acceptances, entered, overlaps, MayNotWrite}
 use Rattle.safety_model.specs.Safe.{Devices, card_of, breakdowns_of, WasFound, IsUnfound, IsVerdict, IsSafe, IsCaused}
 use Rattle.run_rule.specs.Found.{found_of}
@@ -39,6 +47,7 @@ use Rattle.run_brought.proofs.Accounts.{last-of}
 use Rattle.run_brought.proofs.Ends.{ends-follow, ends-brought}
 use Rattle.run_moments.proofs.Telling.{each-of}
 use Rattle.run_recorded.specs.Origin.{Origin, rule_of, start_at, first_of, HasRecorded}
+use Rattle.run_recorded.specs.Days.{IsBegunIn}
 use Rattle.run_recorded.proofs.Whole.{is-whole}
 use Rattle.run_recorded.proofs.Beside.{found-or}
 use Rattle.run_recorded.specs.Ends.{recording_by, AreVerdicts, MayBeWritten, AreSpared, IsBeside, EndsRun}
@@ -50,11 +59,17 @@ accounts-by r c first done p ks a = record {
   waits = a.waits;
 }
 
+-- as many kilometres, and one leg more
+kilometres-push : (xs ys : List ℕ) (a b : ℕ) → kilometres_of xs ≡ kilometres_of ys → a ≡ b → kilometres_of (xs ++ a ∷ []) ≡ kilometres_of (ys ++ b ∷ [])
+kilometres-push xs ys a b same is =
+    sum_by-append (λ (n : ℕ). n / 3600) xs (a ∷ []) ∙ ap (λ (n : ℕ). n + kilometres_of (a ∷ [])) same ∙ ap (λ (n : ℕ). kilometres_of ys + kilometres_of (n ∷ [])) is
+    ∙ sym (sum_by-append (λ (n : ℕ). n / 3600) ys (b ∷ []))
+
 module _ (o : Origin) (done : List TraceSecond) (p : Progress) (g : Travel) (marks : List Mark) (w : Carried) (began now : Devices) where
   abbrev r : Recording
   r = recording_by o done p.log
 
-  module _ (h : HasRecorded o done p g marks (breakdowns_of now) w.brought) (found : IsFound r o.found began) (carried : IsCarried o.found w now) (book : w.book ≡ p.book) (told : w.marks ≡ marks) (beside : IsBeside o done p g now) where
+  module _ (h : HasRecorded o done p g marks (breakdowns_of now) w.brought) (found : IsFound r o.found began) (carried : IsCarried o.found w now) (book : w.book ≡ p.book) (told : w.marks ≡ marks) (beside : IsBeside o done p g marks now) where
     unit-began : o.found.unit.began ≡ began.unit.clock
     unit-began = ap (λ (s : Started). s.began) found.unit
 
@@ -119,6 +134,52 @@ module _ (o : Origin) (done : List TraceSecond) (p : Progress) (g : Travel) (mar
         odometer-safe (rule_of o) p.log (went p.log done).told (odometer_at o.recording.unit) p.book g now.unit beside.travels
         (λ y left shown. legs-shown (rule_of o) (start_at o) o.from (first_of o) done p h.followed h.waiting g h.legs (last_kept y) shown.leg (may-show y left shown)) x on
 
+    -- the history, behind the book
+    front : (rest : List HistoryMinute) × (history_of r ≡ all p.book ++ rest)
+    front = h.followed.follows.front
+
+    -- what comes behind it is later than any minute of it
+    comes-later : (i : HistoryMinute) → Contains (all p.book) i → All (λ j. i.minute < j.minute) front.0
+    comes-later i at =
+        beyond-mark (first_of o) (o.from / 60) ((o.from + length done) / 60) i.minute (all p.book) front.0 h.followed.early
+        (subst (λ (is : List HistoryMinute). Rises (o.from / 60) is ((o.from + length done) / 60)) front.1 (rises o.from (rule_of o) (start_at o) p.log done h.followed.order)) (inr (i, at, refl))
+
+    -- a day that was begun
+    day-begun : (x : List ℕ) (day odometer : ℕ) → IsBegunBy (odometer_at o.recording.unit) p.book g x day odometer → IsBegunIn r x day odometer
+    day-begun x day odometer b =
+        let k = h.legs.begun b.e b.begun in
+        let First : HistoryMinute → Type 0 = λ j. j.minute / 1440 ≡ day → b.i.minute ≤ j.minute in
+        let same = b.same in
+        record {
+          anew = λ n q. b.anew n (subst (λ (y : List ℕ). RecordsDay y day n) (sym h.image) q);
+          i = b.i;
+          there = subst (λ (is : List HistoryMinute). Contains is b.i) (sym front.1) (Contains-append_left (all p.book) front.0 b.i b.there);
+          has = subst (λ (n : ℕ). n ≤ last_kept x) (sym b.same) b.has;
+          day_is = ap (λ (n : ℕ). n / 1440) b.same ∙ b.day_is;
+          first = subst (All First) (sym front.1)
+              (All-append First (all p.book) front.0
+              (All-weaker (λ (j : HistoryMinute). j.minute / 1440 ≡ day → b.e.minute ≤ j.minute) First (λ j le is. subst (λ (n : ℕ). n ≤ j.minute) (sym same) (le is)) (all p.book) b.first)
+              (All-weaker (λ (j : HistoryMinute). b.i.minute < j.minute) First (λ j lt is. omega (arith, lt)) front.0 (comes-later b.i b.there)));
+          earlier = k.earlier;
+          span = k.span;
+          later = k.later;
+          are = k.are;
+          minute = k.minute;
+          decided = k.decided;
+          same = k.number ∙ sym b.same;
+          known = known-more (rule_of o) (take p.unfound p.log.breaks) p.log.breaks k.earlier (λ u is. tells-front u p.unfound p.log.breaks is) k.known;
+          legs = k.legs;
+          closed = k.closed;
+          sum_is = b.odometer_is ∙ odometer-sum (odometer_at o.recording.unit) (b.e.before ++ b.e.leg ∷ []) beside.travels.begins
+              ∙ ap (λ (n : ℕ). min (odometer_at o.recording.unit + n) HIGHEST_ODOMETER) (kilometres-push b.e.before k.legs b.e.leg k.minute.travelled (sym k.sums) (sym k.leg));
+        }
+
+    days : (x : List ℕ) → now.unit.may_leave x → (day odometer : ℕ) → RecordsDay x day odometer → RecordsDay r.unit day odometer ⊎ IsBegunIn r x day odometer
+    days x on day odometer records = ⊎_elim
+        (λ was. inl (subst (λ (y : List ℕ). RecordsDay y day odometer) h.image was))
+        (λ begun. inr (day-begun x day odometer begun))
+        (beside.travels.days x on day odometer records)
+
     unit-later : began.unit.clock ≤ now.unit.clock
     unit-later = subst (λ (n : ℕ). n ≤ now.unit.clock) unit-began (carried.unit.unit_holds [] []).later
 
@@ -131,5 +192,6 @@ module _ (o : Origin) (done : List TraceSecond) (p : Progress) (g : Travel) (mar
           caused = all_caused;
           brings = λ t e v at seen. (beside.verdicts.each t e v at seen).1;
           odometer = odometer;
+          days = days;
           whole = λ nothing. is-whole r marks began now o.from h.followed.order nothing all_safe all_caused unit_whole unit-later;
         }

@@ -47,6 +47,7 @@ use Rattle.run_course.proofs.Dark.{dark-caused, dark-complete, off-complete}
 use Rattle.run_course.proofs.Quiet.{quiet-are-told, quiet-go-on, quiet-travelled, quiet-caused, quiet-complete}
 use Rattle.run_course.proofs.Staying.{failure-stays, found-stays, cut-stays_}
 use Rattle.run_course.proofs.Steps.{went-same_, now-told, goes_on, breaks_off, power_finds, power_fails, stays_dark, off_dark, off_cuts, begins_run}
+use Rattle.unit_course.proofs.Legs.{travelled-image, stranded-image}
 use Rattle.run_course.proofs.Travelled as legs
 use Rattle.run_brought.specs.Going.{acceptances_in, AreAccounted, IsTakenAt, IsBehind}
 use Rattle.run_brought.proofs.Going.{second-accounted, sure-kept, nothing-accounted}
@@ -67,9 +68,10 @@ pub nothing-recorded : NothingIsRecorded
 nothing-recorded o early = record {
   followed = begins_run (rule_of o) (start_at o) o.from (first_of o) early;
   waiting = refl;
-  legs = legs.nothing-travelled (rule_of o) (first_of o) (at_start o) refl;
+  legs = legs.nothing-travelled (rule_of o) (first_of o) o.recording.unit (at_start o) refl;
   complete = nothing-yet (rule_of o) (start_at o) empty_log [];
   caused = run-caused o.breakdowns (at_start o) refl;
+  image = refl;
   accounts = λ c valid. nothing-accounted o.recording c (first_of o) (at_start o) refl;
 }
 
@@ -81,6 +83,7 @@ found-recorded o done p g marks now brought h may k leg shows = record {
   legs = legs.found-travelled (rule_of o) (start_at o) o.from (first_of o) done p h.followed g h.legs may k leg shows;
   complete = found-stays (rule_of o) (start_at o) o.from (first_of o) done p h.followed may k shows.mark shows.low marks h.complete;
   caused = found-caused (rule_of o) (start_at o) o.from (first_of o) done p h.followed k o.breakdowns now h.caused (found_again k p) refl (λ dark. absurd dark);
+  image = h.image;
   accounts = λ c valid. found-accounted o.recording c o.from (first_of o) done p h.followed may k shows.mark shows.low (brought c) (h.accounts c valid);
 }
 
@@ -117,6 +120,7 @@ more-recorded o done p g marks more now later brought h stay rise =
         };
         over = h.caused.over;
       };
+      image = h.image;
       accounts = h.accounts;
     }
 
@@ -153,6 +157,7 @@ module _ (o : Origin) (done : List TraceSecond) (p : Progress) (g : Travel) (mar
             (subst (λ (ts : List Told). AreAcknowledged more ts p.next t new) (sym (told-now s log by)) acks)
             (λ cut. absurd (let clash : false ≡ true = sym (ap (λ (x : Told). x.cut) ends.0) ∙ cut in cc));
         caused = second-caused (rule_of o) (start_at o) o.from (first_of o) done p h.followed s log by m.refused m.refused_are o.breakdowns mid now ends.1 h.caused q refl (λ dark. absurd (lit-dark q.supply (span ++ t ∷ []) refl dark));
+        image = travelled-image ds g ∙ h.image;
         accounts = λ c valid. second-accounted o.recording c o.from (first_of o) done p h.followed span is h.waiting s log by new decided q
             (record { log = refl; unfound = refl; next = refl; supply = inl (refl, m.up_to.uncut); sure = (new, sure-kept new None p.book) })
             (brought c) (taken c) (takes c valid).0 (takes c valid).1 (h.accounts c valid);
@@ -206,6 +211,7 @@ module _ (o : Origin) (done : List TraceSecond) (p : Progress) (g : Travel) (mar
           complete = acknowledged (rule_of o) (start_at o) o.from (first_of o) done p h.followed span is h.waiting s log by new decided marks more stay h.complete
               (subst (λ (ts : List Told). AreAcknowledged more ts p.next t new) (sym (told-now s log by)) (cut-acks more new cut_)) (λ cut. fails);
           caused = second-caused (rule_of o) (start_at o) o.from (first_of o) done p h.followed s log by refused refused_are o.breakdowns mid later causes h.caused q refl (λ dark. inr cut_);
+          image = stranded-image d (all_travelled front g) ∙ travelled-image front g ∙ h.image;
           accounts = λ c valid. second-accounted o.recording c o.from (first_of o) done p h.followed span is h.waiting s log by new decided q
               (record { log = refl; unfound = refl; next = refl; supply = inr refl; sure = (kept, sure-kept kept i p.book) })
               (brought c) (taken c) (takes c valid).0 (takes c valid).1 (h.accounts c valid);
@@ -245,6 +251,7 @@ failed-recorded o done p g marks mid later brought h may s number given more bro
       legs = legs.failure-travelled (rule_of o) (start_at o) o.from (first_of o) done p h.followed g h.legs may h.waiting s log by;
       complete = failure-stays (rule_of o) (start_at o) o.from (first_of o) done p h.followed may h.waiting s log by marks h.complete;
       caused = second-caused (rule_of o) (start_at o) o.from (first_of o) done p h.followed s log by [] (sym (append-nil p.log.refused)) o.breakdowns mid later ends.1 h.caused (failed_on s p) refl (λ dark. inr (ap (λ (t : Told). t.cut) ends.0));
+      image = h.image;
       accounts = λ c valid. failure-accounted o.recording c o.from (first_of o) done p h.followed may h.waiting s log by (length s.actions)
           (accepts-none c (next_told log done s) (ap (λ (t : Told). t.course.found) ends.0)) (brought c) (h.accounts c valid);
     }
@@ -311,6 +318,7 @@ quiet-recorded o done p g marks now brought h t span is n speed within = record 
   legs = quiet-travelled (rule_of o) (start_at o) o.from (first_of o) done p h.followed t span is h.waiting n speed within g h.legs;
   complete = quiet-complete (rule_of o) (start_at o) o.from (first_of o) done p h.followed t span is h.waiting n speed within marks h.complete;
   caused = quiet-caused (rule_of o) (start_at o) o.from (first_of o) done p h.followed t span is h.waiting n speed within o.breakdowns now h.caused;
+  image = h.image;
   accounts = λ c valid. quiet-accounts o c speed (brought c) n done p h.followed t span is h.waiting within (h.accounts c valid);
 }
 
@@ -324,6 +332,7 @@ dark-recorded o done p g marks now brought h is n speed actions refused begun lo
       legs = legs.dark-travelled (rule_of o) (start_at o) o.from (first_of o) done p h.followed g h.legs is (suc n) speed actions all_ begun low high;
       complete = dark-complete (rule_of o) (start_at o) o.from (first_of o) done p h.followed is (suc n) speed actions all_ low high marks h.complete;
       caused = dark-caused (rule_of o) (start_at o) o.from (first_of o) done p h.followed is n speed actions refused low high told o.breakdowns now h.caused (passed_dark (suc n) begun refused p) refl;
+      image = h.image;
       accounts = λ c valid. dark-accounted o.recording c o.from (first_of o) done p h.followed is (suc n) speed actions all_ begun low high (brought c) (h.accounts c valid);
     }
 
@@ -334,6 +343,7 @@ off-recorded o done p g marks now brought h dark_ n = record {
   legs = legs.off-travelled (rule_of o) (start_at o) o.from (first_of o) done p h.followed g h.legs dark_ n;
   complete = off-complete (rule_of o) (start_at o) o.from p.log done (suc n) p.next marks h.followed.order h.followed.next h.complete;
   caused = off-caused (rule_of o) (start_at o) o.from (first_of o) done p h.followed dark_ n o.breakdowns now h.caused (gone_off n p) refl;
+  image = h.image;
   accounts = λ c valid. off-accounted o.recording c o.from (first_of o) done p h.followed dark_ n (brought c) (h.accounts c valid);
 }
 
@@ -347,5 +357,6 @@ off-cut-recorded o done p g marks now brought h t span is n =
       complete = off-complete (rule_of o) (start_at o) o.from later done (suc n) p.next marks h.followed.order h.followed.next
           (cut-stays_ (rule_of o) (start_at o) o.from (first_of o) done p h.followed t span is h.waiting marks h.complete);
       caused = off-cut-caused (rule_of o) (start_at o) o.from (first_of o) done p h.followed t span is h.waiting n o.breakdowns now h.caused (cut_off n p) refl;
+      image = h.image;
       accounts = λ c valid. off-cut-accounted o.recording c o.from (first_of o) done p h.followed t span is h.waiting n (brought c) (h.accounts c valid);
     }

@@ -4,6 +4,7 @@ use Rattle.std.specs.List.{AllByRecursion}
 use Rattle.trace_model.specs.declared.Card.{Card}
 use Rattle.trace_model.specs.declared.Action.{Action}
 use Rattle.trace_model.specs.Trace.{TraceSecond, driven, dark}
+use Rattle.log_model.specs.declared.lines.Mark.{Mark}
 use Rattle.log_model.specs.declared.lines.Refused.{Refused}
 use Rattle.log_model.specs.declared.lines.Verdict.{Verdict}
 use Rattle.log_model.specs.Log.{RunLog}
@@ -47,10 +48,10 @@ pub record HaveLeftMore (o : Origin) (d e : Devices) : Type 0 where
   pub card : (c : Card) (x : List ℕ) → (card_of d c).left_since (found_of o.found c).began x → (card_of e c).left_since (found_of o.found c).began x
 
 -- a find is one that may be made, by the images left since the start, and so many were brought
-abbrev pub MayBeFound : Origin → List TraceSecond → RunLog → Devices → Told → Visit → Verdict → Type 0
-MayBeFound o done log d t e v =
+abbrev pub MayBeFound : Origin → List TraceSecond → RunLog → List Mark → Devices → Told → Visit → Verdict → Type 0
+MayBeFound o done log marks d t e v =
     IsVerdict (recording_by o done log) (d.unit.left_since o.found.unit.began) ((card_of d e.card).left_since (found_of o.found e.card).began) e.card t.second.number v
-    × BringsAll (recording_by o done log) e.card t.second.number v
+    × BringsAll (recording_by o done log) marks e.card t.second.number v
 
 -- how often a card entered in some seconds, and how often it was found to tell of a later time
 abbrev pub entered_in : Card → Told → List Visit
@@ -100,14 +101,15 @@ AnOffCutTellsMore = (o : Origin) (done : List TraceSecond) (p : Progress) → Fo
 
 -- WHAT WAS FOUND stays found, and further finds may be made as they were, where what was found kept after cuts was so;
 abbrev pub FindsGoOn : (d e : Devices) → Type 0
-FindsGoOn d e = (o : Origin) (done now : List TraceSecond) (log later : RunLog) (unfound found : ℕ) (more : List Told) (from : ℕ) → AreVerdicts o done log unfound d → HaveLeftMore o d e → TellsMore (went log done).told (went later now).told more from →
-    ((t : Told) (x : Visit) (v : Verdict) → Contains more t → Contains t.course.found (x, v) → MayBeFound o now later e t x v) →
-    AreFound (e.unit.left_since o.found.unit.began) found later.breaks → AreVerdicts o now later found e
+FindsGoOn d e = (o : Origin) (done now : List TraceSecond) (log later : RunLog) (unfound found : ℕ) (marks acknowledged : List Mark) (more : List Told) (from : ℕ) → AreVerdicts o done log unfound marks d → HaveLeftMore o d e →
+    ((mark : Mark) → Contains marks mark → Contains acknowledged mark) → TellsMore (went log done).told (went later now).told more from →
+    ((t : Told) (x : Visit) (v : Verdict) → Contains more t → Contains t.course.found (x, v) → MayBeFound o now later acknowledged e t x v) →
+    AreFound (e.unit.left_since o.found.unit.began) found later.breaks → AreVerdicts o now later found acknowledged e
 
 -- and where no card enters nothing is found.
 abbrev pub NothingIsFound : (d e : Devices) → Type 0
-NothingIsFound d e = (o : Origin) (done now : List TraceSecond) (log later : RunLog) (unfound found : ℕ) (more : List Told) (from : ℕ) → AreVerdicts o done log unfound d → HaveLeftMore o d e → TellsMore (went log done).told (went later now).told more from →
-    AreIdle more → AreFound (e.unit.left_since o.found.unit.began) found later.breaks → AreVerdicts o now later found e
+NothingIsFound d e = (o : Origin) (done now : List TraceSecond) (log later : RunLog) (unfound found : ℕ) (marks : List Mark) (more : List Told) (from : ℕ) → AreVerdicts o done log unfound marks d → HaveLeftMore o d e → TellsMore (went log done).told (went later now).told more from →
+    AreIdle more → AreFound (e.unit.left_since o.found.unit.began) found later.breaks → AreVerdicts o now later found marks e
 
 -- a card that is as it was stays so, or may be written by then
 abbrev pub IsSparedOn : Origin → List TraceSecond → RunLog → (d e : Devices) → Type 0

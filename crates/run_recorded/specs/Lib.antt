@@ -1,5 +1,6 @@
 pub mod Origin
 pub mod Seconds
+pub mod Days
 pub mod Ends
 pub mod Beside
 pub mod Whole

@@ -42,7 +42,7 @@ abbrev pub at_start : Origin → Progress
 at_start o = record { log = empty_log; unfound = 0; next = o.from; begun = 0; supply = Due; book = not_begun; waiting = [] }
 
 abbrev pub NothingIsRecorded : Type 0
-NothingIsRecorded = (o : Origin) → first_of o < o.from / 60 → HasRecorded o [] (at_start o) not_travelled [] o.breakdowns (λ c. [])
+NothingIsRecorded = (o : Origin) → first_of o < o.from / 60 → HasRecorded o [] (at_start o) (not_travelled o.recording.unit) [] o.breakdowns (λ c. [])
 
 -- POWER IS BACK: the last-kept minute is found, and what was travelled.
 abbrev pub found_again : (k : ℕ) → Progress → Progress

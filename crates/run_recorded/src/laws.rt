@@ -72,7 +72,7 @@ pub fn what_is_recorded_is_promised<M: Medium, C: Chip, D: Chip, N: Medium, E: C
         o.breakdowns ≡ breakdowns_of (devices (M.state old_unit.now) (C.state old_a.now) (D.state old_b.now)) →
         HasRecorded o done p g marks (breakdowns_of (devices (N.state unit.now) (E.state card_a.now) (F.state card_b.now))) w.brought →
         IsCarried o.found w (devices (N.state unit.now) (E.state card_a.now) (F.state card_b.now)) → w.book ≡ p.book → w.marks ≡ marks →
-        IsBeside o done p g (devices (N.state unit.now) (E.state card_a.now) (F.state card_b.now)) →
+        IsBeside o done p g marks (devices (N.state unit.now) (E.state card_a.now) (F.state card_b.now)) →
         EndsRun (recording_by o done p.log) marks (devices (M.state old_unit.now) (C.state old_a.now) (D.state old_b.now)) (devices (N.state unit.now) (E.state card_a.now) (F.state card_b.now)) }
 {}
 

@@ -512,7 +512,7 @@ module _ (f : Found) (w : Carried) (c : Card) (U V X Y : State) (two : f.card_a.
       }
 
   -- what its find is to tell
-  pub verdict-found : (e : Entered) → answer ≡ Ok e → HasFoundSo f c U X now e.replayed
+  pub verdict-found : (e : Entered) → answer ≡ Ok e → HasFoundSo f c U X now e.owed.items e.replayed
   verdict-found e ok =
       let y = told-one Y.image so.held.tells in
       let took-now = took told-u.0 told-x.0 told-u.1 told-x.1 e y.0 ok y.1 in
@@ -524,7 +524,9 @@ module _ (f : Found) (w : Carried) (c : Card) (U V X Y : State) (two : f.card_a.
         on = unit_whole.is_left told-u.0 told-u.1;
         there = whole.is_left told-x.0 told-x.1;
         valid = valid-own (own_sizes (found_of f c).image) told-x.0 is-own was.0;
+        sizes = is-own;
         early = subst (λ (k : CardView). k.stored ≤ now) (sym (own-is (own_sizes (found_of f c).image) told-x.0 is-own)) was.1;
+        owes = sym (owed-view told-u.0 told-x.0 told-u.1 told-x.1 e y.0 ok y.1);
         number = sym (put-number told-u.0 told-x.0 told-u.1 told-x.1 e y.0 ok y.1);
       }
 
@@ -623,7 +625,7 @@ module _ (f : Found) (w : Carried) (cards : Cards) (c : Card) (U V X Y Z : State
   accepted-number-by valid e ok = told-own f w c U V X Y found.two (found.sizes c valid) unit_whole unit_after whole after registration long odometer now few answer parts.unit (w.brought c) (one-before valid) late (room valid) (enters valid) e ok
 
   -- and by some images of unit and card that a stop might leave then so many entries were owed
-  pub accepted-found-by : IsOwnValid (found_of f c).image → (e : Entered) → answer ≡ Ok e → HasFoundSo f c U X now e.replayed
+  pub accepted-found-by : IsOwnValid (found_of f c).image → (e : Entered) → answer ≡ Ok e → HasFoundSo f c U X now e.owed.items e.replayed
   accepted-found-by valid e ok = verdict-found f w c U V X Y found.two (found.sizes c valid) unit_whole unit_after whole after registration long odometer now few answer parts.unit (w.brought c) (one-before valid) late (room valid) (enters valid) e ok
 
   pub accepted-whole-by : IsOwnValid (found_of f c).image → (e : Entered) → answer ≡ Ok e → e.replayed ≡ length e.owed.items

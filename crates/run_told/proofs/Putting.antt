@@ -75,5 +75,5 @@ module _ (f : Found) (w : Carried) (cards : Cards) (c : Card) (U V X Y Z : State
     pub put-whole : e.replayed ≡ length e.owed.items
     put-whole = accepted-whole-by f (with_standing c Out w) cards c U V X Y Z found unit_whole unit_after whole after registration long odometer now few answer (out-now c w) bare was-out late app measured size enters valid e ok
 
-    pub put-found : HasFoundSo f c U X now e.replayed
+    pub put-found : HasFoundSo f c U X now e.owed.items e.replayed
     put-found = accepted-found-by f (with_standing c Out w) cards c U V X Y Z found unit_whole unit_after whole after registration long odometer now few answer (out-now c w) bare was-out late app measured size enters valid e ok

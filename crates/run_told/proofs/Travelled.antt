@@ -1,10 +1,6 @@
 -- The odometer, over the steps on the unit beside the keeping of a minute.
-use Rattle.std.proofs.Common.{◌≡◌, ℕ, Option, List, arith}
-use Rattle.tach_media.specs.Medium.{State, IsCoherent, LeavesOnly, SameOutside}
-use Rattle.tach_media.proofs.Images.{part_before}
-use Rattle.unit_model.specs.declared.layout.TheConstants.{OWED, ODOMETER}
-use Rattle.unit_model.specs.Image.{odometer_at}
-use Rattle.unit_model.proofs.Numbers.{number_same}
+use Rattle.std.proofs.Common.{ℕ, Option, List}
+use Rattle.tach_media.specs.Medium.{State, IsCoherent, LeavesOnly}
 use Rattle.owed_model.specs.Rows.{IsRowBeginning}
 use Rattle.unit_journal.specs.declared.notes.Notes.{Notes}
 use Rattle.unit_journal.specs.Mends.{IsMending}
@@ -12,15 +8,10 @@ use Rattle.unit_notes.specs.Journal.{LeavesJournal}
 use Rattle.history_model.specs.Book.{Book}
 use Rattle.unit_course.specs.Legs.{Travel}
 use Rattle.unit_rule.specs.Odometer.{HasTravelled}
-use Rattle.unit_rule.proofs.Elsewhere.{travelled-elsewhere}
-use Rattle.unit_rule.proofs.Mending.{mending-odometer}
+use Rattle.unit_rule.proofs.Elsewhere.{rows-elsewhere, travelled-elsewhere}
+use Rattle.unit_rule.proofs.Mending.{mending-travel}
 use Rattle.unit_rule.proofs.Travelling.{travelled-aside}
-use Rattle.joint_steps.proofs.Beginning.{last_same}
 use Rattle.device_steps.proofs.Noted.{same_journal}
-
-odometer-same : (x c : List ℕ) → SameOutside OWED.place OWED.size x c → odometer_at c ≡ odometer_at x
-unfolding odometer_at
-odometer-same x c outside = number_same x c ODOMETER.place ODOMETER.size (part_before OWED.place OWED.size ODOMETER.place ODOMETER.size x c outside (omega arith))
 
 module _ (start : ℕ) (b : Book) (g : Travel) {U V : State} (t : HasTravelled start b g U) (whole : IsCoherent U) where
   -- a note
@@ -29,8 +20,8 @@ module _ (start : ℕ) (b : Book) (g : Travel) {U V : State} (t : HasTravelled s
 
   -- a row that is begun
   pub travelled-begun : (number : List ℕ) (session : ℕ) (spared : Option (List ℕ)) → LeavesOnly U V (IsRowBeginning number session spared) → HasTravelled start b g V
-  travelled-begun number session spared run = travelled-aside start b g t whole (IsRowBeginning number session spared) run (λ x c is. (odometer-same x c is.outside, last_same x c is.outside))
+  travelled-begun number session spared run = travelled-elsewhere start b g t whole (IsRowBeginning number session spared) run (λ x c is. rows-elsewhere x c is.outside)
 
   -- a mend
   pub travelled-mended : (j : Notes) → LeavesOnly U V (IsMending j) → HasTravelled start b g V
-  travelled-mended j run = travelled-aside start b g t whole (IsMending j) run (λ x c is. mending-odometer j x c is)
+  travelled-mended j run = travelled-aside start b g t whole (IsMending j) run (λ x c is. mending-travel j x c is)

@@ -172,13 +172,15 @@ carried_found k w = record w { book = found k w.book }
 abbrev pub all_out : Carried → Carried
 all_out w = record w { standing = λ c. Out }
 
--- WHAT THE FIND OF AN ACCEPTANCE IS TO TELL: by an image of unit and of card that a stop might have left then so many entries were owed, and
--- the card was valid and told of no later time.
-pub record HasFoundSo (f : Found) (c : Card) (unit card : State) (now replayed : ℕ) : Type 0 where
+-- WHAT THE FIND OF AN ACCEPTANCE IS TO TELL: by an image of unit and of card that a stop might have left then these entries were owed, so many,
+-- and the card was valid, of the sizes at the start, and told of no later time.
+pub record HasFoundSo (f : Found) (c : Card) (unit card : State) (now : ℕ) (put : List Entry) (replayed : ℕ) : Type 0 where
   pub unit_image : List ℕ
   pub card_image : List ℕ
   pub on : unit.may_leave unit_image
   pub there : card.may_leave card_image
   pub valid : IsOwnValid card_image
+  pub sizes : own_sizes card_image ≡ own_sizes (found_of f c).image
   pub early : (own_view card_image).stored ≤ now
+  pub owes : owed c (unit_view f.card_a.number f.card_b.number unit_image) (own_view card_image) ≡ put
   pub number : length (owed c (unit_view f.card_a.number f.card_b.number unit_image) (own_view card_image)) ≡ replayed

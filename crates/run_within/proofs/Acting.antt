@@ -79,7 +79,7 @@ module _ (o : Origin) (done : List TraceSecond) (s : TraceSecond) (at : Phase) (
           (record { seated = w.present.seated; ended = λ m present card low is in_. let h = w.present.ended m present card low is in_ in record { valid = h.valid; present = h.present; session = h.session } });
       back = λ card some. inl (back-plain o done s at [] None v d w card some);
       verdicts = w.verdicts;
-      finds = same (λ (x : Course). IsFoundSo o w.b done x s.number w.from w.new w.brought d) (record { may = w.finds.may; taken = w.finds.taken; late = w.finds.late });
+      finds = same (λ (x : Course). IsFoundSo o w.b done x s.number w.from w.new v.marks w.brought d) (record { may = w.finds.may; taken = w.finds.taken; late = w.finds.late });
       there = w.there;
       few = w.few;
       spared = λ card. same (λ (x : Course). IsSparedSo o w.b done x [] s.number v.cabin.slots d card)

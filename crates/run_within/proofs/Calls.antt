@@ -108,7 +108,7 @@ module _ (o : Origin) (done : List TraceSecond) (supply : Supply) (v : Values) (
     read = found-powerless o.found w d V r.found.two whole after wholes off.powerless run works x is
 
     odometers : (shown : ShowsOdometer (odometer_at o.recording.unit) r.book r.travel x) × HasTravelled (odometer_at o.recording.unit) (found k r.book) (resumed shown.leg r.travel) V
-    odometers = travelled-found (odometer_at o.recording.unit) r.book r.travel r.beside.travels whole k x after run works is
+    odometers = travelled-found (odometer_at o.recording.unit) r.book r.travel r.beside.travels whole k x after run works is refl
 
     before : d.unit.may_leave x
     before = ⊎_elim (λ was. was) (λ never. absurd never.2) (run.now x (after.is_left x is))

@@ -265,18 +265,18 @@ module _ (o : Origin) (done : List TraceSecond) (s : TraceSecond) (at : Phase) (
       (subst (λ (n : ℕ). R (record (progress (cut_values s at v) Lost book) { unfound = p.unfound; next = suc n })) (sym w.next)
       (subst (λ (i : Option HistoryMinute). R (broke_off log s w.new i p)) lost-is (subst (λ (is : List HistoryMinute). R (broke_off log s is (seated_next o log done s p w.ds w.lost) p)) new-is recorded-so)))
 
-  verdicts : AreVerdicts o (done ++ s ∷ []) log v.unfound d
-  verdicts = verdicts-on o done (done ++ s ∷ []) p.log log p.unfound v.unfound d d (t ∷ []) p.next w.verdicts (record { unit = λ x h. h; card = λ c x h. h }) (second-tells o done p f s log goes number)
+  verdicts : AreVerdicts o (done ++ s ∷ []) log v.unfound v.marks d
+  verdicts = verdicts-on o done (done ++ s ∷ []) p.log log p.unfound v.unfound w.b.marks v.marks d d (t ∷ []) p.next w.verdicts (record { unit = λ x h. h; card = λ c x h. h }) w.stay (second-tells o done p f s log goes number)
       (λ x e verdict among seen.
       let same : t ≡ x = ⊎_elim (λ none. absurd (omega (arith, none.1))) (λ here. here) (Contains-push_cases [] t x among) in
-      subst (λ (y : Told). MayBeFound o (done ++ s ∷ []) log d y e verdict) same
+      subst (λ (y : Told). MayBeFound o (done ++ s ∷ []) log v.marks d y e verdict) same
       (let there : Contains c.found (e, verdict) = subst (λ (fs : List (Visit × Verdict)). Contains fs (e, verdict)) (ap (λ (y : Told). y.course.found) (sym same) ∙ found-is) seen in
       let may = w.finds.may e verdict there in
       let is : t.second.number ≡ s.number = ap (λ (y : Told). y.second.number) ends in
       let count = often-by o done (done ++ s ∷ []) p.log log t e.card s.number told-now is in
       let entered_ : t.course.entered ≡ c.entered = ap (λ (y : Told). y.course.entered) ends in
-      subst (λ (n : ℕ). IsVerdict (recording_by o (done ++ s ∷ []) log) (d.unit.left_since o.found.unit.began) ((card_of d e.card).left_since (found_of o.found e.card).began) e.card n verdict × BringsAll (recording_by o (done ++ s ∷ []) log) e.card n verdict) (sym is)
-      (verdict-by o w.b done (done ++ s ∷ []) log may.0 (d.unit.left_since o.found.unit.began) ((card_of d e.card).left_since (found_of o.found e.card).began) e.card s.number verdict
+      subst (λ (n : ℕ). IsVerdict (recording_by o (done ++ s ∷ []) log) (d.unit.left_since o.found.unit.began) ((card_of d e.card).left_since (found_of o.found e.card).began) e.card n verdict × BringsAll (recording_by o (done ++ s ∷ []) log) v.marks e.card n verdict) (sym is)
+      (verdict-by o w.b done (done ++ s ∷ []) log may.0 v.marks (d.unit.left_since o.found.unit.began) ((card_of d e.card).left_since (found_of o.found e.card).began) e.card s.number verdict
       (let low = may.1 in let same_times = ap (times_of e.card) entered_ in omega (arith, low, count, same_times)) (λ n. entered-grows o done (done ++ s ∷ []) p.log log t e.card n told-now) may.2)))
       (subst (λ (n : ℕ). AreFound (d.unit.left_since o.found.unit.began) n log.breaks) (sym w.unfound)
       (subst (λ (bs : List Break). AreFound (d.unit.left_since o.found.unit.began) p.unfound (bs ++ cut_at s.number true (begun_by s at) ∷ [])) (sym w.moment.breaks_are)

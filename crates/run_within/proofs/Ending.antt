@@ -78,7 +78,7 @@ use Rattle.run_within.proofs.Parts.{still, verdict-by, often-by, entered-grows, 
 -- minutes that are kept add nothing to what was travelled before the span
 pub same-before : (ds : List Minute) (g : Travel) → (all_travelled ds g).before ≡ g.before
 same-before [] g = refl
-same-before (m ∷ ds) g = same-before ds (travelled m.travelled g)
+same-before (m ∷ ds) g = same-before ds (travelled m.minute m.travelled g)
 
 module _ (o : Origin) (done : List TraceSecond) (s : TraceSecond) (v : Values) (d : Devices) (w : Within o done s Keeping [] (Some s.speed) [] v d) where
   abbrev p : Progress
@@ -171,17 +171,17 @@ module _ (o : Origin) (done : List TraceSecond) (s : TraceSecond) (v : Values) (
   slots-now : (went log (done ++ s ∷ [])).before.slots ≡ t.course.slots
   slots-now = ap (λ (x : Went). x.before.slots) (now-is (rule_of o) (start_at o) o.from (first_of o) done p f.order f.next f.unfound s log goes)
 
-  verdicts : AreVerdicts o (done ++ s ∷ []) log v.unfound d
-  verdicts = verdicts-on o done (done ++ s ∷ []) p.log log p.unfound v.unfound d d (t ∷ []) p.next w.verdicts (record { unit = λ x h. h; card = λ c x h. h }) (second-tells o done p f s log goes number)
+  verdicts : AreVerdicts o (done ++ s ∷ []) log v.unfound v.marks d
+  verdicts = verdicts-on o done (done ++ s ∷ []) p.log log p.unfound v.unfound w.b.marks v.marks d d (t ∷ []) p.next w.verdicts (record { unit = λ x h. h; card = λ c x h. h }) w.stay (second-tells o done p f s log goes number)
       (λ x e verdict among seen.
       let same : t ≡ x = ⊎_elim (λ none. absurd (omega (arith, none.1))) (λ here. here) (Contains-push_cases [] t x among) in
-      subst (λ (y : Told). MayBeFound o (done ++ s ∷ []) log d y e verdict) same
+      subst (λ (y : Told). MayBeFound o (done ++ s ∷ []) log v.marks d y e verdict) same
       (let there : Contains c.found (e, verdict) = subst (λ (fs : List (Visit × Verdict)). Contains fs (e, verdict)) (ap (λ (y : Told). y.course.found) (sym same) ∙ found-is) seen in
       let may = w.finds.may e verdict there in
       let is : t.second.number ≡ s.number = ap (λ (y : Told). y.second.number) ends in
       let count = often-by o done (done ++ s ∷ []) p.log log t e.card s.number told-now is in
-      subst (λ (n : ℕ). IsVerdict (recording_by o (done ++ s ∷ []) log) (d.unit.left_since o.found.unit.began) ((card_of d e.card).left_since (found_of o.found e.card).began) e.card n verdict × BringsAll (recording_by o (done ++ s ∷ []) log) e.card n verdict) (sym is)
-      (verdict-by o w.b done (done ++ s ∷ []) log may.0 (d.unit.left_since o.found.unit.began) ((card_of d e.card).left_since (found_of o.found e.card).began) e.card s.number verdict
+      subst (λ (n : ℕ). IsVerdict (recording_by o (done ++ s ∷ []) log) (d.unit.left_since o.found.unit.began) ((card_of d e.card).left_since (found_of o.found e.card).began) e.card n verdict × BringsAll (recording_by o (done ++ s ∷ []) log) v.marks e.card n verdict) (sym is)
+      (verdict-by o w.b done (done ++ s ∷ []) log may.0 v.marks (d.unit.left_since o.found.unit.began) ((card_of d e.card).left_since (found_of o.found e.card).began) e.card s.number verdict
       (let low = may.1 in let same_times = ap (λ (y : Course). times_of e.card y.entered) course-is in omega (arith, low, count, same_times)) (λ n. entered-grows o done (done ++ s ∷ []) p.log log t e.card n told-now) may.2)))
       (subst (λ (n : ℕ). AreFound (d.unit.left_since o.found.unit.began) n log.breaks) (sym w.unfound)
       (subst (AreFound (d.unit.left_since o.found.unit.began) p.unfound) (sym w.moment.breaks_are) (kept-on (d.unit.left_since o.found.unit.began) p.unfound p.log.breaks w.moment.breaks f.unfound w.verdicts.kept w.moment.uncut)))

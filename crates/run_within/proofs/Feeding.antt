@@ -101,7 +101,7 @@ module _ (o : Origin) (done : List TraceSecond) (s : TraceSecond) (v : Values) (
       present = same (λ (x : Course). PresentStand o.found w.standing told0 x s.number w.from v.cabin) w.present;
       back = λ card some. inl (back-plain o done s (In (length s.actions)) [] None v d w card some);
       verdicts = w.verdicts;
-      finds = same (λ (x : Course). IsFoundSo o w.b done x s.number w.from w.new w.brought d) w.finds;
+      finds = same (λ (x : Course). IsFoundSo o w.b done x s.number w.from w.new v.marks w.brought d) w.finds;
       there = w.there;
       few = w.few;
       spared = λ card. same (λ (x : Course). IsSparedSo o w.b done x [] s.number v.cabin.slots d card) (w.spared card);

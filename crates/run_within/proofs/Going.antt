@@ -72,8 +72,8 @@ use Rattle.run_within.proofs.Stays.{since-later, since-cut}
 -- ---- no card enters in some seconds more
 
 module _ (o : Origin) (done now : List TraceSecond) (log later : RunLog) (d : Devices) (more : List Told) (from : ℕ) (tells : TellsMore (went log done).told (went later now).told more from) (idle : AreIdle more) where
-  verdicts-go : (unfound : ℕ) → AreVerdicts o done log unfound d → AreFound (d.unit.left_since o.found.unit.began) unfound later.breaks → AreVerdicts o now later unfound d
-  verdicts-go unfound old kept = idle-verdicts o done now log later unfound unfound d d more from old (record { unit = λ x h. h; card = λ c x h. h }) tells idle kept
+  verdicts-go : (unfound : ℕ) (marks : List Mark) → AreVerdicts o done log unfound marks d → AreFound (d.unit.left_since o.found.unit.began) unfound later.breaks → AreVerdicts o now later unfound marks d
+  verdicts-go unfound marks old kept = idle-verdicts o done now log later unfound unfound marks d d more from old (record { unit = λ x h. h; card = λ c x h. h }) tells idle kept
 
   spared-go : AreSpared o done log d → AreSpared o now later d
   spared-go old = idle-spared o done now log later d d more from old tells idle (λ c whole. inl whole)
@@ -154,7 +154,7 @@ module _ (o : Origin) (done : List TraceSecond) (v : Values) (d : Devices) (r : 
     brought = r.brought;
     recorded = seconds.dark-recorded o done p r.travel v.marks (breakdowns_of d) r.brought r.recorded refl n speed actions refused begun low high told;
     beside = record {
-      verdicts = verdicts-go o done now v.log w.log d further.0 v.next further.1 further.2 v.unfound r.beside.verdicts r.beside.verdicts.kept;
+      verdicts = verdicts-go o done now v.log w.log d further.0 v.next further.1 further.2 v.unfound v.marks r.beside.verdicts r.beside.verdicts.kept;
       spared = spared-go o done now v.log w.log d further.0 v.next further.1 further.2 r.beside.spared;
       travels = r.beside.travels;
     };
@@ -217,7 +217,7 @@ off-recorded d o done supply v r dark_ n =
       brought = r.brought;
       recorded = seconds.off-recorded o done p r.travel v.marks (breakdowns_of d) r.brought r.recorded dark_ n;
       beside = record {
-        verdicts = verdicts-go o done now v.log v.log d further.0 v.next further.1 further.2 v.unfound r.beside.verdicts r.beside.verdicts.kept;
+        verdicts = verdicts-go o done now v.log v.log d further.0 v.next further.1 further.2 v.unfound v.marks r.beside.verdicts r.beside.verdicts.kept;
         spared = spared-go o done now v.log v.log d further.0 v.next further.1 further.2 r.beside.spared;
         travels = r.beside.travels;
       };
@@ -342,7 +342,7 @@ module _ (o : Origin) (done : List TraceSecond) (t : Told) (span : List Told) (v
           brought = r.brought;
           recorded = seconds.off-cut-recorded o done lit-progress r.travel v.marks (breakdowns_of d) r.brought r.recorded t span refl n;
           beside = record {
-            verdicts = verdicts-go o done now-off v.log cut-log d further-off.0 v.next further-off.1 further-off.2 v.unfound r.beside.verdicts (kept-cut (d.unit.left_since o.found.unit.began) v.unfound v.log.breaks (v.next - 1) false v.begun r.recorded.followed.unfound r.beside.verdicts.kept);
+            verdicts = verdicts-go o done now-off v.log cut-log d further-off.0 v.next further-off.1 further-off.2 v.unfound v.marks r.beside.verdicts (kept-cut (d.unit.left_since o.found.unit.began) v.unfound v.log.breaks (v.next - 1) false v.begun r.recorded.followed.unfound r.beside.verdicts.kept);
             spared = spared-go o done now-off v.log cut-log d further-off.0 v.next further-off.1 further-off.2 r.beside.spared;
             travels = r.beside.travels;
           };
@@ -450,7 +450,7 @@ module _ (o : Origin) (done : List TraceSecond) (t : Told) (span : List Told) (v
       brought = r.brought;
       recorded = seconds.quiet-recorded o done quiet-p r.travel v.marks (breakdowns_of d) r.brought r.recorded t span refl (suc n) speed high;
       beside = record {
-        verdicts = verdicts-go o done quiet-now v.log v.log d quiet-further.0 v.next quiet-further.1 quiet-further.2 v.unfound r.beside.verdicts r.beside.verdicts.kept;
+        verdicts = verdicts-go o done quiet-now v.log v.log d quiet-further.0 v.next quiet-further.1 quiet-further.2 v.unfound v.marks r.beside.verdicts r.beside.verdicts.kept;
         spared = spared-go o done quiet-now v.log v.log d quiet-further.0 v.next quiet-further.1 quiet-further.2 r.beside.spared;
         travels = r.beside.travels;
       };
@@ -508,12 +508,12 @@ module _ (o : Origin) (v : Values) (d : Devices) (h : MayStart o v d) where
   begins-so : Recorded o [] Due first-values d
   begins-so = record {
     book = not_begun;
-    travel = not_travelled;
+    travel = not_travelled o.recording.unit;
     odometer = tt;
     due = o.from / 60;
     standing = λ c. Out;
     brought = λ c. [];
-    recorded = seconds.more-recorded o [] (at_start o) not_travelled [] [] o.breakdowns (breakdowns_of d) (λ c. []) (seconds.nothing-recorded o h.early) (λ device m at. at) h.breakdowns;
+    recorded = seconds.more-recorded o [] (at_start o) (not_travelled o.recording.unit) [] [] o.breakdowns (breakdowns_of d) (λ c. []) (seconds.nothing-recorded o h.early) (λ device m at. at) h.breakdowns;
     beside = record {
       verdicts = record { each = λ t e verdict at seen. absurd (nowhere o t at); kept = tt };
       spared = λ c. inl (h.untouched c);

@@ -136,19 +136,19 @@ module _ (o : Origin) (done : List TraceSecond) (s : TraceSecond) (at : Phase) (
   often-same : (n : ℕ) (x : Card) → n ≤ often o w.b done c s.number x → n ≤ often o w.b done now s.number x
   often-same n x le = subst (λ (vs : List Visit). n ≤ often o w.b done (record c { entered = vs }) s.number x) (sym is.entered) le
 
-  pub finds : IsFoundSo o w.b done now s.number w.from w.new brought e
+  pub finds : IsFoundSo o w.b done now s.number w.from w.new marks brought e
   finds = record {
     may = λ x verdict there. ⊎_elim
         (λ before.
         let was = w.finds.may x verdict before in (
           was.0,
           often-same was.0 x.card was.1,
-          verdict-left o w.b done was.0 (d.unit.left_since o.found.unit.began) ((card_of d x.card).left_since (found_of o.found x.card).began) (e.unit.left_since o.found.unit.began) ((card_of e x.card).left_since (found_of o.found x.card).began)
-              j.left.unit (j.left.card x.card) x.card s.number verdict was.2,
+          verdict-left o w.b done was.0 v.marks marks (d.unit.left_since o.found.unit.began) ((card_of d x.card).left_since (found_of o.found x.card).began) (e.unit.left_since o.found.unit.began) ((card_of e x.card).left_since (found_of o.found x.card).began)
+              j.stay j.left.unit (j.left.card x.card) x.card s.number verdict was.2,
         ))
         (λ (one : IsSame (visit, f.verdict) (x, verdict)).
         let P : Visit × Verdict → Type 0 = λ q. (n : ℕ) × (n ≤ often o w.b done now s.number q.0.card)
-        × VerdictBy o w.b done n (e.unit.left_since o.found.unit.began) ((card_of e q.0.card).left_since (found_of o.found q.0.card).began) q.0.card s.number q.1 in
+        × VerdictBy o w.b done n marks (e.unit.left_since o.found.unit.began) ((card_of e q.0.card).left_since (found_of o.found q.0.card).began) q.0.card s.number q.1 in
         subst P one (j.may.0, often-same j.may.0 card j.may.1, j.may.2))
         (among x verdict there);
     taken = λ x verdict there accepts. ⊎_elim
@@ -172,7 +172,7 @@ module _ (o : Origin) (done : List TraceSecond) (s : TraceSecond) (at : Phase) (
   accepted-may : (x : Card) → IsAccepted card (is_accepting f.verdict) x → MayBeWrittenSo o w.b done now fewer s.number cabin.slots x
   accepted-may x is_ =
       let a = accepted-by is_.1 in
-      let valid = accepted-valid o w.b done j.may.0 (e.unit.left_since o.found.unit.began) ((card_of e card).left_since (found_of o.found card).began) card s.number f.verdict is_.1 j.may.2 in
+      let valid = accepted-valid o w.b done j.may.0 marks (e.unit.left_since o.found.unit.began) ((card_of e card).left_since (found_of o.found card).began) card s.number f.verdict is_.1 j.may.2 in
       subst (λ (y : Card). MayBeWrittenSo o w.b done now fewer s.number cabin.slots y) (sym is_.0)
       (accepted-written o w.b done c now at f.slot card waits fewer f.verdict s.number cabin.slots j.next.but found-is is.entered w.few (w.moment.counted card) valid.0 valid.1
       (subst (λ (k : Kept). SitsAccepted k card) (sym a.slots_are) (sits-put_in f.slot card a.newest v.cabin.slots)) is_.1)

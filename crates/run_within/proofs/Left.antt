@@ -1,19 +1,22 @@
 -- What was found stays found as more was left; minutes that follow one another, and one more in the book.
-use Rattle.std.proofs.Common.{◌≡◌, ◌⊎◌, inl, inr, ⊎_elim, ℕ, suc, ◌+◌, List, [], ◌∷◌, ◌++◌, length, map, refl, ap, ◌∙◌, arith}
+use Rattle.std.proofs.Common.{◌≡◌, ◌⊎◌, inl, inr, ⊎_elim, ℕ, suc, ◌+◌, List, [], ◌∷◌, ◌++◌, Contains, length, map, refl, ap, ◌∙◌, arith}
 use Rattle.trace_model.specs.declared.Card.{Card}
 use Rattle.trace_model.specs.Trace.{TraceSecond}
 use Rattle.minute_model.specs.declared.Minute.{Minute}
 use Rattle.minute_model.specs.Span.{count_from}
+use Rattle.log_model.specs.declared.lines.Mark.{Mark}
 use Rattle.log_model.specs.declared.lines.Verdict.{Verdict}
 use Rattle.log_model.specs.declared.lines.Verdict.TheVariants.{Accepted, NotValid, TimeOverlap}
 use Rattle.log_model.specs.Log.{RunLog}
 use Rattle.history_model.specs.Minutes.{HistoryMinute}
 use Rattle.history_model.specs.Book.{Book, kept}
+use Rattle.safety_model.specs.Recording.{brought}
 use Rattle.safety_model.specs.Safe.{IsVerdict}
 use Rattle.run_course.specs.Seconds.{kept_all}
 use Rattle.run_recorded.specs.Origin.{Origin}
 use Rattle.run_recorded.specs.Ends.{recording_by, BringsAll}
-use Rattle.run_within.specs.Within.{Beginning, SeenBy, VerdictBy}
+use Rattle.run_recorded.proofs.Beside.{marked-on}
+use Rattle.run_within.specs.Within.{Beginning, SeenBy, BringsBy, VerdictBy}
 
 -- what was found may be found as more was left
 seen-by : (o : Origin) (n : ℕ) (unit card more_unit more_card : List ℕ → Type 0) → ((x : List ℕ) → unit x → more_unit x) → ((x : List ℕ) → card x → more_card x) → (c : Card) (u : ℕ) (v : Verdict) →
@@ -24,9 +27,14 @@ seen-by o n unit card more_unit more_card on_unit on_card c u (NotValid fid plac
 seen-by o n unit card more_unit more_card on_unit on_card c u (TimeOverlap stored now) h =
     (h.0, h.1, (h.2.0, ⊎_elim (λ first. inl first) (λ again. inr (again.0, again.1, again.2, (again.3.0, on_card again.3.0 again.3.1, again.3.2))) h.2.1))
 
-pub verdict-left : (o : Origin) (b : Beginning) (done : List TraceSecond) (n : ℕ) (unit card more_unit more_card : List ℕ → Type 0) → ((x : List ℕ) → unit x → more_unit x) → ((x : List ℕ) → card x → more_card x) → (c : Card) (u : ℕ) (v : Verdict) →
-    VerdictBy o b done n unit card c u v → VerdictBy o b done n more_unit more_card c u v
-verdict-left o b done n unit card more_unit more_card on_unit on_card c u v h = (seen-by o n unit card more_unit more_card on_unit on_card c u v h.0, h.1)
+brings-stay : (o : Origin) (b : Beginning) (done : List TraceSecond) (n : ℕ) (marks acknowledged : List Mark) → ((mark : Mark) → Contains marks mark → Contains acknowledged mark) → (c : Card) (u : ℕ) (v : Verdict) → BringsBy o b done n marks c u v → BringsBy o b done n acknowledged c u v
+brings-stay o b done n marks acknowledged stay c u (Accepted replayed) h = ⊎_elim (λ all. inl (all.0, marked-on marks acknowledged stay c (brought o.recording c).owed all.1)) (λ before. inr before) h
+brings-stay o b done n marks acknowledged stay c u (NotValid fid place) h = h
+brings-stay o b done n marks acknowledged stay c u (TimeOverlap stored now) h = h
+
+pub verdict-left : (o : Origin) (b : Beginning) (done : List TraceSecond) (n : ℕ) (marks acknowledged : List Mark) (unit card more_unit more_card : List ℕ → Type 0) → ((mark : Mark) → Contains marks mark → Contains acknowledged mark) → ((x : List ℕ) → unit x → more_unit x) → ((x : List ℕ) → card x → more_card x) →
+    (c : Card) (u : ℕ) (v : Verdict) → VerdictBy o b done n marks unit card c u v → VerdictBy o b done n acknowledged more_unit more_card c u v
+verdict-left o b done n marks acknowledged unit card more_unit more_card stay on_unit on_card c u v h = (seen-by o n unit card more_unit more_card on_unit on_card c u v h.0, brings-stay o b done n marks acknowledged stay c u v h.1)
 
 verdict-so : (o : Origin) (done : List TraceSecond) (log : RunLog) (unit card more_unit more_card : List ℕ → Type 0) → ((x : List ℕ) → unit x → more_unit x) → ((x : List ℕ) → card x → more_card x) → (c : Card) (u : ℕ) (v : Verdict) →
     IsVerdict (recording_by o done log) unit card c u v → IsVerdict (recording_by o done log) more_unit more_card c u v
@@ -36,9 +44,9 @@ verdict-so o done log unit card more_unit more_card on_unit on_card c u (NotVali
 verdict-so o done log unit card more_unit more_card on_unit on_card c u (TimeOverlap stored now) h =
     (h.0, h.1, (h.2.0, ⊎_elim (λ first. inl first) (λ again. inr (again.0, again.1, again.2, (again.3.0, on_card again.3.0 again.3.1, again.3.2))) h.2.1))
 
-pub seen-left : (o : Origin) (done : List TraceSecond) (log : RunLog) (unit card more_unit more_card : List ℕ → Type 0) → ((x : List ℕ) → unit x → more_unit x) → ((x : List ℕ) → card x → more_card x) → (c : Card) (u : ℕ) (v : Verdict) →
-    IsVerdict (recording_by o done log) unit card c u v × BringsAll (recording_by o done log) c u v → IsVerdict (recording_by o done log) more_unit more_card c u v × BringsAll (recording_by o done log) c u v
-seen-left o done log unit card more_unit more_card on_unit on_card c u v h = (verdict-so o done log unit card more_unit more_card on_unit on_card c u v h.0, h.1)
+pub seen-left : (o : Origin) (done : List TraceSecond) (log : RunLog) (marks : List Mark) (unit card more_unit more_card : List ℕ → Type 0) → ((x : List ℕ) → unit x → more_unit x) → ((x : List ℕ) → card x → more_card x) → (c : Card) (u : ℕ) (v : Verdict) →
+    IsVerdict (recording_by o done log) unit card c u v × BringsAll (recording_by o done log) marks c u v → IsVerdict (recording_by o done log) more_unit more_card c u v × BringsAll (recording_by o done log) marks c u v
+seen-left o done log marks unit card more_unit more_card on_unit on_card c u v h = (verdict-so o done log unit card more_unit more_card on_unit on_card c u v h.0, h.1)
 
 -- one minute more in the book
 pub kept-more : (new : List HistoryMinute) (i : HistoryMinute) (b : Book) → kept_all (new ++ i ∷ []) b ≡ kept i (kept_all new b)

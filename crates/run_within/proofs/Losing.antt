@@ -145,7 +145,7 @@ module _ (o : Origin) (done : List TraceSecond) (s : TraceSecond) (at : Phase) (
   same-found : (x : Visit) (verdict : Verdict) → Contains now.found (x, verdict) → Contains mid.found (x, verdict)
   same-found x verdict there = subst (λ (fs : List (Visit × Verdict)). Contains fs (x, verdict)) is.is.found there
 
-  finds : IsFoundSo o w.b done now s.number w.from w.new brought e
+  finds : IsFoundSo o w.b done now s.number w.from w.new marks brought e
   finds =
       let h = judged.finds o done s at waits fewer v d e w card f marks cabin brought j in
       record {

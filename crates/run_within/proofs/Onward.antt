@@ -77,14 +77,18 @@ module _ (o : Origin) (done : List TraceSecond) (s : TraceSecond) (at next : Pha
     same-found : (x : Visit) (verdict : Verdict) → Contains now.found (x, verdict) → Contains c.found (x, verdict)
     same-found x verdict there = subst (λ (fs : List (Visit × Verdict)). Contains fs (x, verdict)) k.found_same there
 
-    finds : IsFoundSo o w.b done now s.number w.from w.new w.brought e
+    -- what is acknowledged is so still
+    still : (mark : Mark) → Contains v.marks mark → Contains later.marks mark
+    still mark there = subst (λ (ms : List Mark). Contains ms mark) (sym k.marks_same) there
+
+    finds : IsFoundSo o w.b done now s.number w.from w.new later.marks w.brought e
     finds = record {
       may = λ x verdict there.
           let was = w.finds.may x verdict (same-found x verdict there) in (
             was.0,
             (let a = was.1 in let b = k.enter x.card in omega (arith, a, b)),
-            verdict-left o w.b done was.0 (d.unit.left_since o.found.unit.began) ((card_of d x.card).left_since (found_of o.found x.card).began) (e.unit.left_since o.found.unit.began) ((card_of e x.card).left_since (found_of o.found x.card).began)
-                k.goes.left.unit (k.goes.left.card x.card) x.card s.number verdict was.2,
+            verdict-left o w.b done was.0 v.marks later.marks (d.unit.left_since o.found.unit.began) ((card_of d x.card).left_since (found_of o.found x.card).began) (e.unit.left_since o.found.unit.began) ((card_of e x.card).left_since (found_of o.found x.card).began)
+                still k.goes.left.unit (k.goes.left.card x.card) x.card s.number verdict was.2,
           );
       taken = λ x verdict there accepts. w.finds.taken x verdict (same-found x verdict there) accepts;
       late = λ x verdict there accepts. w.finds.late x verdict (same-found x verdict there) accepts;
@@ -106,10 +110,10 @@ module _ (o : Origin) (done : List TraceSecond) (s : TraceSecond) (at next : Pha
         (w.spared x)
 
     marked : AreMarkedSoFar later.marks told0 now s.number w.new
-    marked = marks-stay v.marks later.marks told0 c now s.number w.new w.marked (λ mark there. subst (λ (ms : List Mark). Contains ms mark) (sym k.marks_same) there) k.out
+    marked = marks-stay v.marks later.marks told0 c now s.number w.new w.marked still k.out
 
     stay : (mark : Mark) → Contains w.b.marks mark → Contains later.marks mark
-    stay mark there = subst (λ (ms : List Mark). Contains ms mark) (sym k.marks_same) (w.stay mark there)
+    stay mark there = still mark (w.stay mark there)
 
     pub steps-on : Powers sp → GoesOn o done s next waits None rest later e w.b w.from
     steps-on p = record {

@@ -9,6 +9,7 @@ use Rattle.trace_model.specs.Trace.{TraceSecond}
 use Rattle.minute_model.specs.declared.Minute.{Minute}
 use Rattle.minute_model.specs.Second.{minute_of}
 use Rattle.minute_model.specs.Span.{Span, count_from, ungiven_of}
+use Rattle.log_model.specs.declared.lines.Mark.{Mark}
 use Rattle.log_model.specs.declared.lines.Verdict.{Verdict}
 use Rattle.log_model.specs.declared.lines.Verdict.TheVariants.{Accepted, NotValid, TimeOverlap}
 use Rattle.log_model.specs.Log.{RunLog, is_accepting}
@@ -53,18 +54,18 @@ seen-by o done log n unit card c u (TimeOverlap stored now) le h =
     (h.0, h.1, (h.2.0, ⊎_elim (λ first. inl first) (λ again. inr (again.0, (let lt = again.1 in omega (arith, lt, le)), again.2, again.3)) h.2.1))
 
 -- and so many were brought
-brings-by : (o : Origin) (b : Beginning) (done now : List TraceSecond) (log : RunLog) (n : ℕ) (c : Card) (u : ℕ) (v : Verdict) → n ≤ entered_by (recording_by o now log) c u →
-    ((t : ℕ) → entered_by (recording_by o done b.run.log) c t ≤ entered_by (recording_by o now log) c t) → BringsBy o b done n c u v → BringsAll (recording_by o now log) c u v
-brings-by o b done now log n c u (Accepted replayed) le grows h = ⊎_elim
+brings-by : (o : Origin) (b : Beginning) (done now : List TraceSecond) (log : RunLog) (n : ℕ) (marks : List Mark) (c : Card) (u : ℕ) (v : Verdict) → n ≤ entered_by (recording_by o now log) c u →
+    ((t : ℕ) → entered_by (recording_by o done b.run.log) c t ≤ entered_by (recording_by o now log) c t) → BringsBy o b done n marks c u v → BringsAll (recording_by o now log) marks c u v
+brings-by o b done now log n marks c u (Accepted replayed) le grows h = ⊎_elim
     (λ all. inl all)
     (λ before. inr (⊎_elim (λ twice. inl (omega (arith, twice, le))) (λ once. inr (once.0, once.1, (let some = once.2 in let more = grows once.0 in omega (arith, some, more)))) before))
     h
-brings-by o b done now log n c u (NotValid fid place) le grows h = h
-brings-by o b done now log n c u (TimeOverlap stored at) le grows h = h
+brings-by o b done now log n marks c u (NotValid fid place) le grows h = h
+brings-by o b done now log n marks c u (TimeOverlap stored at) le grows h = h
 
-pub verdict-by : (o : Origin) (b : Beginning) (done now : List TraceSecond) (log : RunLog) (n : ℕ) (unit card : List ℕ → Type 0) (c : Card) (u : ℕ) (v : Verdict) → n ≤ entered_by (recording_by o now log) c u →
-    ((t : ℕ) → entered_by (recording_by o done b.run.log) c t ≤ entered_by (recording_by o now log) c t) → VerdictBy o b done n unit card c u v → IsVerdict (recording_by o now log) unit card c u v × BringsAll (recording_by o now log) c u v
-verdict-by o b done now log n unit card c u v le grows h = (seen-by o now log n unit card c u v le h.0, brings-by o b done now log n c u v le grows h.1)
+pub verdict-by : (o : Origin) (b : Beginning) (done now : List TraceSecond) (log : RunLog) (n : ℕ) (marks : List Mark) (unit card : List ℕ → Type 0) (c : Card) (u : ℕ) (v : Verdict) → n ≤ entered_by (recording_by o now log) c u →
+    ((t : ℕ) → entered_by (recording_by o done b.run.log) c t ≤ entered_by (recording_by o now log) c t) → VerdictBy o b done n marks unit card c u v → IsVerdict (recording_by o now log) unit card c u v × BringsAll (recording_by o now log) marks c u v
+verdict-by o b done now log n marks unit card c u v le grows h = (seen-by o now log n unit card c u v le h.0, brings-by o b done now log n marks c u v le grows h.1)
 
 -- how often it entered by the end of the second
 visits-as : (c : Card) (vs : List Visit) → times_of c vs ≡ length (filter (λ (e : Visit). same_card c e.card) vs)

@@ -135,7 +135,7 @@ module _ (o : Origin) (done : List TraceSecond) (s : TraceSecond) (supply : Supp
     none-yet : (x : Visit) (verdict : Verdict) → Contains c.found (x, verdict) → ⊥
     none-yet x verdict at = let h = subst (λ (y : Course). Contains y.found (x, verdict)) course-is at in omega (arith, h.1)
 
-    pub finds : IsFoundSo o (before mid) done c s.number from [] r.brought e
+    pub finds : IsFoundSo o (before mid) done c s.number from [] v.marks r.brought e
     finds = record {
       may = λ x verdict at. absurd (none-yet x verdict at);
       taken = λ x verdict at. absurd (none-yet x verdict at);
@@ -160,8 +160,8 @@ module _ (o : Origin) (done : List TraceSecond) (s : TraceSecond) (supply : Supp
   nobody : (card : Card) → is_some (session_of v.cabin.cards card) ≡ true → ⊥
   nobody card some = let none : is_some (session_of v.cabin.cards card) ≡ false = ap is_some (off.bare card) in let clash : true ≡ false = sym some ∙ none in cc
 
-  verdicts : WasRead o k e → AreVerdicts o done run.log run.unfound e
-  verdicts read = idle-verdicts o done done v.log run.log v.unfound run.unfound d e [] v.next r.beside.verdicts goes.left (found-tells o done p r.recorded.followed k) tt
+  verdicts : WasRead o k e → AreVerdicts o done run.log run.unfound v.marks e
+  verdicts read = idle-verdicts o done done v.log run.log v.unfound run.unfound v.marks d e [] v.next r.beside.verdicts goes.left (found-tells o done p r.recorded.followed k) tt
       (kept-found (e.unit.left_since o.found.unit.began) k read v.unfound v.log.breaks (kept-later (d.unit.left_since o.found.unit.began) (e.unit.left_since o.found.unit.began) goes.left.unit v.unfound v.log.breaks r.beside.verdicts.kept))
 
 pub power-wakes : (d e : Devices) → PowerWakes d e

@@ -93,8 +93,8 @@ module _ (o : Origin) (done : List TraceSecond) (s : TraceSecond) (supply : Supp
   further : TellsMore was.told (went log (done ++ s ∷ [])).told (t ∷ []) v.next
   further = second-tells o done p f s log goes_by is-next
 
-  verdicts : AreVerdicts o (done ++ s ∷ []) log v.unfound e
-  verdicts = verdicts-on o done (done ++ s ∷ []) v.log log v.unfound v.unfound d e (t ∷ []) v.next r.beside.verdicts failed.goes.left further
+  verdicts : AreVerdicts o (done ++ s ∷ []) log v.unfound v.marks e
+  verdicts = verdicts-on o done (done ++ s ∷ []) v.log log v.unfound v.unfound v.marks v.marks d e (t ∷ []) v.next r.beside.verdicts failed.goes.left (λ mark among. among) further
       (λ x visit verdict among seen.
       let same : t ≡ x = ⊎_elim (λ nowhere. absurd (omega (arith, nowhere.1))) (λ here. here) (Contains-push_cases [] t x among) in
       let gone : Contains {X = Visit × Verdict} [] (visit, verdict) = subst (λ (fs : List (Visit × Verdict)). Contains fs (visit, verdict)) (ap (λ (y : Told). y.course.found) (sym same) ∙ none) seen in

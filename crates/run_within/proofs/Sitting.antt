@@ -85,10 +85,10 @@ pub seated-still : (f : Found) (old new : Card → Standing) (x : Card) (u : ℕ
 seated-still f old new x u same h = (h.0, (h.1.0, same ∙ h.1.1))
 
 -- and what was found so far may be found as more was left
-pub verdicts-later : (o : Origin) (done : List TraceSecond) (b : Beginning) (d e : Devices) → HaveLeftMore o d e → AreVerdicts o done b.run.log b.run.unfound d → AreVerdicts o done b.run.log b.run.unfound e
+pub verdicts-later : (o : Origin) (done : List TraceSecond) (b : Beginning) (d e : Devices) → HaveLeftMore o d e → AreVerdicts o done b.run.log b.run.unfound b.marks d → AreVerdicts o done b.run.log b.run.unfound b.marks e
 verdicts-later o done b d e left h = record {
   kept = kept-later (d.unit.left_since o.found.unit.began) (e.unit.left_since o.found.unit.began) left.unit b.run.unfound b.run.log.breaks h.kept;
   each = λ t x verdict among seen.
-      seen-left o done b.run.log (d.unit.left_since o.found.unit.began) ((card_of d x.card).left_since (found_of o.found x.card).began) (e.unit.left_since o.found.unit.began) ((card_of e x.card).left_since (found_of o.found x.card).began)
+      seen-left o done b.run.log b.marks (d.unit.left_since o.found.unit.began) ((card_of d x.card).left_since (found_of o.found x.card).began) (e.unit.left_since o.found.unit.began) ((card_of e x.card).left_since (found_of o.found x.card).began)
       left.unit (left.card x.card) x.card t.second.number verdict (h.each t x verdict among seen);
 }

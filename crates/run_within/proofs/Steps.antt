@@ -4,6 +4,7 @@ use Rattle.std.specs.Prelude.{option_to_list}
 use Rattle.trace_model.specs.declared.Card.{Card}
 use Rattle.trace_model.specs.Trace.{TraceSecond}
 use Rattle.minute_model.specs.declared.Minute.{Minute}
+use Rattle.log_model.specs.declared.lines.Mark.{Mark}
 use Rattle.log_model.specs.declared.lines.Verdict.{Verdict}
 use Rattle.log_model.specs.Log.{Phase, Keeping, is_accepting}
 use Rattle.log_model.specs.Course.{Told, Course, Visit, went}
@@ -28,23 +29,23 @@ use Rattle.run_within.specs.Within.{Beginning, told_before, course_in, IsFoundSo
 use Rattle.run_within.proofs.Left.{verdict-left, seen-left}
 use Rattle.run_within.proofs.Written.{spared-called}
 
-verdicts-left : (o : Origin) (done : List TraceSecond) (b : Beginning) (d e : Devices) → HaveLeftMore o d e → AreVerdicts o done b.run.log b.run.unfound d → AreVerdicts o done b.run.log b.run.unfound e
+verdicts-left : (o : Origin) (done : List TraceSecond) (b : Beginning) (d e : Devices) → HaveLeftMore o d e → AreVerdicts o done b.run.log b.run.unfound b.marks d → AreVerdicts o done b.run.log b.run.unfound b.marks e
 verdicts-left o done b d e left h = record {
   kept = kept-later (d.unit.left_since o.found.unit.began) (e.unit.left_since o.found.unit.began) left.unit b.run.unfound b.run.log.breaks h.kept;
   each = λ t x verdict among seen.
-      seen-left o done b.run.log (d.unit.left_since o.found.unit.began) ((card_of d x.card).left_since (found_of o.found x.card).began) (e.unit.left_since o.found.unit.began) ((card_of e x.card).left_since (found_of o.found x.card).began)
+      seen-left o done b.run.log b.marks (d.unit.left_since o.found.unit.began) ((card_of d x.card).left_since (found_of o.found x.card).began) (e.unit.left_since o.found.unit.began) ((card_of e x.card).left_since (found_of o.found x.card).began)
       left.unit (left.card x.card) x.card t.second.number verdict (h.each t x verdict among seen);
 }
 
-finds-left : (o : Origin) (b : Beginning) (done : List TraceSecond) (c : Course) (u from : ℕ) (new : List HistoryMinute) (brought : Card → List ℕ) (d e : Devices) → HaveLeftMore o d e →
-    IsFoundSo o b done c u from new brought d → IsFoundSo o b done c u from new brought e
-finds-left o b done c u from new brought d e left h = record {
+finds-left : (o : Origin) (b : Beginning) (done : List TraceSecond) (c : Course) (u from : ℕ) (new : List HistoryMinute) (marks : List Mark) (brought : Card → List ℕ) (d e : Devices) → HaveLeftMore o d e →
+    IsFoundSo o b done c u from new marks brought d → IsFoundSo o b done c u from new marks brought e
+finds-left o b done c u from new marks brought d e left h = record {
   may = λ x verdict at.
       let was = h.may x verdict at in (
         was.0,
         was.1,
-        verdict-left o b done was.0 (d.unit.left_since o.found.unit.began) ((card_of d x.card).left_since (found_of o.found x.card).began) (e.unit.left_since o.found.unit.began) ((card_of e x.card).left_since (found_of o.found x.card).began)
-            left.unit (left.card x.card) x.card u verdict was.2,
+        verdict-left o b done was.0 marks marks (d.unit.left_since o.found.unit.began) ((card_of d x.card).left_since (found_of o.found x.card).began) (e.unit.left_since o.found.unit.began) ((card_of e x.card).left_since (found_of o.found x.card).began)
+            (λ mark among. among) left.unit (left.card x.card) x.card u verdict was.2,
       );
   taken = h.taken;
   late = h.late;
@@ -84,7 +85,7 @@ call-recorded d e o done s at waits speed rest v w k = record {
     present = w.present;
     back = w.back;
     verdicts = verdicts-left o done w.b d e k.goes.left w.verdicts;
-    finds = finds-left o w.b done (course_in w.b done s at v.log) s.number w.from w.new w.brought d e k.goes.left w.finds;
+    finds = finds-left o w.b done (course_in w.b done s at v.log) s.number w.from w.new v.marks w.brought d e k.goes.left w.finds;
     there = k.goes.there w.there;
     few = w.few;
     spared = λ card. spared-called o w.b done (course_in w.b done s at v.log) waits s.number v.cabin.slots v.cabin.cards d e w.written k.goes.untouched card (w.spared card);
@@ -127,7 +128,7 @@ failure-recorded d e o done s at waits speed rest v w k = record {
   more = w.more;
   tells = w.tells;
   verdicts = verdicts-left o done w.b d e k.goes.left w.verdicts;
-  finds = finds-left o w.b done (course_in w.b done s at v.log) s.number w.from w.new w.brought d e k.goes.left w.finds;
+  finds = finds-left o w.b done (course_in w.b done s at v.log) s.number w.from w.new v.marks w.brought d e k.goes.left w.finds;
   there = k.goes.there w.there;
   few = w.few;
   spared = λ card. spared-called o w.b done (course_in w.b done s at v.log) waits s.number v.cabin.slots v.cabin.cards d e w.written k.goes.untouched card (w.spared card);

@@ -125,14 +125,14 @@ module _ (o : Origin) (done : List TraceSecond) (s : TraceSecond) (at : Phase) (
   same-found : (x : Visit) (verdict : Verdict) → Contains now.found (x, verdict) → Contains c.found (x, verdict)
   same-found x verdict there = subst (λ (fs : List (Visit × Verdict)). Contains fs (x, verdict)) is.is.found there
 
-  pub finds : IsFoundSo o w.b done now s.number w.from w.new w.brought e
+  pub finds : IsFoundSo o w.b done now s.number w.from w.new v.marks w.brought e
   finds = record {
     may = λ x verdict there.
         let was = w.finds.may x verdict (same-found x verdict there) in (
           was.0,
           subst (λ (vs : List Visit). was.0 ≤ often o w.b done (record c { entered = vs }) s.number x.card) (sym is.is.entered) was.1,
-          verdict-left o w.b done was.0 (d.unit.left_since o.found.unit.began) ((card_of d x.card).left_since (found_of o.found x.card).began) (e.unit.left_since o.found.unit.began) ((card_of e x.card).left_since (found_of o.found x.card).began)
-              j.left.unit (j.left.card x.card) x.card s.number verdict was.2,
+          verdict-left o w.b done was.0 v.marks v.marks (d.unit.left_since o.found.unit.began) ((card_of d x.card).left_since (found_of o.found x.card).began) (e.unit.left_since o.found.unit.began) ((card_of e x.card).left_since (found_of o.found x.card).began)
+              (λ mark among. among) j.left.unit (j.left.card x.card) x.card s.number verdict was.2,
         );
     taken = λ x verdict there accepts. w.finds.taken x verdict (same-found x verdict there) accepts;
     late = λ x verdict there accepts. w.finds.late x verdict (same-found x verdict there) accepts;

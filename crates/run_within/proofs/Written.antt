@@ -5,6 +5,7 @@ use Rattle.activity_codec.specs.declared.values.Slot.{Slot}
 use Rattle.trace_model.specs.declared.Card.{Card}
 use Rattle.trace_model.specs.declared.Card.TheVariants.{A, B}
 use Rattle.trace_model.specs.Trace.{TraceSecond}
+use Rattle.log_model.specs.declared.lines.Mark.{Mark}
 use Rattle.log_model.specs.declared.lines.Verdict.{Verdict}
 use Rattle.log_model.specs.declared.lines.Verdict.TheVariants.{Accepted, NotValid, TimeOverlap}
 use Rattle.log_model.specs.Log.{Phase, is_accepting}
@@ -177,8 +178,8 @@ written-fewer o b done c e at slot card waits fewer u kept after but found enter
     }
 
 -- who is accepted was valid, and told of no later time
-pub accepted-valid : (o : Origin) (b : Beginning) (done : List TraceSecond) (n : ℕ) (unit card : List ℕ → Type 0) (c : Card) (u : ℕ) (verdict : Verdict) → is_accepting verdict ≡ true → VerdictBy o b done n unit card c u verdict →
+pub accepted-valid : (o : Origin) (b : Beginning) (done : List TraceSecond) (n : ℕ) (marks : List Mark) (unit card : List ℕ → Type 0) (c : Card) (u : ℕ) (verdict : Verdict) → is_accepting verdict ≡ true → VerdictBy o b done n marks unit card c u verdict →
     IsOwnValid (card_image o.recording c) × ((own_view (card_image o.recording c)).stored ≤ u)
-accepted-valid o b done n unit card c u (Accepted replayed) is h = (h.0.0, h.0.1)
-accepted-valid o b done n unit card c u (NotValid fid place) is h = absurd (cc)
-accepted-valid o b done n unit card c u (TimeOverlap stored now) is h = absurd (cc)
+accepted-valid o b done n marks unit card c u (Accepted replayed) is h = (h.0.0, h.0.1)
+accepted-valid o b done n marks unit card c u (NotValid fid place) is h = absurd (cc)
+accepted-valid o b done n marks unit card c u (TimeOverlap stored now) is h = absurd (cc)

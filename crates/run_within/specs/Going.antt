@@ -80,7 +80,7 @@ pub record MayStart (o : Origin) (v : Values) (d : Devices) : Type 0 where
   pub found : AreFoundCards o.found v.cabin.cards
   pub there : AreThere o.found d
   pub untouched : (c : Card) → IsUntouched (found_of o.found c) (card_of d c)
-  pub travels : HasTravelled (odometer_at o.recording.unit) not_begun not_travelled d.unit
+  pub travels : HasTravelled (odometer_at o.recording.unit) not_begun (not_travelled o.recording.unit) d.unit
 
 abbrev pub ARunBegins : Devices → Type 0
 ARunBegins d = (o : Origin) (v : Values) → MayStart o v d → Recorded o [] Due v d

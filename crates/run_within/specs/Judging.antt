@@ -84,7 +84,7 @@ pub record IsJudged (o : Origin) (done : List TraceSecond) (s : TraceSecond) (at
   pub order : f.slot ≡ Driver → ((moved_at v.log (went w.b.run.log done).before s at).enters CoDriver ≡ false) ⊎ (found_in v.log s.number at CoDriver ≡ [])
   pub seats : IsSeatedBy (is_accepting f.verdict) o done s at waits v d w f.slot card cabin brought
   pub may : (n : ℕ) × (n ≤ often o w.b done (course_in w.b done s at v.log) s.number card)
-      × VerdictBy o w.b done n (e.unit.left_since o.found.unit.began) ((card_of e card).left_since (found_of o.found card).began) card s.number f.verdict
+      × VerdictBy o w.b done n marks (e.unit.left_since o.found.unit.began) ((card_of e card).left_since (found_of o.found card).began) card s.number f.verdict
   pub stay : (mark : Mark) → Contains v.marks mark → Contains marks mark
   pub found : AreFoundCards o.found cabin.cards
   pub more : (c : Card) (k : ℕ) → Contains (w.brought c) k → Contains (brought c) k

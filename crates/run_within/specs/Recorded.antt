@@ -142,7 +142,7 @@ pub record Recorded (o : Origin) (done : List TraceSecond) (supply : Supply) (v 
   pub standing : Card → Standing
   pub brought : Card → List ℕ
   pub recorded : HasRecorded o done (progress v supply book) travel v.marks (breakdowns_of d) brought
-  pub beside : IsBeside o done (progress v supply book) travel d
+  pub beside : IsBeside o done (progress v supply book) travel v.marks d
   pub there : AreThere o.found d
   pub few : AreFewFound (recording_by o done v.log)
   pub written : (card : Card) → IsUntouched (found_of o.found card) (card_of d card) ⊎ IsWritten o done v card

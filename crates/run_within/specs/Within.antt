@@ -35,7 +35,7 @@ use Rattle.unit_model.specs.Image.{odometer_at}
 use Rattle.unit_rule.specs.Odometer.{HasTravelled}
 use Rattle.joint_rule.specs.Views.{owed}
 use Rattle.card_image.specs.Own.{own_view, own_bad_file, IsOwnValid}
-use Rattle.safety_model.specs.Recording.{card_image, unit_seen, brought as brought_by}
+use Rattle.safety_model.specs.Recording.{card_image, unit_seen}
 use Rattle.safety_model.specs.Cards.{entered, overlaps, is_overlap}
 use Rattle.safety_model.specs.Safe.{Devices, card_of, breakdowns_of, entered_by}
 use Rattle.run_rule.specs.Found.{found_of}
@@ -53,7 +53,7 @@ use Rattle.run_moments.specs.Telling.{IsMore, begun_by, IsLeft}
 use Rattle.run_moments.specs.Kept.{HasDecided, BrokenSince, AreMarkedSoFar}
 use Rattle.run_told.specs.Told.{AreFoundCards, IsPowered, IsPowerless, AreEarly}
 use Rattle.run_recorded.specs.Origin.{Origin, rule_of, start_at, first_of, HasRecorded}
-use Rattle.run_recorded.specs.Ends.{recording_by, AreVerdicts, MayBeWritten}
+use Rattle.run_recorded.specs.Ends.{recording_by, IsAllOwed, AreVerdicts, MayBeWritten}
 use Rattle.run_recorded.specs.Beside.{HaveLeftMore, AreFewFound}
 use Rattle.run_present.specs.Presence.{PresentStand}
 use Rattle.slot_machine.specs.declared.seats.Present.{Present}
@@ -93,14 +93,13 @@ SeenBy o often unit card c u (TimeOverlap stored now) = IsOwnValid (card_image o
     ⊎ (((own_view (card_image o.recording c)).stored ≤ u) × (1 < often) × (stored ≡ 60 * suc (u / 60)) × ((x : List ℕ) × card x × ((own_view x).stored ≡ stored)))))
 
 -- and what an acceptance brings, by that number and the seconds before (the same as `BringsAll` of run_recorded).
-abbrev pub BringsBy : Origin → Beginning → List TraceSecond → (often : ℕ) → Card → ℕ → Verdict → Type 0
-BringsBy o b done often c u (Accepted replayed) =
-    (replayed ≡ length (brought_by o.recording c).owed) ⊎ ((1 < often) ⊎ ((t : ℕ) × (t < u) × (0 < entered_by (recording_by o done b.run.log) c t)))
-BringsBy o b done often c u (NotValid fid place) = Unit {0}
-BringsBy o b done often c u (TimeOverlap stored now) = Unit {0}
+abbrev pub BringsBy : Origin → Beginning → List TraceSecond → (often : ℕ) → List Mark → Card → ℕ → Verdict → Type 0
+BringsBy o b done often marks c u (Accepted replayed) = IsAllOwed o.recording marks c replayed ⊎ ((1 < often) ⊎ ((t : ℕ) × (t < u) × (0 < entered_by (recording_by o done b.run.log) c t)))
+BringsBy o b done often marks c u (NotValid fid place) = Unit {0}
+BringsBy o b done often marks c u (TimeOverlap stored now) = Unit {0}
 
-abbrev pub VerdictBy : Origin → Beginning → List TraceSecond → (often : ℕ) → (unit card : List ℕ → Type 0) → Card → ℕ → Verdict → Type 0
-VerdictBy o b done often unit card c u v = SeenBy o often unit card c u v × BringsBy o b done often c u v
+abbrev pub VerdictBy : Origin → Beginning → List TraceSecond → (often : ℕ) → List Mark → (unit card : List ℕ → Type 0) → Card → ℕ → Verdict → Type 0
+VerdictBy o b done often marks unit card c u v = SeenBy o often unit card c u v × BringsBy o b done often marks c u v
 
 -- how often a card entered in the minute of a second, by what has come of that so far
 abbrev pub often : Origin → Beginning → List TraceSecond → Course → ℕ → Card → ℕ
@@ -108,9 +107,9 @@ often o b done c u card = entered_by (recording_by o done b.run.log) card u + ti
 
 -- WHAT WAS FOUND of cards in this second so far may be found of them; each acceptance is taken at the unit's last-kept minute, and
 -- behind it no minute before this one is to be kept.
-pub record IsFoundSo (o : Origin) (b : Beginning) (done : List TraceSecond) (c : Course) (u from : ℕ) (new : List HistoryMinute) (brought : Card → List ℕ) (d : Devices) : Type 0 where
+pub record IsFoundSo (o : Origin) (b : Beginning) (done : List TraceSecond) (c : Course) (u from : ℕ) (new : List HistoryMinute) (marks : List Mark) (brought : Card → List ℕ) (d : Devices) : Type 0 where
   pub may : (e : Visit) (v : Verdict) → Contains c.found (e, v) → (n : ℕ) × (n ≤ often o b done c u e.card)
-      × VerdictBy o b done n (d.unit.left_since o.found.unit.began) ((card_of d e.card).left_since (found_of o.found e.card).began) e.card u v
+      × VerdictBy o b done n marks (d.unit.left_since o.found.unit.began) ((card_of d e.card).left_since (found_of o.found e.card).began) e.card u v
   pub taken : (e : Visit) (v : Verdict) → Contains c.found (e, v) → is_accepting v ≡ true → (k : ℕ) × Contains (brought e.card) k × IsTakenAt (first_of o) b.run.book (kept_all new b.run.book) new k
   pub late : (e : Visit) (v : Verdict) → Contains c.found (e, v) → is_accepting v ≡ true → u / 60 ≤ from
 
@@ -184,8 +183,8 @@ pub record Within (o : Origin) (done : List TraceSecond) (s : TraceSecond) (at :
   pub present : PresentStand o.found standing (told_before b done) (course_in b done s at v.log) s.number from v.cabin
   pub back : AreBackAt v.log (went b.run.log done).before s at from (from + length rest) v.cabin
   -- what was found of cards, which may be written, and the odometer
-  pub verdicts : AreVerdicts o done b.run.log b.run.unfound d
-  pub finds : IsFoundSo o b done (course_in b done s at v.log) s.number from new brought d
+  pub verdicts : AreVerdicts o done b.run.log b.run.unfound b.marks d
+  pub finds : IsFoundSo o b done (course_in b done s at v.log) s.number from new v.marks brought d
   pub there : AreThere o.found d
   pub few : AreFewFound (recording_by o done b.run.log)
   pub spared : (c : Card) → IsSparedSo o b done (course_in b done s at v.log) waits s.number v.cabin.slots d c
@@ -236,8 +235,8 @@ pub record CutWithin (o : Origin) (done : List TraceSecond) (s : TraceSecond) (a
   pub low : from ≤ s.number / 60
   pub more : (c : Card) (k : ℕ) → Contains (b.brought c) k → Contains (brought c) k
   pub tells : SlotsTell (start_at o) (told_before b done) (b.run.book.sure ++ new) (course_in b done s at v.log).left s.number from (course_in b done s at v.log).slots v.cabin.slots
-  pub verdicts : AreVerdicts o done b.run.log b.run.unfound d
-  pub finds : IsFoundSo o b done (course_in b done s at v.log) s.number from new brought d
+  pub verdicts : AreVerdicts o done b.run.log b.run.unfound b.marks d
+  pub finds : IsFoundSo o b done (course_in b done s at v.log) s.number from new v.marks brought d
   pub there : AreThere o.found d
   pub few : AreFewFound (recording_by o done b.run.log)
   pub spared : (c : Card) → IsSparedSo o b done (course_in b done s at v.log) waits s.number v.cabin.slots d c

@@ -1,8 +1,7 @@
 -- The log and the history of a trace without a card's line: it tells of no card, and the history is one, whatever the cards bring.
-use Rattle.std.proofs.Common.{◌≡◌, ◌∙◌, ◌⊎◌, inl, inr, ℕ, zero, suc, ◌+◌, ◌≤◌, Bool, true, false, Option, List, [], ◌∷◌, ◌++◌, Contains, filter, map, length, refl, ap, sym, subst, arith}
+use Rattle.std.proofs.Common.{◌≡◌, ◌∙◌, inl, ℕ, zero, suc, ◌+◌, true, false, List, [], ◌∷◌, ◌++◌, filter, map, length, refl, ap, sym, subst, arith}
 use Rattle.std.specs.Prelude.{flat_map, option_to_list}
 use Rattle.std.specs.List.{AllByRecursion}
-use Rattle.activity_codec.specs.declared.values.Slot.{Slot}
 use Rattle.activity_codec.specs.declared.values.Slot.TheVariants.{Driver, CoDriver}
 use Rattle.trace_model.specs.declared.Card.{Card}
 use Rattle.trace_model.specs.declared.Action.{Action}
@@ -19,9 +18,9 @@ use Rattle.log_model.specs.declared.lines.Break.TheVariants.{Cut, Tear as Torn}
 use Rattle.log_model.specs.declared.lines.Verdict.{Verdict}
 use Rattle.log_model.specs.Log.{RunLog, phase_of}
 use Rattle.log_model.specs.Slots.{same_card}
-use Rattle.log_model.specs.Course.{Told, Visit, went}
+use Rattle.log_model.specs.Course.{Told, went}
 use Rattle.log_model.specs.Spans.{spans_of}
-use Rattle.log_model.specs.Causes.{HasCauses, RoseBy, is_cut, cuts, tears, places, in_the_slot, torn_of, cards_torn, device_of}
+use Rattle.log_model.specs.Causes.{HasCauses, RoseBy, is_cut, cuts, tears, places, in_the_slot, torn_of, device_of}
 use Rattle.history_model.specs.Minutes.{HistoryMinute}
 use Rattle.history_model.specs.Presence.{Start}
 use Rattle.history_model.specs.History.{minutes_after, decided_of, span_minutes, limited_to, lost_minute, limit_of, history_by, lost_by, unit_history, with_lost}
@@ -30,7 +29,7 @@ use Rattle.unit_course.proofs.Alike.{minutes-plain}
 use Rattle.event_course.specs.Plain.{IsWithoutCards, OnlySelect}
 use Rattle.run_moments.proofs.Telling.{each-of}
 use Rattle.tacho.specs.Alone.{IsForUnit, NoVerdict}
-use Rattle.tacho.proofs.Cardless.{IsCardless, AreCardless, cardless, plain-told, none-found, none-torn-out, none-pulled, no-card-torn, nothing-found}
+use Rattle.tacho.proofs.Cardless.{IsCardless, AreCardless, cardless, none-found, none-torn-out, none-pulled, no-card-torn, nothing-found}
 use Rattle.tacho.proofs.Unbroken.{no-places, no-tears}
 
 -- ITS SECONDS have selections only

@@ -1,5 +1,5 @@
 -- What a run of a trace without a card's line notes: no insertion and no place, and events of nobody.
-use Rattle.std.proofs.Common.{◌≡◌, ◌∙◌, ◌⊎◌, ℕ, ◌+◌, ◌≤◌, Bool, true, false, cond, not, ◌&&◌, Option, Some, None, is_some, List, [], ◌∷◌, ◌++◌, filter, map, length, refl, ap, sym, subst, append-nil}
+use Rattle.std.proofs.Common.{◌≡◌, ◌∙◌, ℕ, ◌+◌, Bool, true, false, cond, not, ◌&&◌, Option, Some, None, is_some, List, [], ◌∷◌, ◌++◌, map, refl, ap, sym, subst, append-nil}
 use Rattle.std.specs.Prelude.{◌==◌, nat_eq, flat_map, option_to_list}
 use Rattle.std.specs.List.{AllByRecursion}
 use Rattle.trace_model.specs.declared.Card.{Card}
@@ -20,7 +20,7 @@ use Rattle.side_model.specs.Noted.{Note, accepted_at, noted_by, noted_in, notes_
 use Rattle.side_model.specs.Rings.{Stand, RingShows}
 use Rattle.side_model.specs.Tables.{held_in, held_of, number_or_none, HasRest, IsNotedAt, AreNoted}
 use Rattle.unit_course.specs.Turn.{IsSelection, empty_slots}
-use Rattle.event_course.specs.Plain.{nobody, driver_seconds, speed_seconds, bare_event, over_event, gap_event, bares_in, overs_in, gap_to, last_in, gap_between, gaps_in, plain_events, OnlySelect}
+use Rattle.event_course.specs.Plain.{nobody, driver_seconds, speed_seconds, bare_event, over_event, gap_event, bares_in, overs_in, last_in, gap_between, gaps_in, plain_events, OnlySelect}
 use Rattle.tacho.specs.Alone.{ShowsOld}
 use Rattle.tacho.proofs.Cardless.{second-cardless}
 use Rattle.tacho.proofs.AloneLog.{each-append}

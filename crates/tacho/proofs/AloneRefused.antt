@@ -1,16 +1,15 @@
 -- Why a run on the unit alone is refused: for no cause of a card.
-use Rattle.std.proofs.Common.{◌≡◌, ◌∙◌, ◌⊎◌, inl, inr, ⊎_elim, ℕ, ◌/◌, ◌≤◌, Bool, false, Option, Some, None, List, refl, ap, sym, subst}
+use Rattle.std.proofs.Common.{◌≡◌, inl, inr, ℕ, Bool, false, Option, Some, None, List, refl, sym, subst}
 use Rattle.std.specs.Prelude.{◌<◌, IfSome, Result, Ok, Err, IfErr}
-use Rattle.trace_model.specs.declared.Card.TheVariants.{A, B}
+use Rattle.trace_model.specs.declared.Card.TheVariants.{A}
 use Rattle.run_model.specs.declared.Device.TheVariants.{Unit as OfUnit, CardA, CardB}
-use Rattle.tach_media.specs.Medium.{State, IsCoherent, LeavesOnly, Unchanged, Rose, last_count}
+use Rattle.tach_media.specs.Medium.{State, IsCoherent, LeavesOnly, Unchanged, last_count}
 use Rattle.unit_model.specs.Image.{last_kept}
 use Rattle.unit_model.specs.Decoding.{Decodes, first_bad_place}
 use Rattle.run_rule.specs.Between.{devices}
 use Rattle.run_opening.specs.Units.{IsUnitRefused}
 use Rattle.run_opening.specs.declared.fault.RunFault.{RunFault}
 use Rattle.run_opening.specs.declared.fault.RunFault.TheVariants.{MediumFault, BadUnit, ClockBack, SameCard}
-use Rattle.recorder_with_cards.specs.Words.{IsFoundLater}
 use Rattle.run_outcome.specs.declared.outcome.Outcome.{Outcome}
 use Rattle.recorder_with_cards.specs.Words.{HaveTime}
 use Rattle.recorder_with_cards.specs.Ends.{BeginAs, IsKeptFrom}

@@ -1,5 +1,5 @@
 -- WHAT A RUN WITH CARDS PROMISES is what a run on the unit alone promises, where its trace has no card's line.
-use Rattle.std.proofs.Common.{◌≡◌, ◌∙◌, ◌⊎◌, ℕ, ◌+◌, ◌<◌, Bool, true, false, cond, List, [], ◌∷◌, length, refl, ap, sym, subst}
+use Rattle.std.proofs.Common.{◌≡◌, ◌∙◌, ℕ, cond, List, [], ◌∷◌, refl, ap, sym, subst}
 use Rattle.std.specs.Prelude.{nat_eq}
 use Rattle.trace_model.specs.declared.Card.{Card}
 use Rattle.trace_model.specs.declared.Item.{Item}
@@ -11,22 +11,22 @@ use Rattle.tach_media.specs.Medium.{State}
 use Rattle.log_model.specs.Log.{RunLog}
 use Rattle.log_model.specs.Course.{Told, Visit, went}
 use Rattle.log_model.specs.Spans.{spans_of}
-use Rattle.log_model.specs.Causes.{HasCauses, cuts, device_of}
+use Rattle.log_model.specs.Causes.{HasCauses, device_of}
 use Rattle.event_model.specs.declared.kinds.TheConstants.{OVER_SPEEDING}
 use Rattle.event_model.specs.Events.{Event, Tearing, events_of}
 use Rattle.history_model.specs.Minutes.{HistoryMinute}
 use Rattle.history_model.specs.Presence.{Start}
 use Rattle.message_model.specs.Records.{insertion_ring, unit_place_ring}
 use Rattle.unit_model.specs.declared.layout.TheConstants.{SPEED_LIMIT, FIRST_OVER, OVER_COUNT}
-use Rattle.unit_model.specs.Image.{recorded, number_of}
+use Rattle.unit_model.specs.Image.{recorded, last_kept, number_of}
 use Rattle.card_image.specs.Own.{own_number}
 use Rattle.safety_model.specs.Recording.{Recording, card_image, start_of}
 use Rattle.safety_model.specs.Recording.{history_of as history_in, lost_of as lost_in}
 use Rattle.safety_model.specs.Unit.{UnitSafe, HasEachDecided, IsFilled}
 use Rattle.safety_model.specs.Side.{first_begin as first_in}
-use Rattle.side_model.specs.Noted.{Note, insertions_of, places_of}
+use Rattle.side_model.specs.Noted.{insertions_of, places_of}
 use Rattle.side_model.specs.Tables.{table_in, AreNoted}
-use Rattle.event_course.specs.Plain.{IsWithoutCards, OnlySelect, plain_events}
+use Rattle.event_course.specs.Plain.{IsWithoutCards, OnlySelect}
 use Rattle.event_course.specs.Noted.{are_sure}
 use Rattle.event_course.specs.Shown.{first_begin, first_on, count_on, ShowsRun}
 use Rattle.event_course.proofs.Bridge.{events-plain}
@@ -34,6 +34,7 @@ use Rattle.run_rule.specs.Between.{devices}
 use Rattle.run_outcome.specs.declared.outcome.Outcome.{Outcome}
 use Rattle.recorder_with_cards.specs.Words.{log_of}
 use Rattle.recorder_with_cards.specs.Ends.{recording_of, EndsTrace}
+use Rattle.recorder_with_cards.specs.LastKept.{TellsLast}
 use Rattle.tacho.specs.Blank.{no_image}
 use Rattle.tacho.specs.Alone.{IsForUnit, NoVerdict, history_of, lost_of, IsAlone}
 use Rattle.tacho.proofs.Cardless.{AreCardless, cardless, plain-told}
@@ -108,11 +109,14 @@ module _ (x : List ℕ) (start : ℕ) (items : List Item) (out : Outcome) (U V A
           (subst (λ (ls : List (List HistoryMinute)). UnitSafe (recorded x) (history_in r) ls out.marks.items U.clock V) lost-same h.ends.safe.unit);
       issued = h.ends.safe.issued;
       odometer = h.ends.odometer;
+      days = h.ends.days;
       stored = λ y left. let s = h.side.shows y left in record { spans = s.spans; are_spans = s.are_spans; odometer = s.odometer };
       events = λ number sessions t y left. events-alone sessions t number y left;
       insertions = λ dense y left. shows-old insertion_ring _ _ _ x y (ap insertions_of (notes-nothing log ss selects)) ((h.side.shows y left).insertions dense) (h.dense.insertions dense y left);
       places = λ dense y left. shows-old unit_place_ring _ _ _ x y (ap places_of (notes-nothing log ss selects)) ((h.side.shows y left).places dense) (h.dense.places dense y left);
       kept = h.kept;
+      last = subst (λ (is : List HistoryMinute). TellsLast (recorded x) (last_kept x) is (lost_of cards out start items) out.marks.items U.clock V) history-same
+          (subst (λ (ls : List (List HistoryMinute)). TellsLast (recorded x) (last_kept x) (history_in r) ls out.marks.items U.clock V) lost-same h.last);
       complete = h.ends.caused.complete.unit;
       whole = λ none.
           let w = h.ends.whole (none, no-failed-tears _ _ _ ss log selects h.ends.caused.causes) in (

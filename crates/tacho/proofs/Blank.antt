@@ -1,13 +1,13 @@
 -- What stands for no card is no valid card, and no call fails on it that leaves it as it was.
-use Rattle.std.proofs.Common.{◌≡◌, ◌∙◌, ℕ, ◌+◌, ◌-◌, ◌≤◌, ◌<◌, Bool, true, false, Option, Some, None, List, All, length, replicate, take, drop, is_some, refl, ap, sym, arith, lit<, lit≤, inl}
-use Rattle.std.specs.Prelude.{if◌then◌else◌}
+use Rattle.std.proofs.Common.{◌≡◌, ◌∙◌, ℕ, ◌+◌, ◌-◌, ◌/◌, ◌≤◌, ◌<◌, Bool, true, false, Option, Some, None, List, All, replicate, take, is_some, refl, ap, sym, arith, lit<, lit≤, inl}
+use Rattle.std.proofs.Math.Nat.{le-max_left}
 use Rattle.std.proofs.lemmas.List.{drop-replicate, take-replicate}
 use Rattle.std.proofs.lemmas.List.Elements.{All-replicate}
 use Rattle.byte_fields.specs.Images.{bytes_at}
 use Rattle.card_layout.specs.declared.files.TheConstants.{LARGEST_IMAGE}
 use Rattle.card_layout.specs.Application.{first_bad_field, application_in}
 use Rattle.card_image.specs.Own.{IsOwnValid}
-use Rattle.tach_media.specs.Medium.{State, IsCoherent, Rose, last_count, LeavesOnly, Unchanged, Reads, HasCause, revivable}
+use Rattle.tach_media.specs.Medium.{State, IsCoherent, Rose, last_count, LeavesOnly, Unchanged, Reads, HasCause, revivable, most_writes}
 use Rattle.run_rule.specs.Opening.{BeginsAs}
 use Rattle.run_rule.specs.Between.{devices}
 use Rattle.recorder_with_cards.specs.Words.{HaveTime}
@@ -67,11 +67,14 @@ pub blank-broken : (old : Bool) → HasCause (blank_state old) (blank_state true
 blank-broken true = record { works = refl; broken = λ is. refl; faults = lit≤ tt; fault = λ is. lit≤ tt; breakdowns = lit≤ tt; breaks = λ works is. lit≤ tt; unbroken = λ no. absurd (cc); already = λ is. refl }
 blank-broken false = record { works = refl; broken = λ is. refl; faults = lit≤ tt; fault = λ is. lit≤ tt; breakdowns = lit≤ tt; breaks = λ works is. lit≤ tt; unbroken = λ no. absurd (cc); already = λ is. absurd (cc) }
 
-pub blank-revived : HasCause (revivable (blank_state true)) (blank_state true) true
-blank-revived = record { works = refl; broken = λ is. refl; faults = lit≤ tt; fault = λ is. lit≤ tt; breakdowns = lit≤ tt; breaks = λ works is. lit≤ tt; unbroken = λ no. absurd (cc); already = λ is. absurd (cc) }
-
-pub blank-works : HasCause (blank_state false) (blank_state false) false
+blank-works : HasCause (blank_state false) (blank_state false) false
 blank-works = record { works = refl; broken = λ is. absurd (cc); faults = lit≤ tt; fault = λ no. absurd (cc); breakdowns = lit≤ tt; breaks = λ works no. absurd (cc); unbroken = λ is. refl; already = λ is. refl }
+
+pub blank-revived : (broken failed : Bool) → broken ≡ failed → HasCause (revivable (blank_state broken)) (blank_state broken) failed
+blank-revived true true is = record { works = refl; broken = λ no. refl; faults = lit≤ tt; fault = λ same. lit≤ tt; breakdowns = lit≤ tt; breaks = λ works same. lit≤ tt; unbroken = λ no. absurd (cc); already = λ no. refl }
+blank-revived false false is = blank-works
+blank-revived true false is = absurd (cc)
+blank-revived false true is = absurd (cc)
 
 -- a read
 pub blank-reads : (broken failed : Bool) → broken ≡ failed → Reads (blank_state broken) (blank_state broken) failed
@@ -84,6 +87,10 @@ blank-reads false true is = absurd (cc)
 pub blank-writes : (old : Bool) (R : List ℕ → List ℕ → Type 0) → LeavesOnly (blank_state old) (blank_state true) R
 blank-writes true R = leaves-blank true true R (lit≤ tt)
 blank-writes false R = leaves-blank false true R (lit≤ tt)
+
+pub blank-few : (old : Bool) (len : ℕ) → (blank_state true).clock ≤ (blank_state old).clock + most_writes len
+blank-few true len = omega arith
+blank-few false len = let one : 1 ≤ most_writes len = le-max_left 1 ((len + 254) / 255) in omega (arith, one)
 
 pub blank-stays : (broken : Bool) (R : List ℕ → List ℕ → Type 0) → LeavesOnly (blank_state broken) (blank_state broken) R
 blank-stays true R = leaves-blank true true R (lit≤ tt)

@@ -1,11 +1,10 @@
 -- A trace without a card's line uses no card: in no second is one in a slot, and none enters, leaves, is pulled or torn out.
-use Rattle.std.proofs.Common.{◌≡◌, ◌∙◌, ℕ, zero, suc, ◌+◌, ◌<◌, ◌≤◌, Bool, true, false, cond, not, None, List, [], ◌∷◌, ◌++◌, Contains, fold, filter, map, length, refl, ap, sym, subst, arith, is_some}
+use Rattle.std.proofs.Common.{◌≡◌, ◌∙◌, ℕ, ◌+◌, Bool, true, false, cond, not, None, List, [], ◌∷◌, ◌++◌, Contains, fold, map, refl, ap, subst, arith, is_some}
 use Rattle.std.specs.Prelude.{flat_map}
-use Rattle.std.specs.List.{AllByRecursion, list_any}
+use Rattle.std.specs.List.{AllByRecursion}
 use Rattle.activity_codec.specs.declared.values.Slot.{Slot}
 use Rattle.activity_codec.specs.declared.values.Slot.TheVariants.{Driver, CoDriver}
 use Rattle.activity_codec.specs.declared.values.Pick.{Pick}
-use Rattle.trace_model.specs.declared.Card.{Card}
 use Rattle.trace_model.specs.declared.Action.{Action}
 use Rattle.trace_model.specs.declared.Action.TheVariants.{Select, Insert, Withdraw, Tear, Place}
 use Rattle.trace_model.specs.Trace.{TraceSecond}
@@ -14,8 +13,8 @@ use Rattle.log_model.specs.declared.lines.SlotFault.TheVariants.{NoPower}
 use Rattle.log_model.specs.declared.lines.Verdict.{Verdict}
 use Rattle.log_model.specs.Log.{RunLog, Phase, In, Keeping, cut_in, is_torn_in}
 use Rattle.log_model.specs.Slots.{Slots}
-use Rattle.log_model.specs.Course.{Course, Visit, Told, Went, Before, Moved, moved_by, unmoved, slot_told, both_told, begins, acted, all_acted, fresh, cut_told, lit_course, dark_course, has_power, second_told, before_next, went_on, went, not_begun}
-use Rattle.log_model.specs.Causes.{refusals_of, pulled_of, torn_of, cards_torn, finds_of, visit_places}
+use Rattle.log_model.specs.Course.{Course, Visit, Told, Went, Before, Moved, moved_by, unmoved, slot_told, both_told, begins, acted, all_acted, fresh, cut_told, lit_course, dark_course, has_power, second_told, went_on, went, not_begun}
+use Rattle.log_model.specs.Causes.{pulled_of, torn_of, cards_torn, finds_of, visit_places}
 use Rattle.unit_course.specs.Turn.{IsSelection, empty_slots, plain_course, ArePlain}
 use Rattle.event_course.specs.Plain.{OnlySelect}
 use Rattle.event_course.proofs.Bridge.{each-push}

@@ -12,12 +12,13 @@ use Rattle.safety_model.specs.Unit.{UnitSafe, issued_bytes}
 use Rattle.safety_model.specs.Cards.{CardSafe}
 use Rattle.safety_model.specs.Safe.{Devices, card_of, breakdowns_of, IsVerdict, WasFound}
 use Rattle.safety_model.specs.Side.{holder_of, notes_in, IsPrevious}
-use Rattle.unit_model.specs.Image.{recorded}
+use Rattle.unit_model.specs.Image.{recorded, last_kept}
 use Rattle.run_outcome.specs.declared.outcome.Outcome.{Outcome}
 use Rattle.recorder_with_cards.specs.Ends.{recording_of, EndsTrace}
 use Rattle.recorder_with_cards.specs.Still.{KeepsHolder}
 use Rattle.recorder_with_cards.specs.Sessions.{TellsFirst, HasComeBefore, TellsAtStart}
 use Rattle.recorder_with_cards.specs.KeptAfter.{TellsKept}
+use Rattle.recorder_with_cards.specs.LastKept.{TellsLast}
 use Rattle.recorder_with_cards.specs.CardEvents.{ShowsItsEvents}
 
 module _ (x a b : List ℕ) (start : ℕ) (items : List Item) (out : Outcome) (p q now : Devices) (unit : p.unit.clock ≡ q.unit.clock) (cards : (c : Card) → (card_of p c).clock ≡ (card_of q c).clock) (broken : (device : Device) → breakdowns_of p device ≡ breakdowns_of q device) where
@@ -46,6 +47,7 @@ module _ (x a b : List ℕ) (start : ℕ) (items : List Item) (out : Outcome) (p
       over_count = h.shows.over_count;
     };
     first = h.first;
+    exact = h.exact;
     insertions = λ dense. subst (λ (k : Card → ℕ). RingShows insertion_ring (is_sure_insertion r.log h.shows.spans (holder_of r)) (λ n e. IsInsertion r.log h.shows.spans (holder_of r)
         (λ c registration time. IsPrevious r (k c) (card_of now c) registration time × (TellsAtStart r c registration time ⊎ HasComeBefore (told_of r) r.trace c n.accepted.second)) n e) (insertions_of (notes_in r)) r.unit y)
         (λ i c. cards c i) (h.insertions dense);
@@ -70,12 +72,14 @@ module _ (x a b : List ℕ) (start : ℕ) (items : List Item) (out : Outcome) (p
       };
       brings = h.ends.brings;
       odometer = h.ends.odometer;
+      days = h.ends.days;
       whole = h.ends.whole;
     };
     side = record { shows = λ y left. (first-by y (h.sessions y left)).shows };
     written = h.written;
     stays = h.stays;
     kept = subst (λ (n : ℕ). TellsKept r n now.unit) unit h.kept;
+    last = subst (λ (n : ℕ). TellsLast (recorded r.unit) (last_kept r.unit) (history_of r) (lost_of r) out.marks.items n now.unit) unit h.last;
     dense = h.dense;
     holders = λ c. subst (λ (n : ℕ). KeepsHolder r c n (card_of now c)) (cards c) (h.holders c);
     places = h.places;

@@ -140,6 +140,7 @@ module _ (U V : State) (is : IsRead U V) where
         over_count = h.shows.over_count;
       };
       first = h.first;
+      exact = h.exact;
       insertions = λ dense. subst (λ (k : Card → State). RingShows insertion_ring (is_sure_insertion r.log h.shows.spans (holder_of r)) (λ n e. IsInsertion r.log h.shows.spans (holder_of r)
           (λ c registration time. IsPrevious r (card_of p c).clock (k c) registration time × (TellsAtStart r c registration time ⊎ HasComeBefore (told_of r) r.trace c n.accepted.second)) n e) (insertions_of (notes_in r)) r.unit y)
           (λ i c. same-card c i) (h.insertions dense);
@@ -178,6 +179,7 @@ module _ (U V : State) (is : IsRead U V) where
             };
             brings = h.ends.brings;
             odometer = λ y left. h.ends.odometer y (now-back y left);
+            days = λ y left. h.ends.days y (now-back y left);
             whole = λ nothing. let w = h.ends.whole nothing in
                 record { decided = w.decided; unit = λ y left. w.unit y (now-back y left); card = λ c u valid accepted y left. full-read c y (λ on. w.card c u valid accepted y on) left };
           };
@@ -193,9 +195,15 @@ module _ (U V : State) (is : IsRead U V) where
                 owed = s.owed;
                 only = s.only;
                 shows = λ c valid. subst (λ (x : State). ShowsStays s.vehicle (card_image r c) (s.stays c) x) (same-card c) (s.shows c valid);
-                ends = s.ends;
+                closed = s.closed;
+                timely = s.timely;
               };
           kept = more-found (U.left_since p.unit.clock) (V.left_since p.unit.clock) (λ y left. is.leaves.keeps p.unit.clock y before left) r.log (spans_of (told_of r)) h.kept;
+          last = record {
+            shown = λ y left. h.last.shown y (back p.unit.clock y before left);
+            began = h.last.began;
+            held = λ m at y left. h.last.held m at y (back m.clock y (h.ends.safe.unit.marked m at).clock left);
+          };
           dense = record { insertions = λ dense y left. h.dense.insertions dense y (now-back y left); places = λ dense y left. h.dense.places dense y (now-back y left) };
           holders = λ c valid y left. h.holders c valid y (told-back c y left);
           places = record { spans = h.places.spans; are_spans = h.places.are_spans; shows = λ c valid dense y left. h.places.shows c valid dense y (card-back c y left) };

@@ -24,6 +24,8 @@ use Rattle.safety_model.specs.Unit.{UnitSafe, HasEachDecided, IsFilled, issued_b
 use Rattle.side_model.specs.Odometer.{SpanFrom, AreSpansFrom, MayStore}
 use Rattle.unit_course.specs.Complete.{AreMarked}
 use Rattle.unit_rule.specs.Odometer.{OdometerSafe}
+use Rattle.unit_journal.specs.DayOdometers.{RecordsDay}
+use Rattle.run_recorded.specs.Days.{IsBegunIn}
 use Rattle.event_course.specs.Shown.{ShowsRun}
 use Rattle.run_opening.specs.declared.fault.RunFault.{RunFault}
 use Rattle.run_opening.specs.declared.fault.RunFault.TheVariants.{MediumFault, BadUnit, ClockBack, SameCard}
@@ -33,6 +35,7 @@ use Rattle.recorder_with_cards.specs.Words.{IsFoundLater}
 use Rattle.run_outcome.specs.declared.outcome.Outcome.{Outcome}
 use Rattle.recorder_with_cards.specs.Ends.{recording_of}
 use Rattle.recorder_with_cards.specs.KeptAfter.{TellsKept}
+use Rattle.recorder_with_cards.specs.LastKept.{TellsLast}
 use Rattle.tacho.specs.Blank.{no_image}
 
 -- ---- its trace
@@ -102,6 +105,8 @@ pub record IsAlone (cards : Start) (x : List ℕ) (start : ℕ) (items : List It
   -- the odometer of each image that a stop may leave is the start's and the whole kilometres of each span; and so it is stored
   pub odometer : (y : List ℕ) → unit.may_leave y → OdometerSafe Original (log_of o) (told_of o start items) (odometer_at x) y
   pub stored : (y : List ℕ) → unit.may_leave y → ShowsStored x start items o y
+  -- and so is that of each day that it records: as at the start, or that at the end of the first minute with which the run began the day
+  pub days : (y : List ℕ) → unit.may_leave y → (day odometer : ℕ) → RecordsDay y day odometer → RecordsDay x day odometer ⊎ IsBegunIn (recording_of x no_image no_image start items o) y day odometer
   -- of each type of event none of which was noted in a second in which a call on the unit failed, each image that a stop may leave
   -- holds those of the run; so it is with the first over speeding and their number
   pub events : (number : Card → List ℕ) (sessions : ℕ → Visit → ℕ) (t : Tearing) (y : List ℕ) → unit.may_leave y → ShowsRun number x (log_of o) (seconds_of start items) sessions t y
@@ -110,6 +115,8 @@ pub record IsAlone (cards : Start) (x : List ℕ) (start : ℕ) (items : List It
   pub places : IsDense unit_place_ring x → (y : List ℕ) → unit.may_leave y → ShowsOld unit_place_ring x y
   -- what was found kept after its cuts was so
   pub kept : TellsKept (recording_of x no_image no_image start items o) clock unit
+  -- the last-kept minute of each image that a stop might have left since the start is that of the last minute which it shows
+  pub last : TellsLast (recorded x) (last_kept x) (history_of cards o start items) (lost_of cards o start items) o.marks.items clock unit
   -- each decided minute is acknowledged, but where a call failed in the second that decided it
   pub complete : AreMarked Original (log_of o) (seconds_of start items) o.marks.items
   -- where no call on the unit failed, each decided minute stands in the history, and each image that a stop may leave has all of it

@@ -1,5 +1,5 @@
 //! What stands for a card where a trace has no line of one.
-ghost use Rattle.std.specs.Prelude.{◌≡◌, false};
+ghost use Rattle.std.specs.Prelude.{◌≡◌, false, is_err};
 ghost use Rattle.tacho.specs.Blank.{blank_state};
 
 use card_commands::SimCard;
@@ -10,6 +10,18 @@ use tach_media::{Failed, Medium};
 #[derive(Drop)]
 pub struct Blank {
     broken: bool,
+}
+
+impl Blank {
+    // The answer of a call that writes nothing.
+    fn answer(&self) -> Result<(), Failed>
+        ensures { is_err result ≡ self.now.broken }
+    {
+        if self.broken {
+            return Err(Failed);
+        }
+        Ok(())
+    }
 }
 
 impl Medium for Blank {
@@ -28,11 +40,8 @@ impl Medium for Blank {
     }
 
     fn read_at(&mut self, _place: u32, out: &mut [u8]) -> Result<(), Failed> {
-        if self.broken {
-            return Err(Failed);
-        }
         out.fill(0);
-        Ok(())
+        self.answer()
     }
 
     fn write_at(&mut self, _place: u32, _bytes: &[u8]) -> Result<(), Failed> {
@@ -41,10 +50,7 @@ impl Medium for Blank {
     }
 
     fn revive(&mut self) -> Result<(), Failed> {
-        if self.broken {
-            return Err(Failed);
-        }
-        Ok(())
+        self.answer()
     }
 }
 

@@ -5,7 +5,7 @@ use Rattle.std.specs.List.{AllByRecursion}
 use Rattle.std.proofs.lemmas.Bool.Decides.{nat_tests}
 use Rattle.std.proofs.lemmas.Option.{none-some}
 use Rattle.std.proofs.lemmas.List.Sums.{sum_by-cons, sum_by-append}
-use Rattle.std.proofs.lemmas.List.Elements.{All-nil, All-cons, All-head, All-tail, All-weaker, All-contains, All-filter, filter-append}
+use Rattle.std.proofs.lemmas.List.Elements.{All-nil, All-cons, All-head, All-tail, All-weaker, All-contains, All-filter, Contains-append_left, Contains-append_right, Contains-push_cases, filter-append}
 use Rattle.minute_model.specs.declared.Rule.{Rule}
 use Rattle.minute_model.specs.declared.Minute.{Minute}
 use Rattle.minute_model.specs.Activity.{last}
@@ -22,7 +22,7 @@ use Rattle.history_model.proofs.Deciding.{short-none}
 use Rattle.history_model.proofs.Filters.{filter-none, filter-whole}
 use Rattle.unit_course.specs.Keeping.{plain}
 use Rattle.unit_course.specs.Followed.{IsKnown}
-use Rattle.unit_course.specs.Legs.{Travel, travelled, all_travelled, kilometres_of, travelled_by, IsLeg, AreLegs, AreWhole, whole_legs}
+use Rattle.unit_course.specs.Legs.{Reckoned, Travel, reckoned, travelled, stranded_at, all_travelled, kilometres_of, travelled_by, IsLeg, AreLegs, AreWhole, whole_legs}
 use Rattle.unit_course.proofs.Alike.{Alike, decided-empty}
 
 -- WHAT WAS TRAVELLED up to the last of some minutes
@@ -33,15 +33,38 @@ travelled_by-push (e ∷ f ∷ ds) d = travelled_by-push (f ∷ ds) d
 
 pub travelled-all : (ds new : List Minute) (g : Travel) → g.sure ≡ travelled_by ds → (all_travelled new g).sure ≡ travelled_by (ds ++ new)
 travelled-all ds [] g is = is ∙ ap travelled_by (sym (append-nil ds))
-travelled-all ds (d ∷ new) g is = travelled-all (ds ++ d ∷ []) new (travelled d.travelled g) (sym (travelled_by-push ds d)) ∙ ap travelled_by (append_assoc ds (d ∷ []) new)
+travelled-all ds (d ∷ new) g is = travelled-all (ds ++ d ∷ []) new (travelled d.minute d.travelled g) (sym (travelled_by-push ds d)) ∙ ap travelled_by (append_assoc ds (d ∷ []) new)
 
 pub travelled-none : (new : List Minute) (g : Travel) → g.maybe ≡ None → (all_travelled new g).maybe ≡ None
 travelled-none [] g none = none
-travelled-none (d ∷ new) g none = travelled-none new (travelled d.travelled g) refl
+travelled-none (d ∷ new) g none = travelled-none new (travelled d.minute d.travelled g) refl
 
 pub travelled-earlier : (new : List Minute) (g : Travel) → (all_travelled new g).before ≡ g.before
 travelled-earlier [] g = refl
-travelled-earlier (d ∷ new) g = travelled-earlier new (travelled d.travelled g)
+travelled-earlier (d ∷ new) g = travelled-earlier new (travelled d.minute d.travelled g)
+
+pub travelled-image : (new : List Minute) (g : Travel) → (all_travelled new g).image ≡ g.image
+travelled-image [] g = refl
+travelled-image (d ∷ new) g = travelled-image new (travelled d.minute d.travelled g)
+
+pub stranded-image : (d : Option Minute) (g : Travel) → (stranded_at d g).image ≡ g.image
+stranded-image None g = refl
+stranded-image (Some d) g = refl
+
+-- MINUTES OF WHICH A KEEPING WAS BEGUN: those of before, and these, each with what was travelled up to it
+pub travelled-begun : (new : List Minute) (g : Travel) (e : Reckoned) → Contains (all_travelled new g).begun e → Contains g.begun e ⊎ ((d : Minute) × Contains new d × (e ≡ reckoned d.minute d.travelled g))
+travelled-begun [] g e at = inl at
+travelled-begun (d ∷ new) g e at = ⊎_elim
+    (λ old. ⊎_elim
+    (λ there. inl there)
+    (λ is. inr (d, Contains-append_left (d ∷ []) new d (0, omega arith, refl), sym is))
+    (Contains-push_cases g.begun (reckoned d.minute d.travelled g) e old))
+    (λ later. inr (later.0, Contains-append_right (d ∷ []) new later.0 later.1, later.2))
+    (travelled-begun new (travelled d.minute d.travelled g) e at)
+
+pub stranded-begun : (o : Option Minute) (g : Travel) (e : Reckoned) → Contains (stranded_at o g).begun e → Contains g.begun e ⊎ ((d : Minute) × (o ≡ Some d) × (e ≡ reckoned d.minute d.travelled g))
+stranded-begun None g e at = inl at
+stranded-begun (Some d) g e at = ⊎_elim (λ there. inl there) (λ is. inr (d, refl, sym is)) (Contains-push_cases g.begun (reckoned d.minute d.travelled g) e at)
 
 -- KILOMETRES
 -- nothing, of each of these spans

@@ -297,9 +297,9 @@ module _ (rule : Rule) (start : Start) (from first : ℕ) (done : List TraceSeco
       which false e = short-cut e
 
 -- THE STEPS
-pub begins_legs : (rule : Rule) (first from : ℕ) → HasLegs rule first [] (record { breaks = []; unfound = 0; next = from; begun = 0; supply = Due; book = not_begun; waiting = [] }) not_travelled
+pub begins_legs : (rule : Rule) (first from : ℕ) (image : List ℕ) → HasLegs rule first [] (record { breaks = []; unfound = 0; next = from; begun = 0; supply = Due; book = not_begun; waiting = [] }) (not_travelled image)
 unfolding went spans_of
-begins_legs rule first from = record {
+begins_legs rule first from image = record {
   ended = [];
   spans = refl;
   legs = inl (record {

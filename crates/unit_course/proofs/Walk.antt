@@ -81,14 +81,14 @@ module _ (start : Start) where
 
   -- WHAT WAS TRAVELLED in it: at the second power-on the odometer of the first minute is found
   abbrev travel : Travel
-  travel = stranded 6000 (travelled 3000 (resumed 0 not_travelled))
+  travel = stranded 21123361 6000 (travelled 21123360 3000 (resumed 0 (not_travelled [])))
 
-  lit_legs : HasLegs Original 21123000 [] (record { breaks = []; unfound = 0; next = 1267401600; begun = 0; supply = Lit []; book = found 21123000 not_begun; waiting = [] }) (resumed 0 not_travelled)
-  lit_legs = powered_legs Original start 1267401600 21123000 [] (record { breaks = []; unfound = 0; next = 1267401600; begun = 0; supply = Due; book = not_begun; waiting = [] }) begun not_travelled (begins_legs Original 21123000 1267401600) tt 21123000 0
+  lit_legs : HasLegs Original 21123000 [] (record { breaks = []; unfound = 0; next = 1267401600; begun = 0; supply = Lit []; book = found 21123000 not_begun; waiting = [] }) (resumed 0 (not_travelled []))
+  lit_legs = powered_legs Original start 1267401600 21123000 [] (record { breaks = []; unfound = 0; next = 1267401600; begun = 0; supply = Due; book = not_begun; waiting = [] }) begun (not_travelled []) (begins_legs Original 21123000 1267401600 []) tt 21123000 0
       (record { mark = inl refl; low = All-nil (λ (i : HistoryMinute). i.minute ≤ 21123000); side = inl refl; behind = λ i some at. absurd (let no : None ≡ Some i = some in cc) })
 
   lost_legs : HasLegs Original 21123000 (driven 240 1267401600 50 []) (record { breaks = Cut 1267401839 0 true 0 ∷ []; unfound = 0; next = 1267401840; begun = 0; supply = Lost; book = book; waiting = [] }) travel
-  lost_legs = broken_legs Original start 1267401600 21123000 [] (record { breaks = []; unfound = 0; next = 1267401600; begun = 0; supply = Lit []; book = found 21123000 not_begun; waiting = [] }) lit (resumed 0 not_travelled) lit_legs [] refl refl 239 50 [] tt (driving 0 ∷ driving 1 ∷ []) two_minutes (driving 0 ∷ []) (Some (driving 1)) [] refl true
+  lost_legs = broken_legs Original start 1267401600 21123000 [] (record { breaks = []; unfound = 0; next = 1267401600; begun = 0; supply = Lit []; book = found 21123000 not_begun; waiting = [] }) lit (resumed 0 (not_travelled [])) lit_legs [] refl refl 239 50 [] tt (driving 0 ∷ driving 1 ∷ []) two_minutes (driving 0 ∷ []) (Some (driving 1)) [] refl true
 
   failed_legs : HasLegs Original 21123000 (driven 240 1267401600 50 [] ++ driven 60 1267401840 50 []) (record { breaks = Cut 1267401839 0 true 0 ∷ Cut 1267401840 0 true 0 ∷ []; unfound = 0; next = 1267401900; begun = 0; supply = Lost; book = book; waiting = [] }) travel
   failed_legs = powers_not_legs Original start 1267401600 21123000 (driven 240 1267401600 50 []) (record { breaks = Cut 1267401839 0 true 0 ∷ []; unfound = 0; next = 1267401840; begun = 0; supply = Lost; book = book; waiting = [] }) cut travel lost_legs refl 59 50 [] 0 (omega arith) tt

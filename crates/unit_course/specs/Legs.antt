@@ -5,38 +5,51 @@ use Rattle.minute_model.specs.declared.Minute.{Minute}
 use Rattle.log_model.specs.Course.{Told}
 use Rattle.history_model.specs.History.{decided_of}
 
+-- a minute of which a keeping was begun, and what was travelled up to it: each time before power came last, and since
+pub record Reckoned : Type 0 where
+  pub minute : ℕ
+  pub before : List ℕ
+  pub leg : ℕ
+
 -- What was travelled, in km/h times seconds: each time before power came last, up to the minute of which the odometer was found
--- then; since, up to the last-kept minute; and up to the one of which the keeping was broken off.
+-- then; since, up to the last-kept minute; and up to the one of which the keeping was broken off. And what the unit had at the start,
+-- and up to which minutes it was reckoned since.
 pub record Travel : Type 0 where
+  pub image : List ℕ
+  pub begun : List Reckoned
   pub before : List ℕ
   pub sure : ℕ
   pub maybe : Option ℕ
 
--- at the start
-abbrev pub not_travelled : Travel
-not_travelled = record { before = []; sure = 0; maybe = None }
+-- at the start, with this image of the unit
+abbrev pub not_travelled : (image : List ℕ) → Travel
+not_travelled image = record { image = image; begun = []; before = []; sure = 0; maybe = None }
 
--- a minute is kept up to which this was travelled
-abbrev pub travelled : ℕ → Travel → Travel
-travelled t g = record g { sure = t; maybe = None }
+-- a minute up to which this was travelled
+abbrev pub reckoned : (minute leg : ℕ) → Travel → Reckoned
+reckoned m t g = record { minute = m; before = g.before; leg = t }
+
+-- it is kept
+abbrev pub travelled : (minute leg : ℕ) → Travel → Travel
+travelled m t g = record g { begun = g.begun ++ reckoned m t g ∷ []; sure = t; maybe = None }
 
 -- the keeping of such a minute was broken off
-abbrev pub stranded : ℕ → Travel → Travel
-stranded t g = record g { maybe = Some t }
+abbrev pub stranded : (minute leg : ℕ) → Travel → Travel
+stranded m t g = record g { begun = g.begun ++ reckoned m t g ∷ []; maybe = Some t }
 
 -- power is back, and the odometer of this is found
 abbrev pub resumed : ℕ → Travel → Travel
-resumed t g = record { before = g.before ++ t ∷ []; sure = 0; maybe = None }
+resumed t g = record g { before = g.before ++ t ∷ []; sure = 0; maybe = None }
 
 -- these minutes were kept, one after another
 abbrev pub all_travelled : List Minute → Travel → Travel
 all_travelled [] g = g
-all_travelled (d ∷ ds) g = all_travelled ds (travelled d.travelled g)
+all_travelled (d ∷ ds) g = all_travelled ds (travelled d.minute d.travelled g)
 
 -- the keeping of a minute was broken off, or none was begun
 abbrev pub stranded_at : Option Minute → Travel → Travel
 stranded_at None g = g
-stranded_at (Some d) g = stranded d.travelled g
+stranded_at (Some d) g = stranded d.minute d.travelled g
 
 -- the whole kilometres of these, each for itself
 abbrev pub kilometres_of : List ℕ → ℕ

@@ -9,6 +9,7 @@ pub mod Mending
 pub mod Beside
 pub mod Equal
 pub mod MendPlan
+pub mod DayOdometers
 pub mod Mended
 mod MendRows
 pub mod KeptBits

@@ -8,13 +8,15 @@ use Rattle.std.proofs.lemmas.List.{append-nil}
 use Rattle.tach_media.specs.Medium.{put, bytes_at, SameOutside}
 use Rattle.tach_media.proofs.Images.{part_before, put_same, outside_same, outside_then}
 use Rattle.gated_ring.specs.Ring.{number_at, pointer, entry_at}
-use Rattle.unit_model.specs.declared.layout.TheConstants.{DAYS, DAY_COUNT, DAY_SLOTS, DAY_SLOT_SIZE, IMAGE_SIZE, OWED, OWED_ROW_SIZE}
+use Rattle.unit_model.specs.declared.layout.TheConstants.{DAYS, DAY_COUNT, DAY_SLOTS, DAY_SLOT_SIZE, IMAGE_SIZE, LAST_KEPT, OWED, OWED_ROW_SIZE}
 use Rattle.unit_model.specs.Days.{StoredDay, word_minute, day_of, Each}
 use Rattle.unit_model.specs.Decoding.{Decodes, cell_place, cell_minute, is_last_good}
 use Rattle.unit_model.specs.Image.{day_ring, slot_place, last_kept, recorded, indices, unit_days, slot_date, slot_words, words_at}
 use Rattle.unit_model.specs.Writing.{free_place, with_count}
 use Rattle.unit_journal.specs.Image.{Notes, IsNotes, Agrees, IsStray, IsFoundDay, IsFound, IsFoundBy}
 use Rattle.unit_journal.specs.Beside.{SameJournal}
+use Rattle.unit_journal.specs.DayOdometers.{RecordsDay}
+use Rattle.unit_journal.proofs.DayOdometers.{records-same, records-kept, records-cut}
 use Rattle.unit_journal.proofs.MendPlan.{IsMendStep}
 use Rattle.unit_journal.specs.Mends.{SameButRowsAndSlots, SameButMinutes, IsGateShut, IsMendable, IsMending, IsMended, notes_mended, shut, mended}
 use Rattle.unit_model.specs.Cells.{minute_kept, cells_emptied}
@@ -27,7 +29,7 @@ use Rattle.unit_model.proofs.Checks.{IsGood, le_true, good_of, good_decodes}
 use Rattle.unit_model.proofs.StillDecodes.{rows_good, shut_good}
 use Rattle.unit_model.proofs.Finding.{eq_of, last_good_at}
 use Rattle.unit_model.proofs.Emptying.{IsEmptied, emptied}
-use Rattle.unit_journal.proofs.Beside.{beside, recorded_beside, days_beside, mendable_beside}
+use Rattle.unit_journal.proofs.Beside.{beside, last_beside, recorded_beside, days_beside, mendable_beside}
 use Rattle.unit_journal.proofs.Mending.{gate_outside, shut_pointer, shut_gate, other_there, shut_outside, shut_bytes, shut_kept, shut_odometer, shut_indices, shut_days, shut_unit_days, shut_recorded, shut_taken, other_entry, cut_outside, cut_gate, cut_still, cut_recorded, cut_days, cut_agrees, uncut_days, uncut_agrees}
 use Rattle.unit_journal.proofs.Shown.{found_agreed}
 
@@ -323,6 +325,7 @@ module _ (j : Notes) (ok : IsNotes j) (x : List ℕ) (sized : length x ≡ IMAGE
             (cases_lt m n);
         decodes = λ decodes. good_decodes (at n) (cells_good n le (good_of x decodes));
         minutes = recorded_beside x (at n) (cells_beside n le) (known_is mendable);
+        odometers = records-same x (at n) (days_beside x (at n) (cells_beside n le) (known_is mendable)) (last_beside x (at n) (cells_beside n le));
         mendable = mendable_beside x (at n) (cells_beside n le) j ok mendable;
       }
 
@@ -357,13 +360,21 @@ module _ (j : Notes) (ok : IsNotes j) (x : List ℕ) (sized : length x ≡ IMAGE
   decodes_then : (c : List ℕ) → (IsGood all → IsGood c) → Decodes x → Decodes c
   decodes_then c good decodes = good_decodes c (good (cells_good 32 (omega arith) (good_of x decodes)))
 
-  mending_then : (c : List ℕ) → SameOutside (slot_place 0) (DAYS.size - 4) all c → (IsGood all → IsGood c) → recorded c ≡ recorded all → IsMendable j c → IsMending j x c
-  mending_then c same good minutes again = record {
+  last_then : (c : List ℕ) → SameOutside (slot_place 0) (DAYS.size - 4) all c → last_kept c ≡ last_kept all
+  unfolding last_kept
+  last_then c same = number_before (slot_place 0) (DAYS.size - 4) LAST_KEPT.place LAST_KEPT.size all c same (omega arith)
+
+  last_all : last_kept all ≡ j.kept
+  last_all = last_beside x all (cells_beside 32 (omega arith)) ∙ kept_is mendable
+
+  mending_then : (c : List ℕ) → SameOutside (slot_place 0) (DAYS.size - 4) all c → (IsGood all → IsGood c) → recorded c ≡ recorded all → ((day odometer : ℕ) → RecordsDay c day odometer → RecordsDay all day odometer) → IsMendable j c → IsMending j x c
+  mending_then c same good minutes odometers again = record {
     decodes = decodes_then c good;
     outside = outside_then_days c same;
     rows = rows_then c same;
     cells = λ n below. inr (cells_done c same n below);
     minutes = minutes ∙ all_mending.minutes;
+    odometers = λ day odometer r. all_mending.odometers day odometer (odometers day odometer r);
     mendable = again;
   }
 
@@ -379,14 +390,16 @@ module _ (j : Notes) (ok : IsNotes j) (x : List ℕ) (sized : length x ≡ IMAGE
   again_by n (inr cut) gate found = inr (gate, inr (subst (λ (m : ℕ). IsFound j None m y) cut found))
 
   mending_shut : IsMending j x y
-  mending_shut = mending_then y shut_at.step.outside shut_at.step.good shut_at.step.minutes (again_by shut_at.stored shut_at.stored_is shut_at.gate shut_at.found)
+  mending_shut =
+      mending_then y shut_at.step.outside shut_at.step.good shut_at.step.minutes
+      (records-kept j.kept all y last_all (last_then y shut_at.step.outside ∙ last_all) shut_at.step.days) (again_by shut_at.stored shut_at.stored_is shut_at.gate shut_at.found)
 
   -- the count
   again_after : (z : List ℕ) → AreDaysMended j all z → IsMendable j z
   again_after z done = inr (done.gate, inr (found_agreed j ok z done.agrees))
 
   mending_after : (z : List ℕ) → AreDaysMended j all z → IsMending j x z
-  mending_after z done = mending_then z done.outside done.good done.minutes (again_after z done)
+  mending_after z done = mending_then z done.outside done.good done.minutes (records-cut j.kept all z (last_then z done.outside) done.days) (again_after z done)
 
   pub mend_moment : (c : List ℕ) → IsMendStep j x c → IsMending j x c
   mend_moment c (inl emptying) = subst (IsMending j x) (sym emptying.2) (mending_cells emptying.0 emptying.1)

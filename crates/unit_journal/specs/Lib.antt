@@ -9,3 +9,4 @@ pub mod Reading
 pub mod DaysWith
 pub mod Plans
 pub mod Beside
+pub mod DayOdometers

@@ -7,6 +7,7 @@ use Rattle.unit_model.specs.declared.layout.TheConstants.{DAY_COUNT, OWED, SPARE
 use Rattle.unit_model.specs.Decoding.{Decodes, cell_place, cell_minute, cell_word}
 use Rattle.unit_model.specs.Image.{slot_place, last_kept, unit_days, recorded}
 use Rattle.unit_journal.specs.Image.{Notes, IsFound, IsFoundBy}
+use Rattle.unit_journal.specs.DayOdometers.{RecordsDay}
 use Rattle.unit_model.specs.Writing.{with_count}
 use Rattle.unit_model.specs.Days.{days_kept}
 use Rattle.unit_model.specs.Cells.{row_head, minute_kept, cells_emptied}
@@ -32,12 +33,14 @@ IsGateShut (Some s) x = bytes_at x (slot_place s) 4 ≡ replicate 4 0
 abbrev pub IsMendable : Notes → List ℕ → Type 0
 IsMendable j x = IsFoundBy j x ⊎ (IsGateShut j.stray x × (IsFound j None j.stored x ⊎ IsFound j None j.count x))
 
--- a moment of a `mend`: no minute changes, each cell is as it was or mended, the image still decodes, and it may be mended again
+-- A moment of a `mend`: no minute changes and no recorded day's odometer, each cell is as it was or mended, the image still decodes, and it
+-- may be mended again.
 pub record IsMending (j : Notes) (x c : List ℕ) : Type 0 where
   pub outside : SameButRowsAndSlots x c
   pub rows : SameButMinutes x c
   pub cells : (n : ℕ) → n < 32 → (cell_minute c n ≡ cell_minute x n) ⊎ (cell_minute c n ≡ minute_kept (last_kept x) (cell_minute x n))
   pub minutes : recorded c ≡ recorded x
+  pub odometers : (day odometer : ℕ) → RecordsDay c day odometer → RecordsDay x day odometer
   pub decodes : Decodes x → Decodes c
   pub mendable : IsMendable j c
 

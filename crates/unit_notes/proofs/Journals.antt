@@ -1,8 +1,9 @@
 -- What a note leaves alone: what a journal reads, and that the image decodes.
-use Rattle.std.proofs.Common.{◌≡◌, ◌⊎◌, inl, inr, ⊎_elim, ℕ, ◌+◌, ◌-◌, ◌*◌, ◌/◌, ◌%◌, ◌<◌, ◌≤◌, Bool, true, false, cond, List, length, refl, sym, ◌∙◌, ap, subst, arith}
+use Rattle.std.proofs.Common.{◌≡◌, ◌⊎◌, inl, inr, ⊎_elim, ℕ, ◌+◌, ◌-◌, ◌*◌, ◌/◌, ◌%◌, ◌<◌, ◌≤◌, Bool, true, false, cond, List, length, drop, refl, sym, ◌∙◌, ap, subst, arith}
 use Rattle.std.specs.Prelude.{◌==◌, nat_lt}
 use Rattle.std.specs.Int.{to_be_bytes, w32}
 use Rattle.std.proofs.lemmas.Bool.{ltb-true, ltb-false}
+use Rattle.std.proofs.lemmas.List.{drop-drop}
 use Rattle.byte_fields.specs.Images.{SameOutside, bytes_at, big_number, number_at, put}
 use Rattle.byte_fields.proofs.Images.{part_before, part_after, part_in, put_outside}
 use Rattle.byte_fields.proofs.Spelled.{number_before, number_after, number_put, bytes_filled}
@@ -23,32 +24,48 @@ use Rattle.unit_notes.proofs.Types.{table_inside}
 
 -- ---- what a journal reads
 
-pub keeps : (a n : ℕ) (x c : List ℕ) → ((572 ≤ a) × (a + n ≤ 580)) ⊎ (2115044 ≤ a) → SameOutside a n x c → KeepsJournal x c
-keeps a n x c (inl mid) same = record { front = part_before a n 0 572 x c same (omega (arith, mid.0)); rest = part_after a n 580 2114464 x c same mid.1; same_length = same.same_length }
-keeps a n x c (inr high) same = record { front = part_before a n 0 572 x c same (omega (arith, high)); rest = part_before a n 580 2114464 x c same (omega (arith, high)); same_length = same.same_length }
+-- bytes behind some that are the same
+behind_same : (n m : ℕ) (x c : List ℕ) → n ≤ m → drop n c ≡ drop n x → drop m c ≡ drop m x
+behind_same n m x c le same =
+    let is : n + (m - n) ≡ m = omega (arith, le) in
+    subst (λ (k : ℕ). drop k c ≡ drop k x) is (sym (drop-drop (m - n) n c) ∙ ap (drop (m - n)) same ∙ drop-drop (m - n) n x)
+
+pub keeps : (a n : ℕ) (x c : List ℕ) → ((572 ≤ a) × (a + n ≤ 580)) ⊎ ((2115044 ≤ a) × (a + n ≤ 2393642)) → SameOutside a n x c → KeepsJournal x c
+keeps a n x c (inl mid) same = record {
+  front = part_before a n 0 572 x c same (omega (arith, mid.0));
+  rest = part_after a n 580 2114464 x c same mid.1;
+  behind = behind_same (a + n) 2393642 x c (let le = mid.1 in omega (arith, le)) same.after;
+  same_length = same.same_length;
+}
+keeps a n x c (inr high) same = record {
+  front = part_before a n 0 572 x c same (omega (arith, high.0));
+  rest = part_before a n 580 2114464 x c same (omega (arith, high.0));
+  behind = behind_same (a + n) 2393642 x c high.1 same.after;
+  same_length = same.same_length;
+}
 
 keeps_same : (x c : List ℕ) → c ≡ x → KeepsJournal x c
-keeps_same x c same = record { front = ap (λ (l : List ℕ). bytes_at l 0 572) same; rest = ap (λ (l : List ℕ). bytes_at l 580 2114464) same; same_length = ap length same }
+keeps_same x c same = record { front = ap (λ (l : List ℕ). bytes_at l 0 572) same; rest = ap (λ (l : List ℕ). bytes_at l 580 2114464) same; behind = ap (λ (l : List ℕ). drop 2393642 l) same; same_length = ap length same }
 
 keeps_then : (x y c : List ℕ) → KeepsJournal x y → KeepsJournal y c → KeepsJournal x c
-keeps_then x y c first next = record { front = next.front ∙ first.front; rest = next.rest ∙ first.rest; same_length = next.same_length ∙ first.same_length }
+keeps_then x y c first next = record { front = next.front ∙ first.front; rest = next.rest ∙ first.rest; behind = next.behind ∙ first.behind; same_length = next.same_length ∙ first.same_length }
 
 pub insertion_keeps : (head x c : List ℕ) → IsAdding insertion_ring head x c → KeepsJournal x c
-insertion_keeps head x c adding = keeps 2115044 264196 x c (inr (omega arith)) adding.outside
+insertion_keeps head x c adding = keeps 2115044 264196 x c (inr (omega arith, omega arith)) adding.outside
 
 pub place_keeps : (head x c : List ℕ) → IsAdding unit_place_ring head x c → KeepsJournal x c
-place_keeps head x c adding = keeps 2379240 7144 x c (inr (omega arith)) adding.outside
+place_keeps head x c adding = keeps 2379240 7144 x c (inr (omega arith, omega arith)) adding.outside
 
-entry_behind : (i : ℕ) → 2115044 ≤ place_of insertion_ring i
-entry_behind i = omega arith
+entry_behind : (i : ℕ) → i < 2048 → (2115044 ≤ place_of insertion_ring i) × (place_of insertion_ring i + 129 ≤ 2393642)
+entry_behind i below = (omega arith, omega (arith, below))
 
-pub withdrawal_keeps : (i : ℕ) (time : TimeReal) (odometer : Odometer) (x c : List ℕ) → IsWithdrawing i time odometer x c → KeepsJournal x c
-withdrawal_keeps i time odometer x c (inl same) = keeps_same x c same
-withdrawal_keeps i time odometer x c (inr (inl set)) = keeps (place_of insertion_ring i) 129 x c (inr (entry_behind i)) set.outside
-withdrawal_keeps i time odometer x c (inr (inr withdrawn)) = keeps (place_of insertion_ring i) 129 x c (inr (entry_behind i)) withdrawn.outside
+pub withdrawal_keeps : (i : ℕ) (time : TimeReal) (odometer : Odometer) (x c : List ℕ) → i < 2048 → IsWithdrawing i time odometer x c → KeepsJournal x c
+withdrawal_keeps i time odometer x c below (inl same) = keeps_same x c same
+withdrawal_keeps i time odometer x c below (inr (inl set)) = keeps (place_of insertion_ring i) 129 x c (inr (entry_behind i below)) set.outside
+withdrawal_keeps i time odometer x c below (inr (inr withdrawn)) = keeps (place_of insertion_ring i) 129 x c (inr (entry_behind i below)) withdrawn.outside
 
 pub table_keeps : (kind : ℕ) (x c : List ℕ) → SameOutside (table_of kind).base (size_of (table_of kind)) x c → KeepsJournal x c
-table_keeps kind x c same = keeps (table_of kind).base (size_of (table_of kind)) x c (inr (omega (arith, (table_inside kind).0))) same
+table_keeps kind x c same = keeps (table_of kind).base (size_of (table_of kind)) x c (inr (omega (arith, (table_inside kind).0), (table_inside kind).1)) same
 
 -- the two numbers
 first_outside : (begin : ℕ) (y : List ℕ) → 580 ≤ length y → SameOutside 572 4 y (with_first begin y)

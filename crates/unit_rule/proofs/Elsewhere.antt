@@ -1,18 +1,21 @@
 -- Writes elsewhere: in the owed rows, and of insertions, places and events.
-use Rattle.std.proofs.Common.{◌≡◌, inl, inr, ⊎_elim, ℕ, List, arith}
+use Rattle.std.proofs.Common.{◌≡◌, inl, inr, ⊎_elim, ℕ, ◌<◌, List, sym, subst, arith}
 use Rattle.tach_media.specs.Medium.{State, IsCoherent, LeavesOnly, SameOutside}
-use Rattle.tach_media.proofs.Images.{part_before}
+use Rattle.tach_media.proofs.Images.{part_before, part_after}
+use Rattle.unit_model.specs.declared.layout.TheConstants.{DAY_SLOTS}
 use Rattle.unit_model.specs.Decoding.{Decodes}
 use Rattle.unit_model.proofs.WholeDays.{decoded_of}
 use Rattle.unit_journal.specs.Beside.{SameJournal}
-use Rattle.unit_journal.proofs.Beside.{beside, last_beside, odometer_beside, recorded_beside}
+use Rattle.unit_journal.proofs.Beside.{beside, last_beside, odometer_beside, pointer_beside, days_beside, recorded_beside}
+use Rattle.unit_journal.proofs.DayOdometers.{records-same}
 use Rattle.log_model.specs.declared.lines.Mark.{Mark}
 use Rattle.history_model.specs.Book.{Book}
 use Rattle.safety_model.specs.Unit.{issued_bytes}
 use Rattle.unit_rule.specs.Rule.{Started}
 use Rattle.unit_rule.specs.Marks.{Holds}
 use Rattle.unit_course.specs.Legs.{Travel}
-use Rattle.unit_rule.specs.Odometer.{HasTravelled}
+use Rattle.unit_rule.specs.Odometer.{HasTravelled, IsBesideTravel}
+use Rattle.unit_rule.proofs.Moves.{behind-same, issued-parts}
 use Rattle.unit_rule.proofs.Found.{left-decodes}
 use Rattle.unit_rule.proofs.Marking.{holds-aside}
 use Rattle.unit_rule.proofs.Travelling.{travelled-aside}
@@ -23,7 +26,8 @@ rows-elsewhere x c same = beside 624 384 x c (inr (inl (omega arith, omega arith
 
 -- nor is it in what the unit was issued with
 pub rows-issued : (x c : List ℕ) → SameOutside 624 384 x c → issued_bytes c ≡ issued_bytes x
-rows-issued x c same = part_before 624 384 0 564 x c same (omega arith)
+rows-issued x c same =
+    issued-parts x c (part_before 624 384 0 564 x c same (omega arith)) (part_before 624 384 580 44 x c same (omega arith)) (part_after 624 384 1008 16 x c same (omega arith)) (behind-same 1008 2392634 x c same.after)
 
 -- the unit's rule and its marks
 pub holds-elsewhere : (s : Started) {U V : State} (due : ℕ) (b : Book) (marks : List Mark) → Holds s due b marks U → IsCoherent U → (R : List ℕ → List ℕ → Type 0) → LeavesOnly U V R →
@@ -44,6 +48,14 @@ holds-elsewhere s {U} {V} due b marks h before R run same = holds-aside s due b 
     let is = same x c both.1 in
     (recorded_beside x c is.0 (decoded_of x both.0).known, last_beside x c is.0, is.1, is.2))
 
--- and the odometer
+-- and what an image shows of the odometer
+pub beside-travel : (x c : List ℕ) → SameJournal x c → IsBesideTravel x c
+beside-travel x c same = record {
+  odometer_is = odometer_beside x c same;
+  last = last_beside x c same;
+  known = λ known. subst (λ (p : ℕ). p < DAY_SLOTS) (sym (pointer_beside x c same)) known;
+  days = λ known. records-same x c (days_beside x c same known) (last_beside x c same);
+}
+
 pub travelled-elsewhere : (start : ℕ) (b : Book) (g : Travel) {U V : State} → HasTravelled start b g U → IsCoherent U → (R : List ℕ → List ℕ → Type 0) → LeavesOnly U V R → ((x c : List ℕ) → R x c → SameJournal x c) → HasTravelled start b g V
-travelled-elsewhere start b g {U} {V} t before R run same = travelled-aside start b g t before R run (λ x c here. (odometer_beside x c (same x c here), last_beside x c (same x c here)))
+travelled-elsewhere start b g {U} {V} t before R run same = travelled-aside start b g t before R run (λ x c here. beside-travel x c (same x c here))

@@ -3,6 +3,7 @@ pub mod Marking
 pub mod Mending
 pub mod Found
 pub mod Travelling
+pub mod KeptDays
 pub mod Elsewhere
 pub mod Completing
 pub mod Safety

@@ -31,7 +31,7 @@ use Rattle.safety_model.specs.Unit.{marks_of, is_of, Increase, issued_bytes}
 use Rattle.unit_rule.specs.Rule.{Started, started, seen_unit, IsRuled}
 use Rattle.unit_rule.specs.Marks.{IsHeld, Holds}
 use Rattle.joint_steps.proofs.Keeping.{keeping_view, kept_view}
-use Rattle.unit_rule.proofs.Moves.{shown-last, shown-days, issued-front}
+use Rattle.unit_rule.proofs.Moves.{shown-last, shown-days, issued-besides}
 
 -- the rule does not ask whether the unit works
 abbrev working : Seen UnitView → Seen UnitView
@@ -174,7 +174,7 @@ module _ (s : Started) {U V : State} (due : ℕ) (b : Book) (marks : List Mark) 
           })).holds in
           record { later = rule.later; order = rule.order; now = rule.now; since = rule.since };
       decodes = decodes-on (journal.IsKeeping (seen_by_unit i) odometer) run (λ x c here. here.decodes);
-      issued = issued-on (journal.IsKeeping (seen_by_unit i) odometer) run (λ x c here. issued-front 564 (omega arith) x c here.outside.before);
+      issued = issued-on (journal.IsKeeping (seen_by_unit i) odometer) run (λ x c here. issued-besides x c here.outside);
       marks_hold = subst (All (IsHeld s (kept i b) V)) (sym (marks-more marks m device))
           (All-append (IsHeld s (kept i b) V) (marks_of Recorder marks) (m ∷ [])
           (held-all (IsKeeping KeepsMinute GivesUpDay i) (kept i b) keeps keeps-up (λ j at. Contains-append_left b.sure (i ∷ []) j at))
@@ -203,7 +203,7 @@ module _ (s : Started) {U V : State} (due : ℕ) (b : Book) (marks : List Mark) 
           let rule = keep-unit_dark (FillsDays s.days) s.first KeepsMinute GivesUpDay (days-go-on s.days) s.began due b i (ruled number_a number_b) late (lit number_a number_b) in
           record { later = rule.later; order = rule.order; now = rule.now; since = rule.since };
       decodes = decodes-on (journal.IsKeeping (seen_by_unit i) odometer) run (λ x c here. here.decodes);
-      issued = issued-on (journal.IsKeeping (seen_by_unit i) odometer) run (λ x c here. issued-front 564 (omega arith) x c here.outside.before);
+      issued = issued-on (journal.IsKeeping (seen_by_unit i) odometer) run (λ x c here. issued-besides x c here.outside);
       marks_hold = held-all (IsKeeping KeepsMinute GivesUpDay i) (broken i b) keeps keeps-up (λ j at. at);
       marks_rise = h.marks_rise;
       marks_until = until-more;

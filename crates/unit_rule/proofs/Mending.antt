@@ -1,14 +1,16 @@
 -- A mend at power-on is a step beside the minutes.
-use Rattle.std.proofs.Common.{◌≡◌, ℕ, ◌+◌, ◌≤◌, List, take, drop, ap, sym, ◌∙◌, arith}
+use Rattle.std.proofs.Common.{◌≡◌, inl, inr, ℕ, ◌+◌, ◌<◌, ◌≤◌, List, take, drop, ap, sym, ◌∙◌, arith}
 use Rattle.std.proofs.lemmas.List.{take-take, drop-take}
-use Rattle.gated_ring.specs.Ring.{number_at}
-use Rattle.unit_model.specs.Image.{last_kept, odometer_at, recorded}
+use Rattle.gated_ring.specs.Ring.{number_at, pointer}
+use Rattle.unit_model.specs.declared.layout.TheConstants.{DAY_SLOTS}
+use Rattle.unit_model.specs.Image.{day_ring, last_kept, odometer_at, recorded}
 use Rattle.unit_model.specs.Decoding.{Decodes}
 use Rattle.unit_model.proofs.Numbers.{number_same}
 use Rattle.unit_journal.specs.declared.notes.Notes.{Notes}
-use Rattle.unit_journal.specs.Mends.{IsMending}
+use Rattle.unit_journal.specs.Mends.{SameButRowsAndSlots, IsMendable, IsMending}
 use Rattle.safety_model.specs.Unit.{issued_bytes}
-use Rattle.unit_rule.proofs.Moves.{issued-front}
+use Rattle.unit_rule.specs.Odometer.{IsBesideTravel}
+use Rattle.unit_rule.proofs.Moves.{front-same, part-same, behind-same, issued-parts}
 
 -- a number among the first 624 bytes, as the last-kept minute and the odometer are
 number-kept : (p : ℕ) → p + 4 ≤ 624 → (x c : List ℕ) → take 624 c ≡ take 624 x → number_at c p 4 ≡ number_at x p 4
@@ -25,9 +27,25 @@ odometer-kept : (x c : List ℕ) → take 624 c ≡ take 624 x → odometer_at c
 unfolding odometer_at
 odometer-kept x c before = number-kept 568 (omega arith) x c before
 
+issued-kept : (x c : List ℕ) → SameButRowsAndSlots x c → issued_bytes c ≡ issued_bytes x
+issued-kept x c same =
+    issued-parts x c (front-same 0 564 624 (omega arith) x c same.before) (front-same 580 44 624 (omega arith) x c same.before) (part-same 1008 20 0 16 (omega arith) x c same.between) (behind-same 2115044 278598 x c same.after)
+
 pub mending-aside : (j : Notes) (x c : List ℕ) → IsMending j x c → (recorded c ≡ recorded x) × (last_kept c ≡ last_kept x) × (issued_bytes c ≡ issued_bytes x) × (Decodes x → Decodes c)
-mending-aside j x c is = (is.minutes, mark-kept x c is.outside.before, issued-front 624 (omega arith) x c is.outside.before, is.decodes)
+mending-aside j x c is = (is.minutes, mark-kept x c is.outside.before, issued-kept x c is.outside, is.decodes)
 
 -- and beside the odometer
 pub mending-odometer : (j : Notes) (x c : List ℕ) → IsMending j x c → (odometer_at c ≡ odometer_at x) × (last_kept c ≡ last_kept x)
 mending-odometer j x c is = (odometer-kept x c is.outside.before, mark-kept x c is.outside.before)
+
+-- the pointer of the days is an index
+mending-known : (j : Notes) (c : List ℕ) → IsMendable j c → pointer day_ring c < DAY_SLOTS
+mending-known j c (inl found) = found.pointer
+mending-known j c (inr (gate, inl found)) = found.pointer
+mending-known j c (inr (gate, inr found)) = found.pointer
+
+-- and beside the days with their odometers
+pub mending-travel : (j : Notes) (x c : List ℕ) → IsMending j x c → IsBesideTravel x c
+mending-travel j x c is =
+    let same = mending-odometer j x c is in
+    record { odometer_is = same.0; last = same.1; known = λ known. mending-known j c is.mendable; days = λ known. is.odometers }

@@ -1,8 +1,11 @@
 -- What a call of the unit leaves at its end, and what an image of it shows, and was issued with.
-use Rattle.std.proofs.Common.{◌≡◌, ℕ, ◌+◌, ◌≤◌, true, Option, Some, None, List, IfSome, is_some, take, drop, refl, ap, sym, subst, ◌∙◌, arith}
-use Rattle.std.proofs.lemmas.List.{take-take, drop-take}
-use Rattle.tach_media.specs.Medium.{State, IsCoherent, LeavesOnly}
+use Rattle.std.proofs.Common.{◌≡◌, ◌⊎◌, inl, inr, ℕ, ◌+◌, ◌≤◌, true, Option, Some, None, List, ◌++◌, IfSome, is_some, take, drop, refl, ap, sym, subst, ◌∙◌, arith}
+use Rattle.std.proofs.lemmas.List.{take-take, drop-take, drop-drop}
+use Rattle.tach_media.specs.Medium.{State, IsCoherent, LeavesOnly, bytes_at}
+use Rattle.unit_model.specs.declared.layout.TheConstants.{LAST_KEPT, SPARE_COUNTS, SPARE_ROWS, SPARE_FAULTS}
 use Rattle.unit_model.specs.Image.{last_kept, recorded}
+use Rattle.unit_model.proofs.Numbers.{part_in}
+use Rattle.unit_journal.specs.Keeping.{SameBesides}
 use Rattle.joint_rule.specs.Views.{unit_view}
 use Rattle.safety_model.specs.Unit.{issued_bytes}
 
@@ -25,6 +28,45 @@ pub shown-days : (number_a number_b x : List ℕ) → (unit_view number_a number
 unfolding unit_view
 shown-days number_a number_b x = refl
 
--- images with the same first bytes, up to the last-kept minute or further, were issued with the same
-pub issued-front : (n : ℕ) → 0 + 564 ≤ n → (x c : List ℕ) → take n c ≡ take n x → issued_bytes c ≡ issued_bytes x
-issued-front n le x c same = sym (drop-take 0 564 c) ∙ ap (λ (l : List ℕ). drop 0 l) (sym (take-take (0 + 564) n c le) ∙ ap (λ (l : List ℕ). take (0 + 564) l) same ∙ take-take (0 + 564) n x le) ∙ drop-take 0 564 x
+-- parts of images with the same first bytes, with the same part around them, and with the same bytes behind a place
+pub front-same : (p n k : ℕ) → p + n ≤ k → (x c : List ℕ) → take k c ≡ take k x → bytes_at c p n ≡ bytes_at x p n
+front-same p n k le x c same =
+    sym (drop-take p n c) ∙ ap (λ (l : List ℕ). drop p l) (sym (take-take (p + n) k c le) ∙ ap (λ (l : List ℕ). take (p + n) l) same ∙ take-take (p + n) k x le) ∙ drop-take p n x
+
+pub part-same : (p w q n : ℕ) → q + n ≤ w → (x c : List ℕ) → bytes_at c p w ≡ bytes_at x p w → bytes_at c (p + q) n ≡ bytes_at x (p + q) n
+part-same p w q n le x c same = sym (part_in c p w q n le) ∙ ap (λ (l : List ℕ). bytes_at l q n) same ∙ part_in x p w q n le
+
+pub behind-same : (p q : ℕ) (x c : List ℕ) → drop p c ≡ drop p x → drop (p + q) c ≡ drop (p + q) x
+behind-same p q x c same = sym (drop-drop q p c) ∙ ap (λ (l : List ℕ). drop q l) same ∙ drop-drop q p x
+
+-- images with these parts were issued with the same
+pub issued-parts : (x c : List ℕ) → bytes_at c 0 LAST_KEPT.place ≡ bytes_at x 0 LAST_KEPT.place → bytes_at c SPARE_COUNTS.place SPARE_COUNTS.size ≡ bytes_at x SPARE_COUNTS.place SPARE_COUNTS.size →
+    bytes_at c SPARE_ROWS.place SPARE_ROWS.size ≡ bytes_at x SPARE_ROWS.place SPARE_ROWS.size → drop SPARE_FAULTS.place c ≡ drop SPARE_FAULTS.place x → issued_bytes c ≡ issued_bytes x
+issued-parts x c front counts rows behind = λ t. front t ++ (counts t ++ (rows t ++ behind t))
+
+-- so they are where a minute is kept
+pub issued-besides : (x c : List ℕ) → SameBesides x c → issued_bytes c ≡ issued_bytes x
+issued-besides x c same =
+    issued-parts x c (front-same 0 564 564 (omega arith) x c same.before) (part-same 572 452 8 44 (omega arith) x c same.between) (part-same 572 452 436 16 (omega arith) x c same.between) (behind-same 2115044 278598 x c same.after)
+
+-- what two clauses say of the images that a run leaves holds together: the image before is one
+pub both-leave : {old new : State} {R S : List ℕ → List ℕ → Type 0} → LeavesOnly old new R → LeavesOnly old new S → LeavesOnly old new (λ x c. R x c × S x c)
+both-leave {old} {new} {R} {S} one other = record {
+  size = one.size;
+  behind = one.behind;
+  writable = one.writable;
+  layers = one.layers;
+  tells = one.tells;
+  later = one.later;
+  since = λ t c le left. joined (old.left_since t c) c (one.since t c le left) (other.since t c le left);
+  now = λ c left. joined (old.may_leave c) c (one.now c left) (other.now c left);
+  keeps = one.keeps;
+}
+  where
+    joined : (P : Type 0) (c : List ℕ) → P ⊎ ((x : List ℕ) × (old.image ≡ Some x) × R x c) → P ⊎ ((x : List ℕ) × (old.image ≡ Some x) × S x c) → P ⊎ ((x : List ℕ) × (old.image ≡ Some x) × (R x c × S x c))
+    joined P c (inl was) second = inl was
+    joined P c (inr here) (inl was) = inl was
+    joined P c (inr here) (inr there) =
+        let both : Some there.0 ≡ Some here.0 = sym there.1 ∙ here.1 in
+        let same : there.0 ≡ here.0 = cc in
+        inr (here.0, here.1, (here.2, subst (λ (x : List ℕ). S x c) same there.2))

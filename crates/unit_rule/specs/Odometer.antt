@@ -1,16 +1,20 @@
--- The odometer of a run: the start's and what was travelled since (profile).
-use Rattle.std.specs.Prelude.{◌≡◌, ◌⊎◌, ℕ, ◌+◌, ◌/◌, ◌≤◌, min, Some, None, List, [], ◌∷◌, ◌++◌, fold}
+-- The odometer of a run, and those of its days: the start's and what was travelled since (profile).
+use Rattle.std.specs.Prelude.{◌≡◌, ◌⊎◌, ℕ, ◌+◌, ◌/◌, ◌<◌, ◌≤◌, min, Some, None, List, [], ◌∷◌, ◌++◌, All, Contains, fold}
 use Rattle.tach_media.specs.Medium.{State}
-use Rattle.unit_model.specs.declared.layout.TheConstants.{HIGHEST_ODOMETER}
-use Rattle.unit_model.specs.Image.{last_kept, odometer_at}
+use Rattle.gated_ring.specs.Ring.{pointer}
+use Rattle.unit_model.specs.declared.layout.TheConstants.{DAY_SLOTS, HIGHEST_ODOMETER}
+use Rattle.unit_model.specs.Days.{UnitMinute}
+use Rattle.unit_model.specs.Image.{day_ring, last_kept, odometer_at}
+use Rattle.unit_journal.specs.DayOdometers.{HasSlot, RecordsDay}
+use Rattle.unit_journal.specs.Keeping.{IsKeeping}
 use Rattle.history_model.specs.Minutes.{HistoryMinute}
 use Rattle.minute_model.specs.declared.Rule.{Rule}
 use Rattle.log_model.specs.Log.{RunLog}
 use Rattle.log_model.specs.Course.{Told}
 use Rattle.log_model.specs.Spans.{spans_of}
-use Rattle.history_model.specs.Book.{Book}
+use Rattle.history_model.specs.Book.{Book, all}
 use Rattle.history_model.specs.History.{limit_of}
-use Rattle.unit_course.specs.Legs.{Travel, kilometres_of, AreLegs}
+use Rattle.unit_course.specs.Legs.{Reckoned, Travel, kilometres_of, AreLegs}
 
 -- the odometer in kilometres, where it stood so when power came, and this is the sum of the speeds, in km/h, of the seconds since
 abbrev pub odometer_by : (stored travelled : ℕ) → ℕ
@@ -28,11 +32,47 @@ pub record ShowsOdometer (start : ℕ) (b : Book) (g : Travel) (x : List ℕ) : 
   pub side : (leg ≡ g.sure) ⊎ (g.maybe ≡ Some leg)
   pub behind : (i : HistoryMinute) → b.maybe ≡ Some i → last_kept x ≡ i.minute → g.maybe ≡ Some leg
 
--- every image that a stop may leave now shows what was travelled, beside the book
+-- A DAY OF AN IMAGE WAS BEGUN since the start, where it was not recorded: by the first minute of that day that the image has, with the
+-- odometer at that minute's end.
+pub record IsBegunBy (start : ℕ) (b : Book) (g : Travel) (x : List ℕ) (day odometer : ℕ) : Type 0 where
+  pub anew : (o : ℕ) → RecordsDay g.image day o → ⊥
+  pub e : Reckoned
+  pub begun : Contains g.begun e
+  pub i : HistoryMinute
+  pub there : Contains (all b) i
+  pub same : i.minute ≡ e.minute
+  pub has : e.minute ≤ last_kept x
+  pub day_is : e.minute / 1440 ≡ day
+  pub first : All (λ j. j.minute / 1440 ≡ day → e.minute ≤ j.minute) (all b)
+  pub odometer_is : odometer ≡ odometer_after start (e.before ++ e.leg ∷ [])
+
+-- each day that an image records has the odometer that it had at the start, or was begun since
+abbrev pub ShowsDays : (start : ℕ) → Book → Travel → List ℕ → Type 0
+ShowsDays start b g x = (day odometer : ℕ) → RecordsDay x day odometer → RecordsDay g.image day odometer ⊎ IsBegunBy start b g x day odometer
+
+-- Every image that a stop may leave now shows what was travelled, beside the book: its odometer, and those of its days. It is not behind that
+-- of the start, and its days may be read.
 pub record HasTravelled (start : ℕ) (b : Book) (g : Travel) (unit : State) : Type 0 where
   pub begins : start ≤ HIGHEST_ODOMETER
   pub none : b.maybe ≡ None → g.maybe ≡ None
   pub now : (x : List ℕ) → unit.may_leave x → ShowsOdometer start b g x
+  pub days : (x : List ℕ) → unit.may_leave x → ShowsDays start b g x
+  pub since : (x : List ℕ) → unit.may_leave x → last_kept g.image ≤ last_kept x
+  pub known : (x : List ℕ) → unit.may_leave x → pointer day_ring x < DAY_SLOTS
+
+-- A STEP BESIDE THE MINUTES leaves what an image shows of its odometer and its days.
+pub record IsBesideTravel (x c : List ℕ) : Type 0 where
+  pub odometer_is : odometer_at c ≡ odometer_at x
+  pub last : last_kept c ≡ last_kept x
+  pub known : pointer day_ring x < DAY_SLOTS → pointer day_ring c < DAY_SLOTS
+  pub days : pointer day_ring x < DAY_SLOTS → (day odometer : ℕ) → RecordsDay c day odometer → RecordsDay x day odometer
+
+-- A MOMENT OF A `keep`, with the day slots: each of them is one of those before, or is begun by this minute, with its odometer; and before, none was
+-- later than the last-kept minute's day.
+pub record IsKeepingDays (k : UnitMinute) (odometer : ℕ) (x c : List ℕ) : Type 0 where
+  pub moment : IsKeeping k odometer x c
+  pub slots : (day o : ℕ) → HasSlot c day o → HasSlot x day o ⊎ ((last_kept x / 1440 < k.minute / 1440) × (day ≡ k.minute / 1440) × (o ≡ odometer))
+  pub earlier : (day o : ℕ) → HasSlot x day o → day ≤ last_kept x / 1440
 
 -- An image's odometer is the start's and the whole kilometres of each span, up to the last-kept minute of each or up to one of
 -- which the keeping was broken off.

@@ -1,14 +1,8 @@
 //! Keeps minutes on worked cards, and prints how many commands each takes, and how many writes: on a card with room, and on
 //! cards that are full, where days go. Its tests keep days and vehicles through a port.
 mod counted;
-#[cfg(test)]
-mod days_tests;
 mod images;
-#[cfg(test)]
-mod judge_tests;
 mod keeping;
-#[cfg(test)]
-mod step_tests;
 #[cfg(test)]
 mod tests;
 

@@ -1,27 +1,30 @@
 //! A unit and two cards in memory, and traces that are recorded on them.
-ghost use Rattle.std.specs.Prelude.{IfOk, ◌≡◌, ◌≤◌};
+ghost use Rattle.std.specs.Prelude.{IfOk, OnOk, ◌≤◌};
 ghost use Rattle.tach_media.specs.MemMedium.{memory_state};
 ghost use Rattle.card_layout.specs.declared.files.TheConstants.{LARGEST_IMAGE};
 ghost use Rattle.unit_model.specs.Image.{IsUnit};
 
-use crate::units::{NUMBER_A, NUMBER_B, Room, card_image, card_with, new_image, unit_with};
+use crate::ran::Ran;
 use card_commands::SimCard;
 use card_layout::{LARGEST, LARGEST_IMAGE};
-use recorder_with_cards::{Outcome, RunFault, run_trace};
+use recorder_with_cards::{Outcome, run_trace};
 use run_model::Device;
 use std::alloc::{AllocError, Global};
 use std::test::Fail;
-use tach_media::{Chip, Medium, MemMedium, MemSource, Memory, Stop};
-use trace_text::{Form, read_trace};
+use tach_media::{Chip, Medium, MemMedium, Memory, Stop};
+use worked_devices::{
+    NUMBER_A, NUMBER_B, Room, T0, card_image, card_tells, card_with, image_of, new_image, trace_of,
+    unit_tells, unit_with,
+};
 
 /// The room of each device's log.
-pub const ROOM: Room = Room {
+const ROOM: Room = Room {
     writes: 20000,
     bytes: 400000,
 };
 
 /// The limit of the vehicle, in km/h.
-pub const LIMIT: u8 = 90;
+const LIMIT: u8 = 90;
 
 /// A unit and two cards.
 #[derive(Drop)]
@@ -74,9 +77,7 @@ fn new_card(
 
 /// New devices, whose calls stop so.
 pub fn new_devices(alloc: Global, stops: Stops) -> Result<Devices, Memory>
-    ensures unit { IfOk result (λ d. IsUnit (memory_state d.unit.log d.unit.counts)) }
-    ensures card_a { IfOk result (λ d. LARGEST_IMAGE ≤ (memory_state d.card_a.medium.log d.card_a.medium.counts).size) }
-    ensures card_b { IfOk result (λ d. LARGEST_IMAGE ≤ (memory_state d.card_b.medium.log d.card_b.medium.counts).size) }
+    ensures { IfOk result (λ d. IsUnit (memory_state d.unit.log d.unit.counts)) }
 {
     Ok(Devices {
         unit: unit_with(alloc, new_image(alloc, LIMIT)?, ROOM, stops.unit)?,
@@ -85,37 +86,39 @@ pub fn new_devices(alloc: Global, stops: Stops) -> Result<Devices, Memory>
     })
 }
 
-/// Records a trace on these devices, and tells how that ended.
+/// What a run has told, and whether the trace was recorded.
+#[derive(Drop)]
+pub struct Recorded {
+    pub is_recorded: bool,
+    pub outcome: Outcome,
+}
+
+/// Records a trace on these devices.
 fn record<U: Medium, C: Chip>(
     alloc: Global,
     text: &[u8],
     unit: &mut U,
     card_a: &mut C,
     card_b: &mut C,
-) -> Result<(Result<(), RunFault>, Outcome), Fail>
-    requires unit { IsUnit (U.state unit.old) }
+) -> Result<Recorded, Fail>
+    requires { IsUnit (U.state unit.old) }
     ensures { IsUnit (U.state unit.new) }
 {
-    let mut source = MemSource::new(text.to_vec(alloc)?, Vec::new(alloc));
-    let trace = match read_trace(alloc, &mut source, Form::Whole) {
-        Ok(trace) => trace,
-        Err(fault) => return Err(Fail::from(fault)),
-    };
+    let trace = trace_of(alloc, text)?;
     let mut outcome = Outcome::reserve(alloc, &trace)?;
     if card_a.size() < LARGEST_IMAGE || card_b.size() < LARGEST_IMAGE {
         return Err(Fail::from("a card is too small"));
     }
-    let ended = run_trace(&trace, unit, card_a, card_b, &mut outcome);
-    Ok((ended, outcome))
+    let is_recorded = run_trace(&trace, unit, card_a, card_b, &mut outcome).is_ok();
+    Ok(Recorded {
+        is_recorded,
+        outcome,
+    })
 }
 
 impl Devices {
-    /// Records a trace, and tells how that ended.
-    pub fn record(
-        &mut self,
-        alloc: Global,
-        text: &[u8],
-    ) -> Result<(Result<(), RunFault>, Outcome), Fail>
+    /// Records a trace.
+    pub fn record(&mut self, alloc: Global, text: &[u8]) -> Result<Recorded, Fail>
         requires { IsUnit (memory_state self.old.unit.log self.old.unit.counts) }
         ensures { IsUnit (memory_state self.new.unit.log self.new.unit.counts) }
     {
@@ -126,6 +129,58 @@ impl Devices {
             &mut self.card_a,
             &mut self.card_b,
         )
+    }
+
+    /// Records a trace, and tells the numbers of that.
+    pub fn run(&mut self, alloc: Global, text: &[u8]) -> Result<Ran, Fail>
+        requires { IsUnit (memory_state self.old.unit.log self.old.unit.counts) }
+        ensures { IsUnit (memory_state self.new.unit.log self.new.unit.counts) }
+    {
+        let recorded = self.record(alloc, text)?;
+        Ok(Ran::of(recorded.is_recorded, &recorded.outcome))
+    }
+
+    /// How many calls of each there were.
+    pub fn calls(&self) -> Calls {
+        Calls {
+            unit: self.unit.calls(),
+            card_a: self.card_a.medium().calls(),
+            card_b: self.card_b.medium().calls(),
+        }
+    }
+
+    /// The image of the unit.
+    pub fn unit_image(&mut self, alloc: Global) -> Result<Vec<u8>, Fail> {
+        Ok(image_of(alloc, &mut self.unit)?)
+    }
+
+    /// Another unit with the image of this one, of which no call stops.
+    pub fn renew_unit(&mut self, alloc: Global) -> Result<(), Fail>
+        ensures { OnOk result (IsUnit (memory_state self.new.unit.log self.new.unit.counts)) }
+    {
+        let image = image_of(alloc, &mut self.unit)?;
+        self.unit = unit_with(alloc, image, ROOM, Vec::new(alloc))?;
+        Ok(())
+    }
+
+    /// A first card of zeros.
+    pub fn take_zeros(&mut self, alloc: Global) -> Result<(), Fail>
+        requires { IsUnit (memory_state self.old.unit.log self.old.unit.counts) }
+        ensures { IsUnit (memory_state self.new.unit.log self.new.unit.counts) }
+    {
+        let zeros = vec![in alloc; 0u8; LARGEST_IMAGE as usize]?;
+        self.card_a = card_with(alloc, zeros, ROOM, Vec::new(alloc))?;
+        Ok(())
+    }
+
+    /// Whether the unit tells this last-kept minute, and these words of the first day.
+    pub fn unit_tells(&mut self, alloc: Global, kept: u32, words: &[u16]) -> Result<bool, Fail> {
+        Ok(unit_tells(alloc, &mut self.unit, T0, kept, words)?)
+    }
+
+    /// Whether the first card has these words.
+    pub fn card_tells(&mut self, alloc: Global, words: &[u16]) -> Result<bool, Fail> {
+        Ok(card_tells(alloc, &mut self.card_a, words)?)
     }
 }
 
@@ -148,18 +203,20 @@ impl Calls {
     }
 }
 
+/// A run on new devices whose calls stop so.
+pub fn run(alloc: Global, text: &[u8], stops: Stops) -> Result<Ran, Fail> {
+    let mut d = new_devices(alloc, stops)?;
+    d.run(alloc, text)
+}
+
 /// How many calls a run makes where these are stopped.
 pub fn calls_with(alloc: Global, text: &[u8], stops: Stops) -> Result<Calls, Fail> {
     let mut d = new_devices(alloc, stops)?;
-    let (ended, _) = d.record(alloc, text)?;
-    if ended.is_err() {
+    let ran = d.run(alloc, text)?;
+    if !ran.is_recorded {
         return Err(Fail::from("a run that is refused"));
     }
-    Ok(Calls {
-        unit: d.unit.calls(),
-        card_a: d.card_a.medium().calls(),
-        card_b: d.card_b.medium().calls(),
-    })
+    Ok(d.calls())
 }
 
 /// How many it makes where none is stopped.

@@ -1,6 +1,5 @@
 //! Downloads of units that have recorded: as many calls as the loader's frames alone ask for.
 use crate::devices::{Stops, new_devices};
-use crate::units::{NO_ROOM, image_of, unit_with};
 use link_frames::{End, write_frame};
 use link_service::serve;
 use std::alloc::{AllocError, Global};
@@ -9,6 +8,7 @@ use std::rt::HostRuntime;
 use std::test::Fail;
 use tach_media::{MemSink, MemSource};
 use unit_download::{Passed, Wire, download};
+use worked_devices::{NO_ROOM, unit_with};
 
 /// An hour of driving with a card.
 const HOUR: &[u8] = b"start 1267401600\ninsert driver a\nrun 60 0\nrun 3540 50\n";
@@ -37,11 +37,11 @@ withdraw codriver
 /// The image of a unit that has recorded a trace.
 fn recorded(alloc: Global, text: &[u8]) -> Result<Vec<u8>, Fail> {
     let mut d = new_devices(alloc, Stops::none(alloc))?;
-    let (ended, _) = d.record(alloc, text)?;
-    if ended.is_err() {
+    let ran = d.run(alloc, text)?;
+    if !ran.is_recorded {
         return Err(Fail::from("a run without a stop"));
     }
-    image_of(alloc, &mut d.unit)
+    d.unit_image(alloc)
 }
 
 /// The frames of one side, as the link has them.
@@ -56,6 +56,52 @@ fn line_of(alloc: Global, frames: &[Passed], from: End) -> Result<Vec<u8>, Alloc
     Ok(line)
 }
 
+/// A download: how many bytes were loaded, how often the unit was called, and the frames of both sides.
+#[derive(Drop)]
+struct Loaded {
+    length: usize,
+    calls: u64,
+    asked: Vec<u8>,
+    answered: Vec<u8>,
+}
+
+fn loaded(alloc: Global, image: Vec<u8>) -> Result<Loaded, Fail> {
+    let mut unit = unit_with(alloc, image, NO_ROOM, Vec::new(alloc))?;
+    let mut sink = MemSink::new(Vec::with_capacity(alloc, 4096)?, Vec::new(alloc));
+    let mut wire = Wire::new(alloc);
+    if download(alloc, &mut sink, &mut unit, &mut wire).is_err() {
+        return Err(Fail::from("a download that is refused"));
+    }
+    Ok(Loaded {
+        length: sink.held().len(),
+        calls: unit.calls(),
+        asked: line_of(alloc, wire.frames(), End::Loader)?,
+        answered: line_of(alloc, wire.frames(), End::Unit)?,
+    })
+}
+
+/// How often `serve` calls a unit with this image that hears these bytes, where it answers those; nothing where it answers others.
+fn served(alloc: Global, image: Vec<u8>, heard: Vec<u8>, told: &[u8]) -> Result<Option<u64>, Fail> {
+    let mut unit = unit_with(alloc, image, NO_ROOM, Vec::new(alloc))?;
+    let mut source = MemSource::new(heard, Vec::new(alloc));
+    let mut answers = MemSink::new(Vec::with_capacity(alloc, 8192)?, Vec::new(alloc));
+    if serve(&mut source, &mut answers, &mut unit).is_err() {
+        return Err(Fail::from("a service that is refused"));
+    }
+    if answers.held() == told {
+        return Ok(Some(unit.calls()));
+    }
+    Ok(None)
+}
+
+/// A download of a unit that has recorded a trace, and how often `serve` calls it that hears the loader's frames alone and answers the same.
+fn both(alloc: Global, text: &[u8]) -> Result<(usize, u64, Option<u64>), Fail> {
+    let image = recorded(alloc, text)?;
+    let loaded = loaded(alloc, image.clone()?)?;
+    let calls = served(alloc, image, loaded.asked, loaded.answered.as_slice())?;
+    Ok((loaded.length, loaded.calls, calls))
+}
+
 /// That a download of a unit which has recorded this has so many bytes, and that the unit is called as often as by `serve` that hears the
 /// loader's frames alone, and answers the same.
 fn asks_by_its_frames_alone(
@@ -63,24 +109,10 @@ fn asks_by_its_frames_alone(
     text: &[u8],
     length: usize,
 ) -> Result<(), Fail> {
-    let alloc = rt.alloc();
-    let image = recorded(alloc, text)?;
-    let mut unit = unit_with(alloc, image.clone()?, NO_ROOM, Vec::new(alloc))?;
-    let mut sink = MemSink::new(Vec::with_capacity(alloc, 4096)?, Vec::new(alloc));
-    let mut wire = Wire::new(alloc);
-    let loaded = download(alloc, &mut sink, &mut unit, &mut wire);
-    assert_eq!(rt; loaded, Ok(()));
-    assert_eq!(rt; sink.held().len(), length);
-    let heard = line_of(alloc, wire.frames(), End::Loader)?;
-    let mut source = MemSource::new(heard, Vec::new(alloc));
-    let mut answers = MemSink::new(Vec::with_capacity(alloc, 8192)?, Vec::new(alloc));
-    let mut other = unit_with(alloc, image, NO_ROOM, Vec::new(alloc))?;
-    let served = serve(&mut source, &mut answers, &mut other);
-    assert!(rt; served.is_ok());
-    let told = line_of(alloc, wire.frames(), End::Unit)?;
-    assert!(rt; answers.held() == told.as_slice());
-    assert!(rt; 0 < unit.calls());
-    assert_eq!(rt; unit.calls(), other.calls());
+    let (bytes, calls, served) = both(rt.alloc(), text)?;
+    assert_eq!(rt; bytes, length);
+    assert!(rt; 0 < calls);
+    assert_eq!(rt; served, Some(calls));
     Ok(())
 }
 

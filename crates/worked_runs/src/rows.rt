@@ -1,72 +1,54 @@
 //! Worked runs.
-use crate::devices::{Devices, ROOM, Stops, calls_of, calls_with, new_devices};
-use crate::events::bytes;
-use crate::reading::{told_by_card, told_by_unit, unclosed_on};
-use crate::units::{M0, T0, card_with};
+use crate::devices::{Stops, calls_of, calls_with, new_devices, run};
+use crate::ran::Ran;
 use activity_codec::Slot;
-use card_layout::{Fid, LARGEST_IMAGE};
-use recorder_with_cards::{Break, Find, Mark, Outcome, Refused, SlotFault, Verdict};
+use card_layout::Fid;
+use recorder_with_cards::{Break, Find, Refused, SlotFault, Verdict};
 use run_model::Device;
 use std::alloc::{AllocError, Global};
 use std::process::Abort;
 use std::rt::HostRuntime;
 use std::test::Fail;
 use tach_media::{Chip, Left, Stop};
-
-/// How many minutes a device has acknowledged.
-fn marks_of(outcome: &Outcome, device: Device) -> usize {
-    let mut count = 0;
-    for i in 0..outcome.marks.len() {
-        if outcome.marks.get(i).device == device {
-            count = usize::saturating_add(count, 1);
-        }
-    }
-    count
-}
-
-/// How many entries the last find has put on its card.
-fn replayed(outcome: &Outcome) -> Option<u8> {
-    let count = outcome.finds.len();
-    if count == 0 {
-        return None;
-    }
-    match outcome.finds.get(count - 1).verdict {
-        Verdict::Accepted { replayed } => Some(replayed),
-        Verdict::NotValid { .. } | Verdict::TimeOverlap { .. } => None,
-    }
-}
+use worked_devices::{M0, T0, told_by_card, unclosed_on, unit_bytes};
 
 /// An hour of driving with a card.
+const DRIVE: &[u8] = b"start 1267401600\ninsert driver a\nrun 60 0\nrun 3540 50\n";
+
+/// It on new devices; whether the unit tells it then, and whether the card does.
+fn driven(alloc: Global) -> Result<(Ran, bool, bool), Fail> {
+    let mut d = new_devices(alloc, Stops::none(alloc))?;
+    let ran = d.run(alloc, DRIVE)?;
+    let by_unit = d.unit_tells(alloc, M0 + 57, &[0x0000u16, 0xA000, 0x1801, 0xA801])?;
+    let card = told_by_card(alloc, &mut d.card_a)?;
+    let by_card = card.last == M0 + 57 && card.words.as_slice() == [0x0000u16, 0x1801].as_slice();
+    Ok((ran, by_unit, by_card))
+}
+
 #[test]
 fn a_driver(rt: HostRuntime) -> Result<(), Fail> {
     let alloc = rt.alloc();
-    let mut d = new_devices(alloc, Stops::none(alloc))?;
-    let text = b"start 1267401600\ninsert driver a\nrun 60 0\nrun 3540 50\n";
-    let (ended, outcome) = d.record(alloc, text)?;
-    assert_eq!(rt; ended, Ok(()));
-    assert_eq!(rt; marks_of(&outcome, Device::Unit), 58);
-    assert_eq!(rt; marks_of(&outcome, Device::CardA), 58);
-    assert_eq!(rt; outcome.marks.len(), 116);
-    assert_eq!(rt; (outcome.breaks.len(), outcome.refused.len()), (0, 0));
-    let unit = told_by_unit(alloc, &mut d.unit, T0)?;
-    assert!(rt; unit.words.as_slice() == [0x0000u16, 0xA000, 0x1801, 0xA801].as_slice());
-    let card = told_by_card(alloc, &mut d.card_a)?;
-    assert!(rt; card.words.as_slice() == [0x0000u16, 0x1801].as_slice());
-    assert_eq!(rt; (unit.last, card.last), (M0 + 57, M0 + 57));
+    let (ran, by_unit, by_card) = driven(alloc)?;
+    assert!(rt; ran.has(58, 58));
+    assert_eq!(rt; (ran.breaks, ran.refused), (0, 0));
+    assert!(rt; by_unit);
+    assert!(rt; by_card);
     Ok(())
+}
+
+/// A run with a card of zeros, and how many writes there were on that.
+fn run_with_zeros(alloc: Global) -> Result<(Ran, u64), Fail> {
+    let mut d = new_devices(alloc, Stops::none(alloc))?;
+    d.take_zeros(alloc)?;
+    let ran = d.run(alloc, b"start 1267401600\ninsert driver a\nrun 240 0\n")?;
+    Ok((ran, d.card_a.clock()))
 }
 
 /// An image of zeros is no card: that is found, and nothing is written on it.
 #[test]
 fn a_card_of_zeros(rt: HostRuntime) -> Result<(), Fail> {
     let alloc = rt.alloc();
-    let mut d = new_devices(alloc, Stops::none(alloc))?;
-    let zeros = vec![in alloc; 0u8; LARGEST_IMAGE as usize]?;
-    d.card_a = card_with(alloc, zeros, ROOM, Vec::new(alloc))?;
-    let text = b"start 1267401600\ninsert driver a\nrun 240 0\n";
-    let (ended, outcome) = d.record(alloc, text)?;
-    assert_eq!(rt; ended, Ok(()));
-    assert_eq!(rt; outcome.finds.len(), 1);
+    let (ran, writes) = run_with_zeros(alloc)?;
     let find = Find {
         second: T0,
         slot: Slot::Driver,
@@ -76,9 +58,9 @@ fn a_card_of_zeros(rt: HostRuntime) -> Result<(), Fail> {
         },
         begun: 1,
     };
-    assert_eq!(rt; *outcome.finds.get(0), find);
-    assert_eq!(rt; d.card_a.clock(), 0);
-    assert_eq!(rt; marks_of(&outcome, Device::Unit), outcome.marks.len());
+    assert!(rt; ran.is_recorded && ran.finds == 1);
+    assert_eq!(rt; ran.last_find, Some(find));
+    assert_eq!(rt; (ran.card_a, ran.card_b, writes), (0, 0, 0));
     Ok(())
 }
 
@@ -87,35 +69,49 @@ const BEFORE: &[u8] = b"start 1267401600\ninsert driver a\nrun 60 0\nrun 179 50\
 
 const BEHIND: &[u8] = b"start 1267401600\ninsert driver a\nrun 60 0\nrun 180 50\n";
 
-/// The card is stopped in the keeping of a minute, and put in again: what it lacks is put on it. Only behind the last write it has the minute.
+/// A run on new devices that stop so, and whether the first card has these words then.
+fn run_tells(alloc: Global, text: &[u8], stops: Stops, words: &[u16]) -> Result<(Ran, bool), Fail> {
+    let mut d = new_devices(alloc, stops)?;
+    let ran = d.run(alloc, text)?;
+    Ok((ran, d.card_tells(alloc, words)?))
+}
+
+/// The card is stopped by this call of the keeping of a minute, and put in again: what it lacks is put on it. Only where it has the minute that is
+/// less.
+fn torn_once(
+    rt: &(impl Abort + AllocGlobal),
+    call: u64,
+    left: Left,
+    has_it: bool,
+) -> Result<(), Fail> {
+    let alloc = rt.alloc();
+    let text =
+        b"start 1267401600\ninsert driver a\nrun 60 0\nrun 300 50\ninsert driver a\nrun 60 0\n";
+    let stops = Stops::one(alloc, Device::CardA, Stop { call, left })?;
+    let (ran, is_told) = run_tells(alloc, text, stops, &[0x0000u16, 0x1801, 0x2003])?;
+    let tear = Break::Tear {
+        second: T0 + 239,
+        slot: Slot::Driver,
+        failed: true,
+        begun: 0,
+        late: true,
+    };
+    let (kept, put) = if has_it { (2, 1) } else { (3, 2) };
+    assert!(rt; ran.has(6, kept) && ran.breaks == 1);
+    assert_eq!(rt; ran.last_break, Some(tear));
+    assert_eq!(rt; ran.replayed(), Some(put));
+    assert!(rt; is_told);
+    Ok(())
+}
+
+/// Each call of the keeping of that minute. Only behind the last write the card has it.
 fn torn_in_keeping(rt: &(impl Abort + AllocGlobal), left: Left) -> Result<(), Fail> {
     let alloc = rt.alloc();
     let from = calls_of(alloc, BEFORE)?.card_a;
     let to = calls_of(alloc, BEHIND)?.card_a;
-    let text =
-        b"start 1267401600\ninsert driver a\nrun 60 0\nrun 300 50\ninsert driver a\nrun 60 0\n";
     assert!(rt; from < to);
     for call in from..to {
-        let stops = Stops::one(alloc, Device::CardA, Stop { call, left })?;
-        let mut d = new_devices(alloc, stops)?;
-        let (ended, outcome) = d.record(alloc, text)?;
-        assert_eq!(rt; ended, Ok(()));
-        let tear = Break::Tear {
-            second: T0 + 239,
-            slot: Slot::Driver,
-            failed: true,
-            begun: 0,
-            late: true,
-        };
-        assert_eq!(rt; outcome.breaks.len(), 1);
-        assert_eq!(rt; *outcome.breaks.get(0), tear);
-        let has_it = left == Left::After && call == to - 1;
-        let (kept, put) = if has_it { (2, 1) } else { (3, 2) };
-        assert_eq!(rt; marks_of(&outcome, Device::Unit), 6);
-        assert_eq!(rt; marks_of(&outcome, Device::CardA), kept);
-        assert_eq!(rt; replayed(&outcome), Some(put));
-        let card = told_by_card(alloc, &mut d.card_a)?;
-        assert!(rt; card.words.as_slice() == [0x0000u16, 0x1801, 0x2003].as_slice());
+        torn_once(rt, call, left, left == Left::After && call == to - 1)?;
     }
     Ok(())
 }
@@ -130,40 +126,43 @@ fn a_card_that_is_stopped_behind_a_write(rt: HostRuntime) -> Result<(), Fail> {
     torn_in_keeping(&rt, Left::After)
 }
 
-/// The unit is stopped behind a write of the keeping of a minute: the power-on finds the old mark, or behind the last write the new one, and the
-/// entry that the card lacks then is put on it.
+/// The words of the card where the minute of driving was kept before the power-on, and where it was not.
+const MINUTE: &[u16] = &[0x0000, 0x1801, 0x2002];
+
+const NO_MINUTE: &[u16] = &[0x0000, 0x2001];
+
+/// The unit is stopped behind this write of the keeping of a minute: the power-on finds the old mark, or the new one, and the entry that the card
+/// lacks then is put on it.
+fn cut_once(rt: &(impl Abort + AllocGlobal), call: u64, has_it: bool) -> Result<(), Fail> {
+    let alloc = rt.alloc();
+    let text = b"start 1267401600\ninsert driver a\nrun 60 0\nrun 300 50\n";
+    let left = Left::After;
+    let stops = Stops::one(alloc, Device::Unit, Stop { call, left })?;
+    let words = if has_it { MINUTE } else { NO_MINUTE };
+    let found = u8::from(has_it);
+    let (ran, is_told) = run_tells(alloc, text, stops, words)?;
+    let cut = Break::Cut {
+        second: T0 + 239,
+        kept: M0 + found as u32,
+        failed: true,
+        begun: 0,
+    };
+    assert!(rt; ran.has(1, 1 + found as usize) && ran.breaks == 1);
+    assert_eq!(rt; ran.last_break, Some(cut));
+    assert_eq!(rt; ran.replayed(), Some(found));
+    assert!(rt; is_told);
+    Ok(())
+}
+
+/// Behind the last write the unit has the new mark.
 #[test]
 fn a_unit_that_is_stopped_behind_a_write(rt: HostRuntime) -> Result<(), Fail> {
     let alloc = rt.alloc();
     let from = calls_of(alloc, BEFORE)?.unit;
     let to = calls_of(alloc, BEHIND)?.unit;
-    let text = b"start 1267401600\ninsert driver a\nrun 60 0\nrun 300 50\n";
     assert!(rt; from < to);
     for call in from..to {
-        let left = Left::After;
-        let stops = Stops::one(alloc, Device::Unit, Stop { call, left })?;
-        let mut d = new_devices(alloc, stops)?;
-        let (ended, outcome) = d.record(alloc, text)?;
-        assert_eq!(rt; ended, Ok(()));
-        let found = u8::from(call == to - 1);
-        let cut = Break::Cut {
-            second: T0 + 239,
-            kept: M0 + found as u32,
-            failed: true,
-            begun: 0,
-        };
-        assert_eq!(rt; outcome.breaks.len(), 1);
-        assert_eq!(rt; *outcome.breaks.get(0), cut);
-        assert_eq!(rt; marks_of(&outcome, Device::Unit), 1);
-        assert_eq!(rt; marks_of(&outcome, Device::CardA), 1 + found as usize);
-        assert_eq!(rt; replayed(&outcome), Some(found));
-        let card = told_by_card(alloc, &mut d.card_a)?;
-        let words = card.words.as_slice();
-        if found == 1 {
-            assert!(rt; words == [0x0000u16, 0x1801, 0x2002].as_slice());
-        } else {
-            assert!(rt; words == [0x0000u16, 0x2001].as_slice());
-        }
+        cut_once(&rt, call, call == to - 1)?;
     }
     Ok(())
 }
@@ -183,30 +182,43 @@ fn two(alloc: Global, first: Stop, second: Stop) -> Result<Stops, AllocError> {
     Ok(stops)
 }
 
-/// The card that this call of the keeping of a minute has torn out is put in again, and stopped at each call of that: put in once more it has the
-/// same entries, and the session that was not closed is noted on it.
-fn torn_again(rt: &impl Abort, alloc: Global, first: u64, left: Left) -> Result<(), Fail> {
-    let stop = Stop { call: first, left };
-    let from = calls_with(alloc, UNTIL, Stops::one(alloc, Device::CardA, stop)?)?.card_a;
-    let to = calls_with(alloc, AGAIN, Stops::one(alloc, Device::CardA, stop)?)?.card_a;
+/// The run in which the card comes once more, whether the card has its entries then, and the type and the begin of the session that is noted on it as
+/// not closed.
+fn run_once_more(alloc: Global, stops: Stops) -> Result<(Ran, bool, [u8; 5]), Fail> {
+    let mut d = new_devices(alloc, stops)?;
+    let ran = d.run(alloc, ONCE_MORE)?;
+    let is_told = d.card_tells(alloc, &[0x0000u16, 0x1801, 0x2003])?;
+    Ok((ran, is_told, unclosed_on(&mut d.card_a)?))
+}
+
+/// The card that the first stop has torn out is put in again, and stopped by a call of that: put in once more it has the same entries, and the session
+/// that was not closed is noted on it.
+fn torn_twice(rt: &(impl Abort + AllocGlobal), first: Stop, second: Stop) -> Result<(), Fail> {
+    let alloc = rt.alloc();
+    let (ran, is_told, unclosed) = run_once_more(alloc, two(alloc, first, second)?)?;
+    let tear = Break::Tear {
+        second: T0 + 360,
+        slot: Slot::Driver,
+        failed: true,
+        begun: 1,
+        late: false,
+    };
+    assert!(rt; ran.is_recorded && ran.breaks == 2);
+    assert_eq!(rt; ran.last_break, Some(tear));
+    assert!(rt; is_told);
+    assert_eq!(rt; unclosed, *b"\x06\x4B\x8B\x03\x80");
+    Ok(())
+}
+
+/// Each call of its coming again.
+fn torn_again(rt: &(impl Abort + AllocGlobal), call: u64, left: Left) -> Result<(), Fail> {
+    let alloc = rt.alloc();
+    let first = Stop { call, left };
+    let from = calls_with(alloc, UNTIL, Stops::one(alloc, Device::CardA, first)?)?.card_a;
+    let to = calls_with(alloc, AGAIN, Stops::one(alloc, Device::CardA, first)?)?.card_a;
     assert!(rt; from < to);
     for call in from..to {
-        let stops = two(alloc, stop, Stop { call, left })?;
-        let mut d = new_devices(alloc, stops)?;
-        let (ended, outcome) = d.record(alloc, ONCE_MORE)?;
-        assert_eq!(rt; ended, Ok(()));
-        let tear = Break::Tear {
-            second: T0 + 360,
-            slot: Slot::Driver,
-            failed: true,
-            begun: 1,
-            late: false,
-        };
-        assert_eq!(rt; outcome.breaks.len(), 2);
-        assert_eq!(rt; *outcome.breaks.get(1), tear);
-        let card = told_by_card(alloc, &mut d.card_a)?;
-        assert!(rt; card.words.as_slice() == [0x0000u16, 0x1801, 0x2003].as_slice());
-        assert_eq!(rt; unclosed_on(&mut d.card_a)?, *b"\x06\x4B\x8B\x03\x80");
+        torn_twice(rt, first, Stop { call, left })?;
     }
     Ok(())
 }
@@ -218,7 +230,7 @@ fn torn_in_repair(rt: &(impl Abort + AllocGlobal), left: Left) -> Result<(), Fai
     let to = calls_of(alloc, BEHIND)?.card_a;
     assert!(rt; from < to);
     for first in from..to {
-        torn_again(rt, alloc, first, left)?;
+        torn_again(rt, first, left)?;
     }
     Ok(())
 }
@@ -241,6 +253,18 @@ fn a_repair_that_is_stopped_within_a_write(rt: HostRuntime) -> Result<(), Fail> 
 /// The first place of a fault.
 const FIRST_FAULT: u32 = 2391674;
 
+/// What stands there of a unit behind a run that stops so: type, record purpose, begin and end; and both cards' numbers at both.
+fn fault_noted(alloc: Global, stops: Stops) -> Result<([u8; 10], [u8; 72]), Fail> {
+    let mut d = new_devices(alloc, stops)?;
+    let ran = d.run(alloc, BEHIND)?;
+    if !ran.is_recorded {
+        return Err(Fail::from("a run that is refused"));
+    }
+    let entry: [u8; 10] = unit_bytes(&mut d.unit, FIRST_FAULT)?;
+    let numbers: [u8; 72] = unit_bytes(&mut d.unit, FIRST_FAULT + 10)?;
+    Ok((entry, numbers))
+}
+
 /// A card that a failed call tears out is a fault of that second, noted with no card's number: it is out by then.
 #[test]
 fn a_card_fault_is_noted(rt: HostRuntime) -> Result<(), Fail> {
@@ -248,12 +272,8 @@ fn a_card_fault_is_noted(rt: HostRuntime) -> Result<(), Fail> {
     let call = calls_of(alloc, BEFORE)?.card_a;
     let left = Left::Before;
     let stops = Stops::one(alloc, Device::CardA, Stop { call, left })?;
-    let mut d = new_devices(alloc, stops)?;
-    let (ended, _) = d.record(alloc, BEHIND)?;
-    assert_eq!(rt; ended, Ok(()));
-    let entry: [u8; 10] = bytes(&mut d.unit, FIRST_FAULT)?;
+    let (entry, numbers) = fault_noted(alloc, stops)?;
     assert_eq!(rt; entry, *b"\x40\x00\x4B\x8B\x04\x6F\x4B\x8B\x04\x6F");
-    let numbers: [u8; 72] = bytes(&mut d.unit, FIRST_FAULT + 10)?;
     assert_eq!(rt; numbers, [0; 72]);
     Ok(())
 }
@@ -262,22 +282,20 @@ fn a_card_fault_is_noted(rt: HostRuntime) -> Result<(), Fail> {
 #[test]
 fn what_is_refused(rt: HostRuntime) -> Result<(), Fail> {
     let alloc = rt.alloc();
-    let mut d = new_devices(alloc, Stops::none(alloc))?;
     let text =
         b"start 1267401600\ninsert driver a\nplace codriver begin 13 2\nrun 60 0\nwithdraw driver\nrun 60 60\n";
-    let (ended, outcome) = d.record(alloc, text)?;
-    assert_eq!(rt; ended, Ok(()));
-    assert_eq!(rt; outcome.refused.len(), 2);
+    let ran = run(alloc, text, Stops::none(alloc))?;
     let place = Refused {
         second: T0,
         fault: SlotFault::NoCard(Slot::CoDriver),
     };
-    assert_eq!(rt; *outcome.refused.get(0), place);
     let withdrawal = Refused {
         second: T0 + 60,
         fault: SlotFault::Moving(60),
     };
-    assert_eq!(rt; *outcome.refused.get(1), withdrawal);
+    assert!(rt; ran.is_recorded && ran.refused == 2);
+    assert_eq!(rt; ran.first_refusal, Some(place));
+    assert_eq!(rt; ran.last_refusal, Some(withdrawal));
     Ok(())
 }
 

@@ -4,16 +4,16 @@
 ghost use Rattle.tach_media.specs.MemMedium.{memory_state};
 ghost use Rattle.unit_model.specs.Image.{IsUnit};
 
-use crate::devices::{Devices, ROOM, Stops, calls_of, new_devices};
-use crate::reading::{Told, told_by_card, told_by_unit};
-use crate::units::{M0, T0, image_of, stops, unit_with};
-use recorder_with_cards::{Break, Mark, Outcome};
+use crate::devices::{Devices, Recorded, Stops, calls_of, new_devices};
+use crate::ran::Ran;
+use recorder_with_cards::{Mark, Outcome};
 use run_model::Device;
 use std::alloc::{AllocError, Global};
 use std::process::Abort;
 use std::rt::HostRuntime;
 use std::test::Fail;
 use tach_media::{Left, Stop};
+use worked_devices::{M0, T0, Told, stops, told_by_card, told_by_unit};
 
 /// The minutes of both runs lie in the first so many of the day.
 const MINUTES: u16 = 130;
@@ -152,42 +152,78 @@ fn blocks(alloc: Global) -> Result<Vec<u8>, AllocError> {
     Ok(text)
 }
 
-/// How many breaks a failed call made.
-fn failed_breaks(outcome: &Outcome) -> usize {
-    let mut count = 0;
-    for i in 0..outcome.breaks.len() {
-        let failed = match *outcome.breaks.get(i) {
-            Break::Cut { failed, .. } => failed,
-            Break::Tear { failed, .. } => failed,
-        };
-        if failed {
-            count = usize::saturating_add(count, 1);
-        }
-    }
-    count
+/// What both runs tell, and whether all that was acknowledged is there: behind the first one, and behind both, where the cards have just what the unit
+/// tells of their slots.
+#[derive(Clone, Copy)]
+struct Both {
+    first: Ran,
+    second: Ran,
+    holds: bool,
+    agree: bool,
 }
 
-/// Both runs, with these stops in the first; what that one tells.
-fn run_both(rt: &impl Abort, alloc: Global, text: &[u8], stops: Stops) -> Result<Outcome, Fail> {
+impl Both {
+    /// Whether both were recorded, the second one with no break and no refusal, and all is there.
+    fn is_whole(&self) -> bool {
+        self.first.is_recorded
+            && self.second.is_recorded
+            && self.second.breaks == 0
+            && self.second.refused == 0
+            && self.holds
+            && self.agree
+    }
+}
+
+/// The first run, and whether all that it has acknowledged is there.
+fn run_first(alloc: Global, d: &mut Devices, text: &[u8]) -> Result<(Recorded, bool), Fail>
+    requires { IsUnit (memory_state d.old.unit.log d.old.unit.counts) }
+{
+    let recorded = d.record(alloc, text)?;
+    let told = told_by_all(alloc, d)?;
+    let holds = told.hold_all(&recorded.outcome);
+    Ok((recorded, holds))
+}
+
+/// The second one, behind one that told this, on a unit that is read anew.
+fn run_second(alloc: Global, d: &mut Devices, first: &Outcome) -> Result<(Ran, bool), Fail> {
+    d.renew_unit(alloc)?;
+    let recorded = d.record(alloc, SECOND)?;
+    let told = told_by_all(alloc, d)?;
+    let holds = told.hold_all(first) && told.hold_all(&recorded.outcome) && told.agree();
+    Ok((Ran::of(recorded.is_recorded, &recorded.outcome), holds))
+}
+
+/// Both runs, with these stops in the first.
+fn run_both(alloc: Global, text: &[u8], stops: Stops) -> Result<Both, Fail> {
     let mut d = new_devices(alloc, stops)?;
-    let (ended, outcome) = d.record(alloc, text)?;
-    assert_eq!(rt; ended, Ok(()));
-    let image = image_of(alloc, &mut d.unit)?;
-    let told = told_by_all(alloc, &mut d)?;
-    assert!(rt; told.hold_all(&outcome));
-    d.unit = unit_with(alloc, image, ROOM, Vec::new(alloc))?;
-    let (again, more) = d.record(alloc, SECOND)?;
-    assert_eq!(rt; again, Ok(()));
-    assert_eq!(rt; (more.breaks.len(), more.refused.len()), (0, 0));
-    let told = told_by_all(alloc, &mut d)?;
-    assert!(rt; told.hold_all(&outcome) && told.hold_all(&more) && told.agree());
-    Ok(outcome)
+    let (recorded, holds) = run_first(alloc, &mut d, text)?;
+    let (second, agree) = run_second(alloc, &mut d, &recorded.outcome)?;
+    Ok(Both {
+        first: Ran::of(recorded.is_recorded, &recorded.outcome),
+        second,
+        holds,
+        agree,
+    })
+}
+
+/// One call of a device.
+fn stop_call(
+    rt: &(impl Abort + AllocGlobal),
+    device: Device,
+    call: u64,
+    left: Left,
+) -> Result<(), Fail> {
+    let alloc = rt.alloc();
+    let stops = Stops::one(alloc, device, Stop { call, left })?;
+    let both = run_both(alloc, HOUR, stops)?;
+    assert!(rt; both.is_whole(), "{call}");
+    assert!(rt; both.first.failed == 1, "{call}");
+    Ok(())
 }
 
 /// Each of these calls of a device.
 fn stop_calls(
-    rt: &impl Abort,
-    alloc: Global,
+    rt: &(impl Abort + AllocGlobal),
     device: Device,
     from: u64,
     to: u64,
@@ -195,9 +231,7 @@ fn stop_calls(
 ) -> Result<(), Fail> {
     assert!(rt; from < to);
     for call in from..to {
-        let stops = Stops::one(alloc, device, Stop { call, left })?;
-        let outcome = run_both(rt, alloc, HOUR, stops)?;
-        assert!(rt; failed_breaks(&outcome) == 1, "{call}");
+        stop_call(rt, device, call, left)?;
     }
     Ok(())
 }
@@ -208,14 +242,7 @@ fn stop_each(rt: &(impl Abort + AllocGlobal), left: Left) -> Result<(), Fail> {
     let opening = calls_of(alloc, START)?;
     let whole = calls_of(alloc, HOUR)?;
     for device in [Device::Unit, Device::CardA, Device::CardB] {
-        stop_calls(
-            rt,
-            alloc,
-            device,
-            opening.of(device),
-            whole.of(device),
-            left,
-        )?;
+        stop_calls(rt, device, opening.of(device), whole.of(device), left)?;
     }
     Ok(())
 }
@@ -236,8 +263,9 @@ fn stop_often(rt: &(impl Abort + AllocGlobal), left: Left) -> Result<(), Fail> {
             card_a: stops(alloc, 6, card_a, 150, 1, left)?,
             card_b: stops(alloc, 5, card_b, 160, 1, left)?,
         };
-        let outcome = run_both(rt, alloc, &text, stops)?;
-        assert!(rt; outcome.breaks.len() >= 17);
+        let both = run_both(alloc, &text, stops)?;
+        assert!(rt; both.is_whole());
+        assert!(rt; both.first.breaks >= 17);
     }
     Ok(())
 }

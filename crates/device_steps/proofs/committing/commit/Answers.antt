@@ -2,6 +2,7 @@ use Rattle.std.proofs.Common.{◌≡◌, sym, ap, subst}
 use Rattle.tach_media.proofs.Runs.{ok_gives}
 use Rattle.device_steps.proofs.EntryOwed.{worked}
 use Rattle.device_steps.proofs.MinuteKept.{committed-unit, committed-card, keeps-views, same_minute, rows-kept}
+use Rattle.unit_rule.proofs.KeptDays.{keeping-run}
 use Rattle.device_steps.proofs.Travel.{keep-gone}
 use Rattle.device_steps.proofs.committing.commit.Goals as goal
 
@@ -28,8 +29,9 @@ returns-clause-views g c = λ a b i is. keeps-views _ c.args.kept.now.odometer.0
 
 pub returns-clause-travelled : goal.returns-clause-travelled
 returns-clause-travelled g c = λ start t leg s due b marks i is h none late gone odometer.
-    keep-gone _ c.args.kept.now.odometer.0 i is (g.met.M.Medium.coherent c.args.unit.now) c.keep.ensures.moments s due b marks h none late start t leg gone odometer _ (g.met.M.Medium.coherent c.keep.new.unit)
-    (λ well. (worked well c.keep.ensures.cause).0) (λ well. ok_gives _ c.keep.ensures.kept well)
+    let q = c.requires in
+    keep-gone _ c.args.kept.now.odometer.0 i is (g.met.M.Medium.coherent c.args.unit.now) (keeping-run _ c.args.kept.now q.agrees q.low q.later c.keep.ensures.moments c.keep.ensures.words) s due b marks h none late start t leg gone odometer _
+    (g.met.M.Medium.coherent c.keep.new.unit) (λ well. (worked well c.keep.ensures.cause).0) (λ well. ok_gives _ c.keep.ensures.kept well)
 
 pub returns-clause-keeps : goal.returns-clause-keeps
 returns-clause-keeps g c = c.keep.ensures.moments.keeps

@@ -1,5 +1,5 @@
-use Rattle.std.proofs.Common.{◌≡◌, refl, ap, sym, subst, inl, inr}
-use Rattle.std.specs.Prelude.{Result, Ok, Err, OnOk, IfErr}
+use Rattle.std.proofs.Common.{◌≡◌, refl}
+use Rattle.std.proofs.lemmas.Result.{on_ok_weaker, IfErr-weaker}
 use Rattle.trace_model.specs.declared.Card.{Card}
 use Rattle.trace_model.specs.declared.Card.TheVariants.{A, B}
 use Rattle.log_model.specs.Causes.{device_of}
@@ -10,21 +10,13 @@ use Rattle.tacho.proofs.AloneRun.{is-alone, is-caused}
 use Rattle.tacho.proofs.AloneRefused.{refused-alone, of-unit-alone, refused-by}
 use Rattle.tacho.proofs.alone.record_alone.Goals as goal
 
-on-ok : {T E P Q : Type 0} (r : Result T E) → (P → Q) → OnOk r P → OnOk r Q
-on-ok (Ok v) f p = f p
-on-ok (Err e) f p = tt
-
-if-err : {T E : Type 0} {P Q : E → Type 0} (r : Result T E) → ((e : E) → P e → Q e) → IfErr r P → IfErr r Q
-if-err (Ok v) f p = tt
-if-err (Err e) f p = f e p
-
 pub returns-clause-recorded : goal.returns-clause-recorded
 returns-clause-recorded g c = λ cards x alone clock few.
     let U = g.U.Medium.state c.args.unit.now in
     let V = g.U.Medium.state c.run_trace.new.unit in
     let begins = begins-alone x U c.no_card-card_a.result.medium.broken c.no_card-card_b.result.medium.broken (g.met.U.Medium.coherent c.args.unit.now) alone in
     let time = time-alone V c.run_trace.new.card_a.medium.broken c.run_trace.new.card_b.medium.broken clock in
-    on-ok c.run_trace.result (λ h. is-alone x c.args.trace.now.start c.args.trace.now.items c.run_trace.new.outcome U V _ _ _ _ c.requires.for_unit h cards)
+    on_ok_weaker c.run_trace.result (λ h. is-alone x c.args.trace.now.start c.args.trace.now.items c.run_trace.new.outcome U V _ _ _ _ c.requires.for_unit h cards)
     (c.run_trace.ensures.recorded x no_image no_image begins time few)
 
 pub returns-clause-causes : goal.returns-clause-causes
@@ -34,31 +26,31 @@ returns-clause-causes g c = λ x a b alone clock few.
     let begins = begins-alone x U c.no_card-card_a.result.medium.broken c.no_card-card_b.result.medium.broken (g.met.U.Medium.coherent c.args.unit.now) alone in
     let time = time-alone V c.run_trace.new.card_a.medium.broken c.run_trace.new.card_b.medium.broken clock in
     let same : (card : Card) → counts V.breakdowns a b (device_of card) ≡ counts U.breakdowns a b (device_of card) = λ card. elim card as (λ k. counts V.breakdowns a b (device_of k) ≡ counts U.breakdowns a b (device_of k)) [ A ↦ refl | B ↦ refl ] in
-    on-ok c.run_trace.result (λ h. is-caused x c.args.trace.now.start c.args.trace.now.items c.run_trace.new.outcome U V _ _ _ _ c.requires.for_unit h (counts U.breakdowns a b) (counts V.breakdowns a b) refl refl same)
+    on_ok_weaker c.run_trace.result (λ h. is-caused x c.args.trace.now.start c.args.trace.now.items c.run_trace.new.outcome U V _ _ _ _ c.requires.for_unit h (counts U.breakdowns a b) (counts V.breakdowns a b) refl refl same)
     (c.run_trace.ensures.recorded x no_image no_image begins time few)
 
 pub returns-clause-begun : goal.returns-clause-begun
 returns-clause-begun g c = λ x alone.
     let begins = begins-alone x (g.U.Medium.state c.args.unit.now) c.no_card-card_a.result.medium.broken c.no_card-card_b.result.medium.broken (g.met.U.Medium.coherent c.args.unit.now) alone in
-    on-ok c.run_trace.result (λ may. (may.decodes, may.later)) (c.run_trace.ensures.begun x no_image no_image begins)
+    on_ok_weaker c.run_trace.result (λ may. (may.decodes, may.later)) (c.run_trace.ensures.begun x no_image no_image begins)
 
 pub returns-clause-unbroken : goal.returns-clause-unbroken
 returns-clause-unbroken g c = c.run_trace.ensures.later.unit.unbroken
 
 pub returns-clause-early : goal.returns-clause-early
 returns-clause-early g c =
-    if-err c.run_trace.result (λ fault is. refused-alone c.args.trace.now.start _ _ c.no_card-card_a.result.medium.broken c.no_card-card_b.result.medium.broken c.run_trace.new.card_a.medium.broken c.run_trace.new.card_b.medium.broken
+    IfErr-weaker c.run_trace.result _ _ (λ fault is. refused-alone c.args.trace.now.start (g.U.Medium.state c.args.unit.now) (g.U.Medium.state c.run_trace.new.unit) c.no_card-card_a.result.medium.broken c.no_card-card_b.result.medium.broken c.run_trace.new.card_a.medium.broken c.run_trace.new.card_b.medium.broken
     c.no_card-card_a.ensures c.no_card-card_b.ensures c.args.outcome.now c.run_trace.new.outcome fault is) c.run_trace.ensures.refused
 
 pub returns-clause-fault : goal.returns-clause-fault
 returns-clause-fault g c =
-    if-err c.run_trace.result
-    (λ fault is. of-unit-alone c.args.trace.now.start c.args.outcome.now c.run_trace.new.outcome _ _ fault
-    (refused-alone c.args.trace.now.start _ _ c.no_card-card_a.result.medium.broken c.no_card-card_b.result.medium.broken c.run_trace.new.card_a.medium.broken c.run_trace.new.card_b.medium.broken
+    IfErr-weaker c.run_trace.result _ _
+    (λ fault is. of-unit-alone c.args.trace.now.start c.args.outcome.now c.run_trace.new.outcome (g.U.Medium.state c.args.unit.now) (g.U.Medium.state c.run_trace.new.unit) fault
+    (refused-alone c.args.trace.now.start (g.U.Medium.state c.args.unit.now) (g.U.Medium.state c.run_trace.new.unit) c.no_card-card_a.result.medium.broken c.no_card-card_b.result.medium.broken c.run_trace.new.card_a.medium.broken c.run_trace.new.card_b.medium.broken
     c.no_card-card_a.ensures c.no_card-card_b.ensures c.args.outcome.now c.run_trace.new.outcome fault is)) c.run_trace.ensures.refused
 
 pub returns-clause-refused : goal.returns-clause-refused
 returns-clause-refused g c =
-    refused-by c.args.trace.now.start _ _ c.no_card-card_a.result.medium.broken c.no_card-card_b.result.medium.broken c.run_trace.new.card_a.medium.broken c.run_trace.new.card_b.medium.broken
+    refused-by c.args.trace.now.start (g.U.Medium.state c.args.unit.now) (g.U.Medium.state c.run_trace.new.unit) c.no_card-card_a.result.medium.broken c.no_card-card_b.result.medium.broken c.run_trace.new.card_a.medium.broken c.run_trace.new.card_b.medium.broken
     c.no_card-card_a.ensures c.no_card-card_b.ensures c.run_trace.result _ c.args.outcome.now c.run_trace.new.outcome
     (g.met.U.Medium.coherent c.args.unit.now) (g.met.U.Medium.coherent c.run_trace.new.unit) c.run_trace.ensures.fault

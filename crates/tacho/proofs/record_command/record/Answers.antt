@@ -25,14 +25,14 @@ returns-then-is_for_unit-clause-ends g c =
     ends-run _ _ c.record_alone.new.outcome c.print_outcome.result e.end e.finds_bad_line e.finds_too_long
     (λ fault ran rose. inr (inl (unit-run _ _ c.record_alone.new.outcome c.in-Ok.trace.start c.in-Ok.trace.items (c.is_for_unit.ensures.for_unit c.if-is_for_unit.true) e.reads
     (λ x alone clock cards. f.recorded cards x alone clock (omega (arith, e.few)))
-    (λ x alone clock. f.causes x _ _ alone clock (omega (arith, e.few))) f.begun f.broke f.calm f.unbroken refl refl fault ran rose)))
+    (λ x alone clock. f.causes x (g.C.Chip.state c.args.card_a.now).breakdowns (g.C.Chip.state c.args.card_b.now).breakdowns alone clock (omega (arith, e.few))) f.begun f.broke f.calm f.unbroken refl refl fault ran rose)))
     c.print_outcome.ensures.ok c.print_outcome.ensures.err c.print_outcome.ensures.cause
 
 pub returns-in-Err-run_trace-clause-ends : goal.returns-in-Err-run_trace-clause-ends
 returns-in-Err-run_trace-clause-ends g c =
     let e = c.in-Ok.ensures in
     let f = c.in-Err-run_trace.ensures in
-    rw c.refusal_of_run-2.ensures
+    rw c.refusal_of_run-in-Err-run_trace.ensures
     (ends-refused _ _ _ _ e.finds_bad_line e.finds_too_long (run-refusal c.in-Err-run_trace.fault)
     (inr (inr (cards-refused _ _ c.run_trace.new.outcome c.in-Ok.trace.start c.in-Ok.trace.items (c.is_for_unit.ensures.card c.if-is_for_unit.false) f.later f.broke e.reads c.in-Err-run_trace.fault
     (refused-when c.in-Ok.trace.start c.in-Ok-reserve.reserved c.run_trace.new.outcome _ _ _ _ _ _ c.in-Err-run_trace.fault (reserved-empty c.in-Ok.trace.items c.in-Ok-reserve.reserved c.in-Ok-reserve.ensures) f.refused)
@@ -57,5 +57,5 @@ returns-in-Err-record_alone-clause-causes g c =
 
 pub returns-in-Err-run_trace-clause-causes : goal.returns-in-Err-run_trace-clause-causes
 returns-in-Err-run_trace-clause-causes g c =
-    rw c.refusal_of_run-2.ensures
+    rw c.refusal_of_run-in-Err-run_trace.ensures
     (refused-causes _ _ c.in-Ok.trace.start c.in-Ok-reserve.reserved c.run_trace.new.outcome c.in-Err-run_trace.fault c.in-Err-run_trace.ensures.refused (omega arith) (omega arith))

@@ -4,7 +4,7 @@ use Rattle.activity_codec.specs.declared.values.Slot.TheVariants.{Driver, CoDriv
 use Rattle.card_session.specs.declared.session.Kept.{Kept}
 use Rattle.log_model.specs.declared.lines.Mark.{Mark}
 use Rattle.run_outcome.specs.Lines.{Listed}
-use Rattle.tach_media.proofs.Runs.{on_ok}
+use Rattle.tach_media.proofs.Runs.{on_ok, cause_after}
 use Rattle.run_crew.specs.Cabin.{Stands}
 use Rattle.run_keeping.specs.declared.keeper.Keeper.{Keeper}
 use Rattle.safety_model.specs.Safe.{card_of}
@@ -109,6 +109,26 @@ bring-requires-2-clause-breaks g c =
     let same : most_tears c.commit.new.self.cabin.cards ≡ most_tears c.args.self.now.cabin.cards = ap (λ (q : Keeper). most_tears q.cabin.cards) c.commit.ensures.keeper in
     let room = c.requires.breaks in
     omega (arith, t, r, one, same, room)
+
+pub bring-requires-2-clause-marks : goal.bring-requires-2-clause-marks
+bring-requires-2-clause-marks g c =
+    let b = c.in_ok-bring.ensures.brought.1 in
+    let one = brought-marks _ _ _ _ _ _ _ _ _ _ _ _ _ _ _ b in
+    let here : length c.commit.new.marks.items ≡ length c.args.marks.now.items + 1 = ap (λ (l : Listed Mark). length l.items) c.in_ok-commit.ensures.marked ∙ lines-length (unit_mark c.args.minute.now.minute (g.M.Medium.state c.commit.new.unit).clock ∷ []) c.args.marks.now in
+    let room : c.commit.new.marks.room ≡ c.args.marks.now.room = ap (λ (l : Listed Mark). l.room) c.in_ok-commit.ensures.marked in
+    let same = brought-mark-room _ _ _ _ _ _ _ _ _ _ _ _ _ _ _ b in
+    let most = c.requires.marks in
+    omega (arith, one, here, room, same, most)
+
+pub returns-in_err-bring-clause-breaks : goal.returns-in_err-bring-clause-breaks
+returns-in_err-bring-clause-breaks g c =
+    let b = c.in_err-bring.ensures.brought.1 in
+    let one = brought-tears _ _ _ _ _ _ _ _ _ _ _ _ _ _ _ b in
+    let same : most_tears c.commit.new.self.cabin.cards ≡ most_tears c.args.self.now.cabin.cards = ap (λ (q : Keeper). most_tears q.cabin.cards) c.commit.ensures.keeper in
+    (brought-tear-room _ _ _ _ _ _ _ _ _ _ _ _ _ _ _ b, omega (arith, one, same))
+
+pub returns-clause-cause : goal.returns-clause-cause
+returns-clause-cause g c = cause_after (cause_after c.in_ok-commit.ensures.cause c.in_ok-bring.ensures.cause) c.bring-2.ensures.cause
 
 pub returns-clause-kept : goal.returns-clause-kept
 returns-clause-kept g c =

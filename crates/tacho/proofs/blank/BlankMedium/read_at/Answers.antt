@@ -1,9 +1,13 @@
-use Rattle.std.proofs.Common.{◌≡◌, ◌∙◌, length, replicate}
+use Rattle.std.proofs.Common.{◌≡◌, ◌∙◌, sym, length, replicate}
 use Rattle.card_layout.specs.declared.files.TheConstants.{LARGEST_IMAGE}
-use Rattle.tacho.proofs.Blank.{zeros-read}
+use Rattle.tach_media.proofs.Runs.{on_ok}
+use Rattle.tacho.proofs.Blank.{zeros-read, blank-reads}
 use Rattle.tacho.proofs.blank.BlankMedium.read_at.Goals as goal
 
 pub returns-clause-bytes : goal.returns-clause-bytes
 returns-clause-bytes c =
     let filled : c.fill.new.self ≡ replicate (length c.args.out.now) 0 = c.fill.ensures.after (λ y h. h) in
-    filled ∙ zeros-read LARGEST_IMAGE c.args._place (length c.args.out.now) c.requires
+    on_ok c.answer.result (λ works. filled ∙ zeros-read LARGEST_IMAGE c.args._place (length c.args.out.now) c.requires)
+
+pub returns-clause-reads : goal.returns-clause-reads
+returns-clause-reads c = blank-reads c.args.self.now.broken _ (sym c.answer.ensures)

@@ -42,7 +42,7 @@ pub returns-in_err-set_part-clause-journal : goal.returns-in_err-set_part-clause
 returns-in_err-set_part-clause-journal g c =
     weaken (returns-in_err-set_part-clause-moments g c) (λ x d was moment.
     record {
-      keeps = withdrawal_keeps c.args.index c.args.time c.args.odometer x d moment;
+      keeps = withdrawal_keeps c.args.index c.args.time c.args.odometer x d c.requires.index moment;
       decodes = withdrawal_decodes c.args.index c.args.time c.args.odometer x d c.requires.index moment;
     })
 
@@ -50,6 +50,6 @@ pub returns-clause-journal : goal.returns-clause-journal
 returns-clause-journal g c =
     weaken (returns-clause-moments g c) (λ x d was moment.
     record {
-      keeps = withdrawal_keeps c.args.index c.args.time c.args.odometer x d moment;
+      keeps = withdrawal_keeps c.args.index c.args.time c.args.odometer x d c.requires.index moment;
       decodes = withdrawal_decodes c.args.index c.args.time c.args.odometer x d c.requires.index moment;
     })

@@ -1,12 +1,14 @@
 //! What a unit and a card that are read again tell of a day.
 ghost use Rattle.std.specs.Prelude.{◌≡◌, ◌≤◌, ◌<◌, ◌+◌};
 ghost use Rattle.card_layout.specs.declared.files.TheConstants.{LARGEST_IMAGE};
+ghost use Rattle.unit_model.specs.Image.{IsUnit};
+ghost use Rattle.unit_model.specs.declared.layout.TheConstants.{IMAGE_SIZE};
 
+use crate::Untold;
 use card_commands::Port;
 use card_layout::LARGEST_IMAGE;
 use std::alloc::Global;
-use std::test::Fail;
-use tach_media::{Chip, Medium};
+use tach_media::{Chip, Failed, Medium};
 use tacho_types::TimeReal;
 use unit_journal::Journal;
 use unit_model::layout::IMAGE_SIZE;
@@ -31,12 +33,12 @@ pub struct Told {
 }
 
 /// Bytes of a card's image.
-fn bytes<const N: usize, M: Medium>(medium: &mut M, place: u32) -> Result<[u8; N], Fail>
+fn bytes<const N: usize, M: Medium>(medium: &mut M, place: u32) -> Result<[u8; N], Untold>
     requires { place + N ≤ LARGEST_IMAGE }
 {
     let mut out = [0; N];
     if medium.size() < LARGEST_IMAGE {
-        return Err(Fail::from("outside a card"));
+        return Err(Untold::Size);
     }
     medium.read_at(place, &mut out)?;
     Ok(out)
@@ -50,16 +52,16 @@ pub struct Held {
     pub words: Vec<u16>,
 }
 
-pub fn held_by_unit<U: Medium>(alloc: Global, unit: &mut U, second: u32) -> Result<Held, Fail> {
+pub fn held_by_unit<U: Medium>(alloc: Global, unit: &mut U, second: u32) -> Result<Held, Untold> {
     if unit.size() != IMAGE_SIZE {
-        return Err(Fail::from("no unit"));
+        return Err(Untold::Size);
     }
     unit.revive()?;
     if unit.size() != IMAGE_SIZE {
-        return Err(Fail::from("no unit"));
+        return Err(Untold::Size);
     }
     let Ok(journal) = Journal::load(unit) else {
-        return Err(Fail::from("not loaded"));
+        return Err(Untold::Image);
     };
     let words = words_on(alloc, &journal, unit, second)?;
     Ok(Held {
@@ -75,15 +77,15 @@ fn words_on<U: Medium>(
     journal: &Journal,
     unit: &mut U,
     second: u32,
-) -> Result<Vec<u16>, Fail> {
+) -> Result<Vec<u16>, Untold> {
     let mut words = Vec::new(alloc);
     if unit.size() != IMAGE_SIZE {
-        return Err(Fail::from("no unit"));
+        return Err(Untold::Size);
     }
     if let Some(day) = journal.find(unit, TimeReal(second / 86400 * 86400))? {
         for index in 0..day.words {
             if unit.size() != IMAGE_SIZE {
-                return Err(Fail::from("no unit"));
+                return Err(Untold::Size);
             }
             words.push(journal.word(unit, &day, index)?)?;
         }
@@ -91,8 +93,31 @@ fn words_on<U: Medium>(
     Ok(words)
 }
 
+/// Whether it tells this last-kept minute, and these words of the day of a second.
+pub fn unit_tells<U: Medium>(
+    alloc: Global,
+    unit: &mut U,
+    second: u32,
+    kept: u32,
+    words: &[u16],
+) -> Result<bool, Untold> {
+    let held = held_by_unit(alloc, unit, second)?;
+    Ok(held.kept == kept && held.words.as_slice() == words)
+}
+
+/// So many bytes of a unit.
+pub fn unit_bytes<U: Medium, const N: usize>(unit: &mut U, place: u32) -> Result<[u8; N], Failed>
+    requires unit { IsUnit (U.state unit.old) }
+    requires inside { place + N ≤ IMAGE_SIZE }
+    ensures { IsUnit (U.state unit.new) }
+{
+    let mut out = [0; N];
+    unit.read_at(place, &mut out)?;
+    Ok(out)
+}
+
 /// What it tells of that day.
-pub fn told_by_unit<U: Medium>(alloc: Global, unit: &mut U, second: u32) -> Result<Told, Fail> {
+pub fn told_by_unit<U: Medium>(alloc: Global, unit: &mut U, second: u32) -> Result<Told, Untold> {
     let held = held_by_unit(alloc, unit, second)?;
     Ok(Told {
         words: held.words,
@@ -101,58 +126,72 @@ pub fn told_by_unit<U: Medium>(alloc: Global, unit: &mut U, second: u32) -> Resu
 }
 
 /// The words of a card's first day, which has so many bytes.
-fn card_words<M: Medium>(alloc: Global, card: &mut M, length: u16) -> Result<Vec<u16>, Fail> {
+fn card_words<M: Medium>(alloc: Global, card: &mut M, length: u16) -> Result<Vec<u16>, Untold> {
     let mut words = Vec::new(alloc);
     let first = DAYS + 4 + HEAD as u32;
     for index in 0..(length as u32).saturating_sub(HEAD as u32) / 2 {
         let place = first + 2 * index;
         if place > LARGEST_IMAGE - 2 {
-            return Err(Fail::from("outside a card"));
+            return Err(Untold::Size);
         }
         words.push(u16::from_be_bytes(bytes(card, place)?))?;
     }
     Ok(words)
 }
 
-/// What a card of the largest sizes tells that has one day alone.
-pub fn told_by_card<C: Chip>(alloc: Global, card: &mut C) -> Result<Told, Fail> {
-    card.revive()?;
-    if card.size() < LARGEST_IMAGE {
-        return Err(Fail::from("no card"));
-    }
-    let Ok(mut port) = Port::load(&mut *card) else {
-        return Err(Fail::from("no sizes"));
-    };
-    let pointers: [u8; 4] = bytes(&mut port, DAYS)?;
+/// The words of the one day of a card.
+fn day_of_card<M: Medium>(alloc: Global, card: &mut M) -> Result<Vec<u16>, Untold> {
+    let pointers: [u8; 4] = bytes(card, DAYS)?;
     if pointers != [0; 4] {
-        return Err(Fail::from("more than one day"));
+        return Err(Untold::Days);
     }
-    let head: [u8; HEAD] = bytes(&mut port, DAYS + 4)?;
-    let words = card_words(alloc, &mut port, u16::from_be_bytes([head[2], head[3]]))?;
-    let newest: [u8; 2] = bytes(&mut port, VEHICLES)?;
+    let head: [u8; HEAD] = bytes(card, DAYS + 4)?;
+    card_words(alloc, card, u16::from_be_bytes([head[2], head[3]]))
+}
+
+/// The minute of the last use in its newest vehicle entry.
+fn last_of_card<M: Medium>(card: &mut M) -> Result<u32, Untold> {
+    let newest: [u8; 2] = bytes(card, VEHICLES)?;
     let entry = u16::from_be_bytes(newest) as u32;
     let place = VEHICLES + 2 + VEHICLE * entry + LAST_USE;
     if place > LARGEST_IMAGE - 4 {
-        return Err(Fail::from("outside a card"));
+        return Err(Untold::Size);
     }
-    let used: [u8; 4] = bytes(&mut port, place)?;
-    Ok(Told {
-        words,
-        last: u32::from_be_bytes(used) / 60,
-    })
+    let used: [u8; 4] = bytes(card, place)?;
+    Ok(u32::from_be_bytes(used) / 60)
+}
+
+/// What a card of the largest sizes tells that has one day alone.
+pub fn told_by_card<C: Chip>(alloc: Global, card: &mut C) -> Result<Told, Untold> {
+    card.revive()?;
+    if card.size() < LARGEST_IMAGE {
+        return Err(Untold::Size);
+    }
+    let Ok(mut port) = Port::load(&mut *card) else {
+        return Err(Untold::Image);
+    };
+    let last = last_of_card(&mut port)?;
+    let words = day_of_card(alloc, &mut port)?;
+    Ok(Told { words, last })
+}
+
+/// Whether its words are these.
+pub fn card_tells<C: Chip>(alloc: Global, card: &mut C, words: &[u16]) -> Result<bool, Untold> {
+    let told = told_by_card(alloc, card)?;
+    Ok(told.words.as_slice() == words)
 }
 
 /// The first place of a session that was not closed, on a card of the largest sizes.
 const UNCLOSED: u32 = 619;
 
 /// The type and the begin of what stands there.
-pub fn unclosed_on<C: Chip>(card: &mut C) -> Result<[u8; 5], Fail> {
+pub fn unclosed_on<C: Chip>(card: &mut C) -> Result<[u8; 5], Untold> {
     card.revive()?;
     if card.size() < LARGEST_IMAGE {
-        return Err(Fail::from("no card"));
+        return Err(Untold::Size);
     }
     let Ok(mut port) = Port::load(&mut *card) else {
-        return Err(Fail::from("no sizes"));
+        return Err(Untold::Image);
     };
     bytes(&mut port, UNCLOSED)
 }

@@ -3,7 +3,6 @@ ghost use Rattle.std.specs.Prelude.{IfOk};
 ghost use Rattle.tach_media.specs.MemMedium.{memory_state};
 ghost use Rattle.unit_model.specs.Image.{IsUnit};
 
-use crate::units::{Room, image_of, unit_with};
 use std::alloc::Global;
 use std::process::Abort;
 use std::rt::HostRuntime;
@@ -12,6 +11,7 @@ use tach_media::{Failed, Left, MemMedium, Memory, Stop};
 use tacho_types::Registration;
 use unit_memory::{Identity, format_unit};
 use unit_model::layout::IMAGE_SIZE;
+use worked_devices::{Room, image_of, unit_with};
 
 /// The vehicle.
 const VEHICLE: Identity = Identity {
@@ -60,15 +60,34 @@ fn is_kind(image: &[u8], kind: Image) -> bool {
     }
 }
 
+/// What a unit of ones that is made new tells: the answer, how many calls there were, and whether its image is of a kind.
+#[derive(Clone, Copy)]
+struct Made {
+    answer: Result<(), Failed>,
+    calls: u64,
+    is_kind: bool,
+}
+
+fn made(alloc: Global, stops: Vec<Stop>, kind: Image) -> Result<Made, Fail> {
+    let mut unit = unit_of_ones(alloc, stops)?;
+    let answer = format_unit(&mut unit, &VEHICLE);
+    let calls = unit.calls();
+    let image = image_of(alloc, &mut unit)?;
+    let is_kind = is_kind(image.as_slice(), kind);
+    Ok(Made {
+        answer,
+        calls,
+        is_kind,
+    })
+}
+
 #[test]
 fn a_unit_is_made_new(rt: HostRuntime) -> Result<(), Fail> {
     let alloc = rt.alloc();
-    let mut unit = unit_of_ones(alloc, Vec::new(alloc))?;
-    let made = format_unit(&mut unit, &VEHICLE);
-    assert_eq!(rt; made, Ok(()));
-    assert_eq!(rt; unit.calls(), WRITES);
-    let image = image_of(alloc, &mut unit)?;
-    assert!(rt; is_kind(image.as_slice(), Image::New));
+    let made = made(alloc, Vec::new(alloc), Image::New)?;
+    assert_eq!(rt; made.answer, Ok(()));
+    assert_eq!(rt; made.calls, WRITES);
+    assert!(rt; made.is_kind);
     Ok(())
 }
 
@@ -76,11 +95,9 @@ fn a_unit_is_made_new(rt: HostRuntime) -> Result<(), Fail> {
 fn leaves(rt: &(impl Abort + AllocGlobal), call: u64, left: Left, kind: Image) -> Result<(), Fail> {
     let alloc = rt.alloc();
     let stop = Stop { call, left };
-    let mut unit = unit_of_ones(alloc, vec![in alloc; stop]?)?;
-    let made = format_unit(&mut unit, &VEHICLE);
-    assert_eq!(rt; made, Err(Failed));
-    let image = image_of(alloc, &mut unit)?;
-    assert!(rt; is_kind(image.as_slice(), kind));
+    let made = made(alloc, vec![in alloc; stop]?, kind)?;
+    assert_eq!(rt; made.answer, Err(Failed));
+    assert!(rt; made.is_kind);
     Ok(())
 }
 

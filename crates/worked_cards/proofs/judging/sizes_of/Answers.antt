@@ -1,6 +1,6 @@
 use Rattle.std.proofs.Common.{◌≡◌, None}
 use Rattle.card_layout.specs.Files.{files_of}
-use Rattle.worked_rows.proofs.card.judge_tests.sizes_of.Goals as goal
+use Rattle.worked_cards.proofs.judging.sizes_of.Goals as goal
 
 pub returns-in-Ok-clause-told : goal.returns-in-Ok-clause-told
 unfolding files_of

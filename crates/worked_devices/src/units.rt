@@ -4,11 +4,11 @@ ghost use Rattle.tach_media.specs.MemMedium.{memory_state};
 ghost use Rattle.card_layout.specs.declared.files.TheConstants.{LARGEST_IMAGE};
 ghost use Rattle.unit_model.specs.Image.{IsUnit};
 
+use crate::Untold;
 use card_commands::SimCard;
 use card_files::{CardIdentity, blank_card};
 use card_layout::{Application, LARGEST_IMAGE};
 use std::alloc::{AllocError, Global};
-use std::test::Fail;
 use tach_media::{Left, Medium, MemMedium, Memory, Stop};
 use tacho_types::{Name36, Nation};
 use unit_model::layout::IMAGE_SIZE;
@@ -67,11 +67,11 @@ pub fn unit_with(
 }
 
 /// The image of a unit that works again.
-pub fn image_of<U: Medium>(alloc: Global, unit: &mut U) -> Result<Vec<u8>, Fail> {
+pub fn image_of<U: Medium>(alloc: Global, unit: &mut U) -> Result<Vec<u8>, Untold> {
     let mut image = vec![in alloc; 0u8; IMAGE_SIZE as usize]?;
     unit.revive()?;
     if unit.size() < IMAGE_SIZE || image.len() != IMAGE_SIZE as usize {
-        return Err(Fail::from("no unit"));
+        return Err(Untold::Size);
     }
     unit.read_at(0, image.as_mut_slice())?;
     Ok(image)
