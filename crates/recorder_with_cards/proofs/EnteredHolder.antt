@@ -75,14 +75,14 @@ tells-vehicle : (r : Recording) (v : Option Vehicle) → TellsVehicle r v (previ
 tells-vehicle r None = (refl, refl)
 tells-vehicle r (Some v) = (refl, refl)
 
-abbrev VehicleFits : Option Vehicle → Type 0
+abbrev pub VehicleFits : Option Vehicle → Type 0
 VehicleFits o = IfSome o (λ v. (length v.registration.0 ≡ 15) × (v.last_use.0 < 2 ^ 32))
 
-previous-long : (v : Option Vehicle) → VehicleFits v → length (previous_of v).0 ≡ 15
+pub previous-long : (v : Option Vehicle) → VehicleFits v → length (previous_of v).0 ≡ 15
 previous-long None h = refl
 previous-long (Some v) h = h.0
 
-previous-low : (v : Option Vehicle) → VehicleFits v → previous_time_of v < 2 ^ 32
+pub previous-low : (v : Option Vehicle) → VehicleFits v → previous_time_of v < 2 ^ 32
 previous-low None h = omega arith
 previous-low (Some v) h = h.1
 

@@ -5,6 +5,7 @@ pub mod EnteredAdds
 pub mod EnteredNamed
 pub mod EnteredEvented
 pub mod EnteredHolder
+pub mod EnteredBefore
 pub mod EnteredLines
 pub mod EnteredRinged
 pub mod EnteredPlaces

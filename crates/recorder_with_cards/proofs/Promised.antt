@@ -2,6 +2,7 @@
 use Rattle.std.proofs.Common.{◌≡◌, ◌∙◌, ◌⊎◌, inl, inr, ⊎_elim, ℕ, ◌+◌, ◌-◌, ◌/◌, ◌<◌, ◌≤◌, true, false, Option, Some, None, IfSome, option_map, is_some, Result, Ok, List, [], ◌++◌, length, All, refl, ap, sym, subst, arith}
 use Rattle.trace_model.specs.declared.Card.{Card}
 use Rattle.trace_model.specs.declared.Card.TheVariants.{A, B}
+use Rattle.tacho_types.specs.declared.texts.Registration.{Registration}
 use Rattle.trace_model.specs.declared.Item.{Item}
 use Rattle.trace_model.specs.Trace.{TraceSecond, seconds_of}
 use Rattle.tach_media.specs.Medium.{State, IsCoherent}
@@ -104,7 +105,9 @@ use Rattle.recorder_with_cards.specs.Placed.{ShowsPlaces}
 use Rattle.recorder_with_cards.proofs.KeptAfter.{end-kept}
 use Rattle.recorder_with_cards.proofs.LastKept.{tells-last}
 use Rattle.run_acts.specs.Closings.{spells_of}
-use Rattle.run_acts.specs.Stays.{start_shown, AreTimely, registration_in, AreMerged, spells, sits_in, HasStays, ShowsStays}
+use Rattle.run_acts.specs.Comings.{TellsMore}
+use Rattle.run_acts.proofs.Comings.{tells-none}
+use Rattle.run_acts.specs.Stays.{Stay, Coming, comings_on, registration_in, AreMerged, spells, sits_in, HasStays, ShowsStays, start_shown, AreTimely}
 use Rattle.recorder_with_cards.proofs.AtEnd.{noted-at-end, sits-at-end}
 use Rattle.run_recorded.specs.Whole.{NothingFailed}
 use Rattle.run_crew.specs.Cabin.{Stands}
@@ -166,6 +169,12 @@ own-points : (x : List ℕ) → IsOwnValid x → PointsInside (places_in x) x
 unfolding own_bad_file
 own-points x valid = pointer-passes (places_in x) x (valid-passes (own_sizes x) x valid).places
 
+-- the comings of cards with these images are those with images that are the same
+merged-by : (comings : List Coming) (vehicle : Registration) (one other : List Stay) (a b now_a now_b : List ℕ) → a ≡ now_a → b ≡ now_b → AreMerged comings (comings_on vehicle a one) (comings_on vehicle b other) → AreMerged comings (comings_on vehicle now_a one) (comings_on vehicle now_b other)
+merged-by comings vehicle one other a b now_a now_b first second h =
+    subst (λ (i : List ℕ). AreMerged comings (comings_on vehicle now_a one) (comings_on vehicle i other)) second
+    (subst (λ (i : List ℕ). AreMerged comings (comings_on vehicle i one) (comings_on vehicle b other)) first h)
+
 module _ (x a b : List ℕ) (start : ℕ) (items : List Item) (began now : Devices) where
   abbrev r0 : Recording
   r0 = opened_with x a b
@@ -206,6 +215,12 @@ module _ (x a b : List ℕ) (start : ℕ) (items : List Item) (began now : Devic
           only = λ c. ⊎_elim (λ none_. inl none_) (λ valid. inr (subst IsOwnValid (of_image c) valid)) (all.only c);
           shows = stay_shows none;
           closed = stay_spells none;
+          befores = record {
+            comings = all.befores.comings;
+            lines = all.befores.lines;
+            merged = merged-by all.befores.comings run.keeper.memory.registration (all.stays A) (all.stays B) (found_of o.found A).image (found_of o.found B).image (card_image r A) (card_image r B) (of_image A) (of_image B) all.befores.merged;
+            tells = λ dense. all.befores.tells (record { points = insertions-inside x may.decodes; dense = dense });
+          };
           timely = λ c valid. subst (λ (i : List ℕ). AreTimely run.keeper.memory.registration (own_sizes i).activity (all.stays c) (start_shown i)) (of_image c) (own none c valid).timely;
         };
     kept = end-kept o ss run out now h.evented.recorded h.spans h.ringed.spans_are h.stored;
@@ -387,6 +402,10 @@ module _ (x a b : List ℕ) (start : ℕ) (began now : Devices) (opened : Opened
         travelled-opened (odometer_at x) now.unit x refl (let le : odometer_at x ≤ HIGHEST_ODOMETER = omega (arith, is, low) in le) ready.journal.pointer
         (λ y left. ready.begins.unit.only y (unit_whole.counts_now now.unit.clock y (omega arith) left))
 
+    -- its unit has one image
+    only_unit : (y : List ℕ) → now.unit.may_leave y → y ≡ x
+    only_unit y left = ready.begins.unit.only y (unit_whole.counts_now now.unit.clock y (omega arith) left)
+
     starts-recorded : (run : Run) (out : Outcome) → run.power ≡ Due → run.next ≡ start → run.begun ≡ 0 → run.unfound ≡ 0 → run.keeper.cabin.slots ≡ nothing_yet → ((c : Card) → known_in run.keeper.cabin.cards c ≡ known_of opened c) →
         ((c : Card) → session_of run.keeper.cabin.cards c ≡ None) → out.breaks.items ≡ [] → out.refused.items ≡ [] → out.finds.items ≡ [] → out.marks.items ≡ [] → run.keeper.memory.registration.0 ≡ registration_in x →
         RunRecorded first-o [] run out now
@@ -415,6 +434,12 @@ module _ (x a b : List ℕ) (start : ℕ) (began now : Devices) (opened : Opened
         says = registered;
         stays = λ c. [];
         told = subst (λ (fs : List Find). AreMerged (filter (λ (g : Find). is_accepting g.verdict) fs) [] []) (sym finds) (refl, refl);
+        befores = record {
+          comings = [];
+          lines = ap (λ (fs : List Find). filter (λ (g : Find). is_accepting g.verdict) fs) (sym finds);
+          merged = (refl, refl);
+          tells = λ stood y left. subst (TellsMore [] x) (sym (only_unit y left)) (tells-none x stood.points stood.dense);
+        };
         owed = λ c. tt;
         only = λ c. inl refl;
         each = λ c valid.
@@ -423,9 +448,6 @@ module _ (x a b : List ℕ) (start : ℕ) (began now : Devices) (opened : Opened
             (stays-start (found_of f c) run.keeper.memory.registration (sits_in run.keeper.cabin.slots.seats c) (card_of now c) (λ y left. untouched c y ((whole c).counts_now (found_of f c).began y (there.clocks c) left))));
       };
     }
-
-    only_unit : (y : List ℕ) → now.unit.may_leave y → y ≡ x
-    only_unit y left = ready.begins.unit.only y (unit_whole.counts_now now.unit.clock y (omega arith) left)
 
     -- and no event of it
     pub starts-evented : (run : Run) (out : Outcome) → run.power ≡ Due → run.next ≡ start → run.begun ≡ 0 → run.unfound ≡ 0 → run.keeper.memory ≡ opened.unit.memory → run.keeper.cabin.slots ≡ nothing_yet →

@@ -86,6 +86,8 @@ use Rattle.run_course.proofs.Logs.{found_log}
 use Rattle.run_ringed.specs.Ringed.{notes_in}
 use Rattle.run_acts.specs.Closings.{spells_of, notes_within}
 use Rattle.run_acts.specs.Stays.{AllStay}
+use Rattle.run_rings.proofs.Same.{rings-moments, behind-same}
+use Rattle.run_acts.proofs.Comings.{leaves-more}
 use Rattle.run_acts.proofs.AllStay.{all-unit, all-of, all-noted, found-on}
 use Rattle.run_acts.proofs.NotesThen.{notes-wake, notes-found}
 
@@ -284,7 +286,7 @@ module _ (o : Origin) (origin : IsOrigin o) (done : List TraceSecond) (s : Trace
         (subst (λ (l : RunLog). AllStay o l (notes_within b done s (In 0) (log_of out)) old.keeper.memory.registration v.cabin e) (sym (ap (λ (x : Values). x.log) values))
         (all-noted o v.log (found_log v.unfound j.kept v.log) (notes_in v.log done) (notes_within b done s (In 0) (log_of out)) old.keeper.memory.registration v.cabin e (found-on v.unfound j.kept v.log)
         (λ none c. ap (λ (ns : List Note). spells_of c ns) notes-woken)
-        (all-unit o v.log (notes_in v.log done) old.keeper.memory.registration v.cabin U W X Y stay))))
+        (all-unit o v.log (notes_in v.log done) old.keeper.memory.registration v.cabin U W X Y (leaves-more U W (rings-moments U W (IsMending j) whole mends (λ x c m. behind-same x c m.outside.after))) stay))))
 
     pub awake : (begins : Beginning) × RunWaking o done s begins (waiting_in Driver (card_in new.keeper.cabin.slots.seats.driver) ++ waiting_in CoDriver (card_in new.keeper.cabin.slots.seats.codriver)) both_slots new out (devices W X Y)
     awake = (b, record { origin = origin; lit = begun.power; waking = wakes; odometer = odometer; stay = stays-behind })

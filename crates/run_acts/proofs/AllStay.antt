@@ -2,7 +2,7 @@
 use Rattle.std.proofs.Common.{◌≡◌, ◌⊎◌, ◌∙◌, inl, inr, ⊎_elim, ℕ, suc, zero, Bool, true, false, List, [], ◌∷◌, ◌++◌, append_assoc, Option, Some, None, refl, ap, sym, subst}
 use Rattle.std.specs.Prelude.{not, ◌&&◌, filter, map, is_some, if◌then◌else◌}
 use Rattle.std.specs.List.{AllByRecursion}
-use Rattle.std.proofs.lemmas.List.{append-nil}
+use Rattle.std.proofs.lemmas.List.{append-nil, map-append}
 use Rattle.std.proofs.lemmas.List.Elements.{filter-append}
 use Rattle.activity_codec.specs.declared.values.Slot.{Slot}
 use Rattle.activity_codec.specs.declared.values.Slot.TheVariants.{Driver, CoDriver}
@@ -42,8 +42,12 @@ use Rattle.minute_model.specs.declared.Minute.{Minute}
 use Rattle.run_keeping.specs.Minutes.{Round, Told, Done, Reach, Whole, Short, IsReach, cabin_after, breaks_after, told_after, told_by, present_at}
 use Rattle.run_keeping.specs.Deeds.{KeepsOn, AllKeep}
 use Rattle.run_acts.specs.Closings.{Spell, spells_of, with_last_shut}
-use Rattle.run_acts.specs.Stays.{Stay, acceptances_told, founds, spells, sits_in, as_noted, AreMerged, TellsOwed, StaysIn, HasStays, AreStays, AllStay}
-use Rattle.run_acts.proofs.Stays.{on_last, on-last-founds, on-last-owed, on-last-none, with_kepts, merged-one, merged-other, stays-still, stays-moved, stays-keep}
+use Rattle.message_model.specs.Records.{insertion_ring}
+use Rattle.run_ringed.specs.OnCards.{HasRing}
+use Rattle.run_acts.specs.Comings.{VehicleTold, told_of, TellsMore, TellMore}
+use Rattle.run_acts.proofs.Comings.{tells-none, tells-then}
+use Rattle.run_acts.specs.Stays.{Stay, Coming, comings_on, lines_of, befores_of, TellsBefores, acceptances_told, founds, spells, sits_in, as_noted, AreMerged, TellsOwed, StaysIn, HasStays, AreStays, AllStay}
+use Rattle.run_acts.proofs.Stays.{on_last, on-last-comings, on-last-founds, on-last-owed, on-last-none, with_kepts, merged-one, merged-other, stays-still, stays-moved, stays-keep}
 
 -- ---- the log tells of no failed call
 
@@ -132,6 +136,17 @@ unfolding kept_stays
 kept-none None ks ss none = none
 kept-none (Some a) ks ss none = on-last-none (with_kepts ks) ss none
 
+kept-comings : (r : Registration) (image : List ℕ) (s : Option Accepted) (ks : List Kept) (ss : List Stay) → comings_on r image (kept_stays s ks ss) ≡ comings_on r image ss
+unfolding kept_stays
+kept-comings r image None ks ss = refl
+kept-comings r image (Some a) ks ss = on-last-comings r image (with_kepts ks) (λ x. refl) ss
+
+-- the comings of a card as more acceptances are told: none is new, or one is, and the unit tells the vehicle before it
+abbrev pub ComesOne : CardFound → Registration → (told later : List Find) → (ss now : List Stay) → (U V : State) → Type 0
+ComesOne f r told later ss now U V =
+    ((later ≡ told) × (comings_on r f.image now ≡ comings_on r f.image ss) × TellMore [] U V)
+    ⊎ ((x : Coming) × (later ≡ told ++ x.found ∷ []) × (comings_on r f.image now ≡ comings_on r f.image ss ++ x ∷ []) × TellMore (told_of x.before ∷ []) U V)
+
 -- the lines of its stays as more acceptances are told: none is new, or one is, that is its own
 abbrev pub TellsOne : (told later : List Find) → (ss now : List Stay) → Type 0
 TellsOne told later ss now = ((later ≡ told) × (founds now ≡ founds ss)) ⊎ ((g : Find) × (later ≡ told ++ g ∷ []) × (founds now ≡ founds ss ++ g ∷ []))
@@ -151,22 +166,24 @@ other-told told later ss now one (inl t) h = merged-as-other told later one (fou
 other-told told later ss now one (inr t) h = merged-as-other (told ++ t.0 ∷ []) later one (founds ss ++ t.0 ∷ []) (founds now) t.1 t.2 (merged-other told one (founds ss) t.0 h)
 
 -- A CALL makes of the stays of a card these, as its session and its seat become others, and its spells these
-pub record Turns (f : CardFound) (log later : RunLog) (r : Registration) (noted noted_now : List Spell) (sits sits_now : Bool) (s t : Option Accepted) (X Y : State) (ss : List Stay) : Type 0 where
+pub record Turns (f : CardFound) (log later : RunLog) (r : Registration) (noted noted_now : List Spell) (sits sits_now : Bool) (s t : Option Accepted) (U V X Y : State) (ss : List Stay) : Type 0 where
   pub now : List Stay
   pub told : TellsOne (acceptances_told log) (acceptances_told later) ss now
   pub owed : AllByRecursion TellsOwed ss → AllByRecursion TellsOwed now
   pub only : (ss ≡ []) ⊎ IsOwnValid f.image → (now ≡ []) ⊎ IsOwnValid f.image
   pub shows : IsOwnValid f.image → HasStays f r noted sits ss s X → HasStays f r noted_now sits_now now t Y
+  pub comes : (IsOwnValid f.image → HasStays f r noted sits ss s X) → ComesOne f r (acceptances_told log) (acceptances_told later) ss now U V
 
 -- none begins
-pub turns-so : (f : CardFound) (log : RunLog) (r : Registration) (noted : List Spell) (sits : Bool) (s t : Option Accepted) (X Y : State) (turn : List Stay → List Stay) → ((ss : List Stay) → founds (turn ss) ≡ founds ss) → ((ss : List Stay) → AllByRecursion TellsOwed ss → AllByRecursion TellsOwed (turn ss))
-    → ((ss : List Stay) → ss ≡ [] → turn ss ≡ []) → (ss : List Stay) → (IsOwnValid f.image → HasStays f r noted sits ss s X → HasStays f r noted sits (turn ss) t Y) → Turns f log log r noted noted sits sits s t X Y ss
-turns-so f log r noted sits s t X Y turn same tells none ss shows = record {
+pub turns-so : (f : CardFound) (log : RunLog) (r : Registration) (noted : List Spell) (sits : Bool) (s t : Option Accepted) (U V X Y : State) (turn : List Stay → List Stay) → ((ss : List Stay) → founds (turn ss) ≡ founds ss) → ((ss : List Stay) → AllByRecursion TellsOwed ss → AllByRecursion TellsOwed (turn ss))
+    → ((ss : List Stay) → ss ≡ [] → turn ss ≡ []) → ((ss : List Stay) → comings_on r f.image (turn ss) ≡ comings_on r f.image ss) → TellMore [] U V → (ss : List Stay) → (IsOwnValid f.image → HasStays f r noted sits ss s X → HasStays f r noted sits (turn ss) t Y) → Turns f log log r noted noted sits sits s t U V X Y ss
+turns-so f log r noted sits s t U V X Y turn same tells none comes go ss shows = record {
   now = turn ss;
   told = inl (refl, same ss);
   owed = tells ss;
   only = λ only. ⊎_elim (λ was. inl (none ss was)) (λ valid. inr valid) only;
   shows = shows;
+  comes = λ shown. inl (refl, comes ss, go);
 }
 
 -- A SESSION AND A SEAT BECOME OTHERS, and the spells of a card with them: it has the same session or none, and what was as noted is so still
@@ -233,13 +250,72 @@ module _ (o : Origin) where
   abbrev HasOf : Registration → List Note → Cabin → Card → List Stay → State → Type 0
   HasOf r notes cabin c ss X = HasStays (f c) r (spells_of c notes) (sits_in cabin.slots.seats c) ss (session_of cabin.cards c) X
 
-  abbrev TurnsOf : Card → (log later : RunLog) → (notes now : List Note) → Registration → (cabin after : Cabin) → (X Y : State) → List Stay → Type 0
-  TurnsOf c log later notes now r cabin after X Y ss =
-      Turns (f c) log later r (spells_of c notes) (spells_of c now) (sits_in cabin.slots.seats c) (sits_in after.slots.seats c) (session_of cabin.cards c) (session_of after.cards c) X Y ss
+  abbrev TurnsOf : Card → (log later : RunLog) → (notes now : List Note) → Registration → (cabin after : Cabin) → (U V X Y : State) → List Stay → Type 0
+  TurnsOf c log later notes now r cabin after U V X Y ss =
+      Turns (f c) log later r (spells_of c notes) (spells_of c now) (sits_in cabin.slots.seats c) (sits_in after.slots.seats c) (session_of cabin.cards c) (session_of after.cards c) U V X Y ss
 
-  -- the unit alone differs
-  pub all-unit : (log : RunLog) (notes : List Note) (r : Registration) (cabin : Cabin) (U V X Y : State) → AllStay o log notes r cabin (devices U X Y) → AllStay o log notes r cabin (devices V X Y)
-  all-unit log notes r cabin U V X Y all none = let h = all none in record { says = h.says; stays = h.stays; told = h.told; owed = h.owed; only = h.only; each = λ c valid. by h c valid }
+  -- ---- what the unit tells of the vehicles before
+
+  abbrev Befores : List Find → Registration → (Card → List Stay) → State → Type 0
+  Befores told r ss U = TellsBefores (HasRing insertion_ring o.recording.unit) o.recording.unit told r (λ (c : Card). (found_of o.found c).image) ss U
+
+  -- a unit that is not called
+  unit-still : (U : State) → TellMore [] U U
+  unit-still U = λ y left. (y, left, λ points dense. tells-none y points dense)
+
+  -- no card has come
+  befores-as : (told later : List Find) (r : Registration) (ss now : Card → List Stay) (U V : State) → later ≡ told → ((c : Card) → comings_on r (f c).image (now c) ≡ comings_on r (f c).image (ss c)) → TellMore [] U V → Befores told r ss U → Befores later r now V
+  befores-as told later r ss now U V same as_ go h = record {
+    comings = h.comings;
+    lines = h.lines ∙ sym same;
+    merged = subst (λ (l : List Coming). AreMerged h.comings l (comings_on r (f B).image (now B))) (sym (as_ A)) (subst (λ (l : List Coming). AreMerged h.comings (comings_on r (f A).image (ss A)) l) (sym (as_ B)) h.merged);
+    tells = λ stood y left.
+        let x = go y left in
+        let was = h.tells stood x.0 x.1 in
+        subst (λ (vs : List VehicleTold). TellsMore vs o.recording.unit y) (append-nil (befores_of h.comings)) (tells-then (befores_of h.comings) [] o.recording.unit x.0 y was (x.2 was.points was.dense));
+  }
+
+  -- one has
+  befores-one : (c : Card) (told later : List Find) (r : Registration) (ss : Card → List Stay) (mine : List Stay) (x : Coming) (U V : State) → later ≡ told ++ x.found ∷ [] → comings_on r (f c).image mine ≡ comings_on r (f c).image (ss c) ++ x ∷ [] → TellMore (told_of x.before ∷ []) U V →
+      Befores told r ss U → Befores later r (with_mine c mine ss) V
+  befores-one c told later r ss mine x U V is own go h = record {
+    comings = h.comings ++ x ∷ [];
+    lines = map-append (λ (k : Coming). k.found) h.comings (x ∷ []) ∙ ap (λ (l : List Find). l ++ x.found ∷ []) h.lines ∙ sym is;
+    merged = by c own;
+    tells = λ stood y left.
+        let z = go y left in
+        let was = h.tells stood z.0 z.1 in
+        subst (λ (vs : List VehicleTold). TellsMore vs o.recording.unit y) (sym (map-append (λ (k : Coming). told_of k.before) h.comings (x ∷ [])))
+        (tells-then (befores_of h.comings) (told_of x.before ∷ []) o.recording.unit z.0 y was (z.2 was.points was.dense));
+  }
+    where
+      by : (c : Card) → comings_on r (f c).image mine ≡ comings_on r (f c).image (ss c) ++ x ∷ [] → AreMerged (h.comings ++ x ∷ []) (comings_on r (f A).image (with_mine c mine ss A)) (comings_on r (f B).image (with_mine c mine ss B))
+      by A own = subst (λ (l : List Coming). AreMerged (h.comings ++ x ∷ []) l (comings_on r (f B).image (ss B))) (sym own) (merged-one h.comings (comings_on r (f A).image (ss A)) (comings_on r (f B).image (ss B)) x h.merged)
+      by B own = subst (λ (l : List Coming). AreMerged (h.comings ++ x ∷ []) (comings_on r (f A).image (ss A)) l) (sym own) (merged-other h.comings (comings_on r (f A).image (ss A)) (comings_on r (f B).image (ss B)) x h.merged)
+
+  befores-turned : (c : Card) (told later : List Find) (r : Registration) (ss : Card → List Stay) (mine : List Stay) (U V : State) → ComesOne (f c) r told later (ss c) mine U V → Befores told r ss U → Befores later r (with_mine c mine ss) V
+  befores-turned c told later r ss mine U V (inl t) h = befores-as told later r ss (with_mine c mine ss) U V t.0 (λ k. by c k t.1) t.2 h
+    where
+      by : (c k : Card) → comings_on r (f c).image mine ≡ comings_on r (f c).image (ss c) → comings_on r (f k).image (with_mine c mine ss k) ≡ comings_on r (f k).image (ss k)
+      by A A own = own
+      by A B own = refl
+      by B A own = refl
+      by B B own = own
+  befores-turned c told later r ss mine U V (inr t) h = befores-one c told later r ss mine t.0 U V t.1 t.2 t.3 h
+
+  -- the unit alone differs, and tells no vehicle more
+  pub all-unit : (log : RunLog) (notes : List Note) (r : Registration) (cabin : Cabin) (U V X Y : State) → TellMore [] U V → AllStay o log notes r cabin (devices U X Y) → AllStay o log notes r cabin (devices V X Y)
+  all-unit log notes r cabin U V X Y go all none =
+      let h = all none in
+      record {
+        says = h.says;
+        stays = h.stays;
+        told = h.told;
+        owed = h.owed;
+        only = h.only;
+        each = λ c valid. by h c valid;
+        befores = befores-as (acceptances_told log) (acceptances_told log) r h.stays h.stays U V refl (λ c. refl) go h.befores;
+      }
     where
       by : (h : Are log notes r cabin (devices U X Y)) (c : Card) → IsOwnValid (f c).image → HasOf r notes cabin c (h.stays c) (card_of (devices V X Y) c)
       by h A valid = h.each A valid
@@ -265,6 +341,7 @@ module _ (o : Origin) where
             let m = moves none c in
             stays-moved (f c) r (spells_of c notes) (spells_of c now) (sits_in cabin.slots.seats c) (sits_in after.slots.seats c) (h.stays c) (session_of cabin.cards c) (session_of after.cards c) (card_of d c)
             (λ was. goes (h.stays c) (session_of cabin.cards c) (session_of after.cards c) m.session was) (m.spell (spells (h.stays c))) (h.each c valid);
+        befores = befores-as (acceptances_told log) (acceptances_told later) r h.stays h.stays d.unit d.unit g.finds (λ c. refl) (unit-still d.unit) h.befores;
       }
     where
       goes : (ss : List Stay) (s t : Option Accepted) → (t ≡ s) ⊎ (t ≡ None) → StaysIn r ss s → StaysIn r ss t
@@ -287,7 +364,7 @@ module _ (o : Origin) where
   -- a call that is about one card, and the unit: nothing is noted of the other one, which has its session and its seat
   pub all-one : (c : Card) (log later : RunLog) (notes now : List Note) (r : Registration) (cabin after : Cabin) (U V X Y Z : State) → (NothingFailed later → NothingFailed log) → session_of after.cards (other c) ≡ session_of cabin.cards (other c) →
       sits_in after.slots.seats (other c) ≡ sits_in cabin.slots.seats (other c) → (NothingFailed later → spells_of (other c) now ≡ spells_of (other c) notes)
-      → (NothingFailed later → (ss : List Stay) → TurnsOf c log later notes now r cabin after X Y ss)
+      → (NothingFailed later → (ss : List Stay) → TurnsOf c log later notes now r cabin after U V X Y ss)
       → AllStay o log notes r cabin (arranged c U X Z) → AllStay o later now r after (arranged c V Y Z)
   all-one A log later notes now r cabin after U V X Y Z fewer same seat spell own all none = by (all (fewer none))
     where
@@ -301,17 +378,18 @@ module _ (o : Origin) where
             owed = λ c. owed h t c;
             only = λ c. only h t c;
             each = λ c valid. each h t c valid;
+            befores = befores-turned A (acceptances_told log) (acceptances_told later) r h.stays t.now U V (t.comes (h.each A)) h.befores;
           }
         where
-          owed : (h : Are log notes r cabin (arranged A U X Z)) (t : TurnsOf A log later notes now r cabin after X Y (h.stays A)) (c : Card) → AllByRecursion TellsOwed (with_mine A t.now h.stays c)
+          owed : (h : Are log notes r cabin (arranged A U X Z)) (t : TurnsOf A log later notes now r cabin after U V X Y (h.stays A)) (c : Card) → AllByRecursion TellsOwed (with_mine A t.now h.stays c)
           owed h t A = t.owed (h.owed A)
           owed h t B = h.owed B
 
-          only : (h : Are log notes r cabin (arranged A U X Z)) (t : TurnsOf A log later notes now r cabin after X Y (h.stays A)) (c : Card) → (with_mine A t.now h.stays c ≡ []) ⊎ IsOwnValid (f c).image
+          only : (h : Are log notes r cabin (arranged A U X Z)) (t : TurnsOf A log later notes now r cabin after U V X Y (h.stays A)) (c : Card) → (with_mine A t.now h.stays c ≡ []) ⊎ IsOwnValid (f c).image
           only h t A = t.only (h.only A)
           only h t B = h.only B
 
-          each : (h : Are log notes r cabin (arranged A U X Z)) (t : TurnsOf A log later notes now r cabin after X Y (h.stays A)) (c : Card) → IsOwnValid (f c).image → HasOf r now after c (with_mine A t.now h.stays c) (card_of (arranged A V Y Z) c)
+          each : (h : Are log notes r cabin (arranged A U X Z)) (t : TurnsOf A log later notes now r cabin after U V X Y (h.stays A)) (c : Card) → IsOwnValid (f c).image → HasOf r now after c (with_mine A t.now h.stays c) (card_of (arranged A V Y Z) c)
           each h t A valid = t.shows valid (h.each A valid)
           each h t B valid =
               as-same (f B) r (spells_of B notes) (spells_of B now) (sits_in cabin.slots.seats B) (sits_in after.slots.seats B) (h.stays B) (session_of cabin.cards B) (session_of after.cards B) Z (spell none) seat same (h.each B valid)
@@ -327,17 +405,18 @@ module _ (o : Origin) where
             owed = λ c. owed h t c;
             only = λ c. only h t c;
             each = λ c valid. each h t c valid;
+            befores = befores-turned B (acceptances_told log) (acceptances_told later) r h.stays t.now U V (t.comes (h.each B)) h.befores;
           }
         where
-          owed : (h : Are log notes r cabin (arranged B U X Z)) (t : TurnsOf B log later notes now r cabin after X Y (h.stays B)) (c : Card) → AllByRecursion TellsOwed (with_mine B t.now h.stays c)
+          owed : (h : Are log notes r cabin (arranged B U X Z)) (t : TurnsOf B log later notes now r cabin after U V X Y (h.stays B)) (c : Card) → AllByRecursion TellsOwed (with_mine B t.now h.stays c)
           owed h t A = h.owed A
           owed h t B = t.owed (h.owed B)
 
-          only : (h : Are log notes r cabin (arranged B U X Z)) (t : TurnsOf B log later notes now r cabin after X Y (h.stays B)) (c : Card) → (with_mine B t.now h.stays c ≡ []) ⊎ IsOwnValid (f c).image
+          only : (h : Are log notes r cabin (arranged B U X Z)) (t : TurnsOf B log later notes now r cabin after U V X Y (h.stays B)) (c : Card) → (with_mine B t.now h.stays c ≡ []) ⊎ IsOwnValid (f c).image
           only h t A = h.only A
           only h t B = t.only (h.only B)
 
-          each : (h : Are log notes r cabin (arranged B U X Z)) (t : TurnsOf B log later notes now r cabin after X Y (h.stays B)) (c : Card) → IsOwnValid (f c).image → HasOf r now after c (with_mine B t.now h.stays c) (card_of (arranged B V Y Z) c)
+          each : (h : Are log notes r cabin (arranged B U X Z)) (t : TurnsOf B log later notes now r cabin after U V X Y (h.stays B)) (c : Card) → IsOwnValid (f c).image → HasOf r now after c (with_mine B t.now h.stays c) (card_of (arranged B V Y Z) c)
           each h t A valid =
               as-same (f A) r (spells_of A notes) (spells_of A now) (sits_in cabin.slots.seats A) (sits_in after.slots.seats A) (h.stays A) (session_of cabin.cards A) (session_of after.cards A) Z (spell none) seat same (h.each A valid)
           each h t B valid = t.shows valid (h.each B valid)
@@ -351,10 +430,10 @@ module _ (o : Origin) where
   one-kept r c noted sits ss ks (Some a) (Some b) X Y some on h = stays-keep (f c) r noted sits ss ks a b X Y on h
 
   -- nothing is noted, and each card has its seat
-  pub all-kept : (log later : RunLog) (notes now : List Note) (r : Registration) (ks : Card → List Kept) (cabin after : Cabin) (d e : Devices) → (NothingFailed later → Goes log later) → (NothingFailed later → (c : Card) → spells_of c now ≡ spells_of c notes) →
+  pub all-kept : (log later : RunLog) (notes now : List Note) (r : Registration) (ks : Card → List Kept) (cabin after : Cabin) (d e : Devices) → TellMore [] d.unit e.unit → (NothingFailed later → Goes log later) → (NothingFailed later → (c : Card) → spells_of c now ≡ spells_of c notes) →
       (NothingFailed later → after.slots ≡ cabin.slots) → (NothingFailed later → (c : Card) → is_some (session_of cabin.cards c) ≡ true → is_some (session_of after.cards c) ≡ true)
       → AllKeep o.found ks cabin.cards after.cards d e → AllStay o log notes r cabin d → AllStay o later now r after e
-  all-kept log later notes now r ks cabin after d e on spell seats some keep all none =
+  all-kept log later notes now r ks cabin after d e go on spell seats some keep all none =
       let g = on none in
       let h = all g.none in
       record {
@@ -369,6 +448,8 @@ module _ (o : Origin) where
             as-same (f c) r (spells_of c notes) (spells_of c now) (sits_in cabin.slots.seats c) (sits_in after.slots.seats c) (kept_stays (session_of cabin.cards c) (ks c) (h.stays c)) (session_of after.cards c) (session_of after.cards c) (card_of e c)
             (spell none c) (ap (λ (k : SlotsKept). sits_in k.seats c) (seats none)) refl
             (one-kept r c (spells_of c notes) (sits_in cabin.slots.seats c) (h.stays c) (ks c) (session_of cabin.cards c) (session_of after.cards c) (card_of d c) (card_of e c) (some none c) (keep c valid) (h.each c valid));
+        befores = befores-as (acceptances_told log) (acceptances_told later) r h.stays (λ (c : Card). kept_stays (session_of cabin.cards c) (ks c) (h.stays c)) d.unit e.unit g.finds
+            (λ c. kept-comings r (f c).image (session_of cabin.cards c) (ks c) (h.stays c)) go h.befores;
       }
 
 -- ---- a session that is gone has its line

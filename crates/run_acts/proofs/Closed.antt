@@ -87,7 +87,8 @@ use Rattle.run_keeping.proofs.CardDeeds.{does-close}
 use Rattle.side_model.specs.Noted.{Note}
 use Rattle.run_acts.specs.Closings.{spells_of, notes_within}
 use Rattle.run_acts.specs.Stays.{Stay, sits_in, ClosesOnCard, HasStays}
-use Rattle.run_acts.proofs.Stays.{on_last, on-last-founds, on-last-owed, on-last-none, with_end, stays-close}
+use Rattle.run_acts.specs.Comings.{TellMore}
+use Rattle.run_acts.proofs.Stays.{on_last, on-last-comings, on-last-founds, on-last-owed, on-last-none, with_end, stays-close}
 use Rattle.run_acts.proofs.AllStay.{turns-so, all-one, no-tear, mine-left, others-left}
 use Rattle.run_acts.proofs.SeatsThen.{sits-nowhere}
 
@@ -168,14 +169,15 @@ module _ {C : Type 0} (state : C → State) (c : Card) (slot : Slot) (at : Momen
     called = record { low = s.number / 60; leaving = leaving (ap is_some has); is_now = from; goes = goes; travels = travels }
 
     -- it is closed
-    closed : ClosesOnCard (Some a) (state x) (state y) → (b : Bool) → failed ≡ b → IsPoweredOrOff b o.found (carried_closed Closed c carries) (with_session c None run.keeper.cabin.cards) e → GoesOnOrFails b o done s (In n) [] (with_cabin (with_session_of c None run.keeper.cabin) run) told e w.within.b
-    closed shut false is powered = goes-as o done s (In n) (In n) [] [] [] run (with_cabin (with_session_of c None run.keeper.cabin) run) told told d e w.within.from w refl refl (session-closed d e o done s (In n) v w.within slot c called powered)
+    closed : (failed ≡ false → TellMore [] U V) → ClosesOnCard (Some a) (state x) (state y) → (b : Bool) → failed ≡ b → IsPoweredOrOff b o.found (carried_closed Closed c carries) (with_session c None run.keeper.cabin.cards) e → GoesOnOrFails b o done s (In n) [] (with_cabin (with_session_of c None run.keeper.cabin) run) told e w.within.b
+    closed go shut false is powered = goes-as o done s (In n) (In n) [] [] [] run (with_cabin (with_session_of c None run.keeper.cabin) run) told told d e w.within.from w refl refl (session-closed d e o done s (In n) v w.within slot c called powered)
         (all-one o c (log_of told) (log_of told) so-far so-far run.keeper.memory.registration run.keeper.cabin (with_session_of c None run.keeper.cabin) U V (state x) (state y) Z (λ none. none) (others-left c run.keeper.cabin.cards) refl (λ none. refl)
-        (λ none ss. turns-so (found_of o.found c) (log_of told) run.keeper.memory.registration (spells_of c so-far) (sits_in run.keeper.cabin.slots.seats c) (session_of run.keeper.cabin.cards c) (session_of (with_session c None run.keeper.cabin.cards) c) (state x) (state y) (on_last (with_end shut.0))
-        (on-last-founds (with_end shut.0) (λ s. refl)) (on-last-owed (with_end shut.0) (λ s tells. tells)) (on-last-none (with_end shut.0)) ss
+        (λ none ss. turns-so (found_of o.found c) (log_of told) run.keeper.memory.registration (spells_of c so-far) (sits_in run.keeper.cabin.slots.seats c) (session_of run.keeper.cabin.cards c) (session_of (with_session c None run.keeper.cabin.cards) c) U V (state x) (state y) (on_last (with_end shut.0))
+        (on-last-founds (with_end shut.0) (λ s. refl)) (on-last-owed (with_end shut.0) (λ s tells. tells)) (on-last-none (with_end shut.0))
+        (on-last-comings run.keeper.memory.registration (found_of o.found c).image (with_end shut.0) (λ s. refl)) (go is) ss
         (λ valid h. subst (λ (q : Option Accepted). HasStays (found_of o.found c) run.keeper.memory.registration (spells_of c so-far) (sits_in run.keeper.cabin.slots.seats c) (on_last (with_end shut.0) ss) q (state y)) (sym (mine-left c run.keeper.cabin.cards))
         (stays-closed shut valid ss (subst (λ (q : Option Accepted). HasStays (found_of o.found c) run.keeper.memory.registration (spells_of c so-far) (sits_in run.keeper.cabin.slots.seats c) ss q (state x)) has h)))) w.stay)
-    closed shut true is powerless = record {
+    closed go shut true is powerless = record {
       waits = [];
       cabin = with_session_of c None run.keeper.cabin;
       same = refl;
@@ -213,8 +215,8 @@ module _ {C : Type 0} (state : C → State) (c : Card) (slot : Slot) (at : Momen
     }
 
   -- SO IT IS RECORDED, whatever became of it
-  pub closed-recorded : (new : Run) (after : Listed Break) (closing : Closing) → (closing ≡ Closed → ClosesOnCard (session_of run.keeper.cabin.cards c) (state x) (state y)) → IsClosed c slot at run new told.breaks after closing → HasBroken (state x) (state y) (closed_falls closing) → GoesOnOrFails failed o done s (In n) [] new (record told { breaks = after }) (arranged c V (state y) Z) w.within.b
-  closed-recorded new after closing shut is broken =
+  pub closed-recorded : (failed ≡ false → TellMore [] U V) → (new : Run) (after : Listed Break) (closing : Closing) → (closing ≡ Closed → ClosesOnCard (session_of run.keeper.cabin.cards c) (state x) (state y)) → IsClosed c slot at run new told.breaks after closing → HasBroken (state x) (state y) (closed_falls closing) → GoesOnOrFails failed o done s (In n) [] new (record told { breaks = after }) (arranged c V (state y) Z) w.within.b
+  closed-recorded go new after closing shut is broken =
       subst (λ (r : Run). GoesOnOrFails failed o done s (In n) [] r (record told { breaks = after }) e w.within.b) (sym is.run)
       (subst (λ (l : Listed Break). GoesOnOrFails failed o done s (In n) [] (with_cabin (closed_cabin closing c at.second run.keeper.cabin) run) (record told { breaks = l }) e w.within.b) (sym is.told)
       (by (session_of run.keeper.cabin.cards c) refl closing shut is.is broken))
@@ -227,13 +229,13 @@ module _ {C : Type 0} (state : C → State) (c : Card) (slot : Slot) (at : Momen
       by None has Bare shut how broke_ =
           subst (λ (q : Cards). GoesOnOrFails failed o done s (In n) [] (with_cabin (record run.keeper.cabin { cards = q }) run) (record told { breaks = with_lines [] told.breaks }) e w.within.b) (sym (session-unset c run.keeper.cabin.cards has))
           (subst (λ (l : Listed Break). GoesOnOrFails failed o done s (In n) [] run (record told { breaks = l }) e w.within.b) (no-lines told.breaks)
-          (subst (λ (z : C). GoesOnOrFails failed o done s (In n) [] run told (arranged c V (state z) Z) w.within.b) (sym (still has)) (unit-any c o done s n run told U V (state x) Z unit_whole unit span stands ends w failed cause)))
+          (subst (λ (z : C). GoesOnOrFails failed o done s (In n) [] run told (arranged c V (state z) Z) w.within.b) (sym (still has)) (unit-any c o done s n run told U V (state x) Z unit_whole unit span stands ends w failed cause go)))
       by None has Closed shut how broke_ = absurd (subst (λ (q : Option Accepted). IsClosingOf q Closed) has how)
       by None has Fell shut how broke_ = absurd (subst (λ (q : Option Accepted). IsClosingOf q Fell) has how)
       by (Some a) has Bare shut how broke_ = absurd (subst (λ (q : Option Accepted). IsClosingOf q Bare) has how)
       by (Some a) has Closed shut how broke_ =
           subst (λ (l : Listed Break). GoesOnOrFails failed o done s (In n) [] (with_cabin (with_session_of c None run.keeper.cabin) run) (record told { breaks = l }) e w.within.b) (no-lines told.breaks)
-          (closed a has (subst (λ (q : Option Accepted). ClosesOnCard q (state x) (state y)) has (shut refl)) failed refl (powered Closed how))
+          (closed a has go (subst (λ (q : Option Accepted). ClosesOnCard q (state x) (state y)) has (shut refl)) failed refl (powered Closed how))
       by (Some a) has Fell shut how broke_ = fell a has broke_ failed refl (powered Fell how)
 
   -- ---- its events

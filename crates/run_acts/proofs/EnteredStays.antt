@@ -52,8 +52,12 @@ use Rattle.run_entering.specs.Told.{IsEnteredOn, IsToldOf, OpensSo}
 use Rattle.run_entering.proofs.Carried.{has-session}
 use Rattle.run_acts.specs.Recording.{log_of}
 use Rattle.run_acts.specs.Closings.{spells_of, notes_within}
-use Rattle.run_acts.specs.Stays.{Stay, acceptances_told, sits_in, AllStay}
-use Rattle.run_acts.proofs.Stays.{owed-more, founds-more, stays-still, stays-moved, stays-open}
+use Rattle.card_records.specs.declared.vehicle.Vehicle.{Vehicle}
+use Rattle.card_session.specs.Books.{Book}
+use Rattle.card_session.specs.Sessions.{book_of}
+use Rattle.run_acts.specs.Comings.{told_of, TellMore}
+use Rattle.run_acts.specs.Stays.{Stay, after_stays, start_shown, acceptances_told, sits_in, AllStay}
+use Rattle.run_acts.proofs.Stays.{coming_behind, one-coming, owed-more, founds-more, stays-still, stays-moved, stays-open}
 use Rattle.run_acts.proofs.AllStay.{Turns, all-of, all-one, fewer-none, no-tear, mine-left}
 use Rattle.run_acts.proofs.SeatsThen.{torn-other, put-own, put-again}
 use Rattle.run_acts.proofs.NotesThen.{accepted-now, rejected-now, elsewhere-now}
@@ -111,6 +115,18 @@ finds-noted o done s n waits fewer v d w e at next none order verdict =
       others = elsewhere-now o done s n waits fewer v d w e.slot e.which next none order (find_of e verdict) here refl (other e.which) (apart-turned e.which);
     }
 
+-- WHAT IT TELLS OF THE VEHICLE BEFORE, where no call failed: that which an image of the card tells as its newest, where it is accepted; else nothing
+abbrev pub TellsBy : Ending → CardFound → (unit unit_after card : State) → Type 0
+TellsBy (Unfit fid place) f U W X = TellMore [] U W
+TellsBy (Ahead stored) f U W X = TellMore [] U W
+TellsBy Fell f U W X = Unit {0}
+TellsBy Unasked f U W X = Unit {0}
+TellsBy (Unnoted entered clock) f U W X = Unit {0}
+TellsBy (Seated entered clock entry) f U W X =
+    TellMore (told_of entered.look.previous ∷ []) U W
+    × (IsOwnValid f.image → (y : List ℕ) × X.may_leave y × (entered.look.previous ≡ (book_of (own_sizes f.image) y).vehicles.newest))
+TellsBy (Lost entered clock entry) f U W X = Unit {0}
+
 module _ (o : Origin) (e : Entering) (failed : Bool) (well : failed ≡ false) (k v : Keeper) (noted noted_after : ℕ) (out after : Outcome) (U W X Y Z : State) (notes : RunLog → List Note) (judges : (verdict : Verdict) → NotesFind e (log_of out) notes verdict)
     (seat : seat_in k.cabin.slots.seats e.slot ≡ Some (record { card = e.which; newest = None })) where
   abbrev f : CardFound
@@ -143,11 +159,11 @@ module _ (o : Origin) (e : Entering) (failed : Bool) (well : failed ≡ false) (
 
   -- what becomes of its stays, as it sits in this cabin behind it
   abbrev TurnsBy : Ending → Cabin → Option Accepted → List Stay → Type 0
-  TurnsBy ending cabin session ss = Turns f (log_of out) (log_by ending) vehicle (spells_of e.which (notes (log_of out))) (spells_of e.which (notes (log_by ending))) (sits_in k.cabin.slots.seats e.which) (sits_in cabin.slots.seats e.which) None session X Y ss
+  TurnsBy ending cabin session ss = Turns f (log_of out) (log_by ending) vehicle (spells_of e.which (notes (log_of out))) (spells_of e.which (notes (log_by ending))) (sits_in k.cabin.slots.seats e.which) (sits_in cabin.slots.seats e.which) None session U W X Y ss
 
   -- a card that is turned away
-  turned-away : (ending : Ending) (cabin : Cabin) → acceptances_told (log_by ending) ≡ acceptances_told (log_of out) → spells_of e.which (notes (log_by ending)) ≡ spells_of e.which (notes (log_of out)) → (IsOwnValid f.image → DoesOn (own_sizes f.image) [] X Y) → (ss : List Stay) → TurnsBy ending cabin None ss
-  turned-away ending cabin same spell does ss = record {
+  turned-away : (ending : Ending) (cabin : Cabin) → acceptances_told (log_by ending) ≡ acceptances_told (log_of out) → spells_of e.which (notes (log_by ending)) ≡ spells_of e.which (notes (log_of out)) → (IsOwnValid f.image → DoesOn (own_sizes f.image) [] X Y) → TellMore [] U W → (ss : List Stay) → TurnsBy ending cabin None ss
+  turned-away ending cabin same spell does go ss = record {
     now = ss;
     told = inl (same, refl);
     owed = λ all. all;
@@ -155,19 +171,20 @@ module _ (o : Origin) (e : Entering) (failed : Bool) (well : failed ≡ false) (
     shows = λ valid h.
         stays-moved f vehicle (spells_of e.which (notes (log_of out))) (spells_of e.which (notes (log_by ending))) (sits_in k.cabin.slots.seats e.which) (sits_in cabin.slots.seats e.which) ss None None Y (λ goes. goes) (λ was. was ∙ sym spell)
         (stays-still f vehicle (spells_of e.which (notes (log_of out))) (sits_in k.cabin.slots.seats e.which) ss None X Y (does valid) h);
+    comes = λ shown. inl (same, refl, go);
   }
 
   -- of a card that was judged
-  own-judged : (ending : Ending) (app : Application) (w : Carried) (cabin : Cabin) → IsEnding ending app k.memory.registration e failed U.image X Y → IsToldOf ending o.found w e U X → (IsOwnValid f.image → OpensSo ending k.memory.registration e f X Y) → NothingFailed (log_by ending)
+  own-judged : (ending : Ending) (app : Application) (w : Carried) (cabin : Cabin) → IsEnding ending app k.memory.registration e failed U.image X Y → IsToldOf ending o.found w e U X → (IsOwnValid f.image → OpensSo ending k.memory.registration e f X Y) → TellsBy ending f U W X → NothingFailed (log_by ending)
       → (ss : List Stay) → TurnsBy ending (cabin_by ending e noted cabin) (session_by ending noted) ss
-  own-judged (Unfit fid place) app w cabin is told opens none ss =
-      turned-away (Unfit fid place) cabin (none-more (find_of e (NotValid fid place)) refl) (ap (λ (l : RunLog). spells_of e.which (notes l)) (one-find (NotValid fid place)) ∙ (judges (NotValid fid place)).rejects refl) opens ss
-  own-judged (Ahead stored) app w cabin is told opens none ss =
-      turned-away (Ahead stored) cabin (none-more (find_of e (TimeOverlap stored e.at.second)) refl) (ap (λ (l : RunLog). spells_of e.which (notes l)) (one-find (TimeOverlap stored e.at.second)) ∙ (judges (TimeOverlap stored e.at.second)).rejects refl) opens ss
-  own-judged Fell app w cabin is told opens none ss = no-tear (log_of out) e.slot e.at none
-  own-judged Unasked app w cabin is told opens none ss = fails is
-  own-judged (Unnoted entered clock) app w cabin is told opens none ss = fails is.0
-  own-judged (Seated entered clock entry) app w cabin is told opens none ss = record {
+  own-judged (Unfit fid place) app w cabin is told opens tells none ss =
+      turned-away (Unfit fid place) cabin (none-more (find_of e (NotValid fid place)) refl) (ap (λ (l : RunLog). spells_of e.which (notes l)) (one-find (NotValid fid place)) ∙ (judges (NotValid fid place)).rejects refl) opens tells ss
+  own-judged (Ahead stored) app w cabin is told opens tells none ss =
+      turned-away (Ahead stored) cabin (none-more (find_of e (TimeOverlap stored e.at.second)) refl) (ap (λ (l : RunLog). spells_of e.which (notes l)) (one-find (TimeOverlap stored e.at.second)) ∙ (judges (TimeOverlap stored e.at.second)).rejects refl) opens tells ss
+  own-judged Fell app w cabin is told opens tells none ss = no-tear (log_of out) e.slot e.at none
+  own-judged Unasked app w cabin is told opens tells none ss = fails is
+  own-judged (Unnoted entered clock) app w cabin is told opens tells none ss = fails is.0
+  own-judged (Seated entered clock entry) app w cabin is told opens tells none ss = record {
     now = ss ++ new_stay entered ∷ [];
     told = inr (find_of e (AcceptedWith entered.replayed), filter-append accepting (log_of out).finds (find_of e (AcceptedWith entered.replayed) ∷ []), founds-more ss (new_stay entered));
     owed = λ all. owed-more ss (new_stay entered) all (ap AcceptedWith told.whole);
@@ -178,14 +195,24 @@ module _ (o : Origin) (e : Entering) (failed : Bool) (well : failed ≡ false) (
         (put-own cabin.slots.seats e.slot e.which (Some entered.session.minute))
         (ap (λ (l : RunLog). spells_of e.which (notes l)) (one-find (AcceptedWith entered.replayed)) ∙ (judges (AcceptedWith entered.replayed)).accepts refl)
         (let x = told.found.card_image in let seen = ap (λ (v : CardView). v.stored) (own-is (own_sizes f.image) x told.found.sizes) in let le = told.found.early in (x, told.found.there, omega (arith, seen, le))) h;
+    comes = λ shown.
+        let seen = tells.1 told.valid in
+        let newest : entered.look.previous ≡ (after_stays vehicle (own_sizes f.image).activity ss (start_shown f.image)).book.vehicles.newest =
+        seen.2 ∙ ap (λ (b : Book). b.vehicles.newest) ((shown told.valid).shows seen.0 seen.1).0 in
+        inr (
+          coming_behind vehicle f.image ss (find_of e (AcceptedWith entered.replayed)),
+          filter-append accepting (log_of out).finds (find_of e (AcceptedWith entered.replayed) ∷ []),
+          one-coming vehicle f.image ss (new_stay entered),
+          subst (λ (q : Option Vehicle). TellMore (told_of q ∷ []) U W) newest tells.0,
+        );
   }
-  own-judged (Lost entered clock entry) app w cabin is told opens none ss = no-tear (record (log_of out) { finds = (log_by (Lost entered clock entry)).finds }) e.slot e.at none
+  own-judged (Lost entered clock entry) app w cabin is told opens tells none ss = no-tear (record (log_of out) { finds = (log_by (Lost entered clock entry)).finds }) e.slot e.at none
 
-  own : (way : Way) (w : Carried) (cabin : Cabin) → IsWay way k.memory.registration e failed U.image X Y → IsToldOf (ending_of way) o.found w e U X → (IsOwnValid f.image → OpensSo (ending_of way) k.memory.registration e f X Y) → NothingFailed (log_by (ending_of way))
+  own : (way : Way) (w : Carried) (cabin : Cabin) → IsWay way k.memory.registration e failed U.image X Y → IsToldOf (ending_of way) o.found w e U X → (IsOwnValid f.image → OpensSo (ending_of way) k.memory.registration e f X Y) → TellsBy (ending_of way) f U W X → NothingFailed (log_by (ending_of way))
       → (ss : List Stay) → TurnsBy (ending_of way) (cabin_by (ending_of way) e noted cabin) (session_by (ending_of way) noted) ss
-  own Unread w cabin is told opens none ss = no-tear (log_of out) e.slot e.at none
-  own (Unsized field) w cabin is told opens none ss = own-judged (ending_of (Unsized field)) (own_sizes f.image) w cabin tt tt opens none ss
-  own (Judged app ending) w cabin is told opens none ss = own-judged ending app w cabin is told opens none ss
+  own Unread w cabin is told opens tells none ss = no-tear (log_of out) e.slot e.at none
+  own (Unsized field) w cabin is told opens tells none ss = own-judged (ending_of (Unsized field)) (own_sizes f.image) w cabin tt tt opens tells none ss
+  own (Judged app ending) w cabin is told opens tells none ss = own-judged ending app w cabin is told opens tells none ss
 
   -- ---- of the other card
 
@@ -221,10 +248,10 @@ module _ (o : Origin) (e : Entering) (failed : Bool) (well : failed ≡ false) (
   sized-slots (Unsized field) = refl
   sized-slots (Judged app ending) = refl
 
-  pub entered-stays : (way : Way) (w : Carried) → HasEntered e failed k v noted noted_after out after U W X Y way → IsEnteredOn (ending_of way) e failed k v U W X Y Z o.found w → session_of k.cabin.cards e.which ≡ None
+  pub entered-stays : (way : Way) (w : Carried) → HasEntered e failed k v noted noted_after out after U W X Y way → IsEnteredOn (ending_of way) e failed k v U W X Y Z o.found w → TellsBy (ending_of way) f U W X → session_of k.cabin.cards e.which ≡ None
       → session_of v.cabin.cards (other e.which) ≡ session_of k.cabin.cards (other e.which) → AllStay o (log_of out) (notes (log_of out)) k.memory.registration k.cabin (arranged e.which U X Z) →
       AllStay o (log_of after) (notes (log_of after)) v.memory.registration v.cabin (arranged e.which W Y Z)
-  entered-stays way w entered known bare others all =
+  entered-stays way w entered known tells bare others all =
       let ending : Ending = ending_of way in
       let behind : Cabin = cabin_by (ending_of way) e noted (measured way e k).cabin in
       let cabin : v.cabin ≡ cabin_by (ending_of way) e noted (measured way e k).cabin = ap (λ (q : Keeper). q.cabin) entered.left.keeper in
@@ -239,12 +266,12 @@ module _ (o : Origin) (e : Entering) (failed : Bool) (well : failed ≡ false) (
       (subst (λ (p : Outcome). AllStay o (log_of p) (notes (log_of p)) vehicle v.cabin (arranged e.which W Y Z)) (sym entered.left.outcome)
       (all-one o e.which (log_of out) (log_by (ending_of way)) (notes (log_of out)) (notes (log_by (ending_of way))) vehicle k.cabin v.cabin U W X Y Z (λ none. fewer-none (log_of out) (breaks_by (ending_of way) e) none) others sits
       (λ none. others-noted (ending_of way) none)
-      (λ none ss. turned way w entered known none ss bare cabin session) all))
+      (λ none ss. turned way w entered known tells none ss bare cabin session) all))
     where
-      turned : (way : Way) (w : Carried) (entered : HasEntered e failed k v noted noted_after out after U W X Y way) → IsEnteredOn (ending_of way) e failed k v U W X Y Z o.found w → NothingFailed (log_by (ending_of way)) → (ss : List Stay) → session_of k.cabin.cards e.which ≡ None →
+      turned : (way : Way) (w : Carried) (entered : HasEntered e failed k v noted noted_after out after U W X Y way) → IsEnteredOn (ending_of way) e failed k v U W X Y Z o.found w → TellsBy (ending_of way) f U W X → NothingFailed (log_by (ending_of way)) → (ss : List Stay) → session_of k.cabin.cards e.which ≡ None →
           v.cabin ≡ cabin_by (ending_of way) e noted (measured way e k).cabin → session_of v.cabin.cards e.which ≡ session_by (ending_of way) noted →
-          Turns f (log_of out) (log_by (ending_of way)) vehicle (spells_of e.which (notes (log_of out))) (spells_of e.which (notes (log_by (ending_of way)))) (sits_in k.cabin.slots.seats e.which) (sits_in v.cabin.slots.seats e.which) (session_of k.cabin.cards e.which) (session_of v.cabin.cards e.which) X Y ss
-      turned way w entered known none ss bare cabin session =
-          subst (λ (s : Option Accepted). Turns f (log_of out) (log_by (ending_of way)) vehicle (spells_of e.which (notes (log_of out))) (spells_of e.which (notes (log_by (ending_of way)))) (sits_in k.cabin.slots.seats e.which) (sits_in v.cabin.slots.seats e.which) s (session_of v.cabin.cards e.which) X Y ss) (sym bare)
+          Turns f (log_of out) (log_by (ending_of way)) vehicle (spells_of e.which (notes (log_of out))) (spells_of e.which (notes (log_by (ending_of way)))) (sits_in k.cabin.slots.seats e.which) (sits_in v.cabin.slots.seats e.which) (session_of k.cabin.cards e.which) (session_of v.cabin.cards e.which) U W X Y ss
+      turned way w entered known tells none ss bare cabin session =
+          subst (λ (s : Option Accepted). Turns f (log_of out) (log_by (ending_of way)) vehicle (spells_of e.which (notes (log_of out))) (spells_of e.which (notes (log_by (ending_of way)))) (sits_in k.cabin.slots.seats e.which) (sits_in v.cabin.slots.seats e.which) s (session_of v.cabin.cards e.which) U W X Y ss) (sym bare)
           (subst (λ (s : Option Accepted). TurnsBy (ending_of way) v.cabin s ss) (sym session)
-          (subst (λ (q : Cabin). TurnsBy (ending_of way) q (session_by (ending_of way) noted) ss) (sym cabin) (own way w (measured way e k).cabin entered.is known.told known.opens none ss)))
+          (subst (λ (q : Cabin). TurnsBy (ending_of way) q (session_by (ending_of way) noted) ss) (sym cabin) (own way w (measured way e k).cabin entered.is known.told known.opens tells none ss)))

@@ -65,6 +65,7 @@ pub mod TurnSeconds
 pub mod TurnMany
 pub mod TurnRecorded
 pub mod Ringing
+pub mod Comings
 pub mod Uncut
 pub mod RingedLines
 pub mod RingedSecond

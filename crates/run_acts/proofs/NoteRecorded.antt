@@ -75,6 +75,7 @@ use Rattle.run_acts.proofs.Cabins.{noted_cabin}
 use Rattle.run_acts.proofs.Apart.{some-one}
 use Rattle.run_acts.proofs.Asked.{allowed-in}
 use Rattle.run_acts.specs.Closings.{spells_of, notes_within}
+use Rattle.run_acts.specs.Comings.{TellMore}
 use Rattle.run_acts.specs.Stays.{sits_in, AllStay}
 use Rattle.side_model.specs.Noted.{Note}
 use Rattle.run_acts.proofs.Stays.{stays-still}
@@ -283,15 +284,15 @@ module _ (o : Origin) (done : List TraceSecond) (s : TraceSecond) (n : ℕ) (run
   unit-began : o.found.unit.began ≤ U.clock
   unit-began = (w.within.powered.lit.unit.unit_holds [] []).later
 
-  pub unit-recorded : (failed : Bool) → HasCause U V failed → GoesOnOrFails failed o done s (In n) [] run out (devices V X Y) w.within.b
-  unit-recorded false cause = goes-as o done s (In n) (In n) [] [] [] run run out out (devices U X Y) (devices V X Y) w.within.from w refl refl
+  pub unit-recorded : (failed : Bool) → HasCause U V failed → (failed ≡ false → TellMore [] U V) → GoesOnOrFails failed o done s (In n) [] run out (devices V X Y) w.within.b
+  unit-recorded false cause go = goes-as o done s (In n) (In n) [] [] [] run run out out (devices U X Y) (devices V X Y) w.within.from w refl refl
       (call-recorded (devices U X Y) (devices V X Y) o done s (In n) [] None [] (values_of run out) w.within (record {
         goes = unit-goes o run.keeper.cabin.cards U V X Y unit-began unit cause.breakdowns;
         powered = noted-powered o.found noted-carries run.keeper.cabin.cards U V X Y w.within.found whole w.within.powered unit cause.works;
         travels = travelled-noted (odometer_at o.recording.unit) noted-carries.book (all_travelled w.within.ds w.within.b.travel) w.within.travels whole unit;
       }))
-      (all-unit o (log_of out) (notes_within w.within.b done s (In n) (log_of out)) run.keeper.memory.registration run.keeper.cabin U V X Y w.stay)
-  unit-recorded true cause = record {
+      (all-unit o (log_of out) (notes_within w.within.b done s (In n) (log_of out)) run.keeper.memory.registration run.keeper.cabin U V X Y (go refl) w.stay)
+  unit-recorded true cause go = record {
     waits = [];
     cabin = run.keeper.cabin;
     same = refl;
@@ -417,13 +418,13 @@ module _ (c : Card) (slot : Slot) (at : Moment) (run : Run) (breaks : Listed Bre
     books fell on_card floor = noted-books c at.second run U V X Y Z unit_whole whole later size a value has card unit failed cause.works fell on_card o.found carries floor w.within.found w.within.powered
 
     -- it is there
-    still : HasCause X Y false → (b : Bool) → failed ≡ b → IsPoweredOrOff b o.found carries run.keeper.cabin.cards e → GoesOnOrFails b o done s (In at.begun) [] run (record out { breaks = breaks }) e w.within.b
-    still on_card false is powered = goes-as o done s (In at.begun) (In at.begun) [] [] [] run run (record out { breaks = breaks }) (record out { breaks = breaks }) d e w.within.from w refl refl
+    still : (failed ≡ false → TellMore [] U V) → HasCause X Y false → (b : Bool) → failed ≡ b → IsPoweredOrOff b o.found carries run.keeper.cabin.cards e → GoesOnOrFails b o done s (In at.begun) [] run (record out { breaks = breaks }) e w.within.b
+    still go on_card false is powered = goes-as o done s (In at.begun) (In at.begun) [] [] [] run run (record out { breaks = breaks }) (record out { breaks = breaks }) d e w.within.from w refl refl
         (call-recorded d e o done s (In at.begun) [] None [] v w.within (record { goes = goes on_card.breakdowns; powered = powered; travels = travels }))
         (all-one o c (log_of (record out { breaks = breaks })) (log_of (record out { breaks = breaks })) here-notes here-notes run.keeper.memory.registration run.keeper.cabin run.keeper.cabin U V X Y Z (λ none. none) refl refl (λ none. refl)
-        (λ none ss. turns-so (found_of o.found c) (log_of (record out { breaks = breaks })) run.keeper.memory.registration (spells_of c here-notes) (sits_in run.keeper.cabin.slots.seats c) (session_of run.keeper.cabin.cards c) (session_of run.keeper.cabin.cards c) X Y (λ all. all) (λ all. refl) (λ all tell. tell) (λ all is. is) ss
+        (λ none ss. turns-so (found_of o.found c) (log_of (record out { breaks = breaks })) run.keeper.memory.registration (spells_of c here-notes) (sits_in run.keeper.cabin.slots.seats c) (session_of run.keeper.cabin.cards c) (session_of run.keeper.cabin.cards c) U V X Y (λ all. all) (λ all. refl) (λ all tell. tell) (λ all is. is) (λ all. refl) (go is) ss
         (λ valid h. stays-still (found_of o.found c) run.keeper.memory.registration (spells_of c here-notes) (sits_in run.keeper.cabin.slots.seats c) ss (session_of run.keeper.cabin.cards c) X Y (noted-does o.found carries run.keeper.cabin.cards run.keeper.cabin.cards c U X Y Z w.within.found unit_whole whole later size a value has w.within.powered card valid) h)) w.stay)
-    still on_card true is powerless = record {
+    still go on_card true is powerless = record {
       waits = [];
       cabin = run.keeper.cabin;
       same = refl;
@@ -478,12 +479,12 @@ module _ (c : Card) (slot : Slot) (at : Moment) (run : Run) (breaks : Listed Bre
     }
 
     -- so a note that went so is recorded
-    noted : (fell_ : Bool) (new : Run) (after : Listed Break) → IsNotedOn c slot at run new breaks after fell_ → HasBroken X Y (falls_by fell_) → HasCause X Y fell_ → GoesOnOrFails failed o done s (In at.begun) [] new (record out { breaks = after }) e w.within.b
-    noted false new after is broken on_card =
+    noted : (failed ≡ false → TellMore [] U V) → (fell_ : Bool) (new : Run) (after : Listed Break) → IsNotedOn c slot at run new breaks after fell_ → HasBroken X Y (falls_by fell_) → HasCause X Y fell_ → GoesOnOrFails failed o done s (In at.begun) [] new (record out { breaks = after }) e w.within.b
+    noted go false new after is broken on_card =
         let same : breaks ≡ after = no-lines breaks ∙ sym is.told in
         subst (λ (r : Run). GoesOnOrFails failed o done s (In at.begun) [] r (record out { breaks = after }) e w.within.b) (sym is.run)
-        (subst (λ (l : Listed Break). GoesOnOrFails failed o done s (In at.begun) [] run (record out { breaks = l }) e w.within.b) same (still on_card failed refl (books false on_card 0)))
-    noted true new after is broken on_card =
+        (subst (λ (l : Listed Break). GoesOnOrFails failed o done s (In at.begun) [] run (record out { breaks = l }) e w.within.b) same (still go on_card failed refl (books false on_card 0)))
+    noted go true new after is broken on_card =
         subst (λ (r : Run). GoesOnOrFails failed o done s (In at.begun) [] r (record out { breaks = after }) e w.within.b) (sym is.run)
         (subst (λ (l : Listed Break). GoesOnOrFails failed o done s (In at.begun) [] (with_cabin (torn_out c at.second run.keeper.cabin) run) (record out { breaks = l }) e w.within.b) (sym is.told)
         (fell on_card broken failed refl (books true on_card w.within.from)))
@@ -570,8 +571,8 @@ module _ (c : Card) (slot : Slot) (at : Moment) (run : Run) (breaks : Listed Bre
               }),
         )
 
-  pub note-recorded : (new : Run) (after : Listed Break) (fell : Bool) → IsNotedOn c slot at run new breaks after fell → HasBroken X Y (falls_by fell) → HasCause X Y fell → IsNoteRecorded (In at.begun) failed run new breaks after (arranged c U X Z) (arranged c V Y Z)
-  note-recorded new after fell is broken on_card = λ o done s out w first. noted o done s out w first fell new after is broken on_card
+  pub note-recorded : (failed ≡ false → TellMore [] U V) → (new : Run) (after : Listed Break) (fell : Bool) → IsNotedOn c slot at run new breaks after fell → HasBroken X Y (falls_by fell) → HasCause X Y fell → IsNoteRecorded (In at.begun) failed run new breaks after (arranged c U X Z) (arranged c V Y Z)
+  note-recorded go new after fell is broken on_card = λ o done s out w first. noted o done s out w first go fell new after is broken on_card
 
 -- what is noted on the card of a slot leaves power coming with the second
 noted-lines : (who : Option Card) (slot : Slot) (at : Moment) (old new : Run) (breaks after : Listed Break) (fell : Bool) → IsNotedIn who slot at old new breaks after fell →
@@ -592,12 +593,12 @@ power-noted o done s run new out breaks after d w who slot fell noted comes =
 pub noted-some : (c : Card) (slot : Slot) (at : Moment) (run : Run) (breaks : Listed Break) (U V X Y Z : State) → IsCoherent U → IsCoherent X → IsCoherent Y → LARGEST_IMAGE ≤ X.size → is_some (session_of run.keeper.cabin.cards c) ≡ true →
     IfSome (session_of run.keeper.cabin.cards c) (λ a. IsValue a.session) → card_in (seat_in run.keeper.cabin.slots.seats slot) ≡ Some c → at.second ≡ run.next → at.late ≡ false →
     (span : Span) → StandsFor run.minutes span → end_of span ≡ run.next → Stands (ungiven_of span) None run.keeper.cabin →
-    IfSome (session_of run.keeper.cabin.cards c) (λ a. LeavesOnly X Y (IsNote a.session.application)) → LeavesOnly U V LeavesJournal → (failed : Bool) → HasCause U V failed →
+    IfSome (session_of run.keeper.cabin.cards c) (λ a. LeavesOnly X Y (IsNote a.session.application)) → LeavesOnly U V LeavesJournal → (failed : Bool) → HasCause U V failed → (failed ≡ false → TellMore [] U V) →
     (new : Run) (after : Listed Break) (fell : Bool) → IsNotedOn c slot at run new breaks after fell → HasBroken X Y (falls_by fell) → HasCause X Y fell → IsNoteRecorded (In at.begun) failed run new breaks after (arranged c U X Z) (arranged c V Y Z)
-noted-some c slot at run breaks U V X Y Z unit_whole whole later size some value seat second late span stands ends cabin card unit failed cause new after fell is broken on_card =
+noted-some c slot at run breaks U V X Y Z unit_whole whole later size some value seat second late span stands ends cabin card unit failed cause go new after fell is broken on_card =
     let one = some-one (session_of run.keeper.cabin.cards c) some in
     note-recorded c slot at run breaks U V X Y Z unit_whole whole later size one.0 (subst (λ (o : Option Accepted). IfSome o (λ a. IsValue a.session)) one.1 value) one.1 seat second late span stands ends cabin
-    (subst (λ (o : Option Accepted). IfSome o (λ a. LeavesOnly X Y (IsNote a.session.application))) one.1 card) unit failed cause new after fell is broken on_card
+    (subst (λ (o : Option Accepted). IfSome o (λ a. LeavesOnly X Y (IsNote a.session.application))) one.1 card) unit failed cause go new after fell is broken on_card
 
 pub some-evented : (c : Card) (slot : Slot) (at : Moment) (run : Run) (breaks : Listed Break) (U V X Y Z : State) → IsCoherent U → IsCoherent X → IsCoherent Y → LARGEST_IMAGE ≤ X.size → is_some (session_of run.keeper.cabin.cards c) ≡ true →
     IfSome (session_of run.keeper.cabin.cards c) (λ a. IsValue a.session) → card_in (seat_in run.keeper.cabin.slots.seats slot) ≡ Some c → at.second ≡ run.next → at.late ≡ false →
@@ -639,9 +640,9 @@ place-told o done s slot ending country region begun speed run out d now front r
 
 -- a note on the unit, whichever card a call is about
 pub unit-any : (c : Card) (o : Origin) (done : List TraceSecond) (s : TraceSecond) (n : ℕ) (run : Run) (out : Outcome) (U V X Z : State) → IsCoherent U → LeavesOnly U V LeavesJournal → (span : Span) → StandsFor run.minutes span → end_of span ≡ run.next →
-    (w : RunWithin o done s (In n) [] [] run out (arranged c U X Z)) → (failed : Bool) → HasCause U V failed → GoesOnOrFails failed o done s (In n) [] run out (arranged c V X Z) w.within.b
-unit-any A o done s n run out U V X Z whole unit span stands ends w failed cause = unit-recorded o done s n run out U V X Z whole unit span stands ends w failed cause
-unit-any B o done s n run out U V X Z whole unit span stands ends w failed cause = unit-recorded o done s n run out U V Z X whole unit span stands ends w failed cause
+    (w : RunWithin o done s (In n) [] [] run out (arranged c U X Z)) → (failed : Bool) → HasCause U V failed → (failed ≡ false → TellMore [] U V) → GoesOnOrFails failed o done s (In n) [] run out (arranged c V X Z) w.within.b
+unit-any A o done s n run out U V X Z whole unit span stands ends w failed cause go = unit-recorded o done s n run out U V X Z whole unit span stands ends w failed cause go
+unit-any B o done s n run out U V X Z whole unit span stands ends w failed cause go = unit-recorded o done s n run out U V Z X whole unit span stands ends w failed cause go
 
 -- and of its events
 pub any-evented : (c : Card) (o : Origin) (done : List TraceSecond) (s : TraceSecond) (n : ℕ) (run : Run) (out : Outcome) (U V X Z : State) → IsCoherent U → LeavesOnly U V LeavesJournal → (span : Span) → StandsFor run.minutes span → end_of span ≡ run.next →

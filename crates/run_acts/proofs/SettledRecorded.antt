@@ -49,6 +49,7 @@ use Rattle.run_acts.proofs.GoesOn.{goes-on, unit-rose}
 use Rattle.run_acts.proofs.Settled.{settled-ungiven, settled-decides}
 use Rattle.log_model.specs.declared.lines.Break.{Break}
 use Rattle.run_acts.specs.Closings.{spells_of, notes_within}
+use Rattle.run_acts.specs.Comings.{TellMore}
 use Rattle.run_acts.specs.Stays.{AllStay}
 use Rattle.run_acts.proofs.AllStay.{all-of, all-kept, lines-on, reach-told}
 
@@ -144,18 +145,18 @@ module _ {U A0 B0 : State} {chip_a chip_b : CardState} (old : Run) (before : Out
         booked.0
 
     -- what is made of the cards
-    settled-stay : failed ≡ false → AllStay o (log_of after) (notes_within w.b done s (In n) (log_of after)) keeper.memory.registration keeper.cabin e
-    settled-stay well =
+    settled-stay : TellMore [] d.unit e.unit → failed ≡ false → AllStay o (log_of after) (notes_within w.b done s (In n) (log_of after)) keeper.memory.registration keeper.cabin e
+    settled-stay go well =
         let all = subst (λ (b : Bool). IsReach decided at b (told_of old before) (told_of new after) reach) well is in
         let how = reach-told decided at (told_of old before) (told_of new after) reach all in
         all-of o (log_of after) (notes_within w.b done s (In n) (log_of after)) old.keeper.memory.registration keeper.memory.registration keeper.cabin e how.registered
-        (all-kept o (log_of before) (log_of after) (notes_within w.b done s (In n) (log_of before)) (notes_within w.b done s (In n) (log_of after)) old.keeper.memory.registration (kepts_on old.keeper decided) old.keeper.cabin keeper.cabin d e
+        (all-kept o (log_of before) (log_of after) (notes_within w.b done s (In n) (log_of before)) (notes_within w.b done s (In n) (log_of after)) old.keeper.memory.registration (kepts_on old.keeper decided) old.keeper.cabin keeper.cabin d e go
         (λ none. lines-on (log_of before) breaks.items how.more how.lines none)
         (λ none c. ap (λ (bs : List Break). spells_of c (notes_within w.b done s (In n) (record (log_of before) { breaks = bs }))) (how.same none.1).0)
         (λ none. (how.same none.1).1) (λ none c some_. how.stay c none.1 some_) (booked.2 well) r.stay)
 
-    so : (f : Bool) → failed ≡ f → IsKeptTo f o done s q decided (told_of old before) (told_of new after) v d e w → SettlesTo f o done s (In n) waits w.b w.from (w.from + length decided) old new before after e
-    so false well k =
+    so : TellMore [] d.unit e.unit → (f : Bool) → failed ≡ f → IsKeptTo f o done s q decided (told_of old before) (told_of new after) v d e w → SettlesTo f o done s (In n) waits w.b w.from (w.from + length decided) old new before after e
+    so go false well k =
         subst (λ (m : ℕ). (x : Within o done s (In n) waits None [] (record (values_of new after) { odometer = m }) e) → x.b ≡ w.b → x.from ≡ w.from + length decided → SettlesTo false o done s (In n) waits w.b w.from (w.from + length decided) old new before after e) odometer
         (λ (x : Within o done s (In n) waits None [] (values_of new after) e) (began : x.b ≡ w.b) (from : x.from ≡ w.from + length decided). record {
           goes = record {
@@ -163,13 +164,13 @@ module _ {U A0 B0 : State} {chip_a chip_b : CardState} (old : Run) (before : Out
             lit = r.lit;
             within = x;
             odometer = odometer ∙ r.odometer ∙ ap (λ (b : Beginning). odometer_after (odometer_at o.recording.unit) b.travel.before) (sym began);
-            stay = subst (λ (b : Beginning). AllStay o (log_of after) (notes_within b done s (In n) (log_of after)) keeper.memory.registration keeper.cabin e) (sym began) (settled-stay well);
+            stay = subst (λ (b : Beginning). AllStay o (log_of after) (notes_within b done s (In n) (log_of after)) keeper.memory.registration keeper.cabin e) (sym began) (settled-stay go well);
           };
           began = began;
           from = from ∙ end;
           leave = λ slot card l some. leaving-later (log_of after) (went w.b.run.log done).before s (In n) w.from (w.from + length decided) (s.number / 60) (s.number / 60) keeper.cabin slot card (let to = end in omega (arith, to)) (sym end) (k.1 slot card l some);
         }) k.0.within k.0.began k.0.from
-    so true bad k = subst (λ (m : ℕ). CutWithin o done s (In n) waits None (record (values_of new after) { odometer = m }) e) (sym odometer) k
+    so go true bad k = subst (λ (m : ℕ). CutWithin o done s (In n) waits None (record (values_of new after) { odometer = m }) e) (sym odometer) k
 
-    pub settling-so : SettlesTo failed o done s (In n) waits w.b w.from (w.from + length decided) old new before after e
-    settling-so = so failed refl kept
+    pub settling-so : TellMore [] d.unit e.unit → SettlesTo failed o done s (In n) waits w.b w.from (w.from + length decided) old new before after e
+    settling-so go = so go failed refl kept

@@ -25,7 +25,7 @@ use Rattle.run_keeping.specs.Deeds.{KeepsOn}
 use Rattle.run_keeping.proofs.CardDeeds.{made-append, keeps-append, last-append}
 use Rattle.log_model.specs.declared.lines.Find.{Find}
 use Rattle.run_acts.specs.Closings.{Spell, last_shut, with_last_shut}
-use Rattle.run_acts.specs.Stays.{Stay, Shown, closes, deeds_of, use_after, after_stay, after_stays, start_shown, stored_by, AreTimely, founds, stay_spell, spells, as_noted, AreMerged, TellsOwed, GoesIn, StaysIn, HasStays}
+use Rattle.run_acts.specs.Stays.{Stay, Shown, Coming, comings_of, comings_on, closes, deeds_of, use_after, after_stay, after_stays, start_shown, founds, stay_spell, spells, as_noted, AreMerged, TellsOwed, GoesIn, StaysIn, HasStays, stored_by, AreTimely}
 
 -- ---- the last of some stays
 
@@ -108,15 +108,15 @@ founds-more [] s = refl
 founds-more (t ∷ ss) s = ap (λ (l : List Find). t.found ∷ l) (founds-more ss s)
 
 -- a line more is that of one stay more, of the one card or of the other
-pub merged-one : (lines one other : List Find) (f : Find) → AreMerged lines one other → AreMerged (lines ++ f ∷ []) (one ++ f ∷ []) other
-merged-one [] one other f h = inl ([], ap (λ (l : List Find). l ++ f ∷ []) h.0, (refl, h.1))
-merged-one (x ∷ lines) one other f (inl h) = inl (h.0 ++ f ∷ [], ap (λ (l : List Find). l ++ f ∷ []) h.1, merged-one lines h.0 other f h.2)
-merged-one (x ∷ lines) one other f (inr h) = inr (h.0, h.1, merged-one lines one h.0 f h.2)
+pub merged-one : {L : Type 0} (lines one other : List L) (f : L) → AreMerged lines one other → AreMerged (lines ++ f ∷ []) (one ++ f ∷ []) other
+merged-one {L} [] one other f h = inl ([], ap (λ (l : List L). l ++ f ∷ []) h.0, (refl, h.1))
+merged-one {L} (x ∷ lines) one other f (inl h) = inl (h.0 ++ f ∷ [], ap (λ (l : List L). l ++ f ∷ []) h.1, merged-one lines h.0 other f h.2)
+merged-one {L} (x ∷ lines) one other f (inr h) = inr (h.0, h.1, merged-one lines one h.0 f h.2)
 
-pub merged-other : (lines one other : List Find) (f : Find) → AreMerged lines one other → AreMerged (lines ++ f ∷ []) one (other ++ f ∷ [])
-merged-other [] one other f h = inr ([], ap (λ (l : List Find). l ++ f ∷ []) h.1, (h.0, refl))
-merged-other (x ∷ lines) one other f (inl h) = inl (h.0, h.1, merged-other lines h.0 other f h.2)
-merged-other (x ∷ lines) one other f (inr h) = inr (h.0 ++ f ∷ [], ap (λ (l : List Find). l ++ f ∷ []) h.1, merged-other lines one h.0 f h.2)
+pub merged-other : {L : Type 0} (lines one other : List L) (f : L) → AreMerged lines one other → AreMerged (lines ++ f ∷ []) one (other ++ f ∷ [])
+merged-other {L} [] one other f h = inr ([], ap (λ (l : List L). l ++ f ∷ []) h.1, (h.0, refl))
+merged-other {L} (x ∷ lines) one other f (inl h) = inl (h.0, h.1, merged-other lines h.0 other f h.2)
+merged-other {L} (x ∷ lines) one other f (inr h) = inr (h.0 ++ f ∷ [], ap (λ (l : List L). l ++ f ∷ []) h.1, merged-other lines one h.0 f h.2)
 
 -- with more minutes, and closed
 abbrev pub with_kepts : List Kept → Stay → Stay
@@ -157,6 +157,30 @@ on-last-shut act (t ∷ ss) = shut-spells act t ss
 noted-alike : (a b : Accepted) (sits : Bool) (ss : List Spell) → as_noted (Some b) sits ss ≡ as_noted (Some a) sits ss
 noted-alike a b true ss = refl
 noted-alike a b false ss = refl
+
+-- ---- the comings
+
+last-comings : (vehicle : Registration) (size : ℕ) (f : Stay → Stay) → ((s : Stay) → (f s).found ≡ s.found) → (t : Stay) (ss : List Stay) (p : Shown) → comings_of vehicle size (last_as f t ss) p ≡ comings_of vehicle size (t ∷ ss) p
+unfolding last_as
+last-comings vehicle size f same t [] p = ap (λ (k : Find). record { found = k; before = p.book.vehicles.newest } ∷ []) (same t)
+last-comings vehicle size f same t (x ∷ ss) p = ap (λ (l : List Coming). record { found = t.found; before = p.book.vehicles.newest } ∷ l) (last-comings vehicle size f same x ss (after_stay vehicle size t p))
+
+-- whatever becomes of the last stay leaves them
+pub on-last-comings : (vehicle : Registration) (image : List ℕ) (f : Stay → Stay) → ((s : Stay) → (f s).found ≡ s.found) → (ss : List Stay) → comings_on vehicle image (on_last f ss) ≡ comings_on vehicle image ss
+unfolding on_last
+on-last-comings vehicle image f same [] = refl
+on-last-comings vehicle image f same (t ∷ ss) = last-comings vehicle (own_sizes image).activity f same t ss (start_shown image)
+
+comings-more : (vehicle : Registration) (size : ℕ) (ss : List Stay) (s : Stay) (p : Shown) → comings_of vehicle size (ss ++ s ∷ []) p ≡ comings_of vehicle size ss p ++ record { found = s.found; before = (after_stays vehicle size ss p).book.vehicles.newest } ∷ []
+comings-more vehicle size [] s p = refl
+comings-more vehicle size (t ∷ ss) s p = ap (λ (l : List Coming). record { found = t.found; before = p.book.vehicles.newest } ∷ l) (comings-more vehicle size ss s (after_stay vehicle size t p))
+
+-- one stay more has come behind what the others make of its card
+abbrev pub coming_behind : Registration → (image : List ℕ) → List Stay → Find → Coming
+coming_behind vehicle image ss found = record { found = found; before = (after_stays vehicle (own_sizes image).activity ss (start_shown image)).book.vehicles.newest }
+
+pub one-coming : (vehicle : Registration) (image : List ℕ) (ss : List Stay) (s : Stay) → comings_on vehicle image (ss ++ s ∷ []) ≡ comings_on vehicle image ss ++ coming_behind vehicle image ss s.found ∷ []
+one-coming vehicle image ss s = comings-more vehicle (own_sizes image).activity ss s (start_shown image)
 
 stays-append : (vehicle : Registration) (size : ℕ) (ss ts : List Stay) (p : Shown) → after_stays vehicle size (ss ++ ts) p ≡ after_stays vehicle size ts (after_stays vehicle size ss p)
 stays-append vehicle size [] ts p = refl

@@ -61,6 +61,7 @@ use Rattle.side_model.specs.Noted.{Note}
 use Rattle.run_ringed.specs.Ringed.{notes_in}
 use Rattle.run_ringed.specs.SoFar.{GoesBehind, notes_so_far}
 use Rattle.run_acts.specs.Closings.{spells_of, notes_within}
+use Rattle.run_acts.specs.Comings.{TellMore}
 use Rattle.run_acts.specs.Stays.{AllStay}
 use Rattle.run_acts.proofs.RingedSecond.{goes-behind, power-here}
 use Rattle.run_acts.proofs.NotesThen.{actions-all, notes-end, notes-last, behind-goes}
@@ -141,12 +142,12 @@ module _ (old : Run) (before : Outcome) (minutes : Kept) (keeper : Keeper) (watc
     U = told_values u v
 
     -- what is made of the cards
-    turned-stay : AllStay o (log_of before) (notes_within w.b done s Keeping (log_of before)) old.keeper.memory.registration old.keeper.cabin d → failed ≡ false → (r : Reach) → IsReach decided (moment_of s q) false t u r →
+    turned-stay : TellMore [] d.unit e.unit → AllStay o (log_of before) (notes_within w.b done s Keeping (log_of before)) old.keeper.memory.registration old.keeper.cabin d → failed ≡ false → (r : Reach) → IsReach decided (moment_of s q) false t u r →
         AllStay o (log_of told) (notes_within w.b done s Keeping (log_of told)) keeper.memory.registration keeper.cabin e
-    turned-stay stay well r is_ =
+    turned-stay go stay well r is_ =
         let how = reach-told decided (moment_of s q) t u r is_ in
         all-of o (log_of told) (notes_within w.b done s Keeping (log_of told)) old.keeper.memory.registration keeper.memory.registration keeper.cabin e how.registered
-        (all-kept o (log_of before) (log_of told) (notes_within w.b done s Keeping (log_of before)) (notes_within w.b done s Keeping (log_of told)) old.keeper.memory.registration (kepts_on old.keeper decided) old.keeper.cabin keeper.cabin d e
+        (all-kept o (log_of before) (log_of told) (notes_within w.b done s Keeping (log_of before)) (notes_within w.b done s Keeping (log_of told)) old.keeper.memory.registration (kepts_on old.keeper decided) old.keeper.cabin keeper.cabin d e go
         (λ none. lines-on (log_of before) breaks.items how.more how.lines none)
         (λ none c. ap (λ (bs : List Break). spells_of c (notes_within w.b done s Keeping (record (log_of before) { breaks = bs }))) (how.same none.1).0)
         (λ none. (how.same none.1).1) (λ none c some_. how.stay c none.1 some_) (booked.2 well) stay)
@@ -197,12 +198,12 @@ module _ (old : Run) (before : Outcome) (minutes : Kept) (keeper : Keeper) (watc
           stay = λ none. no-cut (log_of told) (old.next + n - 1) begun none;
         }
 
-    by : AllStay o (log_of before) (notes_within w.b done s Keeping (log_of before)) old.keeper.memory.registration old.keeper.cabin d → (f : Bool) (r : Reach) → failed ≡ f → IsTurnReach decided (moment_of s q) f t u r → IsTurnBooked o.found (odometer_at o.recording.unit) (carried_at o done s q decided t v d w) old.keeper f r (all_travelled w.ds w.b.travel) u e →
+    by : TellMore [] d.unit e.unit → AllStay o (log_of before) (notes_within w.b done s Keeping (log_of before)) old.keeper.memory.registration old.keeper.cabin d → (f : Bool) (r : Reach) → failed ≡ f → IsTurnReach decided (moment_of s q) f t u r → IsTurnBooked o.found (odometer_at o.recording.unit) (carried_at o done s q decided t v d w) old.keeper f r (all_travelled w.ds w.b.travel) u e →
         RunRecorded o (done ++ s ∷ []) (passed n begun (cut_where f (old.next + n - 1) between)) (cut_breaks f (old.next + n - 1) begun told) e
-    by stay false (Whole xs) same is_ b = let k = keeping-recorded d e o done s q decided t u v w keeps false (Whole xs) is_ off (λ no. absurd (cc)) b in over-now k.0.within k.0.began (turned-stay stay same (Whole xs) is_)
-    by stay true (Whole xs) same is_ b = cut-now (note-fails d e o done s q decided t u v w keeps low xs is_ off (rose same) b.0 b.1)
-    by stay false (Short xs m round) same is_ b = absurd is_
-    by stay true (Short xs m round) same is_ b = cut-now (keeping-recorded d e o done s q decided t u v w keeps true (Short xs m round) is_ off (λ yes_. rose same) b)
+    by go stay false (Whole xs) same is_ b = let k = keeping-recorded d e o done s q decided t u v w keeps false (Whole xs) is_ off (λ no. absurd (cc)) b in over-now k.0.within k.0.began (turned-stay go stay same (Whole xs) is_)
+    by go stay true (Whole xs) same is_ b = cut-now (note-fails d e o done s q decided t u v w keeps low xs is_ off (rose same) b.0 b.1)
+    by go stay false (Short xs m round) same is_ b = absurd is_
+    by go stay true (Short xs m round) same is_ b = cut-now (keeping-recorded d e o done s q decided t u v w keeps true (Short xs m round) is_ off (λ yes_. rose same) b)
 
     -- where the unit failed: the record as power is about to be cut
     fails-by : (f : Bool) (r : Reach) → failed ≡ f → IsTurnReach decided (moment_of s q) f t u r → IsTurnBooked o.found (odometer_at o.recording.unit) (carried_at o done s q decided t v d w) old.keeper f r (all_travelled w.ds w.b.travel) u e →
@@ -214,8 +215,8 @@ module _ (old : Run) (before : Outcome) (minutes : Kept) (keeper : Keeper) (watc
     pub turn-fails : failed ≡ true → CutWithin o done s Keeping [] (Some s.speed) U e
     turn-fails on = fails-by failed reach refl turn-reach booked.0 on
 
-    pub turn-core : AllStay o (log_of before) (notes_within w.b done s Keeping (log_of before)) old.keeper.memory.registration old.keeper.cabin d → RunRecorded o (done ++ s ∷ []) (passed n begun (cut_where failed (old.next + n - 1) between)) (cut_breaks failed (old.next + n - 1) begun told) e
-    turn-core stay = by stay failed reach refl turn-reach booked.0
+    pub turn-core : TellMore [] d.unit e.unit → AllStay o (log_of before) (notes_within w.b done s Keeping (log_of before)) old.keeper.memory.registration old.keeper.cabin d → RunRecorded o (done ++ s ∷ []) (passed n begun (cut_where failed (old.next + n - 1) between)) (cut_breaks failed (old.next + n - 1) begun told) e
+    turn-core go stay = by go stay failed reach refl turn-reach booked.0
 
 -- ---- the last of some seconds
 pub last-actions : (c begun : ℕ) (s : TraceSecond) → length s.actions ≡ begun → (0 < c → s.actions ≡ []) → length (last_of c s).actions ≡ begun
@@ -280,9 +281,9 @@ module _ {U A0 B0 : State} {chip_a chip_b : CardState} (n speed begun : ℕ) (ol
 
     -- over the last second
     by-last : (c : ℕ) → c ≡ n - 1 → (D : List TraceSecond) (L : TraceSecond) (next gone : ℕ) → L.number ≡ s.number + c → next ≡ old.next + c → length L.actions ≡ begun →
-        (w : Within o D L Keeping [] (Some L.speed) T.decided (record (values_of old before) { minutes = T.fed.minutes; next = next; begun = gone }) d) → w.b.travel.before ≡ r.within.b.travel.before → w.from ≡ r.within.from →
+        (w : Within o D L Keeping [] (Some L.speed) T.decided (record (values_of old before) { minutes = T.fed.minutes; next = next; begun = gone }) d) → w.b.travel.before ≡ r.within.b.travel.before → w.from ≡ r.within.from → TellMore [] d.unit e.unit →
         AllStay o (log_of before) (notes_within w.b D L Keeping (log_of before)) old.keeper.memory.registration old.keeper.cabin d → RunRecorded o (D ++ L ∷ []) (passed n begun new) after e
-    by-last c is D L next gone number next_is acts w travel from stay =
+    by-last c is D L next gone number next_is acts w travel from go stay =
         let at = now.number in
         let num : L.number ≡ old.next + n - 1 = omega (arith, number, is, at, some) in
         let first = from-is in
@@ -294,7 +295,7 @@ module _ {U A0 B0 : State} {chip_a chip_b : CardState} (n speed begun : ℕ) (ol
         (subst (λ (x : Outcome). RunRecorded o (D ++ L ∷ []) (passed n begun (cut_where T.failed (old.next + n - 1) here)) x e) after-is
         (turn-core old before T.fed.minutes T.between.keeper T.between.watch T.told.marks T.told.breaks n begun T.failed T.decided h.1 d e reach-is books-is h.4 h.5 (two-present (ungiven_of g.span) None old.keeper.cabin g.cabin)
         lit some time o r.origin D L next gone w num (omega (arith, next_is, is, some)) acts (r.odometer ∙ ap (odometer_after (odometer_at o.recording.unit)) (sym travel))
-        (omega (arith, from, first, few, same)) (omega (arith, from, first, end, same)) stay))
+        (omega (arith, from, first, few, same)) (omega (arith, from, first, end, same)) go stay))
 
     -- where the unit failed in its keeping: its record as power is about to be cut
     pub fails-last : (c : ℕ) → c ≡ n - 1 → (D : List TraceSecond) (L : TraceSecond) (next gone : ℕ) → L.number ≡ s.number + c → next ≡ old.next + c → length L.actions ≡ begun →
@@ -335,20 +336,20 @@ module _ {U A0 B0 : State} {chip_a chip_b : CardState} (n speed begun : ℕ) (ol
     behind-first =
         goes-behind o done s (In (length s.actions)) [] None [] (values_of old before) d r.within [] (log_of before) (ap (λ (bs : List Break). record (log_of before) { breaks = bs }) (sym (append-nil (log_of before).breaks))) tt
 
-    by-count : (c : ℕ) → c ≡ n - 1 → IsTurned o done s c T.decided T.fed.minutes (values_of old before) d r.within → RunRecorded o (before_last c s done ++ last_of c s ∷ []) (passed n begun new) after e
-    by-count zero is x =
-        by-last zero is done s (old.next + 0) x.begun (last-number zero s) refl (last-actions zero begun s actions (λ lt. none (omega (arith, lt, is)))) x.fed x.travelled_before x.from
+    by-count : TellMore [] d.unit e.unit → (c : ℕ) → c ≡ n - 1 → IsTurned o done s c T.decided T.fed.minutes (values_of old before) d r.within → RunRecorded o (before_last c s done ++ last_of c s ∷ []) (passed n begun new) after e
+    by-count go zero is x =
+        by-last zero is done s (old.next + 0) x.begun (last-number zero s) refl (last-actions zero begun s actions (λ lt. none (omega (arith, lt, is)))) x.fed x.travelled_before x.from go
         (subst (λ (b : Beginning). AllStay o (log_of before) (notes_within b done s Keeping (log_of before)) old.keeper.memory.registration old.keeper.cabin d) (sym (x.first refl)) stay-first)
-    by-count (suc c) is x =
-        by-last (suc c) is (before_last (suc c) s done) (last_of (suc c) s) (old.next + suc c) x.begun (last-number (suc c) s) refl (last-actions (suc c) begun s actions (λ lt. none (omega (arith, lt, is)))) x.fed x.travelled_before x.from
+    by-count go (suc c) is x =
+        by-last (suc c) is (before_last (suc c) s done) (last_of (suc c) s) (old.next + suc c) x.begun (last-number (suc c) s) refl (last-actions (suc c) begun s actions (λ lt. none (omega (arith, lt, is)))) x.fed x.travelled_before x.from go
         (subst (λ (ns : List Note). AllStay o (log_of before) ns old.keeper.memory.registration old.keeper.cabin d)
         (sym (notes-last r.within.b.run.log (log_of before) done s c behind-first (power-here o done s (In (length s.actions)) [] None [] (values_of old before) d r.within)
         (behind-goes o done s (values_of old before) d (x.behind (omega arith)) now.number) x.fed.b (x.goes_on (omega arith)).0)) stay-first)
 
-    pub turn-lit : RunRecorded o (done ++ s ∷ driven (n - 1) (s.number + 1) speed []) (passed n begun new) after e
-    turn-lit =
+    pub turn-lit : TellMore [] d.unit e.unit → RunRecorded o (done ++ s ∷ driven (n - 1) (s.number + 1) speed []) (passed n begun new) after e
+    turn-lit go =
         subst (λ (k : ℕ). RunRecorded o (done ++ s ∷ driven (n - 1) (s.number + 1) k []) (passed n begun new) after e) now.speed_is
-        (subst (λ (ss : List TraceSecond). RunRecorded o ss (passed n begun new) after e) (turn-ends done s (n - 1)) (by-count (n - 1) refl turned))
+        (subst (λ (ss : List TraceSecond). RunRecorded o ss (passed n begun new) after e) (turn-ends done s (n - 1)) (by-count go (n - 1) refl turned))
 
 -- WITHOUT POWER: it was cut in the first of them
 module _ (n speed begun : ℕ) (old : Run) (before : Outcome) (d : Devices) (some : 0 < n) (minute : old.next % 60 + n ≤ 60) (o : Origin) (done : List TraceSecond) (s : TraceSecond) (now : IsNow s speed old) (actions : length s.actions ≡ begun)

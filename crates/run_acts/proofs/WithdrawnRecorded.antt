@@ -60,6 +60,7 @@ use Rattle.run_acts.proofs.CardPlaces.{closing-stay}
 use Rattle.side_model.specs.Noted.{Note}
 use Rattle.log_model.specs.Slots.{same_card}
 use Rattle.run_acts.specs.Closings.{spells_of, notes_within}
+use Rattle.run_acts.specs.Comings.{TellMore}
 use Rattle.run_acts.specs.Stays.{sits_in, AllStay, ClosesOnCard}
 use Rattle.run_acts.proofs.Closings.{same-turned}
 use Rattle.run_acts.proofs.AllStay.{Moves, moves-same, moves-bare, moves-leaves, all-moved, log-self}
@@ -146,15 +147,15 @@ module _ (o : Origin) (done : List TraceSecond) (s : TraceSecond) (front rest : 
       LeavesOnly U V LeavesJournal → (failed : Bool) → HasCause U V failed → (state x).breakdowns ≤ (state y).breakdowns → (span : Span) → StandsFor between.minutes span → end_of span ≡ between.next →
       RecordsSettling decided (acting_at s.number (suc (length front))) false (left_run slot s.number run) between before told d (arranged c U (state x) Z) → HaveTime (arranged c U (state x) Z) →
       (at : Moment) (ms : List Minute) (t : Told) → AreKept at ms t (told_of between told) → session_of t.keeper.cabin.cards c ≡ session_of run.keeper.cabin.cards c →
-      (new : Run) (after : Listed Break) (closing : Closing) → (closing ≡ Closed → ClosesOnCard (session_of between.keeper.cabin.cards c) (state x) (state y)) → IsClosed c slot (acting_at s.number (suc (length front))) between new told.breaks after closing → HasBroken (state x) (state y) (closed_falls closing) →
+      (failed ≡ false → TellMore [] U V) → (new : Run) (after : Listed Break) (closing : Closing) → (closing ≡ Closed → ClosesOnCard (session_of between.keeper.cabin.cards c) (state x) (state y)) → IsClosed c slot (acting_at s.number (suc (length front))) between new told.breaks after closing → HasBroken (state x) (state y) (closed_falls closing) →
       GoesOnOrFails failed o done s (In (suc (length front))) [] new (record told { breaks = after }) (arranged c V (state y) Z) w.within.b
-  closing-recorded state U V Z x y unit_whole whole size closes still unit failed cause rise span stands_ ends records time at ms t kept same new after closing shut is broken =
+  closing-recorded state U V Z x y unit_whole whole size closes still unit failed cause rise span stands_ ends records time at ms t kept same go new after closing shut is broken =
       let kept_all : IsSettledIn o done s (In (suc (length front))) [] gone.within.b gone.within.from (gone.within.from + length decided) (left_run slot s.number run) between before told (arranged c U (state x) Z) =
       records o done s (suc (length front)) [] (omega arith) refl gone time in
       subst (λ (b : Beginning). GoesOnOrFails failed o done s (In (suc (length front))) [] new (record told { breaks = after }) (arranged c V (state y) Z) b) (kept_all.began ∙ left.goes.began)
       (closed-recorded state c slot (acting_at s.number (suc (length front))) between told U V Z x y unit_whole whole size closes still unit failed cause rise span stands_ ends o done s (suc (length front)) refl kept_all.goes kept_all.from
       (λ some. subst (λ (b : Beginning). IsLeaving (log_of told) (went b.run.log done).before s (In (suc (length front))) (s.number / 60) (s.number / 60) between.keeper.cabin slot c) (sym kept_all.began)
-      (kept_all.leave slot c (left.leaving (had (session_of run.keeper.cabin.cards c) refl some)) some)) new after closing shut is broken)
+      (kept_all.leave slot c (left.leaving (had (session_of run.keeper.cabin.cards c) refl some)) some)) go new after closing shut is broken)
     where
       had : (q : Option Accepted) → session_of run.keeper.cabin.cards c ≡ q → is_some (session_of between.keeper.cabin.cards c) ≡ true → is_some (session_of run.keeper.cabin.cards c) ≡ true
       had None is some = absurd (not-both (session_of between.keeper.cabin.cards c) some (none-comes c at ms t (told_of between told) kept (same ∙ is)))

@@ -27,3 +27,4 @@ pub mod OnCards
 pub mod RunCards
 pub mod CardWrites
 pub mod Closings
+pub mod Comings

@@ -1,5 +1,6 @@
 -- What a card shows of its stays in a run in which no call failed (profile): its days, with their words and distances, its vehicle entries
--- and its current use, exactly; one stay for each acceptance that the log tells, closed where the run notes its withdrawal, and nowhere else.
+-- and its current use, exactly; one stay for each acceptance that the log tells, closed where the run notes its withdrawal, and nowhere else; and
+-- what its unit tells of the vehicle before, at each of them.
 use Rattle.std.specs.Prelude.{◌≡◌, ◌⊎◌, ◌≤◌, ℕ, ◌++◌, Bool, true, false, not, ◌||◌, Option, Some, None, List, [], ◌∷◌, is_some, length, map, filter}
 use Rattle.std.specs.List.{AllByRecursion}
 use Rattle.activity_codec.specs.declared.values.Activity.{Activity}
@@ -9,12 +10,14 @@ use Rattle.trace_model.specs.declared.Card.TheVariants.{A, B}
 use Rattle.tach_media.specs.Medium.{State, bytes_at}
 use Rattle.tacho_types.specs.declared.texts.Registration.{Registration}
 use Rattle.unit_model.specs.declared.layout.TheConstants.{REGISTRATION}
+use Rattle.message_model.specs.Records.{insertion_ring}
 use Rattle.log_model.specs.Log.{RunLog, is_accepting}
 use Rattle.log_model.specs.declared.lines.Find.{Find}
 use Rattle.log_model.specs.declared.lines.Verdict.TheVariants.{Accepted as AcceptedWith}
 use Rattle.card_image.specs.View.{stored_of}
 use Rattle.card_image.specs.Own.{own_sizes, IsOwnValid}
 use Rattle.card_records.specs.declared.current_use.CurrentUse.{CurrentUse}
+use Rattle.card_records.specs.declared.vehicle.Vehicle.{Vehicle}
 use Rattle.card_image.specs.Fields.{current_use, last_use_of}
 use Rattle.card_session.specs.declared.session.Kept.{Kept}
 use Rattle.card_session.specs.Books.{Book, mark_of}
@@ -32,7 +35,9 @@ use Rattle.run_rule.specs.Found.{CardFound, found_of}
 use Rattle.run_recorded.specs.Origin.{Origin}
 use Rattle.run_recorded.specs.Whole.{NothingFailed}
 use Rattle.run_keeping.specs.CardDeeds.{made_by, is_open_in, ShowsBook, keeps, last_odometer, opens}
+use Rattle.run_ringed.specs.OnCards.{HasRing}
 use Rattle.run_acts.specs.Closings.{Spell, spells_of, with_last_shut}
+use Rattle.run_acts.specs.Comings.{VehicleTold, told_of, TellsMore}
 
 -- the registration of the vehicle, as the image of its unit says
 abbrev pub registration_in : List ℕ → List ℕ
@@ -102,10 +107,10 @@ abbrev pub founds : List Stay → List Find
 founds ss = map (λ (s : Stay). s.found) ss
 
 -- each line is the next of the one list, or of the other
-abbrev pub AreMerged : (lines one other : List Find) → Type 0
-AreMerged [] one other = (one ≡ []) × (other ≡ [])
-AreMerged (f ∷ lines) one other =
-    ((rest : List Find) × (one ≡ f ∷ rest) × AreMerged lines rest other) ⊎ ((rest : List Find) × (other ≡ f ∷ rest) × AreMerged lines one rest)
+abbrev pub AreMerged : {L : Type 0} (lines one other : List L) → Type 0
+AreMerged {L} [] one other = (one ≡ []) × (other ≡ [])
+AreMerged {L} (f ∷ lines) one other =
+    ((rest : List L) × (one ≡ f ∷ rest) × AreMerged lines rest other) ⊎ ((rest : List L) × (other ≡ f ∷ rest) × AreMerged lines one rest)
 
 -- the spell of a stay, and those of some
 abbrev pub stay_spell : Stay → Spell
@@ -127,6 +132,37 @@ as_noted (Some a) false ss = with_last_shut ss
 -- the line of a stay tells how many entries were owed to its card
 abbrev pub TellsOwed : Stay → Type 0
 TellsOwed s = s.found.verdict ≡ AcceptedWith (length s.owed)
+
+-- ---- the vehicle before
+
+-- A COMING of a card: the line that tells of its acceptance, and its newest vehicle entry as it was looked at
+pub record Coming : Type 0 where
+  pub found : Find
+  pub before : Option Vehicle
+
+-- those of these stays: the newest entry that the stays before each make of this book
+abbrev pub comings_of : Registration → (size : ℕ) → List Stay → Shown → List Coming
+comings_of vehicle size [] p = []
+comings_of vehicle size (s ∷ ss) p = record { found = s.found; before = p.book.vehicles.newest } ∷ comings_of vehicle size ss (after_stay vehicle size s p)
+
+-- of a card with this image at the start
+abbrev pub comings_on : Registration → (image : List ℕ) → List Stay → List Coming
+comings_on vehicle image ss = comings_of vehicle (own_sizes image).activity ss (start_shown image)
+
+-- the lines of some, and the vehicles before
+abbrev pub lines_of : List Coming → List Find
+lines_of cs = map (λ (c : Coming). c.found) cs
+
+abbrev pub befores_of : List Coming → List VehicleTold
+befores_of cs = map (λ (c : Coming). told_of c.before) cs
+
+-- A UNIT TELLS THE VEHICLE BEFORE, where its ring was so at the start: by these lines the cards have come, each of them as the next of its card's
+-- stays, and each image that a stop may leave of the unit tells those vehicles, one entry for each line, in their order, behind those of the start.
+pub record TellsBefores (Stood : Type 0) (unit : List ℕ) (acceptances : List Find) (vehicle : Registration) (image : Card → List ℕ) (stays : Card → List Stay) (now : State) : Type 0 where
+  pub comings : List Coming
+  pub lines : lines_of comings ≡ acceptances
+  pub merged : AreMerged comings (comings_on vehicle (image A) (stays A)) (comings_on vehicle (image B) (stays B))
+  pub tells : Stood → (x : List ℕ) → now.may_leave x → TellsMore (befores_of comings) unit x
 
 -- ---- one card
 
@@ -160,7 +196,7 @@ ShowsStays vehicle image stays card = ShowsBook (own_sizes image) (after_stays v
 -- ---- both cards
 
 -- THE STAYS OF BOTH CARDS in the vehicle of the run, by these notes so far, and by these lines that tell of an acceptance: each of these is that of
--- one stay, in their order; only a card that was valid has some, and it shows exactly them, as they are noted.
+-- one stay, in their order; only a card that was valid has some, and it shows exactly them, as they are noted. The unit tells the vehicle before each.
 pub record AreStays (o : Origin) (notes : List Note) (acceptances : List Find) (vehicle : Registration) (cabin : Cabin) (d : Devices) : Type 0 where
   pub says : vehicle.0 ≡ registration_in o.recording.unit
   pub stays : Card → List Stay
@@ -169,6 +205,7 @@ pub record AreStays (o : Origin) (notes : List Note) (acceptances : List Find) (
   pub only : (c : Card) → (stays c ≡ []) ⊎ IsOwnValid (found_of o.found c).image
   pub each : (c : Card) → IsOwnValid (found_of o.found c).image →
       HasStays (found_of o.found c) vehicle (spells_of c notes) (sits_in cabin.slots.seats c) (stays c) (session_of cabin.cards c) (card_of d c)
+  pub befores : TellsBefores (HasRing insertion_ring o.recording.unit) o.recording.unit acceptances vehicle (λ (c : Card). (found_of o.found c).image) stays d.unit
 
 -- so it is where no call has failed
 abbrev pub AllStay : Origin → RunLog → List Note → Registration → Cabin → Devices → Type 0

@@ -24,7 +24,7 @@ use Rattle.log_model.specs.Log.{In}
 use Rattle.run_acts.specs.Recording.{values_of}
 use Rattle.run_told.specs.Told.{arranged}
 use Rattle.run_acts.specs.Entered.{MayJudge, HasGone, AreSound}
-use Rattle.run_acts.proofs.EnteredWhole.{entered-recorded}
+use Rattle.run_acts.proofs.EnteredWhole.{entered-recorded, found-in}
 use Rattle.run_acts.specs.declared.run.Run.{Run}
 use Rattle.run_keeping.specs.declared.keeper.Moment.{Moment}
 use Rattle.recorder_with_cards.proofs.Judged.{mine-time, found-by, judged-by, judged-notes, judged-noting}
@@ -32,7 +32,9 @@ use Rattle.recorder_with_cards.proofs.EnteredEvented.{judged-evented}
 use Rattle.recorder_with_cards.proofs.NoSession.{seat-answers}
 use Rattle.recorder_with_cards.proofs.EnteredRings.{accept-writes}
 use Rattle.recorder_with_cards.proofs.EnteredRinged.{judged-ringed}
-use Rattle.run_acts.proofs.EnteredFacts.{known}
+use Rattle.run_acts.proofs.EnteredFacts.{known, unit-told, mine-back}
+use Rattle.run_rule.specs.Found.{found_of}
+use Rattle.recorder_with_cards.proofs.EnteredBefore.{way-tells}
 use Rattle.run_acts.specs.Closings.{notes_within}
 use Rattle.run_acts.proofs.EnteredStays.{finds-noted, entered-stays}
 use Rattle.run_entering.proofs.CardBrought.{sits-works}
@@ -168,11 +170,17 @@ returns-clause-recorded g c = λ room o done s n waits fewer at next time.
       card_before = g.met.C.Chip.coherent c.args.card.now;
       card_behind = g.met.C.Chip.coherent c.accept-answer.new.card;
     } in
+    let seen = found-in o done s n waits fewer e run.keeper c.args.outcome.now run.unfound run.next run.begun run.minutes U X Y next.goes.within may failed c.accept-answer.new.keeper run.noted c.accept-answer.new.noted c.accept-answer.new.outcome V Z w.0 gone sound in
+    let there = unit-told o done s n waits fewer e run.keeper c.args.outcome.now run.unfound run.next run.begun run.minutes U X Y next.goes.within may in
+    let writes = accept-writes U V X Z sound.unit_before sound.unit_behind e failed run.keeper c.accept-answer.new.keeper run.noted c.accept-answer.new.noted c.args.outcome.now c.accept-answer.new.outcome w.0 (ap (λ (q : Option (List ℕ)). is_some q) there.1) gone.cause w.1 in
+    let low : e.at.second < 2 ^ 32 = let second = c.requires.at in let small = c.requires.small in omega (arith, second, small) in
     judged-by failed o done s n waits fewer run new c.args.outcome.now c.accept-answer.new.outcome (arranged e.which U X Y) (arranged e.which V Z Y) next.goes c.requires.lit (ap (λ (q : Keeper). q.odometer) w.1.left.keeper)
     (entered-recorded o done s n waits fewer e run.keeper c.args.outcome.now run.unfound run.next run.begun run.minutes U X Y next.goes.within may failed c.accept-answer.new.keeper run.noted c.accept-answer.new.noted c.accept-answer.new.outcome V Z sound w.0 gone)
     (λ well. entered-stays o e failed well run.keeper c.accept-answer.new.keeper run.noted c.accept-answer.new.noted c.args.outcome.now c.accept-answer.new.outcome U V X Z Y (λ log. notes_within next.goes.within.b done s (In n) log)
     (finds-noted o done s n waits fewer (values_of run c.args.outcome.now) (arranged e.which U X Y) next.goes.within e at next.next next.none next.order) c.requires.seat w.0 _ w.1
-    (known o done s n waits fewer e run.keeper c.args.outcome.now run.unfound run.next run.begun run.minutes U X Y next.goes.within may failed c.accept-answer.new.keeper run.noted c.accept-answer.new.noted c.accept-answer.new.outcome V Z w.0 gone sound) sits.1
+    (known o done s n waits fewer e run.keeper c.args.outcome.now run.unfound run.next run.begun run.minutes U X Y next.goes.within may failed c.accept-answer.new.keeper run.noted c.accept-answer.new.noted c.accept-answer.new.outcome V Z w.0 gone sound)
+    (way-tells (found_of o.found e.which) run.keeper.memory.registration e failed U.image U V X Z well low c.requires.fits seen.0 seen.1
+    (λ valid. ((next.goes.within.powered.go.held e.which valid).now seen.0 (mine-back e.which U X Y (λ (q : State). q.may_leave seen.0) seen.1)).0) w.0 w.1.is seen.2 writes) sits.1
     (others-session e.which run.keeper.cabin.cards c.accept-answer.new.keeper.cabin.cards
     (comes-of e run.keeper c.accept-answer.new.keeper run.noted c.accept-answer.new.noted c.args.outcome.now c.accept-answer.new.outcome _ _ _ _ _ (ungiven_of h.span) h.cabin c.requires.seat (omega arith) w.0 w.1.is w.1.left).others) next.goes.stay)
 

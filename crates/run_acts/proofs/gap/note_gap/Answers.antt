@@ -26,6 +26,7 @@ use Rattle.log_model.specs.Log.{In}
 use Rattle.run_rule.specs.Between.{devices}
 use Rattle.run_within.specs.Within.{Beginning}
 use Rattle.run_acts.specs.Recording.{GoesOnOrFails}
+use Rattle.run_acts.proofs.Comings.{leaves-more}
 use Rattle.run_acts.proofs.NoteRecorded.{unit-recorded, power-noted, unit-leaves, left-then}
 use Rattle.safety_model.specs.Safe.{breakdowns_of}
 use Rattle.run_recorded.specs.Beside.{HaveLeftMore}
@@ -148,6 +149,10 @@ returns-clause-noted g c =
 
 -- ---- what is recorded
 
+-- an event that is noted leaves the rings
+event-leaves : (kind : ℕ) (front : List ℕ) (U V : State) → IsCoherent U → LeavesOnly U V (IsNotingEvent kind front) → LeavesRings U V
+event-leaves kind front U V whole moments = rings-moments U V (IsNotingEvent kind front) whole moments (λ x n moment. table-outside kind x n moment.outside)
+
 pub returns-in_default-clause-recorded : goal.returns-in_default-clause-recorded
 returns-in_default-clause-recorded g c = λ o done s out w power. record { goes = w; began = refl }
 
@@ -160,7 +165,8 @@ returns-in_err-note_event-clause-recorded g c = λ o done s out w power.
     let Y = g.D.Chip.state c.args.card_b.now in
     let failed : true ≡ is_err c.from_residual.result = search rules in
     subst (λ (q : Bool). GoesOnOrFails q o done s (In 0) [] run (record out { breaks = c.args.breaks.now }) (devices V X Y) w.within.b) failed
-    (unit-recorded o done s 0 run (record out { breaks = c.args.breaks.now }) (g.M.Medium.state c.args.unit.now) V X Y (g.met.M.Medium.coherent c.args.unit.now) c.note_event.ensures.journal lit.span lit.stands lit.next w true c.in_err-note_event.ensures.cause)
+    (unit-recorded o done s 0 run (record out { breaks = c.args.breaks.now }) (g.M.Medium.state c.args.unit.now) V X Y (g.met.M.Medium.coherent c.args.unit.now) c.note_event.ensures.journal lit.span lit.stands lit.next w true c.in_err-note_event.ensures.cause (λ fine. leaves-more (g.M.Medium.state c.args.unit.now) (g.M.Medium.state c.note_event.new.unit)
+    (event-leaves c.card_gap-event.result.kind (fault_bytes c.card_gap-event.result) (g.M.Medium.state c.args.unit.now) (g.M.Medium.state c.note_event.new.unit) (g.met.M.Medium.coherent c.args.unit.now) c.note_event.ensures.moments)))
 
 pub returns-in_err-note_in-clause-recorded : goal.returns-in_err-note_in-clause-recorded
 returns-in_err-note_in-clause-recorded g c = λ o done s out w power.
@@ -171,7 +177,9 @@ returns-in_err-note_in-clause-recorded g c = λ o done s out w power.
     let Y = g.D.Chip.state c.args.card_b.now in
     let E = devices (g.M.Medium.state c.note_in.new.unit) (g.C.Chip.state c.note_in.new.card_a) (g.D.Chip.state c.note_in.new.card_b) in
     let failed : true ≡ is_err c.from_residual-in_err-note_in.result = search rules in
-    let w1 = unit-recorded o done s 0 run (record out { breaks = c.args.breaks.now }) (g.M.Medium.state c.args.unit.now) V X Y (g.met.M.Medium.coherent c.args.unit.now) c.note_event.ensures.journal lit.span lit.stands lit.next w false c.in_ok-note_event.ensures.cause in
+    let w1 = unit-recorded o done s 0 run (record out { breaks = c.args.breaks.now }) (g.M.Medium.state c.args.unit.now) V X Y (g.met.M.Medium.coherent c.args.unit.now) c.note_event.ensures.journal lit.span lit.stands lit.next w false c.in_ok-note_event.ensures.cause
+    (λ fine. leaves-more (g.M.Medium.state c.args.unit.now) (g.M.Medium.state c.note_event.new.unit)
+    (event-leaves c.card_gap-event.result.kind (fault_bytes c.card_gap-event.result) (g.M.Medium.state c.args.unit.now) (g.M.Medium.state c.note_event.new.unit) (g.met.M.Medium.coherent c.args.unit.now) c.note_event.ensures.moments)) in
     subst (λ (q : Bool). GoesOnOrFails q o done s (In 0) [] c.note_in.new.run (record out { breaks = c.note_in.new.breaks }) E w.within.b) failed (c.in_err-note_in.ensures.recorded o done s out w1.goes power)
 
 pub returns-clause-recorded : goal.returns-clause-recorded
@@ -181,7 +189,9 @@ returns-clause-recorded g c = λ o done s out w power.
     let V = g.M.Medium.state c.note_event.new.unit in
     let X = g.C.Chip.state c.args.card_a.now in
     let Y = g.D.Chip.state c.args.card_b.now in
-    let w1 = unit-recorded o done s 0 run (record out { breaks = c.args.breaks.now }) (g.M.Medium.state c.args.unit.now) V X Y (g.met.M.Medium.coherent c.args.unit.now) c.note_event.ensures.journal lit.span lit.stands lit.next w false c.in_ok-note_event.ensures.cause in
+    let w1 = unit-recorded o done s 0 run (record out { breaks = c.args.breaks.now }) (g.M.Medium.state c.args.unit.now) V X Y (g.met.M.Medium.coherent c.args.unit.now) c.note_event.ensures.journal lit.span lit.stands lit.next w false c.in_ok-note_event.ensures.cause
+    (λ fine. leaves-more (g.M.Medium.state c.args.unit.now) (g.M.Medium.state c.note_event.new.unit)
+    (event-leaves c.card_gap-event.result.kind (fault_bytes c.card_gap-event.result) (g.M.Medium.state c.args.unit.now) (g.M.Medium.state c.note_event.new.unit) (g.met.M.Medium.coherent c.args.unit.now) c.note_event.ensures.moments)) in
     let F = devices (g.M.Medium.state c.note_in-2.new.unit) (g.C.Chip.state c.note_in-2.new.card_a) (g.D.Chip.state c.note_in-2.new.card_b) in
     let one = c.in_ok-note_in.ensures.noted in
     let first = c.in_ok-note_in.ensures.recorded o done s out w1.goes power in
@@ -213,7 +223,9 @@ returns-in_err-note_in-clause-leaves g c = λ o done s out w power.
     let X = g.C.Chip.state c.args.card_a.now in
     let Y = g.D.Chip.state c.args.card_b.now in
     let E = devices (g.M.Medium.state c.note_in.new.unit) (g.C.Chip.state c.note_in.new.card_a) (g.D.Chip.state c.note_in.new.card_b) in
-    let w1 = unit-recorded o done s 0 run (record out { breaks = c.args.breaks.now }) U V X Y (g.met.M.Medium.coherent c.args.unit.now) c.note_event.ensures.journal lit.span lit.stands lit.next w false c.in_ok-note_event.ensures.cause in
+    let w1 = unit-recorded o done s 0 run (record out { breaks = c.args.breaks.now }) U V X Y (g.met.M.Medium.coherent c.args.unit.now) c.note_event.ensures.journal lit.span lit.stands lit.next w false c.in_ok-note_event.ensures.cause
+    (λ fine. leaves-more (g.M.Medium.state c.args.unit.now) (g.M.Medium.state c.note_event.new.unit)
+    (event-leaves c.card_gap-event.result.kind (fault_bytes c.card_gap-event.result) (g.M.Medium.state c.args.unit.now) (g.M.Medium.state c.note_event.new.unit) (g.met.M.Medium.coherent c.args.unit.now) c.note_event.ensures.moments)) in
     let one = unit-leaves o done s 0 run (record out { breaks = c.args.breaks.now }) U V X Y (g.met.M.Medium.coherent c.args.unit.now) c.note_event.ensures.journal lit.span lit.stands lit.next w s.actions ([], refl, refl) false c.in_ok-note_event.ensures.cause in
     let two = c.in_err-note_in.ensures.leaves o done s out w1.goes power in (
       left-then o (devices U X Y) (devices V X Y) E one.0 two.0,
@@ -230,7 +242,9 @@ returns-clause-leaves g c = λ o done s out w power.
     let Y = g.D.Chip.state c.args.card_b.now in
     let E = devices (g.M.Medium.state c.note_in.new.unit) (g.C.Chip.state c.note_in.new.card_a) (g.D.Chip.state c.note_in.new.card_b) in
     let F = devices (g.M.Medium.state c.note_in-2.new.unit) (g.C.Chip.state c.note_in-2.new.card_a) (g.D.Chip.state c.note_in-2.new.card_b) in
-    let w1 = unit-recorded o done s 0 run (record out { breaks = c.args.breaks.now }) U V X Y (g.met.M.Medium.coherent c.args.unit.now) c.note_event.ensures.journal lit.span lit.stands lit.next w false c.in_ok-note_event.ensures.cause in
+    let w1 = unit-recorded o done s 0 run (record out { breaks = c.args.breaks.now }) U V X Y (g.met.M.Medium.coherent c.args.unit.now) c.note_event.ensures.journal lit.span lit.stands lit.next w false c.in_ok-note_event.ensures.cause
+    (λ fine. leaves-more (g.M.Medium.state c.args.unit.now) (g.M.Medium.state c.note_event.new.unit)
+    (event-leaves c.card_gap-event.result.kind (fault_bytes c.card_gap-event.result) (g.M.Medium.state c.args.unit.now) (g.M.Medium.state c.note_event.new.unit) (g.met.M.Medium.coherent c.args.unit.now) c.note_event.ensures.moments)) in
     let one = unit-leaves o done s 0 run (record out { breaks = c.args.breaks.now }) U V X Y (g.met.M.Medium.coherent c.args.unit.now) c.note_event.ensures.journal lit.span lit.stands lit.next w s.actions ([], refl, refl) false c.in_ok-note_event.ensures.cause in
     let noted = c.in_ok-note_in.ensures.noted in
     let first = c.in_ok-note_in.ensures.recorded o done s out w1.goes (λ begins. power) in
@@ -348,9 +362,6 @@ returns-clause-events g c =
     )
 
 -- ---- the rings
-
-event-leaves : (kind : ℕ) (front : List ℕ) (U V : State) → IsCoherent U → LeavesOnly U V (IsNotingEvent kind front) → LeavesRings U V
-event-leaves kind front U V whole moments = rings-moments U V (IsNotingEvent kind front) whole moments (λ x n moment. table-outside kind x n moment.outside)
 
 pub returns-in_default-clause-rings : goal.returns-in_default-clause-rings
 returns-in_default-clause-rings g c = rings-left (g.M.Medium.state c.args.unit.now)

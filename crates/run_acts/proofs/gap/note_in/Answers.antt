@@ -22,6 +22,7 @@ use Rattle.run_keeping.proofs.Fates.{no-lines}
 use Rattle.run_acts.specs.Acting.{noted_breaks, now_moment, IsNotedIn}
 use Rattle.run_acts.proofs.Cabins.{keeper-only, cabin-going, cabin-held, ready-same, at-same, noted_cabin, noted-is, noted-past, noted-minute, noted-sessions, noted-falls, noted-a, noted-b, numbered-session}
 use Rattle.std.specs.Prelude.{is_err}
+use Rattle.run_acts.proofs.Comings.{leaves-more}
 use Rattle.run_acts.proofs.NoteRecorded.{noted-some, some-leaves}
 use Rattle.run_rule.specs.Between.{devices}
 use Rattle.run_acts.specs.Noting.{fall_events}
@@ -189,7 +190,7 @@ returns-in-A-clause-recorded g c =
     let some = numbered-session run.keeper.cabin.cards (seat_in run.keeper.cabin.slots.seats c.args.slot) A c.in-Some-number_in.field-0 there told in
     noted-some A c.args.slot (now_moment run) run c.args.breaks.now (g.M.Medium.state c.args.unit.now) (g.M.Medium.state c.note_on.new.unit) (g.C.Chip.state c.args.card_a.now) (g.C.Chip.state c.note_on.new.card) (g.D.Chip.state c.args.card_b.now)
     (g.met.M.Medium.coherent c.args.unit.now) (g.met.C.Chip.coherent c.args.card_a.now) (g.met.C.Chip.coherent c.note_on.new.card) c.requires.held.card_a.size some e.value there refl refl lit.span lit.stands lit.next lit.cabin e.moments e.journal
-    (is_err c.note_on.result) e.cause c.note_on.new.run c.note_on.new.breaks n.0 n.1 n.2 n.3
+    (is_err c.note_on.result) e.cause (λ fine. leaves-more (g.M.Medium.state c.args.unit.now) (g.M.Medium.state c.note_on.new.unit) e.rings) c.note_on.new.run c.note_on.new.breaks n.0 n.1 n.2 n.3
 
 pub returns-in-B-clause-recorded : goal.returns-in-B-clause-recorded
 returns-in-B-clause-recorded g c =
@@ -202,7 +203,7 @@ returns-in-B-clause-recorded g c =
     let some = numbered-session run.keeper.cabin.cards (seat_in run.keeper.cabin.slots.seats c.args.slot) B c.in-Some-number_in.field-0 there told in
     noted-some B c.args.slot (now_moment run) run c.args.breaks.now (g.M.Medium.state c.args.unit.now) (g.M.Medium.state c.note_on-in-B.new.unit) (g.D.Chip.state c.args.card_b.now) (g.D.Chip.state c.note_on-in-B.new.card) (g.C.Chip.state c.args.card_a.now)
     (g.met.M.Medium.coherent c.args.unit.now) (g.met.D.Chip.coherent c.args.card_b.now) (g.met.D.Chip.coherent c.note_on-in-B.new.card) c.requires.held.card_b.size some e.value there refl refl lit.span lit.stands lit.next lit.cabin e.moments e.journal
-    (is_err c.note_on-in-B.result) e.cause c.note_on-in-B.new.run c.note_on-in-B.new.breaks n.0 n.1 n.2 n.3
+    (is_err c.note_on-in-B.result) e.cause (λ fine. leaves-more (g.M.Medium.state c.args.unit.now) (g.M.Medium.state c.note_on-in-B.new.unit) e.rings) c.note_on-in-B.new.run c.note_on-in-B.new.breaks n.0 n.1 n.2 n.3
 
 pub returns-in_default-clause-recorded : goal.returns-in_default-clause-recorded
 returns-in_default-clause-recorded g c = λ o done s out w power. record { goes = w; began = refl }

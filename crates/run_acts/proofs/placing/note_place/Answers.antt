@@ -31,6 +31,7 @@ use Rattle.run_outcome.specs.declared.outcome.Outcome.{Outcome}
 use Rattle.run_recorded.specs.Origin.{Origin}
 use Rattle.run_within.specs.Within.{Beginning}
 use Rattle.run_acts.specs.Recording.{RunWithin, RunGoesOn, GoesOnOrFails, IsNow, GoesOnOrCut, log_of, values_of}
+use Rattle.run_acts.proofs.Comings.{leaves-more, place-more}
 use Rattle.run_acts.proofs.NoteRecorded.{noted-some, place-told, unit-recorded, unit-evented, some-evented}
 use Rattle.trace_model.specs.declared.Card.{Card}
 use Rattle.gated_ring.specs.Change.{IsAdding}
@@ -249,7 +250,8 @@ returns-in_err-note_place-clause-recorded g c = λ late ending country region sp
     let failed : true ≡ is_err c.from_residual.result = search rules in
     let w1 = place-first o done s c.args.slot ending country region c.args.at.begun speed run before c.args.breaks.now (devices U A0 B0) is now front rest are n allowed w in
     subst (λ (q : Bool). GoesOnOrFails q o done s (In c.args.at.begun) [] run (record before { breaks = c.args.breaks.now }) (devices V A0 B0) w.within.b) failed
-    (unit-recorded o done s c.args.at.begun run (record before { breaks = c.args.breaks.now }) U V A0 B0 (g.met.M.Medium.coherent c.args.unit.now) c.note_place.ensures.journal lit.span lit.stands lit.next w1.goes true c.in_err-note_place.ensures.cause)
+    (unit-recorded o done s c.args.at.begun run (record before { breaks = c.args.breaks.now }) U V A0 B0 (g.met.M.Medium.coherent c.args.unit.now) c.note_place.ensures.journal lit.span lit.stands lit.next w1.goes true c.in_err-note_place.ensures.cause
+    (λ fine. place-more (unit_place_bytes c.in-Some-number_in.number c.args.entry.now) (g.M.Medium.state c.args.unit.now) (g.M.Medium.state c.note_place.new.unit) (g.met.M.Medium.coherent c.args.unit.now) c.note_place.ensures.moments))
 
 pub returns-in-A-clause-recorded : goal.returns-in-A-clause-recorded
 returns-in-A-clause-recorded g c = λ late ending country region speed before is o done s now front rest are n allowed w time.
@@ -265,11 +267,12 @@ returns-in-A-clause-recorded g c = λ late ending country region speed before is
     let told : number_of_seat run.keeper.cabin.cards (seat_in run.keeper.cabin.slots.seats c.args.slot) ≡ Some c.in-Some-number_in.number = cc in
     let some = numbered-session run.keeper.cabin.cards (seat_in run.keeper.cabin.slots.seats c.args.slot) A c.in-Some-number_in.number there told in
     let w1 = place-first o done s c.args.slot ending country region c.args.at.begun speed run before c.args.breaks.now (devices U A0 B0) is now front rest are n allowed w in
-    let w2 = unit-recorded o done s c.args.at.begun run (record before { breaks = c.args.breaks.now }) U V A0 B0 (g.met.M.Medium.coherent c.args.unit.now) c.note_place.ensures.journal lit.span lit.stands lit.next w1.goes false c.in_ok-note_place.ensures.cause in
+    let w2 = unit-recorded o done s c.args.at.begun run (record before { breaks = c.args.breaks.now }) U V A0 B0 (g.met.M.Medium.coherent c.args.unit.now) c.note_place.ensures.journal lit.span lit.stands lit.next w1.goes false c.in_ok-note_place.ensures.cause
+    (λ fine. place-more (unit_place_bytes c.in-Some-number_in.number c.args.entry.now) (g.M.Medium.state c.args.unit.now) (g.M.Medium.state c.note_place.new.unit) (g.met.M.Medium.coherent c.args.unit.now) c.note_place.ensures.moments) in
     subst (λ (b : Beginning). GoesOnOrFails (is_err c.note_place_in.result) o done s (In c.args.at.begun) [] c.note_place_in.new.run (record before { breaks = c.note_place_in.new.breaks }) (devices (g.M.Medium.state c.note_place_in.new.unit) (g.C.Chip.state c.note_place_in.new.card) B0) b) (w2.began ∙ w1.began)
     (noted-some A c.args.slot c.args.at run c.args.breaks.now V (g.M.Medium.state c.note_place_in.new.unit) (g.C.Chip.state c.args.card_a.now) (g.C.Chip.state c.note_place_in.new.card) (g.D.Chip.state c.args.card_b.now)
     (g.met.M.Medium.coherent c.note_place.new.unit) (g.met.C.Chip.coherent c.args.card_a.now) (g.met.C.Chip.coherent c.note_place_in.new.card) c.requires.held.card_a.size some e.value there c.requires.at late lit.span lit.stands lit.next lit.cabin e.moments e.journal
-    (is_err c.note_place_in.result) e.cause c.note_place_in.new.run c.note_place_in.new.breaks k.0 k.1 k.2 k.3 o done s before w2.goes (λ first. absurd (let none : c.args.at.begun ≡ 0 = cc in omega (arith, none, n))))
+    (is_err c.note_place_in.result) e.cause (λ fine. leaves-more (g.M.Medium.state c.note_place.new.unit) (g.M.Medium.state c.note_place_in.new.unit) e.rings) c.note_place_in.new.run c.note_place_in.new.breaks k.0 k.1 k.2 k.3 o done s before w2.goes (λ first. absurd (let none : c.args.at.begun ≡ 0 = cc in omega (arith, none, n))))
 
 pub returns-in-B-clause-recorded : goal.returns-in-B-clause-recorded
 returns-in-B-clause-recorded g c = λ late ending country region speed before is o done s now front rest are n allowed w time.
@@ -285,11 +288,12 @@ returns-in-B-clause-recorded g c = λ late ending country region speed before is
     let told : number_of_seat run.keeper.cabin.cards (seat_in run.keeper.cabin.slots.seats c.args.slot) ≡ Some c.in-Some-number_in.number = cc in
     let some = numbered-session run.keeper.cabin.cards (seat_in run.keeper.cabin.slots.seats c.args.slot) B c.in-Some-number_in.number there told in
     let w1 = place-first o done s c.args.slot ending country region c.args.at.begun speed run before c.args.breaks.now (devices U A0 B0) is now front rest are n allowed w in
-    let w2 = unit-recorded o done s c.args.at.begun run (record before { breaks = c.args.breaks.now }) U V A0 B0 (g.met.M.Medium.coherent c.args.unit.now) c.note_place.ensures.journal lit.span lit.stands lit.next w1.goes false c.in_ok-note_place.ensures.cause in
+    let w2 = unit-recorded o done s c.args.at.begun run (record before { breaks = c.args.breaks.now }) U V A0 B0 (g.met.M.Medium.coherent c.args.unit.now) c.note_place.ensures.journal lit.span lit.stands lit.next w1.goes false c.in_ok-note_place.ensures.cause
+    (λ fine. place-more (unit_place_bytes c.in-Some-number_in.number c.args.entry.now) (g.M.Medium.state c.args.unit.now) (g.M.Medium.state c.note_place.new.unit) (g.met.M.Medium.coherent c.args.unit.now) c.note_place.ensures.moments) in
     subst (λ (b : Beginning). GoesOnOrFails (is_err c.note_place_in-in-B.result) o done s (In c.args.at.begun) [] c.note_place_in-in-B.new.run (record before { breaks = c.note_place_in-in-B.new.breaks }) (devices (g.M.Medium.state c.note_place_in-in-B.new.unit) A0 (g.D.Chip.state c.note_place_in-in-B.new.card)) b) (w2.began ∙ w1.began)
     (noted-some B c.args.slot c.args.at run c.args.breaks.now V (g.M.Medium.state c.note_place_in-in-B.new.unit) (g.D.Chip.state c.args.card_b.now) (g.D.Chip.state c.note_place_in-in-B.new.card) (g.C.Chip.state c.args.card_a.now)
     (g.met.M.Medium.coherent c.note_place.new.unit) (g.met.D.Chip.coherent c.args.card_b.now) (g.met.D.Chip.coherent c.note_place_in-in-B.new.card) c.requires.held.card_b.size some e.value there c.requires.at late lit.span lit.stands lit.next lit.cabin e.moments e.journal
-    (is_err c.note_place_in-in-B.result) e.cause c.note_place_in-in-B.new.run c.note_place_in-in-B.new.breaks k.0 k.1 k.2 k.3 o done s before w2.goes (λ first. absurd (let none : c.args.at.begun ≡ 0 = cc in omega (arith, none, n))))
+    (is_err c.note_place_in-in-B.result) e.cause (λ fine. leaves-more (g.M.Medium.state c.note_place.new.unit) (g.M.Medium.state c.note_place_in-in-B.new.unit) e.rings) c.note_place_in-in-B.new.run c.note_place_in-in-B.new.breaks k.0 k.1 k.2 k.3 o done s before w2.goes (λ first. absurd (let none : c.args.at.begun ≡ 0 = cc in omega (arith, none, n))))
 
 pub returns-in-A-clause-clock_a : goal.returns-in-A-clause-clock_a
 returns-in-A-clause-clock_a g c = c.note_place_in.ensures.clock_card
@@ -499,7 +503,8 @@ returns-in-A-clause-evented g c = λ late ending country region speed before is 
     let yet = subst (λ (l : Listed Break). NotFound (In begun) (other_slot c.args.slot) (log_of (record before { breaks = l })) s.number) is (none-yet o done s (length front) begun (values_of run before) (devices U A0 B0) w.within n (other_slot c.args.slot)).0 in
     let follows = subst (λ (l : Listed Break). MayFollow (In begun) c.args.slot (log_of (record before { breaks = l })) s) is (none-yet o done s (length front) begun (values_of run before) (devices U A0 B0) w.within n c.args.slot).1 in
     let w1 = place-first o done s c.args.slot ending country region begun speed run before c.args.breaks.now (devices U A0 B0) is now front rest are n allowed w in
-    let w2 = unit-recorded o done s begun run out U V A0 B0 (g.met.M.Medium.coherent c.args.unit.now) c.note_place.ensures.journal lit.span lit.stands lit.next w1.goes false c.in_ok-note_place.ensures.cause in
+    let w2 = unit-recorded o done s begun run out U V A0 B0 (g.met.M.Medium.coherent c.args.unit.now) c.note_place.ensures.journal lit.span lit.stands lit.next w1.goes false c.in_ok-note_place.ensures.cause
+    (λ fine. place-more (unit_place_bytes c.in-Some-number_in.number c.args.entry.now) (g.M.Medium.state c.args.unit.now) (g.M.Medium.state c.note_place.new.unit) (g.met.M.Medium.coherent c.args.unit.now) c.note_place.ensures.moments) in
     let first : EventedNow o done s w1.goes.within.b.run Acting (log_of out) (devices U A0 B0) = subst (λ (b : Beginning). EventedNow o done s b.run Acting (log_of out) (devices U A0 B0)) (sym w1.began)
     (subst (λ (l : Listed Break). EventedNow o done s w.within.b.run Acting (log_of (record before { breaks = l })) (devices U A0 B0)) is events) in
     let second : EventedNow o done s w2.goes.within.b.run Acting (log_of out) (devices V A0 B0) = subst (λ (b : Beginning). EventedNow o done s b.run Acting (log_of out) (devices V A0 B0)) (sym w2.began)
@@ -539,7 +544,8 @@ returns-in-B-clause-evented g c = λ late ending country region speed before is 
     let yet = subst (λ (l : Listed Break). NotFound (In begun) (other_slot c.args.slot) (log_of (record before { breaks = l })) s.number) is (none-yet o done s (length front) begun (values_of run before) (devices U A0 B0) w.within n (other_slot c.args.slot)).0 in
     let follows = subst (λ (l : Listed Break). MayFollow (In begun) c.args.slot (log_of (record before { breaks = l })) s) is (none-yet o done s (length front) begun (values_of run before) (devices U A0 B0) w.within n c.args.slot).1 in
     let w1 = place-first o done s c.args.slot ending country region begun speed run before c.args.breaks.now (devices U A0 B0) is now front rest are n allowed w in
-    let w2 = unit-recorded o done s begun run out U V A0 B0 (g.met.M.Medium.coherent c.args.unit.now) c.note_place.ensures.journal lit.span lit.stands lit.next w1.goes false c.in_ok-note_place.ensures.cause in
+    let w2 = unit-recorded o done s begun run out U V A0 B0 (g.met.M.Medium.coherent c.args.unit.now) c.note_place.ensures.journal lit.span lit.stands lit.next w1.goes false c.in_ok-note_place.ensures.cause
+    (λ fine. place-more (unit_place_bytes c.in-Some-number_in.number c.args.entry.now) (g.M.Medium.state c.args.unit.now) (g.M.Medium.state c.note_place.new.unit) (g.met.M.Medium.coherent c.args.unit.now) c.note_place.ensures.moments) in
     let first : EventedNow o done s w1.goes.within.b.run Acting (log_of out) (devices U A0 B0) = subst (λ (b : Beginning). EventedNow o done s b.run Acting (log_of out) (devices U A0 B0)) (sym w1.began)
     (subst (λ (l : Listed Break). EventedNow o done s w.within.b.run Acting (log_of (record before { breaks = l })) (devices U A0 B0)) is events) in
     let second : EventedNow o done s w2.goes.within.b.run Acting (log_of out) (devices V A0 B0) = subst (λ (b : Beginning). EventedNow o done s b.run Acting (log_of out) (devices V A0 B0)) (sym w2.began)

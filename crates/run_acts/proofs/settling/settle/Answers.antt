@@ -13,6 +13,9 @@ use Rattle.run_acts.specs.Acting.{told_of}
 use Rattle.run_acts.proofs.Settled.{settled-ungiven, settled-later, settled-decides}
 use Rattle.run_acts.proofs.Bare.{all-bare}
 use Rattle.run_acts.proofs.GoesOn.{same-left}
+use Rattle.run_outcome.specs.declared.outcome.Outcome.{Outcome}
+use Rattle.run_acts.proofs.Ringing.{settling-leaves}
+use Rattle.run_acts.proofs.Comings.{leaves-more}
 use Rattle.run_acts.proofs.SettledRecorded.{settling-so, booked}
 use Rattle.run_acts.proofs.SettledEvented.{settling-events}
 use Rattle.safety_model.specs.Safe.{Devices}
@@ -153,7 +156,12 @@ returns-clause-recorded g c =
     let k = c.keep_all.ensures in
     let old = c.args.run.now in
     let items = c.settle-decided.result.items in
-    let b = rw c.as_slice.ensures.value at k.booked in (
+    let b = rw c.as_slice.ensures.value at k.booked in
+    let U = g.M.Medium.state c.args.unit.now in
+    let V = g.M.Medium.state c.keep_all.new.unit in
+    let new : Run = record old { minutes = c.settle-decided.new.self; keeper = c.keep_all.new.self } in
+    let after : Outcome = record c.args.outcome.now { marks = c.keep_all.new.marks; breaks = c.keep_all.new.breaks } in
+    let leaves = settling-leaves c.args.at (is_err c.keep_all.result) old new c.args.outcome.now after U V (items, c.settle-decided.ensures.given, b.0, b.1, b.3) in (
       items,
       c.settle-decided.ensures.given,
       λ o done s n waits some here r time. settling-so old c.args.outcome.now c.settle-decided.new.self c.keep_all.new.self c.keep_all.new.marks c.keep_all.new.breaks c.args.at (is_err c.keep_all.result) items
@@ -167,7 +175,7 @@ returns-clause-recorded g c =
             card_a = record { keeps = k.a_keeps; clock = k.clock_a; tells = k.tells_a; more = k.more_a; broken = k.a_broken; bare = λ none. same-left (g.C.Chip.state c.args.card_a.now) (g.C.Chip.state c.keep_all.new.card_a) (ap g.C.Chip.state (k.a_bare none)) };
             card_b = record { keeps = k.b_keeps; clock = k.clock_b; tells = k.tells_b; more = k.more_b; broken = k.b_broken; bare = λ none. same-left (g.D.Chip.state c.args.card_b.now) (g.D.Chip.state c.keep_all.new.card_b) (ap g.D.Chip.state (k.b_bare none)) };
           })
-          o done s n waits some here r time,
+          o done s n waits some here r time (leaves-more U V leaves),
     )
 
 -- ---- which events the cards show

@@ -25,6 +25,7 @@ use Rattle.trace_model.specs.declared.Action.{Action}
 use Rattle.safety_model.specs.Safe.{Devices}
 use Rattle.run_recorded.specs.Origin.{Origin}
 use Rattle.run_acts.specs.RunRinged.{RunRinged, RingsWithin, WithinRinged, CutRinged, InSecondRingedBy, TurnedRings}
+use Rattle.run_acts.proofs.Comings.{leaves-more}
 use Rattle.run_acts.proofs.Ringing.{turn-leaves}
 use Rattle.run_acts.proofs.RingedTurn.{dark-ringed, seconds-ringed}
 use Rattle.run_acts.specs.RunCards.{CardsAtBy}
@@ -98,7 +99,8 @@ returns-clause-recorded g c = λ o done s now actions none within time.
     let there : RunWithin o done s (In (length s.actions)) [] [] run before d = subst (λ (k : ℕ). RunWithin o done s (In k) [] [] run before d) (sym actions) r in
     subst (λ (x : Run). RunRecorded o (done ++ s ∷ driven (c.args.n - 1) (s.number + 1) c.args.speed []) x c.lit_turn.new.outcome e) (sym c.pass-2.ensures)
     (turn-lit c.args.n c.args.speed c.args.begun run c.lit_turn.new.run before c.lit_turn.new.outcome d e (c.requires.going.lit lit) r.lit c.requires.some c.requires.minute c.requires.small c.lit_turn.ensures.booked
-    o done s now actions (λ more. none (omega (arith, more))) there time)
+    o done s now actions (λ more. none (omega (arith, more))) there time
+    (leaves-more (g.M.Medium.state c.args.unit.now) (g.M.Medium.state c.lit_turn.new.unit) (turn-leaves c.args.n c.args.speed c.args.begun run c.lit_turn.new.run before c.lit_turn.new.outcome (g.M.Medium.state c.args.unit.now) (g.M.Medium.state c.lit_turn.new.unit) (g.met.M.Medium.coherent c.args.unit.now) c.requires.going.held.is_unit c.lit_turn.ensures.noted)))
 
 -- ---- what is noted
 
@@ -157,7 +159,8 @@ returns-clause-evented g c = λ o done s now actions behind within time.
     let after = c.lit_turn.new.outcome in
     let turned : Run = passed c.args.n c.args.begun c.lit_turn.new.run in
     let rec : RunRecorded o seconds turned after e = turn-lit c.args.n c.args.speed c.args.begun run c.lit_turn.new.run before after d e (c.requires.going.lit lit) r.within.lit c.requires.some c.requires.minute c.requires.small c.lit_turn.ensures.booked
-    o done s now actions (λ more. (behind (omega (arith, more))).0) there time in
+    o done s now actions (λ more. (behind (omega (arith, more))).0) there time
+    (leaves-more (g.M.Medium.state c.args.unit.now) (g.M.Medium.state c.lit_turn.new.unit) (turn-leaves c.args.n c.args.speed c.args.begun run c.lit_turn.new.run before c.lit_turn.new.outcome (g.M.Medium.state c.args.unit.now) (g.M.Medium.state c.lit_turn.new.unit) (g.met.M.Medium.coherent c.args.unit.now) c.requires.going.held.is_unit c.lit_turn.ensures.noted)) in
     let t = c.lit_turn.ensures.evented o done s now actions behind r time in
     subst (λ (x : Run). RunEvented o seconds x after e) (sym c.pass-2.ensures)
     (record {
