@@ -154,10 +154,10 @@ first_before_insertions = omega arith
 first_before_places : 572 + 4 ≤ 2379240
 first_before_places = omega arith
 
-first_between : ((572 ≤ 572) × (572 + 4 ≤ 580)) ⊎ (2115044 ≤ 572)
+first_between : ((572 ≤ 572) × (572 + 4 ≤ 580)) ⊎ ((2115044 ≤ 572) × (572 + 4 ≤ 2393642))
 first_between = inl (omega arith, omega arith)
 
-count_between : ((572 ≤ 576) × (576 + 4 ≤ 580)) ⊎ (2115044 ≤ 576)
+count_between : ((572 ≤ 576) × (576 + 4 ≤ 580)) ⊎ ((2115044 ≤ 576) × (576 + 4 ≤ 2393642))
 count_between = inl (omega arith, omega arith)
 
 -- the minute and the word of a cell
@@ -246,7 +246,7 @@ place_decodes head x c adding decodes =
 entry_decodes : (i : ℕ) (x c : List ℕ) → i < 2048 → SameOutside (place_of insertion_ring i) 129 x c → Decodes x → Decodes c
 entry_decodes i x c below same decodes =
     let was = passes_beside x decodes in
-    still_decodes x c (keeps (place_of insertion_ring i) 129 x c (inr (entry_behind i)) same)
+    still_decodes x c (keeps (place_of insertion_ring i) 129 x c (inr (entry_behind i below)) same)
     (overs_few (number_at c 576 4) (low_number (place_of insertion_ring i) 129 576 x c 256 same (overs_before_entry i) (overs_below x decodes)))
     (low_number (place_of insertion_ring i) 129 2115044 x c 2048 same (pointer_before_entry i) was.insertions)
     (high_number (place_of insertion_ring i) 129 2379240 x c 255 same (entry_end i below) was.places)
