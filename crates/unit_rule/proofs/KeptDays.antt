@@ -13,10 +13,10 @@ use Rattle.unit_model.specs.Days.{StoredDay, Each, day_of}
 use Rattle.unit_model.specs.Image.{last_kept, unit_days}
 use Rattle.unit_model.proofs.Recorded.{date_in}
 use Rattle.unit_model.proofs.Slots.{day_at, all_days}
-use Rattle.unit_journal.specs.Coming.{Coming}
 use Rattle.unit_journal.specs.DaysWith.{day_with, closed_day, begun_day, days_with, last_day_closed, opened_day, AreTurning, AreBetween}
 use Rattle.unit_journal.specs.DayOdometers.{HasSlot}
-use Rattle.unit_journal.specs.Image.{Notes, Agrees}
+use Rattle.unit_journal.specs.declared.notes.Notes.{Notes}
+use Rattle.unit_journal.specs.Image.{Agrees}
 use Rattle.unit_journal.specs.Keeping.{IsKeeping}
 use Rattle.unit_journal.specs.declared.kept.KeptMinute.{KeptMinute}
 use Rattle.unit_journal.specs.Kept.{kept_minute, coming_of, HasDaysBetween}
@@ -68,13 +68,13 @@ agreed-days j m x agrees day = elim (cases_lt 0 j.kept) as (λ v. HasDays j.kept
       }
 ]
 
-module _ (k : ℕ) (m : Coming) (x : List ℕ) where
+module _ (k : ℕ) (m : KeptMinute) (x : List ℕ) where
   -- a day that there was, or the one that the minute begins
   abbrev IsOld : StoredDay → Type 0
   IsOld d = HasSlot x (day_of d) d.odometer
 
   abbrev IsNew : ℕ → ℕ → Type 0
-  IsNew day o = (k / 1440 < m.minute / 1440) × (day ≡ m.minute / 1440) × (o ≡ m.odometer)
+  IsNew day o = (k / 1440 < m.minute / 1440) × (day ≡ m.minute / 1440) × (o ≡ m.odometer.0)
 
   abbrev IsEither : StoredDay → Type 0
   IsEither d = IsOld d ⊎ IsNew (day_of d) d.odometer
@@ -90,39 +90,39 @@ module _ (k : ℕ) (m : Coming) (x : List ℕ) where
   day-begun : 86400 * (m.minute / 1440) / 86400 ≡ m.minute / 1440
   day-begun = omega arith
 
-  with-all : k < m.minute → (ds : List StoredDay) → All IsOld ds → IsLast k m.minute ds → All IsEither (days_with k m ds)
-  with-all later [] h last = All-cons IsEither (begun_day m) [] (inr (last, day-begun, refl)) (All-nil IsEither)
+  with-all : k < m.minute → (ds : List StoredDay) → All IsOld ds → IsLast k m.minute ds → All IsEither (days_with k (coming_of m) ds)
+  with-all later [] h last = All-cons IsEither (begun_day (coming_of m)) [] (inr (last, day-begun, refl)) (All-nil IsEither)
   with-all later (d ∷ []) h last = by (day_of d == m.minute / 1440) refl
     where
-      by : (b : Bool) → (day_of d == m.minute / 1440) ≡ b → All IsEither (cond b (day_with k m d ∷ []) (closed_day k d ∷ begun_day m ∷ []))
-      by true is = All-cons IsEither (day_with k m d) [] (inl (All-head IsOld d [] h)) (All-nil IsEither)
+      by : (b : Bool) → (day_of d == m.minute / 1440) ≡ b → All IsEither (cond b (day_with k (coming_of m) d ∷ []) (closed_day k d ∷ begun_day (coming_of m) ∷ []))
+      by true is = All-cons IsEither (day_with k (coming_of m) d) [] (inl (All-head IsOld d [] h)) (All-nil IsEither)
       by false is =
           let other : day_of d ≢ m.minute / 1440 = grind (arith, nat_tests, is) in
           let le : k / 1440 ≤ m.minute / 1440 = omega (arith, later) in
           let newest : day_of d ≡ k / 1440 = last in
           let lt : k / 1440 < m.minute / 1440 = ⊎_elim (λ (lt : k / 1440 < m.minute / 1440). lt) (λ ge. absurd (other (omega (arith, le, ge, newest)))) (cases_lt (k / 1440) (m.minute / 1440)) in
-          All-cons IsEither (closed_day k d) (begun_day m ∷ []) (inl (All-head IsOld d [] h)) (All-cons IsEither (begun_day m) [] (inr (lt, day-begun, refl)) (All-nil IsEither))
+          All-cons IsEither (closed_day k d) (begun_day (coming_of m) ∷ []) (inl (All-head IsOld d [] h)) (All-cons IsEither (begun_day (coming_of m)) [] (inr (lt, day-begun, refl)) (All-nil IsEither))
   with-all later (d ∷ e ∷ ds) h last =
-      All-cons IsEither d (days_with k m (e ∷ ds)) (inl (All-head IsOld d (e ∷ ds) h)) (with-all later (e ∷ ds) (All-tail IsOld d (e ∷ ds) h) last)
+      All-cons IsEither d (days_with k (coming_of m) (e ∷ ds)) (inl (All-head IsOld d (e ∷ ds) h)) (with-all later (e ∷ ds) (All-tail IsOld d (e ∷ ds) h) last)
 
   newest-all : (n : ℕ) (ds : List StoredDay) → All IsEither ds → All IsEither (newest_of n ds)
   newest-all n ds h = All-drop IsEither (length ds - n) ds h
 
   -- where a further day begins
-  turning-all : (now : List StoredDay) → k / 1440 < m.minute / 1440 → AreTurning k m (unit_days x) now → All IsEither now
+  turning-all : (now : List StoredDay) → k / 1440 < m.minute / 1440 → AreTurning k (coming_of m) (unit_days x) now → All IsEither now
   turning-all now lt (inl is) = subst (All IsEither) (sym is) (closed-all (unit_days x) (slots-of x))
   turning-all now lt (inr (inl is)) = subst (All IsEither) (sym is) (newest-all (DAY_SLOTS - 1) (last_day_closed k (unit_days x)) (closed-all (unit_days x) (slots-of x)))
   turning-all now lt (inr (inr is)) = subst (All IsEither) (sym is)
-      (newest-all DAY_SLOTS (last_day_closed k (unit_days x) ++ opened_day m ∷ [])
-      (All-push IsEither (last_day_closed k (unit_days x)) (opened_day m) (closed-all (unit_days x) (slots-of x)) (inr (lt, day-begun, refl))))
+      (newest-all DAY_SLOTS (last_day_closed k (unit_days x) ++ opened_day (coming_of m) ∷ [])
+      (All-push IsEither (last_day_closed k (unit_days x)) (opened_day (coming_of m)) (closed-all (unit_days x) (slots-of x)) (inr (lt, day-begun, refl))))
 
   -- at each moment
-  between-all : last_kept x ≡ k → k < m.minute → IsLast k m.minute (unit_days x) → (c : List ℕ) → AreBetween m x c → All IsEither (unit_days c)
+  between-all : last_kept x ≡ k → k < m.minute → IsLast k m.minute (unit_days x) → (c : List ℕ) → AreBetween (coming_of m) x c → All IsEither (unit_days c)
   between-all kept later last c b = ⊎_elim
       (λ same. subst (All IsEither) (sym same) (old-all (unit_days x) (slots-of x)))
       (λ moved. ⊎_elim
-      (λ is. subst (All IsEither) (sym (is ∙ ap (λ (n : ℕ). newest_of DAY_SLOTS (days_with n m (unit_days x))) kept)) (newest-all DAY_SLOTS (days_with k m (unit_days x)) (with-all later (unit_days x) (slots-of x) last)))
-      (λ turning. turning-all (unit_days c) (subst (λ (n : ℕ). n / 1440 < m.minute / 1440) kept turning.0) (subst (λ (n : ℕ). AreTurning n m (unit_days x) (unit_days c)) kept turning.1))
+      (λ is. subst (All IsEither) (sym (is ∙ ap (λ (n : ℕ). newest_of DAY_SLOTS (days_with n (coming_of m) (unit_days x))) kept)) (newest-all DAY_SLOTS (days_with k (coming_of m) (unit_days x)) (with-all later (unit_days x) (slots-of x) last)))
+      (λ turning. turning-all (unit_days c) (subst (λ (n : ℕ). n / 1440 < m.minute / 1440) kept turning.0) (subst (λ (n : ℕ). AreTurning n (coming_of m) (unit_days x) (unit_days c)) kept turning.1))
       moved)
       b.days
 
@@ -134,7 +134,7 @@ keeping-days j k x c agrees day later moment between =
     record {
       moment = moment;
       slots = λ d o s.
-          let either = All-contains (IsEither j.kept (coming_of k) x) (unit_days c) s.slot (between-all j.kept (coming_of k) x kept later days.last c between) s.there in
+          let either = All-contains (IsEither j.kept k x) (unit_days c) s.slot (between-all j.kept k x kept later days.last c between) s.there in
           ⊎_elim
           (λ old. inl (record { slot = old.slot; there = old.there; day_is = old.day_is ∙ s.day_is; odometer_is = old.odometer_is ∙ s.odometer_is }))
           (λ new. inr (subst (λ (n : ℕ). n / 1440 < k.minute / 1440) (sym kept) new.0, sym s.day_is ∙ new.1, sym s.odometer_is ∙ new.2))

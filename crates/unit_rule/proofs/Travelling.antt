@@ -65,23 +65,23 @@ travelled-opened start unit x is low known now = record {
   known = λ c on. subst (λ (y : List ℕ). pointer day_ring y < DAY_SLOTS) (sym (now c on)) known;
 }
 
-module _ (start : ℕ) (b : Book) (g : Travel) {U V : State} (t : HasTravelled start b g U) (before : IsCoherent U) where
-  -- the day was begun still, as another image shows it
-  moved : (x c : List ℕ) → last_kept c ≡ last_kept x → (day o : ℕ) → RecordsDay g.image day o ⊎ IsBegunBy start b g x day o → RecordsDay g.image day o ⊎ IsBegunBy start b g c day o
-  moved x c last day o (inl r) = inl r
-  moved x c last day o (inr h) = inr (record {
-    anew = h.anew;
-    e = h.e;
-    begun = h.begun;
-    i = h.i;
-    there = h.there;
-    same = h.same;
-    has = subst (λ (n : ℕ). h.e.minute ≤ n) (sym last) h.has;
-    day_is = h.day_is;
-    first = h.first;
-    odometer_is = h.odometer_is;
-  })
+-- a day was begun still, as another image shows it
+moved : (start : ℕ) (b : Book) (g : Travel) (x c : List ℕ) → last_kept c ≡ last_kept x → (day o : ℕ) → RecordsDay g.image day o ⊎ IsBegunBy start b g x day o → RecordsDay g.image day o ⊎ IsBegunBy start b g c day o
+moved start b g x c last day o (inl r) = inl r
+moved start b g x c last day o (inr h) = inr (record {
+  anew = h.anew;
+  e = h.e;
+  begun = h.begun;
+  i = h.i;
+  there = h.there;
+  same = h.same;
+  has = subst (λ (n : ℕ). h.e.minute ≤ n) (sym last) h.has;
+  day_is = h.day_is;
+  first = h.first;
+  odometer_is = h.odometer_is;
+})
 
+module _ (start : ℕ) (b : Book) (g : Travel) {U V : State} (t : HasTravelled start b g U) (before : IsCoherent U) where
   -- a step beside the minutes and the odometer
   pub travelled-aside : (R : List ℕ → List ℕ → Type 0) → LeavesOnly U V R → ((x c : List ℕ) → R x c → IsBesideTravel x c) → HasTravelled start b g V
   travelled-aside R run aside = record {
@@ -91,7 +91,7 @@ module _ (start : ℕ) (b : Book) (g : Travel) {U V : State} (t : HasTravelled s
         (λ here. let was = t.now here.0 (before.is_left here.0 here.1) in let same = aside here.0 c here.2 in record { leg = was.leg; is = same.odometer_is ∙ was.is; side = was.side; behind = λ i maybe last. was.behind i maybe (sym same.last ∙ last) })
         (run.now c on);
     days = λ c on day o r. ⊎_elim (λ was. t.days c was day o r)
-        (λ here. let there = before.is_left here.0 here.1 in let same = aside here.0 c here.2 in moved here.0 c same.last day o (t.days here.0 there day o (same.days (t.known here.0 there) day o r)))
+        (λ here. let there = before.is_left here.0 here.1 in let same = aside here.0 c here.2 in moved start b g here.0 c same.last day o (t.days here.0 there day o (same.days (t.known here.0 there) day o r)))
         (run.now c on);
     since = λ c on. ⊎_elim (t.since c)
         (λ here. let same = aside here.0 c here.2 in subst (λ (n : ℕ). last_kept g.image ≤ n) (sym same.last) (t.since here.0 (before.is_left here.0 here.1)))
