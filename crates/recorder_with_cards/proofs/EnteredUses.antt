@@ -8,6 +8,7 @@ use Rattle.activity_codec.specs.Activity.{same_slot}
 use Rattle.trace_model.specs.declared.Card.{Card}
 use Rattle.trace_model.specs.Trace.{TraceSecond}
 use Rattle.tacho_types.specs.declared.texts.Registration.{Registration}
+use Rattle.card_layout.specs.Application.{place_of_field}
 use Rattle.card_layout.specs.declared.files.Application.{Application}
 use Rattle.card_image.specs.Fields.{current_use, session_time}
 use Rattle.card_image.specs.Own.{own_sizes, IsOwnValid}
@@ -34,7 +35,7 @@ use Rattle.run_recorded.specs.Whole.{NothingFailed}
 use Rattle.run_evented.specs.Uses.{uses_from, inserted, insertions_at, times_of, notes_now, vehicle_in, uses_in, use_now, FindsMore}
 use Rattle.run_evented.proofs.Uses.{times-append, card-is, card-turned}
 use Rattle.run_entering.specs.declared.lines.Entering.{Entering}
-use Rattle.run_entering.specs.Entering.{Ending, Unfit, Ahead, Fell, Unasked, Unnoted, Seated, Lost, Way, Unread, Unsized, Judged, ending_of, find_of}
+use Rattle.run_entering.specs.Entering.{Ending, Unfit, Ahead, Fell, Unasked, Unnoted, Seated, Lost, Way, Unread, Unsized, Judged, ending_of, find_of, APPLICATION_FILE}
 use Rattle.run_entering.specs.Entered.{IsFound, IsFoundIn}
 use Rattle.run_within.specs.Recorded.{Values}
 use Rattle.run_within.specs.Within.{Within}

@@ -82,7 +82,6 @@ use Rattle.recorder_with_cards.specs.Judged.{moment_in, RunNext, RunBehind, Judg
 use Rattle.recorder_with_cards.proofs.Read.{unit-tells, image-of, at-image}
 use Rattle.recorder_with_cards.proofs.StoredCalls.{mend-stays}
 use Rattle.side_model.specs.Noted.{Note}
-use Rattle.run_course.proofs.Logs.{found_log}
 use Rattle.run_ringed.specs.Ringed.{notes_in}
 use Rattle.run_acts.specs.Closings.{spells_of, notes_within}
 use Rattle.run_acts.specs.Stays.{AllStay}

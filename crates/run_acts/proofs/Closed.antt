@@ -80,8 +80,6 @@ use Rattle.run_acts.proofs.RoundFaults.{none-added}
 use Rattle.run_acts.proofs.FallEvented.{call-evented, begins-now, leaving-out, leaving-falls}
 use Rattle.run_acts.proofs.Withdrawn.{closed-any}
 use Rattle.run_acts.proofs.NoteRecorded.{goes-as, any-evented, card-goes, unit-any, unit-of, to-unit, card-rose, rose-by, rose-on}
-use Rattle.card_layout.specs.declared.files.Application.{Application}
-use Rattle.run_crew.specs.Cards.{with_session}
 use Rattle.run_keeping.specs.CardDeeds.{ClosesOn}
 use Rattle.run_keeping.proofs.CardDeeds.{does-close}
 use Rattle.side_model.specs.Noted.{Note}

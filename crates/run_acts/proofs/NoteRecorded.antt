@@ -84,7 +84,6 @@ use Rattle.run_acts.proofs.NotesThen.{place-now}
 use Rattle.run_acts.proofs.NotedOn.{noted-books, noted-timed, noted-does}
 use Rattle.log_model.specs.Log.{RunLog}
 use Rattle.log_model.specs.Slots.{other_slot}
-use Rattle.log_model.specs.Course.{went}
 use Rattle.run_moments.proofs.Telling.{card-torn}
 use Rattle.run_moments.specs.Telling.{IsLeft}
 use Rattle.run_course.specs.Moments.{and_break}

@@ -47,7 +47,6 @@ use Rattle.run_acts.specs.Recording.{log_of, values_of, RunWithin}
 use Rattle.run_acts.specs.Settling.{settled_run, SettlesTo}
 use Rattle.run_acts.proofs.GoesOn.{goes-on, unit-rose}
 use Rattle.run_acts.proofs.Settled.{settled-ungiven, settled-decides}
-use Rattle.log_model.specs.declared.lines.Break.{Break}
 use Rattle.run_acts.specs.Closings.{spells_of, notes_within}
 use Rattle.run_acts.specs.Comings.{TellMore}
 use Rattle.run_acts.specs.Stays.{AllStay}

@@ -56,7 +56,6 @@ use Rattle.run_acts.specs.Turning.{IsLitTurn, told_of, late_moment, cut_where, c
 use Rattle.run_acts.proofs.GoesOn.{goes-on, unit-rose}
 use Rattle.run_acts.proofs.SettledRecorded.{same-ungiven, two-present}
 use Rattle.run_acts.proofs.Turned.{turn-decides, turn-most}
-use Rattle.log_model.specs.declared.lines.Break.{Break}
 use Rattle.side_model.specs.Noted.{Note}
 use Rattle.run_ringed.specs.Ringed.{notes_in}
 use Rattle.run_ringed.specs.SoFar.{GoesBehind, notes_so_far}
