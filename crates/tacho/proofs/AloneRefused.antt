@@ -16,7 +16,7 @@ use Rattle.recorder_with_cards.specs.Ends.{BeginAs, IsKeptFrom}
 use Rattle.recorder_with_cards.specs.Gone.{IsRefusedBy}
 use Rattle.tacho.specs.Alone.{StartsAs, IsUnitFault, IsRefusedAlone}
 use Rattle.tacho.specs.Blank.{no_image, blank_state}
-use Rattle.tacho.proofs.Blank.{no-valid, never-failed, begins-alone, time-alone}
+use Rattle.tacho.proofs.NoCard.{no-valid, never-failed, begins-alone, time-alone}
 use Rattle.tacho.proofs.UnitRuns.{told-still}
 
 module _ (start : ℕ) (U V : State) (a b c d : Bool) (new_a : a ≡ false) (new_b : b ≡ false) where

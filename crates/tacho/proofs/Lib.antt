@@ -15,7 +15,7 @@ pub mod Recordings
 pub mod Unbroken
 pub mod UnitRuns
 pub mod Cardless
-pub mod Blank
+pub mod NoCard
 pub mod AloneLog
 pub mod AloneNoted
 pub mod AloneRun

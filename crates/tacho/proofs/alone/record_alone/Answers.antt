@@ -5,7 +5,7 @@ use Rattle.trace_model.specs.declared.Card.TheVariants.{A, B}
 use Rattle.log_model.specs.Causes.{device_of}
 use Rattle.tacho.specs.Alone.{counts}
 use Rattle.tacho.specs.Blank.{no_image}
-use Rattle.tacho.proofs.Blank.{begins-alone, time-alone}
+use Rattle.tacho.proofs.NoCard.{begins-alone, time-alone}
 use Rattle.tacho.proofs.AloneRun.{is-alone, is-caused}
 use Rattle.tacho.proofs.AloneRefused.{refused-alone, of-unit-alone, refused-by}
 use Rattle.tacho.proofs.alone.record_alone.Goals as goal

@@ -1,7 +1,7 @@
 use Rattle.std.proofs.Common.{◌≡◌, ◌∙◌, sym, length, replicate}
 use Rattle.card_layout.specs.declared.files.TheConstants.{LARGEST_IMAGE}
 use Rattle.tach_media.proofs.Runs.{on_ok}
-use Rattle.tacho.proofs.Blank.{zeros-read, blank-reads}
+use Rattle.tacho.proofs.NoCard.{zeros-read, blank-reads}
 use Rattle.tacho.proofs.blank.BlankMedium.read_at.Goals as goal
 
 pub returns-clause-bytes : goal.returns-clause-bytes

@@ -1,5 +1,5 @@
 use Rattle.std.proofs.Common.{sym}
-use Rattle.tacho.proofs.Blank.{blank-stays, blank-revived}
+use Rattle.tacho.proofs.NoCard.{blank-stays, blank-revived}
 use Rattle.tacho.proofs.blank.BlankMedium.revive.Goals as goal
 
 pub returns-clause-moments : goal.returns-clause-moments

@@ -1,5 +1,5 @@
 use Rattle.std.proofs.Common.{length}
-use Rattle.tacho.proofs.Blank.{blank-writes, blank-few, blank-broken}
+use Rattle.tacho.proofs.NoCard.{blank-writes, blank-few, blank-broken}
 use Rattle.tacho.proofs.blank.BlankMedium.write_at.Goals as goal
 
 pub returns-clause-moments : goal.returns-clause-moments
