@@ -224,7 +224,7 @@ verdict-on o done now log later unit card unit_now card_now c u (TimeOverlap sto
 -- what is acknowledged is so still
 pub marked-on : (marks acknowledged : List Mark) → ((mark : Mark) → Contains marks mark → Contains acknowledged mark) → (c : Card) (es : List Entry) → All (λ (e : Entry). IsMarked marks (device_of c) e.minute) es →
     All (λ (e : Entry). IsMarked acknowledged (device_of c) e.minute) es
-marked-on marks acknowledged stay c es h = All-weaker (λ (e : Entry). IsMarked marks (device_of c) e.minute) (λ (e : Entry). IsMarked acknowledged (device_of c) e.minute) (λ e is. (is.0, stay is.0 is.1, is.2)) es h
+marked-on marks acknowledged stay c es h = All-weaker (λ (e : Entry). IsMarked marks (device_of c) e.minute) (λ (e : Entry). IsMarked acknowledged (device_of c) e.minute) (λ e is. (is.0, stay is.0 is.1, is.2, is.3)) es h
 
 -- and brings as many
 brings-on : (o : Origin) (done now : List TraceSecond) (log later : RunLog) (marks acknowledged : List Mark) (c : Card) (u : ℕ) (v : Verdict) → ((mark : Mark) → Contains marks mark → Contains acknowledged mark) →
