@@ -37,7 +37,7 @@ use Rattle.run_events.specs.Running.{judged_notes}
 use Rattle.run_events.proofs.Later.{told-number}
 use Rattle.run_events.proofs.Notes.{one-judged}
 use Rattle.run_evented.specs.Opened.{IsOpenSo}
-use Rattle.run_evented.specs.Uses.{times_of, opened_in, notes_in, uses_in}
+use Rattle.run_evented.specs.Uses.{times_of, opened_in, notes_in, notes_now, uses_in}
 use Rattle.run_evented.specs.Evented.{limit_in}
 use Rattle.run_evented.specs.Noting.{Stage, Waking, Acting, is_told}
 use Rattle.run_evented.specs.SoFar.{FitsSoFar, stage_in, AreBare, ComesInTurn, judged_with, crew_at, AFindAdds}
@@ -620,6 +620,7 @@ find-adds dev o done p span s b n log r f here first sits there none enters sess
       (opens-in log before s n power r.is r.up_to f here r_later.up_to sits there none enters v.here plain begun bare turn v.own session c)
       ∙ sym (append_assoc (times_of (uses_in o c (notes_in p.log done))) (opened_in c v.own (seen_by log before s).told) now)
       ∙ ap (λ (us : List ℕ). us ++ now) (exact-by o done p span s b log r.goes v.own v.exact_now none_failed c valid)
+      ∙ ap (λ (b : Bool). times_of (uses_in o c (notes_now p.log done log s)) ++ cond b (cond (is_accepting f.verdict) (session ∷ []) []) []) (sym (card-turned c sits.card))
       ∙ sym (finds none_failed c valid));
 }
   where
