@@ -9,7 +9,7 @@ use Rattle.unit_memory.specs.declared.format.Identity.{Identity}
 use Rattle.device_steps.specs.declared.entering.Entered.{Entered}
 use Rattle.device_steps.specs.declared.entering.NotEntered.{NotEntered}
 use Rattle.device_steps.specs.declared.entering.NotEntered.TheVariants.{UnitFailed, CardFailed, NotValid, TimeOverlap}
-use Rattle.device_steps.specs.Entering.{IsEntering}
+use Rattle.device_steps.specs.Entering.{IsEntering, card_failed}
 use Rattle.run_entering.specs.Entering.{Fell, Unasked, Unfit, Ahead, taken_as}
 use Rattle.card_layout.proofs.Sizes.{largest_image}
 use Rattle.run_entering.proofs.Booked.{taken-known, unasked-known, fell-known, unfit-known, ahead-known}
@@ -232,13 +232,23 @@ pub returns-in-Ok-clause-calm : goal.returns-in-Ok-clause-calm
 returns-in-Ok-clause-calm g c = card-first (g.C.Chip.state c.args.card.now) (g.C.Chip.state c.enter.new.card) (g.C.Chip.state c.take_in.new.card) (c.in-Ok.ensures.enters.cause.unbroken refl) c.take_in.ensures.calm
 
 pub returns-in-Err-UnitFailed-clause-calm : goal.returns-in-Err-UnitFailed-clause-calm
-returns-in-Err-UnitFailed-clause-calm g c = card-rests refl (c.in-Err-UnitFailed.ensures.enters.cause.unbroken refl)
+returns-in-Err-UnitFailed-clause-calm g c =
+    let is : c.in-Err-UnitFailed.field-0 ≡ UnitFailed = cc (c.in-Err-UnitFailed.field-0-is) in
+    card-rests refl (c.in-Err-UnitFailed.ensures.enters.cause.unbroken (ap (λ (f : NotEntered). card_failed {T = Entered} (Err f)) is))
 
 pub returns-in-Err-CardFailed-clause-calm : goal.returns-in-Err-CardFailed-clause-calm
 returns-in-Err-CardFailed-clause-calm g c = card-fell c.args.entering.slot c.args.entering.at (ap (λ (l : Listed Break). l.items) c.tear.ensures.told)
 
 pub returns-in-Err-NotValid-clause-calm : goal.returns-in-Err-NotValid-clause-calm
-returns-in-Err-NotValid-clause-calm g c = card-told [] (ap (λ (o : Outcome). o.breaks.items) c.refuse.ensures.told) refl (c.in-Err-NotValid.ensures.enters.cause.unbroken refl)
+returns-in-Err-NotValid-clause-calm g c =
+    let fid = c.in-Err-NotValid.fid in
+    let place = c.in-Err-NotValid.place in
+    let is : c.in-Err-NotValid.field-0 ≡ NotValid fid place = cc (c.in-Err-NotValid.field-0-is) in
+    card-told [] (ap (λ (o : Outcome). o.breaks.items) c.refuse.ensures.told) refl (c.in-Err-NotValid.ensures.enters.cause.unbroken (ap (λ (f : NotEntered). card_failed {T = Entered} (Err f)) is))
 
 pub returns-in-Err-TimeOverlap-clause-calm : goal.returns-in-Err-TimeOverlap-clause-calm
-returns-in-Err-TimeOverlap-clause-calm g c = card-told [] (ap (λ (o : Outcome). o.breaks.items) c.defer.ensures.told) refl (c.in-Err-TimeOverlap.ensures.enters.cause.unbroken refl)
+returns-in-Err-TimeOverlap-clause-calm g c =
+    let stored = c.in-Err-TimeOverlap.stored in
+    let now = c.in-Err-TimeOverlap.field-0-1 in
+    let is : c.in-Err-TimeOverlap.field-0 ≡ TimeOverlap stored now = cc (c.in-Err-TimeOverlap.field-0-is) in
+    card-told [] (ap (λ (o : Outcome). o.breaks.items) c.defer.ensures.told) refl (c.in-Err-TimeOverlap.ensures.enters.cause.unbroken (ap (λ (f : NotEntered). card_failed {T = Entered} (Err f)) is))
