@@ -305,8 +305,8 @@ module _ (o : Origin) (done : List TraceSecond) (s : TraceSecond) (n : ℕ) (wai
     fails : failed ≡ true → IsFailing o done s w.b.run (In n) (log_with (ending_of way) e v.log) (breakdowns_of (arranged e.which W Y Z))
     fails bad = ending-fails (arranged e.which W Y Z) o done w.b.run w.b.span s begins n v.log reaches e second begun-is early m.next_.sits_ m.none m.next_.enters m.next_.stays_in turn.first turn.other_unfound turn.apart turn.starts
         w.b.broken (breakdowns_of (arranged e.which U X Z)) (breakdowns_of (arranged e.which W Y Z)) waits fewer w.moment m.next_.but m.next_.behind
-        (breakdowns o done s n waits fewer e k out unfound next_ begun minutes U X Z w m failed k' noted noted' out' W Y way g sound)
-        (unit-broke o done s n waits fewer e k out unfound next_ begun minutes U X Z w m failed k' noted noted' out' W Y way g sound bad) (drop n s.actions) rest-left (ending_of way) broke
+        (unit-broke o done s n waits fewer e k out unfound next_ begun minutes U X Z w m failed k' noted noted' out' W Y way g sound bad) (drop n s.actions) rest-left (ending_of way)
+        (breakdowns o done s n waits fewer e k out unfound next_ begun minutes U X Z w m failed k' noted noted' out' W Y way g sound) broke
 
     module _ (now : EventedNow o done s w.b.run (stage_in n) v.log (arranged e.which U X Z)) (notes : NotesEvents (events_in (notes_by (ending_of way) e noted cabin)) failed (arranged e.which U X Z) (arranged e.which W Y Z)) where
       by : (b : Bool) → failed ≡ b → NotesSo b o brings (arranged e.which U X Z) (arranged e.which W Y Z) → EventsGoOn b o done s w.b.run (In n) (stage_in n) (log_with (ending_of way) e v.log) (arranged e.which W Y Z)

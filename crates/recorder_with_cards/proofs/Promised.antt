@@ -25,7 +25,6 @@ use Rattle.side_model.specs.Done.{done_of}
 use Rattle.side_model.specs.Noted.{Note, notes_of}
 use Rattle.side_model.specs.Odometer.{MayStore, HaveBases}
 use Rattle.run_model.specs.declared.Device.{Device}
-use Rattle.run_model.specs.declared.Device.TheVariants.{Unit as Recorder, CardA, CardB}
 use Rattle.history_model.specs.Book.{not_begun}
 use Rattle.joint_rule.specs.Rules.{Out}
 use Rattle.unit_course.specs.Followed.{Supply, Lit as IsLit, Due as IsDue, Lost as IsLost}
@@ -113,6 +112,7 @@ use Rattle.run_recorded.specs.Whole.{NothingFailed}
 use Rattle.run_crew.specs.Cabin.{Stands}
 use Rattle.std.specs.Prelude.{filter}
 use Rattle.log_model.specs.Log.{is_accepting}
+use Rattle.log_model.specs.Causes.{device_of}
 use Rattle.log_model.specs.declared.lines.Find.{Find}
 use Rattle.run_acts.proofs.Stays.{stays-start}
 
@@ -121,11 +121,9 @@ pub both : (P : Card → Type 0) → P A → P B → (c : Card) → P c
 both P first second A = first
 both P first second B = second
 
--- breakdowns do not go back
-pub more-devices : (U V X Y Z W : State) → U.breakdowns ≤ V.breakdowns → X.breakdowns ≤ Y.breakdowns → Z.breakdowns ≤ W.breakdowns → IsMore (breakdowns_of (devices U X Z)) (breakdowns_of (devices V Y W))
-more-devices U V X Y Z W unit a b Recorder = unit
-more-devices U V X Y Z W unit a b CardA = a
-more-devices U V X Y Z W unit a b CardB = b
+-- no card has broken down
+pub more-devices : (U V X Y Z W : State) → U.breakdowns ≤ V.breakdowns → Y.breakdowns ≡ X.breakdowns → W.breakdowns ≡ Z.breakdowns → IsMore (breakdowns_of (devices U X Z)) (breakdowns_of (devices V Y W))
+more-devices U V X Y Z W unit a b = record { unit = unit; cards = both (λ c. breakdowns_of (devices V Y W) (device_of c) ≡ breakdowns_of (devices U X Z) (device_of c)) a b }
 
 -- of two chips that of a card
 abbrev pub chip_of : CardState → CardState → Card → CardState

@@ -79,7 +79,10 @@ use Rattle.run_acts.specs.Evented.{EventsGoOn}
 use Rattle.run_acts.proofs.RoundFaults.{none-added}
 use Rattle.run_acts.proofs.FallEvented.{call-evented, begins-now, leaving-out, leaving-falls}
 use Rattle.run_acts.proofs.Withdrawn.{closed-any}
-use Rattle.run_acts.proofs.NoteRecorded.{goes-as, any-evented, card-goes, unit-any, unit-of, to-unit, card-rose, rose-by, rose-on}
+use Rattle.run_acts.proofs.NoteRecorded.{goes-as, any-evented, card-goes, unit-any, unit-of, to-unit, rose-by, rose-on}
+use Rattle.run_keeping.specs.Later.{IsCalm, failed_tears}
+use Rattle.run_keeping.proofs.Calm.{none-told}
+use Rattle.run_acts.proofs.Rising.{card-more, card-fell}
 use Rattle.run_keeping.specs.CardDeeds.{ClosesOn}
 use Rattle.run_keeping.proofs.CardDeeds.{does-close}
 use Rattle.side_model.specs.Noted.{Note}
@@ -104,7 +107,7 @@ closed-timed f w cards c U X Y Z found whole size a act has p run valid h =
 
 module _ {C : Type 0} (state : C → State) (c : Card) (slot : Slot) (at : Moment) (run : Run) (told : Outcome) (U V Z : State) (x y : C) (unit_whole : IsCoherent U) (whole : IsCoherent (state x)) (size : LARGEST_IMAGE ≤ (state x).size)
     (left : IfSome (session_of run.keeper.cabin.cards c) (λ s. (act : Activity) × LeavesOnly (state x) (state y) (λ i n. IsSession s.session i → IsCardClosing s.session act i n))) (still : session_of run.keeper.cabin.cards c ≡ None → y ≡ x)
-    (unit : LeavesOnly U V LeavesJournal) (failed : Bool) (cause : HasCause U V failed) (more : (state x).breakdowns ≤ (state y).breakdowns) (span : Span) (stands : StandsFor run.minutes span) (ends : end_of span ≡ run.next)
+    (unit : LeavesOnly U V LeavesJournal) (failed : Bool) (cause : HasCause U V failed) (span : Span) (stands : StandsFor run.minutes span) (ends : end_of span ≡ run.next)
     (o : Origin) (done : List TraceSecond) (s : TraceSecond) (n : ℕ) (moment : at ≡ record { second = s.number; begun = n; late = false }) (w : RunWithin o done s (In n) [] [] run told (arranged c U (state x) Z)) (from : w.within.from ≡ s.number / 60)
     (leaving : is_some (session_of run.keeper.cabin.cards c) ≡ true → IsLeaving (log_of told) (went w.within.b.run.log done).before s (In n) (s.number / 60) (s.number / 60) run.keeper.cabin slot c) where
   abbrev d : Devices
@@ -141,7 +144,7 @@ module _ {C : Type 0} (state : C → State) (c : Card) (slot : Slot) (at : Momen
     closes = subst (λ (o : Option Accepted). IfSome o (λ s. (act : Activity) × LeavesOnly (state x) (state y) (λ i n. IsSession s.session i → IsCardClosing s.session act i n))) has left
 
     goes : GoesOnSo o run.keeper.cabin.cards d e
-    goes = card-goes o run.keeper.cabin.cards c U V (state x) (state y) Z began w.within.there (ap is_some has) unit closes.1 cause.breakdowns more
+    goes = card-goes o run.keeper.cabin.cards c U V (state x) (state y) Z began w.within.there (ap is_some has) unit closes.1
         (λ valid. closed-timed o.found carries run.keeper.cabin.cards c U (state x) (state y) Z w.within.found whole size a closes.0 has w.within.powered closes.1 valid)
 
     -- what is made of the card
@@ -166,22 +169,22 @@ module _ {C : Type 0} (state : C → State) (c : Card) (slot : Slot) (at : Momen
     called : IsCalledLeaving o done s (In n) v d e w.within slot c
     called = record { low = s.number / 60; leaving = leaving (ap is_some has); is_now = from; goes = goes; travels = travels }
 
-    -- it is closed
-    closed : (failed ≡ false → TellMore [] U V) → ClosesOnCard (Some a) (state x) (state y) → (b : Bool) → failed ≡ b → IsPoweredOrOff b o.found (carried_closed Closed c carries) (with_session c None run.keeper.cabin.cards) e → GoesOnOrFails b o done s (In n) [] (with_cabin (with_session_of c None run.keeper.cabin) run) told e w.within.b
-    closed go shut false is powered = goes-as o done s (In n) (In n) [] [] [] run (with_cabin (with_session_of c None run.keeper.cabin) run) told told d e w.within.from w refl refl (session-closed d e o done s (In n) v w.within slot c called powered)
+    -- it is closed, and the card has not broken down
+    closed : (state y).breakdowns ≡ (state x).breakdowns → (failed ≡ false → TellMore [] U V) → ClosesOnCard (Some a) (state x) (state y) → (b : Bool) → failed ≡ b → IsPoweredOrOff b o.found (carried_closed Closed c carries) (with_session c None run.keeper.cabin.cards) e → GoesOnOrFails b o done s (In n) [] (with_cabin (with_session_of c None run.keeper.cabin) run) told e w.within.b
+    closed calm go shut false is powered = goes-as o done s (In n) (In n) [] [] [] run (with_cabin (with_session_of c None run.keeper.cabin) run) told told d e w.within.from w refl refl (session-closed d e o done s (In n) v w.within slot c called (card-more c U V (state x) (state y) Z cause.breakdowns calm) powered)
         (all-one o c (log_of told) (log_of told) so-far so-far run.keeper.memory.registration run.keeper.cabin (with_session_of c None run.keeper.cabin) U V (state x) (state y) Z (λ none. none) (others-left c run.keeper.cabin.cards) refl (λ none. refl)
         (λ none ss. turns-so (found_of o.found c) (log_of told) run.keeper.memory.registration (spells_of c so-far) (sits_in run.keeper.cabin.slots.seats c) (session_of run.keeper.cabin.cards c) (session_of (with_session c None run.keeper.cabin.cards) c) U V (state x) (state y) (on_last (with_end shut.0))
         (on-last-founds (with_end shut.0) (λ s. refl)) (on-last-owed (with_end shut.0) (λ s tells. tells)) (on-last-none (with_end shut.0))
         (on-last-comings run.keeper.memory.registration (found_of o.found c).image (with_end shut.0) (λ s. refl)) (go is) ss
         (λ valid h. subst (λ (q : Option Accepted). HasStays (found_of o.found c) run.keeper.memory.registration (spells_of c so-far) (sits_in run.keeper.cabin.slots.seats c) (on_last (with_end shut.0) ss) q (state y)) (sym (mine-left c run.keeper.cabin.cards))
         (stays-closed shut valid ss (subst (λ (q : Option Accepted). HasStays (found_of o.found c) run.keeper.memory.registration (spells_of c so-far) (sits_in run.keeper.cabin.slots.seats c) ss q (state x)) has h)))) w.stay)
-    closed go shut true is powerless = record {
+    closed calm go shut true is powerless = record {
       waits = [];
       cabin = with_session_of c None run.keeper.cabin;
       same = refl;
       odometer = run.keeper.odometer;
       counted = λ lit. refl;
-      within = closing-fails d e o done s (In n) v w.within slot c called powerless (broke is) (λ keeping. cc);
+      within = closing-fails d e o done s (In n) v w.within slot c called (card-more c U V (state x) (state y) Z cause.breakdowns calm) powerless (broke is) (λ keeping. cc);
     }
 
     -- or the card fell
@@ -199,7 +202,7 @@ module _ {C : Type 0} (state : C → State) (c : Card) (slot : Slot) (at : Momen
         GoesOnOrFails b o done s (In n) [] (with_cabin (torn_out c at.second (with_session_of c None run.keeper.cabin)) run) (record told { breaks = with_lines (tear_of slot at ∷ []) told.breaks }) e w.within.b
     fell broken false is powered = goes-as o done s (In n) (In n) [] [] [] run (with_cabin (torn_out c at.second (with_session_of c None run.keeper.cabin)) run) told (record told { breaks = with_lines (tear_of slot at ∷ []) told.breaks }) d e w.within.from w refl refl
         (subst (λ (u : ℕ). GoesOn o done s (In n) [] None [] (fallen_values (tear_of slot at) c u v) e w.within.b w.within.from) (sym second)
-        (leaving-torn d e o done s (In n) v w.within slot c called (tear_of slot at) tear-here (record { more = goes.breakdowns; broke = card-rose c U V (state x) (state y) Z (rose-by (state x).breakdowns (state y).breakdowns broken.breakdowns) }) powered))
+        (leaving-torn d e o done s (In n) v w.within slot c called (tear_of slot at) tear-here (card-fell c U V (state x) (state y) Z cause.breakdowns (rose-by (state x).breakdowns (state y).breakdowns broken.breakdowns)) powered))
         (λ none. no-tear (log_of told) slot at none)
     fell broken true is powerless = record {
       waits = [];
@@ -208,44 +211,50 @@ module _ {C : Type 0} (state : C → State) (c : Card) (slot : Slot) (at : Momen
       odometer = run.keeper.odometer;
       counted = λ lit. refl;
       within = subst (λ (u : ℕ). CutWithin o done s (In n) [] None (fallen_values (tear_of slot at) c u v) e) (sym second)
-          (leaving-tear_fails d e o done s (In n) v w.within slot c called (tear_of slot at) tear-here (record { more = goes.breakdowns; broke = card-rose c U V (state x) (state y) Z (rose-by (state x).breakdowns (state y).breakdowns broken.breakdowns) })
+          (leaving-tear_fails d e o done s (In n) v w.within slot c called (tear_of slot at) tear-here (card-fell c U V (state x) (state y) Z cause.breakdowns (rose-by (state x).breakdowns (state y).breakdowns broken.breakdowns))
           powerless (broke is) (λ keeping. cc));
     }
 
+  -- where its session is closed no tear is told, and the card has not broken down
+  rests-closed : (after : Listed Break) (closing : Closing) → after ≡ with_lines (closed_breaks closing slot at) told.breaks → IsCalm told.breaks.items after.items (state x) (state y) → closing ≡ Closed → (state y).breakdowns ≡ (state x).breakdowns
+  rests-closed after closing is calm shut = calm.calm
+      (none-told told.breaks.items after.items (closed_breaks closing slot at) (ap (λ (l : Listed Break). l.items) is) (ap (λ (k : Closing). failed_tears (closed_breaks k slot at)) shut))
+
   -- SO IT IS RECORDED, whatever became of it
-  pub closed-recorded : (failed ≡ false → TellMore [] U V) → (new : Run) (after : Listed Break) (closing : Closing) → (closing ≡ Closed → ClosesOnCard (session_of run.keeper.cabin.cards c) (state x) (state y)) → IsClosed c slot at run new told.breaks after closing → HasBroken (state x) (state y) (closed_falls closing) → GoesOnOrFails failed o done s (In n) [] new (record told { breaks = after }) (arranged c V (state y) Z) w.within.b
-  closed-recorded go new after closing shut is broken =
+  pub closed-recorded : (failed ≡ false → TellMore [] U V) → (new : Run) (after : Listed Break) (closing : Closing) → (closing ≡ Closed → ClosesOnCard (session_of run.keeper.cabin.cards c) (state x) (state y)) → IsClosed c slot at run new told.breaks after closing →
+      IsCalm told.breaks.items after.items (state x) (state y) → HasBroken (state x) (state y) (closed_falls closing) → GoesOnOrFails failed o done s (In n) [] new (record told { breaks = after }) (arranged c V (state y) Z) w.within.b
+  closed-recorded go new after closing shut is calm broken =
       subst (λ (r : Run). GoesOnOrFails failed o done s (In n) [] r (record told { breaks = after }) e w.within.b) (sym is.run)
       (subst (λ (l : Listed Break). GoesOnOrFails failed o done s (In n) [] (with_cabin (closed_cabin closing c at.second run.keeper.cabin) run) (record told { breaks = l }) e w.within.b) (sym is.told)
-      (by (session_of run.keeper.cabin.cards c) refl closing shut is.is broken))
+      (by (session_of run.keeper.cabin.cards c) refl closing shut (rests-closed after closing is.told calm) is.is broken))
     where
       powered : (closing : Closing) → IsClosingOf (session_of run.keeper.cabin.cards c) closing → IsPoweredOrOff failed o.found (carried_closed closing c carries) (closed_cabin closing c at.second run.keeper.cabin).cards e
       powered closing how = closed-any state o.found carries c at.second run.keeper.cabin U V Z x y w.within.found unit_whole whole size w.within.powered left still unit failed cause.works closing how
 
-      by : (q : Option Accepted) → session_of run.keeper.cabin.cards c ≡ q → (closing : Closing) → (closing ≡ Closed → ClosesOnCard (session_of run.keeper.cabin.cards c) (state x) (state y)) → IsClosingOf (session_of run.keeper.cabin.cards c) closing → HasBroken (state x) (state y) (closed_falls closing) →
+      by : (q : Option Accepted) → session_of run.keeper.cabin.cards c ≡ q → (closing : Closing) → (closing ≡ Closed → ClosesOnCard (session_of run.keeper.cabin.cards c) (state x) (state y)) → (closing ≡ Closed → (state y).breakdowns ≡ (state x).breakdowns) → IsClosingOf (session_of run.keeper.cabin.cards c) closing → HasBroken (state x) (state y) (closed_falls closing) →
           GoesOnOrFails failed o done s (In n) [] (with_cabin (closed_cabin closing c at.second run.keeper.cabin) run) (record told { breaks = with_lines (closed_breaks closing slot at) told.breaks }) e w.within.b
-      by None has Bare shut how broke_ =
+      by None has Bare shut rests how broke_ =
           subst (λ (q : Cards). GoesOnOrFails failed o done s (In n) [] (with_cabin (record run.keeper.cabin { cards = q }) run) (record told { breaks = with_lines [] told.breaks }) e w.within.b) (sym (session-unset c run.keeper.cabin.cards has))
           (subst (λ (l : Listed Break). GoesOnOrFails failed o done s (In n) [] run (record told { breaks = l }) e w.within.b) (no-lines told.breaks)
           (subst (λ (z : C). GoesOnOrFails failed o done s (In n) [] run told (arranged c V (state z) Z) w.within.b) (sym (still has)) (unit-any c o done s n run told U V (state x) Z unit_whole unit span stands ends w failed cause go)))
-      by None has Closed shut how broke_ = absurd (subst (λ (q : Option Accepted). IsClosingOf q Closed) has how)
-      by None has Fell shut how broke_ = absurd (subst (λ (q : Option Accepted). IsClosingOf q Fell) has how)
-      by (Some a) has Bare shut how broke_ = absurd (subst (λ (q : Option Accepted). IsClosingOf q Bare) has how)
-      by (Some a) has Closed shut how broke_ =
+      by None has Closed shut rests how broke_ = absurd (subst (λ (q : Option Accepted). IsClosingOf q Closed) has how)
+      by None has Fell shut rests how broke_ = absurd (subst (λ (q : Option Accepted). IsClosingOf q Fell) has how)
+      by (Some a) has Bare shut rests how broke_ = absurd (subst (λ (q : Option Accepted). IsClosingOf q Bare) has how)
+      by (Some a) has Closed shut rests how broke_ =
           subst (λ (l : Listed Break). GoesOnOrFails failed o done s (In n) [] (with_cabin (with_session_of c None run.keeper.cabin) run) (record told { breaks = l }) e w.within.b) (no-lines told.breaks)
-          (closed a has go (subst (λ (q : Option Accepted). ClosesOnCard q (state x) (state y)) has (shut refl)) failed refl (powered Closed how))
-      by (Some a) has Fell shut how broke_ = fell a has broke_ failed refl (powered Fell how)
+          (closed a has (rests refl) go (subst (λ (q : Option Accepted). ClosesOnCard q (state x) (state y)) has (shut refl)) failed refl (powered Closed how))
+      by (Some a) has Fell shut rests how broke_ = fell a has broke_ failed refl (powered Fell how)
 
   -- ---- its events
 
   module _ (small : s.number < 2 ^ 32) (none : NotFound (In n) (other_slot slot) (log_of told) s.number) (follows : MayFollow (In n) slot (log_of told) s) (low : ℕ) (sits_ : Stands low (Some c) run.keeper.cabin) (actions : List Action) (behind : IsLeft s (In n) actions)
       (now : EventedNow o done s w.within.b.run Acting (log_of told) d) where
     -- it is closed
-    closes-evented : (a : Accepted) → session_of run.keeper.cabin.cards c ≡ Some a → NotesEvents [] failed d e → EventsGoOn failed o done s w.within.b.run (In n) Acting (log_of told) e
-    closes-evented a has notes =
+    closes-evented : (state y).breakdowns ≡ (state x).breakdowns → (a : Accepted) → session_of run.keeper.cabin.cards c ≡ Some a → NotesEvents [] failed d e → EventsGoOn failed o done s w.within.b.run (In n) Acting (log_of told) e
+    closes-evented calm a has notes =
         call-evented d e (call-notes d e) (failure-cuts d e) o w.origin.long done s w.within.b.run w.within.b.span (begins-now o w.origin done s (In n) v d w.within) (In n) (log_of told) (log_of told) [] now (none-added o done s (log_of told) (log_of told) e refl)
         (goes a has).left failed notes
-        (λ bad. record { waits = []; mid = w.within.b.broken; now = breakdowns_of d; moment = w.within.moment; more = (goes a has).breakdowns; rose = broke bad; rest = actions; left = behind })
+        (λ bad. record { waits = []; mid = w.within.b.broken; now = breakdowns_of d; moment = w.within.moment; more = card-more c U V (state x) (state y) Z cause.breakdowns calm; rose = broke bad; rest = actions; left = behind })
 
     -- or the card fell
     falls-evented : (a : Accepted) → session_of run.keeper.cabin.cards c ≡ Some a → HasBroken (state x) (state y) 1 → (new : Run) → new ≡ with_cabin (torn_out c at.second (with_session_of c None run.keeper.cabin)) run → NotesEvents (closed_events Fell at.second new) failed d e →
@@ -267,27 +276,27 @@ module _ {C : Type 0} (state : C → State) (c : Card) (slot : Slot) (at : Momen
           now = breakdowns_of e;
           moment = (card-torn w.within.b.run (went w.within.b.run.log done).before s (In n) (log_of told) [] w.within.b.broken (breakdowns_of d) (breakdowns_of e) w.within.moment slot (tear_of slot at) (tear-here a has) (leaves-first (log_of told) (went w.within.b.run.log done).before s (In n) slot (record { phase = In n; slot = slot; card = c }) [] leaves.leaves) leaves.untorn c
               (leaving-out o w.origin done s (In n) v d w.within slot c (s.number / 60) (s.number / 60) leaves low (Some c) sits_)
-              (record { more = (goes a has).breakdowns; broke = card-rose c U V (state x) (state y) Z (rose-by (state x).breakdowns (state y).breakdowns broken.breakdowns) })).0;
-          more = λ device. omega arith;
+              (card-fell c U V (state x) (state y) Z cause.breakdowns (rose-by (state x).breakdowns (state y).breakdowns broken.breakdowns))).0;
+          more = record { unit = omega arith; cards = λ card. refl };
           rose = broke bad;
           rest = actions;
           left = behind;
         })
 
-    pub closed-evented : (new : Run) (after : Listed Break) (closing : Closing) → IsClosed c slot at run new told.breaks after closing → HasBroken (state x) (state y) (closed_falls closing) → NotesEvents (closed_events closing at.second new) failed d e →
+    pub closed-evented : (new : Run) (after : Listed Break) (closing : Closing) → IsClosed c slot at run new told.breaks after closing → IsCalm told.breaks.items after.items (state x) (state y) → HasBroken (state x) (state y) (closed_falls closing) → NotesEvents (closed_events closing at.second new) failed d e →
         EventsGoOn failed o done s w.within.b.run (In n) Acting (log_of (record told { breaks = after })) e
-    closed-evented new after closing is broken notes =
-        subst (λ (l : Listed Break). EventsGoOn failed o done s w.within.b.run (In n) Acting (log_of (record told { breaks = l })) e) (sym is.told) (by (session_of run.keeper.cabin.cards c) refl closing is.is is.run broken notes)
+    closed-evented new after closing is calm broken notes =
+        subst (λ (l : Listed Break). EventsGoOn failed o done s w.within.b.run (In n) Acting (log_of (record told { breaks = l })) e) (sym is.told) (by (session_of run.keeper.cabin.cards c) refl closing (rests-closed after closing is.told calm) is.is is.run broken notes)
       where
-        by : (q : Option Accepted) → session_of run.keeper.cabin.cards c ≡ q → (closing : Closing) → IsClosingOf (session_of run.keeper.cabin.cards c) closing → new ≡ with_cabin (closed_cabin closing c at.second run.keeper.cabin) run → HasBroken (state x) (state y) (closed_falls closing) →
+        by : (q : Option Accepted) → session_of run.keeper.cabin.cards c ≡ q → (closing : Closing) → (closing ≡ Closed → (state y).breakdowns ≡ (state x).breakdowns) → IsClosingOf (session_of run.keeper.cabin.cards c) closing → new ≡ with_cabin (closed_cabin closing c at.second run.keeper.cabin) run → HasBroken (state x) (state y) (closed_falls closing) →
             NotesEvents (closed_events closing at.second new) failed d e → EventsGoOn failed o done s w.within.b.run (In n) Acting (log_of (record told { breaks = with_lines (closed_breaks closing slot at) told.breaks })) e
-        by None has Bare how run_is broke_ notes_ =
+        by None has Bare rests how run_is broke_ notes_ =
             let still_ : y ≡ x = still has in
             subst (λ (l : Listed Break). EventsGoOn failed o done s w.within.b.run (In n) Acting (log_of (record told { breaks = l })) e) (no-lines told.breaks)
             (subst (λ (z : C). EventsGoOn failed o done s w.within.b.run (In n) Acting (log_of told) (arranged c V (state z) Z)) (sym still_)
             (any-evented c o done s n run told U V (state x) Z unit_whole unit span stands ends w actions behind failed cause (subst (λ (z : C). NotesEvents [] failed d (arranged c V (state z) Z)) still_ notes_) now))
-        by None has Closed how run_is broke_ notes_ = absurd (subst (λ (q : Option Accepted). IsClosingOf q Closed) has how)
-        by None has Fell how run_is broke_ notes_ = absurd (subst (λ (q : Option Accepted). IsClosingOf q Fell) has how)
-        by (Some a) has Bare how run_is broke_ notes_ = absurd (subst (λ (q : Option Accepted). IsClosingOf q Bare) has how)
-        by (Some a) has Closed how run_is broke_ notes_ = subst (λ (l : Listed Break). EventsGoOn failed o done s w.within.b.run (In n) Acting (log_of (record told { breaks = l })) e) (no-lines told.breaks) (closes-evented a has notes_)
-        by (Some a) has Fell how run_is broke_ notes_ = falls-evented a has broke_ new run_is notes_
+        by None has Closed rests how run_is broke_ notes_ = absurd (subst (λ (q : Option Accepted). IsClosingOf q Closed) has how)
+        by None has Fell rests how run_is broke_ notes_ = absurd (subst (λ (q : Option Accepted). IsClosingOf q Fell) has how)
+        by (Some a) has Bare rests how run_is broke_ notes_ = absurd (subst (λ (q : Option Accepted). IsClosingOf q Bare) has how)
+        by (Some a) has Closed rests how run_is broke_ notes_ = subst (λ (l : Listed Break). EventsGoOn failed o done s w.within.b.run (In n) Acting (log_of (record told { breaks = l })) e) (no-lines told.breaks) (closes-evented (rests refl) a has notes_)
+        by (Some a) has Fell rests how run_is broke_ notes_ = falls-evented a has broke_ new run_is notes_

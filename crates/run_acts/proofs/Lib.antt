@@ -2,6 +2,7 @@ pub mod KeptEvents
 pub mod EventCrews
 pub mod NotedEvents
 pub mod EnteredTravelled
+pub mod Rising
 pub mod EnteredFacts
 pub mod EnteredLines
 pub mod EnteredTurned

@@ -134,12 +134,13 @@ module _ {U A0 B0 : State} {chip_a chip_b : CardState} (old : Run) (before : Out
       over = over;
       two = two-present (ungiven_of g.span) leaving old.keeper.cabin g.cabin;
       goes = goes-on o (carried_at o done s q decided (told_of old before) v d w) failed old.keeper.cabin.cards keeper.cabin.cards d e w.powered w.there devices booked.1;
+      unit = devices.cause.breakdowns;
     }
 
     kept : IsKeptTo failed o done s q decided (told_of old before) (told_of new after) v d e w
     kept = keeping-recorded d e o done s q decided (told_of old before) (told_of new after) v w keeps failed reach
         (subst (λ (m : Moment). IsReach decided m failed (told_of old before) (told_of new after) reach) here is)
-        (record { a = devices.card_a.broken; b = devices.card_b.broken })
+        (record { a = devices.card_a.broken; b = devices.card_b.broken; rests = record { card_a = devices.card_a.rests; card_b = devices.card_b.rests } })
         (unit-rose o (carried_at o done s q decided (told_of old before) v d w) failed old.keeper.cabin.cards keeper.cabin.cards d e w.powered w.there devices booked.1)
         booked.0
 

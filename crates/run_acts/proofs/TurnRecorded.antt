@@ -120,10 +120,11 @@ module _ (old : Run) (before : Outcome) (minutes : Kept) (keeper : Keeper) (watc
       over = are-over o done s decided t v d w;
       two = two;
       goes = goes-on o (carried_at o done s q decided t v d w) failed old.keeper.cabin.cards keeper.cabin.cards d e w.powered w.there devices booked.1;
+      unit = devices.cause.breakdowns;
     }
 
     pub off : HaveBrokenOff t u d e
-    off = record { a = devices.card_a.broken; b = devices.card_b.broken }
+    off = record { a = devices.card_a.broken; b = devices.card_b.broken; rests = record { card_a = devices.card_a.rests; card_b = devices.card_b.rests } }
 
     pub rose : failed ≡ true → RoseBy 1 (breakdowns_of d Recorder) (breakdowns_of e Recorder)
     rose = unit-rose o (carried_at o done s q decided t v d w) failed old.keeper.cabin.cards keeper.cabin.cards d e w.powered w.there devices booked.1

@@ -52,6 +52,7 @@ use Rattle.run_acts.specs.Noting.{closed_events}
 use Rattle.run_acts.specs.Evented.{EventsGoOn, EventsSettling, IsUntold}
 use Rattle.run_acts.proofs.FallEvented.{left-over}
 use Rattle.run_acts.proofs.RingedLines.{SatIn}
+use Rattle.run_keeping.specs.Later.{IsCalm}
 use Rattle.run_acts.proofs.Closed.{closed-recorded, closed-evented}
 use Rattle.run_acts.specs.RunCards.{StillShow, CardsSettling, PlacesSettling}
 use Rattle.run_acts.proofs.CardStays.{closing-still}
@@ -144,18 +145,19 @@ module _ (o : Origin) (done : List TraceSecond) (s : TraceSecond) (front rest : 
   -- or they are kept, and its session is closed
   pub closing-recorded : {C : Type 0} (state : C → State) (U V Z : State) (x y : C) → IsCoherent U → IsCoherent (state x) → LARGEST_IMAGE ≤ (state x).size →
       IfSome (session_of between.keeper.cabin.cards c) (λ s. (act : Activity) × LeavesOnly (state x) (state y) (λ i n. IsSession s.session i → IsCardClosing s.session act i n)) → (session_of between.keeper.cabin.cards c ≡ None → y ≡ x) →
-      LeavesOnly U V LeavesJournal → (failed : Bool) → HasCause U V failed → (state x).breakdowns ≤ (state y).breakdowns → (span : Span) → StandsFor between.minutes span → end_of span ≡ between.next →
+      LeavesOnly U V LeavesJournal → (failed : Bool) → HasCause U V failed → (span : Span) → StandsFor between.minutes span → end_of span ≡ between.next →
       RecordsSettling decided (acting_at s.number (suc (length front))) false (left_run slot s.number run) between before told d (arranged c U (state x) Z) → HaveTime (arranged c U (state x) Z) →
       (at : Moment) (ms : List Minute) (t : Told) → AreKept at ms t (told_of between told) → session_of t.keeper.cabin.cards c ≡ session_of run.keeper.cabin.cards c →
-      (failed ≡ false → TellMore [] U V) → (new : Run) (after : Listed Break) (closing : Closing) → (closing ≡ Closed → ClosesOnCard (session_of between.keeper.cabin.cards c) (state x) (state y)) → IsClosed c slot (acting_at s.number (suc (length front))) between new told.breaks after closing → HasBroken (state x) (state y) (closed_falls closing) →
+      (failed ≡ false → TellMore [] U V) → (new : Run) (after : Listed Break) (closing : Closing) → (closing ≡ Closed → ClosesOnCard (session_of between.keeper.cabin.cards c) (state x) (state y)) → IsClosed c slot (acting_at s.number (suc (length front))) between new told.breaks after closing →
+      IsCalm told.breaks.items after.items (state x) (state y) → HasBroken (state x) (state y) (closed_falls closing) →
       GoesOnOrFails failed o done s (In (suc (length front))) [] new (record told { breaks = after }) (arranged c V (state y) Z) w.within.b
-  closing-recorded state U V Z x y unit_whole whole size closes still unit failed cause rise span stands_ ends records time at ms t kept same go new after closing shut is broken =
+  closing-recorded state U V Z x y unit_whole whole size closes still unit failed cause span stands_ ends records time at ms t kept same go new after closing shut is calm broken =
       let kept_all : IsSettledIn o done s (In (suc (length front))) [] gone.within.b gone.within.from (gone.within.from + length decided) (left_run slot s.number run) between before told (arranged c U (state x) Z) =
       records o done s (suc (length front)) [] (omega arith) refl gone time in
       subst (λ (b : Beginning). GoesOnOrFails failed o done s (In (suc (length front))) [] new (record told { breaks = after }) (arranged c V (state y) Z) b) (kept_all.began ∙ left.goes.began)
-      (closed-recorded state c slot (acting_at s.number (suc (length front))) between told U V Z x y unit_whole whole size closes still unit failed cause rise span stands_ ends o done s (suc (length front)) refl kept_all.goes kept_all.from
+      (closed-recorded state c slot (acting_at s.number (suc (length front))) between told U V Z x y unit_whole whole size closes still unit failed cause span stands_ ends o done s (suc (length front)) refl kept_all.goes kept_all.from
       (λ some. subst (λ (b : Beginning). IsLeaving (log_of told) (went b.run.log done).before s (In (suc (length front))) (s.number / 60) (s.number / 60) between.keeper.cabin slot c) (sym kept_all.began)
-      (kept_all.leave slot c (left.leaving (had (session_of run.keeper.cabin.cards c) refl some)) some)) go new after closing shut is broken)
+      (kept_all.leave slot c (left.leaving (had (session_of run.keeper.cabin.cards c) refl some)) some)) go new after closing shut is calm broken)
     where
       had : (q : Option Accepted) → session_of run.keeper.cabin.cards c ≡ q → is_some (session_of between.keeper.cabin.cards c) ≡ true → is_some (session_of run.keeper.cabin.cards c) ≡ true
       had None is some = absurd (not-both (session_of between.keeper.cabin.cards c) some (none-comes c at ms t (told_of between told) kept (same ∙ is)))
@@ -226,23 +228,24 @@ module _ (o : Origin) (done : List TraceSecond) (s : TraceSecond) (front rest : 
   -- and its session is closed
   pub closing-evented : {C : Type 0} (state : C → State) (U V Z : State) (x y : C) → IsCoherent U → IsCoherent (state x) → LARGEST_IMAGE ≤ (state x).size →
       IfSome (session_of between.keeper.cabin.cards c) (λ s. (act : Activity) × LeavesOnly (state x) (state y) (λ i n. IsSession s.session i → IsCardClosing s.session act i n)) → (session_of between.keeper.cabin.cards c ≡ None → y ≡ x) →
-      LeavesOnly U V LeavesJournal → (failed : Bool) → HasCause U V failed → (state x).breakdowns ≤ (state y).breakdowns → (span : Span) → StandsFor between.minutes span → end_of span ≡ between.next →
+      LeavesOnly U V LeavesJournal → (failed : Bool) → HasCause U V failed → (span : Span) → StandsFor between.minutes span → end_of span ≡ between.next →
       RecordsSettling decided (acting_at s.number (suc (length front))) false (left_run slot s.number run) between before told d (arranged c U (state x) Z) → HaveTime (arranged c U (state x) Z) →
       (at : Moment) (ms : List Minute) (t : Told) → AreKept at ms t (told_of between told) → session_of t.keeper.cabin.cards c ≡ session_of run.keeper.cabin.cards c →
       s.number < 2 ^ 32 → told.finds ≡ before.finds → (low : ℕ) → Stands low (Some c) between.keeper.cabin → EventedNow o done s w.within.b.run Acting (log_of told) (arranged c U (state x) Z) →
-      (new : Run) (after : Listed Break) (closing : Closing) → IsClosed c slot (acting_at s.number (suc (length front))) between new told.breaks after closing → HasBroken (state x) (state y) (closed_falls closing) →
+      (new : Run) (after : Listed Break) (closing : Closing) → IsClosed c slot (acting_at s.number (suc (length front))) between new told.breaks after closing →
+      IsCalm told.breaks.items after.items (state x) (state y) → HasBroken (state x) (state y) (closed_falls closing) →
       NotesEvents (closed_events closing s.number new) failed (arranged c U (state x) Z) (arranged c V (state y) Z) → EventsGoOn failed o done s w.within.b.run (In (suc (length front))) Acting (log_of (record told { breaks = after })) (arranged c V (state y) Z)
-  closing-evented state U V Z x y unit_whole whole size closes still unit failed cause rise span stands_ ends records time at ms t kept same small finds low sits_ events new after closing is broken notes =
+  closing-evented state U V Z x y unit_whole whole size closes still unit failed cause span stands_ ends records time at ms t kept same small finds low sits_ events new after closing is calm broken notes =
       let kept_all : IsSettledIn o done s (In (suc (length front))) [] gone.within.b gone.within.from (gone.within.from + length decided) (left_run slot s.number run) between before told (arranged c U (state x) Z) =
       records o done s (suc (length front)) [] (omega arith) refl gone time in
       let began = kept_all.began ∙ left.goes.began in
       subst (λ (b : Beginning). EventsGoOn failed o done s b.run (In (suc (length front))) Acting (log_of (record told { breaks = after })) (arranged c V (state y) Z)) began
-      (closed-evented state c slot (acting_at s.number (suc (length front))) between told U V Z x y unit_whole whole size closes still unit failed cause rise span stands_ ends o done s (suc (length front)) refl kept_all.goes kept_all.from
+      (closed-evented state c slot (acting_at s.number (suc (length front))) between told U V Z x y unit_whole whole size closes still unit failed cause span stands_ ends o done s (suc (length front)) refl kept_all.goes kept_all.from
       (λ some. subst (λ (b : Beginning). IsLeaving (log_of told) (went b.run.log done).before s (In (suc (length front))) (s.number / 60) (s.number / 60) between.keeper.cabin slot c) (sym kept_all.began)
       (kept_all.leave slot c (left.leaving (had_ (session_of run.keeper.cabin.cards c) refl some)) some))
       small (found-as (log_of before) (log_of told) s.number (In (suc (length front))) (other_slot slot) (ap (λ (l : Listed Find). l.items) finds) ∙ w.within.moment.up_to.found (In (suc (length front))) (other_slot slot) (omega arith))
       (λ torn. puts-none (other_slot slot)) low sits_ rest (left-over front rest (Withdraw slot) s (suc (length front)) refl are)
-      (subst (λ (b : Beginning). EventedNow o done s b.run Acting (log_of told) (arranged c U (state x) Z)) (sym began) events) new after closing is broken notes)
+      (subst (λ (b : Beginning). EventedNow o done s b.run Acting (log_of told) (arranged c U (state x) Z)) (sym began) events) new after closing is calm broken notes)
     where
       had_ : (q : Option Accepted) → session_of run.keeper.cabin.cards c ≡ q → is_some (session_of between.keeper.cabin.cards c) ≡ true → is_some (session_of run.keeper.cabin.cards c) ≡ true
       had_ None is_ some = absurd (not-both (session_of between.keeper.cabin.cards c) some (none-comes c at ms t (told_of between told) kept (same ∙ is_)))

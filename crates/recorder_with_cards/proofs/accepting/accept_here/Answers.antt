@@ -162,7 +162,7 @@ returns-clause-recorded g c = λ room o done s n waits fewer at next time.
       room = room;
     } in
     let gone : HasGone e failed run.keeper c.accept-answer.new.keeper run.noted c.accept-answer.new.noted c.args.outcome.now c.accept-answer.new.outcome U V X Z Y w.0 =
-    record { entered = w.1; books = w.2; cause = c.accept-answer.ensures.cause; more = c.accept-answer.ensures.more; in_time = c.accept-answer.ensures.in_time } in
+    record { entered = w.1; books = w.2; cause = c.accept-answer.ensures.cause; calm = c.accept-answer.ensures.calm; in_time = c.accept-answer.ensures.in_time } in
     let sound : AreSound U V X Z = record {
       time = mine-time e.which V Z Y time;
       unit_before = g.met.M.Medium.coherent c.args.unit.now;
@@ -213,7 +213,7 @@ returns-clause-evented g c = λ room o done s n waits fewer at speed next turn e
       room = room;
     } in
     let gone : HasGone e failed run.keeper c.accept-answer.new.keeper run.noted c.accept-answer.new.noted c.args.outcome.now c.accept-answer.new.outcome U V X Z Y w.0 =
-    record { entered = w.1; books = w.2; cause = c.accept-answer.ensures.cause; more = c.accept-answer.ensures.more; in_time = c.accept-answer.ensures.in_time } in
+    record { entered = w.1; books = w.2; cause = c.accept-answer.ensures.cause; calm = c.accept-answer.ensures.calm; in_time = c.accept-answer.ensures.in_time } in
     let sound : AreSound U V X Z = record {
       time = mine-time e.which V Z Y time;
       unit_before = g.met.M.Medium.coherent c.args.unit.now;
@@ -282,7 +282,7 @@ returns-clause-ringed g c = λ room o done s n waits fewer at next spans odomete
       room = room;
     } in
     let gone : HasGone e failed run.keeper c.accept-answer.new.keeper run.noted c.accept-answer.new.noted c.args.outcome.now c.accept-answer.new.outcome U V X Z Y w.0 =
-    record { entered = w.1; books = w.2; cause = c.accept-answer.ensures.cause; more = c.accept-answer.ensures.more; in_time = c.accept-answer.ensures.in_time } in
+    record { entered = w.1; books = w.2; cause = c.accept-answer.ensures.cause; calm = c.accept-answer.ensures.calm; in_time = c.accept-answer.ensures.in_time } in
     let sound : AreSound U V X Z = record {
       time = mine-time e.which V Z Y time;
       unit_before = g.met.M.Medium.coherent c.args.unit.now;
@@ -332,7 +332,7 @@ returns-clause-cards g c = λ room o done s n waits fewer at speed next vehicle 
       room = room;
     } in
     let gone : HasGone e failed run.keeper c.accept-answer.new.keeper run.noted c.accept-answer.new.noted c.args.outcome.now c.accept-answer.new.outcome U V X Z Y w.0 =
-    record { entered = w.1; books = w.2; cause = c.accept-answer.ensures.cause; more = c.accept-answer.ensures.more; in_time = c.accept-answer.ensures.in_time } in
+    record { entered = w.1; books = w.2; cause = c.accept-answer.ensures.cause; calm = c.accept-answer.ensures.calm; in_time = c.accept-answer.ensures.in_time } in
     let sound : AreSound U V X Z = record {
       time = mine-time e.which V Z Y time;
       unit_before = g.met.M.Medium.coherent c.args.unit.now;
