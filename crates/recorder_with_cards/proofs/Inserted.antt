@@ -162,7 +162,7 @@ module _ (slot : Slot) (card : Card) (at : Moment) (speed : ℕ) (old : Run) (be
           moves-same (spells_of c notes-before) (spells_of c notes-put) (sits_in old.keeper.cabin.slots.seats c) (sits_in (with_card_in slot card old.keeper.cabin).slots.seats c) (session_of old.keeper.cabin.cards c) (session_of old.keeper.cabin.cards c)
           (same-notes c) (put-other old.keeper.cabin.slots.seats slot card c None (insert-empty old.keeper.cabin.slots.seats slot card speed allowed) other) refl
 
-  stays-put : AllStay o (log_of before) notes-put old.keeper.memory.registration (with_card_in slot card old.keeper.cabin) d
+  pub stays-put : AllStay o (log_of before) notes-put old.keeper.memory.registration (with_card_in slot card old.keeper.cabin) d
   stays-put =
       all-moved o (log_of before) (log_of before) notes-before notes-put old.keeper.memory.registration old.keeper.cabin (with_card_in slot card old.keeper.cabin) d (log-self (log_of before)) (λ none_ c. each-put c) h.stay
 
