@@ -97,6 +97,3 @@ pub mod CardWrites
 pub mod Closings
 pub mod CardUses
 pub mod StayUses
-pub mod Truths
-pub mod MinuteEnds
-pub mod WholeLegs
