@@ -172,7 +172,7 @@ module _ (slot : Slot) (card : Card) (at : Moment) (speed : ℕ) (old : Run) (be
       by false other =
           placed-same notes-before notes-put old.keeper.cabin (with_card_in slot card old.keeper.cabin) c (ap last_slot (same-notes c)) (λ at_ there. filled-slot old.keeper.cabin.slots.seats slot at_ card c None other there) (λ some. some) was
 
-  stays-put : AllStay o (truths_within o h.within.b.run.log done s) s.number (log_of before) notes-put old.keeper.memory.registration (with_card_in slot card old.keeper.cabin) d
+  pub stays-put : AllStay o (truths_within o h.within.b.run.log done s) s.number (log_of before) notes-put old.keeper.memory.registration (with_card_in slot card old.keeper.cabin) d
   stays-put =
       all-moved o (truths_within o h.within.b.run.log done s) s.number (log_of before) (log_of before) notes-before notes-put old.keeper.memory.registration old.keeper.cabin (with_card_in slot card old.keeper.cabin) d (log-self (log_of before)) (λ none_ c. each-put c) (λ none_ c. places-put c) h.stay
 

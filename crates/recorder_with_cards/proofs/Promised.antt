@@ -264,7 +264,7 @@ module _ (x a b : List ℕ) (start : ℕ) (items : List Item) (began now : Devic
       of_image c = found.image c ∙ sym (images c)
 
       own : (none : NothingFailed (log_of out)) (c : Card) → IsOwnValid (card_image r c) →
-          HasStays 0 (found_of o.found c) run.keeper.memory.registration (spells_of c (notes_in (log_of out) ss)) (sits_in run.keeper.cabin.slots.seats c) ((h.evented.recorded.stay none).stays c) (session_of run.keeper.cabin.cards c) (card_of now c)
+          HasStays 0 (found_of o.found c) run.keeper.memory.registration (spells_of c (notes_in (log_of out) (seconds_of start items))) (sits_in run.keeper.cabin.slots.seats c) ((h.evented.recorded.stay none).stays c) (session_of run.keeper.cabin.cards c) (card_of now c)
       own none c valid = (h.evented.recorded.stay none).each c (subst IsOwnValid (sym (of_image c)) valid)
 
       -- each card shows its stays, which are as they are noted
@@ -291,7 +291,7 @@ module _ (x a b : List ℕ) (start : ℕ) (items : List Item) (began now : Devic
           side-shown r began now y may.decodes
           (events-shown began now o (seconds_of start items) (log_of out) run.unfound run.next h.evented.recorded.supply h.evented.evented r refl images refl refl clocks y left)
           h.spans (record { spans_are = h.ringed.spans_are; bases = stores.0 }) (stores.1 y left)
-          (rings-shown began now (since_behind o (log_of out) ss) (log_of out) h.spans (notes_in (log_of out) (seconds_of start items)) (seats_of run) h.ringed.ringed r refl images refl refl refl refl clocks y left)
+          (rings-shown began now (since_behind o (log_of out) (seconds_of start items)) (log_of out) h.spans (notes_in (log_of out) (seconds_of start items)) (seats_of run) h.ringed.ringed r refl images refl refl refl refl clocks y left)
 
       -- of a card, the pointer of its ring is an index where it was valid
       shows-places : (c : Card) → IsOwnValid (card_image r c) → IsDense (places_in (card_image r c)) (card_image r c) → (y : List ℕ) → (card_of now c).may_leave y → ShowsPlaces r h.spans c y
@@ -299,7 +299,7 @@ module _ (x a b : List ℕ) (start : ℕ) (items : List Item) (began now : Devic
           let good : IsApplication (own_sizes (card_image r c)) = subst (λ (i : List ℕ). IsApplication (own_sizes i)) (of_image c) (h.evented.recorded.recorded.found.sizes c (subst IsOwnValid (sym (of_image c)) valid)) in
           let has : HasPlaces (card_image r c) = record { valid = valid; shape = place_shape (own_sizes (card_image r c)) good; ring = record { points = own-points (card_image r c) valid; dense = dense } } in
           record {
-            shows = places-shown began now (since_behind o (log_of out) ss) (log_of out) h.spans (notes_in (log_of out) (seconds_of start items)) (seats_of run) h.ringed.ringed r images refl refl c has y left;
+            shows = places-shown began now (since_behind o (log_of out) (seconds_of start items)) (log_of out) h.spans (notes_in (log_of out) (seconds_of start items)) (seats_of run) h.ringed.ringed r images refl refl c has y left;
             dense = (h.ringed.ringed.on_cards c (subst HasPlaces (images c) has) y left).carries.dense;
           }
 
