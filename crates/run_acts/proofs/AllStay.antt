@@ -392,7 +392,7 @@ module _ (o : Origin) (t : Truths) (u : ℕ) where
       all-moved log log notes notes r cabin after d (log-self log)
       (λ none c. moves-same u (spells_of c notes) (spells_of c notes) (sits_in cabin.slots.seats c) (sits_in after.slots.seats c) (session_of cabin.cards c) (session_of after.cards c) refl (ap (λ (q : Seats). sits_in q c) seats) (sessions c))
       (λ none c was.
-          placed-same notes notes cabin after c refl (λ slot there. ap (λ (q : Seats). card_in (seat_in q slot)) (sym seats) ∙ there) (λ some. ap (λ (q : Option Accepted). is_some q) (sym (sessions c)) ∙ some) was) all
+      placed-same notes notes cabin after c refl (λ slot there. ap (λ (q : Seats). card_in (seat_in q slot)) (sym seats) ∙ there) (λ some. ap (λ (q : Option Accepted). is_some q) (sym (sessions c)) ∙ some) was) all
 
   -- a call that is about one card, and the unit: nothing is noted of the other one, which has its session and its seat
   pub all-one : (c : Card) (log later : RunLog) (notes now : List Note) (r : Registration) (cabin after : Cabin) (U V X Y Z : State) → (NothingFailed later → NothingFailed log) → session_of after.cards (other c) ≡ session_of cabin.cards (other c) →

@@ -74,8 +74,8 @@ module _ (d : Devices) (slot : Slot) (begun speed : ℕ) (run : Run) (out : Outc
       (spells_of c (notes_within w.within.b done s (In (suc (length front))) (log_of (record out { breaks = with_lines (Tear s.number slot false (suc (length front)) false ∷ []) out.breaks })))) c
       (pull-now o done s front rest slot are (values_of run out) d w.within c))
       (λ none c was.
-          placed-so card s.number (notes_within w.within.b done s (In (length front)) (log_of out)) (notes_within w.within.b done s (In (suc (length front))) (log_of (record out { breaks = with_lines (Tear s.number slot false (suc (length front)) false ∷ []) out.breaks }))) c
-          (pull-now o done s front rest slot are (values_of run out) d w.within c) was)
+      placed-so card s.number (notes_within w.within.b done s (In (length front)) (log_of out)) (notes_within w.within.b done s (In (suc (length front))) (log_of (record out { breaks = with_lines (Tear s.number slot false (suc (length front)) false ∷ []) out.breaks }))) c
+      (pull-now o done s front rest slot are (values_of run out) d w.within c) was)
       w.stay)))
 
   pub pulled-recorded : RecordsAction (Pull slot) begun speed false run (pulled_run (card_in (seat_in run.keeper.cabin.slots.seats slot)) run.next run) out
