@@ -438,7 +438,7 @@ module _ (d : Devices) (o : Origin) (done : List TraceSecond) (p : Progress) (sp
       by true is_ = absurd (cc)
 
   module _ (mid was later : Device → ℕ) (waits fewer : List Visit) (m : Moment p before s (In n) log waits mid was) (but : WaitBut (In n) e.slot e.which waits fewer) (behind : AllByRecursion (λ (x : Visit). x.phase ≡ In n) fewer)
-      (more : IsMore was later) (rose : RoseBy 1 (mid Recorder) (later Recorder)) (rest : List Action) (is_left : IsLeft s (In n) rest) where
+      (rose : RoseBy 1 (mid Recorder) (later Recorder)) (rest : List Action) (is_left : IsLeft s (In n) rest) where
     judged-moment : (v : Verdict) → Moment p before s (In n) (and_find log (find_of e v)) fewer mid was
     judged-moment v = (card-judged p before s (In n) log waits fewer mid was m (find_of e v) (found-at v) (record { card = e.which; accepted = None }) sits none enters in-order but behind).0
 
@@ -450,16 +450,16 @@ module _ (d : Devices) (o : Origin) (done : List TraceSecond) (p : Progress) (sp
     failing : (l : RunLog) (many : List Visit) (counted : Device → ℕ) → Moment p before s (In n) l many mid counted → IsMore counted later → IsFailing o done s p (In n) l later
     failing l many counted at up = record { waits = many; mid = mid; now = counted; moment = at; more = up; rose = rose; rest = rest; left = is_left }
 
-    judged-fails : (v : Verdict) → IsFailing o done s p (In n) (record log { breaks = log.breaks ++ []; finds = log.finds ++ find_of e v ∷ [] }) later
-    judged-fails v = subst (λ (l : RunLog). IsFailing o done s p (In n) l later) (found-only (find_of e v)) (failing (and_find log (find_of e v)) fewer was (judged-moment v) more)
+    judged-fails : IsMore was later → (v : Verdict) → IsFailing o done s p (In n) (record log { breaks = log.breaks ++ []; finds = log.finds ++ find_of e v ∷ [] }) later
+    judged-fails more v = subst (λ (l : RunLog). IsFailing o done s p (In n) l later) (found-only (find_of e v)) (failing (and_find log (find_of e v)) fewer was (judged-moment v) more)
 
-    pub ending-fails : (ending : Ending) → (falls_of ending ≡ 1 → BrokeDown e.which was later) → IsFailing o done s p (In n) (log_with ending e log) later
-    ending-fails (Unfit fid place) broke = judged-fails (verdict.NotValid fid place)
-    ending-fails (Ahead stored) broke = judged-fails (verdict.TimeOverlap stored e.at.second)
-    ending-fails Fell broke = subst (λ (l : RunLog). IsFailing o done s p (In n) l later) (torn-only (tear_of e.slot e.at))
-        (failing (and_break log (tear_of e.slot e.at)) waits later (torn-moment log waits m (record { card = e.which; accepted = None }) refl sits stays (broke refl)) (λ device. omega arith))
-    ending-fails Unasked broke = subst (λ (l : RunLog). IsFailing o done s p (In n) l later) no-lines (failing log waits was m more)
-    ending-fails (Unnoted entered clock) broke = judged-fails (verdict.Accepted entered.replayed)
-    ending-fails (Seated entered clock entry) broke = judged-fails (verdict.Accepted entered.replayed)
-    ending-fails (Lost entered clock entry) broke =
-        failing (and_break (log1 entered.replayed) (tear_of e.slot e.at)) fewer later (torn-moment (log1 entered.replayed) fewer (judged-moment (verdict.Accepted entered.replayed)) (sat entered.replayed) refl (sits-then entered.replayed) (stays-then entered.replayed) (broke refl)) (λ device. omega arith)
+    pub ending-fails : (ending : Ending) → (falls_of ending ≡ 0 → IsMore was later) → (falls_of ending ≡ 1 → BrokeDown e.which was later) → IsFailing o done s p (In n) (log_with ending e log) later
+    ending-fails (Unfit fid place) more broke = judged-fails (more refl) (verdict.NotValid fid place)
+    ending-fails (Ahead stored) more broke = judged-fails (more refl) (verdict.TimeOverlap stored e.at.second)
+    ending-fails Fell more broke = subst (λ (l : RunLog). IsFailing o done s p (In n) l later) (torn-only (tear_of e.slot e.at))
+        (failing (and_break log (tear_of e.slot e.at)) waits later (torn-moment log waits m (record { card = e.which; accepted = None }) refl sits stays (broke refl)) (record { unit = omega arith; cards = λ card. refl }))
+    ending-fails Unasked more broke = subst (λ (l : RunLog). IsFailing o done s p (In n) l later) no-lines (failing log waits was m (more refl))
+    ending-fails (Unnoted entered clock) more broke = judged-fails (more refl) (verdict.Accepted entered.replayed)
+    ending-fails (Seated entered clock entry) more broke = judged-fails (more refl) (verdict.Accepted entered.replayed)
+    ending-fails (Lost entered clock entry) more broke =
+        failing (and_break (log1 entered.replayed) (tear_of e.slot e.at)) fewer later (torn-moment (log1 entered.replayed) fewer (judged-moment (verdict.Accepted entered.replayed)) (sat entered.replayed) refl (sits-then entered.replayed) (stays-then entered.replayed) (broke refl)) (record { unit = omega arith; cards = λ card. refl })

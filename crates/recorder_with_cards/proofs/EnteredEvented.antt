@@ -59,6 +59,7 @@ use Rattle.run_acts.specs.Evented.{EventsGoOn}
 use Rattle.run_acts.specs.Named.{ValidHere, CrewValid, NamesValid}
 use Rattle.run_acts.specs.NotedEvents.{AreTold, NotesSo, NotesEvents}
 use Rattle.run_acts.specs.Recording.{IsOrigin, log_of}
+use Rattle.run_acts.specs.Truths.{truths_within}
 use Rattle.run_acts.specs.Stays.{AllStay}
 use Rattle.run_acts.proofs.EnteredFacts.{before, mine-back, now-is, card-began, known as known-behind, left, breakdowns, broke-once, unit-broke}
 use Rattle.run_acts.proofs.EnteredTurned.{own-card}
@@ -247,7 +248,7 @@ module _ (o : Origin) (done : List TraceSecond) (s : TraceSecond) (n : ℕ) (wai
   rest-left = (take n s.actions, sym (take-append-drop n s.actions), length-take-le n s.actions w.moment.is)
 
   module _ (failed : Bool) (k' : Keeper) (noted noted' : ℕ) (out' : Outcome) (W Y : State) (way : Way) (g : HasGone e failed k k' noted noted' out out' U W X Y Z way) (sound : AreSound U W X Y)
-      (stay : AllStay o v.log (notes_within w.b done s (In n) v.log) k.memory.registration k.cabin (arranged e.which U X Z)) where
+      (stay : AllStay o (truths_within o w.b.run.log done s) s.number v.log (notes_within w.b done s (In n) v.log) k.memory.registration k.cabin (arranged e.which U X Z)) where
     abbrev later : Devices
     later = arranged e.which W Y Z
 
@@ -305,8 +306,8 @@ module _ (o : Origin) (done : List TraceSecond) (s : TraceSecond) (n : ℕ) (wai
     fails : failed ≡ true → IsFailing o done s w.b.run (In n) (log_with (ending_of way) e v.log) (breakdowns_of (arranged e.which W Y Z))
     fails bad = ending-fails (arranged e.which W Y Z) o done w.b.run w.b.span s begins n v.log reaches e second begun-is early m.next_.sits_ m.none m.next_.enters m.next_.stays_in turn.first turn.other_unfound turn.apart turn.starts
         w.b.broken (breakdowns_of (arranged e.which U X Z)) (breakdowns_of (arranged e.which W Y Z)) waits fewer w.moment m.next_.but m.next_.behind
-        (breakdowns o done s n waits fewer e k out unfound next_ begun minutes U X Z w m failed k' noted noted' out' W Y way g sound)
-        (unit-broke o done s n waits fewer e k out unfound next_ begun minutes U X Z w m failed k' noted noted' out' W Y way g sound bad) (drop n s.actions) rest-left (ending_of way) broke
+        (unit-broke o done s n waits fewer e k out unfound next_ begun minutes U X Z w m failed k' noted noted' out' W Y way g sound bad) (drop n s.actions) rest-left (ending_of way)
+        (breakdowns o done s n waits fewer e k out unfound next_ begun minutes U X Z w m failed k' noted noted' out' W Y way g sound) broke
 
     module _ (now : EventedNow o done s w.b.run (stage_in n) v.log (arranged e.which U X Z)) (notes : NotesEvents (events_in (notes_by (ending_of way) e noted cabin)) failed (arranged e.which U X Z) (arranged e.which W Y Z)) where
       by : (b : Bool) → failed ≡ b → NotesSo b o brings (arranged e.which U X Z) (arranged e.which W Y Z) → EventsGoOn b o done s w.b.run (In n) (stage_in n) (log_with (ending_of way) e v.log) (arranged e.which W Y Z)

@@ -25,7 +25,6 @@ use Rattle.side_model.specs.Done.{done_of}
 use Rattle.side_model.specs.Noted.{Note, notes_of}
 use Rattle.side_model.specs.Odometer.{MayStore, HaveBases}
 use Rattle.run_model.specs.declared.Device.{Device}
-use Rattle.run_model.specs.declared.Device.TheVariants.{Unit as Recorder, CardA, CardB}
 use Rattle.history_model.specs.Book.{not_begun}
 use Rattle.joint_rule.specs.Rules.{Out}
 use Rattle.unit_course.specs.Followed.{Supply, Lit as IsLit, Due as IsDue, Lost as IsLost}
@@ -108,24 +107,24 @@ use Rattle.run_acts.specs.Closings.{spells_of}
 use Rattle.run_acts.specs.Comings.{TellsMore}
 use Rattle.run_acts.proofs.Comings.{tells-none}
 use Rattle.run_acts.specs.Stays.{Stay, Coming, comings_on, registration_in, AreMerged, spells, sits_in, HasStays, ShowsStays, start_shown, AreTimely}
-use Rattle.recorder_with_cards.proofs.AtEnd.{noted-at-end, sits-at-end}
+use Rattle.recorder_with_cards.proofs.AtEnd.{noted-at-end, sits-at-end, words-so, odometers-so}
 use Rattle.run_recorded.specs.Whole.{NothingFailed}
 use Rattle.run_crew.specs.Cabin.{Stands}
 use Rattle.std.specs.Prelude.{filter}
 use Rattle.log_model.specs.Log.{is_accepting}
+use Rattle.log_model.specs.Causes.{device_of}
 use Rattle.log_model.specs.declared.lines.Find.{Find}
 use Rattle.run_acts.proofs.Stays.{stays-start}
+use Rattle.run_acts.proofs.AllStay.{placed-bare}
 
 -- what holds of either card
 pub both : (P : Card → Type 0) → P A → P B → (c : Card) → P c
 both P first second A = first
 both P first second B = second
 
--- breakdowns do not go back
-pub more-devices : (U V X Y Z W : State) → U.breakdowns ≤ V.breakdowns → X.breakdowns ≤ Y.breakdowns → Z.breakdowns ≤ W.breakdowns → IsMore (breakdowns_of (devices U X Z)) (breakdowns_of (devices V Y W))
-more-devices U V X Y Z W unit a b Recorder = unit
-more-devices U V X Y Z W unit a b CardA = a
-more-devices U V X Y Z W unit a b CardB = b
+-- no card has broken down
+pub more-devices : (U V X Y Z W : State) → U.breakdowns ≤ V.breakdowns → Y.breakdowns ≡ X.breakdowns → W.breakdowns ≡ Z.breakdowns → IsMore (breakdowns_of (devices U X Z)) (breakdowns_of (devices V Y W))
+more-devices U V X Y Z W unit a b = record { unit = unit; cards = both (λ c. breakdowns_of (devices V Y W) (device_of c) ≡ breakdowns_of (devices U X Z) (device_of c)) a b }
 
 -- of two chips that of a card
 abbrev pub chip_of : CardState → CardState → Card → CardState
@@ -215,6 +214,8 @@ module _ (x a b : List ℕ) (start : ℕ) (items : List Item) (began now : Devic
           only = λ c. ⊎_elim (λ none_. inl none_) (λ valid. inr (subst IsOwnValid (of_image c) valid)) (all.only c);
           shows = stay_shows none;
           closed = stay_spells none;
+          words = λ c. words-so r (all.stays c) (all.hold c);
+          odometers = λ c. odometers-so r (all.stays c) (all.hold c);
           befores = record {
             comings = all.befores.comings;
             lines = all.befores.lines;
@@ -261,7 +262,7 @@ module _ (x a b : List ℕ) (start : ℕ) (items : List Item) (began now : Devic
       of_image c = found.image c ∙ sym (images c)
 
       own : (none : NothingFailed (log_of out)) (c : Card) → IsOwnValid (card_image r c) →
-          HasStays (found_of o.found c) run.keeper.memory.registration (spells_of c (notes_in (log_of out) (seconds_of start items))) (sits_in run.keeper.cabin.slots.seats c) ((h.evented.recorded.stay none).stays c) (session_of run.keeper.cabin.cards c) (card_of now c)
+          HasStays 0 (found_of o.found c) run.keeper.memory.registration (spells_of c (notes_in (log_of out) (seconds_of start items))) (sits_in run.keeper.cabin.slots.seats c) ((h.evented.recorded.stay none).stays c) (session_of run.keeper.cabin.cards c) (card_of now c)
       own none c valid = (h.evented.recorded.stay none).each c (subst IsOwnValid (sym (of_image c)) valid)
 
       -- each card shows its stays, which are as they are noted
@@ -270,7 +271,7 @@ module _ (x a b : List ℕ) (start : ℕ) (items : List Item) (began now : Devic
 
       stay_spells : (none : NothingFailed (log_of out)) (c : Card) → IsOwnValid (card_image r c) → spells ((h.evented.recorded.stay none).stays c) ≡ spells_of c (notes_in (log_of out) (seconds_of start items))
       stay_spells none c valid =
-          sym (noted-at-end (session_of run.keeper.cabin.cards c) (sits_in run.keeper.cabin.slots.seats c) (spells ((h.evented.recorded.stay none).stays c)) (sits-at-end o (seconds_of start items) run out now h.evented.recorded sits c))
+          sym (noted-at-end 0 (session_of run.keeper.cabin.cards c) (sits_in run.keeper.cabin.slots.seats c) (spells ((h.evented.recorded.stay none).stays c)) (sits-at-end o (seconds_of start items) run out now h.evented.recorded sits c))
           ∙ (own none c valid).spell
 
       clocks : (c : Card) → (found_of o.found c).began ≡ (card_of began c).clock
@@ -442,10 +443,12 @@ module _ (x a b : List ℕ) (start : ℕ) (began now : Devices) (opened : Opened
         };
         owed = λ c. tt;
         only = λ c. inl refl;
+        hold = λ c. tt;
+        placed = λ c valid. placed-bare (notes_in (log_of out) []) run.keeper.cabin c (bare c);
         each = λ c valid.
-            subst (λ (ns : List Note). HasStays (found_of f c) run.keeper.memory.registration (spells_of c ns) (sits_in run.keeper.cabin.slots.seats c) [] (session_of run.keeper.cabin.cards c) (card_of now c)) (sym (no-notes (log_of out)))
-            (subst (λ (s : Option Accepted). HasStays (found_of f c) run.keeper.memory.registration [] (sits_in run.keeper.cabin.slots.seats c) [] s (card_of now c)) (sym (bare c))
-            (stays-start (found_of f c) run.keeper.memory.registration (sits_in run.keeper.cabin.slots.seats c) (card_of now c) (λ y left. untouched c y ((whole c).counts_now (found_of f c).began y (there.clocks c) left))));
+            subst (λ (ns : List Note). HasStays 0 (found_of f c) run.keeper.memory.registration (spells_of c ns) (sits_in run.keeper.cabin.slots.seats c) [] (session_of run.keeper.cabin.cards c) (card_of now c)) (sym (no-notes (log_of out)))
+            (subst (λ (s : Option Accepted). HasStays 0 (found_of f c) run.keeper.memory.registration [] (sits_in run.keeper.cabin.slots.seats c) [] s (card_of now c)) (sym (bare c))
+            (stays-start 0 (found_of f c) run.keeper.memory.registration (sits_in run.keeper.cabin.slots.seats c) (card_of now c) (λ y left. untouched c y ((whole c).counts_now (found_of f c).began y (there.clocks c) left))));
       };
     }
 

@@ -7,7 +7,7 @@ use Rattle.trace_model.specs.declared.Card.TheVariants.{A, B}
 use Rattle.trace_model.specs.Trace.{TraceSecond}
 use Rattle.tach_media.specs.Medium.{State, LeavesOnly, Rose, HasBroken, last_count}
 use Rattle.tach_media.proofs.Runs.{at_image}
-use Rattle.run_model.specs.declared.Device.TheVariants.{Unit as Recorder, CardA, CardB}
+use Rattle.run_model.specs.declared.Device.TheVariants.{Unit as Recorder}
 use Rattle.minute_rules.specs.Kept.{Kept}
 use Rattle.card_image.specs.Own.{IsOwnValid}
 use Rattle.card_times.specs.Times.{AreTimedSince}
@@ -33,13 +33,16 @@ use Rattle.run_recorded.specs.Beside.{HaveLeftMore}
 use Rattle.run_keeping.specs.declared.keeper.Keeper.{Keeper}
 use Rattle.run_keeping.specs.declared.keeper.Moment.{Moment as KeepingAt}
 use Rattle.run_entering.specs.declared.lines.Entering.{Entering}
-use Rattle.run_entering.specs.Entering.{Way, ending_of}
+use Rattle.run_entering.specs.Entering.{Ending, Unfit, Ahead, Fell, Unasked, Unnoted, Seated, Lost, Way, ending_of, breaks_by, falls_of}
 use Rattle.run_entering.specs.Noted.{AreComingOnCard}
 use Rattle.run_entering.specs.Told.{MayEnter, IsEnteredOn, MayHaveWritten}
 use Rattle.run_within.specs.Recorded.{carried, AreThere}
 use Rattle.run_within.specs.Within.{Within}
 use Rattle.run_acts.specs.Entered.{values_with, MayJudge, HasGone, AreSound}
 use Rattle.run_acts.proofs.EnteredTravelled.{travelled-entered}
+use Rattle.run_keeping.specs.Later.{failed_tears}
+use Rattle.run_keeping.proofs.Calm.{none-told}
+use Rattle.run_acts.proofs.Rising.{card-more, card-fell}
 
 -- ---- three devices, by the card that a call is about
 
@@ -91,9 +94,15 @@ rose-from low a b le h = by (nat_le (a + 1) last_count) refl
 broken-by : (X Y : State) → HasBroken X Y 1 → RoseBy 1 X.breakdowns Y.breakdowns
 broken-by X Y h = rose-from X.breakdowns X.breakdowns Y.breakdowns (omega arith) h.breakdowns
 
-card-broke : (c : Card) (U V X Y Z : State) → RoseBy 1 X.breakdowns Y.breakdowns → RoseBy 1 (breakdowns_of (arranged c U X Z) (device_of c)) (breakdowns_of (arranged c V Y Z) (device_of c))
-card-broke A U V X Y Z rose = rose
-card-broke B U V X Y Z rose = rose
+-- which endings tell no tear
+untorn : (ending : Ending) (e : Entering) → falls_of ending ≡ 0 → failed_tears (breaks_by ending e) ≡ 0
+untorn (Unfit fid place) e none = refl
+untorn (Ahead stored) e none = refl
+untorn Fell e none = absurd (let one : 1 ≡ 0 = none in omega (arith, one))
+untorn Unasked e none = refl
+untorn (Unnoted entered clock) e none = refl
+untorn (Seated entered clock entry) e none = refl
+untorn (Lost entered clock entry) e none = absurd (let one : 1 ≡ 0 = none in omega (arith, one))
 
 -- ---- the call
 
@@ -156,13 +165,14 @@ module _ (o : Origin) (done : List TraceSecond) (s : TraceSecond) (n : ℕ) (wai
           (λ valid timed. known.timed valid timed) (λ valid timed. timed) c valid (t.timed c valid);
     }
 
-    pub breakdowns : IsMore (breakdowns_of (arranged e.which U X Z)) (breakdowns_of (arranged e.which W Y Z))
-    breakdowns Recorder = units e.which U W X Y Z (λ (a b : State). a.breakdowns ≤ b.breakdowns) g.cause.breakdowns
-    breakdowns CardA = each e.which U W X Y Z (λ (c : Card) (a b : State). a.breakdowns ≤ b.breakdowns) g.more (omega arith) A
-    breakdowns CardB = each e.which U W X Y Z (λ (c : Card) (a b : State). a.breakdowns ≤ b.breakdowns) g.more (omega arith) B
+    rests : falls_of (ending_of way) ≡ 0 → Y.breakdowns ≡ X.breakdowns
+    rests none = g.calm.calm (none-told out.breaks.items out'.breaks.items (breaks_by (ending_of way) e) (ap (λ (p : Outcome). p.breaks.items) g.entered.left.outcome) (untorn (ending_of way) e none))
+
+    pub breakdowns : falls_of (ending_of way) ≡ 0 → IsMore (breakdowns_of (arranged e.which U X Z)) (breakdowns_of (arranged e.which W Y Z))
+    breakdowns none = card-more e.which U W X Y Z g.cause.breakdowns (rests none)
 
     pub broke-once : HasBroken X Y 1 → BrokeDown e.which (breakdowns_of (arranged e.which U X Z)) (breakdowns_of (arranged e.which W Y Z))
-    broke-once broken = record { more = breakdowns; broke = card-broke e.which U W X Y Z (broken-by X Y broken) }
+    broke-once broken = card-fell e.which U W X Y Z g.cause.breakdowns (broken-by X Y broken)
 
     -- the unit has failed
     pub unit-broke : failed ≡ true → RoseBy 1 (w.b.broken Recorder) (breakdowns_of (arranged e.which W Y Z) Recorder)

@@ -41,7 +41,7 @@ use Rattle.run_keeping.specs.declared.keeper.Moment.{Moment as KeepingAt}
 use Rattle.run_keeping.specs.Keeping.{tear_of}
 use Rattle.device_steps.specs.declared.entering.Entered.{Entered}
 use Rattle.run_entering.specs.declared.lines.Entering.{Entering}
-use Rattle.run_entering.specs.Entering.{Way, find_of, seated, and_one, Unnoted, Seated, Lost}
+use Rattle.run_entering.specs.Entering.{Way, ending_of, falls_of, find_of, seated, and_one, Unnoted, Seated, Lost}
 use Rattle.run_entering.specs.Told.{IsTakenOn, IsToldSo}
 use Rattle.run_within.specs.Recorded.{Values, carried}
 use Rattle.run_within.specs.Within.{course_in, often, VerdictBy, AreOld, Within, CutWithin}
@@ -125,7 +125,6 @@ module _ (o : Origin) (done : List TraceSecond) (s : TraceSecond) (n : ℕ) (wai
       found = found;
       more = λ c m_ among. brought-more e.which c k.journal.kept m_ w.brought among;
       early = early-accepted (before o done s n waits fewer e k out unfound next_ begun minutes U X Z w m) e.which 0 0 k.journal.kept kept-low w.early;
-      breakdowns = breakdowns o done s n waits fewer e k out unfound next_ begun minutes U X Z w m failed k' noted noted' out' W Y way g sound;
       left = left o done s n waits fewer e k out unfound next_ begun minutes U X Z w m failed k' noted noted' out' W Y way g sound;
       there = there o done s n waits fewer e k out unfound next_ begun minutes U X Z w m failed k' noted noted' out' W Y way g sound;
       sessions = λ x some. ⊎_elim (λ had. inl had) (λ is. inr (is, refl)) (sessions x some);
@@ -134,8 +133,9 @@ module _ (o : Origin) (done : List TraceSecond) (s : TraceSecond) (n : ℕ) (wai
     }
 
     -- and the unit failed behind that
-    taken-fails : (z : Card → Standing) → failed ≡ true → IsPowerless o.found (carried (judged_values (find_of e (Accepted entered.replayed)) (out.marks.items ++ card_marks e.which clock entered.owed.items) cabin (values_with k out unfound next_ begun minutes)) w.due (kept_all w.new w.b.run.book) z (for_card e.which (k.journal.kept ∷ w.brought e.which) w.brought)) (arranged e.which W Y Z) → CutWithin o done s (In n) fewer None (judged_values (find_of e (Accepted entered.replayed)) (out.marks.items ++ card_marks e.which clock entered.owed.items) cabin (values_with k out unfound next_ begun minutes)) (arranged e.which W Y Z)
-    taken-fails z fails powerless = judging-fails (arranged e.which U X Z) (arranged e.which W Y Z) o done s (In n) waits fewer (values_with k out unfound next_ begun minutes) w e.which (find_of e (Accepted entered.replayed)) (out.marks.items ++ card_marks e.which clock entered.owed.items) cabin (for_card e.which (k.journal.kept ∷ w.brought e.which) w.brought) taken-judged
+    taken-fails : falls_of (ending_of way) ≡ 0 → (z : Card → Standing) → failed ≡ true → IsPowerless o.found (carried (judged_values (find_of e (Accepted entered.replayed)) (out.marks.items ++ card_marks e.which clock entered.owed.items) cabin (values_with k out unfound next_ begun minutes)) w.due (kept_all w.new w.b.run.book) z (for_card e.which (k.journal.kept ∷ w.brought e.which) w.brought)) (arranged e.which W Y Z) → CutWithin o done s (In n) fewer None (judged_values (find_of e (Accepted entered.replayed)) (out.marks.items ++ card_marks e.which clock entered.owed.items) cabin (values_with k out unfound next_ begun minutes)) (arranged e.which W Y Z)
+    taken-fails calm z fails powerless = judging-fails (arranged e.which U X Z) (arranged e.which W Y Z) o done s (In n) waits fewer (values_with k out unfound next_ begun minutes) w e.which (find_of e (Accepted entered.replayed)) (out.marks.items ++ card_marks e.which clock entered.owed.items) cabin (for_card e.which (k.journal.kept ∷ w.brought e.which) w.brought) taken-judged
+        (breakdowns o done s n waits fewer e k out unfound next_ begun minutes U X Z w m failed k' noted noted' out' W Y way g sound calm)
         (record { standing = z; powerless = powerless; broke = unit-broke o done s n waits fewer e k out unfound next_ begun minutes U X Z w m failed k' noted noted' out' W Y way g sound fails; no_keeping = λ keeping. not-keeping n keeping })
 
   -- ---- the unit failed as its insertion was noted: slots and sessions are as before
@@ -144,16 +144,16 @@ module _ (o : Origin) (done : List TraceSecond) (s : TraceSecond) (n : ℕ) (wai
     abbrev pretended : Cabin
     pretended = record { slots = put_in e.slot e.which (Some entered.session.minute) k.cabin.slots; cards = with_sizes e.which sizes k.cabin.cards }
 
-    pub unnoted : failed ≡ true → values_with k' out' unfound next_ begun minutes ≡ judged_values (find_of e (Accepted entered.replayed)) (out.marks.items ++ card_marks e.which clock entered.owed.items) (with_sizes_of e.which sizes k.cabin) (values_with k out unfound next_ begun minutes)
+    pub unnoted : falls_of (ending_of way) ≡ 0 → failed ≡ true → values_with k' out' unfound next_ begun minutes ≡ judged_values (find_of e (Accepted entered.replayed)) (out.marks.items ++ card_marks e.which clock entered.owed.items) (with_sizes_of e.which sizes k.cabin) (values_with k out unfound next_ begun minutes)
         → IsTakenOn (Unnoted entered clock) true e k.journal.kept o.found (with_marks (card_marks e.which clock entered.owed.items) (with_standing e.which Out (before o done s n waits fewer e k out unfound next_ begun minutes U X Z w m))) (with_sizes e.which sizes k.cabin.cards) (arranged e.which W Y Z)
         → GoesOnOrIsCut failed o done s n waits fewer (values_with k out unfound next_ begun minutes) (values_with k' out' unfound next_ begun minutes) (arranged e.which U X Z) (arranged e.which W Y Z) w
-    unnoted fails same powerless =
+    unnoted calm fails same powerless =
         subst (λ (b : Bool). GoesOnOrIsCut b o done s n waits fewer (values_with k out unfound next_ begun minutes) (values_with k' out' unfound next_ begun minutes) (arranged e.which U X Z) (arranged e.which W Y Z) w) (sym fails)
         (subst (λ (v : Values). IsCut o done s n v (arranged e.which W Y Z)) (sym same) (record {
           left = fewer;
           cabin = pretended;
           same = ap (λ (q : SlotsKept). record (with_power_lost s.number (with_sizes_of e.which sizes k.cabin)) { slots = q }) (cut-same k.cabin.slots e.slot e.which (Some entered.session.minute) s.number m.seat);
-          within = taken-fails pretended refl found (λ x some. inl (subst (λ (q : Option Session). is_some q ≡ true) (session-sized e.which x sizes k.cabin.cards) some)) (for_card e.which Out w.standing) fails powerless;
+          within = taken-fails pretended refl found (λ x some. inl (subst (λ (q : Option Session). is_some q ≡ true) (session-sized e.which x sizes k.cabin.cards) some)) calm (for_card e.which Out w.standing) fails powerless;
         }))
 
   -- ---- it is seated
@@ -178,23 +178,24 @@ module _ (o : Origin) (done : List TraceSecond) (s : TraceSecond) (n : ℕ) (wai
       seated-judged : IsJudged o done s (In n) waits fewer (values_with k out unfound next_ begun minutes) (arranged e.which U X Z) (arranged e.which W Y Z) w e.which (find_of e (Accepted entered.replayed)) (out.marks.items ++ card_marks e.which clock entered.owed.items) (seated entered.look entered.session entered.row entry noted e (with_sizes_of e.which sizes k.cabin)) (for_card e.which (k.journal.kept ∷ w.brought e.which) w.brought)
       seated-judged = taken-judged (seated entered.look entered.session entered.row entry noted e (with_sizes_of e.which sizes k.cabin)) refl found (λ x some. seated-sessions e.which x entered.look.number entered.row a sizes k.cabin.cards some)
 
-      seated-goes : (b : Bool) → failed ≡ b → IsTakenOn (Seated entered clock entry) b e k.journal.kept o.found (with_marks (card_marks e.which clock entered.owed.items) (with_standing e.which Out (before o done s n waits fewer e k out unfound next_ begun minutes U X Z w m))) ((seated entered.look entered.session entered.row entry noted e (with_sizes_of e.which sizes k.cabin))).cards (arranged e.which W Y Z)
+      seated-goes : falls_of (ending_of way) ≡ 0 → (b : Bool) → failed ≡ b → IsTakenOn (Seated entered clock entry) b e k.journal.kept o.found (with_marks (card_marks e.which clock entered.owed.items) (with_standing e.which Out (before o done s n waits fewer e k out unfound next_ begun minutes U X Z w m))) ((seated entered.look entered.session entered.row entry noted e (with_sizes_of e.which sizes k.cabin))).cards (arranged e.which W Y Z)
           → GoesOnOrIsCut b o done s n waits fewer (values_with k out unfound next_ begun minutes) (judged_values (find_of e (Accepted entered.replayed)) (out.marks.items ++ card_marks e.which clock entered.owed.items) (seated entered.look entered.session entered.row entry noted e (with_sizes_of e.which sizes k.cabin)) (values_with k out unfound next_ begun minutes)) (arranged e.which U X Z) (arranged e.which W Y Z) w
-      seated-goes false is powered = judged-so (arranged e.which U X Z) (arranged e.which W Y Z) o done s (In n) waits fewer (values_with k out unfound next_ begun minutes) w e.which (find_of e (Accepted entered.replayed)) (out.marks.items ++ card_marks e.which clock entered.owed.items) (seated entered.look entered.session entered.row entry noted e (with_sizes_of e.which sizes k.cabin)) (for_card e.which (k.journal.kept ∷ w.brought e.which) w.brought) z seated-judged (record { powered = powered; others = others-stand; stands = λ accepts. own-stands })
-      seated-goes true is powerless = record {
+      seated-goes calm false is powered = judged-so (arranged e.which U X Z) (arranged e.which W Y Z) o done s (In n) waits fewer (values_with k out unfound next_ begun minutes) w e.which (find_of e (Accepted entered.replayed)) (out.marks.items ++ card_marks e.which clock entered.owed.items) (seated entered.look entered.session entered.row entry noted e (with_sizes_of e.which sizes k.cabin)) (for_card e.which (k.journal.kept ∷ w.brought e.which) w.brought) z seated-judged
+          (breakdowns o done s n waits fewer e k out unfound next_ begun minutes U X Z w m failed k' noted noted' out' W Y way g sound calm) (record { powered = powered; others = others-stand; stands = λ accepts. own-stands })
+      seated-goes calm true is powerless = record {
         left = fewer;
         cabin = (seated entered.look entered.session entered.row entry noted e (with_sizes_of e.which sizes k.cabin));
         same = refl;
         within = ⊎_elim
-            (λ out_. taken-fails (seated entered.look entered.session entered.row entry noted e (with_sizes_of e.which sizes k.cabin)) refl found (λ x some. seated-sessions e.which x entered.look.number entered.row a sizes k.cabin.cards some) (for_card e.which Out w.standing) is out_)
-            (λ in_. taken-fails (seated entered.look entered.session entered.row entry noted e (with_sizes_of e.which sizes k.cabin)) refl found (λ x some. seated-sessions e.which x entered.look.number entered.row a sizes k.cabin.cards some) z is in_)
+            (λ out_. taken-fails (seated entered.look entered.session entered.row entry noted e (with_sizes_of e.which sizes k.cabin)) refl found (λ x some. seated-sessions e.which x entered.look.number entered.row a sizes k.cabin.cards some) calm (for_card e.which Out w.standing) is out_)
+            (λ in_. taken-fails (seated entered.look entered.session entered.row entry noted e (with_sizes_of e.which sizes k.cabin)) refl found (λ x some. seated-sessions e.which x entered.look.number entered.row a sizes k.cabin.cards some) calm z is in_)
             powerless;
       }
 
-      pub seated-so : values_with k' out' unfound next_ begun minutes ≡ judged_values (find_of e (Accepted entered.replayed)) (out.marks.items ++ card_marks e.which clock entered.owed.items) (seated entered.look entered.session entered.row entry noted e (with_sizes_of e.which sizes k.cabin)) (values_with k out unfound next_ begun minutes)
+      pub seated-so : falls_of (ending_of way) ≡ 0 → values_with k' out' unfound next_ begun minutes ≡ judged_values (find_of e (Accepted entered.replayed)) (out.marks.items ++ card_marks e.which clock entered.owed.items) (seated entered.look entered.session entered.row entry noted e (with_sizes_of e.which sizes k.cabin)) (values_with k out unfound next_ begun minutes)
           → IsTakenOn (Seated entered clock entry) failed e k.journal.kept o.found (with_marks (card_marks e.which clock entered.owed.items) (with_standing e.which Out (before o done s n waits fewer e k out unfound next_ begun minutes U X Z w m))) ((seated entered.look entered.session entered.row entry noted e (with_sizes_of e.which sizes k.cabin))).cards (arranged e.which W Y Z)
           → GoesOnOrIsCut failed o done s n waits fewer (values_with k out unfound next_ begun minutes) (values_with k' out' unfound next_ begun minutes) (arranged e.which U X Z) (arranged e.which W Y Z) w
-      seated-so same taken_ = subst (λ (v : Values). GoesOnOrIsCut failed o done s n waits fewer (values_with k out unfound next_ begun minutes) v (arranged e.which U X Z) (arranged e.which W Y Z) w) (sym same) (seated-goes failed refl taken_)
+      seated-so calm same taken_ = subst (λ (v : Values). GoesOnOrIsCut failed o done s n waits fewer (values_with k out unfound next_ begun minutes) v (arranged e.which U X Z) (arranged e.which W Y Z) w) (sym same) (seated-goes calm failed refl taken_)
 
     -- ---- and torn out since
 

@@ -35,7 +35,7 @@ use Rattle.run_keeping.specs.declared.keeper.Keeper.{Keeper}
 use Rattle.run_keeping.specs.declared.keeper.Moment.{Moment as KeepingAt}
 use Rattle.run_keeping.specs.Keeping.{tear_of}
 use Rattle.run_entering.specs.declared.lines.Entering.{Entering}
-use Rattle.run_entering.specs.Entering.{Way, ending_of, find_of}
+use Rattle.run_entering.specs.Entering.{Way, ending_of, falls_of, find_of}
 use Rattle.run_entering.specs.Told.{IsCarriedOn, MayHaveWritten}
 use Rattle.run_within.specs.Recorded.{Values}
 use Rattle.run_within.specs.Within.{course_in, often, VerdictBy, AreOld, Within, CutWithin}
@@ -134,7 +134,6 @@ module _ (o : Origin) (done : List TraceSecond) (s : TraceSecond) (n : ℕ) (wai
       found = found;
       more = λ c m_ among. among;
       early = w.early;
-      breakdowns = breakdowns o done s n waits fewer e k out unfound next_ begun minutes U X Z w m failed k' noted noted' out' W Y way g sound;
       left = left o done s n waits fewer e k out unfound next_ begun minutes U X Z w m failed k' noted noted' out' W Y way g sound;
       there = there o done s n waits fewer e k out unfound next_ begun minutes U X Z w m failed k' noted noted' out' W Y way g sound;
       sessions = λ x some. inl (subst (λ (q : Option Accepted). is_some q ≡ true) (session-sized e.which x sizes k.cabin.cards) some);
@@ -145,22 +144,24 @@ module _ (o : Origin) (done : List TraceSecond) (s : TraceSecond) (n : ℕ) (wai
     accepts-not : is_accepting verdict ≡ true → ⊥
     accepts-not accepts = let both : true ≡ false = sym accepts ∙ refused in cc
 
-    turned-goes : (b : Bool) → failed ≡ b → IsCarriedOn b o.found (with_standing e.which Out (before o done s n waits fewer e k out unfound next_ begun minutes U X Z w m)) (with_sizes e.which sizes k.cabin.cards) (arranged e.which W Y Z)
+    turned-goes : falls_of (ending_of way) ≡ 0 → (b : Bool) → failed ≡ b → IsCarriedOn b o.found (with_standing e.which Out (before o done s n waits fewer e k out unfound next_ begun minutes U X Z w m)) (with_sizes e.which sizes k.cabin.cards) (arranged e.which W Y Z)
         → GoesOnOrIsCut b o done s n waits fewer (values_with k out unfound next_ begun minutes) (judged_values (find_of e verdict) out.marks.items (with_sizes_of e.which sizes k.cabin) (values_with k out unfound next_ begun minutes)) (arranged e.which U X Z) (arranged e.which W Y Z) w
-    turned-goes false is taken = judged-so (arranged e.which U X Z) (arranged e.which W Y Z) o done s (In n) waits fewer (values_with k out unfound next_ begun minutes) w e.which (find_of e verdict) out.marks.items (with_sizes_of e.which sizes k.cabin) w.brought (for_card e.which Out w.standing) turned
+    turned-goes calm false is taken = judged-so (arranged e.which U X Z) (arranged e.which W Y Z) o done s (In n) waits fewer (values_with k out unfound next_ begun minutes) w e.which (find_of e verdict) out.marks.items (with_sizes_of e.which sizes k.cabin) w.brought (for_card e.which Out w.standing) turned
+        (breakdowns o done s n waits fewer e k out unfound next_ begun minutes U X Z w m failed k' noted noted' out' W Y way g sound calm)
         (record { powered = taken; others = λ x apart. for-other e.which x Out w.standing apart; stands = λ accepts. absurd (accepts-not accepts) })
-    turned-goes true is taken = record {
+    turned-goes calm true is taken = record {
       left = fewer;
       cabin = with_sizes_of e.which sizes k.cabin;
       same = refl;
       within = judging-fails (arranged e.which U X Z) (arranged e.which W Y Z) o done s (In n) waits fewer (values_with k out unfound next_ begun minutes) w e.which (find_of e verdict) out.marks.items (with_sizes_of e.which sizes k.cabin) w.brought turned
+          (breakdowns o done s n waits fewer e k out unfound next_ begun minutes U X Z w m failed k' noted noted' out' W Y way g sound calm)
           (record { standing = for_card e.which Out w.standing; powerless = taken; broke = unit-broke o done s n waits fewer e k out unfound next_ begun minutes U X Z w m failed k' noted noted' out' W Y way g sound is; no_keeping = λ keeping. not-keeping n keeping });
     }
 
-    pub turned-away : values_with k' out' unfound next_ begun minutes ≡ judged_values (find_of e verdict) out.marks.items (with_sizes_of e.which sizes k.cabin) (values_with k out unfound next_ begun minutes)
+    pub turned-away : falls_of (ending_of way) ≡ 0 → values_with k' out' unfound next_ begun minutes ≡ judged_values (find_of e verdict) out.marks.items (with_sizes_of e.which sizes k.cabin) (values_with k out unfound next_ begun minutes)
         → IsCarriedOn failed o.found (with_standing e.which Out (before o done s n waits fewer e k out unfound next_ begun minutes U X Z w m)) (with_sizes e.which sizes k.cabin.cards) (arranged e.which W Y Z)
         → GoesOnOrIsCut failed o done s n waits fewer (values_with k out unfound next_ begun minutes) (values_with k' out' unfound next_ begun minutes) (arranged e.which U X Z) (arranged e.which W Y Z) w
-    turned-away same taken = subst (λ (v : Values). GoesOnOrIsCut failed o done s n waits fewer (values_with k out unfound next_ begun minutes) v (arranged e.which U X Z) (arranged e.which W Y Z) w) (sym same) (turned-goes failed refl taken)
+    turned-away calm same taken = subst (λ (v : Values). GoesOnOrIsCut failed o done s n waits fewer (values_with k out unfound next_ begun minutes) v (arranged e.which U X Z) (arranged e.which W Y Z) w) (sym same) (turned-goes calm failed refl taken)
 
   -- ---- IT IS TORN OUT
 
@@ -203,9 +204,9 @@ module _ (o : Origin) (done : List TraceSecond) (s : TraceSecond) (n : ℕ) (wai
 
   -- ---- THE UNIT FAILED as it was asked what it owes
 
-  pub unasked : (sizes : Result Application ℕ) → AreFoundCards o.found (with_sizes e.which sizes k.cabin.cards) → (MayHaveWritten (ending_of way) → ⊥) → failed ≡ true → values_with k' out' unfound next_ begun minutes ≡ record (values_with k out unfound next_ begun minutes) { cabin = with_sizes_of e.which sizes k.cabin }
+  pub unasked : falls_of (ending_of way) ≡ 0 → (sizes : Result Application ℕ) → AreFoundCards o.found (with_sizes e.which sizes k.cabin.cards) → (MayHaveWritten (ending_of way) → ⊥) → failed ≡ true → values_with k' out' unfound next_ begun minutes ≡ record (values_with k out unfound next_ begun minutes) { cabin = with_sizes_of e.which sizes k.cabin }
       → IsCarriedOn true o.found (with_standing e.which Out (before o done s n waits fewer e k out unfound next_ begun minutes U X Z w m)) (with_sizes e.which sizes k.cabin.cards) (arranged e.which W Y Z) → GoesOnOrIsCut failed o done s n waits fewer (values_with k out unfound next_ begun minutes) (values_with k' out' unfound next_ begun minutes) (arranged e.which U X Z) (arranged e.which W Y Z) w
-  unasked sizes found never fails same taken_ =
+  unasked calm sizes found never fails same taken_ =
       subst (λ (b : Bool). GoesOnOrIsCut b o done s n waits fewer (values_with k out unfound next_ begun minutes) (values_with k' out' unfound next_ begun minutes) (arranged e.which U X Z) (arranged e.which W Y Z) w) (sym fails)
       (subst (λ (v : Values). IsCut o done s n v (arranged e.which W Y Z)) (sym same) (record {
         left = waits;
@@ -213,11 +214,11 @@ module _ (o : Origin) (done : List TraceSecond) (s : TraceSecond) (n : ℕ) (wai
         same = refl;
         within = cut-cabin o done s (In n) waits None (values_with k out unfound next_ begun minutes) (arranged e.which W Y Z) (with_sizes e.which sizes k.cabin.cards) found (failure-recorded (arranged e.which U X Z) (arranged e.which W Y Z) o done s (In n) waits None [] (values_with k out unfound next_ begun minutes) w (record {
           goes = record {
-            breakdowns = breakdowns o done s n waits fewer e k out unfound next_ begun minutes U X Z w m failed k' noted noted' out' W Y way g sound;
             left = left o done s n waits fewer e k out unfound next_ begun minutes U X Z w m failed k' noted noted' out' W Y way g sound;
             there = there o done s n waits fewer e k out unfound next_ begun minutes U X Z w m failed k' noted noted' out' W Y way g sound;
             untouched = λ x was_. ⊎_elim (λ still. inl still) (λ wrote. absurd (never wrote.2)) (untouched o done s n waits fewer e k out unfound next_ begun minutes U X Z w m failed k' noted noted' out' W Y way g sound x was_);
           };
+          breakdowns = breakdowns o done s n waits fewer e k out unfound next_ begun minutes U X Z w m failed k' noted noted' out' W Y way g sound calm;
           broke = unit-broke o done s n waits fewer e k out unfound next_ begun minutes U X Z w m failed k' noted noted' out' W Y way g sound fails;
           unfed = λ apart. refl;
           feeds = λ keeping. absurd (not-keeping n keeping);

@@ -96,7 +96,7 @@ module _ (o : Origin) (done : List TraceSecond) (s : TraceSecond) (n : ℕ) (wai
         turned-away o done s n waits fewer e k out unfound next_ begun minutes U X Z w m failed k' noted noted' out' W Y (Unsized field) g sound (NotValid APPLICATION_FILE (place_of_field field)) refl (Err field)
         (cards-behind o done s n waits fewer e k out unfound next_ begun minutes U X Z w m failed k' noted noted' out' W Y (Unsized field) g sound (λ (q : Cards). AreFoundCards o.found q) (known o done s n waits fewer e k out unfound next_ begun minutes U X Z w m failed k' noted noted' out' W Y (Unsized field) g sound).found)
         (not-valid o done s n waits fewer e k out unfound next_ begun minutes U X Z w m sound.card_before sound.unit_before W Y (left o done s n waits fewer e k out unfound next_ begun minutes U X Z w m failed k' noted noted' out' W Y (Unsized field) g sound) APPLICATION_FILE (place_of_field field) y.0 y.1 (bad-sizes y.0 field y.2)) (λ never. never)
-        (values-behind o done s n waits fewer e k out unfound next_ begun minutes U X Z w m failed k' noted noted' out' W Y (Unsized field) g sound ∙ lined-as (out.breaks.items ++ []) out.breaks.items out.refused.items (out.finds.items ++ find_of e (NotValid APPLICATION_FILE (place_of_field field)) ∷ []) _ out.marks.items out.marks.items (with_sizes_of e.which (Err field) k.cabin) unfound next_ begun minutes k.odometer (append-nil out.breaks.items) refl refl)
+        refl (values-behind o done s n waits fewer e k out unfound next_ begun minutes U X Z w m failed k' noted noted' out' W Y (Unsized field) g sound ∙ lined-as (out.breaks.items ++ []) out.breaks.items out.refused.items (out.finds.items ++ find_of e (NotValid APPLICATION_FILE (place_of_field field)) ∷ []) _ out.marks.items out.marks.items (with_sizes_of e.which (Err field) k.cabin) unfound next_ begun minutes k.odometer (append-nil out.breaks.items) refl refl)
         (cards-behind o done s n waits fewer e k out unfound next_ begun minutes U X Z w m failed k' noted noted' out' W Y (Unsized field) g sound (λ (q : Cards). IsCarriedOn failed o.found (with_standing e.which Out (before o done s n waits fewer e k out unfound next_ begun minutes U X Z w m)) q (arranged e.which W Y Z)) (known o done s n waits fewer e k out unfound next_ begun minutes U X Z w m failed k' noted noted' out' W Y (Unsized field) g sound).taken)
 
     unfit : (app : Application) (fid : Fid) (place : ℕ) → HasGone e failed k k' noted noted' out out' U W X Y Z (Judged app (Unfit fid place)) → Goes
@@ -105,7 +105,7 @@ module _ (o : Origin) (done : List TraceSecond) (s : TraceSecond) (n : ℕ) (wai
         turned-away o done s n waits fewer e k out unfound next_ begun minutes U X Z w m failed k' noted noted' out' W Y (Judged app (Unfit fid place)) g sound (NotValid fid place) refl (Ok app)
         (cards-behind o done s n waits fewer e k out unfound next_ begun minutes U X Z w m failed k' noted noted' out' W Y (Judged app (Unfit fid place)) g sound (λ (q : Cards). AreFoundCards o.found q) (known o done s n waits fewer e k out unfound next_ begun minutes U X Z w m failed k' noted noted' out' W Y (Judged app (Unfit fid place)) g sound).found)
         (not-valid o done s n waits fewer e k out unfound next_ begun minutes U X Z w m sound.card_before sound.unit_before W Y (left o done s n waits fewer e k out unfound next_ begun minutes U X Z w m failed k' noted noted' out' W Y (Judged app (Unfit fid place)) g sound) fid place y.0 y.1 (bad-file app y.0 (Some (fid, place)) y.2.0 y.2.1)) (λ never. never)
-        (values-behind o done s n waits fewer e k out unfound next_ begun minutes U X Z w m failed k' noted noted' out' W Y (Judged app (Unfit fid place)) g sound ∙ lined-as (out.breaks.items ++ []) out.breaks.items out.refused.items (out.finds.items ++ find_of e (NotValid fid place) ∷ []) _ out.marks.items out.marks.items (with_sizes_of e.which (Ok app) k.cabin) unfound next_ begun minutes k.odometer (append-nil out.breaks.items) refl refl)
+        refl (values-behind o done s n waits fewer e k out unfound next_ begun minutes U X Z w m failed k' noted noted' out' W Y (Judged app (Unfit fid place)) g sound ∙ lined-as (out.breaks.items ++ []) out.breaks.items out.refused.items (out.finds.items ++ find_of e (NotValid fid place) ∷ []) _ out.marks.items out.marks.items (with_sizes_of e.which (Ok app) k.cabin) unfound next_ begun minutes k.odometer (append-nil out.breaks.items) refl refl)
         (cards-behind o done s n waits fewer e k out unfound next_ begun minutes U X Z w m failed k' noted noted' out' W Y (Judged app (Unfit fid place)) g sound (λ (q : Cards). IsCarriedOn failed o.found (with_standing e.which Out (before o done s n waits fewer e k out unfound next_ begun minutes U X Z w m)) q (arranged e.which W Y Z)) (known o done s n waits fewer e k out unfound next_ begun minutes U X Z w m failed k' noted noted' out' W Y (Judged app (Unfit fid place)) g sound).taken)
 
     ahead : (app : Application) (stored : ℕ) → HasGone e failed k k' noted noted' out out' U W X Y Z (Judged app (Ahead stored)) → Goes
@@ -116,7 +116,7 @@ module _ (o : Origin) (done : List TraceSecond) (s : TraceSecond) (n : ℕ) (wai
         turned-away o done s n waits fewer e k out unfound next_ begun minutes U X Z w m failed k' noted noted' out' W Y (Judged app (Ahead stored)) g sound (TimeOverlap stored e.at.second) refl (Ok app)
         (cards-behind o done s n waits fewer e k out unfound next_ begun minutes U X Z w m failed k' noted noted' out' W Y (Judged app (Ahead stored)) g sound (λ (q : Cards). AreFoundCards o.found q) (known o done s n waits fewer e k out unfound next_ begun minutes U X Z w m failed k' noted noted' out' W Y (Judged app (Ahead stored)) g sound).found)
         (later-time o done s n waits fewer e k out unfound next_ begun minutes U X Z w m sound.card_before sound.unit_before W Y (left o done s n waits fewer e k out unfound next_ begun minutes U X Z w m failed k' noted noted' out' W Y (Judged app (Ahead stored)) g sound) app stored y.0 y.1 y.2.0 y.2.1.0 y.2.1.1 (omega (arith, lt, now))) (λ never. never)
-        (values-behind o done s n waits fewer e k out unfound next_ begun minutes U X Z w m failed k' noted noted' out' W Y (Judged app (Ahead stored)) g sound ∙ lined-as (out.breaks.items ++ []) out.breaks.items out.refused.items (out.finds.items ++ find_of e (TimeOverlap stored e.at.second) ∷ []) _ out.marks.items out.marks.items (with_sizes_of e.which (Ok app) k.cabin) unfound next_ begun minutes k.odometer (append-nil out.breaks.items) refl refl)
+        refl (values-behind o done s n waits fewer e k out unfound next_ begun minutes U X Z w m failed k' noted noted' out' W Y (Judged app (Ahead stored)) g sound ∙ lined-as (out.breaks.items ++ []) out.breaks.items out.refused.items (out.finds.items ++ find_of e (TimeOverlap stored e.at.second) ∷ []) _ out.marks.items out.marks.items (with_sizes_of e.which (Ok app) k.cabin) unfound next_ begun minutes k.odometer (append-nil out.breaks.items) refl refl)
         (cards-behind o done s n waits fewer e k out unfound next_ begun minutes U X Z w m failed k' noted noted' out' W Y (Judged app (Ahead stored)) g sound (λ (q : Cards). IsCarriedOn failed o.found (with_standing e.which Out (before o done s n waits fewer e k out unfound next_ begun minutes U X Z w m)) q (arranged e.which W Y Z)) (known o done s n waits fewer e k out unfound next_ begun minutes U X Z w m failed k' noted noted' out' W Y (Judged app (Ahead stored)) g sound).taken)
 
     -- ---- torn out
@@ -134,7 +134,7 @@ module _ (o : Origin) (done : List TraceSecond) (s : TraceSecond) (n : ℕ) (wai
         (cards-behind o done s n waits fewer e k out unfound next_ begun minutes U X Z w m failed k' noted noted' out' W Y (Judged app Fell) g sound (λ (q : Cards). IsCarriedOn failed o.found (with_standing e.which Out (before o done s n waits fewer e k out unfound next_ begun minutes U X Z w m)) q (arranged e.which W Y Z)) (known o done s n waits fewer e k out unfound next_ begun minutes U X Z w m failed k' noted noted' out' W Y (Judged app Fell) g sound).taken)
 
     not-asked : (app : Application) → HasGone e failed k k' noted noted' out out' U W X Y Z (Judged app Unasked) → Goes
-    not-asked app g = unasked o done s n waits fewer e k out unfound next_ begun minutes U X Z w m failed k' noted noted' out' W Y (Judged app Unasked) g sound (Ok app)
+    not-asked app g = unasked o done s n waits fewer e k out unfound next_ begun minutes U X Z w m failed k' noted noted' out' W Y (Judged app Unasked) g sound refl (Ok app)
         (cards-behind o done s n waits fewer e k out unfound next_ begun minutes U X Z w m failed k' noted noted' out' W Y (Judged app Unasked) g sound (λ (q : Cards). AreFoundCards o.found q) (known o done s n waits fewer e k out unfound next_ begun minutes U X Z w m failed k' noted noted' out' W Y (Judged app Unasked) g sound).found) (λ never. never) g.entered.is
         (values-behind o done s n waits fewer e k out unfound next_ begun minutes U X Z w m failed k' noted noted' out' W Y (Judged app Unasked) g sound ∙ lined-as (out.breaks.items ++ []) out.breaks.items out.refused.items (out.finds.items ++ []) out.finds.items out.marks.items out.marks.items (with_sizes_of e.which (Ok app) k.cabin) unfound next_ begun minutes k.odometer (append-nil out.breaks.items) (append-nil out.finds.items) refl)
         (known o done s n waits fewer e k out unfound next_ begun minutes U X Z w m failed k' noted noted' out' W Y (Judged app Unasked) g sound).taken
@@ -151,7 +151,7 @@ module _ (o : Origin) (done : List TraceSecond) (s : TraceSecond) (n : ℕ) (wai
           let r = known o done s n waits fewer e k out unfound next_ begun minutes U X Z w m failed k' noted noted' out' W Y (Judged app (Unnoted entered clock)) g sound in
           unnoted o done s n waits fewer e k out unfound next_ begun minutes U X Z w m failed k' noted noted' out' W Y (Judged app (Unnoted entered clock)) g sound entered clock r.told (answered o done s n waits fewer e k out unfound next_ begun minutes U X Z w m sound.card_before entered r.told)
           (accepted-may o done s n waits fewer e k out unfound next_ begun minutes U X Z w m sound.card_before sound.unit_before W Y (left o done s n waits fewer e k out unfound next_ begun minutes U X Z w m failed k' noted noted' out' W Y (Judged app (Unnoted entered clock)) g sound) entered clock r.told) (Ok app)
-          (cards-behind o done s n waits fewer e k out unfound next_ begun minutes U X Z w m failed k' noted noted' out' W Y (Judged app (Unnoted entered clock)) g sound (λ (q : Cards). AreFoundCards o.found q) r.found) g.entered.is.0
+          (cards-behind o done s n waits fewer e k out unfound next_ begun minutes U X Z w m failed k' noted noted' out' W Y (Judged app (Unnoted entered clock)) g sound (λ (q : Cards). AreFoundCards o.found q) r.found) refl g.entered.is.0
           (values-behind o done s n waits fewer e k out unfound next_ begun minutes U X Z w m failed k' noted noted' out' W Y (Judged app (Unnoted entered clock)) g sound ∙ lined-as (out.breaks.items ++ []) out.breaks.items out.refused.items (out.finds.items ++ find_of e (Accepted entered.replayed) ∷ []) _ (and_marks (device_of e.which) clock (last_of entered.owed.items entered.replayed) out.marks).items (out.marks.items ++ card_marks e.which clock entered.owed.items) (with_sizes_of e.which (Ok app) k.cabin) unfound next_ begun minutes k.odometer (append-nil out.breaks.items) refl (all-marked r.told))
           r.taken
 
@@ -162,7 +162,7 @@ module _ (o : Origin) (done : List TraceSecond) (s : TraceSecond) (n : ℕ) (wai
             seated-so o done s n waits fewer e k out unfound next_ begun minutes U X Z w m failed k' noted noted' out' W Y (Judged app (Seated entered clock entry)) g sound entered clock r.told (answered o done s n waits fewer e k out unfound next_ begun minutes U X Z w m sound.card_before entered r.told)
             (accepted-may o done s n waits fewer e k out unfound next_ begun minutes U X Z w m sound.card_before sound.unit_before W Y (left o done s n waits fewer e k out unfound next_ begun minutes U X Z w m failed k' noted noted' out' W Y (Judged app (Seated entered clock entry)) g sound) entered clock r.told) entry (Ok app)
             (cards-behind o done s n waits fewer e k out unfound next_ begun minutes U X Z w m failed k' noted noted' out' W Y (Judged app (Seated entered clock entry)) g sound (λ (q : Cards). AreFoundCards o.found q) r.found)
-            (values-behind o done s n waits fewer e k out unfound next_ begun minutes U X Z w m failed k' noted noted' out' W Y (Judged app (Seated entered clock entry)) g sound ∙ lined-as (out.breaks.items ++ []) out.breaks.items out.refused.items (out.finds.items ++ find_of e (Accepted entered.replayed) ∷ []) _ (and_marks (device_of e.which) clock (last_of entered.owed.items entered.replayed) out.marks).items (out.marks.items ++ card_marks e.which clock entered.owed.items) (seated entered.look entered.session entered.row entry noted e (with_sizes_of e.which (Ok app) k.cabin)) unfound next_ begun minutes k.odometer (append-nil out.breaks.items) refl (all-marked r.told))
+            refl (values-behind o done s n waits fewer e k out unfound next_ begun minutes U X Z w m failed k' noted noted' out' W Y (Judged app (Seated entered clock entry)) g sound ∙ lined-as (out.breaks.items ++ []) out.breaks.items out.refused.items (out.finds.items ++ find_of e (Accepted entered.replayed) ∷ []) _ (and_marks (device_of e.which) clock (last_of entered.owed.items entered.replayed) out.marks).items (out.marks.items ++ card_marks e.which clock entered.owed.items) (seated entered.look entered.session entered.row entry noted e (with_sizes_of e.which (Ok app) k.cabin)) unfound next_ begun minutes k.odometer (append-nil out.breaks.items) refl (all-marked r.told))
             (cards-behind o done s n waits fewer e k out unfound next_ begun minutes U X Z w m failed k' noted noted' out' W Y (Judged app (Seated entered clock entry)) g sound (λ (q : Cards). IsTakenOn (Seated entered clock entry) failed e k.journal.kept o.found (with_marks (card_marks e.which clock entered.owed.items) (with_standing e.which Out (before o done s n waits fewer e k out unfound next_ begun minutes U X Z w m))) q (arranged e.which W Y Z)) r.taken)
 
         is-lost : HasGone e failed k k' noted noted' out out' U W X Y Z (Judged app (Lost entered clock entry)) → Goes

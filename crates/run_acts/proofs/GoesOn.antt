@@ -1,5 +1,4 @@
--- What the keeping of minutes leaves of the devices is what a call leaves of them: none broke down less often, what might have been left might
--- be left still, and a card that was as it was is so, or has a session.
+-- What the keeping of minutes leaves of the devices is what a call leaves of them: what might have been left might be left still, and a card that was as it was is so, or has a session.
 use Rattle.std.proofs.Common.{◌≡◌, ◌⊎◌, inl, inr, ⊎_elim, ℕ, ◌+◌, ◌-◌, ◌^◌, ◌≤◌, Bool, true, false, Option, Some, None, is_some, List, [], refl, ap, sym, subst, ◌∙◌, arith}
 use Rattle.std.proofs.lemmas.Bool.{cases_lt}
 use Rattle.trace_model.specs.declared.Card.{Card}
@@ -71,17 +70,11 @@ module _ (o : Origin) (w : Carried) (failed : Bool) (cards after : Cards) (d e :
 
   pub goes-on : GoesOnSo o cards d e
   goes-on = record {
-    breakdowns = more;
     left = record { unit = λ x at. h.keeps o.found.unit.began x (powered.lit.unit.unit_holds [] []).later at; card = cards-left };
     there = there-now;
     untouched = spared;
   }
     where
-      more : (device : Device) → breakdowns_of d device ≤ breakdowns_of e device
-      more Recorder = h.cause.breakdowns
-      more CardA = h.card_a.more
-      more CardB = h.card_b.more
-
       cards-left : (c : Card) (x : List ℕ) → (card_of d c).left_since (found_of o.found c).began x → (card_of e c).left_since (found_of o.found c).began x
       cards-left A x at = h.card_a.keeps o.found.card_a.began x (there.clocks A) at
       cards-left B x at = h.card_b.keeps o.found.card_b.began x (there.clocks B) at

@@ -2,6 +2,7 @@ pub mod KeptEvents
 pub mod EventCrews
 pub mod NotedEvents
 pub mod EnteredTravelled
+pub mod Rising
 pub mod EnteredFacts
 pub mod EnteredLines
 pub mod EnteredTurned
@@ -50,6 +51,11 @@ pub mod Stays
 pub mod AllStay
 pub mod SeatsThen
 pub mod NotesThen
+pub mod Truths
+pub mod MinuteEnds
+pub mod WholeLegs
+pub mod TruthsThen
+pub mod Words
 pub mod EnteredStays
 pub mod NoteRecorded
 pub mod Pulled

@@ -76,6 +76,7 @@ use Rattle.run_acts.proofs.Apart.{some-one}
 use Rattle.run_acts.proofs.Asked.{allowed-in}
 use Rattle.run_acts.specs.Closings.{spells_of, notes_within}
 use Rattle.run_acts.specs.Comings.{TellMore}
+use Rattle.run_acts.specs.Truths.{truths_within}
 use Rattle.run_acts.specs.Stays.{sits_in, AllStay}
 use Rattle.side_model.specs.Noted.{Note}
 use Rattle.run_acts.proofs.Stays.{stays-still}
@@ -100,6 +101,8 @@ use Rattle.run_acts.proofs.RoundFaults.{none-added}
 use Rattle.run_acts.specs.ActsEvented.{IsFailing}
 use Rattle.run_recorded.specs.Beside.{HaveLeftMore}
 use Rattle.run_acts.proofs.FallEvented.{call-evented, begins-now, seated-untorn, seated-out, seated-falls}
+use Rattle.run_moments.specs.Telling.{IsMore}
+use Rattle.run_acts.proofs.Rising.{unit-more, card-more, card-fell}
 
 -- ---- the devices
 
@@ -112,9 +115,8 @@ rose-on first before now le (inr top) = inr top
 
 module _ (o : Origin) (cards : Cards) {R : List ℕ → List ℕ → Type 0} where
   -- a call on the unit
-  pub unit-goes : (U V X Y : State) → o.found.unit.began ≤ U.clock → LeavesOnly U V R → U.breakdowns ≤ V.breakdowns → GoesOnSo o cards (devices U X Y) (devices V X Y)
-  unit-goes U V X Y began unit more = record {
-    breakdowns = breakdowns;
+  pub unit-goes : (U V X Y : State) → o.found.unit.began ≤ U.clock → LeavesOnly U V R → GoesOnSo o cards (devices U X Y) (devices V X Y)
+  unit-goes U V X Y began unit = record {
     left = record { unit = λ x h. unit.keeps o.found.unit.began x began h; card = left };
     there = λ t. record { unit = unit.tells ∙ t.unit; cards = told t; clocks = clocks t; timed = used t };
     untouched = untouched;
@@ -123,11 +125,6 @@ module _ (o : Origin) (cards : Cards) {R : List ℕ → List ℕ → Type 0} whe
       used : AreThere o.found (devices U X Y) → (k : Card) → IsOwnValid (found_of o.found k).image → AreTimedSince (found_of o.found k).image (found_of o.found k).began (card_of (devices V X Y) k)
       used t A = t.timed A
       used t B = t.timed B
-
-      breakdowns : (device : Device) → breakdowns_of (devices U X Y) device ≤ breakdowns_of (devices V X Y) device
-      breakdowns Recorder = more
-      breakdowns CardA = omega arith
-      breakdowns CardB = omega arith
 
       left : (k : Card) (x : List ℕ) → (card_of (devices U X Y) k).left_since (found_of o.found k).began x → (card_of (devices V X Y) k).left_since (found_of o.found k).began x
       left A x h = h
@@ -147,11 +144,10 @@ module _ (o : Origin) (cards : Cards) {R : List ℕ → List ℕ → Type 0} whe
 
 module _ (o : Origin) (cards : Cards) {R S : List ℕ → List ℕ → Type 0} where
   -- on a card with a session, and behind it on the unit
-  pub card-goes : (c : Card) (U V X Y Z : State) → o.found.unit.began ≤ U.clock → AreThere o.found (arranged c U X Z) → is_some (session_of cards c) ≡ true → LeavesOnly U V R → LeavesOnly X Y S → U.breakdowns ≤ V.breakdowns → X.breakdowns ≤ Y.breakdowns
+  pub card-goes : (c : Card) (U V X Y Z : State) → o.found.unit.began ≤ U.clock → AreThere o.found (arranged c U X Z) → is_some (session_of cards c) ≡ true → LeavesOnly U V R → LeavesOnly X Y S
       → (IsOwnValid (found_of o.found c).image → AreTimedSince (found_of o.found c).image (found_of o.found c).began X → AreTimedSince (found_of o.found c).image (found_of o.found c).began Y)
       → GoesOnSo o cards (arranged c U X Z) (arranged c V Y Z)
-  card-goes A U V X Y Z began there some unit card unit_more card_more times = record {
-    breakdowns = breakdowns;
+  card-goes A U V X Y Z began there some unit card times = record {
     left = record { unit = λ x h. unit.keeps o.found.unit.began x began h; card = left };
     there = λ t. record { unit = unit.tells ∙ t.unit; cards = told t; clocks = clocks t; timed = used t };
     untouched = untouched;
@@ -160,11 +156,6 @@ module _ (o : Origin) (cards : Cards) {R S : List ℕ → List ℕ → Type 0} w
       used : AreThere o.found (devices U X Z) → (k : Card) → IsOwnValid (found_of o.found k).image → AreTimedSince (found_of o.found k).image (found_of o.found k).began (card_of (devices V Y Z) k)
       used t A = λ valid. times valid (t.timed A valid)
       used t B = t.timed B
-
-      breakdowns : (device : Device) → breakdowns_of (devices U X Z) device ≤ breakdowns_of (devices V Y Z) device
-      breakdowns Recorder = unit_more
-      breakdowns CardA = card_more
-      breakdowns CardB = omega arith
 
       left : (k : Card) (x : List ℕ) → (card_of (devices U X Z) k).left_since (found_of o.found k).began x → (card_of (devices V Y Z) k).left_since (found_of o.found k).began x
       left A x h = card.keeps o.found.card_a.began x (there.clocks A) h
@@ -181,8 +172,7 @@ module _ (o : Origin) (cards : Cards) {R S : List ℕ → List ℕ → Type 0} w
       untouched : (k : Card) → IsUntouched (found_of o.found k) (card_of (devices U X Z) k) → IsUntouched (found_of o.found k) (card_of (devices V Y Z) k) ⊎ (is_some (session_of cards k) ≡ true)
       untouched A h = inr some
       untouched B h = inl h
-  card-goes B U V X Y Z began there some unit card unit_more card_more times = record {
-    breakdowns = breakdowns;
+  card-goes B U V X Y Z began there some unit card times = record {
     left = record { unit = λ x h. unit.keeps o.found.unit.began x began h; card = left };
     there = λ t. record { unit = unit.tells ∙ t.unit; cards = told t; clocks = clocks t; timed = used t };
     untouched = untouched;
@@ -191,11 +181,6 @@ module _ (o : Origin) (cards : Cards) {R S : List ℕ → List ℕ → Type 0} w
       used : AreThere o.found (devices U Z X) → (k : Card) → IsOwnValid (found_of o.found k).image → AreTimedSince (found_of o.found k).image (found_of o.found k).began (card_of (devices V Z Y) k)
       used t A = t.timed A
       used t B = λ valid. times valid (t.timed B valid)
-
-      breakdowns : (device : Device) → breakdowns_of (devices U Z X) device ≤ breakdowns_of (devices V Z Y) device
-      breakdowns Recorder = unit_more
-      breakdowns CardA = omega arith
-      breakdowns CardB = card_more
 
       left : (k : Card) (x : List ℕ) → (card_of (devices U Z X) k).left_since (found_of o.found k).began x → (card_of (devices V Z Y) k).left_since (found_of o.found k).began x
       left A x h = h
@@ -217,18 +202,18 @@ module _ (o : Origin) (cards : Cards) {R S : List ℕ → List ℕ → Type 0} w
 
 -- THE RUN GOES ON, where the record does
 pub run-on : (o : Origin) (done : List TraceSecond) (s : TraceSecond) (at next : Phase) (waits fewer : List Visit) (rest more : List Minute) (run new : Run) (out after : Outcome) (d e : Devices) (first : ℕ) → (w : RunWithin o done s at waits rest run out d) →
-    new.power ≡ run.power → new.keeper.odometer ≡ run.keeper.odometer → GoesOn o done s next fewer None more (values_of new after) e w.within.b first → AllStay o (log_of after) (notes_within w.within.b done s next (log_of after)) new.keeper.memory.registration new.keeper.cabin e → RunWithin o done s next fewer more new after e
+    new.power ≡ run.power → new.keeper.odometer ≡ run.keeper.odometer → GoesOn o done s next fewer None more (values_of new after) e w.within.b first → AllStay o (truths_within o w.within.b.run.log done s) s.number (log_of after) (notes_within w.within.b done s next (log_of after)) new.keeper.memory.registration new.keeper.cabin e → RunWithin o done s next fewer more new after e
 run-on o done s at next waits fewer rest more run new out after d e first w power odometer g stay = record {
   origin = w.origin;
   lit = power ∙ w.lit;
   within = g.within;
   odometer = odometer ∙ w.odometer ∙ ap (λ (b : Beginning). odometer_after (odometer_at o.recording.unit) b.travel.before) (sym g.began);
-  stay = subst (λ (b : Beginning). AllStay o (log_of after) (notes_within b done s next (log_of after)) new.keeper.memory.registration new.keeper.cabin e) (sym g.began) stay;
+  stay = subst (λ (b : Beginning). AllStay o (truths_within o b.run.log done s) s.number (log_of after) (notes_within b done s next (log_of after)) new.keeper.memory.registration new.keeper.cabin e) (sym g.began) stay;
 }
 
 -- as it began
 pub goes-as : (o : Origin) (done : List TraceSecond) (s : TraceSecond) (at next : Phase) (waits fewer : List Visit) (rest : List Minute) (run new : Run) (out after : Outcome) (d e : Devices) (first : ℕ) → (w : RunWithin o done s at waits rest run out d) →
-    new.power ≡ run.power → new.keeper.odometer ≡ run.keeper.odometer → GoesOn o done s next fewer None [] (values_of new after) e w.within.b first → AllStay o (log_of after) (notes_within w.within.b done s next (log_of after)) new.keeper.memory.registration new.keeper.cabin e → RunGoesOn o done s next fewer new after e w.within.b
+    new.power ≡ run.power → new.keeper.odometer ≡ run.keeper.odometer → GoesOn o done s next fewer None [] (values_of new after) e w.within.b first → AllStay o (truths_within o w.within.b.run.log done s) s.number (log_of after) (notes_within w.within.b done s next (log_of after)) new.keeper.memory.registration new.keeper.cabin e → RunGoesOn o done s next fewer new after e w.within.b
 unfolding run-on
 goes-as o done s at next waits fewer rest run new out after d e first w power odometer g stay = record {
   goes = run-on o done s at next waits fewer rest [] run new out after d e first w power odometer g stay;
@@ -286,11 +271,12 @@ module _ (o : Origin) (done : List TraceSecond) (s : TraceSecond) (n : ℕ) (run
   pub unit-recorded : (failed : Bool) → HasCause U V failed → (failed ≡ false → TellMore [] U V) → GoesOnOrFails failed o done s (In n) [] run out (devices V X Y) w.within.b
   unit-recorded false cause go = goes-as o done s (In n) (In n) [] [] [] run run out out (devices U X Y) (devices V X Y) w.within.from w refl refl
       (call-recorded (devices U X Y) (devices V X Y) o done s (In n) [] None [] (values_of run out) w.within (record {
-        goes = unit-goes o run.keeper.cabin.cards U V X Y unit-began unit cause.breakdowns;
+        goes = unit-goes o run.keeper.cabin.cards U V X Y unit-began unit;
+        breakdowns = unit-more U V X Y cause.breakdowns;
         powered = noted-powered o.found noted-carries run.keeper.cabin.cards U V X Y w.within.found whole w.within.powered unit cause.works;
         travels = travelled-noted (odometer_at o.recording.unit) noted-carries.book (all_travelled w.within.ds w.within.b.travel) w.within.travels whole unit;
       }))
-      (all-unit o (log_of out) (notes_within w.within.b done s (In n) (log_of out)) run.keeper.memory.registration run.keeper.cabin U V X Y (go refl) w.stay)
+      (all-unit o (truths_within o w.within.b.run.log done s) s.number (log_of out) (notes_within w.within.b done s (In n) (log_of out)) run.keeper.memory.registration run.keeper.cabin U V X Y (go refl) w.stay)
   unit-recorded true cause go = record {
     waits = [];
     cabin = run.keeper.cabin;
@@ -298,7 +284,8 @@ module _ (o : Origin) (done : List TraceSecond) (s : TraceSecond) (n : ℕ) (run
     odometer = run.keeper.odometer;
     counted = λ lit. refl;
     within = failure-recorded (devices U X Y) (devices V X Y) o done s (In n) [] None [] (values_of run out) w.within (record {
-      goes = unit-goes o run.keeper.cabin.cards U V X Y unit-began unit cause.breakdowns;
+      goes = unit-goes o run.keeper.cabin.cards U V X Y unit-began unit;
+      breakdowns = unit-more U V X Y cause.breakdowns;
       broke = rose-on (w.within.b.broken Recorder) U.breakdowns V.breakdowns w.within.moment.unit (rose-by U.breakdowns V.breakdowns (cause.breaks w.within.powered.lit.works refl));
       unfed = λ _. refl;
       feeds = λ keeping. absurd (cc);
@@ -321,13 +308,13 @@ module _ (o : Origin) (done : List TraceSecond) (s : TraceSecond) (n : ℕ) (run
   unit-evented actions left failed cause notes now =
       call-evented (devices U X Y) (devices V X Y) (call-notes (devices U X Y) (devices V X Y)) (failure-cuts (devices U X Y) (devices V X Y)) o w.origin.long done s w.within.b.run w.within.b.span
       (begins-now o w.origin done s (In n) (values_of run out) (devices U X Y) w.within) (In n) (log_of out) (log_of out) [] now (none-added o done s (log_of out) (log_of out) (devices V X Y) refl)
-      (unit-goes o run.keeper.cabin.cards U V X Y unit-began unit cause.breakdowns).left failed notes
+      (unit-goes o run.keeper.cabin.cards U V X Y unit-began unit).left failed notes
       (λ bad. record {
         waits = [];
         mid = w.within.b.broken;
         now = breakdowns_of (devices U X Y);
         moment = w.within.moment;
-        more = (unit-goes o run.keeper.cabin.cards U V X Y unit-began unit cause.breakdowns).breakdowns;
+        more = unit-more U V X Y cause.breakdowns;
         rose = rose-on (w.within.b.broken Recorder) U.breakdowns V.breakdowns w.within.moment.unit (rose-by U.breakdowns V.breakdowns (cause.breaks w.within.powered.lit.works bad));
         rest = actions;
         left = left;
@@ -337,13 +324,13 @@ module _ (o : Origin) (done : List TraceSecond) (s : TraceSecond) (n : ℕ) (run
   pub unit-leaves : (actions : List Action) → IsLeft s (In n) actions → (failed : Bool) → HasCause U V failed →
       HaveLeftMore o (devices U X Y) (devices V X Y) × (failed ≡ true → IsFailing o done s w.within.b.run (In n) (log_of out) (breakdowns_of (devices V X Y)))
   unit-leaves actions left failed cause = (
-    (unit-goes o run.keeper.cabin.cards U V X Y unit-began unit cause.breakdowns).left,
+    (unit-goes o run.keeper.cabin.cards U V X Y unit-began unit).left,
     λ bad. record {
       waits = [];
       mid = w.within.b.broken;
       now = breakdowns_of (devices U X Y);
       moment = w.within.moment;
-      more = (unit-goes o run.keeper.cabin.cards U V X Y unit-began unit cause.breakdowns).breakdowns;
+      more = unit-more U V X Y cause.breakdowns;
       rose = rose-on (w.within.b.broken Recorder) U.breakdowns V.breakdowns w.within.moment.unit (rose-by U.breakdowns V.breakdowns (cause.breaks w.within.powered.lit.works bad));
       rest = actions;
       left = left;
@@ -364,11 +351,6 @@ unit-of B U X Z P h = h
 pub to-unit : (c : Card) (U X Z : State) (P : State → Type 0) → P U → P (arranged c U X Z).unit
 to-unit A U X Z P h = h
 to-unit B U X Z P h = h
-
--- and the card
-pub card-rose : (c : Card) (U V X Y Z : State) → RoseBy 1 X.breakdowns Y.breakdowns → RoseBy 1 (breakdowns_of (arranged c U X Z) (device_of c)) (breakdowns_of (arranged c V Y Z) (device_of c))
-card-rose A U V X Y Z rose = rose
-card-rose B U V X Y Z rose = rose
 
 module _ (c : Card) (slot : Slot) (at : Moment) (run : Run) (breaks : Listed Break) (U V X Y Z : State) (unit_whole : IsCoherent U) (whole : IsCoherent X) (later : IsCoherent Y) (size : LARGEST_IMAGE ≤ X.size) (a : Accepted) (value : IsValue a.session)
     (has : session_of run.keeper.cabin.cards c ≡ Some a) (seat : card_in (seat_in run.keeper.cabin.slots.seats slot) ≡ Some c) (second : at.second ≡ run.next) (late : at.late ≡ false) (span : Span) (stands : StandsFor run.minutes span) (ends : end_of span ≡ run.next) (cabin : Stands (ungiven_of span) None run.keeper.cabin)
@@ -393,9 +375,13 @@ module _ (c : Card) (slot : Slot) (at : Moment) (run : Run) (breaks : Listed Bre
     began : o.found.unit.began ≤ U.clock
     began = ((parts-of o.found carries run.keeper.cabin.cards c U X Z w.within.powered).unit.unit.unit_holds [] []).later
 
-    goes : X.breakdowns ≤ Y.breakdowns → GoesOnSo o run.keeper.cabin.cards d e
-    goes more = card-goes o run.keeper.cabin.cards c U V X Y Z began w.within.there (ap is_some has) unit card cause.breakdowns more
+    goes : GoesOnSo o run.keeper.cabin.cards d e
+    goes = card-goes o run.keeper.cabin.cards c U V X Y Z began w.within.there (ap is_some has) unit card
         (λ valid. noted-timed o.found carries run.keeper.cabin.cards run.keeper.cabin.cards c U X Y Z w.within.found unit_whole whole later size a value has w.within.powered card valid)
+
+    -- the card has not broken down
+    calm : HasCause X Y false → IsMore (breakdowns_of d) (breakdowns_of e)
+    calm on_card = card-more c U V X Y Z cause.breakdowns (on_card.unbroken refl)
 
     travels : HasTravelled (odometer_at o.recording.unit) carries.book (all_travelled w.within.ds w.within.b.travel) e.unit
     travels = to-unit c V Y Z (λ (u : State). HasTravelled (odometer_at o.recording.unit) carries.book (all_travelled w.within.ds w.within.b.travel) u)
@@ -419,10 +405,10 @@ module _ (c : Card) (slot : Slot) (at : Moment) (run : Run) (breaks : Listed Bre
     -- it is there
     still : (failed ≡ false → TellMore [] U V) → HasCause X Y false → (b : Bool) → failed ≡ b → IsPoweredOrOff b o.found carries run.keeper.cabin.cards e → GoesOnOrFails b o done s (In at.begun) [] run (record out { breaks = breaks }) e w.within.b
     still go on_card false is powered = goes-as o done s (In at.begun) (In at.begun) [] [] [] run run (record out { breaks = breaks }) (record out { breaks = breaks }) d e w.within.from w refl refl
-        (call-recorded d e o done s (In at.begun) [] None [] v w.within (record { goes = goes on_card.breakdowns; powered = powered; travels = travels }))
-        (all-one o c (log_of (record out { breaks = breaks })) (log_of (record out { breaks = breaks })) here-notes here-notes run.keeper.memory.registration run.keeper.cabin run.keeper.cabin U V X Y Z (λ none. none) refl refl (λ none. refl)
-        (λ none ss. turns-so (found_of o.found c) (log_of (record out { breaks = breaks })) run.keeper.memory.registration (spells_of c here-notes) (sits_in run.keeper.cabin.slots.seats c) (session_of run.keeper.cabin.cards c) (session_of run.keeper.cabin.cards c) U V X Y (λ all. all) (λ all. refl) (λ all tell. tell) (λ all is. is) (λ all. refl) (go is) ss
-        (λ valid h. stays-still (found_of o.found c) run.keeper.memory.registration (spells_of c here-notes) (sits_in run.keeper.cabin.slots.seats c) ss (session_of run.keeper.cabin.cards c) X Y (noted-does o.found carries run.keeper.cabin.cards run.keeper.cabin.cards c U X Y Z w.within.found unit_whole whole later size a value has w.within.powered card valid) h)) w.stay)
+        (call-recorded d e o done s (In at.begun) [] None [] v w.within (record { goes = goes; breakdowns = calm on_card; powered = powered; travels = travels }))
+        (all-one o (truths_within o w.within.b.run.log done s) s.number c (log_of (record out { breaks = breaks })) (log_of (record out { breaks = breaks })) here-notes here-notes run.keeper.memory.registration run.keeper.cabin run.keeper.cabin U V X Y Z (λ none. none) refl refl (λ slot there. there) (λ none. refl) (λ none was. was)
+        (λ none ss. turns-so (truths_within o w.within.b.run.log done s) s.number (found_of o.found c) (log_of (record out { breaks = breaks })) run.keeper.memory.registration (spells_of c here-notes) (sits_in run.keeper.cabin.slots.seats c) (session_of run.keeper.cabin.cards c) (session_of run.keeper.cabin.cards c) U V X Y (λ all. all) (λ all. refl) (λ all tell. tell) (λ all is. is) (λ all. refl) (go is) ss
+        (λ valid h. stays-still s.number (found_of o.found c) run.keeper.memory.registration (spells_of c here-notes) (sits_in run.keeper.cabin.slots.seats c) ss (session_of run.keeper.cabin.cards c) X Y (noted-does o.found carries run.keeper.cabin.cards run.keeper.cabin.cards c U X Y Z w.within.found unit_whole whole later size a value has w.within.powered card valid) h) (λ only shown all. all)) w.stay)
     still go on_card true is powerless = record {
       waits = [];
       cabin = run.keeper.cabin;
@@ -430,7 +416,8 @@ module _ (c : Card) (slot : Slot) (at : Moment) (run : Run) (breaks : Listed Bre
       odometer = run.keeper.odometer;
       counted = λ lit. refl;
       within = failure-recorded d e o done s (In at.begun) [] None [] v w.within (record {
-        goes = goes on_card.breakdowns;
+        goes = goes;
+        breakdowns = calm on_card;
         broke = broke is;
         unfed = λ _. refl;
         feeds = λ keeping. absurd (cc);
@@ -456,8 +443,8 @@ module _ (c : Card) (slot : Slot) (at : Moment) (run : Run) (breaks : Listed Bre
       stands = cabin;
       here = (at.begun, at.late, ap (λ (n : ℕ). Tear n slot true at.begun at.late) here, ap (λ (l : Bool). phase_of at.begun l) late, w.within.moment.is, λ yes. absurd (cc));
       power = λ now. sym (ap (λ (x : Went). x.before.running) (same-course o done s (In at.begun) [] [] run (record out { breaks = breaks }) d w)) ∙ first now;
-      broke = record { more = (goes on_card.breakdowns).breakdowns; broke = card-rose c U V X Y Z (rose-by X.breakdowns Y.breakdowns broken.breakdowns) };
-      goes = goes on_card.breakdowns;
+      broke = card-fell c U V X Y Z cause.breakdowns (rose-by X.breakdowns Y.breakdowns broken.breakdowns);
+      goes = goes;
       travels = travels;
     }
 
@@ -496,13 +483,13 @@ module _ (c : Card) (slot : Slot) (at : Moment) (run : Run) (breaks : Listed Bre
         let log : RunLog = log_of (record out { breaks = breaks }) in
         let same : breaks ≡ after = no-lines breaks ∙ sym is.told in
         subst (λ (l : Listed Break). EventsGoOn failed o done s w.within.b.run (In at.begun) Acting (log_of (record out { breaks = l })) e) same
-        (call-evented d e (call-notes d e) (failure-cuts d e) o w.origin.long done s w.within.b.run w.within.b.span (begins-now o w.origin done s (In at.begun) v d w.within) (In at.begun) log log [] now (none-added o done s log log e refl) (goes on_card.breakdowns).left failed notes
+        (call-evented d e (call-notes d e) (failure-cuts d e) o w.origin.long done s w.within.b.run w.within.b.span (begins-now o w.origin done s (In at.begun) v d w.within) (In at.begun) log log [] now (none-added o done s log log e refl) goes.left failed notes
         (λ bad. record {
           waits = [];
           mid = w.within.b.broken;
           now = breakdowns_of d;
           moment = w.within.moment;
-          more = (goes on_card.breakdowns).breakdowns;
+          more = calm on_card;
           rose = broke bad;
           rest = actions;
           left = left;
@@ -519,7 +506,7 @@ module _ (c : Card) (slot : Slot) (at : Moment) (run : Run) (breaks : Listed Bre
         (call-evented d e (call-notes d e) (failure-cuts d e) o w.origin.long done s w.within.b.run w.within.b.span (begins-now o w.origin done s (In at.begun) v d w.within) (In at.begun) log (and_break log (tear_of slot at))
         (entry_of CARD_FAULT s.number s.number (crew_of gone) (crew_of gone) ∷ []) now
         (seated-falls o w.origin done s (In at.begun) v d w.within slot c seat (ap is_some has) (ungiven_of span) cabin e (tear-adds e) (tear_of slot at) k.here none follows small)
-        (goes on_card.breakdowns).left failed told
+        goes.left failed told
         (λ bad. record {
           waits = [];
           mid = w.within.b.broken;
@@ -527,7 +514,7 @@ module _ (c : Card) (slot : Slot) (at : Moment) (run : Run) (breaks : Listed Bre
           moment = (card-torn w.within.b.run (went w.within.b.run.log done).before s (In at.begun) log [] w.within.b.broken (breakdowns_of d) (breakdowns_of e) w.within.moment slot (tear_of slot at) k.here k.power
               (seated-untorn o w.origin done s (In at.begun) v d w.within slot c seat (ap is_some has) (ungiven_of span) cabin) c
               (seated-out o w.origin done s (In at.begun) v d w.within slot c seat (ap is_some has) (ungiven_of span) cabin) k.broke).0;
-          more = λ device. omega arith;
+          more = record { unit = omega arith; cards = λ card. refl };
           rose = broke bad;
           rest = actions;
           left = left;
@@ -537,7 +524,7 @@ module _ (c : Card) (slot : Slot) (at : Moment) (run : Run) (breaks : Listed Bre
     pub noted-leaves : (actions : List Action) → IsLeft s (In at.begun) actions → (fell_ : Bool) (new : Run) (after : Listed Break) → IsNotedOn c slot at run new breaks after fell_ → HasBroken X Y (falls_by fell_) → HasCause X Y fell_ →
         HaveLeftMore o d e × (failed ≡ true → IsFailing o done s w.within.b.run (In at.begun) (log_of (record out { breaks = after })) (breakdowns_of e))
     noted-leaves actions left false new after is broken on_card = (
-      (goes on_card.breakdowns).left,
+      goes.left,
       λ bad.
           subst (λ (l : Listed Break). IsFailing o done s w.within.b.run (In at.begun) (log_of (record out { breaks = l })) (breakdowns_of e)) (no-lines breaks ∙ sym is.told)
           (record {
@@ -545,7 +532,7 @@ module _ (c : Card) (slot : Slot) (at : Moment) (run : Run) (breaks : Listed Bre
             mid = w.within.b.broken;
             now = breakdowns_of d;
             moment = w.within.moment;
-            more = (goes on_card.breakdowns).breakdowns;
+            more = calm on_card;
             rose = broke bad;
             rest = actions;
             left = left;
@@ -553,7 +540,7 @@ module _ (c : Card) (slot : Slot) (at : Moment) (run : Run) (breaks : Listed Bre
     )
     noted-leaves actions left true new after is broken on_card =
         let k = called on_card broken in (
-          (goes on_card.breakdowns).left,
+          goes.left,
           λ bad.
               subst (λ (l : Listed Break). IsFailing o done s w.within.b.run (In at.begun) (log_of (record out { breaks = l })) (breakdowns_of e)) (sym is.told)
               (record {
@@ -563,7 +550,7 @@ module _ (c : Card) (slot : Slot) (at : Moment) (run : Run) (breaks : Listed Bre
                 moment = (card-torn w.within.b.run (went w.within.b.run.log done).before s (In at.begun) (log_of (record out { breaks = breaks })) [] w.within.b.broken (breakdowns_of d) (breakdowns_of e) w.within.moment slot (tear_of slot at) k.here k.power
                     (seated-untorn o w.origin done s (In at.begun) v d w.within slot c seat (ap is_some has) (ungiven_of span) cabin) c
                     (seated-out o w.origin done s (In at.begun) v d w.within slot c seat (ap is_some has) (ungiven_of span) cabin) k.broke).0;
-                more = λ device. omega arith;
+                more = record { unit = omega arith; cards = λ card. refl };
                 rose = broke bad;
                 rest = actions;
                 left = left;
@@ -633,7 +620,7 @@ place-told o done s slot ending country region begun speed run out d now front r
     (goes-as o done s (In (length front)) (In (suc (length front))) [] [] [] run run out out d d w.within.from w refl refl
     (place-recorded d o done s (values_of run out) front slot ending country region rest are w.within
     (allowed-in o done s (In (length front)) [] None [] (values_of run out) d w.within speed (Place slot ending country region) now.speed_is allowed))
-    (all-noted o (log_of out) (log_of out) (notes_within w.within.b done s (In (length front)) (log_of out)) (notes_within w.within.b done s (In (suc (length front))) (log_of out)) run.keeper.memory.registration run.keeper.cabin d (log-self (log_of out))
+    (all-noted o (truths_within o w.within.b.run.log done s) s.number (log_of out) (log_of out) (notes_within w.within.b done s (In (length front)) (log_of out)) (notes_within w.within.b done s (In (suc (length front))) (log_of out)) run.keeper.memory.registration run.keeper.cabin d (log-self (log_of out))
     (λ none c. place-now o done s front rest slot ending country region are (values_of run out) d w.within
     (allowed-in o done s (In (length front)) [] None [] (values_of run out) d w.within speed (Place slot ending country region) now.speed_is allowed) c) w.stay))
 

@@ -174,6 +174,7 @@ module _ (o : Origin) (done : List TraceSecond) (s : TraceSecond) (q : Point) (b
     now = h.now;
     moment = h.moment;
     rise = h.rise;
+    fell = h.fell;
     rests = h.rests;
     tells = minutes-kept (start_at o) told0 past c.left s.number m.minute (suc m.minute) c.slots cabin.slots h.tells (i ∷ []) (All-push (λ (j : HistoryMinute). m.minute ≤ j.minute) [] i (omega arith) (omega arith)) (omega arith);
     present = step-leaves o.found z z told0 c c s.number m.minute (suc m.minute) cabin cabin h.present h.tells.newest h.tells.minute (omega arith) refl (record { torn = λ v at. at; pulled = λ v at. at })

@@ -167,7 +167,8 @@ module _ (o : Origin) (done : List TraceSecond) (s : TraceSecond) (q : Point) (a
       point = k.point;
       now = breakdowns_of d;
       moment = w.moment;
-      rise = k.goes.breakdowns;
+      rise = k.unit;
+      fell = λ card. inr (refl, omega arith);
       rests = λ card some. refl;
       tells = w.tells;
       present = w.present;

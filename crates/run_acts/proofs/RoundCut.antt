@@ -30,6 +30,8 @@ use Rattle.run_within.specs.Recorded.{Values, carried}
 use Rattle.run_within.specs.Within.{told_before, course_in, CutWithin}
 use Rattle.run_acts.specs.Rounds.{Point, told_values, moment_of, HaveBroken, Slate, SoFar}
 use Rattle.run_acts.specs.RoundLaws.{InRounds, carried_at, KeepsSo, travelled_at, HasBrokenLast, TheKeepingFails}
+use Rattle.run_keeping.specs.Later.{RestBy}
+use Rattle.run_acts.proofs.Rising.{fell-more}
 use Rattle.run_acts.proofs.RoundReached.{Through, one-on, first-number}
 use Rattle.run_acts.proofs.Round.{minute-is}
 use Rattle.run_acts.proofs.RoundBegun.{outset}
@@ -77,8 +79,8 @@ module _ (o : Origin) (done : List TraceSecond) (s : TraceSecond) (q : Point) (a
   g = travelled_at o done s q all t v d w xs
 
   -- not begun
-  pub cut-none : IsPowerless o.found before e → HasTravelled (odometer_at o.recording.unit) before.book g e.unit → CutWithin o done s q.at q.waits q.speed (told_values u v) e
-  cut-none powerless travels = record {
+  pub cut-none : RestBy t.keeper.cabin.cards u.keeper.cabin.cards d e → IsPowerless o.found before e → HasTravelled (odometer_at o.recording.unit) before.book g e.unit → CutWithin o done s q.at q.waits q.speed (told_values u v) e
+  cut-none rests powerless travels = record {
     b = w.b;
     lit = w.lit;
     began = w.began;
@@ -87,7 +89,7 @@ module _ (o : Origin) (done : List TraceSecond) (s : TraceSecond) (q : Point) (a
     odometer = w.odometer;
     counted = th.so.slate.now;
     moment = th.so.slate.moment;
-    rise = th.so.slate.rise;
+    rise = fell-more t.keeper.cabin.cards u.keeper.cabin.cards d e th.so.slate.now th.so.slate.rise th.so.slate.fell rests;
     broke = broke;
     sp = w.sp;
     ds = th.ds_now;
@@ -121,8 +123,8 @@ module _ (o : Origin) (done : List TraceSecond) (s : TraceSecond) (q : Point) (a
   }
 
   -- begun
-  pub cut-begun : IsPowerless o.found (carried_broken i before) e → HasTravelled (odometer_at o.recording.unit) (broken i before.book) (stranded m.minute m.travelled g) e.unit → CutWithin o done s q.at q.waits q.speed (told_values u v) e
-  cut-begun powerless travels = record {
+  pub cut-begun : RestBy t.keeper.cabin.cards u.keeper.cabin.cards d e → IsPowerless o.found (carried_broken i before) e → HasTravelled (odometer_at o.recording.unit) (broken i before.book) (stranded m.minute m.travelled g) e.unit → CutWithin o done s q.at q.waits q.speed (told_values u v) e
+  cut-begun rests powerless travels = record {
     b = w.b;
     lit = w.lit;
     began = w.began;
@@ -131,7 +133,7 @@ module _ (o : Origin) (done : List TraceSecond) (s : TraceSecond) (q : Point) (a
     odometer = w.odometer;
     counted = th.so.slate.now;
     moment = th.so.slate.moment;
-    rise = th.so.slate.rise;
+    rise = fell-more t.keeper.cabin.cards u.keeper.cabin.cards d e th.so.slate.now th.so.slate.rise th.so.slate.fell rests;
     broke = broke;
     sp = w.sp;
     ds = th.ds_now;
@@ -178,8 +180,8 @@ module _ (o : Origin) (done : List TraceSecond) (s : TraceSecond) (q : Point) (a
     so : SoFar o done s q w.b (outset o done s q all t v d w) (breakdowns_of d) (breakdowns_of e) t.keeper w.sp v t.marks.items c w.brought x behind (th.ds_now ++ m ∷ []) rest (th.new_now ++ i ∷ []) (suc th.from_now)
     so = one-on o done s q w.b (outset o done s q all t v d w) (breakdowns_of d) (breakdowns_of e) t.keeper w.sp v t.marks.items c w.brought k.few k.two m rest round true u before th.ds_now th.new_now th.from_now th.so last_one.0 more_broken.0 more_broken.1
 
-    pub cut-kept : IsPowerless o.found behind e → HasTravelled (odometer_at o.recording.unit) (kept i before.book) (travelled m.minute m.travelled g) e.unit → CutWithin o done s q.at q.waits q.speed (told_values x v) e
-    cut-kept powerless travels = record {
+    pub cut-kept : RestBy t.keeper.cabin.cards x.keeper.cabin.cards d e → IsPowerless o.found behind e → HasTravelled (odometer_at o.recording.unit) (kept i before.book) (travelled m.minute m.travelled g) e.unit → CutWithin o done s q.at q.waits q.speed (told_values x v) e
+    cut-kept rests powerless travels = record {
       b = w.b;
       lit = w.lit;
       began = w.began;
@@ -188,7 +190,7 @@ module _ (o : Origin) (done : List TraceSecond) (s : TraceSecond) (q : Point) (a
       odometer = w.odometer;
       counted = so.slate.now;
       moment = so.slate.moment;
-      rise = so.slate.rise;
+      rise = fell-more t.keeper.cabin.cards x.keeper.cabin.cards d e so.slate.now so.slate.rise so.slate.fell rests;
       broke = broke;
       sp = w.sp;
       ds = th.ds_now ++ m ∷ [];
@@ -238,8 +240,8 @@ module _ (o : Origin) (done : List TraceSecond) (s : TraceSecond) (q : Point) (a
   low-now : thr.from_now ≤ s.number / 60
   low-now = let to = thr.so.ends in omega (arith, to, low)
 
-  pub cut-behind : IsPowerless o.found all_ e → HasTravelled (odometer_at o.recording.unit) all_.book (travelled_at o done s q all t v d w xs) e.unit → CutWithin o done s q.at q.waits q.speed (told_values end v) e
-  cut-behind powerless travels = record {
+  pub cut-behind : RestBy t.keeper.cabin.cards end.keeper.cabin.cards d e → IsPowerless o.found all_ e → HasTravelled (odometer_at o.recording.unit) all_.book (travelled_at o done s q all t v d w xs) e.unit → CutWithin o done s q.at q.waits q.speed (told_values end v) e
+  cut-behind rests powerless travels = record {
     b = w.b;
     lit = w.lit;
     began = w.began;
@@ -248,7 +250,7 @@ module _ (o : Origin) (done : List TraceSecond) (s : TraceSecond) (q : Point) (a
     odometer = w.odometer;
     counted = thr.so.slate.now;
     moment = thr.so.slate.moment;
-    rise = thr.so.slate.rise;
+    rise = fell-more t.keeper.cabin.cards end.keeper.cabin.cards d e thr.so.slate.now thr.so.slate.rise thr.so.slate.fell rests;
     broke = rose-since (w.b.broken Recorder) (breakdowns_of d Recorder) (breakdowns_of e Recorder) w.moment.unit rose;
     sp = w.sp;
     ds = thr.ds_now;
@@ -283,10 +285,13 @@ module _ (o : Origin) (done : List TraceSecond) (s : TraceSecond) (q : Point) (a
 
 -- ALL OF IT
 pub keeping-fails : (d e : Devices) → TheKeepingFails d e
-keeping-fails d e o done s q all t u v w k xs m rest None split rounds broken_ last_one more rose (inl cut) =
-    subst (λ (y : Told). CutWithin o done s q.at q.waits q.speed (told_values y v) e) (sym last_one) (cut-none o done s q all t v d e w k xs m rest split rounds broken_ rose cut.0 cut.1)
-keeping-fails d e o done s q all t u v w k xs m rest None split rounds broken_ last_one more rose (inr cut) =
-    subst (λ (y : Told). CutWithin o done s q.at q.waits q.speed (told_values y v) e) (sym last_one) (cut-begun o done s q all t v d e w k xs m rest split rounds broken_ rose cut.0 cut.1)
-keeping-fails d e o done s q all t u v w k xs m rest (Some round) split rounds broken_ last_one more rose cut =
+keeping-fails d e o done s q all t u v w k xs m rest None split rounds broken_ last_one more rose rests (inl cut) =
+    subst (λ (y : Told). CutWithin o done s q.at q.waits q.speed (told_values y v) e) (sym last_one) (cut-none o done s q all t v d e w k xs m rest split rounds broken_ rose
+    (subst (λ (y : Told). RestBy t.keeper.cabin.cards y.keeper.cabin.cards d e) last_one rests) cut.0 cut.1)
+keeping-fails d e o done s q all t u v w k xs m rest None split rounds broken_ last_one more rose rests (inr cut) =
+    subst (λ (y : Told). CutWithin o done s q.at q.waits q.speed (told_values y v) e) (sym last_one) (cut-begun o done s q all t v d e w k xs m rest split rounds broken_ rose
+    (subst (λ (y : Told). RestBy t.keeper.cabin.cards y.keeper.cabin.cards d e) last_one rests) cut.0 cut.1)
+keeping-fails d e o done s q all t u v w k xs m rest (Some round) split rounds broken_ last_one more rose rests cut =
     subst (λ (y : Told). CutWithin o done s q.at q.waits q.speed (told_values y v) e) (sym last_one.1)
-    (cut-kept o done s q all t v d e w k xs m rest split rounds broken_ rose round (last_one.0, refl) more cut.0 cut.1)
+    (cut-kept o done s q all t v d e w k xs m rest split rounds broken_ rose round (last_one.0, refl) more
+    (subst (λ (y : Told). RestBy t.keeper.cabin.cards y.keeper.cabin.cards d e) last_one.1 rests) cut.0 cut.1)

@@ -40,14 +40,14 @@ use Rattle.run_course.proofs.Within.{tear-tells}
 use Rattle.run_moments.specs.Reached.{moved_at, IsTearAt}
 use Rattle.run_moments.specs.Lines.{IsTornAt}
 use Rattle.run_moments.specs.Moment.{Moment}
-use Rattle.run_moments.specs.Telling.{IsMore, BrokeDown}
+use Rattle.run_moments.specs.Telling.{BrokeDown}
 use Rattle.run_moments.specs.Kept.{StaysOut}
 use Rattle.run_moments.proofs.Lines.{who-sits}
 use Rattle.run_moments.proofs.Telling.{card-torn}
 use Rattle.run_present.specs.Presence.{PresentStand, SessionsStand, StaysSo, HasMore, IsTornOut, sits}
 use Rattle.run_present.proofs.Presence.{step-leaves}
 use Rattle.run_recorded.specs.Origin.{Origin, start_at}
-use Rattle.run_keeping.specs.Keeping.{Fate, Still, Has, Fell, is_this, cabin_by, breaks_by, tear_of, session_at, card_in as present_of, IsFateOf}
+use Rattle.run_keeping.specs.Keeping.{Fate, Still, Has, Fell, is_this, cabin_by, breaks_by, tear_of, session_at, card_in as present_of, IsFateOf, tears_of}
 use Rattle.run_keeping.specs.Books.{standing_by}
 use Rattle.run_within.specs.Within.{Beginning, told_before, course_in, IsLeaving, AreBackAt}
 use Rattle.run_within.specs.Recorded.{GoesOnIn}
@@ -55,7 +55,7 @@ use Rattle.run_within.proofs.Back.{low-too}
 use Rattle.run_within.proofs.Moved.{not-leaving}
 use Rattle.run_within.proofs.Seats.{no-both, this-or, seat-tells, none-sits, sits-there, sits-back, which-slot, one-slot, emptied, empty-still, nowhere-none, nowhere-not, left-other, tells-still}
 use Rattle.run_within.proofs.Stays.{goes-taken, goes-still}
-use Rattle.run_acts.specs.Rounds.{Point, Outset, moment_of, standing_card, and_breaks, Slate, OnlyTears, HasBrokenDown}
+use Rattle.run_acts.specs.Rounds.{Point, Outset, moment_of, standing_card, and_breaks, StandsOrFell, Slate, OnlyTears, HasBrokenDown}
 use Rattle.run_acts.proofs.RoundLeaving.{unseated, nowhere-still, leaving-on, torn-apart, moves-still}
 
 -- ---- cases
@@ -78,21 +78,9 @@ fallen B now last Recorder = now Recorder
 fallen B now last CardA = now CardA
 fallen B now last CardB = last CardB
 
-fallen-rise : (c : Card) (now last : Device → ℕ) → IsMore now last → IsMore (fallen c now last) last
-fallen-rise A now last more Recorder = more Recorder
-fallen-rise A now last more CardA = omega arith
-fallen-rise A now last more CardB = more CardB
-fallen-rise B now last more Recorder = more Recorder
-fallen-rise B now last more CardA = more CardA
-fallen-rise B now last more CardB = omega arith
-
-fallen-more : (c : Card) (now last : Device → ℕ) → IsMore now last → IsMore now (fallen c now last)
-fallen-more A now last more Recorder = omega arith
-fallen-more A now last more CardA = more CardA
-fallen-more A now last more CardB = omega arith
-fallen-more B now last more Recorder = omega arith
-fallen-more B now last more CardA = omega arith
-fallen-more B now last more CardB = more CardB
+fallen-unit : (c : Card) (now last : Device → ℕ) → fallen c now last Recorder ≡ now Recorder
+fallen-unit A now last = refl
+fallen-unit B now last = refl
 
 fallen-own : (c : Card) (now last : Device → ℕ) → fallen c now last (device_of c) ≡ last (device_of c)
 fallen-own A now last = refl
@@ -103,6 +91,12 @@ fallen-other A A now last is = no-both true refl is
 fallen-other B B now last is = no-both true refl is
 fallen-other A B now last is = refl
 fallen-other B A now last is = refl
+
+fallen-others : (c d : Card) (now last : Device → ℕ) → (d ≡ c → ⊥) → fallen c now last (device_of d) ≡ now (device_of d)
+fallen-others A A now last apart = absurd (apart refl)
+fallen-others B B now last apart = absurd (apart refl)
+fallen-others A B now last apart = refl
+fallen-others B A now last apart = refl
 
 -- one step behind another
 goes-both : (u : ℕ) (kept mid after : Slate_) (card : Card) → GoesOnIn u kept mid card → GoesOnIn u mid after card → GoesOnIn u kept after card
@@ -230,12 +224,27 @@ module _ (o : Origin) (done : List TraceSecond) (s : TraceSecond) (q : Point) (b
     so-leaves : (sl : Slot) (d : Card) → IsLeaving log (went b.run.log done).before s q.at os.low os.high cabin sl d → IsLeaving log (went b.run.log done).before s q.at os.low os.high after sl d
     so-leaves sl d l = leaving-on log log (went b.run.log done).before s q.at os.low os.high cabin after sl d refl l.untorn l.empty l.nowhere refl l
 
+    -- it has its session still
+    own-keeps : tears_of (session_of os.cabin.cards card) ≤ tears_of (session_of cabin.cards card) → tears_of (session_of os.cabin.cards card) ≤ tears_of (session_of cards card)
+    own-keeps le = subst (λ (x : Option Accepted). tears_of (session_of os.cabin.cards card) ≤ tears_of x) (sym (session_set card (Some a) cabin.cards))
+        (subst (λ (x : Option Accepted). tears_of (session_of os.cabin.cards card) ≤ tears_of x) is le)
+
+    keeps : (d : Card) → tears_of (session_of os.cabin.cards d) ≤ tears_of (session_of cabin.cards d) → tears_of (session_of os.cabin.cards d) ≤ tears_of (session_of cards d)
+    keeps d le = ⊎_elim
+        (λ same. subst (λ (k : Card). tears_of (session_of os.cabin.cards k) ≤ tears_of (session_of cabin.cards k) → tears_of (session_of os.cabin.cards k) ≤ tears_of (session_of cards k)) (same_is card d same) own-keeps le)
+        (λ ne. subst (λ (x : Option Accepted). tears_of (session_of os.cabin.cards d) ≤ tears_of x) (sym (apart d ne)) le)
+        (this-or card d)
+
+    fell-has : (d : Card) → StandsOrFell os.cabin.cards cards first last h.now d
+    fell-has d = ⊎_elim (λ fell. inl fell) (λ stands. inr (stands.0, keeps d stands.1)) (h.fell d)
+
     slate-has : Slate o done s q b os from past log y after first last
     slate-has = record {
       point = h.point;
       now = h.now;
       moment = h.moment;
       rise = h.rise;
+      fell = fell-has;
       rests = λ d x. h.rests d (before d x);
       tells = h.tells;
       present = step-leaves o.found z y told0 c c s.number from from cabin after h.present h.tells.newest h.tells.minute (omega arith) refl (record { torn = λ v at. at; pulled = λ v at. at })
@@ -286,8 +295,9 @@ module _ (o : Origin) (done : List TraceSecond) (s : TraceSecond) (q : Point) (b
 
     broke : BrokeDown card h.now (fallen card h.now last)
     broke = record {
-      more = fallen-more card h.now last h.rise;
+      unit = let same = fallen-unit card h.now last in omega (arith, same);
       broke = subst (λ (n : ℕ). RoseBy 1 n (fallen card h.now last (device_of card))) (sym (h.rests card had)) (subst (λ (n : ℕ). RoseBy 1 (first (device_of card)) n) (sym (fallen-own card h.now last)) rose);
+      others = λ d apart. fallen-others card d h.now last apart;
     }
 
     moves : moved_at later bef s q.at ≡ moved_at log bef s q.at
@@ -353,12 +363,23 @@ module _ (o : Origin) (done : List TraceSecond) (s : TraceSecond) (q : Point) (b
       out-now : StaysOut c d_
       out-now = record { torn = torn-now.stays; pulled = λ v at_. subst (λ (vs : List Visit). Contains vs v) (sym torn-now.is.pulled) at_ }
 
+      -- it has broken down as often as it will have
+      fell-fell : (d : Card) → StandsOrFell os.cabin.cards gone first last (fallen card h.now last) d
+      fell-fell d = ⊎_elim
+          (λ same. inl (subst (λ (k : Card). fallen card h.now last (device_of k) ≡ last (device_of k)) (same_is card d same) (fallen-own card h.now last)))
+          (λ ne. ⊎_elim
+          (λ fell. inl (fallen-other card d h.now last ne ∙ fell))
+          (λ stands. inr (fallen-other card d h.now last ne ∙ stands.0, subst (λ (x : Option Accepted). tears_of (session_of os.cabin.cards d) ≤ tears_of x) (sym (still-so d ne)) stands.1))
+          (h.fell d))
+          (this-or card d)
+
       slate-fell : Slate o done s q b os from past later x_ out_ first last
       slate-fell = record {
         point = h.point;
         now = fallen card h.now last;
         moment = told-now.0;
-        rise = fallen-rise card h.now last h.rise;
+        rise = let same = fallen-unit card h.now last in let le = h.rise in omega (arith, same, le);
+        fell = fell-fell;
         rests = λ d x. fallen-other card d h.now last (other-one d x) ∙ h.rests d (had-before d x);
         tells = g.tells torn-now.is;
         present = step-leaves o.found z x_ told0 c d_ s.number from from cabin out_ h.present h.tells.newest h.tells.minute (omega arith) g.past_is out-now

@@ -91,7 +91,7 @@ use Rattle.run_acts.specs.NotedEvents.{AreTold}
 use Rattle.run_acts.specs.EventCrews.{AreKnownBy, fault_events}
 use Rattle.run_acts.specs.Evented.{IsUntold}
 use Rattle.run_acts.specs.Recording.{IsOrigin}
-use Rattle.run_acts.specs.Rounds.{Point, Outset, told_values, moment_of, and_breaks, Slate, HasBrokenDown, HaveBroken, SoFar}
+use Rattle.run_acts.specs.Rounds.{Point, Outset, told_values, moment_of, and_breaks, StandsOrFell, Slate, HasBrokenDown, HaveBroken, SoFar}
 use Rattle.run_acts.specs.RoundLaws.{InRounds, KeepsSo, HaveBrokenOff, AreGone, carried_at}
 use Rattle.run_acts.proofs.Bare.{fate-bare, still-bare}
 use Rattle.run_acts.proofs.EventCrews.{AllSitWell, torn-sits, torn-leaves, sessions-known, faults-told}
@@ -101,6 +101,8 @@ use Rattle.run_acts.proofs.Sitting.{SameNumbers, fate-well, fate-numbers}
 use Rattle.run_acts.proofs.RoundLeaving.{slots-or, torn-apart}
 use Rattle.run_acts.proofs.RoundFates.{fate-behind, Behind, IsOut, out-is}
 use Rattle.run_acts.proofs.Round.{unit-slate, there, stands, first-fate, second-is, there1}
+use Rattle.run_keeping.specs.Later.{RestBy}
+use Rattle.run_acts.proofs.Rising.{fell-more}
 use Rattle.run_acts.proofs.RoundReached.{first-number, one-on}
 use Rattle.run_acts.proofs.RoundBegun.{outset, begun-so}
 use Rattle.run_acts.proofs.RoundBroken.{cards-broken, cards-broken_last}
@@ -568,16 +570,20 @@ module _ (d e : Devices) (o : Origin) (origin : IsOrigin o) (done : List TraceSe
     pub moment : Moment w.b.run (went w.b.run.log done).before s q.at (told_values y v).log q.waits w.b.broken now
     pub rise : IsMore now (breakdowns_of e)
 
+  -- how often each device has broken down by then
+  rise-at : (y : Told) (now : Device → ℕ) → u ≡ y → now Recorder ≤ breakdowns_of e Recorder → ((c : Card) → StandsOrFell t.keeper.cabin.cards y.keeper.cabin.cards (breakdowns_of d) (breakdowns_of e) now c) → IsMore now (breakdowns_of e)
+  rise-at y now is rise fell = fell-more t.keeper.cabin.cards y.keeper.cabin.cards d e now rise fell (subst (λ (x : Told). RestBy t.keeper.cabin.cards x.keeper.cabin.cards d e) is off.rests)
+
   moment-at : (y : Told) → u ≡ y → MomentThen y → MomentThen u
   moment-at y is = subst MomentThen (sym is)
 
   pub keeping-moment : (reach : Reach) → HasCome all (moment_of s q) t u reach → MomentThen u
   keeping-moment (Whole xs) is =
       let a = (added xs [] (is.0 ∙ sym (append-nil (map (λ (x : Done). x.minute) xs))) is.1 (cards-broken t.keeper (moment_of s q) xs t (breakdowns_of d) (breakdowns_of e) is.1 (gone-to (told_by t.keeper (moment_of s q) xs t) is.2))).so.slate in
-      moment-at (told_by t.keeper (moment_of s q) xs t) is.2 (record { now = a.now; moment = a.moment; rise = a.rise })
+      moment-at (told_by t.keeper (moment_of s q) xs t) is.2 (record { now = a.now; moment = a.moment; rise = rise-at (told_by t.keeper (moment_of s q) xs t) a.now is.2 a.rise a.fell })
   keeping-moment (Short xs m None) is =
       let a = (added xs (m ∷ is.0.0) is.0.1 is.1 (cards-broken t.keeper (moment_of s q) xs t (breakdowns_of d) (breakdowns_of e) is.1 (gone-to (told_by t.keeper (moment_of s q) xs t) is.2))).so.slate in
-      moment-at (told_by t.keeper (moment_of s q) xs t) is.2 (record { now = a.now; moment = a.moment; rise = a.rise })
+      moment-at (told_by t.keeper (moment_of s q) xs t) is.2 (record { now = a.now; moment = a.moment; rise = rise-at (told_by t.keeper (moment_of s q) xs t) a.now is.2 a.rise a.fell })
   keeping-moment (Short xs m (Some round)) is =
       let mid : Told = told_by t.keeper (moment_of s q) xs t in
       let end : Told = told_after (present_at t.keeper.cabin m.minute) m.minute (moment_of s q) round mid in
@@ -585,7 +591,7 @@ module _ (d e : Devices) (o : Origin) (origin : IsOrigin o) (done : List TraceSe
       let a = added xs (m ∷ is.0.0) is.0.1 is.1 both.0 in
       let one = (one-on o done s q w.b os (breakdowns_of d) (breakdowns_of e) t.keeper w.sp v t.marks.items (course_in w.b done s q.at at_now) w.brought keeps.few keeps.two m is.0.0 round true mid (carried_by t.keeper xs (carried_at o done s q all t v d w)) a.ds_now a.new_now a.from_now
       a.so is.2.0 both.1.0 both.1.1).slate in
-      moment-at end is.2.1 (record { now = one.now; moment = one.moment; rise = one.rise })
+      moment-at end is.2.1 (record { now = one.now; moment = one.moment; rise = rise-at end one.now is.2.1 one.rise one.fell })
 
   -- which the unit failed to pass
   rose-since : (before mid now : ℕ) → before ≤ mid → RoseBy 1 mid now → RoseBy 1 before now

@@ -22,6 +22,7 @@ use Rattle.run_within.specs.Recorded.{Values}
 use Rattle.run_within.specs.Within.{CutWithin}
 use Rattle.run_acts.specs.Rounds.{Point, told_values, moment_of, HaveBroken}
 use Rattle.run_acts.specs.RoundLaws.{GoOn, carried_at, KeepsSo, LeaveStill, AreGone, HaveBrokenOff, IsKeptTo, TheKeepingIsRecorded, TheNoteFails}
+use Rattle.run_keeping.specs.Later.{RestBy}
 use Rattle.run_acts.proofs.RoundWhole.{minutes-kept_so, leave-still}
 use Rattle.run_acts.proofs.RoundCut.{keeping-fails, cut-behind}
 use Rattle.run_acts.proofs.RoundBroken.{cards-broken, cards-broken_last}
@@ -44,12 +45,13 @@ keeping-recorded d e o done s q all t u v w k false (Whole xs) is broken rose en
     let at : Told = told_by t.keeper (moment_of s q) xs t in
     let gone : AreGone t.keeper.cabin.cards at.keeper.cabin.cards (breakdowns_of d) (breakdowns_of e) =
     subst (λ (y : Told). AreGone t.keeper.cabin.cards y.keeper.cabin.cards (breakdowns_of d) (breakdowns_of e)) is.2 (gone-cards t u d e broken) in
+    let rests : RestBy t.keeper.cabin.cards at.keeper.cabin.cards d e = subst (λ (y : Told). RestBy t.keeper.cabin.cards y.keeper.cabin.cards d e) is.2 broken.rests in
     let split : all ≡ map (λ (x : Done). x.minute) xs ++ [] = is.0 ∙ sym (append-nil (map (λ (x : Done). x.minute) xs)) in
     let broke = cards-broken t.keeper (moment_of s q) xs t (breakdowns_of d) (breakdowns_of e) is.1 gone in
     let many : length xs ≡ length all = sym (length-map xs (λ (x : Done). x.minute)) ∙ ap (λ (ms : List Minute). length ms) (sym is.0) in
     subst (λ (y : Told). GoOn o done s q [] y v e w.b (w.from + length all) × LeaveStill o done s q all t y v d w) (sym is.2) (
       subst (λ (n : ℕ). GoOn o done s q [] at v e w.b (w.from + n)) many
-          (minutes-kept_so o done s q all t v d e w k xs [] split is.1 broke
+          (minutes-kept_so o done s q all t v d e w k xs [] split is.1 broke rests
           (subst (λ (y : Told). AreBooked o.found (carried_by t.keeper xs (carried_at o done s q all t v d w)) y.keeper.cabin.cards y.marks.items e) is.2 ends.0) ends.1),
       leave-still o done s q all t v d e w k xs [] split is.1 broke,
     )
@@ -59,11 +61,11 @@ keeping-recorded d e o done s q all t u v w k true (Short xs m None) is broken r
     let at : Told = told_by t.keeper (moment_of s q) xs t in
     let gone : AreGone t.keeper.cabin.cards at.keeper.cabin.cards (breakdowns_of d) (breakdowns_of e) =
     subst (λ (y : Told). AreGone t.keeper.cabin.cards y.keeper.cabin.cards (breakdowns_of d) (breakdowns_of e)) is.2 (gone-cards t u d e broken) in
-    keeping-fails d e o done s q all t u v w k xs m is.0.0 None is.0.1 is.1 (cards-broken t.keeper (moment_of s q) xs t (breakdowns_of d) (breakdowns_of e) is.1 gone) is.2 tt (rose refl) ends
+    keeping-fails d e o done s q all t u v w k xs m is.0.0 None is.0.1 is.1 (cards-broken t.keeper (moment_of s q) xs t (breakdowns_of d) (breakdowns_of e) is.1 gone) is.2 tt (rose refl) broken.rests ends
 keeping-recorded d e o done s q all t u v w k true (Short xs m (Some round)) is broken rose ends =
     let both = cards-broken_last t.keeper (moment_of s q) xs m round t (breakdowns_of d) (breakdowns_of e) is.1 is.2.0
     (subst (λ (y : Told). AreGone t.keeper.cabin.cards y.keeper.cabin.cards (breakdowns_of d) (breakdowns_of e)) is.2.1 (gone-cards t u d e broken)) in
-    keeping-fails d e o done s q all t u v w k xs m is.0.0 (Some round) is.0.1 is.1 both.0 is.2 both.1 (rose refl) ends
+    keeping-fails d e o done s q all t u v w k xs m is.0.0 (Some round) is.0.1 is.1 both.0 is.2 both.1 (rose refl) broken.rests ends
 
 -- a note behind all of them fails
 pub note-fails : (d e : Devices) → TheNoteFails d e
@@ -72,4 +74,5 @@ note-fails d e o done s q all t u v w k low xs is broken rose powerless travels 
     let gone : AreGone t.keeper.cabin.cards at.keeper.cabin.cards (breakdowns_of d) (breakdowns_of e) =
     subst (λ (y : Told). AreGone t.keeper.cabin.cards y.keeper.cabin.cards (breakdowns_of d) (breakdowns_of e)) is.2 (gone-cards t u d e broken) in
     subst (λ (y : Told). CutWithin o done s q.at q.waits q.speed (told_values y v) e) (sym is.2)
-    (cut-behind o done s q all t v d e w k xs (is.0 ∙ sym (append-nil (map (λ (x : Done). x.minute) xs))) is.1 (cards-broken t.keeper (moment_of s q) xs t (breakdowns_of d) (breakdowns_of e) is.1 gone) rose low powerless travels)
+    (cut-behind o done s q all t v d e w k xs (is.0 ∙ sym (append-nil (map (λ (x : Done). x.minute) xs))) is.1 (cards-broken t.keeper (moment_of s q) xs t (breakdowns_of d) (breakdowns_of e) is.1 gone) rose low
+    (subst (λ (y : Told). RestBy t.keeper.cabin.cards y.keeper.cabin.cards d e) is.2 broken.rests) powerless travels)

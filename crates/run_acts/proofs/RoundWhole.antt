@@ -37,6 +37,8 @@ use Rattle.run_within.proofs.Left.{verdict-left, seen-left}
 use Rattle.run_within.proofs.Written.{written-on, spared-called}
 use Rattle.run_acts.specs.Rounds.{Point, told_values, moment_of, HaveBroken, OnlyTears, SoFar}
 use Rattle.run_acts.specs.RoundLaws.{InRounds, GoOn, carried_at, KeepsSo, travelled_at, LeaveStill}
+use Rattle.run_keeping.specs.Later.{RestBy}
+use Rattle.run_acts.proofs.Rising.{fell-more}
 use Rattle.run_acts.proofs.RoundReached.{Through, all-on}
 use Rattle.run_acts.proofs.RoundBegun.{outset, begun-so}
 
@@ -113,8 +115,8 @@ module _ (o : Origin) (done : List TraceSecond) (s : TraceSecond) (q : Point) (a
         (subst (λ (ms : List Minute). SoFar o done s q w.b (outset o done s q all t v d w) (breakdowns_of d) (breakdowns_of e) t.keeper w.sp v t.marks.items c w.brought t (carried_at o done s q all t v d w) w.ds ms w.new w.from) split (begun-so o done s q all t v d w e k))
         w.marked rounds broken
 
-    pub minutes-kept_so : AreBooked o.found Carried_ u.keeper.cabin.cards u.marks.items e → HasTravelled (odometer_at o.recording.unit) Carried_.book (travelled_at o done s q all t v d w xs) e.unit → GoOn o done s q rest u v e w.b (w.from + length xs)
-    minutes-kept_so booked travels =
+    pub minutes-kept_so : RestBy t.keeper.cabin.cards u.keeper.cabin.cards d e → AreBooked o.found Carried_ u.keeper.cabin.cards u.marks.items e → HasTravelled (odometer_at o.recording.unit) Carried_.book (travelled_at o done s q all t v d w xs) e.unit → GoOn o done s q rest u v e w.b (w.from + length xs)
+    minutes-kept_so rests booked travels =
         let th = through in
         let so = th.so in
         record {
@@ -127,7 +129,7 @@ module _ (o : Origin) (done : List TraceSecond) (s : TraceSecond) (q : Point) (a
             unfound = w.unfound;
             next = w.next;
             odometer = w.odometer;
-            moment = breakdowns-only w.b.run (went w.b.run.log done).before s q.at (told_values u v).log q.waits w.b.broken so.slate.now (breakdowns_of e) so.slate.moment so.slate.rise;
+            moment = breakdowns-only w.b.run (went w.b.run.log done).before s q.at (told_values u v).log q.waits w.b.broken so.slate.now (breakdowns_of e) so.slate.moment (fell-more t.keeper.cabin.cards u.keeper.cabin.cards d e so.slate.now so.slate.rise so.slate.fell rests);
             sp = w.sp;
             minutes = w.minutes;
             ds = th.ds_now;

@@ -87,7 +87,7 @@ module _ {U A0 B0 : State} {chip_a chip_b : CardState} (old : Run) (before : Out
   come = has-come decided (moment_of s q) failed (told_of old before) (told_of new after) reach is-here
 
   off : HaveBrokenOff (told_of old before) (told_of new after) d e
-  off = record { a = devices.card_a.broken; b = devices.card_b.broken }
+  off = record { a = devices.card_a.broken; b = devices.card_b.broken; rests = record { card_a = devices.card_a.rests; card_b = devices.card_b.rests } }
 
   abbrev vs : List UnitEvent
   vs = faults_to old.keeper (moment_of s q) reach (told_of old before)

@@ -5,14 +5,17 @@ use Rattle.safety_model.specs.Safe.{Devices}
 use Rattle.run_crew.specs.declared.cards.Accepted.{Accepted}
 use Rattle.run_crew.specs.declared.cards.Cards.{Cards}
 use Rattle.run_keeping.specs.Keeping.{HasLeftMore, tears_of}
+use Rattle.run_keeping.specs.Later.{RestsBy}
 
--- a card, by its session before and behind it: it goes on, and broke down where that was torn out; without a session it was not written
+-- a card, by its session before and behind it: it goes on, and broke down where that was torn out, and nowhere else; without a session it was not
+-- written
 pub record CardGoesOn (session after : Option Accepted) (old new : State) : Type 0 where
   pub keeps : HasLeftMore old new
   pub clock : old.clock ≤ new.clock
   pub tells : is_some new.image ≡ is_some old.image
   pub more : old.breakdowns ≤ new.breakdowns
   pub broken : HasBroken old new (tears_of session - tears_of after)
+  pub rests : RestsBy session after old new
   pub bare : session ≡ None → (n : ℕ) (x : List ℕ) → new.left_since n x → old.left_since n x
 
 -- UNIT AND CARDS GO ON, by the sessions before and behind it

@@ -23,6 +23,7 @@ use Rattle.run_outcome.specs.declared.outcome.Outcome.{Outcome}
 use Rattle.run_recorded.specs.Origin.{Origin, first_of}
 use Rattle.run_keeping.specs.declared.keeper.Keeper.{Keeper}
 use Rattle.run_keeping.specs.Keeping.{UnitReady}
+use Rattle.run_keeping.specs.Later.{IsCalm}
 use Rattle.run_entering.specs.declared.lines.Entering.{Entering}
 use Rattle.run_entering.specs.Entering.{Way, most_owed}
 use Rattle.run_entering.specs.Entered.{HasEntered}
@@ -72,7 +73,7 @@ pub record HasGone (e : Entering) (failed : Bool) (k v : Keeper) (noted noted_af
   pub entered : HasEntered e failed k v noted noted_after out after unit unit_after card card_after way
   pub books : BooksEntered way e failed k v unit unit_after card card_after others
   pub cause : HasCause unit unit_after failed
-  pub more : card.breakdowns ≤ card_after.breakdowns
+  pub calm : IsCalm out.breaks.items after.breaks.items card card_after
   -- the card was only read, or it told of no later time
   pub in_time : LeavesOnly card card_after Unchanged ⊎ IfSome card.image (λ x. (y : List ℕ) × card.may_leave y × ((own_view y).stored ≤ e.at.second))
 

@@ -28,3 +28,5 @@ pub mod RunCards
 pub mod CardWrites
 pub mod Closings
 pub mod Comings
+pub mod Words
+pub mod Truths

@@ -27,6 +27,7 @@ use Rattle.run_keeping.specs.Books.{AreBooked}
 use Rattle.run_keeping.specs.Decided.{MayBookAll, IsCutSo, EndsAll, carried_by}
 use Rattle.run_within.specs.Recorded.{Values, carried}
 use Rattle.run_within.specs.Within.{Beginning, IsLeaving, Within, GoesOn, GoesOnSo, CutWithin}
+use Rattle.run_keeping.specs.Later.{RestBy}
 use Rattle.run_acts.specs.Rounds.{Point, IsPoint, told_values, moment_of, keeping_of, HasBrokenDown, HaveBroken}
 
 -- the record at a point of a second, where keeper, marks and breaks are these and these minutes are still to be kept
@@ -42,13 +43,14 @@ abbrev pub carried_at : (o : Origin) (done : List TraceSecond) (s : TraceSecond)
 carried_at o done s q rest t v d w = carried (told_values t v) w.due (kept_all w.new w.b.run.book) w.standing w.brought
 
 -- WHAT IS KNOWN of a keeping beside its rounds: at most four minutes are over, and those that are to be kept are; two cards were present at
--- most; and behind it devices have left more, broken down no less, and a card that is not as it was has a session.
+-- most; and behind it devices have left more, the unit broke down no less, and a card that is not as it was has a session.
 pub record KeepsSo (o : Origin) (done : List TraceSecond) (s : TraceSecond) (q : Point) (all : List Minute) (t : Told) (v : Values) (d e : Devices) (w : InRounds o done s q all t v d) : Type 0 where
   pub point : IsPoint s q
   pub few : s.number / 60 ≤ w.from + 4
   pub over : All (λ (m : Minute). m.minute < s.number / 60) all
   pub two : (m : ℕ) → AreTwo (present_at t.keeper.cabin m).driver (present_at t.keeper.cabin m).codriver
   pub goes : GoesOnSo o t.keeper.cabin.cards d e
+  pub unit : breakdowns_of d Recorder ≤ breakdowns_of e Recorder
 
 -- what was travelled, behind these
 abbrev pub travelled_at : (o : Origin) (done : List TraceSecond) (s : TraceSecond) (q : Point) (rest : List Minute) (t : Told) (v : Values) (d : Devices) → InRounds o done s q rest t v d → List Done → Travel
@@ -67,6 +69,7 @@ TheMinutesAreOver d = (o : Origin) (done : List TraceSecond) (s : TraceSecond) (
 abbrev pub TheMinutesAreKept : (d e : Devices) → Type 0
 TheMinutesAreKept d e = (o : Origin) (done : List TraceSecond) (s : TraceSecond) (q : Point) (all : List Minute) (t : Told) (v : Values) → (w : InRounds o done s q all t v d) → KeepsSo o done s q all t v d e w →
     (xs : List Done) (rest : List Minute) → all ≡ map (λ (x : Done). x.minute) xs ++ rest → AreRounds t.keeper (moment_of s q) xs t → HaveBroken t.keeper xs (breakdowns_of d) (breakdowns_of e) →
+    RestBy t.keeper.cabin.cards (told_by t.keeper (moment_of s q) xs t).keeper.cabin.cards d e →
     AreBooked o.found (carried_by t.keeper xs (carried_at o done s q all t v d w)) (told_by t.keeper (moment_of s q) xs t).keeper.cabin.cards (told_by t.keeper (moment_of s q) xs t).marks.items e →
     HasTravelled (odometer_at o.recording.unit) (carried_by t.keeper xs (carried_at o done s q all t v d w)).book (travelled_at o done s q all t v d w xs) e.unit →
     GoOn o done s q rest (told_by t.keeper (moment_of s q) xs t) v e w.b (w.from + length xs)
@@ -98,15 +101,16 @@ abbrev pub TheKeepingFails : (d e : Devices) → Type 0
 TheKeepingFails d e = (o : Origin) (done : List TraceSecond) (s : TraceSecond) (q : Point) (all : List Minute) (t u : Told) (v : Values) → (w : InRounds o done s q all t v d) → KeepsSo o done s q all t v d e w →
     (xs : List Done) (m : Minute) (rest : List Minute) (round : Option Round) → all ≡ map (λ (x : Done). x.minute) xs ++ m ∷ rest → AreRounds t.keeper (moment_of s q) xs t → HaveBroken t.keeper xs (breakdowns_of d) (breakdowns_of e) →
     IsLast t.keeper m (moment_of s q) (told_by t.keeper (moment_of s q) xs t) u round → HasBrokenLast t.keeper m round (breakdowns_of d) (breakdowns_of e) → RoseBy 1 (breakdowns_of d Recorder) (breakdowns_of e Recorder) →
-    IsCutSo o.found (odometer_at o.recording.unit) t.keeper m round (carried_by t.keeper xs (carried_at o done s q all t v d w)) (travelled_at o done s q all t v d w xs) e →
+    RestBy t.keeper.cabin.cards u.keeper.cabin.cards d e → IsCutSo o.found (odometer_at o.recording.unit) t.keeper m round (carried_by t.keeper xs (carried_at o done s q all t v d w)) (travelled_at o done s q all t v d w xs) e →
     CutWithin o done s q.at q.waits q.speed (told_values u v) e
 
 -- ---- by how far it came
 
--- each card broke down as often as it was torn out
+-- each card broke down as often as it was torn out, and else not at all
 pub record HaveBrokenOff (t u : Told) (d e : Devices) : Type 0 where
   pub a : HasBroken d.card_a e.card_a (tears_of t.keeper.cabin.cards.a.accepted - tears_of u.keeper.cabin.cards.a.accepted)
   pub b : HasBroken d.card_b e.card_b (tears_of t.keeper.cabin.cards.b.accepted - tears_of u.keeper.cabin.cards.b.accepted)
+  pub rests : RestBy t.keeper.cabin.cards u.keeper.cabin.cards d e
 
 -- the record behind a keeping: nothing is still to be kept, or the power is about to be cut
 abbrev pub IsKeptTo : (failed : Bool) → (o : Origin) (done : List TraceSecond) (s : TraceSecond) (q : Point) (all : List Minute) (t u : Told) (v : Values) (d e : Devices) → InRounds o done s q all t v d → Type 0

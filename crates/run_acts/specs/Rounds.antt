@@ -5,6 +5,7 @@ use Rattle.trace_model.specs.declared.Card.{Card}
 use Rattle.trace_model.specs.declared.Card.TheVariants.{A, B}
 use Rattle.trace_model.specs.Trace.{TraceSecond}
 use Rattle.run_model.specs.declared.Device.{Device}
+use Rattle.run_model.specs.declared.Device.TheVariants.{Unit as Recorder}
 use Rattle.minute_model.specs.declared.Minute.{Minute}
 use Rattle.minute_model.specs.Span.{Span, count_from, ungiven_of}
 use Rattle.log_model.specs.declared.lines.Break.{Break}
@@ -17,18 +18,18 @@ use Rattle.joint_rule.specs.Rules.{Standing}
 use Rattle.unit_course.specs.Turn.{span_at}
 use Rattle.slot_machine.specs.declared.seats.Present.{Present}
 use Rattle.run_crew.specs.declared.cabin.Cabin.{Cabin}
+use Rattle.run_crew.specs.declared.cards.Cards.{Cards}
 use Rattle.run_crew.specs.Cards.{session_of}
 use Rattle.run_rule.specs.Between.{Carried}
 use Rattle.run_course.specs.Presence.{SlotsTell}
 use Rattle.run_course.specs.Seconds.{kept_all}
 use Rattle.run_moments.specs.Moment.{Moment}
-use Rattle.run_moments.specs.Telling.{IsMore}
 use Rattle.run_moments.specs.Kept.{StaysOut, HasDecided}
 use Rattle.run_present.specs.Presence.{PresentStand, SessionsStand}
 use Rattle.run_recorded.specs.Origin.{Origin, rule_of, start_at}
 use Rattle.run_told.specs.Told.{AreFoundCards, AreEarly}
 use Rattle.run_keeping.specs.declared.keeper.Moment.{Moment as KeepingAt}
-use Rattle.run_keeping.specs.Keeping.{Fate, Fell, is_this}
+use Rattle.run_keeping.specs.Keeping.{Fate, Fell, is_this, tears_of}
 use Rattle.run_keeping.specs.declared.keeper.Keeper.{Keeper}
 use Rattle.run_keeping.specs.Minutes.{Told, Round, Done, present_at}
 use Rattle.run_keeping.specs.Books.{standing_by}
@@ -83,13 +84,19 @@ pub record Outset : Type 0 where
   pub low : ℕ
   pub high : ℕ
 
+-- a card has broken down as often as it will have; or as often as at first, and has not lost a session since
+abbrev pub StandsOrFell : (old cards : Cards) → (first last now : Device → ℕ) → Card → Type 0
+StandsOrFell old cards first last now card =
+    (now (device_of card) ≡ last (device_of card)) ⊎ ((now (device_of card) ≡ first (device_of card)) × (tears_of (session_of old card) ≤ tears_of (session_of cards card)))
+
 -- SLOTS AND LOG at a point of a second, where the minutes before `from` are kept and the breakdowns will have risen from `first` to `last`:
 -- the log tells of each card that was torn out, and so the slots have those that sit, and tell who was present and stands so.
 pub record Slate (o : Origin) (done : List TraceSecond) (s : TraceSecond) (q : Point) (b : Beginning) (os : Outset) (from : ℕ) (past : List HistoryMinute) (log : RunLog) (standing : Card → Standing) (cabin : Cabin) (first last : Device → ℕ) : Type 0 where
   pub point : IsPoint s q
   pub now : Device → ℕ
   pub moment : Moment b.run (went b.run.log done).before s q.at log q.waits b.broken now
-  pub rise : IsMore now last
+  pub rise : now Recorder ≤ last Recorder
+  pub fell : (card : Card) → StandsOrFell os.cabin.cards cabin.cards first last now card
   pub rests : (card : Card) → is_some (session_of cabin.cards card) ≡ true → now (device_of card) ≡ first (device_of card)
   pub tells : SlotsTell (start_at o) (told_before b done) past (course_in b done s q.at log).left s.number from (course_in b done s q.at log).slots cabin.slots
   pub present : PresentStand o.found standing (told_before b done) (course_in b done s q.at log) s.number from cabin

@@ -39,7 +39,7 @@ use Rattle.unit_course.proofs.Spans.{cuts_of, cuts-append, cut-push}
 use Rattle.run_course.specs.Moments.{and_break}
 use Rattle.run_course.specs.Followed.{Progress, IsBreakBefore, Followed, HadActions}
 use Rattle.run_course.specs.Seconds.{next_told}
-use Rattle.run_course.specs.Caused.{failures, AreCaused, WellCaused, ASecondIsCaused, FoundStaysCaused, AnOffLineIsCaused, AnOffCutIsCaused, ARunIsCaused}
+use Rattle.run_course.specs.Caused.{StandsBy, failures, AreCaused, WellCaused, ASecondIsCaused, FoundStaysCaused, AnOffLineIsCaused, AnOffCutIsCaused, ARunIsCaused}
 use Rattle.run_course.proofs.Lookups.{cut-by, cut-first, break-more}
 use Rattle.run_course.proofs.Logs.{BreaksBefore, cut-rest, same-at, other-number, breaks-later, breaks-push, found_log, went-found, same-found}
 use Rattle.run_course.proofs.Steps.{now-told, lit-parts, cut-parts, cuts-bound}
@@ -104,6 +104,9 @@ rose-sum n m before mid now (inr top) (inl high) = inr (full mid now m top high)
     full : (mid now m : ℕ) → 2 ^ 64 - 1 ≤ mid → mid + m ≤ now → 2 ^ 64 - 1 ≤ now
     full mid now m top high = omega (arith, top, high)
 rose-sum n m before mid now (inr top) (inr most) = inr most
+
+stands-sum : (n m before mid now : ℕ) → StandsBy n before mid → StandsBy m mid now → StandsBy (n + m) before now
+stands-sum n m before mid now first next = λ none. let a : n ≡ 0 = omega (arith, none) in let b : m ≡ 0 = omega (arith, none) in next b ∙ first a
 
 -- HOW MANY ACTIONS HAD BEGUN
 numbers-from : (n : ℕ) (ss : List TraceSecond) (s : TraceSecond) → AreInOrder n ss → Contains ss s → (n ≤ s.number) × (s.number < n + length ss)
@@ -391,6 +394,12 @@ second-caused rule start from first done p f s later g refused more_refused befo
           ∙ ap (λ (cs : List Card). length cs) (filter-append (same_card card) (cards_torn told) (cards_torn (t ∷ [])))
           ∙ length-append (filter (same_card card) (cards_torn told)) (filter (same_card card) (cards_torn (t ∷ [])))))
           (rose-sum (length (filter (same_card card) (cards_torn told))) (length (filter (same_card card) (cards_torn (t ∷ [])))) (before (device_of card)) (mid (device_of card)) (now (device_of card)) (c.torn_cards card) (a.torn_cards card));
+      calm_cards = λ card. subst (λ (n : ℕ). StandsBy n (before (device_of card)) (now (device_of card)))
+          (sym (ap (λ (ts : List Told). length (filter (same_card card) (cards_torn ts))) now_
+          ∙ ap (λ (cs : List Card). length (filter (same_card card) cs)) (cards-more told (t ∷ []))
+          ∙ ap (λ (cs : List Card). length cs) (filter-append (same_card card) (cards_torn told) (cards_torn (t ∷ [])))
+          ∙ length-append (filter (same_card card) (cards_torn told)) (filter (same_card card) (cards_torn (t ∷ [])))))
+          (stands-sum (length (filter (same_card card) (cards_torn told))) (length (filter (same_card card) (cards_torn (t ∷ [])))) (before (device_of card)) (mid (device_of card)) (now (device_of card)) (c.calm_cards card) (a.calm_cards card));
       begun = subst (AllByRecursion (IsBegun (done ++ s ∷ []))) (sym g.breaks.1)
           (each-more (IsBegun (done ++ s ∷ [])) p.log.breaks g.breaks.0
           (begun-old p.next done (s ∷ []) p.log.breaks (λ x at. one-number s x p.next g.number at) (breaks-next rule start from first done p f) c.begun)
@@ -455,6 +464,7 @@ run-caused now p is = record {
     tear_lines = refl;
     failed_tears = λ slot. refl;
     torn_cards = λ card. inl (omega arith);
+    calm_cards = λ card none. refl;
     begun = tt;
     moments = tt;
     order = tt;
@@ -491,6 +501,7 @@ found-caused rule start from first done p f k before now w q is darker =
       tear_lines = ap (flat_map places) (tears-found false p.unfound k p.log.breaks) ∙ c.tear_lines ∙ ap pulled_of (sym told_);
       failed_tears = λ slot. ap (λ (bs : List Break). in_the_slot slot (flat_map places bs)) (tears-found true p.unfound k p.log.breaks) ∙ c.failed_tears slot ∙ ap (λ (ts : List Told). in_the_slot slot (torn_of ts)) (sym told_);
       torn_cards = λ card. subst (λ (ts : List Told). RoseBy (length (filter (same_card card) (cards_torn ts))) (before (device_of card)) (now (device_of card))) (sym told_) (c.torn_cards card);
+      calm_cards = λ card. subst (λ (ts : List Told). StandsBy (length (filter (same_card card) (cards_torn ts))) (before (device_of card)) (now (device_of card))) (sym told_) (c.calm_cards card);
       begun = each-found (IsBegun done) (λ second old k begun failed h. h) p.unfound k p.log.breaks c.begun;
       moments = subst (λ (ts : List Told). AllByRecursion (HasMoment ts) later.breaks) (sym told_) (each-found (HasMoment (went p.log done).told) (λ second old k begun failed h. h) p.unfound k p.log.breaks c.moments);
       order = in_time-found p.unfound k p.log.breaks c.order;
@@ -522,6 +533,8 @@ off-one from before now log done next lines c over =
         failed_tears = λ slot. c.failed_tears slot ∙ sym (ap (λ (ts : List Told). in_the_slot slot (torn_of ts)) now_ ∙ ap (λ (xs : List (ℕ × Phase × Slot)). in_the_slot slot xs) (torn-more told (t ∷ []) ∙ append-nil (torn_of told)));
         torn_cards = λ card. subst (λ (cs : List Card). RoseBy (length (filter (same_card card) cs)) (before (device_of card)) (now (device_of card)))
             (sym (ap cards_torn now_ ∙ cards-more told (t ∷ []) ∙ append-nil (cards_torn told))) (c.torn_cards card);
+        calm_cards = λ card. subst (λ (cs : List Card). StandsBy (length (filter (same_card card) cs)) (before (device_of card)) (now (device_of card)))
+            (sym (ap cards_torn now_ ∙ cards-more told (t ∷ []) ∙ append-nil (cards_torn told))) (c.calm_cards card);
         begun = begun-old next done (off_second next ∷ []) log.breaks
             (λ x at. ⊎_elim (λ none. absurd (omega (arith, none.1))) (λ (same : off_second next ≡ x). let e : next ≡ x.number = ap (λ (y : TraceSecond). y.number) same in omega (arith, e)) (Contains-push_cases [] (off_second next) x at)) lines c.begun;
         moments = subst (λ (ts : List Told). AllByRecursion (HasMoment ts) log.breaks) (sym now_)
@@ -636,6 +649,8 @@ off-cut-caused rule start from first done p g t span is none n before now w q lo
           (ap torn_of parts.2 ∙ torn-more front (x ∷ []) ∙ sym (ap torn_of now_ ∙ torn-more (front ++ y ∷ []) (t0 ∷ []) ∙ append-nil (torn_of (front ++ y ∷ [])) ∙ torn-more front (y ∷ [])));
       torn_cards = λ card. subst (λ (cs : List Card). RoseBy (length (filter (same_card card) cs)) (before (device_of card)) (now (device_of card)))
           (ap cards_torn parts.2 ∙ cards-more front (x ∷ []) ∙ sym (ap cards_torn now_ ∙ cards-more (front ++ y ∷ []) (t0 ∷ []) ∙ append-nil (cards_torn (front ++ y ∷ [])) ∙ cards-more front (y ∷ []))) (c.torn_cards card);
+      calm_cards = λ card. subst (λ (cs : List Card). StandsBy (length (filter (same_card card) cs)) (before (device_of card)) (now (device_of card)))
+          (ap cards_torn parts.2 ∙ cards-more front (x ∷ []) ∙ sym (ap cards_torn now_ ∙ cards-more (front ++ y ∷ []) (t0 ∷ []) ∙ append-nil (cards_torn (front ++ y ∷ [])) ∙ cards-more front (y ∷ []))) (c.calm_cards card);
       begun = each-more (IsBegun (done ++ off_second p.next ∷ [])) p.log.breaks (cut ∷ [])
           (begun-old p.next done (off_second p.next ∷ []) p.log.breaks
           (λ z at. ⊎_elim (λ none. absurd (omega (arith, none.1))) (λ (same : off_second p.next ≡ z). let e : p.next ≡ z.number = ap (λ (z : TraceSecond). z.number) same in omega (arith, e)) (Contains-push_cases [] (off_second p.next) z at))

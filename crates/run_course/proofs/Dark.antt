@@ -27,7 +27,7 @@ use Rattle.unit_course.proofs.Parts.{order-behind}
 use Rattle.unit_course.proofs.Spans.{cuts_of, cuts-append}
 use Rattle.run_course.specs.Followed.{IsLost}
 use Rattle.run_course.specs.Presence.{SlotsTell}
-use Rattle.run_course.specs.Caused.{failures, AreCaused}
+use Rattle.run_course.specs.Caused.{StandsBy, failures, AreCaused}
 use Rattle.run_course.specs.Dark.{dark_told, all_dark, LostSecondsAreTold, OffSecondsAreTold, ADarkMinuteIsCaused, ADarkMinuteStaysComplete, OffSecondsStayComplete, DarkSecondsTell}
 use Rattle.run_course.proofs.Logs.{BreaksBefore, breaks-later, went-refused, refused-at}
 use Rattle.run_course.proofs.Presence.{time-passes, second-gone}
@@ -134,6 +134,8 @@ dark-one before now log xs done s lost some given lines are c over =
         failed_tears = λ slot. c.failed_tears slot ∙ sym (ap (λ (ts : List Told). in_the_slot slot (torn_of ts)) now_ ∙ ap (λ (ys : List (ℕ × Phase × Slot)). in_the_slot slot ys) (torn-more told (t ∷ []) ∙ append-nil (torn_of told)));
         torn_cards = λ card. subst (λ (cs : List Card). RoseBy (length (filter (same_card card) cs)) (before (device_of card)) (now (device_of card)))
             (sym (ap cards_torn now_ ∙ cards-more told (t ∷ []) ∙ append-nil (cards_torn told))) (c.torn_cards card);
+        calm_cards = λ card. subst (λ (cs : List Card). StandsBy (length (filter (same_card card) cs)) (before (device_of card)) (now (device_of card)))
+            (sym (ap cards_torn now_ ∙ cards-more told (t ∷ []) ∙ append-nil (cards_torn told))) (c.calm_cards card);
         begun = begun-old s.number done (s ∷ []) log.breaks
             (λ x at. ⊎_elim (λ none. absurd (omega (arith, none.1))) (λ (same : s ≡ x). let e : s.number ≡ x.number = ap (λ (y : TraceSecond). y.number) same in omega (arith, e)) (Contains-push_cases [] s x at)) lines c.begun;
         moments = subst (λ (ts : List Told). AllByRecursion (HasMoment ts) log.breaks) (sym now_)

@@ -323,6 +323,7 @@ caused-one rule start from first speed before now done p f t span is none within
       tear_lines = refl;
       failed_tears = λ slot. refl;
       torn_cards = λ card. rose-none (now (device_of card));
+      calm_cards = λ card none. refl;
       begun = tt;
       moments = tt;
       order = tt;

@@ -22,11 +22,16 @@ use Rattle.run_course.specs.Moments.{and_break}
 use Rattle.run_course.specs.Followed.{Progress, Followed}
 use Rattle.run_course.specs.Seconds.{GoesOnBy, next_told}
 
+-- a count that did not rise by any stands where it was
+abbrev pub StandsBy : ℕ → ℕ → ℕ → Type 0
+StandsBy n before now = n ≡ 0 → now ≡ before
+
 -- the seconds of the cuts that failed calls made
 abbrev pub failures : RunLog → List ℕ
 failures log = map second_of (cuts true log)
 
--- all causes of a run log so far but the verdicts, each as HasCauses of log_model has it
+-- all causes of a run log so far but the verdicts, each as HasCauses of log_model has it; and a card of which no tear by a failed call is told has not
+-- broken down
 pub record AreCaused (before now : Device → ℕ) (ss : List TraceSecond) (log : RunLog) : Type 0 where
   pub refused : map (λ r. (r.second, r.fault)) log.refused ≡ refusals_of (went log ss).told
   pub cut_seconds : map second_of (filter is_cut log.breaks) ≡ map (λ t. t.second.number) (filter (λ t. t.cut) (went log ss).told)
@@ -35,13 +40,14 @@ pub record AreCaused (before now : Device → ℕ) (ss : List TraceSecond) (log 
   pub tear_lines : flat_map places (tears false log) ≡ pulled_of (went log ss).told
   pub failed_tears : (slot : Slot) → in_the_slot slot (flat_map places (tears true log)) ≡ in_the_slot slot (torn_of (went log ss).told)
   pub torn_cards : (card : Card) → RoseBy (length (filter (same_card card) (cards_torn (went log ss).told))) (before (device_of card)) (now (device_of card))
+  pub calm_cards : (card : Card) → StandsBy (length (filter (same_card card) (cards_torn (went log ss).told))) (before (device_of card)) (now (device_of card))
   pub begun : AllByRecursion (IsBegun ss) log.breaks
   pub moments : AllByRecursion (HasMoment (went log ss).told) log.breaks
   pub order : AreInTime log.breaks
   pub finds : map (λ f. (f.second, In f.begun, f.slot, f.verdict)) log.finds ≡ finds_of (went log ss).told
   pub judged : (t : Told) (e : Visit) → Contains (went log ss).told t → Contains t.course.entered e → IsJudged log t e
 
--- What the new lines of a second have to tell: exactly what happened in it, each failed call a breakdown.
+-- What the new lines of a second have to tell: exactly what happened in it, each failed call a breakdown, and each breakdown of a card told.
 pub record AreNewCauses (mid now : Device → ℕ) (breaks : List Break) (finds : List Find) (refused : List Refused) (later : RunLog) (s : TraceSecond) (t : Told) : Type 0 where
   pub refusals : map (λ r. (r.second, r.fault)) refused ≡ refusals_of (t ∷ [])
   pub cut_seconds : map second_of (filter is_cut breaks) ≡ map (λ t. t.second.number) (filter (λ t. t.cut) (t ∷ []))
@@ -50,6 +56,7 @@ pub record AreNewCauses (mid now : Device → ℕ) (breaks : List Break) (finds 
   pub tear_lines : flat_map places (tears false (log_of breaks)) ≡ pulled_of (t ∷ [])
   pub failed_tears : (slot : Slot) → in_the_slot slot (flat_map places (tears true (log_of breaks))) ≡ in_the_slot slot (torn_of (t ∷ []))
   pub torn_cards : (card : Card) → RoseBy (length (filter (same_card card) (cards_torn (t ∷ [])))) (mid (device_of card)) (now (device_of card))
+  pub calm_cards : (card : Card) → StandsBy (length (filter (same_card card) (cards_torn (t ∷ [])))) (mid (device_of card)) (now (device_of card))
   pub begun : AllByRecursion (IsBegun (s ∷ [])) breaks
   pub moments : AllByRecursion (IsAtPowerOn t.starts) breaks
   pub order : AreInTime breaks

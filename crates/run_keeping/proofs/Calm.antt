@@ -28,7 +28,7 @@ tears-behind xs ys =
     ∙ length-append (filter (λ (b : Break). not (is_cut b) && has_failed b) xs) (filter (λ (b : Break). not (is_cut b) && has_failed b) ys)
 
 -- lines more, without such a tear
-none-told : (before after more : List Break) → after ≡ before ++ more → failed_tears more ≡ 0 → failed_tears after ≡ failed_tears before
+pub none-told : (before after more : List Break) → after ≡ before ++ more → failed_tears more ≡ 0 → failed_tears after ≡ failed_tears before
 none-told before after more is none = let both = ap failed_tears is ∙ tears-behind before more in omega (arith, both, none)
 
 -- what was found after the cuts

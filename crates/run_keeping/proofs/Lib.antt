@@ -23,3 +23,4 @@ pub mod MarksBooked
 pub mod Faults
 pub mod Later
 pub mod Calm
+pub mod Rests

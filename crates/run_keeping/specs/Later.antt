@@ -1,9 +1,12 @@
 -- What holds of devices after any calls, whatever they tell (profile).
-use Rattle.std.specs.Prelude.{◌≡◌, ◌⊎◌, ◌≤◌, ◌&&◌, ℕ, not, List, length, filter}
+use Rattle.std.specs.Prelude.{◌≡◌, ◌⊎◌, ◌≤◌, ◌&&◌, ℕ, not, Option, List, length, filter}
 use Rattle.tach_media.specs.Medium.{State, Rose}
 use Rattle.log_model.specs.declared.lines.Break.{Break}
 use Rattle.log_model.specs.Causes.{is_cut, has_failed}
 use Rattle.safety_model.specs.Safe.{Devices}
+use Rattle.run_crew.specs.declared.cards.Accepted.{Accepted}
+use Rattle.run_crew.specs.declared.cards.Cards.{Cards}
+use Rattle.run_keeping.specs.Keeping.{tears_of}
 
 -- A DEVICE AFTER SOME CALLS: neither its clock nor a count has fallen, and it broke down only where a call failed.
 pub record IsLater (old new : State) : Type 0 where
@@ -31,3 +34,12 @@ pub record IsCalm (before after : List Break) (old new : State) : Type 0 where
 pub record AreCalm (before after : List Break) (d e : Devices) : Type 0 where
   pub card_a : IsCalm before after d.card_a e.card_a
   pub card_b : IsCalm before after d.card_b e.card_b
+
+-- A CARD BY ITS SESSION before calls and behind them: where that goes on, or there was none, it has not broken down.
+abbrev pub RestsBy : (session after : Option Accepted) → (old new : State) → Type 0
+RestsBy session after old new = tears_of session ≤ tears_of after → new.breakdowns ≡ old.breakdowns
+
+-- so it is of both
+pub record RestBy (cards after : Cards) (d e : Devices) : Type 0 where
+  pub card_a : RestsBy cards.a.accepted after.a.accepted d.card_a e.card_a
+  pub card_b : RestsBy cards.b.accepted after.b.accepted d.card_b e.card_b

@@ -9,7 +9,7 @@ ghost use Rattle.unit_notes.specs.Journal.{LeavesJournal};
 ghost use Rattle.run_crew.specs.Cards.{known_of, session_of};
 ghost use Rattle.run_crew.specs.Cabin.{Stands, IsBehind, crew_of};
 ghost use Rattle.run_keeping.specs.Owing.{BooksCard, BooksBrought};
-ghost use Rattle.run_keeping.specs.Later.{IsLater, AreLater, AreCalm};
+ghost use Rattle.run_keeping.specs.Later.{IsLater, AreLater, AreCalm, RestBy};
 ghost use Rattle.run_rule.specs.Between.{devices};
 ghost use Rattle.run_keeping.specs.Keeping.{UnitReady, CardReady, HasItsRow, HasLeftMore, IsReady, AreEmptied, SessionsGoOn, Fate, IsBrought, IsNotingFault, tears_of, session_at, state_at, is_this};
 
@@ -146,6 +146,7 @@ impl Keeper {
         ensures stands { (from : ℕ) (leaving : Option Card) → from ≤ kept.now.entry.minute + 1 → Stands from leaving self.old.cabin → Stands (kept.now.entry.minute + 1) leaving self.new.cabin }
         ensures later { AreLater (devices (M.state unit.old) (C.state card_a.old) (D.state card_b.old)) (devices (M.state unit.new) (C.state card_a.new) (D.state card_b.new)) }
         ensures calm { AreCalm breaks.old.items breaks.new.items (devices (M.state unit.old) (C.state card_a.old) (D.state card_b.old)) (devices (M.state unit.new) (C.state card_a.new) (D.state card_b.new)) }
+        ensures rests { RestBy self.old.cabin.cards self.new.cabin.cards (devices (M.state unit.old) (C.state card_a.old) (D.state card_b.old)) (devices (M.state unit.new) (C.state card_a.new) (D.state card_b.new)) }
     {
         match present {
             None => Ok(()),

@@ -15,7 +15,7 @@ ghost use Rattle.run_keeping.specs.Keeping.{TellsPresent};
 ghost use Rattle.run_keeping.specs.Minutes.{Round, IsMinute, unit_mark};
 ghost use Rattle.run_keeping.specs.Books.{BooksMinute};
 ghost use Rattle.run_keeping.specs.Owing.{BooksPut, BooksOwed, TravelsOn};
-ghost use Rattle.run_keeping.specs.Later.{AreLater, AreCalm};
+ghost use Rattle.run_keeping.specs.Later.{AreLater, AreCalm, RestBy};
 ghost use Rattle.run_rule.specs.Between.{devices};
 
 use crate::keeper::{Keeper, Moment};
@@ -216,6 +216,7 @@ impl Keeper {
         ensures cause { HasCause (M.state unit.old) (M.state unit.new) (is_err result) }
         ensures later { AreLater (devices (M.state unit.old) (C.state card_a.old) (D.state card_b.old)) (devices (M.state unit.new) (C.state card_a.new) (D.state card_b.new)) }
         ensures calm { AreCalm breaks.old.items breaks.new.items (devices (M.state unit.old) (C.state card_a.old) (D.state card_b.old)) (devices (M.state unit.new) (C.state card_a.new) (D.state card_b.new)) }
+        ensures rests { RestBy self.old.cabin.cards self.new.cabin.cards (devices (M.state unit.old) (C.state card_a.old) (D.state card_b.old)) (devices (M.state unit.new) (C.state card_a.new) (D.state card_b.new)) }
     {
         let driver = kept_in(minute, Slot::Driver);
         let codriver = kept_in(minute, Slot::CoDriver);

@@ -10,7 +10,7 @@ ghost use Rattle.run_crew.specs.Cabin.{Stands};
 ghost use Rattle.run_keeping.specs.Keeping.{IsReady, CardReady, HasItsRow, HasLeftMore, HaveRows, AreEmptied, SessionsGoOn, tears_of, most_tears};
 ghost use Rattle.run_keeping.specs.Minutes.{odometer_by, kept_of, AreDue, kept_after, AreKeptUpTo, Reach, IsReach};
 ghost use Rattle.run_keeping.specs.Decided.{BooksAll};
-ghost use Rattle.run_keeping.specs.Later.{AreLater, AreCalm};
+ghost use Rattle.run_keeping.specs.Later.{AreLater, AreCalm, RestBy};
 ghost use Rattle.run_rule.specs.Between.{devices};
 
 use crate::keeper::{Keeper, Moment};
@@ -121,6 +121,7 @@ impl Keeper {
         ensures cause { HasCause (M.state unit.old) (M.state unit.new) (is_err result) }
         ensures later { AreLater (devices (M.state unit.old) (C.state card_a.old) (D.state card_b.old)) (devices (M.state unit.new) (C.state card_a.new) (D.state card_b.new)) }
         ensures calm { AreCalm breaks.old.items breaks.new.items (devices (M.state unit.old) (C.state card_a.old) (D.state card_b.old)) (devices (M.state unit.new) (C.state card_a.new) (D.state card_b.new)) }
+        ensures rests { RestBy self.old.cabin.cards self.new.cabin.cards (devices (M.state unit.old) (C.state card_a.old) (D.state card_b.old)) (devices (M.state unit.new) (C.state card_a.new) (D.state card_b.new)) }
     {
         for minute in decided {
             let present = self.cabin.present(minute.minute);

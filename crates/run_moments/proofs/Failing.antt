@@ -73,6 +73,7 @@ power-on_cut rule start from first done p f may s number given mid later more br
       tear_lines = refl;
       failed_tears = λ slot. refl;
       torn_cards = λ card. inl (omega arith);
+      calm_cards = λ card none. refl;
       begun = tt;
       moments = tt;
       told_finds = refl;

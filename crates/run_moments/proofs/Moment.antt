@@ -32,6 +32,7 @@ use Rattle.unit_course.specs.Followed.{Lit}
 use Rattle.unit_course.specs.Turn.{begins_with}
 use Rattle.run_course.specs.Moments.{and_break, and_find, and_refused}
 use Rattle.run_course.specs.Followed.{Progress, Followed}
+use Rattle.run_course.specs.Caused.{StandsBy}
 use Rattle.run_course.specs.Seconds.{GoesOnBy}
 use Rattle.run_course.proofs.Lookups.{break-more}
 use Rattle.run_course.proofs.Moments.{slot-still, both-still}
@@ -63,6 +64,7 @@ pub record HasCourse (starts : Bool) (p : Progress) (s : TraceSecond) (at : Phas
   pub tear_lines : flat_map places (tears false (log_of breaks)) ≡ visit_places s.number c.pulled
   pub failed_tears : (slot : Slot) → in_the_slot slot (flat_map places (tears true (log_of breaks))) ≡ in_the_slot slot (visit_places s.number c.torn)
   pub torn_cards : (card : Card) → RoseBy (times_of card c.torn) (mid (device_of card)) (now (device_of card))
+  pub calm_cards : (card : Card) → StandsBy (times_of card c.torn) (mid (device_of card)) (now (device_of card))
   pub begun : AllByRecursion (IsBegun (s ∷ [])) breaks
   pub moments : AllByRecursion (IsAtPowerOn starts) breaks
   pub told_finds : map find_as finds ≡ map (found_at s.number) c.found
@@ -89,6 +91,7 @@ parts-of p before s at log waits mid now m = record {
   tear_lines = m.tear_lines;
   failed_tears = m.failed_tears;
   torn_cards = m.torn_cards;
+  calm_cards = m.calm_cards;
   begun = m.begun;
   moments = m.moments;
   told_finds = m.told_finds;
@@ -118,6 +121,7 @@ moment-itself p before s at log waits mid now r here h = record {
   tear_lines = h.tear_lines;
   failed_tears = h.failed_tears;
   torn_cards = h.torn_cards;
+  calm_cards = h.calm_cards;
   begun = h.begun;
   moments = h.moments;
   told_finds = h.told_finds;
@@ -169,6 +173,7 @@ moment-begins rule start from first done p f span is s number power mid =
             tear_lines = refl;
             failed_tears = λ slot. refl;
             torn_cards = λ card. inl (omega arith);
+            calm_cards = λ card none. refl;
             begun = tt;
             moments = tt;
             told_finds = refl;
@@ -215,6 +220,7 @@ refused-more p s n log mid now c fault h =
       tear_lines = h.tear_lines;
       failed_tears = h.failed_tears;
       torn_cards = h.torn_cards;
+      calm_cards = h.calm_cards;
       begun = h.begun;
       moments = h.moments;
       told_finds = h.told_finds;
@@ -278,6 +284,7 @@ done-more p s n log waits mid now c d h same more enters = record {
   tear_lines = h.tear_lines ∙ ap (visit_places s.number) (sym same.pulled);
   failed_tears = λ slot. h.failed_tears slot ∙ ap (λ (vs : List Visit). in_the_slot slot (visit_places s.number vs)) (sym same.torn);
   torn_cards = λ card. subst (λ (vs : List Visit). RoseBy (times_of card vs) (mid (device_of card)) (now (device_of card))) (sym same.torn) (h.torn_cards card);
+  calm_cards = λ card. subst (λ (vs : List Visit). StandsBy (times_of card vs) (mid (device_of card)) (now (device_of card))) (sym same.torn) (h.calm_cards card);
   begun = h.begun;
   moments = h.moments;
   told_finds = h.told_finds ∙ ap (λ (fs : List (Visit × Verdict)). map (found_at s.number) fs) (sym same.found);
@@ -368,6 +375,7 @@ pulled-parts {starts = starts} p s n log mid now c slot x sits few h =
           ∙ ap (λ (k : ℕ). visit_places s.number c.pulled ++ (s.number, In k, slot) ∷ []) more);
       failed_tears = λ at. ap (in_the_slot at) (places-more true h.breaks b ∙ append-nil (flat_map places (tears true (log_of h.breaks)))) ∙ h.failed_tears at;
       torn_cards = h.torn_cards;
+      calm_cards = h.calm_cards;
       begun = push-each (IsBegun (s ∷ [])) h.breaks b h.begun (λ y at same. (only s y at (suc n) few, λ late. absurd (cc)));
       moments = push-each (IsAtPowerOn starts) h.breaks b h.moments (λ none early. absurd (omega (arith, none)));
       told_finds = h.told_finds;

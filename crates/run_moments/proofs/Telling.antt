@@ -34,7 +34,7 @@ use Rattle.run_course.specs.Moments.{and_break, and_find, finds_here, SameUpTo}
 use Rattle.run_course.specs.Followed.{Progress, Followed}
 use Rattle.run_course.specs.Seconds.{GoesOnBy, next_told}
 use Rattle.run_course.specs.Within.{IsFoundOf, not_begun}
-use Rattle.run_course.specs.Caused.{AreNewCauses}
+use Rattle.run_course.specs.Caused.{StandsBy, AreNewCauses}
 use Rattle.run_course.proofs.Lookups.{cut-by, cut-first, found-by, break-more, find-more}
 use Rattle.run_course.proofs.Moments.{both-still}
 use Rattle.run_course.proofs.Steps.{with-supply, went-same_}
@@ -65,6 +65,15 @@ rose-sum n m before mid now (inr top) (inl high) = inr (full mid now m top high)
     full mid now m top high = omega (arith, top, high)
 rose-sum n m before mid now (inr top) (inr most) = inr most
 
+stands-sum : (n m before mid now : ℕ) → StandsBy n before mid → StandsBy m mid now → StandsBy (n + m) before now
+stands-sum n m before mid now first next = λ none. let a : n ≡ 0 = omega (arith, none) in let b : m ≡ 0 = omega (arith, none) in next b ∙ first a
+
+stands-more : (n before mid now : ℕ) → StandsBy n before mid → now ≡ mid → StandsBy n before now
+stands-more n before mid now first same = λ none. same ∙ first none
+
+rests : (mid now : ℕ) → now ≡ mid → mid ≤ now
+rests mid now same = omega (arith, same)
+
 pub each-of : {X : Type 0} (P : X → Type 0) (xs : List X) (x : X) → AllByRecursion P xs → Contains xs x → P x
 each-of P [] x h at = absurd (omega (arith, at.1))
 each-of P (y ∷ xs) x h at = ⊎_elim
@@ -90,10 +99,11 @@ breakdowns-only p before s at log waits mid now later m more =
       refused_are = h.refused_are;
       refusals = h.refusals;
       uncut = h.uncut;
-      unit = let le = h.unit in let on = more Recorder in omega (arith, le, on);
+      unit = let le = h.unit in let on = more.unit in omega (arith, le, on);
       tear_lines = h.tear_lines;
       failed_tears = h.failed_tears;
-      torn_cards = λ card. rose-more (times_of card (course_at log before s at).torn) (mid (device_of card)) (now (device_of card)) (later (device_of card)) (h.torn_cards card) (more (device_of card));
+      torn_cards = λ card. rose-more (times_of card (course_at log before s at).torn) (mid (device_of card)) (now (device_of card)) (later (device_of card)) (h.torn_cards card) (rests (now (device_of card)) (later (device_of card)) (more.cards card));
+      calm_cards = λ card. stands-more (times_of card (course_at log before s at).torn) (mid (device_of card)) (now (device_of card)) (later (device_of card)) (h.calm_cards card) (more.cards card);
       begun = h.begun;
       moments = h.moments;
       told_finds = h.told_finds;
@@ -110,8 +120,15 @@ one-time : (card other : Card) (at : Phase) (slot : Slot) (now later : Device �
     RoseBy (times_of other (record { phase = at; slot = slot; card = card } ∷ [])) (now (device_of other)) (later (device_of other))
 one-time A A at slot now later b = b.broke
 one-time B B at slot now later b = b.broke
-one-time A B at slot now later b = inl (let le = b.more (device_of B) in omega (arith, le))
-one-time B A at slot now later b = inl (let le = b.more (device_of A) in omega (arith, le))
+one-time A B at slot now later b = inl (let same = b.others B (λ is. (cc)) in omega (arith, same))
+one-time B A at slot now later b = inl (let same = b.others A (λ is. (cc)) in omega (arith, same))
+
+one-calm : (card other : Card) (at : Phase) (slot : Slot) (now later : Device → ℕ) → BrokeDown card now later →
+    StandsBy (times_of other (record { phase = at; slot = slot; card = card } ∷ [])) (now (device_of other)) (later (device_of other))
+one-calm A A at slot now later b = λ none. absurd (let one : 1 ≡ 0 = none in omega (arith, one))
+one-calm B B at slot now later b = λ none. absurd (let one : 1 ≡ 0 = none in omega (arith, one))
+one-calm A B at slot now later b = λ none. b.others B (λ is. (cc))
+one-calm B A at slot now later b = λ none. b.others A (λ is. (cc))
 
 only-one : (s y : TraceSecond) (P : TraceSecond → Type 0) → Contains (s ∷ []) y → P s → P y
 only-one s y P at h = ⊎_elim (λ none. absurd (omega (arith, none.1))) (λ (same : s ≡ y). subst P same h) (Contains-push_cases [] s y at)
@@ -148,7 +165,7 @@ torn-parts {starts = starts} p s at log waits mid now later c d slot b card is p
       refused_are = h.refused_are;
       refusals = h.refusals ∙ ap (map (refused_at s.number)) (sym t.is.refused);
       uncut = push-each (λ (b : Break). is_cut b ≡ false) h.breaks b h.uncut (ap is_cut is.2);
-      unit = let le = h.unit in let on = broke.more Recorder in omega (arith, le, on);
+      unit = let le = h.unit in let on = broke.unit in omega (arith, le, on);
       tear_lines = places-more false h.breaks b ∙ ap (λ (ps : List (ℕ × Phase × Slot)). flat_map places (tears false (log_of h.breaks)) ++ ps) mine.1
           ∙ append-nil (flat_map places (tears false (log_of h.breaks))) ∙ h.tear_lines ∙ ap (visit_places s.number) (sym t.is.pulled);
       failed_tears = λ other. ap (in_the_slot other) (places-more true h.breaks b ∙ ap (λ (ps : List (ℕ × Phase × Slot)). flat_map places (tears true (log_of h.breaks)) ++ ps) mine.0)
@@ -157,6 +174,8 @@ torn-parts {starts = starts} p s at log waits mid now later c d slot b card is p
           ∙ sym (t.torn other);
       torn_cards = λ other. subst (λ (n : ℕ). RoseBy n (mid (device_of other)) (later (device_of other))) (sym (t.times other))
           (rose-sum (times_of other c.torn) (times_of other one) (mid (device_of other)) (now (device_of other)) (later (device_of other)) (h.torn_cards other) (one-time card other at slot now later broke));
+      calm_cards = λ other. subst (λ (n : ℕ). StandsBy n (mid (device_of other)) (later (device_of other))) (sym (t.times other))
+          (stands-sum (times_of other c.torn) (times_of other one) (mid (device_of other)) (now (device_of other)) (later (device_of other)) (h.calm_cards other) (one-calm card other at slot now later broke));
       begun = push-each (IsBegun (s ∷ [])) h.breaks b h.begun (tear-begun_by s at slot true b is);
       moments = push-each (IsAtPowerOn starts) h.breaks b h.moments (tear-power starts s at slot true b is power);
       told_finds = h.told_finds ∙ ap (map (found_at s.number)) (sym t.is.found);
@@ -207,6 +226,7 @@ waits-no_more p before s at log waits fewer mid now m slot card torn but here =
       tear_lines = h.tear_lines;
       failed_tears = h.failed_tears;
       torn_cards = h.torn_cards;
+      calm_cards = h.calm_cards;
       begun = h.begun;
       moments = h.moments;
       told_finds = h.told_finds;
@@ -392,6 +412,7 @@ module _ (p : Progress) (s : TraceSecond) (at : Phase) (log : RunLog) (waits few
     tear_lines = h.tear_lines ∙ ap (visit_places s.number) (sym pulled);
     failed_tears = λ other. h.failed_tears other ∙ ap (λ (vs : List Visit). in_the_slot other (visit_places s.number vs)) (sym torn);
     torn_cards = λ card. subst (λ (vs : List Visit). RoseBy (times_of card vs) (mid (device_of card)) (now (device_of card))) (sym torn) (h.torn_cards card);
+    calm_cards = λ card. subst (λ (vs : List Visit). StandsBy (times_of card vs) (mid (device_of card)) (now (device_of card))) (sym torn) (h.calm_cards card);
     begun = h.begun;
     moments = h.moments;
     told_finds = map-append find_as h.finds (f ∷ []) ∙ ap (λ (xs : List (ℕ × Phase × Slot × Verdict)). xs ++ find_as f ∷ []) h.told_finds
@@ -461,6 +482,7 @@ keeping-comes p before s log mid now m =
       tear_lines = h.tear_lines;
       failed_tears = h.failed_tears;
       torn_cards = h.torn_cards;
+      calm_cards = h.calm_cards;
       begun = h.begun;
       moments = h.moments;
       told_finds = h.told_finds;
@@ -524,6 +546,7 @@ told-causes p s at log mid now c starts h = record {
   tear_lines = h.tear_lines ∙ sym (append-nil (visit_places s.number c.pulled));
   failed_tears = λ slot. h.failed_tears slot ∙ ap (in_the_slot slot) (sym (append-nil (visit_places s.number c.torn)));
   torn_cards = λ card. subst (λ (cs : List Card). RoseBy (length (filter (same_card card) cs)) (mid (device_of card)) (now (device_of card))) (sym (append-nil (map (λ (v : Visit). v.card) c.torn))) (h.torn_cards card);
+  calm_cards = λ card. subst (λ (cs : List Card). StandsBy (length (filter (same_card card) cs)) (mid (device_of card)) (now (device_of card))) (sym (append-nil (map (λ (v : Visit). v.card) c.torn))) (h.calm_cards card);
   begun = h.begun;
   moments = h.moments;
   order = tears-in_time p.next h.breaks h.uncut h.breaks_here;
@@ -560,6 +583,7 @@ starting same h = record {
   tear_lines = h.tear_lines;
   failed_tears = h.failed_tears;
   torn_cards = h.torn_cards;
+  calm_cards = h.calm_cards;
   begun = h.begun;
   moments = subst (λ (t : Bool). AllByRecursion (IsAtPowerOn t) h.breaks) same h.moments;
   told_finds = h.told_finds;
@@ -691,7 +715,9 @@ cut-causes p s at log waits mid now later c starts rest up left here more broke 
       failed_tears = λ slot. ap (in_the_slot slot) (places-more true h.breaks cut ∙ append-nil (flat_map places (tears true (log_of h.breaks)))) ∙ h.failed_tears slot
           ∙ ap (in_the_slot slot) (sym (append-nil (visit_places s.number c.torn)));
       torn_cards = λ card. subst (λ (cs : List Card). RoseBy (length (filter (same_card card) cs)) (mid (device_of card)) (later (device_of card))) (sym (append-nil (map (λ (v : Visit). v.card) c.torn)))
-          (rose-more (times_of card c.torn) (mid (device_of card)) (now (device_of card)) (later (device_of card)) (h.torn_cards card) (more (device_of card)));
+          (rose-more (times_of card c.torn) (mid (device_of card)) (now (device_of card)) (later (device_of card)) (h.torn_cards card) (rests (now (device_of card)) (later (device_of card)) (more.cards card)));
+      calm_cards = λ card. subst (λ (cs : List Card). StandsBy (length (filter (same_card card) cs)) (mid (device_of card)) (later (device_of card))) (sym (append-nil (map (λ (v : Visit). v.card) c.torn)))
+          (stands-more (times_of card c.torn) (mid (device_of card)) (now (device_of card)) (later (device_of card)) (h.calm_cards card) (more.cards card));
       begun = push-each (IsBegun (s ∷ [])) h.breaks cut h.begun (λ y among same. (only-one s y (λ (z : TraceSecond). begun_by s at ≤ length z.actions) among (begun-few s at rest left), λ failed. absurd (cc)));
       moments = push-each (IsAtPowerOn starts) h.breaks cut h.moments tt;
       order = cut-in_time p.next h.breaks cut h.uncut h.breaks_here h.number;

@@ -29,7 +29,7 @@ use Rattle.run_course.specs.Moments.{and_break, and_find, and_refused}
 use Rattle.run_course.specs.Followed.{Progress, Followed}
 use Rattle.run_course.specs.Seconds.{GoesOnBy, next_told}
 use Rattle.run_course.specs.Within.{not_begun}
-use Rattle.run_course.specs.Caused.{AreNewCauses}
+use Rattle.run_course.specs.Caused.{StandsBy, AreNewCauses}
 use Rattle.run_moments.specs.Reached.{IsBehind, course_at, moved_at, IsMoment, IsUpTo, IsTearAt, IsFindAt}
 use Rattle.run_moments.specs.Lines.{times_of}
 
@@ -64,8 +64,8 @@ pub record IsWaiting (waits : List Visit) (c : Course) (e : Visit) : Type 0 wher
   pub among : Contains waits e
   pub none : found_by c e ≡ []
 
--- THE MOMENT that a second has reached by a log. Its new lines are of this second; they tell what its course is, and no more, and each
--- failed call is a breakdown. These cards have entered at this moment, and nothing was found of them yet.
+-- THE MOMENT that a second has reached by a log. Its new lines are of this second; they tell what its course is, and no more, each
+-- failed call is a breakdown, and each breakdown of a card is told. These cards have entered at this moment, and nothing was found of them yet.
 pub record Moment (p : Progress) (before : Before) (s : TraceSecond) (at : Phase) (log : RunLog) (waits : List Visit) (mid now : Device → ℕ) : Type 0 where
   pub number : s.number ≡ p.next
   pub given : s.has_power ≡ true
@@ -85,6 +85,7 @@ pub record Moment (p : Progress) (before : Before) (s : TraceSecond) (at : Phase
   pub tear_lines : flat_map places (tears false (log_of breaks)) ≡ visit_places s.number (course_at log before s at).pulled
   pub failed_tears : (slot : Slot) → in_the_slot slot (flat_map places (tears true (log_of breaks))) ≡ in_the_slot slot (visit_places s.number (course_at log before s at).torn)
   pub torn_cards : (card : Card) → RoseBy (times_of card (course_at log before s at).torn) (mid (device_of card)) (now (device_of card))
+  pub calm_cards : (card : Card) → StandsBy (times_of card (course_at log before s at).torn) (mid (device_of card)) (now (device_of card))
   pub begun : AllByRecursion (IsBegun (s ∷ [])) breaks
   pub moments : AllByRecursion (IsAtPowerOn (not before.running)) breaks
   pub told_finds : map find_as finds ≡ map (found_at s.number) (course_at log before s at).found

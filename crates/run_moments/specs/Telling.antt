@@ -28,19 +28,21 @@ use Rattle.run_moments.specs.Reached.{course_at, moved_at, IsTearAt, IsFindAt}
 use Rattle.run_moments.specs.Lines.{times_of, IsTornAt}
 use Rattle.run_moments.specs.Moment.{Moment, goes_on}
 
--- each device broke down as often as before, or more often
-abbrev pub IsMore : (now later : Device → ℕ) → Type 0
-IsMore now later = (device : Device) → now device ≤ later device
+-- the unit broke down as often as before, or more often, and no card did
+pub record IsMore (now later : Device → ℕ) : Type 0 where
+  pub unit : now Recorder ≤ later Recorder
+  pub cards : (card : Card) → later (device_of card) ≡ now (device_of card)
 
--- BREAKDOWNS of which nothing is told take nothing away.
+-- BREAKDOWNS of the unit, of which nothing is told, take nothing away.
 abbrev pub BreakdownsOnly : Type 0
 BreakdownsOnly = (p : Progress) (before : Before) (s : TraceSecond) (at : Phase) (log : RunLog) (waits : List Visit) (mid now later : Device → ℕ) →
     Moment p before s at log waits mid now → IsMore now later → Moment p before s at log waits mid later
 
--- a card broke down once more
+-- a card broke down once more, and the other did not
 pub record BrokeDown (card : Card) (now later : Device → ℕ) : Type 0 where
-  pub more : IsMore now later
+  pub unit : now Recorder ≤ later Recorder
   pub broke : RoseBy 1 (now (device_of card)) (later (device_of card))
+  pub others : (other : Card) → (other ≡ card → ⊥) → later (device_of other) ≡ now (device_of other)
 
 -- these visits are one, of this slot at this moment
 abbrev pub IsOneOut : Phase → Slot → Card → List Visit → Type 0

@@ -1,5 +1,5 @@
 -- What a run promises at its end, of what was carried to it.
-use Rattle.std.proofs.Common.{◌≡◌, ◌⊎◌, inl, inr, ⊎_elim, ℕ, ◌+◌, ◌/◌, ◌<◌, ◌≤◌, min, List, [], ◌∷◌, ◌++◌, All, Contains, length, take, drop, refl, ap, sym, subst, ◌∙◌, arith}
+use Rattle.std.proofs.Common.{◌≡◌, ◌⊎◌, inl, inr, ⊎_elim, ℕ, ◌+◌, ◌/◌, ◌<◌, ◌≤◌, min, List, [], ◌∷◌, ◌++◌, All, Contains, filter, length, take, drop, refl, ap, sym, subst, ◌∙◌, arith}
 use Rattle.std.specs.List.{AllByRecursion}
 use Rattle.std.proofs.lemmas.List.Sums.{sum_by-append}
 use Rattle.std.proofs.lemmas.List.Elements.{All-weaker, All-append, Contains-append_left}
@@ -12,8 +12,9 @@ use Rattle.log_model.specs.declared.lines.Break.TheVariants.{Cut, Tear}
 use Rattle.log_model.specs.declared.lines.Mark.{Mark}
 use Rattle.log_model.specs.declared.lines.Verdict.{Verdict}
 use Rattle.log_model.specs.Log.{RunLog}
+use Rattle.log_model.specs.Slots.{same_card}
 use Rattle.log_model.specs.Course.{Told, Visit, went}
-use Rattle.log_model.specs.Causes.{second_of, HasCauses, IsBegun, HasMoment}
+use Rattle.log_model.specs.Causes.{device_of, second_of, cards_torn, HasCauses, IsBegun, HasMoment}
 use Rattle.unit_model.specs.declared.layout.TheConstants.{HIGHEST_ODOMETER}
 use Rattle.unit_model.specs.Image.{last_kept, odometer_at}
 use Rattle.unit_journal.specs.DayOdometers.{RecordsDay}
@@ -108,6 +109,11 @@ module _ (o : Origin) (done : List TraceSecond) (p : Progress) (g : Travel) (mar
               (subst (λ (n : ℕ). IsVerdict r (now.unit.left_since o.found.unit.began) ((card_of now e.card).left_since n) e.card t.second.number v) (found.clock e.card) (beside.verdicts.each t e v at seen).0);
         }
 
+    still : o.breakdowns ≡ breakdowns_of began → (c : Card) → filter (same_card c) (cards_torn (told_of r)) ≡ [] → breakdowns_of now (device_of c) ≡ breakdowns_of began (device_of c)
+    still same c none =
+        let caused = subst (λ (f : Device → ℕ). AreCaused f (breakdowns_of now) done p.log) same h.caused.caused in
+        caused.calm_cards c (ap (λ (cs : List Card). length cs) none)
+
     kept : (b : Break) → Contains p.log.breaks b → WasFound (now.unit.left_since began.unit.clock) b
         ⊎ (IsUnfound b × ((c : Card) (u : ℕ) → IsOwnValid (card_image r c) → Contains (acceptances r c) u → u ≤ second_of b))
     kept (Cut second k failed begun) at = ⊎_elim
@@ -190,6 +196,7 @@ module _ (o : Origin) (done : List TraceSecond) (p : Progress) (g : Travel) (mar
         record {
           safe = all_safe;
           caused = all_caused;
+          still = still same;
           brings = λ t e v at seen. (beside.verdicts.each t e v at seen).1;
           odometer = odometer;
           days = days;

@@ -108,10 +108,11 @@ more-recorded o done p g marks more now later brought h stay rise =
           refused = c.refused;
           cut_seconds = c.cut_seconds;
           off_lines = c.off_lines;
-          failed_cuts = rose-more (length (cuts true p.log)) (o.breakdowns Recorder) (now Recorder) (later Recorder) c.failed_cuts (rise Recorder);
+          failed_cuts = rose-more (length (cuts true p.log)) (o.breakdowns Recorder) (now Recorder) (later Recorder) c.failed_cuts rise.unit;
           tear_lines = c.tear_lines;
           failed_tears = c.failed_tears;
-          torn_cards = λ card. rose-more (length (filter (same_card card) (cards_torn (went p.log done).told))) (o.breakdowns (device_of card)) (now (device_of card)) (later (device_of card)) (c.torn_cards card) (rise (device_of card));
+          torn_cards = λ card. rose-more (length (filter (same_card card) (cards_torn (went p.log done).told))) (o.breakdowns (device_of card)) (now (device_of card)) (later (device_of card)) (c.torn_cards card) (let same = rise.cards card in omega (arith, same));
+          calm_cards = λ card none. rise.cards card ∙ c.calm_cards card none;
           begun = c.begun;
           moments = c.moments;
           order = c.order;

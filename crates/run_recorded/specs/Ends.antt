@@ -1,5 +1,5 @@
 -- What is carried beside the rules of unit and cards from second to second, and what a run promises at its end (profile).
-use Rattle.std.specs.Prelude.{◌≡◌, ◌⊎◌, ℕ, zero, suc, ◌<◌, List, [], ◌∷◌, All, Contains, length}
+use Rattle.std.specs.Prelude.{◌≡◌, ◌⊎◌, ℕ, zero, suc, ◌<◌, List, [], ◌∷◌, All, Contains, filter, length}
 use Rattle.activity_codec.specs.declared.entries.Entry.{Entry}
 use Rattle.trace_model.specs.declared.Card.{Card}
 use Rattle.trace_model.specs.Trace.{TraceSecond}
@@ -7,8 +7,9 @@ use Rattle.log_model.specs.declared.lines.Break.{Break}
 use Rattle.log_model.specs.declared.lines.Mark.{Mark}
 use Rattle.log_model.specs.declared.lines.Verdict.{Verdict}
 use Rattle.log_model.specs.declared.lines.Verdict.TheVariants.{Accepted, NotValid, TimeOverlap}
-use Rattle.log_model.specs.Causes.{device_of}
+use Rattle.log_model.specs.Causes.{device_of, cards_torn}
 use Rattle.log_model.specs.Log.{RunLog}
+use Rattle.log_model.specs.Slots.{same_card}
 use Rattle.log_model.specs.Course.{Told, Visit}
 use Rattle.history_model.specs.Completeness.{IsMarked}
 use Rattle.unit_model.specs.Image.{odometer_at}
@@ -82,6 +83,8 @@ pub record EndsRun (r : Recording) (marks : List Mark) (began now : Devices) : T
   -- Each line of the log has its cause, and what happened has its line; each decided minute is acknowledged but where a call failed in the
   -- second that decided it, and each entry of a card but there or where it was torn out or pulled out.
   pub caused : IsCaused r marks began now
+  -- And a card that no failed call has torn out has not broken down.
+  pub still : (c : Card) → filter (same_card c) (cards_torn (told_of r)) ≡ [] → breakdowns_of now (device_of c) ≡ breakdowns_of began (device_of c)
   -- What an acceptance brings of a card that enters for the first time: so many entries as the unit owed to it at the start, and each of them is
   -- acknowledged.
   pub brings : (t : Told) (e : Visit) (v : Verdict) → Contains (told_of r) t → Contains t.course.found (e, v) → BringsAll r marks e.card t.second.number v

@@ -58,7 +58,7 @@ abbrev pub WhatWasKeptIsFound : Type 0
 WhatWasKeptIsFound = (o : Origin) (done : List TraceSecond) (p : Progress) (g : Travel) (marks : List Mark) (now : Device → ℕ) (brought : Card → List ℕ) → HasRecorded o done p g marks now brought →
     MayPower p.supply p.next → (k leg : ℕ) → MayShow (first_of o) p.book g k leg → HasRecorded o done (found_again k p) (resumed leg g) marks now brought
 
--- BREAKDOWNS of which nothing is told, and further marks, take nothing away.
+-- BREAKDOWNS of the unit, of which nothing is told, and further marks, take nothing away.
 abbrev pub MoreIsRecorded : Type 0
 MoreIsRecorded = (o : Origin) (done : List TraceSecond) (p : Progress) (g : Travel) (marks more : List Mark) (now later : Device → ℕ) (brought : Card → List ℕ) → HasRecorded o done p g marks now brought →
     AllMarked marks more → IsMore now later → HasRecorded o done p g more later brought

@@ -8,7 +8,7 @@ use Rattle.tach_media.specs.Medium.{State, IsCoherent, LeavesOnly, Unchanged, Ro
 use Rattle.run_model.specs.declared.Device.TheVariants.{Unit as Recorder, CardA, CardB}
 use Rattle.minute_rules.specs.Kept.{Kept, StandsFor}
 use Rattle.log_model.specs.declared.lines.Mark.{Mark}
-use Rattle.log_model.specs.Causes.{RoseBy}
+use Rattle.log_model.specs.Causes.{device_of, RoseBy}
 use Rattle.history_model.specs.Minutes.{HistoryMinute}
 use Rattle.history_model.specs.Book.{Book, all, found, IsMark}
 use Rattle.joint_rule.specs.Rules.{Standing}
@@ -67,9 +67,11 @@ module _ (o : Origin) (d : Devices) (V : State) (rise : d.unit.breakdowns ≤ V.
       timed h B valid = h.timed B valid
 
       more : IsMore (breakdowns_of d) (breakdowns_of (devices V d.card_a d.card_b))
-      more Recorder = rise
-      more CardA = omega arith
-      more CardB = omega arith
+      more = record { unit = rise; cards = λ c. stays c }
+
+      stays : (c : Card) → breakdowns_of (devices V d.card_a d.card_b) (device_of c) ≡ breakdowns_of d (device_of c)
+      stays A = refl
+      stays B = refl
 
       left : (c : Card) (x : List ℕ) → (card_of d c).left_since (found_of o.found c).began x → (card_of (devices V d.card_a d.card_b) c).left_since (found_of o.found c).began x
       left A x h = h

@@ -21,7 +21,7 @@ use Rattle.run_course.specs.Seconds.{kept_all}
 use Rattle.run_moments.specs.Reached.{moved_at, IsTearAt}
 use Rattle.run_moments.specs.Lines.{times_of, IsTornAt}
 use Rattle.run_moments.specs.Moment.{Moment}
-use Rattle.run_moments.specs.Telling.{IsOneOut, BrokeDown}
+use Rattle.run_moments.specs.Telling.{IsMore, IsOneOut, BrokeDown}
 use Rattle.run_moments.specs.Kept.{StaysOut}
 use Rattle.run_moments.proofs.Reached.{leaves-first}
 use Rattle.run_moments.proofs.Telling.{card-torn, breakdowns-only}
@@ -71,13 +71,13 @@ module _ (o : Origin) (done : List TraceSecond) (s : TraceSecond) (at : Phase) (
   abbrev closed : Values
   closed = closed_values card v
 
-  step-closed : IsStep o done s at at [] [] [] v closed d e w w.sp
-  step-closed = record {
+  step-closed : IsMore (breakdowns_of d) (breakdowns_of e) → IsStep o done s at at [] [] [] v closed d e w w.sp
+  step-closed rise = record {
     unfound_same = refl;
     next_same = refl;
     odometer_same = refl;
     marks_same = refl;
-    moment = breakdowns-only p was s at v.log [] w.b.broken (breakdowns_of d) (breakdowns_of e) w.moment k.goes.breakdowns;
+    moment = breakdowns-only p was s at v.log [] w.b.broken (breakdowns_of d) (breakdowns_of e) w.moment rise;
     out = record { torn = λ x there. there; pulled = λ x there. there };
     found_same = refl;
     enter = λ x. omega arith;
@@ -90,8 +90,8 @@ module _ (o : Origin) (done : List TraceSecond) (s : TraceSecond) (at : Phase) (
     travels = k.travels;
   }
 
-  pub closed-goes : IsPowered o.found (carried v w.due (kept_all w.new w.b.run.book) (for_card card Out w.standing) w.brought) closed.cabin.cards e → GoesOn o done s at [] None [] closed e w.b w.from
-  closed-goes powered = steps-on o done s at at [] [] [] v closed d e w w.sp step-closed (record {
+  pub closed-goes : IsMore (breakdowns_of d) (breakdowns_of e) → IsPowered o.found (carried v w.due (kept_all w.new w.b.run.book) (for_card card Out w.standing) w.brought) closed.cabin.cards e → GoesOn o done s at [] None [] closed e w.b w.from
+  closed-goes rise powered = steps-on o done s at at [] [] [] v closed d e w w.sp (step-closed rise) (record {
     minutes = w.minutes;
     until = w.until;
     standing = for_card card Out w.standing;
@@ -177,11 +177,11 @@ module _ (o : Origin) (done : List TraceSecond) (s : TraceSecond) (at : Phase) (
     })
 
 pub session-closed : (d e : Devices) → ASessionIsClosed d e
-session-closed d e o done s at v w slot card k powered = closed-goes o done s at v d e w slot card k powered
+session-closed d e o done s at v w slot card k rise powered = closed-goes o done s at v d e w slot card k rise powered
 
 pub closing-fails : (d e : Devices) → AClosingFails d e
-closing-fails d e o done s at v w slot card k powerless broke no_keeping =
-    step-fails o done s at at [] [] [] v (closed_values card v) d e w w.sp (step-closed o done s at v d e w slot card k) (for_card card Out w.standing) powerless broke no_keeping refl
+closing-fails d e o done s at v w slot card k rise powerless broke no_keeping =
+    step-fails o done s at at [] [] [] v (closed_values card v) d e w w.sp (step-closed o done s at v d e w slot card k rise) (for_card card Out w.standing) powerless broke no_keeping refl
 
 pub leaving-torn : (d e : Devices) → ALeavingCardIsTorn d e
 leaving-torn d e o done s at v w slot card k b here broke powered = torn-goes o done s at v d e w slot card k b here broke powered

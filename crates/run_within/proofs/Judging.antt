@@ -24,6 +24,7 @@ use Rattle.run_course.specs.Within.{IsFoundOf}
 use Rattle.run_course.proofs.Within.{acceptance-tells}
 use Rattle.run_moments.specs.Moment.{Moment}
 use Rattle.run_moments.specs.Kept.{HasDecided, AreMarkedSoFar}
+use Rattle.run_moments.specs.Telling.{IsMore}
 use Rattle.run_moments.proofs.Telling.{breakdowns-only, card-judged}
 use Rattle.run_moments.proofs.Kept.{nothing-else, marks-stay}
 use Rattle.run_present.specs.Presence.{PresentStand, IsSeated, sits}
@@ -68,8 +69,8 @@ module _ (o : Origin) (done : List TraceSecond) (s : TraceSecond) (at : Phase) (
   is : IsFoundOf s.number at f.slot f.verdict c now
   is = moments.1
 
-  pub moment : Moment p (went p.log done).before s at (and_find v.log f) fewer w.b.broken (breakdowns_of e)
-  moment = breakdowns-only p (went p.log done).before s at (and_find v.log f) fewer w.b.broken (breakdowns_of d) (breakdowns_of e) moments.0 j.breakdowns
+  pub moment : IsMore (breakdowns_of d) (breakdowns_of e) → Moment p (went p.log done).before s at (and_find v.log f) fewer w.b.broken (breakdowns_of e)
+  moment more = breakdowns-only p (went p.log done).before s at (and_find v.log f) fewer w.b.broken (breakdowns_of d) (breakdowns_of e) moments.0 more
 
   found-is : now.found ≡ c.found ++ (visit, f.verdict) ∷ []
   found-is =
@@ -190,7 +191,7 @@ module _ (o : Origin) (done : List TraceSecond) (s : TraceSecond) (at : Phase) (
   written x some = ⊎_elim (λ had. still-may x (w.written x had)) (λ is_. accepted-may x is_) (j.sessions x some)
 
 pub judged-so : (d e : Devices) → ACardIsJudged d e
-judged-so d e o done s at waits fewer v w card f marks cabin brought standing j st = record {
+judged-so d e o done s at waits fewer v w card f marks cabin brought standing j rise st = record {
   began = refl;
   from = refl;
   within = record {
@@ -200,7 +201,7 @@ judged-so d e o done s at waits fewer v w card f marks cabin brought standing j 
     unfound = w.unfound;
     next = w.next;
     odometer = w.odometer;
-    moment = moment o done s at waits fewer v d e w card f marks cabin brought j;
+    moment = moment o done s at waits fewer v d e w card f marks cabin brought j rise;
     sp = w.sp;
     minutes = w.minutes;
     ds = w.ds;
@@ -237,7 +238,7 @@ judged-so d e o done s at waits fewer v w card f marks cabin brought standing j 
 }
 
 pub judging-fails : (d e : Devices) → AJudgingFails d e
-judging-fails d e o done s at waits fewer v w card f marks cabin brought j k = record {
+judging-fails d e o done s at waits fewer v w card f marks cabin brought j rise k = record {
   b = w.b;
   lit = w.lit;
   began = w.began;
@@ -245,8 +246,8 @@ judging-fails d e o done s at waits fewer v w card f marks cabin brought j k = r
   next = w.next;
   odometer = w.odometer;
   counted = breakdowns_of e;
-  moment = moment o done s at waits fewer v d e w card f marks cabin brought j;
-  rise = λ device. omega arith;
+  moment = moment o done s at waits fewer v d e w card f marks cabin brought j rise;
+  rise = record { unit = omega arith; cards = λ card. refl };
   broke = k.broke;
   sp = w.sp;
   ds = w.ds;

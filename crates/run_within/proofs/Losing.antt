@@ -223,7 +223,7 @@ losing-fails d e o done s at waits fewer v w card f marks cabin after brought b 
   odometer = w.odometer;
   counted = breakdowns_of e;
   moment = (moments o done s at waits fewer v d e w card f marks cabin after brought b j l).0;
-  rise = λ device. omega arith;
+  rise = record { unit = omega arith; cards = λ card. refl };
   broke = k.broke;
   sp = w.sp;
   ds = w.ds;

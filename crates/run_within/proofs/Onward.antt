@@ -170,7 +170,7 @@ module _ (o : Origin) (done : List TraceSecond) (s : TraceSecond) (at next : Pha
       odometer = k.odometer_same ∙ w.odometer;
       counted = breakdowns_of e;
       moment = k.moment;
-      rise = λ device. omega arith;
+      rise = record { unit = omega arith; cards = λ card. refl };
       broke = broke;
       sp = sp;
       ds = w.ds;

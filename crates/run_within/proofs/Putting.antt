@@ -49,7 +49,6 @@ use Rattle.run_within.proofs.Onward.{IsStep, Powers, steps-on}
 -- no device is called
 pub still-goes : (o : Origin) (v : Values) (d : Devices) → GoesOnSo o v.cabin.cards d d
 still-goes o v d = record {
-  breakdowns = λ device. omega arith;
   left = record { unit = λ x h. h; card = λ c x h. h };
   there = λ h. h;
   untouched = λ card h. inl h;

@@ -220,7 +220,7 @@ tearing-fails d e o done s at waits fewer v w slot card b cabin j k = record {
   odometer = w.odometer;
   counted = breakdowns_of e;
   moment = moment o done s at waits fewer v d e w slot card b cabin j;
-  rise = λ device. omega arith;
+  rise = record { unit = omega arith; cards = λ card. refl };
   broke = k.broke;
   sp = w.sp;
   ds = w.ds;

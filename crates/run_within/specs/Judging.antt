@@ -89,7 +89,6 @@ pub record IsJudged (o : Origin) (done : List TraceSecond) (s : TraceSecond) (at
   pub found : AreFoundCards o.found cabin.cards
   pub more : (c : Card) (k : ℕ) → Contains (w.brought c) k → Contains (brought c) k
   pub early : (c : Card) (k : ℕ) → Contains (brought c) k → k < w.due
-  pub breakdowns : IsMore (breakdowns_of d) (breakdowns_of e)
   pub left : HaveLeftMore o d e
   pub there : AreThere o.found d → AreThere o.found e
   pub sessions : (x : Card) → is_some (session_of cabin.cards x) ≡ true → (is_some (session_of v.cabin.cards x) ≡ true) ⊎ IsAccepted card (is_accepting f.verdict) x
@@ -105,7 +104,7 @@ pub record StandJudged (o : Origin) (done : List TraceSecond) (s : TraceSecond) 
 abbrev pub ACardIsJudged : (d e : Devices) → Type 0
 ACardIsJudged d e = (o : Origin) (done : List TraceSecond) (s : TraceSecond) (at : Phase) (waits fewer : List Visit) (v : Values) → (w : Within o done s at waits None [] v d) →
     (card : Card) (f : Find) (marks : List Mark) (cabin : Cabin) (brought : Card → List ℕ) (standing : Card → Standing) → IsJudged o done s at waits fewer v d e w card f marks cabin brought →
-    StandJudged o done s at waits v d e w card f marks cabin brought standing → Behind o done s at waits fewer v (judged_values f marks cabin v) d e w
+    IsMore (breakdowns_of d) (breakdowns_of e) → StandJudged o done s at waits v d e w card f marks cabin brought standing → Behind o done s at waits fewer v (judged_values f marks cabin v) d e w
 
 -- OR THE UNIT FAILED behind the find: power is about to be cut. `cabin` is then the one in which the card is accepted, if it was found so.
 pub record FailedJudging (o : Origin) (done : List TraceSecond) (s : TraceSecond) (at : Phase) (waits : List Visit) (v : Values) (d e : Devices) (w : Within o done s at waits None [] v d) (f : Find) (marks : List Mark) (cabin : Cabin) (brought : Card → List ℕ) : Type 0 where
@@ -117,7 +116,7 @@ pub record FailedJudging (o : Origin) (done : List TraceSecond) (s : TraceSecond
 abbrev pub AJudgingFails : (d e : Devices) → Type 0
 AJudgingFails d e = (o : Origin) (done : List TraceSecond) (s : TraceSecond) (at : Phase) (waits fewer : List Visit) (v : Values) → (w : Within o done s at waits None [] v d) →
     (card : Card) (f : Find) (marks : List Mark) (cabin : Cabin) (brought : Card → List ℕ) → IsJudged o done s at waits fewer v d e w card f marks cabin brought →
-    FailedJudging o done s at waits v d e w f marks cabin brought → CutWithin o done s at fewer None (judged_values f marks cabin v) e
+    IsMore (breakdowns_of d) (breakdowns_of e) → FailedJudging o done s at waits v d e w f marks cabin brought → CutWithin o done s at fewer None (judged_values f marks cabin v) e
 
 -- ---- a card that is torn out before it is judged
 

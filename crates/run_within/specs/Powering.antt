@@ -42,7 +42,7 @@ odometer_found o before leg = odometer_after (odometer_at o.recording.unit) (bef
 abbrev pub counted_from : ℕ → Values → Values
 counted_from odometer v = record v { odometer = odometer }
 
--- what a power-on leaves of the devices, however it ended: none has broken down less often, what they might have left before they might have
+-- what a power-on leaves of the devices, however it ended: no card has broken down, what they might have left before they might have
 -- left still, and a card that was as at the start is so
 pub record GoOn (o : Origin) (d e : Devices) : Type 0 where
   pub breakdowns : IsMore (breakdowns_of d) (breakdowns_of e)

@@ -29,7 +29,7 @@ use Rattle.run_course.specs.Moments.{and_break}
 use Rattle.run_course.specs.Seconds.{kept_all}
 use Rattle.run_moments.specs.Reached.{moved_at, IsTearAt}
 use Rattle.run_moments.specs.Moment.{entering_by}
-use Rattle.run_moments.specs.Telling.{BrokeDown}
+use Rattle.run_moments.specs.Telling.{IsMore, BrokeDown}
 use Rattle.run_told.specs.Told.{IsPowered, IsPowerless, with_standing}
 use Rattle.run_recorded.specs.Origin.{Origin}
 use Rattle.run_within.specs.Recorded.{Values, carried}
@@ -109,15 +109,17 @@ pub record IsCalledLeaving (o : Origin) (done : List TraceSecond) (s : TraceSeco
 abbrev pub closed_values : Card → Values → Values
 closed_values card v = record v { cabin = with_session_of card None v.cabin }
 
--- ITS SESSION IS CLOSED: the card is not accepted any more;
+-- ITS SESSION IS CLOSED, and no card broke down: the card is not accepted any more;
 abbrev pub ASessionIsClosed : (d e : Devices) → Type 0
 ASessionIsClosed d e = (o : Origin) (done : List TraceSecond) (s : TraceSecond) (at : Phase) (v : Values) → (w : Within o done s at [] None [] v d) → (slot : Slot) (card : Card) → IsCalledLeaving o done s at v d e w slot card →
+    IsMore (breakdowns_of d) (breakdowns_of e) →
     IsPowered o.found (with_standing card Out (carried v w.due (kept_all w.new w.b.run.book) w.standing w.brought)) (closed_values card v).cabin.cards e →
     GoesOn o done s at [] None [] (closed_values card v) e w.b w.from
 
 -- or the unit failed behind that.
 abbrev pub AClosingFails : (d e : Devices) → Type 0
 AClosingFails d e = (o : Origin) (done : List TraceSecond) (s : TraceSecond) (at : Phase) (v : Values) → (w : Within o done s at [] None [] v d) → (slot : Slot) (card : Card) → IsCalledLeaving o done s at v d e w slot card →
+    IsMore (breakdowns_of d) (breakdowns_of e) →
     IsPowerless o.found (with_standing card Out (carried v w.due (kept_all w.new w.b.run.book) w.standing w.brought)) e → RoseBy 1 (w.b.broken Recorder) (breakdowns_of e Recorder) → (at ≡ Keeping → ⊥) →
     CutWithin o done s at [] None (closed_values card v) e
 

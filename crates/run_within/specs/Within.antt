@@ -320,17 +320,17 @@ ASelectionIsRecorded d = (o : Origin) (done : List TraceSecond) (s : TraceSecond
 abbrev pub AreOld : (old new : Cards) → Type 0
 AreOld old new = (card : Card) → is_some (session_of new card) ≡ true → is_some (session_of old card) ≡ true
 
--- what a call leaves of the devices, unit and cards by the book apart: none broke down less often, what might have been left might be left
--- still, and a card that was as it was is so, or has a session
+-- what a call leaves of the devices, unit and cards by the book apart: what might have been left might be left still, and a card that was as it
+-- was is so, or has a session
 pub record GoesOnSo (o : Origin) (cards : Cards) (d e : Devices) : Type 0 where
-  pub breakdowns : IsMore (breakdowns_of d) (breakdowns_of e)
   pub left : HaveLeftMore o d e
   pub there : AreThere o.found d → AreThere o.found e
   pub untouched : (card : Card) → IsUntouched (found_of o.found card) (card_of d card) → IsUntouched (found_of o.found card) (card_of e card) ⊎ (is_some (session_of cards card) ≡ true)
 
--- A CALL of which nothing is told, as one that notes an event or a place: unit and cards are as the book says behind it too.
+-- A CALL of which nothing is told, as one that notes an event or a place: no card broke down, and unit and cards are as the book says behind it too.
 pub record IsCalled (o : Origin) (done : List TraceSecond) (s : TraceSecond) (at : Phase) (waits : List Visit) (speed : Option ℕ) (rest : List Minute) (v : Values) (d e : Devices) (w : Within o done s at waits speed rest v d) : Type 0 where
   pub goes : GoesOnSo o v.cabin.cards d e
+  pub breakdowns : IsMore (breakdowns_of d) (breakdowns_of e)
   pub powered : IsPowered o.found (carried v w.due (kept_all w.new w.b.run.book) w.standing w.brought) v.cabin.cards e
   pub travels : HasTravelled (odometer_at o.recording.unit) (kept_all w.new w.b.run.book) (all_travelled w.ds w.b.travel) e.unit
 
@@ -341,6 +341,7 @@ ACallIsRecorded d e = (o : Origin) (done : List TraceSecond) (s : TraceSecond) (
 -- A CALL IN WHICH THE UNIT FAILED: the next of the minutes that were to be kept may be kept or not, if it was begun.
 pub record HasFailed (o : Origin) (done : List TraceSecond) (s : TraceSecond) (at : Phase) (waits : List Visit) (speed : Option ℕ) (rest : List Minute) (v : Values) (d e : Devices) (w : Within o done s at waits speed rest v d) : Type 0 where
   pub goes : GoesOnSo o v.cabin.cards d e
+  pub breakdowns : IsMore (breakdowns_of d) (breakdowns_of e)
   pub broke : RoseBy 1 (w.b.broken Recorder) (breakdowns_of e Recorder)
   pub unfed : (at ≡ Keeping → ⊥) → speed ≡ None
   pub feeds : at ≡ Keeping → speed ≡ Some s.speed

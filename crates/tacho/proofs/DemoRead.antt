@@ -96,6 +96,10 @@ module _ (U V : State) (is : IsRead U V) where
     torn-read A n h = h
     torn-read B n h = h
 
+    still-read : (c : Card) → breakdowns_of (devices U Y Z) (device_of c) ≡ breakdowns_of p (device_of c) → breakdowns_of (devices V Y Z) (device_of c) ≡ breakdowns_of p (device_of c)
+    still-read A h = h
+    still-read B h = h
+
     verdict-read : (c : Card) (u : ℕ) (v : Verdict) → IsVerdict r (U.left_since p.unit.clock) ((card_of (devices U Y Z) c).left_since (card_of p c).clock) c u v → IsVerdict r (V.left_since p.unit.clock) ((card_of (devices V Y Z) c).left_since (card_of p c).clock) c u v
     verdict-read A u (Accepted n) h = (h.0, h.1, (h.2.0, h.2.1, is.leaves.keeps p.unit.clock h.2.0 before h.2.2, h.2.3, h.2.4, h.2.5))
     verdict-read B u (Accepted n) h = (h.0, h.1, (h.2.0, h.2.1, is.leaves.keeps p.unit.clock h.2.0 before h.2.2, h.2.3, h.2.4, h.2.5))
@@ -177,6 +181,7 @@ module _ (U V : State) (is : IsRead U V) where
               kept = λ br at. ⊎_elim (λ was_found. inl (found-read br was_found)) (λ none. inr none) (h.ends.caused.kept br at);
               complete = h.ends.caused.complete;
             };
+            still = λ c none. still-read c (h.ends.still c none);
             brings = h.ends.brings;
             odometer = λ y left. h.ends.odometer y (now-back y left);
             days = λ y left. h.ends.days y (now-back y left);
@@ -196,6 +201,8 @@ module _ (U V : State) (is : IsRead U V) where
                 only = s.only;
                 shows = λ c valid. subst (λ (x : State). ShowsStays s.vehicle (card_image r c) (s.stays c) x) (same-card c) (s.shows c valid);
                 closed = s.closed;
+                words = s.words;
+                odometers = s.odometers;
                 timely = s.timely;
                 befores = record { comings = s.befores.comings; lines = s.befores.lines; merged = s.befores.merged; tells = λ dense y left. s.befores.tells dense y (now-back y left) };
               };

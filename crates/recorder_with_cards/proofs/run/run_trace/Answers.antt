@@ -125,7 +125,7 @@ loop-i-init g c =
           (both (λ k. All (λ n. n < 256) (card_image (opened_with x a b) k)) h.bytes_a h.bytes_b)
           (both (λ k. (card_of now k).clock ≡ (card_of began k).clock) c.judge.ensures.card_a.clock c.judge.ensures.card_b.clock)
           (more-devices (g.U.Medium.state c.args.unit.now) (g.U.Medium.state c.judge.new.unit) (g.C.Chip.state c.args.card_a.now) (g.C.Chip.state c.judge.new.card_a) (g.C.Chip.state c.args.card_b.now) (g.C.Chip.state c.judge.new.card_b)
-          c.judge.ensures.unit.breakdowns c.judge.ensures.card_a.breakdowns c.judge.ensures.card_b.breakdowns)
+          c.judge.ensures.unit.breakdowns (e.card_a_works.unbroken refl) (e.card_b_works.unbroken refl))
           (omega (arith, low, same_odometer))
           run c.args.outcome.now c.new-run.ensures.power next c.new-run.ensures.begun c.new-run.ensures.unfound (ap (λ (k : Keeper). k.memory) keeper) slots
           (both (λ k. known_in run.keeper.cabin.cards k ≡ known_of opened k) (ap (λ (k : Keeper). k.cabin.cards.a) keeper) (ap (λ (k : Keeper). k.cabin.cards.b) keeper))

@@ -3,7 +3,7 @@ use Rattle.run_acts.proofs.RoundWhole.{minutes-kept_so}
 use Rattle.run_acts.proofs.rounds.the_minutes_are_kept.Goals as goal
 
 pub returns : goal.returns
-returns g z = λ o done s q all t v w k xs rest split rounds broken booked travels. minutes-kept_so o done s q all t v
+returns g z = λ o done s q all t v w k xs rest split rounds broken rests booked travels. minutes-kept_so o done s q all t v
     (devices (g.M.Medium.state z.args.old_unit.now) (g.C.Chip.state z.args.old_a.now) (g.D.Chip.state z.args.old_b.now))
     (devices (g.N.Medium.state z.args.unit.now) (g.E.Chip.state z.args.card_a.now) (g.F.Chip.state z.args.card_b.now))
-    w k xs rest split rounds broken booked travels
+    w k xs rest split rounds broken rests booked travels

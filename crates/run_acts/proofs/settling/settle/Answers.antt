@@ -172,8 +172,8 @@ returns-clause-recorded g c =
             keeps = k.unit_keeps;
             tells = k.tells;
             clock = k.clock;
-            card_a = record { keeps = k.a_keeps; clock = k.clock_a; tells = k.tells_a; more = k.more_a; broken = k.a_broken; bare = λ none. same-left (g.C.Chip.state c.args.card_a.now) (g.C.Chip.state c.keep_all.new.card_a) (ap g.C.Chip.state (k.a_bare none)) };
-            card_b = record { keeps = k.b_keeps; clock = k.clock_b; tells = k.tells_b; more = k.more_b; broken = k.b_broken; bare = λ none. same-left (g.D.Chip.state c.args.card_b.now) (g.D.Chip.state c.keep_all.new.card_b) (ap g.D.Chip.state (k.b_bare none)) };
+            card_a = record { keeps = k.a_keeps; clock = k.clock_a; tells = k.tells_a; more = k.more_a; broken = k.a_broken; rests = k.rests.card_a; bare = λ none. same-left (g.C.Chip.state c.args.card_a.now) (g.C.Chip.state c.keep_all.new.card_a) (ap g.C.Chip.state (k.a_bare none)) };
+            card_b = record { keeps = k.b_keeps; clock = k.clock_b; tells = k.tells_b; more = k.more_b; broken = k.b_broken; rests = k.rests.card_b; bare = λ none. same-left (g.D.Chip.state c.args.card_b.now) (g.D.Chip.state c.keep_all.new.card_b) (ap g.D.Chip.state (k.b_bare none)) };
           })
           o done s n waits some here r time (leaves-more U V leaves),
     )
@@ -199,8 +199,8 @@ returns-clause-cards g c =
             keeps = k.unit_keeps;
             tells = k.tells;
             clock = k.clock;
-            card_a = record { keeps = k.a_keeps; clock = k.clock_a; tells = k.tells_a; more = k.more_a; broken = k.a_broken; bare = λ none. same-left (g.C.Chip.state c.args.card_a.now) (g.C.Chip.state c.keep_all.new.card_a) (ap g.C.Chip.state (k.a_bare none)) };
-            card_b = record { keeps = k.b_keeps; clock = k.clock_b; tells = k.tells_b; more = k.more_b; broken = k.b_broken; bare = λ none. same-left (g.D.Chip.state c.args.card_b.now) (g.D.Chip.state c.keep_all.new.card_b) (ap g.D.Chip.state (k.b_bare none)) };
+            card_a = record { keeps = k.a_keeps; clock = k.clock_a; tells = k.tells_a; more = k.more_a; broken = k.a_broken; rests = k.rests.card_a; bare = λ none. same-left (g.C.Chip.state c.args.card_a.now) (g.C.Chip.state c.keep_all.new.card_a) (ap g.C.Chip.state (k.a_bare none)) };
+            card_b = record { keeps = k.b_keeps; clock = k.clock_b; tells = k.tells_b; more = k.more_b; broken = k.b_broken; rests = k.rests.card_b; bare = λ none. same-left (g.D.Chip.state c.args.card_b.now) (g.D.Chip.state c.keep_all.new.card_b) (ap g.D.Chip.state (k.b_bare none)) };
           })
           o done s (suc n) waits (omega arith) here r time).1,
     )
@@ -229,8 +229,8 @@ returns-clause-evented g c =
             keeps = k.unit_keeps;
             tells = k.tells;
             clock = k.clock;
-            card_a = record { keeps = k.a_keeps; clock = k.clock_a; tells = k.tells_a; more = k.more_a; broken = k.a_broken; bare = λ none. same-left (g.C.Chip.state c.args.card_a.now) (g.C.Chip.state c.keep_all.new.card_a) (ap g.C.Chip.state (k.a_bare none)) };
-            card_b = record { keeps = k.b_keeps; clock = k.clock_b; tells = k.tells_b; more = k.more_b; broken = k.b_broken; bare = λ none. same-left (g.D.Chip.state c.args.card_b.now) (g.D.Chip.state c.keep_all.new.card_b) (ap g.D.Chip.state (k.b_bare none)) };
+            card_a = record { keeps = k.a_keeps; clock = k.clock_a; tells = k.tells_a; more = k.more_a; broken = k.a_broken; rests = k.rests.card_a; bare = λ none. same-left (g.C.Chip.state c.args.card_a.now) (g.C.Chip.state c.keep_all.new.card_a) (ap g.C.Chip.state (k.a_bare none)) };
+            card_b = record { keeps = k.b_keeps; clock = k.clock_b; tells = k.tells_b; more = k.more_b; broken = k.b_broken; rests = k.rests.card_b; bare = λ none. same-left (g.D.Chip.state c.args.card_b.now) (g.D.Chip.state c.keep_all.new.card_b) (ap g.D.Chip.state (k.b_bare none)) };
           })
           (g.met.M.Medium.coherent c.args.unit.now) c.requires.held.is_unit b.3 o done s n waits here r time untold evented,
     )
@@ -264,8 +264,8 @@ returns-clause-places g c =
             keeps = k.unit_keeps;
             tells = k.tells;
             clock = k.clock;
-            card_a = record { keeps = k.a_keeps; clock = k.clock_a; tells = k.tells_a; more = k.more_a; broken = k.a_broken; bare = λ none. same-left (g.C.Chip.state c.args.card_a.now) (g.C.Chip.state c.keep_all.new.card_a) (ap g.C.Chip.state (k.a_bare none)) };
-            card_b = record { keeps = k.b_keeps; clock = k.clock_b; tells = k.tells_b; more = k.more_b; broken = k.b_broken; bare = λ none. same-left (g.D.Chip.state c.args.card_b.now) (g.D.Chip.state c.keep_all.new.card_b) (ap g.D.Chip.state (k.b_bare none)) };
+            card_a = record { keeps = k.a_keeps; clock = k.clock_a; tells = k.tells_a; more = k.more_a; broken = k.a_broken; rests = k.rests.card_a; bare = λ none. same-left (g.C.Chip.state c.args.card_a.now) (g.C.Chip.state c.keep_all.new.card_a) (ap g.C.Chip.state (k.a_bare none)) };
+            card_b = record { keeps = k.b_keeps; clock = k.clock_b; tells = k.tells_b; more = k.more_b; broken = k.b_broken; rests = k.rests.card_b; bare = λ none. same-left (g.D.Chip.state c.args.card_b.now) (g.D.Chip.state c.keep_all.new.card_b) (ap g.D.Chip.state (k.b_bare none)) };
           })
           o done s (suc n) waits (omega arith) here r time).1,
     )

@@ -533,11 +533,11 @@ returns-in-A-clause-recorded g c = λ late speed o done s now front rest are n a
     let unit_later = e.journal.later in
     subst (λ (q : ℕ). GoesOnOrFails (is_err c.close.result) o done s (In q) [] c.close.new.run (record told { breaks = c.close.new.breaks }) (devices V Y Z) w.within.b) (sym n)
     (closing-recorded o done s front rest c.args.slot are speed now.speed_is A run between c.args.outcome.now told D w there allowed (ungiven_of c.requires.going.span) c.requires.going.cabin (c.in_ok-settle.ensures.settled.minutes w.within.sp w.within.minutes) r.0 (r.1 w.within.sp w.within.minutes)
-    g.C.Chip.state U1 V Z c.settle.new.card_a c.close.new.card (g.met.M.Medium.coherent c.settle.new.unit) (g.met.C.Chip.coherent c.settle.new.card_a) c.settle.ensures.held.card_a.size e.left e.bare e.journal (is_err c.close.result) e.cause e.more going.span going.stands going.next
+    g.C.Chip.state U1 V Z c.settle.new.card_a c.close.new.card (g.met.M.Medium.coherent c.settle.new.unit) (g.met.C.Chip.coherent c.settle.new.card_a) c.settle.ensures.held.card_a.size e.left e.bare e.journal (is_err c.close.result) e.cause going.span going.stands going.next
     (here-settled r.0 false c.args.slot c.args.at (acting_at s.number (suc (length front))) run between c.args.outcome.now told c.leave.new.self D (devices U1 X Z) c.leave.ensures.kept moment r.2)
     (time-before A U1 V X Y Z unit_later e.clock_card time) c.args.at c.in_ok-settle.ensures.settled.decided (told_of (with_cabin c.leave.new.self run) c.args.outcome.now) c.in_ok-settle.ensures.settled.kept (ap (λ (b : Cabin). session_of b.cards A) c.leave.ensures.kept)
     (λ fine. closes-more rings.closing (session_of between.keeper.cabin.cards A) c.args.at (is_err c.close.result) between U1 V (g.met.M.Medium.coherent c.close.new.unit) e.unit going.span going.stands rings.rings fine)
-    c.close.new.run c.close.new.breaks k.0 k.3 (subst (λ (m : Moment). IsClosed A c.args.slot m between c.close.new.run told.breaks c.close.new.breaks k.0) moment k.1) k.2)
+    c.close.new.run c.close.new.breaks k.0 k.3 (subst (λ (m : Moment). IsClosed A c.args.slot m between c.close.new.run told.breaks c.close.new.breaks k.0) moment k.1) e.calm k.2)
 
 pub returns-in-B-clause-recorded : goal.returns-in-B-clause-recorded
 returns-in-B-clause-recorded g c = λ late speed o done s now front rest are n allowed w time.
@@ -563,11 +563,11 @@ returns-in-B-clause-recorded g c = λ late speed o done s now front rest are n a
     let unit_later = e.journal.later in
     subst (λ (q : ℕ). GoesOnOrFails (is_err c.close-in-B.result) o done s (In q) [] c.close-in-B.new.run (record told { breaks = c.close-in-B.new.breaks }) (devices V Z Y) w.within.b) (sym n)
     (closing-recorded o done s front rest c.args.slot are speed now.speed_is B run between c.args.outcome.now told D w there allowed (ungiven_of c.requires.going.span) c.requires.going.cabin (c.in_ok-settle.ensures.settled.minutes w.within.sp w.within.minutes) r.0 (r.1 w.within.sp w.within.minutes)
-    g.D.Chip.state U1 V Z c.settle.new.card_b c.close-in-B.new.card (g.met.M.Medium.coherent c.settle.new.unit) (g.met.D.Chip.coherent c.settle.new.card_b) c.settle.ensures.held.card_b.size e.left e.bare e.journal (is_err c.close-in-B.result) e.cause e.more going.span going.stands going.next
+    g.D.Chip.state U1 V Z c.settle.new.card_b c.close-in-B.new.card (g.met.M.Medium.coherent c.settle.new.unit) (g.met.D.Chip.coherent c.settle.new.card_b) c.settle.ensures.held.card_b.size e.left e.bare e.journal (is_err c.close-in-B.result) e.cause going.span going.stands going.next
     (here-settled r.0 false c.args.slot c.args.at (acting_at s.number (suc (length front))) run between c.args.outcome.now told c.leave.new.self D (devices U1 Z X) c.leave.ensures.kept moment r.2)
     (time-before B U1 V X Y Z unit_later e.clock_card time) c.args.at c.in_ok-settle.ensures.settled.decided (told_of (with_cabin c.leave.new.self run) c.args.outcome.now) c.in_ok-settle.ensures.settled.kept (ap (λ (b : Cabin). session_of b.cards B) c.leave.ensures.kept)
     (λ fine. closes-more rings.closing (session_of between.keeper.cabin.cards B) c.args.at (is_err c.close-in-B.result) between U1 V (g.met.M.Medium.coherent c.close-in-B.new.unit) e.unit going.span going.stands rings.rings fine)
-    c.close-in-B.new.run c.close-in-B.new.breaks k.0 k.3 (subst (λ (m : Moment). IsClosed B c.args.slot m between c.close-in-B.new.run told.breaks c.close-in-B.new.breaks k.0) moment k.1) k.2)
+    c.close-in-B.new.run c.close-in-B.new.breaks k.0 k.3 (subst (λ (m : Moment). IsClosed B c.args.slot m between c.close-in-B.new.run told.breaks c.close-in-B.new.breaks k.0) moment k.1) e.calm k.2)
 
 -- ---- what is noted on the unit
 
@@ -775,11 +775,11 @@ returns-in-A-clause-evented g c = λ late speed o done s now front rest are n al
     let notes = noted-any (closed_events k.closing c.args.at.second c.close.new.run) (is_err c.close.result) (devices U1 X X) (devices V Y Y) (devices U1 A1 B1) (devices V Y B1) refl refl k.notes in
     subst (λ (q : ℕ). EventsGoOn (is_err c.close.result) o done s w.within.b.run (In q) Acting (log_of (record told { breaks = c.close.new.breaks })) (devices V Y B1)) (sym n)
     (closing-evented o done s front rest c.args.slot are speed now.speed_is A run between c.args.outcome.now told D w there allowed (ungiven_of c.requires.going.span) c.requires.going.cabin (c.in_ok-settle.ensures.settled.minutes w.within.sp w.within.minutes) r.0 (r.1 w.within.sp w.within.minutes)
-    g.C.Chip.state U1 V Z c.settle.new.card_a c.close.new.card (g.met.M.Medium.coherent c.settle.new.unit) (g.met.C.Chip.coherent c.settle.new.card_a) c.settle.ensures.held.card_a.size e.left e.bare e.journal (is_err c.close.result) e.cause e.more going.span going.stands going.next
+    g.C.Chip.state U1 V Z c.settle.new.card_a c.close.new.card (g.met.M.Medium.coherent c.settle.new.unit) (g.met.C.Chip.coherent c.settle.new.card_a) c.settle.ensures.held.card_a.size e.left e.bare e.journal (is_err c.close.result) e.cause going.span going.stands going.next
     (here-settled r.0 false c.args.slot c.args.at (acting_at s.number (suc (length front))) run between c.args.outcome.now told c.leave.new.self D (devices U1 A1 B1) c.leave.ensures.kept moment r.2)
     mid c.args.at c.in_ok-settle.ensures.settled.decided (told_of (with_cabin c.leave.new.self run) c.args.outcome.now) c.in_ok-settle.ensures.settled.kept (ap (λ (b : Cabin). session_of b.cards A) c.leave.ensures.kept)
     small (ap (λ (x : Outcome). x.finds) c.in_ok-settle.ensures.settled.outcome) (ungiven_of going.span) going.cabin kept
-    c.close.new.run c.close.new.breaks k.closing (subst (λ (m : Moment). IsClosed A c.args.slot m between c.close.new.run told.breaks c.close.new.breaks k.closing) moment k.closed)
+    c.close.new.run c.close.new.breaks k.closing (subst (λ (m : Moment). IsClosed A c.args.slot m between c.close.new.run told.breaks c.close.new.breaks k.closing) moment k.closed) e.calm
     (subst (λ (x : ℕ). HasBroken X Y x) (sym same) fell.2) (subst (λ (u : ℕ). NotesEvents (closed_events k.closing u c.close.new.run) (is_err c.close.result) (devices U1 A1 B1) (devices V Y B1)) second notes))
 
 pub returns-in-B-clause-evented : goal.returns-in-B-clause-evented
@@ -815,11 +815,11 @@ returns-in-B-clause-evented g c = λ late speed o done s now front rest are n al
     let notes = noted-any (closed_events k.closing c.args.at.second c.close-in-B.new.run) (is_err c.close-in-B.result) (devices U1 X X) (devices V Y Y) (devices U1 A1 B1) (devices V A1 Y) refl refl k.notes in
     subst (λ (q : ℕ). EventsGoOn (is_err c.close-in-B.result) o done s w.within.b.run (In q) Acting (log_of (record told { breaks = c.close-in-B.new.breaks })) (devices V A1 Y)) (sym n)
     (closing-evented o done s front rest c.args.slot are speed now.speed_is B run between c.args.outcome.now told D w there allowed (ungiven_of c.requires.going.span) c.requires.going.cabin (c.in_ok-settle.ensures.settled.minutes w.within.sp w.within.minutes) r.0 (r.1 w.within.sp w.within.minutes)
-    g.D.Chip.state U1 V Z c.settle.new.card_b c.close-in-B.new.card (g.met.M.Medium.coherent c.settle.new.unit) (g.met.D.Chip.coherent c.settle.new.card_b) c.settle.ensures.held.card_b.size e.left e.bare e.journal (is_err c.close-in-B.result) e.cause e.more going.span going.stands going.next
+    g.D.Chip.state U1 V Z c.settle.new.card_b c.close-in-B.new.card (g.met.M.Medium.coherent c.settle.new.unit) (g.met.D.Chip.coherent c.settle.new.card_b) c.settle.ensures.held.card_b.size e.left e.bare e.journal (is_err c.close-in-B.result) e.cause going.span going.stands going.next
     (here-settled r.0 false c.args.slot c.args.at (acting_at s.number (suc (length front))) run between c.args.outcome.now told c.leave.new.self D (devices U1 A1 B1) c.leave.ensures.kept moment r.2)
     mid c.args.at c.in_ok-settle.ensures.settled.decided (told_of (with_cabin c.leave.new.self run) c.args.outcome.now) c.in_ok-settle.ensures.settled.kept (ap (λ (b : Cabin). session_of b.cards B) c.leave.ensures.kept)
     small (ap (λ (x : Outcome). x.finds) c.in_ok-settle.ensures.settled.outcome) (ungiven_of going.span) going.cabin kept
-    c.close-in-B.new.run c.close-in-B.new.breaks k.closing (subst (λ (m : Moment). IsClosed B c.args.slot m between c.close-in-B.new.run told.breaks c.close-in-B.new.breaks k.closing) moment k.closed)
+    c.close-in-B.new.run c.close-in-B.new.breaks k.closing (subst (λ (m : Moment). IsClosed B c.args.slot m between c.close-in-B.new.run told.breaks c.close-in-B.new.breaks k.closing) moment k.closed) e.calm
     (subst (λ (x : ℕ). HasBroken X Y x) (sym same) fell.2) (subst (λ (u : ℕ). NotesEvents (closed_events k.closing u c.close-in-B.new.run) (is_err c.close-in-B.result) (devices U1 A1 B1) (devices V A1 Y)) second notes))
 
 -- ---- how the rings go on

@@ -13,6 +13,7 @@ use Rattle.run_keeping.proofs.Fates.{nobody-brought}
 use Rattle.run_keeping.proofs.Brought.{brought-booked, nobody-booked}
 use Rattle.run_keeping.proofs.Later.{state-by, later-same, later-of-a, later-of-b}
 use Rattle.run_keeping.proofs.Calm.{brought-calm, calm-same, calm-of-a, calm-of-b}
+use Rattle.run_keeping.proofs.Rests.{brought-rests, rest-none, rest-of-a, rest-of-b}
 use Rattle.run_keeping.proofs.keeper.Keeper.bring.Goals as goal
 
 pub returns-in-None-clause-brought : goal.returns-in-None-clause-brought
@@ -91,3 +92,20 @@ returns-in-Some-A-clause-calm g c = calm-of-a (g.M.Medium.state c.args.unit.now)
 
 pub returns-in-Some-B-clause-calm : goal.returns-in-Some-B-clause-calm
 returns-in-Some-B-clause-calm g c = calm-of-b (g.M.Medium.state c.args.unit.now) (g.M.Medium.state c.bring_to-in-Some-B.new.unit) (g.C.Chip.state c.args.card_a.now) (g.D.Chip.state c.args.card_b.now) (g.D.Chip.state c.bring_to-in-Some-B.new.card) (brought-calm B _ _ _ _ _ _ _ _ _ _ _ _ _ _ c.bring_to-in-Some-B.ensures.brought.1 (λ none. ap (λ (s : State). s.breakdowns) (ap g.D.Chip.state (c.bring_to-in-Some-B.ensures.bare none))))
+
+-- ---- a card whose session goes on has not broken down
+
+pub returns-in-None-clause-rests : goal.returns-in-None-clause-rests
+returns-in-None-clause-rests g c = rest-none c.args.self.now.cabin.cards c.args.self.now.cabin.cards (g.M.Medium.state c.args.unit.now) (g.M.Medium.state c.args.unit.now) (g.C.Chip.state c.args.card_a.now) (g.D.Chip.state c.args.card_b.now)
+
+pub returns-in-Some-A-clause-rests : goal.returns-in-Some-A-clause-rests
+returns-in-Some-A-clause-rests g c =
+    let b = c.bring_to.ensures.brought.1 in
+    rest-of-a c.args.self.now.cabin.cards c.bring_to.new.self.cabin.cards (g.M.Medium.state c.args.unit.now) (g.M.Medium.state c.bring_to.new.unit) (g.C.Chip.state c.args.card_a.now) (g.C.Chip.state c.bring_to.new.card) (g.D.Chip.state c.args.card_b.now)
+    (brought-rests A _ _ _ _ _ _ _ _ _ _ _ _ _ _ b (λ none. ap (λ (s : State). s.breakdowns) (ap g.C.Chip.state (c.bring_to.ensures.bare none))))
+
+pub returns-in-Some-B-clause-rests : goal.returns-in-Some-B-clause-rests
+returns-in-Some-B-clause-rests g c =
+    let b = c.bring_to-in-Some-B.ensures.brought.1 in
+    rest-of-b c.args.self.now.cabin.cards c.bring_to-in-Some-B.new.self.cabin.cards (g.M.Medium.state c.args.unit.now) (g.M.Medium.state c.bring_to-in-Some-B.new.unit) (g.C.Chip.state c.args.card_a.now) (g.D.Chip.state c.args.card_b.now) (g.D.Chip.state c.bring_to-in-Some-B.new.card)
+    (brought-rests B _ _ _ _ _ _ _ _ _ _ _ _ _ _ b (λ none. ap (λ (s : State). s.breakdowns) (ap g.D.Chip.state (c.bring_to-in-Some-B.ensures.bare none))))

@@ -21,6 +21,7 @@ use Rattle.run_keeping.proofs.Units.{left-then}
 use Rattle.run_keeping.proofs.Seats.{emptied-none, emptied-then, stays-none, sessions-none, sessions-then}
 use Rattle.run_keeping.proofs.Later.{later-same, later-then}
 use Rattle.run_keeping.proofs.Calm.{calm-same, calm-then}
+use Rattle.run_keeping.proofs.Rests.{rest-none, rest-then}
 use Rattle.run_keeping.proofs.keeper.Keeper.keep_all.Goals as goal
 
 pub present-present-requires : goal.present-present-requires
@@ -120,6 +121,7 @@ loop-minute-init g c = record {
   b_bare = λ none. refl;
   later = later-same (devices (g.M.Medium.state c.args.unit.now) (g.C.Chip.state c.args.card_a.now) (g.D.Chip.state c.args.card_b.now));
   calm = calm-same (devices (g.M.Medium.state c.args.unit.now) (g.C.Chip.state c.args.card_a.now) (g.D.Chip.state c.args.card_b.now));
+  rests = rest-none c.args.self.now.cabin.cards c.args.self.now.cabin.cards (g.M.Medium.state c.args.unit.now) (g.M.Medium.state c.args.unit.now) (g.C.Chip.state c.args.card_a.now) (g.D.Chip.state c.args.card_b.now);
 }
 
 pub loop-minute-preserved : goal.loop-minute-preserved
@@ -190,6 +192,7 @@ loop-minute-preserved g c =
       b_bare = λ none. e.b_bare (stays-none c.args.self.now.cabin.cards.b.accepted c.loop-minute.self.cabin.cards.b.accepted v.sessions.b none) ∙ v.b_bare none;
       later = later-then (devices (g.M.Medium.state c.args.unit.now) (g.C.Chip.state c.args.card_a.now) (g.D.Chip.state c.args.card_b.now)) (devices (g.M.Medium.state c.loop-minute.unit) (g.C.Chip.state c.loop-minute.card_a) (g.D.Chip.state c.loop-minute.card_b)) (devices (g.M.Medium.state c.keep_minute.new.unit) (g.C.Chip.state c.keep_minute.new.card_a) (g.D.Chip.state c.keep_minute.new.card_b)) v.later e.later;
       calm = calm-then (devices (g.M.Medium.state c.args.unit.now) (g.C.Chip.state c.args.card_a.now) (g.D.Chip.state c.args.card_b.now)) (devices (g.M.Medium.state c.loop-minute.unit) (g.C.Chip.state c.loop-minute.card_a) (g.D.Chip.state c.loop-minute.card_b)) (devices (g.M.Medium.state c.keep_minute.new.unit) (g.C.Chip.state c.keep_minute.new.card_a) (g.D.Chip.state c.keep_minute.new.card_b)) v.calm e.calm;
+      rests = rest-then c.args.self.now.cabin.cards c.loop-minute.self.cabin.cards c.keep_minute.new.self.cabin.cards (devices (g.M.Medium.state c.args.unit.now) (g.C.Chip.state c.args.card_a.now) (g.D.Chip.state c.args.card_b.now)) (devices (g.M.Medium.state c.loop-minute.unit) (g.C.Chip.state c.loop-minute.card_a) (g.D.Chip.state c.loop-minute.card_b)) (devices (g.M.Medium.state c.keep_minute.new.unit) (g.C.Chip.state c.keep_minute.new.card_a) (g.D.Chip.state c.keep_minute.new.card_b)) v.sessions e.sessions v.rests e.rests;
     }
 
 pub returns-clause-kept : goal.returns-clause-kept
@@ -388,3 +391,13 @@ returns-clause-calm g c = c.loop-minute.invariant.calm
 
 pub returns-in_err-keep_minute-clause-calm : goal.returns-in_err-keep_minute-clause-calm
 returns-in_err-keep_minute-clause-calm g c = calm-then (devices (g.M.Medium.state c.args.unit.now) (g.C.Chip.state c.args.card_a.now) (g.D.Chip.state c.args.card_b.now)) (devices (g.M.Medium.state c.loop-minute.unit) (g.C.Chip.state c.loop-minute.card_a) (g.D.Chip.state c.loop-minute.card_b)) (devices (g.M.Medium.state c.keep_minute.new.unit) (g.C.Chip.state c.keep_minute.new.card_a) (g.D.Chip.state c.keep_minute.new.card_b)) c.loop-minute.invariant.calm c.in_err-keep_minute.ensures.calm
+
+-- ---- a card whose session goes on has not broken down
+
+pub returns-clause-rests : goal.returns-clause-rests
+returns-clause-rests g c = c.loop-minute.invariant.rests
+
+pub returns-in_err-keep_minute-clause-rests : goal.returns-in_err-keep_minute-clause-rests
+returns-in_err-keep_minute-clause-rests g c =
+    rest-then c.args.self.now.cabin.cards c.loop-minute.self.cabin.cards c.keep_minute.new.self.cabin.cards (devices (g.M.Medium.state c.args.unit.now) (g.C.Chip.state c.args.card_a.now) (g.D.Chip.state c.args.card_b.now)) (devices (g.M.Medium.state c.loop-minute.unit) (g.C.Chip.state c.loop-minute.card_a) (g.D.Chip.state c.loop-minute.card_b)) (devices (g.M.Medium.state c.keep_minute.new.unit) (g.C.Chip.state c.keep_minute.new.card_a) (g.D.Chip.state c.keep_minute.new.card_b))
+    c.loop-minute.invariant.sessions c.in_err-keep_minute.ensures.sessions c.loop-minute.invariant.rests c.in_err-keep_minute.ensures.rests

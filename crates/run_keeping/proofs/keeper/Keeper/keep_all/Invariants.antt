@@ -7,7 +7,7 @@ use Rattle.run_keeping.specs.Minutes.{AreDue, AreKept, kept_after}
 use Rattle.run_rule.specs.Between.{devices}
 use Rattle.run_keeping.proofs.Rounds.{told-of}
 use Rattle.run_keeping.proofs.DecidedBooked.{Booked}
-use Rattle.run_keeping.specs.Later.{AreLater, AreCalm}
+use Rattle.run_keeping.specs.Later.{AreLater, AreCalm, RestBy}
 use Rattle.run_keeping.proofs.keeper.Keeper.keep_all.Given as goal
 
 abbrev pub invariant-loop-minute : goal.invariant-loop-minute
@@ -51,4 +51,5 @@ invariant-loop-minute g l = record {
   b_bare : l.fn.self.cabin.cards.b.accepted ≡ None → l.card_b ≡ l.fn.card_b;
   later : AreLater (devices (g.M.Medium.state l.fn.unit) (g.C.Chip.state l.fn.card_a) (g.D.Chip.state l.fn.card_b)) (devices (g.M.Medium.state l.unit) (g.C.Chip.state l.card_a) (g.D.Chip.state l.card_b));
   calm : AreCalm l.fn.breaks.items l.breaks.items (devices (g.M.Medium.state l.fn.unit) (g.C.Chip.state l.fn.card_a) (g.D.Chip.state l.fn.card_b)) (devices (g.M.Medium.state l.unit) (g.C.Chip.state l.card_a) (g.D.Chip.state l.card_b));
+  rests : RestBy l.fn.self.cabin.cards l.self.cabin.cards (devices (g.M.Medium.state l.fn.unit) (g.C.Chip.state l.fn.card_a) (g.D.Chip.state l.fn.card_b)) (devices (g.M.Medium.state l.unit) (g.C.Chip.state l.card_a) (g.D.Chip.state l.card_b));
 }

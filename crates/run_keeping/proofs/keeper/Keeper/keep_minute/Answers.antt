@@ -25,6 +25,7 @@ use Rattle.run_keeping.proofs.Units.{unit-stays, left-then}
 use Rattle.run_keeping.proofs.Seats.{emptied-then, stays-none, sessions-none, sessions-then}
 use Rattle.run_keeping.proofs.Later.{state-by, later-then, later-of-unit}
 use Rattle.run_keeping.proofs.Calm.{calm-then, calm-of-unit}
+use Rattle.run_keeping.proofs.Rests.{rest-none, rest-then, rest-behind}
 use Rattle.run_keeping.proofs.keeper.Keeper.keep_minute.Goals as goal
 
 -- ---- the unit failed before
@@ -373,3 +374,19 @@ returns-in_err-bring-clause-calm g c = calm-then (devices (g.M.Medium.state c.ar
 
 pub returns-clause-calm : goal.returns-clause-calm
 returns-clause-calm g c = calm-then (devices (g.M.Medium.state c.args.unit.now) (g.C.Chip.state c.args.card_a.now) (g.D.Chip.state c.args.card_b.now)) (devices (g.M.Medium.state c.commit.new.unit) (g.C.Chip.state c.args.card_a.now) (g.D.Chip.state c.args.card_b.now)) (devices (g.M.Medium.state c.bring-2.new.unit) (g.C.Chip.state c.bring-2.new.card_a) (g.D.Chip.state c.bring-2.new.card_b)) (calm-of-unit (g.M.Medium.state c.args.unit.now) (g.M.Medium.state c.commit.new.unit) (g.C.Chip.state c.args.card_a.now) (g.D.Chip.state c.args.card_b.now)) (calm-then (devices (g.M.Medium.state c.commit.new.unit) (g.C.Chip.state c.args.card_a.now) (g.D.Chip.state c.args.card_b.now)) (devices (g.M.Medium.state c.bring.new.unit) (g.C.Chip.state c.bring.new.card_a) (g.D.Chip.state c.bring.new.card_b)) (devices (g.M.Medium.state c.bring-2.new.unit) (g.C.Chip.state c.bring-2.new.card_a) (g.D.Chip.state c.bring-2.new.card_b)) c.bring.ensures.calm c.bring-2.ensures.calm)
+
+-- ---- a card whose session goes on has not broken down
+
+pub returns-in_err-commit-clause-rests : goal.returns-in_err-commit-clause-rests
+returns-in_err-commit-clause-rests g c = rest-none c.args.self.now.cabin.cards c.commit.new.self.cabin.cards (g.M.Medium.state c.args.unit.now) (g.M.Medium.state c.commit.new.unit) (g.C.Chip.state c.args.card_a.now) (g.D.Chip.state c.args.card_b.now)
+
+pub returns-in_err-bring-clause-rests : goal.returns-in_err-bring-clause-rests
+returns-in_err-bring-clause-rests g c = rest-behind c.args.self.now.cabin.cards c.commit.new.self.cabin.cards c.bring.new.self.cabin.cards (g.M.Medium.state c.args.unit.now) (g.M.Medium.state c.commit.new.unit) (g.M.Medium.state c.bring.new.unit) (g.C.Chip.state c.args.card_a.now) (g.D.Chip.state c.args.card_b.now) (g.C.Chip.state c.bring.new.card_a) (g.D.Chip.state c.bring.new.card_b) (ap (λ (q : Keeper). q.cabin.cards) c.commit.ensures.keeper) c.bring.ensures.rests
+
+pub returns-clause-rests : goal.returns-clause-rests
+returns-clause-rests g c =
+    rest-then c.args.self.now.cabin.cards c.bring.new.self.cabin.cards c.bring-2.new.self.cabin.cards
+    (devices (g.M.Medium.state c.args.unit.now) (g.C.Chip.state c.args.card_a.now) (g.D.Chip.state c.args.card_b.now)) (devices (g.M.Medium.state c.bring.new.unit) (g.C.Chip.state c.bring.new.card_a) (g.D.Chip.state c.bring.new.card_b)) (devices (g.M.Medium.state c.bring-2.new.unit) (g.C.Chip.state c.bring-2.new.card_a) (g.D.Chip.state c.bring-2.new.card_b))
+    (subst (λ (q : Keeper). SessionsGoOn q.cabin.cards c.bring.new.self.cabin.cards) c.commit.ensures.keeper c.bring.ensures.sessions) c.bring-2.ensures.sessions
+    (rest-behind c.args.self.now.cabin.cards c.commit.new.self.cabin.cards c.bring.new.self.cabin.cards (g.M.Medium.state c.args.unit.now) (g.M.Medium.state c.commit.new.unit) (g.M.Medium.state c.bring.new.unit) (g.C.Chip.state c.args.card_a.now) (g.D.Chip.state c.args.card_b.now) (g.C.Chip.state c.bring.new.card_a) (g.D.Chip.state c.bring.new.card_b) (ap (λ (q : Keeper). q.cabin.cards) c.commit.ensures.keeper) c.bring.ensures.rests)
+    c.bring-2.ensures.rests
