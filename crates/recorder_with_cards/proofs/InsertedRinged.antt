@@ -45,6 +45,10 @@ use Rattle.recorder_with_cards.proofs.RingsHere.{here-then, here-more, goes-to, 
 none-noted : (u : ℕ) (slot : Slot) (card : Card) (vs : List Verdict) → filter is_accepting vs ≡ [] → accepts_by u slot card vs ≡ []
 none-noted u slot card vs none = ap (λ (l : List Verdict). map (λ (v : Verdict). Accepts (record { second = u; slot = slot; card = card })) l) none
 
+-- behind an action is no moment up to it
+behind-apart : (n k : ℕ) → k ≤ n → same_phase (In (suc n)) (In k) ≡ false
+behind-apart n k le = grind (arith, nat_tests)
+
 module _ (o : Origin) (done : List TraceSecond) (s : TraceSecond) (front rest : List Action) (slot : Slot) (card : Card) (are : s.actions ≡ front ++ Insert slot card ∷ rest) (old : Run) (before : Outcome) (d : Devices) (w : RunWithin o done s (In (length front)) [] [] old before d)
     (spans : List SpanFrom) (t : Told) (rings : RingsWithin o done s w.within.b.run.log front old (log_of before) spans t d) (allowed : refusal (course_in w.within.b done s (In (length front)) (log_of before)).slots s.speed (Insert slot card) ≡ None)
     (mid : Run) (told : Outcome) (e : Devices) (lines : List Break) (log_is : log_of told ≡ record (log_of before) { breaks = before.breaks.items ++ lines }) (tears : AreTears (record { second = s.number; begun = suc (length front); late = false }) lines)
@@ -73,7 +77,7 @@ module _ (o : Origin) (done : List TraceSecond) (s : TraceSecond) (front rest : 
   beside = tears-beside (record { second = s.number; begun = suc (length front); late = false }) lines (log_of before) (log_of told) log_is tears
 
   apart : (k : ℕ) → k ≤ length front → same_phase (In (suc (length front))) (In k) ≡ false
-  apart k le = grind (arith, nat_tests)
+  apart k le = behind-apart (length front) k le
 
   uncut-told : cut_in (log_of told) s.number ≡ None
   uncut-told = beside.cut ∙ uncut

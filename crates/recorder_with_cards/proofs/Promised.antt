@@ -108,13 +108,14 @@ use Rattle.run_acts.specs.Closings.{spells_of}
 use Rattle.run_acts.specs.Comings.{TellsMore}
 use Rattle.run_acts.proofs.Comings.{tells-none}
 use Rattle.run_acts.specs.Stays.{Stay, Coming, comings_on, registration_in, AreMerged, spells, sits_in, HasStays, ShowsStays, start_shown, AreTimely}
-use Rattle.recorder_with_cards.proofs.AtEnd.{noted-at-end, sits-at-end}
+use Rattle.recorder_with_cards.proofs.AtEnd.{noted-at-end, sits-at-end, words-so, odometers-so}
 use Rattle.run_recorded.specs.Whole.{NothingFailed}
 use Rattle.run_crew.specs.Cabin.{Stands}
 use Rattle.std.specs.Prelude.{filter}
 use Rattle.log_model.specs.Log.{is_accepting}
 use Rattle.log_model.specs.declared.lines.Find.{Find}
 use Rattle.run_acts.proofs.Stays.{stays-start}
+use Rattle.run_acts.proofs.AllStay.{placed-bare}
 
 -- what holds of either card
 pub both : (P : Card → Type 0) → P A → P B → (c : Card) → P c
@@ -215,6 +216,8 @@ module _ (x a b : List ℕ) (start : ℕ) (items : List Item) (began now : Devic
           only = λ c. ⊎_elim (λ none_. inl none_) (λ valid. inr (subst IsOwnValid (of_image c) valid)) (all.only c);
           shows = stay_shows none;
           closed = stay_spells none;
+          words = λ c. words-so r (all.stays c) (all.hold c);
+          odometers = λ c. odometers-so r (all.stays c) (all.hold c);
           befores = record {
             comings = all.befores.comings;
             lines = all.befores.lines;
@@ -261,7 +264,7 @@ module _ (x a b : List ℕ) (start : ℕ) (items : List Item) (began now : Devic
       of_image c = found.image c ∙ sym (images c)
 
       own : (none : NothingFailed (log_of out)) (c : Card) → IsOwnValid (card_image r c) →
-          HasStays (found_of o.found c) run.keeper.memory.registration (spells_of c (notes_in (log_of out) ss)) (sits_in run.keeper.cabin.slots.seats c) ((h.evented.recorded.stay none).stays c) (session_of run.keeper.cabin.cards c) (card_of now c)
+          HasStays 0 (found_of o.found c) run.keeper.memory.registration (spells_of c (notes_in (log_of out) (seconds_of start items))) (sits_in run.keeper.cabin.slots.seats c) ((h.evented.recorded.stay none).stays c) (session_of run.keeper.cabin.cards c) (card_of now c)
       own none c valid = (h.evented.recorded.stay none).each c (subst IsOwnValid (sym (of_image c)) valid)
 
       -- each card shows its stays, which are as they are noted
@@ -270,7 +273,7 @@ module _ (x a b : List ℕ) (start : ℕ) (items : List Item) (began now : Devic
 
       stay_spells : (none : NothingFailed (log_of out)) (c : Card) → IsOwnValid (card_image r c) → spells ((h.evented.recorded.stay none).stays c) ≡ spells_of c (notes_in (log_of out) (seconds_of start items))
       stay_spells none c valid =
-          sym (noted-at-end (session_of run.keeper.cabin.cards c) (sits_in run.keeper.cabin.slots.seats c) (spells ((h.evented.recorded.stay none).stays c)) (sits-at-end o (seconds_of start items) run out now h.evented.recorded sits c))
+          sym (noted-at-end 0 (session_of run.keeper.cabin.cards c) (sits_in run.keeper.cabin.slots.seats c) (spells ((h.evented.recorded.stay none).stays c)) (sits-at-end o (seconds_of start items) run out now h.evented.recorded sits c))
           ∙ (own none c valid).spell
 
       clocks : (c : Card) → (found_of o.found c).began ≡ (card_of began c).clock
@@ -288,7 +291,7 @@ module _ (x a b : List ℕ) (start : ℕ) (items : List Item) (began now : Devic
           side-shown r began now y may.decodes
           (events-shown began now o (seconds_of start items) (log_of out) run.unfound run.next h.evented.recorded.supply h.evented.evented r refl images refl refl clocks y left)
           h.spans (record { spans_are = h.ringed.spans_are; bases = stores.0 }) (stores.1 y left)
-          (rings-shown began now (since_behind o (log_of out) ss) (log_of out) h.spans (notes_in (log_of out) (seconds_of start items)) (seats_of run) h.ringed.ringed r refl images refl refl refl refl clocks y left)
+          (rings-shown began now (since_behind o (log_of out) (seconds_of start items)) (log_of out) h.spans (notes_in (log_of out) (seconds_of start items)) (seats_of run) h.ringed.ringed r refl images refl refl refl refl clocks y left)
 
       -- of a card, the pointer of its ring is an index where it was valid
       shows-places : (c : Card) → IsOwnValid (card_image r c) → IsDense (places_in (card_image r c)) (card_image r c) → (y : List ℕ) → (card_of now c).may_leave y → ShowsPlaces r h.spans c y
@@ -296,7 +299,7 @@ module _ (x a b : List ℕ) (start : ℕ) (items : List Item) (began now : Devic
           let good : IsApplication (own_sizes (card_image r c)) = subst (λ (i : List ℕ). IsApplication (own_sizes i)) (of_image c) (h.evented.recorded.recorded.found.sizes c (subst IsOwnValid (sym (of_image c)) valid)) in
           let has : HasPlaces (card_image r c) = record { valid = valid; shape = place_shape (own_sizes (card_image r c)) good; ring = record { points = own-points (card_image r c) valid; dense = dense } } in
           record {
-            shows = places-shown began now (since_behind o (log_of out) ss) (log_of out) h.spans (notes_in (log_of out) (seconds_of start items)) (seats_of run) h.ringed.ringed r images refl refl c has y left;
+            shows = places-shown began now (since_behind o (log_of out) (seconds_of start items)) (log_of out) h.spans (notes_in (log_of out) (seconds_of start items)) (seats_of run) h.ringed.ringed r images refl refl c has y left;
             dense = (h.ringed.ringed.on_cards c (subst HasPlaces (images c) has) y left).carries.dense;
           }
 
@@ -442,10 +445,12 @@ module _ (x a b : List ℕ) (start : ℕ) (began now : Devices) (opened : Opened
         };
         owed = λ c. tt;
         only = λ c. inl refl;
+        hold = λ c. tt;
+        placed = λ c valid. placed-bare (notes_in (log_of out) []) run.keeper.cabin c (bare c);
         each = λ c valid.
-            subst (λ (ns : List Note). HasStays (found_of f c) run.keeper.memory.registration (spells_of c ns) (sits_in run.keeper.cabin.slots.seats c) [] (session_of run.keeper.cabin.cards c) (card_of now c)) (sym (no-notes (log_of out)))
-            (subst (λ (s : Option Accepted). HasStays (found_of f c) run.keeper.memory.registration [] (sits_in run.keeper.cabin.slots.seats c) [] s (card_of now c)) (sym (bare c))
-            (stays-start (found_of f c) run.keeper.memory.registration (sits_in run.keeper.cabin.slots.seats c) (card_of now c) (λ y left. untouched c y ((whole c).counts_now (found_of f c).began y (there.clocks c) left))));
+            subst (λ (ns : List Note). HasStays 0 (found_of f c) run.keeper.memory.registration (spells_of c ns) (sits_in run.keeper.cabin.slots.seats c) [] (session_of run.keeper.cabin.cards c) (card_of now c)) (sym (no-notes (log_of out)))
+            (subst (λ (s : Option Accepted). HasStays 0 (found_of f c) run.keeper.memory.registration [] (sits_in run.keeper.cabin.slots.seats c) [] s (card_of now c)) (sym (bare c))
+            (stays-start 0 (found_of f c) run.keeper.memory.registration (sits_in run.keeper.cabin.slots.seats c) (card_of now c) (λ y left. untouched c y ((whole c).counts_now (found_of f c).began y (there.clocks c) left))));
       };
     }
 

@@ -50,6 +50,11 @@ pub mod Stays
 pub mod AllStay
 pub mod SeatsThen
 pub mod NotesThen
+pub mod Truths
+pub mod MinuteEnds
+pub mod WholeLegs
+pub mod TruthsThen
+pub mod Words
 pub mod EnteredStays
 pub mod NoteRecorded
 pub mod Pulled
@@ -92,6 +97,3 @@ pub mod CardWrites
 pub mod Closings
 pub mod CardUses
 pub mod StayUses
-pub mod Truths
-pub mod MinuteEnds
-pub mod WholeLegs

@@ -254,17 +254,16 @@ module _ (o : Origin) (done : List TraceSecond) (s : TraceSecond) (at : Phase) (
           let all = counted (x ∷ span) in
           let lies = second-lies (first_in (x ∷ span)) (x ∷ span) stands.numbered (60 * m.minute + 59) (omega (arith, low)) (omega (arith, high, number, end_, all)) in
           let there : Contains (decided_in w.sp) m = subst (λ (ms : List Minute). Contains ms m) (sym w.decided.decided) (Contains-append_right (decided_of (rule_of o) w.b.span) (w.ds ++ rest) m among) in
-          let same : 60 * (m.minute + 1) ≡ 60 * m.minute + 59 + 1 = omega arith in
-          (
+          let same : 60 * (m.minute + 1) ≡ 60 * m.minute + 59 + 1 = omega arith in (
             lies.0,
             lies.1,
             lies.2,
             is ∙ lies.3,
             lies.4,
             sym (travelled-is w.sp.rule w.sp.seconds w.sp.settlings m there)
-            ∙ ap (λ (xs : List Second). sum (map (λ (y : Second). y.speed) xs))
-            (seconds-to (60 * (m.minute + 1)) (omega (arith, high)) ∙ (λ i. filter (λ (y : Second). nat_lt y.number (same i)) (seconds_in (is i))) ∙ lies.5)
-            ∙ sum-of (seconds_in (lies.0 ++ lies.1 ∷ [])),
+                ∙ ap (λ (xs : List Second). sum (map (λ (y : Second). y.speed) xs))
+                (seconds-to (60 * (m.minute + 1)) (omega (arith, high)) ∙ (λ i. filter (λ (y : Second). nat_lt y.number (same i)) (seconds_in (is i))) ∙ lies.5)
+                ∙ sum-of (seconds_in (lies.0 ++ lies.1 ∷ [])),
           )
 
   -- ---- WITH THIS SECOND the span goes on

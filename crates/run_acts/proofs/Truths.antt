@@ -66,8 +66,8 @@ last-on ss t u r = by r.later refl
       r.behind ++ t ∷ [],
       [],
       ap (λ (l : List (List Told)). go_on l t) (r.are ∙ ap (λ (l : List (List Told)). r.earlier ++ (r.span ++ r.t ∷ r.behind) ∷ l) is)
-      ∙ on-last r.earlier (r.span ++ r.t ∷ r.behind) t
-      ∙ ap (λ (l : List Told). r.earlier ++ l ∷ []) (append_assoc r.span (r.t ∷ r.behind) (t ∷ [])),
+          ∙ on-last r.earlier (r.span ++ r.t ∷ r.behind) t
+          ∙ ap (λ (l : List Told). r.earlier ++ l ∷ []) (append_assoc r.span (r.t ∷ r.behind) (t ∷ [])),
       refl,
       refl,
     )
@@ -119,8 +119,7 @@ last-alike ss span t x number speed u r = by r.later (at-end r.later) refl
         in-last r.behind (at-end r.behind) refl same.0 same.1
     by _ (push later y) is =
         let same = same_from_push (r.earlier ++ (r.span ++ r.t ∷ r.behind) ∷ later) ss y (span ++ t ∷ [])
-        (append_assoc r.earlier ((r.span ++ r.t ∷ r.behind) ∷ later) (y ∷ []) ∙ sym (r.are ∙ ap (λ (l : List (List Told)). r.earlier ++ (r.span ++ r.t ∷ r.behind) ∷ l) is)) in
-        (
+        (append_assoc r.earlier ((r.span ++ r.t ∷ r.behind) ∷ later) (y ∷ []) ∙ sym (r.are ∙ ap (λ (l : List (List Told)). r.earlier ++ (r.span ++ r.t ∷ r.behind) ∷ l) is)) in (
           r.t,
           r.behind,
           later ++ (span ++ x ∷ []) ∷ [],

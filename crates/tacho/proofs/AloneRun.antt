@@ -2,6 +2,7 @@
 use Rattle.std.proofs.Common.{◌≡◌, ◌∙◌, ℕ, cond, List, [], ◌∷◌, refl, ap, sym, subst}
 use Rattle.std.specs.Prelude.{nat_eq}
 use Rattle.trace_model.specs.declared.Card.{Card}
+use Rattle.trace_model.specs.declared.Card.TheVariants.{A as OfA, B as OfB}
 use Rattle.trace_model.specs.declared.Item.{Item}
 use Rattle.trace_model.specs.Trace.{TraceSecond, seconds_of}
 use Rattle.minute_model.specs.declared.Rule.TheVariants.{Original}
@@ -19,7 +20,7 @@ use Rattle.history_model.specs.Presence.{Start}
 use Rattle.message_model.specs.Records.{insertion_ring, unit_place_ring}
 use Rattle.unit_model.specs.declared.layout.TheConstants.{SPEED_LIMIT, FIRST_OVER, OVER_COUNT}
 use Rattle.unit_model.specs.Image.{recorded, last_kept, number_of}
-use Rattle.card_image.specs.Own.{own_number}
+use Rattle.card_image.specs.Own.{own_number, IsOwnValid}
 use Rattle.safety_model.specs.Recording.{Recording, card_image, start_of}
 use Rattle.safety_model.specs.Recording.{history_of as history_in, lost_of as lost_in}
 use Rattle.safety_model.specs.Unit.{UnitSafe, HasEachDecided, IsFilled}
@@ -39,6 +40,7 @@ use Rattle.tacho.specs.Blank.{no_image}
 use Rattle.tacho.specs.Alone.{IsForUnit, NoVerdict, history_of, lost_of, IsAlone}
 use Rattle.tacho.proofs.Cardless.{AreCardless, cardless, plain-told}
 use Rattle.tacho.proofs.AloneLog.{trace-selects, no-failed-tears, without-cards, caused-alone, unit-history-any, with-lost-any}
+use Rattle.tacho.proofs.NoCard.{no-valid}
 use Rattle.tacho.proofs.AloneNoted.{notes-nothing, shows-old, AreNobodys, nobodys-events, noted-any}
 
 -- the begin of the first of some events, by both definitions
@@ -68,6 +70,11 @@ module _ (x : List ℕ) (start : ℕ) (items : List Item) (out : Outcome) (U V A
 
   bare : IsWithoutCards log
   bare = without-cards _ _ _ ss log selects h.ends.caused.causes
+
+  -- no card is valid
+  none-valid : (c : Card) → IsOwnValid (card_image r c) → ⊥
+  none-valid OfA valid = no-valid valid
+  none-valid OfB valid = no-valid valid
 
   -- the events are those of nobody, whatever was found open and torn
   module _ (sessions : ℕ → Visit → ℕ) (t : Tearing) (number : Card → List ℕ) (y : List ℕ) (left : V.may_leave y) where
@@ -107,6 +114,7 @@ module _ (x : List ℕ) (start : ℕ) (items : List Item) (out : Outcome) (U V A
     is-alone = record {
       safe = subst (λ (is : List HistoryMinute). UnitSafe (recorded x) is (lost_of cards out start items) out.marks.items U.clock V) history-same
           (subst (λ (ls : List (List HistoryMinute)). UnitSafe (recorded x) (history_in r) ls out.marks.items U.clock V) lost-same h.ends.safe.unit);
+      none = λ c. (h.ends.safe.card c).unmarked (none-valid c);
       issued = h.ends.safe.issued;
       odometer = h.ends.odometer;
       days = h.ends.days;

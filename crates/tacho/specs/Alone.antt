@@ -12,7 +12,7 @@ use Rattle.run_model.specs.declared.Device.TheVariants.{Unit as OfUnit, CardA, C
 use Rattle.tach_media.specs.Medium.{State, Rose, LeavesOnly, Unchanged}
 use Rattle.log_model.specs.declared.lines.Verdict.{Verdict}
 use Rattle.log_model.specs.Course.{Told, Visit, went}
-use Rattle.log_model.specs.Causes.{cuts}
+use Rattle.log_model.specs.Causes.{cuts, device_of}
 use Rattle.event_model.specs.Events.{Tearing}
 use Rattle.history_model.specs.Minutes.{HistoryMinute}
 use Rattle.history_model.specs.Presence.{Start}
@@ -20,7 +20,7 @@ use Rattle.history_model.specs.History.{unit_history, with_lost}
 use Rattle.gated_ring.specs.Ring.{Shape, IsDense, ring_list}
 use Rattle.message_model.specs.Records.{insertion_ring, unit_place_ring}
 use Rattle.unit_model.specs.Image.{recorded, last_kept, odometer_at}
-use Rattle.safety_model.specs.Unit.{UnitSafe, HasEachDecided, IsFilled, issued_bytes}
+use Rattle.safety_model.specs.Unit.{UnitSafe, HasEachDecided, IsFilled, issued_bytes, marks_of}
 use Rattle.side_model.specs.Odometer.{SpanFrom, AreSpansFrom, MayStore}
 use Rattle.unit_course.specs.Complete.{AreMarked}
 use Rattle.unit_rule.specs.Odometer.{OdometerSafe}
@@ -100,6 +100,8 @@ pub record ShowsOld (ring : Shape) (x y : List ℕ) : Type 0 where
 -- WHAT A RUN HAS RECORDED on the unit alone of a trace, that began with this image, at this clock: the crash-safety theorem of the unit.
 pub record IsAlone (cards : Start) (x : List ℕ) (start : ℕ) (items : List Item) (clock : ℕ) (o : Outcome) (unit : State) : Type 0 where
   pub safe : UnitSafe (recorded x) (history_of cards o start items) (lost_of cards o start items) o.marks.items clock unit
+  -- no minute is told as acknowledged by a card
+  pub none : (c : Card) → marks_of (device_of c) o.marks.items ≡ []
   -- what the unit was issued with stays, in every image that a stop might have left since
   pub issued : (y : List ℕ) → unit.left_since clock y → issued_bytes y ≡ issued_bytes x
   -- the odometer of each image that a stop may leave is the start's and the whole kilometres of each span; and so it is stored

@@ -17,7 +17,7 @@ struct Counted {
     writes: u64,
 }
 
-fn counted(alloc: Global, text: &[u8], stops: Vec<Stop>) -> Result<Counted, Fail> {
+fn count_run(alloc: Global, text: &[u8], stops: Vec<Stop>) -> Result<Counted, Fail> {
     let mut unit = new_unit(alloc, 0, stops)?;
     let ran = record(alloc, text, &mut unit)?;
     Ok(Counted {
@@ -80,7 +80,7 @@ fn a_gap_stands_as_rest(rt: HostRuntime) -> Result<(), Fail> {
 fn an_off_line_at_the_beginning_is_no_cut(rt: HostRuntime) -> Result<(), Fail> {
     let alloc = rt.alloc();
     let text = b"start 1267401600\noff 90\nrun 300 0\noff 7\noff 7";
-    let ran = counted(alloc, text, Vec::new(alloc))?.ran;
+    let ran = count_run(alloc, text, Vec::new(alloc))?.ran;
     assert!(rt; ran.has(3, 1, 0));
     assert_eq!(rt; ran.first, Some(M0 + 1));
     Ok(())
@@ -122,7 +122,7 @@ fn the_longest_trace_is_kept(rt: HostRuntime) -> Result<(), Fail> {
 
 /// How many calls the opening of a run makes.
 fn calls_of_the_opening(alloc: Global) -> Result<u64, Fail> {
-    Ok(counted(alloc, b"start 1267401600", Vec::new(alloc))?.calls)
+    Ok(count_run(alloc, b"start 1267401600", Vec::new(alloc))?.calls)
 }
 
 /// Calls of four hours, over a midnight, are cut short in this manner, each of them by a call later behind the power-on before it:
@@ -177,7 +177,7 @@ fn stop_once(rt: &(impl Abort + AllocGlobal), call: u64, left: Left) -> Result<(
 fn stop_each(rt: &(impl Abort + AllocGlobal), left: Left) -> Result<(), Fail> {
     let alloc = rt.alloc();
     let from = calls_of_the_opening(alloc)?;
-    let whole = counted(alloc, FORTY, Vec::new(alloc))?;
+    let whole = count_run(alloc, FORTY, Vec::new(alloc))?;
     assert!(rt; whole.ran.ended.is_ok() && from < whole.calls);
     for call in from..whole.calls {
         stop_once(rt, call, left)?;
@@ -199,7 +199,7 @@ fn a_failing_power_on_is_a_cut(rt: HostRuntime) -> Result<(), Fail> {
     let first = calls_of_the_opening(alloc)?;
     let stops = stops(alloc, 60, first, 1, 0, Left::Before)?;
     let text = b"start 1267401600\nrun 3600 0\nrun 300 0";
-    let ran = counted(alloc, text, stops)?.ran;
+    let ran = count_run(alloc, text, stops)?.ran;
     let cut = Break::Cut {
         second: T0 + 3540,
         kept: 0,
@@ -218,7 +218,7 @@ fn an_action_without_power_is_refused(rt: HostRuntime) -> Result<(), Fail> {
     let stops = stops(alloc, 1, first, 1, 0, Left::Before)?;
     let text =
         b"start 1267401600\nselect driver work\nrun 30 0\nselect driver work\nselect driver work\nrun 300 0";
-    let ran = counted(alloc, text, stops)?.ran;
+    let ran = count_run(alloc, text, stops)?.ran;
     let refused = Refused {
         second: T0 + 30,
         fault: SlotFault::NoPower,
@@ -232,7 +232,7 @@ fn an_action_without_power_is_refused(rt: HostRuntime) -> Result<(), Fail> {
 fn fails_at(rt: &(impl Abort + AllocGlobal), call: u64) -> Result<(), Fail> {
     let alloc = rt.alloc();
     let stops = stops(alloc, 1, call, 1, 0, Left::Before)?;
-    let counted = counted(alloc, b"start 1267401600\nrun 300 0\n", stops)?;
+    let counted = count_run(alloc, b"start 1267401600\nrun 300 0\n", stops)?;
     let failed = Err(RunFault::MediumFault(Device::Unit));
     assert_eq!(rt; counted.ran.ended, failed);
     assert_eq!(rt; (counted.ran.marks, counted.writes), (0, 0));
@@ -249,7 +249,7 @@ fn a_unit_that_fails_in_the_opening_is_told(rt: HostRuntime) -> Result<(), Fail>
 #[test]
 fn a_minute_takes_three_writes(rt: HostRuntime) -> Result<(), Fail> {
     let alloc = rt.alloc();
-    let writes = counted(alloc, DRIVE, Vec::new(alloc))?.writes;
+    let writes = count_run(alloc, DRIVE, Vec::new(alloc))?.writes;
     // three a minute, two more where the day begins, and two for the words of the second minute
     assert_eq!(rt; writes, 58 * 3 + 2 + 2);
     Ok(())

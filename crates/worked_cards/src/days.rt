@@ -1,13 +1,16 @@
 ghost use Rattle.std.specs.Prelude.{◌≡◌, ◌≤◌, IfOk, length};
 
 use card_layout::Range;
-use cyclic_days::{DayHead, Days, DaysFault};
+use cyclic_days::{DayHead, Days, DaysFault, Tail};
 use std::alloc::Global;
 use std::test::Fail;
 use tach_media::{Left, Medium, MemMedium, Memory, Stop};
 use tacho_types::{Distance, TimeReal};
 
 const TORN: Left = Left::Torn(0x55);
+
+// What the walks of a string count: its days from the oldest on, and from the newest, and the words of the newest.
+type Walks = (u32, u32, u16);
 
 // 2010-03-01
 const MARCH: u32 = 1267401600;
@@ -198,8 +201,8 @@ fn back(days: &Days, medium: &mut MemMedium) -> Result<u32, DaysFault>
     Ok(1000)
 }
 
-// How many days the string holds by the walk both ways, and how many words the newest has, which the tail tells too.
-fn held(medium: &mut MemMedium) -> Result<(u32, u32, u16), DaysFault> {
+// What the string holds; the words of the newest day are those that the tail tells too.
+fn held(medium: &mut MemMedium) -> Result<Walks, DaysFault> {
     let days = loaded(&mut *medium)?;
     let forward = forward(&days, &mut *medium)?;
     let back = back(&days, &mut *medium)?;
@@ -217,47 +220,74 @@ fn loading(alloc: Global, image: Vec<u8>) -> Result<u64, Fail> {
     Ok(medium.calls())
 }
 
+// A day is begun: four bytes at the end of the file then, and four behind its pointers, and what is held.
+fn with_a_day(medium: &mut MemMedium) -> Result<([u8; 4], [u8; 4], Walks), DaysFault> {
+    begin_day(&mut *medium, MARCH)?;
+    let end = bytes_at(&mut *medium, 5544)?;
+    let front = bytes_at(&mut *medium, 4)?;
+    Ok((end, front, held(medium)?))
+}
+
 #[test]
 fn a_date_breaks_over_the_end(rt: HostRuntime) -> Result<(), Fail> {
     let alloc = rt.alloc();
     let mut medium = steady(alloc, empty(alloc)?)?;
-    begin_day(&mut medium, MARCH)?;
-    assert_eq!(rt; bytes_at(&mut medium, 5544)?, [0, 14, 0x4B, 0x8B]);
-    assert_eq!(rt; bytes_at(&mut medium, 4)?, [0x03, 0x80, 0, 1]);
-    assert_eq!(rt; held(&mut medium)?, (1, 1, 1));
+    let (end, front, held) = with_a_day(&mut medium)?;
+    assert_eq!(rt; (end, front), ([0, 14, 0x4B, 0x8B], [0x03, 0x80, 0, 1]));
+    assert_eq!(rt; held, (1, 1, 1));
     Ok(())
+}
+
+// Four bytes of the file of the full string once it was changed: its pointers, the second day, the begin of the string, and the newest day.
+fn places_of_full(medium: &mut MemMedium) -> Result<[[u8; 4]; 4], DaysFault> {
+    let pointers = bytes_at(&mut *medium, 0)?;
+    let second = bytes_at(&mut *medium, 4 + 14)?;
+    let begin = bytes_at(&mut *medium, 4)?;
+    let newest = bytes_at(&mut *medium, 4 + 5530)?;
+    Ok([pointers, second, begin, newest])
+}
+
+// What is held before a change, what stands at those places behind it, and what is held then.
+fn with_a_change(medium: &mut MemMedium) -> Result<(Walks, [[u8; 4]; 4], Walks), DaysFault> {
+    let before = held(&mut *medium)?;
+    add_change(&mut *medium, 0x1805)?;
+    let places = places_of_full(&mut *medium)?;
+    Ok((before, places, held(medium)?))
 }
 
 #[test]
 fn the_oldest_day_goes_where_the_string_is_full(rt: HostRuntime) -> Result<(), Fail> {
     let alloc = rt.alloc();
     let mut medium = steady(alloc, full(alloc)?)?;
-    assert_eq!(rt; held(&mut medium)?, (396, 396, 1));
-    add_change(&mut medium, 0x1805)?;
-    assert_eq!(rt; bytes_at(&mut medium, 0)?, [0, 14, 0x15, 0x9A]);
-    assert_eq!(rt; bytes_at(&mut medium, 4 + 14)?, [0, 0, 0, 14]);
-    assert_eq!(rt; bytes_at(&mut medium, 4)?, [0x18, 0x05, 0, 14]);
-    assert_eq!(rt; bytes_at(&mut medium, 4 + 5530)?, [0, 14, 0, 16]);
-    assert_eq!(rt; held(&mut medium)?, (395, 395, 2));
+    let (before, places, then) = with_a_change(&mut medium)?;
+    let told = [
+        [0, 14, 0x15, 0x9A],
+        [0, 0, 0, 14],
+        [0x18, 0x05, 0, 14],
+        [0, 14, 0, 16],
+    ];
+    assert_eq!(rt; (before, then), ((396, 396, 1), (395, 395, 2)));
+    assert_eq!(rt; places, told);
     Ok(())
 }
 
-// What is held after a change of the full string that is stopped so, and after another change then.
-fn stopped_change(
-    alloc: Global,
-    call: u64,
-    left: Left,
-) -> Result<((u32, u32, u16), (u32, u32, u16)), Fail> {
-    let first = loading(alloc, full(alloc)?)?;
-    let mut medium = medium(alloc, full(alloc)?, first.saturating_add(call), left)?;
-    if add_change(&mut medium, 0x1805).is_ok() {
+// What is held after a change that a stop breaks off, and after another change then.
+fn changed_again(medium: &mut MemMedium) -> Result<(Walks, Walks), Fail> {
+    if add_change(&mut *medium, 0x1805).is_ok() {
         return Err(Fail::from("not stopped"));
     }
     medium.revive()?;
-    let found = held(&mut medium)?;
-    finish_drop(&mut medium)?;
-    add_change(&mut medium, 0x1806)?;
-    Ok((found, held(&mut medium)?))
+    let found = held(&mut *medium)?;
+    finish_drop(&mut *medium)?;
+    add_change(&mut *medium, 0x1806)?;
+    Ok((found, held(medium)?))
+}
+
+// The same of a change of the full string that is stopped so.
+fn stopped_change(alloc: Global, call: u64, left: Left) -> Result<(Walks, Walks), Fail> {
+    let first = loading(alloc, full(alloc)?)?;
+    let mut medium = medium(alloc, full(alloc)?, first.saturating_add(call), left)?;
+    changed_again(&mut medium)
 }
 
 // A write of the change, how it ends, and how many days and words of the newest there are then.
@@ -291,26 +321,34 @@ fn a_stopped_change_goes_on(rt: HostRuntime) -> Result<(), Fail> {
     Ok(())
 }
 
-// What is held after a day of these words that is stopped at that call, and after the next day.
+// What is held after a day of these words that a stop breaks off, and after the next day.
+fn begun_again(medium: &mut MemMedium, words: &[u16]) -> Result<(Walks, Walks), Fail>
+    requires some { 1 ≤ length words.now }
+    requires few { length words.now ≤ 2 }
+{
+    if begin_day_of(&mut *medium, MARCH, words).is_ok() {
+        return Err(Fail::from("not stopped"));
+    }
+    medium.revive()?;
+    let found = held(&mut *medium)?;
+    finish_drop(&mut *medium)?;
+    begin_day(&mut *medium, MARCH + 86400)?;
+    Ok((found, held(medium)?))
+}
+
+// The same of a day on a file with these bytes that is stopped at that call.
 fn stopped_day(
     alloc: Global,
     image: Vec<u8>,
     words: &[u16],
     call: u64,
     left: Left,
-) -> Result<((u32, u32, u16), (u32, u32, u16)), Fail>
+) -> Result<(Walks, Walks), Fail>
     requires some { 1 ≤ length words.now }
     requires few { length words.now ≤ 2 }
 {
     let mut medium = medium(alloc, image, call, left)?;
-    if begin_day_of(&mut medium, MARCH, words).is_ok() {
-        return Err(Fail::from("not stopped"));
-    }
-    medium.revive()?;
-    let found = held(&mut medium)?;
-    finish_drop(&mut medium)?;
-    begin_day(&mut medium, MARCH + 86400)?;
-    Ok((found, held(&mut medium)?))
+    begun_again(&mut medium, words)
 }
 
 // A write of the day, how it ends, and how many days there are then.
@@ -559,29 +597,53 @@ fn long_days(alloc: Global, low: u8) -> Result<Vec<u8>, Memory> {
     Ok(bytes)
 }
 
+// What is held on a file with these bytes.
+fn held_on(alloc: Global, image: Vec<u8>) -> Result<Result<Walks, DaysFault>, Fail> {
+    let mut medium = steady(alloc, image)?;
+    Ok(held(&mut medium))
+}
+
 #[test]
 fn a_length_reaches_the_end_of_the_string(rt: HostRuntime) -> Result<(), Fail> {
     let alloc = rt.alloc();
-    let mut good = steady(alloc, long_days(alloc, 0x5C)?)?;
-    assert_eq!(rt; held(&mut good)?, (2, 2, 1320));
-    let mut bad = steady(alloc, long_days(alloc, 0x5E)?)?;
-    assert_eq!(rt; load(&mut bad), Err(DaysFault::BadDays(2898)));
+    let good = held_on(alloc, long_days(alloc, 0x5C)?)?;
+    assert_eq!(rt; good, Ok((2, 2, 1320)));
+    let bad = held_on(alloc, long_days(alloc, 0x5E)?)?;
+    assert_eq!(rt; bad, Err(DaysFault::BadDays(2898)));
     Ok(())
+}
+
+// The newest day of the file of two days behind a distance.
+fn measured(medium: &mut MemMedium) -> Result<DayHead, Fail> {
+    set_distance(&mut *medium, 7)?;
+    let day = last(medium)?.ok_or("no day")?;
+    Ok(day)
+}
+
+// The newest day behind a trim, and its first word.
+fn trimmed(medium: &mut MemMedium, minute: u32) -> Result<(DayHead, u16), Fail> {
+    trim(&mut *medium, minute)?;
+    let day = last(&mut *medium)?.ok_or("no day")?;
+    let first = word(medium, &day, 0)?;
+    Ok((day, first))
+}
+
+// What is held behind a trim.
+fn held_behind_a_trim(medium: &mut MemMedium, minute: u32) -> Result<Walks, Fail> {
+    trim(&mut *medium, minute)?;
+    Ok(held(medium)?)
 }
 
 #[test]
 fn a_trim_leaves_no_later_word(rt: HostRuntime) -> Result<(), Fail> {
     let alloc = rt.alloc();
     let mut medium = steady(alloc, file(alloc, &TWO_DAYS)?)?;
-    set_distance(&mut medium, 7)?;
-    let day = last(&mut medium)?.ok_or("no day")?;
+    let day = measured(&mut medium)?;
+    let (left, first) = trimmed(&mut medium, 1444)?;
+    let none = held_behind_a_trim(&mut medium, 1439)?;
     assert_eq!(rt; (day.place, day.km.0), (18, 7));
-    trim(&mut medium, 1444)?;
-    let day = last(&mut medium)?.ok_or("no day")?;
-    assert_eq!(rt; (day.place, day.words), (0, 1));
-    assert_eq!(rt; word(&mut medium, &day, 0)?, 0);
-    trim(&mut medium, 1439)?;
-    assert_eq!(rt; held(&mut medium)?, (0, 0, 0));
+    assert_eq!(rt; (left.place, left.words, first), (0, 1, 0));
+    assert_eq!(rt; none, (0, 0, 0));
     Ok(())
 }
 
@@ -590,92 +652,151 @@ fn is_kept(days: &Days, medium: &mut MemMedium) -> Result<bool, DaysFault> {
     Ok(loaded(medium)?.tail() == days.tail())
 }
 
+// How many calls a word takes.
+fn put_word(days: &mut Days, medium: &mut MemMedium) -> Result<u64, DaysFault>
+    requires { days.old.shape ≡ record { base = 0; size = 5544 } }
+    ensures { days.new.shape ≡ record { base = 0; size = 5544 } }
+{
+    if medium.size() != 5548 {
+        return Err(DaysFault::Failed);
+    }
+    let before = medium.calls();
+    days.add_change(&mut *medium, 0x1805)?;
+    Ok(medium.calls().saturating_sub(before))
+}
+
+// How many a day of two words takes.
+fn put_day(days: &mut Days, medium: &mut MemMedium) -> Result<u64, DaysFault>
+    requires { days.old.shape ≡ record { base = 0; size = 5544 } }
+    ensures { days.new.shape ≡ record { base = 0; size = 5544 } }
+{
+    if medium.size() != 5548 {
+        return Err(DaysFault::Failed);
+    }
+    let before = medium.calls();
+    days.begin_day(&mut *medium, TimeReal(MARCH), &[0, 0x1800 + 60])?;
+    Ok(medium.calls().saturating_sub(before))
+}
+
+// How many a distance takes.
+fn put_distance(days: &mut Days, medium: &mut MemMedium) -> Result<u64, DaysFault>
+    requires { days.old.shape ≡ record { base = 0; size = 5544 } }
+    ensures { days.new.shape ≡ record { base = 0; size = 5544 } }
+{
+    if medium.size() != 5548 {
+        return Err(DaysFault::Failed);
+    }
+    let before = medium.calls();
+    days.set_distance(&mut *medium, Distance(7))?;
+    Ok(medium.calls().saturating_sub(before))
+}
+
+// How many the end of a drop takes.
+fn end_drop(days: &mut Days, medium: &mut MemMedium) -> Result<u64, DaysFault>
+    requires { days.old.shape ≡ record { base = 0; size = 5544 } }
+{
+    if medium.size() != 5548 {
+        return Err(DaysFault::Failed);
+    }
+    let before = medium.calls();
+    days.finish_drop(&mut *medium)?;
+    Ok(medium.calls().saturating_sub(before))
+}
+
+// A trim to the end of a day.
+fn cut_days(days: &mut Days, medium: &mut MemMedium) -> Result<(), DaysFault>
+    requires { days.old.shape ≡ record { base = 0; size = 5544 } }
+{
+    if medium.size() != 5548 {
+        return Err(DaysFault::Failed);
+    }
+    Ok(days.trim(medium, 390 * 1440)?)
+}
+
+// Whether what is kept is what loading tells, behind each of these: a word, a day of two words, a distance, and a trim.
+fn are_kept(days: &mut Days, medium: &mut MemMedium) -> Result<[bool; 4], DaysFault>
+    requires { days.old.shape ≡ record { base = 0; size = 5544 } }
+{
+    put_word(&mut *days, &mut *medium)?;
+    let word = is_kept(&*days, &mut *medium)?;
+    put_day(&mut *days, &mut *medium)?;
+    let day = is_kept(&*days, &mut *medium)?;
+    put_distance(&mut *days, &mut *medium)?;
+    let distance = is_kept(&*days, &mut *medium)?;
+    cut_days(&mut *days, &mut *medium)?;
+    let trim = is_kept(&*days, medium)?;
+    Ok([word, day, distance, trim])
+}
+
+// The same of the days of a file.
+fn loaded_are_kept(medium: &mut MemMedium) -> Result<[bool; 4], DaysFault> {
+    let mut days = loaded(&mut *medium)?;
+    are_kept(&mut days, medium)
+}
+
 #[test]
 fn what_is_kept_is_what_is_loaded(rt: HostRuntime) -> Result<(), Fail> {
     let alloc = rt.alloc();
     let mut medium = steady(alloc, full(alloc)?)?;
-    let mut days = loaded(&mut medium)?;
-    if medium.size() != 5548 {
-        return Err(Fail::from("size"));
-    }
-    days.add_change(&mut medium, 0x1805)?;
-    assert_eq!(rt; is_kept(&days, &mut medium)?, true);
-    if medium.size() != 5548 {
-        return Err(Fail::from("size"));
-    }
-    days.begin_day(&mut medium, TimeReal(MARCH), &[0, 0x1800 + 60])?;
-    assert_eq!(rt; is_kept(&days, &mut medium)?, true);
-    if medium.size() != 5548 {
-        return Err(Fail::from("size"));
-    }
-    days.set_distance(&mut medium, Distance(7))?;
-    assert_eq!(rt; is_kept(&days, &mut medium)?, true);
-    if medium.size() != 5548 {
-        return Err(Fail::from("size"));
-    }
-    days.trim(&mut medium, 390 * 1440)?;
-    assert_eq!(rt; is_kept(&days, &mut medium)?, true);
+    assert_eq!(rt; loaded_are_kept(&mut medium)?, [true; 4]);
     Ok(())
+}
+
+// The tail of an empty string, and that behind its first day; and whether what is kept then is what loading tells.
+fn first_day(medium: &mut MemMedium) -> Result<(Option<Tail>, Option<Tail>, bool), DaysFault> {
+    let mut days = loaded(&mut *medium)?;
+    let before = days.tail();
+    if medium.size() != 5548 {
+        return Err(DaysFault::Failed);
+    }
+    days.begin_day(&mut *medium, TimeReal(MARCH), &[0])?;
+    let then = days.tail();
+    Ok((before, then, is_kept(&days, medium)?))
 }
 
 #[test]
 fn the_first_day_is_kept(rt: HostRuntime) -> Result<(), Fail> {
     let alloc = rt.alloc();
     let mut medium = steady(alloc, empty(alloc)?)?;
-    let mut days = loaded(&mut medium)?;
-    assert_eq!(rt; days.tail(), None);
-    if medium.size() != 5548 {
-        return Err(Fail::from("size"));
-    }
-    days.begin_day(&mut medium, TimeReal(MARCH), &[0])?;
+    let (before, then, is_kept) = first_day(&mut medium)?;
+    assert_eq!(rt; before, None);
     assert_eq!(rt;
-        days.tail()
-            .map(|tail| (tail.head.place, tail.head.counter.0, tail.used)),
+        then.map(|tail| (tail.head.place, tail.head.counter.0, tail.used)),
         Some((5538, 1, 14))
     );
-    assert_eq!(rt; is_kept(&days, &mut medium)?, true);
+    assert!(rt; is_kept);
     Ok(())
 }
 
 // How many calls each of these takes: a word on a full string, a day of two words then, a distance, and the end of a drop.
+fn calls_with(days: &mut Days, medium: &mut MemMedium) -> Result<[u64; 4], DaysFault>
+    requires { days.old.shape ≡ record { base = 0; size = 5544 } }
+{
+    let word = put_word(&mut *days, &mut *medium)?;
+    let day = put_day(&mut *days, &mut *medium)?;
+    let distance = put_distance(&mut *days, &mut *medium)?;
+    let end = end_drop(days, medium)?;
+    Ok([word, day, distance, end])
+}
+
+// The same of the days of a file.
 fn calls_of(medium: &mut MemMedium) -> Result<[u64; 4], DaysFault> {
     let mut days = loaded(&mut *medium)?;
-    let mut counts = [0; 4];
-    if medium.size() != 5548 {
-        return Err(DaysFault::Failed);
-    }
-    let mut before = medium.calls();
-    days.add_change(&mut *medium, 0x1805)?;
-    counts[0] = medium.calls().saturating_sub(before);
-    if medium.size() != 5548 {
-        return Err(DaysFault::Failed);
-    }
-    before = medium.calls();
-    days.begin_day(&mut *medium, TimeReal(MARCH), &[0, 60])?;
-    counts[1] = medium.calls().saturating_sub(before);
-    if medium.size() != 5548 {
-        return Err(DaysFault::Failed);
-    }
-    before = medium.calls();
-    days.set_distance(&mut *medium, Distance(7))?;
-    counts[2] = medium.calls().saturating_sub(before);
-    if medium.size() != 5548 {
-        return Err(DaysFault::Failed);
-    }
-    before = medium.calls();
-    days.finish_drop(&mut *medium)?;
-    counts[3] = medium.calls().saturating_sub(before);
-    Ok(counts)
+    calls_with(&mut days, medium)
+}
+
+// On a file with these bytes.
+fn calls_on(alloc: Global, image: Vec<u8>) -> Result<[u64; 4], Fail> {
+    let mut medium = steady(alloc, image)?;
+    Ok(calls_of(&mut medium)?)
 }
 
 #[test]
 fn nothing_that_is_known_is_read(rt: HostRuntime) -> Result<(), Fail> {
     let alloc = rt.alloc();
     // the length of the day that goes, and the writes
-    let mut medium = steady(alloc, full(alloc)?)?;
-    assert_eq!(rt; calls_of(&mut medium)?, [1 + 4, 1 + 6, 1, 1]);
+    assert_eq!(rt; calls_on(alloc, full(alloc)?)?, [1 + 4, 1 + 6, 1, 1]);
     // no day goes: the writes alone
-    let mut medium = steady(alloc, file(alloc, &TWO_DAYS)?)?;
-    assert_eq!(rt; calls_of(&mut medium)?, [2, 4, 1, 1]);
+    assert_eq!(rt; calls_on(alloc, file(alloc, &TWO_DAYS)?)?, [2, 4, 1, 1]);
     Ok(())
 }

@@ -317,14 +317,6 @@ fn take_out<M: Medium, C: Chip>(drive: Drive, unit: &M, card: &mut C) -> Result<
     Ok(())
 }
 
-// The three devices of the drive: a new unit, a new card, and another.
-#[derive(Drop)]
-struct Devices {
-    unit: MemMedium,
-    card: SimCard<MemMedium>,
-    other: SimCard<MemMedium>,
-}
-
 // The image of a new unit, of a vehicle with a limit of 90 km/h.
 fn new_image(alloc: Global) -> Result<Vec<u8>, AllocError> {
     let mut image = vec![in alloc; 0u8; IMAGE_SIZE as usize]?;
@@ -446,36 +438,70 @@ fn words_of<M: Medium>(alloc: Global, unit: &mut M) -> Result<Vec<u16>, Fail>
     Ok(words)
 }
 
-#[test]
-fn a_drive_is_on_the_unit_and_the_card(rt: HostRuntime) -> Result<(), Fail> {
-    let alloc = rt.alloc();
-    let mut unit = new_unit(alloc)?;
+// What a card holds: its pointers and its first day, its newest vehicle, its current use, and the first session that was not closed.
+#[derive(Clone, Copy)]
+struct OnCard {
+    days: [u8; 30],
+    vehicle: [u8; 16],
+    current_use: [u8; 4],
+    unclosed: [u8; 9],
+}
+
+fn on_card(image: &mut MemMedium) -> Result<OnCard, Stopped> {
+    let days = bytes::<30>(&mut *image, DAYS)?;
+    let vehicle = bytes::<16>(&mut *image, VEHICLES)?;
+    let current_use = bytes::<4>(&mut *image, CURRENT_USE)?;
+    let unclosed = bytes::<9>(image, UNCLOSED)?;
+    Ok(OnCard {
+        days,
+        vehicle,
+        current_use,
+        unclosed,
+    })
+}
+
+// The drive with a new card on a unit: what it gives, and what the card holds then.
+fn driven_with_a_card(alloc: Global, unit: &mut MemMedium) -> Result<((u8, u8), OnCard), Fail>
+    requires { IsUnit (memory_state unit.old.log unit.old.counts) }
+    ensures { IsUnit (memory_state unit.new.log unit.new.counts) }
+{
     let mut card = new_card(alloc)?;
     let other = new_card(alloc)?;
+    let put = drives(unit, &mut card, &other)?;
+    let mut image = card.into_medium();
+    Ok((put, on_card(&mut image)?))
+}
+
+// The same on a new unit, and the words of the day on that.
+fn driven(alloc: Global) -> Result<((u8, u8), OnCard, Vec<u16>), Fail> {
+    let mut unit = new_unit(alloc)?;
+    let (put, card) = driven_with_a_card(alloc, &mut unit)?;
+    Ok((put, card, words_of(alloc, &mut unit)?))
+}
+
+#[test]
+fn a_drive_is_on_the_unit_and_the_card(rt: HostRuntime) -> Result<(), Fail> {
+    let (put, card, words) = driven(rt.alloc())?;
     // nothing is owed to a new card; the torn-out minute is owed to it, and is put on it as it comes back
-    assert_eq!(rt; drives(&mut unit, &mut card, &other), Ok((0, 1)));
+    assert_eq!(rt; put, (0, 1));
     // each minute with its card, the one without it, and the other slot's rest
-    let words = words_of(alloc, &mut unit)?;
     assert!(rt;
         words.as_slice() == [0x1000u16, 0xA000, 0x1801, 0x0002, 0x1003, 0x2004, 0x0805].as_slice()
     );
-    let mut image = card.into_medium();
     // the pointers, and one day: 26 bytes, 2010-03-01, counter 1, 2 km, and the words with those that close
-    let days = bytes::<30>(&mut image, DAYS);
     let kept = [
         0, 0, 0, 0, 0, 0, 0, 26, 0x4B, 0x8B, 0x03, 0x80, 0, 1, 0, 2, 0x10, 0x00, 0x18, 0x01, 0x00,
         0x02, 0x10, 0x03, 0x20, 0x04, 0x08, 0x05, 0x20, 0x06,
     ];
-    assert_eq!(rt; days, Ok(kept));
+    assert_eq!(rt; card.days, kept);
     // one vehicle: 100 to 104 km, first used at the first minute, last at the closing word's
-    let vehicle = bytes::<16>(&mut image, VEHICLES);
     let used = [
         0, 0, 0, 0, 100, 0, 0, 104, 0x4B, 0x8B, 0x03, 0x80, 0x4B, 0x8B, 0x04, 0xE8,
     ];
-    assert_eq!(rt; vehicle, Ok(used));
+    assert_eq!(rt; card.vehicle, used);
     // the session is closed, and the one that was broken off is an event
-    assert_eq!(rt; bytes::<4>(&mut image, CURRENT_USE), Ok([0; 4]));
+    assert_eq!(rt; card.current_use, [0; 4]);
     let event = [6, 0x4B, 0x8B, 0x03, 0x80, 0x4B, 0x8B, 0x04, 0xAC];
-    assert_eq!(rt; bytes::<9>(&mut image, UNCLOSED), Ok(event));
+    assert_eq!(rt; card.unclosed, event);
     Ok(())
 }

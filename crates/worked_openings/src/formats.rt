@@ -68,7 +68,7 @@ struct Made {
     is_kind: bool,
 }
 
-fn made(alloc: Global, stops: Vec<Stop>, kind: Image) -> Result<Made, Fail> {
+fn make(alloc: Global, stops: Vec<Stop>, kind: Image) -> Result<Made, Fail> {
     let mut unit = unit_of_ones(alloc, stops)?;
     let answer = format_unit(&mut unit, &VEHICLE);
     let calls = unit.calls();
@@ -84,7 +84,7 @@ fn made(alloc: Global, stops: Vec<Stop>, kind: Image) -> Result<Made, Fail> {
 #[test]
 fn a_unit_is_made_new(rt: HostRuntime) -> Result<(), Fail> {
     let alloc = rt.alloc();
-    let made = made(alloc, Vec::new(alloc), Image::New)?;
+    let made = make(alloc, Vec::new(alloc), Image::New)?;
     assert_eq!(rt; made.answer, Ok(()));
     assert_eq!(rt; made.calls, WRITES);
     assert!(rt; made.is_kind);
@@ -95,7 +95,7 @@ fn a_unit_is_made_new(rt: HostRuntime) -> Result<(), Fail> {
 fn leaves(rt: &(impl Abort + AllocGlobal), call: u64, left: Left, kind: Image) -> Result<(), Fail> {
     let alloc = rt.alloc();
     let stop = Stop { call, left };
-    let made = made(alloc, vec![in alloc; stop]?, kind)?;
+    let made = make(alloc, vec![in alloc; stop]?, kind)?;
     assert_eq!(rt; made.answer, Err(Failed));
     assert!(rt; made.is_kind);
     Ok(())

@@ -125,7 +125,7 @@ fn image_of(alloc: Global, of: Card) -> Result<Vec<u8>, Memory> {
 }
 
 /// A card whose calls stop so.
-fn card(alloc: Global, of: Card, stops: Vec<Stop>) -> Result<SimCard<MemMedium>, Memory> {
+fn card_of(alloc: Global, of: Card, stops: Vec<Stop>) -> Result<SimCard<MemMedium>, Memory> {
     card_with(alloc, image_of(alloc, of)?, NO_ROOM, stops)
 }
 
@@ -138,8 +138,8 @@ fn opened(
     start: u32,
 ) -> Result<Result<Seen, RunFault>, Fail> {
     let mut unit = unit(alloc, unit_image(alloc, 1, limit)?, Vec::new(alloc))?;
-    let mut a = card(alloc, first, Vec::new(alloc))?;
-    let mut b = card(alloc, second, Vec::new(alloc))?;
+    let mut a = card_of(alloc, first, Vec::new(alloc))?;
+    let mut b = card_of(alloc, second, Vec::new(alloc))?;
     opening(&mut unit, &mut a, &mut b, start)
 }
 
@@ -151,14 +151,14 @@ fn opened_without_a(
 ) -> Result<Result<Seen, RunFault>, Fail> {
     let mut unit = unit(alloc, unit_image(alloc, version, 0)?, Vec::new(alloc))?;
     let mut absent = AbsentChip::new(LARGEST_IMAGE);
-    let mut b = card(alloc, Card::B, Vec::new(alloc))?;
+    let mut b = card_of(alloc, Card::B, Vec::new(alloc))?;
     opening(&mut unit, &mut absent, &mut b, start)
 }
 
 /// The opening over a new unit, where the second card is absent.
 fn opened_without_b(alloc: Global) -> Result<Result<Seen, RunFault>, Fail> {
     let mut unit = unit(alloc, unit_image(alloc, 1, 0)?, Vec::new(alloc))?;
-    let mut a = card(alloc, Card::A, Vec::new(alloc))?;
+    let mut a = card_of(alloc, Card::A, Vec::new(alloc))?;
     let mut absent = AbsentChip::new(LARGEST_IMAGE);
     opening(&mut unit, &mut a, &mut absent, T0)
 }
@@ -170,8 +170,8 @@ fn opened_four_times(alloc: Global) -> Result<[Option<RunFault>; 4], Fail> {
         left: Left::Before,
     };
     let mut unit = unit(alloc, unit_image(alloc, 1, 0)?, vec![in alloc; stop]?)?;
-    let mut a = card(alloc, Card::A, vec![in alloc; stop]?)?;
-    let mut b = card(alloc, Card::B, vec![in alloc; stop]?)?;
+    let mut a = card_of(alloc, Card::A, vec![in alloc; stop]?)?;
+    let mut b = card_of(alloc, Card::B, vec![in alloc; stop]?)?;
     let mut faults = [None; 4];
     for i in 0..4 {
         faults[i] = opening(&mut unit, &mut a, &mut b, T0)?.err();

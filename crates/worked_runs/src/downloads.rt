@@ -65,7 +65,7 @@ struct Loaded {
     answered: Vec<u8>,
 }
 
-fn loaded(alloc: Global, image: Vec<u8>) -> Result<Loaded, Fail> {
+fn load(alloc: Global, image: Vec<u8>) -> Result<Loaded, Fail> {
     let mut unit = unit_with(alloc, image, NO_ROOM, Vec::new(alloc))?;
     let mut sink = MemSink::new(Vec::with_capacity(alloc, 4096)?, Vec::new(alloc));
     let mut wire = Wire::new(alloc);
@@ -97,7 +97,7 @@ fn served(alloc: Global, image: Vec<u8>, heard: Vec<u8>, told: &[u8]) -> Result<
 /// A download of a unit that has recorded a trace, and how often `serve` calls it that hears the loader's frames alone and answers the same.
 fn both(alloc: Global, text: &[u8]) -> Result<(usize, u64, Option<u64>), Fail> {
     let image = recorded(alloc, text)?;
-    let loaded = loaded(alloc, image.clone()?)?;
+    let loaded = load(alloc, image.clone()?)?;
     let calls = served(alloc, image, loaded.asked, loaded.answered.as_slice())?;
     Ok((loaded.length, loaded.calls, calls))
 }
