@@ -136,8 +136,8 @@ no-legs rule (z ∷ zs) none =
     (λ i. own i ∷ rest i)
   where
     by : (ds : List Minute) → ((d : Minute) → Contains ds d → ⊥) → travelled_by ds ≡ 0
-    by [] no = refl
-    by (d ∷ ds) no = absurd (no d (Contains-append_left (d ∷ []) ds d (Contains-push [] d)))
+    by [] nobody = refl
+    by (d ∷ ds) nobody = absurd (nobody d (Contains-append_left (d ∷ []) ds d (Contains-push [] d)))
 
 -- ---- THE SPAN THAT BEGINS BEHIND SOME, where the last of their minutes was found kept
 module _ (rule : Rule) (log : RunLog) (start first : ℕ) (low : start ≤ HIGHEST_ODOMETER) (es : List SpanFrom) (from until : ℕ) (apart : AreApart from (in_them es) until)

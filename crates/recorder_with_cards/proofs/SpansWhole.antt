@@ -73,8 +73,8 @@ is-front (x ∷ xs) z ys [] rest (inr one) is = absurd (two xs (let tails : xs +
     tail-of a b as_ bs same = cc
 
     two : (ws : List (List Told)) → ws ++ z ∷ ys ≡ [] → ⊥
-    two [] no = cc
-    two (w ∷ ws) no = cc
+    two [] wrong = cc
+    two (w ∷ ws) wrong = cc
 is-front (x ∷ xs) z ys (e ∷ ended) rest few is =
     let heads : x ≡ e = cc in
     let tails : xs ++ z ∷ ys ≡ ended ++ rest = cc in

@@ -4,18 +4,20 @@ use Rattle.std.specs.Prelude.{flat_map, unwrap_or}
 use Rattle.std.proofs.lemmas.Bool.Decides.{nat_tests}
 use Rattle.std.proofs.lemmas.List.Elements.{filter-append, All-contains, All-weaker}
 use Rattle.activity_codec.specs.declared.entries.Entry.{Entry}
-use Rattle.trace_model.specs.declared.Card.{Card}
 use Rattle.trace_model.specs.Trace.{TraceSecond}
 use Rattle.tach_media.specs.Medium.{State, IsCoherent}
 use Rattle.minute_model.specs.declared.Minute.{Minute}
 use Rattle.minute_model.specs.declared.Rule.{Rule}
 use Rattle.minute_model.specs.Span.{Span, decided_in, ungiven_of}
 use Rattle.minute_rules.specs.Kept.{Kept}
-use Rattle.card_image.specs.View.{CardView}
-use Rattle.card_image.specs.Own.{own_view}
+use Rattle.card_layout.specs.declared.files.Application.{Application}
+use Rattle.card_image.specs.View.{CardView, card_view}
+use Rattle.card_image.specs.Own.{own_view, own_sizes}
+use Rattle.card_session.specs.Books.{mark_of}
+use Rattle.card_session.specs.Sessions.{book_of}
+use Rattle.device_steps.proofs.OnCard.{own-is}
 use Rattle.log_model.specs.Log.{RunLog, In}
-use Rattle.log_model.specs.Course.{Told, Visit, Went, has_power, went}
-use Rattle.log_model.specs.Spans.{spans_of}
+use Rattle.log_model.specs.Course.{Told, Visit, went}
 use Rattle.history_model.specs.Minutes.{HistoryMinute, card_history, up_to}
 use Rattle.history_model.specs.Presence.{Start, CardStart}
 use Rattle.history_model.specs.History.{minutes_after, decided_of, span_minutes, limited_to, history_by}
@@ -46,37 +48,10 @@ use Rattle.run_entering.specs.Told.{IsToldSo}
 use Rattle.run_within.specs.Within.{Within}
 use Rattle.run_acts.specs.Entered.{values_with, MayJudge}
 use Rattle.run_acts.specs.Owed.{IsOwed}
-use Rattle.run_acts.proofs.EnteredFacts.{before, was}
+use Rattle.run_acts.proofs.EnteredFacts.{before, was, now-is}
 use Rattle.run_acts.proofs.EnteredNewest.{past-is}
-use Rattle.run_acts.proofs.RingedSecond.{power-here}
 use Rattle.run_acts.proofs.MinuteEnds.{followed-lit}
 use Rattle.run_acts.proofs.WholeLegs.{whole-before, book-is}
-
--- ---- IT STAYS OWED SO, whatever is told of later seconds
-pub owed-goes : (o : Origin) (log later : RunLog) (done more : List TraceSecond) → ((front : List TraceSecond) (x : TraceSecond) (rest : List TraceSecond) → done ≡ front ++ x ∷ rest → went later front ≡ went log front) →
-    (c : Card) (u mark : ℕ) (es : List Entry) → IsOwed o log done c u mark es → IsOwed o later (done ++ more) c u mark es
-owed-goes o log later done more same c u mark es h =
-    let so : went later h.at.front ≡ went log h.at.front = same h.at.front h.at.s h.at.later h.at.are in
-    record {
-      at = record {
-        front = h.at.front;
-        s = h.at.s;
-        later = h.at.later ++ more;
-        are = ap (λ (ss : List TraceSecond). ss ++ more) h.at.are ∙ append_assoc h.at.front (h.at.s ∷ h.at.later) more;
-        number = h.at.number;
-        power = ap (λ (g : Went). has_power g.before h.at.s) so ∙ h.at.power;
-        earlier = h.at.earlier;
-        span = h.at.span;
-        spans = ap (λ (g : Went). spans_of g.told) so ∙ h.at.spans;
-        times = h.at.times;
-        decided = h.at.decided;
-      };
-      are = h.are
-          ∙ ap
-          (λ (g : Went). filter (λ (e : Entry). nat_lt mark e.minute) ((brought o.recording c).owed
-          ++ card_history c (minutes_after (start_at o) g.told [] (flat_map (λ (span : List Told). decided_of (rule_of o) span) h.at.earlier ++ decided_in (settled_times h.at.times (span_at (rule_of o) u h.at.span))))))
-          (sym so);
-    }
 
 -- ---- A HISTORY THAT LOST NOTHING is all that its spans have decided, with the cards
 
@@ -111,6 +86,11 @@ later-ones mark xs ys low high =
     ∙ ap (λ (es : List Entry). es ++ filter (λ (e : Entry). nat_lt mark e.minute) ys)
     (filter-none (λ (e : Entry). nat_lt mark e.minute) xs (All-weaker (λ (e : Entry). e.minute ≤ mark) (λ (e : Entry). nat_lt mark e.minute ≡ false) (λ e le. over mark e.minute le) xs low))
     ∙ filter-whole (λ (e : Entry). nat_lt mark e.minute) ys (All-weaker (λ (e : Entry). mark < e.minute) (λ (e : Entry). nat_lt mark e.minute ≡ true) (λ e lt. under mark e.minute lt) ys high)
+
+-- an image has the end mark of its book
+mark-own : (app : Application) (x : List ℕ) → (card_view app x).mark ≡ mark_of (book_of app x)
+unfolding card_view book_of
+mark-own app x = refl
 
 -- ---- AS A CARD IS JUDGED
 module _ (o : Origin) (done : List TraceSecond) (s : TraceSecond) (n : ℕ) (waits fewer : List Visit) (e : Entering) (k : Keeper) (out : Outcome) (unfound next_ begun : ℕ) (minutes : Kept) (U X Z : State) (w : Within o done s (In n) waits None [] (values_with k out unfound next_ begun minutes) (arranged e.which U X Z)) (m : MayJudge o done s n waits fewer e k out unfound next_ begun minutes U X Z w) (coherent : IsCoherent X) (none : NothingFailed w.b.run.log) where
@@ -186,7 +166,7 @@ module _ (o : Origin) (done : List TraceSecond) (s : TraceSecond) (n : ℕ) (wai
         ∙ ap (λ (es : List Entry). filter (λ (x : Entry). nat_lt v.mark x.minute) es) (meets.whole ∙ ap (λ (is : List HistoryMinute). st.owed ++ card_history e.which is) up-all)
 
     -- THESE ARE OWED
-    pub owed-now : IsOwed o w.b.run.log (done ++ s ∷ []) e.which s.number (own_view told.found.card_image).mark entered.owed.items
+    owed-now : IsOwed (rule_of o) (start_at o) w.b.run.log (done ++ s ∷ []) e.which (brought o.recording e.which).owed s.number (own_view told.found.card_image).mark entered.owed.items
     owed-now =
         let f = followed-lit o done s (In n) waits None [] (values_with k out unfound next_ begun minutes) (arranged e.which U X Z) w in
         record {
@@ -196,7 +176,6 @@ module _ (o : Origin) (done : List TraceSecond) (s : TraceSecond) (n : ℕ) (wai
             later = [];
             are = refl;
             number = refl;
-            power = power-here o done s (In n) waits None [] (values_with k out unfound next_ begun minutes) (arranged e.which U X Z) w;
             earlier = f.ended;
             span = w.b.span;
             spans = f.spans;
@@ -209,3 +188,14 @@ module _ (o : Origin) (done : List TraceSecond) (s : TraceSecond) (n : ℕ) (wai
               ∙ ap (λ (is : List HistoryMinute). filter (λ (x : Entry). nat_lt v.mark x.minute) ((brought o.recording e.which).owed ++ card_history e.which is))
               (sym (past-is o done s n waits fewer e k out unfound next_ begun minutes U X Z w m coherent) ∙ past-so);
         }
+
+    -- by the end mark of an image that the card may have left
+    pub owed-told : (y : List ℕ) × X.may_leave y × IsOwed (rule_of o) (start_at o) w.b.run.log (done ++ s ∷ []) e.which (brought o.recording e.which).owed e.at.second (mark_of (book_of (own_sizes (found_of o.found e.which).image) y)) entered.owed.items
+    owed-told = (
+      told.found.card_image,
+      told.found.there,
+      subst (λ (u_ : ℕ). IsOwed (rule_of o) (start_at o) w.b.run.log (done ++ s ∷ []) e.which (brought o.recording e.which).owed u_ (mark_of (book_of (own_sizes (found_of o.found e.which).image) told.found.card_image)) entered.owed.items)
+          (sym (now-is o done s n waits fewer e k out unfound next_ begun minutes U X Z w m))
+          (subst (λ (mark : ℕ). IsOwed (rule_of o) (start_at o) w.b.run.log (done ++ s ∷ []) e.which (brought o.recording e.which).owed s.number mark entered.owed.items)
+          (ap (λ (q : CardView). q.mark) (own-is (own_sizes (found_of o.found e.which).image) told.found.card_image told.found.sizes) ∙ mark-own (own_sizes (found_of o.found e.which).image) told.found.card_image) owed-now),
+    )
