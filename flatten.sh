@@ -3,7 +3,7 @@
 cd /work/clones/legs
 F=flat/crates/zz_legs
 rm -f $F/specs/*.antt $F/proofs/*.antt
-SP="Truths Words Owed $SPX"; PR="Truths MinuteEnds WholeLegs OwedNow $PRX"; RC="SpanBases $RCX"
+SP="Truths Words Owed $SPX"; PR="Truths TruthsThen MinuteEnds WholeLegs OwedOn OwedNow $PRX"; RC="SpanBases SpansWhole $RCX"
 : > $F/specs/Lib.antt; for x in $SP; do cp crates/run_acts/specs/$x.antt $F/specs/; echo "pub mod $x" >> $F/specs/Lib.antt; done
 : > $F/proofs/Lib.antt; for x in $PR; do cp crates/run_acts/proofs/$x.antt $F/proofs/; echo "pub mod $x" >> $F/proofs/Lib.antt; done
 for x in $RC; do cp crates/recorder_with_cards/proofs/$x.antt $F/proofs/; echo "pub mod $x" >> $F/proofs/Lib.antt; done
