@@ -99,3 +99,5 @@ pub mod CardWrites
 pub mod Closings
 pub mod CardUses
 pub mod StayUses
+pub mod OwedOn
+pub mod OwedNow
