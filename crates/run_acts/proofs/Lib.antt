@@ -54,6 +54,7 @@ pub mod Truths
 pub mod MinuteEnds
 pub mod WholeLegs
 pub mod TruthsThen
+mod TruthRows
 pub mod Words
 pub mod EnteredStays
 pub mod NoteRecorded
