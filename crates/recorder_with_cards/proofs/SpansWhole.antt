@@ -76,10 +76,10 @@ is-front (x ∷ xs) z ys [] rest (inr one) is = absurd (two xs (let tails : xs +
     two [] wrong = cc
     two (w ∷ ws) wrong = cc
 is-front (x ∷ xs) z ys (e ∷ ended) rest few is =
-    let heads : x ≡ e = cc in
+    let heads : e ≡ x = cc in
     let tails : xs ++ z ∷ ys ≡ ended ++ rest = cc in
     let more = is-front xs z ys ended rest few tails in
-    (more.0, (λ i. heads i ∷ more.1 i) ∙ refl)
+    (more.0, (λ i. heads i ∷ more.1 i))
 
 -- ---- what is acknowledged is in the book
 

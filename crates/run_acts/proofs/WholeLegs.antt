@@ -73,7 +73,7 @@ pub begins-late : (rule : Rule) (mid until : ℕ) (span : List Told) → AreApar
 begins-late rule mid until [] h = h
 begins-late rule mid until (t ∷ span) h = h.1
 
-span-late : (rule : Rule) (start : Start) (told : List Told) (past : List HistoryMinute) (mid until : ℕ) (span : List Told) → AreApart mid (as_spans span) until → (i : HistoryMinute) → Contains (span_minutes rule start told past span) i → mid / 60 ≤ i.minute
+pub span-late : (rule : Rule) (start : Start) (told : List Told) (past : List HistoryMinute) (mid until : ℕ) (span : List Told) → AreApart mid (as_spans span) until → (i : HistoryMinute) → Contains (span_minutes rule start told past span) i → mid / 60 ≤ i.minute
 span-late rule start told past mid until [] h i at =
     absurd (let none : Contains {X = HistoryMinute} [] i = subst (λ (ds : List Minute). Contains (minutes_after start told past ds) i) (decided-empty rule) at in omega (arith, none.1))
 span-late rule start told past mid until (t ∷ span) h i at =
