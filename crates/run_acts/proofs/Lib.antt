@@ -56,6 +56,7 @@ pub mod MinuteEnds
 pub mod WholeLegs
 pub mod TruthsThen
 mod TruthRows
+mod Since
 pub mod Words
 pub mod EnteredStays
 pub mod NoteRecorded

@@ -65,5 +65,5 @@ word-is = record {
   s = third;
   among = (2, omega arith, refl);
   number = refl;
-  is = record { front = Select Driver Available ∷ []; rest = Select Driver Work ∷ []; are = refl; is = refl };
+  is = record { front = Select Driver Available ∷ []; rest = Select Driver Work ∷ []; are = refl; first = refl; is = refl };
 }
