@@ -55,7 +55,6 @@ pub mod Truths
 pub mod MinuteEnds
 pub mod WholeLegs
 pub mod TruthsThen
-mod TruthRows
 mod Since
 pub mod Words
 pub mod EnteredStays
