@@ -7,7 +7,7 @@ use Rattle.trace_model.specs.declared.Action.{Action}
 use Rattle.trace_model.specs.declared.Action.TheVariants.{Select, Withdraw}
 use Rattle.trace_model.specs.Trace.{TraceSecond}
 use Rattle.minute_model.specs.declared.Rule.TheVariants.{Original}
-use Rattle.log_model.specs.Log.{RunLog}
+use Rattle.log_model.specs.Log.{RunLog, cut_in}
 use Rattle.log_model.specs.Course.{Told, went, second_told}
 use Rattle.log_model.specs.Spans.{spans_of}
 use Rattle.run_acts.specs.Truths.{past_of, IsOdometerBefore, IsOdometerBehind, IsWordIn}
@@ -40,26 +40,26 @@ last_told = second_told quiet (went quiet (first ∷ second ∷ [])).before thir
 
 -- they are one power span
 one-span : spans_of (went quiet (first ∷ second ∷ third ∷ [])).told ≡ [] ++ ((first_told ∷ next_told ∷ []) ++ last_told ∷ []) ∷ []
-unfolding went spans_of
+unfolding went spans_of cut_in
 one-span = refl
 
 -- AN ACCEPTANCE in the third tells three kilometres more than the start
 before-third : IsOdometerBefore Original 100 (past_of quiet trace).spans 86402 103
-unfolding went
+unfolding went cut_in
 before-third = record { at = record { earlier = []; span = first_told ∷ next_told ∷ []; t = last_told; behind = []; later = []; are = one-span; number = refl }; is = refl }
 
 -- as the second ends it is that too, and two as it begins
 behind-second : IsOdometerBehind Original 100 (past_of quiet trace).spans 86401 103
-unfolding went
+unfolding went cut_in
 behind-second = record { at = record { earlier = []; span = first_told ∷ []; t = next_told; behind = last_told ∷ []; later = []; are = one-span; number = refl }; is = refl }
 
 before-second : IsOdometerBefore Original 100 (past_of quiet trace).spans 86401 102
-unfolding went
+unfolding went cut_in
 before-second = record { at = record { earlier = []; span = first_told ∷ []; t = next_told; behind = last_told ∷ []; later = []; are = one-span; number = refl }; is = refl }
 
 -- THE WORD of the withdrawal in it is availability: what is selected behind it does not count
 word-is : IsWordIn Original (past_of quiet trace) Driver 86402 activity.Available
-unfolding went
+unfolding went cut_in
 word-is = record {
   at = record { earlier = []; span = first_told ∷ next_told ∷ []; t = last_told; behind = []; later = []; are = one-span; number = refl };
   s = third;
