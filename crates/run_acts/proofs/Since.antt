@@ -114,11 +114,8 @@ answered-untried n speed slot (Select s pick) c b still untried = untried
 answered-untried n speed slot (Insert s card) c b still untried = inserted-untried n (refusal c.slots speed (Insert s card)) s slot card c b untried
 answered-untried n speed slot (Withdraw s) c b still untried = withdrawn-untried n speed s slot c b still untried
 answered-untried n speed slot (Tear s) c b still untried is = untried (torn-sits n (refusal c.slots speed (Tear s)) s slot c is)
-answered-untried n speed slot (Place s ending country region) c b still untried = placed-untried n r slot c b (Place s ending country region) (same r) untried
+answered-untried n speed slot (Place s ending country region) c b still untried = placed-untried n (refusal c.slots speed (Place s ending country region)) slot c b (Place s ending country region) (same (refusal c.slots speed (Place s ending country region))) untried
   where
-    abbrev r : Option SlotFault
-    r = refusal c.slots speed (Place s ending country region)
-
     same : (q : Option SlotFault) → (answered n q (Place s ending country region) c).slots ≡ c.slots
     same None = refl
     same (Some fault) = refl
