@@ -395,8 +395,12 @@ module _ (u : ℕ) (f : CardFound) (vehicle : Registration) where
     abbrev last_stay : Stay
     last_stay = h.goes.stay
 
+    -- in this second, with this word
+    abbrev shut : Shut
+    shut = record { second = u; word = word }
+
     abbrev closed_stay : Stay
-    closed_stay = with_end act last_stay
+    closed_stay = with_end shut last_stay
 
     abbrev earlier : Shown
     earlier = shown_by h.goes.front
