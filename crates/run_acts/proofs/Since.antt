@@ -86,8 +86,8 @@ withdrawn-own n Driver true false sp c sits_ still is = none-sits is
 withdrawn-own n CoDriver true false sp c sits_ still is = none-sits is
 
 withdrawn-untried : (n speed : ℕ) (s slot : Slot) (c : Course) (b : Bool) → nat_lt 0 speed ≡ false → IsUntried slot b c.slots → IsUntried slot (cond (same_slot s slot) true b) (answered n (refusal c.slots speed (Withdraw s)) (Withdraw s) c).slots
-withdrawn-untried n speed Driver Driver c b still untried = withdrawn-own n Driver (sits Driver c.slots) (nat_lt 0 speed) speed c refl still
-withdrawn-untried n speed CoDriver CoDriver c b still untried = withdrawn-own n CoDriver (sits CoDriver c.slots) (nat_lt 0 speed) speed c refl still
+withdrawn-untried n speed Driver Driver c b still untried is = withdrawn-own n Driver (sits Driver c.slots) (nat_lt 0 speed) speed c refl still is
+withdrawn-untried n speed CoDriver CoDriver c b still untried is = withdrawn-own n CoDriver (sits CoDriver c.slots) (nat_lt 0 speed) speed c refl still is
 withdrawn-untried n speed Driver CoDriver c b still untried is = untried (apart-sits n (refusal c.slots speed (Withdraw Driver)) is)
   where
     apart-sits : (k : ℕ) (r : Option SlotFault) → sits CoDriver (answered k r (Withdraw Driver) c).slots ≡ true → sits CoDriver c.slots ≡ true
@@ -110,11 +110,11 @@ placed-untried : (n : ℕ) (r : Option SlotFault) (slot : Slot) (c : Course) (b 
 placed-untried n r slot c b a same untried is = untried (ap (λ (x : Slots). sits slot x) (sym same) ∙ is)
 
 answered-untried : (n speed : ℕ) (slot : Slot) (a : Action) (c : Course) (b : Bool) → nat_lt 0 speed ≡ false → IsUntried slot b c.slots → IsUntried slot (tried_with slot a b) (answered n (refusal c.slots speed a) a c).slots
-answered-untried n speed slot (Select s pick) c b still untried = untried
-answered-untried n speed slot (Insert s card) c b still untried = inserted-untried n (refusal c.slots speed (Insert s card)) s slot card c b untried
-answered-untried n speed slot (Withdraw s) c b still untried = withdrawn-untried n speed s slot c b still untried
+answered-untried n speed slot (Select s pick) c b still untried is = untried is
+answered-untried n speed slot (Insert s card) c b still untried is = inserted-untried n (refusal c.slots speed (Insert s card)) s slot card c b untried is
+answered-untried n speed slot (Withdraw s) c b still untried is = withdrawn-untried n speed s slot c b still untried is
 answered-untried n speed slot (Tear s) c b still untried is = untried (torn-sits n (refusal c.slots speed (Tear s)) s slot c is)
-answered-untried n speed slot (Place s ending country region) c b still untried = placed-untried n (refusal c.slots speed (Place s ending country region)) slot c b (Place s ending country region) (same (refusal c.slots speed (Place s ending country region))) untried
+answered-untried n speed slot (Place s ending country region) c b still untried is = placed-untried n (refusal c.slots speed (Place s ending country region)) slot c b (Place s ending country region) (same (refusal c.slots speed (Place s ending country region))) untried is
   where
     same : (q : Option SlotFault) → (answered n q (Place s ending country region) c).slots ≡ c.slots
     same None = refl
