@@ -55,6 +55,7 @@ pub mod Truths
 pub mod MinuteEnds
 pub mod WholeLegs
 pub mod TruthsThen
+mod TruthRows
 mod Since
 pub mod Words
 pub mod EnteredStays
