@@ -40,7 +40,7 @@ IsCountedSo r s =
 -- card: by the seconds of the power span before it and what the actions before it select. THE ODOMETERS are those of the run: what the unit's image says at the start, with the whole
 -- kilometres of each power span before, and of the span so far.
 -- WHAT WAS OWED AT EACH, in order, is all that the unit had of the card, at the start and by the minutes since, that is later than the end mark of what the card showed by then, and nothing
--- else.
+-- else: of the minutes since, only those behind whose end a `tear` line pulled the card out before they were decided.
 -- THE VEHICLE BEFORE of each insertion, as every image that a stop may leave of the unit tells it, is the newest vehicle entry of what the card's stays
 -- before it make of its image at the start: in the order in which the log tells the acceptances, one entry each, the oldest giving way.
 pub record LeaveStays (r : Recording) (now : Devices) : Type 0 where

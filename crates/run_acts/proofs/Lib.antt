@@ -100,5 +100,6 @@ pub mod CardWrites
 pub mod Closings
 pub mod CardUses
 pub mod StayUses
+pub mod PulledBy
 pub mod OwedOn
 pub mod OwedNow
