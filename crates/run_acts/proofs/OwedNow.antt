@@ -1,6 +1,6 @@
 -- What is owed to a card as it is accepted, by the seconds before: all that it lacks of the run's minutes, and nothing else.
 use Rattle.std.proofs.Common.{◌≡◌, ◌∙◌, ◌⊎◌, ℕ, ◌+◌, ◌/◌, ◌<◌, ◌≤◌, Bool, true, false, cond, nat_lt, Option, Some, None, List, [], ◌∷◌, ◌++◌, All, Contains, filter, refl, ap, sym, subst, arith, append-nil, append_assoc}
-use Rattle.std.specs.Prelude.{flat_map, unwrap_or}
+use Rattle.std.specs.Prelude.{flat_map, unwrap_or, not, ◌&&◌}
 use Rattle.std.proofs.lemmas.Bool.Decides.{nat_tests}
 use Rattle.std.proofs.lemmas.List.Elements.{filter-append, All-contains, All-weaker}
 use Rattle.activity_codec.specs.declared.entries.Entry.{Entry}
@@ -17,7 +17,8 @@ use Rattle.card_session.specs.Books.{mark_of}
 use Rattle.card_session.specs.Sessions.{book_of}
 use Rattle.device_steps.proofs.OnCard.{own-is}
 use Rattle.log_model.specs.Log.{RunLog, In}
-use Rattle.log_model.specs.Course.{Told, Visit, went}
+use Rattle.log_model.specs.Course.{Told, Visit, Went, went, second_told}
+use Rattle.log_model.proofs.Growth.{went-more}
 use Rattle.history_model.specs.Minutes.{HistoryMinute, card_history, up_to}
 use Rattle.history_model.specs.Presence.{Start, CardStart}
 use Rattle.history_model.specs.History.{minutes_after, decided_of, span_minutes, limited_to, history_by}
@@ -36,6 +37,7 @@ use Rattle.safety_model.specs.Recording.{brought}
 use Rattle.run_rule.specs.Found.{found_of, AnyKept}
 use Rattle.run_rule.proofs.Entries.{all-by}
 use Rattle.run_course.specs.Seconds.{kept_all}
+use Rattle.run_course.proofs.Told.{lit-starts}
 use Rattle.run_moments.specs.Kept.{settled_times}
 use Rattle.run_told.specs.Told.{arranged, with_standing}
 use Rattle.run_outcome.specs.declared.outcome.Outcome.{Outcome}
@@ -47,7 +49,8 @@ use Rattle.run_entering.specs.declared.lines.Entering.{Entering}
 use Rattle.run_entering.specs.Told.{IsToldSo}
 use Rattle.run_within.specs.Within.{Within}
 use Rattle.run_acts.specs.Entered.{values_with, MayJudge}
-use Rattle.run_acts.specs.Owed.{IsOwed}
+use Rattle.run_ringed.proofs.Stored.{AtEnd, nothing, push, at-end}
+use Rattle.run_acts.specs.Owed.{IsOwed, runs_on}
 use Rattle.run_acts.proofs.EnteredFacts.{before, was, now-is}
 use Rattle.run_acts.proofs.EnteredNewest.{past-is}
 use Rattle.run_acts.proofs.MinuteEnds.{followed-lit}
@@ -91,6 +94,27 @@ later-ones mark xs ys low high =
 mark-own : (app : Application) (x : List ℕ) → (card_view app x).mark ≡ mark_of (book_of app x)
 unfolding card_view book_of
 mark-own app x = refl
+
+-- ---- whether power goes on
+
+last-runs : (xs : List Told) (t : Told) → runs_on (xs ++ t ∷ []) ≡ (t.lit && not t.cut)
+last-runs [] t = refl
+last-runs (x ∷ []) t = refl
+last-runs (x ∷ y ∷ xs) t = last-runs (y ∷ xs) t
+
+none-runs : (log : RunLog) → (went log []).before.running ≡ runs_on (went log []).told
+unfolding went
+none-runs log = refl
+
+runs-told : (log : RunLog) (done : List TraceSecond) → (went log done).before.running ≡ runs_on (went log done).told
+runs-told log done = by done (at-end done)
+  where
+    by : (ss : List TraceSecond) → AtEnd ss → (went log ss).before.running ≡ runs_on (went log ss).told
+    by _ nothing = none-runs log
+    by _ (push ss s) =
+        ap (λ (w : Went). w.before.running) (went-more log ss s)
+        ∙ sym (last-runs (went log ss).told (second_told log (went log ss).before s))
+        ∙ ap (λ (w : Went). runs_on w.told) (sym (went-more log ss s))
 
 -- ---- AS A CARD IS JUDGED
 module _ (o : Origin) (done : List TraceSecond) (s : TraceSecond) (n : ℕ) (waits fewer : List Visit) (e : Entering) (k : Keeper) (out : Outcome) (unfound next_ begun : ℕ) (minutes : Kept) (U X Z : State) (w : Within o done s (In n) waits None [] (values_with k out unfound next_ begun minutes) (arranged e.which U X Z)) (m : MayJudge o done s n waits fewer e k out unfound next_ begun minutes U X Z w) (coherent : IsCoherent X) (none : NothingFailed w.b.run.log) where
@@ -179,6 +203,7 @@ module _ (o : Origin) (done : List TraceSecond) (s : TraceSecond) (n : ℕ) (wai
             earlier = f.ended;
             span = w.b.span;
             spans = f.spans;
+            begins = sym (lit-starts w.b.span (went w.b.run.log done).before w.b.run.next f.power) ∙ ap not (runs-told w.b.run.log done);
             times = w.decided.times;
             decided = all-decided;
           };
