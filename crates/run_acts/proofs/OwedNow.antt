@@ -1,6 +1,6 @@
 -- What is owed to a card as it is accepted, by the seconds before: all that it lacks of the run's minutes, and nothing else.
 use Rattle.std.proofs.Common.{◌≡◌, ◌∙◌, ◌⊎◌, inl, inr, ⊎_elim, ℕ, ◌+◌, ◌*◌, ◌/◌, ◌<◌, ◌≤◌, Bool, true, false, cond, nat_lt, Option, Some, None, List, [], ◌∷◌, ◌++◌, All, Contains, filter, refl, ap, sym, subst, arith, append-nil, append_assoc}
-use Rattle.std.specs.Prelude.{flat_map, unwrap_or, option_to_list}
+use Rattle.std.specs.Prelude.{flat_map, unwrap_or, option_to_list, not, ◌&&◌}
 use Rattle.std.proofs.lemmas.Bool.Decides.{nat_tests}
 use Rattle.std.proofs.lemmas.List.Elements.{filter-append, All-contains, All-weaker, Contains-append_left, Contains-append_right, Contains-append_cases}
 use Rattle.activity_codec.specs.declared.entries.Entry.{Entry}
@@ -20,9 +20,10 @@ use Rattle.device_steps.proofs.OnCard.{own-is}
 use Rattle.log_model.specs.Log.{RunLog, In}
 use Rattle.log_model.specs.declared.lines.Break.{Break}
 use Rattle.log_model.specs.Causes.{device_of}
-use Rattle.log_model.specs.Course.{Told, Course, Visit, went}
+use Rattle.log_model.specs.Course.{Told, Course, Visit, went, Went, second_told}
 use Rattle.history_model.specs.Minutes.{HistoryMinute, on_card, card_history, up_to}
 use Rattle.history_model.specs.Completeness.{deciding_of, IsMarked, TornBetween}
+use Rattle.log_model.proofs.Growth.{went-more}
 use Rattle.history_model.specs.Presence.{Start, CardStart}
 use Rattle.history_model.specs.History.{settlings_of, minutes_after, decided_of, span_minutes, limited_to, history_by, unit_history}
 use Rattle.history_model.specs.Growth.{closed_limit, closed_history}
@@ -44,6 +45,7 @@ use Rattle.run_rule.specs.Found.{found_of, AnyKept}
 use Rattle.run_rule.proofs.Entries.{all-by}
 use Rattle.run_course.specs.Seconds.{kept_all}
 use Rattle.run_moments.specs.Kept.{BrokenSince, settled_times}
+use Rattle.run_course.proofs.Told.{lit-starts}
 use Rattle.run_told.specs.Told.{arranged, with_standing}
 use Rattle.run_outcome.specs.declared.outcome.Outcome.{Outcome}
 use Rattle.run_recorded.specs.Origin.{Origin, rule_of, start_at}
@@ -54,10 +56,11 @@ use Rattle.run_entering.specs.declared.lines.Entering.{Entering}
 use Rattle.run_entering.specs.Told.{IsToldSo}
 use Rattle.run_within.specs.Within.{Within, course_in}
 use Rattle.run_acts.specs.Entered.{values_with, MayJudge}
-use Rattle.run_acts.specs.Owed.{IsPulledBefore, IsPulledHere, IsOwed}
+use Rattle.run_acts.specs.Owed.{IsPulledBefore, IsPulledHere, IsOwed, runs_on}
 use Rattle.run_acts.proofs.PulledBy.{none-torn, none-torn-in, tears-none, pulled-tears}
 use Rattle.run_acts.proofs.TruthsThen.{began-none}
 use Rattle.run_acts.proofs.EnteredFacts.{mine, before, was, now-is}
+use Rattle.run_ringed.proofs.Stored.{AtEnd, nothing, push, at-end}
 use Rattle.run_acts.proofs.EnteredNewest.{past-is}
 use Rattle.run_acts.proofs.MinuteEnds.{fresh-low, followed-lit}
 use Rattle.run_acts.proofs.WholeLegs.{whole-before, book-is}
@@ -109,6 +112,27 @@ said-on c (i ∷ past) e at = ⊎_elim
     (λ later. let more = said-on c past e later in (more.0, Contains-append_right (i ∷ []) past more.0 more.1, more.2))
     (Contains-append_cases (on_card c i) (card_history c past) e
     (subst (λ (zs : List Entry). Contains zs e) (history-append c (i ∷ []) past ∙ ap (λ (zs : List Entry). zs ++ card_history c past) (history-one c i)) at))
+
+-- ---- whether power goes on
+
+last-runs : (xs : List Told) (t : Told) → runs_on (xs ++ t ∷ []) ≡ (t.lit && not t.cut)
+last-runs [] t = refl
+last-runs (x ∷ []) t = refl
+last-runs (x ∷ y ∷ xs) t = last-runs (y ∷ xs) t
+
+none-runs : (log : RunLog) → (went log []).before.running ≡ runs_on (went log []).told
+unfolding went
+none-runs log = refl
+
+runs-told : (log : RunLog) (done : List TraceSecond) → (went log done).before.running ≡ runs_on (went log done).told
+runs-told log done = by done (at-end done)
+  where
+    by : (ss : List TraceSecond) → AtEnd ss → (went log ss).before.running ≡ runs_on (went log ss).told
+    by _ nothing = none-runs log
+    by _ (push ss s) =
+        ap (λ (w : Went). w.before.running) (went-more log ss s)
+        ∙ sym (last-runs (went log ss).told (second_told log (went log ss).before s))
+        ∙ ap (λ (w : Went). runs_on w.told) (sym (went-more log ss s))
 
 -- ---- AS A CARD IS JUDGED
 module _ (o : Origin) (done : List TraceSecond) (s : TraceSecond) (n : ℕ) (waits fewer : List Visit) (e : Entering) (k : Keeper) (out : Outcome) (unfound next_ begun : ℕ) (minutes : Kept) (U X Z : State) (w : Within o done s (In n) waits None [] (values_with k out unfound next_ begun minutes) (arranged e.which U X Z)) (m : MayJudge o done s n waits fewer e k out unfound next_ begun minutes U X Z w) (coherent : IsCoherent X) (nothing : NothingFailed (values_with k out unfound next_ begun minutes).log) where
@@ -304,6 +328,7 @@ module _ (o : Origin) (done : List TraceSecond) (s : TraceSecond) (n : ℕ) (wai
             earlier = f.ended;
             span = w.b.span;
             spans = f.spans;
+            begins = sym (lit-starts w.b.span (went w.b.run.log done).before w.b.run.next f.power) ∙ ap not (runs-told w.b.run.log done);
             times = w.decided.times;
             decided = all-decided;
           };

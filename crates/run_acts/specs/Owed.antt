@@ -1,5 +1,5 @@
 -- What a card is owed as it is accepted (profile): by the seconds before that, in a run in which no call has failed.
-use Rattle.std.specs.Prelude.{◌≡◌, ◌⊎◌, ℕ, ◌+◌, ◌*◌, ◌/◌, ◌≤◌, ◌++◌, ◌∷◌, List, [], All, Contains, filter, flat_map, nat_lt}
+use Rattle.std.specs.Prelude.{◌≡◌, ◌⊎◌, ℕ, ◌+◌, ◌*◌, ◌/◌, ◌≤◌, ◌++◌, ◌∷◌, List, [], All, Contains, filter, flat_map, nat_lt, Bool, false, not, ◌&&◌}
 use Rattle.activity_codec.specs.declared.entries.Entry.{Entry}
 use Rattle.activity_codec.specs.declared.values.Slot.{Slot}
 use Rattle.trace_model.specs.declared.Action.TheVariants.{Tear}
@@ -16,8 +16,14 @@ use Rattle.history_model.specs.Presence.{Start}
 use Rattle.history_model.specs.History.{settlings_of, minutes_after, decided_of}
 use Rattle.history_model.specs.Completeness.{deciding_of}
 use Rattle.unit_course.specs.Followed.{as_spans}
-use Rattle.unit_course.specs.Turn.{span_at}
+use Rattle.unit_course.specs.Turn.{span_at, begins_with}
 use Rattle.run_moments.specs.Kept.{settled_times}
+
+-- the last of these seconds had power, and kept it
+abbrev pub runs_on : List Told → Bool
+runs_on [] = false
+runs_on (t ∷ []) = t.lit && not t.cut
+runs_on (t ∷ x ∷ ts) = runs_on (x ∷ ts)
 
 -- A SECOND OF THESE, of this number: the seconds before it, and those of its power span among them, none where power begins with it; and so many
 -- settlings come with it that all minutes before its own are decided.
@@ -30,6 +36,7 @@ pub record ReachedAt (rule : Rule) (log : RunLog) (done : List TraceSecond) (u :
   pub earlier : List (List Told)
   pub span : List Told
   pub spans : spans_of (went log front).told ≡ earlier ++ as_spans span
+  pub begins : begins_with span ≡ not (runs_on (went log front).told)
   pub times : ℕ
   pub decided : ungiven_of (settled_times times (span_at rule u span)) ≡ u / 60
 
