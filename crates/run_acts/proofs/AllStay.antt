@@ -621,6 +621,10 @@ all-true o t now u log notes r cabin d grows all none =
       );
       placed = h.placed;
       befores = h.befores;
+      since = h.since;
+      judged = h.judged;
+      turned = h.turned;
+      waits = h.waits;
     }
 
 -- ANOTHER SECOND goes on, where each card with a session sits in a slot
@@ -640,6 +644,10 @@ all-second o t u now log notes r cabin d sits all none =
       hold = h.hold;
       placed = h.placed;
       befores = h.befores;
+      since = h.since;
+      judged = h.judged;
+      turned = h.turned;
+      waits = h.waits;
     }
   where
     sitting : (s : Option Accepted) (b : Bool) → (is_some s ≡ true → b ≡ true) → (ss : List Spell) → as_noted now s b ss ≡ as_noted u s b ss
