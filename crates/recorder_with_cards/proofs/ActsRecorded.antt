@@ -96,7 +96,7 @@ module _ (o : Origin) (done : List TraceSecond) (s : TraceSecond) (speed : ℕ) 
           odometer = same-odometer g.within.b g.began;
           stay = subst (λ (b : Beginning). AllStay o (marked before.marks.items (truths_within o b.run.log done s)) s.number (and_refused (log_of before) line) (notes_within b done s (In (suc (length front))) (and_refused (log_of before) line)) run.keeper.memory.registration run.keeper.cabin d) (sym g.began)
               (all-noted o (marked before.marks.items (truths_within o h.within.b.run.log done s)) s.number (log_of before) (and_refused (log_of before) line) (notes_within h.within.b done s (In (length front)) (log_of before)) (notes_within h.within.b done s (In (suc (length front))) (and_refused (log_of before) line))
-              run.keeper.memory.registration run.keeper.cabin d (λ none. record { none = none; finds = refl })
+              run.keeper.memory.registration run.keeper.cabin d (λ none. record { none = none; finds = refl; judged = refl })
               (λ none c. refuse-now o done s front rest a are (values_of run before) d h.within fault (refuses (Some fault) is) line c) h.stay);
         };
         began = g.began;

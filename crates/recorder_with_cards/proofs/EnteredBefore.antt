@@ -1,4 +1,5 @@
 -- The insertion of a card that is accepted tells its newest vehicle entry, as an image of it does that a stop may leave.
+use Rattle.card_image.specs.View.{card_view}
 use Rattle.std.proofs.Common.{◌≡◌, ◌∙◌, ℕ, ◌+◌, ◌^◌, ◌<◌, Bool, false, Option, Some, None, List, [], ◌∷◌, length, refl, ap, sym, subst, arith}
 use Rattle.tach_media.specs.Medium.{State}
 use Rattle.tacho_types.specs.declared.texts.Registration.{Registration}
@@ -56,11 +57,11 @@ module _ (look : CardLook) (e : Entering) (sized : FitsInsertion look) (small : 
 
 -- SO IT TELLS, by what became of it, where no call failed
 pub way-tells : (f : CardFound) (registration : Registration) (e : Entering) (failed : Bool) (unit : Option (List ℕ)) (U W X Y : State) → failed ≡ false → e.at.second < 2 ^ 32 → e.odometer.0 < 2 ^ 24 →
-    (y : List ℕ) → X.may_leave y → (IsOwnValid f.image → own_sizes y ≡ own_sizes f.image) → (way : Way) → IsWay way registration e failed unit X Y → IsFoundIn e.at.second unit way y → WritesBy (ending_of way) e failed U W → TellsBy (ending_of way) f U W X
+    (y : List ℕ) → X.may_leave y → (IsOwnValid f.image → own_sizes y ≡ own_sizes f.image) → (way : Way) → IsWay way registration e failed unit X Y → IsFoundIn e.at.second unit way y → WritesBy (ending_of way) e failed U W → TellsBy e.at.second (ending_of way) f U W X
 way-tells f registration e failed unit U W X Y fine small few y at sizes Unread is found writes = tt
 way-tells f registration e failed unit U W X Y fine small few y at sizes (Unsized field) is found writes = leaves-more U W writes
 way-tells f registration e failed unit U W X Y fine small few y at sizes (Judged app (Unfit fid place)) is found writes = leaves-more U W writes
-way-tells f registration e failed unit U W X Y fine small few y at sizes (Judged app (Ahead stored)) is found writes = leaves-more U W writes
+way-tells f registration e failed unit U W X Y fine small few y at sizes (Judged app (Ahead stored)) is found writes = (leaves-more U W writes, λ valid. (y, at, found.1.1 ∙ ap (λ (a : Application). (card_view a y).stored) (sym found.0 ∙ sizes valid), found.1.2))
 way-tells f registration e failed unit U W X Y fine small few y at sizes (Judged app Fell) is found writes = tt
 way-tells f registration e failed unit U W X Y fine small few y at sizes (Judged app Unasked) is found writes = tt
 way-tells f registration e failed unit U W X Y fine small few y at sizes (Judged app (Unnoted entered clock)) is found writes = tt

@@ -1,5 +1,5 @@
 -- What a run promises, from what was recorded of it; and that nothing is recorded as it begins.
-use Rattle.std.proofs.Common.{◌≡◌, ◌∙◌, ◌⊎◌, inl, inr, ⊎_elim, ℕ, ◌+◌, ◌-◌, ◌/◌, ◌<◌, ◌≤◌, true, false, Option, Some, None, IfSome, option_map, is_some, Result, Ok, List, [], ◌++◌, length, All, refl, ap, sym, subst, arith}
+use Rattle.std.proofs.Common.{◌≡◌, ◌∙◌, ◌⊎◌, inl, inr, ⊎_elim, ℕ, ◌+◌, ◌-◌, ◌/◌, ◌<◌, ◌≤◌, true, false, Option, Some, None, IfSome, option_map, is_some, Result, Ok, List, [], ◌++◌, length, All, refl, ap, sym, subst, arith, ◌||◌}
 use Rattle.trace_model.specs.declared.Card.{Card}
 use Rattle.trace_model.specs.declared.Card.TheVariants.{A, B}
 use Rattle.tacho_types.specs.declared.texts.Registration.{Registration}
@@ -106,7 +106,7 @@ use Rattle.recorder_with_cards.proofs.LastKept.{tells-last}
 use Rattle.run_acts.specs.Closings.{spells_of}
 use Rattle.run_acts.specs.Comings.{TellsMore}
 use Rattle.run_acts.proofs.Comings.{tells-none}
-use Rattle.run_acts.specs.Stays.{Stay, Coming, comings_on, registration_in, AreMerged, spells, sits_in, HasStays, ShowsStays, start_shown, AreTimely, AreOwed}
+use Rattle.run_acts.specs.Stays.{Stay, Coming, comings_on, registration_in, AreMerged, spells, sits_in, HasStays, ShowsStays, start_shown, AreTimely, AreOwed, AreTurnedAway, is_late}
 use Rattle.recorder_with_cards.proofs.AtEnd.{noted-at-end, sits-at-end, words-so, odometers-so, owes-so}
 use Rattle.run_recorded.specs.Whole.{NothingFailed}
 use Rattle.run_crew.specs.Cabin.{Stands}
@@ -228,6 +228,9 @@ module _ (x a b : List ℕ) (start : ℕ) (items : List Item) (began now : Devic
             merged = merged-by all.befores.comings run.keeper.memory.registration (all.stays A) (all.stays B) (found_of o.found A).image (found_of o.found B).image (card_image r A) (card_image r B) (of_image A) (of_image B) all.befores.merged;
             tells = λ dense. all.befores.tells (record { points = insertions-inside x may.decodes; dense = dense });
           };
+          since = all.since;
+          judged = all.judged;
+          turned = λ c valid. subst (λ (i : List ℕ). AreTurnedAway run.keeper.memory.registration (own_sizes i).activity (all.stays c) (all.since c) (start_shown i)) (of_image c) (all.turned c (subst IsOwnValid (sym (of_image c)) valid));
           timely = λ c valid. subst (λ (i : List ℕ). AreTimely run.keeper.memory.registration (own_sizes i).activity (all.stays c) (start_shown i)) (of_image c) (own none c valid).timely;
         };
     kept = end-kept o ss run out now h.evented.recorded h.spans h.ringed.spans_are h.stored;
@@ -457,6 +460,10 @@ module _ (x a b : List ℕ) (start : ℕ) (began now : Devices) (opened : Opened
         only = λ c. inl refl;
         hold = λ c. (tt, tt);
         placed = λ c valid. placed-bare (notes_in (log_of out) []) run.keeper.cabin c (bare c);
+        since = λ c. [];
+        judged = subst (λ (fs : List Find). AreMerged (filter (λ (g : Find). is_accepting g.verdict || is_late g.verdict) fs) [] []) (sym finds) (refl, refl);
+        turned = λ c valid. tt;
+        waits = λ c valid some. refl;
         each = λ c valid.
             subst (λ (ns : List Note). HasStays 0 (found_of f c) run.keeper.memory.registration (spells_of c ns) (sits_in run.keeper.cabin.slots.seats c) [] (session_of run.keeper.cabin.cards c) (card_of now c)) (sym (no-notes (log_of out)))
             (subst (λ (s : Option Accepted). HasStays 0 (found_of f c) run.keeper.memory.registration [] (sits_in run.keeper.cabin.slots.seats c) [] s (card_of now c)) (sym (bare c))

@@ -1,5 +1,6 @@
 -- What a run in which no call failed leaves on its cards (profile): exactly what their stays in the slots make of them, one for each acceptance
 -- that the log tells, withdrawn where the run notes that, and nowhere else.
+use Rattle.log_model.specs.declared.lines.Find.{Find}
 use Rattle.std.specs.Prelude.{◌≡◌, ◌⊎◌, ◌+◌, ◌*◌, IfSome, List, [], All}
 use Rattle.std.specs.List.{AllByRecursion}
 use Rattle.activity_codec.specs.declared.entries.Entry.{Entry}
@@ -21,7 +22,7 @@ use Rattle.unit_model.specs.Image.{odometer_at}
 use Rattle.card_session.specs.declared.session.Kept.{Kept}
 use Rattle.run_acts.specs.Closings.{spells_of}
 use Rattle.run_acts.specs.Truths.{past_of, IsOdometerBefore, IsOdometerBehind, IsWordIn}
-use Rattle.run_acts.specs.Stays.{Stay, TellsBefores, registration_in, acceptances_told, founds, spells, AreMerged, TellsOwed, ShowsStays, start_shown, AreTimely, AreOwed}
+use Rattle.run_acts.specs.Stays.{Stay, TellsBefores, registration_in, acceptances_told, founds, spells, AreMerged, TellsOwed, ShowsStays, start_shown, AreTimely, AreOwed, judged_told, judged_in, AreTurnedAway}
 use Rattle.run_acts.specs.Owed.{IsOwed}
 
 -- A STAY WAS CLOSED with the word of its slot, where it was, in the second of its withdrawal
@@ -44,7 +45,8 @@ IsAcknowledgedSo marks c s = All (λ (e : Entry). IsMarked marks (device_of c) e
 -- with so many km as the odometer has grown since the one before, and was withdrawn with an activity, or was not; and a session that was left
 -- open was cut at its end mark, and got the entries that the card lacked, as the next stay began. THEY ARE EXACTLY THE INSERTIONS of the card that
 -- the run notes, each of that second and slot, in their order; and those were withdrawn of which the run notes a withdrawal, in its second, and no other. EACH BEGAN IN TIME: in a
--- second that is not earlier than the stored time of what the card showed by then. EACH WAS CLOSED WITH THE ACTIVITY that its slot has as an action of that second withdraws its
+-- second that is not earlier than the stored time of what the card showed by then; AND WHERE NONE BEGAN, as a card that was valid was found to tell of a later time, that is the stored
+-- time of what it showed by then, which is later than the second: these lines are those before each stay, and since the last. EACH WAS CLOSED WITH THE ACTIVITY that its slot has as an action of that second withdraws its
 -- card: by the seconds of the power span before it and what the actions before it select. THE ODOMETERS are those of the run: what the unit's image says at the start, with the whole
 -- kilometres of each power span before, and of the span so far.
 -- WHAT WAS OWED AT EACH, in order, is all that the unit had of the card, at the start and by the minutes since, that is later than the end mark of what the card showed by then, and nothing
@@ -66,6 +68,9 @@ pub record LeaveStays (r : Recording) (marks : List Mark) (now : Devices) : Type
   pub odometers : (c : Card) → AllByRecursion (IsCountedSo r) (stays c)
   pub owes : (c : Card) → AreOwed (IsOwed r.rule (start_of r) r.log r.trace c (brought r c).owed) vehicle (own_sizes (card_image r c)).activity (stays c) (start_shown (card_image r c))
   pub acknowledged : (c : Card) → AllByRecursion (IsAcknowledgedSo marks c) (stays c)
+  pub since : Card → List Find
+  pub judged : AreMerged (judged_told r.log) (judged_in (stays A) (since A)) (judged_in (stays B) (since B))
+  pub turned : (c : Card) → IsOwnValid (card_image r c) → AreTurnedAway vehicle (own_sizes (card_image r c)).activity (stays c) (since c) (start_shown (card_image r c))
   pub timely : (c : Card) → IsOwnValid (card_image r c) → AreTimely vehicle (own_sizes (card_image r c)).activity (stays c) (start_shown (card_image r c))
 
 -- so it is where no call failed

@@ -49,8 +49,8 @@ use Rattle.run_ringed.specs.OnCards.{HasRing}
 use Rattle.run_acts.specs.Comings.{VehicleTold, told_of, TellsMore, TellMore}
 use Rattle.run_acts.proofs.Comings.{tells-none, tells-then}
 use Rattle.run_acts.specs.Truths.{Truths, Grow}
-use Rattle.run_acts.specs.Stays.{Stay, Coming, comings_on, lines_of, befores_of, TellsBefores, acceptances_told, founds, spells, sits_in, as_noted, IsPlaced, AreMerged, TellsOwed, IsTrueOf, StaysIn, HasStays, AreStays, AllStay, AreTrue, start_shown}
-use Rattle.run_acts.proofs.Stays.{on_last, on-last-comings, on-last-founds, on-last-owed, on-last-none, on-last-true, with_kepts, true-kepts, all-true-grow, merged-one, merged-other, stays-still, stays-moved, stays-keep, on-last-owes, owes-grow}
+use Rattle.run_acts.specs.Stays.{Stay, Coming, comings_on, lines_of, befores_of, TellsBefores, acceptances_told, founds, spells, sits_in, as_noted, IsPlaced, AreMerged, TellsOwed, IsTrueOf, StaysIn, HasStays, AreStays, AllStay, AreTrue, start_shown, judged_told, judged_in, AreTurnedAway}
+use Rattle.run_acts.proofs.Stays.{on_last, on-last-comings, on-last-founds, on-last-owed, on-last-none, on-last-true, with_kepts, true-kepts, all-true-grow, merged-one, merged-other, stays-still, stays-moved, stays-keep, on-last-owes, owes-grow, on-last-judged, on-last-turned}
 
 -- ---- the log tells of no failed call
 
@@ -83,15 +83,17 @@ fewer-none log more none = (front-none failed_cut log.breaks more none.0, front-
 pub record Goes (log later : RunLog) : Type 0 where
   pub none : NothingFailed log
   pub finds : acceptances_told later ≡ acceptances_told log
+  pub judged : judged_told later ≡ judged_told log
 
 pub log-self : (log : RunLog) → NothingFailed log → Goes log log
-log-self log none = record { none = none; finds = refl }
+log-self log none = record { none = none; finds = refl; judged = refl }
 
 -- breaks are told
 pub lines-on : (log : RunLog) (bs more : List Break) → bs ≡ log.breaks ++ more → NothingFailed (record log { breaks = bs }) → Goes log (record log { breaks = bs })
 lines-on log bs more is none = record {
   none = fewer-none log more (subst (λ (l : List Break). NothingFailed (record log { breaks = l })) is none);
   finds = refl;
+  judged = refl;
 }
 
 -- a cut where a call failed, and a card that fell, are told
@@ -152,6 +154,20 @@ unfolding kept_stays
 kept-comings r image None ks ss = refl
 kept-comings r image (Some a) ks ss = on-last-comings r image (with_kepts ks) (λ x. refl) ss
 
+kept-judged : (s : Option Accepted) (ks : List Kept) (ss : List Stay) (since : List Find) → judged_in (kept_stays s ks ss) since ≡ judged_in ss since
+unfolding kept_stays
+kept-judged None ks ss since = refl
+kept-judged (Some a) ks ss since = on-last-judged (with_kepts ks) (λ x. refl) (λ x. refl) ss since
+
+kept-turned : (r : Registration) (image : List ℕ) (s : Option Accepted) (ks : List Kept) (ss : List Stay) (since : List Find) → (is_some s ≡ true → since ≡ []) → AreTurnedAway r (own_sizes image).activity ss since (start_shown image) → AreTurnedAway r (own_sizes image).activity (kept_stays s ks ss) since (start_shown image)
+unfolding kept_stays
+kept-turned r image None ks ss since waits h = h
+kept-turned r image (Some a) ks ss since waits h = on-last-turned (with_kepts ks) (λ x. refl) r (own_sizes image).activity ss since (start_shown image) (waits refl) h
+
+-- its lines as more are told: none is new, or one is, that is its own
+abbrev pub JudgesOne : (lines later was now : List Find) → Type 0
+JudgesOne lines later was now = ((later ≡ lines) × (now ≡ was)) ⊎ ((g : Find) × (later ≡ lines ++ g ∷ []) × (now ≡ was ++ g ∷ []))
+
 -- the comings of a card as more acceptances are told: none is new, or one is, and the unit tells the vehicle before it
 abbrev pub ComesOne : CardFound → Registration → (told later : List Find) → (ss now : List Stay) → (U V : State) → Type 0
 ComesOne f r told later ss now U V =
@@ -176,9 +192,21 @@ other-told : (told later : List Find) (ss now : List Stay) (one : List Find) →
 other-told told later ss now one (inl t) h = merged-as-other told later one (founds ss) (founds now) t.0 t.1 h
 other-told told later ss now one (inr t) h = merged-as-other (told ++ t.0 ∷ []) later one (founds ss ++ t.0 ∷ []) (founds now) t.1 t.2 (merged-other told one (founds ss) t.0 h)
 
+one-judged : (lines later was now other : List Find) → JudgesOne lines later was now → AreMerged lines was other → AreMerged later now other
+one-judged lines later was now other (inl t) h = merged-as lines later was now other t.0 t.1 h
+one-judged lines later was now other (inr t) h = merged-as (lines ++ t.0 ∷ []) later (was ++ t.0 ∷ []) now other t.1 t.2 (merged-one lines was other t.0 h)
+
+other-judged : (lines later was now one : List Find) → JudgesOne lines later was now → AreMerged lines one was → AreMerged later one now
+other-judged lines later was now one (inl t) h = merged-as-other lines later one was now t.0 t.1 h
+other-judged lines later was now one (inr t) h = merged-as-other (lines ++ t.0 ∷ []) later one (was ++ t.0 ∷ []) now t.1 t.2 (merged-other lines one was t.0 h)
+
 -- A CALL makes of the stays of a card these, as its session and its seat become others, and its spells these
-pub record Turns (truths : Truths) (card : Card) (second : ℕ) (f : CardFound) (log later : RunLog) (r : Registration) (noted noted_now : List Spell) (sits sits_now : Bool) (s t : Option Accepted) (U V X Y : State) (ss : List Stay) : Type 0 where
+pub record Turns (truths : Truths) (card : Card) (second : ℕ) (f : CardFound) (log later : RunLog) (r : Registration) (noted noted_now : List Spell) (sits sits_now : Bool) (s t : Option Accepted) (U V X Y : State) (ss : List Stay) (since : List Find) : Type 0 where
   pub now : List Stay
+  pub left : List Find
+  pub judged : JudgesOne (judged_told log) (judged_told later) (judged_in ss since) (judged_in now left)
+  pub turned : IsOwnValid f.image → HasStays second f r noted sits ss s X → (is_some s ≡ true → since ≡ []) → AreTurnedAway r (own_sizes f.image).activity ss since (start_shown f.image) → AreTurnedAway r (own_sizes f.image).activity now left (start_shown f.image)
+  pub waits : IsOwnValid f.image → (is_some s ≡ true → since ≡ []) → is_some t ≡ true → left ≡ []
   pub told : TellsOne (acceptances_told log) (acceptances_told later) ss now
   pub owed : AllByRecursion TellsOwed ss → AllByRecursion TellsOwed now
   pub only : (ss ≡ []) ⊎ IsOwnValid f.image → (now ≡ []) ⊎ IsOwnValid f.image
@@ -188,10 +216,16 @@ pub record Turns (truths : Truths) (card : Card) (second : ℕ) (f : CardFound) 
 
 -- none begins
 pub turns-so : (truths : Truths) (card : Card) (second : ℕ) (f : CardFound) (log : RunLog) (r : Registration) (noted : List Spell) (sits : Bool) (s t : Option Accepted) (U V X Y : State) (turn : List Stay → List Stay) → ((ss : List Stay) → founds (turn ss) ≡ founds ss) → ((ss : List Stay) → AllByRecursion TellsOwed ss → AllByRecursion TellsOwed (turn ss))
-    → ((ss : List Stay) → ss ≡ [] → turn ss ≡ []) → ((ss : List Stay) → comings_on r f.image (turn ss) ≡ comings_on r f.image ss) → TellMore [] U V → (ss : List Stay) → (IsOwnValid f.image → HasStays second f r noted sits ss s X → HasStays second f r noted sits (turn ss) t Y)
-    → ((ss ≡ []) ⊎ IsOwnValid f.image → (IsOwnValid f.image → HasStays second f r noted sits ss s X) → AreTrue truths card r f.image ss → AreTrue truths card r f.image (turn ss)) → Turns truths card second f log log r noted noted sits sits s t U V X Y ss
-turns-so truths card second f log r noted sits s t U V X Y turn same tells none comes go ss shows hold = record {
+    → ((ss : List Stay) → ss ≡ [] → turn ss ≡ []) → ((ss : List Stay) → comings_on r f.image (turn ss) ≡ comings_on r f.image ss) → TellMore [] U V → ((ss : List Stay) (since : List Find) → judged_in (turn ss) since ≡ judged_in ss since)
+    → ((ss : List Stay) (since : List Find) → (is_some s ≡ true → since ≡ []) → AreTurnedAway r (own_sizes f.image).activity ss since (start_shown f.image) → AreTurnedAway r (own_sizes f.image).activity (turn ss) since (start_shown f.image)) → (IsOwnValid f.image → is_some t ≡ true → is_some s ≡ true)
+    → (ss : List Stay) (since : List Find) → (IsOwnValid f.image → HasStays second f r noted sits ss s X → HasStays second f r noted sits (turn ss) t Y)
+    → ((ss ≡ []) ⊎ IsOwnValid f.image → (IsOwnValid f.image → HasStays second f r noted sits ss s X) → AreTrue truths card r f.image ss → AreTrue truths card r f.image (turn ss)) → Turns truths card second f log log r noted noted sits sits s t U V X Y ss since
+turns-so truths card second f log r noted sits s t U V X Y turn same tells none comes go judged turned had ss since shows hold = record {
   now = turn ss;
+  left = since;
+  judged = inl (refl, judged ss since);
+  turned = λ valid h waits was. turned ss since waits was;
+  waits = λ valid waits some. waits (had valid some);
   told = inl (refl, same ss);
   owed = tells ss;
   only = λ only. ⊎_elim (λ was. inl (none ss was)) (λ valid. inr valid) only;
@@ -266,6 +300,12 @@ with_mine A mine ss B = ss B
 with_mine B mine ss A = ss A
 with_mine B mine ss B = mine
 
+abbrev pub with_lines : Card → List Find → (Card → List Find) → Card → List Find
+with_lines A mine fs A = mine
+with_lines A mine fs B = fs B
+with_lines B mine fs A = fs A
+with_lines B mine fs B = mine
+
 -- ---- both cards
 
 module _ (o : Origin) (t : Truths) (u : ℕ) where
@@ -273,15 +313,15 @@ module _ (o : Origin) (t : Truths) (u : ℕ) where
   f c = found_of o.found c
 
   abbrev Are : RunLog → List Note → Registration → Cabin → Devices → Type 0
-  Are log notes r cabin d = AreStays o t u notes (acceptances_told log) r cabin d
+  Are log notes r cabin d = AreStays o t u notes (acceptances_told log) (judged_told log) r cabin d
 
   -- of one card
   abbrev HasOf : Registration → List Note → Cabin → Card → List Stay → State → Type 0
   HasOf r notes cabin c ss X = HasStays u (f c) r (spells_of c notes) (sits_in cabin.slots.seats c) ss (session_of cabin.cards c) X
 
-  abbrev TurnsOf : Card → (log later : RunLog) → (notes now : List Note) → Registration → (cabin after : Cabin) → (U V X Y : State) → List Stay → Type 0
-  TurnsOf c log later notes now r cabin after U V X Y ss =
-      Turns t c u (f c) log later r (spells_of c notes) (spells_of c now) (sits_in cabin.slots.seats c) (sits_in after.slots.seats c) (session_of cabin.cards c) (session_of after.cards c) U V X Y ss
+  abbrev TurnsOf : Card → (log later : RunLog) → (notes now : List Note) → Registration → (cabin after : Cabin) → (U V X Y : State) → List Stay → List Find → Type 0
+  TurnsOf c log later notes now r cabin after U V X Y ss since =
+      Turns t c u (f c) log later r (spells_of c notes) (spells_of c now) (sits_in cabin.slots.seats c) (sits_in after.slots.seats c) (session_of cabin.cards c) (session_of after.cards c) U V X Y ss since
 
   -- ---- what the unit tells of the vehicles before
 
@@ -345,6 +385,10 @@ module _ (o : Origin) (t : Truths) (u : ℕ) where
         each = λ c valid. by h c valid;
         hold = h.hold;
         placed = h.placed;
+        since = h.since;
+        judged = h.judged;
+        turned = h.turned;
+        waits = h.waits;
         befores = befores-as (acceptances_told log) (acceptances_told log) r h.stays h.stays U V refl (λ c. refl) go h.befores;
       }
     where
@@ -375,9 +419,17 @@ module _ (o : Origin) (t : Truths) (u : ℕ) where
             (λ was. goes (h.stays c) (session_of cabin.cards c) (session_of after.cards c) m.session was) (m.spell (spells (h.stays c))) (h.each c valid);
         hold = h.hold;
         placed = λ c valid. places none c (h.placed c valid);
+        since = h.since;
+        judged = merged-as (judged_told log) (judged_told later) (judged_in (h.stays A) (h.since A)) (judged_in (h.stays A) (h.since A)) (judged_in (h.stays B) (h.since B)) g.judged refl h.judged;
+        turned = h.turned;
+        waits = λ c valid some. h.waits c valid (had (session_of cabin.cards c) (session_of after.cards c) (moves none c).session some);
         befores = befores-as (acceptances_told log) (acceptances_told later) r h.stays h.stays d.unit d.unit g.finds (λ c. refl) (unit-still d.unit) h.befores;
       }
     where
+      had : (s t : Option Accepted) → (t ≡ s) ⊎ (t ≡ None) → is_some t ≡ true → is_some s ≡ true
+      had s t (inl same) some = sym (ap (λ (q : Option Accepted). is_some q) same) ∙ some
+      had s t (inr none) some = absurd (let wrong : false ≡ true = sym (ap (λ (q : Option Accepted). is_some q) none) ∙ some in cc)
+
       goes : (ss : List Stay) (s t : Option Accepted) → (t ≡ s) ⊎ (t ≡ None) → StaysIn r ss s → StaysIn r ss t
       goes ss s t (inl same) was = subst (λ (q : Option Accepted). StaysIn r ss q) (sym same) was
       goes ss s t (inr none) was = subst (λ (q : Option Accepted). StaysIn r ss q) (sym none) tt
@@ -402,13 +454,13 @@ module _ (o : Origin) (t : Truths) (u : ℕ) where
   pub all-one : (c : Card) (log later : RunLog) (notes now : List Note) (r : Registration) (cabin after : Cabin) (U V X Y Z : State) → (NothingFailed later → NothingFailed log) → session_of after.cards (other c) ≡ session_of cabin.cards (other c) →
       sits_in after.slots.seats (other c) ≡ sits_in cabin.slots.seats (other c) →
       ((slot : Slot) → card_in (seat_in after.slots.seats slot) ≡ Some (other c) → card_in (seat_in cabin.slots.seats slot) ≡ Some (other c)) → (NothingFailed later → spells_of (other c) now ≡ spells_of (other c) notes)
-      → (NothingFailed later → IsPlaced notes cabin c → IsPlaced now after c) → (NothingFailed later → (ss : List Stay) → TurnsOf c log later notes now r cabin after U V X Y ss)
+      → (NothingFailed later → IsPlaced notes cabin c → IsPlaced now after c) → (NothingFailed later → (ss : List Stay) (since : List Find) → TurnsOf c log later notes now r cabin after U V X Y ss since)
       → AllStay o t u log notes r cabin (arranged c U X Z) → AllStay o t u later now r after (arranged c V Y Z)
   all-one A log later notes now r cabin after U V X Y Z fewer same seat beside spell place own all none = by (all (fewer none))
     where
       by : Are log notes r cabin (arranged A U X Z) → Are later now r after (arranged A V Y Z)
       by h =
-          let x = own none (h.stays A) in
+          let x = own none (h.stays A) (h.since A) in
           record {
             says = h.says;
             stays = with_mine A x.now h.stays;
@@ -418,25 +470,37 @@ module _ (o : Origin) (t : Truths) (u : ℕ) where
             each = λ c valid. each h x c valid;
             hold = λ c. hold h x c;
             placed = λ c valid. placed h c valid;
+            since = with_lines A x.left h.since;
+            judged = one-judged (judged_told log) (judged_told later) (judged_in (h.stays A) (h.since A)) (judged_in x.now x.left) (judged_in (h.stays B) (h.since B)) x.judged h.judged;
+            turned = λ c valid. turned h x c valid;
+            waits = λ c valid some. waits h x c valid some;
             befores = befores-turned A (acceptances_told log) (acceptances_told later) r h.stays x.now U V (x.comes (h.each A)) h.befores;
           }
         where
-          owed : (h : Are log notes r cabin (arranged A U X Z)) (x : TurnsOf A log later notes now r cabin after U V X Y (h.stays A)) (c : Card) → AllByRecursion TellsOwed (with_mine A x.now h.stays c)
+          owed : (h : Are log notes r cabin (arranged A U X Z)) (x : TurnsOf A log later notes now r cabin after U V X Y (h.stays A) (h.since A)) (c : Card) → AllByRecursion TellsOwed (with_mine A x.now h.stays c)
           owed h x A = x.owed (h.owed A)
           owed h x B = h.owed B
 
-          only : (h : Are log notes r cabin (arranged A U X Z)) (x : TurnsOf A log later notes now r cabin after U V X Y (h.stays A)) (c : Card) → (with_mine A x.now h.stays c ≡ []) ⊎ IsOwnValid (f c).image
+          only : (h : Are log notes r cabin (arranged A U X Z)) (x : TurnsOf A log later notes now r cabin after U V X Y (h.stays A) (h.since A)) (c : Card) → (with_mine A x.now h.stays c ≡ []) ⊎ IsOwnValid (f c).image
           only h x A = x.only (h.only A)
           only h x B = h.only B
 
-          each : (h : Are log notes r cabin (arranged A U X Z)) (x : TurnsOf A log later notes now r cabin after U V X Y (h.stays A)) (c : Card) → IsOwnValid (f c).image → HasOf r now after c (with_mine A x.now h.stays c) (card_of (arranged A V Y Z) c)
+          each : (h : Are log notes r cabin (arranged A U X Z)) (x : TurnsOf A log later notes now r cabin after U V X Y (h.stays A) (h.since A)) (c : Card) → IsOwnValid (f c).image → HasOf r now after c (with_mine A x.now h.stays c) (card_of (arranged A V Y Z) c)
           each h x A valid = x.shows valid (h.each A valid)
           each h x B valid =
               as-same u (f B) r (spells_of B notes) (spells_of B now) (sits_in cabin.slots.seats B) (sits_in after.slots.seats B) (h.stays B) (session_of cabin.cards B) (session_of after.cards B) Z (spell none) seat same (h.each B valid)
 
-          hold : (h : Are log notes r cabin (arranged A U X Z)) (x : TurnsOf A log later notes now r cabin after U V X Y (h.stays A)) (c : Card) → AreTrue t c r (f c).image (with_mine A x.now h.stays c)
+          hold : (h : Are log notes r cabin (arranged A U X Z)) (x : TurnsOf A log later notes now r cabin after U V X Y (h.stays A) (h.since A)) (c : Card) → AreTrue t c r (f c).image (with_mine A x.now h.stays c)
           hold h x A = x.hold (h.only A) (h.each A) (h.hold A)
           hold h x B = h.hold B
+
+          turned : (h : Are log notes r cabin (arranged A U X Z)) (x : TurnsOf A log later notes now r cabin after U V X Y (h.stays A) (h.since A)) (c : Card) → IsOwnValid (f c).image → AreTurnedAway r (own_sizes (f c).image).activity (with_mine A x.now h.stays c) (with_lines A x.left h.since c) (start_shown (f c).image)
+          turned h x A valid = x.turned valid (h.each A valid) (h.waits A valid) (h.turned A valid)
+          turned h x B valid = h.turned B valid
+
+          waits : (h : Are log notes r cabin (arranged A U X Z)) (x : TurnsOf A log later notes now r cabin after U V X Y (h.stays A) (h.since A)) (c : Card) → IsOwnValid (f c).image → is_some (session_of after.cards c) ≡ true → with_lines A x.left h.since c ≡ []
+          waits h x A valid some = x.waits valid (h.waits A valid) some
+          waits h x B valid some = h.waits B valid (sym (ap (λ (q : Option Accepted). is_some q) same) ∙ some)
 
           placed : (h : Are log notes r cabin (arranged A U X Z)) (c : Card) → IsOwnValid (f c).image → IsPlaced now after c
           placed h A valid = place none (h.placed A valid)
@@ -445,7 +509,7 @@ module _ (o : Origin) (t : Truths) (u : ℕ) where
     where
       by : Are log notes r cabin (arranged B U X Z) → Are later now r after (arranged B V Y Z)
       by h =
-          let x = own none (h.stays B) in
+          let x = own none (h.stays B) (h.since B) in
           record {
             says = h.says;
             stays = with_mine B x.now h.stays;
@@ -455,25 +519,37 @@ module _ (o : Origin) (t : Truths) (u : ℕ) where
             each = λ c valid. each h x c valid;
             hold = λ c. hold h x c;
             placed = λ c valid. placed h c valid;
+            since = with_lines B x.left h.since;
+            judged = other-judged (judged_told log) (judged_told later) (judged_in (h.stays B) (h.since B)) (judged_in x.now x.left) (judged_in (h.stays A) (h.since A)) x.judged h.judged;
+            turned = λ c valid. turned h x c valid;
+            waits = λ c valid some. waits h x c valid some;
             befores = befores-turned B (acceptances_told log) (acceptances_told later) r h.stays x.now U V (x.comes (h.each B)) h.befores;
           }
         where
-          owed : (h : Are log notes r cabin (arranged B U X Z)) (x : TurnsOf B log later notes now r cabin after U V X Y (h.stays B)) (c : Card) → AllByRecursion TellsOwed (with_mine B x.now h.stays c)
+          owed : (h : Are log notes r cabin (arranged B U X Z)) (x : TurnsOf B log later notes now r cabin after U V X Y (h.stays B) (h.since B)) (c : Card) → AllByRecursion TellsOwed (with_mine B x.now h.stays c)
           owed h x A = h.owed A
           owed h x B = x.owed (h.owed B)
 
-          only : (h : Are log notes r cabin (arranged B U X Z)) (x : TurnsOf B log later notes now r cabin after U V X Y (h.stays B)) (c : Card) → (with_mine B x.now h.stays c ≡ []) ⊎ IsOwnValid (f c).image
+          only : (h : Are log notes r cabin (arranged B U X Z)) (x : TurnsOf B log later notes now r cabin after U V X Y (h.stays B) (h.since B)) (c : Card) → (with_mine B x.now h.stays c ≡ []) ⊎ IsOwnValid (f c).image
           only h x A = h.only A
           only h x B = x.only (h.only B)
 
-          each : (h : Are log notes r cabin (arranged B U X Z)) (x : TurnsOf B log later notes now r cabin after U V X Y (h.stays B)) (c : Card) → IsOwnValid (f c).image → HasOf r now after c (with_mine B x.now h.stays c) (card_of (arranged B V Y Z) c)
+          each : (h : Are log notes r cabin (arranged B U X Z)) (x : TurnsOf B log later notes now r cabin after U V X Y (h.stays B) (h.since B)) (c : Card) → IsOwnValid (f c).image → HasOf r now after c (with_mine B x.now h.stays c) (card_of (arranged B V Y Z) c)
           each h x A valid =
               as-same u (f A) r (spells_of A notes) (spells_of A now) (sits_in cabin.slots.seats A) (sits_in after.slots.seats A) (h.stays A) (session_of cabin.cards A) (session_of after.cards A) Z (spell none) seat same (h.each A valid)
           each h x B valid = x.shows valid (h.each B valid)
 
-          hold : (h : Are log notes r cabin (arranged B U X Z)) (x : TurnsOf B log later notes now r cabin after U V X Y (h.stays B)) (c : Card) → AreTrue t c r (f c).image (with_mine B x.now h.stays c)
+          hold : (h : Are log notes r cabin (arranged B U X Z)) (x : TurnsOf B log later notes now r cabin after U V X Y (h.stays B) (h.since B)) (c : Card) → AreTrue t c r (f c).image (with_mine B x.now h.stays c)
           hold h x A = h.hold A
           hold h x B = x.hold (h.only B) (h.each B) (h.hold B)
+
+          turned : (h : Are log notes r cabin (arranged B U X Z)) (x : TurnsOf B log later notes now r cabin after U V X Y (h.stays B) (h.since B)) (c : Card) → IsOwnValid (f c).image → AreTurnedAway r (own_sizes (f c).image).activity (with_mine B x.now h.stays c) (with_lines B x.left h.since c) (start_shown (f c).image)
+          turned h x A valid = h.turned A valid
+          turned h x B valid = x.turned valid (h.each B valid) (h.waits B valid) (h.turned B valid)
+
+          waits : (h : Are log notes r cabin (arranged B U X Z)) (x : TurnsOf B log later notes now r cabin after U V X Y (h.stays B) (h.since B)) (c : Card) → IsOwnValid (f c).image → is_some (session_of after.cards c) ≡ true → with_lines B x.left h.since c ≡ []
+          waits h x A valid some = h.waits A valid (sym (ap (λ (q : Option Accepted). is_some q) same) ∙ some)
+          waits h x B valid some = x.waits valid (h.waits B valid) some
 
           placed : (h : Are log notes r cabin (arranged B U X Z)) (c : Card) → IsOwnValid (f c).image → IsPlaced now after c
           placed h A valid = placed-same notes now cabin after A (ap last_slot (spell none)) beside (λ some. ap (λ (q : Option Accepted). is_some q) (sym same) ∙ some) (h.placed A valid)
@@ -511,6 +587,13 @@ module _ (o : Origin) (t : Truths) (u : ℕ) where
             as-same u (f c) r (spells_of c notes) (spells_of c now) (sits_in cabin.slots.seats c) (sits_in after.slots.seats c) (kept_stays (session_of cabin.cards c) (ks c) (h.stays c)) (session_of after.cards c) (session_of after.cards c) (card_of e c)
             (spell none c) (ap (λ (k : SlotsKept). sits_in k.seats c) (seats none)) refl
             (one-kept r c (spells_of c notes) (sits_in cabin.slots.seats c) (h.stays c) (ks c) (session_of cabin.cards c) (session_of after.cards c) (card_of d c) (card_of e c) (some none c) (keep c valid) (h.each c valid));
+        since = h.since;
+        judged = merged-as (judged_told log) (judged_told later) (judged_in (h.stays A) (h.since A)) (judged_in (kept_stays (session_of cabin.cards A) (ks A) (h.stays A)) (h.since A)) (judged_in (kept_stays (session_of cabin.cards B) (ks B) (h.stays B)) (h.since B)) g.judged
+            (kept-judged (session_of cabin.cards A) (ks A) (h.stays A) (h.since A))
+            (merged-as-other (judged_told log) (judged_told log) (judged_in (h.stays A) (h.since A)) (judged_in (h.stays B) (h.since B)) (judged_in (kept_stays (session_of cabin.cards B) (ks B) (h.stays B)) (h.since B)) refl
+            (kept-judged (session_of cabin.cards B) (ks B) (h.stays B) (h.since B)) h.judged);
+        turned = λ c valid. kept-turned r (f c).image (session_of cabin.cards c) (ks c) (h.stays c) (h.since c) (h.waits c valid) (h.turned c valid);
+        waits = λ c valid some. h.waits c valid (had-session c (ks c) (session_of cabin.cards c) (session_of after.cards c) (card_of d c) (card_of e c) (keep c valid) some);
         hold = λ c. kept-hold t c r (f c).image (session_of cabin.cards c) (ks c) (h.stays c) (kepts none c) (h.hold c);
         placed = λ c valid.
             placed-same notes now cabin after c (ap last_slot (spell none c)) (λ slot there. ap (λ (k : SlotsKept). card_in (seat_in k.seats slot)) (sym (seats none)) ∙ there)

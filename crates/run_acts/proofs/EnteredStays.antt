@@ -1,5 +1,5 @@
 -- The stays of a card that enters: a new one where it is accepted.
-use Rattle.std.proofs.Common.{◌≡◌, ◌∙◌, ◌⊎◌, inl, inr, ℕ, ◌+◌, ◌≤◌, Bool, true, false, List, [], ◌∷◌, ◌++◌, All, length, Option, Some, None, refl, ap, sym, subst, arith}
+use Rattle.std.proofs.Common.{◌≡◌, ◌∙◌, ◌⊎◌, inl, inr, ℕ, ◌+◌, ◌≤◌, Bool, true, false, List, [], ◌∷◌, ◌++◌, All, length, Option, Some, None, refl, ap, sym, subst, arith, ◌||◌, ◌<◌, append-nil}
 use Rattle.std.specs.Prelude.{filter}
 use Rattle.std.proofs.lemmas.List.{append-nil}
 use Rattle.std.proofs.lemmas.List.Elements.{filter-append}
@@ -20,7 +20,7 @@ use Rattle.history_model.specs.Completeness.{IsMarked}
 use Rattle.log_model.specs.declared.lines.Verdict.{Verdict}
 use Rattle.log_model.specs.declared.lines.Find.{Find}
 use Rattle.log_model.specs.declared.lines.Verdict.TheVariants.{Accepted as AcceptedWith, NotValid, TimeOverlap}
-use Rattle.card_image.specs.View.{CardView}
+use Rattle.card_image.specs.View.{CardView, card_view}
 use Rattle.card_image.specs.Own.{own_sizes, IsOwnValid}
 use Rattle.device_steps.proofs.OnCard.{own-is}
 use Rattle.tacho_types.specs.declared.texts.Registration.{Registration}
@@ -63,9 +63,9 @@ use Rattle.card_records.specs.declared.vehicle.Vehicle.{Vehicle}
 use Rattle.card_session.specs.Books.{Book, mark_of}
 use Rattle.card_session.specs.Sessions.{book_of}
 use Rattle.run_acts.specs.Comings.{told_of, TellMore}
-use Rattle.run_acts.specs.Stays.{Stay, after_stays, start_shown, acceptances_told, sits_in, IsPlaced, AllStay}
-use Rattle.run_acts.proofs.Stays.{coming_behind, one-coming, owed-more, founds-more, true-more, last-slot-more, stays-still, stays-moved, stays-open, owes-more}
-use Rattle.run_acts.proofs.AllStay.{Turns, placed-bare, all-of, all-one, fewer-none, no-tear, mine-left}
+use Rattle.run_acts.specs.Stays.{Stay, after_stays, start_shown, acceptances_told, sits_in, IsPlaced, AllStay, is_late, judged_told, judged_in, AreTurnedAway, stored_by, HasStays}
+use Rattle.run_acts.proofs.Stays.{coming_behind, one-coming, owed-more, founds-more, true-more, last-slot-more, stays-still, stays-moved, stays-open, owes-more, judged-more, judged-late, turned-more, turned-late, stored-shown}
+use Rattle.run_acts.proofs.AllStay.{Turns, placed-bare, all-of, all-one, fewer-none, no-tear, mine-left, JudgesOne}
 use Rattle.run_acts.proofs.SeatsThen.{torn-other, put-own, put-again, torn-slot, filled-slot, filled-own}
 use Rattle.run_acts.proofs.NotesThen.{accepted-now, rejected-now, elsewhere-now}
 
@@ -122,17 +122,18 @@ finds-noted o done s n waits fewer v d w e at next none order verdict =
       others = elsewhere-now o done s n waits fewer v d w e.slot e.which next none order (find_of e verdict) here refl (other e.which) (apart-turned e.which);
     }
 
--- WHAT IT TELLS OF THE VEHICLE BEFORE, where no call failed: that which an image of the card tells as its newest, where it is accepted; else nothing
-abbrev pub TellsBy : Ending → CardFound → (unit unit_after card : State) → Type 0
-TellsBy (Unfit fid place) f U W X = TellMore [] U W
-TellsBy (Ahead stored) f U W X = TellMore [] U W
-TellsBy Fell f U W X = Unit {0}
-TellsBy Unasked f U W X = Unit {0}
-TellsBy (Unnoted entered clock) f U W X = Unit {0}
-TellsBy (Seated entered clock entry) f U W X =
+-- WHAT IT TELLS OF THE VEHICLE BEFORE, where no call failed: that which an image of the card tells as its newest, where it is accepted; else nothing, and where it
+-- tells of a later time, that is what an image of it stored
+abbrev pub TellsBy : (second : ℕ) → Ending → CardFound → (unit unit_after card : State) → Type 0
+TellsBy u (Unfit fid place) f U W X = TellMore [] U W
+TellsBy u (Ahead stored) f U W X = TellMore [] U W × (IsOwnValid f.image → (y : List ℕ) × X.may_leave y × (stored ≡ (card_view (own_sizes f.image) y).stored) × (u < stored))
+TellsBy u Fell f U W X = Unit {0}
+TellsBy u Unasked f U W X = Unit {0}
+TellsBy u (Unnoted entered clock) f U W X = Unit {0}
+TellsBy u (Seated entered clock entry) f U W X =
     TellMore (told_of entered.look.previous ∷ []) U W
     × (IsOwnValid f.image → (y : List ℕ) × X.may_leave y × (entered.look.previous ≡ (book_of (own_sizes f.image) y).vehicles.newest))
-TellsBy (Lost entered clock entry) f U W X = Unit {0}
+TellsBy u (Lost entered clock entry) f U W X = Unit {0}
 
 module _ (o : Origin) (e : Entering) (failed : Bool) (well : failed ≡ false) (k v : Keeper) (noted noted_after : ℕ) (out after : Outcome) (U W X Y Z : State) (notes : RunLog → List Note) (judges : (verdict : Verdict) → NotesFind e (log_of out) notes verdict)
     (seat : seat_in k.cabin.slots.seats e.slot ≡ Some (record { card = e.which; newest = None })) (elsewhere : is_card (seat_in k.cabin.slots.seats (other_slot e.slot)) e.which ≡ false) (t : Truths) (u : ℕ) (room : length out.marks.items + most_owed ≤ out.marks.room)
@@ -152,14 +153,17 @@ module _ (o : Origin) (e : Entering) (failed : Bool) (well : failed ≡ false) (
   one-find verdict = ap (λ (bs : List Break). record (and_find (log_of out) (find_of e verdict)) { breaks = bs }) (append-nil out.breaks.items)
 
   -- its stay begins
-  abbrev new_stay : Entered → Stay
-  new_stay entered = record { found = find_of e (AcceptedWith entered.replayed); odometer = e.odometer.0; owed = entered.owed.items; kepts = []; closed = None }
+  abbrev new_stay : Entered → List Find → Stay
+  new_stay entered since = record { found = find_of e (AcceptedWith entered.replayed); odometer = e.odometer.0; owed = entered.owed.items; kepts = []; closed = None; turned = since }
 
   abbrev vehicle : Registration
   vehicle = k.memory.registration
 
   abbrev accepting : Find → Bool
   accepting g = is_accepting g.verdict
+
+  abbrev judging : Find → Bool
+  judging g = is_accepting g.verdict || is_late g.verdict
 
   -- with the other finds of it the same acceptances are told
   none-more : (g : Find) → filter accepting (g ∷ []) ≡ [] → acceptances_told (record (log_of out) { finds = (log_of out).finds ++ g ∷ [] }) ≡ acceptances_told (log_of out)
@@ -170,13 +174,19 @@ module _ (o : Origin) (e : Entering) (failed : Bool) (well : failed ≡ false) (
   OwesIn w = NothingFailed (log_of out) → (entered : Entered) → IsToldSo o.found w e entered U X → All (λ (d : Entry). IsMarked after.marks.items (device_of e.which) d.minute) entered.owed.items → (y : List ℕ) × X.may_leave y × t.owed e.which e.at.second (mark_of (book_of (own_sizes f.image) y)) entered.owed.items
 
   -- what becomes of its stays, as it sits in this cabin behind it
-  abbrev TurnsBy : Ending → Cabin → Option Accepted → List Stay → Type 0
-  TurnsBy ending cabin session ss = Turns t e.which u f (log_of out) (log_by ending) vehicle (spells_of e.which (notes (log_of out))) (spells_of e.which (notes (log_by ending))) (sits_in k.cabin.slots.seats e.which) (sits_in cabin.slots.seats e.which) None session U W X Y ss
+  abbrev TurnsBy : Ending → Cabin → Option Accepted → List Stay → List Find → Type 0
+  TurnsBy ending cabin session ss since = Turns t e.which u f (log_of out) (log_by ending) vehicle (spells_of e.which (notes (log_of out))) (spells_of e.which (notes (log_by ending))) (sits_in k.cabin.slots.seats e.which) (sits_in cabin.slots.seats e.which) None session U W X Y ss since
 
   -- a card that is turned away
-  turned-away : (ending : Ending) (cabin : Cabin) → acceptances_told (log_by ending) ≡ acceptances_told (log_of out) → spells_of e.which (notes (log_by ending)) ≡ spells_of e.which (notes (log_of out)) → (IsOwnValid f.image → DoesOn (own_sizes f.image) [] X Y) → TellMore [] U W → (ss : List Stay) → TurnsBy ending cabin None ss
-  turned-away ending cabin same spell does go ss = record {
+  turned-away : (ending : Ending) (cabin : Cabin) → acceptances_told (log_by ending) ≡ acceptances_told (log_of out) → spells_of e.which (notes (log_by ending)) ≡ spells_of e.which (notes (log_of out)) → (IsOwnValid f.image → DoesOn (own_sizes f.image) [] X Y) → TellMore [] U W → (ss : List Stay) (since left : List Find) →
+      JudgesOne (judged_told (log_of out)) (judged_told (log_by ending)) (judged_in ss since) (judged_in ss left) →
+      (IsOwnValid f.image → HasStays u f vehicle (spells_of e.which (notes (log_of out))) (sits_in k.cabin.slots.seats e.which) ss None X → AreTurnedAway vehicle (own_sizes f.image).activity ss since (start_shown f.image) → AreTurnedAway vehicle (own_sizes f.image).activity ss left (start_shown f.image)) → TurnsBy ending cabin None ss since
+  turned-away ending cabin same spell does go ss since left judged turned = record {
     now = ss;
+    left = left;
+    judged = judged;
+    turned = λ valid h waits was. turned valid h was;
+    waits = λ valid waits some. absurd (let wrong : false ≡ true = some in cc);
     told = inl (same, refl);
     owed = λ all. all;
     only = λ only. only;
@@ -188,23 +198,36 @@ module _ (o : Origin) (e : Entering) (failed : Bool) (well : failed ≡ false) (
   }
 
   -- of a card that was judged
-  own-judged : (ending : Ending) → after ≡ outcome_by ending e out → (app : Application) (w : Carried) → OwesIn w → (cabin : Cabin) → IsEnding ending app k.memory.registration e failed U.image X Y → IsToldOf ending o.found w e U X → (IsOwnValid f.image → OpensSo ending k.memory.registration e f X Y) → TellsBy ending f U W X → NothingFailed (log_by ending)
-      → (ss : List Stay) → TurnsBy ending (cabin_by ending e noted cabin) (session_by ending noted) ss
-  own-judged (Unfit fid place) behind app w owes cabin is told opens tells none ss =
-      turned-away (Unfit fid place) cabin (none-more (find_of e (NotValid fid place)) refl) (ap (λ (l : RunLog). spells_of e.which (notes l)) (one-find (NotValid fid place)) ∙ (judges (NotValid fid place)).rejects refl) opens tells ss
-  own-judged (Ahead stored) behind app w owes cabin is told opens tells none ss =
-      turned-away (Ahead stored) cabin (none-more (find_of e (TimeOverlap stored e.at.second)) refl) (ap (λ (l : RunLog). spells_of e.which (notes l)) (one-find (TimeOverlap stored e.at.second)) ∙ (judges (TimeOverlap stored e.at.second)).rejects refl) opens tells ss
-  own-judged Fell behind app w owes cabin is told opens tells none ss = no-tear (log_of out) e.slot e.at none
-  own-judged Unasked behind app w owes cabin is told opens tells none ss = fails is
-  own-judged (Unnoted entered clock) behind app w owes cabin is told opens tells none ss = fails is.0
-  own-judged (Seated entered clock entry) behind app w owes cabin is told opens tells none ss = record {
-    now = ss ++ new_stay entered ∷ [];
-    told = inr (find_of e (AcceptedWith entered.replayed), filter-append accepting (log_of out).finds (find_of e (AcceptedWith entered.replayed) ∷ []), founds-more ss (new_stay entered));
-    owed = λ all. owed-more ss (new_stay entered) all (ap AcceptedWith told.whole);
+  own-judged : (ending : Ending) → after ≡ outcome_by ending e out → (app : Application) (w : Carried) → OwesIn w → (cabin : Cabin) → IsEnding ending app k.memory.registration e failed U.image X Y → IsToldOf ending o.found w e U X → (IsOwnValid f.image → OpensSo ending k.memory.registration e f X Y) → TellsBy e.at.second ending f U W X → NothingFailed (log_by ending)
+      → (ss : List Stay) (since : List Find) → TurnsBy ending (cabin_by ending e noted cabin) (session_by ending noted) ss since
+  own-judged (Unfit fid place) behind app w owes cabin is told opens tells none ss since =
+      turned-away (Unfit fid place) cabin (none-more (find_of e (NotValid fid place)) refl) (ap (λ (l : RunLog). spells_of e.which (notes l)) (one-find (NotValid fid place)) ∙ (judges (NotValid fid place)).rejects refl) opens tells ss since since
+      (inl (filter-append judging (log_of out).finds (find_of e (NotValid fid place) ∷ []) ∙ append-nil (judged_told (log_of out)), refl)) (λ valid h was. was)
+  own-judged (Ahead stored) behind app w owes cabin is told opens tells none ss since =
+      turned-away (Ahead stored) cabin (none-more (find_of e (TimeOverlap stored e.at.second)) refl) (ap (λ (l : RunLog). spells_of e.which (notes l)) (one-find (TimeOverlap stored e.at.second)) ∙ (judges (TimeOverlap stored e.at.second)).rejects refl) opens tells.0 ss since (since ++ find_of e (TimeOverlap stored e.at.second) ∷ [])
+      (inr (find_of e (TimeOverlap stored e.at.second), filter-append judging (log_of out).finds (find_of e (TimeOverlap stored e.at.second) ∷ []), judged-late ss since (find_of e (TimeOverlap stored e.at.second))))
+      (λ valid h was.
+      let y = tells.1 valid in
+      let shown = h.shows y.0 y.1 in
+      let same : stored ≡ stored_by (after_stays vehicle (own_sizes f.image).activity ss (start_shown f.image)) =
+      y.2 ∙ stored-shown (own_sizes f.image) y.0 (after_stays vehicle (own_sizes f.image).activity ss (start_shown f.image)) shown.0 shown.1 in
+      turned-late vehicle (own_sizes f.image).activity ss since (find_of e (TimeOverlap stored e.at.second)) (start_shown f.image) was
+      (ap (λ (n : ℕ). TimeOverlap n e.at.second) same, subst (λ (n : ℕ). e.at.second < n) same y.3))
+  own-judged Fell behind app w owes cabin is told opens tells none ss since = no-tear (log_of out) e.slot e.at none
+  own-judged Unasked behind app w owes cabin is told opens tells none ss since = fails is
+  own-judged (Unnoted entered clock) behind app w owes cabin is told opens tells none ss since = fails is.0
+  own-judged (Seated entered clock entry) behind app w owes cabin is told opens tells none ss since = record {
+    now = ss ++ new_stay entered since ∷ [];
+    left = [];
+    judged = inr (find_of e (AcceptedWith entered.replayed), filter-append judging (log_of out).finds (find_of e (AcceptedWith entered.replayed) ∷ []), judged-more ss (new_stay entered since));
+    turned = λ valid h waits was. turned-more vehicle (own_sizes f.image).activity ss (new_stay entered since) (start_shown f.image) was;
+    waits = λ valid waits some. refl;
+    told = inr (find_of e (AcceptedWith entered.replayed), filter-append accepting (log_of out).finds (find_of e (AcceptedWith entered.replayed) ∷ []), founds-more ss (new_stay entered since));
+    owed = λ all. owed-more ss (new_stay entered since) all (ap AcceptedWith told.whole);
     only = λ only. inr told.valid;
     shows = λ valid h.
         stays-open u f vehicle (spells_of e.which (notes (log_of out))) (spells_of e.which (notes (log_by (Seated entered clock entry)))) (sits_in k.cabin.slots.seats e.which) (sits_in (cabin_by (Seated entered clock entry) e noted cabin).slots.seats e.which) ss
-        (find_of e (AcceptedWith entered.replayed)) e.odometer.0 entered.owed.items (record { session = entered.session; entry = entry; noted = and_one noted }) X Y is.1.vehicle is.1.fresh (opens valid)
+        (find_of e (AcceptedWith entered.replayed)) e.odometer.0 entered.owed.items since (record { session = entered.session; entry = entry; noted = and_one noted }) X Y is.1.vehicle is.1.fresh (opens valid)
         (put-own cabin.slots.seats e.slot e.which (Some entered.session.minute))
         (ap (λ (l : RunLog). spells_of e.which (notes l)) (one-find (AcceptedWith entered.replayed)) ∙ (judges (AcceptedWith entered.replayed)).accepts refl)
         (let x = told.found.card_image in let seen = ap (λ (v : CardView). v.stored) (own-is (own_sizes f.image) x told.found.sizes) in let le = told.found.early in (x, told.found.there, omega (arith, seen, le))) h;
@@ -214,8 +237,8 @@ module _ (o : Origin) (e : Entering) (failed : Bool) (well : failed ≡ false) (
         let marks : after.marks.items ≡ out.marks.items ++ card_marks e.which clock entered.owed.items =
         ap (λ (p : Outcome). p.marks.items) behind ∙ marks-are e.which clock entered.owed.items entered.replayed out.marks told.whole (omega (arith, room, most)) in
         let x = owes before entered told (subst (λ (ms : List Mark). All (λ (d : Entry). IsMarked ms (device_of e.which) d.minute) entered.owed.items) (sym marks) (own-marks e.which clock out.marks.items entered.owed.items)) in (
-          true-more t ss (new_stay entered) all.0 (tells_odometer before (AcceptedWith entered.replayed), tt, tt),
-          owes-more (t.owed e.which) vehicle (own_sizes f.image).activity ss (new_stay entered) (start_shown f.image) all.1
+          true-more t ss (new_stay entered since) all.0 (tells_odometer before (AcceptedWith entered.replayed), tt, tt),
+          owes-more (t.owed e.which) vehicle (own_sizes f.image).activity ss (new_stay entered since) (start_shown f.image) all.1
               (subst (λ (b : Book). t.owed e.which e.at.second (mark_of b) entered.owed.items) ((shown told.valid).shows x.0 x.1).0 x.2),
         );
     comes = λ shown.
@@ -225,17 +248,17 @@ module _ (o : Origin) (e : Entering) (failed : Bool) (well : failed ≡ false) (
         inr (
           coming_behind vehicle f.image ss (find_of e (AcceptedWith entered.replayed)),
           filter-append accepting (log_of out).finds (find_of e (AcceptedWith entered.replayed) ∷ []),
-          one-coming vehicle f.image ss (new_stay entered),
+          one-coming vehicle f.image ss (new_stay entered since),
           subst (λ (q : Option Vehicle). TellMore (told_of q ∷ []) U W) newest tells.0,
         );
   }
-  own-judged (Lost entered clock entry) behind app w owes cabin is told opens tells none ss = no-tear (record (log_of out) { finds = (log_by (Lost entered clock entry)).finds }) e.slot e.at none
+  own-judged (Lost entered clock entry) behind app w owes cabin is told opens tells none ss since = no-tear (record (log_of out) { finds = (log_by (Lost entered clock entry)).finds }) e.slot e.at none
 
-  own : (way : Way) → after ≡ outcome_by (ending_of way) e out → (w : Carried) → OwesIn w → (cabin : Cabin) → IsWay way k.memory.registration e failed U.image X Y → IsToldOf (ending_of way) o.found w e U X → (IsOwnValid f.image → OpensSo (ending_of way) k.memory.registration e f X Y) → TellsBy (ending_of way) f U W X → NothingFailed (log_by (ending_of way))
-      → (ss : List Stay) → TurnsBy (ending_of way) (cabin_by (ending_of way) e noted cabin) (session_by (ending_of way) noted) ss
-  own Unread behind w owes cabin is told opens tells none ss = no-tear (log_of out) e.slot e.at none
-  own (Unsized field) behind w owes cabin is told opens tells none ss = own-judged (ending_of (Unsized field)) behind (own_sizes f.image) w owes cabin tt tt opens tells none ss
-  own (Judged app ending) behind w owes cabin is told opens tells none ss = own-judged ending behind app w owes cabin is told opens tells none ss
+  own : (way : Way) → after ≡ outcome_by (ending_of way) e out → (w : Carried) → OwesIn w → (cabin : Cabin) → IsWay way k.memory.registration e failed U.image X Y → IsToldOf (ending_of way) o.found w e U X → (IsOwnValid f.image → OpensSo (ending_of way) k.memory.registration e f X Y) → TellsBy e.at.second (ending_of way) f U W X → NothingFailed (log_by (ending_of way))
+      → (ss : List Stay) (since : List Find) → TurnsBy (ending_of way) (cabin_by (ending_of way) e noted cabin) (session_by (ending_of way) noted) ss since
+  own Unread behind w owes cabin is told opens tells none ss since = no-tear (log_of out) e.slot e.at none
+  own (Unsized field) behind w owes cabin is told opens tells none ss since = own-judged (ending_of (Unsized field)) behind (own_sizes f.image) w owes cabin tt tt opens tells none ss since
+  own (Judged app ending) behind w owes cabin is told opens tells none ss since = own-judged ending behind app w owes cabin is told opens tells none ss since
 
   -- ---- of the other card
 
@@ -296,7 +319,7 @@ module _ (o : Origin) (e : Entering) (failed : Bool) (well : failed ≡ false) (
   sized-slots (Unsized field) = refl
   sized-slots (Judged app ending) = refl
 
-  pub entered-stays : (way : Way) (w : Carried) → HasEntered e failed k v noted noted_after out after U W X Y way → IsEnteredOn (ending_of way) e failed k v U W X Y Z o.found w → OwesIn w → TellsBy (ending_of way) f U W X → session_of k.cabin.cards e.which ≡ None
+  pub entered-stays : (way : Way) (w : Carried) → HasEntered e failed k v noted noted_after out after U W X Y way → IsEnteredOn (ending_of way) e failed k v U W X Y Z o.found w → OwesIn w → TellsBy e.at.second (ending_of way) f U W X → session_of k.cabin.cards e.which ≡ None
       → session_of v.cabin.cards (other e.which) ≡ session_of k.cabin.cards (other e.which) → AllStay o t u (log_of out) (notes (log_of out)) k.memory.registration k.cabin (arranged e.which U X Z) →
       AllStay o t u (log_of after) (notes (log_of after)) v.memory.registration v.cabin (arranged e.which W Y Z)
   entered-stays way w entered known owes tells bare others all =
@@ -318,12 +341,12 @@ module _ (o : Origin) (e : Entering) (failed : Bool) (well : failed ≡ false) (
       ∙ others-slot (ending_of way) (measured way e k).cabin at (sym (ap (λ (q : Cabin). card_in (seat_in q.slots.seats at)) cabin) ∙ there))
       (λ none. others-noted (ending_of way) none)
       (λ none was. own-slot (ending_of way) (measured way e k).cabin v.cabin (sized-slots way) cabin session none)
-      (λ none ss. turned way w entered known owes tells none ss bare cabin session) all))
+      (λ none ss since. turned way w entered known owes tells none ss since bare cabin session) all))
     where
-      turned : (way : Way) (w : Carried) (entered : HasEntered e failed k v noted noted_after out after U W X Y way) → IsEnteredOn (ending_of way) e failed k v U W X Y Z o.found w → OwesIn w → TellsBy (ending_of way) f U W X → NothingFailed (log_by (ending_of way)) → (ss : List Stay) → session_of k.cabin.cards e.which ≡ None →
+      turned : (way : Way) (w : Carried) (entered : HasEntered e failed k v noted noted_after out after U W X Y way) → IsEnteredOn (ending_of way) e failed k v U W X Y Z o.found w → OwesIn w → TellsBy e.at.second (ending_of way) f U W X → NothingFailed (log_by (ending_of way)) → (ss : List Stay) (since : List Find) → session_of k.cabin.cards e.which ≡ None →
           v.cabin ≡ cabin_by (ending_of way) e noted (measured way e k).cabin → session_of v.cabin.cards e.which ≡ session_by (ending_of way) noted →
-          Turns t e.which u f (log_of out) (log_by (ending_of way)) vehicle (spells_of e.which (notes (log_of out))) (spells_of e.which (notes (log_by (ending_of way)))) (sits_in k.cabin.slots.seats e.which) (sits_in v.cabin.slots.seats e.which) (session_of k.cabin.cards e.which) (session_of v.cabin.cards e.which) U W X Y ss
-      turned way w entered known owes tells none ss bare cabin session =
-          subst (λ (s : Option Accepted). Turns t e.which u f (log_of out) (log_by (ending_of way)) vehicle (spells_of e.which (notes (log_of out))) (spells_of e.which (notes (log_by (ending_of way)))) (sits_in k.cabin.slots.seats e.which) (sits_in v.cabin.slots.seats e.which) s (session_of v.cabin.cards e.which) U W X Y ss) (sym bare)
-          (subst (λ (s : Option Accepted). TurnsBy (ending_of way) v.cabin s ss) (sym session)
-          (subst (λ (q : Cabin). TurnsBy (ending_of way) q (session_by (ending_of way) noted) ss) (sym cabin) (own way entered.left.outcome w owes (measured way e k).cabin entered.is known.told known.opens tells none ss)))
+          Turns t e.which u f (log_of out) (log_by (ending_of way)) vehicle (spells_of e.which (notes (log_of out))) (spells_of e.which (notes (log_by (ending_of way)))) (sits_in k.cabin.slots.seats e.which) (sits_in v.cabin.slots.seats e.which) (session_of k.cabin.cards e.which) (session_of v.cabin.cards e.which) U W X Y ss since
+      turned way w entered known owes tells none ss since bare cabin session =
+          subst (λ (s : Option Accepted). Turns t e.which u f (log_of out) (log_by (ending_of way)) vehicle (spells_of e.which (notes (log_of out))) (spells_of e.which (notes (log_by (ending_of way)))) (sits_in k.cabin.slots.seats e.which) (sits_in v.cabin.slots.seats e.which) s (session_of v.cabin.cards e.which) U W X Y ss since) (sym bare)
+          (subst (λ (s : Option Accepted). TurnsBy (ending_of way) v.cabin s ss since) (sym session)
+          (subst (λ (q : Cabin). TurnsBy (ending_of way) q (session_by (ending_of way) noted) ss since) (sym cabin) (own way entered.left.outcome w owes (measured way e k).cabin entered.is known.told known.opens tells none ss since)))

@@ -26,7 +26,7 @@ use Rattle.run_keeping.proofs.CardDeeds.{made-append, keeps-append, last-append}
 use Rattle.log_model.specs.declared.lines.Find.{Find}
 use Rattle.run_acts.specs.Closings.{Spell, last_shut, with_last_shut, last_slot}
 use Rattle.run_acts.specs.Truths.{Truths, Grow}
-use Rattle.run_acts.specs.Stays.{Shut, Stay, Shown, Coming, comings_of, comings_on, closes, deeds_of, use_after, after_stay, after_stays, start_shown, founds, stay_spell, spells, as_noted, AreMerged, TellsOwed, IsTrueOf, GoesIn, StaysIn, HasStays, stored_by, AreTimely, AreOwed}
+use Rattle.run_acts.specs.Stays.{Shut, Stay, Shown, Coming, comings_of, comings_on, closes, deeds_of, use_after, after_stay, after_stays, start_shown, founds, stay_spell, spells, as_noted, AreMerged, TellsOwed, IsTrueOf, GoesIn, StaysIn, HasStays, stored_by, AreTimely, AreOwed, judged_in, IsTurnedAway, AreTurnedAway}
 
 -- ---- the last of some stays
 
@@ -89,6 +89,50 @@ timely-more : (vehicle : Registration) (size : ℕ) (ss : List Stay) (s : Stay) 
 timely-more vehicle size [] s p h le = (le, tt)
 timely-more vehicle size (t ∷ ss) s p h le = (h.0, timely-more vehicle size ss s (after_stay vehicle size t p) h.1 le)
 
+-- with the same lines by which it was turned away before
+last-judged : (f : Stay → Stay) → ((s : Stay) → (f s).found ≡ s.found) → ((s : Stay) → (f s).turned ≡ s.turned) → (t : Stay) (ss : List Stay) (since : List Find) → judged_in (last_as f t ss) since ≡ judged_in (t ∷ ss) since
+unfolding last_as
+last-judged f same as_ t [] since = λ i. as_ t i ++ same t i ∷ since
+last-judged f same as_ t (x ∷ ss) since = ap (λ (l : List Find). t.turned ++ t.found ∷ l) (last-judged f same as_ x ss since)
+
+pub on-last-judged : (f : Stay → Stay) → ((s : Stay) → (f s).found ≡ s.found) → ((s : Stay) → (f s).turned ≡ s.turned) → (ss : List Stay) (since : List Find) → judged_in (on_last f ss) since ≡ judged_in ss since
+unfolding on_last
+on-last-judged f same as_ [] since = refl
+on-last-judged f same as_ (t ∷ ss) since = last-judged f same as_ t ss since
+
+last-turned : (f : Stay → Stay) → ((s : Stay) → (f s).turned ≡ s.turned) → (vehicle : Registration) (size : ℕ) (t : Stay) (ss : List Stay) (p : Shown) → AreTurnedAway vehicle size (t ∷ ss) [] p → AreTurnedAway vehicle size (last_as f t ss) [] p
+unfolding last_as
+last-turned f as_ vehicle size t [] p h = (subst (λ (l : List Find). AllByRecursion (IsTurnedAway p) l) (sym (as_ t)) h.0, tt)
+last-turned f as_ vehicle size t (x ∷ ss) p h = (h.0, last-turned f as_ vehicle size x ss (after_stay vehicle size t p) h.1)
+
+-- where none did since
+pub on-last-turned : (f : Stay → Stay) → ((s : Stay) → (f s).turned ≡ s.turned) → (vehicle : Registration) (size : ℕ) (ss : List Stay) (since : List Find) (p : Shown) → since ≡ [] → AreTurnedAway vehicle size ss since p → AreTurnedAway vehicle size (on_last f ss) since p
+unfolding on_last
+on-last-turned f as_ vehicle size [] since p none h = h
+on-last-turned f as_ vehicle size (t ∷ ss) since p none h =
+    subst (λ (l : List Find). AreTurnedAway vehicle size (last_as f t ss) l p) (sym none) (last-turned f as_ vehicle size t ss p (subst (λ (l : List Find). AreTurnedAway vehicle size (t ∷ ss) l p) none h))
+
+-- one stay more, and one line more
+pub judged-more : (ss : List Stay) (s : Stay) → judged_in (ss ++ s ∷ []) [] ≡ judged_in ss s.turned ++ s.found ∷ []
+judged-more [] s = refl
+judged-more (t ∷ ss) s = ap (λ (l : List Find). t.turned ++ t.found ∷ l) (judged-more ss s) ∙ sym (append_assoc t.turned (t.found ∷ judged_in ss s.turned) (s.found ∷ []))
+
+pub judged-late : (ss : List Stay) (since : List Find) (g : Find) → judged_in ss (since ++ g ∷ []) ≡ judged_in ss since ++ g ∷ []
+judged-late [] since g = refl
+judged-late (t ∷ ss) since g = ap (λ (l : List Find). t.turned ++ t.found ∷ l) (judged-late ss since g) ∙ sym (append_assoc t.turned (t.found ∷ judged_in ss since) (g ∷ []))
+
+pub turned-more : (vehicle : Registration) (size : ℕ) (ss : List Stay) (s : Stay) (p : Shown) → AreTurnedAway vehicle size ss s.turned p → AreTurnedAway vehicle size (ss ++ s ∷ []) [] p
+turned-more vehicle size [] s p h = (h, tt)
+turned-more vehicle size (t ∷ ss) s p h = (h.0, turned-more vehicle size ss s (after_stay vehicle size t p) h.1)
+
+lines-more : (p : Shown) (fs : List Find) (g : Find) → AllByRecursion (IsTurnedAway p) fs → IsTurnedAway p g → AllByRecursion (IsTurnedAway p) (fs ++ g ∷ [])
+lines-more p [] g h is = (is, tt)
+lines-more p (x ∷ fs) g h is = (h.0, lines-more p fs g h.1 is)
+
+pub turned-late : (vehicle : Registration) (size : ℕ) (ss : List Stay) (since : List Find) (g : Find) (p : Shown) → AreTurnedAway vehicle size ss since p → IsTurnedAway (after_stays vehicle size ss p) g → AreTurnedAway vehicle size ss (since ++ g ∷ []) p
+turned-late vehicle size [] since g p h is = lines-more p since g h is
+turned-late vehicle size (t ∷ ss) since g p h is = (h.0, turned-late vehicle size ss since g (after_stay vehicle size t p) h.1 is)
+
 -- to which so much was owed
 last-owes : (Owes : (second mark : ℕ) → List Entry → Type 0) (f : Stay → Stay) → ((s : Stay) → (f s).found ≡ s.found) → ((s : Stay) → (f s).owed ≡ s.owed) → (vehicle : Registration) (size : ℕ) (t : Stay) (ss : List Stay) (p : Shown) →
     AreOwed Owes vehicle size (t ∷ ss) p → AreOwed Owes vehicle size (last_as f t ss) p
@@ -118,7 +162,7 @@ stored-own : (app : Application) (x : List ℕ) → (card_view app x).stored ≡
 unfolding card_view book_of
 stored-own app x = refl
 
-stored-shown : (app : Application) (x : List ℕ) (p : Shown) → book_of app x ≡ p.book → current_use app x ≡ p.held → (card_view app x).stored ≡ stored_by p
+pub stored-shown : (app : Application) (x : List ℕ) (p : Shown) → book_of app x ≡ p.book → current_use app x ≡ p.held → (card_view app x).stored ≡ stored_by p
 stored-shown app x p is on = stored-own app x ∙ ap (λ (b : Book). stored_by (record { book = b; held = current_use app x })) is ∙ ap (λ (u : CurrentUse). stored_by (record { book = p.book; held = u })) on
 
 -- with none there is none
@@ -362,10 +406,10 @@ module _ (u : ℕ) (f : CardFound) (vehicle : Registration) where
     }
 
   -- it is put in, and accepted
-  module _ (noted now : List Spell) (sits sits_now : Bool) (ss : List Stay) (found : Find) (odometer : ℕ) (owed : List Entry) (a : Accepted) (X Y : State) (is : a.session.registration ≡ vehicle) (fresh : a.session.odometer ≡ None) (on : OpensOn app vehicle found.second odometer owed X Y)
+  module _ (noted now : List Spell) (sits sits_now : Bool) (ss : List Stay) (found : Find) (odometer : ℕ) (owed : List Entry) (turned : List Find) (a : Accepted) (X Y : State) (is : a.session.registration ≡ vehicle) (fresh : a.session.odometer ≡ None) (on : OpensOn app vehicle found.second odometer owed X Y)
       (there : sits_now ≡ true) (more : now ≡ noted ++ record { second = found.second; slot = found.slot; withdrawn = None } ∷ []) (early : (x : List ℕ) × X.may_leave x × ((card_view app x).stored ≤ found.second)) (h : HasStays u f vehicle noted sits ss None X) where
     abbrev new_stay : Stay
-    new_stay = record { found = found; odometer = odometer; owed = owed; kepts = []; closed = None }
+    new_stay = record { found = found; odometer = odometer; owed = owed; kepts = []; closed = None; turned = turned }
 
     new-book : made_by size (deeds_of vehicle (is_open_in (shown_by ss).held) (shown_by ss).book new_stay) (shown_by ss).book
         ≡ made_by size (opens (is_open_in (shown_by ss).held) vehicle odometer (lacked (mark_of (shown_by ss).book) owed)) (shown_by ss).book

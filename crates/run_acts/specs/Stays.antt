@@ -1,7 +1,7 @@
 -- What a card shows of its stays in a run in which no call failed (profile): its days, with their words and distances, its vehicle entries
 -- and its current use, exactly; one stay for each acceptance that the log tells, closed where the run notes its withdrawal, and nowhere else; and
 -- what its unit tells of the vehicle before, at each of them.
-use Rattle.std.specs.Prelude.{◌≡◌, ◌⊎◌, ◌≤◌, ℕ, ◌++◌, Bool, true, false, not, ◌||◌, Option, Some, None, IfSome, option_map, List, [], ◌∷◌, is_some, length, map, filter}
+use Rattle.std.specs.Prelude.{◌≡◌, ◌⊎◌, ◌≤◌, ◌<◌, ℕ, ◌++◌, Bool, true, false, not, ◌||◌, Option, Some, None, IfSome, option_map, List, [], ◌∷◌, is_some, length, map, filter}
 use Rattle.std.specs.List.{AllByRecursion}
 use Rattle.activity_codec.specs.declared.values.Activity.{Activity}
 use Rattle.activity_codec.specs.declared.values.Slot.{Slot}
@@ -16,7 +16,8 @@ use Rattle.unit_model.specs.declared.layout.TheConstants.{REGISTRATION}
 use Rattle.message_model.specs.Records.{insertion_ring}
 use Rattle.log_model.specs.Log.{RunLog, is_accepting}
 use Rattle.log_model.specs.declared.lines.Find.{Find}
-use Rattle.log_model.specs.declared.lines.Verdict.TheVariants.{Accepted as AcceptedWith}
+use Rattle.log_model.specs.declared.lines.Verdict.{Verdict}
+use Rattle.log_model.specs.declared.lines.Verdict.TheVariants.{Accepted as AcceptedWith, NotValid, TimeOverlap}
 use Rattle.card_image.specs.View.{stored_of}
 use Rattle.card_image.specs.Own.{own_sizes, IsOwnValid}
 use Rattle.card_records.specs.declared.current_use.CurrentUse.{CurrentUse}
@@ -60,6 +61,8 @@ pub record Stay : Type 0 where
   pub owed : List Entry
   pub kepts : List Kept
   pub closed : Option Shut
+  -- the lines by which its card was turned away since the stay before
+  pub turned : List Find
 
 abbrev pub closes : Option Shut → List Deed
 closes None = []
@@ -104,6 +107,31 @@ stored_by p = stored_of (last_use_of p.book.vehicles.newest) p.held.session.0 p.
 abbrev pub AreTimely : Registration → (size : ℕ) → List Stay → Shown → Type 0
 AreTimely vehicle size [] p = Unit {0}
 AreTimely vehicle size (s ∷ ss) p = (stored_by p ≤ s.found.second) × AreTimely vehicle size ss (after_stay vehicle size s p)
+
+-- ---- where none began
+
+-- a find of a card that tells of a later time
+abbrev pub is_late : Verdict → Bool
+is_late (AcceptedWith replayed) = false
+is_late (NotValid fid place) = false
+is_late (TimeOverlap stored now) = true
+
+-- the lines of a log by which a card that was valid was accepted, or turned away
+abbrev pub judged_told : RunLog → List Find
+judged_told log = filter (λ (f : Find). is_accepting f.verdict || is_late f.verdict) log.finds
+
+-- those of a card: the ones of its stays, each behind those by which it was turned away before, and these since the last
+abbrev pub judged_in : List Stay → (since : List Find) → List Find
+judged_in [] since = since
+judged_in (s ∷ ss) since = s.turned ++ s.found ∷ judged_in ss since
+
+-- A CARD THAT SHOWS THIS is turned away by a line: that tells the time which it stored by then, which is later
+abbrev pub IsTurnedAway : Shown → Find → Type 0
+IsTurnedAway p f = (f.verdict ≡ TimeOverlap (stored_by p) f.second) × (f.second < stored_by p)
+
+abbrev pub AreTurnedAway : Registration → (size : ℕ) → List Stay → (since : List Find) → Shown → Type 0
+AreTurnedAway vehicle size [] since p = AllByRecursion (IsTurnedAway p) since
+AreTurnedAway vehicle size (s ∷ ss) since p = AllByRecursion (IsTurnedAway p) s.turned × AreTurnedAway vehicle size ss since (after_stay vehicle size s p)
 
 -- ---- what was owed to their card
 
@@ -225,10 +253,10 @@ ShowsStays vehicle image stays card = ShowsBook (own_sizes image) (after_stays v
 
 -- ---- both cards
 
--- THE STAYS OF BOTH CARDS in the vehicle of the run, by these notes so far, and by these lines that tell of an acceptance: each of these is that of
+-- THE STAYS OF BOTH CARDS in the vehicle of the run, by these notes so far, by these lines that tell of an acceptance, and these with those that tell of a later time: each of these is that of
 -- one stay, in their order; only a card that was valid has some, each of them true, and it shows exactly them, as they are noted in this second; and it
 -- sits in the slot of the last of them. The unit tells the vehicle before each.
-pub record AreStays (o : Origin) (t : Truths) (second : ℕ) (notes : List Note) (acceptances : List Find) (vehicle : Registration) (cabin : Cabin) (d : Devices) : Type 0 where
+pub record AreStays (o : Origin) (t : Truths) (second : ℕ) (notes : List Note) (acceptances lines : List Find) (vehicle : Registration) (cabin : Cabin) (d : Devices) : Type 0 where
   pub says : vehicle.0 ≡ registration_in o.recording.unit
   pub stays : Card → List Stay
   pub told : AreMerged acceptances (founds (stays A)) (founds (stays B))
@@ -238,11 +266,16 @@ pub record AreStays (o : Origin) (t : Truths) (second : ℕ) (notes : List Note)
       HasStays second (found_of o.found c) vehicle (spells_of c notes) (sits_in cabin.slots.seats c) (stays c) (session_of cabin.cards c) (card_of d c)
   pub hold : (c : Card) → AreTrue t c vehicle (found_of o.found c).image (stays c)
   pub placed : (c : Card) → IsOwnValid (found_of o.found c).image → IsPlaced notes cabin c
+  -- by which lines each was turned away since its last stay; none, while it has a session
+  pub since : Card → List Find
+  pub judged : AreMerged lines (judged_in (stays A) (since A)) (judged_in (stays B) (since B))
+  pub turned : (c : Card) → IsOwnValid (found_of o.found c).image → AreTurnedAway vehicle (own_sizes (found_of o.found c).image).activity (stays c) (since c) (start_shown (found_of o.found c).image)
+  pub waits : (c : Card) → IsOwnValid (found_of o.found c).image → is_some (session_of cabin.cards c) ≡ true → since c ≡ []
   pub befores : TellsBefores (HasRing insertion_ring o.recording.unit) o.recording.unit acceptances vehicle (λ (c : Card). (found_of o.found c).image) stays d.unit
 
 -- so it is where no call has failed
 abbrev pub AllStay : Origin → Truths → (second : ℕ) → RunLog → List Note → Registration → Cabin → Devices → Type 0
-AllStay o t second log notes vehicle cabin d = NothingFailed log → AreStays o t second notes (acceptances_told log) vehicle cabin d
+AllStay o t second log notes vehicle cabin d = NothingFailed log → AreStays o t second notes (acceptances_told log) (judged_told log) vehicle cabin d
 
 -- A CARD IS CLOSED where its session was, with the activity that its slot has by these minutes: each image that it may leave is its image before, closed
 abbrev pub ClosesOnCard : Slot → Minutes → (session : Option Accepted) → (card card_after : State) → Type 0

@@ -205,6 +205,9 @@ module _ (U V : State) (is : IsRead U V) where
                 odometers = s.odometers;
                 owes = s.owes;
                 acknowledged = s.acknowledged;
+                since = s.since;
+                judged = s.judged;
+                turned = s.turned;
                 timely = s.timely;
                 befores = record { comings = s.befores.comings; lines = s.befores.lines; merged = s.befores.merged; tells = λ dense y left. s.befores.tells dense y (now-back y left) };
               };
