@@ -11,7 +11,7 @@ use Rattle.side_model.specs.Done.{has_failed_in}
 use Rattle.side_model.specs.Odometer.{SpanFrom, odometer_at}
 use Rattle.side_model.specs.Noted.{InsertionNote, PlaceNote, Note, with_note, place_in, insertions_of, places_of}
 use Rattle.run_ringed.specs.Ringed.{Each}
-use Rattle.side_model.specs.Rings.{Holder, Stand, unsure, TellsWithdrawal, IsInsertion, IsPlace, is_sure_insertion, is_sure_place}
+use Rattle.side_model.specs.Rings.{Holder, Stand, unsure_count, TellsWithdrawal, IsInsertion, IsPlace, is_sure_insertion, is_sure_place}
 
 -- less is sure, and what stood for a note does
 module _ {N : Type 0} (sure still : N → Bool) (Is Now : N → List ℕ → Type 0) where
@@ -24,11 +24,11 @@ module _ {N : Type 0} (sure still : N → Bool) (Is Now : N → List ℕ → Typ
   stand-as (n ∷ notes) entries all (inr (unsure, stand)) = inr (all.0.0 unsure, stand-as notes entries all.1 stand)
 
   -- no more are sure
-  pub unsure-as : (notes : List N) → AllByRecursion Weaker notes → unsure sure notes ≤ unsure still notes
+  pub unsure-as : (notes : List N) → AllByRecursion Weaker notes → unsure_count sure notes ≤ unsure_count still notes
   unsure-as [] all = omega arith
   unsure-as (n ∷ notes) all = by (sure n) (still n) all.0.0 (unsure-as notes all.1)
     where
-      by : (b c : Bool) → (b ≡ false → c ≡ false) → unsure sure notes ≤ unsure still notes
+      by : (b c : Bool) → (b ≡ false → c ≡ false) → unsure_count sure notes ≤ unsure_count still notes
           → length (cond (not b) (n ∷ filter (λ m. not (sure m)) notes) (filter (λ m. not (sure m)) notes)) ≤ length (cond (not c) (n ∷ filter (λ m. not (still m)) notes) (filter (λ m. not (still m)) notes))
       by true true less few = few
       by true false less few = omega (arith, few)

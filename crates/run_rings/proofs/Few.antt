@@ -7,21 +7,21 @@ use Rattle.gated_ring.specs.Ring.{Shape, IsShape, PointsInside, size_of, indices
 use Rattle.gated_ring.specs.Change.{IsShortened, IsExtended, IsAdded, IsAdding}
 use Rattle.gated_ring.proofs.Elsewhere.{ring_elsewhere}
 use Rattle.gated_ring.proofs.Listing.{few_indices}
-use Rattle.side_model.specs.Rings.{unsure, AreNoFewer}
+use Rattle.side_model.specs.Rings.{unsure_count, AreNoFewer}
 
 -- ---- notes that are not sure
 
 module _ {N : Type 0} (is_sure : N → Bool) where
-  pub unsure-append : (notes more : List N) → unsure is_sure (notes ++ more) ≡ unsure is_sure notes + unsure is_sure more
+  pub unsure-append : (notes more : List N) → unsure_count is_sure (notes ++ more) ≡ unsure_count is_sure notes + unsure_count is_sure more
   unsure-append notes more =
       ap (λ (l : List N). length l) (filter-append (λ n. not (is_sure n)) notes more)
       ∙ length-append (filter (λ n. not (is_sure n)) notes) (filter (λ n. not (is_sure n)) more)
 
-  one-unsure : (n : N) → is_sure n ≡ false → unsure is_sure (n ∷ []) ≡ 1
+  one-unsure : (n : N) → is_sure n ≡ false → unsure_count is_sure (n ∷ []) ≡ 1
   one-unsure n none = ap (λ (b : Bool). length (cond (not b) (n ∷ []) [])) none
 
   -- a note in place of another that is as sure
-  pub unsure-changed : (older : List N) (a b : N) (newer : List N) → is_sure a ≡ is_sure b → unsure is_sure (older ++ a ∷ newer) ≡ unsure is_sure (older ++ b ∷ newer)
+  pub unsure-changed : (older : List N) (a b : N) (newer : List N) → is_sure a ≡ is_sure b → unsure_count is_sure (older ++ a ∷ newer) ≡ unsure_count is_sure (older ++ b ∷ newer)
   unsure-changed [] a b newer same = by (is_sure a) (is_sure b) same
     where
       by : (p q : Bool) → p ≡ q → length (cond (not p) (a ∷ filter (λ n. not (is_sure n)) newer) (filter (λ n. not (is_sure n)) newer)) ≡ length (cond (not q) (b ∷ filter (λ n. not (is_sure n)) newer) (filter (λ n. not (is_sure n)) newer))
@@ -31,7 +31,7 @@ module _ {N : Type 0} (is_sure : N → Bool) where
       by false true is = absurd (cc)
   unsure-changed (o ∷ older) a b newer same = by (is_sure o) (unsure-changed older a b newer same)
     where
-      by : (p : Bool) → unsure is_sure (older ++ a ∷ newer) ≡ unsure is_sure (older ++ b ∷ newer)
+      by : (p : Bool) → unsure_count is_sure (older ++ a ∷ newer) ≡ unsure_count is_sure (older ++ b ∷ newer)
           → length (cond (not p) (o ∷ filter (λ n. not (is_sure n)) (older ++ a ∷ newer)) (filter (λ n. not (is_sure n)) (older ++ a ∷ newer))) ≡ length (cond (not p) (o ∷ filter (λ n. not (is_sure n)) (older ++ b ∷ newer)) (filter (λ n. not (is_sure n)) (older ++ b ∷ newer)))
       by true is = is
       by false is = ap suc is
@@ -94,7 +94,7 @@ pub few-start : {N : Type 0} (r : Shape) (is_sure : N → Bool) (start x : List 
 few-start r is_sure start x same = let is : length (ring_list r x) ≡ length (ring_list r start) = ap (λ (z : List ℕ). length (ring_list r z)) same in omega (arith, is)
 
 -- as many entries, and no more notes that are sure
-pub few-go : {N : Type 0} (r : Shape) (sure still : N → Bool) (notes now : List N) (start x y : List ℕ) → unsure sure notes ≤ unsure still now → length (ring_list r x) ≤ length (ring_list r y) → AreNoFewer r sure notes start x → AreNoFewer r still now start y
+pub few-go : {N : Type 0} (r : Shape) (sure still : N → Bool) (notes now : List N) (start x y : List ℕ) → unsure_count sure notes ≤ unsure_count still now → length (ring_list r x) ≤ length (ring_list r y) → AreNoFewer r sure notes start x → AreNoFewer r still now start y
 few-go r sure still notes now start x y less long few = omega (arith, less, long, few)
 
 -- the same notes

@@ -25,12 +25,12 @@ Stand is_sure Is (n ∷ notes) entries =
     ⊎ ((is_sure n ≡ false) × Stand is_sure Is notes entries)
 
 -- how many of these notes are not sure
-abbrev pub unsure : {N : Type 0} → (N → Bool) → List N → ℕ
-unsure is_sure notes = length (filter (λ n. not (is_sure n)) notes)
+abbrev pub unsure_count : {N : Type 0} → (N → Bool) → List N → ℕ
+unsure_count is_sure notes = length (filter (λ n. not (is_sure n)) notes)
 
 -- a ring shows no fewer entries than at the start, but for one for each note that is not sure
 abbrev pub AreNoFewer : {N : Type 0} → Shape → (N → Bool) → List N → (start x : List ℕ) → Type 0
-AreNoFewer r is_sure notes start x = length (ring_list r start) ≤ length (ring_list r x) + unsure is_sure notes
+AreNoFewer r is_sure notes start x = length (ring_list r start) ≤ length (ring_list r x) + unsure_count is_sure notes
 
 -- A ring that was dense at the start shows what it showed then and entries that stand for the notes; only where it is full, or lacks
 -- one entry, are some gone at its old end, and no more than entries came, or notes are not sure.
