@@ -1,5 +1,6 @@
--- Which card has a session once a run is over: one that sits in a slot; so the spells of its stays are the noted ones.
-use Rattle.std.proofs.Common.{◌≡◌, ◌∙◌, ⊎_elim, ℕ, Bool, true, false, List, Option, Some, None, is_some, refl, ap, sym}
+-- Which card has a session once a run is over: one that sits in a slot; so the spells of its stays are the noted ones. And what is true of them then.
+use Rattle.std.proofs.Common.{◌≡◌, ◌∙◌, ⊎_elim, ℕ, Bool, true, false, List, [], ◌∷◌, Option, Some, None, is_some, refl, ap, sym}
+use Rattle.std.specs.List.{AllByRecursion}
 use Rattle.trace_model.specs.declared.Card.{Card}
 use Rattle.trace_model.specs.Trace.{TraceSecond}
 use Rattle.log_model.specs.Course.{Told}
@@ -18,13 +19,18 @@ use Rattle.run_acts.specs.declared.run.Power.{Power}
 use Rattle.run_acts.specs.declared.run.Power.TheVariants.{Lit, Due, Lost}
 use Rattle.run_acts.specs.Recording.{Supplies, RunRecorded, values_of}
 use Rattle.run_acts.specs.Closings.{Spell}
-use Rattle.run_acts.specs.Stays.{sits_in, as_noted}
+use Rattle.run_acts.specs.Truths.{past_of, truths_by}
+use Rattle.run_acts.specs.Stays.{Stay, sits_in, as_noted, IsTrueOf}
 use Rattle.run_acts.proofs.SeatsThen.{sits-in-one}
+use Rattle.unit_model.specs.Image.{odometer_at}
+use Rattle.safety_model.specs.Recording.{Recording, brought, start_of}
+use Rattle.recorder_with_cards.specs.Stays.{IsClosedSo, IsCountedSo}
+use Rattle.run_acts.specs.Owed.{IsOwed}
 
 -- none is leaving then
-pub noted-at-end : (s : Option Accepted) (sits : Bool) (ss : List Spell) → (is_some s ≡ true → sits ≡ true) → as_noted s sits ss ≡ ss
-noted-at-end None sits ss there = refl
-noted-at-end (Some a) sits ss there = ap (λ (b : Bool). as_noted (Some a) b ss) (there refl)
+pub noted-at-end : (u : ℕ) (s : Option Accepted) (sits : Bool) (ss : List Spell) → (is_some s ≡ true → sits ≡ true) → as_noted u s sits ss ≡ ss
+noted-at-end u None sits ss there = refl
+noted-at-end u (Some a) sits ss there = ap (λ (b : Bool). as_noted u (Some a) b ss) (there refl)
 
 module _ (o : Origin) (done : List TraceSecond) (run : Run) (out : Outcome) (d : Devices) (h : RunRecorded o done run out d) (sits : run.power ≡ Lit → (low : ℕ) × Stands low None run.keeper.cabin) (c : Card) where
   has-power : (p : Power) (span : List Told) → Supplies p (IsLit span) → p ≡ Lit
@@ -47,3 +53,19 @@ module _ (o : Origin) (done : List TraceSecond) (run : Run) (out : Outcome) (d :
   pub sits-at-end : is_some (session_of run.keeper.cabin.cards c) ≡ true → sits_in run.keeper.cabin.slots.seats c ≡ true
   sits-at-end some =
       by-supply h.supply (carried (values_of run out) h.recorded.due h.recorded.book h.recorded.standing h.recorded.brought) h.powers h.recorded.held some
+
+-- ---- what is true of the stays of a run
+
+module _ (r : Recording) where
+  abbrev HoldIn : List Stay → Type 0
+  HoldIn ss = AllByRecursion (IsTrueOf (truths_by r.rule (odometer_at r.unit) (past_of r.log r.trace) (λ c. IsOwed r.rule (start_of r) r.log r.trace c (brought r c).owed))) ss
+
+  -- the words of their closings
+  pub words-so : (ss : List Stay) → HoldIn ss → AllByRecursion (IsClosedSo r) ss
+  words-so [] all = tt
+  words-so (s ∷ ss) all = (all.0.2, words-so ss all.1)
+
+  -- and their odometers
+  pub odometers-so : (ss : List Stay) → HoldIn ss → AllByRecursion (IsCountedSo r) ss
+  odometers-so [] all = tt
+  odometers-so (s ∷ ss) all = ((all.0.0, all.0.1), odometers-so ss all.1)

@@ -41,10 +41,11 @@ use Rattle.run_crew.specs.Cards.{session_of}
 use Rattle.run_crew.specs.declared.cards.Accepted.{Accepted}
 use Rattle.side_model.specs.Noted.{Note}
 use Rattle.slot_machine.specs.declared.seats.Seat.{Seat}
-use Rattle.run_acts.specs.Closings.{spells_of, notes_within}
-use Rattle.run_acts.specs.Stays.{sits_in, AllStay}
-use Rattle.run_acts.proofs.AllStay.{Moves, moves-bare, moves-same, all-moved, log-self}
-use Rattle.run_acts.proofs.SeatsThen.{same-as, put-other}
+use Rattle.run_acts.specs.Closings.{spells_of, last_slot, notes_within}
+use Rattle.run_acts.specs.Truths.{truths_within}
+use Rattle.run_acts.specs.Stays.{sits_in, IsPlaced, AllStay}
+use Rattle.run_acts.proofs.AllStay.{Moves, moves-bare, moves-same, placed-bare, placed-same, all-moved, log-self}
+use Rattle.run_acts.proofs.SeatsThen.{same-as, put-other, filled-slot}
 use Rattle.run_acts.proofs.NotesThen.{put-now}
 use Rattle.recorder_with_cards.proofs.Allowed.{insert-empty, insert-elsewhere}
 use Rattle.run_evented.specs.Noting.{Acting}
@@ -148,7 +149,7 @@ module _ (slot : Slot) (card : Card) (at : Moment) (speed : ℕ) (old : Run) (be
           (seated.only card (ap (λ (q : Option Accepted). is_some q) is))
 
   abbrev Puts : Card → Type 0
-  Puts c = Moves (spells_of c notes-before) (spells_of c notes-put) (sits_in old.keeper.cabin.slots.seats c) (sits_in (with_card_in slot card old.keeper.cabin).slots.seats c) (session_of old.keeper.cabin.cards c) (session_of old.keeper.cabin.cards c)
+  Puts c = Moves s.number (spells_of c notes-before) (spells_of c notes-put) (sits_in old.keeper.cabin.slots.seats c) (sits_in (with_card_in slot card old.keeper.cabin).slots.seats c) (session_of old.keeper.cabin.cards c) (session_of old.keeper.cabin.cards c)
 
   each-put : (c : Card) → Puts c
   each-put c = by (same_card card c) refl
@@ -156,15 +157,24 @@ module _ (slot : Slot) (card : Card) (at : Moment) (speed : ℕ) (old : Run) (be
       by : (b : Bool) → same_card card c ≡ b → Puts c
       by true mine =
           subst Puts (same-as card c mine)
-          (moves-bare (spells_of card notes-before) (spells_of card notes-put) (sits_in old.keeper.cabin.slots.seats card) (sits_in (with_card_in slot card old.keeper.cabin).slots.seats card) (session_of old.keeper.cabin.cards card)
+          (moves-bare s.number (spells_of card notes-before) (spells_of card notes-put) (sits_in old.keeper.cabin.slots.seats card) (sits_in (with_card_in slot card old.keeper.cabin).slots.seats card) (session_of old.keeper.cabin.cards card)
           (session_of old.keeper.cabin.cards card) (same-notes card) no-session no-session)
       by false other =
-          moves-same (spells_of c notes-before) (spells_of c notes-put) (sits_in old.keeper.cabin.slots.seats c) (sits_in (with_card_in slot card old.keeper.cabin).slots.seats c) (session_of old.keeper.cabin.cards c) (session_of old.keeper.cabin.cards c)
+          moves-same s.number (spells_of c notes-before) (spells_of c notes-put) (sits_in old.keeper.cabin.slots.seats c) (sits_in (with_card_in slot card old.keeper.cabin).slots.seats c) (session_of old.keeper.cabin.cards c) (session_of old.keeper.cabin.cards c)
           (same-notes c) (put-other old.keeper.cabin.slots.seats slot card c None (insert-empty old.keeper.cabin.slots.seats slot card speed allowed) other) refl
 
-  pub stays-put : AllStay o (log_of before) notes-put old.keeper.memory.registration (with_card_in slot card old.keeper.cabin) d
+  -- the others sit where they sat
+  places-put : (c : Card) → IsPlaced notes-before old.keeper.cabin c → IsPlaced notes-put (with_card_in slot card old.keeper.cabin) c
+  places-put c was = by (same_card card c) refl
+    where
+      by : (b : Bool) → same_card card c ≡ b → IsPlaced notes-put (with_card_in slot card old.keeper.cabin) c
+      by true mine = subst (λ (x : Card). IsPlaced notes-put (with_card_in slot card old.keeper.cabin) x) (same-as card c mine) (placed-bare notes-put (with_card_in slot card old.keeper.cabin) card no-session)
+      by false other =
+          placed-same notes-before notes-put old.keeper.cabin (with_card_in slot card old.keeper.cabin) c (ap last_slot (same-notes c)) (λ at_ there. filled-slot old.keeper.cabin.slots.seats slot at_ card c None other there) (λ some. some) was
+
+  pub stays-put : AllStay o (truths_within o h.within.b.run.log done s) s.number (log_of before) notes-put old.keeper.memory.registration (with_card_in slot card old.keeper.cabin) d
   stays-put =
-      all-moved o (log_of before) (log_of before) notes-before notes-put old.keeper.memory.registration old.keeper.cabin (with_card_in slot card old.keeper.cabin) d (log-self (log_of before)) (λ none_ c. each-put c) h.stay
+      all-moved o (truths_within o h.within.b.run.log done s) s.number (log_of before) (log_of before) notes-before notes-put old.keeper.memory.registration old.keeper.cabin (with_card_in slot card old.keeper.cabin) d (log-self (log_of before)) (λ none_ c. each-put c) (λ none_ c. places-put c) h.stay
 
   within-actions : suc n ≤ length s.actions
   within-actions = let all = ap (λ (xs : List Action). length xs) actions in let long = length-append front (Insert slot card ∷ rest) in omega (arith, all, long)
@@ -184,7 +194,7 @@ module _ (slot : Slot) (card : Card) (at : Moment) (speed : ℕ) (old : Run) (be
       lit = h.lit;
       within = put.goes.within;
       odometer = h.odometer ∙ ap (λ (b : Beginning). odometer_after (odometer_at o.recording.unit) b.travel.before) (sym put.goes.began);
-      stay = subst (λ (b : Beginning). AllStay o (log_of before) (notes_within b done s (In (suc (length front))) (log_of before)) old.keeper.memory.registration (with_card_in slot card old.keeper.cabin) d) (sym put.goes.began) stays-put;
+      stay = subst (λ (b : Beginning). AllStay o (truths_within o b.run.log done s) s.number (log_of before) (notes_within b done s (In (suc (length front))) (log_of before)) old.keeper.memory.registration (with_card_in slot card old.keeper.cabin) d) (sym put.goes.began) stays-put;
     }
 
     module _ (e : Devices) (records : RecordsSettling decided at failed (put_run slot card old) mid before told d e) (time : HaveTime e) where

@@ -47,6 +47,8 @@ use Rattle.run_evented.proofs.Noted.{second-notes}
 use Rattle.run_ringed.proofs.OnCards.{call-failed-more, places-itself}
 use Rattle.run_ringed.proofs.Rings.{fewer-sit, rings-stay, come-before}
 use Rattle.run_ringed.proofs.SoFar.{failed-more, goes-alike, left-itself}
+use Rattle.run_acts.specs.Truths.{Grow, truths_of}
+use Rattle.run_acts.proofs.TruthsThen.{truths-end}
 
 -- ---- the spans: the last second of the last one is a cut's
 
@@ -209,6 +211,16 @@ off-cut-notes rule start from first done p t span f =
     let r : TraceSecond = record { number = had.number; has_power = true; speed = had.speed; actions = had.actions } in
     subst (λ (ss : List TraceSecond). notes_in (and_break p.log (cut_at (p.next - 1) false p.begun)) ss ≡ notes_in p.log ss) (sym had.are)
     (notes-same rule start from first p t span had.before r (subst (λ (ss : List TraceSecond). Followed rule start from first ss (record p { supply = Lit (t ∷ span); waiting = [] })) had.are f) had.count)
+
+-- what was true of stays is so
+pub off-cut-true : (rule : Rule) (start : Start) (from first : ℕ) (done : List TraceSecond) (p : Progress) (t : Told) (span : List Told) → Followed rule start from first done (record p { supply = Lit (t ∷ span); waiting = [] }) → (o : Origin) →
+    Grow (truths_of o p.log done) (truths_of o (and_break p.log (cut_at (p.next - 1) false p.begun)) done)
+off-cut-true rule start from first done p t span f o =
+    let had : HadActions done p.begun = f.last in
+    let r : TraceSecond = record { number = had.number; has_power = true; speed = had.speed; actions = had.actions } in
+    subst (λ (ss : List TraceSecond). Grow (truths_of o p.log ss) (truths_of o (and_break p.log (cut_at (p.next - 1) false p.begun)) ss)) (sym had.are)
+    (truths-end o p.log (and_break p.log (cut_at (p.next - 1) false p.begun)) had.before r
+    (front-same rule start from first p t span had.before r (subst (λ (ss : List TraceSecond). Followed rule start from first ss (record p { supply = Lit (t ∷ span); waiting = [] })) had.are f) had.count))
 
 -- what is carried of the rings goes on, with fewer cards accepted.
 pub off-cut-rings : (rule : Rule) (start : Start) (from first : ℕ) (done : List TraceSecond) (p : Progress) (t : Told) (span : List Told) → Followed rule start from first done (record p { supply = Lit (t ∷ span); waiting = [] }) →

@@ -35,17 +35,20 @@ use Rattle.trace_model.specs.declared.Card.{Card}
 use Rattle.trace_model.specs.declared.Card.TheVariants.{A, B}
 use Rattle.run_crew.specs.Cards.{session_of}
 use Rattle.run_crew.specs.Cabin.{Stands, with_power_lost}
-use Rattle.log_model.specs.Course.{Told}
+use Rattle.log_model.specs.Course.{Told, went}
 use Rattle.side_model.specs.Noted.{Note}
 use Rattle.run_recorded.specs.Origin.{rule_of, start_at, first_of}
 use Rattle.run_ringed.specs.Ringed.{notes_in}
 use Rattle.run_within.specs.Recorded.{progress}
 use Rattle.run_acts.specs.Closings.{spells_of}
+use Rattle.run_acts.specs.Truths.{truths_of}
 use Rattle.run_acts.specs.Stays.{sits_in, AllStay}
-use Rattle.run_acts.proofs.AllStay.{moves-gone, all-moved, all-noted, lines-on}
+use Rattle.run_acts.proofs.AllStay.{moves-gone, placed-bare, all-moved, all-noted, all-true, lines-on}
+use Rattle.run_acts.proofs.Truths.{grow-on}
+use Rattle.run_acts.proofs.TruthsThen.{truths-same, truths-more}
 use Rattle.run_acts.proofs.SeatsThen.{sits-in-one}
-use Rattle.run_acts.proofs.NotesThen.{notes-off, notes-lost, notes-refused}
-use Rattle.recorder_with_cards.proofs.OffRings.{off-cut-notes}
+use Rattle.run_acts.proofs.NotesThen.{notes-off, notes-lost, notes-refused, went-refused}
+use Rattle.recorder_with_cards.proofs.OffRings.{off-cut-notes, off-cut-true}
 
 -- ---- a second without power
 
@@ -130,11 +133,18 @@ module _ (o : Origin) (done : List TraceSecond) (old : Run) (before : Outcome) (
         powers = subst (λ (p : Power). Supplies p IsLost) (sym lost.0) tt;
         recorded = on;
         odometer = λ lit. absurd (let bad : Lost ≡ Lit = sym lost.0 ∙ lit in cc);
-        stay = all-noted o (log_of before) (record (log_of before) { refused = before.refused.items ++ refused_dark old.next actions }) (notes_in (log_of before) done)
+        stay =
+            all-true o (truths_of o (log_of before) done) (truths_of o (record (log_of before) { refused = before.refused.items ++ refused_dark old.next actions }) (done ++ driven (suc n) old.next speed actions)) 0 (record (log_of before) { refused = before.refused.items ++ refused_dark old.next actions })
+            (notes_in (record (log_of before) { refused = before.refused.items ++ refused_dark old.next actions }) (done ++ driven (suc n) old.next speed actions)) old.keeper.memory.registration old.keeper.cabin d
+            (λ none.
+            grow-on (truths_of o (log_of before) done) (truths_of o (record (log_of before) { refused = before.refused.items ++ refused_dark old.next actions }) done) (truths_of o (record (log_of before) { refused = before.refused.items ++ refused_dark old.next actions }) (done ++ driven (suc n) old.next speed actions))
+            (truths-same o (log_of before) (record (log_of before) { refused = before.refused.items ++ refused_dark old.next actions }) done (went-refused (log_of before) (before.refused.items ++ refused_dark old.next actions) done))
+            (truths-more o (record (log_of before) { refused = before.refused.items ++ refused_dark old.next actions }) done (driven (suc n) old.next speed actions)))
+            (all-noted o (truths_of o (log_of before) done) 0 (log_of before) (record (log_of before) { refused = before.refused.items ++ refused_dark old.next actions }) (notes_in (log_of before) done)
             (notes_in (record (log_of before) { refused = before.refused.items ++ refused_dark old.next actions }) (done ++ driven (suc n) old.next speed actions)) old.keeper.memory.registration old.keeper.cabin d (λ none. record { none = none; finds = refl })
             (λ none c. ap (λ (ns : List Note). spells_of c ns)
             (notes-refused (log_of before) (before.refused.items ++ refused_dark old.next actions) (done ++ driven (suc n) old.next speed actions)
-            ∙ notes-lost (suc n) (log_of before) done old.next speed actions was.recorded.followed.power lost.1 fits)) h.stay;
+            ∙ notes-lost (suc n) (log_of before) done old.next speed actions was.recorded.followed.power lost.1 fits)) h.stay);
       }))
 
   -- AN `off` LINE
@@ -145,7 +155,7 @@ module _ (o : Origin) (done : List TraceSecond) (old : Run) (before : Outcome) (
       (subst (λ (l : Listed Break). RunRecorded o (done ++ dark (suc n) old.next) (off_run (suc n) old) (record before { breaks = l }) d) (sym told)
       (by old.power refl h.supply h.powers h.recorded))
     where
-      due : (r : Run) (out : Outcome) → AllStay o (log_of out) (notes_in (log_of out) (done ++ dark (suc n) old.next)) r.keeper.memory.registration r.keeper.cabin d → r.power ≡ Due → Recorded o (done ++ dark (suc n) old.next) IsDue (values_of r out) d → RunRecorded o (done ++ dark (suc n) old.next) r out d
+      due : (r : Run) (out : Outcome) → AllStay o (truths_of o (log_of out) (done ++ dark (suc n) old.next)) 0 (log_of out) (notes_in (log_of out) (done ++ dark (suc n) old.next)) r.keeper.memory.registration r.keeper.cabin d → r.power ≡ Due → Recorded o (done ++ dark (suc n) old.next) IsDue (values_of r out) d → RunRecorded o (done ++ dark (suc n) old.next) r out d
       due r out stays is recorded = record {
         origin = h.origin;
         supply = IsDue;
@@ -161,12 +171,18 @@ module _ (o : Origin) (done : List TraceSecond) (old : Run) (before : Outcome) (
       bare-off B = refl
 
       -- what is made of the cards
-      off-due : AllStay o (log_of (told_off false old before)) (notes_in (log_of (told_off false old before)) (done ++ dark (suc n) old.next)) old.keeper.memory.registration (off_as false (suc n) old).keeper.cabin d
+      off-due : AllStay o (truths_of o (log_of (told_off false old before)) (done ++ dark (suc n) old.next)) 0 (log_of (told_off false old before)) (notes_in (log_of (told_off false old before)) (done ++ dark (suc n) old.next)) old.keeper.memory.registration (off_as false (suc n) old).keeper.cabin d
       off-due =
-          all-noted o (log_of before) (log_of (told_off false old before)) (notes_in (log_of before) done) (notes_in (log_of (told_off false old before)) (done ++ dark (suc n) old.next)) old.keeper.memory.registration old.keeper.cabin d
+          all-true o (truths_of o (log_of before) done) (truths_of o (log_of (told_off false old before)) (done ++ dark (suc n) old.next)) 0 (log_of (told_off false old before)) (notes_in (log_of (told_off false old before)) (done ++ dark (suc n) old.next))
+          old.keeper.memory.registration old.keeper.cabin d
+          (λ none.
+          grow-on (truths_of o (log_of before) done) (truths_of o (log_of (told_off false old before)) done) (truths_of o (log_of (told_off false old before)) (done ++ dark (suc n) old.next))
+          (truths-same o (log_of before) (log_of (told_off false old before)) done (ap (λ (bs : List Break). went (record (log_of before) { breaks = bs }) done) (append-nil before.breaks.items)))
+          (truths-more o (log_of (told_off false old before)) done (dark (suc n) old.next)))
+          (all-noted o (truths_of o (log_of before) done) 0 (log_of before) (log_of (told_off false old before)) (notes_in (log_of before) done) (notes_in (log_of (told_off false old before)) (done ++ dark (suc n) old.next)) old.keeper.memory.registration old.keeper.cabin d
           (λ none. lines-on (log_of before) ((log_of before).breaks ++ []) [] refl none)
           (λ none c. ap (λ (ns : List Note). spells_of c ns)
-          (ap (λ (bs : List Break). notes_in (record (log_of before) { breaks = bs }) (done ++ dark (suc n) old.next)) (append-nil before.breaks.items) ∙ notes-off (suc n) (log_of before) done old.next)) h.stay
+          (ap (λ (bs : List Break). notes_in (record (log_of before) { breaks = bs }) (done ++ dark (suc n) old.next)) (append-nil before.breaks.items) ∙ notes-off (suc n) (log_of before) done old.next)) h.stay)
 
       -- a card that has a session sits in a slot
       seated : ((low : ℕ) × Stands low None old.keeper.cabin) → (c : Card) → is_some (session_of old.keeper.cabin.cards c) ≡ true → sits_in old.keeper.cabin.slots.seats c ≡ true
@@ -174,17 +190,24 @@ module _ (o : Origin) (done : List TraceSecond) (old : Run) (before : Outcome) (
 
       -- none is withdrawn by that
       off-lit : ((low : ℕ) × Stands low None old.keeper.cabin) → (t : Told) (span : List Told) → Recorded o done (IsLit (t ∷ span)) (values_of old before) d →
-          AllStay o (log_of (told_off true old before)) (notes_in (log_of (told_off true old before)) (done ++ dark (suc n) old.next)) old.keeper.memory.registration (off_as true (suc n) old).keeper.cabin d
+          AllStay o (truths_of o (log_of (told_off true old before)) (done ++ dark (suc n) old.next)) 0 (log_of (told_off true old before)) (notes_in (log_of (told_off true old before)) (done ++ dark (suc n) old.next)) old.keeper.memory.registration (off_as true (suc n) old).keeper.cabin d
       off-lit stands t span r =
-          all-moved o (log_of before) (log_of (told_off true old before)) (notes_in (log_of before) done) (notes_in (log_of (told_off true old before)) (done ++ dark (suc n) old.next)) old.keeper.memory.registration
+          all-true o (truths_of o (log_of before) done) (truths_of o (log_of (told_off true old before)) (done ++ dark (suc n) old.next)) 0 (log_of (told_off true old before)) (notes_in (log_of (told_off true old before)) (done ++ dark (suc n) old.next))
+          old.keeper.memory.registration (with_power_lost (old.next - 1) old.keeper.cabin) d
+          (λ none.
+          grow-on (truths_of o (log_of before) done) (truths_of o (log_of (told_off true old before)) done) (truths_of o (log_of (told_off true old before)) (done ++ dark (suc n) old.next))
+          (off-cut-true (rule_of o) (start_at o) o.from (first_of o) done (progress (values_of old before) (IsLit (t ∷ span)) r.book) t span r.recorded.followed o)
+          (truths-more o (log_of (told_off true old before)) done (dark (suc n) old.next)))
+          (all-moved o (truths_of o (log_of before) done) 0 (log_of before) (log_of (told_off true old before)) (notes_in (log_of before) done) (notes_in (log_of (told_off true old before)) (done ++ dark (suc n) old.next)) old.keeper.memory.registration
           old.keeper.cabin (with_power_lost (old.next - 1) old.keeper.cabin) d
           (λ none. lines-on (log_of before) ((log_of before).breaks ++ cut_at (old.next - 1) false old.begun ∷ []) (cut_at (old.next - 1) false old.begun ∷ []) refl none)
-          (λ none c. moves-gone (spells_of c (notes_in (log_of before) done)) (spells_of c (notes_in (log_of (told_off true old before)) (done ++ dark (suc n) old.next))) (sits_in old.keeper.cabin.slots.seats c)
+          (λ none c. moves-gone 0 (spells_of c (notes_in (log_of before) done)) (spells_of c (notes_in (log_of (told_off true old before)) (done ++ dark (suc n) old.next))) (sits_in old.keeper.cabin.slots.seats c)
           (sits_in (with_power_lost (old.next - 1) old.keeper.cabin).slots.seats c) (session_of old.keeper.cabin.cards c) (session_of (with_power_lost (old.next - 1) old.keeper.cabin).cards c)
           (ap (λ (ns : List Note). spells_of c ns)
           (notes-off (suc n) (log_of (told_off true old before)) done old.next
           ∙ off-cut-notes (rule_of o) (start_at o) o.from (first_of o) done (progress (values_of old before) (IsLit (t ∷ span)) r.book) t span r.recorded.followed))
-          (seated stands c) (bare-off c)) h.stay
+          (seated stands c) (bare-off c))
+          (λ none c was. placed-bare (notes_in (log_of (told_off true old before)) (done ++ dark (suc n) old.next)) (with_power_lost (old.next - 1) old.keeper.cabin) c (bare-off c)) h.stay)
 
       plain : Recorded o (done ++ dark (suc n) old.next) IsDue (off_values (suc n) (values_of old before)) d → Recorded o (done ++ dark (suc n) old.next) IsDue (values_of (off_as false (suc n) old) (told_off false old before)) d
       plain r = subst (λ (bs : List Break). Recorded o (done ++ dark (suc n) old.next) IsDue (values_of (off_as false (suc n) old) (record before { breaks = record { items = bs; room = before.breaks.room } })) d) (sym (append-nil before.breaks.items)) r

@@ -230,7 +230,7 @@ long-enough rule span d at = by (nat_lt 1 (length span)) refl
 
 -- OF A RUN WITH CARDS
 module _ (r : Recording) (begun_at : ℕ) (order : AreInOrder begun_at r.trace) (w : HasEachDecided r.rule (told_of r) (history_of r)) (x : List ℕ) (filled_ : IsFilled (recorded r.unit) (history_of r) x) where
-  day-whole : (day odometer : ℕ) → IsBegunIn r x day odometer → HasDayOdometer r day odometer
+  pub day-whole : (day odometer : ℕ) → IsBegunIn r x day odometer → HasDayOdometer r day odometer
   day-whole day odometer b =
       let spans = subst (AreWhole r.rule (limit_of r.log) (last_kept x)) b.are (whole-spans r.rule (start_of r) r.log begun_at r.trace order w (recorded r.unit) x filled_) in
       let legs : b.legs ≡ whole_legs r.rule b.earlier = legs-whole r.rule (closed_limit r.log) 0 b.earlier b.legs (whole-earlier r.rule r.log (last_kept x) b.earlier b.span b.later (long-enough r.rule b.span b.minute b.decided) b.known spans) b.closed in

@@ -42,13 +42,17 @@ b_of B mine others = mine
 abbrev pub HasEntry : (noted : ℕ) → Accepted → Type 0
 HasEntry noted a = (a.entry < insertion_ring.count) × (a.noted ≤ noted)
 
+-- an odometer value is that of now, by the minutes of a run
+abbrev pub IsOdometerNow : Run → (odometer : ℕ) → Type 0
+IsOdometerNow run odometer = (span : Span) → StandsFor run.minutes span → odometer ≡ odometer_by run.keeper.odometer (travelled_of span)
+
 -- a card enters now: it is this one, in this slot, at this moment and speed, and the odometer is that of now
 pub record IsEnteringNow (slot : Slot) (card : Card) (at : Moment) (speed : ℕ) (run : Run) (e : Entering) : Type 0 where
   pub which : e.which ≡ card
   pub slot_is : e.slot ≡ slot
   pub moment : e.at ≡ at
   pub speed_is : e.speed ≡ speed
-  pub odometer : (span : Span) → StandsFor run.minutes span → e.odometer.0 ≡ odometer_by run.keeper.odometer (travelled_of span)
+  pub odometer : IsOdometerNow run e.odometer.0
 
 -- A CARD WAS ACCEPTED OR TURNED AWAY: of the run the keeper and the number of insertions have changed, and so have the lines, by the way
 -- that it entered.

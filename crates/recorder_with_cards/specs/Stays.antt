@@ -1,6 +1,6 @@
 -- What a run in which no call failed leaves on its cards (profile): exactly what their stays in the slots make of them, one for each acceptance
 -- that the log tells, withdrawn where the run notes that, and nowhere else.
-use Rattle.std.specs.Prelude.{◌≡◌, ◌⊎◌, List, []}
+use Rattle.std.specs.Prelude.{◌≡◌, ◌⊎◌, ◌+◌, ◌*◌, IfSome, List, []}
 use Rattle.std.specs.List.{AllByRecursion}
 use Rattle.trace_model.specs.declared.Card.{Card}
 use Rattle.trace_model.specs.declared.Card.TheVariants.{A, B}
@@ -10,19 +10,37 @@ use Rattle.message_model.specs.Records.{insertion_ring}
 use Rattle.card_image.specs.Own.{own_sizes, IsOwnValid}
 use Rattle.side_model.specs.Done.{done_of}
 use Rattle.side_model.specs.Noted.{notes_of}
-use Rattle.safety_model.specs.Recording.{Recording, card_image}
+use Rattle.safety_model.specs.Recording.{Recording, card_image, brought, start_of}
 use Rattle.safety_model.specs.Safe.{Devices, card_of}
 use Rattle.run_recorded.specs.Whole.{NothingFailed}
+use Rattle.unit_model.specs.Image.{odometer_at}
+use Rattle.card_session.specs.declared.session.Kept.{Kept}
 use Rattle.run_acts.specs.Closings.{spells_of}
-use Rattle.run_acts.specs.Stays.{Stay, TellsBefores, registration_in, acceptances_told, founds, spells, AreMerged, TellsOwed, ShowsStays, start_shown, AreTimely}
+use Rattle.run_acts.specs.Truths.{past_of, IsOdometerBefore, IsOdometerBehind, IsWordIn}
+use Rattle.run_acts.specs.Stays.{Stay, TellsBefores, registration_in, acceptances_told, founds, spells, AreMerged, TellsOwed, ShowsStays, start_shown, AreTimely, AreOwed}
+use Rattle.run_acts.specs.Owed.{IsOwed}
+
+-- A STAY WAS CLOSED with the word of its slot, where it was, in the second of its withdrawal
+abbrev pub IsClosedSo : Recording → Stay → Type 0
+IsClosedSo r s = IfSome s.closed (λ x. IsWordIn r.rule (past_of r.log r.trace) s.found.slot x.second x.word)
+
+-- ITS ODOMETER is that of the run as its second begins; and of each minute that it kept, as that ends
+abbrev pub IsCountedSo : Recording → Stay → Type 0
+IsCountedSo r s =
+    IsOdometerBefore r.rule (odometer_at r.unit) (past_of r.log r.trace).spans s.found.second s.odometer
+    × AllByRecursion (λ (k : Kept). IsOdometerBehind r.rule (odometer_at r.unit) (past_of r.log r.trace).spans (60 * k.entry.minute + 59) k.odometer.0) s.kepts
 
 -- THE STAYS OF A RUN's cards, in the vehicle that the unit's image says. THE ACCEPTANCES that the log tells, each in its order, are those of the one
 -- card's stays and of the other's, and so many entries were owed as they tell. Only a card that was valid has some. EACH IMAGE that a stop may leave of it has exactly those days, with their
 -- words and distances, and those vehicle entries, all of them, that they make of its image at the start: in each it was inserted, kept its minutes, each
 -- with so many km as the odometer has grown since the one before, and was withdrawn with an activity, or was not; and a session that was left
 -- open was cut at its end mark, and got the entries that the card lacked, as the next stay began. THEY ARE EXACTLY THE INSERTIONS of the card that
--- the run notes, each of that second and slot, in their order; and those were withdrawn of which the run notes a withdrawal, and no other. EACH BEGAN IN TIME: in a
--- second that is not earlier than the stored time of what the card showed by then.
+-- the run notes, each of that second and slot, in their order; and those were withdrawn of which the run notes a withdrawal, in its second, and no other. EACH BEGAN IN TIME: in a
+-- second that is not earlier than the stored time of what the card showed by then. EACH WAS CLOSED WITH THE ACTIVITY that its slot has as an action of that second withdraws its
+-- card: by the seconds of the power span before it and what the actions before it select. THE ODOMETERS are those of the run: what the unit's image says at the start, with the whole
+-- kilometres of each power span before, and of the span so far.
+-- WHAT WAS OWED AT EACH, in order, is all that the unit had of the card, at the start and by the minutes since, that is later than the end mark of what the card showed by then, and nothing
+-- else.
 -- THE VEHICLE BEFORE of each insertion, as every image that a stop may leave of the unit tells it, is the newest vehicle entry of what the card's stays
 -- before it make of its image at the start: in the order in which the log tells the acceptances, one entry each, the oldest giving way.
 pub record LeaveStays (r : Recording) (now : Devices) : Type 0 where
@@ -35,6 +53,9 @@ pub record LeaveStays (r : Recording) (now : Devices) : Type 0 where
   pub shows : (c : Card) → IsOwnValid (card_image r c) → ShowsStays vehicle (card_image r c) (stays c) (card_of now c)
   pub befores : TellsBefores (IsDense insertion_ring r.unit) r.unit (acceptances_told r.log) vehicle (card_image r) stays now.unit
   pub closed : (c : Card) → IsOwnValid (card_image r c) → spells (stays c) ≡ spells_of c (notes_of r.log (done_of r.log r.trace))
+  pub words : (c : Card) → AllByRecursion (IsClosedSo r) (stays c)
+  pub odometers : (c : Card) → AllByRecursion (IsCountedSo r) (stays c)
+  pub owes : (c : Card) → AreOwed (IsOwed r.rule (start_of r) r.log r.trace c (brought r c).owed) vehicle (own_sizes (card_image r c)).activity (stays c) (start_shown (card_image r c))
   pub timely : (c : Card) → IsOwnValid (card_image r c) → AreTimely vehicle (own_sizes (card_image r c)).activity (stays c) (start_shown (card_image r c))
 
 -- so it is where no call failed

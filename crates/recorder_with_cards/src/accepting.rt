@@ -7,7 +7,7 @@ ghost use Rattle.run_acts.specs.declared.run.Power.TheVariants.{Lit};
 ghost use Rattle.run_keeping.specs.Later.{IsLater, AreLater, AreCalm, IsCalm};
 ghost use Rattle.run_acts.specs.Going.{first_second, end_of_seconds, IsHeld, IsLit};
 ghost use Rattle.run_acts.specs.Room.{falls_of, bare_count, Takes};
-ghost use Rattle.recorder_with_cards.specs.Accepting.{chip_a_of, chip_b_of, a_of, b_of, IsAccepted, IsEnteringNow, IsAnew, IsBare};
+ghost use Rattle.recorder_with_cards.specs.Accepting.{chip_a_of, chip_b_of, a_of, b_of, IsAccepted, IsOdometerNow, IsEnteringNow, IsAnew, IsBare};
 ghost use Rattle.recorder_with_cards.specs.Judged.{JudgesSo, JudgesAnew, EventsJudged, EventsAnew};
 ghost use Rattle.recorder_with_cards.specs.Noting.{IsJudgedNoting, NotesJudging, NotesAnew};
 ghost use Rattle.recorder_with_cards.specs.JudgedRings.{RingsEntering, RingsJudged, RingsJudgedAnew};
@@ -53,7 +53,7 @@ pub(crate) fn accept_here<M: Medium, C: Chip, D: Chip>(
     ensures takes { Takes 1 0 0 run.old run.new outcome.old outcome.new }
     ensures only { run.new ≡ record run.old { keeper = run.new.keeper; noted = run.new.noted } }
     ensures refused { outcome.new.refused ≡ outcome.old.refused }
-    ensures recorded { length outcome.old.marks.items + MOST_OWED ≤ outcome.old.marks.room → JudgesSo entering.slot entering.which entering.at (is_err result) run.old run.new outcome.old outcome.new (arranged entering.which (M.state unit.old) (C.state card.old) (D.state others.now)) (arranged entering.which (M.state unit.new) (C.state card.new) (D.state others.now)) }
+    ensures recorded { length outcome.old.marks.items + MOST_OWED ≤ outcome.old.marks.room → IsOdometerNow run.old entering.odometer.0 → JudgesSo entering.slot entering.which entering.at (is_err result) run.old run.new outcome.old outcome.new (arranged entering.which (M.state unit.old) (C.state card.old) (D.state others.now)) (arranged entering.which (M.state unit.new) (C.state card.new) (D.state others.now)) }
     ensures evented { length outcome.old.marks.items + MOST_OWED ≤ outcome.old.marks.room → EventsJudged entering.slot entering.which entering.at entering.speed (is_err result) run.old run.new outcome.old outcome.new (arranged entering.which (M.state unit.old) (C.state card.old) (D.state others.now)) (arranged entering.which (M.state unit.new) (C.state card.new) (D.state others.now)) }
     ensures ringed { length outcome.old.marks.items + MOST_OWED ≤ outcome.old.marks.room → RingsEntering entering.slot entering.which entering.at entering.odometer.0 (is_err result) run.old run.new outcome.old outcome.new (arranged entering.which (M.state unit.old) (C.state card.old) (D.state others.now)) (arranged entering.which (M.state unit.new) (C.state card.new) (D.state others.now)) }
     // What this judging brings the card of events.

@@ -41,13 +41,15 @@ use Rattle.run_keeping.specs.Keeping.{Fate, Still, Has, Fell, has_fallen, cabin_
 use Rattle.minute_model.specs.declared.Minute.{Minute}
 use Rattle.run_keeping.specs.Minutes.{Round, Told, Done, Reach, Whole, Short, IsReach, cabin_after, breaks_after, told_after, told_by, present_at}
 use Rattle.run_keeping.specs.Deeds.{KeepsOn, AllKeep}
-use Rattle.run_acts.specs.Closings.{Spell, spells_of, with_last_shut}
+use Rattle.slot_machine.specs.Calls.{Seats, seat_in, card_in}
+use Rattle.run_acts.specs.Closings.{Spell, spells_of, with_last_shut, last_slot}
 use Rattle.message_model.specs.Records.{insertion_ring}
 use Rattle.run_ringed.specs.OnCards.{HasRing}
 use Rattle.run_acts.specs.Comings.{VehicleTold, told_of, TellsMore, TellMore}
 use Rattle.run_acts.proofs.Comings.{tells-none, tells-then}
-use Rattle.run_acts.specs.Stays.{Stay, Coming, comings_on, lines_of, befores_of, TellsBefores, acceptances_told, founds, spells, sits_in, as_noted, AreMerged, TellsOwed, StaysIn, HasStays, AreStays, AllStay}
-use Rattle.run_acts.proofs.Stays.{on_last, on-last-comings, on-last-founds, on-last-owed, on-last-none, with_kepts, merged-one, merged-other, stays-still, stays-moved, stays-keep}
+use Rattle.run_acts.specs.Truths.{Truths, Grow}
+use Rattle.run_acts.specs.Stays.{Stay, Coming, comings_on, lines_of, befores_of, TellsBefores, acceptances_told, founds, spells, sits_in, as_noted, IsPlaced, AreMerged, TellsOwed, IsTrueOf, StaysIn, HasStays, AreStays, AllStay, AreTrue, start_shown}
+use Rattle.run_acts.proofs.Stays.{on_last, on-last-comings, on-last-founds, on-last-owed, on-last-none, on-last-true, with_kepts, true-kepts, all-true-grow, merged-one, merged-other, stays-still, stays-moved, stays-keep, on-last-owes, owes-grow}
 
 -- ---- the log tells of no failed call
 
@@ -131,6 +133,14 @@ unfolding kept_stays
 kept-owed None ks ss all = all
 kept-owed (Some a) ks ss all = on-last-owed (with_kepts ks) (λ x tells. tells) ss all
 
+kept-hold : (t : Truths) (c : Card) (r : Registration) (image : List ℕ) (s : Option Accepted) (ks : List Kept) (ss : List Stay) → AllByRecursion t.kept ks → AreTrue t c r image ss → AreTrue t c r image (kept_stays s ks ss)
+unfolding kept_stays
+kept-hold t c r image None ks ss more all = all
+kept-hold t c r image (Some a) ks ss more all = (
+  on-last-true t (with_kepts ks) ss (λ x last is. true-kepts t ks more x is) all.0,
+  on-last-owes (t.owed c) (with_kepts ks) (λ x. refl) (λ x. refl) r (own_sizes image).activity ss (start_shown image) all.1,
+)
+
 kept-none : (s : Option Accepted) (ks : List Kept) (ss : List Stay) → ss ≡ [] → kept_stays s ks ss ≡ []
 unfolding kept_stays
 kept-none None ks ss none = none
@@ -166,69 +176,87 @@ other-told told later ss now one (inl t) h = merged-as-other told later one (fou
 other-told told later ss now one (inr t) h = merged-as-other (told ++ t.0 ∷ []) later one (founds ss ++ t.0 ∷ []) (founds now) t.1 t.2 (merged-other told one (founds ss) t.0 h)
 
 -- A CALL makes of the stays of a card these, as its session and its seat become others, and its spells these
-pub record Turns (f : CardFound) (log later : RunLog) (r : Registration) (noted noted_now : List Spell) (sits sits_now : Bool) (s t : Option Accepted) (U V X Y : State) (ss : List Stay) : Type 0 where
+pub record Turns (truths : Truths) (card : Card) (second : ℕ) (f : CardFound) (log later : RunLog) (r : Registration) (noted noted_now : List Spell) (sits sits_now : Bool) (s t : Option Accepted) (U V X Y : State) (ss : List Stay) : Type 0 where
   pub now : List Stay
   pub told : TellsOne (acceptances_told log) (acceptances_told later) ss now
   pub owed : AllByRecursion TellsOwed ss → AllByRecursion TellsOwed now
   pub only : (ss ≡ []) ⊎ IsOwnValid f.image → (now ≡ []) ⊎ IsOwnValid f.image
-  pub shows : IsOwnValid f.image → HasStays f r noted sits ss s X → HasStays f r noted_now sits_now now t Y
-  pub comes : (IsOwnValid f.image → HasStays f r noted sits ss s X) → ComesOne f r (acceptances_told log) (acceptances_told later) ss now U V
+  pub shows : IsOwnValid f.image → HasStays second f r noted sits ss s X → HasStays second f r noted_now sits_now now t Y
+  pub hold : (ss ≡ []) ⊎ IsOwnValid f.image → (IsOwnValid f.image → HasStays second f r noted sits ss s X) → AreTrue truths card r f.image ss → AreTrue truths card r f.image now
+  pub comes : (IsOwnValid f.image → HasStays second f r noted sits ss s X) → ComesOne f r (acceptances_told log) (acceptances_told later) ss now U V
 
 -- none begins
-pub turns-so : (f : CardFound) (log : RunLog) (r : Registration) (noted : List Spell) (sits : Bool) (s t : Option Accepted) (U V X Y : State) (turn : List Stay → List Stay) → ((ss : List Stay) → founds (turn ss) ≡ founds ss) → ((ss : List Stay) → AllByRecursion TellsOwed ss → AllByRecursion TellsOwed (turn ss))
-    → ((ss : List Stay) → ss ≡ [] → turn ss ≡ []) → ((ss : List Stay) → comings_on r f.image (turn ss) ≡ comings_on r f.image ss) → TellMore [] U V → (ss : List Stay) → (IsOwnValid f.image → HasStays f r noted sits ss s X → HasStays f r noted sits (turn ss) t Y) → Turns f log log r noted noted sits sits s t U V X Y ss
-turns-so f log r noted sits s t U V X Y turn same tells none comes go ss shows = record {
+pub turns-so : (truths : Truths) (card : Card) (second : ℕ) (f : CardFound) (log : RunLog) (r : Registration) (noted : List Spell) (sits : Bool) (s t : Option Accepted) (U V X Y : State) (turn : List Stay → List Stay) → ((ss : List Stay) → founds (turn ss) ≡ founds ss) → ((ss : List Stay) → AllByRecursion TellsOwed ss → AllByRecursion TellsOwed (turn ss))
+    → ((ss : List Stay) → ss ≡ [] → turn ss ≡ []) → ((ss : List Stay) → comings_on r f.image (turn ss) ≡ comings_on r f.image ss) → TellMore [] U V → (ss : List Stay) → (IsOwnValid f.image → HasStays second f r noted sits ss s X → HasStays second f r noted sits (turn ss) t Y)
+    → ((ss ≡ []) ⊎ IsOwnValid f.image → (IsOwnValid f.image → HasStays second f r noted sits ss s X) → AreTrue truths card r f.image ss → AreTrue truths card r f.image (turn ss)) → Turns truths card second f log log r noted noted sits sits s t U V X Y ss
+turns-so truths card second f log r noted sits s t U V X Y turn same tells none comes go ss shows hold = record {
   now = turn ss;
   told = inl (refl, same ss);
   owed = tells ss;
   only = λ only. ⊎_elim (λ was. inl (none ss was)) (λ valid. inr valid) only;
   shows = shows;
+  hold = hold;
   comes = λ shown. inl (refl, comes ss, go);
 }
 
 -- A SESSION AND A SEAT BECOME OTHERS, and the spells of a card with them: it has the same session or none, and what was as noted is so still
-pub record Moves (noted now : List Spell) (sits sits_now : Bool) (s t : Option Accepted) : Type 0 where
+pub record Moves (second : ℕ) (noted now : List Spell) (sits sits_now : Bool) (s t : Option Accepted) : Type 0 where
   pub session : (t ≡ s) ⊎ (t ≡ None)
-  pub spell : (ss : List Spell) → as_noted s sits ss ≡ noted → as_noted t sits_now ss ≡ now
+  pub spell : (ss : List Spell) → as_noted second s sits ss ≡ noted → as_noted second t sits_now ss ≡ now
 
 -- nothing does;
-pub moves-same : (noted now : List Spell) (sits sits_now : Bool) (s t : Option Accepted) → now ≡ noted → sits_now ≡ sits → t ≡ s → Moves noted now sits sits_now s t
-moves-same noted now sits sits_now s t spell seat session = record {
+pub moves-same : (second : ℕ) (noted now : List Spell) (sits sits_now : Bool) (s t : Option Accepted) → now ≡ noted → sits_now ≡ sits → t ≡ s → Moves second noted now sits sits_now s t
+moves-same second noted now sits sits_now s t spell seat session = record {
   session = inl session;
-  spell = λ ss was. ap (λ (q : Option Accepted). as_noted q sits_now ss) session ∙ ap (λ (b : Bool). as_noted s b ss) seat ∙ was ∙ sym spell;
+  spell = λ ss was. ap (λ (q : Option Accepted). as_noted second q sits_now ss) session ∙ ap (λ (b : Bool). as_noted second s b ss) seat ∙ was ∙ sym spell;
 }
 
 -- a card that has none sits elsewhere, or nowhere;
-pub moves-bare : (noted now : List Spell) (sits sits_now : Bool) (s t : Option Accepted) → now ≡ noted → s ≡ None → t ≡ None → Moves noted now sits sits_now s t
-moves-bare noted now sits sits_now s t spell none none_now = record {
+pub moves-bare : (second : ℕ) (noted now : List Spell) (sits sits_now : Bool) (s t : Option Accepted) → now ≡ noted → s ≡ None → t ≡ None → Moves second noted now sits sits_now s t
+moves-bare second noted now sits sits_now s t spell none none_now = record {
   session = inr none_now;
-  spell = λ ss was. ap (λ (q : Option Accepted). as_noted q sits_now ss) none_now ∙ sym (ap (λ (q : Option Accepted). as_noted q sits ss) none) ∙ was ∙ sym spell;
+  spell = λ ss was. ap (λ (q : Option Accepted). as_noted second q sits_now ss) none_now ∙ sym (ap (λ (q : Option Accepted). as_noted second q sits ss) none) ∙ was ∙ sym spell;
 }
 
 -- a card that sat in a slot has no session any more, and is not withdrawn;
-pub moves-gone : (noted now : List Spell) (sits sits_now : Bool) (s t : Option Accepted) → now ≡ noted → (is_some s ≡ true → sits ≡ true) → t ≡ None → Moves noted now sits sits_now s t
-moves-gone noted now sits sits_now s t spell sat none = record { session = inr none; spell = λ ss was. ap (λ (q : Option Accepted). as_noted q sits_now ss) none ∙ by s sat ss ∙ was ∙ sym spell }
+pub moves-gone : (second : ℕ) (noted now : List Spell) (sits sits_now : Bool) (s t : Option Accepted) → now ≡ noted → (is_some s ≡ true → sits ≡ true) → t ≡ None → Moves second noted now sits sits_now s t
+moves-gone second noted now sits sits_now s t spell sat none = record { session = inr none; spell = λ ss was. ap (λ (q : Option Accepted). as_noted second q sits_now ss) none ∙ by s sat ss ∙ was ∙ sym spell }
   where
-    by : (s : Option Accepted) → (is_some s ≡ true → sits ≡ true) → (ss : List Spell) → ss ≡ as_noted s sits ss
+    by : (s : Option Accepted) → (is_some s ≡ true → sits ≡ true) → (ss : List Spell) → ss ≡ as_noted second s sits ss
     by None sat ss = refl
-    by (Some a) sat ss = sym (ap (λ (b : Bool). as_noted (Some a) b ss) (sat refl))
+    by (Some a) sat ss = sym (ap (λ (b : Bool). as_noted second (Some a) b ss) (sat refl))
 
 -- one that has a session leaves its slot, and is withdrawn.
-pub moves-leaves : (noted now : List Spell) (sits sits_now : Bool) (s t : Option Accepted) → is_some s ≡ true → t ≡ s → sits ≡ true → sits_now ≡ false → now ≡ with_last_shut noted → Moves noted now sits sits_now s t
-moves-leaves noted now sits sits_now None t some session there gone spell = absurd (let wrong : false ≡ true = some in cc)
-moves-leaves noted now sits sits_now (Some a) t some session there gone spell = record {
+pub moves-leaves : (second : ℕ) (noted now : List Spell) (sits sits_now : Bool) (s t : Option Accepted) → is_some s ≡ true → t ≡ s → sits ≡ true → sits_now ≡ false → now ≡ with_last_shut second noted → Moves second noted now sits sits_now s t
+moves-leaves second noted now sits sits_now None t some session there gone spell = absurd (let wrong : false ≡ true = some in cc)
+moves-leaves second noted now sits sits_now (Some a) t some session there gone spell = record {
   session = inl session;
   spell = λ ss was.
-      ap (λ (q : Option Accepted). as_noted q sits_now ss) session ∙ ap (λ (b : Bool). as_noted (Some a) b ss) gone
-      ∙ ap with_last_shut (sym (ap (λ (b : Bool). as_noted (Some a) b ss) there) ∙ was) ∙ sym spell;
+      ap (λ (q : Option Accepted). as_noted second q sits_now ss) session ∙ ap (λ (b : Bool). as_noted second (Some a) b ss) gone
+      ∙ ap (with_last_shut second) (sym (ap (λ (b : Bool). as_noted second (Some a) b ss) there) ∙ was) ∙ sym spell;
 }
 
+-- ---- in which slot it sits
+
+-- where it sat, with the session that it had, by the slot of its last spell
+pub placed-same : (notes now : List Note) (cabin after : Cabin) (c : Card) → last_slot (spells_of c now) ≡ last_slot (spells_of c notes) →
+    ((slot : Slot) → card_in (seat_in after.slots.seats slot) ≡ Some c → card_in (seat_in cabin.slots.seats slot) ≡ Some c) → (is_some (session_of after.cards c) ≡ true → is_some (session_of cabin.cards c) ≡ true) →
+    IsPlaced notes cabin c → IsPlaced now after c
+placed-same notes now cabin after c spell seat session was = λ slot some there. spell ∙ was slot (session some) (seat slot there)
+
+-- it has none any more, or sits nowhere
+pub placed-bare : (now : List Note) (after : Cabin) (c : Card) → session_of after.cards c ≡ None → IsPlaced now after c
+placed-bare now after c none = λ slot some there. absurd (let wrong : false ≡ true = sym (ap (λ (q : Option Accepted). is_some q) none) ∙ some in cc)
+
+pub placed-nowhere : (now : List Note) (after : Cabin) (c : Card) → ((slot : Slot) → card_in (seat_in after.slots.seats slot) ≡ Some c → ⊥) → IsPlaced now after c
+placed-nowhere now after c nowhere = λ slot some there. absurd (nowhere slot there)
+
 -- with the same of all
-as-same : (f : CardFound) (r : Registration) (noted now : List Spell) (sits sits_now : Bool) (ss : List Stay) (s t : Option Accepted) (X : State) → now ≡ noted → sits_now ≡ sits → t ≡ s → HasStays f r noted sits ss s X → HasStays f r now sits_now ss t X
-as-same f r noted now sits sits_now ss s t X spell seat session h =
-    subst (λ (q : Option Accepted). HasStays f r now sits_now ss q X) (sym session)
-    (subst (λ (b : Bool). HasStays f r now b ss s X) (sym seat)
-    (subst (λ (l : List Spell). HasStays f r l sits ss s X) (sym spell) h))
+as-same : (second : ℕ) (f : CardFound) (r : Registration) (noted now : List Spell) (sits sits_now : Bool) (ss : List Stay) (s t : Option Accepted) (X : State) → now ≡ noted → sits_now ≡ sits → t ≡ s → HasStays second f r noted sits ss s X → HasStays second f r now sits_now ss t X
+as-same second f r noted now sits sits_now ss s t X spell seat session h =
+    subst (λ (q : Option Accepted). HasStays second f r now sits_now ss q X) (sym session)
+    (subst (λ (b : Bool). HasStays second f r now b ss s X) (sym seat)
+    (subst (λ (l : List Spell). HasStays second f r l sits ss s X) (sym spell) h))
 
 -- with these of one card
 abbrev pub with_mine : Card → List Stay → (Card → List Stay) → Card → List Stay
@@ -239,20 +267,20 @@ with_mine B mine ss B = mine
 
 -- ---- both cards
 
-module _ (o : Origin) where
+module _ (o : Origin) (t : Truths) (u : ℕ) where
   abbrev f : Card → CardFound
   f c = found_of o.found c
 
   abbrev Are : RunLog → List Note → Registration → Cabin → Devices → Type 0
-  Are log notes r cabin d = AreStays o notes (acceptances_told log) r cabin d
+  Are log notes r cabin d = AreStays o t u notes (acceptances_told log) r cabin d
 
   -- of one card
   abbrev HasOf : Registration → List Note → Cabin → Card → List Stay → State → Type 0
-  HasOf r notes cabin c ss X = HasStays (f c) r (spells_of c notes) (sits_in cabin.slots.seats c) ss (session_of cabin.cards c) X
+  HasOf r notes cabin c ss X = HasStays u (f c) r (spells_of c notes) (sits_in cabin.slots.seats c) ss (session_of cabin.cards c) X
 
   abbrev TurnsOf : Card → (log later : RunLog) → (notes now : List Note) → Registration → (cabin after : Cabin) → (U V X Y : State) → List Stay → Type 0
   TurnsOf c log later notes now r cabin after U V X Y ss =
-      Turns (f c) log later r (spells_of c notes) (spells_of c now) (sits_in cabin.slots.seats c) (sits_in after.slots.seats c) (session_of cabin.cards c) (session_of after.cards c) U V X Y ss
+      Turns t c u (f c) log later r (spells_of c notes) (spells_of c now) (sits_in cabin.slots.seats c) (sits_in after.slots.seats c) (session_of cabin.cards c) (session_of after.cards c) U V X Y ss
 
   -- ---- what the unit tells of the vehicles before
 
@@ -304,7 +332,7 @@ module _ (o : Origin) where
   befores-turned c told later r ss mine U V (inr t) h = befores-one c told later r ss mine t.0 U V t.1 t.2 t.3 h
 
   -- the unit alone differs, and tells no vehicle more
-  pub all-unit : (log : RunLog) (notes : List Note) (r : Registration) (cabin : Cabin) (U V X Y : State) → TellMore [] U V → AllStay o log notes r cabin (devices U X Y) → AllStay o log notes r cabin (devices V X Y)
+  pub all-unit : (log : RunLog) (notes : List Note) (r : Registration) (cabin : Cabin) (U V X Y : State) → TellMore [] U V → AllStay o t u log notes r cabin (devices U X Y) → AllStay o t u log notes r cabin (devices V X Y)
   all-unit log notes r cabin U V X Y go all none =
       let h = all none in
       record {
@@ -314,6 +342,8 @@ module _ (o : Origin) where
         owed = h.owed;
         only = h.only;
         each = λ c valid. by h c valid;
+        hold = h.hold;
+        placed = h.placed;
         befores = befores-as (acceptances_told log) (acceptances_told log) r h.stays h.stays U V refl (λ c. refl) go h.befores;
       }
     where
@@ -322,13 +352,14 @@ module _ (o : Origin) where
       by h B valid = h.each B valid
 
   -- the vehicle is the same
-  pub all-of : (log : RunLog) (notes : List Note) (r new : Registration) (cabin : Cabin) (d : Devices) → new ≡ r → AllStay o log notes r cabin d → AllStay o log notes new cabin d
-  all-of log notes r new cabin d same all = subst (λ (v : Registration). AllStay o log notes v cabin d) (sym same) all
+  pub all-of : (log : RunLog) (notes : List Note) (r new : Registration) (cabin : Cabin) (d : Devices) → new ≡ r → AllStay o t u log notes r cabin d → AllStay o t u log notes new cabin d
+  all-of log notes r new cabin d same all = subst (λ (v : Registration). AllStay o t u log notes v cabin d) (sym same) all
 
   -- THE LOG AND THE NOTES GO ON, as sessions and seats do; no card is called
   pub all-moved : (log later : RunLog) (notes now : List Note) (r : Registration) (cabin after : Cabin) (d : Devices) → (NothingFailed later → Goes log later) →
-      (NothingFailed later → (c : Card) → Moves (spells_of c notes) (spells_of c now) (sits_in cabin.slots.seats c) (sits_in after.slots.seats c) (session_of cabin.cards c) (session_of after.cards c)) → AllStay o log notes r cabin d → AllStay o later now r after d
-  all-moved log later notes now r cabin after d on moves all none =
+      (NothingFailed later → (c : Card) → Moves u (spells_of c notes) (spells_of c now) (sits_in cabin.slots.seats c) (sits_in after.slots.seats c) (session_of cabin.cards c) (session_of after.cards c)) →
+      (NothingFailed later → (c : Card) → IsPlaced notes cabin c → IsPlaced now after c) → AllStay o t u log notes r cabin d → AllStay o t u later now r after d
+  all-moved log later notes now r cabin after d on moves places all none =
       let g = on none in
       let h = all g.none in
       record {
@@ -339,8 +370,10 @@ module _ (o : Origin) where
         only = h.only;
         each = λ c valid.
             let m = moves none c in
-            stays-moved (f c) r (spells_of c notes) (spells_of c now) (sits_in cabin.slots.seats c) (sits_in after.slots.seats c) (h.stays c) (session_of cabin.cards c) (session_of after.cards c) (card_of d c)
+            stays-moved u (f c) r (spells_of c notes) (spells_of c now) (sits_in cabin.slots.seats c) (sits_in after.slots.seats c) (h.stays c) (session_of cabin.cards c) (session_of after.cards c) (card_of d c)
             (λ was. goes (h.stays c) (session_of cabin.cards c) (session_of after.cards c) m.session was) (m.spell (spells (h.stays c))) (h.each c valid);
+        hold = h.hold;
+        placed = λ c valid. places none c (h.placed c valid);
         befores = befores-as (acceptances_told log) (acceptances_told later) r h.stays h.stays d.unit d.unit g.finds (λ c. refl) (unit-still d.unit) h.befores;
       }
     where
@@ -349,91 +382,120 @@ module _ (o : Origin) where
       goes ss s t (inr none) was = subst (λ (q : Option Accepted). StaysIn r ss q) (sym none) tt
 
   -- the log alone goes on, or the notes, with the same spells
-  pub all-noted : (log later : RunLog) (notes now : List Note) (r : Registration) (cabin : Cabin) (d : Devices) → (NothingFailed later → Goes log later) → (NothingFailed later → (c : Card) → spells_of c now ≡ spells_of c notes) → AllStay o log notes r cabin d → AllStay o later now r cabin d
+  pub all-noted : (log later : RunLog) (notes now : List Note) (r : Registration) (cabin : Cabin) (d : Devices) → (NothingFailed later → Goes log later) → (NothingFailed later → (c : Card) → spells_of c now ≡ spells_of c notes) → AllStay o t u log notes r cabin d → AllStay o t u later now r cabin d
   all-noted log later notes now r cabin d on same all =
       all-moved log later notes now r cabin cabin d on
-      (λ none c. moves-same (spells_of c notes) (spells_of c now) (sits_in cabin.slots.seats c) (sits_in cabin.slots.seats c) (session_of cabin.cards c) (session_of cabin.cards c) (same none c) refl refl) all
+      (λ none c. moves-same u (spells_of c notes) (spells_of c now) (sits_in cabin.slots.seats c) (sits_in cabin.slots.seats c) (session_of cabin.cards c) (session_of cabin.cards c) (same none c) refl refl)
+      (λ none c was. placed-same notes now cabin cabin c (ap last_slot (same none c)) (λ slot there. there) (λ some. some) was) all
 
   -- the cabin alone differs, with the same seats and sessions
-  pub all-seated : (log : RunLog) (notes : List Note) (r : Registration) (cabin after : Cabin) (d : Devices) → ((c : Card) → sits_in after.slots.seats c ≡ sits_in cabin.slots.seats c) → ((c : Card) → session_of after.cards c ≡ session_of cabin.cards c) →
-      AllStay o log notes r cabin d → AllStay o log notes r after d
+  pub all-seated : (log : RunLog) (notes : List Note) (r : Registration) (cabin after : Cabin) (d : Devices) → after.slots.seats ≡ cabin.slots.seats → ((c : Card) → session_of after.cards c ≡ session_of cabin.cards c) →
+      AllStay o t u log notes r cabin d → AllStay o t u log notes r after d
   all-seated log notes r cabin after d seats sessions all =
       all-moved log log notes notes r cabin after d (log-self log)
-      (λ none c. moves-same (spells_of c notes) (spells_of c notes) (sits_in cabin.slots.seats c) (sits_in after.slots.seats c) (session_of cabin.cards c) (session_of after.cards c) refl (seats c) (sessions c)) all
+      (λ none c. moves-same u (spells_of c notes) (spells_of c notes) (sits_in cabin.slots.seats c) (sits_in after.slots.seats c) (session_of cabin.cards c) (session_of after.cards c) refl (ap (λ (q : Seats). sits_in q c) seats) (sessions c))
+      (λ none c was.
+      placed-same notes notes cabin after c refl (λ slot there. ap (λ (q : Seats). card_in (seat_in q slot)) (sym seats) ∙ there) (λ some. ap (λ (q : Option Accepted). is_some q) (sym (sessions c)) ∙ some) was) all
 
   -- a call that is about one card, and the unit: nothing is noted of the other one, which has its session and its seat
   pub all-one : (c : Card) (log later : RunLog) (notes now : List Note) (r : Registration) (cabin after : Cabin) (U V X Y Z : State) → (NothingFailed later → NothingFailed log) → session_of after.cards (other c) ≡ session_of cabin.cards (other c) →
-      sits_in after.slots.seats (other c) ≡ sits_in cabin.slots.seats (other c) → (NothingFailed later → spells_of (other c) now ≡ spells_of (other c) notes)
-      → (NothingFailed later → (ss : List Stay) → TurnsOf c log later notes now r cabin after U V X Y ss)
-      → AllStay o log notes r cabin (arranged c U X Z) → AllStay o later now r after (arranged c V Y Z)
-  all-one A log later notes now r cabin after U V X Y Z fewer same seat spell own all none = by (all (fewer none))
+      sits_in after.slots.seats (other c) ≡ sits_in cabin.slots.seats (other c) →
+      ((slot : Slot) → card_in (seat_in after.slots.seats slot) ≡ Some (other c) → card_in (seat_in cabin.slots.seats slot) ≡ Some (other c)) → (NothingFailed later → spells_of (other c) now ≡ spells_of (other c) notes)
+      → (NothingFailed later → IsPlaced notes cabin c → IsPlaced now after c) → (NothingFailed later → (ss : List Stay) → TurnsOf c log later notes now r cabin after U V X Y ss)
+      → AllStay o t u log notes r cabin (arranged c U X Z) → AllStay o t u later now r after (arranged c V Y Z)
+  all-one A log later notes now r cabin after U V X Y Z fewer same seat beside spell place own all none = by (all (fewer none))
     where
       by : Are log notes r cabin (arranged A U X Z) → Are later now r after (arranged A V Y Z)
       by h =
-          let t = own none (h.stays A) in
+          let x = own none (h.stays A) in
           record {
             says = h.says;
-            stays = with_mine A t.now h.stays;
-            told = one-told (acceptances_told log) (acceptances_told later) (h.stays A) t.now (founds (h.stays B)) t.told h.told;
-            owed = λ c. owed h t c;
-            only = λ c. only h t c;
-            each = λ c valid. each h t c valid;
-            befores = befores-turned A (acceptances_told log) (acceptances_told later) r h.stays t.now U V (t.comes (h.each A)) h.befores;
+            stays = with_mine A x.now h.stays;
+            told = one-told (acceptances_told log) (acceptances_told later) (h.stays A) x.now (founds (h.stays B)) x.told h.told;
+            owed = λ c. owed h x c;
+            only = λ c. only h x c;
+            each = λ c valid. each h x c valid;
+            hold = λ c. hold h x c;
+            placed = λ c valid. placed h c valid;
+            befores = befores-turned A (acceptances_told log) (acceptances_told later) r h.stays x.now U V (x.comes (h.each A)) h.befores;
           }
         where
-          owed : (h : Are log notes r cabin (arranged A U X Z)) (t : TurnsOf A log later notes now r cabin after U V X Y (h.stays A)) (c : Card) → AllByRecursion TellsOwed (with_mine A t.now h.stays c)
-          owed h t A = t.owed (h.owed A)
-          owed h t B = h.owed B
+          owed : (h : Are log notes r cabin (arranged A U X Z)) (x : TurnsOf A log later notes now r cabin after U V X Y (h.stays A)) (c : Card) → AllByRecursion TellsOwed (with_mine A x.now h.stays c)
+          owed h x A = x.owed (h.owed A)
+          owed h x B = h.owed B
 
-          only : (h : Are log notes r cabin (arranged A U X Z)) (t : TurnsOf A log later notes now r cabin after U V X Y (h.stays A)) (c : Card) → (with_mine A t.now h.stays c ≡ []) ⊎ IsOwnValid (f c).image
-          only h t A = t.only (h.only A)
-          only h t B = h.only B
+          only : (h : Are log notes r cabin (arranged A U X Z)) (x : TurnsOf A log later notes now r cabin after U V X Y (h.stays A)) (c : Card) → (with_mine A x.now h.stays c ≡ []) ⊎ IsOwnValid (f c).image
+          only h x A = x.only (h.only A)
+          only h x B = h.only B
 
-          each : (h : Are log notes r cabin (arranged A U X Z)) (t : TurnsOf A log later notes now r cabin after U V X Y (h.stays A)) (c : Card) → IsOwnValid (f c).image → HasOf r now after c (with_mine A t.now h.stays c) (card_of (arranged A V Y Z) c)
-          each h t A valid = t.shows valid (h.each A valid)
-          each h t B valid =
-              as-same (f B) r (spells_of B notes) (spells_of B now) (sits_in cabin.slots.seats B) (sits_in after.slots.seats B) (h.stays B) (session_of cabin.cards B) (session_of after.cards B) Z (spell none) seat same (h.each B valid)
-  all-one B log later notes now r cabin after U V X Y Z fewer same seat spell own all none = by (all (fewer none))
+          each : (h : Are log notes r cabin (arranged A U X Z)) (x : TurnsOf A log later notes now r cabin after U V X Y (h.stays A)) (c : Card) → IsOwnValid (f c).image → HasOf r now after c (with_mine A x.now h.stays c) (card_of (arranged A V Y Z) c)
+          each h x A valid = x.shows valid (h.each A valid)
+          each h x B valid =
+              as-same u (f B) r (spells_of B notes) (spells_of B now) (sits_in cabin.slots.seats B) (sits_in after.slots.seats B) (h.stays B) (session_of cabin.cards B) (session_of after.cards B) Z (spell none) seat same (h.each B valid)
+
+          hold : (h : Are log notes r cabin (arranged A U X Z)) (x : TurnsOf A log later notes now r cabin after U V X Y (h.stays A)) (c : Card) → AreTrue t c r (f c).image (with_mine A x.now h.stays c)
+          hold h x A = x.hold (h.only A) (h.each A) (h.hold A)
+          hold h x B = h.hold B
+
+          placed : (h : Are log notes r cabin (arranged A U X Z)) (c : Card) → IsOwnValid (f c).image → IsPlaced now after c
+          placed h A valid = place none (h.placed A valid)
+          placed h B valid = placed-same notes now cabin after B (ap last_slot (spell none)) beside (λ some. ap (λ (q : Option Accepted). is_some q) (sym same) ∙ some) (h.placed B valid)
+  all-one B log later notes now r cabin after U V X Y Z fewer same seat beside spell place own all none = by (all (fewer none))
     where
       by : Are log notes r cabin (arranged B U X Z) → Are later now r after (arranged B V Y Z)
       by h =
-          let t = own none (h.stays B) in
+          let x = own none (h.stays B) in
           record {
             says = h.says;
-            stays = with_mine B t.now h.stays;
-            told = other-told (acceptances_told log) (acceptances_told later) (h.stays B) t.now (founds (h.stays A)) t.told h.told;
-            owed = λ c. owed h t c;
-            only = λ c. only h t c;
-            each = λ c valid. each h t c valid;
-            befores = befores-turned B (acceptances_told log) (acceptances_told later) r h.stays t.now U V (t.comes (h.each B)) h.befores;
+            stays = with_mine B x.now h.stays;
+            told = other-told (acceptances_told log) (acceptances_told later) (h.stays B) x.now (founds (h.stays A)) x.told h.told;
+            owed = λ c. owed h x c;
+            only = λ c. only h x c;
+            each = λ c valid. each h x c valid;
+            hold = λ c. hold h x c;
+            placed = λ c valid. placed h c valid;
+            befores = befores-turned B (acceptances_told log) (acceptances_told later) r h.stays x.now U V (x.comes (h.each B)) h.befores;
           }
         where
-          owed : (h : Are log notes r cabin (arranged B U X Z)) (t : TurnsOf B log later notes now r cabin after U V X Y (h.stays B)) (c : Card) → AllByRecursion TellsOwed (with_mine B t.now h.stays c)
-          owed h t A = h.owed A
-          owed h t B = t.owed (h.owed B)
+          owed : (h : Are log notes r cabin (arranged B U X Z)) (x : TurnsOf B log later notes now r cabin after U V X Y (h.stays B)) (c : Card) → AllByRecursion TellsOwed (with_mine B x.now h.stays c)
+          owed h x A = h.owed A
+          owed h x B = x.owed (h.owed B)
 
-          only : (h : Are log notes r cabin (arranged B U X Z)) (t : TurnsOf B log later notes now r cabin after U V X Y (h.stays B)) (c : Card) → (with_mine B t.now h.stays c ≡ []) ⊎ IsOwnValid (f c).image
-          only h t A = h.only A
-          only h t B = t.only (h.only B)
+          only : (h : Are log notes r cabin (arranged B U X Z)) (x : TurnsOf B log later notes now r cabin after U V X Y (h.stays B)) (c : Card) → (with_mine B x.now h.stays c ≡ []) ⊎ IsOwnValid (f c).image
+          only h x A = h.only A
+          only h x B = x.only (h.only B)
 
-          each : (h : Are log notes r cabin (arranged B U X Z)) (t : TurnsOf B log later notes now r cabin after U V X Y (h.stays B)) (c : Card) → IsOwnValid (f c).image → HasOf r now after c (with_mine B t.now h.stays c) (card_of (arranged B V Y Z) c)
-          each h t A valid =
-              as-same (f A) r (spells_of A notes) (spells_of A now) (sits_in cabin.slots.seats A) (sits_in after.slots.seats A) (h.stays A) (session_of cabin.cards A) (session_of after.cards A) Z (spell none) seat same (h.each A valid)
-          each h t B valid = t.shows valid (h.each B valid)
+          each : (h : Are log notes r cabin (arranged B U X Z)) (x : TurnsOf B log later notes now r cabin after U V X Y (h.stays B)) (c : Card) → IsOwnValid (f c).image → HasOf r now after c (with_mine B x.now h.stays c) (card_of (arranged B V Y Z) c)
+          each h x A valid =
+              as-same u (f A) r (spells_of A notes) (spells_of A now) (sits_in cabin.slots.seats A) (sits_in after.slots.seats A) (h.stays A) (session_of cabin.cards A) (session_of after.cards A) Z (spell none) seat same (h.each A valid)
+          each h x B valid = x.shows valid (h.each B valid)
+
+          hold : (h : Are log notes r cabin (arranged B U X Z)) (x : TurnsOf B log later notes now r cabin after U V X Y (h.stays B)) (c : Card) → AreTrue t c r (f c).image (with_mine B x.now h.stays c)
+          hold h x A = h.hold A
+          hold h x B = x.hold (h.only B) (h.each B) (h.hold B)
+
+          placed : (h : Are log notes r cabin (arranged B U X Z)) (c : Card) → IsOwnValid (f c).image → IsPlaced now after c
+          placed h A valid = placed-same notes now cabin after A (ap last_slot (spell none)) beside (λ some. ap (λ (q : Option Accepted). is_some q) (sym same) ∙ some) (h.placed A valid)
+          placed h B valid = place none (h.placed B valid)
 
   -- minutes are kept
-  one-kept : (r : Registration) (c : Card) (noted : List Spell) (sits : Bool) (ss : List Stay) (ks : List Kept) (s t : Option Accepted) (X Y : State) → (is_some s ≡ true → is_some t ≡ true) → KeepsOn (f c) ks s t X Y → HasStays (f c) r noted sits ss s X → HasStays (f c) r noted sits (kept_stays s ks ss) t Y
+  one-kept : (r : Registration) (c : Card) (noted : List Spell) (sits : Bool) (ss : List Stay) (ks : List Kept) (s q : Option Accepted) (X Y : State) → (is_some s ≡ true → is_some q ≡ true) → KeepsOn (f c) ks s q X Y → HasStays u (f c) r noted sits ss s X → HasStays u (f c) r noted sits (kept_stays s ks ss) q Y
   unfolding kept_stays
-  one-kept r c noted sits ss ks None None X Y some on h = stays-still (f c) r noted sits ss None X Y on h
+  one-kept r c noted sits ss ks None None X Y some on h = stays-still u (f c) r noted sits ss None X Y on h
   one-kept r c noted sits ss ks None (Some b) X Y some on h = absurd on
   one-kept r c noted sits ss ks (Some a) None X Y some on h = let no = some refl in absurd (cc)
-  one-kept r c noted sits ss ks (Some a) (Some b) X Y some on h = stays-keep (f c) r noted sits ss ks a b X Y on h
+  one-kept r c noted sits ss ks (Some a) (Some b) X Y some on h = stays-keep u (f c) r noted sits ss ks a b X Y on h
+
+  had-session : (c : Card) (ks : List Kept) (s q : Option Accepted) (X Y : State) → KeepsOn (f c) ks s q X Y → is_some q ≡ true → is_some s ≡ true
+  had-session c ks None None X Y on some = some
+  had-session c ks None (Some b) X Y on some = absurd on
+  had-session c ks (Some a) q X Y on some = refl
 
   -- nothing is noted, and each card has its seat
   pub all-kept : (log later : RunLog) (notes now : List Note) (r : Registration) (ks : Card → List Kept) (cabin after : Cabin) (d e : Devices) → TellMore [] d.unit e.unit → (NothingFailed later → Goes log later) → (NothingFailed later → (c : Card) → spells_of c now ≡ spells_of c notes) →
       (NothingFailed later → after.slots ≡ cabin.slots) → (NothingFailed later → (c : Card) → is_some (session_of cabin.cards c) ≡ true → is_some (session_of after.cards c) ≡ true)
-      → AllKeep o.found ks cabin.cards after.cards d e → AllStay o log notes r cabin d → AllStay o later now r after e
-  all-kept log later notes now r ks cabin after d e go on spell seats some keep all none =
+      → AllKeep o.found ks cabin.cards after.cards d e → (NothingFailed later → (c : Card) → AllByRecursion t.kept (ks c)) → AllStay o t u log notes r cabin d → AllStay o t u later now r after e
+  all-kept log later notes now r ks cabin after d e go on spell seats some keep kepts all none =
       let g = on none in
       let h = all g.none in
       record {
@@ -445,12 +507,61 @@ module _ (o : Origin) where
         owed = λ c. kept-owed (session_of cabin.cards c) (ks c) (h.stays c) (h.owed c);
         only = λ c. ⊎_elim (λ was. inl (kept-none (session_of cabin.cards c) (ks c) (h.stays c) was)) (λ valid. inr valid) (h.only c);
         each = λ c valid.
-            as-same (f c) r (spells_of c notes) (spells_of c now) (sits_in cabin.slots.seats c) (sits_in after.slots.seats c) (kept_stays (session_of cabin.cards c) (ks c) (h.stays c)) (session_of after.cards c) (session_of after.cards c) (card_of e c)
+            as-same u (f c) r (spells_of c notes) (spells_of c now) (sits_in cabin.slots.seats c) (sits_in after.slots.seats c) (kept_stays (session_of cabin.cards c) (ks c) (h.stays c)) (session_of after.cards c) (session_of after.cards c) (card_of e c)
             (spell none c) (ap (λ (k : SlotsKept). sits_in k.seats c) (seats none)) refl
             (one-kept r c (spells_of c notes) (sits_in cabin.slots.seats c) (h.stays c) (ks c) (session_of cabin.cards c) (session_of after.cards c) (card_of d c) (card_of e c) (some none c) (keep c valid) (h.each c valid));
+        hold = λ c. kept-hold t c r (f c).image (session_of cabin.cards c) (ks c) (h.stays c) (kepts none c) (h.hold c);
+        placed = λ c valid.
+            placed-same notes now cabin after c (ap last_slot (spell none c)) (λ slot there. ap (λ (k : SlotsKept). card_in (seat_in k.seats slot)) (sym (seats none)) ∙ there)
+            (had-session c (ks c) (session_of cabin.cards c) (session_of after.cards c) (card_of d c) (card_of e c) (keep c valid)) (h.placed c valid);
         befores = befores-as (acceptances_told log) (acceptances_told later) r h.stays (λ (c : Card). kept_stays (session_of cabin.cards c) (ks c) (h.stays c)) d.unit e.unit g.finds
             (λ c. kept-comings r (f c).image (session_of cabin.cards c) (ks c) (h.stays c)) go h.befores;
       }
+
+-- ---- another second
+
+-- WHAT IS TRUE STAYS TRUE, where no call has failed
+pub all-true : (o : Origin) (t now : Truths) (u : ℕ) (log : RunLog) (notes : List Note) (r : Registration) (cabin : Cabin) (d : Devices) → (NothingFailed log → Grow t now) → AllStay o t u log notes r cabin d → AllStay o now u log notes r cabin d
+all-true o t now u log notes r cabin d grows all none =
+    let h = all none in
+    record {
+      says = h.says;
+      stays = h.stays;
+      told = h.told;
+      owed = h.owed;
+      only = h.only;
+      each = h.each;
+      hold = λ c. (
+        all-true-grow t now (grows none) (h.stays c) (h.hold c).0,
+        owes-grow (t.owed c) (now.owed c) (λ second mark es was. (grows none).owed c second mark es was) r (own_sizes (found_of o.found c).image).activity (h.stays c) (start_shown (found_of o.found c).image) (h.hold c).1,
+      );
+      placed = h.placed;
+      befores = h.befores;
+    }
+
+-- ANOTHER SECOND goes on, where each card with a session sits in a slot
+pub all-second : (o : Origin) (t : Truths) (u now : ℕ) (log : RunLog) (notes : List Note) (r : Registration) (cabin : Cabin) (d : Devices) → ((c : Card) → is_some (session_of cabin.cards c) ≡ true → sits_in cabin.slots.seats c ≡ true) →
+    AllStay o t u log notes r cabin d → AllStay o t now log notes r cabin d
+all-second o t u now log notes r cabin d sits all none =
+    let h = all none in
+    record {
+      says = h.says;
+      stays = h.stays;
+      told = h.told;
+      owed = h.owed;
+      only = h.only;
+      each = λ c valid.
+          let e = h.each c valid in
+          record { shows = e.shows; goes = e.goes; spell = sitting (session_of cabin.cards c) (sits_in cabin.slots.seats c) (sits c) (spells (h.stays c)) ∙ e.spell; timely = e.timely };
+      hold = h.hold;
+      placed = h.placed;
+      befores = h.befores;
+    }
+  where
+    sitting : (s : Option Accepted) (b : Bool) → (is_some s ≡ true → b ≡ true) → (ss : List Spell) → as_noted now s b ss ≡ as_noted u s b ss
+    sitting None b there ss = refl
+    sitting (Some a) true there ss = refl
+    sitting (Some a) false there ss = absurd (let wrong : false ≡ true = there refl in cc)
 
 -- ---- a session that is gone has its line
 

@@ -1,5 +1,5 @@
 -- The session of a card that has left its slot is closed, behind the minutes that its leaving decides: what is recorded.
-use Rattle.std.proofs.Common.{◌≡◌, ◌∙◌, ◌⊎◌, ℕ, ◌+◌, ◌/◌, ◌^◌, ◌<◌, ◌≤◌, Bool, true, false, not, Option, Some, None, List, [], ◌∷◌, is_some, refl, ap, sym, subst, arith}
+use Rattle.std.proofs.Common.{◌≡◌, ◌∙◌, ◌⊎◌, inl, inr, ℕ, ◌+◌, ◌/◌, ◌^◌, ◌<◌, ◌≤◌, Bool, true, false, not, Option, Some, None, List, [], ◌∷◌, ◌++◌, is_some, refl, ap, sym, subst, arith}
 use Rattle.std.specs.Prelude.{IfSome}
 use Rattle.activity_codec.specs.declared.values.Activity.{Activity}
 use Rattle.activity_codec.specs.declared.values.Slot.{Slot}
@@ -48,7 +48,7 @@ use Rattle.run_keeping.specs.declared.keeper.Moment.{Moment}
 use Rattle.run_keeping.specs.Keeping.{tear_of, with_lines}
 use Rattle.run_keeping.proofs.Fates.{no-lines}
 use Rattle.run_keeping.proofs.CardBooked.{session-unset}
-use Rattle.run_recorded.specs.Origin.{Origin}
+use Rattle.run_recorded.specs.Origin.{Origin, rule_of}
 use Rattle.run_within.specs.Recorded.{Values, carried}
 use Rattle.run_within.specs.Within.{IsLeaving, GoesOnSo, GoesOn, CutWithin}
 use Rattle.run_within.specs.Taking.{IsCalledLeaving, closed_values, fallen_values}
@@ -86,12 +86,16 @@ use Rattle.run_acts.proofs.Rising.{card-more, card-fell}
 use Rattle.run_keeping.specs.CardDeeds.{ClosesOn}
 use Rattle.run_keeping.proofs.CardDeeds.{does-close}
 use Rattle.side_model.specs.Noted.{Note}
-use Rattle.run_acts.specs.Closings.{spells_of, notes_within}
-use Rattle.run_acts.specs.Stays.{Stay, sits_in, ClosesOnCard, HasStays}
+use Rattle.std.specs.List.{AllByRecursion}
+use Rattle.run_recorded.specs.Whole.{NothingFailed}
+use Rattle.run_acts.specs.Closings.{spells_of, with_last_shut, last_slot, notes_within}
+use Rattle.run_acts.specs.Truths.{past_of, IsWordIn, truths_within}
+use Rattle.run_acts.specs.Stays.{Shut, Stay, spells, sits_in, as_noted, IsTrueOf, ClosesOnCard, HasStays, AreTrue, start_shown}
 use Rattle.run_acts.specs.Comings.{TellMore}
-use Rattle.run_acts.proofs.Stays.{on_last, on-last-comings, on-last-founds, on-last-owed, on-last-none, with_end, stays-close}
-use Rattle.run_acts.proofs.AllStay.{turns-so, all-one, no-tear, mine-left, others-left}
+use Rattle.run_acts.proofs.Stays.{on_last, on-last-comings, on-last-founds, on-last-owed, on-last-none, on-last-true, last-shut-slot, with_end, stays-close, on-last-owes}
+use Rattle.run_acts.proofs.AllStay.{turns-so, placed-bare, all-one, no-tear, mine-left, others-left}
 use Rattle.run_acts.proofs.SeatsThen.{sits-nowhere}
+use Rattle.run_acts.proofs.Words.{closed-now}
 
 -- when a card was last used, behind the closing of its session
 closed-timed : (f : Found) (w : Carried) (cards : Cards) (c : Card) (U X Y Z : State) → AreFoundCards f cards → IsCoherent X → LARGEST_IMAGE ≤ X.size → (a : Accepted) (act : Activity) → session_of cards c ≡ Some a → IsPowered f w cards (arranged c U X Z) →
@@ -147,6 +151,10 @@ module _ {C : Type 0} (state : C → State) (c : Card) (slot : Slot) (at : Momen
     goes = card-goes o run.keeper.cabin.cards c U V (state x) (state y) Z began w.within.there (ap is_some has) unit closes.1
         (λ valid. closed-timed o.found carries run.keeper.cabin.cards c U (state x) (state y) Z w.within.found whole size a closes.0 has w.within.powered closes.1 valid)
 
+    -- with this word
+    abbrev shut-by : Activity → Shut
+    shut-by word = record { second = s.number; word = word }
+
     -- what is made of the card
     abbrev so-far : List Note
     so-far = notes_within w.within.b done s (In n) (log_of told)
@@ -155,30 +163,52 @@ module _ {C : Type 0} (state : C → State) (c : Card) (slot : Slot) (at : Momen
     gone : sits_in run.keeper.cabin.slots.seats c ≡ false
     gone = sits-nowhere run.keeper.cabin.slots.seats c (leaving (ap is_some has)).nowhere
 
-    stays-closed : (shut : ClosesOnCard (Some a) (state x) (state y)) → IsOwnValid (found_of o.found c).image → (ss : List Stay) → HasStays (found_of o.found c) run.keeper.memory.registration (spells_of c so-far) (sits_in run.keeper.cabin.slots.seats c) ss (Some a) (state x) →
-        HasStays (found_of o.found c) run.keeper.memory.registration (spells_of c so-far) (sits_in run.keeper.cabin.slots.seats c) (on_last (with_end shut.0) ss) None (state y)
+    stays-closed : (shut : ClosesOnCard slot run.minutes (Some a) (state x) (state y)) → IsOwnValid (found_of o.found c).image → (ss : List Stay) → HasStays s.number (found_of o.found c) run.keeper.memory.registration (spells_of c so-far) (sits_in run.keeper.cabin.slots.seats c) ss (Some a) (state x) →
+        HasStays s.number (found_of o.found c) run.keeper.memory.registration (spells_of c so-far) (sits_in run.keeper.cabin.slots.seats c) (on_last (with_end (shut-by shut.0)) ss) None (state y)
     stays-closed shut valid ss h =
         let one : CardLit o.found carries.book (carries.standing c) (carries.brought c) (Some a) c U (state x) =
         subst (λ (q : Option Accepted). CardLit o.found carries.book (carries.standing c) (carries.brought c) q c U (state x)) has ((parts-of o.found carries run.keeper.cabin.cards c U (state x) Z w.within.powered).mine valid) in
         let on : IsOn (found_of o.found c) one.goes.has (carries.standing c) a.session (state x) = one.goes.goes in
         let sound : IsApplication a.session.application = subst IsApplication (sym on.sizes) (w.within.found.sizes c valid) in
         let most = largest_image a.session.application sound in
-        stays-close (found_of o.found c) run.keeper.memory.registration (spells_of c so-far) (sits_in run.keeper.cabin.slots.seats c) (sits_in run.keeper.cabin.slots.seats c) ss shut.0 a (state x) (state y)
-        (subst (λ (p : Application). ClosesOn p shut.0 (state x) (state y)) on.sizes (does-close a.session shut.0 (state x) (state y) sound whole (omega (arith, most, size)) on.session shut.1)) gone h
+        stays-close s.number (found_of o.found c) run.keeper.memory.registration (spells_of c so-far) (sits_in run.keeper.cabin.slots.seats c) (sits_in run.keeper.cabin.slots.seats c) ss shut.0 a (state x) (state y)
+        (subst (λ (p : Application). ClosesOn p shut.0 (state x) (state y)) on.sizes (does-close a.session shut.0 (state x) (state y) sound whole (omega (arith, most, size)) on.session shut.2)) gone h
+
+    -- what was true of its stays is so: the word is that of the slot, in which the last of them began
+    stays-hold : (shut : ClosesOnCard slot run.minutes (Some a) (state x) (state y)) → (NothingFailed (log_of told) → IsOwnValid (found_of o.found c).image → last_slot (spells_of c so-far) ≡ Some slot) → NothingFailed (log_of told) → (ss : List Stay) →
+        (ss ≡ []) ⊎ IsOwnValid (found_of o.found c).image → (IsOwnValid (found_of o.found c).image → HasStays s.number (found_of o.found c) run.keeper.memory.registration (spells_of c so-far) (sits_in run.keeper.cabin.slots.seats c) ss (Some a) (state x)) →
+        AreTrue (truths_within o w.within.b.run.log done s) c run.keeper.memory.registration (found_of o.found c).image ss → AreTrue (truths_within o w.within.b.run.log done s) c run.keeper.memory.registration (found_of o.found c).image (on_last (with_end (shut-by shut.0)) ss)
+    stays-hold shut placed none ss only shown all = (
+      on-last-true (truths_within o w.within.b.run.log done s) (with_end (shut-by shut.0)) ss (λ x last is. (is.0, is.1, by x last only)) all.0,
+      on-last-owes ((truths_within o w.within.b.run.log done s).owed c) (with_end (shut-by shut.0)) (λ x. refl) (λ x. refl) run.keeper.memory.registration (own_sizes (found_of o.found c).image).activity ss (start_shown (found_of o.found c).image) all.1,
+    )
+      where
+        word : IsWordIn (rule_of o) (past_of w.within.b.run.log (done ++ s ∷ [])) slot s.number shut.0
+        word = closed-now o done s n [] [] v d w.within slot (record { phase = In n; slot = slot; card = c }) (leaving (ap is_some has)).leaves shut.0 (shut.1 w.within.sp w.within.minutes)
+
+        by : (x : Stay) → last_slot (spells ss) ≡ Some x.found.slot → (ss ≡ []) ⊎ IsOwnValid (found_of o.found c).image → IsWordIn (rule_of o) (past_of w.within.b.run.log (done ++ s ∷ [])) x.found.slot s.number shut.0
+        by x last (inl empty) = absurd (let wrong : None ≡ Some x.found.slot = sym (ap (λ (l : List Stay). last_slot (spells l)) empty) ∙ last in cc)
+        by x last (inr valid) =
+            let shut_then : with_last_shut s.number (spells ss) ≡ spells_of c so-far = sym (ap (λ (b : Bool). as_noted s.number (Some a) b (spells ss)) gone) ∙ (shown valid).spell in
+            let slots : Some slot ≡ Some x.found.slot = sym (placed none valid) ∙ ap last_slot (sym shut_then) ∙ last-shut-slot s.number (spells ss) ∙ last in
+            let same : slot ≡ x.found.slot = cc in
+            subst (λ (z : Slot). IsWordIn (rule_of o) (past_of w.within.b.run.log (done ++ s ∷ [])) z s.number shut.0) same word
 
     called : IsCalledLeaving o done s (In n) v d e w.within slot c
     called = record { low = s.number / 60; leaving = leaving (ap is_some has); is_now = from; goes = goes; travels = travels }
 
     -- it is closed, and the card has not broken down
-    closed : (state y).breakdowns ≡ (state x).breakdowns → (failed ≡ false → TellMore [] U V) → ClosesOnCard (Some a) (state x) (state y) → (b : Bool) → failed ≡ b → IsPoweredOrOff b o.found (carried_closed Closed c carries) (with_session c None run.keeper.cabin.cards) e → GoesOnOrFails b o done s (In n) [] (with_cabin (with_session_of c None run.keeper.cabin) run) told e w.within.b
-    closed calm go shut false is powered = goes-as o done s (In n) (In n) [] [] [] run (with_cabin (with_session_of c None run.keeper.cabin) run) told told d e w.within.from w refl refl (session-closed d e o done s (In n) v w.within slot c called (card-more c U V (state x) (state y) Z cause.breakdowns calm) powered)
-        (all-one o c (log_of told) (log_of told) so-far so-far run.keeper.memory.registration run.keeper.cabin (with_session_of c None run.keeper.cabin) U V (state x) (state y) Z (λ none. none) (others-left c run.keeper.cabin.cards) refl (λ none. refl)
-        (λ none ss. turns-so (found_of o.found c) (log_of told) run.keeper.memory.registration (spells_of c so-far) (sits_in run.keeper.cabin.slots.seats c) (session_of run.keeper.cabin.cards c) (session_of (with_session c None run.keeper.cabin.cards) c) U V (state x) (state y) (on_last (with_end shut.0))
-        (on-last-founds (with_end shut.0) (λ s. refl)) (on-last-owed (with_end shut.0) (λ s tells. tells)) (on-last-none (with_end shut.0))
-        (on-last-comings run.keeper.memory.registration (found_of o.found c).image (with_end shut.0) (λ s. refl)) (go is) ss
-        (λ valid h. subst (λ (q : Option Accepted). HasStays (found_of o.found c) run.keeper.memory.registration (spells_of c so-far) (sits_in run.keeper.cabin.slots.seats c) (on_last (with_end shut.0) ss) q (state y)) (sym (mine-left c run.keeper.cabin.cards))
-        (stays-closed shut valid ss (subst (λ (q : Option Accepted). HasStays (found_of o.found c) run.keeper.memory.registration (spells_of c so-far) (sits_in run.keeper.cabin.slots.seats c) ss q (state x)) has h)))) w.stay)
-    closed calm go shut true is powerless = record {
+    closed : (state y).breakdowns ≡ (state x).breakdowns → (NothingFailed (log_of told) → IsOwnValid (found_of o.found c).image → last_slot (spells_of c so-far) ≡ Some slot) → (failed ≡ false → TellMore [] U V) → ClosesOnCard slot run.minutes (Some a) (state x) (state y) → (b : Bool) → failed ≡ b → IsPoweredOrOff b o.found (carried_closed Closed c carries) (with_session c None run.keeper.cabin.cards) e → GoesOnOrFails b o done s (In n) [] (with_cabin (with_session_of c None run.keeper.cabin) run) told e w.within.b
+    closed calm placed go shut false is powered = goes-as o done s (In n) (In n) [] [] [] run (with_cabin (with_session_of c None run.keeper.cabin) run) told told d e w.within.from w refl refl (session-closed d e o done s (In n) v w.within slot c called (card-more c U V (state x) (state y) Z cause.breakdowns calm) powered)
+        (all-one o (truths_within o w.within.b.run.log done s) s.number c (log_of told) (log_of told) so-far so-far run.keeper.memory.registration run.keeper.cabin (with_session_of c None run.keeper.cabin) U V (state x) (state y) Z (λ none. none) (others-left c run.keeper.cabin.cards) refl (λ at_ there. there)
+        (λ none. refl) (λ none was. placed-bare so-far (with_session_of c None run.keeper.cabin) c (mine-left c run.keeper.cabin.cards))
+        (λ none ss. turns-so (truths_within o w.within.b.run.log done s) c s.number (found_of o.found c) (log_of told) run.keeper.memory.registration (spells_of c so-far) (sits_in run.keeper.cabin.slots.seats c) (session_of run.keeper.cabin.cards c) (session_of (with_session c None run.keeper.cabin.cards) c) U V (state x) (state y) (on_last (with_end (shut-by shut.0)))
+        (on-last-founds (with_end (shut-by shut.0)) (λ s. refl)) (on-last-owed (with_end (shut-by shut.0)) (λ s tells. tells)) (on-last-none (with_end (shut-by shut.0)))
+        (on-last-comings run.keeper.memory.registration (found_of o.found c).image (with_end (shut-by shut.0)) (λ s. refl)) (go is) ss
+        (λ valid h. subst (λ (q : Option Accepted). HasStays s.number (found_of o.found c) run.keeper.memory.registration (spells_of c so-far) (sits_in run.keeper.cabin.slots.seats c) (on_last (with_end (shut-by shut.0)) ss) q (state y)) (sym (mine-left c run.keeper.cabin.cards))
+        (stays-closed shut valid ss (subst (λ (q : Option Accepted). HasStays s.number (found_of o.found c) run.keeper.memory.registration (spells_of c so-far) (sits_in run.keeper.cabin.slots.seats c) ss q (state x)) has h)))
+        (λ only shown all. stays-hold shut placed none ss only (λ valid. subst (λ (q : Option Accepted). HasStays s.number (found_of o.found c) run.keeper.memory.registration (spells_of c so-far) (sits_in run.keeper.cabin.slots.seats c) ss q (state x)) has (shown valid)) all)) w.stay)
+    closed calm placed go shut true is powerless = record {
       waits = [];
       cabin = with_session_of c None run.keeper.cabin;
       same = refl;
@@ -221,9 +251,9 @@ module _ {C : Type 0} (state : C → State) (c : Card) (slot : Slot) (at : Momen
       (none-told told.breaks.items after.items (closed_breaks closing slot at) (ap (λ (l : Listed Break). l.items) is) (ap (λ (k : Closing). failed_tears (closed_breaks k slot at)) shut))
 
   -- SO IT IS RECORDED, whatever became of it
-  pub closed-recorded : (failed ≡ false → TellMore [] U V) → (new : Run) (after : Listed Break) (closing : Closing) → (closing ≡ Closed → ClosesOnCard (session_of run.keeper.cabin.cards c) (state x) (state y)) → IsClosed c slot at run new told.breaks after closing →
+  pub closed-recorded : (is_some (session_of run.keeper.cabin.cards c) ≡ true → NothingFailed (log_of told) → IsOwnValid (found_of o.found c).image → last_slot (spells_of c (notes_within w.within.b done s (In n) (log_of told))) ≡ Some slot) → (failed ≡ false → TellMore [] U V) → (new : Run) (after : Listed Break) (closing : Closing) → (closing ≡ Closed → ClosesOnCard slot run.minutes (session_of run.keeper.cabin.cards c) (state x) (state y)) → IsClosed c slot at run new told.breaks after closing →
       IsCalm told.breaks.items after.items (state x) (state y) → HasBroken (state x) (state y) (closed_falls closing) → GoesOnOrFails failed o done s (In n) [] new (record told { breaks = after }) (arranged c V (state y) Z) w.within.b
-  closed-recorded go new after closing shut is calm broken =
+  closed-recorded placed go new after closing shut is calm broken =
       subst (λ (r : Run). GoesOnOrFails failed o done s (In n) [] r (record told { breaks = after }) e w.within.b) (sym is.run)
       (subst (λ (l : Listed Break). GoesOnOrFails failed o done s (In n) [] (with_cabin (closed_cabin closing c at.second run.keeper.cabin) run) (record told { breaks = l }) e w.within.b) (sym is.told)
       (by (session_of run.keeper.cabin.cards c) refl closing shut (rests-closed after closing is.told calm) is.is broken))
@@ -231,7 +261,7 @@ module _ {C : Type 0} (state : C → State) (c : Card) (slot : Slot) (at : Momen
       powered : (closing : Closing) → IsClosingOf (session_of run.keeper.cabin.cards c) closing → IsPoweredOrOff failed o.found (carried_closed closing c carries) (closed_cabin closing c at.second run.keeper.cabin).cards e
       powered closing how = closed-any state o.found carries c at.second run.keeper.cabin U V Z x y w.within.found unit_whole whole size w.within.powered left still unit failed cause.works closing how
 
-      by : (q : Option Accepted) → session_of run.keeper.cabin.cards c ≡ q → (closing : Closing) → (closing ≡ Closed → ClosesOnCard (session_of run.keeper.cabin.cards c) (state x) (state y)) → (closing ≡ Closed → (state y).breakdowns ≡ (state x).breakdowns) → IsClosingOf (session_of run.keeper.cabin.cards c) closing → HasBroken (state x) (state y) (closed_falls closing) →
+      by : (q : Option Accepted) → session_of run.keeper.cabin.cards c ≡ q → (closing : Closing) → (closing ≡ Closed → ClosesOnCard slot run.minutes (session_of run.keeper.cabin.cards c) (state x) (state y)) → (closing ≡ Closed → (state y).breakdowns ≡ (state x).breakdowns) → IsClosingOf (session_of run.keeper.cabin.cards c) closing → HasBroken (state x) (state y) (closed_falls closing) →
           GoesOnOrFails failed o done s (In n) [] (with_cabin (closed_cabin closing c at.second run.keeper.cabin) run) (record told { breaks = with_lines (closed_breaks closing slot at) told.breaks }) e w.within.b
       by None has Bare shut rests how broke_ =
           subst (λ (q : Cards). GoesOnOrFails failed o done s (In n) [] (with_cabin (record run.keeper.cabin { cards = q }) run) (record told { breaks = with_lines [] told.breaks }) e w.within.b) (sym (session-unset c run.keeper.cabin.cards has))
@@ -242,7 +272,7 @@ module _ {C : Type 0} (state : C → State) (c : Card) (slot : Slot) (at : Momen
       by (Some a) has Bare shut rests how broke_ = absurd (subst (λ (q : Option Accepted). IsClosingOf q Bare) has how)
       by (Some a) has Closed shut rests how broke_ =
           subst (λ (l : Listed Break). GoesOnOrFails failed o done s (In n) [] (with_cabin (with_session_of c None run.keeper.cabin) run) (record told { breaks = l }) e w.within.b) (no-lines told.breaks)
-          (closed a has (rests refl) go (subst (λ (q : Option Accepted). ClosesOnCard q (state x) (state y)) has (shut refl)) failed refl (powered Closed how))
+          (closed a has (rests refl) (placed (ap is_some has)) go (subst (λ (q : Option Accepted). ClosesOnCard slot run.minutes q (state x) (state y)) has (shut refl)) failed refl (powered Closed how))
       by (Some a) has Fell shut rests how broke_ = fell a has broke_ failed refl (powered Fell how)
 
   -- ---- its events

@@ -71,36 +71,36 @@ none-in w (i ∷ is) none = none-behind w i is (same_card i.accepted.card w.card
 
 -- where a later one is of a card the last of a longer list is its own
 longer-behind : (b : Spell) (w : Withdrawal) (i : InsertionNote) (is : List InsertionNote) (m : Bool) → same_card i.accepted.card w.card ≡ m → (m || later_one w is) ≡ true →
-    (later_one w is ≡ true → with_last_shut (b ∷ spells_in w.card is) ≡ b ∷ with_last_shut (spells_in w.card is)) → with_last_shut (b ∷ spells_in w.card (i ∷ is)) ≡ b ∷ with_last_shut (spells_in w.card (i ∷ is))
+    (later_one w is ≡ true → with_last_shut w.second (b ∷ spells_in w.card is) ≡ b ∷ with_last_shut w.second (spells_in w.card is)) → with_last_shut w.second (b ∷ spells_in w.card (i ∷ is)) ≡ b ∷ with_last_shut w.second (spells_in w.card (i ∷ is))
 longer-behind b w i is true mine any rest =
     let one = in-mine w.card i is (same-turned w.card i.accepted.card ∙ mine) in
-    ap (λ (l : List Spell). with_last_shut (b ∷ l)) one ∙ sym (ap (λ (l : List Spell). b ∷ with_last_shut l) one)
+    ap (λ (l : List Spell). with_last_shut w.second (b ∷ l)) one ∙ sym (ap (λ (l : List Spell). b ∷ with_last_shut w.second l) one)
 longer-behind b w i is false other any rest =
     let one = in-others w.card i is (same-turned w.card i.accepted.card ∙ other) in
-    ap (λ (l : List Spell). with_last_shut (b ∷ l)) one ∙ rest any ∙ sym (ap (λ (l : List Spell). b ∷ with_last_shut l) one)
+    ap (λ (l : List Spell). with_last_shut w.second (b ∷ l)) one ∙ rest any ∙ sym (ap (λ (l : List Spell). b ∷ with_last_shut w.second l) one)
 
-longer-last : (b : Spell) (w : Withdrawal) (is : List InsertionNote) → later_one w is ≡ true → with_last_shut (b ∷ spells_in w.card is) ≡ b ∷ with_last_shut (spells_in w.card is)
+longer-last : (b : Spell) (w : Withdrawal) (is : List InsertionNote) → later_one w is ≡ true → with_last_shut w.second (b ∷ spells_in w.card is) ≡ b ∷ with_last_shut w.second (spells_in w.card is)
 longer-last b w [] some = absurd (let wrong : false ≡ true = some in cc)
 longer-last b w (i ∷ is) some = longer-behind b w i is (same_card i.accepted.card w.card) refl some (longer-last b w is)
 
 -- THE LAST INSERTION of its card is withdrawn
-mine-withdrawn-by : (w : Withdrawal) (i : InsertionNote) (is : List InsertionNote) (m s : Bool) → same_card i.accepted.card w.card ≡ m → later_one w is ≡ s → spells_in w.card (with_withdrawal w is) ≡ with_last_shut (spells_in w.card is) →
-    spells_in w.card (with_withdrawal w (i ∷ is)) ≡ with_last_shut (spells_in w.card (i ∷ is))
+mine-withdrawn-by : (w : Withdrawal) (i : InsertionNote) (is : List InsertionNote) (m s : Bool) → same_card i.accepted.card w.card ≡ m → later_one w is ≡ s → spells_in w.card (with_withdrawal w is) ≡ with_last_shut w.second (spells_in w.card is) →
+    spells_in w.card (with_withdrawal w (i ∷ is)) ≡ with_last_shut w.second (spells_in w.card (i ∷ is))
 mine-withdrawn-by w i is true false m s rest =
     let mine = same-turned w.card i.accepted.card ∙ m in
     let none = none-in w is s in
     let shut : InsertionNote = record i { withdrawn = Some w.second } in
     ap (spells_in w.card) (goes-so w i is true false m s) ∙ in-mine w.card shut is mine ∙ ap (λ (l : List Spell). spell_of shut ∷ l) none
-    ∙ sym (ap with_last_shut (in-mine w.card i is mine ∙ ap (λ (l : List Spell). spell_of i ∷ l) none))
+    ∙ sym (ap (with_last_shut w.second) (in-mine w.card i is mine ∙ ap (λ (l : List Spell). spell_of i ∷ l) none))
 mine-withdrawn-by w i is true true m s rest =
     let mine = same-turned w.card i.accepted.card ∙ m in
     ap (spells_in w.card) (goes-so w i is true true m s) ∙ in-mine w.card i (with_withdrawal w is) mine ∙ ap (λ (l : List Spell). spell_of i ∷ l) rest
-    ∙ sym (longer-last (spell_of i) w is s) ∙ sym (ap with_last_shut (in-mine w.card i is mine))
+    ∙ sym (longer-last (spell_of i) w is s) ∙ sym (ap (with_last_shut w.second) (in-mine w.card i is mine))
 mine-withdrawn-by w i is false s m s_ rest =
     let other = same-turned w.card i.accepted.card ∙ m in
-    ap (spells_in w.card) (goes-so w i is false s m s_) ∙ in-others w.card i (with_withdrawal w is) other ∙ rest ∙ sym (ap with_last_shut (in-others w.card i is other))
+    ap (spells_in w.card) (goes-so w i is false s m s_) ∙ in-others w.card i (with_withdrawal w is) other ∙ rest ∙ sym (ap (with_last_shut w.second) (in-others w.card i is other))
 
-mine-withdrawn : (w : Withdrawal) (is : List InsertionNote) → spells_in w.card (with_withdrawal w is) ≡ with_last_shut (spells_in w.card is)
+mine-withdrawn : (w : Withdrawal) (is : List InsertionNote) → spells_in w.card (with_withdrawal w is) ≡ with_last_shut w.second (spells_in w.card is)
 mine-withdrawn w [] = refl
 mine-withdrawn w (i ∷ is) = mine-withdrawn-by w i is (same_card i.accepted.card w.card) (later_one w is) refl refl (mine-withdrawn w is)
 
@@ -129,13 +129,13 @@ others-withdrawn c w (i ∷ is) other =
 pub one-more : (notes : List Note) (n : Note) → insertions_of (notes ++ n ∷ []) ≡ with_note (insertions_of notes) n
 one-more notes n = fold-append with_note [] notes (n ∷ [])
 
-pub accepts-more : (c : Card) (notes : List Note) (a : Acceptance) → same_card c a.card ≡ true → spells_of c (notes ++ Accepts a ∷ []) ≡ spells_of c notes ++ record { second = a.second; slot = a.slot; withdrawn = false } ∷ []
+pub accepts-more : (c : Card) (notes : List Note) (a : Acceptance) → same_card c a.card ≡ true → spells_of c (notes ++ Accepts a ∷ []) ≡ spells_of c notes ++ record { second = a.second; slot = a.slot; withdrawn = None } ∷ []
 accepts-more c notes a mine = ap (spells_in c) (one-more notes (Accepts a)) ∙ mine-more c (insertions_of notes) (record { accepted = a; withdrawn = None }) mine
 
 pub accepts-others : (c : Card) (notes : List Note) (a : Acceptance) → same_card c a.card ≡ false → spells_of c (notes ++ Accepts a ∷ []) ≡ spells_of c notes
 accepts-others c notes a other = ap (spells_in c) (one-more notes (Accepts a)) ∙ others-more c (insertions_of notes) (record { accepted = a; withdrawn = None }) other
 
-pub withdraws-last : (notes : List Note) (w : Withdrawal) → spells_of w.card (notes ++ Withdraws w ∷ []) ≡ with_last_shut (spells_of w.card notes)
+pub withdraws-last : (notes : List Note) (w : Withdrawal) → spells_of w.card (notes ++ Withdraws w ∷ []) ≡ with_last_shut w.second (spells_of w.card notes)
 withdraws-last notes w = ap (spells_in w.card) (one-more notes (Withdraws w)) ∙ mine-withdrawn w (insertions_of notes)
 
 pub withdraws-others : (c : Card) (notes : List Note) (w : Withdrawal) → same_card c w.card ≡ false → spells_of c (notes ++ Withdraws w ∷ []) ≡ spells_of c notes

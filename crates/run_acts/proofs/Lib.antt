@@ -51,6 +51,12 @@ pub mod Stays
 pub mod AllStay
 pub mod SeatsThen
 pub mod NotesThen
+pub mod Truths
+pub mod MinuteEnds
+pub mod WholeLegs
+pub mod TruthsThen
+mod Since
+pub mod Words
 pub mod EnteredStays
 pub mod NoteRecorded
 pub mod Pulled
@@ -93,3 +99,5 @@ pub mod CardWrites
 pub mod Closings
 pub mod CardUses
 pub mod StayUses
+pub mod OwedOn
+pub mod OwedNow

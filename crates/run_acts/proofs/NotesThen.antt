@@ -21,7 +21,7 @@ use Rattle.log_model.specs.declared.lines.SlotFault.TheVariants.{Moving, Empty, 
 use Rattle.log_model.specs.declared.lines.Verdict.{Verdict}
 use Rattle.log_model.specs.Log.{RunLog, Phase, In, Keeping, same_phase, cut_in, tears_here, is_torn_in, found_in, is_accepting}
 use Rattle.log_model.specs.Same.{SameAt}
-use Rattle.log_model.proofs.Growth.{went-more}
+use Rattle.log_model.proofs.Growth.{went-more, went-same}
 use Rattle.log_model.specs.Slots.{Sitting, same_card, in_slot, is_accepted, refusal}
 use Rattle.log_model.specs.Course.{Course, Visit, Before, Went, card_in as card_of_sitting, answered, moved_by, both_told, begins, is_settling, acted, all_acted, has_power, went, second_told}
 use Rattle.side_model.specs.Done.{course_powered, done_by}
@@ -217,6 +217,9 @@ all-refused log refused (s ∷ ss) =
     let seen = refusal-more log refused s.number in
     All-cons (λ (x : TraceSecond). SameAt log (record log { refused = refused }) x.number) s ss (record { cut = seen.cut; torn = λ p slot. seen.torn p slot; found = λ p slot. seen.found p slot }) (all-refused log refused ss)
 
+pub went-refused : (log : RunLog) (refused : List Refused) (ss : List TraceSecond) → went (record log { refused = refused }) ss ≡ went log ss
+went-refused log refused ss = went-same log (record log { refused = refused }) ss (all-refused log refused ss)
+
 pub notes-refused : (log : RunLog) (refused : List Refused) (ss : List TraceSecond) → notes_in (record log { refused = refused }) ss ≡ notes_in log ss
 notes-refused log refused ss = notes-alike log (record log { refused = refused }) ss (all-refused log refused ss)
 
@@ -224,6 +227,9 @@ notes-refused log refused ss = notes-alike log (record log { refused = refused }
 all-found : (log : RunLog) (i k : ℕ) (ss : List TraceSecond) → All (λ (x : TraceSecond). SameAt log (found_log i k log) x.number) ss
 all-found log i k [] = All-nil (λ (x : TraceSecond). SameAt log (found_log i k log) x.number)
 all-found log i k (s ∷ ss) = All-cons (λ (x : TraceSecond). SameAt log (found_log i k log) x.number) s ss (same-found log i k s.number) (all-found log i k ss)
+
+pub went-found : (log : RunLog) (i k : ℕ) (ss : List TraceSecond) → went (found_log i k log) ss ≡ went log ss
+went-found log i k ss = went-same log (found_log i k log) ss (all-found log i k ss)
 
 pub notes-found : (log : RunLog) (i k : ℕ) (ss : List TraceSecond) → notes_in (found_log i k log) ss ≡ notes_in log ss
 notes-found log i k ss = notes-alike log (found_log i k log) ss (all-found log i k ss)
@@ -392,7 +398,7 @@ module _ (o : Origin) (done : List TraceSecond) (s : TraceSecond) (front rest : 
       let untorn : is_torn_in v.log s.number (In (length front + 1)) slot ≡ false = ap (λ (n : ℕ). is_torn_in v.log s.number (In n) slot) more ∙ w.moment.up_to.torn (In (suc (length front))) slot (omega arith) in
       (withdrawals v.log (went w.b.run.log done).before s front (begun o done s front rest (Withdraw slot) are v d w) slot (record { card = card; accepted = Some sits.0 }) (sits-behind (record { card = card; accepted = Some sits.0 }) sits.1) still).2 untorn refl
 
-  pub withdrawn-now : is_some (session_of v.cabin.cards card) ≡ true → spells_of card (notes_within w.b done s (In (suc (length front))) v.log) ≡ with_last_shut (spells_of card (notes_within w.b done s (In (length front)) v.log))
+  pub withdrawn-now : is_some (session_of v.cabin.cards card) ≡ true → spells_of card (notes_within w.b done s (In (suc (length front))) v.log) ≡ with_last_shut s.number (spells_of card (notes_within w.b done s (In (length front)) v.log))
   withdrawn-now some = one-now o done s front rest (Withdraw slot) are v d w (Withdraws withdrawal) (noted-so some) card ∙ withdraws-last (notes_within w.b done s (In (length front)) v.log) withdrawal
 
   bare-none : session_of v.cabin.cards card ≡ None → NotesMore v.log (went w.b.run.log done).before s front (Withdraw slot) []
@@ -428,21 +434,21 @@ one-accepted u p slot card v =
     by false = refl
 
 -- where a list of actions is cut, and the one behind
-record Parts (actions : List Action) (m : ℕ) : Type 0 where
-  front : List Action
-  a : Action
-  rest : List Action
-  are : actions ≡ front ++ a ∷ rest
-  count : length front ≡ m
+pub record Parts (actions : List Action) (m : ℕ) : Type 0 where
+  pub front : List Action
+  pub a : Action
+  pub rest : List Action
+  pub are : actions ≡ front ++ a ∷ rest
+  pub count : length front ≡ m
 
-split : (actions : List Action) (m : ℕ) → suc m ≤ length actions → Parts actions m
+pub split : (actions : List Action) (m : ℕ) → suc m ≤ length actions → Parts actions m
 split [] m le = absurd (omega (arith, le))
 split (x ∷ actions) zero le = record { front = []; a = x; rest = actions; are = refl; count = refl }
 split (x ∷ actions) (suc m) le =
     let p = split actions m (omega (arith, le)) in
     record { front = x ∷ p.front; a = p.a; rest = p.rest; are = ap (λ (l : List Action). x ∷ l) p.are; count = let n = p.count in omega (arith, n) }
 
-get-at : (front : List Action) (a : Action) (rest : List Action) → slice_get (front ++ a ∷ rest) (length front) ≡ Some a
+pub get-at : (front : List Action) (a : Action) (rest : List Action) → slice_get (front ++ a ∷ rest) (length front) ≡ Some a
 get-at [] a rest = refl
 get-at (x ∷ front) a rest = get-at front a rest
 
@@ -612,7 +618,7 @@ module _ (o : Origin) (done : List TraceSecond) (s : TraceSecond) (n : ℕ) (wai
       by (suc m) is = in-action m is (split s.actions m (let few : n ≤ length s.actions = w.moment.is in omega (arith, few, is)))
 
   -- so another spell of it begins, and none of another card
-  pub accepted-now : is_accepting f.verdict ≡ true → spells_of card (notes_within w.b done s (In n) later) ≡ spells_of card (notes_within w.b done s (In n) v.log) ++ record { second = s.number; slot = slot; withdrawn = false } ∷ []
+  pub accepted-now : is_accepting f.verdict ≡ true → spells_of card (notes_within w.b done s (In n) later) ≡ spells_of card (notes_within w.b done s (In n) v.log) ++ record { second = s.number; slot = slot; withdrawn = None } ∷ []
   accepted-now is =
       ap (λ (l : List Note). spells_of card l) (judged-notes ∙ ap (λ (b : Bool). notes_within w.b done s (In n) v.log ++ map (λ (x : Verdict). Accepts (record { second = s.number; slot = slot; card = card })) (cond b (f.verdict ∷ []) [])) is)
       ∙ accepts-more card (notes_within w.b done s (In n) v.log) (record { second = s.number; slot = slot; card = card }) (same-itself card)

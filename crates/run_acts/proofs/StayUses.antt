@@ -1,6 +1,6 @@
 -- The current use of a card by its stays is the one that its noted insertions have left.
 use Rattle.std.proofs.Common.{◌≡◌, ◌∙◌, ℕ, Bool, true, false, cond, Option, Some, None, is_some, List, [], ◌∷◌, map, refl, sym, ap, subst}
-use Rattle.activity_codec.specs.declared.values.Activity.{Activity}
+use Rattle.std.specs.Prelude.{option_map}
 use Rattle.trace_model.specs.declared.Card.{Card}
 use Rattle.tach_media.specs.Medium.{State}
 use Rattle.tacho_types.specs.declared.texts.Registration.{Registration}
@@ -21,19 +21,20 @@ use Rattle.run_evented.specs.Uses.{left_open, left_by, use_behind, insertions_on
 use Rattle.run_acts.specs.Closings.{Spell, spell_of, spells_of}
 use Rattle.run_acts.specs.Recording.{IsOrigin}
 use Rattle.run_acts.specs.RunCards.{sizes_in}
-use Rattle.run_acts.specs.Stays.{Stay, Shown, open_from, use_after, after_stay, after_stays, start_shown, acceptances_told, spells, sits_in, as_noted, ShowsStays, AreStays, AllStay}
+use Rattle.run_acts.specs.Truths.{Truths}
+use Rattle.run_acts.specs.Stays.{Shut, Stay, Shown, open_from, use_after, after_stay, after_stays, start_shown, acceptances_told, spells, sits_in, as_noted, ShowsStays, AreStays, AllStay}
 
 -- what a spell leaves, and some
 abbrev spell_use : Registration → Spell → CurrentUse
-spell_use own s = record { session = record { 0 = cond s.withdrawn 0 s.second }; registration = own }
+spell_use own s = record { session = record { 0 = cond (is_some s.withdrawn) 0 s.second }; registration = own }
 
 abbrev spells_use : Registration → CurrentUse → List Spell → CurrentUse
 spells_use own held [] = held
 spells_use own held (s ∷ ss) = spells_use own (spell_use own s) ss
 
-stay-spelled : (u : ℕ) (o : Option Activity) → open_from u o ≡ cond (is_some o) 0 u
+stay-spelled : (u : ℕ) (o : Option Shut) → open_from u o ≡ cond (is_some (option_map {T = Shut} (λ (x : Shut). x.second) o)) 0 u
 stay-spelled u None = refl
-stay-spelled u (Some act) = refl
+stay-spelled u (Some x) = refl
 
 note-spelled : (u : ℕ) (o : Option ℕ) → left_open u o ≡ cond (is_some o) 0 u
 note-spelled u None = refl
@@ -60,13 +61,13 @@ shown-use vehicle image ss is card same shows x left =
     ∙ sym (by-notes vehicle (use_in image) is)
 
 -- EACH IMAGE that a card may leave now tells this use, where it has no session
-pub use-now : (o : Origin) → IsOrigin o → (log : RunLog) (notes : List Note) (vehicle : Registration) (cabin : Cabin) (d : Devices) → AllStay o log notes vehicle cabin d → NothingFailed log → (c : Card) → IsOwnValid (card_image o.recording c) → session_of cabin.cards c ≡ None →
+pub use-now : (o : Origin) → IsOrigin o → (t : Truths) (u : ℕ) (log : RunLog) (notes : List Note) (vehicle : Registration) (cabin : Cabin) (d : Devices) → AllStay o t u log notes vehicle cabin d → NothingFailed log → (c : Card) → IsOwnValid (card_image o.recording c) → session_of cabin.cards c ≡ None →
     (x : List ℕ) → (card_of d c).may_leave x → current_use (sizes_in o c) x ≡ use_now o c notes
-use-now o origin log notes vehicle cabin d all none c valid bare x left =
-    let are : AreStays o notes (acceptances_told log) vehicle cabin d = all none in
+use-now o origin t u log notes vehicle cabin d all none c valid bare x left =
+    let are : AreStays o t u notes (acceptances_told log) vehicle cabin d = all none in
     let image : (found_of o.found c).image ≡ card_image o.recording c = origin.image c in
     let h = are.each c (subst IsOwnValid (sym image) valid) in
-    let same : spells (are.stays c) ≡ spells_of c notes = sym (ap (λ (q : Option Accepted). as_noted q (sits_in cabin.slots.seats c) (spells (are.stays c))) bare) ∙ h.spell in
+    let same : spells (are.stays c) ≡ spells_of c notes = sym (ap (λ (q : Option Accepted). as_noted u q (sits_in cabin.slots.seats c) (spells (are.stays c))) bare) ∙ h.spell in
     let own : vehicle ≡ vehicle_in o = λ i. record { 0 = are.says i } in
     sym (ap (λ (y : List ℕ). current_use (own_sizes y) x) image)
     ∙ shown-use vehicle (found_of o.found c).image (are.stays c) (insertions_on c notes) (card_of d c) same h.shows x left

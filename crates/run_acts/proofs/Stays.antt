@@ -1,6 +1,6 @@
 -- The stays of a card, over what each call makes of it.
 use Rattle.std.proofs.Common.{◌≡◌, ◌≤◌, ◌∙◌, inl, inr, ℕ, Bool, true, false, List, [], ◌∷◌, ◌++◌, append_assoc, Option, Some, None, refl, ap, sym, subst, arith}
-use Rattle.std.specs.Prelude.{not, is_some}
+use Rattle.std.specs.Prelude.{not, is_some, IfSome}
 use Rattle.std.specs.List.{AllByRecursion}
 use Rattle.std.proofs.lemmas.List.{append-nil}
 use Rattle.activity_codec.specs.declared.values.Activity.{Activity}
@@ -24,8 +24,9 @@ use Rattle.run_keeping.specs.CardDeeds.{made_by, is_open_in, ShowsBook, DoesOn, 
 use Rattle.run_keeping.specs.Deeds.{KeepsOn}
 use Rattle.run_keeping.proofs.CardDeeds.{made-append, keeps-append, last-append}
 use Rattle.log_model.specs.declared.lines.Find.{Find}
-use Rattle.run_acts.specs.Closings.{Spell, last_shut, with_last_shut}
-use Rattle.run_acts.specs.Stays.{Stay, Shown, Coming, comings_of, comings_on, closes, deeds_of, use_after, after_stay, after_stays, start_shown, founds, stay_spell, spells, as_noted, AreMerged, TellsOwed, GoesIn, StaysIn, HasStays, stored_by, AreTimely}
+use Rattle.run_acts.specs.Closings.{Spell, last_shut, with_last_shut, last_slot}
+use Rattle.run_acts.specs.Truths.{Truths, Grow}
+use Rattle.run_acts.specs.Stays.{Shut, Stay, Shown, Coming, comings_of, comings_on, closes, deeds_of, use_after, after_stay, after_stays, start_shown, founds, stay_spell, spells, as_noted, AreMerged, TellsOwed, IsTrueOf, GoesIn, StaysIn, HasStays, stored_by, AreTimely, AreOwed}
 
 -- ---- the last of some stays
 
@@ -88,6 +89,30 @@ timely-more : (vehicle : Registration) (size : ℕ) (ss : List Stay) (s : Stay) 
 timely-more vehicle size [] s p h le = (le, tt)
 timely-more vehicle size (t ∷ ss) s p h le = (h.0, timely-more vehicle size ss s (after_stay vehicle size t p) h.1 le)
 
+-- to which so much was owed
+last-owes : (Owes : (second mark : ℕ) → List Entry → Type 0) (f : Stay → Stay) → ((s : Stay) → (f s).found ≡ s.found) → ((s : Stay) → (f s).owed ≡ s.owed) → (vehicle : Registration) (size : ℕ) (t : Stay) (ss : List Stay) (p : Shown) →
+    AreOwed Owes vehicle size (t ∷ ss) p → AreOwed Owes vehicle size (last_as f t ss) p
+unfolding last_as
+last-owes Owes f same owes vehicle size t [] p h =
+    (subst (λ (g : Find). Owes g.second (mark_of p.book) (f t).owed) (sym (same t)) (subst (λ (es : List Entry). Owes t.found.second (mark_of p.book) es) (sym (owes t)) h.0), tt)
+last-owes Owes f same owes vehicle size t (x ∷ ss) p h = (h.0, last-owes Owes f same owes vehicle size x ss (after_stay vehicle size t p) h.1)
+
+pub on-last-owes : (Owes : (second mark : ℕ) → List Entry → Type 0) (f : Stay → Stay) → ((s : Stay) → (f s).found ≡ s.found) → ((s : Stay) → (f s).owed ≡ s.owed) → (vehicle : Registration) (size : ℕ) (ss : List Stay) (p : Shown) →
+    AreOwed Owes vehicle size ss p → AreOwed Owes vehicle size (on_last f ss) p
+unfolding on_last
+on-last-owes Owes f same owes vehicle size [] p h = tt
+on-last-owes Owes f same owes vehicle size (t ∷ ss) p h = last-owes Owes f same owes vehicle size t ss p h
+
+pub owes-more : (Owes : (second mark : ℕ) → List Entry → Type 0) (vehicle : Registration) (size : ℕ) (ss : List Stay) (s : Stay) (p : Shown) → AreOwed Owes vehicle size ss p → Owes s.found.second (mark_of (after_stays vehicle size ss p).book) s.owed →
+    AreOwed Owes vehicle size (ss ++ s ∷ []) p
+owes-more Owes vehicle size [] s p h is = (is, tt)
+owes-more Owes vehicle size (t ∷ ss) s p h is = (h.0, owes-more Owes vehicle size ss s (after_stay vehicle size t p) h.1 is)
+
+pub owes-grow : (Owes now : (second mark : ℕ) → List Entry → Type 0) → ((second mark : ℕ) (es : List Entry) → Owes second mark es → now second mark es) → (vehicle : Registration) (size : ℕ) (ss : List Stay) (p : Shown) →
+    AreOwed Owes vehicle size ss p → AreOwed now vehicle size ss p
+owes-grow Owes now goes vehicle size [] p h = tt
+owes-grow Owes now goes vehicle size (s ∷ ss) p h = (goes s.found.second (mark_of p.book) s.owed h.0, owes-grow Owes now goes vehicle size ss (after_stay vehicle size s p) h.1)
+
 -- an image has the stored time of what it shows
 stored-own : (app : Application) (x : List ℕ) → (card_view app x).stored ≡ stored_by (record { book = book_of app x; held = current_use app x })
 unfolding card_view book_of
@@ -122,8 +147,8 @@ merged-other {L} (x ∷ lines) one other f (inr h) = inr (h.0 ++ f ∷ [], ap (�
 abbrev pub with_kepts : List Kept → Stay → Stay
 with_kepts ks s = record s { kepts = s.kepts ++ ks }
 
-abbrev pub with_end : Activity → Stay → Stay
-with_end act s = record s { closed = Some act }
+abbrev pub with_end : Shut → Stay → Stay
+with_end x s = record s { closed = Some x }
 
 -- ---- their spells
 
@@ -142,21 +167,80 @@ unfolding on_last
 on-last-kept ks [] = refl
 on-last-kept ks (t ∷ ss) = kept-spells ks t ss
 
-shut-spells : (act : Activity) (t : Stay) (ss : List Stay) → spells (last_as (with_end act) t ss) ≡ last_shut (stay_spell t) (spells ss)
+shut-spells : (x : Shut) (t : Stay) (ss : List Stay) → spells (last_as (with_end x) t ss) ≡ last_shut x.second (stay_spell t) (spells ss)
 unfolding last_as
-shut-spells act t [] = refl
-shut-spells act t (x ∷ ss) = ap (λ (l : List Spell). stay_spell t ∷ l) (shut-spells act x ss)
+shut-spells x t [] = refl
+shut-spells x t (z ∷ ss) = ap (λ (l : List Spell). stay_spell t ∷ l) (shut-spells x z ss)
 
 -- and a closing shuts the last one
-on-last-shut : (act : Activity) (ss : List Stay) → spells (on_last (with_end act) ss) ≡ with_last_shut (spells ss)
+on-last-shut : (x : Shut) (ss : List Stay) → spells (on_last (with_end x) ss) ≡ with_last_shut x.second (spells ss)
 unfolding on_last
-on-last-shut act [] = refl
-on-last-shut act (t ∷ ss) = shut-spells act t ss
+on-last-shut x [] = refl
+on-last-shut x (t ∷ ss) = shut-spells x t ss
 
 -- whichever session it is
-noted-alike : (a b : Accepted) (sits : Bool) (ss : List Spell) → as_noted (Some b) sits ss ≡ as_noted (Some a) sits ss
-noted-alike a b true ss = refl
-noted-alike a b false ss = refl
+noted-alike : (u : ℕ) (a b : Accepted) (sits : Bool) (ss : List Spell) → as_noted u (Some b) sits ss ≡ as_noted u (Some a) sits ss
+noted-alike u a b true ss = refl
+noted-alike u a b false ss = refl
+
+-- ---- the slot of the last one
+
+-- a spell more is the last
+pub last-slot-more : (ss : List Spell) (s : Spell) → last_slot (ss ++ s ∷ []) ≡ Some s.slot
+last-slot-more [] s = refl
+last-slot-more (t ∷ []) s = refl
+last-slot-more (t ∷ x ∷ ss) s = last-slot-more (x ∷ ss) s
+
+shut-slot : (u : ℕ) (s : Spell) (ss : List Spell) → last_slot (last_shut u s ss) ≡ last_slot (s ∷ ss)
+shut-slot u s [] = refl
+shut-slot u s (t ∷ []) = refl
+shut-slot u s (t ∷ x ∷ ss) = shut-slot u t (x ∷ ss)
+
+-- it is withdrawn in its slot
+pub last-shut-slot : (u : ℕ) (ss : List Spell) → last_slot (with_last_shut u ss) ≡ last_slot ss
+last-shut-slot u [] = refl
+last-shut-slot u (s ∷ ss) = shut-slot u s ss
+
+-- ---- what is true of them
+
+true-last : (t : Truths) (f : Stay → Stay) → (x : Stay) (ss : List Stay) → ((s : Stay) → last_slot (spells (x ∷ ss)) ≡ Some s.found.slot → IsTrueOf t s → IsTrueOf t (f s)) → AllByRecursion (IsTrueOf t) (x ∷ ss) → AllByRecursion (IsTrueOf t) (last_as f x ss)
+unfolding last_as
+true-last t f x [] goes all = (goes x refl all.0, tt)
+true-last t f x (y ∷ ss) goes all = (all.0, true-last t f y ss goes all.1)
+
+-- what becomes of the last stay, which is of the slot of the last spell, is true
+pub on-last-true : (t : Truths) (f : Stay → Stay) → (ss : List Stay) → ((s : Stay) → last_slot (spells ss) ≡ Some s.found.slot → IsTrueOf t s → IsTrueOf t (f s)) → AllByRecursion (IsTrueOf t) ss → AllByRecursion (IsTrueOf t) (on_last f ss)
+unfolding on_last
+on-last-true t f [] goes all = tt
+on-last-true t f (x ∷ ss) goes all = true-last t f x ss goes all
+
+pub true-more : (t : Truths) (ss : List Stay) (s : Stay) → AllByRecursion (IsTrueOf t) ss → IsTrueOf t s → AllByRecursion (IsTrueOf t) (ss ++ s ∷ [])
+true-more t [] s all one = (one, tt)
+true-more t (x ∷ ss) s all one = (all.0, true-more t ss s all.1 one)
+
+kepts-more : (t : Truths) (ks more : List Kept) → AllByRecursion t.kept ks → AllByRecursion t.kept more → AllByRecursion t.kept (ks ++ more)
+kepts-more t [] more all others = others
+kepts-more t (k ∷ ks) more all others = (all.0, kepts-more t ks more all.1 others)
+
+-- with more minutes
+pub true-kepts : (t : Truths) (ks : List Kept) → AllByRecursion t.kept ks → (s : Stay) → IsTrueOf t s → IsTrueOf t (with_kepts ks s)
+true-kepts t ks all s h = (h.0, kepts-more t s.kepts ks h.1 all, h.2)
+
+-- and so it stays
+kepts-grow : (t u : Truths) → Grow t u → (ks : List Kept) → AllByRecursion t.kept ks → AllByRecursion u.kept ks
+kepts-grow t u g [] all = tt
+kepts-grow t u g (k ∷ ks) all = (g.kept k all.0, kepts-grow t u g ks all.1)
+
+true-grows : (t u : Truths) → Grow t u → (s : Stay) → IsTrueOf t s → IsTrueOf u s
+true-grows t u g s h = (g.accepted s.found s.odometer h.0, kepts-grow t u g s.kepts h.1, by s.closed h.2)
+  where
+    by : (q : Option Shut) → IfSome q (λ x. t.closed s.found.slot x.second x.word) → IfSome q (λ x. u.closed s.found.slot x.second x.word)
+    by None is = tt
+    by (Some x) is = g.closed s.found.slot x.second x.word is
+
+pub all-true-grow : (t u : Truths) → Grow t u → (ss : List Stay) → AllByRecursion (IsTrueOf t) ss → AllByRecursion (IsTrueOf u) ss
+all-true-grow t u g [] all = tt
+all-true-grow t u g (s ∷ ss) all = (true-grows t u g s all.0, all-true-grow t u g ss all.1)
 
 -- ---- the comings
 
@@ -186,7 +270,7 @@ stays-append : (vehicle : Registration) (size : ℕ) (ss ts : List Stay) (p : Sh
 stays-append vehicle size [] ts p = refl
 stays-append vehicle size (s ∷ ss) ts p = stays-append vehicle size ss ts (after_stay vehicle size s p)
 
-module _ (f : CardFound) (vehicle : Registration) where
+module _ (u : ℕ) (f : CardFound) (vehicle : Registration) where
   abbrev app : Application
   app = own_sizes f.image
 
@@ -211,20 +295,20 @@ module _ (f : CardFound) (vehicle : Registration) where
       made-append size first (keeps vehicle None s.kepts ++ closes s.closed) p.book ∙ made-append size (keeps vehicle None s.kepts) (closes s.closed) (made_by size first p.book)
 
   -- at the start
-  pub stays-start : (sits : Bool) (X : State) → ((y : List ℕ) → X.may_leave y → y ≡ f.image) → HasStays f vehicle [] sits [] None X
+  pub stays-start : (sits : Bool) (X : State) → ((y : List ℕ) → X.may_leave y → y ≡ f.image) → HasStays u f vehicle [] sits [] None X
   stays-start sits X only = record { shows = λ y left. (ap (book_of app) (only y left), ap (current_use app) (only y left)); goes = tt; spell = refl; timely = tt }
 
   -- nothing is done on it
-  pub stays-still : (noted : List Spell) (sits : Bool) (ss : List Stay) (s : Option Accepted) (X Y : State) → DoesOn app [] X Y → HasStays f vehicle noted sits ss s X → HasStays f vehicle noted sits ss s Y
+  pub stays-still : (noted : List Spell) (sits : Bool) (ss : List Stay) (s : Option Accepted) (X Y : State) → DoesOn app [] X Y → HasStays u f vehicle noted sits ss s X → HasStays u f vehicle noted sits ss s Y
   stays-still noted sits ss s X Y does h = record { shows = does (shown_by ss).book (shown_by ss).held h.shows; goes = h.goes; spell = h.spell; timely = h.timely }
 
   -- its session and its seat become others, as it is noted, or its session is gone
-  pub stays-moved : (noted now : List Spell) (sits sits_now : Bool) (ss : List Stay) (s t : Option Accepted) (X : State) → (StaysIn vehicle ss s → StaysIn vehicle ss t) → (as_noted s sits (spells ss) ≡ noted → as_noted t sits_now (spells ss) ≡ now) →
-      HasStays f vehicle noted sits ss s X → HasStays f vehicle now sits_now ss t X
+  pub stays-moved : (noted now : List Spell) (sits sits_now : Bool) (ss : List Stay) (s t : Option Accepted) (X : State) → (StaysIn vehicle ss s → StaysIn vehicle ss t) → (as_noted u s sits (spells ss) ≡ noted → as_noted u t sits_now (spells ss) ≡ now) →
+      HasStays u f vehicle noted sits ss s X → HasStays u f vehicle now sits_now ss t X
   stays-moved noted now sits sits_now ss s t X goes spell h = record { shows = h.shows; goes = goes h.goes; spell = spell h.spell; timely = h.timely }
 
   -- it keeps some minutes
-  module _ (noted : List Spell) (sits : Bool) (ss : List Stay) (ks : List Kept) (a b : Accepted) (X Y : State) (on : KeepsOn f ks (Some a) (Some b) X Y) (h : HasStays f vehicle noted sits ss (Some a) X) where
+  module _ (noted : List Spell) (sits : Bool) (ss : List Stay) (ks : List Kept) (a b : Accepted) (X Y : State) (on : KeepsOn f ks (Some a) (Some b) X Y) (h : HasStays u f vehicle noted sits ss (Some a) X) where
     abbrev g : GoesIn vehicle ss a
     g = h.goes
 
@@ -241,12 +325,12 @@ module _ (f : CardFound) (vehicle : Registration) where
     was = subst (λ (p : Shown). Shows p X) (ap shown_by g.are ∙ behind g.front g.stay) h.shows
 
     was-book : made_by size (deeds_of vehicle (is_open_in before.held) before.book g.stay) before.book ≡ made_by size (keeps vehicle None g.stay.kepts) opened
-    was-book = parts g.stay before ∙ ap (λ (o : Option Activity). made_by size (closes o) (made_by size (keeps vehicle None g.stay.kepts) opened)) g.still
+    was-book = parts g.stay before ∙ ap (λ (o : Option Shut). made_by size (closes o) (made_by size (keeps vehicle None g.stay.kepts) opened)) g.still
 
     now-book : made_by size (deeds_of vehicle (is_open_in before.held) before.book kept_stay) before.book
         ≡ made_by size (keeps vehicle (last_odometer None g.stay.kepts) ks) (made_by size (keeps vehicle None g.stay.kepts) opened)
     now-book =
-        parts kept_stay before ∙ ap (λ (o : Option Activity). made_by size (closes o) (made_by size (keeps vehicle None (g.stay.kepts ++ ks)) opened)) g.still
+        parts kept_stay before ∙ ap (λ (o : Option Shut). made_by size (closes o) (made_by size (keeps vehicle None (g.stay.kepts ++ ks)) opened)) g.still
         ∙ ap (λ (ds : List Deed). made_by size ds opened) (keeps-append vehicle None g.stay.kepts ks)
         ∙ made-append size (keeps vehicle None g.stay.kepts) (keeps vehicle (last_odometer None g.stay.kepts) ks) opened
 
@@ -262,7 +346,7 @@ module _ (f : CardFound) (vehicle : Registration) where
     now-are : on_last (with_kepts ks) ss ≡ g.front ++ kept_stay ∷ []
     now-are = ap (on_last (with_kepts ks)) g.are ∙ on-last (with_kepts ks) g.front g.stay
 
-    pub stays-keep : HasStays f vehicle noted sits (on_last (with_kepts ks) ss) (Some b) Y
+    pub stays-keep : HasStays u f vehicle noted sits (on_last (with_kepts ks) ss) (Some b) Y
     stays-keep = record {
       shows = subst (λ (p : Shown). Shows p Y) (sym (ap shown_by now-are ∙ behind g.front kept_stay)) made;
       goes = record {
@@ -273,13 +357,13 @@ module _ (f : CardFound) (vehicle : Registration) where
         registered = on.0 ∙ g.registered;
         odometer = on.1 ∙ ap (λ (o : Option Odometer). last_odometer o ks) g.odometer ∙ sym (last-append None g.stay.kepts ks);
       };
-      spell = noted-alike a b sits (spells (on_last (with_kepts ks) ss)) ∙ ap (λ (l : List Spell). as_noted (Some a) sits l) (on-last-kept ks ss) ∙ h.spell;
+      spell = noted-alike u a b sits (spells (on_last (with_kepts ks) ss)) ∙ ap (λ (l : List Spell). as_noted u (Some a) sits l) (on-last-kept ks ss) ∙ h.spell;
       timely = on-last-timely (with_kepts ks) (λ s. refl) vehicle size ss (start_shown f.image) h.timely;
     }
 
   -- it is put in, and accepted
   module _ (noted now : List Spell) (sits sits_now : Bool) (ss : List Stay) (found : Find) (odometer : ℕ) (owed : List Entry) (a : Accepted) (X Y : State) (is : a.session.registration ≡ vehicle) (fresh : a.session.odometer ≡ None) (on : OpensOn app vehicle found.second odometer owed X Y)
-      (there : sits_now ≡ true) (more : now ≡ noted ++ record { second = found.second; slot = found.slot; withdrawn = false } ∷ []) (early : (x : List ℕ) × X.may_leave x × ((card_view app x).stored ≤ found.second)) (h : HasStays f vehicle noted sits ss None X) where
+      (there : sits_now ≡ true) (more : now ≡ noted ++ record { second = found.second; slot = found.slot; withdrawn = None } ∷ []) (early : (x : List ℕ) × X.may_leave x × ((card_view app x).stored ≤ found.second)) (h : HasStays u f vehicle noted sits ss None X) where
     abbrev new_stay : Stay
     new_stay = record { found = found; odometer = odometer; owed = owed; kepts = []; closed = None }
 
@@ -295,24 +379,28 @@ module _ (f : CardFound) (vehicle : Registration) where
         let le = early.2 in
         omega (arith, same, le)
 
-    pub stays-open : HasStays f vehicle now sits_now (ss ++ new_stay ∷ []) (Some a) Y
+    pub stays-open : HasStays u f vehicle now sits_now (ss ++ new_stay ∷ []) (Some a) Y
     stays-open = record {
       shows = subst (λ (p : Shown). Shows p Y) (sym (behind ss new_stay))
           (subst (λ (c : Book). ShowsBook app c (use_after vehicle new_stay) Y) (sym new-book) (on (shown_by ss).book (shown_by ss).held h.shows));
       goes = record { front = ss; stay = new_stay; are = refl; still = refl; registered = is; odometer = fresh };
       spell =
-          ap (λ (b : Bool). as_noted (Some a) b (spells (ss ++ new_stay ∷ []))) there ∙ spells-more ss new_stay
+          ap (λ (b : Bool). as_noted u (Some a) b (spells (ss ++ new_stay ∷ []))) there ∙ spells-more ss new_stay
           ∙ ap (λ (l : List Spell). l ++ stay_spell new_stay ∷ []) h.spell ∙ sym more;
       timely = timely-more vehicle size ss new_stay (start_shown f.image) h.timely in-time;
     }
 
   -- it is withdrawn
-  module _ (noted : List Spell) (sits sits_now : Bool) (ss : List Stay) (act : Activity) (a : Accepted) (X Y : State) (on : ClosesOn app act X Y) (gone : sits ≡ false) (h : HasStays f vehicle noted sits ss (Some a) X) where
+  module _ (noted : List Spell) (sits sits_now : Bool) (ss : List Stay) (word : Activity) (a : Accepted) (X Y : State) (on : ClosesOn app word X Y) (gone : sits ≡ false) (h : HasStays u f vehicle noted sits ss (Some a) X) where
     abbrev last_stay : Stay
     last_stay = h.goes.stay
 
+    -- in this second, with this word
+    abbrev shut : Shut
+    shut = record { second = u; word = word }
+
     abbrev closed_stay : Stay
-    closed_stay = with_end act last_stay
+    closed_stay = with_end shut last_stay
 
     abbrev earlier : Shown
     earlier = shown_by h.goes.front
@@ -321,21 +409,21 @@ module _ (f : CardFound) (vehicle : Registration) where
     begun = made_by size (opens (is_open_in earlier.held) vehicle last_stay.odometer (lacked (mark_of earlier.book) last_stay.owed)) earlier.book
 
     open-book : made_by size (deeds_of vehicle (is_open_in earlier.held) earlier.book last_stay) earlier.book ≡ made_by size (keeps vehicle None last_stay.kepts) begun
-    open-book = parts last_stay earlier ∙ ap (λ (o : Option Activity). made_by size (closes o) (made_by size (keeps vehicle None last_stay.kepts) begun)) h.goes.still
+    open-book = parts last_stay earlier ∙ ap (λ (o : Option Shut). made_by size (closes o) (made_by size (keeps vehicle None last_stay.kepts) begun)) h.goes.still
 
     stood : Shows (after_stay vehicle size last_stay earlier) X
     stood = subst (λ (p : Shown). Shows p X) (ap shown_by h.goes.are ∙ behind h.goes.front last_stay) h.shows
 
-    shut-are : on_last (with_end act) ss ≡ h.goes.front ++ closed_stay ∷ []
-    shut-are = ap (on_last (with_end act)) h.goes.are ∙ on-last (with_end act) h.goes.front last_stay
+    shut-are : on_last (with_end shut) ss ≡ h.goes.front ++ closed_stay ∷ []
+    shut-are = ap (on_last (with_end shut)) h.goes.are ∙ on-last (with_end shut) h.goes.front last_stay
 
-    pub stays-close : HasStays f vehicle noted sits_now (on_last (with_end act) ss) None Y
+    pub stays-close : HasStays u f vehicle noted sits_now (on_last (with_end shut) ss) None Y
     stays-close = record {
       shows = subst (λ (p : Shown). Shows p Y) (sym (ap shown_by shut-are ∙ behind h.goes.front closed_stay))
           (subst (λ (c : Book). ShowsBook app c (use_after vehicle closed_stay) Y)
-          (ap (made_by size (Close act ∷ [])) open-book ∙ sym (parts closed_stay earlier))
+          (ap (made_by size (Close word ∷ [])) open-book ∙ sym (parts closed_stay earlier))
           (on (after_stay vehicle size last_stay earlier).book (after_stay vehicle size last_stay earlier).held stood));
       goes = tt;
-      spell = on-last-shut act ss ∙ sym (ap (λ (b : Bool). as_noted (Some a) b (spells ss)) gone) ∙ h.spell;
-      timely = on-last-timely (with_end act) (λ s. refl) vehicle size ss (start_shown f.image) h.timely;
+      spell = on-last-shut shut ss ∙ sym (ap (λ (b : Bool). as_noted u (Some a) b (spells ss)) gone) ∙ h.spell;
+      timely = on-last-timely (with_end shut) (λ s. refl) vehicle size ss (start_shown f.image) h.timely;
     }

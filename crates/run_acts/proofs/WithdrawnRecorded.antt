@@ -60,12 +60,17 @@ use Rattle.run_ringed.specs.OnCards.{PlacesStay}
 use Rattle.run_acts.proofs.CardPlaces.{closing-stay}
 use Rattle.side_model.specs.Noted.{Note}
 use Rattle.log_model.specs.Slots.{same_card}
-use Rattle.run_acts.specs.Closings.{spells_of, notes_within}
+use Rattle.card_image.specs.Own.{IsOwnValid}
+use Rattle.run_rule.specs.Found.{found_of}
+use Rattle.run_recorded.specs.Whole.{NothingFailed}
+use Rattle.run_acts.specs.Closings.{spells_of, last_slot, notes_within}
 use Rattle.run_acts.specs.Comings.{TellMore}
-use Rattle.run_acts.specs.Stays.{sits_in, AllStay, ClosesOnCard}
+use Rattle.run_acts.specs.Truths.{truths_within}
+use Rattle.run_acts.specs.Stays.{sits_in, IsPlaced, AllStay, ClosesOnCard}
+use Rattle.run_acts.proofs.Stays.{last-shut-slot}
 use Rattle.run_acts.proofs.Closings.{same-turned}
-use Rattle.run_acts.proofs.AllStay.{Moves, moves-same, moves-bare, moves-leaves, all-moved, log-self}
-use Rattle.run_acts.proofs.SeatsThen.{same-as, sits-there, sits-nowhere, left-other}
+use Rattle.run_acts.proofs.AllStay.{Moves, moves-same, moves-bare, moves-leaves, placed-same, placed-bare, placed-nowhere, all-moved, log-self}
+use Rattle.run_acts.proofs.SeatsThen.{same-as, sits-there, sits-nowhere, left-other, emptied-slot}
 use Rattle.run_acts.proofs.NotesThen.{withdrawn-now, bare-now, others-now}
 
 -- the moment of an action
@@ -104,15 +109,15 @@ module _ (o : Origin) (done : List TraceSecond) (s : TraceSecond) (front rest : 
   notes-left = notes_within w.within.b done s (In (suc (length front))) (log_of before)
 
   abbrev Leaves : Card → Type 0
-  Leaves k = Moves (spells_of k notes-before) (spells_of k notes-left) (sits_in run.keeper.cabin.slots.seats k) (sits_in (with_slot_left slot s.number run.keeper.cabin).slots.seats k) (session_of run.keeper.cabin.cards k) (session_of run.keeper.cabin.cards k)
+  Leaves k = Moves s.number (spells_of k notes-before) (spells_of k notes-left) (sits_in run.keeper.cabin.slots.seats k) (sits_in (with_slot_left slot s.number run.keeper.cabin).slots.seats k) (session_of run.keeper.cabin.cards k) (session_of run.keeper.cabin.cards k)
 
   own-leaves : (q : Option Accepted) → session_of run.keeper.cabin.cards c ≡ q → Leaves c
   own-leaves None is =
-      moves-bare (spells_of c notes-before) (spells_of c notes-left) (sits_in run.keeper.cabin.slots.seats c) (sits_in (with_slot_left slot s.number run.keeper.cabin).slots.seats c) (session_of run.keeper.cabin.cards c) (session_of run.keeper.cabin.cards c)
+      moves-bare s.number (spells_of c notes-before) (spells_of c notes-left) (sits_in run.keeper.cabin.slots.seats c) (sits_in (with_slot_left slot s.number run.keeper.cabin).slots.seats c) (session_of run.keeper.cabin.cards c) (session_of run.keeper.cabin.cards c)
       (bare-now o done s front rest slot are speed now c v d w.within seat allowed from_ seated is c) is is
   own-leaves (Some a) is =
       let some : is_some (session_of run.keeper.cabin.cards c) ≡ true = ap (λ (q : Option Accepted). is_some q) is in
-      moves-leaves (spells_of c notes-before) (spells_of c notes-left) (sits_in run.keeper.cabin.slots.seats c) (sits_in (with_slot_left slot s.number run.keeper.cabin).slots.seats c) (session_of run.keeper.cabin.cards c) (session_of run.keeper.cabin.cards c)
+      moves-leaves s.number (spells_of c notes-before) (spells_of c notes-left) (sits_in run.keeper.cabin.slots.seats c) (sits_in (with_slot_left slot s.number run.keeper.cabin).slots.seats c) (session_of run.keeper.cabin.cards c) (session_of run.keeper.cabin.cards c)
       some refl (sits-there run.keeper.cabin.slots.seats slot c seat) (sits-nowhere (with_slot_left slot s.number run.keeper.cabin).slots.seats c (left.leaving some).nowhere)
       (withdrawn-now o done s front rest slot are speed now c v d w.within seat allowed from_ seated some)
 
@@ -122,12 +127,36 @@ module _ (o : Origin) (done : List TraceSecond) (s : TraceSecond) (front rest : 
       by : (b : Bool) → same_card c k ≡ b → Leaves k
       by true mine = subst Leaves (same-as c k mine) (own-leaves (session_of run.keeper.cabin.cards c) refl)
       by false other =
-          moves-same (spells_of k notes-before) (spells_of k notes-left) (sits_in run.keeper.cabin.slots.seats k) (sits_in (with_slot_left slot s.number run.keeper.cabin).slots.seats k) (session_of run.keeper.cabin.cards k) (session_of run.keeper.cabin.cards k)
+          moves-same s.number (spells_of k notes-before) (spells_of k notes-left) (sits_in run.keeper.cabin.slots.seats k) (sits_in (with_slot_left slot s.number run.keeper.cabin).slots.seats k) (session_of run.keeper.cabin.cards k) (session_of run.keeper.cabin.cards k)
           (others-now o done s front rest slot are speed now c v d w.within seat allowed from_ seated k (same-turned k c ∙ other)) (left-other run.keeper.cabin.slots.seats slot c k seat other) refl
 
-  stays-left : AllStay o (log_of before) notes-left run.keeper.memory.registration (with_slot_left slot s.number run.keeper.cabin) d
+  -- it sits nowhere, and the others where they sat
+  places-left : (k : Card) → IsPlaced notes-before run.keeper.cabin k → IsPlaced notes-left (with_slot_left slot s.number run.keeper.cabin) k
+  places-left k was = by (same_card c k) refl
+    where
+      own : (q : Option Accepted) → session_of run.keeper.cabin.cards c ≡ q → IsPlaced notes-left (with_slot_left slot s.number run.keeper.cabin) c
+      own None is = placed-bare notes-left (with_slot_left slot s.number run.keeper.cabin) c is
+      own (Some a) is = placed-nowhere notes-left (with_slot_left slot s.number run.keeper.cabin) c
+          (λ at there.
+          let yes : sits_in (with_slot_left slot s.number run.keeper.cabin).slots.seats c ≡ true = sits-there (with_slot_left slot s.number run.keeper.cabin).slots.seats at c there in
+          let no : sits_in (with_slot_left slot s.number run.keeper.cabin).slots.seats c ≡ false =
+          sits-nowhere (with_slot_left slot s.number run.keeper.cabin).slots.seats c (left.leaving (ap (λ (q : Option Accepted). is_some q) is)).nowhere in
+          let wrong : true ≡ false = sym yes ∙ no in cc)
+
+      by : (b : Bool) → same_card c k ≡ b → IsPlaced notes-left (with_slot_left slot s.number run.keeper.cabin) k
+      by true mine = subst (λ (x : Card). IsPlaced notes-left (with_slot_left slot s.number run.keeper.cabin) x) (same-as c k mine) (own (session_of run.keeper.cabin.cards c) refl)
+      by false other =
+          placed-same notes-before notes-left run.keeper.cabin (with_slot_left slot s.number run.keeper.cabin) k (ap last_slot (others-now o done s front rest slot are speed now c v d w.within seat allowed from_ seated k (same-turned k c ∙ other)))
+          (λ at there. emptied-slot run.keeper.cabin.slots.seats slot at k there) (λ some. some) was
+
+  -- the slot of its last spell, where it has a session
+  slot-left : NothingFailed (log_of before) → IsOwnValid (found_of o.found c).image → is_some (session_of run.keeper.cabin.cards c) ≡ true → last_slot (spells_of c notes-left) ≡ Some slot
+  slot-left none valid some =
+      ap last_slot (withdrawn-now o done s front rest slot are speed now c v d w.within seat allowed from_ seated some) ∙ last-shut-slot s.number (spells_of c notes-before) ∙ (w.stay none).placed c valid slot some seat
+
+  stays-left : AllStay o (truths_within o w.within.b.run.log done s) s.number (log_of before) notes-left run.keeper.memory.registration (with_slot_left slot s.number run.keeper.cabin) d
   stays-left =
-      all-moved o (log_of before) (log_of before) notes-before notes-left run.keeper.memory.registration run.keeper.cabin (with_slot_left slot s.number run.keeper.cabin) d (log-self (log_of before)) (λ none k. each-leaves k) w.stay
+      all-moved o (truths_within o w.within.b.run.log done s) s.number (log_of before) (log_of before) notes-before notes-left run.keeper.memory.registration run.keeper.cabin (with_slot_left slot s.number run.keeper.cabin) d (log-self (log_of before)) (λ none k. each-leaves k) (λ none k. places-left k) w.stay
 
   abbrev gone : RunWithin o done s (In (suc (length front))) [] decided (settled_run between.minutes (left_run slot s.number run)) before d
   gone = record {
@@ -135,7 +164,7 @@ module _ (o : Origin) (done : List TraceSecond) (s : TraceSecond) (front rest : 
     lit = w.lit;
     within = left.goes.within;
     odometer = w.odometer ∙ ap (λ (b : Beginning). odometer_after (odometer_at o.recording.unit) b.travel.before) (sym left.goes.began);
-    stay = subst (λ (b : Beginning). AllStay o (log_of before) (notes_within b done s (In (suc (length front))) (log_of before)) run.keeper.memory.registration (with_slot_left slot s.number run.keeper.cabin) d) (sym left.goes.began) stays-left;
+    stay = subst (λ (b : Beginning). AllStay o (truths_within o b.run.log done s) s.number (log_of before) (notes_within b done s (In (suc (length front))) (log_of before)) run.keeper.memory.registration (with_slot_left slot s.number run.keeper.cabin) d) (sym left.goes.began) stays-left;
   }
 
   -- the unit failed in the keeping
@@ -148,7 +177,7 @@ module _ (o : Origin) (done : List TraceSecond) (s : TraceSecond) (front rest : 
       LeavesOnly U V LeavesJournal → (failed : Bool) → HasCause U V failed → (span : Span) → StandsFor between.minutes span → end_of span ≡ between.next →
       RecordsSettling decided (acting_at s.number (suc (length front))) false (left_run slot s.number run) between before told d (arranged c U (state x) Z) → HaveTime (arranged c U (state x) Z) →
       (at : Moment) (ms : List Minute) (t : Told) → AreKept at ms t (told_of between told) → session_of t.keeper.cabin.cards c ≡ session_of run.keeper.cabin.cards c →
-      (failed ≡ false → TellMore [] U V) → (new : Run) (after : Listed Break) (closing : Closing) → (closing ≡ Closed → ClosesOnCard (session_of between.keeper.cabin.cards c) (state x) (state y)) → IsClosed c slot (acting_at s.number (suc (length front))) between new told.breaks after closing →
+      (failed ≡ false → TellMore [] U V) → (new : Run) (after : Listed Break) (closing : Closing) → (closing ≡ Closed → ClosesOnCard slot between.minutes (session_of between.keeper.cabin.cards c) (state x) (state y)) → IsClosed c slot (acting_at s.number (suc (length front))) between new told.breaks after closing →
       IsCalm told.breaks.items after.items (state x) (state y) → HasBroken (state x) (state y) (closed_falls closing) →
       GoesOnOrFails failed o done s (In (suc (length front))) [] new (record told { breaks = after }) (arranged c V (state y) Z) w.within.b
   closing-recorded state U V Z x y unit_whole whole size closes still unit failed cause span stands_ ends records time at ms t kept same go new after closing shut is calm broken =
@@ -157,7 +186,13 @@ module _ (o : Origin) (done : List TraceSecond) (s : TraceSecond) (front rest : 
       subst (λ (b : Beginning). GoesOnOrFails failed o done s (In (suc (length front))) [] new (record told { breaks = after }) (arranged c V (state y) Z) b) (kept_all.began ∙ left.goes.began)
       (closed-recorded state c slot (acting_at s.number (suc (length front))) between told U V Z x y unit_whole whole size closes still unit failed cause span stands_ ends o done s (suc (length front)) refl kept_all.goes kept_all.from
       (λ some. subst (λ (b : Beginning). IsLeaving (log_of told) (went b.run.log done).before s (In (suc (length front))) (s.number / 60) (s.number / 60) between.keeper.cabin slot c) (sym kept_all.began)
-      (kept_all.leave slot c (left.leaving (had (session_of run.keeper.cabin.cards c) refl some)) some)) go new after closing shut is calm broken)
+      (kept_all.leave slot c (left.leaving (had (session_of run.keeper.cabin.cards c) refl some)) some))
+      (λ some none valid.
+      let noted = kept_all.quiet none in
+      ap last_slot
+      (ap (λ (b : Beginning). spells_of c (notes_within b done s (In (suc (length front))) (log_of told))) kept_all.began ∙ noted.1 c
+      ∙ ap (λ (b : Beginning). spells_of c (notes_within b done s (In (suc (length front))) (log_of before))) left.goes.began)
+      ∙ slot-left noted.0 valid (had (session_of run.keeper.cabin.cards c) refl some)) go new after closing shut is calm broken)
     where
       had : (q : Option Accepted) → session_of run.keeper.cabin.cards c ≡ q → is_some (session_of between.keeper.cabin.cards c) ≡ true → is_some (session_of run.keeper.cabin.cards c) ≡ true
       had None is some = absurd (not-both (session_of between.keeper.cabin.cards c) some (none-comes c at ms t (told_of between told) kept (same ∙ is)))

@@ -1,5 +1,5 @@
 -- When and where a card sat in the vehicle by what a run notes, and whether it was withdrawn in order (profile); and the notes so far.
-use Rattle.std.specs.Prelude.{ℕ, Bool, true, List, [], ◌∷◌, map, filter, take, is_some}
+use Rattle.std.specs.Prelude.{ℕ, Option, Some, None, List, [], ◌∷◌, map, filter, take}
 use Rattle.activity_codec.specs.declared.values.Slot.{Slot}
 use Rattle.trace_model.specs.declared.Action.{Action}
 use Rattle.trace_model.specs.declared.Card.{Card}
@@ -10,14 +10,14 @@ use Rattle.side_model.specs.Noted.{InsertionNote, Note, insertions_of}
 use Rattle.run_ringed.specs.SoFar.{notes_so_far}
 use Rattle.run_within.specs.Within.{Beginning}
 
--- A SPELL of a card in the vehicle: the second and the slot of its acceptance, and whether it was withdrawn in order
+-- A SPELL of a card in the vehicle: the second and the slot of its acceptance, and the second of its withdrawal, if it was withdrawn in order
 pub record Spell : Type 0 where
   pub second : ℕ
   pub slot : Slot
-  pub withdrawn : Bool
+  pub withdrawn : Option ℕ
 
 abbrev pub spell_of : InsertionNote → Spell
-spell_of i = record { second = i.accepted.second; slot = i.accepted.slot; withdrawn = is_some i.withdrawn }
+spell_of i = record { second = i.accepted.second; slot = i.accepted.slot; withdrawn = i.withdrawn }
 
 -- those of a card among these insertions, in order
 abbrev pub spells_in : Card → List InsertionNote → List Spell
@@ -27,14 +27,20 @@ spells_in c is = map spell_of (filter (λ (i : InsertionNote). same_card c i.acc
 abbrev pub spells_of : Card → List Note → List Spell
 spells_of c notes = spells_in c (insertions_of notes)
 
--- the last one of some is withdrawn
-abbrev pub last_shut : Spell → List Spell → List Spell
-last_shut s [] = record s { withdrawn = true } ∷ []
-last_shut s (t ∷ ss) = s ∷ last_shut t ss
+-- the last one of some is withdrawn in this second
+abbrev pub last_shut : (second : ℕ) → Spell → List Spell → List Spell
+last_shut u s [] = record s { withdrawn = Some u } ∷ []
+last_shut u s (t ∷ ss) = s ∷ last_shut u t ss
 
-abbrev pub with_last_shut : List Spell → List Spell
-with_last_shut [] = []
-with_last_shut (s ∷ ss) = last_shut s ss
+abbrev pub with_last_shut : (second : ℕ) → List Spell → List Spell
+with_last_shut u [] = []
+with_last_shut u (s ∷ ss) = last_shut u s ss
+
+-- the slot of the last of some
+abbrev pub last_slot : List Spell → Option Slot
+last_slot [] = None
+last_slot (s ∷ []) = Some s.slot
+last_slot (s ∷ t ∷ ss) = last_slot (t ∷ ss)
 
 -- the actions of a second up to a moment of it
 abbrev pub actions_to : Phase → List Action → List Action

@@ -28,3 +28,6 @@ pub mod RunCards
 pub mod CardWrites
 pub mod Closings
 pub mod Comings
+pub mod Words
+pub mod Truths
+pub mod Owed

@@ -1,12 +1,15 @@
 -- What a card shows of its stays in a run in which no call failed (profile): its days, with their words and distances, its vehicle entries
 -- and its current use, exactly; one stay for each acceptance that the log tells, closed where the run notes its withdrawal, and nowhere else; and
 -- what its unit tells of the vehicle before, at each of them.
-use Rattle.std.specs.Prelude.{◌≡◌, ◌⊎◌, ◌≤◌, ℕ, ◌++◌, Bool, true, false, not, ◌||◌, Option, Some, None, List, [], ◌∷◌, is_some, length, map, filter}
+use Rattle.std.specs.Prelude.{◌≡◌, ◌⊎◌, ◌≤◌, ℕ, ◌++◌, Bool, true, false, not, ◌||◌, Option, Some, None, IfSome, option_map, List, [], ◌∷◌, is_some, length, map, filter}
 use Rattle.std.specs.List.{AllByRecursion}
 use Rattle.activity_codec.specs.declared.values.Activity.{Activity}
+use Rattle.activity_codec.specs.declared.values.Slot.{Slot}
 use Rattle.activity_codec.specs.declared.entries.Entry.{Entry}
 use Rattle.trace_model.specs.declared.Card.{Card}
 use Rattle.trace_model.specs.declared.Card.TheVariants.{A, B}
+use Rattle.minute_model.specs.Span.{Span, activity_next}
+use Rattle.minute_rules.specs.Kept.{Kept as Minutes, StandsFor}
 use Rattle.tach_media.specs.Medium.{State, bytes_at}
 use Rattle.tacho_types.specs.declared.texts.Registration.{Registration}
 use Rattle.unit_model.specs.declared.layout.TheConstants.{REGISTRATION}
@@ -27,7 +30,7 @@ use Rattle.card_session.specs.Inserting.{lacked}
 use Rattle.card_steps.specs.Deeds.{Deed, Close}
 use Rattle.side_model.specs.Noted.{Note}
 use Rattle.safety_model.specs.Safe.{Devices, card_of}
-use Rattle.slot_machine.specs.Calls.{Seats, is_card}
+use Rattle.slot_machine.specs.Calls.{Seats, is_card, seat_in, card_in}
 use Rattle.run_crew.specs.declared.cards.Accepted.{Accepted}
 use Rattle.run_crew.specs.declared.cabin.Cabin.{Cabin}
 use Rattle.run_crew.specs.Cards.{session_of}
@@ -36,12 +39,18 @@ use Rattle.run_recorded.specs.Origin.{Origin}
 use Rattle.run_recorded.specs.Whole.{NothingFailed}
 use Rattle.run_keeping.specs.CardDeeds.{made_by, is_open_in, ShowsBook, keeps, last_odometer, opens}
 use Rattle.run_ringed.specs.OnCards.{HasRing}
-use Rattle.run_acts.specs.Closings.{Spell, spells_of, with_last_shut}
+use Rattle.run_acts.specs.Closings.{Spell, spells_of, with_last_shut, last_slot}
 use Rattle.run_acts.specs.Comings.{VehicleTold, told_of, TellsMore}
+use Rattle.run_acts.specs.Truths.{Truths}
 
 -- the registration of the vehicle, as the image of its unit says
 abbrev pub registration_in : List ℕ → List ℕ
 registration_in unit = bytes_at unit REGISTRATION.place REGISTRATION.size
+
+-- A CLOSING: the second of it, and the activity with which the last words were closed
+pub record Shut : Type 0 where
+  pub second : ℕ
+  pub word : Activity
 
 -- A STAY of a card in the vehicle: from its insertion, of whose acceptance this line of the log tells, where the vehicle had this odometer value,
 -- and so much was owed to the card, with the minutes that it kept, to its withdrawal with an activity; or it was not withdrawn.
@@ -50,11 +59,11 @@ pub record Stay : Type 0 where
   pub odometer : ℕ
   pub owed : List Entry
   pub kepts : List Kept
-  pub closed : Option Activity
+  pub closed : Option Shut
 
-abbrev pub closes : Option Activity → List Deed
+abbrev pub closes : Option Shut → List Deed
 closes None = []
-closes (Some act) = Close act ∷ []
+closes (Some x) = Close x.word ∷ []
 
 -- what is done on the card in it
 abbrev pub deeds_of : Registration → (used : Bool) → Book → Stay → List Deed
@@ -66,9 +75,9 @@ pub record Shown : Type 0 where
   pub held : CurrentUse
 
 -- the session time that a stay leaves: its second; 0 where it was closed; and the use, of the vehicle
-abbrev pub open_from : (second : ℕ) → Option Activity → ℕ
+abbrev pub open_from : (second : ℕ) → Option Shut → ℕ
 open_from u None = u
-open_from u (Some act) = 0
+open_from u (Some x) = 0
 
 abbrev pub use_after : Registration → Stay → CurrentUse
 use_after vehicle s = record { session = record { 0 = open_from s.found.second s.closed }; registration = vehicle }
@@ -96,6 +105,13 @@ abbrev pub AreTimely : Registration → (size : ℕ) → List Stay → Shown →
 AreTimely vehicle size [] p = Unit {0}
 AreTimely vehicle size (s ∷ ss) p = (stored_by p ≤ s.found.second) × AreTimely vehicle size ss (after_stay vehicle size s p)
 
+-- ---- what was owed to their card
+
+-- WHAT WAS OWED AT EACH OF THEM is that which is owed so, by its second and the end mark of what the card showed by then.
+abbrev pub AreOwed : (Owes : (second mark : ℕ) → List Entry → Type 0) → Registration → (size : ℕ) → List Stay → Shown → Type 0
+AreOwed Owes vehicle size [] p = Unit {0}
+AreOwed Owes vehicle size (s ∷ ss) p = Owes s.found.second (mark_of p.book) s.owed × AreOwed Owes vehicle size ss (after_stay vehicle size s p)
+
 -- ---- how many
 
 -- the lines of a log that tell of an acceptance
@@ -114,7 +130,7 @@ AreMerged {L} (f ∷ lines) one other =
 
 -- the spell of a stay, and those of some
 abbrev pub stay_spell : Stay → Spell
-stay_spell s = record { second = s.found.second; slot = s.found.slot; withdrawn = is_some s.closed }
+stay_spell s = record { second = s.found.second; slot = s.found.slot; withdrawn = option_map {T = Shut} (λ (x : Shut). x.second) s.closed }
 
 abbrev pub spells : List Stay → List Spell
 spells ss = map stay_spell ss
@@ -123,15 +139,29 @@ spells ss = map stay_spell ss
 abbrev pub sits_in : Seats → Card → Bool
 sits_in seats c = is_card seats.driver c || is_card seats.codriver c
 
--- as they are noted: the last one of a card that has left its slot, and whose session is not closed yet, is withdrawn by then
-abbrev pub as_noted : (session : Option Accepted) → (sits : Bool) → List Spell → List Spell
-as_noted None sits ss = ss
-as_noted (Some a) true ss = ss
-as_noted (Some a) false ss = with_last_shut ss
+-- as they are noted in a second: the last one of a card that has left its slot, and whose session is not closed yet, is withdrawn in it
+abbrev pub as_noted : (second : ℕ) → (session : Option Accepted) → (sits : Bool) → List Spell → List Spell
+as_noted u None sits ss = ss
+as_noted u (Some a) true ss = ss
+as_noted u (Some a) false ss = with_last_shut u ss
+
+-- A CARD WITH A SESSION sits in the slot in which its last spell began.
+abbrev pub IsPlaced : List Note → Cabin → Card → Type 0
+IsPlaced notes cabin c = (slot : Slot) → is_some (session_of cabin.cards c) ≡ true → card_in (seat_in cabin.slots.seats slot) ≡ Some c → last_slot (spells_of c notes) ≡ Some slot
 
 -- the line of a stay tells how many entries were owed to its card
 abbrev pub TellsOwed : Stay → Type 0
 TellsOwed s = s.found.verdict ≡ AcceptedWith (length s.owed)
+
+-- ---- what is true of them
+
+-- A STAY IS TRUE: its acceptance told the odometer of then, each of its minutes that of its end, and it was closed with the word of its slot.
+abbrev pub IsTrueOf : Truths → Stay → Type 0
+IsTrueOf t s = t.accepted s.found s.odometer × AllByRecursion t.kept s.kepts × IfSome s.closed (λ x. t.closed s.found.slot x.second x.word)
+
+-- SO IS EACH of these, of a card with this image at the start; and what was owed at it was owed so
+abbrev pub AreTrue : Truths → Card → Registration → (image : List ℕ) → List Stay → Type 0
+AreTrue t c vehicle image ss = AllByRecursion (IsTrueOf t) ss × AreOwed (t.owed c) vehicle (own_sizes image).activity ss (start_shown image)
 
 -- ---- the vehicle before
 
@@ -180,12 +210,12 @@ StaysIn vehicle stays None = Unit {0}
 StaysIn vehicle stays (Some a) = GoesIn vehicle stays a
 
 -- EACH IMAGE THAT A CARD MAY LEAVE shows exactly what these stays in the vehicle make of the image at the start; and by when and where they began,
--- and which of them were withdrawn, they are the noted ones; each began in time.
-pub record HasStays (f : CardFound) (vehicle : Registration) (noted : List Spell) (sits : Bool) (stays : List Stay) (session : Option Accepted) (card : State) : Type 0 where
+-- and when they were withdrawn, they are the noted ones, in this second; each began in time.
+pub record HasStays (second : ℕ) (f : CardFound) (vehicle : Registration) (noted : List Spell) (sits : Bool) (stays : List Stay) (session : Option Accepted) (card : State) : Type 0 where
   pub shows : ShowsBook (own_sizes f.image) (after_stays vehicle (own_sizes f.image).activity stays (start_shown f.image)).book
       (after_stays vehicle (own_sizes f.image).activity stays (start_shown f.image)).held card
   pub goes : StaysIn vehicle stays session
-  pub spell : as_noted session sits (spells stays) ≡ noted
+  pub spell : as_noted second session sits (spells stays) ≡ noted
   pub timely : AreTimely vehicle (own_sizes f.image).activity stays (start_shown f.image)
 
 -- so it is once the run is over, of a card with this image at the start, in this vehicle
@@ -196,23 +226,26 @@ ShowsStays vehicle image stays card = ShowsBook (own_sizes image) (after_stays v
 -- ---- both cards
 
 -- THE STAYS OF BOTH CARDS in the vehicle of the run, by these notes so far, and by these lines that tell of an acceptance: each of these is that of
--- one stay, in their order; only a card that was valid has some, and it shows exactly them, as they are noted. The unit tells the vehicle before each.
-pub record AreStays (o : Origin) (notes : List Note) (acceptances : List Find) (vehicle : Registration) (cabin : Cabin) (d : Devices) : Type 0 where
+-- one stay, in their order; only a card that was valid has some, each of them true, and it shows exactly them, as they are noted in this second; and it
+-- sits in the slot of the last of them. The unit tells the vehicle before each.
+pub record AreStays (o : Origin) (t : Truths) (second : ℕ) (notes : List Note) (acceptances : List Find) (vehicle : Registration) (cabin : Cabin) (d : Devices) : Type 0 where
   pub says : vehicle.0 ≡ registration_in o.recording.unit
   pub stays : Card → List Stay
   pub told : AreMerged acceptances (founds (stays A)) (founds (stays B))
   pub owed : (c : Card) → AllByRecursion TellsOwed (stays c)
   pub only : (c : Card) → (stays c ≡ []) ⊎ IsOwnValid (found_of o.found c).image
   pub each : (c : Card) → IsOwnValid (found_of o.found c).image →
-      HasStays (found_of o.found c) vehicle (spells_of c notes) (sits_in cabin.slots.seats c) (stays c) (session_of cabin.cards c) (card_of d c)
+      HasStays second (found_of o.found c) vehicle (spells_of c notes) (sits_in cabin.slots.seats c) (stays c) (session_of cabin.cards c) (card_of d c)
+  pub hold : (c : Card) → AreTrue t c vehicle (found_of o.found c).image (stays c)
+  pub placed : (c : Card) → IsOwnValid (found_of o.found c).image → IsPlaced notes cabin c
   pub befores : TellsBefores (HasRing insertion_ring o.recording.unit) o.recording.unit acceptances vehicle (λ (c : Card). (found_of o.found c).image) stays d.unit
 
 -- so it is where no call has failed
-abbrev pub AllStay : Origin → RunLog → List Note → Registration → Cabin → Devices → Type 0
-AllStay o log notes vehicle cabin d = NothingFailed log → AreStays o notes (acceptances_told log) vehicle cabin d
+abbrev pub AllStay : Origin → Truths → (second : ℕ) → RunLog → List Note → Registration → Cabin → Devices → Type 0
+AllStay o t second log notes vehicle cabin d = NothingFailed log → AreStays o t second notes (acceptances_told log) vehicle cabin d
 
--- A CARD IS CLOSED where its session was, with this activity: each image that it may leave is its image before, closed
-abbrev pub ClosesOnCard : (session : Option Accepted) → (card card_after : State) → Type 0
-ClosesOnCard None card card_after = ⊥
-ClosesOnCard (Some a) card card_after =
-    (act : Activity) × ((c : List ℕ) → card_after.may_leave c → (x : List ℕ) × (card.image ≡ Some x) × (IsSession a.session x → IsCardClosed a.session act x c))
+-- A CARD IS CLOSED where its session was, with the activity that its slot has by these minutes: each image that it may leave is its image before, closed
+abbrev pub ClosesOnCard : Slot → Minutes → (session : Option Accepted) → (card card_after : State) → Type 0
+ClosesOnCard slot minutes None card card_after = ⊥
+ClosesOnCard slot minutes (Some a) card card_after =
+    (act : Activity) × ((span : Span) → StandsFor minutes span → act ≡ activity_next slot span) × ((c : List ℕ) → card_after.may_leave c → (x : List ℕ) × (card.image ≡ Some x) × (IsSession a.session x → IsCardClosed a.session act x c))

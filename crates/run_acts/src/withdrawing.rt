@@ -129,7 +129,7 @@ fn close<M: Medium, C: Chip>(
     requires second { at.second ≢ 0 }
     requires room { length breaks.old.items + tears_of (session_of run.old.keeper.cabin.cards which) ≤ breaks.old.room }
     ensures closed { (closing : Closing) × IsClosed which slot at run.old run.new breaks.old breaks.new closing × HasBroken (C.state card.old) (C.state card.new) (closed_falls closing)
-        × (closing ≡ Closed → ClosesOnCard (session_of run.old.keeper.cabin.cards which) (C.state card.old) (C.state card.new)) }
+        × (closing ≡ Closed → ClosesOnCard slot run.old.minutes (session_of run.old.keeper.cabin.cards which) (C.state card.old) (C.state card.new)) }
     ensures events { NotesClosing which slot at (is_err result) run.old run.new breaks.old breaks.new (devices (M.state unit.old) (C.state card.old) (C.state card.old)) (devices (M.state unit.new) (C.state card.new) (C.state card.new)) }
     ensures journal { LeavesOnly (M.state unit.old) (M.state unit.new) LeavesJournal }
     ensures rings { is_some (M.state unit.old).image ≡ true → ClosesSo which slot at (is_err result) run.old run.new breaks.old breaks.new (M.state unit.old) (M.state unit.new) }

@@ -66,12 +66,12 @@ module _ (o : Origin) (d : Devices) (V : State) (rise : d.unit.breakdowns ≤ V.
       timed h A valid = h.timed A valid
       timed h B valid = h.timed B valid
 
-      more : IsMore (breakdowns_of d) (breakdowns_of (devices V d.card_a d.card_b))
-      more = record { unit = rise; cards = λ c. stays c }
-
       stays : (c : Card) → breakdowns_of (devices V d.card_a d.card_b) (device_of c) ≡ breakdowns_of d (device_of c)
       stays A = refl
       stays B = refl
+
+      more : IsMore (breakdowns_of d) (breakdowns_of (devices V d.card_a d.card_b))
+      more = record { unit = rise; cards = stays }
 
       left : (c : Card) (x : List ℕ) → (card_of d c).left_since (found_of o.found c).began x → (card_of (devices V d.card_a d.card_b) c).left_since (found_of o.found c).began x
       left A x h = h

@@ -1,9 +1,9 @@
 -- A run's promise goes by the clocks and the breakdowns of the devices as it began, and by nothing else of them.
-use Rattle.std.proofs.Common.{◌≡◌, inl, inr, ⊎_elim, ℕ, List, subst, ◌⊎◌}
+use Rattle.std.proofs.Common.{◌≡◌, ◌∙◌, inl, inr, ⊎_elim, ℕ, List, subst, ◌⊎◌}
 use Rattle.trace_model.specs.declared.Card.{Card}
 use Rattle.trace_model.specs.declared.Item.{Item}
 use Rattle.run_model.specs.declared.Device.{Device}
-use Rattle.log_model.specs.Causes.{HasCauses}
+use Rattle.log_model.specs.Causes.{HasCauses, device_of}
 use Rattle.message_model.specs.Records.{insertion_ring}
 use Rattle.side_model.specs.Noted.{insertions_of}
 use Rattle.side_model.specs.Rings.{RingShows, IsInsertion, is_sure_insertion}
@@ -70,6 +70,7 @@ module _ (x a b : List ℕ) (start : ℕ) (items : List Item) (out : Outcome) (p
         kept = λ br at. ⊎_elim (λ was_found. inl (subst (λ (n : ℕ). WasFound (now.unit.left_since n) br) unit was_found)) (λ none. inr none) (h.ends.caused.kept br at);
         complete = h.ends.caused.complete;
       };
+      still = λ c none. h.ends.still c none ∙ broken (device_of c);
       brings = h.ends.brings;
       odometer = h.ends.odometer;
       days = h.ends.days;

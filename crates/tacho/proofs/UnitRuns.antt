@@ -12,16 +12,19 @@ use Rattle.minute_model.specs.declared.Rule.TheVariants.{Original}
 use Rattle.log_model.proofs.Spanning.{seconds-order}
 use Rattle.unit_model.specs.Image.{recorded as days_in, odometer_at, last_kept}
 use Rattle.unit_model.specs.Decoding.{Decodes, first_bad_place}
+use Rattle.safety_model.specs.Recording.{Recording, start_of}
 use Rattle.run_opening.specs.declared.fault.RunFault.{RunFault}
 use Rattle.run_opening.specs.declared.fault.RunFault.TheVariants as run
 use Rattle.run_opening.specs.Units.{IsUnitRefused}
 use Rattle.recorder_with_cards.specs.Words.{log_of}
 use Rattle.recorder_with_cards.specs.Words.{IsFoundLater}
 use Rattle.log_model.specs.Causes.{cuts, tears}
-use Rattle.recorder_with_cards.proofs.WholeOdometer.{whole-odometer}
+use Rattle.recorder_with_cards.specs.Ends.{recording_of}
+use Rattle.recorder_with_cards.proofs.WholeOdometer.{whole-odometer, day-whole}
 use Rattle.run_outcome.specs.declared.outcome.Outcome.{Outcome}
 use Rattle.tacho.specs.declared.end.Fault.{Fault}
 use Rattle.tacho.specs.declared.end.Fault.TheVariants.{Done, Usage, BadTrace, TooLong, BadUnit, ClockBack, SameCard, ReadFault, WriteFault, MediumFault, Memory, BadFile, BadCard, Changed}
+use Rattle.tacho.specs.Blank.{no_image}
 use Rattle.tacho.specs.Alone.{IsForUnit, NoVerdict, StartsAs, IsUnitFault, IsRefusedAlone}
 use Rattle.tacho.specs.Outside.{Outside, memory_of}
 use Rattle.tacho.specs.Program.{HasCauses}
@@ -201,9 +204,15 @@ unit-run old new outcome start items for_unit is_read recorded caused begun brok
     there : (s : ℕ) (is : List Item) (x : List ℕ) → IsRecorded x s is old.unit.clock outcome new.unit → cuts true (log_of outcome) ≡ [] → IsAllThere x s is outcome new.unit
     there s is x h none cards =
         let f = h cards in
-        let w = f.whole none in (
+        let w = f.whole none in
+        let r : Recording = recording_of x no_image no_image s is outcome in
+        let own = (h (start_of r)).whole none in (
           w.0,
-          λ y left. (w.1 y left, whole-odometer Original cards (log_of outcome) s (seconds_of s is) (seconds-order s is) w.0 (days_in x) (odometer_at x) y (w.1 y left) (f.odometer y left)),
+          λ y left. (
+            w.1 y left,
+            whole-odometer Original cards (log_of outcome) s (seconds_of s is) (seconds-order s is) w.0 (days_in x) (odometer_at x) y (w.1 y left) (f.odometer y left),
+            λ day odometer records. ⊎_elim (λ was. inl was) (λ begun. inr (day-whole r s (seconds-order s is) own.0 y (own.1 y left) day odometer begun)) (f.days y left day odometer records),
+          ),
         )
 
     none_broke : IsSound old new → (device : Device) → breakdowns_in new device ≡ breakdowns_in old device

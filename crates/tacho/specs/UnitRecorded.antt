@@ -7,7 +7,8 @@ use Rattle.log_model.specs.Causes.{HasCauses, cuts, tears}
 use Rattle.minute_model.specs.declared.Rule.TheVariants.{Original}
 use Rattle.history_model.specs.Presence.{Start}
 use Rattle.safety_model.specs.Unit.{HasEachDecided, IsFilled}
-use Rattle.recorder_with_cards.specs.Whole.{HasWholeOdometer}
+use Rattle.recorder_with_cards.specs.Whole.{HasWholeOdometer, HasDayOdometer}
+use Rattle.recorder_with_cards.specs.Ends.{recording_of}
 use Rattle.run_opening.specs.Units.{IsUnitRefused}
 use Rattle.run_opening.specs.declared.fault.RunFault.{RunFault}
 use Rattle.recorder_with_cards.specs.Words.{log_of}
@@ -15,10 +16,12 @@ use Rattle.recorder_with_cards.specs.Words.{IsFoundLater}
 use Rattle.run_outcome.specs.declared.outcome.Outcome.{Outcome}
 use Rattle.trace_model.specs.declared.Item.{Item}
 use Rattle.trace_model.specs.Trace.{seconds_of}
+use Rattle.unit_journal.specs.DayOdometers.{RecordsDay}
 use Rattle.unit_model.specs.Image.{recorded, last_kept, odometer_at}
 use Rattle.unit_model.specs.Decoding.{Decodes, first_bad_place}
 use Rattle.tacho.specs.declared.end.Fault.{Fault}
 use Rattle.tacho.specs.declared.end.Fault.TheVariants.{Done, BadUnit, ClockBack, MediumFault}
+use Rattle.tacho.specs.Blank.{no_image}
 use Rattle.tacho.specs.Alone.{IsForUnit, NoVerdict, counts, StartsAs, IsAlone, told_of, history_of}
 use Rattle.tacho.specs.Outside.{Outside}
 use Rattle.tacho.specs.Outcomes.{IsEmpty, IsRun, IsRefusal, IsTold, refusal_of_run}
@@ -39,10 +42,12 @@ abbrev pub IsRecorded : (x : List ℕ) → (start : ℕ) → List Item → (cloc
 IsRecorded x start items clock outcome unit = (cards : Start) → IsAlone cards x start items clock outcome unit
 
 -- each decided minute of a trace stands in the history, whatever the cards bring, and each image that a stop may leave has the start's days
--- with all of it, of which the newest 366 are retained, and its odometer with each whole kilometre
+-- with all of it, of which the newest 366 are retained, and its odometer with each whole kilometre; and so is that of each day that it records: as at
+-- the start, or with the whole kilometres of each span before and of the span up to the end of the day's first minute
 abbrev pub IsAllThere : (x : List ℕ) → (start : ℕ) → List Item → Outcome → State → Type 0
 IsAllThere x start items outcome unit = (cards : Start) → HasEachDecided Original (told_of outcome start items) (history_of cards outcome start items)
-    × ((y : List ℕ) → unit.may_leave y → IsFilled (recorded x) (history_of cards outcome start items) y × HasWholeOdometer Original (told_of outcome start items) (odometer_at x) y)
+    × ((y : List ℕ) → unit.may_leave y → IsFilled (recorded x) (history_of cards outcome start items) y × HasWholeOdometer Original (told_of outcome start items) (odometer_at x) y
+    × ((day odometer : ℕ) → RecordsDay y day odometer → RecordsDay x day odometer ⊎ HasDayOdometer (recording_of x no_image no_image start items outcome) day odometer))
 
 -- how often each device broke down
 abbrev pub breakdowns_in : Outside → Device → ℕ

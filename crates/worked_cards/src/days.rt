@@ -3,6 +3,7 @@ ghost use Rattle.std.specs.Prelude.{◌≡◌, ◌≤◌, IfOk, length};
 use card_layout::Range;
 use cyclic_days::{DayHead, Days, DaysFault, Tail};
 use std::alloc::Global;
+use std::process::Abort;
 use std::test::Fail;
 use tach_media::{Left, Medium, MemMedium, Memory, Stop};
 use tacho_types::{Distance, TimeReal};
@@ -232,9 +233,8 @@ fn with_a_day(medium: &mut MemMedium) -> Result<([u8; 4], [u8; 4], Walks), DaysF
 fn a_date_breaks_over_the_end(rt: HostRuntime) -> Result<(), Fail> {
     let alloc = rt.alloc();
     let mut medium = steady(alloc, empty(alloc)?)?;
-    let (end, front, held) = with_a_day(&mut medium)?;
-    assert_eq!(rt; (end, front), ([0, 14, 0x4B, 0x8B], [0x03, 0x80, 0, 1]));
-    assert_eq!(rt; held, (1, 1, 1));
+    let told = ([0, 14, 0x4B, 0x8B], [0x03, 0x80, 0, 1], (1, 1, 1));
+    assert_eq!(rt; with_a_day(&mut medium)?, told);
     Ok(())
 }
 
@@ -259,15 +259,16 @@ fn with_a_change(medium: &mut MemMedium) -> Result<(Walks, [[u8; 4]; 4], Walks),
 fn the_oldest_day_goes_where_the_string_is_full(rt: HostRuntime) -> Result<(), Fail> {
     let alloc = rt.alloc();
     let mut medium = steady(alloc, full(alloc)?)?;
-    let (before, places, then) = with_a_change(&mut medium)?;
-    let told = [
+    let places = [
         [0, 14, 0x15, 0x9A],
         [0, 0, 0, 14],
         [0x18, 0x05, 0, 14],
         [0, 14, 0, 16],
     ];
-    assert_eq!(rt; (before, then), ((396, 396, 1), (395, 395, 2)));
-    assert_eq!(rt; places, told);
+    assert_eq!(rt;
+        with_a_change(&mut medium)?,
+        ((396, 396, 1), places, (395, 395, 2))
+    );
     Ok(())
 }
 
@@ -310,13 +311,24 @@ const CHANGE_STOPS: [(u64, Left, u32, u16); 12] = [
     (4, Left::After, 395, 2),
 ];
 
+// One of them: then the next change goes on.
+fn goes_on(
+    rt: &(impl Abort + AllocGlobal),
+    call: u64,
+    left: Left,
+    days: u32,
+    words: u16,
+) -> Result<(), Fail> {
+    let (found, then) = stopped_change(rt.alloc(), call, left)?;
+    assert_eq!(rt; found, (days, days, words));
+    assert_eq!(rt; then, (395, 395, words.saturating_add(1)));
+    Ok(())
+}
+
 #[test]
 fn a_stopped_change_goes_on(rt: HostRuntime) -> Result<(), Fail> {
-    let alloc = rt.alloc();
     for (call, left, days, words) in CHANGE_STOPS {
-        let (found, then) = stopped_change(alloc, call, left)?;
-        assert_eq!(rt; found, (days, days, words));
-        assert_eq!(rt; then, (395, 395, words.saturating_add(1)));
+        goes_on(&rt, call, left, days, words)?;
     }
     Ok(())
 }
@@ -371,15 +383,33 @@ const DAY_STOPS: [(u64, Left, u32); 12] = [
     (3, Left::After, 1),
 ];
 
+// One of them, of a day of these words, behind so many calls: with all its words where it is there; then the next day is there too.
+fn first_day_is_whole(
+    rt: &(impl Abort + AllocGlobal),
+    words: &[u16],
+    first: u64,
+    call: u64,
+    left: Left,
+    days: u32,
+) -> Result<(), Fail>
+    requires some { 1 ≤ length words.now }
+    requires few { length words.now ≤ 2 }
+{
+    let alloc = rt.alloc();
+    let call = first.saturating_add(call);
+    let (found, then) = stopped_day(alloc, empty(alloc)?, words, call, left)?;
+    let most = if days == 0 { 0 } else { words.len() };
+    assert_eq!(rt; (found.0, found.1, found.2 as usize), (days, days, most));
+    assert_eq!(rt; then, (days.saturating_add(1), days.saturating_add(1), 1));
+    Ok(())
+}
+
 #[test]
 fn a_stopped_first_day_is_there_or_not(rt: HostRuntime) -> Result<(), Fail> {
     let alloc = rt.alloc();
     let first = loading(alloc, empty(alloc)?)?;
     for (call, left, days) in DAY_STOPS {
-        let call = first.saturating_add(call);
-        let (found, then) = stopped_day(alloc, empty(alloc)?, &[0], call, left)?;
-        assert_eq!(rt; (found.0, found.1), (days, days));
-        assert_eq!(rt; then, (days.saturating_add(1), days.saturating_add(1), 1));
+        first_day_is_whole(&rt, &[0], first, call, left, days)?;
     }
     Ok(())
 }
@@ -389,10 +419,7 @@ fn a_stopped_first_day_of_two_words_has_both_or_is_not_there(rt: HostRuntime) ->
     let alloc = rt.alloc();
     let first = loading(alloc, empty(alloc)?)?;
     for (call, left, days) in DAY_STOPS {
-        let call = first.saturating_add(call);
-        let (found, then) = stopped_day(alloc, empty(alloc)?, &[0, 60], call, left)?;
-        assert_eq!(rt; found, (days, days, if days == 0 { 0 } else { 2 }));
-        assert_eq!(rt; then, (days.saturating_add(1), days.saturating_add(1), 1));
+        first_day_is_whole(&rt, &[0, 60], first, call, left, days)?;
     }
     Ok(())
 }
@@ -425,15 +452,32 @@ const FULL_DAY_STOPS: [(u64, Left, u32, u32); 18] = [
     (6, Left::After, 396, 396),
 ];
 
+// One of them, of a day of these words, stopped at this call: what is held then, and after the next day.
+fn day_of_full_leaves(
+    rt: &(impl Abort + AllocGlobal),
+    words: &[u16],
+    call: u64,
+    left: Left,
+    held: Walks,
+    next: u32,
+) -> Result<(), Fail>
+    requires some { 1 ≤ length words.now }
+    requires few { length words.now ≤ 2 }
+{
+    let alloc = rt.alloc();
+    let (found, then) = stopped_day(alloc, full(alloc)?, words, call, left)?;
+    assert_eq!(rt; found, held);
+    assert_eq!(rt; then, (next, next, 1));
+    Ok(())
+}
+
 #[test]
 fn a_stopped_day_of_a_full_string_is_there_or_not(rt: HostRuntime) -> Result<(), Fail> {
     let alloc = rt.alloc();
     let first = loading(alloc, full(alloc)?)?;
     for (call, left, days, next) in FULL_DAY_STOPS {
         let call = first.saturating_add(call);
-        let (found, then) = stopped_day(alloc, full(alloc)?, &[0], call, left)?;
-        assert_eq!(rt; found, (days, days, 1));
-        assert_eq!(rt; then, (next, next, 1));
+        day_of_full_leaves(&rt, &[0], call, left, (days, days, 1), next)?;
     }
     Ok(())
 }
@@ -480,9 +524,7 @@ fn a_stopped_day_for_which_two_go_is_there_or_not(rt: HostRuntime) -> Result<(),
     let first = loading(alloc, full(alloc)?)?;
     for (call, left, days, words, next) in TWO_DROPS_STOPS {
         let call = first.saturating_add(call);
-        let (found, then) = stopped_day(alloc, full(alloc)?, &[0, 60], call, left)?;
-        assert_eq!(rt; found, (days, days, words));
-        assert_eq!(rt; then, (next, next, 1));
+        day_of_full_leaves(&rt, &[0, 60], call, left, (days, days, words), next)?;
     }
     Ok(())
 }
@@ -493,19 +535,30 @@ const TWO_DAYS: [u8; 36] = [
     0, 2, 0xA3, 0, 0, 2, 0, 0, 0, 0,
 ];
 
-// Where the file of two days fails with these bytes at a place.
-fn damaged(alloc: Global, place: usize, bytes: [u8; 4]) -> Result<Option<u32>, Fail> {
+// Them with these bytes at a place.
+fn two_days_with(place: usize, bytes: [u8; 4]) -> Result<[u8; 36], Fail> {
     let mut front = TWO_DAYS;
     if place > 32 {
         return Err(Fail::from("place"));
     }
     front[place..place + 4].copy_from_slice(&bytes);
-    let mut medium = steady(alloc, file(alloc, &front)?)?;
-    match load(&mut medium) {
+    Ok(front)
+}
+
+// Where a string fails, if it does.
+fn bad_place(medium: &mut MemMedium) -> Result<Option<u32>, Fail> {
+    match load(medium) {
         Ok(()) => Ok(None),
         Err(DaysFault::BadDays(place)) => Ok(Some(place)),
         Err(DaysFault::Failed) => Err(Fail::from("failed")),
     }
+}
+
+// Where the file of two days fails with these bytes at a place.
+fn damaged(alloc: Global, place: usize, bytes: [u8; 4]) -> Result<Option<u32>, Fail> {
+    let front = two_days_with(place, bytes)?;
+    let mut medium = steady(alloc, file(alloc, &front)?)?;
+    bad_place(&mut medium)
 }
 
 // Four bytes at a place of the file of two days, and where it fails with them.
@@ -564,15 +617,21 @@ const DAMAGES: [(usize, [u8; 4], Option<u32>); 44] = [
     (32, [0, 0, 0, 1], Some(34)),
 ];
 
+fn fails_there(
+    rt: &(impl Abort + AllocGlobal),
+    place: usize,
+    bytes: [u8; 4],
+    fails: Option<u32>,
+) -> Result<(), Fail> {
+    let found = damaged(rt.alloc(), place, bytes)?;
+    assert_eq!(rt; found, fails, "{bytes:?} at {place}");
+    Ok(())
+}
+
 #[test]
 fn a_damaged_string_fails_at_its_place(rt: HostRuntime) -> Result<(), Fail> {
-    let alloc = rt.alloc();
     for (place, bytes, fails) in DAMAGES {
-        assert_eq!(rt;
-            damaged(alloc, place, bytes)?,
-            fails,
-            "{bytes:?} at {place}"
-        );
+        fails_there(&rt, place, bytes, fails)?;
     }
     Ok(())
 }
@@ -641,9 +700,8 @@ fn a_trim_leaves_no_later_word(rt: HostRuntime) -> Result<(), Fail> {
     let day = measured(&mut medium)?;
     let (left, first) = trimmed(&mut medium, 1444)?;
     let none = held_behind_a_trim(&mut medium, 1439)?;
-    assert_eq!(rt; (day.place, day.km.0), (18, 7));
-    assert_eq!(rt; (left.place, left.words, first), (0, 1, 0));
-    assert_eq!(rt; none, (0, 0, 0));
+    let told = (day.place, day.km.0, left.place, left.words, first);
+    assert_eq!(rt; (told, none), ((18, 7, 0, 1, 0), (0, 0, 0)));
     Ok(())
 }
 

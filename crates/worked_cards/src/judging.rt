@@ -151,30 +151,63 @@ const CLOSED: [u8; 6] = [0x20, 0x00, 0x12, 0x58, 0x22, 0x59];
 
 const CLOSED_LATE: [u8; 6] = [0x20, 0x00, 0x12, 0x58, 0x22, 0x5A];
 
+// Why such a card is refused, if it is.
+fn refusal(
+    alloc: Global,
+    words: &[u8],
+    last_use: &[u8],
+    session: u8,
+) -> Result<Option<InsertFault>, Memory>
+    requires { length words.now ≤ 8 }
+{
+    let image = card(alloc, words, last_use, session)?;
+    Ok(refused(&image))
+}
+
 #[test]
 fn the_words_of_a_card(rt: HostRuntime) -> Result<(), Fail> {
     let alloc = rt.alloc();
-    assert!(rt; refused(&card(alloc, &WORK, &AT_600, 0)?).is_none());
-    assert!(rt; refused(&card(alloc, &CLOSED, &AT_600, 0)?).is_none());
-    assert!(rt; refused(&card(alloc, &WORK, &AT_599, 0)?) == not_valid(Fid::ACTIVITY, 18));
-    assert!(rt; refused(&card(alloc, &CLOSED_LATE, &AT_600, 0)?) == not_valid(Fid::ACTIVITY, 20));
-    assert!(rt; refused(&card(alloc, &AGAIN, &AT_600, 0)?) == not_valid(Fid::ACTIVITY, 20));
+    assert!(rt; refusal(alloc, &WORK, &AT_600, 0)?.is_none());
+    assert!(rt; refusal(alloc, &CLOSED, &AT_600, 0)?.is_none());
+    assert!(rt; refusal(alloc, &WORK, &AT_599, 0)? == not_valid(Fid::ACTIVITY, 18));
+    assert!(rt; refusal(alloc, &CLOSED_LATE, &AT_600, 0)? == not_valid(Fid::ACTIVITY, 20));
+    assert!(rt; refusal(alloc, &AGAIN, &AT_600, 0)? == not_valid(Fid::ACTIVITY, 20));
     // a session that is open: words behind the end mark are cut
-    assert!(rt; refused(&card(alloc, &WORK, &AT_599, 1)?).is_none());
-    assert!(rt; refused(&card(alloc, &AGAIN, &AT_600, 1)?) == not_valid(Fid::ACTIVITY, 20));
+    assert!(rt; refusal(alloc, &WORK, &AT_599, 1)?.is_none());
+    assert!(rt; refusal(alloc, &AGAIN, &AT_600, 1)? == not_valid(Fid::ACTIVITY, 20));
     Ok(())
+}
+
+/// Why a card is refused with a bad pointer of its places, with one of its vehicles too, and with one of its days too.
+#[derive(Clone, Copy)]
+struct Refusals {
+    places: Option<InsertFault>,
+    vehicles: Option<InsertFault>,
+    days: Option<InsertFault>,
+}
+
+fn with_bad_pointers(image: &mut Vec<u8>) -> Refusals {
+    put(&mut *image, PLACES, &[84]);
+    let places = refused(&*image);
+    put(&mut *image, VEHICLES + 1, &[84]);
+    let vehicles = refused(&*image);
+    put(&mut *image, STRING - 1, &[1]);
+    let days = refused(&*image);
+    Refusals {
+        places,
+        vehicles,
+        days,
+    }
 }
 
 #[test]
 fn the_pointers_of_a_card(rt: HostRuntime) -> Result<(), Fail> {
     let alloc = rt.alloc();
     let mut image = card(alloc, &WORK, &AT_600, 0)?;
-    put(&mut image, PLACES, &[84]);
-    assert!(rt; refused(&image) == not_valid(Fid::PLACES, 0));
-    put(&mut image, VEHICLES + 1, &[84]);
-    assert!(rt; refused(&image) == not_valid(Fid::VEHICLES, 0));
-    put(&mut image, STRING - 1, &[1]);
-    assert!(rt; refused(&image) == not_valid(Fid::ACTIVITY, 2));
+    let refusals = with_bad_pointers(&mut image);
+    assert!(rt; refusals.places == not_valid(Fid::PLACES, 0));
+    assert!(rt; refusals.vehicles == not_valid(Fid::VEHICLES, 0));
+    assert!(rt; refusals.days == not_valid(Fid::ACTIVITY, 2));
     Ok(())
 }
 
@@ -186,13 +219,21 @@ fn newest_told(image: &[u8]) -> Option<u32> {
     }
 }
 
+// That of such a card.
+fn newest(alloc: Global, words: &[u8], last_use: &[u8], session: u8) -> Result<Option<u32>, Memory>
+    requires { length words.now ≤ 8 }
+{
+    let image = card(alloc, words, last_use, session)?;
+    Ok(newest_told(&image))
+}
+
 #[test]
 fn the_newest_minute_of_a_card(rt: HostRuntime) -> Result<(), Fail> {
     let alloc = rt.alloc();
     let midnight = 21123360;
-    assert!(rt; newest_told(&card(alloc, &WORK, &AT_600, 0)?) == Some(midnight + 600));
-    assert!(rt; newest_told(&card(alloc, &CLOSED, &AT_600, 0)?) == Some(midnight + 601));
-    assert!(rt; newest_told(&card(alloc, &CLOSED, &AT_599, 1)?) == Some(midnight + 599));
+    assert!(rt; newest(alloc, &WORK, &AT_600, 0)? == Some(midnight + 600));
+    assert!(rt; newest(alloc, &CLOSED, &AT_600, 0)? == Some(midnight + 601));
+    assert!(rt; newest(alloc, &CLOSED, &AT_599, 1)? == Some(midnight + 599));
     Ok(())
 }
 
@@ -227,33 +268,49 @@ fn two_days(alloc: Global, words: &[u8], word: [u8; 2], session: u8) -> Result<V
     Ok(image)
 }
 
+// Its newest minute, and why it is refused, if it is.
+fn told_of_two_days(
+    alloc: Global,
+    words: &[u8],
+    word: [u8; 2],
+    session: u8,
+) -> Result<(Option<u32>, Option<InsertFault>), Memory>
+    requires { length words.now ≤ 8 }
+{
+    let image = two_days(alloc, words, word, session)?;
+    Ok((newest_told(&image), refused(&image)))
+}
+
 #[test]
 fn a_day_behind_the_end_mark(rt: HostRuntime) -> Result<(), Fail> {
     let alloc = rt.alloc();
     let absent = [0x20, 0x00];
     let entry = [0x00, 0x00];
     let midnight = 21123360;
-    let closed = two_days(alloc, &CLOSED, absent, 0)?;
-    assert!(rt; newest_told(&closed) == Some(midnight + 1440));
+    assert!(rt; told_of_two_days(alloc, &CLOSED, absent, 0)?.0 == Some(midnight + 1440));
     // what is open at the mark is not closed at the minute after it
-    assert!(rt; refused(&two_days(alloc, &WORK, absent, 0)?) == not_valid(Fid::ACTIVITY, 32));
-    assert!(rt; refused(&two_days(alloc, &CLOSED, entry, 0)?) == not_valid(Fid::ACTIVITY, 34));
+    assert!(rt; told_of_two_days(alloc, &WORK, absent, 0)?.1 == not_valid(Fid::ACTIVITY, 32));
+    assert!(rt; told_of_two_days(alloc, &CLOSED, entry, 0)?.1 == not_valid(Fid::ACTIVITY, 34));
     // a session that is open: that day is cut
-    assert!(rt; newest_told(&two_days(alloc, &WORK, entry, 1)?) == Some(midnight + 600));
+    assert!(rt; told_of_two_days(alloc, &WORK, entry, 1)?.0 == Some(midnight + 600));
     Ok(())
+}
+
+// A day of three words that begins 14 bytes before the end, at 5530, and goes on at the begin.
+fn put_round_the_end(image: &mut Vec<u8>) {
+    put(&mut *image, STRING, &[0; 16]);
+    put(&mut *image, STRING - 4, &[0x15, 0x9A, 0x15, 0x9A]);
+    put(&mut *image, STRING + 5533, &[18]);
+    put(&mut *image, STRING + 5534, &DATE);
+    put(&mut *image, STRING + 5539, &[1]);
+    put(&mut *image, STRING + 5542, &[0x20, 0x00]);
+    put(image, STRING, &[0x12, 0x58, 0x22, 0x58]);
 }
 
 #[test]
 fn a_place_behind_the_end_of_the_string(rt: HostRuntime) -> Result<(), Fail> {
     let mut image = card(rt.alloc(), &[], &AT_600, 1)?;
-    put(&mut image, STRING, &[0; 16]);
-    // a day of three words that begins 14 bytes before the end, at 5530
-    put(&mut image, STRING - 4, &[0x15, 0x9A, 0x15, 0x9A]);
-    put(&mut image, STRING + 5533, &[18]);
-    put(&mut image, STRING + 5534, &DATE);
-    put(&mut image, STRING + 5539, &[1]);
-    put(&mut image, STRING + 5542, &[0x20, 0x00]);
-    put(&mut image, STRING, &[0x12, 0x58, 0x22, 0x58]);
+    put_round_the_end(&mut image);
     assert!(rt; refused(&image) == not_valid(Fid::ACTIVITY, 6));
     Ok(())
 }

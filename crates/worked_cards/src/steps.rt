@@ -11,18 +11,17 @@ ghost use Rattle.owed_model.specs.Rows.{IsRowAt};
 
 use activity_codec::{Activity, Entry, Pick, Slot};
 use card_commands::{PortFault, SimCard, read_sizes};
-use card_files::{CardIdentity, blank_card};
 use card_layout::{Application, LARGEST, LARGEST_IMAGE};
 use card_session::{CardSession, Kept};
 use device_steps::{NotEntered, begin, enter, keep_on_card, keep_on_unit, leave, mend};
-use std::alloc::{AllocError, Global};
+use std::alloc::Global;
 use std::rt::HostRuntime;
 use std::test::Fail;
 use tach_media::{Chip, Failed, Medium, MemMedium, Memory};
-use tacho_types::{FullCardNumber, Name36, Nation, Odometer, Registration, TimeReal};
+use tacho_types::{FullCardNumber, Nation, Odometer, Registration, TimeReal};
 use trace_model::Card;
 use unit_journal::{Journal, KeptMinute, State};
-use unit_model::layout::IMAGE_SIZE;
+use worked_devices::{NUMBER_A, Room, card_image, card_with, new_image, unit_tells, unit_with};
 
 /// 2010-03-01 00:00:00, and its minute.
 const MIDNIGHT: u32 = 1267401600;
@@ -38,6 +37,12 @@ const CURRENT_USE: u32 = 24026;
 
 /// Where its events of a session that was not closed begin.
 const UNCLOSED: u32 = 619;
+
+/// The room of each device's log.
+const ROOM: Room = Room {
+    writes: 400,
+    bytes: 40000,
+};
 
 const REGISTRATION: Registration = Registration(*b"\x0D\x01DEMO         ");
 
@@ -317,43 +322,19 @@ fn take_out<M: Medium, C: Chip>(drive: Drive, unit: &M, card: &mut C) -> Result<
     Ok(())
 }
 
-// The image of a new unit, of a vehicle with a limit of 90 km/h.
-fn new_image(alloc: Global) -> Result<Vec<u8>, AllocError> {
-    let mut image = vec![in alloc; 0u8; IMAGE_SIZE as usize]?;
-    if image.len() > 36 {
-        image[3] = 1;
-        image[36] = 90;
-    }
-    Ok(image)
-}
-
-// A new unit.
+// A new unit, of a vehicle with a limit of 90 km/h.
 fn new_unit(alloc: Global) -> Result<MemMedium, Memory>
     ensures { IfOk result (λ unit. IsUnit (memory_state unit.log unit.counts)) }
 {
-    let image = new_image(alloc)?;
-    if image.len() != IMAGE_SIZE as usize {
-        return Err(Memory);
-    }
-    MemMedium::new(alloc, image, 400, 40000, Vec::new(alloc))
+    unit_with(alloc, new_image(alloc, 90)?, ROOM, Vec::new(alloc))
 }
 
 // A new card of the largest sizes.
 fn new_card(alloc: Global) -> Result<SimCard<MemMedium>, Memory>
     ensures { IfOk result (λ card. LARGEST_IMAGE ≤ (memory_state card.medium.log card.medium.counts).size) }
 {
-    let identity = CardIdentity {
-        state: Nation(13),
-        number: *b"DEMO000000000000",
-        surname: Name36(*b"\x01MUSTERMANN                         "),
-        first: Name36(*b"\x01HEIKE                              "),
-    };
-    let image = blank_card(alloc, &identity, &LARGEST)?;
-    if image.len() != LARGEST_IMAGE as usize {
-        return Err(Memory);
-    }
-    let medium = MemMedium::new(alloc, image, 400, 40000, Vec::new(alloc))?;
-    Ok(SimCard::new(medium))
+    let image = card_image(alloc, NUMBER_A, &LARGEST)?;
+    card_with(alloc, image, ROOM, Vec::new(alloc))
 }
 
 // The drive: three minutes; one that the card is owed, since it is torn out; it comes in again two minutes later, keeps one more
@@ -416,28 +397,6 @@ fn bytes<const N: usize>(card: &mut MemMedium, place: u32) -> Result<[u8; N], St
     Ok(out)
 }
 
-// The words of the day on the unit.
-fn words_of<M: Medium>(alloc: Global, unit: &mut M) -> Result<Vec<u16>, Fail>
-    requires { IsUnit (M.state unit.old) }
-{
-    let mut words = Vec::new(alloc);
-    let Ok(journal) = Journal::load(unit) else {
-        return Err(Fail::from("not loaded"));
-    };
-    if unit.size() != IMAGE_SIZE {
-        return Err(Fail::from("no unit"));
-    }
-    if let Some(day) = journal.find(unit, TimeReal(MIDNIGHT))? {
-        for index in 0..day.words {
-            if unit.size() != IMAGE_SIZE {
-                return Err(Fail::from("no unit"));
-            }
-            words.push(journal.word(unit, &day, index)?)?;
-        }
-    }
-    Ok(words)
-}
-
 // What a card holds: its pointers and its first day, its newest vehicle, its current use, and the first session that was not closed.
 #[derive(Clone, Copy)]
 struct OnCard {
@@ -472,22 +431,22 @@ fn driven_with_a_card(alloc: Global, unit: &mut MemMedium) -> Result<((u8, u8), 
     Ok((put, on_card(&mut image)?))
 }
 
-// The same on a new unit, and the words of the day on that.
-fn driven(alloc: Global) -> Result<((u8, u8), OnCard, Vec<u16>), Fail> {
+// The same on a new unit, and whether that tells the last minute then, and these words of the day.
+fn driven(alloc: Global, words: &[u16]) -> Result<((u8, u8), OnCard, bool), Fail> {
     let mut unit = new_unit(alloc)?;
     let (put, card) = driven_with_a_card(alloc, &mut unit)?;
-    Ok((put, card, words_of(alloc, &mut unit)?))
+    let is_told = unit_tells(alloc, &mut unit, MIDNIGHT, FIRST + 5, words)?;
+    Ok((put, card, is_told))
 }
 
 #[test]
 fn a_drive_is_on_the_unit_and_the_card(rt: HostRuntime) -> Result<(), Fail> {
-    let (put, card, words) = driven(rt.alloc())?;
+    // each minute with its card, the one without it, and the other slot's rest
+    let words = [0x1000u16, 0xA000, 0x1801, 0x0002, 0x1003, 0x2004, 0x0805];
+    let (put, card, is_told) = driven(rt.alloc(), &words)?;
+    assert!(rt; is_told);
     // nothing is owed to a new card; the torn-out minute is owed to it, and is put on it as it comes back
     assert_eq!(rt; put, (0, 1));
-    // each minute with its card, the one without it, and the other slot's rest
-    assert!(rt;
-        words.as_slice() == [0x1000u16, 0xA000, 0x1801, 0x0002, 0x1003, 0x2004, 0x0805].as_slice()
-    );
     // the pointers, and one day: 26 bytes, 2010-03-01, counter 1, 2 km, and the words with those that close
     let kept = [
         0, 0, 0, 0, 0, 0, 0, 26, 0x4B, 0x8B, 0x03, 0x80, 0, 1, 0, 2, 0x10, 0x00, 0x18, 0x01, 0x00,

@@ -1,4 +1,4 @@
-use Rattle.std.proofs.Common.{rules, ◌≡◌, ◌∙◌, ⊎_elim, ℕ, ◌+◌, ◌*◌, ◌/◌, ◌^◌, ◌<◌, ◌≤◌, Bool, true, Option, Some, None, IfSome, is_some, List, length, refl, ap, sym, subst, arith, length-append}
+use Rattle.std.proofs.Common.{rules, ◌≡◌, ◌∙◌, ⊎_elim, ℕ, ◌+◌, ◌*◌, ◌/◌, ◌^◌, ◌<◌, ◌≤◌, Bool, true, Option, Some, None, IfSome, is_some, List, [], ◌∷◌, ◌++◌, length, refl, ap, sym, subst, arith, length-append}
 use Rattle.tach_media.proofs.Runs.{on_ok, ok_gives}
 use Rattle.trace_model.specs.declared.Card.{Card}
 use Rattle.joint_rule.specs.Views.{other}
@@ -35,11 +35,17 @@ use Rattle.recorder_with_cards.proofs.EnteredRinged.{judged-ringed}
 use Rattle.run_acts.proofs.EnteredFacts.{known, unit-told, mine-back}
 use Rattle.run_rule.specs.Found.{found_of}
 use Rattle.recorder_with_cards.proofs.EnteredBefore.{way-tells}
+use Rattle.unit_model.specs.Image.{odometer_at}
+use Rattle.run_recorded.specs.Origin.{rule_of}
 use Rattle.run_acts.specs.Closings.{notes_within}
+use Rattle.run_acts.specs.Truths.{past_of, IsOdometerBefore, truths_within}
+use Rattle.run_acts.proofs.WholeLegs.{accepted-now}
+use Rattle.run_acts.proofs.TruthsThen.{began-none}
 use Rattle.run_acts.proofs.EnteredStays.{finds-noted, entered-stays}
 use Rattle.run_entering.proofs.CardBrought.{sits-works}
 use Rattle.recorder_with_cards.proofs.EnteredCards.{judged-cards}
 use Rattle.recorder_with_cards.proofs.accepting.accept_here.Goals as goal
+use Rattle.run_acts.proofs.OwedNow.{owed-told}
 
 pub returns-clause-beside : goal.returns-clause-beside
 returns-clause-beside g c =
@@ -135,7 +141,7 @@ returns-clause-refused g c = ap (λ (p : Outcome). p.refused) c.accept-answer.en
 -- ---- WHAT IS RECORDED
 
 pub returns-clause-recorded : goal.returns-clause-recorded
-returns-clause-recorded g c = λ room o done s n waits fewer at next time.
+returns-clause-recorded g c = λ room odometer o done s n waits fewer at next time.
     let run = c.args.run.now in
     let e = c.args.entering in
     let h = c.requires.going in
@@ -177,8 +183,15 @@ returns-clause-recorded g c = λ room o done s n waits fewer at next time.
     judged-by failed o done s n waits fewer run new c.args.outcome.now c.accept-answer.new.outcome (arranged e.which U X Y) (arranged e.which V Z Y) next.goes c.requires.lit (ap (λ (q : Keeper). q.odometer) w.1.left.keeper)
     (entered-recorded o done s n waits fewer e run.keeper c.args.outcome.now run.unfound run.next run.begun run.minutes U X Y next.goes.within may failed c.accept-answer.new.keeper run.noted c.accept-answer.new.noted c.accept-answer.new.outcome V Z sound w.0 gone)
     (λ well. entered-stays o e failed well run.keeper c.accept-answer.new.keeper run.noted c.accept-answer.new.noted c.args.outcome.now c.accept-answer.new.outcome U V X Z Y (λ log. notes_within next.goes.within.b done s (In n) log)
-    (finds-noted o done s n waits fewer (values_of run c.args.outcome.now) (arranged e.which U X Y) next.goes.within e at next.next next.none next.order) c.requires.seat w.0 _ w.1
+    (finds-noted o done s n waits fewer (values_of run c.args.outcome.now) (arranged e.which U X Y) next.goes.within e at next.next next.none next.order) c.requires.seat sits.0 (truths_within o next.goes.within.b.run.log done s) s.number
+    (λ none_ verdict.
+    subst (λ (k : ℕ). IsOdometerBefore (rule_of o) (odometer_at o.recording.unit) (past_of next.goes.within.b.run.log (done ++ s ∷ [])).spans k e.odometer.0) (sym (ap (λ (m : Moment). m.second) at))
+    (accepted-now o done s (In n) waits [] (values_of run c.args.outcome.now) (arranged e.which U X Y) next.goes.within (began-none o done s (In n) waits None [] (values_of run c.args.outcome.now) (arranged e.which U X Y) next.goes.within none_)
+    e.odometer.0 (odometer next.goes.within.sp next.goes.within.minutes))) w.0 _ w.1
     (known o done s n waits fewer e run.keeper c.args.outcome.now run.unfound run.next run.begun run.minutes U X Y next.goes.within may failed c.accept-answer.new.keeper run.noted c.accept-answer.new.noted c.accept-answer.new.outcome V Z w.0 gone sound)
+    (λ none_ entered told.
+    owed-told o done s n waits fewer e run.keeper c.args.outcome.now run.unfound run.next run.begun run.minutes U X Y next.goes.within may sound.card_before
+    (began-none o done s (In n) waits None [] (values_of run c.args.outcome.now) (arranged e.which U X Y) next.goes.within none_) entered told)
     (way-tells (found_of o.found e.which) run.keeper.memory.registration e failed U.image U V X Z well low c.requires.fits seen.0 seen.1
     (λ valid. ((next.goes.within.powered.go.held e.which valid).now seen.0 (mine-back e.which U X Y (λ (q : State). q.may_leave seen.0) seen.1)).0) w.0 w.1.is seen.2 writes) sits.1
     (others-session e.which run.keeper.cabin.cards c.accept-answer.new.keeper.cabin.cards

@@ -14,13 +14,13 @@ pub returns-in-A-clause-recorded : goal.returns-in-A-clause-recorded
 returns-in-A-clause-recorded g c = λ room.
     let d : Devices = devices (g.M.Medium.state c.args.unit.now) (g.C.Chip.state c.args.card_a.now) (g.D.Chip.state c.args.card_b.now) in
     let e : Devices = devices (g.M.Medium.state c.accept_here.new.unit) (g.C.Chip.state c.accept_here.new.card) (g.D.Chip.state c.args.card_b.now) in
-    subst (λ (card : Card). JudgesSo c.args.slot card c.args.at (is_err c.accept_here.result) c.args.run.now c.accept_here.new.run c.args.outcome.now c.accept_here.new.outcome d e) (sym c.in-A.is) (c.accept_here.ensures.recorded room)
+    subst (λ (card : Card). JudgesSo c.args.slot card c.args.at (is_err c.accept_here.result) c.args.run.now c.accept_here.new.run c.args.outcome.now c.accept_here.new.outcome d e) (sym c.in-A.is) (c.accept_here.ensures.recorded room c.odometer_now-odometer.ensures.value)
 
 pub returns-in-B-clause-recorded : goal.returns-in-B-clause-recorded
 returns-in-B-clause-recorded g c = λ room.
     let d : Devices = devices (g.M.Medium.state c.args.unit.now) (g.C.Chip.state c.args.card_a.now) (g.D.Chip.state c.args.card_b.now) in
     let e : Devices = devices (g.M.Medium.state c.accept_here-in-B.new.unit) (g.C.Chip.state c.args.card_a.now) (g.D.Chip.state c.accept_here-in-B.new.card) in
-    subst (λ (card : Card). JudgesSo c.args.slot card c.args.at (is_err c.accept_here-in-B.result) c.args.run.now c.accept_here-in-B.new.run c.args.outcome.now c.accept_here-in-B.new.outcome d e) (sym c.in-B.is) (c.accept_here-in-B.ensures.recorded room)
+    subst (λ (card : Card). JudgesSo c.args.slot card c.args.at (is_err c.accept_here-in-B.result) c.args.run.now c.accept_here-in-B.new.run c.args.outcome.now c.accept_here-in-B.new.outcome d e) (sym c.in-B.is) (c.accept_here-in-B.ensures.recorded room c.odometer_now-odometer.ensures.value)
 
 -- ---- its events
 

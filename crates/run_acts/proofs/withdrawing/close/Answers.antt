@@ -116,8 +116,8 @@ returns-in-Ok-leave-clause-closed g c =
         told = no-lines c.args.breaks.now;
       },
       fewer_broken none (call_broken false (none_broken X) c.in-Ok-leave.ensures.cause),
-      λ is. subst (λ (o : Option Accepted). ClosesOnCard o X Y) (sym some)
-          (act, closed-alone c.in-Some.accepted.session act X Y (g.met.C.Chip.coherent c.leave.new.card) c.in-Ok-leave.ensures.cause.works c.leave.ensures.moments.tells c.in-Ok-leave.ensures.closed),
+      λ is. subst (λ (o : Option Accepted). ClosesOnCard c.args.slot run.minutes o X Y) (sym some)
+          (act, c.selected-selected.ensures, closed-alone c.in-Some.accepted.session act X Y (g.met.C.Chip.coherent c.leave.new.card) c.in-Ok-leave.ensures.cause.works c.leave.ensures.moments.tells c.in-Ok-leave.ensures.closed),
     )
 
 pub returns-in-Err-clause-closed : goal.returns-in-Err-clause-closed

@@ -1,6 +1,7 @@
 use Rattle.std.proofs.Common.{rules, [], ◌≡◌, ◌∙◌, ℕ, ◌+◌, ◌-◌, ◌<◌, ◌≤◌, Bool, true, IfSome, List, is_some, drop, refl, ap, sym, subst, arith}
 use Rattle.std.specs.Prelude.{is_err}
 use Rattle.std.proofs.lemmas.List.{take_all, drop_all}
+use Rattle.tach_media.specs.Medium.{HasCause}
 use Rattle.tach_media.proofs.Runs.{cause_after, no_reads}
 use Rattle.tach_media.proofs.Breakdowns.{none_broken, both_broken, fewer_broken}
 use Rattle.minute_model.specs.declared.Minute.{Minute}
@@ -322,6 +323,11 @@ returns-in_err-keep_minute-clause-breaks g c =
     let one = e.breaks.1 in
     let few = v.tears in
     (e.breaks.0 ∙ v.tear_room, omega (arith, one, few))
+
+pub returns-in_err-keep_minute-clause-cause : goal.returns-in_err-keep_minute-clause-cause
+returns-in_err-keep_minute-clause-cause g c =
+    let failed : true ≡ is_err c.from_residual.result = search rules in
+    subst (λ (f : Bool). HasCause (g.M.Medium.state c.args.unit.now) (g.M.Medium.state c.keep_minute.new.unit) f) failed (cause_after c.loop-minute.invariant.cause c.in_err-keep_minute.ensures.cause)
 
 pub returns-in_err-keep_minute-clause-more : goal.returns-in_err-keep_minute-clause-more
 returns-in_err-keep_minute-clause-more g c = let one = c.in_err-keep_minute.ensures.more in let was = c.loop-minute.invariant.more in omega (arith, one, was)

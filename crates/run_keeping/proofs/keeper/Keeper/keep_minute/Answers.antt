@@ -121,6 +121,14 @@ bring-requires-2-clause-marks g c =
     let most = c.requires.marks in
     omega (arith, one, here, room, same, most)
 
+pub returns-in_err-bring-clause-marks : goal.returns-in_err-bring-clause-marks
+returns-in_err-bring-clause-marks g c =
+    let b = c.in_err-bring.ensures.brought.1 in
+    let one = brought-marks _ _ _ _ _ _ _ _ _ _ _ _ _ _ _ b in
+    let here : length c.commit.new.marks.items ≡ length c.args.marks.now.items + 1 = ap (λ (l : Listed Mark). length l.items) c.in_ok-commit.ensures.marked ∙ lines-length (unit_mark c.args.minute.now.minute (g.M.Medium.state c.commit.new.unit).clock ∷ []) c.args.marks.now in
+    let room : c.commit.new.marks.room ≡ c.args.marks.now.room = ap (λ (l : Listed Mark). l.room) c.in_ok-commit.ensures.marked in
+    (brought-mark-room _ _ _ _ _ _ _ _ _ _ _ _ _ _ _ b ∙ room, omega (arith, one, here))
+
 pub returns-in_err-bring-clause-breaks : goal.returns-in_err-bring-clause-breaks
 returns-in_err-bring-clause-breaks g c =
     let b = c.in_err-bring.ensures.brought.1 in
