@@ -184,7 +184,7 @@ module _ (image : List ℕ) where
         (rests_all (own_sizes image).activity (start_bound 16 (end_mark (own_sizes image) image) D) (bound_since image []) (newest_word D) from (end_mark (own_sizes image) image) (start_of (end_mark (own_sizes image) image) D) D refl bound_up bound_in
         (starts (own_sizes image).activity 16 from (end_mark (own_sizes image) image) D are ends small above behind)))
 
-    pub start_tied : IsTied (own_sizes image) image [] image
+    pub start_tied : IsTied (own_sizes image) image [] [] image
     start_tied = record {
       told = record { newest = λ k newest. by k newest; within = subst (λ (c : Counted). AllIn 0 (all_since image []) c.days) (sym counted_is) there };
       day = inl (ap (λ (n : ℕ). n / 1440) (sym mark_is));
