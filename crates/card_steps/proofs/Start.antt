@@ -36,6 +36,7 @@ use Rattle.card_session.proofs.InsertingValid.{closed_by_words}
 use Rattle.card_session.proofs.Valid.{valid_words}
 use Rattle.card_steps.specs.Since.{HasOn, day_marks, all_since, bound_since, counted_since, IsTied, HoldsSince}
 use Rattle.card_steps.proofs.Deeds.{made_start}
+use Rattle.card_steps.proofs.Since.{tied_wider}
 use Rattle.card_steps.proofs.BehindMark.{quiet_all}
 use Rattle.card_steps.proofs.Clear.{newest_is}
 use Rattle.card_steps.proofs.Lists.{up_both}
@@ -263,7 +264,7 @@ module _ (image : List ℕ) (brought : List Entry) (next : ℕ) (follow : Follow
             until = up image cut (open_is session) whole ends (suc m) (omega arith) (omega (arith, low)) small same;
             lists = start_lists image cut (open_is session) whole ends (suc m) (omega arith) (omega (arith, low)) small same;
           });
-          tied = start_tied image cut (open_is session) whole ends (suc m) (omega arith) (omega (arith, low)) small same;
+          tied = tied_wider (own_sizes image) image [] [] brought image (start_tied image cut (open_is session) whole ends (suc m) (omega arith) (omega (arith, low)) small same);
         });
       }
 
