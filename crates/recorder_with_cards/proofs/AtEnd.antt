@@ -23,8 +23,9 @@ use Rattle.run_acts.specs.Truths.{past_of, truths_by}
 use Rattle.run_acts.specs.Stays.{Stay, sits_in, as_noted, IsTrueOf}
 use Rattle.run_acts.proofs.SeatsThen.{sits-in-one}
 use Rattle.unit_model.specs.Image.{odometer_at}
-use Rattle.safety_model.specs.Recording.{Recording}
+use Rattle.safety_model.specs.Recording.{Recording, brought, start_of}
 use Rattle.recorder_with_cards.specs.Stays.{IsClosedSo, IsCountedSo}
+use Rattle.run_acts.specs.Owed.{IsOwed}
 
 -- none is leaving then
 pub noted-at-end : (u : ℕ) (s : Option Accepted) (sits : Bool) (ss : List Spell) → (is_some s ≡ true → sits ≡ true) → as_noted u s sits ss ≡ ss
@@ -57,7 +58,7 @@ module _ (o : Origin) (done : List TraceSecond) (run : Run) (out : Outcome) (d :
 
 module _ (r : Recording) where
   abbrev HoldIn : List Stay → Type 0
-  HoldIn ss = AllByRecursion (IsTrueOf (truths_by r.rule (odometer_at r.unit) (past_of r.log r.trace))) ss
+  HoldIn ss = AllByRecursion (IsTrueOf (truths_by r.rule (odometer_at r.unit) (past_of r.log r.trace) (λ c. IsOwed r.rule (start_of r) r.log r.trace c (brought r c).owed))) ss
 
   -- the words of their closings
   pub words-so : (ss : List Stay) → HoldIn ss → AllByRecursion (IsClosedSo r) ss

@@ -78,3 +78,5 @@ pub mod WakesCards
 pub mod GapShown
 pub mod OffCards
 pub mod SecondsCards
+pub mod SpanBases
+pub mod SpansWhole

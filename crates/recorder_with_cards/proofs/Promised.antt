@@ -38,7 +38,7 @@ use Rattle.unit_rule.proofs.Travelling.{travelled-opened}
 use Rattle.unit_journal.specs.Image.{IsFoundBy}
 use Rattle.unit_journal.proofs.Beside.{passes_beside}
 use Rattle.unit_memory.specs.declared.format.Identity.{Identity}
-use Rattle.safety_model.specs.Recording.{Recording, card_image, brought, history_of, lost_of}
+use Rattle.safety_model.specs.Recording.{Recording, card_image, brought, history_of, lost_of, start_of}
 use Rattle.safety_model.specs.Safe.{Devices, card_of, breakdowns_of, MayBegin}
 use Rattle.slot_machine.specs.Kept.{nothing_yet}
 use Rattle.run_crew.specs.declared.cards.Accepted.{Accepted}
@@ -54,7 +54,7 @@ use Rattle.run_brought.specs.Accounts.{so_far}
 use Rattle.run_moments.specs.Telling.{IsMore}
 use Rattle.run_told.specs.Told.{AreFoundCards, IsHeldDark, IsPowerless}
 use Rattle.run_told.proofs.Opened.{opened-wait, opened-powerless}
-use Rattle.run_recorded.specs.Origin.{Origin, rule_of}
+use Rattle.run_recorded.specs.Origin.{Origin, rule_of, start_at}
 use Rattle.run_recorded.specs.Ends.{recording_by, EndsRun}
 use Rattle.run_recorded.specs.Seconds.{empty_log}
 use Rattle.run_recorded.proofs.Ends.{ends-run}
@@ -106,7 +106,7 @@ use Rattle.recorder_with_cards.proofs.LastKept.{tells-last}
 use Rattle.run_acts.specs.Closings.{spells_of}
 use Rattle.run_acts.specs.Comings.{TellsMore}
 use Rattle.run_acts.proofs.Comings.{tells-none}
-use Rattle.run_acts.specs.Stays.{Stay, Coming, comings_on, registration_in, AreMerged, spells, sits_in, HasStays, ShowsStays, start_shown, AreTimely}
+use Rattle.run_acts.specs.Stays.{Stay, Coming, comings_on, registration_in, AreMerged, spells, sits_in, HasStays, ShowsStays, start_shown, AreTimely, AreOwed}
 use Rattle.recorder_with_cards.proofs.AtEnd.{noted-at-end, sits-at-end, words-so, odometers-so}
 use Rattle.run_recorded.specs.Whole.{NothingFailed}
 use Rattle.run_crew.specs.Cabin.{Stands}
@@ -116,6 +116,7 @@ use Rattle.log_model.specs.Causes.{device_of}
 use Rattle.log_model.specs.declared.lines.Find.{Find}
 use Rattle.run_acts.proofs.Stays.{stays-start}
 use Rattle.run_acts.proofs.AllStay.{placed-bare}
+use Rattle.run_acts.specs.Owed.{IsOwed}
 
 -- what holds of either card
 pub both : (P : Card → Type 0) → P A → P B → (c : Card) → P c
@@ -214,8 +215,10 @@ module _ (x a b : List ℕ) (start : ℕ) (items : List Item) (began now : Devic
           only = λ c. ⊎_elim (λ none_. inl none_) (λ valid. inr (subst IsOwnValid (of_image c) valid)) (all.only c);
           shows = stay_shows none;
           closed = stay_spells none;
-          words = λ c. words-so r (all.stays c) (all.hold c);
-          odometers = λ c. odometers-so r (all.stays c) (all.hold c);
+          words = λ c. words-so r (all.stays c) (all.hold c).0;
+          odometers = λ c. odometers-so r (all.stays c) (all.hold c).0;
+          owes = λ c. owes-as c (all.stays c)
+              (subst (λ (i : List ℕ). AreOwed (IsOwed (rule_of o) (start_at o) (log_of out) (seconds_of start items) c (brought r0 c).owed) run.keeper.memory.registration (own_sizes i).activity (all.stays c) (start_shown i)) (of_image c) (all.hold c).1);
           befores = record {
             comings = all.befores.comings;
             lines = all.befores.lines;
@@ -260,6 +263,12 @@ module _ (x a b : List ℕ) (start : ℕ) (items : List Item) (began now : Devic
 
       of_image : (c : Card) → (found_of o.found c).image ≡ card_image r c
       of_image c = found.image c ∙ sym (images c)
+
+      -- what was owed to it at the start does not hang on the seconds
+      owes-as : (c : Card) (stays : List Stay) → AreOwed (IsOwed (rule_of o) (start_at o) (log_of out) (seconds_of start items) c (brought r0 c).owed) run.keeper.memory.registration (own_sizes (card_image r c)).activity stays (start_shown (card_image r c)) →
+          AreOwed (IsOwed r.rule (start_of r) r.log r.trace c (brought r c).owed) run.keeper.memory.registration (own_sizes (card_image r c)).activity stays (start_shown (card_image r c))
+      owes-as A stays h = h
+      owes-as B stays h = h
 
       own : (none : NothingFailed (log_of out)) (c : Card) → IsOwnValid (card_image r c) →
           HasStays 0 (found_of o.found c) run.keeper.memory.registration (spells_of c (notes_in (log_of out) (seconds_of start items))) (sits_in run.keeper.cabin.slots.seats c) ((h.evented.recorded.stay none).stays c) (session_of run.keeper.cabin.cards c) (card_of now c)
@@ -443,7 +452,7 @@ module _ (x a b : List ℕ) (start : ℕ) (began now : Devices) (opened : Opened
         };
         owed = λ c. tt;
         only = λ c. inl refl;
-        hold = λ c. tt;
+        hold = λ c. (tt, tt);
         placed = λ c valid. placed-bare (notes_in (log_of out) []) run.keeper.cabin c (bare c);
         each = λ c valid.
             subst (λ (ns : List Note). HasStays 0 (found_of f c) run.keeper.memory.registration (spells_of c ns) (sits_in run.keeper.cabin.slots.seats c) [] (session_of run.keeper.cabin.cards c) (card_of now c)) (sym (no-notes (log_of out)))

@@ -10,14 +10,15 @@ use Rattle.message_model.specs.Records.{insertion_ring}
 use Rattle.card_image.specs.Own.{own_sizes, IsOwnValid}
 use Rattle.side_model.specs.Done.{done_of}
 use Rattle.side_model.specs.Noted.{notes_of}
-use Rattle.safety_model.specs.Recording.{Recording, card_image}
+use Rattle.safety_model.specs.Recording.{Recording, card_image, brought, start_of}
 use Rattle.safety_model.specs.Safe.{Devices, card_of}
 use Rattle.run_recorded.specs.Whole.{NothingFailed}
 use Rattle.unit_model.specs.Image.{odometer_at}
 use Rattle.card_session.specs.declared.session.Kept.{Kept}
 use Rattle.run_acts.specs.Closings.{spells_of}
 use Rattle.run_acts.specs.Truths.{past_of, IsOdometerBefore, IsOdometerBehind, IsWordIn}
-use Rattle.run_acts.specs.Stays.{Stay, TellsBefores, registration_in, acceptances_told, founds, spells, AreMerged, TellsOwed, ShowsStays, start_shown, AreTimely}
+use Rattle.run_acts.specs.Stays.{Stay, TellsBefores, registration_in, acceptances_told, founds, spells, AreMerged, TellsOwed, ShowsStays, start_shown, AreTimely, AreOwed}
+use Rattle.run_acts.specs.Owed.{IsOwed}
 
 -- A STAY WAS CLOSED with the word of its slot, where it was, in the second of its withdrawal
 abbrev pub IsClosedSo : Recording → Stay → Type 0
@@ -38,6 +39,8 @@ IsCountedSo r s =
 -- second that is not earlier than the stored time of what the card showed by then. EACH WAS CLOSED WITH THE ACTIVITY that its slot has as an action of that second withdraws its
 -- card: by the seconds of the power span before it and what the actions before it select. THE ODOMETERS are those of the run: what the unit's image says at the start, with the whole
 -- kilometres of each power span before, and of the span so far.
+-- WHAT WAS OWED AT EACH, in order, is all that the unit had of the card, at the start and by the minutes since, that is later than the end mark of what the card showed by then, and nothing
+-- else.
 -- THE VEHICLE BEFORE of each insertion, as every image that a stop may leave of the unit tells it, is the newest vehicle entry of what the card's stays
 -- before it make of its image at the start: in the order in which the log tells the acceptances, one entry each, the oldest giving way.
 pub record LeaveStays (r : Recording) (now : Devices) : Type 0 where
@@ -52,6 +55,7 @@ pub record LeaveStays (r : Recording) (now : Devices) : Type 0 where
   pub closed : (c : Card) → IsOwnValid (card_image r c) → spells (stays c) ≡ spells_of c (notes_of r.log (done_of r.log r.trace))
   pub words : (c : Card) → AllByRecursion (IsClosedSo r) (stays c)
   pub odometers : (c : Card) → AllByRecursion (IsCountedSo r) (stays c)
+  pub owes : (c : Card) → AreOwed (IsOwed r.rule (start_of r) r.log r.trace c (brought r c).owed) vehicle (own_sizes (card_image r c)).activity (stays c) (start_shown (card_image r c))
   pub timely : (c : Card) → IsOwnValid (card_image r c) → AreTimely vehicle (own_sizes (card_image r c)).activity (stays c) (start_shown (card_image r c))
 
 -- so it is where no call failed

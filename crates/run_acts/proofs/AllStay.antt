@@ -48,8 +48,8 @@ use Rattle.run_ringed.specs.OnCards.{HasRing}
 use Rattle.run_acts.specs.Comings.{VehicleTold, told_of, TellsMore, TellMore}
 use Rattle.run_acts.proofs.Comings.{tells-none, tells-then}
 use Rattle.run_acts.specs.Truths.{Truths, Grow}
-use Rattle.run_acts.specs.Stays.{Stay, Coming, comings_on, lines_of, befores_of, TellsBefores, acceptances_told, founds, spells, sits_in, as_noted, IsPlaced, AreMerged, TellsOwed, IsTrueOf, StaysIn, HasStays, AreStays, AllStay}
-use Rattle.run_acts.proofs.Stays.{on_last, on-last-comings, on-last-founds, on-last-owed, on-last-none, on-last-true, with_kepts, true-kepts, all-true-grow, merged-one, merged-other, stays-still, stays-moved, stays-keep}
+use Rattle.run_acts.specs.Stays.{Stay, Coming, comings_on, lines_of, befores_of, TellsBefores, acceptances_told, founds, spells, sits_in, as_noted, IsPlaced, AreMerged, TellsOwed, IsTrueOf, StaysIn, HasStays, AreStays, AllStay, AreTrue, start_shown}
+use Rattle.run_acts.proofs.Stays.{on_last, on-last-comings, on-last-founds, on-last-owed, on-last-none, on-last-true, with_kepts, true-kepts, all-true-grow, merged-one, merged-other, stays-still, stays-moved, stays-keep, on-last-owes, owes-grow}
 
 -- ---- the log tells of no failed call
 
@@ -133,10 +133,13 @@ unfolding kept_stays
 kept-owed None ks ss all = all
 kept-owed (Some a) ks ss all = on-last-owed (with_kepts ks) (λ x tells. tells) ss all
 
-kept-hold : (t : Truths) (s : Option Accepted) (ks : List Kept) (ss : List Stay) → AllByRecursion t.kept ks → AllByRecursion (IsTrueOf t) ss → AllByRecursion (IsTrueOf t) (kept_stays s ks ss)
+kept-hold : (t : Truths) (c : Card) (r : Registration) (image : List ℕ) (s : Option Accepted) (ks : List Kept) (ss : List Stay) → AllByRecursion t.kept ks → AreTrue t c r image ss → AreTrue t c r image (kept_stays s ks ss)
 unfolding kept_stays
-kept-hold t None ks ss more all = all
-kept-hold t (Some a) ks ss more all = on-last-true t (with_kepts ks) ss (λ x last is. true-kepts t ks more x is) all
+kept-hold t c r image None ks ss more all = all
+kept-hold t c r image (Some a) ks ss more all = (
+  on-last-true t (with_kepts ks) ss (λ x last is. true-kepts t ks more x is) all.0,
+  on-last-owes (t.owed c) (with_kepts ks) (λ x. refl) (λ x. refl) r (own_sizes image).activity ss (start_shown image) all.1,
+)
 
 kept-none : (s : Option Accepted) (ks : List Kept) (ss : List Stay) → ss ≡ [] → kept_stays s ks ss ≡ []
 unfolding kept_stays
@@ -173,20 +176,20 @@ other-told told later ss now one (inl t) h = merged-as-other told later one (fou
 other-told told later ss now one (inr t) h = merged-as-other (told ++ t.0 ∷ []) later one (founds ss ++ t.0 ∷ []) (founds now) t.1 t.2 (merged-other told one (founds ss) t.0 h)
 
 -- A CALL makes of the stays of a card these, as its session and its seat become others, and its spells these
-pub record Turns (truths : Truths) (second : ℕ) (f : CardFound) (log later : RunLog) (r : Registration) (noted noted_now : List Spell) (sits sits_now : Bool) (s t : Option Accepted) (U V X Y : State) (ss : List Stay) : Type 0 where
+pub record Turns (truths : Truths) (card : Card) (second : ℕ) (f : CardFound) (log later : RunLog) (r : Registration) (noted noted_now : List Spell) (sits sits_now : Bool) (s t : Option Accepted) (U V X Y : State) (ss : List Stay) : Type 0 where
   pub now : List Stay
   pub told : TellsOne (acceptances_told log) (acceptances_told later) ss now
   pub owed : AllByRecursion TellsOwed ss → AllByRecursion TellsOwed now
   pub only : (ss ≡ []) ⊎ IsOwnValid f.image → (now ≡ []) ⊎ IsOwnValid f.image
   pub shows : IsOwnValid f.image → HasStays second f r noted sits ss s X → HasStays second f r noted_now sits_now now t Y
-  pub hold : (ss ≡ []) ⊎ IsOwnValid f.image → (IsOwnValid f.image → HasStays second f r noted sits ss s X) → AllByRecursion (IsTrueOf truths) ss → AllByRecursion (IsTrueOf truths) now
+  pub hold : (ss ≡ []) ⊎ IsOwnValid f.image → (IsOwnValid f.image → HasStays second f r noted sits ss s X) → AreTrue truths card r f.image ss → AreTrue truths card r f.image now
   pub comes : (IsOwnValid f.image → HasStays second f r noted sits ss s X) → ComesOne f r (acceptances_told log) (acceptances_told later) ss now U V
 
 -- none begins
-pub turns-so : (truths : Truths) (second : ℕ) (f : CardFound) (log : RunLog) (r : Registration) (noted : List Spell) (sits : Bool) (s t : Option Accepted) (U V X Y : State) (turn : List Stay → List Stay) → ((ss : List Stay) → founds (turn ss) ≡ founds ss) → ((ss : List Stay) → AllByRecursion TellsOwed ss → AllByRecursion TellsOwed (turn ss))
+pub turns-so : (truths : Truths) (card : Card) (second : ℕ) (f : CardFound) (log : RunLog) (r : Registration) (noted : List Spell) (sits : Bool) (s t : Option Accepted) (U V X Y : State) (turn : List Stay → List Stay) → ((ss : List Stay) → founds (turn ss) ≡ founds ss) → ((ss : List Stay) → AllByRecursion TellsOwed ss → AllByRecursion TellsOwed (turn ss))
     → ((ss : List Stay) → ss ≡ [] → turn ss ≡ []) → ((ss : List Stay) → comings_on r f.image (turn ss) ≡ comings_on r f.image ss) → TellMore [] U V → (ss : List Stay) → (IsOwnValid f.image → HasStays second f r noted sits ss s X → HasStays second f r noted sits (turn ss) t Y)
-    → ((ss ≡ []) ⊎ IsOwnValid f.image → (IsOwnValid f.image → HasStays second f r noted sits ss s X) → AllByRecursion (IsTrueOf truths) ss → AllByRecursion (IsTrueOf truths) (turn ss)) → Turns truths second f log log r noted noted sits sits s t U V X Y ss
-turns-so truths second f log r noted sits s t U V X Y turn same tells none comes go ss shows hold = record {
+    → ((ss ≡ []) ⊎ IsOwnValid f.image → (IsOwnValid f.image → HasStays second f r noted sits ss s X) → AreTrue truths card r f.image ss → AreTrue truths card r f.image (turn ss)) → Turns truths card second f log log r noted noted sits sits s t U V X Y ss
+turns-so truths card second f log r noted sits s t U V X Y turn same tells none comes go ss shows hold = record {
   now = turn ss;
   told = inl (refl, same ss);
   owed = tells ss;
@@ -277,7 +280,7 @@ module _ (o : Origin) (t : Truths) (u : ℕ) where
 
   abbrev TurnsOf : Card → (log later : RunLog) → (notes now : List Note) → Registration → (cabin after : Cabin) → (U V X Y : State) → List Stay → Type 0
   TurnsOf c log later notes now r cabin after U V X Y ss =
-      Turns t u (f c) log later r (spells_of c notes) (spells_of c now) (sits_in cabin.slots.seats c) (sits_in after.slots.seats c) (session_of cabin.cards c) (session_of after.cards c) U V X Y ss
+      Turns t c u (f c) log later r (spells_of c notes) (spells_of c now) (sits_in cabin.slots.seats c) (sits_in after.slots.seats c) (session_of cabin.cards c) (session_of after.cards c) U V X Y ss
 
   -- ---- what the unit tells of the vehicles before
 
@@ -430,7 +433,7 @@ module _ (o : Origin) (t : Truths) (u : ℕ) where
           each h x B valid =
               as-same u (f B) r (spells_of B notes) (spells_of B now) (sits_in cabin.slots.seats B) (sits_in after.slots.seats B) (h.stays B) (session_of cabin.cards B) (session_of after.cards B) Z (spell none) seat same (h.each B valid)
 
-          hold : (h : Are log notes r cabin (arranged A U X Z)) (x : TurnsOf A log later notes now r cabin after U V X Y (h.stays A)) (c : Card) → AllByRecursion (IsTrueOf t) (with_mine A x.now h.stays c)
+          hold : (h : Are log notes r cabin (arranged A U X Z)) (x : TurnsOf A log later notes now r cabin after U V X Y (h.stays A)) (c : Card) → AreTrue t c r (f c).image (with_mine A x.now h.stays c)
           hold h x A = x.hold (h.only A) (h.each A) (h.hold A)
           hold h x B = h.hold B
 
@@ -467,7 +470,7 @@ module _ (o : Origin) (t : Truths) (u : ℕ) where
               as-same u (f A) r (spells_of A notes) (spells_of A now) (sits_in cabin.slots.seats A) (sits_in after.slots.seats A) (h.stays A) (session_of cabin.cards A) (session_of after.cards A) Z (spell none) seat same (h.each A valid)
           each h x B valid = x.shows valid (h.each B valid)
 
-          hold : (h : Are log notes r cabin (arranged B U X Z)) (x : TurnsOf B log later notes now r cabin after U V X Y (h.stays B)) (c : Card) → AllByRecursion (IsTrueOf t) (with_mine B x.now h.stays c)
+          hold : (h : Are log notes r cabin (arranged B U X Z)) (x : TurnsOf B log later notes now r cabin after U V X Y (h.stays B)) (c : Card) → AreTrue t c r (f c).image (with_mine B x.now h.stays c)
           hold h x A = h.hold A
           hold h x B = x.hold (h.only B) (h.each B) (h.hold B)
 
@@ -507,7 +510,7 @@ module _ (o : Origin) (t : Truths) (u : ℕ) where
             as-same u (f c) r (spells_of c notes) (spells_of c now) (sits_in cabin.slots.seats c) (sits_in after.slots.seats c) (kept_stays (session_of cabin.cards c) (ks c) (h.stays c)) (session_of after.cards c) (session_of after.cards c) (card_of e c)
             (spell none c) (ap (λ (k : SlotsKept). sits_in k.seats c) (seats none)) refl
             (one-kept r c (spells_of c notes) (sits_in cabin.slots.seats c) (h.stays c) (ks c) (session_of cabin.cards c) (session_of after.cards c) (card_of d c) (card_of e c) (some none c) (keep c valid) (h.each c valid));
-        hold = λ c. kept-hold t (session_of cabin.cards c) (ks c) (h.stays c) (kepts none c) (h.hold c);
+        hold = λ c. kept-hold t c r (f c).image (session_of cabin.cards c) (ks c) (h.stays c) (kepts none c) (h.hold c);
         placed = λ c valid.
             placed-same notes now cabin after c (ap last_slot (spell none c)) (λ slot there. ap (λ (k : SlotsKept). card_in (seat_in k.seats slot)) (sym (seats none)) ∙ there)
             (had-session c (ks c) (session_of cabin.cards c) (session_of after.cards c) (card_of d c) (card_of e c) (keep c valid)) (h.placed c valid);
@@ -528,7 +531,10 @@ all-true o t now u log notes r cabin d grows all none =
       owed = h.owed;
       only = h.only;
       each = h.each;
-      hold = λ c. all-true-grow t now (grows none) (h.stays c) (h.hold c);
+      hold = λ c. (
+        all-true-grow t now (grows none) (h.stays c) (h.hold c).0,
+        owes-grow (t.owed c) (now.owed c) (λ second mark es was. (grows none).owed c second mark es was) r (own_sizes (found_of o.found c).image).activity (h.stays c) (start_shown (found_of o.found c).image) (h.hold c).1,
+      );
       placed = h.placed;
       befores = h.befores;
     }

@@ -49,17 +49,17 @@ use Rattle.run_entering.specs.declared.lines.Entering.{Entering}
 use Rattle.run_entering.specs.Entering.{Ending, Unfit, Ahead, Fell, Unasked, Unnoted, Seated, Lost, Way, Unread, Unsized, Judged, ending_of, sizes_by, measured, cabin_by, breaks_by, outcome_by, find_of, and_one}
 use Rattle.device_steps.specs.declared.entering.Entered.{Entered}
 use Rattle.run_entering.specs.Entered.{HasEntered, IsEnding, IsWay}
-use Rattle.run_entering.specs.Told.{IsEnteredOn, IsToldOf, OpensSo}
+use Rattle.run_entering.specs.Told.{IsEnteredOn, IsToldOf, OpensSo, IsToldSo}
 use Rattle.run_entering.proofs.Carried.{has-session}
 use Rattle.run_acts.specs.Recording.{log_of}
 use Rattle.run_acts.specs.Closings.{spells_of, last_slot, notes_within}
 use Rattle.run_acts.specs.Truths.{Truths}
 use Rattle.card_records.specs.declared.vehicle.Vehicle.{Vehicle}
-use Rattle.card_session.specs.Books.{Book}
+use Rattle.card_session.specs.Books.{Book, mark_of}
 use Rattle.card_session.specs.Sessions.{book_of}
 use Rattle.run_acts.specs.Comings.{told_of, TellMore}
 use Rattle.run_acts.specs.Stays.{Stay, after_stays, start_shown, acceptances_told, sits_in, IsPlaced, AllStay}
-use Rattle.run_acts.proofs.Stays.{coming_behind, one-coming, owed-more, founds-more, true-more, last-slot-more, stays-still, stays-moved, stays-open}
+use Rattle.run_acts.proofs.Stays.{coming_behind, one-coming, owed-more, founds-more, true-more, last-slot-more, stays-still, stays-moved, stays-open, owes-more}
 use Rattle.run_acts.proofs.AllStay.{Turns, placed-bare, all-of, all-one, fewer-none, no-tear, mine-left}
 use Rattle.run_acts.proofs.SeatsThen.{torn-other, put-own, put-again, torn-slot, filled-slot, filled-own}
 use Rattle.run_acts.proofs.NotesThen.{accepted-now, rejected-now, elsewhere-now}
@@ -160,9 +160,13 @@ module _ (o : Origin) (e : Entering) (failed : Bool) (well : failed ≡ false) (
   none-more : (g : Find) → filter accepting (g ∷ []) ≡ [] → acceptances_told (record (log_of out) { finds = (log_of out).finds ++ g ∷ [] }) ≡ acceptances_told (log_of out)
   none-more g rejected = filter-append accepting (log_of out).finds (g ∷ []) ∙ ap (λ (l : List Find). acceptances_told (log_of out) ++ l) rejected ∙ append-nil (acceptances_told (log_of out))
 
+  -- what was owed to it as it was looked at, by an image that it may have left
+  abbrev OwesIn : Carried → Type 0
+  OwesIn w = NothingFailed (log_of out) → (entered : Entered) → IsToldSo o.found w e entered U X → (y : List ℕ) × X.may_leave y × t.owed e.which e.at.second (mark_of (book_of (own_sizes f.image) y)) entered.owed.items
+
   -- what becomes of its stays, as it sits in this cabin behind it
   abbrev TurnsBy : Ending → Cabin → Option Accepted → List Stay → Type 0
-  TurnsBy ending cabin session ss = Turns t u f (log_of out) (log_by ending) vehicle (spells_of e.which (notes (log_of out))) (spells_of e.which (notes (log_by ending))) (sits_in k.cabin.slots.seats e.which) (sits_in cabin.slots.seats e.which) None session U W X Y ss
+  TurnsBy ending cabin session ss = Turns t e.which u f (log_of out) (log_by ending) vehicle (spells_of e.which (notes (log_of out))) (spells_of e.which (notes (log_by ending))) (sits_in k.cabin.slots.seats e.which) (sits_in cabin.slots.seats e.which) None session U W X Y ss
 
   -- a card that is turned away
   turned-away : (ending : Ending) (cabin : Cabin) → acceptances_told (log_by ending) ≡ acceptances_told (log_of out) → spells_of e.which (notes (log_by ending)) ≡ spells_of e.which (notes (log_of out)) → (IsOwnValid f.image → DoesOn (own_sizes f.image) [] X Y) → TellMore [] U W → (ss : List Stay) → TurnsBy ending cabin None ss
@@ -179,16 +183,16 @@ module _ (o : Origin) (e : Entering) (failed : Bool) (well : failed ≡ false) (
   }
 
   -- of a card that was judged
-  own-judged : (ending : Ending) (app : Application) (w : Carried) (cabin : Cabin) → IsEnding ending app k.memory.registration e failed U.image X Y → IsToldOf ending o.found w e U X → (IsOwnValid f.image → OpensSo ending k.memory.registration e f X Y) → TellsBy ending f U W X → NothingFailed (log_by ending)
+  own-judged : (ending : Ending) (app : Application) (w : Carried) → OwesIn w → (cabin : Cabin) → IsEnding ending app k.memory.registration e failed U.image X Y → IsToldOf ending o.found w e U X → (IsOwnValid f.image → OpensSo ending k.memory.registration e f X Y) → TellsBy ending f U W X → NothingFailed (log_by ending)
       → (ss : List Stay) → TurnsBy ending (cabin_by ending e noted cabin) (session_by ending noted) ss
-  own-judged (Unfit fid place) app w cabin is told opens tells none ss =
+  own-judged (Unfit fid place) app w owes cabin is told opens tells none ss =
       turned-away (Unfit fid place) cabin (none-more (find_of e (NotValid fid place)) refl) (ap (λ (l : RunLog). spells_of e.which (notes l)) (one-find (NotValid fid place)) ∙ (judges (NotValid fid place)).rejects refl) opens tells ss
-  own-judged (Ahead stored) app w cabin is told opens tells none ss =
+  own-judged (Ahead stored) app w owes cabin is told opens tells none ss =
       turned-away (Ahead stored) cabin (none-more (find_of e (TimeOverlap stored e.at.second)) refl) (ap (λ (l : RunLog). spells_of e.which (notes l)) (one-find (TimeOverlap stored e.at.second)) ∙ (judges (TimeOverlap stored e.at.second)).rejects refl) opens tells ss
-  own-judged Fell app w cabin is told opens tells none ss = no-tear (log_of out) e.slot e.at none
-  own-judged Unasked app w cabin is told opens tells none ss = fails is
-  own-judged (Unnoted entered clock) app w cabin is told opens tells none ss = fails is.0
-  own-judged (Seated entered clock entry) app w cabin is told opens tells none ss = record {
+  own-judged Fell app w owes cabin is told opens tells none ss = no-tear (log_of out) e.slot e.at none
+  own-judged Unasked app w owes cabin is told opens tells none ss = fails is
+  own-judged (Unnoted entered clock) app w owes cabin is told opens tells none ss = fails is.0
+  own-judged (Seated entered clock entry) app w owes cabin is told opens tells none ss = record {
     now = ss ++ new_stay entered ∷ [];
     told = inr (find_of e (AcceptedWith entered.replayed), filter-append accepting (log_of out).finds (find_of e (AcceptedWith entered.replayed) ∷ []), founds-more ss (new_stay entered));
     owed = λ all. owed-more ss (new_stay entered) all (ap AcceptedWith told.whole);
@@ -199,7 +203,13 @@ module _ (o : Origin) (e : Entering) (failed : Bool) (well : failed ≡ false) (
         (put-own cabin.slots.seats e.slot e.which (Some entered.session.minute))
         (ap (λ (l : RunLog). spells_of e.which (notes l)) (one-find (AcceptedWith entered.replayed)) ∙ (judges (AcceptedWith entered.replayed)).accepts refl)
         (let x = told.found.card_image in let seen = ap (λ (v : CardView). v.stored) (own-is (own_sizes f.image) x told.found.sizes) in let le = told.found.early in (x, told.found.there, omega (arith, seen, le))) h;
-    hold = λ only shown all. true-more t ss (new_stay entered) all (tells_odometer (fewer-none (log_of out) (breaks_by (Seated entered clock entry) e) none) (AcceptedWith entered.replayed), tt, tt);
+    hold = λ only shown all.
+        let before = fewer-none (log_of out) (breaks_by (Seated entered clock entry) e) none in
+        let x = owes before entered told in (
+          true-more t ss (new_stay entered) all.0 (tells_odometer before (AcceptedWith entered.replayed), tt, tt),
+          owes-more (t.owed e.which) vehicle (own_sizes f.image).activity ss (new_stay entered) (start_shown f.image) all.1
+              (subst (λ (b : Book). t.owed e.which e.at.second (mark_of b) entered.owed.items) ((shown told.valid).shows x.0 x.1).0 x.2),
+        );
     comes = λ shown.
         let seen = tells.1 told.valid in
         let newest : entered.look.previous ≡ (after_stays vehicle (own_sizes f.image).activity ss (start_shown f.image)).book.vehicles.newest =
@@ -211,13 +221,13 @@ module _ (o : Origin) (e : Entering) (failed : Bool) (well : failed ≡ false) (
           subst (λ (q : Option Vehicle). TellMore (told_of q ∷ []) U W) newest tells.0,
         );
   }
-  own-judged (Lost entered clock entry) app w cabin is told opens tells none ss = no-tear (record (log_of out) { finds = (log_by (Lost entered clock entry)).finds }) e.slot e.at none
+  own-judged (Lost entered clock entry) app w owes cabin is told opens tells none ss = no-tear (record (log_of out) { finds = (log_by (Lost entered clock entry)).finds }) e.slot e.at none
 
-  own : (way : Way) (w : Carried) (cabin : Cabin) → IsWay way k.memory.registration e failed U.image X Y → IsToldOf (ending_of way) o.found w e U X → (IsOwnValid f.image → OpensSo (ending_of way) k.memory.registration e f X Y) → TellsBy (ending_of way) f U W X → NothingFailed (log_by (ending_of way))
+  own : (way : Way) (w : Carried) → OwesIn w → (cabin : Cabin) → IsWay way k.memory.registration e failed U.image X Y → IsToldOf (ending_of way) o.found w e U X → (IsOwnValid f.image → OpensSo (ending_of way) k.memory.registration e f X Y) → TellsBy (ending_of way) f U W X → NothingFailed (log_by (ending_of way))
       → (ss : List Stay) → TurnsBy (ending_of way) (cabin_by (ending_of way) e noted cabin) (session_by (ending_of way) noted) ss
-  own Unread w cabin is told opens tells none ss = no-tear (log_of out) e.slot e.at none
-  own (Unsized field) w cabin is told opens tells none ss = own-judged (ending_of (Unsized field)) (own_sizes f.image) w cabin tt tt opens tells none ss
-  own (Judged app ending) w cabin is told opens tells none ss = own-judged ending app w cabin is told opens tells none ss
+  own Unread w owes cabin is told opens tells none ss = no-tear (log_of out) e.slot e.at none
+  own (Unsized field) w owes cabin is told opens tells none ss = own-judged (ending_of (Unsized field)) (own_sizes f.image) w owes cabin tt tt opens tells none ss
+  own (Judged app ending) w owes cabin is told opens tells none ss = own-judged ending app w owes cabin is told opens tells none ss
 
   -- ---- of the other card
 
@@ -278,10 +288,10 @@ module _ (o : Origin) (e : Entering) (failed : Bool) (well : failed ≡ false) (
   sized-slots (Unsized field) = refl
   sized-slots (Judged app ending) = refl
 
-  pub entered-stays : (way : Way) (w : Carried) → HasEntered e failed k v noted noted_after out after U W X Y way → IsEnteredOn (ending_of way) e failed k v U W X Y Z o.found w → TellsBy (ending_of way) f U W X → session_of k.cabin.cards e.which ≡ None
+  pub entered-stays : (way : Way) (w : Carried) → HasEntered e failed k v noted noted_after out after U W X Y way → IsEnteredOn (ending_of way) e failed k v U W X Y Z o.found w → OwesIn w → TellsBy (ending_of way) f U W X → session_of k.cabin.cards e.which ≡ None
       → session_of v.cabin.cards (other e.which) ≡ session_of k.cabin.cards (other e.which) → AllStay o t u (log_of out) (notes (log_of out)) k.memory.registration k.cabin (arranged e.which U X Z) →
       AllStay o t u (log_of after) (notes (log_of after)) v.memory.registration v.cabin (arranged e.which W Y Z)
-  entered-stays way w entered known tells bare others all =
+  entered-stays way w entered known owes tells bare others all =
       let ending : Ending = ending_of way in
       let behind : Cabin = cabin_by (ending_of way) e noted (measured way e k).cabin in
       let cabin : v.cabin ≡ cabin_by (ending_of way) e noted (measured way e k).cabin = ap (λ (q : Keeper). q.cabin) entered.left.keeper in
@@ -300,12 +310,12 @@ module _ (o : Origin) (e : Entering) (failed : Bool) (well : failed ≡ false) (
       ∙ others-slot (ending_of way) (measured way e k).cabin at (sym (ap (λ (q : Cabin). card_in (seat_in q.slots.seats at)) cabin) ∙ there))
       (λ none. others-noted (ending_of way) none)
       (λ none was. own-slot (ending_of way) (measured way e k).cabin v.cabin (sized-slots way) cabin session none)
-      (λ none ss. turned way w entered known tells none ss bare cabin session) all))
+      (λ none ss. turned way w entered known owes tells none ss bare cabin session) all))
     where
-      turned : (way : Way) (w : Carried) (entered : HasEntered e failed k v noted noted_after out after U W X Y way) → IsEnteredOn (ending_of way) e failed k v U W X Y Z o.found w → TellsBy (ending_of way) f U W X → NothingFailed (log_by (ending_of way)) → (ss : List Stay) → session_of k.cabin.cards e.which ≡ None →
+      turned : (way : Way) (w : Carried) (entered : HasEntered e failed k v noted noted_after out after U W X Y way) → IsEnteredOn (ending_of way) e failed k v U W X Y Z o.found w → OwesIn w → TellsBy (ending_of way) f U W X → NothingFailed (log_by (ending_of way)) → (ss : List Stay) → session_of k.cabin.cards e.which ≡ None →
           v.cabin ≡ cabin_by (ending_of way) e noted (measured way e k).cabin → session_of v.cabin.cards e.which ≡ session_by (ending_of way) noted →
-          Turns t u f (log_of out) (log_by (ending_of way)) vehicle (spells_of e.which (notes (log_of out))) (spells_of e.which (notes (log_by (ending_of way)))) (sits_in k.cabin.slots.seats e.which) (sits_in v.cabin.slots.seats e.which) (session_of k.cabin.cards e.which) (session_of v.cabin.cards e.which) U W X Y ss
-      turned way w entered known tells none ss bare cabin session =
-          subst (λ (s : Option Accepted). Turns t u f (log_of out) (log_by (ending_of way)) vehicle (spells_of e.which (notes (log_of out))) (spells_of e.which (notes (log_by (ending_of way)))) (sits_in k.cabin.slots.seats e.which) (sits_in v.cabin.slots.seats e.which) s (session_of v.cabin.cards e.which) U W X Y ss) (sym bare)
+          Turns t e.which u f (log_of out) (log_by (ending_of way)) vehicle (spells_of e.which (notes (log_of out))) (spells_of e.which (notes (log_by (ending_of way)))) (sits_in k.cabin.slots.seats e.which) (sits_in v.cabin.slots.seats e.which) (session_of k.cabin.cards e.which) (session_of v.cabin.cards e.which) U W X Y ss
+      turned way w entered known owes tells none ss bare cabin session =
+          subst (λ (s : Option Accepted). Turns t e.which u f (log_of out) (log_by (ending_of way)) vehicle (spells_of e.which (notes (log_of out))) (spells_of e.which (notes (log_by (ending_of way)))) (sits_in k.cabin.slots.seats e.which) (sits_in v.cabin.slots.seats e.which) s (session_of v.cabin.cards e.which) U W X Y ss) (sym bare)
           (subst (λ (s : Option Accepted). TurnsBy (ending_of way) v.cabin s ss) (sym session)
-          (subst (λ (q : Cabin). TurnsBy (ending_of way) q (session_by (ending_of way) noted) ss) (sym cabin) (own way w (measured way e k).cabin entered.is known.told known.opens tells none ss)))
+          (subst (λ (q : Cabin). TurnsBy (ending_of way) q (session_by (ending_of way) noted) ss) (sym cabin) (own way w owes (measured way e k).cabin entered.is known.told known.opens tells none ss)))

@@ -55,7 +55,7 @@ pub mod Truths
 pub mod MinuteEnds
 pub mod WholeLegs
 pub mod TruthsThen
-mod TruthRows
+mod Since
 pub mod Words
 pub mod EnteredStays
 pub mod NoteRecorded
@@ -99,3 +99,5 @@ pub mod CardWrites
 pub mod Closings
 pub mod CardUses
 pub mod StayUses
+pub mod OwedOn
+pub mod OwedNow

@@ -15,10 +15,10 @@ use Rattle.minute_model.specs.Span.{Span, fed, end_of, decided_in, ungiven_of, A
 use Rattle.minute_model.proofs.Counted.{decided-minutes, ungiven-most, settled-more}
 use Rattle.log_model.specs.Log.{RunLog, Phase}
 use Rattle.log_model.specs.Course.{Told, Visit, Went, went}
-use Rattle.log_model.specs.Spans.{spans_with, spans_of, seconds_in, first_in, AreInOrder, AreApart}
+use Rattle.log_model.specs.Spans.{spans_with, spans_of, seconds_in, first_in, end_in, AreInOrder, AreApart}
 use Rattle.log_model.proofs.Growth.{went-more}
 use Rattle.log_model.proofs.Spanning.{spanned, spans-more as spans-one}
-use Rattle.history_model.specs.Growth.{picking}
+use Rattle.history_model.specs.Growth.{as_span, picking}
 use Rattle.history_model.specs.History.{decided_of}
 use Rattle.history_model.proofs.Deciding.{counted, span-settled}
 use Rattle.history_model.proofs.Growing.{apart-last}
@@ -60,6 +60,27 @@ decided-range sp numbered settled_ m at =
     let low : sp.first / 60 ≤ m.minute = w.0 in
     let high : m.minute < sp.first / 60 + (ungiven_of sp - sp.first / 60) = w.1 in
     (low, omega (arith, high))
+
+-- so of a power span: none before its first second, and each has ended with it
+pub decided-within : (rule : Rule) (span : List Told) → AreNumbered (first_in span) (seconds_in span) → (d : Minute) → Contains (decided_of rule span) d → (first_in span / 60 ≤ d.minute) × (d.minute < end_in span / 60)
+decided-within rule span numbered d at =
+    let all = span-settled rule span numbered in
+    let range = decided-range (as_span rule span) numbered all d at in
+    let most = ungiven-most (as_span rule span) all in
+    let n = counted span in
+    let low : first_in span / 60 ≤ d.minute = range.0 in
+    let high : d.minute < ungiven_of (as_span rule span) = range.1 in
+    (low, omega (arith, high, most, n))
+
+-- and of spans none before the first
+pub decided-late : (rule : Rule) (from until : ℕ) (spans : List (List Told)) → AreApart from spans until → (span : List Told) (d : Minute) → Contains spans span → Contains (decided_of rule span) d → from / 60 ≤ d.minute
+decided-late rule from until [] apart span d at in_ = absurd (omega (arith, at.1))
+decided-late rule from until (x ∷ spans) apart span d at in_ =
+    let begins : from ≤ first_in x = apart.1 in
+    ⊎_elim
+    (λ (is : x ≡ span). let low = (decided-within rule x apart.2 d (subst (λ (y : List Told). Contains (decided_of rule y) d) (sym is) in_)).0 in omega (arith, begins, low))
+    (λ (there : Contains spans span). let rest : (first_in x + length x) / 60 ≤ d.minute = decided-late rule (end_in x) until spans apart.3 span d there in_ in omega (arith, begins, rest))
+    (in-cons x spans span at)
 
 -- ---- a span as it is fed
 

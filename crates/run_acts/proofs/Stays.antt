@@ -26,7 +26,7 @@ use Rattle.run_keeping.proofs.CardDeeds.{made-append, keeps-append, last-append}
 use Rattle.log_model.specs.declared.lines.Find.{Find}
 use Rattle.run_acts.specs.Closings.{Spell, last_shut, with_last_shut, last_slot}
 use Rattle.run_acts.specs.Truths.{Truths, Grow}
-use Rattle.run_acts.specs.Stays.{Shut, Stay, Shown, Coming, comings_of, comings_on, closes, deeds_of, use_after, after_stay, after_stays, start_shown, founds, stay_spell, spells, as_noted, AreMerged, TellsOwed, IsTrueOf, GoesIn, StaysIn, HasStays, stored_by, AreTimely}
+use Rattle.run_acts.specs.Stays.{Shut, Stay, Shown, Coming, comings_of, comings_on, closes, deeds_of, use_after, after_stay, after_stays, start_shown, founds, stay_spell, spells, as_noted, AreMerged, TellsOwed, IsTrueOf, GoesIn, StaysIn, HasStays, stored_by, AreTimely, AreOwed}
 
 -- ---- the last of some stays
 
@@ -88,6 +88,30 @@ on-last-timely f same vehicle size (t ∷ ss) p h = last-timely f same vehicle s
 timely-more : (vehicle : Registration) (size : ℕ) (ss : List Stay) (s : Stay) (p : Shown) → AreTimely vehicle size ss p → stored_by (after_stays vehicle size ss p) ≤ s.found.second → AreTimely vehicle size (ss ++ s ∷ []) p
 timely-more vehicle size [] s p h le = (le, tt)
 timely-more vehicle size (t ∷ ss) s p h le = (h.0, timely-more vehicle size ss s (after_stay vehicle size t p) h.1 le)
+
+-- to which so much was owed
+last-owes : (Owes : (second mark : ℕ) → List Entry → Type 0) (f : Stay → Stay) → ((s : Stay) → (f s).found ≡ s.found) → ((s : Stay) → (f s).owed ≡ s.owed) → (vehicle : Registration) (size : ℕ) (t : Stay) (ss : List Stay) (p : Shown) →
+    AreOwed Owes vehicle size (t ∷ ss) p → AreOwed Owes vehicle size (last_as f t ss) p
+unfolding last_as
+last-owes Owes f same owes vehicle size t [] p h =
+    (subst (λ (g : Find). Owes g.second (mark_of p.book) (f t).owed) (sym (same t)) (subst (λ (es : List Entry). Owes t.found.second (mark_of p.book) es) (sym (owes t)) h.0), tt)
+last-owes Owes f same owes vehicle size t (x ∷ ss) p h = (h.0, last-owes Owes f same owes vehicle size x ss (after_stay vehicle size t p) h.1)
+
+pub on-last-owes : (Owes : (second mark : ℕ) → List Entry → Type 0) (f : Stay → Stay) → ((s : Stay) → (f s).found ≡ s.found) → ((s : Stay) → (f s).owed ≡ s.owed) → (vehicle : Registration) (size : ℕ) (ss : List Stay) (p : Shown) →
+    AreOwed Owes vehicle size ss p → AreOwed Owes vehicle size (on_last f ss) p
+unfolding on_last
+on-last-owes Owes f same owes vehicle size [] p h = tt
+on-last-owes Owes f same owes vehicle size (t ∷ ss) p h = last-owes Owes f same owes vehicle size t ss p h
+
+pub owes-more : (Owes : (second mark : ℕ) → List Entry → Type 0) (vehicle : Registration) (size : ℕ) (ss : List Stay) (s : Stay) (p : Shown) → AreOwed Owes vehicle size ss p → Owes s.found.second (mark_of (after_stays vehicle size ss p).book) s.owed →
+    AreOwed Owes vehicle size (ss ++ s ∷ []) p
+owes-more Owes vehicle size [] s p h is = (is, tt)
+owes-more Owes vehicle size (t ∷ ss) s p h is = (h.0, owes-more Owes vehicle size ss s (after_stay vehicle size t p) h.1 is)
+
+pub owes-grow : (Owes now : (second mark : ℕ) → List Entry → Type 0) → ((second mark : ℕ) (es : List Entry) → Owes second mark es → now second mark es) → (vehicle : Registration) (size : ℕ) (ss : List Stay) (p : Shown) →
+    AreOwed Owes vehicle size ss p → AreOwed now vehicle size ss p
+owes-grow Owes now goes vehicle size [] p h = tt
+owes-grow Owes now goes vehicle size (s ∷ ss) p h = (goes s.found.second (mark_of p.book) s.owed h.0, owes-grow Owes now goes vehicle size ss (after_stay vehicle size s p) h.1)
 
 -- an image has the stored time of what it shows
 stored-own : (app : Application) (x : List ℕ) → (card_view app x).stored ≡ stored_by (record { book = book_of app x; held = current_use app x })
@@ -371,8 +395,12 @@ module _ (u : ℕ) (f : CardFound) (vehicle : Registration) where
     abbrev last_stay : Stay
     last_stay = h.goes.stay
 
+    -- in this second, with this word
+    abbrev shut : Shut
+    shut = record { second = u; word = word }
+
     abbrev closed_stay : Stay
-    closed_stay = with_end act last_stay
+    closed_stay = with_end shut last_stay
 
     abbrev earlier : Shown
     earlier = shown_by h.goes.front

@@ -12,6 +12,8 @@ use Rattle.unit_rule.specs.Odometer.{odometer_after}
 use Rattle.run_rings.specs.Spans.{AreAlike}
 use Rattle.run_ringed.proofs.Stored.{AtEnd, nothing, push, at-end}
 use Rattle.run_acts.specs.Truths.{Truths, Grow, Past, Rides, driven_in, IsOdometerBefore, IsOdometerBehind, truths_by, SpansGoOn, PastGoesOn}
+use Rattle.activity_codec.specs.declared.entries.Entry.{Entry}
+use Rattle.trace_model.specs.declared.Card.{Card}
 
 -- ---- what was driven
 
@@ -149,13 +151,14 @@ spans-alike told t x alike =
 -- ---- truths that stay
 
 pub grow-self : (t : Truths) → Grow t t
-grow-self t = record { accepted = λ f odometer h. h; kept = λ k h. h; closed = λ slot second word h. h }
+grow-self t = record { accepted = λ f odometer h. h; kept = λ k h. h; closed = λ slot second word h. h; owed = λ c second mark es h. h }
 
 pub grow-on : (t u v : Truths) → Grow t u → Grow u v → Grow t v
 grow-on t u v first next = record {
   accepted = λ f odometer h. next.accepted f odometer (first.accepted f odometer h);
   kept = λ k h. next.kept k (first.kept k h);
   closed = λ slot second word h. next.closed slot second word (first.closed slot second word h);
+  owed = λ c second mark es h. next.owed c second mark es (first.owed c second mark es h);
 }
 
 -- odometers and words of seconds that lie in spans which have gone on
@@ -175,8 +178,9 @@ behind-on rule start a b on u odometer h =
     }
 
 -- A RUN THAT GOES ON takes nothing back
-pub past-grows : (rule : Rule) (start : ℕ) (p q : Past) → PastGoesOn p q → Grow (truths_by rule start p) (truths_by rule start q)
-past-grows rule start p q on = record {
+pub past-grows : (rule : Rule) (start : ℕ) (p q : Past) (owed now : Card → (second mark : ℕ) → List Entry → Type 0) → PastGoesOn p q → ((c : Card) (second mark : ℕ) (es : List Entry) → owed c second mark es → now c second mark es) →
+    Grow (truths_by rule start p owed) (truths_by rule start q now)
+past-grows rule start p q owed now on goes = record {
   accepted = λ f odometer h. before-on rule start p.spans q.spans on.spans f.second odometer h;
   kept = λ k h. behind-on rule start p.spans q.spans on.spans (60 * k.entry.minute + 59) k.odometer.0 h;
   closed = λ slot second word h.
@@ -188,4 +192,5 @@ past-grows rule start p q on = record {
         number = h.number;
         is = h.is;
       };
+  owed = goes;
 }

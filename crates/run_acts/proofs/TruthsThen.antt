@@ -10,7 +10,7 @@ use Rattle.log_model.specs.Spans.{spans_of}
 use Rattle.log_model.proofs.Growth.{went-more}
 use Rattle.unit_model.specs.Image.{odometer_at}
 use Rattle.run_rings.specs.Spans.{AreAlike}
-use Rattle.run_recorded.specs.Origin.{Origin, rule_of}
+use Rattle.run_recorded.specs.Origin.{Origin, rule_of, start_at}
 use Rattle.run_recorded.specs.Whole.{NothingFailed}
 use Rattle.safety_model.specs.Safe.{Devices}
 use Rattle.run_within.specs.Recorded.{Values}
@@ -19,6 +19,11 @@ use Rattle.run_within.specs.Turning.{last_of, before_last}
 use Rattle.run_acts.specs.Truths.{Grow, past_of, truths_of, truths_within, SpansGoOn, PastGoesOn}
 use Rattle.run_acts.proofs.AllStay.{fewer-none}
 use Rattle.run_acts.proofs.Truths.{spans-more, spans-alike, spans-on, spans-same, past-grows, grow-on}
+use Rattle.activity_codec.specs.declared.entries.Entry.{Entry}
+use Rattle.trace_model.specs.declared.Card.{Card}
+use Rattle.safety_model.specs.Recording.{brought}
+use Rattle.run_acts.specs.Owed.{IsOwed}
+use Rattle.run_acts.proofs.OwedOn.{owed-more, owed-same, owed-end}
 
 -- one second more
 told-more : (log : RunLog) (done : List TraceSecond) (s : TraceSecond) → (went log (done ++ s ∷ [])).told ≡ (went log done).told ++ second_told log (went log done).before s ∷ []
@@ -76,19 +81,27 @@ began-none o done s at waits speed rest v d w none =
 module _ (o : Origin) where
   -- as a second begins,
   pub truths-begin : (log : RunLog) (done : List TraceSecond) (s : TraceSecond) → Grow (truths_of o log done) (truths_within o log done s)
-  truths-begin log done s = past-grows (rule_of o) (odometer_at o.recording.unit) (past_of log done) (past_of log (done ++ s ∷ [])) (past-then log done (s ∷ []))
+  truths-begin log done s = past-grows (rule_of o) (odometer_at o.recording.unit) (past_of log done) (past_of log (done ++ s ∷ []))
+      (λ c. IsOwed (rule_of o) (start_at o) log done c (brought o.recording c).owed) (λ c. IsOwed (rule_of o) (start_at o) log (done ++ s ∷ []) c (brought o.recording c).owed) (past-then log done (s ∷ []))
+      (λ c second mark es h. owed-more (rule_of o) (start_at o) log done (s ∷ []) c (brought o.recording c).owed second mark es h)
 
   -- as it ends,
   pub truths-end : (began later : RunLog) (done : List TraceSecond) (s : TraceSecond) → went later done ≡ went began done → Grow (truths_within o began done s) (truths_of o later (done ++ s ∷ []))
-  truths-end began later done s same = past-grows (rule_of o) (odometer_at o.recording.unit) (past_of began (done ++ s ∷ [])) (past_of later (done ++ s ∷ [])) (past-later began later done s same)
+  truths-end began later done s same = past-grows (rule_of o) (odometer_at o.recording.unit) (past_of began (done ++ s ∷ [])) (past_of later (done ++ s ∷ []))
+      (λ c. IsOwed (rule_of o) (start_at o) began (done ++ s ∷ []) c (brought o.recording c).owed) (λ c. IsOwed (rule_of o) (start_at o) later (done ++ s ∷ []) c (brought o.recording c).owed) (past-later began later done s same)
+      (λ c second mark es h. owed-end (rule_of o) (start_at o) began later done s same c (brought o.recording c).owed second mark es h)
 
   -- behind more seconds,
   pub truths-more : (log : RunLog) (done more : List TraceSecond) → Grow (truths_of o log done) (truths_of o log (done ++ more))
-  truths-more log done more = past-grows (rule_of o) (odometer_at o.recording.unit) (past_of log done) (past_of log (done ++ more)) (past-then log done more)
+  truths-more log done more = past-grows (rule_of o) (odometer_at o.recording.unit) (past_of log done) (past_of log (done ++ more))
+      (λ c. IsOwed (rule_of o) (start_at o) log done c (brought o.recording c).owed) (λ c. IsOwed (rule_of o) (start_at o) log (done ++ more) c (brought o.recording c).owed) (past-then log done more)
+      (λ c second mark es h. owed-more (rule_of o) (start_at o) log done more c (brought o.recording c).owed second mark es h)
 
   -- and by a log that tells the same of them
   pub truths-same : (log later : RunLog) (done : List TraceSecond) → went later done ≡ went log done → Grow (truths_of o log done) (truths_of o later done)
-  truths-same log later done same = past-grows (rule_of o) (odometer_at o.recording.unit) (past_of log done) (past_of later done) (past-same log later done same)
+  truths-same log later done same = past-grows (rule_of o) (odometer_at o.recording.unit) (past_of log done) (past_of later done)
+      (λ c. IsOwed (rule_of o) (start_at o) log done c (brought o.recording c).owed) (λ c. IsOwed (rule_of o) (start_at o) later done c (brought o.recording c).owed) (past-same log later done same)
+      (λ c second mark es h. owed-same (rule_of o) (start_at o) log later done same c (brought o.recording c).owed second mark es h)
 
   -- IN THE LAST of several seconds what the first has made true is true
   pub truths-last : (began log : RunLog) (done : List TraceSecond) (s : TraceSecond) (c : ℕ) → went log done ≡ went began done → (last : RunLog) → last ≡ log →

@@ -4,7 +4,7 @@ use Rattle.std.proofs.Common.{◌≡◌, ◌∙◌, ◌⊎◌, inl, inr, ⊎_eli
 use Rattle.std.specs.Prelude.{unwrap_or}
 use Rattle.std.specs.List.{AllByRecursion}
 use Rattle.std.proofs.lemmas.List.{append_cancel_right}
-use Rattle.std.proofs.lemmas.List.Elements.{All-nil, All-contains, Contains-append_left, Contains-append_right, Contains-append_cases, Contains-push, Contains-push_cases}
+use Rattle.std.proofs.lemmas.List.Elements.{All-nil, All-contains, Contains-append_left, Contains-append_right, Contains-append_cases, Contains-push}
 use Rattle.std.proofs.lemmas.List.Sums.{fold-append}
 use Rattle.activity_codec.specs.declared.entries.Entry.{Entry}
 use Rattle.trace_model.specs.declared.Card.{Card}
@@ -26,7 +26,7 @@ use Rattle.history_model.specs.Completeness.{IsMarked, deciding_of}
 use Rattle.history_model.specs.Growth.{closed_limit, closed_history}
 use Rattle.history_model.proofs.Books.{up_to-within}
 use Rattle.history_model.proofs.Deciding.{apart-ended}
-use Rattle.history_model.proofs.Decided.{after-decided, decided-after, limited-among, rises-within}
+use Rattle.history_model.proofs.Decided.{after-decided, limited-among, rises-within}
 use Rattle.history_model.proofs.Rising.{rises-span, rises-spans}
 use Rattle.card_session.specs.declared.session.Kept.{Kept}
 use Rattle.unit_model.specs.declared.layout.TheConstants.{HIGHEST_ODOMETER}
@@ -59,7 +59,7 @@ use Rattle.run_within.specs.Recorded.{Values}
 use Rattle.run_within.specs.Within.{Within}
 use Rattle.run_acts.specs.Truths.{driven_in, IsOdometerBefore, IsOdometerBehind, past_of, truths_of}
 use Rattle.run_acts.proofs.RingedSecond.{travelled-is}
-use Rattle.run_acts.proofs.MinuteEnds.{followed-lit, minute-range, minute-ends, this-lit, spans-now}
+use Rattle.run_acts.proofs.MinuteEnds.{decided-within, decided-late, followed-lit, minute-range, minute-ends, this-lit, spans-now}
 
 -- ---- spans, and those behind them
 
@@ -73,7 +73,7 @@ pub begins-late : (rule : Rule) (mid until : ℕ) (span : List Told) → AreApar
 begins-late rule mid until [] h = h
 begins-late rule mid until (t ∷ span) h = h.1
 
-span-late : (rule : Rule) (start : Start) (told : List Told) (past : List HistoryMinute) (mid until : ℕ) (span : List Told) → AreApart mid (as_spans span) until → (i : HistoryMinute) → Contains (span_minutes rule start told past span) i → mid / 60 ≤ i.minute
+pub span-late : (rule : Rule) (start : Start) (told : List Told) (past : List HistoryMinute) (mid until : ℕ) (span : List Told) → AreApart mid (as_spans span) until → (i : HistoryMinute) → Contains (span_minutes rule start told past span) i → mid / 60 ≤ i.minute
 span-late rule start told past mid until [] h i at =
     absurd (let none : Contains {X = HistoryMinute} [] i = subst (λ (ds : List Minute). Contains (minutes_after start told past ds) i) (decided-empty rule) at in omega (arith, none.1))
 span-late rule start told past mid until (t ∷ span) h i at =
@@ -95,11 +95,7 @@ module _ (rule : Rule) (start : Start) (log : RunLog) (found : List Break) (told
     where
       -- of this span, and of those behind it
       mine : (d : Minute) → Contains (decided_of rule span) d → d.minute < end_in span / 60
-      mine d at =
-          let i = decided-after start told past (decided_of rule span) d at in
-          let w = (rises-within (first_in span / 60) (end_in span / 60) (span_minutes rule start told past span) i.0 (rises-span rule start told past span apart.2) i.1).1 in
-          let same = i.2 in
-          omega (arith, w, same)
+      mine d at = (decided-within rule span apart.2 d at).1
 
       theirs : (i : HistoryMinute) → Contains (history_by rule start (closed_limit log) told (past ++ limited_to (closed_limit log span later) (span_minutes rule start told past span)) later) i → end_in span / 60 ≤ i.minute
       theirs i at =
@@ -139,35 +135,21 @@ module _ (rule : Rule) (start : Start) (log : RunLog) (found : List Break) (told
           ⊎_elim
           (λ here. absurd (
           let high = own i.0 here in
-          let low = late-in (end_in span) until later apart.3 s d at in_ in
+          let low = decided-late rule (end_in span) until later apart.3 s d at in_ in
           let same = i.2 in
           omega (arith, high, low, same)))
           (λ there. (i.0, there, i.2))
           (Contains-append_cases (limited_to (closed_limit log span later) (span_minutes rule start told past span))
           (history_by rule start (closed_limit log) told (past ++ limited_to (closed_limit log span later) (span_minutes rule start told past span)) later) i.0 i.1)
-        where
-          late-in : (from until : ℕ) (spans : List (List Told)) → AreApart from spans until → (s : List Told) (d : Minute) → Contains spans s → Contains (decided_of rule s) d → from / 60 ≤ d.minute
-          late-in from until [] apart s d at in_ = absurd (omega (arith, at.1))
-          late-in from until (x ∷ spans) apart s d at in_ =
-              let begins : from ≤ first_in x = apart.1 in
-              ⊎_elim
-              (λ here. ⊎_elim
-              (λ none. absurd (omega (arith, none.1)))
-              (λ (is : x ≡ s).
-              let i = decided-after start told [] (decided_of rule x) d (subst (λ (y : List Told). Contains (decided_of rule y) d) (sym is) in_) in
-              let w = (rises-within (first_in x / 60) (end_in x / 60) (span_minutes rule start told [] x) i.0 (rises-span rule start told [] x apart.2) i.1).0 in
-              let same = i.2 in
-              omega (arith, begins, w, same))
-              (Contains-push_cases [] x s here))
-              (λ there. let rest : (first_in x + length x) / 60 ≤ d.minute = late-in (end_in x) until spans apart.3 s d there in_ in omega (arith, begins, rest))
-              (Contains-append_cases (x ∷ []) spans s at)
 
--- ---- NO MINUTE OF THE SPANS BEFORE IS LOST, where each is acknowledged, and what is acknowledged is in the book or newer
-module _ (rule : Rule) (start : Start) (log : RunLog) (found : List Break) (told : List Told) (ended : List (List Told)) (span : List Told) (from until : ℕ) (apart : AreApart from (ended ++ as_spans span) until)
-    (known : AllByRecursion (IsKnown rule found) ended) (sure new : List HistoryMinute) (are : closed_history rule start log told ended ++ span_minutes rule start told (closed_history rule start log told ended) span ≡ sure)
-    (held : (e : List Told) (d : Minute) → Contains ended e → Contains (decided_of rule e) d → (i : HistoryMinute) × Contains (sure ++ new) i × (i.minute ≡ d.minute)) (late : (i : HistoryMinute) → Contains new i → (span_at rule until span).first / 60 ≤ i.minute) where
-  parts : (mid : ℕ) × AreApart from ended mid × AreApart mid (as_spans span) until
-  parts = apart-front from until ended (as_spans span) apart
+-- ---- NO MINUTE OF SOME SPANS IS LOST, where each is acknowledged, and what is acknowledged is in the book or newer: that has what the limits of their
+-- cuts leave, and then minutes of the spans behind them
+module _ (rule : Rule) (start : Start) (log : RunLog) (found : List Break) (told : List Told) (ended behind : List (List Told)) (from until : ℕ) (apart : AreApart from (ended ++ behind) until) (known : AllByRecursion (IsKnown rule found) ended)
+    (sure going new : List HistoryMinute) (are : closed_history rule start log told ended ++ going ≡ sure)
+    (held : (e : List Told) (d : Minute) → Contains ended e → Contains (decided_of rule e) d → (i : HistoryMinute) × Contains (sure ++ new) i × (i.minute ≡ d.minute))
+    (late : (mid : ℕ) → AreApart mid behind until → (i : HistoryMinute) → Contains (going ++ new) i → mid / 60 ≤ i.minute) where
+  parts : (mid : ℕ) × AreApart from ended mid × AreApart mid behind until
+  parts = apart-front from until ended behind apart
 
   each : (e : List Told) (d : Minute) → Contains ended e → Contains (decided_of rule e) d → (i : HistoryMinute) × Contains (closed_history rule start log told ended) i × (i.minute ≡ d.minute)
   each e d at in_ =
@@ -178,16 +160,13 @@ module _ (rule : Rule) (start : Start) (log : RunLog) (found : List Break) (told
       ⊎_elim
       (λ old. ⊎_elim
       (λ here. (i.0, here, i.2))
-      (λ going. absurd (let low = span-late rule start told (closed_history rule start log told ended) parts.0 until span parts.2 i.0 going in omega (arith, early, low, same)))
-      (Contains-append_cases (closed_history rule start log told ended) (span_minutes rule start told (closed_history rule start log told ended) span) i.0 (subst (λ (is : List HistoryMinute). Contains is i.0) (sym are) old)))
-      (λ newer. absurd (let low = late i.0 newer in let begins = begins-late rule parts.0 until span parts.2 in omega (arith, early, low, begins, same)))
+      (λ later. absurd (let low = late parts.0 parts.2 i.0 (Contains-append_left going new i.0 later) in omega (arith, early, low, same)))
+      (Contains-append_cases (closed_history rule start log told ended) going i.0 (subst (λ (is : List HistoryMinute). Contains is i.0) (sym are) old)))
+      (λ newer. absurd (let low = late parts.0 parts.2 i.0 (Contains-append_right going new i.0 newer) in omega (arith, early, low, same)))
       (Contains-append_cases sure new i.0 i.1)
 
   pub whole-ended : AreWhole rule (closed_limit log) 0 ended
   whole-ended = whole-by rule start log found told [] from parts.0 ended parts.1 known each
-
-  pub legs-are : (legs : List ℕ) → AreLegs rule (closed_limit log) 0 ended legs → legs ≡ whole_legs rule ended
-  legs-are legs closed = legs-whole rule (closed_limit log) 0 ended legs whole-ended closed
 
 -- the same kilometres make the same odometer
 pub same-odometer : (start : ℕ) (xs ys : List ℕ) → start ≤ HIGHEST_ODOMETER → kilometres_of xs ≡ kilometres_of ys → odometer_after start xs ≡ odometer_after start ys
@@ -237,12 +216,23 @@ module _ (o : Origin) (done : List TraceSecond) (s : TraceSecond) (at : Phase) (
       let low = (minute-range o done s at waits speed rest v d w m.0 (Contains-append_left w.ds rest m.0 m.1)).0 in
       subst (λ (n : ℕ). (span_at (rule_of o) w.b.run.next w.b.span).first / 60 ≤ n) m.2 low
 
-  book-is : closed_history (rule_of o) (start_at o) w.b.run.log told_so_far ended_so_far ++ span_minutes (rule_of o) (start_at o) told_so_far (closed_history (rule_of o) (start_at o) w.b.run.log told_so_far ended_so_far) w.b.span ≡ w.b.run.book.sure
+  pub book-is : closed_history (rule_of o) (start_at o) w.b.run.log told_so_far ended_so_far ++ span_minutes (rule_of o) (start_at o) told_so_far (closed_history (rule_of o) (start_at o) w.b.run.log told_so_far ended_so_far) w.b.span ≡ w.b.run.book.sure
   book-is = (followed-lit o done s at waits speed rest v d w).tied.minutes ∙ ap (λ (is : List HistoryMinute). w.b.run.book.sure ++ is) w.began.waiting ∙ append-nil w.b.run.book.sure
+
+  going-late : (mid : ℕ) → AreApart mid (as_spans w.b.span) w.b.run.next → (i : HistoryMinute) → Contains (span_minutes (rule_of o) (start_at o) told_so_far (closed_history (rule_of o) (start_at o) w.b.run.log told_so_far ended_so_far) w.b.span ++ w.new) i →
+      mid / 60 ≤ i.minute
+  going-late mid h i among = ⊎_elim
+      (λ here. span-late (rule_of o) (start_at o) told_so_far (closed_history (rule_of o) (start_at o) w.b.run.log told_so_far ended_so_far) mid w.b.run.next w.b.span h i here)
+      (λ newer. let low = new-late i newer in let begins = begins-late (rule_of o) mid w.b.run.next w.b.span h in above mid (span_at (rule_of o) w.b.run.next w.b.span).first i.minute begins low)
+      (Contains-append_cases (span_minutes (rule_of o) (start_at o) told_so_far (closed_history (rule_of o) (start_at o) w.b.run.log told_so_far ended_so_far) w.b.span) w.new i among)
+    where
+      above : (a b m : ℕ) → a ≤ b → b / 60 ≤ m → a / 60 ≤ m
+      above a b m le low = omega (arith, le, low)
 
   pub whole-before : AreWhole (rule_of o) (closed_limit w.b.run.log) 0 (followed-lit o done s at waits speed rest v d w).ended
   whole-before =
-      whole-ended (rule_of o) (start_at o) w.b.run.log (take w.b.run.unfound w.b.run.log.breaks) told_so_far ended_so_far w.b.span o.from w.b.run.next all-apart (followed-lit o done s at waits speed rest v d w).tied.known w.b.run.book.sure w.new book-is held-ended new-late
+      whole-ended (rule_of o) (start_at o) w.b.run.log (take w.b.run.unfound w.b.run.log.breaks) told_so_far ended_so_far (as_spans w.b.span) o.from w.b.run.next all-apart (followed-lit o done s at waits speed rest v d w).tied.known
+      w.b.run.book.sure (span_minutes (rule_of o) (start_at o) told_so_far (closed_history (rule_of o) (start_at o) w.b.run.log told_so_far ended_so_far) w.b.span) w.new book-is held-ended going-late
 
   -- THE ODOMETER that power began with
   base-is : v.odometer ≡ odometer_after (odometer_at o.recording.unit) (whole_legs (rule_of o) (followed-lit o done s at waits speed rest v d w).ended)

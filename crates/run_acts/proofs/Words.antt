@@ -29,9 +29,10 @@ use Rattle.run_recorded.specs.Origin.{Origin, rule_of}
 use Rattle.run_within.specs.Recorded.{Values}
 use Rattle.run_within.specs.Within.{Within, course_in}
 use Rattle.run_course.specs.Seconds.{next_told}
-use Rattle.run_acts.specs.Words.{picks_of, IsWordOf}
+use Rattle.run_acts.specs.Words.{picks_of, tried, IsWordOf}
 use Rattle.run_acts.specs.Truths.{past_of, IsWordIn}
 use Rattle.run_acts.proofs.NotesThen.{Parts, split, get-at, actions-at}
+use Rattle.run_acts.proofs.Since.{by-untried, allowed-sits, allowed-still}
 use Rattle.run_acts.proofs.MinuteEnds.{followed-lit, this-lit, spans-now}
 
 -- ---- settlings are no part of it
@@ -117,6 +118,11 @@ takes-one n (Withdraw y) None slots slot x is = withdraw-own y slot (visits (In 
 takes-one n (Tear y) None slots slot x is = absurd (let wrong : [] ≡ x ∷ [] = is in cc)
 takes-one n (Place y ending country region) None slots slot x is = absurd (let wrong : [] ≡ x ∷ [] = is in cc)
 
+-- and it is not refused
+takes-allowed : (n : ℕ) (a : Action) (r : Option SlotFault) (slots : Slots) (slot : Slot) (x : Visit) → (moved_by n r a slots).leaving slot ≡ x ∷ [] → r ≡ None
+takes-allowed n a None slots slot x is = refl
+takes-allowed n a (Some fault) slots slot x is = absurd (let wrong : [] ≡ x ∷ [] = is in cc)
+
 -- ---- THE WORD
 
 module _ (o : Origin) (done : List TraceSecond) (s : TraceSecond) (n : ℕ) (waits : List Visit) (rest : List Minute) (v : Values) (d : Devices) (w : Within o done s (In n) waits None rest v d) (slot : Slot) (x : Visit)
@@ -132,13 +138,26 @@ module _ (o : Origin) (done : List TraceSecond) (s : TraceSecond) (n : ℕ) (wai
     got : slice_get s.actions m ≡ Some p.a
     got = ap (λ (as_ : List Action). slice_get as_ m) p.are ∙ ap (λ (k : ℕ). slice_get (p.front ++ p.a ∷ p.rest) k) (sym p.count) ∙ get-at p.front p.a p.rest
 
+    taken : (moved_by m (refusal (course_by v.log was s m).slots s.speed p.a) p.a (course_by v.log was s m).slots).leaving slot ≡ x ∷ []
+    taken = sym (ap (λ (q : Option Action). (moved_with m q s.speed (course_by v.log was s m)).leaving slot) got) ∙ sym (ap (λ (k : ℕ). (moved_at v.log was s (In k)).leaving slot) here) ∙ leaves_
+
     is-withdraw : p.a ≡ Withdraw slot
-    is-withdraw =
-        takes-one m p.a (refusal (course_by v.log was s m).slots s.speed p.a) (course_by v.log was s m).slots slot x
-        (sym (ap (λ (q : Option Action). (moved_with m q s.speed (course_by v.log was s m)).leaving slot) got) ∙ sym (ap (λ (k : ℕ). (moved_at v.log was s (In k)).leaving slot) here) ∙ leaves_)
+    is-withdraw = takes-one m p.a (refusal (course_by v.log was s m).slots s.speed p.a) (course_by v.log was s m).slots slot x taken
+
+    allowed : refusal (course_by v.log was s m).slots s.speed (Withdraw slot) ≡ None
+    allowed =
+        sym (ap (λ (a : Action). refusal (course_by v.log was s m).slots s.speed a) is-withdraw)
+        ∙ takes-allowed m p.a (refusal (course_by v.log was s m).slots s.speed p.a) (course_by v.log was s m).slots slot x taken
 
     front-is : take m s.actions ≡ p.front
     front-is = ap (λ (k : ℕ). take k s.actions) (sym p.count) ∙ actions-at p.front (p.a ∷ p.rest) s.actions p.are
+
+    -- none was withdrawn from the slot since a card was put in it
+    first-here : tried slot false p.front ≡ false
+    first-here =
+        let slots : Slots = (course_by v.log was s m).slots in
+        ap (λ (as_ : List Action). tried slot false as_) (sym front-is)
+        ∙ by-untried v.log was s w.moment.up_to.uncut (allowed-still slots s.speed slot allowed) slot m (allowed-sits slots s.speed slot allowed)
 
     -- what was selected by then
     picks-here : (course_in w.b done s (In n) v.log).picks ≡ picks_of p.front
@@ -156,6 +175,7 @@ module _ (o : Origin) (done : List TraceSecond) (s : TraceSecond) (n : ℕ) (wai
       front = p.front;
       rest = p.rest;
       are = p.are ∙ ap (λ (a : Action). p.front ++ a ∷ p.rest) is-withdraw;
+      first = first-here;
       is =
           is ∙ ap (λ (sp : Span). activity_next slot sp) w.decided.span_is
           ∙ activity-settled w.decided.times slot (course_in w.b done s (In n) v.log).picks (span_at (rule_of o) w.b.run.next w.b.span)

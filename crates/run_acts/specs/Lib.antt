@@ -30,3 +30,4 @@ pub mod Closings
 pub mod Comings
 pub mod Words
 pub mod Truths
+pub mod Owed

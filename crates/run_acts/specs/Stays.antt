@@ -105,6 +105,13 @@ abbrev pub AreTimely : Registration → (size : ℕ) → List Stay → Shown →
 AreTimely vehicle size [] p = Unit {0}
 AreTimely vehicle size (s ∷ ss) p = (stored_by p ≤ s.found.second) × AreTimely vehicle size ss (after_stay vehicle size s p)
 
+-- ---- what was owed to their card
+
+-- WHAT WAS OWED AT EACH OF THEM is that which is owed so, by its second and the end mark of what the card showed by then.
+abbrev pub AreOwed : (Owes : (second mark : ℕ) → List Entry → Type 0) → Registration → (size : ℕ) → List Stay → Shown → Type 0
+AreOwed Owes vehicle size [] p = Unit {0}
+AreOwed Owes vehicle size (s ∷ ss) p = Owes s.found.second (mark_of p.book) s.owed × AreOwed Owes vehicle size ss (after_stay vehicle size s p)
+
 -- ---- how many
 
 -- the lines of a log that tell of an acceptance
@@ -151,6 +158,10 @@ TellsOwed s = s.found.verdict ≡ AcceptedWith (length s.owed)
 -- A STAY IS TRUE: its acceptance told the odometer of then, each of its minutes that of its end, and it was closed with the word of its slot.
 abbrev pub IsTrueOf : Truths → Stay → Type 0
 IsTrueOf t s = t.accepted s.found s.odometer × AllByRecursion t.kept s.kepts × IfSome s.closed (λ x. t.closed s.found.slot x.second x.word)
+
+-- SO IS EACH of these, of a card with this image at the start; and what was owed at it was owed so
+abbrev pub AreTrue : Truths → Card → Registration → (image : List ℕ) → List Stay → Type 0
+AreTrue t c vehicle image ss = AllByRecursion (IsTrueOf t) ss × AreOwed (t.owed c) vehicle (own_sizes image).activity ss (start_shown image)
 
 -- ---- the vehicle before
 
@@ -225,7 +236,7 @@ pub record AreStays (o : Origin) (t : Truths) (second : ℕ) (notes : List Note)
   pub only : (c : Card) → (stays c ≡ []) ⊎ IsOwnValid (found_of o.found c).image
   pub each : (c : Card) → IsOwnValid (found_of o.found c).image →
       HasStays second (found_of o.found c) vehicle (spells_of c notes) (sits_in cabin.slots.seats c) (stays c) (session_of cabin.cards c) (card_of d c)
-  pub hold : (c : Card) → AllByRecursion (IsTrueOf t) (stays c)
+  pub hold : (c : Card) → AreTrue t c vehicle (found_of o.found c).image (stays c)
   pub placed : (c : Card) → IsOwnValid (found_of o.found c).image → IsPlaced notes cabin c
   pub befores : TellsBefores (HasRing insertion_ring o.recording.unit) o.recording.unit acceptances vehicle (λ (c : Card). (found_of o.found c).image) stays d.unit
 

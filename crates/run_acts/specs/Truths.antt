@@ -13,20 +13,27 @@ use Rattle.card_session.specs.declared.session.Kept.{Kept}
 use Rattle.unit_course.specs.Legs.{whole_legs}
 use Rattle.unit_model.specs.Image.{odometer_at}
 use Rattle.unit_rule.specs.Odometer.{odometer_after}
-use Rattle.run_recorded.specs.Origin.{Origin, rule_of}
+use Rattle.run_recorded.specs.Origin.{Origin, rule_of, start_at}
 use Rattle.run_acts.specs.Words.{IsWordOf}
+use Rattle.activity_codec.specs.declared.entries.Entry.{Entry}
+use Rattle.trace_model.specs.declared.Card.{Card}
+use Rattle.safety_model.specs.Recording.{brought}
+use Rattle.run_acts.specs.Owed.{IsOwed}
 
--- WHAT IS TRUE of an acceptance (the odometer then), of a minute kept, and of a closing (the slot, the second and the word)
+-- WHAT IS TRUE of an acceptance (the odometer then), of a minute kept, of a closing (the slot, the second and the word), and of what was owed to a card (the
+-- second, its end mark then, and the entries)
 pub record Truths : Type 1 where
   pub accepted : Find → (odometer : ℕ) → Type 0
   pub kept : Kept → Type 0
   pub closed : Slot → (second : ℕ) → Activity → Type 0
+  pub owed : Card → (second mark : ℕ) → List Entry → Type 0
 
 -- what is true stays so
 pub record Grow (t u : Truths) : Type 0 where
   pub accepted : (f : Find) (odometer : ℕ) → t.accepted f odometer → u.accepted f odometer
   pub kept : (k : Kept) → t.kept k → u.kept k
   pub closed : (slot : Slot) (second : ℕ) (word : Activity) → t.closed slot second word → u.closed slot second word
+  pub owed : (c : Card) (second mark : ℕ) (es : List Entry) → t.owed c second mark es → u.owed c second mark es
 
 -- ---- a run so far
 
@@ -73,16 +80,17 @@ pub record IsWordIn (rule : Rule) (p : Past) (slot : Slot) (second : ℕ) (word 
 
 -- where the odometer stood so at the start: an acceptance tells the odometer of its second, a kept minute that of its end, and a closing has the word
 -- of its slot
-abbrev pub truths_by : Rule → (start : ℕ) → Past → Truths
-truths_by rule start p = record {
+abbrev pub truths_by : Rule → (start : ℕ) → Past → (owed : Card → (second mark : ℕ) → List Entry → Type 0) → Truths
+truths_by rule start p owed = record {
   accepted = λ f odometer. IsOdometerBefore rule start p.spans f.second odometer;
   kept = λ k. IsOdometerBehind rule start p.spans (60 * k.entry.minute + 59) k.odometer.0;
   closed = λ slot second word. IsWordIn rule p slot second word;
+  owed = owed;
 }
 
 -- behind these seconds, by this log
 abbrev pub truths_of : Origin → RunLog → List TraceSecond → Truths
-truths_of o log done = truths_by (rule_of o) (odometer_at o.recording.unit) (past_of log done)
+truths_of o log done = truths_by (rule_of o) (odometer_at o.recording.unit) (past_of log done) (λ c. IsOwed (rule_of o) (start_at o) log done c (brought o.recording c).owed)
 
 -- WITHIN A SECOND: by the log as it began, and with that second
 abbrev pub truths_within : Origin → (began : RunLog) → List TraceSecond → TraceSecond → Truths

@@ -203,6 +203,7 @@ module _ (U V : State) (is : IsRead U V) where
                 closed = s.closed;
                 words = s.words;
                 odometers = s.odometers;
+                owes = s.owes;
                 timely = s.timely;
                 befores = record { comings = s.befores.comings; lines = s.befores.lines; merged = s.befores.merged; tells = λ dense y left. s.befores.tells dense y (now-back y left) };
               };

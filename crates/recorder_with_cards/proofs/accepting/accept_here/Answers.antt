@@ -45,6 +45,7 @@ use Rattle.run_acts.proofs.EnteredStays.{finds-noted, entered-stays}
 use Rattle.run_entering.proofs.CardBrought.{sits-works}
 use Rattle.recorder_with_cards.proofs.EnteredCards.{judged-cards}
 use Rattle.recorder_with_cards.proofs.accepting.accept_here.Goals as goal
+use Rattle.run_acts.proofs.OwedNow.{owed-told}
 
 pub returns-clause-beside : goal.returns-clause-beside
 returns-clause-beside g c =
@@ -188,6 +189,9 @@ returns-clause-recorded g c = λ room odometer o done s n waits fewer at next ti
     (accepted-now o done s (In n) waits [] (values_of run c.args.outcome.now) (arranged e.which U X Y) next.goes.within (began-none o done s (In n) waits None [] (values_of run c.args.outcome.now) (arranged e.which U X Y) next.goes.within none_)
     e.odometer.0 (odometer next.goes.within.sp next.goes.within.minutes))) w.0 _ w.1
     (known o done s n waits fewer e run.keeper c.args.outcome.now run.unfound run.next run.begun run.minutes U X Y next.goes.within may failed c.accept-answer.new.keeper run.noted c.accept-answer.new.noted c.accept-answer.new.outcome V Z w.0 gone sound)
+    (λ none_ entered told.
+    owed-told o done s n waits fewer e run.keeper c.args.outcome.now run.unfound run.next run.begun run.minutes U X Y next.goes.within may sound.card_before
+    (began-none o done s (In n) waits None [] (values_of run c.args.outcome.now) (arranged e.which U X Y) next.goes.within none_) entered told)
     (way-tells (found_of o.found e.which) run.keeper.memory.registration e failed U.image U V X Z well low c.requires.fits seen.0 seen.1
     (λ valid. ((next.goes.within.powered.go.held e.which valid).now seen.0 (mine-back e.which U X Y (λ (q : State). q.may_leave seen.0) seen.1)).0) w.0 w.1.is seen.2 writes) sits.1
     (others-session e.which run.keeper.cabin.cards c.accept-answer.new.keeper.cabin.cards
