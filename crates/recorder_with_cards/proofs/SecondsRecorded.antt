@@ -142,7 +142,7 @@ module _ (o : Origin) (done : List TraceSecond) (old : Run) (before : Outcome) (
             (truths-same o (log_of before) (record (log_of before) { refused = before.refused.items ++ refused_dark old.next actions }) done (went-refused (log_of before) (before.refused.items ++ refused_dark old.next actions) done))
             (truths-more o (record (log_of before) { refused = before.refused.items ++ refused_dark old.next actions }) done (driven (suc n) old.next speed actions))))
             (all-noted o (marked before.marks.items (truths_of o (log_of before) done)) 0 (log_of before) (record (log_of before) { refused = before.refused.items ++ refused_dark old.next actions }) (notes_in (log_of before) done)
-            (notes_in (record (log_of before) { refused = before.refused.items ++ refused_dark old.next actions }) (done ++ driven (suc n) old.next speed actions)) old.keeper.memory.registration old.keeper.cabin d (λ none. record { none = none; finds = refl })
+            (notes_in (record (log_of before) { refused = before.refused.items ++ refused_dark old.next actions }) (done ++ driven (suc n) old.next speed actions)) old.keeper.memory.registration old.keeper.cabin d (λ none. record { none = none; finds = refl; judged = refl })
             (λ none c. ap (λ (ns : List Note). spells_of c ns)
             (notes-refused (log_of before) (before.refused.items ++ refused_dark old.next actions) (done ++ driven (suc n) old.next speed actions)
             ∙ notes-lost (suc n) (log_of before) done old.next speed actions was.recorded.followed.power lost.1 fits)) h.stay);

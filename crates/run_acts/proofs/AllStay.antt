@@ -38,7 +38,7 @@ use Rattle.run_outcome.specs.Lines.{Listed}
 use Rattle.run_keeping.specs.declared.keeper.Keeper.{Keeper}
 use Rattle.run_keeping.specs.declared.keeper.Moment.{Moment}
 use Rattle.run_keeping.specs.CardDeeds.{DoesOn}
-use Rattle.run_keeping.specs.Keeping.{Fate, Still, Has, Fell, has_fallen, cabin_by, breaks_by, marks_by, tear_of, with_lines}
+use Rattle.run_keeping.specs.Keeping.{Fate, Still, Has, Fell, has_fallen, cabin_by, breaks_by, marks_by, tear_of}
 use Rattle.minute_model.specs.declared.Minute.{Minute}
 use Rattle.run_keeping.specs.Minutes.{Round, Told, Done, Reach, Whole, Short, IsReach, cabin_after, breaks_after, told_after, told_by, unit_mark, present_at}
 use Rattle.run_keeping.specs.Deeds.{KeepsOn, AllKeep}
@@ -300,11 +300,11 @@ with_mine A mine ss B = ss B
 with_mine B mine ss A = ss A
 with_mine B mine ss B = mine
 
-abbrev pub with_lines : Card → List Find → (Card → List Find) → Card → List Find
-with_lines A mine fs A = mine
-with_lines A mine fs B = fs B
-with_lines B mine fs A = fs A
-with_lines B mine fs B = mine
+abbrev pub with_since : Card → List Find → (Card → List Find) → Card → List Find
+with_since A mine fs A = mine
+with_since A mine fs B = fs B
+with_since B mine fs A = fs A
+with_since B mine fs B = mine
 
 -- ---- both cards
 
@@ -470,7 +470,7 @@ module _ (o : Origin) (t : Truths) (u : ℕ) where
             each = λ c valid. each h x c valid;
             hold = λ c. hold h x c;
             placed = λ c valid. placed h c valid;
-            since = with_lines A x.left h.since;
+            since = with_since A x.left h.since;
             judged = one-judged (judged_told log) (judged_told later) (judged_in (h.stays A) (h.since A)) (judged_in x.now x.left) (judged_in (h.stays B) (h.since B)) x.judged h.judged;
             turned = λ c valid. turned h x c valid;
             waits = λ c valid some. waits h x c valid some;
@@ -494,11 +494,11 @@ module _ (o : Origin) (t : Truths) (u : ℕ) where
           hold h x A = x.hold (h.only A) (h.each A) (h.hold A)
           hold h x B = h.hold B
 
-          turned : (h : Are log notes r cabin (arranged A U X Z)) (x : TurnsOf A log later notes now r cabin after U V X Y (h.stays A) (h.since A)) (c : Card) → IsOwnValid (f c).image → AreTurnedAway r (own_sizes (f c).image).activity (with_mine A x.now h.stays c) (with_lines A x.left h.since c) (start_shown (f c).image)
+          turned : (h : Are log notes r cabin (arranged A U X Z)) (x : TurnsOf A log later notes now r cabin after U V X Y (h.stays A) (h.since A)) (c : Card) → IsOwnValid (f c).image → AreTurnedAway r (own_sizes (f c).image).activity (with_mine A x.now h.stays c) (with_since A x.left h.since c) (start_shown (f c).image)
           turned h x A valid = x.turned valid (h.each A valid) (h.waits A valid) (h.turned A valid)
           turned h x B valid = h.turned B valid
 
-          waits : (h : Are log notes r cabin (arranged A U X Z)) (x : TurnsOf A log later notes now r cabin after U V X Y (h.stays A) (h.since A)) (c : Card) → IsOwnValid (f c).image → is_some (session_of after.cards c) ≡ true → with_lines A x.left h.since c ≡ []
+          waits : (h : Are log notes r cabin (arranged A U X Z)) (x : TurnsOf A log later notes now r cabin after U V X Y (h.stays A) (h.since A)) (c : Card) → IsOwnValid (f c).image → is_some (session_of after.cards c) ≡ true → with_since A x.left h.since c ≡ []
           waits h x A valid some = x.waits valid (h.waits A valid) some
           waits h x B valid some = h.waits B valid (sym (ap (λ (q : Option Accepted). is_some q) same) ∙ some)
 
@@ -519,7 +519,7 @@ module _ (o : Origin) (t : Truths) (u : ℕ) where
             each = λ c valid. each h x c valid;
             hold = λ c. hold h x c;
             placed = λ c valid. placed h c valid;
-            since = with_lines B x.left h.since;
+            since = with_since B x.left h.since;
             judged = other-judged (judged_told log) (judged_told later) (judged_in (h.stays B) (h.since B)) (judged_in x.now x.left) (judged_in (h.stays A) (h.since A)) x.judged h.judged;
             turned = λ c valid. turned h x c valid;
             waits = λ c valid some. waits h x c valid some;
@@ -543,11 +543,11 @@ module _ (o : Origin) (t : Truths) (u : ℕ) where
           hold h x A = h.hold A
           hold h x B = x.hold (h.only B) (h.each B) (h.hold B)
 
-          turned : (h : Are log notes r cabin (arranged B U X Z)) (x : TurnsOf B log later notes now r cabin after U V X Y (h.stays B) (h.since B)) (c : Card) → IsOwnValid (f c).image → AreTurnedAway r (own_sizes (f c).image).activity (with_mine B x.now h.stays c) (with_lines B x.left h.since c) (start_shown (f c).image)
+          turned : (h : Are log notes r cabin (arranged B U X Z)) (x : TurnsOf B log later notes now r cabin after U V X Y (h.stays B) (h.since B)) (c : Card) → IsOwnValid (f c).image → AreTurnedAway r (own_sizes (f c).image).activity (with_mine B x.now h.stays c) (with_since B x.left h.since c) (start_shown (f c).image)
           turned h x A valid = h.turned A valid
           turned h x B valid = x.turned valid (h.each B valid) (h.waits B valid) (h.turned B valid)
 
-          waits : (h : Are log notes r cabin (arranged B U X Z)) (x : TurnsOf B log later notes now r cabin after U V X Y (h.stays B) (h.since B)) (c : Card) → IsOwnValid (f c).image → is_some (session_of after.cards c) ≡ true → with_lines B x.left h.since c ≡ []
+          waits : (h : Are log notes r cabin (arranged B U X Z)) (x : TurnsOf B log later notes now r cabin after U V X Y (h.stays B) (h.since B)) (c : Card) → IsOwnValid (f c).image → is_some (session_of after.cards c) ≡ true → with_since B x.left h.since c ≡ []
           waits h x A valid some = h.waits A valid (sym (ap (λ (q : Option Accepted). is_some q) same) ∙ some)
           waits h x B valid some = x.waits valid (h.waits B valid) some
 
@@ -621,6 +621,10 @@ all-true o t now u log notes r cabin d grows all none =
       );
       placed = h.placed;
       befores = h.befores;
+      since = h.since;
+      judged = h.judged;
+      turned = h.turned;
+      waits = h.waits;
     }
 
 -- ANOTHER SECOND goes on, where each card with a session sits in a slot
@@ -640,6 +644,10 @@ all-second o t u now log notes r cabin d sits all none =
       hold = h.hold;
       placed = h.placed;
       befores = h.befores;
+      since = h.since;
+      judged = h.judged;
+      turned = h.turned;
+      waits = h.waits;
     }
   where
     sitting : (s : Option Accepted) (b : Bool) → (is_some s ≡ true → b ≡ true) → (ss : List Spell) → as_noted now s b ss ≡ as_noted u s b ss
@@ -790,4 +798,4 @@ pub found-none : (i k : ℕ) (log : RunLog) → NothingFailed (record log { brea
 found-none i k log none = (found-cuts i k log.breaks none.0, found-tears i k log.breaks none.1)
 
 pub found-on : (i k : ℕ) (log : RunLog) → NothingFailed (record log { breaks = found_from i k log.breaks }) → Goes log (record log { breaks = found_from i k log.breaks })
-found-on i k log none = record { none = found-none i k log none; finds = refl }
+found-on i k log none = record { none = found-none i k log none; finds = refl; judged = refl }
