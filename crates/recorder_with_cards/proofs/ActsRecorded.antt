@@ -40,7 +40,7 @@ use Rattle.recorder_with_cards.specs.Recorded.{Inside, ActsBy}
 use Rattle.log_model.specs.declared.lines.Refused.{Refused}
 use Rattle.run_course.specs.Moments.{and_refused}
 use Rattle.run_acts.specs.Closings.{notes_within}
-use Rattle.run_acts.specs.Truths.{truths_within}
+use Rattle.run_acts.specs.Truths.{truths_within, marked}
 use Rattle.run_acts.specs.Stays.{AllStay}
 use Rattle.run_acts.proofs.AllStay.{all-noted, log-self, no-cut}
 use Rattle.run_acts.proofs.NotesThen.{select-now, refuse-now}
@@ -94,8 +94,8 @@ module _ (o : Origin) (done : List TraceSecond) (s : TraceSecond) (speed : ℕ) 
           lit = h.lit;
           within = g.within;
           odometer = same-odometer g.within.b g.began;
-          stay = subst (λ (b : Beginning). AllStay o (truths_within o b.run.log done s) s.number (and_refused (log_of before) line) (notes_within b done s (In (suc (length front))) (and_refused (log_of before) line)) run.keeper.memory.registration run.keeper.cabin d) (sym g.began)
-              (all-noted o (truths_within o h.within.b.run.log done s) s.number (log_of before) (and_refused (log_of before) line) (notes_within h.within.b done s (In (length front)) (log_of before)) (notes_within h.within.b done s (In (suc (length front))) (and_refused (log_of before) line))
+          stay = subst (λ (b : Beginning). AllStay o (marked before.marks.items (truths_within o b.run.log done s)) s.number (and_refused (log_of before) line) (notes_within b done s (In (suc (length front))) (and_refused (log_of before) line)) run.keeper.memory.registration run.keeper.cabin d) (sym g.began)
+              (all-noted o (marked before.marks.items (truths_within o h.within.b.run.log done s)) s.number (log_of before) (and_refused (log_of before) line) (notes_within h.within.b done s (In (length front)) (log_of before)) (notes_within h.within.b done s (In (suc (length front))) (and_refused (log_of before) line))
               run.keeper.memory.registration run.keeper.cabin d (λ none. record { none = none; finds = refl })
               (λ none c. refuse-now o done s front rest a are (values_of run before) d h.within fault (refuses (Some fault) is) line c) h.stay);
         };
@@ -117,8 +117,8 @@ module _ (o : Origin) (done : List TraceSecond) (s : TraceSecond) (speed : ℕ) 
           lit = h.lit;
           within = g.within;
           odometer = same-odometer g.within.b g.began;
-          stay = subst (λ (b : Beginning). AllStay o (truths_within o b.run.log done s) s.number (log_of before) (notes_within b done s (In (suc (length front))) (log_of before)) run.keeper.memory.registration run.keeper.cabin d) (sym g.began)
-              (all-noted o (truths_within o h.within.b.run.log done s) s.number (log_of before) (log_of before) (notes_within h.within.b done s (In (length front)) (log_of before)) (notes_within h.within.b done s (In (suc (length front))) (log_of before)) run.keeper.memory.registration run.keeper.cabin d
+          stay = subst (λ (b : Beginning). AllStay o (marked before.marks.items (truths_within o b.run.log done s)) s.number (log_of before) (notes_within b done s (In (suc (length front))) (log_of before)) run.keeper.memory.registration run.keeper.cabin d) (sym g.began)
+              (all-noted o (marked before.marks.items (truths_within o h.within.b.run.log done s)) s.number (log_of before) (log_of before) (notes_within h.within.b done s (In (length front)) (log_of before)) (notes_within h.within.b done s (In (suc (length front))) (log_of before)) run.keeper.memory.registration run.keeper.cabin d
               (log-self (log_of before)) (λ none c. select-now o done s front rest slot pick (subst (λ (x : Action). s.actions ≡ front ++ x ∷ rest) is are) (values_of run before) d h.within c) h.stay);
         };
         began = g.began;

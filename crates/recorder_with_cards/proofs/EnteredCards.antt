@@ -49,7 +49,7 @@ use Rattle.run_within.specs.Within.{Within}
 use Rattle.run_acts.specs.Closings.{notes_within}
 use Rattle.run_acts.specs.Entered.{values_with, MayJudge, HasGone, AreSound}
 use Rattle.run_acts.specs.Recording.{IsOrigin, log_of}
-use Rattle.run_acts.specs.Truths.{truths_within}
+use Rattle.run_acts.specs.Truths.{truths_within, marked}
 use Rattle.run_acts.specs.Stays.{AllStay}
 use Rattle.run_acts.specs.OnCards.{unclosed_at, unclosed_by, events_by, accepts, moving_at, movings, StillShows, IsUse, AreUses}
 use Rattle.run_acts.specs.RunCards.{vehicle_in, sizes_in}
@@ -193,7 +193,7 @@ same-self B = refl
 module _ (o : Origin) (done : List TraceSecond) (s : TraceSecond) (n : ℕ) (waits fewer : List Visit) (e : Entering) (k : Keeper) (out : Outcome) (unfound next_ begun : ℕ) (minutes : Kept) (U X Z : State) (w : Within o done s (In n) waits None [] (values_with k out unfound next_ begun minutes) (arranged e.which U X Z)) (m : MayJudge o done s n waits fewer e k out unfound next_ begun minutes U X Z w)
     (origin : IsOrigin o) (vehicle : k.memory.registration ≡ vehicle_in o) (moves : s.speed ≡ e.speed)
     (failed : Bool) (k' : Keeper) (noted noted' : ℕ) (out' : Outcome) (W Y : State) (way : Way) (g : HasGone e failed k k' noted noted' out out' U W X Y Z way) (sound : AreSound U W X Y) (works : IsSitting (ending_of way) → Y.works ≡ true)
-    (stay : AllStay o (truths_within o w.b.run.log done s) s.number (log_of out) (notes_within w.b done s (In n) (log_of out)) k.memory.registration k.cabin (arranged e.which U X Z)) where
+    (stay : AllStay o (marked out.marks.items (truths_within o w.b.run.log done s)) s.number (log_of out) (notes_within w.b done s (In n) (log_of out)) k.memory.registration k.cabin (arranged e.which U X Z)) where
   second : e.at.second ≡ s.number
   second = now-is o done s n waits fewer e k out unfound next_ begun minutes U X Z w m
 

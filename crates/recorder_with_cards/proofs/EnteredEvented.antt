@@ -59,7 +59,7 @@ use Rattle.run_acts.specs.Evented.{EventsGoOn}
 use Rattle.run_acts.specs.Named.{ValidHere, CrewValid, NamesValid}
 use Rattle.run_acts.specs.NotedEvents.{AreTold, NotesSo, NotesEvents}
 use Rattle.run_acts.specs.Recording.{IsOrigin, log_of}
-use Rattle.run_acts.specs.Truths.{truths_within}
+use Rattle.run_acts.specs.Truths.{truths_within, marked}
 use Rattle.run_acts.specs.Stays.{AllStay}
 use Rattle.run_acts.proofs.EnteredFacts.{before, mine-back, now-is, card-began, known as known-behind, left, breakdowns, broke-once, unit-broke}
 use Rattle.run_acts.proofs.EnteredTurned.{own-card}
@@ -248,7 +248,7 @@ module _ (o : Origin) (done : List TraceSecond) (s : TraceSecond) (n : ℕ) (wai
   rest-left = (take n s.actions, sym (take-append-drop n s.actions), length-take-le n s.actions w.moment.is)
 
   module _ (failed : Bool) (k' : Keeper) (noted noted' : ℕ) (out' : Outcome) (W Y : State) (way : Way) (g : HasGone e failed k k' noted noted' out out' U W X Y Z way) (sound : AreSound U W X Y)
-      (stay : AllStay o (truths_within o w.b.run.log done s) s.number v.log (notes_within w.b done s (In n) v.log) k.memory.registration k.cabin (arranged e.which U X Z)) where
+      (stay : AllStay o (marked v.marks (truths_within o w.b.run.log done s)) s.number v.log (notes_within w.b done s (In n) v.log) k.memory.registration k.cabin (arranged e.which U X Z)) where
     abbrev later : Devices
     later = arranged e.which W Y Z
 

@@ -43,7 +43,7 @@ use Rattle.run_within.specs.Judging.{IsNext}
 use Rattle.run_acts.specs.Closings.{notes_within}
 use Rattle.run_acts.specs.Recording.{IsOrigin}
 use Rattle.run_acts.specs.RunCards.{sizes_in}
-use Rattle.run_acts.specs.Truths.{truths_within}
+use Rattle.run_acts.specs.Truths.{truths_within, marked}
 use Rattle.run_acts.specs.Stays.{AllStay}
 use Rattle.run_acts.proofs.AllStay.{no-tear}
 use Rattle.run_acts.proofs.CardStays.{valid-found}
@@ -132,13 +132,13 @@ module _ (o : Origin) (done : List TraceSecond) (s : TraceSecond) (n : ℕ) (wai
             ∙ ap (λ (l : List ℕ). times_of (uses_by v.log c) ++ l) (told (is_accepting f.verdict) refl own)
 
   -- ---- the use that it has now, where no call failed
-  module _ (origin : IsOrigin o) (vehicle : Registration) (stay : AllStay o (truths_within o w.b.run.log done s) s.number v.log noted_before vehicle v.cabin d) (bare : session_of v.cabin.cards card ≡ None) where
+  module _ (origin : IsOrigin o) (vehicle : Registration) (stay : AllStay o (marked v.marks (truths_within o w.b.run.log done s)) s.number v.log noted_before vehicle v.cabin d) (bare : session_of v.cabin.cards card ≡ None) where
     pub sizes-are : IsOwnValid (card_image o.recording card) → (x : List ℕ) → (card_of d card).may_leave x → own_sizes x ≡ sizes_in o card
     sizes-are valid x at = ((w.powered.go.held card (valid-found o origin card valid)).now x at).0 ∙ ap own_sizes (origin.image card)
 
     pub use-is : NothingFailed v.log → IsOwnValid (card_image o.recording card) → (x : List ℕ) → (card_of d card).may_leave x → current_use (own_sizes x) x ≡ use_now o card noted_before
     use-is fine valid x at =
-        ap (λ (a : Application). current_use a x) (sizes-are valid x at) ∙ use-now o origin (truths_within o w.b.run.log done s) s.number v.log noted_before vehicle v.cabin d stay fine card valid bare x at
+        ap (λ (a : Application). current_use a x) (sizes-are valid x at) ∙ use-now o origin (marked v.marks (truths_within o w.b.run.log done s)) s.number v.log noted_before vehicle v.cabin d stay fine card valid bare x at
 
 -- ---- BY WHAT BECAME OF IT
 
@@ -175,7 +175,7 @@ module _ (o : Origin) (done : List TraceSecond) (s : TraceSecond) (n : ℕ) (wai
   ending-finds (Lost entered clock entry) fine = no-tear v.log e.slot e.at fine
 
   -- ---- and the session that it found open is the one of the use that it has now
-  module _ (origin : IsOrigin o) (vehicle : Registration) (stay : AllStay o (truths_within o w.b.run.log done s) s.number v.log (notes_within w.b done s (In n) v.log) vehicle v.cabin d) (bare : session_of v.cabin.cards e.which ≡ None) (y : List ℕ) (at : (card_of d e.which).may_leave y) where
+  module _ (origin : IsOrigin o) (vehicle : Registration) (stay : AllStay o (marked v.marks (truths_within o w.b.run.log done s)) s.number v.log (notes_within w.b done s (In n) v.log) vehicle v.cabin d) (bare : session_of v.cabin.cards e.which ≡ None) (y : List ℕ) (at : (card_of d e.which).may_leave y) where
     turned-away : (x : Verdict) → is_accepting x ≡ false → FindsMore o w.b.run.log done s v.log (and_find v.log (find_of e x)) e.which []
     turned-away x away =
         subst (λ (b : Bool). FindsMore o w.b.run.log done s v.log (and_find v.log (find_of e x)) e.which (cond b (0 ∷ []) [])) away

@@ -39,10 +39,11 @@ use Rattle.recorder_with_cards.proofs.AwakeRooms.{is-due}
 use Rattle.side_model.specs.Noted.{Note}
 use Rattle.run_ringed.specs.Ringed.{notes_in}
 use Rattle.run_acts.specs.Closings.{notes_within}
-use Rattle.run_acts.specs.Truths.{truths_of, truths_within}
+use Rattle.run_acts.specs.Truths.{truths_of, truths_within, marked}
 use Rattle.run_acts.specs.Stays.{AllStay}
 use Rattle.run_acts.proofs.AllStay.{all-seated, all-second, all-true}
 use Rattle.run_acts.proofs.SeatsThen.{stands-seated}
+use Rattle.run_acts.proofs.Truths.{marked-still}
 use Rattle.run_acts.proofs.TruthsThen.{truths-begin}
 use Rattle.run_acts.proofs.NotesThen.{notes-begin}
 
@@ -75,14 +76,14 @@ starts-of o origin B = origin.start B
 -- WITH POWER
 module _ (o : Origin) (origin : IsOrigin o) (done : List TraceSecond) (s : TraceSecond) (run : Run) (out : Outcome) (d : Devices) (U : State) (chip_a chip_b : CardState) (X Y : State) (lit : run.power ≡ Lit) (number : s.number ≡ run.next) (given : s.has_power ≡ true) (low : first_second ≤ run.next)
     (going : IsLit ((run.next - 1) / 60) run U chip_a chip_b X Y) where
-  module _ (t : Told) (span : List Told) (r : Recorded o done (IsLitBy (t ∷ span)) (values_of run out) d) (odometer : run.keeper.odometer ≡ odometer_after (odometer_at o.recording.unit) r.travel.before) (stay : AllStay o (truths_of o (log_of out) done) 0 (log_of out) (notes_in (log_of out) done) run.keeper.memory.registration run.keeper.cabin d) where
+  module _ (t : Told) (span : List Told) (r : Recorded o done (IsLitBy (t ∷ span)) (values_of run out) d) (odometer : run.keeper.odometer ≡ odometer_after (odometer_at o.recording.unit) r.travel.before) (stay : AllStay o (marked out.marks.items (truths_of o (log_of out) done)) 0 (log_of out) (notes_in (log_of out) done) run.keeper.memory.registration run.keeper.cabin d) where
     abbrev from : ℕ
     from = undecided_from o (t ∷ span) (values_of run out)
 
     from-is : ungiven_of going.span ≡ from
     from-is = same-undecided run.minutes going.span (span_at (rule_of o) run.next (t ∷ span)) going.stands r.held.minutes
 
-    on : (cabin : Cabin) (first : ℕ) → AllStay o (truths_of o (log_of out) done) s.number (log_of out) (notes_in (log_of out) done) run.keeper.memory.registration cabin d → GoesOn o done s (In 0) [] None [] (record (values_of run out) { cabin = cabin }) d (begun_behind o done (t ∷ span) (values_of run out) d r) first →
+    on : (cabin : Cabin) (first : ℕ) → AllStay o (marked out.marks.items (truths_of o (log_of out) done)) s.number (log_of out) (notes_in (log_of out) done) run.keeper.memory.registration cabin d → GoesOn o done s (In 0) [] None [] (record (values_of run out) { cabin = cabin }) d (begun_behind o done (t ∷ span) (values_of run out) d r) first →
         (w : RunWithin o done s (In 0) [] [] (record run { keeper = record run.keeper { cabin = cabin } }) out d) × (w.within.b ≡ begun_behind o done (t ∷ span) (values_of run out) d r)
     on cabin first stays h = (
       record {
@@ -90,17 +91,17 @@ module _ (o : Origin) (origin : IsOrigin o) (done : List TraceSecond) (s : Trace
         lit = lit;
         within = h.within;
         odometer = odometer ∙ ap (λ (b : Beginning). odometer_after (odometer_at o.recording.unit) b.travel.before) (sym h.began);
-        stay = subst (λ (b : Beginning). AllStay o (truths_within o b.run.log done s) s.number (log_of out) (notes_within b done s (In 0) (log_of out)) run.keeper.memory.registration cabin d) (sym h.began)
-            (subst (λ (ns : List Note). AllStay o (truths_within o (log_of out) done s) s.number (log_of out) ns run.keeper.memory.registration cabin d) (sym (notes-begin (begun_behind o done (t ∷ span) (values_of run out) d r) done s r.recorded.followed.power.running))
-            (all-true o (truths_of o (log_of out) done) (truths_within o (log_of out) done s) s.number (log_of out) (notes_in (log_of out) done) run.keeper.memory.registration cabin d (λ none. truths-begin o (log_of out) done s) stays));
+        stay = subst (λ (b : Beginning). AllStay o (marked out.marks.items (truths_within o b.run.log done s)) s.number (log_of out) (notes_within b done s (In 0) (log_of out)) run.keeper.memory.registration cabin d) (sym h.began)
+            (subst (λ (ns : List Note). AllStay o (marked out.marks.items (truths_within o (log_of out) done s)) s.number (log_of out) ns run.keeper.memory.registration cabin d) (sym (notes-begin (begun_behind o done (t ∷ span) (values_of run out) d r) done s r.recorded.followed.power.running))
+            (all-true o (marked out.marks.items (truths_of o (log_of out) done)) (marked out.marks.items (truths_within o (log_of out) done s)) s.number (log_of out) (notes_in (log_of out) done) run.keeper.memory.registration cabin d (λ none. marked-still out.marks.items (truths_of o (log_of out) done) (truths_within o (log_of out) done s) (truths-begin o (log_of out) done s)) stays));
       },
       h.began,
     )
 
     -- the second goes on: each card with a session sits in a slot
-    seated : AllStay o (truths_of o (log_of out) done) s.number (log_of out) (notes_in (log_of out) done) run.keeper.memory.registration run.keeper.cabin d
+    seated : AllStay o (marked out.marks.items (truths_of o (log_of out) done)) s.number (log_of out) (notes_in (log_of out) done) run.keeper.memory.registration run.keeper.cabin d
     seated =
-        all-second o (truths_of o (log_of out) done) 0 s.number (log_of out) (notes_in (log_of out) done) run.keeper.memory.registration run.keeper.cabin d (stands-seated (ungiven_of going.span) run.keeper.cabin going.cabin) stay
+        all-second o (marked out.marks.items (truths_of o (log_of out) done)) 0 s.number (log_of out) (notes_in (log_of out) done) run.keeper.memory.registration run.keeper.cabin d (stands-seated (ungiven_of going.span) run.keeper.cabin going.cabin) stay
 
     by : (b : Bool) → nat_eq (run.next % 60) 0 ≡ b → (w : RunWithin o done s (In 0) [] [] (over_by b run) out d) × (w.within.b ≡ begun_behind o done (t ∷ span) (values_of run out) d r)
     by false is = on run.keeper.cabin from seated (second-begins d o done s t span (values_of run out) r number given (same-minute run.next is))
@@ -115,7 +116,7 @@ module _ (o : Origin) (origin : IsOrigin o) (done : List TraceSecond) (s : Trace
         let few : (run.next - 1) / 60 ≤ from + 3 = omega (arith, most, end, same, minute) in
         let stands : Stands from None run.keeper.cabin = subst (λ (n : ℕ). Stands n None run.keeper.cabin) same going.cabin in
         on (with_minute_ended (run.next / 60 - 1) run.keeper.cabin) from
-        (all-seated o (truths_of o (log_of out) done) s.number (log_of out) (notes_in (log_of out) done) run.keeper.memory.registration run.keeper.cabin (with_minute_ended (run.next / 60 - 1) run.keeper.cabin) d refl (λ c. refl) seated)
+        (all-seated o (marked out.marks.items (truths_of o (log_of out) done)) s.number (log_of out) (notes_in (log_of out) done) run.keeper.memory.registration run.keeper.cabin (with_minute_ended (run.next / 60 - 1) run.keeper.cabin) d refl (λ c. refl) seated)
         (subst (λ (m : ℕ). GoesOn o done s (In 0) [] None [] (record (values_of run out) { cabin = with_minute_ended m run.keeper.cabin }) d (begun_behind o done (t ∷ span) (values_of run out) d r) from) before
         (minute-over d o done s t span (values_of run out) r number given (starts-of o origin) minute (omega (arith, due, same)) few stands))
 
@@ -123,7 +124,7 @@ module _ (o : Origin) (origin : IsOrigin o) (done : List TraceSecond) (s : Trace
   abbrev Goes : Supply → Type 0
   Goes supply = (w : RunWithin o done s (In 0) [] [] (minute_over run) out d) × (book : Book) × (w.within.b.run ≡ progress (values_of run out) supply book) × (begins_with w.within.b.span ≡ false)
 
-  by-supply : (supply : Supply) → Supplies Lit supply → (r : Recorded o done supply (values_of run out) d) → run.keeper.odometer ≡ odometer_after (odometer_at o.recording.unit) r.travel.before → AllStay o (truths_of o (log_of out) done) 0 (log_of out) (notes_in (log_of out) done) run.keeper.memory.registration run.keeper.cabin d → Goes supply
+  by-supply : (supply : Supply) → Supplies Lit supply → (r : Recorded o done supply (values_of run out) d) → run.keeper.odometer ≡ odometer_after (odometer_at o.recording.unit) r.travel.before → AllStay o (marked out.marks.items (truths_of o (log_of out) done)) 0 (log_of out) (notes_in (log_of out) done) run.keeper.memory.registration run.keeper.cabin d → Goes supply
   by-supply (IsLitBy (t ∷ span)) h r odometer stay =
       let g = by t span r odometer stay (nat_eq (run.next % 60) 0) refl in
       (g.0, r.book, ap (λ (b : Beginning). b.run) g.1, ap (λ (b : Beginning). begins_with b.span) g.1)

@@ -42,7 +42,7 @@ use Rattle.run_crew.specs.declared.cards.Accepted.{Accepted}
 use Rattle.side_model.specs.Noted.{Note}
 use Rattle.slot_machine.specs.declared.seats.Seat.{Seat}
 use Rattle.run_acts.specs.Closings.{spells_of, last_slot, notes_within}
-use Rattle.run_acts.specs.Truths.{truths_within}
+use Rattle.run_acts.specs.Truths.{truths_within, marked}
 use Rattle.run_acts.specs.Stays.{sits_in, IsPlaced, AllStay}
 use Rattle.run_acts.proofs.AllStay.{Moves, moves-bare, moves-same, placed-bare, placed-same, all-moved, log-self}
 use Rattle.run_acts.proofs.SeatsThen.{same-as, put-other, filled-slot}
@@ -172,9 +172,9 @@ module _ (slot : Slot) (card : Card) (at : Moment) (speed : ℕ) (old : Run) (be
       by false other =
           placed-same notes-before notes-put old.keeper.cabin (with_card_in slot card old.keeper.cabin) c (ap last_slot (same-notes c)) (λ at_ there. filled-slot old.keeper.cabin.slots.seats slot at_ card c None other there) (λ some. some) was
 
-  pub stays-put : AllStay o (truths_within o h.within.b.run.log done s) s.number (log_of before) notes-put old.keeper.memory.registration (with_card_in slot card old.keeper.cabin) d
+  pub stays-put : AllStay o (marked before.marks.items (truths_within o h.within.b.run.log done s)) s.number (log_of before) notes-put old.keeper.memory.registration (with_card_in slot card old.keeper.cabin) d
   stays-put =
-      all-moved o (truths_within o h.within.b.run.log done s) s.number (log_of before) (log_of before) notes-before notes-put old.keeper.memory.registration old.keeper.cabin (with_card_in slot card old.keeper.cabin) d (log-self (log_of before)) (λ none_ c. each-put c) (λ none_ c. places-put c) h.stay
+      all-moved o (marked before.marks.items (truths_within o h.within.b.run.log done s)) s.number (log_of before) (log_of before) notes-before notes-put old.keeper.memory.registration old.keeper.cabin (with_card_in slot card old.keeper.cabin) d (log-self (log_of before)) (λ none_ c. each-put c) (λ none_ c. places-put c) h.stay
 
   within-actions : suc n ≤ length s.actions
   within-actions = let all = ap (λ (xs : List Action). length xs) actions in let long = length-append front (Insert slot card ∷ rest) in omega (arith, all, long)
@@ -194,7 +194,7 @@ module _ (slot : Slot) (card : Card) (at : Moment) (speed : ℕ) (old : Run) (be
       lit = h.lit;
       within = put.goes.within;
       odometer = h.odometer ∙ ap (λ (b : Beginning). odometer_after (odometer_at o.recording.unit) b.travel.before) (sym put.goes.began);
-      stay = subst (λ (b : Beginning). AllStay o (truths_within o b.run.log done s) s.number (log_of before) (notes_within b done s (In (suc (length front))) (log_of before)) old.keeper.memory.registration (with_card_in slot card old.keeper.cabin) d) (sym put.goes.began) stays-put;
+      stay = subst (λ (b : Beginning). AllStay o (marked before.marks.items (truths_within o b.run.log done s)) s.number (log_of before) (notes_within b done s (In (suc (length front))) (log_of before)) old.keeper.memory.registration (with_card_in slot card old.keeper.cabin) d) (sym put.goes.began) stays-put;
     }
 
     module _ (e : Devices) (records : RecordsSettling decided at failed (put_run slot card old) mid before told d e) (time : HaveTime e) where

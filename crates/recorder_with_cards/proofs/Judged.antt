@@ -35,7 +35,7 @@ use Rattle.recorder_with_cards.specs.Accepting.{IsAccepted}
 use Rattle.recorder_with_cards.specs.Judged.{JudgedTo}
 use Rattle.recorder_with_cards.specs.Noting.{IsJudgedNoting, NotesAnew}
 use Rattle.run_acts.specs.Closings.{notes_within}
-use Rattle.run_acts.specs.Truths.{truths_within}
+use Rattle.run_acts.specs.Truths.{truths_within, marked}
 use Rattle.run_acts.specs.Stays.{AllStay}
 
 -- its clock is not at its last value
@@ -48,14 +48,14 @@ found-by o origin = record { first = ap (λ (u : Started). u.first) origin.unit;
 
 -- the second goes on, or power is about to be cut
 pub judged-by : (failed : Bool) (o : Origin) (done : List TraceSecond) (s : TraceSecond) (n : ℕ) (waits fewer : List Visit) (old new : Run) (before after : Outcome) (d e : Devices) (w : RunWithin o done s (In n) waits [] old before d) →
-    new.power ≡ Lit → new.keeper.odometer ≡ old.keeper.odometer → GoesOnOrIsCut failed o done s n waits fewer (values_of old before) (values_of new after) d e w.within → (failed ≡ false → AllStay o (truths_within o w.within.b.run.log done s) s.number (log_of after) (notes_within w.within.b done s (In n) (log_of after)) new.keeper.memory.registration new.keeper.cabin e) → JudgedTo failed o done s n waits fewer old new before after d e w
+    new.power ≡ Lit → new.keeper.odometer ≡ old.keeper.odometer → GoesOnOrIsCut failed o done s n waits fewer (values_of old before) (values_of new after) d e w.within → (failed ≡ false → AllStay o (marked after.marks.items (truths_within o w.within.b.run.log done s)) s.number (log_of after) (notes_within w.within.b done s (In n) (log_of after)) new.keeper.memory.registration new.keeper.cabin e) → JudgedTo failed o done s n waits fewer old new before after d e w
 judged-by false o done s n waits fewer old new before after d e w lit odometer h stay = record {
   goes = record {
     origin = w.origin;
     lit = lit;
     within = h.within;
     odometer = odometer ∙ w.odometer ∙ ap (λ (b : Beginning). odometer_after (odometer_at o.recording.unit) b.travel.before) (sym h.began);
-    stay = subst (λ (b : Beginning). AllStay o (truths_within o b.run.log done s) s.number (log_of after) (notes_within b done s (In n) (log_of after)) new.keeper.memory.registration new.keeper.cabin e) (sym h.began) (stay refl);
+    stay = subst (λ (b : Beginning). AllStay o (marked after.marks.items (truths_within o b.run.log done s)) s.number (log_of after) (notes_within b done s (In n) (log_of after)) new.keeper.memory.registration new.keeper.cabin e) (sym h.began) (stay refl);
   };
   began = h.began;
   from = h.from;

@@ -86,13 +86,13 @@ use Rattle.run_ringed.specs.Ringed.{notes_in}
 use Rattle.run_acts.specs.Closings.{spells_of, notes_within}
 use Rattle.run_crew.specs.declared.cards.Accepted.{Accepted}
 use Rattle.run_crew.specs.Cards.{session_of}
-use Rattle.run_acts.specs.Truths.{Grow, truths_of, truths_within}
+use Rattle.run_acts.specs.Truths.{Grow, truths_of, truths_within, marked}
 use Rattle.run_acts.specs.Stays.{sits_in, AllStay}
 use Rattle.run_rings.proofs.Same.{rings-moments, behind-same}
 use Rattle.run_acts.proofs.Comings.{leaves-more}
 use Rattle.run_acts.proofs.AllStay.{all-unit, all-of, all-noted, all-true, all-second, found-on}
 use Rattle.run_acts.proofs.NotesThen.{notes-wake, notes-found, went-found}
-use Rattle.run_acts.proofs.Truths.{grow-on}
+use Rattle.run_acts.proofs.Truths.{grow-on, marked-still}
 use Rattle.run_acts.proofs.TruthsThen.{truths-begin, truths-same}
 
 -- ---- a run at its power-on
@@ -103,7 +103,7 @@ pub record RunWaking (o : Origin) (done : List TraceSecond) (s : TraceSecond) (b
   pub lit : run.power ≡ Lit
   pub waking : IsWaking o done s b (values_of run out) d waits untold
   pub odometer : run.keeper.odometer ≡ odometer_after (odometer_at o.recording.unit) b.travel.before
-  pub stay : AllStay o (truths_within o b.run.log done s) s.number (log_of out) (notes_within b done s (In 0) (log_of out)) run.keeper.memory.registration run.keeper.cabin d
+  pub stay : AllStay o (marked out.marks.items (truths_within o b.run.log done s)) s.number (log_of out) (notes_within b done s (In 0) (log_of out)) run.keeper.memory.registration run.keeper.cabin d
 
 abbrev pub within-of : (o : Origin) (done : List TraceSecond) (s : TraceSecond) (b : Beginning) (waits : List Visit) (untold : List Slot) (run : Run) (out : Outcome) (d : Devices) → RunWaking o done s b waits untold run out d → RunWithin o done s (In 0) waits [] run out d
 within-of o done s b waits untold run out d w = record {
@@ -111,7 +111,7 @@ within-of o done s b waits untold run out d w = record {
   lit = w.lit;
   within = w.waking.within;
   odometer = w.odometer ∙ ap (λ (x : Beginning). odometer_after (odometer_at o.recording.unit) x.travel.before) (sym w.waking.began);
-  stay = subst (λ (x : Beginning). AllStay o (truths_within o x.run.log done s) s.number (log_of out) (notes_within x done s (In 0) (log_of out)) run.keeper.memory.registration run.keeper.cabin d) (sym w.waking.began) w.stay;
+  stay = subst (λ (x : Beginning). AllStay o (marked out.marks.items (truths_within o x.run.log done s)) s.number (log_of out) (notes_within x done s (In 0) (log_of out)) run.keeper.memory.registration run.keeper.cabin d) (sym w.waking.began) w.stay;
 }
 
 -- both slots are to be told of
@@ -217,7 +217,7 @@ module _ (o : Origin) (origin : IsOrigin o) (done : List TraceSecond) (s : Trace
   as-read P = subst P kept-is
 
   -- it was mended, and a span has begun
-  module _ (well : failed ≡ false) (journal : Notes) (agrees : IfSome W.image (Agrees journal)) (new : Run) (begun : IsSpanBegun old new journal) (after : IsCoherent W) (stay : AllStay o (truths_of o v.log done) 0 v.log (notes_in v.log done) old.keeper.memory.registration v.cabin (devices U X Y)) where
+  module _ (well : failed ≡ false) (journal : Notes) (agrees : IfSome W.image (Agrees journal)) (new : Run) (begun : IsSpanBegun old new journal) (after : IsCoherent W) (stay : AllStay o (marked v.marks (truths_of o v.log done)) 0 v.log (notes_in v.log done) old.keeper.memory.registration v.cabin (devices U X Y)) where
     next : old.next ≡ v.next
     next = ap (λ (x : Values). x.next) values
 
@@ -292,16 +292,17 @@ module _ (o : Origin) (origin : IsOrigin o) (done : List TraceSecond) (s : Trace
     none-sits : (c : Card) → is_some (session_of v.cabin.cards c) ≡ true → sits_in v.cabin.slots.seats c ≡ true
     none-sits c some = absurd (let wrong : false ≡ true = sym (ap (λ (q : Option Accepted). is_some q) (off.bare c)) ∙ some in cc)
 
-    stays-behind : AllStay o (truths_within o b.run.log done s) s.number (log_of out) (notes_within b done s (In 0) (log_of out)) new.keeper.memory.registration new.keeper.cabin e
+    stays-behind : AllStay o (marked out.marks.items (truths_within o b.run.log done s)) s.number (log_of out) (notes_within b done s (In 0) (log_of out)) new.keeper.memory.registration new.keeper.cabin e
     stays-behind =
-        all-of o (truths_within o b.run.log done s) s.number (log_of out) (notes_within b done s (In 0) (log_of out)) old.keeper.memory.registration new.keeper.memory.registration new.keeper.cabin e (ap (λ (k : Keeper). k.memory.registration) begun.keeper)
-        (subst (λ (c : Cabin). AllStay o (truths_within o b.run.log done s) s.number (log_of out) (notes_within b done s (In 0) (log_of out)) old.keeper.memory.registration c e) kept-cabin
-        (subst (λ (l : RunLog). AllStay o (truths_within o b.run.log done s) s.number l (notes_within b done s (In 0) (log_of out)) old.keeper.memory.registration v.cabin e) (sym (ap (λ (x : Values). x.log) values))
-        (all-second o (truths_within o b.run.log done s) 0 s.number (found_log v.unfound j.kept v.log) (notes_within b done s (In 0) (log_of out)) old.keeper.memory.registration v.cabin e none-sits
-        (all-true o (truths_of o v.log done) (truths_within o b.run.log done s) 0 (found_log v.unfound j.kept v.log) (notes_within b done s (In 0) (log_of out)) old.keeper.memory.registration v.cabin e (λ none. woken-true)
-        (all-noted o (truths_of o v.log done) 0 v.log (found_log v.unfound j.kept v.log) (notes_in v.log done) (notes_within b done s (In 0) (log_of out)) old.keeper.memory.registration v.cabin e (found-on v.unfound j.kept v.log)
+        all-of o (marked out.marks.items (truths_within o b.run.log done s)) s.number (log_of out) (notes_within b done s (In 0) (log_of out)) old.keeper.memory.registration new.keeper.memory.registration new.keeper.cabin e (ap (λ (k : Keeper). k.memory.registration) begun.keeper)
+        (subst (λ (c : Cabin). AllStay o (marked out.marks.items (truths_within o b.run.log done s)) s.number (log_of out) (notes_within b done s (In 0) (log_of out)) old.keeper.memory.registration c e) kept-cabin
+        (subst (λ (ms : List Mark). AllStay o (marked ms (truths_within o b.run.log done s)) s.number (log_of out) (notes_within b done s (In 0) (log_of out)) old.keeper.memory.registration v.cabin e) (sym (ap (λ (x : Values). x.marks) values))
+        (subst (λ (l : RunLog). AllStay o (marked v.marks (truths_within o b.run.log done s)) s.number l (notes_within b done s (In 0) (log_of out)) old.keeper.memory.registration v.cabin e) (sym (ap (λ (x : Values). x.log) values))
+        (all-second o (marked v.marks (truths_within o b.run.log done s)) 0 s.number (found_log v.unfound j.kept v.log) (notes_within b done s (In 0) (log_of out)) old.keeper.memory.registration v.cabin e none-sits
+        (all-true o (marked v.marks (truths_of o v.log done)) (marked v.marks (truths_within o b.run.log done s)) 0 (found_log v.unfound j.kept v.log) (notes_within b done s (In 0) (log_of out)) old.keeper.memory.registration v.cabin e (λ none. marked-still v.marks (truths_of o v.log done) (truths_within o b.run.log done s) woken-true)
+        (all-noted o (marked v.marks (truths_of o v.log done)) 0 v.log (found_log v.unfound j.kept v.log) (notes_in v.log done) (notes_within b done s (In 0) (log_of out)) old.keeper.memory.registration v.cabin e (found-on v.unfound j.kept v.log)
         (λ none c. ap (λ (ns : List Note). spells_of c ns) notes-woken)
-        (all-unit o (truths_of o v.log done) 0 v.log (notes_in v.log done) old.keeper.memory.registration v.cabin U W X Y (leaves-more U W (rings-moments U W (IsMending j) whole mends (λ x c m. behind-same x c m.outside.after))) stay))))))
+        (all-unit o (marked v.marks (truths_of o v.log done)) 0 v.log (notes_in v.log done) old.keeper.memory.registration v.cabin U W X Y (leaves-more U W (rings-moments U W (IsMending j) whole mends (λ x c m. behind-same x c m.outside.after))) stay)))))))
 
     pub awake : (begins : Beginning) × RunWaking o done s begins (waiting_in Driver (card_in new.keeper.cabin.slots.seats.driver) ++ waiting_in CoDriver (card_in new.keeper.cabin.slots.seats.codriver)) both_slots new out (devices W X Y)
     awake = (b, record { origin = origin; lit = begun.power; waking = wakes; odometer = odometer; stay = stays-behind })
@@ -412,7 +413,7 @@ module _ (o : Origin) (done : List TraceSecond) (s : TraceSecond) (b : Beginning
         lit = on.goes.lit;
         waking = record { within = on.goes.within; began = began; starts = w.waking.starts; is_now = on.from ∙ w.waking.is_now; none = none };
         odometer = on.goes.odometer ∙ ap (λ (x : Beginning). odometer_after (odometer_at o.recording.unit) x.travel.before) began;
-        stay = subst (λ (x : Beginning). AllStay o (truths_within o x.run.log done s) s.number (log_of after) (notes_within x done s (In 0) (log_of after)) new.keeper.memory.registration new.keeper.cabin e) began on.goes.stay;
+        stay = subst (λ (x : Beginning). AllStay o (marked after.marks.items (truths_within o x.run.log done s)) s.number (log_of after) (notes_within x done s (In 0) (log_of after)) new.keeper.memory.registration new.keeper.cabin e) began on.goes.stay;
       }
 
 -- the driver's is the next

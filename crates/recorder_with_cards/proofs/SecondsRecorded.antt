@@ -41,10 +41,10 @@ use Rattle.run_recorded.specs.Origin.{rule_of, start_at, first_of}
 use Rattle.run_ringed.specs.Ringed.{notes_in}
 use Rattle.run_within.specs.Recorded.{progress}
 use Rattle.run_acts.specs.Closings.{spells_of}
-use Rattle.run_acts.specs.Truths.{truths_of}
+use Rattle.run_acts.specs.Truths.{truths_of, marked}
 use Rattle.run_acts.specs.Stays.{sits_in, AllStay}
 use Rattle.run_acts.proofs.AllStay.{moves-gone, placed-bare, all-moved, all-noted, all-true, lines-on}
-use Rattle.run_acts.proofs.Truths.{grow-on}
+use Rattle.run_acts.proofs.Truths.{grow-on, marked-still}
 use Rattle.run_acts.proofs.TruthsThen.{truths-same, truths-more}
 use Rattle.run_acts.proofs.SeatsThen.{sits-in-one}
 use Rattle.run_acts.proofs.NotesThen.{notes-off, notes-lost, notes-refused, went-refused}
@@ -134,13 +134,14 @@ module _ (o : Origin) (done : List TraceSecond) (old : Run) (before : Outcome) (
         recorded = on;
         odometer = λ lit. absurd (let bad : Lost ≡ Lit = sym lost.0 ∙ lit in cc);
         stay =
-            all-true o (truths_of o (log_of before) done) (truths_of o (record (log_of before) { refused = before.refused.items ++ refused_dark old.next actions }) (done ++ driven (suc n) old.next speed actions)) 0 (record (log_of before) { refused = before.refused.items ++ refused_dark old.next actions })
+            all-true o (marked before.marks.items (truths_of o (log_of before) done)) (marked before.marks.items (truths_of o (record (log_of before) { refused = before.refused.items ++ refused_dark old.next actions }) (done ++ driven (suc n) old.next speed actions))) 0 (record (log_of before) { refused = before.refused.items ++ refused_dark old.next actions })
             (notes_in (record (log_of before) { refused = before.refused.items ++ refused_dark old.next actions }) (done ++ driven (suc n) old.next speed actions)) old.keeper.memory.registration old.keeper.cabin d
             (λ none.
-            grow-on (truths_of o (log_of before) done) (truths_of o (record (log_of before) { refused = before.refused.items ++ refused_dark old.next actions }) done) (truths_of o (record (log_of before) { refused = before.refused.items ++ refused_dark old.next actions }) (done ++ driven (suc n) old.next speed actions))
+            marked-still before.marks.items (truths_of o (log_of before) done) (truths_of o (record (log_of before) { refused = before.refused.items ++ refused_dark old.next actions }) (done ++ driven (suc n) old.next speed actions))
+            (grow-on (truths_of o (log_of before) done) (truths_of o (record (log_of before) { refused = before.refused.items ++ refused_dark old.next actions }) done) (truths_of o (record (log_of before) { refused = before.refused.items ++ refused_dark old.next actions }) (done ++ driven (suc n) old.next speed actions))
             (truths-same o (log_of before) (record (log_of before) { refused = before.refused.items ++ refused_dark old.next actions }) done (went-refused (log_of before) (before.refused.items ++ refused_dark old.next actions) done))
-            (truths-more o (record (log_of before) { refused = before.refused.items ++ refused_dark old.next actions }) done (driven (suc n) old.next speed actions)))
-            (all-noted o (truths_of o (log_of before) done) 0 (log_of before) (record (log_of before) { refused = before.refused.items ++ refused_dark old.next actions }) (notes_in (log_of before) done)
+            (truths-more o (record (log_of before) { refused = before.refused.items ++ refused_dark old.next actions }) done (driven (suc n) old.next speed actions))))
+            (all-noted o (marked before.marks.items (truths_of o (log_of before) done)) 0 (log_of before) (record (log_of before) { refused = before.refused.items ++ refused_dark old.next actions }) (notes_in (log_of before) done)
             (notes_in (record (log_of before) { refused = before.refused.items ++ refused_dark old.next actions }) (done ++ driven (suc n) old.next speed actions)) old.keeper.memory.registration old.keeper.cabin d (λ none. record { none = none; finds = refl })
             (λ none c. ap (λ (ns : List Note). spells_of c ns)
             (notes-refused (log_of before) (before.refused.items ++ refused_dark old.next actions) (done ++ driven (suc n) old.next speed actions)
@@ -155,7 +156,7 @@ module _ (o : Origin) (done : List TraceSecond) (old : Run) (before : Outcome) (
       (subst (λ (l : Listed Break). RunRecorded o (done ++ dark (suc n) old.next) (off_run (suc n) old) (record before { breaks = l }) d) (sym told)
       (by old.power refl h.supply h.powers h.recorded))
     where
-      due : (r : Run) (out : Outcome) → AllStay o (truths_of o (log_of out) (done ++ dark (suc n) old.next)) 0 (log_of out) (notes_in (log_of out) (done ++ dark (suc n) old.next)) r.keeper.memory.registration r.keeper.cabin d → r.power ≡ Due → Recorded o (done ++ dark (suc n) old.next) IsDue (values_of r out) d → RunRecorded o (done ++ dark (suc n) old.next) r out d
+      due : (r : Run) (out : Outcome) → AllStay o (marked out.marks.items (truths_of o (log_of out) (done ++ dark (suc n) old.next))) 0 (log_of out) (notes_in (log_of out) (done ++ dark (suc n) old.next)) r.keeper.memory.registration r.keeper.cabin d → r.power ≡ Due → Recorded o (done ++ dark (suc n) old.next) IsDue (values_of r out) d → RunRecorded o (done ++ dark (suc n) old.next) r out d
       due r out stays is recorded = record {
         origin = h.origin;
         supply = IsDue;
@@ -171,15 +172,16 @@ module _ (o : Origin) (done : List TraceSecond) (old : Run) (before : Outcome) (
       bare-off B = refl
 
       -- what is made of the cards
-      off-due : AllStay o (truths_of o (log_of (told_off false old before)) (done ++ dark (suc n) old.next)) 0 (log_of (told_off false old before)) (notes_in (log_of (told_off false old before)) (done ++ dark (suc n) old.next)) old.keeper.memory.registration (off_as false (suc n) old).keeper.cabin d
+      off-due : AllStay o (marked before.marks.items (truths_of o (log_of (told_off false old before)) (done ++ dark (suc n) old.next))) 0 (log_of (told_off false old before)) (notes_in (log_of (told_off false old before)) (done ++ dark (suc n) old.next)) old.keeper.memory.registration (off_as false (suc n) old).keeper.cabin d
       off-due =
-          all-true o (truths_of o (log_of before) done) (truths_of o (log_of (told_off false old before)) (done ++ dark (suc n) old.next)) 0 (log_of (told_off false old before)) (notes_in (log_of (told_off false old before)) (done ++ dark (suc n) old.next))
+          all-true o (marked before.marks.items (truths_of o (log_of before) done)) (marked before.marks.items (truths_of o (log_of (told_off false old before)) (done ++ dark (suc n) old.next))) 0 (log_of (told_off false old before)) (notes_in (log_of (told_off false old before)) (done ++ dark (suc n) old.next))
           old.keeper.memory.registration old.keeper.cabin d
           (λ none.
-          grow-on (truths_of o (log_of before) done) (truths_of o (log_of (told_off false old before)) done) (truths_of o (log_of (told_off false old before)) (done ++ dark (suc n) old.next))
+          marked-still before.marks.items (truths_of o (log_of before) done) (truths_of o (log_of (told_off false old before)) (done ++ dark (suc n) old.next))
+          (grow-on (truths_of o (log_of before) done) (truths_of o (log_of (told_off false old before)) done) (truths_of o (log_of (told_off false old before)) (done ++ dark (suc n) old.next))
           (truths-same o (log_of before) (log_of (told_off false old before)) done (ap (λ (bs : List Break). went (record (log_of before) { breaks = bs }) done) (append-nil before.breaks.items)))
-          (truths-more o (log_of (told_off false old before)) done (dark (suc n) old.next)))
-          (all-noted o (truths_of o (log_of before) done) 0 (log_of before) (log_of (told_off false old before)) (notes_in (log_of before) done) (notes_in (log_of (told_off false old before)) (done ++ dark (suc n) old.next)) old.keeper.memory.registration old.keeper.cabin d
+          (truths-more o (log_of (told_off false old before)) done (dark (suc n) old.next))))
+          (all-noted o (marked before.marks.items (truths_of o (log_of before) done)) 0 (log_of before) (log_of (told_off false old before)) (notes_in (log_of before) done) (notes_in (log_of (told_off false old before)) (done ++ dark (suc n) old.next)) old.keeper.memory.registration old.keeper.cabin d
           (λ none. lines-on (log_of before) ((log_of before).breaks ++ []) [] refl none)
           (λ none c. ap (λ (ns : List Note). spells_of c ns)
           (ap (λ (bs : List Break). notes_in (record (log_of before) { breaks = bs }) (done ++ dark (suc n) old.next)) (append-nil before.breaks.items) ∙ notes-off (suc n) (log_of before) done old.next)) h.stay)
@@ -190,15 +192,16 @@ module _ (o : Origin) (done : List TraceSecond) (old : Run) (before : Outcome) (
 
       -- none is withdrawn by that
       off-lit : ((low : ℕ) × Stands low None old.keeper.cabin) → (t : Told) (span : List Told) → Recorded o done (IsLit (t ∷ span)) (values_of old before) d →
-          AllStay o (truths_of o (log_of (told_off true old before)) (done ++ dark (suc n) old.next)) 0 (log_of (told_off true old before)) (notes_in (log_of (told_off true old before)) (done ++ dark (suc n) old.next)) old.keeper.memory.registration (off_as true (suc n) old).keeper.cabin d
+          AllStay o (marked before.marks.items (truths_of o (log_of (told_off true old before)) (done ++ dark (suc n) old.next))) 0 (log_of (told_off true old before)) (notes_in (log_of (told_off true old before)) (done ++ dark (suc n) old.next)) old.keeper.memory.registration (off_as true (suc n) old).keeper.cabin d
       off-lit stands t span r =
-          all-true o (truths_of o (log_of before) done) (truths_of o (log_of (told_off true old before)) (done ++ dark (suc n) old.next)) 0 (log_of (told_off true old before)) (notes_in (log_of (told_off true old before)) (done ++ dark (suc n) old.next))
+          all-true o (marked before.marks.items (truths_of o (log_of before) done)) (marked before.marks.items (truths_of o (log_of (told_off true old before)) (done ++ dark (suc n) old.next))) 0 (log_of (told_off true old before)) (notes_in (log_of (told_off true old before)) (done ++ dark (suc n) old.next))
           old.keeper.memory.registration (with_power_lost (old.next - 1) old.keeper.cabin) d
           (λ none.
-          grow-on (truths_of o (log_of before) done) (truths_of o (log_of (told_off true old before)) done) (truths_of o (log_of (told_off true old before)) (done ++ dark (suc n) old.next))
+          marked-still before.marks.items (truths_of o (log_of before) done) (truths_of o (log_of (told_off true old before)) (done ++ dark (suc n) old.next))
+          (grow-on (truths_of o (log_of before) done) (truths_of o (log_of (told_off true old before)) done) (truths_of o (log_of (told_off true old before)) (done ++ dark (suc n) old.next))
           (off-cut-true (rule_of o) (start_at o) o.from (first_of o) done (progress (values_of old before) (IsLit (t ∷ span)) r.book) t span r.recorded.followed o)
-          (truths-more o (log_of (told_off true old before)) done (dark (suc n) old.next)))
-          (all-moved o (truths_of o (log_of before) done) 0 (log_of before) (log_of (told_off true old before)) (notes_in (log_of before) done) (notes_in (log_of (told_off true old before)) (done ++ dark (suc n) old.next)) old.keeper.memory.registration
+          (truths-more o (log_of (told_off true old before)) done (dark (suc n) old.next))))
+          (all-moved o (marked before.marks.items (truths_of o (log_of before) done)) 0 (log_of before) (log_of (told_off true old before)) (notes_in (log_of before) done) (notes_in (log_of (told_off true old before)) (done ++ dark (suc n) old.next)) old.keeper.memory.registration
           old.keeper.cabin (with_power_lost (old.next - 1) old.keeper.cabin) d
           (λ none. lines-on (log_of before) ((log_of before).breaks ++ cut_at (old.next - 1) false old.begun ∷ []) (cut_at (old.next - 1) false old.begun ∷ []) refl none)
           (λ none c. moves-gone 0 (spells_of c (notes_in (log_of before) done)) (spells_of c (notes_in (log_of (told_off true old before)) (done ++ dark (suc n) old.next))) (sits_in old.keeper.cabin.slots.seats c)

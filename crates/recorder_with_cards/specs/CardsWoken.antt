@@ -17,7 +17,7 @@ use Rattle.run_acts.specs.Recording.{IsOrigin, log_of, values_of, IsNow}
 use Rattle.run_acts.specs.RunRinged.{with_cut}
 use Rattle.run_acts.specs.RunCards.{vehicle_in, CardsBehind, CardsIn}
 use Rattle.run_ringed.specs.Ringed.{notes_in}
-use Rattle.run_acts.specs.Truths.{truths_of}
+use Rattle.run_acts.specs.Truths.{truths_of, marked}
 use Rattle.run_acts.specs.Stays.{AllStay}
 use Rattle.recorder_with_cards.specs.Carded.{RunCarded, InSecondCarded}
 
@@ -29,7 +29,7 @@ CardsWoken true began o done s run log d = (run.keeper.memory.registration ≡ v
 
 -- THE UNIT WAS MENDED, and each card judged, behind seconds whose events the cards show.
 abbrev pub CardsResuming : (kept speed : ℕ) → (failed : Bool) → (old new : Run) → (before after : Outcome) → (d e : Devices) → Type 0
-CardsResuming kept speed failed old new before after d e = (o : Origin) → IsOrigin o → (done : List TraceSecond) (s : TraceSecond) (supply : Supply) (v : Values) → Recorded o done supply v d → AllStay o (truths_of o v.log done) 0 v.log (notes_in v.log done) old.keeper.memory.registration v.cabin d → MayPower supply v.next →
+CardsResuming kept speed failed old new before after d e = (o : Origin) → IsOrigin o → (done : List TraceSecond) (s : TraceSecond) (supply : Supply) (v : Values) → Recorded o done supply v d → AllStay o (marked v.marks (truths_of o v.log done)) 0 v.log (notes_in v.log done) old.keeper.memory.registration v.cabin d → MayPower supply v.next →
     s.number ≡ v.next → s.has_power ≡ true → s.speed ≡ speed → values_of old before ≡ read_values kept v → Evented o done v.log v.unfound v.next supply d → old.keeper.memory.limit ≡ limit_in o → old.keeper.memory.registration ≡ vehicle_in o → CardsBehind o done (log_of before) d →
     HaveTime e → CardsWoken failed (log_of before) o done s new (log_of after) e
 

@@ -75,7 +75,7 @@ pub record EndsTrace (unit card_a card_b : List ℕ) (start : ℕ) (items : List
   pub ends : EndsRun (recording_of unit card_a card_b start items out) out.marks.items began now
   pub side : Side (recording_of unit card_a card_b start items out) began now
   pub written : AreWritten (recording_of unit card_a card_b start items out) now
-  pub stays : HasAllStays (recording_of unit card_a card_b start items out) now
+  pub stays : HasAllStays (recording_of unit card_a card_b start items out) out.marks.items now
   pub kept : TellsKept (recording_of unit card_a card_b start items out) began.unit.clock now.unit
   pub last : TellsLast (recorded unit) (last_kept unit) (history_of (recording_of unit card_a card_b start items out)) (lost_of (recording_of unit card_a card_b start items out)) out.marks.items began.unit.clock now.unit
   pub dense : StayDense (recording_of unit card_a card_b start items out) now

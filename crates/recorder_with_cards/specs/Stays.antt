@@ -1,10 +1,14 @@
 -- What a run in which no call failed leaves on its cards (profile): exactly what their stays in the slots make of them, one for each acceptance
 -- that the log tells, withdrawn where the run notes that, and nowhere else.
-use Rattle.std.specs.Prelude.{◌≡◌, ◌⊎◌, ◌+◌, ◌*◌, IfSome, List, []}
+use Rattle.std.specs.Prelude.{◌≡◌, ◌⊎◌, ◌+◌, ◌*◌, IfSome, List, [], All}
 use Rattle.std.specs.List.{AllByRecursion}
+use Rattle.activity_codec.specs.declared.entries.Entry.{Entry}
 use Rattle.trace_model.specs.declared.Card.{Card}
 use Rattle.trace_model.specs.declared.Card.TheVariants.{A, B}
 use Rattle.tacho_types.specs.declared.texts.Registration.{Registration}
+use Rattle.log_model.specs.declared.lines.Mark.{Mark}
+use Rattle.log_model.specs.Causes.{device_of}
+use Rattle.history_model.specs.Completeness.{IsMarked}
 use Rattle.gated_ring.specs.Ring.{IsDense}
 use Rattle.message_model.specs.Records.{insertion_ring}
 use Rattle.card_image.specs.Own.{own_sizes, IsOwnValid}
@@ -30,6 +34,10 @@ IsCountedSo r s =
     IsOdometerBefore r.rule (odometer_at r.unit) (past_of r.log r.trace).spans s.found.second s.odometer
     × AllByRecursion (λ (k : Kept). IsOdometerBehind r.rule (odometer_at r.unit) (past_of r.log r.trace).spans (60 * k.entry.minute + 59) k.odometer.0) s.kepts
 
+-- EACH ENTRY that was owed at it has its mark
+abbrev pub IsAcknowledgedSo : List Mark → Card → Stay → Type 0
+IsAcknowledgedSo marks c s = All (λ (e : Entry). IsMarked marks (device_of c) e.minute) s.owed
+
 -- THE STAYS OF A RUN's cards, in the vehicle that the unit's image says. THE ACCEPTANCES that the log tells, each in its order, are those of the one
 -- card's stays and of the other's, and so many entries were owed as they tell. Only a card that was valid has some. EACH IMAGE that a stop may leave of it has exactly those days, with their
 -- words and distances, and those vehicle entries, all of them, that they make of its image at the start: in each it was inserted, kept its minutes, each
@@ -40,10 +48,11 @@ IsCountedSo r s =
 -- card: by the seconds of the power span before it and what the actions before it select. THE ODOMETERS are those of the run: what the unit's image says at the start, with the whole
 -- kilometres of each power span before, and of the span so far.
 -- WHAT WAS OWED AT EACH, in order, is all that the unit had of the card, at the start and by the minutes since, that is later than the end mark of what the card showed by then, and nothing
--- else.
+-- else: of the minutes since, only those behind whose end a `tear` line pulled the card out before they were decided. Each entry of that has a mark of the
+-- card.
 -- THE VEHICLE BEFORE of each insertion, as every image that a stop may leave of the unit tells it, is the newest vehicle entry of what the card's stays
 -- before it make of its image at the start: in the order in which the log tells the acceptances, one entry each, the oldest giving way.
-pub record LeaveStays (r : Recording) (now : Devices) : Type 0 where
+pub record LeaveStays (r : Recording) (marks : List Mark) (now : Devices) : Type 0 where
   pub vehicle : Registration
   pub says : vehicle.0 ≡ registration_in r.unit
   pub stays : Card → List Stay
@@ -56,8 +65,9 @@ pub record LeaveStays (r : Recording) (now : Devices) : Type 0 where
   pub words : (c : Card) → AllByRecursion (IsClosedSo r) (stays c)
   pub odometers : (c : Card) → AllByRecursion (IsCountedSo r) (stays c)
   pub owes : (c : Card) → AreOwed (IsOwed r.rule (start_of r) r.log r.trace c (brought r c).owed) vehicle (own_sizes (card_image r c)).activity (stays c) (start_shown (card_image r c))
+  pub acknowledged : (c : Card) → AllByRecursion (IsAcknowledgedSo marks c) (stays c)
   pub timely : (c : Card) → IsOwnValid (card_image r c) → AreTimely vehicle (own_sizes (card_image r c)).activity (stays c) (start_shown (card_image r c))
 
 -- so it is where no call failed
-abbrev pub HasAllStays : Recording → Devices → Type 0
-HasAllStays r now = NothingFailed r.log → LeaveStays r now
+abbrev pub HasAllStays : Recording → List Mark → Devices → Type 0
+HasAllStays r marks now = NothingFailed r.log → LeaveStays r marks now

@@ -27,12 +27,12 @@ use Rattle.run_ringed.specs.SoFar.{RingedBehind}
 use Rattle.run_ringed.specs.Steps.{nobody}
 use Rattle.run_rings.specs.Spans.{with_second}
 use Rattle.run_ringed.specs.Stored.{StoresOn, StoresOff}
-use Rattle.run_acts.specs.Truths.{truths_of}
+use Rattle.run_acts.specs.Truths.{truths_of, marked}
 use Rattle.run_acts.specs.Stays.{AllStay}
 
 -- THE UNIT WAS MENDED, in which this last-kept minute was found, and each card judged: the second goes on before its actions; or the unit failed.
 abbrev pub ResumesSo : (kept : ℕ) → (failed : Bool) → (old new : Run) → (before after : Outcome) → (d e : Devices) → Type 0
-ResumesSo kept failed old new before after d e = (o : Origin) → IsOrigin o → (done : List TraceSecond) (s : TraceSecond) (supply : Supply) (v : Values) → Recorded o done supply v d → AllStay o (truths_of o v.log done) 0 v.log (notes_in v.log done) old.keeper.memory.registration v.cabin d → MayPower supply v.next →
+ResumesSo kept failed old new before after d e = (o : Origin) → IsOrigin o → (done : List TraceSecond) (s : TraceSecond) (supply : Supply) (v : Values) → Recorded o done supply v d → AllStay o (marked v.marks (truths_of o v.log done)) 0 v.log (notes_in v.log done) old.keeper.memory.registration v.cabin d → MayPower supply v.next →
     s.number ≡ v.next → s.has_power ≡ true → values_of old before ≡ read_values kept v → HaveTime e → GoesOnOrCut failed o done s (In 0) [] new after e
 
 -- what is noted of events with that, where the log was this as the second began: they are noted so far, with the interruption before; or the unit
@@ -43,7 +43,7 @@ EventsWoken true began o done s run out d = Evented o (done ++ s ∷ []) (and_br
 
 -- THE UNIT WAS MENDED, and each card judged, behind seconds whose events were noted.
 abbrev pub EventsResuming : (kept speed : ℕ) → (failed : Bool) → (old new : Run) → (before after : Outcome) → (d e : Devices) → Type 0
-EventsResuming kept speed failed old new before after d e = (o : Origin) → IsOrigin o → (done : List TraceSecond) (s : TraceSecond) (supply : Supply) (v : Values) → Recorded o done supply v d → AllStay o (truths_of o v.log done) 0 v.log (notes_in v.log done) old.keeper.memory.registration v.cabin d → MayPower supply v.next →
+EventsResuming kept speed failed old new before after d e = (o : Origin) → IsOrigin o → (done : List TraceSecond) (s : TraceSecond) (supply : Supply) (v : Values) → Recorded o done supply v d → AllStay o (marked v.marks (truths_of o v.log done)) 0 v.log (notes_in v.log done) old.keeper.memory.registration v.cabin d → MayPower supply v.next →
     s.number ≡ v.next → s.has_power ≡ true → s.speed ≡ speed → values_of old before ≡ read_values kept v → Evented o done v.log v.unfound v.next supply d → old.keeper.memory.limit ≡ limit_in o → HaveTime e →
     EventsWoken failed (log_of before) o done s new after e
 
@@ -76,7 +76,7 @@ RingsWoken true began o done s spans run log d = (now : List SpanFrom) × (run.n
 
 -- THE UNIT WAS MENDED, and each card judged, behind seconds whose rings show what they noted.
 abbrev pub RingsResuming : (kept : ℕ) → (failed : Bool) → (old new : Run) → (before after : Outcome) → (d e : Devices) → Type 0
-RingsResuming kept failed old new before after d e = (o : Origin) → IsOrigin o → (done : List TraceSecond) (s : TraceSecond) (supply : Supply) (v : Values) → Recorded o done supply v d → AllStay o (truths_of o v.log done) 0 v.log (notes_in v.log done) old.keeper.memory.registration v.cabin d → MayPower supply v.next →
+RingsResuming kept failed old new before after d e = (o : Origin) → IsOrigin o → (done : List TraceSecond) (s : TraceSecond) (supply : Supply) (v : Values) → Recorded o done supply v d → AllStay o (marked v.marks (truths_of o v.log done)) 0 v.log (notes_in v.log done) old.keeper.memory.registration v.cabin d → MayPower supply v.next →
     s.number ≡ v.next → s.has_power ≡ true → values_of old before ≡ read_values kept v → (spans : List SpanFrom) (seats : Card → Option Seating) → RingedBehind o done (log_of before) s.number spans seats d → old.noted ≤ length (log_of before).finds → StoresOff o v.log v.unfound spans d → HaveTime e →
     RingsWoken failed (log_of before) o done s spans new (log_of after) e
 

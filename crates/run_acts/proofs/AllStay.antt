@@ -1,9 +1,9 @@
 -- The stays of both cards, over what each call makes of them and of the log.
-use Rattle.std.proofs.Common.{◌≡◌, ◌⊎◌, ◌∙◌, inl, inr, ⊎_elim, ℕ, suc, zero, Bool, true, false, List, [], ◌∷◌, ◌++◌, append_assoc, Option, Some, None, refl, ap, sym, subst}
+use Rattle.std.proofs.Common.{◌≡◌, ◌⊎◌, ◌∙◌, inl, inr, ⊎_elim, ℕ, suc, zero, Bool, true, false, List, [], ◌∷◌, ◌++◌, append_assoc, Contains, Option, Some, None, refl, ap, sym, subst}
 use Rattle.std.specs.Prelude.{not, ◌&&◌, filter, map, is_some, if◌then◌else◌}
 use Rattle.std.specs.List.{AllByRecursion}
 use Rattle.std.proofs.lemmas.List.{append-nil, map-append}
-use Rattle.std.proofs.lemmas.List.Elements.{filter-append}
+use Rattle.std.proofs.lemmas.List.Elements.{filter-append, Contains-append_left}
 use Rattle.activity_codec.specs.declared.values.Slot.{Slot}
 use Rattle.activity_codec.specs.declared.values.Slot.TheVariants.{Driver, CoDriver}
 use Rattle.trace_model.specs.declared.Card.{Card}
@@ -15,6 +15,7 @@ use Rattle.log_model.specs.Causes.{is_cut, has_failed}
 use Rattle.log_model.specs.Slots.{same_card}
 use Rattle.log_model.specs.declared.lines.Find.{Find}
 use Rattle.log_model.specs.declared.lines.Break.{Break}
+use Rattle.log_model.specs.declared.lines.Mark.{Mark}
 use Rattle.log_model.specs.declared.lines.Break.TheVariants.{Cut, Tear}
 use Rattle.unit_course.specs.Lines.{cut_at, with_kept, found_from}
 use Rattle.card_image.specs.Own.{own_sizes, IsOwnValid}
@@ -37,9 +38,9 @@ use Rattle.run_outcome.specs.Lines.{Listed}
 use Rattle.run_keeping.specs.declared.keeper.Keeper.{Keeper}
 use Rattle.run_keeping.specs.declared.keeper.Moment.{Moment}
 use Rattle.run_keeping.specs.CardDeeds.{DoesOn}
-use Rattle.run_keeping.specs.Keeping.{Fate, Still, Has, Fell, has_fallen, cabin_by, breaks_by, tear_of, with_lines}
+use Rattle.run_keeping.specs.Keeping.{Fate, Still, Has, Fell, has_fallen, cabin_by, breaks_by, marks_by, tear_of, with_lines}
 use Rattle.minute_model.specs.declared.Minute.{Minute}
-use Rattle.run_keeping.specs.Minutes.{Round, Told, Done, Reach, Whole, Short, IsReach, cabin_after, breaks_after, told_after, told_by, present_at}
+use Rattle.run_keeping.specs.Minutes.{Round, Told, Done, Reach, Whole, Short, IsReach, cabin_after, breaks_after, told_after, told_by, unit_mark, present_at}
 use Rattle.run_keeping.specs.Deeds.{KeepsOn, AllKeep}
 use Rattle.slot_machine.specs.Calls.{Seats, seat_in, card_in}
 use Rattle.run_acts.specs.Closings.{Spell, spells_of, with_last_shut, last_slot}
@@ -646,19 +647,33 @@ memory-by : (k : Keeper) (at : Moment) (xs : List Done) (t : Told) → (told_by 
 memory-by k at [] t = refl
 memory-by k at (x ∷ xs) t = memory-by k at xs (told_after (present_at k.cabin x.minute.minute) x.minute.minute at x.round t)
 
+-- no mark is lost
+marks-one : (x : Done) (k : Keeper) (at : Moment) (t : Told) (mark : Mark) → Contains t.marks.items mark → Contains (told_after (present_at k.cabin x.minute.minute) x.minute.minute at x.round t).marks.items mark
+marks-one x k at t mark among =
+    let present : Present = present_at k.cabin x.minute.minute in
+    let unit : List Mark = unit_mark x.minute.minute x.round.clock ∷ [] in
+    let driver : List Mark = marks_by x.round.driver present.driver x.minute.minute in
+    Contains-append_left ((t.marks.items ++ unit) ++ driver) (marks_by x.round.codriver present.codriver x.minute.minute) mark
+    (Contains-append_left (t.marks.items ++ unit) driver mark (Contains-append_left t.marks.items unit mark among))
+
+marks-stay : (k : Keeper) (at : Moment) (xs : List Done) (t : Told) (mark : Mark) → Contains t.marks.items mark → Contains (told_by k at xs t).marks.items mark
+marks-stay k at [] t mark among = among
+marks-stay k at (x ∷ xs) t mark among = marks-stay k at xs (told_after (present_at k.cabin x.minute.minute) x.minute.minute at x.round t) mark (marks-one x k at t mark among)
+
 -- what a keeping that did not fail leaves: lines more, and each session where none of them tells of a failed call
 pub record Reached (t u : Told) : Type 0 where
   pub more : List Break
   pub lines : u.breaks.items ≡ t.breaks.items ++ more
   pub stay : (c : Card) → filter failed_tear u.breaks.items ≡ [] → is_some (session_of t.keeper.cabin.cards c) ≡ true → is_some (session_of u.keeper.cabin.cards c) ≡ true
   pub registered : u.keeper.memory.registration ≡ t.keeper.memory.registration
+  pub marks : (mark : Mark) → Contains t.marks.items mark → Contains u.marks.items mark
   pub same : filter failed_tear u.breaks.items ≡ [] → (u.breaks.items ≡ t.breaks.items) × (u.keeper.cabin.slots ≡ t.keeper.cabin.slots)
 
 pub reach-told : (decided : List Minute) (at : Moment) (t u : Told) (reach : Reach) → IsReach decided at false t u reach → Reached t u
 reach-told decided at t u (Short xs m round) is = absurd is
 reach-told decided at t u (Whole xs) is =
     subst (Reached t) (sym is.2)
-    (let lines = lines-by t.keeper at xs t in record { more = lines.0; lines = lines.1; stay = λ c none some. sessions-stay t.keeper at xs t c none some; registered = memory-by t.keeper at xs t; same = λ none. lines-none t.keeper at xs t none })
+    (let lines = lines-by t.keeper at xs t in record { more = lines.0; lines = lines.1; stay = λ c none some. sessions-stay t.keeper at xs t c none some; registered = memory-by t.keeper at xs t; marks = λ mark among. marks-stay t.keeper at xs t mark among; same = λ none. lines-none t.keeper at xs t none })
 
 -- ---- what was kept is found
 

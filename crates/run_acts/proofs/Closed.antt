@@ -89,7 +89,7 @@ use Rattle.side_model.specs.Noted.{Note}
 use Rattle.std.specs.List.{AllByRecursion}
 use Rattle.run_recorded.specs.Whole.{NothingFailed}
 use Rattle.run_acts.specs.Closings.{spells_of, with_last_shut, last_slot, notes_within}
-use Rattle.run_acts.specs.Truths.{past_of, IsWordIn, truths_within}
+use Rattle.run_acts.specs.Truths.{past_of, IsWordIn, truths_within, marked}
 use Rattle.run_acts.specs.Stays.{Shut, Stay, spells, sits_in, as_noted, IsTrueOf, ClosesOnCard, HasStays, AreTrue, start_shown}
 use Rattle.run_acts.specs.Comings.{TellMore}
 use Rattle.run_acts.proofs.Stays.{on_last, on-last-comings, on-last-founds, on-last-owed, on-last-none, on-last-true, last-shut-slot, with_end, stays-close, on-last-owes}
@@ -177,10 +177,10 @@ module _ {C : Type 0} (state : C → State) (c : Card) (slot : Slot) (at : Momen
     -- what was true of its stays is so: the word is that of the slot, in which the last of them began
     stays-hold : (shut : ClosesOnCard slot run.minutes (Some a) (state x) (state y)) → (NothingFailed (log_of told) → IsOwnValid (found_of o.found c).image → last_slot (spells_of c so-far) ≡ Some slot) → NothingFailed (log_of told) → (ss : List Stay) →
         (ss ≡ []) ⊎ IsOwnValid (found_of o.found c).image → (IsOwnValid (found_of o.found c).image → HasStays s.number (found_of o.found c) run.keeper.memory.registration (spells_of c so-far) (sits_in run.keeper.cabin.slots.seats c) ss (Some a) (state x)) →
-        AreTrue (truths_within o w.within.b.run.log done s) c run.keeper.memory.registration (found_of o.found c).image ss → AreTrue (truths_within o w.within.b.run.log done s) c run.keeper.memory.registration (found_of o.found c).image (on_last (with_end (shut-by shut.0)) ss)
+        AreTrue (marked told.marks.items (truths_within o w.within.b.run.log done s)) c run.keeper.memory.registration (found_of o.found c).image ss → AreTrue (marked told.marks.items (truths_within o w.within.b.run.log done s)) c run.keeper.memory.registration (found_of o.found c).image (on_last (with_end (shut-by shut.0)) ss)
     stays-hold shut placed none ss only shown all = (
-      on-last-true (truths_within o w.within.b.run.log done s) (with_end (shut-by shut.0)) ss (λ x last is. (is.0, is.1, by x last only)) all.0,
-      on-last-owes ((truths_within o w.within.b.run.log done s).owed c) (with_end (shut-by shut.0)) (λ x. refl) (λ x. refl) run.keeper.memory.registration (own_sizes (found_of o.found c).image).activity ss (start_shown (found_of o.found c).image) all.1,
+      on-last-true (marked told.marks.items (truths_within o w.within.b.run.log done s)) (with_end (shut-by shut.0)) ss (λ x last is. (is.0, is.1, by x last only)) all.0,
+      on-last-owes ((marked told.marks.items (truths_within o w.within.b.run.log done s)).owed c) (with_end (shut-by shut.0)) (λ x. refl) (λ x. refl) run.keeper.memory.registration (own_sizes (found_of o.found c).image).activity ss (start_shown (found_of o.found c).image) all.1,
     )
       where
         word : IsWordIn (rule_of o) (past_of w.within.b.run.log (done ++ s ∷ [])) slot s.number shut.0
@@ -200,9 +200,9 @@ module _ {C : Type 0} (state : C → State) (c : Card) (slot : Slot) (at : Momen
     -- it is closed, and the card has not broken down
     closed : (state y).breakdowns ≡ (state x).breakdowns → (NothingFailed (log_of told) → IsOwnValid (found_of o.found c).image → last_slot (spells_of c so-far) ≡ Some slot) → (failed ≡ false → TellMore [] U V) → ClosesOnCard slot run.minutes (Some a) (state x) (state y) → (b : Bool) → failed ≡ b → IsPoweredOrOff b o.found (carried_closed Closed c carries) (with_session c None run.keeper.cabin.cards) e → GoesOnOrFails b o done s (In n) [] (with_cabin (with_session_of c None run.keeper.cabin) run) told e w.within.b
     closed calm placed go shut false is powered = goes-as o done s (In n) (In n) [] [] [] run (with_cabin (with_session_of c None run.keeper.cabin) run) told told d e w.within.from w refl refl (session-closed d e o done s (In n) v w.within slot c called (card-more c U V (state x) (state y) Z cause.breakdowns calm) powered)
-        (all-one o (truths_within o w.within.b.run.log done s) s.number c (log_of told) (log_of told) so-far so-far run.keeper.memory.registration run.keeper.cabin (with_session_of c None run.keeper.cabin) U V (state x) (state y) Z (λ none. none) (others-left c run.keeper.cabin.cards) refl (λ at_ there. there)
+        (all-one o (marked told.marks.items (truths_within o w.within.b.run.log done s)) s.number c (log_of told) (log_of told) so-far so-far run.keeper.memory.registration run.keeper.cabin (with_session_of c None run.keeper.cabin) U V (state x) (state y) Z (λ none. none) (others-left c run.keeper.cabin.cards) refl (λ at_ there. there)
         (λ none. refl) (λ none was. placed-bare so-far (with_session_of c None run.keeper.cabin) c (mine-left c run.keeper.cabin.cards))
-        (λ none ss. turns-so (truths_within o w.within.b.run.log done s) c s.number (found_of o.found c) (log_of told) run.keeper.memory.registration (spells_of c so-far) (sits_in run.keeper.cabin.slots.seats c) (session_of run.keeper.cabin.cards c) (session_of (with_session c None run.keeper.cabin.cards) c) U V (state x) (state y) (on_last (with_end (shut-by shut.0)))
+        (λ none ss. turns-so (marked told.marks.items (truths_within o w.within.b.run.log done s)) c s.number (found_of o.found c) (log_of told) run.keeper.memory.registration (spells_of c so-far) (sits_in run.keeper.cabin.slots.seats c) (session_of run.keeper.cabin.cards c) (session_of (with_session c None run.keeper.cabin.cards) c) U V (state x) (state y) (on_last (with_end (shut-by shut.0)))
         (on-last-founds (with_end (shut-by shut.0)) (λ s. refl)) (on-last-owed (with_end (shut-by shut.0)) (λ s tells. tells)) (on-last-none (with_end (shut-by shut.0)))
         (on-last-comings run.keeper.memory.registration (found_of o.found c).image (with_end (shut-by shut.0)) (λ s. refl)) (go is) ss
         (λ valid h. subst (λ (q : Option Accepted). HasStays s.number (found_of o.found c) run.keeper.memory.registration (spells_of c so-far) (sits_in run.keeper.cabin.slots.seats c) (on_last (with_end (shut-by shut.0)) ss) q (state y)) (sym (mine-left c run.keeper.cabin.cards))

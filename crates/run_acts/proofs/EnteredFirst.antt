@@ -1,8 +1,8 @@
 -- What an acceptance brings of a card that enters for the first time: so many entries as the unit owed to it at the start, and each of them is marked.
-use Rattle.std.proofs.Common.{◌≡◌, ◌⊎◌, inl, inr, ⊎_elim, ℕ, ◌≤◌, ◌<◌, None, List, [], ◌∷◌, ◌++◌, All, length, refl, ap, sym, subst, ◌∙◌, arith, append-nil, append_assoc}
+use Rattle.std.proofs.Common.{◌≡◌, ◌⊎◌, inl, inr, ⊎_elim, ℕ, ◌≤◌, ◌<◌, None, List, [], ◌∷◌, ◌++◌, All, length, refl, ap, sym, subst, ◌∙◌, arith, append-nil}
 use Rattle.std.specs.Prelude.{option_to_list}
 use Rattle.std.proofs.lemmas.Bool.{cases_lt}
-use Rattle.std.proofs.lemmas.List.Elements.{All-nil, All-cons, All-head, All-append, Contains-append_left, Contains-append_right, Contains-push}
+use Rattle.std.proofs.lemmas.List.Elements.{All-head, All-append}
 use Rattle.activity_codec.specs.declared.entries.Entry.{Entry}
 use Rattle.trace_model.specs.declared.Card.{Card}
 use Rattle.trace_model.specs.declared.Card.TheVariants.{A, B}
@@ -43,6 +43,7 @@ use Rattle.run_within.specs.Within.{course_in, often, BringsBy, MayBeWrittenSo, 
 use Rattle.log_model.specs.declared.lines.Verdict.TheVariants.{Accepted}
 use Rattle.run_acts.specs.Entered.{values_with, MayJudge}
 use Rattle.run_acts.proofs.EnteredFacts.{before, was}
+use Rattle.run_acts.proofs.EnteredLines.{own-marks}
 use Rattle.run_acts.proofs.EnteredNewest.{past-is, written-or}
 
 -- entries in front of which none is later than a mark, where all are later than it
@@ -52,15 +53,6 @@ front-none mark (e ∷ more) due es is low high =
     let early = All-head (λ (d : Entry). d.minute ≤ mark) e more low in
     let late = All-head (λ (d : Entry). mark < d.minute) e (more ++ due) (subst (All (λ (d : Entry). mark < d.minute)) (sym is) high) in
     absurd (omega (arith, early, late))
-
--- entries have the marks that are made of them
-own-marks : (c : Card) (clock : ℕ) (ms : List Mark) (es : List Entry) → All (λ (e : Entry). IsMarked (ms ++ card_marks c clock es) (device_of c) e.minute) es
-own-marks c clock ms [] = All-nil (λ (e : Entry). IsMarked (ms ++ []) (device_of c) e.minute)
-own-marks c clock ms (e ∷ es) =
-    let m : Mark = record { device = device_of c; minute = e.minute; clock = clock } in
-    All-cons (λ (d : Entry). IsMarked (ms ++ m ∷ card_marks c clock es) (device_of c) d.minute) e es
-    (m, Contains-append_right ms (m ∷ card_marks c clock es) m (Contains-append_left (m ∷ []) (card_marks c clock es) m (Contains-push [] m)), refl, refl)
-    (subst (λ (xs : List Mark). All (λ (d : Entry). IsMarked xs (device_of c) d.minute) es) (append_assoc ms (m ∷ []) (card_marks c clock es)) (own-marks c clock (ms ++ m ∷ []) es))
 
 module _ (o : Origin) (done : List TraceSecond) (s : TraceSecond) (n : ℕ) (waits fewer : List Visit) (e : Entering) (k : Keeper) (out : Outcome) (unfound next_ begun : ℕ) (minutes : Kept) (U X Z : State) (w : Within o done s (In n) waits None [] (values_with k out unfound next_ begun minutes) (arranged e.which U X Z)) (m : MayJudge o done s n waits fewer e k out unfound next_ begun minutes U X Z w) (coherent : IsCoherent X) where
   abbrev r : Recording

@@ -1,9 +1,10 @@
 -- The stays of a card that enters: a new one where it is accepted.
-use Rattle.std.proofs.Common.{◌≡◌, ◌∙◌, ◌⊎◌, inl, inr, ℕ, Bool, true, false, List, [], ◌∷◌, ◌++◌, Option, Some, None, refl, ap, sym, subst, arith}
+use Rattle.std.proofs.Common.{◌≡◌, ◌∙◌, ◌⊎◌, inl, inr, ℕ, ◌+◌, ◌≤◌, Bool, true, false, List, [], ◌∷◌, ◌++◌, All, length, Option, Some, None, refl, ap, sym, subst, arith}
 use Rattle.std.specs.Prelude.{filter}
 use Rattle.std.proofs.lemmas.List.{append-nil}
 use Rattle.std.proofs.lemmas.List.Elements.{filter-append}
 use Rattle.activity_codec.specs.declared.values.Slot.{Slot}
+use Rattle.activity_codec.specs.declared.entries.Entry.{Entry}
 use Rattle.activity_codec.specs.declared.values.Slot.TheVariants.{Driver, CoDriver}
 use Rattle.trace_model.specs.declared.Card.{Card}
 use Rattle.trace_model.specs.declared.Card.TheVariants.{A, B}
@@ -13,6 +14,9 @@ use Rattle.log_model.specs.Log.{RunLog, In, found_in, is_accepting}
 use Rattle.log_model.specs.Slots.{same_card, other_slot}
 use Rattle.log_model.specs.Course.{Visit, went}
 use Rattle.log_model.specs.declared.lines.Break.{Break}
+use Rattle.log_model.specs.declared.lines.Mark.{Mark}
+use Rattle.log_model.specs.Causes.{device_of}
+use Rattle.history_model.specs.Completeness.{IsMarked}
 use Rattle.log_model.specs.declared.lines.Verdict.{Verdict}
 use Rattle.log_model.specs.declared.lines.Find.{Find}
 use Rattle.log_model.specs.declared.lines.Verdict.TheVariants.{Accepted as AcceptedWith, NotValid, TimeOverlap}
@@ -39,18 +43,19 @@ use Rattle.run_crew.specs.declared.cabin.Cabin.{Cabin}
 use Rattle.run_crew.specs.Cards.{session_of}
 use Rattle.run_rule.specs.Found.{CardFound, found_of}
 use Rattle.run_rule.specs.Between.{Carried}
-use Rattle.run_told.specs.Told.{arranged}
+use Rattle.run_told.specs.Told.{arranged, card_marks}
 use Rattle.run_told.proofs.Known.{session-sized}
 use Rattle.run_recorded.specs.Origin.{Origin}
 use Rattle.run_recorded.specs.Whole.{NothingFailed}
 use Rattle.run_outcome.specs.declared.outcome.Outcome.{Outcome}
 use Rattle.run_keeping.specs.declared.keeper.Keeper.{Keeper}
 use Rattle.run_entering.specs.declared.lines.Entering.{Entering}
-use Rattle.run_entering.specs.Entering.{Ending, Unfit, Ahead, Fell, Unasked, Unnoted, Seated, Lost, Way, Unread, Unsized, Judged, ending_of, sizes_by, measured, cabin_by, breaks_by, outcome_by, find_of, and_one}
+use Rattle.run_entering.specs.Entering.{Ending, Unfit, Ahead, Fell, Unasked, Unnoted, Seated, Lost, Way, Unread, Unsized, Judged, ending_of, sizes_by, measured, cabin_by, breaks_by, outcome_by, find_of, and_one, most_owed}
 use Rattle.device_steps.specs.declared.entering.Entered.{Entered}
 use Rattle.run_entering.specs.Entered.{HasEntered, IsEnding, IsWay}
 use Rattle.run_entering.specs.Told.{IsEnteredOn, IsToldOf, OpensSo, IsToldSo}
 use Rattle.run_entering.proofs.Carried.{has-session}
+use Rattle.run_acts.proofs.EnteredLines.{own-marks, marks-are}
 use Rattle.run_acts.specs.Recording.{log_of}
 use Rattle.run_acts.specs.Closings.{spells_of, last_slot, notes_within}
 use Rattle.run_acts.specs.Truths.{Truths}
@@ -130,7 +135,7 @@ TellsBy (Seated entered clock entry) f U W X =
 TellsBy (Lost entered clock entry) f U W X = Unit {0}
 
 module _ (o : Origin) (e : Entering) (failed : Bool) (well : failed ≡ false) (k v : Keeper) (noted noted_after : ℕ) (out after : Outcome) (U W X Y Z : State) (notes : RunLog → List Note) (judges : (verdict : Verdict) → NotesFind e (log_of out) notes verdict)
-    (seat : seat_in k.cabin.slots.seats e.slot ≡ Some (record { card = e.which; newest = None })) (elsewhere : is_card (seat_in k.cabin.slots.seats (other_slot e.slot)) e.which ≡ false) (t : Truths) (u : ℕ)
+    (seat : seat_in k.cabin.slots.seats e.slot ≡ Some (record { card = e.which; newest = None })) (elsewhere : is_card (seat_in k.cabin.slots.seats (other_slot e.slot)) e.which ≡ false) (t : Truths) (u : ℕ) (room : length out.marks.items + most_owed ≤ out.marks.room)
     (tells_odometer : NothingFailed (log_of out) → (verdict : Verdict) → t.accepted (find_of e verdict) e.odometer.0) where
   abbrev f : CardFound
   f = found_of o.found e.which
@@ -160,9 +165,9 @@ module _ (o : Origin) (e : Entering) (failed : Bool) (well : failed ≡ false) (
   none-more : (g : Find) → filter accepting (g ∷ []) ≡ [] → acceptances_told (record (log_of out) { finds = (log_of out).finds ++ g ∷ [] }) ≡ acceptances_told (log_of out)
   none-more g rejected = filter-append accepting (log_of out).finds (g ∷ []) ∙ ap (λ (l : List Find). acceptances_told (log_of out) ++ l) rejected ∙ append-nil (acceptances_told (log_of out))
 
-  -- what was owed to it as it was looked at, by an image that it may have left
+  -- what was owed to it as it was looked at, by an image that it may have left, where each entry of it has its mark by now
   abbrev OwesIn : Carried → Type 0
-  OwesIn w = NothingFailed (log_of out) → (entered : Entered) → IsToldSo o.found w e entered U X → (y : List ℕ) × X.may_leave y × t.owed e.which e.at.second (mark_of (book_of (own_sizes f.image) y)) entered.owed.items
+  OwesIn w = NothingFailed (log_of out) → (entered : Entered) → IsToldSo o.found w e entered U X → All (λ (d : Entry). IsMarked after.marks.items (device_of e.which) d.minute) entered.owed.items → (y : List ℕ) × X.may_leave y × t.owed e.which e.at.second (mark_of (book_of (own_sizes f.image) y)) entered.owed.items
 
   -- what becomes of its stays, as it sits in this cabin behind it
   abbrev TurnsBy : Ending → Cabin → Option Accepted → List Stay → Type 0
@@ -183,16 +188,16 @@ module _ (o : Origin) (e : Entering) (failed : Bool) (well : failed ≡ false) (
   }
 
   -- of a card that was judged
-  own-judged : (ending : Ending) (app : Application) (w : Carried) → OwesIn w → (cabin : Cabin) → IsEnding ending app k.memory.registration e failed U.image X Y → IsToldOf ending o.found w e U X → (IsOwnValid f.image → OpensSo ending k.memory.registration e f X Y) → TellsBy ending f U W X → NothingFailed (log_by ending)
+  own-judged : (ending : Ending) → after ≡ outcome_by ending e out → (app : Application) (w : Carried) → OwesIn w → (cabin : Cabin) → IsEnding ending app k.memory.registration e failed U.image X Y → IsToldOf ending o.found w e U X → (IsOwnValid f.image → OpensSo ending k.memory.registration e f X Y) → TellsBy ending f U W X → NothingFailed (log_by ending)
       → (ss : List Stay) → TurnsBy ending (cabin_by ending e noted cabin) (session_by ending noted) ss
-  own-judged (Unfit fid place) app w owes cabin is told opens tells none ss =
+  own-judged (Unfit fid place) behind app w owes cabin is told opens tells none ss =
       turned-away (Unfit fid place) cabin (none-more (find_of e (NotValid fid place)) refl) (ap (λ (l : RunLog). spells_of e.which (notes l)) (one-find (NotValid fid place)) ∙ (judges (NotValid fid place)).rejects refl) opens tells ss
-  own-judged (Ahead stored) app w owes cabin is told opens tells none ss =
+  own-judged (Ahead stored) behind app w owes cabin is told opens tells none ss =
       turned-away (Ahead stored) cabin (none-more (find_of e (TimeOverlap stored e.at.second)) refl) (ap (λ (l : RunLog). spells_of e.which (notes l)) (one-find (TimeOverlap stored e.at.second)) ∙ (judges (TimeOverlap stored e.at.second)).rejects refl) opens tells ss
-  own-judged Fell app w owes cabin is told opens tells none ss = no-tear (log_of out) e.slot e.at none
-  own-judged Unasked app w owes cabin is told opens tells none ss = fails is
-  own-judged (Unnoted entered clock) app w owes cabin is told opens tells none ss = fails is.0
-  own-judged (Seated entered clock entry) app w owes cabin is told opens tells none ss = record {
+  own-judged Fell behind app w owes cabin is told opens tells none ss = no-tear (log_of out) e.slot e.at none
+  own-judged Unasked behind app w owes cabin is told opens tells none ss = fails is
+  own-judged (Unnoted entered clock) behind app w owes cabin is told opens tells none ss = fails is.0
+  own-judged (Seated entered clock entry) behind app w owes cabin is told opens tells none ss = record {
     now = ss ++ new_stay entered ∷ [];
     told = inr (find_of e (AcceptedWith entered.replayed), filter-append accepting (log_of out).finds (find_of e (AcceptedWith entered.replayed) ∷ []), founds-more ss (new_stay entered));
     owed = λ all. owed-more ss (new_stay entered) all (ap AcceptedWith told.whole);
@@ -205,7 +210,10 @@ module _ (o : Origin) (e : Entering) (failed : Bool) (well : failed ≡ false) (
         (let x = told.found.card_image in let seen = ap (λ (v : CardView). v.stored) (own-is (own_sizes f.image) x told.found.sizes) in let le = told.found.early in (x, told.found.there, omega (arith, seen, le))) h;
     hold = λ only shown all.
         let before = fewer-none (log_of out) (breaks_by (Seated entered clock entry) e) none in
-        let x = owes before entered told in (
+        let most = told.most in
+        let marks : after.marks.items ≡ out.marks.items ++ card_marks e.which clock entered.owed.items =
+        ap (λ (p : Outcome). p.marks.items) behind ∙ marks-are e.which clock entered.owed.items entered.replayed out.marks told.whole (omega (arith, room, most)) in
+        let x = owes before entered told (subst (λ (ms : List Mark). All (λ (d : Entry). IsMarked ms (device_of e.which) d.minute) entered.owed.items) (sym marks) (own-marks e.which clock out.marks.items entered.owed.items)) in (
           true-more t ss (new_stay entered) all.0 (tells_odometer before (AcceptedWith entered.replayed), tt, tt),
           owes-more (t.owed e.which) vehicle (own_sizes f.image).activity ss (new_stay entered) (start_shown f.image) all.1
               (subst (λ (b : Book). t.owed e.which e.at.second (mark_of b) entered.owed.items) ((shown told.valid).shows x.0 x.1).0 x.2),
@@ -221,13 +229,13 @@ module _ (o : Origin) (e : Entering) (failed : Bool) (well : failed ≡ false) (
           subst (λ (q : Option Vehicle). TellMore (told_of q ∷ []) U W) newest tells.0,
         );
   }
-  own-judged (Lost entered clock entry) app w owes cabin is told opens tells none ss = no-tear (record (log_of out) { finds = (log_by (Lost entered clock entry)).finds }) e.slot e.at none
+  own-judged (Lost entered clock entry) behind app w owes cabin is told opens tells none ss = no-tear (record (log_of out) { finds = (log_by (Lost entered clock entry)).finds }) e.slot e.at none
 
-  own : (way : Way) (w : Carried) → OwesIn w → (cabin : Cabin) → IsWay way k.memory.registration e failed U.image X Y → IsToldOf (ending_of way) o.found w e U X → (IsOwnValid f.image → OpensSo (ending_of way) k.memory.registration e f X Y) → TellsBy (ending_of way) f U W X → NothingFailed (log_by (ending_of way))
+  own : (way : Way) → after ≡ outcome_by (ending_of way) e out → (w : Carried) → OwesIn w → (cabin : Cabin) → IsWay way k.memory.registration e failed U.image X Y → IsToldOf (ending_of way) o.found w e U X → (IsOwnValid f.image → OpensSo (ending_of way) k.memory.registration e f X Y) → TellsBy (ending_of way) f U W X → NothingFailed (log_by (ending_of way))
       → (ss : List Stay) → TurnsBy (ending_of way) (cabin_by (ending_of way) e noted cabin) (session_by (ending_of way) noted) ss
-  own Unread w owes cabin is told opens tells none ss = no-tear (log_of out) e.slot e.at none
-  own (Unsized field) w owes cabin is told opens tells none ss = own-judged (ending_of (Unsized field)) (own_sizes f.image) w owes cabin tt tt opens tells none ss
-  own (Judged app ending) w owes cabin is told opens tells none ss = own-judged ending app w owes cabin is told opens tells none ss
+  own Unread behind w owes cabin is told opens tells none ss = no-tear (log_of out) e.slot e.at none
+  own (Unsized field) behind w owes cabin is told opens tells none ss = own-judged (ending_of (Unsized field)) behind (own_sizes f.image) w owes cabin tt tt opens tells none ss
+  own (Judged app ending) behind w owes cabin is told opens tells none ss = own-judged ending behind app w owes cabin is told opens tells none ss
 
   -- ---- of the other card
 
@@ -318,4 +326,4 @@ module _ (o : Origin) (e : Entering) (failed : Bool) (well : failed ≡ false) (
       turned way w entered known owes tells none ss bare cabin session =
           subst (λ (s : Option Accepted). Turns t e.which u f (log_of out) (log_by (ending_of way)) vehicle (spells_of e.which (notes (log_of out))) (spells_of e.which (notes (log_by (ending_of way)))) (sits_in k.cabin.slots.seats e.which) (sits_in v.cabin.slots.seats e.which) s (session_of v.cabin.cards e.which) U W X Y ss) (sym bare)
           (subst (λ (s : Option Accepted). TurnsBy (ending_of way) v.cabin s ss) (sym session)
-          (subst (λ (q : Cabin). TurnsBy (ending_of way) q (session_by (ending_of way) noted) ss) (sym cabin) (own way w owes (measured way e k).cabin entered.is known.told known.opens tells none ss)))
+          (subst (λ (q : Cabin). TurnsBy (ending_of way) q (session_by (ending_of way) noted) ss) (sym cabin) (own way entered.left.outcome w owes (measured way e k).cabin entered.is known.told known.opens tells none ss)))

@@ -55,6 +55,7 @@ pub mod Truths
 pub mod MinuteEnds
 pub mod WholeLegs
 pub mod TruthsThen
+mod TruthRows
 mod Since
 pub mod Words
 pub mod EnteredStays
@@ -99,5 +100,6 @@ pub mod CardWrites
 pub mod Closings
 pub mod CardUses
 pub mod StayUses
+pub mod PulledBy
 pub mod OwedOn
 pub mod OwedNow

@@ -2,6 +2,7 @@
 -- driven in the span up to it.
 use Rattle.std.proofs.Common.{◌≡◌, ◌∙◌, ◌⊎◌, inl, inr, ⊎_elim, ℕ, zero, suc, ◌+◌, ◌-◌, ◌*◌, ◌/◌, ◌<◌, ◌≤◌, Bool, true, false, cond, nat_lt, Option, Some, None, List, [], ◌∷◌, ◌++◌, Contains, length, map, filter, sum, sum_by, refl, ap, sym, subst, arith, append-nil, append_assoc, length-append}
 use Rattle.std.proofs.lemmas.Bool.{cases_lt}
+use Rattle.std.proofs.lemmas.List.{length-map}
 use Rattle.std.proofs.lemmas.Bool.Decides.{nat_tests}
 use Rattle.std.proofs.lemmas.List.Elements.{filter-append, Contains-append_right, Contains-append_cases, Contains-push_cases}
 use Rattle.std.proofs.lemmas.List.Sums.{sum_by-cons}
@@ -140,6 +141,28 @@ at-seconds : (rule : Rule) (next : ℕ) (span : List Told) → (span_at rule nex
 at-seconds rule next [] = refl
 at-seconds rule next (t ∷ span) = refl
 
+-- ---- what it has decided
+
+decided-at : (rule : Rule) (next : ℕ) (span : List Told) → decided_in (span_at rule next span) ≡ decided_of rule span
+decided-at rule next [] = refl
+decided-at rule next (t ∷ span) = refl
+
+count-long : (a n : ℕ) → length (count_from a n) ≡ n
+count-long a zero = refl
+count-long a (suc n) = ap suc (count-long (a + 1) n)
+
+-- of minutes that are counted those behind some are no earlier
+behind-low : (xs ys : List Minute) (a n : ℕ) → map (λ (x : Minute). x.minute) (xs ++ ys) ≡ count_from a n → (m : Minute) → Contains ys m → a + length xs ≤ m.minute
+behind-low [] ys a n is m at =
+    let w = counted-range a n m.minute (subst (λ (ns : List ℕ). Contains ns m.minute) is (mapped (λ (x : Minute). x.minute) ys m at)) in
+    let low = w.0 in
+    omega (arith, low)
+behind-low (x ∷ xs) ys a zero is m at = absurd (cc)
+behind-low (x ∷ xs) ys a (suc n) is m at =
+    let rest : map (λ (y : Minute). y.minute) (xs ++ ys) ≡ count_from (a + 1) n = cc in
+    let low = behind-low xs ys (a + 1) n rest m at in
+    omega (arith, low)
+
 -- ---- the span that goes on, as a second begins
 
 pub record StandsAt (sp : Span) (next : ℕ) : Type 0 where
@@ -223,6 +246,23 @@ module _ (o : Origin) (done : List TraceSecond) (s : TraceSecond) (at : Phase) (
     where
       before : (a b m : ℕ) → m < a → a ≤ b → m < b
       before a b m lt le = omega (arith, lt, le)
+
+  -- nor one that was decided as the second began
+  pub fresh-low : (m : Minute) → Contains (w.ds ++ rest) m → ungiven_of (span_at (rule_of o) s.number w.b.span) ≤ m.minute
+  fresh-low m among =
+      let a : ℕ = old.first / 60 in
+      let was : map (λ (x : Minute). x.minute) (decided_of (rule_of o) w.b.span) ≡ count_from a (ungiven_of old - a) =
+      ap (λ (ms : List Minute). map (λ (x : Minute). x.minute) ms) (sym (decided-at (rule_of o) w.b.run.next w.b.span)) ∙ decided-minutes old old-stands.numbered old-stands.settled in
+      let are : map (λ (x : Minute). x.minute) (decided_of (rule_of o) w.b.span ++ (w.ds ++ rest)) ≡ count_from a (ungiven_of w.sp - a) =
+      ap (λ (ms : List Minute). map (λ (x : Minute). x.minute) ms) (sym w.decided.decided)
+      ∙ decided-minutes w.sp w.minutes.numbered w.minutes.settled
+      ∙ ap (λ (n : ℕ). count_from (n / 60) (ungiven_of w.sp - n / 60)) first-is in
+      let low : a + length (decided_of (rule_of o) w.b.span) ≤ m.minute = behind-low (decided_of (rule_of o) w.b.span) (w.ds ++ rest) a (ungiven_of w.sp - a) are m among in
+      let many : length (decided_of (rule_of o) w.b.span) ≡ ungiven_of old - a = sym (length-map (decided_of (rule_of o) w.b.span) (λ (x : Minute). x.minute)) ∙ ap length was ∙ count-long a (ungiven_of old - a) in
+      subst (λ (u : ℕ). ungiven_of (span_at (rule_of o) u w.b.span) ≤ m.minute) (sym w.moment.number) (least a (length (decided_of (rule_of o) w.b.span)) (ungiven_of old) m.minute low many)
+    where
+      least : (a n u m : ℕ) → a + n ≤ m → n ≡ u - a → u ≤ m
+      least a n u m low many = omega (arith, low, many)
 
   -- the seconds before one that has come
   seconds-to : (k : ℕ) → k ≤ s.number → filter (λ (x : Second). nat_lt x.number k) w.sp.seconds ≡ filter (λ (x : Second). nat_lt x.number k) (seconds_in w.b.span)

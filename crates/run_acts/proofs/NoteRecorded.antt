@@ -76,7 +76,7 @@ use Rattle.run_acts.proofs.Apart.{some-one}
 use Rattle.run_acts.proofs.Asked.{allowed-in}
 use Rattle.run_acts.specs.Closings.{spells_of, notes_within}
 use Rattle.run_acts.specs.Comings.{TellMore}
-use Rattle.run_acts.specs.Truths.{truths_within}
+use Rattle.run_acts.specs.Truths.{truths_within, marked}
 use Rattle.run_acts.specs.Stays.{sits_in, AllStay}
 use Rattle.side_model.specs.Noted.{Note}
 use Rattle.run_acts.proofs.Stays.{stays-still}
@@ -202,18 +202,18 @@ module _ (o : Origin) (cards : Cards) {R S : List ℕ → List ℕ → Type 0} w
 
 -- THE RUN GOES ON, where the record does
 pub run-on : (o : Origin) (done : List TraceSecond) (s : TraceSecond) (at next : Phase) (waits fewer : List Visit) (rest more : List Minute) (run new : Run) (out after : Outcome) (d e : Devices) (first : ℕ) → (w : RunWithin o done s at waits rest run out d) →
-    new.power ≡ run.power → new.keeper.odometer ≡ run.keeper.odometer → GoesOn o done s next fewer None more (values_of new after) e w.within.b first → AllStay o (truths_within o w.within.b.run.log done s) s.number (log_of after) (notes_within w.within.b done s next (log_of after)) new.keeper.memory.registration new.keeper.cabin e → RunWithin o done s next fewer more new after e
+    new.power ≡ run.power → new.keeper.odometer ≡ run.keeper.odometer → GoesOn o done s next fewer None more (values_of new after) e w.within.b first → AllStay o (marked after.marks.items (truths_within o w.within.b.run.log done s)) s.number (log_of after) (notes_within w.within.b done s next (log_of after)) new.keeper.memory.registration new.keeper.cabin e → RunWithin o done s next fewer more new after e
 run-on o done s at next waits fewer rest more run new out after d e first w power odometer g stay = record {
   origin = w.origin;
   lit = power ∙ w.lit;
   within = g.within;
   odometer = odometer ∙ w.odometer ∙ ap (λ (b : Beginning). odometer_after (odometer_at o.recording.unit) b.travel.before) (sym g.began);
-  stay = subst (λ (b : Beginning). AllStay o (truths_within o b.run.log done s) s.number (log_of after) (notes_within b done s next (log_of after)) new.keeper.memory.registration new.keeper.cabin e) (sym g.began) stay;
+  stay = subst (λ (b : Beginning). AllStay o (marked after.marks.items (truths_within o b.run.log done s)) s.number (log_of after) (notes_within b done s next (log_of after)) new.keeper.memory.registration new.keeper.cabin e) (sym g.began) stay;
 }
 
 -- as it began
 pub goes-as : (o : Origin) (done : List TraceSecond) (s : TraceSecond) (at next : Phase) (waits fewer : List Visit) (rest : List Minute) (run new : Run) (out after : Outcome) (d e : Devices) (first : ℕ) → (w : RunWithin o done s at waits rest run out d) →
-    new.power ≡ run.power → new.keeper.odometer ≡ run.keeper.odometer → GoesOn o done s next fewer None [] (values_of new after) e w.within.b first → AllStay o (truths_within o w.within.b.run.log done s) s.number (log_of after) (notes_within w.within.b done s next (log_of after)) new.keeper.memory.registration new.keeper.cabin e → RunGoesOn o done s next fewer new after e w.within.b
+    new.power ≡ run.power → new.keeper.odometer ≡ run.keeper.odometer → GoesOn o done s next fewer None [] (values_of new after) e w.within.b first → AllStay o (marked after.marks.items (truths_within o w.within.b.run.log done s)) s.number (log_of after) (notes_within w.within.b done s next (log_of after)) new.keeper.memory.registration new.keeper.cabin e → RunGoesOn o done s next fewer new after e w.within.b
 unfolding run-on
 goes-as o done s at next waits fewer rest run new out after d e first w power odometer g stay = record {
   goes = run-on o done s at next waits fewer rest [] run new out after d e first w power odometer g stay;
@@ -276,7 +276,7 @@ module _ (o : Origin) (done : List TraceSecond) (s : TraceSecond) (n : ℕ) (run
         powered = noted-powered o.found noted-carries run.keeper.cabin.cards U V X Y w.within.found whole w.within.powered unit cause.works;
         travels = travelled-noted (odometer_at o.recording.unit) noted-carries.book (all_travelled w.within.ds w.within.b.travel) w.within.travels whole unit;
       }))
-      (all-unit o (truths_within o w.within.b.run.log done s) s.number (log_of out) (notes_within w.within.b done s (In n) (log_of out)) run.keeper.memory.registration run.keeper.cabin U V X Y (go refl) w.stay)
+      (all-unit o (marked out.marks.items (truths_within o w.within.b.run.log done s)) s.number (log_of out) (notes_within w.within.b done s (In n) (log_of out)) run.keeper.memory.registration run.keeper.cabin U V X Y (go refl) w.stay)
   unit-recorded true cause go = record {
     waits = [];
     cabin = run.keeper.cabin;
@@ -406,8 +406,8 @@ module _ (c : Card) (slot : Slot) (at : Moment) (run : Run) (breaks : Listed Bre
     still : (failed ≡ false → TellMore [] U V) → HasCause X Y false → (b : Bool) → failed ≡ b → IsPoweredOrOff b o.found carries run.keeper.cabin.cards e → GoesOnOrFails b o done s (In at.begun) [] run (record out { breaks = breaks }) e w.within.b
     still go on_card false is powered = goes-as o done s (In at.begun) (In at.begun) [] [] [] run run (record out { breaks = breaks }) (record out { breaks = breaks }) d e w.within.from w refl refl
         (call-recorded d e o done s (In at.begun) [] None [] v w.within (record { goes = goes; breakdowns = calm on_card; powered = powered; travels = travels }))
-        (all-one o (truths_within o w.within.b.run.log done s) s.number c (log_of (record out { breaks = breaks })) (log_of (record out { breaks = breaks })) here-notes here-notes run.keeper.memory.registration run.keeper.cabin run.keeper.cabin U V X Y Z (λ none. none) refl refl (λ slot there. there) (λ none. refl) (λ none was. was)
-        (λ none ss. turns-so (truths_within o w.within.b.run.log done s) c s.number (found_of o.found c) (log_of (record out { breaks = breaks })) run.keeper.memory.registration (spells_of c here-notes) (sits_in run.keeper.cabin.slots.seats c) (session_of run.keeper.cabin.cards c) (session_of run.keeper.cabin.cards c) U V X Y (λ all. all) (λ all. refl) (λ all tell. tell) (λ all is. is) (λ all. refl) (go is) ss
+        (all-one o (marked out.marks.items (truths_within o w.within.b.run.log done s)) s.number c (log_of (record out { breaks = breaks })) (log_of (record out { breaks = breaks })) here-notes here-notes run.keeper.memory.registration run.keeper.cabin run.keeper.cabin U V X Y Z (λ none. none) refl refl (λ slot there. there) (λ none. refl) (λ none was. was)
+        (λ none ss. turns-so (marked out.marks.items (truths_within o w.within.b.run.log done s)) c s.number (found_of o.found c) (log_of (record out { breaks = breaks })) run.keeper.memory.registration (spells_of c here-notes) (sits_in run.keeper.cabin.slots.seats c) (session_of run.keeper.cabin.cards c) (session_of run.keeper.cabin.cards c) U V X Y (λ all. all) (λ all. refl) (λ all tell. tell) (λ all is. is) (λ all. refl) (go is) ss
         (λ valid h. stays-still s.number (found_of o.found c) run.keeper.memory.registration (spells_of c here-notes) (sits_in run.keeper.cabin.slots.seats c) ss (session_of run.keeper.cabin.cards c) X Y (noted-does o.found carries run.keeper.cabin.cards run.keeper.cabin.cards c U X Y Z w.within.found unit_whole whole later size a value has w.within.powered card valid) h) (λ only shown all. all)) w.stay)
     still go on_card true is powerless = record {
       waits = [];
@@ -620,7 +620,7 @@ place-told o done s slot ending country region begun speed run out d now front r
     (goes-as o done s (In (length front)) (In (suc (length front))) [] [] [] run run out out d d w.within.from w refl refl
     (place-recorded d o done s (values_of run out) front slot ending country region rest are w.within
     (allowed-in o done s (In (length front)) [] None [] (values_of run out) d w.within speed (Place slot ending country region) now.speed_is allowed))
-    (all-noted o (truths_within o w.within.b.run.log done s) s.number (log_of out) (log_of out) (notes_within w.within.b done s (In (length front)) (log_of out)) (notes_within w.within.b done s (In (suc (length front))) (log_of out)) run.keeper.memory.registration run.keeper.cabin d (log-self (log_of out))
+    (all-noted o (marked out.marks.items (truths_within o w.within.b.run.log done s)) s.number (log_of out) (log_of out) (notes_within w.within.b done s (In (length front)) (log_of out)) (notes_within w.within.b done s (In (suc (length front))) (log_of out)) run.keeper.memory.registration run.keeper.cabin d (log-self (log_of out))
     (λ none c. place-now o done s front rest slot ending country region are (values_of run out) d w.within
     (allowed-in o done s (In (length front)) [] None [] (values_of run out) d w.within speed (Place slot ending country region) now.speed_is allowed) c) w.stay))
 

@@ -1,6 +1,6 @@
 -- What was owed at an acceptance stays so, whatever is told of that second and of later ones.
-use Rattle.std.proofs.Common.{◌≡◌, ◌∙◌, ℕ, suc, List, [], ◌∷◌, ◌++◌, length, take, filter, refl, ap, sym, append-nil, append_assoc}
-use Rattle.std.specs.Prelude.{flat_map, nat_lt}
+use Rattle.std.proofs.Common.{◌≡◌, ◌∙◌, ◌⊎◌, ℕ, suc, List, [], ◌∷◌, ◌++◌, All, Contains, subst, length, take, filter, refl, ap, sym, append-nil, append_assoc}
+use Rattle.std.specs.Prelude.{flat_map, nat_lt, not}
 use Rattle.std.proofs.Math.Seq.{take-append_seam}
 use Rattle.std.proofs.lemmas.List.{same_from_push}
 use Rattle.activity_codec.specs.declared.entries.Entry.{Entry}
@@ -18,7 +18,7 @@ use Rattle.history_model.specs.History.{minutes_after, decided_of}
 use Rattle.unit_course.specs.Turn.{span_at}
 use Rattle.run_moments.specs.Kept.{settled_times}
 use Rattle.run_ringed.proofs.Stored.{AtEnd, nothing, push, at-end}
-use Rattle.run_acts.specs.Owed.{IsOwed}
+use Rattle.run_acts.specs.Owed.{IsPulledBefore, IsPulledHere, IsOwed, runs_on}
 
 -- ---- what is told of the first of some seconds
 
@@ -68,6 +68,7 @@ module _ (rule : Rule) (start : Start) (log later : RunLog) (done now : List Tra
           earlier = h.at.earlier;
           span = h.at.span;
           spans = ap spans_of so.2 ∙ h.at.spans;
+          begins = h.at.begins ∙ ap (λ (told : List Told). not (runs_on told)) (sym so.2);
           times = h.at.times;
           decided = h.at.decided;
         };
@@ -76,6 +77,7 @@ module _ (rule : Rule) (start : Start) (log later : RunLog) (done now : List Tra
             (λ (told : List Told). filter (λ (e : Entry). nat_lt mark e.minute) (lacks
             ++ card_history c (minutes_after start told [] (flat_map (λ (span : List Told). decided_of rule span) h.at.earlier ++ decided_in (settled_times h.at.times (span_at rule u h.at.span))))))
             (sym so.2);
+        behind = subst (λ (told : List Told). All (λ (e : Entry). Contains lacks e ⊎ (IsPulledBefore rule told u h.at.span c e.minute ⊎ IsPulledHere rule h.at.s h.at.span e.minute)) es) (sym so.2) h.behind;
       }
 
 -- behind more seconds,

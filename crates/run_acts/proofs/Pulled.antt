@@ -28,7 +28,7 @@ use Rattle.side_model.specs.Noted.{Note}
 use Rattle.run_crew.specs.declared.cards.Accepted.{Accepted}
 use Rattle.run_crew.specs.Cards.{session_of, with_session}
 use Rattle.run_acts.specs.Closings.{Spell, spells_of, last_slot, notes_within}
-use Rattle.run_acts.specs.Truths.{truths_within}
+use Rattle.run_acts.specs.Truths.{truths_within, marked}
 use Rattle.run_acts.specs.Stays.{sits_in, IsPlaced}
 use Rattle.run_acts.proofs.AllStay.{Moves, moves-gone, moves-same, placed-same, placed-bare, all-moved, lines-on, mine-left, left-same}
 use Rattle.run_acts.proofs.SeatsThen.{same-as, sits-there, torn-other, torn-slot}
@@ -66,7 +66,7 @@ module _ (d : Devices) (slot : Slot) (begun speed : ℕ) (run : Run) (out : Outc
       (subst (λ (k : ℕ). RunGoesOn o done s (In k) [] (with_cabin (torn_out card s.number run.keeper.cabin) run) (record out { breaks = with_lines (Tear s.number slot false k false ∷ []) out.breaks }) d w.within.b) (sym n)
       (goes-as o done s (In (length front)) (In (suc (length front))) [] [] [] run (with_cabin (torn_out card s.number run.keeper.cabin) run) out (record out { breaks = with_lines (Tear s.number slot false (suc (length front)) false ∷ []) out.breaks }) d d w.within.from w refl refl
       (pulled-out d o done s (values_of run out) front slot card rest are w.within is low stands)
-      (all-moved o (truths_within o w.within.b.run.log done s) s.number (log_of out) (log_of (record out { breaks = with_lines (Tear s.number slot false (suc (length front)) false ∷ []) out.breaks }))
+      (all-moved o (marked out.marks.items (truths_within o w.within.b.run.log done s)) s.number (log_of out) (log_of (record out { breaks = with_lines (Tear s.number slot false (suc (length front)) false ∷ []) out.breaks }))
       (notes_within w.within.b done s (In (length front)) (log_of out)) (notes_within w.within.b done s (In (suc (length front))) (log_of (record out { breaks = with_lines (Tear s.number slot false (suc (length front)) false ∷ []) out.breaks })))
       run.keeper.memory.registration run.keeper.cabin (torn_out card s.number run.keeper.cabin) d
       (λ none. lines-on (log_of out) (out.breaks.items ++ Tear s.number slot false (suc (length front)) false ∷ []) (Tear s.number slot false (suc (length front)) false ∷ []) refl none)

@@ -50,9 +50,10 @@ use Rattle.run_acts.proofs.Settled.{settled-ungiven, settled-decides}
 use Rattle.run_acts.specs.Closings.{spells_of, notes_within}
 use Rattle.run_acts.specs.Comings.{TellMore}
 use Rattle.run_recorded.specs.Whole.{NothingFailed}
-use Rattle.run_acts.specs.Truths.{truths_within}
+use Rattle.run_acts.specs.Truths.{truths_within, marked}
 use Rattle.run_acts.specs.Stays.{AllStay}
-use Rattle.run_acts.proofs.AllStay.{all-of, all-kept, lines-on, reach-told}
+use Rattle.run_acts.proofs.AllStay.{all-of, all-kept, all-true, lines-on, reach-told}
+use Rattle.run_acts.proofs.Truths.{grow-self, marked-grow}
 use Rattle.run_acts.proofs.WholeLegs.{kepts-now}
 use Rattle.run_acts.proofs.TruthsThen.{began-none}
 
@@ -149,16 +150,18 @@ module _ {U A0 B0 : State} {chip_a chip_b : CardState} (old : Run) (before : Out
         booked.0
 
     -- what is made of the cards
-    settled-stay : TellMore [] d.unit e.unit → failed ≡ false → AllStay o (truths_within o w.b.run.log done s) s.number (log_of after) (notes_within w.b done s (In n) (log_of after)) keeper.memory.registration keeper.cabin e
+    settled-stay : TellMore [] d.unit e.unit → failed ≡ false → AllStay o (marked after.marks.items (truths_within o w.b.run.log done s)) s.number (log_of after) (notes_within w.b done s (In n) (log_of after)) keeper.memory.registration keeper.cabin e
     settled-stay go well =
         let all = subst (λ (b : Bool). IsReach decided at b (told_of old before) (told_of new after) reach) well is in
         let how = reach-told decided at (told_of old before) (told_of new after) reach all in
-        all-of o (truths_within o w.b.run.log done s) s.number (log_of after) (notes_within w.b done s (In n) (log_of after)) old.keeper.memory.registration keeper.memory.registration keeper.cabin e how.registered
-        (all-kept o (truths_within o w.b.run.log done s) s.number (log_of before) (log_of after) (notes_within w.b done s (In n) (log_of before)) (notes_within w.b done s (In n) (log_of after)) old.keeper.memory.registration (kepts_on old.keeper decided) old.keeper.cabin keeper.cabin d e go
+        all-of o (marked after.marks.items (truths_within o w.b.run.log done s)) s.number (log_of after) (notes_within w.b done s (In n) (log_of after)) old.keeper.memory.registration keeper.memory.registration keeper.cabin e how.registered
+        (all-kept o (marked after.marks.items (truths_within o w.b.run.log done s)) s.number (log_of before) (log_of after) (notes_within w.b done s (In n) (log_of before)) (notes_within w.b done s (In n) (log_of after)) old.keeper.memory.registration (kepts_on old.keeper decided) old.keeper.cabin keeper.cabin d e go
         (λ none. lines-on (log_of before) breaks.items how.more how.lines none)
         (λ none c. ap (λ (bs : List Break). spells_of c (notes_within w.b done s (In n) (record (log_of before) { breaks = bs }))) (how.same none.1).0)
         (λ none. (how.same none.1).1) (λ none c some_. how.stay c none.1 some_) (booked.2 well)
-        (λ none c. kepts-now o done s (In n) waits None decided v d w (began-none o done s (In n) waits None decided v d w (lines-on (log_of before) breaks.items how.more how.lines none).none) old.keeper refl c) r.stay)
+        (λ none c. kepts-now o done s (In n) waits None decided v d w (began-none o done s (In n) waits None decided v d w (lines-on (log_of before) breaks.items how.more how.lines none).none) old.keeper refl c)
+        (all-true o (marked before.marks.items (truths_within o w.b.run.log done s)) (marked after.marks.items (truths_within o w.b.run.log done s)) s.number (log_of before) (notes_within w.b done s (In n) (log_of before)) old.keeper.memory.registration old.keeper.cabin d
+        (λ none. marked-grow before.marks.items after.marks.items (truths_within o w.b.run.log done s) (truths_within o w.b.run.log done s) how.marks (grow-self (truths_within o w.b.run.log done s))) r.stay))
 
     -- nothing is noted of them
     quiet-so : failed ≡ false → NothingFailed (log_of after) → NothingFailed (log_of before) × ((c : Card) → spells_of c (notes_within w.b done s (In n) (log_of after)) ≡ spells_of c (notes_within w.b done s (In n) (log_of before)))
@@ -177,7 +180,7 @@ module _ {U A0 B0 : State} {chip_a chip_b : CardState} (old : Run) (before : Out
             lit = r.lit;
             within = x;
             odometer = odometer ∙ r.odometer ∙ ap (λ (b : Beginning). odometer_after (odometer_at o.recording.unit) b.travel.before) (sym began);
-            stay = subst (λ (b : Beginning). AllStay o (truths_within o b.run.log done s) s.number (log_of after) (notes_within b done s (In n) (log_of after)) keeper.memory.registration keeper.cabin e) (sym began) (settled-stay go well);
+            stay = subst (λ (b : Beginning). AllStay o (marked after.marks.items (truths_within o b.run.log done s)) s.number (log_of after) (notes_within b done s (In n) (log_of after)) keeper.memory.registration keeper.cabin e) (sym began) (settled-stay go well);
           };
           began = began;
           from = from ∙ end;

@@ -1,5 +1,5 @@
 -- What is true of stays stays true: as a run goes on its power spans go on.
-use Rattle.std.proofs.Common.{◌≡◌, ◌∙◌, ℕ, ◌+◌, ◌*◌, Bool, true, false, List, [], ◌∷◌, ◌++◌, sum_by, refl, ap, sym, subst, arith, append-nil, append_assoc}
+use Rattle.std.proofs.Common.{◌≡◌, ◌∙◌, ℕ, ◌+◌, ◌*◌, Bool, true, false, List, [], ◌∷◌, ◌++◌, Contains, sum_by, refl, ap, sym, subst, arith, append-nil, append_assoc}
 use Rattle.std.proofs.lemmas.List.{map-append, same_from_push}
 use Rattle.std.proofs.lemmas.List.Sums.{sum_by-cons, sum_by-append}
 use Rattle.minute_model.specs.declared.Rule.{Rule}
@@ -10,8 +10,10 @@ use Rattle.log_model.proofs.Spanning.{spans-more as spans-one, spans-new, spans-
 use Rattle.unit_course.specs.Legs.{whole_legs}
 use Rattle.unit_rule.specs.Odometer.{odometer_after}
 use Rattle.run_rings.specs.Spans.{AreAlike}
+use Rattle.log_model.specs.declared.lines.Mark.{Mark}
+use Rattle.run_recorded.proofs.Beside.{marked-on}
 use Rattle.run_ringed.proofs.Stored.{AtEnd, nothing, push, at-end}
-use Rattle.run_acts.specs.Truths.{Truths, Grow, Past, Rides, driven_in, IsOdometerBefore, IsOdometerBehind, truths_by, SpansGoOn, PastGoesOn}
+use Rattle.run_acts.specs.Truths.{Truths, Grow, marked, Past, Rides, driven_in, IsOdometerBefore, IsOdometerBehind, truths_by, SpansGoOn, PastGoesOn}
 use Rattle.activity_codec.specs.declared.entries.Entry.{Entry}
 use Rattle.trace_model.specs.declared.Card.{Card}
 
@@ -160,6 +162,19 @@ grow-on t u v first next = record {
   closed = λ slot second word h. next.closed slot second word (first.closed slot second word h);
   owed = λ c second mark es h. next.owed c second mark es (first.owed c second mark es h);
 }
+
+-- with more marks,
+pub marked-grow : (marks now : List Mark) (t u : Truths) → ((mark : Mark) → Contains marks mark → Contains now mark) → Grow t u → Grow (marked marks t) (marked now u)
+marked-grow marks now t u stay on = record {
+  accepted = on.accepted;
+  kept = on.kept;
+  closed = on.closed;
+  owed = λ c second mark es h. (on.owed c second mark es h.0, marked-on marks now stay c es h.1);
+}
+
+-- or with the same
+pub marked-still : (marks : List Mark) (t u : Truths) → Grow t u → Grow (marked marks t) (marked marks u)
+marked-still marks t u on = marked-grow marks marks t u (λ mark at. at) on
 
 -- odometers and words of seconds that lie in spans which have gone on
 before-on : (rule : Rule) (start : ℕ) (a b : List (List Told)) → SpansGoOn a b → (u odometer : ℕ) → IsOdometerBefore rule start a u odometer → IsOdometerBefore rule start b u odometer

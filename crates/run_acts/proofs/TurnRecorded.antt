@@ -61,13 +61,14 @@ use Rattle.run_ringed.specs.Ringed.{notes_in}
 use Rattle.run_ringed.specs.SoFar.{GoesBehind, notes_so_far}
 use Rattle.run_acts.specs.Closings.{spells_of, notes_within}
 use Rattle.run_acts.specs.Comings.{TellMore}
-use Rattle.run_acts.specs.Truths.{truths_of, truths_within}
+use Rattle.run_acts.specs.Truths.{truths_of, truths_within, marked}
 use Rattle.run_acts.specs.Stays.{AllStay}
 use Rattle.run_acts.proofs.RingedSecond.{goes-behind, power-here}
 use Rattle.run_acts.proofs.NotesThen.{actions-all, notes-end, notes-last, behind-goes}
 use Rattle.run_acts.proofs.AllStay.{all-of, all-kept, all-true, all-second, lines-on, no-cut, reach-told}
 use Rattle.run_acts.proofs.SeatsThen.{stands-seated}
 use Rattle.run_acts.proofs.WholeLegs.{kepts-now}
+use Rattle.run_acts.proofs.Truths.{grow-self, marked-grow, marked-still}
 use Rattle.run_acts.proofs.TruthsThen.{began-none, truths-end, truths-last}
 
 -- a span that goes on has a second
@@ -146,16 +147,18 @@ module _ (old : Run) (before : Outcome) (minutes : Kept) (keeper : Keeper) (watc
     U = told_values u v
 
     -- what is made of the cards
-    turned-stay : TellMore [] d.unit e.unit → AllStay o (truths_within o w.b.run.log done s) 0 (log_of before) (notes_within w.b done s Keeping (log_of before)) old.keeper.memory.registration old.keeper.cabin d → failed ≡ false → (r : Reach) → IsReach decided (moment_of s q) false t u r →
-        AllStay o (truths_within o w.b.run.log done s) 0 (log_of told) (notes_within w.b done s Keeping (log_of told)) keeper.memory.registration keeper.cabin e
+    turned-stay : TellMore [] d.unit e.unit → AllStay o (marked before.marks.items (truths_within o w.b.run.log done s)) 0 (log_of before) (notes_within w.b done s Keeping (log_of before)) old.keeper.memory.registration old.keeper.cabin d → failed ≡ false → (r : Reach) → IsReach decided (moment_of s q) false t u r →
+        AllStay o (marked told.marks.items (truths_within o w.b.run.log done s)) 0 (log_of told) (notes_within w.b done s Keeping (log_of told)) keeper.memory.registration keeper.cabin e
     turned-stay go stay well r is_ =
         let how = reach-told decided (moment_of s q) t u r is_ in
-        all-of o (truths_within o w.b.run.log done s) 0 (log_of told) (notes_within w.b done s Keeping (log_of told)) old.keeper.memory.registration keeper.memory.registration keeper.cabin e how.registered
-        (all-kept o (truths_within o w.b.run.log done s) 0 (log_of before) (log_of told) (notes_within w.b done s Keeping (log_of before)) (notes_within w.b done s Keeping (log_of told)) old.keeper.memory.registration (kepts_on old.keeper decided) old.keeper.cabin keeper.cabin d e go
+        all-of o (marked told.marks.items (truths_within o w.b.run.log done s)) 0 (log_of told) (notes_within w.b done s Keeping (log_of told)) old.keeper.memory.registration keeper.memory.registration keeper.cabin e how.registered
+        (all-kept o (marked told.marks.items (truths_within o w.b.run.log done s)) 0 (log_of before) (log_of told) (notes_within w.b done s Keeping (log_of before)) (notes_within w.b done s Keeping (log_of told)) old.keeper.memory.registration (kepts_on old.keeper decided) old.keeper.cabin keeper.cabin d e go
         (λ none. lines-on (log_of before) breaks.items how.more how.lines none)
         (λ none c. ap (λ (bs : List Break). spells_of c (notes_within w.b done s Keeping (record (log_of before) { breaks = bs }))) (how.same none.1).0)
         (λ none. (how.same none.1).1) (λ none c some_. how.stay c none.1 some_) (booked.2 well)
-        (λ none c. kepts-now o done s Keeping [] (Some s.speed) decided v d w (began-none o done s Keeping [] (Some s.speed) decided v d w (lines-on (log_of before) breaks.items how.more how.lines none).none) old.keeper refl c) stay)
+        (λ none c. kepts-now o done s Keeping [] (Some s.speed) decided v d w (began-none o done s Keeping [] (Some s.speed) decided v d w (lines-on (log_of before) breaks.items how.more how.lines none).none) old.keeper refl c)
+        (all-true o (marked before.marks.items (truths_within o w.b.run.log done s)) (marked told.marks.items (truths_within o w.b.run.log done s)) 0 (log_of before) (notes_within w.b done s Keeping (log_of before)) old.keeper.memory.registration old.keeper.cabin d
+        (λ none. marked-grow before.marks.items told.marks.items (truths_within o w.b.run.log done s) (truths_within o w.b.run.log done s) how.marks (grow-self (truths_within o w.b.run.log done s))) stay))
 
     -- the seconds before went as they did
     behind-now : (x : Within o done s Keeping [] (Some s.speed) [] U e) → GoesBehind x.b.run.log (log_of told) done
@@ -167,7 +170,7 @@ module _ (old : Run) (before : Outcome) (minutes : Kept) (keeper : Keeper) (watc
         notes-end x.b.run.log (log_of told) done s (behind-now x) (power-here o done s Keeping [] (Some s.speed) [] U e x)
 
     -- all is kept
-    over-now : (x : Within o done s Keeping [] (Some s.speed) [] U e) → x.b ≡ w.b → AllStay o (truths_within o w.b.run.log done s) 0 (log_of told) (notes_within w.b done s Keeping (log_of told)) keeper.memory.registration keeper.cabin e → RunRecorded o (done ++ s ∷ []) (passed n begun between) told e
+    over-now : (x : Within o done s Keeping [] (Some s.speed) [] U e) → x.b ≡ w.b → AllStay o (marked told.marks.items (truths_within o w.b.run.log done s)) 0 (log_of told) (notes_within w.b done s Keeping (log_of told)) keeper.memory.registration keeper.cabin e → RunRecorded o (done ++ s ∷ []) (passed n begun between) told e
     over-now x same stays =
         let p = pushed x.b.span (next_told U.log done s) in
         let V : Values = values_of (passed n begun between) told in
@@ -185,10 +188,10 @@ module _ (old : Run) (before : Outcome) (minutes : Kept) (keeper : Keeper) (watc
           powers = subst (λ (pw : Power). Supplies pw (IsLit (p.first ∷ p.rest))) (sym lit) tt;
           recorded = so.recorded;
           odometer = λ on. odometer ∙ stored ∙ ap (odometer_after (odometer_at o.recording.unit)) (ap (λ (b : Beginning). b.travel.before) (sym same) ∙ sym so.travelled_before);
-          stay = subst (λ (ns : List Note). AllStay o (truths_of o (log_of told) (done ++ s ∷ [])) 0 (log_of told) ns keeper.memory.registration keeper.cabin e) (sym (all-notes x))
-              (all-true o (truths_within o x.b.run.log done s) (truths_of o (log_of told) (done ++ s ∷ [])) 0 (log_of told) (notes_within x.b done s Keeping (log_of told)) keeper.memory.registration keeper.cabin e
-              (λ none. truths-end o x.b.run.log (log_of told) done s (behind-now x).went_is)
-              (subst (λ (b : Beginning). AllStay o (truths_within o b.run.log done s) 0 (log_of told) (notes_within b done s Keeping (log_of told)) keeper.memory.registration keeper.cabin e) (sym same) stays));
+          stay = subst (λ (ns : List Note). AllStay o (marked told.marks.items (truths_of o (log_of told) (done ++ s ∷ []))) 0 (log_of told) ns keeper.memory.registration keeper.cabin e) (sym (all-notes x))
+              (all-true o (marked told.marks.items (truths_within o x.b.run.log done s)) (marked told.marks.items (truths_of o (log_of told) (done ++ s ∷ []))) 0 (log_of told) (notes_within x.b done s Keeping (log_of told)) keeper.memory.registration keeper.cabin e
+              (λ none. marked-still told.marks.items (truths_within o x.b.run.log done s) (truths_of o (log_of told) (done ++ s ∷ [])) (truths-end o x.b.run.log (log_of told) done s (behind-now x).went_is))
+              (subst (λ (b : Beginning). AllStay o (marked told.marks.items (truths_within o b.run.log done s)) 0 (log_of told) (notes_within b done s Keeping (log_of told)) keeper.memory.registration keeper.cabin e) (sym same) stays));
         }
 
     -- or power is cut
@@ -208,7 +211,7 @@ module _ (old : Run) (before : Outcome) (minutes : Kept) (keeper : Keeper) (watc
           stay = λ none. no-cut (log_of told) (old.next + n - 1) begun none;
         }
 
-    by : TellMore [] d.unit e.unit → AllStay o (truths_within o w.b.run.log done s) 0 (log_of before) (notes_within w.b done s Keeping (log_of before)) old.keeper.memory.registration old.keeper.cabin d → (f : Bool) (r : Reach) → failed ≡ f → IsTurnReach decided (moment_of s q) f t u r → IsTurnBooked o.found (odometer_at o.recording.unit) (carried_at o done s q decided t v d w) old.keeper f r (all_travelled w.ds w.b.travel) u e →
+    by : TellMore [] d.unit e.unit → AllStay o (marked before.marks.items (truths_within o w.b.run.log done s)) 0 (log_of before) (notes_within w.b done s Keeping (log_of before)) old.keeper.memory.registration old.keeper.cabin d → (f : Bool) (r : Reach) → failed ≡ f → IsTurnReach decided (moment_of s q) f t u r → IsTurnBooked o.found (odometer_at o.recording.unit) (carried_at o done s q decided t v d w) old.keeper f r (all_travelled w.ds w.b.travel) u e →
         RunRecorded o (done ++ s ∷ []) (passed n begun (cut_where f (old.next + n - 1) between)) (cut_breaks f (old.next + n - 1) begun told) e
     by go stay false (Whole xs) same is_ b = let k = keeping-recorded d e o done s q decided t u v w keeps false (Whole xs) is_ off (λ no. absurd (cc)) b in over-now k.0.within k.0.began (turned-stay go stay same (Whole xs) is_)
     by go stay true (Whole xs) same is_ b = cut-now (note-fails d e o done s q decided t u v w keeps low xs is_ off (rose same) b.0 b.1)
@@ -225,7 +228,7 @@ module _ (old : Run) (before : Outcome) (minutes : Kept) (keeper : Keeper) (watc
     pub turn-fails : failed ≡ true → CutWithin o done s Keeping [] (Some s.speed) U e
     turn-fails on = fails-by failed reach refl turn-reach booked.0 on
 
-    pub turn-core : TellMore [] d.unit e.unit → AllStay o (truths_within o w.b.run.log done s) 0 (log_of before) (notes_within w.b done s Keeping (log_of before)) old.keeper.memory.registration old.keeper.cabin d → RunRecorded o (done ++ s ∷ []) (passed n begun (cut_where failed (old.next + n - 1) between)) (cut_breaks failed (old.next + n - 1) begun told) e
+    pub turn-core : TellMore [] d.unit e.unit → AllStay o (marked before.marks.items (truths_within o w.b.run.log done s)) 0 (log_of before) (notes_within w.b done s Keeping (log_of before)) old.keeper.memory.registration old.keeper.cabin d → RunRecorded o (done ++ s ∷ []) (passed n begun (cut_where failed (old.next + n - 1) between)) (cut_breaks failed (old.next + n - 1) begun told) e
     turn-core go stay = by go stay failed reach refl turn-reach booked.0
 
 -- ---- the last of some seconds
@@ -292,7 +295,7 @@ module _ {U A0 B0 : State} {chip_a chip_b : CardState} (n speed begun : ℕ) (ol
     -- over the last second
     by-last : (c : ℕ) → c ≡ n - 1 → (D : List TraceSecond) (L : TraceSecond) (next gone : ℕ) → L.number ≡ s.number + c → next ≡ old.next + c → length L.actions ≡ begun →
         (w : Within o D L Keeping [] (Some L.speed) T.decided (record (values_of old before) { minutes = T.fed.minutes; next = next; begun = gone }) d) → w.b.travel.before ≡ r.within.b.travel.before → w.from ≡ r.within.from → TellMore [] d.unit e.unit →
-        AllStay o (truths_within o w.b.run.log D L) 0 (log_of before) (notes_within w.b D L Keeping (log_of before)) old.keeper.memory.registration old.keeper.cabin d → RunRecorded o (D ++ L ∷ []) (passed n begun new) after e
+        AllStay o (marked before.marks.items (truths_within o w.b.run.log D L)) 0 (log_of before) (notes_within w.b D L Keeping (log_of before)) old.keeper.memory.registration old.keeper.cabin d → RunRecorded o (D ++ L ∷ []) (passed n begun new) after e
     by-last c is D L next gone number next_is acts w travel from go stay =
         let at = now.number in
         let num : L.number ≡ old.next + n - 1 = omega (arith, number, is, at, some) in
@@ -339,10 +342,10 @@ module _ {U A0 B0 : State} {chip_a chip_b : CardState} (n speed begun : ℕ) (ol
         (omega (arith, from, first, few, same)) (omega (arith, from, first, end, same))).1
 
     -- as the first of them is fed, all of its actions are noted
-    stay-first : AllStay o (truths_within o r.within.b.run.log done s) 0 (log_of before) (notes_within r.within.b done s Keeping (log_of before)) old.keeper.memory.registration old.keeper.cabin d
+    stay-first : AllStay o (marked before.marks.items (truths_within o r.within.b.run.log done s)) 0 (log_of before) (notes_within r.within.b done s Keeping (log_of before)) old.keeper.memory.registration old.keeper.cabin d
     stay-first =
-        all-second o (truths_within o r.within.b.run.log done s) s.number 0 (log_of before) (notes_within r.within.b done s Keeping (log_of before)) old.keeper.memory.registration old.keeper.cabin d (stands-seated (ungiven_of g.span) old.keeper.cabin g.cabin)
-        (subst (λ (as_ : List Action). AllStay o (truths_within o r.within.b.run.log done s) s.number (log_of before) (notes_so_far r.within.b.run.log done (log_of before) s as_) old.keeper.memory.registration old.keeper.cabin d) (actions-all s.actions) r.stay)
+        all-second o (marked before.marks.items (truths_within o r.within.b.run.log done s)) s.number 0 (log_of before) (notes_within r.within.b done s Keeping (log_of before)) old.keeper.memory.registration old.keeper.cabin d (stands-seated (ungiven_of g.span) old.keeper.cabin g.cabin)
+        (subst (λ (as_ : List Action). AllStay o (marked before.marks.items (truths_within o r.within.b.run.log done s)) s.number (log_of before) (notes_so_far r.within.b.run.log done (log_of before) s as_) old.keeper.memory.registration old.keeper.cabin d) (actions-all s.actions) r.stay)
 
     behind-first : GoesBehind r.within.b.run.log (log_of before) done
     behind-first =
@@ -351,14 +354,16 @@ module _ {U A0 B0 : State} {chip_a chip_b : CardState} (n speed begun : ℕ) (ol
     by-count : TellMore [] d.unit e.unit → (c : ℕ) → c ≡ n - 1 → IsTurned o done s c T.decided T.fed.minutes (values_of old before) d r.within → RunRecorded o (before_last c s done ++ last_of c s ∷ []) (passed n begun new) after e
     by-count go zero is x =
         by-last zero is done s (old.next + 0) x.begun (last-number zero s) refl (last-actions zero begun s actions (λ lt. none (omega (arith, lt, is)))) x.fed x.travelled_before x.from go
-        (subst (λ (b : Beginning). AllStay o (truths_within o b.run.log done s) 0 (log_of before) (notes_within b done s Keeping (log_of before)) old.keeper.memory.registration old.keeper.cabin d) (sym (x.first refl)) stay-first)
+        (subst (λ (b : Beginning). AllStay o (marked before.marks.items (truths_within o b.run.log done s)) 0 (log_of before) (notes_within b done s Keeping (log_of before)) old.keeper.memory.registration old.keeper.cabin d) (sym (x.first refl)) stay-first)
     by-count go (suc c) is x =
         by-last (suc c) is (before_last (suc c) s done) (last_of (suc c) s) (old.next + suc c) x.begun (last-number (suc c) s) refl (last-actions (suc c) begun s actions (λ lt. none (omega (arith, lt, is)))) x.fed x.travelled_before x.from go
-        (subst (λ (ns : List Note). AllStay o (truths_within o x.fed.b.run.log (before_last (suc c) s done) (last_of (suc c) s)) 0 (log_of before) ns old.keeper.memory.registration old.keeper.cabin d)
+        (subst (λ (ns : List Note). AllStay o (marked before.marks.items (truths_within o x.fed.b.run.log (before_last (suc c) s done) (last_of (suc c) s))) 0 (log_of before) ns old.keeper.memory.registration old.keeper.cabin d)
         (sym (notes-last r.within.b.run.log (log_of before) done s c behind-first (power-here o done s (In (length s.actions)) [] None [] (values_of old before) d r.within)
         (behind-goes o done s (values_of old before) d (x.behind (omega arith)) now.number) x.fed.b (x.goes_on (omega arith)).0))
-        (all-true o (truths_within o r.within.b.run.log done s) (truths_within o x.fed.b.run.log (before_last (suc c) s done) (last_of (suc c) s)) 0 (log_of before) (notes_within r.within.b done s Keeping (log_of before)) old.keeper.memory.registration
-        old.keeper.cabin d (λ none_. truths-last o r.within.b.run.log (log_of before) done s c behind-first.went_is x.fed.b.run.log (x.goes_on (omega arith)).0) stay-first))
+        (all-true o (marked before.marks.items (truths_within o r.within.b.run.log done s)) (marked before.marks.items (truths_within o x.fed.b.run.log (before_last (suc c) s done) (last_of (suc c) s))) 0 (log_of before) (notes_within r.within.b done s Keeping (log_of before)) old.keeper.memory.registration
+        old.keeper.cabin d (λ none_.
+        marked-still before.marks.items (truths_within o r.within.b.run.log done s) (truths_within o x.fed.b.run.log (before_last (suc c) s done) (last_of (suc c) s))
+        (truths-last o r.within.b.run.log (log_of before) done s c behind-first.went_is x.fed.b.run.log (x.goes_on (omega arith)).0)) stay-first))
 
     pub turn-lit : TellMore [] d.unit e.unit → RunRecorded o (done ++ s ∷ driven (n - 1) (s.number + 1) speed []) (passed n begun new) after e
     turn-lit go =

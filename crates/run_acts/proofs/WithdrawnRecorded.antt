@@ -65,7 +65,7 @@ use Rattle.run_rule.specs.Found.{found_of}
 use Rattle.run_recorded.specs.Whole.{NothingFailed}
 use Rattle.run_acts.specs.Closings.{spells_of, last_slot, notes_within}
 use Rattle.run_acts.specs.Comings.{TellMore}
-use Rattle.run_acts.specs.Truths.{truths_within}
+use Rattle.run_acts.specs.Truths.{truths_within, marked}
 use Rattle.run_acts.specs.Stays.{sits_in, IsPlaced, AllStay, ClosesOnCard}
 use Rattle.run_acts.proofs.Stays.{last-shut-slot}
 use Rattle.run_acts.proofs.Closings.{same-turned}
@@ -154,9 +154,9 @@ module _ (o : Origin) (done : List TraceSecond) (s : TraceSecond) (front rest : 
   slot-left none valid some =
       ap last_slot (withdrawn-now o done s front rest slot are speed now c v d w.within seat allowed from_ seated some) ∙ last-shut-slot s.number (spells_of c notes-before) ∙ (w.stay none).placed c valid slot some seat
 
-  stays-left : AllStay o (truths_within o w.within.b.run.log done s) s.number (log_of before) notes-left run.keeper.memory.registration (with_slot_left slot s.number run.keeper.cabin) d
+  stays-left : AllStay o (marked before.marks.items (truths_within o w.within.b.run.log done s)) s.number (log_of before) notes-left run.keeper.memory.registration (with_slot_left slot s.number run.keeper.cabin) d
   stays-left =
-      all-moved o (truths_within o w.within.b.run.log done s) s.number (log_of before) (log_of before) notes-before notes-left run.keeper.memory.registration run.keeper.cabin (with_slot_left slot s.number run.keeper.cabin) d (log-self (log_of before)) (λ none k. each-leaves k) (λ none k. places-left k) w.stay
+      all-moved o (marked before.marks.items (truths_within o w.within.b.run.log done s)) s.number (log_of before) (log_of before) notes-before notes-left run.keeper.memory.registration run.keeper.cabin (with_slot_left slot s.number run.keeper.cabin) d (log-self (log_of before)) (λ none k. each-leaves k) (λ none k. places-left k) w.stay
 
   abbrev gone : RunWithin o done s (In (suc (length front))) [] decided (settled_run between.minutes (left_run slot s.number run)) before d
   gone = record {
@@ -164,7 +164,7 @@ module _ (o : Origin) (done : List TraceSecond) (s : TraceSecond) (front rest : 
     lit = w.lit;
     within = left.goes.within;
     odometer = w.odometer ∙ ap (λ (b : Beginning). odometer_after (odometer_at o.recording.unit) b.travel.before) (sym left.goes.began);
-    stay = subst (λ (b : Beginning). AllStay o (truths_within o b.run.log done s) s.number (log_of before) (notes_within b done s (In (suc (length front))) (log_of before)) run.keeper.memory.registration (with_slot_left slot s.number run.keeper.cabin) d) (sym left.goes.began) stays-left;
+    stay = subst (λ (b : Beginning). AllStay o (marked before.marks.items (truths_within o b.run.log done s)) s.number (log_of before) (notes_within b done s (In (suc (length front))) (log_of before)) run.keeper.memory.registration (with_slot_left slot s.number run.keeper.cabin) d) (sym left.goes.began) stays-left;
   }
 
   -- the unit failed in the keeping

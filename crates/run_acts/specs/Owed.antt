@@ -1,19 +1,29 @@
 -- What a card is owed as it is accepted (profile): by the seconds before that, in a run in which no call has failed.
-use Rattle.std.specs.Prelude.{◌≡◌, ℕ, ◌/◌, ◌++◌, ◌∷◌, List, [], filter, flat_map, nat_lt}
+use Rattle.std.specs.Prelude.{◌≡◌, ◌⊎◌, ℕ, ◌+◌, ◌*◌, ◌/◌, ◌≤◌, ◌++◌, ◌∷◌, List, [], All, Contains, filter, flat_map, nat_lt, Bool, false, not, ◌&&◌}
 use Rattle.activity_codec.specs.declared.entries.Entry.{Entry}
+use Rattle.activity_codec.specs.declared.values.Slot.{Slot}
+use Rattle.trace_model.specs.declared.Action.TheVariants.{Tear}
 use Rattle.trace_model.specs.declared.Card.{Card}
 use Rattle.trace_model.specs.Trace.{TraceSecond}
+use Rattle.minute_model.specs.declared.Minute.{Minute}
 use Rattle.minute_model.specs.declared.Rule.{Rule}
 use Rattle.minute_model.specs.Span.{decided_in, ungiven_of}
 use Rattle.log_model.specs.Log.{RunLog}
-use Rattle.log_model.specs.Course.{Told, went}
+use Rattle.log_model.specs.Course.{Told, Visit, went}
 use Rattle.log_model.specs.Spans.{spans_of}
 use Rattle.history_model.specs.Minutes.{HistoryMinute, card_history}
 use Rattle.history_model.specs.Presence.{Start}
-use Rattle.history_model.specs.History.{minutes_after, decided_of}
+use Rattle.history_model.specs.History.{settlings_of, minutes_after, decided_of}
+use Rattle.history_model.specs.Completeness.{deciding_of}
 use Rattle.unit_course.specs.Followed.{as_spans}
-use Rattle.unit_course.specs.Turn.{span_at}
+use Rattle.unit_course.specs.Turn.{span_at, begins_with}
 use Rattle.run_moments.specs.Kept.{settled_times}
+
+-- the last of these seconds had power, and kept it
+abbrev pub runs_on : List Told → Bool
+runs_on [] = false
+runs_on (t ∷ []) = t.lit && not t.cut
+runs_on (t ∷ x ∷ ts) = runs_on (x ∷ ts)
 
 -- A SECOND OF THESE, of this number: the seconds before it, and those of its power span among them, none where power begins with it; and so many
 -- settlings come with it that all minutes before its own are decided.
@@ -26,6 +36,7 @@ pub record ReachedAt (rule : Rule) (log : RunLog) (done : List TraceSecond) (u :
   pub earlier : List (List Told)
   pub span : List Told
   pub spans : spans_of (went log front).told ≡ earlier ++ as_spans span
+  pub begins : begins_with span ≡ not (runs_on (went log front).told)
   pub times : ℕ
   pub decided : ungiven_of (settled_times times (span_at rule u span)) ≡ u / 60
 
@@ -34,8 +45,36 @@ abbrev pub minutes_before : (rule : Rule) (start : Start) (log : RunLog) (done :
 minutes_before rule start log done u r =
     minutes_after start (went log r.front).told [] (flat_map (λ (span : List Told). decided_of rule span) r.earlier ++ decided_in (settled_times r.times (span_at rule u r.span)))
 
+-- ---- why
+
+-- a second is no later than that in which a minute is decided in one of these spans
+pub record IsDecidedBy (rule : Rule) (spans : List (List Told)) (u m : ℕ) : Type 0 where
+  pub span : List Told
+  pub among : Contains spans span
+  pub d : Minute
+  pub within : Contains (decided_of rule span) d
+  pub same : d.minute ≡ m
+  pub late : u ≤ deciding_of rule (settlings_of span) m
+
+-- A `tear` line PULLED THE CARD OUT in one of these seconds: behind a minute's end, and no later than in the second that decided the minute, which may be
+-- one that has not come yet.
+pub record IsPulledBefore (rule : Rule) (told : List Told) (u : ℕ) (span : List Told) (c : Card) (m : ℕ) : Type 0 where
+  pub t : Told
+  pub there : Contains told t
+  pub behind : 60 * (m + 1) ≤ t.second.number
+  pub before : IsDecidedBy rule (spans_of told) t.second.number m ⊎ (ungiven_of (span_at rule u span) ≤ m)
+  pub pulled : (v : Visit) × (v.card ≡ c) × Contains t.course.pulled v
+
+-- or one did in this second, which is behind the minute's end, too, and decides it
+pub record IsPulledHere (rule : Rule) (s : TraceSecond) (span : List Told) (m : ℕ) : Type 0 where
+  pub behind : 60 * (m + 1) ≤ s.number
+  pub decides : ungiven_of (span_at rule s.number span) ≤ m
+  pub slot : Slot
+  pub tears : Contains s.actions (Tear slot)
+
 -- THESE ENTRIES ARE OWED to a card with this end mark, as it is accepted in a second: of what was owed to it at the start, and of what the minutes by
--- then say on it, all that is later than the mark, and nothing else, in order
+-- then say on it, all that is later than the mark, and nothing else, in order. What was not owed at the start is of minutes behind which it was pulled out.
 pub record IsOwed (rule : Rule) (start : Start) (log : RunLog) (done : List TraceSecond) (c : Card) (lacks : List Entry) (u mark : ℕ) (es : List Entry) : Type 0 where
   pub at : ReachedAt rule log done u
   pub are : es ≡ filter (λ (e : Entry). nat_lt mark e.minute) (lacks ++ card_history c (minutes_before rule start log done u at))
+  pub behind : All (λ e. Contains lacks e ⊎ (IsPulledBefore rule (went log at.front).told u at.span c e.minute ⊎ IsPulledHere rule at.s at.span e.minute)) es

@@ -34,7 +34,7 @@ use Rattle.run_acts.specs.declared.run.Power.TheVariants.{Lit, Due, Lost}
 use Rattle.run_acts.specs.Power.{is_lit}
 use Rattle.run_acts.specs.Closings.{notes_within}
 use Rattle.run_acts.specs.Stays.{AllStay}
-use Rattle.run_acts.specs.Truths.{truths_of, truths_within}
+use Rattle.run_acts.specs.Truths.{truths_of, truths_within, marked}
 
 -- the log of an outcome
 abbrev pub log_of : Outcome → RunLog
@@ -76,7 +76,7 @@ pub record RunRecorded (o : Origin) (done : List TraceSecond) (run : Run) (out :
   pub powers : Supplies run.power supply
   pub recorded : Recorded o done supply (values_of run out) d
   pub odometer : run.power ≡ Lit → run.keeper.odometer ≡ odometer_after (odometer_at o.recording.unit) recorded.travel.before
-  pub stay : AllStay o (truths_of o (log_of out) done) 0 (log_of out) (notes_in (log_of out) done) run.keeper.memory.registration run.keeper.cabin d
+  pub stay : AllStay o (marked out.marks.items (truths_of o (log_of out) done)) 0 (log_of out) (notes_in (log_of out) done) run.keeper.memory.registration run.keeper.cabin d
 
 -- WITHIN A SECOND, while there is power
 pub record RunWithin (o : Origin) (done : List TraceSecond) (s : TraceSecond) (at : Phase) (waits : List Visit) (rest : List Minute) (run : Run) (out : Outcome) (d : Devices) : Type 0 where
@@ -84,7 +84,7 @@ pub record RunWithin (o : Origin) (done : List TraceSecond) (s : TraceSecond) (a
   pub lit : run.power ≡ Lit
   pub within : Within o done s at waits None rest (values_of run out) d
   pub odometer : run.keeper.odometer ≡ odometer_after (odometer_at o.recording.unit) within.b.travel.before
-  pub stay : AllStay o (truths_within o within.b.run.log done s) s.number (log_of out) (notes_within within.b done s at (log_of out)) run.keeper.memory.registration run.keeper.cabin d
+  pub stay : AllStay o (marked out.marks.items (truths_within o within.b.run.log done s)) s.number (log_of out) (notes_within within.b done s at (log_of out)) run.keeper.memory.registration run.keeper.cabin d
 
 -- POWER COMES with the second behind these: by the log it was not on as they ended
 abbrev pub ComesPower : List TraceSecond → Outcome → Type 0

@@ -1,5 +1,5 @@
 -- What is true of the stays of a card (profile): of each acceptance, of each minute that is kept, and of each closing; and what of a run so far says so.
-use Rattle.std.specs.Prelude.{◌≡◌, ℕ, ◌+◌, ◌*◌, List, ◌∷◌, [], ◌++◌, Contains, sum_by}
+use Rattle.std.specs.Prelude.{◌≡◌, ℕ, ◌+◌, ◌*◌, List, ◌∷◌, [], ◌++◌, Contains, All, sum_by}
 use Rattle.activity_codec.specs.declared.values.Activity.{Activity}
 use Rattle.activity_codec.specs.declared.values.Slot.{Slot}
 use Rattle.trace_model.specs.Trace.{TraceSecond}
@@ -9,6 +9,9 @@ use Rattle.log_model.specs.Log.{RunLog}
 use Rattle.log_model.specs.Course.{Told, went}
 use Rattle.log_model.specs.Spans.{spans_of, seconds_in}
 use Rattle.log_model.specs.declared.lines.Find.{Find}
+use Rattle.log_model.specs.declared.lines.Mark.{Mark}
+use Rattle.log_model.specs.Causes.{device_of}
+use Rattle.history_model.specs.Completeness.{IsMarked}
 use Rattle.card_session.specs.declared.session.Kept.{Kept}
 use Rattle.unit_course.specs.Legs.{whole_legs}
 use Rattle.unit_model.specs.Image.{odometer_at}
@@ -34,6 +37,10 @@ pub record Grow (t u : Truths) : Type 0 where
   pub kept : (k : Kept) → t.kept k → u.kept k
   pub closed : (slot : Slot) (second : ℕ) (word : Activity) → t.closed slot second word → u.closed slot second word
   pub owed : (c : Card) (second mark : ℕ) (es : List Entry) → t.owed c second mark es → u.owed c second mark es
+
+-- WITH THESE MARKS each entry that was owed to a card has one of the card's
+abbrev pub marked : List Mark → Truths → Truths
+marked marks t = record t { owed = λ c second mark es. t.owed c second mark es × All (λ (e : Entry). IsMarked marks (device_of c) e.minute) es }
 
 -- ---- a run so far
 

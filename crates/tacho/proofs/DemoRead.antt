@@ -204,6 +204,7 @@ module _ (U V : State) (is : IsRead U V) where
                 words = s.words;
                 odometers = s.odometers;
                 owes = s.owes;
+                acknowledged = s.acknowledged;
                 timely = s.timely;
                 befores = record { comings = s.befores.comings; lines = s.befores.lines; merged = s.befores.merged; tells = λ dense y left. s.befores.tells dense y (now-back y left) };
               };

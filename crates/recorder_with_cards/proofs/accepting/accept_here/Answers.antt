@@ -1,4 +1,4 @@
-use Rattle.std.proofs.Common.{rules, ◌≡◌, ◌∙◌, ⊎_elim, ℕ, ◌+◌, ◌*◌, ◌/◌, ◌^◌, ◌<◌, ◌≤◌, Bool, true, Option, Some, None, IfSome, is_some, List, [], ◌∷◌, ◌++◌, length, refl, ap, sym, subst, arith, length-append}
+use Rattle.std.proofs.Common.{rules, ◌≡◌, ◌∙◌, ⊎_elim, ℕ, ◌+◌, ◌*◌, ◌/◌, ◌^◌, ◌<◌, ◌≤◌, Bool, true, Option, Some, None, IfSome, is_some, List, [], ◌∷◌, ◌++◌, Contains, length, refl, ap, sym, subst, arith, length-append}
 use Rattle.tach_media.proofs.Runs.{on_ok, ok_gives}
 use Rattle.trace_model.specs.declared.Card.{Card}
 use Rattle.joint_rule.specs.Views.{other}
@@ -21,7 +21,7 @@ use Rattle.recorder_with_cards.proofs.Goes.{card-or-other, others-session, both-
 use Rattle.std.specs.Prelude.{is_err}
 use Rattle.tach_media.specs.Medium.{State}
 use Rattle.log_model.specs.Log.{In}
-use Rattle.run_acts.specs.Recording.{values_of}
+use Rattle.run_acts.specs.Recording.{log_of, values_of}
 use Rattle.run_told.specs.Told.{arranged}
 use Rattle.run_acts.specs.Entered.{MayJudge, HasGone, AreSound}
 use Rattle.run_acts.proofs.EnteredWhole.{entered-recorded, found-in}
@@ -38,10 +38,13 @@ use Rattle.recorder_with_cards.proofs.EnteredBefore.{way-tells}
 use Rattle.unit_model.specs.Image.{odometer_at}
 use Rattle.run_recorded.specs.Origin.{rule_of}
 use Rattle.run_acts.specs.Closings.{notes_within}
-use Rattle.run_acts.specs.Truths.{past_of, IsOdometerBefore, truths_within}
+use Rattle.run_acts.specs.Truths.{past_of, IsOdometerBefore, truths_within, marked}
 use Rattle.run_acts.proofs.WholeLegs.{accepted-now}
 use Rattle.run_acts.proofs.TruthsThen.{began-none}
 use Rattle.run_acts.proofs.EnteredStays.{finds-noted, entered-stays}
+use Rattle.run_acts.proofs.EnteredLines.{marks-behind}
+use Rattle.run_acts.proofs.AllStay.{all-true}
+use Rattle.run_acts.proofs.Truths.{grow-self, marked-grow}
 use Rattle.run_entering.proofs.CardBrought.{sits-works}
 use Rattle.recorder_with_cards.proofs.EnteredCards.{judged-cards}
 use Rattle.recorder_with_cards.proofs.accepting.accept_here.Goals as goal
@@ -183,19 +186,25 @@ returns-clause-recorded g c = λ room odometer o done s n waits fewer at next ti
     judged-by failed o done s n waits fewer run new c.args.outcome.now c.accept-answer.new.outcome (arranged e.which U X Y) (arranged e.which V Z Y) next.goes c.requires.lit (ap (λ (q : Keeper). q.odometer) w.1.left.keeper)
     (entered-recorded o done s n waits fewer e run.keeper c.args.outcome.now run.unfound run.next run.begun run.minutes U X Y next.goes.within may failed c.accept-answer.new.keeper run.noted c.accept-answer.new.noted c.accept-answer.new.outcome V Z sound w.0 gone)
     (λ well. entered-stays o e failed well run.keeper c.accept-answer.new.keeper run.noted c.accept-answer.new.noted c.args.outcome.now c.accept-answer.new.outcome U V X Z Y (λ log. notes_within next.goes.within.b done s (In n) log)
-    (finds-noted o done s n waits fewer (values_of run c.args.outcome.now) (arranged e.which U X Y) next.goes.within e at next.next next.none next.order) c.requires.seat sits.0 (truths_within o next.goes.within.b.run.log done s) s.number
+    (finds-noted o done s n waits fewer (values_of run c.args.outcome.now) (arranged e.which U X Y) next.goes.within e at next.next next.none next.order) c.requires.seat sits.0 (marked c.accept-answer.new.outcome.marks.items (truths_within o next.goes.within.b.run.log done s)) s.number room
     (λ none_ verdict.
     subst (λ (k : ℕ). IsOdometerBefore (rule_of o) (odometer_at o.recording.unit) (past_of next.goes.within.b.run.log (done ++ s ∷ [])).spans k e.odometer.0) (sym (ap (λ (m : Moment). m.second) at))
     (accepted-now o done s (In n) waits [] (values_of run c.args.outcome.now) (arranged e.which U X Y) next.goes.within (began-none o done s (In n) waits None [] (values_of run c.args.outcome.now) (arranged e.which U X Y) next.goes.within none_)
     e.odometer.0 (odometer next.goes.within.sp next.goes.within.minutes))) w.0 _ w.1
     (known o done s n waits fewer e run.keeper c.args.outcome.now run.unfound run.next run.begun run.minutes U X Y next.goes.within may failed c.accept-answer.new.keeper run.noted c.accept-answer.new.noted c.accept-answer.new.outcome V Z w.0 gone sound)
-    (λ none_ entered told.
-    owed-told o done s n waits fewer e run.keeper c.args.outcome.now run.unfound run.next run.begun run.minutes U X Y next.goes.within may sound.card_before
-    (began-none o done s (In n) waits None [] (values_of run c.args.outcome.now) (arranged e.which U X Y) next.goes.within none_) entered told)
+    (λ none_ entered told marks.
+    let x =
+    owed-told o done s n waits fewer e run.keeper c.args.outcome.now run.unfound run.next run.begun run.minutes U X Y next.goes.within may sound.card_before none_ entered told in
+    (x.0, x.1, (x.2, marks)))
     (way-tells (found_of o.found e.which) run.keeper.memory.registration e failed U.image U V X Z well low c.requires.fits seen.0 seen.1
     (λ valid. ((next.goes.within.powered.go.held e.which valid).now seen.0 (mine-back e.which U X Y (λ (q : State). q.may_leave seen.0) seen.1)).0) w.0 w.1.is seen.2 writes) sits.1
     (others-session e.which run.keeper.cabin.cards c.accept-answer.new.keeper.cabin.cards
-    (comes-of e run.keeper c.accept-answer.new.keeper run.noted c.accept-answer.new.noted c.args.outcome.now c.accept-answer.new.outcome _ _ _ _ _ (ungiven_of h.span) h.cabin c.requires.seat (omega arith) w.0 w.1.is w.1.left).others) next.goes.stay)
+    (comes-of e run.keeper c.accept-answer.new.keeper run.noted c.accept-answer.new.noted c.args.outcome.now c.accept-answer.new.outcome _ _ _ _ _ (ungiven_of h.span) h.cabin c.requires.seat (omega arith) w.0 w.1.is w.1.left).others)
+    (all-true o (marked c.args.outcome.now.marks.items (truths_within o next.goes.within.b.run.log done s)) (marked c.accept-answer.new.outcome.marks.items (truths_within o next.goes.within.b.run.log done s)) s.number (log_of c.args.outcome.now) (notes_within next.goes.within.b done s (In n) (log_of c.args.outcome.now)) run.keeper.memory.registration run.keeper.cabin (arranged e.which U X Y)
+    (λ none_.
+    marked-grow c.args.outcome.now.marks.items c.accept-answer.new.outcome.marks.items (truths_within o next.goes.within.b.run.log done s) (truths_within o next.goes.within.b.run.log done s)
+    (λ mark among. subst (λ (p : Outcome). Contains p.marks.items mark) (sym w.1.left.outcome) (marks-behind (ending_of w.0) e c.args.outcome.now mark among)) (grow-self (truths_within o next.goes.within.b.run.log done s)))
+    next.goes.stay))
 
 -- ---- its events
 

@@ -39,7 +39,7 @@ use Rattle.run_keeping.proofs.Later.{later-same}
 use Rattle.run_outcome.proofs.Broken.{broke-found, broke-then}
 use Rattle.run_acts.proofs.Uncut.{uncut-broke, cut-broke}
 use Rattle.run_ringed.specs.Ringed.{notes_in}
-use Rattle.run_acts.specs.Truths.{truths_of}
+use Rattle.run_acts.specs.Truths.{truths_of, marked}
 use Rattle.run_acts.proofs.AllStay.{all-of}
 use Rattle.run_course.specs.Moments.{and_break}
 use Rattle.run_outcome.specs.declared.outcome.Outcome.{Outcome}
@@ -107,7 +107,7 @@ returns-then-is_err-clause-recorded g c = λ room o done s now rec has time.
     let e : Devices = devices (g.M.Medium.state c.resume.new.unit) (g.C.Chip.state c.resume.new.card_a) (g.D.Chip.state c.resume.new.card_b) in
     let kept = c.last_kept-kept.ensures.kept in
     let values = learned run c.learn.new.self out c.learn.new.breaks c.last_kept-kept.result c.learn.ensures.run c.learn.ensures.breaks c.learn.ensures.same ∙ ap (λ (k : ℕ). read_values k (values_of run out)) kept in
-    let stay = all-of o (truths_of o (log_of out) done) 0 (log_of out) (notes_in (log_of out) done) run.keeper.memory.registration c.learn.new.self.keeper.memory.registration run.keeper.cabin (devices U X Y) (ap (λ (r : Run). r.keeper.memory.registration) c.learn.ensures.run) rec.stay in
+    let stay = all-of o (marked out.marks.items (truths_of o (log_of out) done)) 0 (log_of out) (notes_in (log_of out) done) run.keeper.memory.registration c.learn.new.self.keeper.memory.registration run.keeper.cabin (devices U X Y) (ap (λ (r : Run). r.keeper.memory.registration) c.learn.ensures.run) rec.stay in
     let same = ap (λ (r : Run). bare_seats r.keeper.cabin.slots.seats) c.learn.ensures.run in
     let next : mid.next ≡ run.next = c.resume.ensures.next ∙ ap (λ (r : Run). r.next) c.learn.ensures.run in
     let resumed = c.resume.ensures.recorded (omega (arith, room, same)) o rec.origin done s rec.supply (values_of run out) rec.recorded stay may now.number now.given values time in
@@ -127,7 +127,7 @@ returns-clause-recorded g c = λ room o done s now rec has time.
     let e : Devices = devices (g.M.Medium.state c.resume.new.unit) (g.C.Chip.state c.resume.new.card_a) (g.D.Chip.state c.resume.new.card_b) in
     let kept = c.last_kept-kept.ensures.kept in
     let values = learned run c.learn.new.self out c.learn.new.breaks c.last_kept-kept.result c.learn.ensures.run c.learn.ensures.breaks c.learn.ensures.same ∙ ap (λ (k : ℕ). read_values k (values_of run out)) kept in
-    let stay = all-of o (truths_of o (log_of out) done) 0 (log_of out) (notes_in (log_of out) done) run.keeper.memory.registration c.learn.new.self.keeper.memory.registration run.keeper.cabin (devices U X Y) (ap (λ (r : Run). r.keeper.memory.registration) c.learn.ensures.run) rec.stay in
+    let stay = all-of o (marked out.marks.items (truths_of o (log_of out) done)) 0 (log_of out) (notes_in (log_of out) done) run.keeper.memory.registration c.learn.new.self.keeper.memory.registration run.keeper.cabin (devices U X Y) (ap (λ (r : Run). r.keeper.memory.registration) c.learn.ensures.run) rec.stay in
     let same = ap (λ (r : Run). bare_seats r.keeper.cabin.slots.seats) c.learn.ensures.run in
     let next : mid.next ≡ run.next = c.resume.ensures.next ∙ ap (λ (r : Run). r.next) c.learn.ensures.run in
     let resumed = c.resume.ensures.recorded (omega (arith, room, same)) o rec.origin done s rec.supply (values_of run out) rec.recorded stay may now.number now.given values time in
@@ -167,7 +167,7 @@ returns-then-is_err-clause-evented g c = λ room o done s now all has time.
     let e : Devices = devices (g.M.Medium.state c.resume.new.unit) (g.C.Chip.state c.resume.new.card_a) (g.D.Chip.state c.resume.new.card_b) in
     let kept = c.last_kept-kept.ensures.kept in
     let values = learned run c.learn.new.self out c.learn.new.breaks c.last_kept-kept.result c.learn.ensures.run c.learn.ensures.breaks c.learn.ensures.same ∙ ap (λ (k : ℕ). read_values k (values_of run out)) kept in
-    let stay = all-of o (truths_of o (log_of out) done) 0 (log_of out) (notes_in (log_of out) done) run.keeper.memory.registration c.learn.new.self.keeper.memory.registration run.keeper.cabin (devices U X Y) (ap (λ (r : Run). r.keeper.memory.registration) c.learn.ensures.run) rec.stay in
+    let stay = all-of o (marked out.marks.items (truths_of o (log_of out) done)) 0 (log_of out) (notes_in (log_of out) done) run.keeper.memory.registration c.learn.new.self.keeper.memory.registration run.keeper.cabin (devices U X Y) (ap (λ (r : Run). r.keeper.memory.registration) c.learn.ensures.run) rec.stay in
     let same = ap (λ (r : Run). bare_seats r.keeper.cabin.slots.seats) c.learn.ensures.run in
     let next : mid.next ≡ run.next = c.resume.ensures.next ∙ ap (λ (r : Run). r.next) c.learn.ensures.run in
     let limit = ap (λ (r : Run). r.keeper.memory.limit) c.learn.ensures.run ∙ all.limit in
@@ -193,7 +193,7 @@ returns-clause-evented g c = λ room o done s now all has time.
     let e : Devices = devices (g.M.Medium.state c.resume.new.unit) (g.C.Chip.state c.resume.new.card_a) (g.D.Chip.state c.resume.new.card_b) in
     let kept = c.last_kept-kept.ensures.kept in
     let values = learned run c.learn.new.self out c.learn.new.breaks c.last_kept-kept.result c.learn.ensures.run c.learn.ensures.breaks c.learn.ensures.same ∙ ap (λ (k : ℕ). read_values k (values_of run out)) kept in
-    let stay = all-of o (truths_of o (log_of out) done) 0 (log_of out) (notes_in (log_of out) done) run.keeper.memory.registration c.learn.new.self.keeper.memory.registration run.keeper.cabin (devices U X Y) (ap (λ (r : Run). r.keeper.memory.registration) c.learn.ensures.run) rec.stay in
+    let stay = all-of o (marked out.marks.items (truths_of o (log_of out) done)) 0 (log_of out) (notes_in (log_of out) done) run.keeper.memory.registration c.learn.new.self.keeper.memory.registration run.keeper.cabin (devices U X Y) (ap (λ (r : Run). r.keeper.memory.registration) c.learn.ensures.run) rec.stay in
     let same = ap (λ (r : Run). bare_seats r.keeper.cabin.slots.seats) c.learn.ensures.run in
     let next : mid.next ≡ run.next = c.resume.ensures.next ∙ ap (λ (r : Run). r.next) c.learn.ensures.run in
     let limit = ap (λ (r : Run). r.keeper.memory.limit) c.learn.ensures.run ∙ all.limit in
@@ -234,7 +234,7 @@ returns-then-is_err-clause-ringed g c = λ room o done s now all has time.
     let e : Devices = devices (g.M.Medium.state c.resume.new.unit) (g.C.Chip.state c.resume.new.card_a) (g.D.Chip.state c.resume.new.card_b) in
     let kept = c.last_kept-kept.ensures.kept in
     let values = learned run c.learn.new.self out c.learn.new.breaks c.last_kept-kept.result c.learn.ensures.run c.learn.ensures.breaks c.learn.ensures.same ∙ ap (λ (k : ℕ). read_values k (values_of run out)) kept in
-    let stay = all-of o (truths_of o (log_of out) done) 0 (log_of out) (notes_in (log_of out) done) run.keeper.memory.registration c.learn.new.self.keeper.memory.registration run.keeper.cabin (devices U X Y) (ap (λ (r : Run). r.keeper.memory.registration) c.learn.ensures.run) rec.stay in
+    let stay = all-of o (marked out.marks.items (truths_of o (log_of out) done)) 0 (log_of out) (notes_in (log_of out) done) run.keeper.memory.registration c.learn.new.self.keeper.memory.registration run.keeper.cabin (devices U X Y) (ap (λ (r : Run). r.keeper.memory.registration) c.learn.ensures.run) rec.stay in
     let same = ap (λ (r : Run). bare_seats r.keeper.cabin.slots.seats) c.learn.ensures.run in
     let next : mid.next ≡ run.next = c.resume.ensures.next ∙ ap (λ (r : Run). r.next) c.learn.ensures.run in
     let limit = ap (λ (r : Run). r.keeper.memory.limit) c.learn.ensures.run ∙ all.evented.limit in
@@ -268,7 +268,7 @@ returns-clause-ringed g c = λ room o done s now all has time.
     let e : Devices = devices (g.M.Medium.state c.resume.new.unit) (g.C.Chip.state c.resume.new.card_a) (g.D.Chip.state c.resume.new.card_b) in
     let kept = c.last_kept-kept.ensures.kept in
     let values = learned run c.learn.new.self out c.learn.new.breaks c.last_kept-kept.result c.learn.ensures.run c.learn.ensures.breaks c.learn.ensures.same ∙ ap (λ (k : ℕ). read_values k (values_of run out)) kept in
-    let stay = all-of o (truths_of o (log_of out) done) 0 (log_of out) (notes_in (log_of out) done) run.keeper.memory.registration c.learn.new.self.keeper.memory.registration run.keeper.cabin (devices U X Y) (ap (λ (r : Run). r.keeper.memory.registration) c.learn.ensures.run) rec.stay in
+    let stay = all-of o (marked out.marks.items (truths_of o (log_of out) done)) 0 (log_of out) (notes_in (log_of out) done) run.keeper.memory.registration c.learn.new.self.keeper.memory.registration run.keeper.cabin (devices U X Y) (ap (λ (r : Run). r.keeper.memory.registration) c.learn.ensures.run) rec.stay in
     let same = ap (λ (r : Run). bare_seats r.keeper.cabin.slots.seats) c.learn.ensures.run in
     let next : mid.next ≡ run.next = c.resume.ensures.next ∙ ap (λ (r : Run). r.next) c.learn.ensures.run in
     let limit = ap (λ (r : Run). r.keeper.memory.limit) c.learn.ensures.run ∙ all.evented.limit in
@@ -317,7 +317,7 @@ returns-then-is_err-clause-cards g c = λ room o done s now all has time.
     let e : Devices = devices (g.M.Medium.state c.resume.new.unit) (g.C.Chip.state c.resume.new.card_a) (g.D.Chip.state c.resume.new.card_b) in
     let kept = c.last_kept-kept.ensures.kept in
     let values = learned run c.learn.new.self out c.learn.new.breaks c.last_kept-kept.result c.learn.ensures.run c.learn.ensures.breaks c.learn.ensures.same ∙ ap (λ (k : ℕ). read_values k (values_of run out)) kept in
-    let stay = all-of o (truths_of o (log_of out) done) 0 (log_of out) (notes_in (log_of out) done) run.keeper.memory.registration c.learn.new.self.keeper.memory.registration run.keeper.cabin (devices U X Y) (ap (λ (r : Run). r.keeper.memory.registration) c.learn.ensures.run) rec.stay in
+    let stay = all-of o (marked out.marks.items (truths_of o (log_of out) done)) 0 (log_of out) (notes_in (log_of out) done) run.keeper.memory.registration c.learn.new.self.keeper.memory.registration run.keeper.cabin (devices U X Y) (ap (λ (r : Run). r.keeper.memory.registration) c.learn.ensures.run) rec.stay in
     let same = ap (λ (r : Run). bare_seats r.keeper.cabin.slots.seats) c.learn.ensures.run in
     let next : mid.next ≡ run.next = c.resume.ensures.next ∙ ap (λ (r : Run). r.next) c.learn.ensures.run in
     let limit = ap (λ (r : Run). r.keeper.memory.limit) c.learn.ensures.run ∙ all.ringed.evented.limit in
@@ -352,7 +352,7 @@ returns-clause-cards g c = λ room o done s now all has time.
     let e : Devices = devices (g.M.Medium.state c.resume.new.unit) (g.C.Chip.state c.resume.new.card_a) (g.D.Chip.state c.resume.new.card_b) in
     let kept = c.last_kept-kept.ensures.kept in
     let values = learned run c.learn.new.self out c.learn.new.breaks c.last_kept-kept.result c.learn.ensures.run c.learn.ensures.breaks c.learn.ensures.same ∙ ap (λ (k : ℕ). read_values k (values_of run out)) kept in
-    let stay = all-of o (truths_of o (log_of out) done) 0 (log_of out) (notes_in (log_of out) done) run.keeper.memory.registration c.learn.new.self.keeper.memory.registration run.keeper.cabin (devices U X Y) (ap (λ (r : Run). r.keeper.memory.registration) c.learn.ensures.run) rec.stay in
+    let stay = all-of o (marked out.marks.items (truths_of o (log_of out) done)) 0 (log_of out) (notes_in (log_of out) done) run.keeper.memory.registration c.learn.new.self.keeper.memory.registration run.keeper.cabin (devices U X Y) (ap (λ (r : Run). r.keeper.memory.registration) c.learn.ensures.run) rec.stay in
     let same = ap (λ (r : Run). bare_seats r.keeper.cabin.slots.seats) c.learn.ensures.run in
     let next : mid.next ≡ run.next = c.resume.ensures.next ∙ ap (λ (r : Run). r.next) c.learn.ensures.run in
     let limit = ap (λ (r : Run). r.keeper.memory.limit) c.learn.ensures.run ∙ all.ringed.evented.limit in

@@ -39,7 +39,7 @@ use Rattle.recorder_with_cards.proofs.WakeNoted.{read-says, read-noted, read-the
 use Rattle.run_keeping.proofs.Later.{state-revived, later-then, later-of-unit}
 use Rattle.run_ringed.specs.Ringed.{notes_in}
 use Rattle.run_acts.proofs.Comings.{leaves-more}
-use Rattle.run_acts.specs.Truths.{truths_of}
+use Rattle.run_acts.specs.Truths.{truths_of, marked}
 use Rattle.run_acts.proofs.AllStay.{all-unit}
 use Rattle.run_outcome.proofs.Broken.{broke-none, broke-once, broke-then}
 use Rattle.recorder_with_cards.proofs.RingsHeld.{ringed-cut}
@@ -75,7 +75,7 @@ returns-in-Ok-clause-recorded g c = λ room o done s now rec has time.
       powers = rec.powers;
       recorded = read;
       odometer = λ lit. absurd (let bad : false ≡ true = sym c.requires.dark ∙ ap is_lit lit in cc);
-      stay = all-unit o (truths_of o (log_of out) done) 0 (log_of out) (notes_in (log_of out) done) run.keeper.memory.registration run.keeper.cabin U V X Y (leaves-more U V (read-leaves U V whole c.load.ensures.leaves)) rec.stay;
+      stay = all-unit o (marked out.marks.items (truths_of o (log_of out) done)) 0 (log_of out) (notes_in (log_of out) done) run.keeper.memory.registration run.keeper.cabin U V X Y (leaves-more U V (read-leaves U V whole c.load.ensures.leaves)) rec.stay;
     }) has time
 
 pub returns-in-Err-BadUnit-clause-recorded : goal.returns-in-Err-BadUnit-clause-recorded
@@ -135,7 +135,7 @@ returns-in-Ok-clause-evented g c = λ room o done s now all has time.
         powers = rec.powers;
         recorded = read;
         odometer = λ lit. absurd (let bad : false ≡ true = sym c.requires.dark ∙ ap is_lit lit in cc);
-        stay = all-unit o (truths_of o (log_of out) done) 0 (log_of out) (notes_in (log_of out) done) run.keeper.memory.registration run.keeper.cabin U V X Y (leaves-more U V (read-leaves U V whole c.load.ensures.leaves)) rec.stay;
+        stay = all-unit o (marked out.marks.items (truths_of o (log_of out) done)) 0 (log_of out) (notes_in (log_of out) done) run.keeper.memory.registration run.keeper.cabin U V X Y (leaves-more U V (read-leaves U V whole c.load.ensures.leaves)) rec.stay;
       };
       evented = events-stay (devices U X Y) (devices V X Y) o done (log_of out) run.unfound run.next rec.supply all.evented (read-says U V c.load.ensures.leaves) left;
       limit = all.limit;
@@ -206,7 +206,7 @@ returns-in-Ok-clause-ringed g c = λ room o done s now all has time.
           powers = rec.powers;
           recorded = read;
           odometer = λ lit. absurd (let bad : false ≡ true = sym c.requires.dark ∙ ap is_lit lit in cc);
-          stay = all-unit o (truths_of o (log_of out) done) 0 (log_of out) (notes_in (log_of out) done) run.keeper.memory.registration run.keeper.cabin U V X Y (leaves-more U V (read-leaves U V whole c.load.ensures.leaves)) rec.stay;
+          stay = all-unit o (marked out.marks.items (truths_of o (log_of out) done)) 0 (log_of out) (notes_in (log_of out) done) run.keeper.memory.registration run.keeper.cabin U V X Y (leaves-more U V (read-leaves U V whole c.load.ensures.leaves)) rec.stay;
         };
         evented = events-stay (devices U X Y) (devices V X Y) o done (log_of out) run.unfound run.next rec.supply all.evented.evented (read-says U V c.load.ensures.leaves) left;
         limit = all.evented.limit;
@@ -296,7 +296,7 @@ returns-in-Ok-clause-cards g c = λ room o done s now all has time.
             powers = rec.powers;
             recorded = read;
             odometer = λ lit. absurd (let bad : false ≡ true = sym c.requires.dark ∙ ap is_lit lit in cc);
-            stay = all-unit o (truths_of o (log_of out) done) 0 (log_of out) (notes_in (log_of out) done) run.keeper.memory.registration run.keeper.cabin U V X Y (leaves-more U V (read-leaves U V whole c.load.ensures.leaves)) rec.stay;
+            stay = all-unit o (marked out.marks.items (truths_of o (log_of out) done)) 0 (log_of out) (notes_in (log_of out) done) run.keeper.memory.registration run.keeper.cabin U V X Y (leaves-more U V (read-leaves U V whole c.load.ensures.leaves)) rec.stay;
           };
           evented = events-stay (devices U X Y) (devices V X Y) o done (log_of out) run.unfound run.next rec.supply all.ringed.evented.evented (read-says U V c.load.ensures.leaves) left;
           limit = all.ringed.evented.limit;
