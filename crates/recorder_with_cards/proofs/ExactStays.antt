@@ -213,7 +213,7 @@ module _ (vehicle : Registration) (size : ℕ) (spans : List SpanFrom) (selected
               × (last_kept ≤ mark_of (made_by size (opens (is_open_in p.held) vehicle s.odometer (lacked (mark_of p.book) s.owed) ++ (keeps vehicle None s.kepts ++ closes o)) p.book))
           by o =
               let parts : mark_of (made_by size (opens (is_open_in p.held) vehicle s.odometer (lacked (mark_of p.book) s.owed) ++ (keeps vehicle None s.kepts ++ closes o)) p.book)
-                  ≡ mark_of (made_by size (closes o) (made_by size (keeps vehicle None s.kepts) (opened s p))) =
+              ≡ mark_of (made_by size (closes o) (made_by size (keeps vehicle None s.kepts) (opened s p))) =
               ap mark_of (made-append size (opens (is_open_in p.held) vehicle s.odometer (lacked (mark_of p.book) s.owed)) (keeps vehicle None s.kepts ++ closes o) p.book ∙ made-append size (keeps vehicle None s.kepts) (closes o) (opened s p)) in
               let kept = mark-keeps vehicle size None s.kepts (opened s p) in
               (λ none. parts ∙ same-mark o none ∙ kept, (let more = more-mark o in omega (arith, parts, kept, more)))
