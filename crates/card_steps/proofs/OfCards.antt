@@ -32,9 +32,9 @@ use Rattle.card_steps.proofs.Moments.{keep_shown}
 use Rattle.card_steps.proofs.Withdrawn.{close_shown}
 use Rattle.card_steps.proofs.Inserted.{mark_day, days_of_open, shows_moments, shows_all}
 use Rattle.card_steps.proofs.Unclosed.{unclosed_shown, answered_late}
-use Rattle.card_steps.proofs.Deeds.{keep_stopped, keep_made, close_made, closed_made, PartedAt, open_parted}
+use Rattle.card_steps.proofs.Deeds.{made_more, keep_stopped, keep_made, close_made, closed_made, PartedAt, open_parted}
 use Rattle.card_steps.proofs.Lists.{same_parts}
-use Rattle.card_steps.proofs.Since.{may_come, since_replay, keep_holds, kept_goes, close_holds, replay_holds, all_goes, all_holds, tied_still, none_goes, later_holds, holds_up}
+use Rattle.card_steps.proofs.Since.{may_come, since_replay, keep_holds, kept_goes, close_holds, replay_holds, all_goes, all_holds, tied_still, tied_wider, none_goes, later_holds, holds_up}
 
 -- ---- a keep
 
@@ -50,7 +50,8 @@ module _ (s : Session) (image : List ℕ) (done : List Entry) (e : Entry) (odome
 
   pub card_keep_holds : IsCardKeeping s e odometer x y → (es : List Entry) (next : ℕ) → Follow e.minute es → e.minute < next → HoldsSince s.application image (done ++ e ∷ es) next y
   card_keep_holds keeping es next follow after =
-      keep_holds s.application image done es e n next x y session before late_mark follow after g (shown keeping) (keep_stopped s image done e odometer x y g.tied.made keeping) (keep_made s image done e odometer x y g.tied.made keeping late_mark)
+      keep_holds s.application image done es e n next x y session before late_mark follow after g (shown keeping) (keep_stopped s image done (done ++ e ∷ es) es e odometer x y refl (made_more s.application image done done (e ∷ es) x g.tied.made) keeping)
+      (keep_made s image done (done ++ e ∷ []) [] e odometer x y refl (made_more s.application image done done (e ∷ []) x g.tied.made) keeping late_mark)
 
 module _ (s t : Session) (image : List ℕ) (done : List Entry) (e : Entry) (odometer n : ℕ) (x y : List ℕ) (sound : IsApplication s.application) (knows : IsSession s x) (session : 0 < session_time s.application x) (late : s.minute < e.minute) (before : n ≤ e.minute)
     (g : GoesSince s.application image done n x) where
@@ -59,7 +60,7 @@ module _ (s t : Session) (image : List ℕ) (done : List Entry) (e : Entry) (odo
       (λ old. absurd (omega (arith, old.mark, at, late_mark s image done e odometer n x y sound knows session late before g)))
       (λ new.
       kept_goes s.application image done [] e n (suc e.minute) x y session before (late_mark s image done e odometer n x y sound knows session late before g) tt (omega arith) g moment
-      (keep_made s image done e odometer x y g.tied.made whole (late_mark s image done e odometer n x y sound knows session late before g) at) new)
+      (keep_made s image done (done ++ e ∷ []) [] e odometer x y refl (made_more s.application image done done (e ∷ []) x g.tied.made) whole (late_mark s image done e odometer n x y sound knows session late before g) at) new)
       moment.side
     where
       whole : IsCardKeeping s e odometer x y
@@ -76,7 +77,7 @@ module _ (s t : Session) (image : List ℕ) (done : List Entry) (e : Entry) (odo
 pub card_close_holds : (s : Session) (act : Activity) (image : List ℕ) (done : List Entry) (n next : ℕ) (x y : List ℕ) → IsApplication s.application → image_size_of s.application ≤ length x → IsSession s x → 0 < session_time s.application x →
     n ≤ next → newest_minute (end_mark s.application x) (card_days s.application x) < next → GoesSince s.application image done n x → IsCardClosing s act x y → HoldsSince s.application image done next y
 card_close_holds s act image done n next x y sound fits knows session le late g closing =
-    close_holds s.application image done next x y session g.tied (close_made s act image done x y sound fits g.tied.made closing)
+    close_holds s.application image done next x y session g.tied (close_made s act image done done x y sound fits g.tied.made closing)
     (close_shown s act x (bound_since image done) (own_covered image) g.from next (counted_since image done) (all_since image done) sound (omega (arith, g.later, le)) late (omega arith) knows g.goes y fits closing)
 
 -- the newest minute that a session knows
@@ -100,19 +101,19 @@ module _ (app : Application) (registration : Registration) (odometer now : ℕ) 
 
     -- what is on the card and what it lacks
     record Stands : Type 0 where
-      pub tied : IsTied app image done x
+      pub tied : IsTied app image done (done ++ lacked_by app x owed) x
       pub stands : GoesSince app image done (first_minute next (lacked_by app x owed)) x ⊎ BrokeSince app image done (lacked_by app x owed) next x
 
     apart : (k : HoldsSince app image (done ++ lacked_by app x owed) next x) → Stands
     apart k =
         let parts = same_parts (end_mark app x) k.more k.rest done (lacked_by app x owed) (sym k.split) (holds_up app image (done ++ lacked_by app x owed) next x k) up k.behind ordered in
         ⊎_elim
-        (λ goes. both (subst (λ (l : List Entry). IsTied app image l x) parts.first goes.tied)
+        (λ goes. both (tied_wider app image done done (lacked_by app x owed) x (subst (λ (l : List Entry). IsTied app image l l x) parts.first goes.tied))
         (inl (subst (λ (l : List Entry). GoesSince app image l (first_minute next (lacked_by app x owed)) x) parts.first (subst (λ (l : List Entry). GoesSince app image k.more (first_minute next l) x) parts.second goes))))
-        (λ broke. both (subst (λ (l : List Entry). IsTied app image l x) parts.first broke.tied)
+        (λ broke. both (subst (λ (l : List Entry). IsTied app image l (l ++ lacked_by app x owed) x) parts.first (subst (λ (l : List Entry). IsTied app image k.more (k.more ++ l) x) parts.second broke.tied))
         (inr (subst (λ (l : List Entry). BrokeSince app image l (lacked_by app x owed) next x) parts.first (subst (λ (l : List Entry). BrokeSince app image k.more l next x) parts.second broke)))) k.stands
       where
-        both : IsTied app image done x → GoesSince app image done (first_minute next (lacked_by app x owed)) x ⊎ BrokeSince app image done (lacked_by app x owed) next x → Stands
+        both : IsTied app image done (done ++ lacked_by app x owed) x → GoesSince app image done (first_minute next (lacked_by app x owed)) x ⊎ BrokeSince app image done (lacked_by app x owed) next x → Stands
         both tied stands = record { tied = tied; stands = stands }
 
     there : Stands
@@ -126,13 +127,13 @@ module _ (app : Application) (registration : Registration) (odometer now : ℕ) 
         shows_moments app sound x fits registration long odometer now owed are.0 (bound_since image done) (own_covered image) (first_minute next (lacked_by app x owed)) next (counted_since image done) (all_since image done) (omega arith) valid
         (above_zero (session_time app x) session) (omega arith) late (since_replay app image done next x sound (lacked_by app x owed) there.stands) y inserting
 
-    parted_at : (y : List ℕ) → InsertingOpen app registration odometer owed now x y → PartedAt app image done (lacked_by app x owed) y
-    parted_at y inserting = open_parted app sound registration long now image done x fits there.tied.made odometer owed are.0 y inserting
+    parted_at : (y : List ℕ) → InsertingOpen app registration odometer owed now x y → PartedAt app image done (lacked_by app x owed) (done ++ lacked_by app x owed) y
+    parted_at y inserting = open_parted app sound registration long now image done (done ++ lacked_by app x owed) x fits there.tied.made odometer owed are.0 refl y inserting
 
     pub open_holds : (y : List ℕ) → InsertingOpen app registration odometer owed now x y → HoldsSince app image (done ++ lacked_by app x owed) next y
     open_holds y inserting = ⊎_elim
-        (λ first. replay_holds app image done (lacked_by app x owed) next x y ordered session there.tied (parted_at y inserting) first)
-        (λ all. all_holds app image done (lacked_by app x owed) next x y ordered session there.tied (parted_at y inserting) (card_view app x).newest (same_day y inserting) all.mark all.goes) (shown_at y inserting)
+        (λ first. replay_holds app image done (lacked_by app x owed) next x y ordered session (done ++ lacked_by app x owed) there.tied (parted_at y inserting) first)
+        (λ all. all_holds app image done (lacked_by app x owed) next x y ordered session (done ++ lacked_by app x owed) there.tied (parted_at y inserting) (card_view app x).newest (same_day y inserting) all.mark all.goes) (shown_at y inserting)
 
     all_at : (y : List ℕ) → InsertsOpen app registration odometer owed now x y → IsAllShown app (bound_since image done) (own_covered image) next (counted_since image done) (all_since image done) (lacked_by app x owed) x y
     all_at y inserts =
@@ -143,7 +144,7 @@ module _ (app : Application) (registration : Registration) (odometer now : ℕ) 
     sits_at y inserts =
         let all = all_at y inserts in
         let moment = open_end app registration odometer now owed x y inserts in
-        all_goes app image done (lacked_by app x owed) next x y ordered session there.tied (parted_at y moment) (card_view app x).newest (same_day y moment) all.mark all.goes
+        all_goes app image done (lacked_by app x owed) next x y ordered session (done ++ lacked_by app x owed) there.tied (parted_at y moment) (card_view app x).newest (same_day y moment) all.mark all.goes
 
   pub open_sits : n ≤ suc (newest_behind (card_view app x).newest (lacked_by app x owed)) → (y : List ℕ) (t : Session) → InsertsOpen app registration odometer owed now x y → t.application ≡ app → IsSession t y
       → GoesSince app image (done ++ lacked_by app x owed) (suc t.minute) y × (t.minute ≡ newest_behind (card_view app x).newest (lacked_by app x owed))
@@ -166,7 +167,7 @@ module _ (app : Application) (registration : Registration) (now : ℕ) (image : 
       let s = goes_here in
       let shown =
       unclosed_shown app sound x fits registration long now valid none (bound_since image brought) (own_covered image) s.from next (counted_since image brought) (all_since image brought) (omega arith) (omega (arith, s.later, le)) late s.goes y inserting in
-      record { from = next; later = omega arith; goes = shown.0; tied = tied_still app image brought x y shown.1 (closed_made app sound registration long now image brought x fits s.tied.made y inserting) s.tied }
+      record { from = next; later = omega arith; goes = shown.0; tied = tied_still app image brought brought brought x y shown.1 (closed_made app sound registration long now image brought brought x fits s.tied.made y inserting) s.tied }
 
   pub shut_inserting : (next : ℕ) → n ≤ next → newest_minute (end_mark app x) (card_days app x) < next → (y : List ℕ) → InsertingClosed app registration now x y → HoldsSince app image brought next y
   shut_inserting next le late y inserting = record { more = brought; rest = []; split = sym (append-nil brought); behind = tt; stands = inl (shut_goes next le late y inserting) }

@@ -29,7 +29,7 @@ use Rattle.card_steps.specs.Since.{IsByEntries, all_since, bound_since, counted_
 use Rattle.card_steps.proofs.Moved.{goes_moved, goes_broke}
 use Rattle.card_steps.proofs.Replayed.{broke_later, begun_later, follow_first}
 use Rattle.card_steps.proofs.Clear.{clear_of, told_more, told_still, last_in}
-use Rattle.card_steps.proofs.Deeds.{made_same, PartedAt, parted_made}
+use Rattle.card_steps.proofs.Deeds.{made_same, made_more, PartedAt, parted_made}
 use Rattle.card_steps.proofs.Lists.{all_more, bound_more, counted_more, up_back, follow_behind, follow_tail, follow_on}
 
 -- ---- with some entries more
@@ -59,12 +59,16 @@ module _ (app : Application) (image : List ℕ) (more es : List Entry) (from : �
 -- ---- what ties them to the end mark
 
 -- the mark of another image, on the same day
-pub tied_still : (app : Application) (image : List ℕ) (more : List Entry) (x y : List ℕ) → end_mark app y / 1440 ≡ end_mark app x / 1440 → IsMade app image more y → IsTied app image more x → IsTied app image more y
-tied_still app image more x y same made t = record {
+pub tied_still : (app : Application) (image : List ℕ) (more was all : List Entry) (x y : List ℕ) → end_mark app y / 1440 ≡ end_mark app x / 1440 → IsMade app image more all y → IsTied app image more was x → IsTied app image more all y
+tied_still app image more was all x y same made t = record {
   told = told_still (bound_since image more) (end_mark app x) (end_mark app y) (counted_since image more) (all_since image more) same t.told;
   day = ⊎_elim (λ first. inl (same ∙ first)) (λ in_. inr (subst (λ (k : ℕ). InDays k (counted_since image more).days) (sym same) in_)) t.day;
   made = made;
 }
+
+-- entries more that the card is to have
+pub tied_wider : (app : Application) (image : List ℕ) (more all others : List Entry) (x : List ℕ) → IsTied app image more all x → IsTied app image more (all ++ others) x
+tied_wider app image more all others x t = record { told = t.told; day = t.day; made = made_more app image more all others x t.made }
 
 told_list : (slack : Bound) (mark now covered : ℕ) (c : Counted) (all es : List Entry) → now / 1440 ≡ mark_behind mark es / 1440 → IsByEntries slack mark c all → IsByEntries (and_entries slack es) now (with_entries covered c es) (all ++ es)
 told_list slack mark now covered c all [] same t = subst (λ (l : List Entry). IsByEntries slack now c l) (sym (append-nil all)) (told_still slack mark now c all same t)
@@ -81,8 +85,8 @@ day_list : (mark covered : ℕ) (c : Counted) (e : Entry) (es : List Entry) → 
 day_list mark covered c e [] = last_in covered c e
 day_list mark covered c e (f ∷ es) = day_list e.minute covered (with_entry covered c e) f es
 
-pub tied_more : (app : Application) (image : List ℕ) (more es : List Entry) (x y : List ℕ) → end_mark app y / 1440 ≡ mark_behind (end_mark app x) es / 1440 → IsMade app image (more ++ es) y → IsTied app image more x → IsTied app image (more ++ es) y
-tied_more app image more es x y same made t = record {
+pub tied_more : (app : Application) (image : List ℕ) (more es was all : List Entry) (x y : List ℕ) → end_mark app y / 1440 ≡ mark_behind (end_mark app x) es / 1440 → IsMade app image (more ++ es) all y → IsTied app image more was x → IsTied app image (more ++ es) all y
+tied_more app image more es was all x y same made t = record {
   told =
       subst (λ (b : Bound). IsByEntries b (end_mark app y) (counted_since image (more ++ es)) (all_since image (more ++ es))) (bound_more image more es)
       (subst (λ (c : Counted). IsByEntries (and_entries (bound_since image more) es) (end_mark app y) c (all_since image (more ++ es))) (counted_more image more es)
@@ -97,7 +101,7 @@ tied_more app image more es x y same made t = record {
         let whole : more ≡ more ++ es = sym (append-nil more) ∙ ap (λ (l : List Entry). more ++ l) (sym none) in
         let at : end_mark app y / 1440 ≡ end_mark app x / 1440 = same ∙ ap (λ (l : List Entry). mark_behind (end_mark app x) l / 1440) none in
         subst (λ (l : List Entry). (end_mark app y / 1440 ≡ (own_view image).mark / 1440) ⊎ InDays (end_mark app y / 1440) (counted_since image l).days) whole
-        (tied_still app image more x y at (subst (λ (l : List Entry). IsMade app image l y) (sym whole) made) t).day
+        (tied_still app image more was all x y at (subst (λ (l : List Entry). IsMade app image l all y) (sym whole) made) t).day
     by (e ∷ fs) some =
         inr (subst (λ (k : ℕ). InDays k (counted_since image (more ++ es)).days) (sym (same ∙ ap (λ (l : List Entry). mark_behind (end_mark app x) l / 1440) some))
         (subst (λ (c : Counted). InDays (mark_behind (end_mark app x) (e ∷ fs) / 1440) c.days) (ap (λ (l : List Entry). with_entries (own_covered image) (counted_since image more) l) (sym some) ∙ counted_more image more es)
@@ -123,10 +127,10 @@ module _ (app : Application) (image : List ℕ) (more : List Entry) (next : ℕ)
   may_come s e le =
       clear_of app.activity (bound_since image more) (own_covered image) s.from (end_mark app x) (counted_since image more) (all_since image more) (card_days app x) s.goes.lives.rests s.tied.told e (omega (arith, s.later, le))
 
-  may_replay : (from : ℕ) (es : List Entry) → from ≤ first_minute next es → Broke app (bound_since image more) (own_covered image) from (counted_since image more) (all_since image more) x → IsTied app image more x
+  may_replay : (from : ℕ) (es all : List Entry) → from ≤ first_minute next es → Broke app (bound_since image more) (own_covered image) from (counted_since image more) (all_since image more) x → IsTied app image more all x
       → BeginsLater (end_mark app x) es (trimmed (end_mark app x) (card_days app x)) ⊎ IsFresh app (counted_since image more) (all_since image more) x
-  may_replay from [] le broke tied = inl tt
-  may_replay from (e ∷ es) le broke tied =
+  may_replay from [] all le broke tied = inl tt
+  may_replay from (e ∷ es) all le broke tied =
       clear_of app.activity (bound_since image more) (own_covered image) from (end_mark app x) (counted_since image more) (all_since image more) (trimmed (end_mark app x) (card_days app x)) broke.rests tied.told e le
 
   -- a session that is open still may be repaired so
@@ -134,11 +138,11 @@ module _ (app : Application) (image : List ℕ) (more : List Entry) (next : ℕ)
       → MayReplay app (bound_since image more) (own_covered image) (first_minute next rest) (counted_since image more) (all_since image more) rest x
   since_replay sound rest (inl s) =
       let broke = goes_broke app (bound_since image more) (own_covered image) s.from (counted_since image more) (all_since image more) sound (omega arith) (first_minute next rest) x s.later s.goes in
-      inl (broke, may_replay (first_minute next rest) rest (omega arith) broke s.tied)
+      inl (broke, may_replay (first_minute next rest) rest more (omega arith) broke s.tied)
   since_replay sound rest (inr s) = ⊎_elim
       (λ old.
       let broke = broke_later app.activity (bound_since image more) (own_covered image) (end_mark app x) (counted_since image more) (all_since image more) s.from (first_minute next rest) (card_days app x) s.later old in
-      inl (broke, may_replay (first_minute next rest) rest (omega arith) broke s.tied))
+      inl (broke, may_replay (first_minute next rest) rest (more ++ rest) (omega arith) broke s.tied))
       (λ begun.
       inr (
         begun_later app.activity (bound_since image more) (own_covered image) (end_mark app x) (counted_since image more) (all_since image more) s.from (first_minute next rest) (card_days app x) s.later begun.0,
@@ -155,28 +159,28 @@ module _ (app : Application) (image : List ℕ) (done es : List Entry) (e : Entr
   kept_session : 0 < session_time app y
   kept_session = omega (arith, session, shown.session)
 
-  stopped_holds : IsMade app image done y → IsStopped app (bound_since image done) (own_covered image) (counted_since image done) (all_since image done) e x y → HoldsSince app image (done ++ e ∷ es) next y
+  stopped_holds : IsMade app image done (done ++ e ∷ es) y → IsStopped app (bound_since image done) (own_covered image) (counted_since image done) (all_since image done) e x y → HoldsSince app image (done ++ e ∷ es) next y
   stopped_holds made old = record {
     more = done;
     rest = e ∷ es;
     split = refl;
     behind = (omega (arith, late, old.mark), follow);
-    stands = inr (record { session = kept_session; from = e.minute; later = omega arith; left = old.left; tied = tied_still app image done x y (ap (λ (n : ℕ). n / 1440) old.mark) made s.tied });
+    stands = inr (record { session = kept_session; from = e.minute; later = omega arith; left = old.left; tied = tied_still app image done done (done ++ e ∷ es) x y (ap (λ (n : ℕ). n / 1440) old.mark) made s.tied });
   }
 
-  pub kept_goes : IsMade app image (done ++ e ∷ []) y → IsDone app (bound_since image done) (own_covered image) (counted_since image done) (all_since image done) e x y → GoesSince app image (done ++ e ∷ []) (suc e.minute) y
+  pub kept_goes : IsMade app image (done ++ e ∷ []) (done ++ e ∷ []) y → IsDone app (bound_since image done) (own_covered image) (counted_since image done) (all_since image done) e x y → GoesSince app image (done ++ e ∷ []) (suc e.minute) y
   kept_goes made new = record {
     from = suc e.minute;
     later = omega arith;
     goes = goes_more app image done (e ∷ []) (suc e.minute) y new.goes;
-    tied = tied_more app image done (e ∷ []) x y (ap (λ (n : ℕ). n / 1440) new.mark) made s.tied;
+    tied = tied_more app image done (e ∷ []) done (done ++ e ∷ []) x y (ap (λ (n : ℕ). n / 1440) new.mark) made s.tied;
   }
 
   append_one : (done : List Entry) → done ++ e ∷ es ≡ (done ++ e ∷ []) ++ es
   append_one [] = refl
   append_one (f ∷ done) = ap (λ (l : List Entry). f ∷ l) (append_one done)
 
-  done_holds : IsMade app image (done ++ e ∷ []) y → IsDone app (bound_since image done) (own_covered image) (counted_since image done) (all_since image done) e x y → HoldsSince app image (done ++ e ∷ es) next y
+  done_holds : IsMade app image (done ++ e ∷ []) (done ++ e ∷ []) y → IsDone app (bound_since image done) (own_covered image) (counted_since image done) (all_since image done) e x y → HoldsSince app image (done ++ e ∷ es) next y
   done_holds made new = record {
     more = done ++ e ∷ [];
     rest = es;
@@ -185,14 +189,14 @@ module _ (app : Application) (image : List ℕ) (done es : List Entry) (e : Entr
     stands = inl (goes_wider app image (done ++ e ∷ []) (suc e.minute) (first_minute next es) y (follow_first e.minute next es follow after) (kept_goes made new));
   }
 
-  pub keep_holds : IsMade app image done y → (end_mark app y ≡ e.minute → IsMade app image (done ++ e ∷ []) y) → HoldsSince app image (done ++ e ∷ es) next y
+  pub keep_holds : IsMade app image done (done ++ e ∷ es) y → (end_mark app y ≡ e.minute → IsMade app image (done ++ e ∷ []) (done ++ e ∷ []) y) → HoldsSince app image (done ++ e ∷ es) next y
   keep_holds stopped made = ⊎_elim (λ old. stopped_holds stopped old) (λ new. done_holds (made new.mark) new) shown.side
 
 -- ---- A WITHDRAWAL
 
-module _ (app : Application) (image : List ℕ) (done : List Entry) (next : ℕ) (x y : List ℕ) (session : 0 < session_time app x) (tied : IsTied app image done x) (made : IsMade app image done y) where
+module _ (app : Application) (image : List ℕ) (done : List Entry) (next : ℕ) (x y : List ℕ) (session : 0 < session_time app x) (tied : IsTied app image done done x) (made : IsMade app image done done y) where
   pub closed_goes : IsClosedShown app (bound_since image done) (own_covered image) next (counted_since image done) (all_since image done) x y → GoesSince app image done next y
-  closed_goes shut = record { from = next; later = omega arith; goes = shut.goes; tied = tied_still app image done x y shut.day made tied }
+  closed_goes shut = record { from = next; later = omega arith; goes = shut.goes; tied = tied_still app image done done done x y shut.day made tied }
 
   pub close_holds : IsCloseShown app (bound_since image done) (own_covered image) next (counted_since image done) (all_since image done) x y → HoldsSince app image done next y
   close_holds (inl open_) = record {
@@ -200,7 +204,7 @@ module _ (app : Application) (image : List ℕ) (done : List Entry) (next : ℕ)
     rest = [];
     split = sym (append-nil done);
     behind = tt;
-    stands = inr (record { session = omega (arith, session, open_.0); from = next; later = omega arith; left = inl open_.2; tied = tied_still app image done x y (ap (λ (n : ℕ). n / 1440) open_.1) made tied });
+    stands = inr (record { session = omega (arith, session, open_.0); from = next; later = omega arith; left = inl open_.2; tied = tied_still app image done done (done ++ []) x y (ap (λ (n : ℕ). n / 1440) open_.1) (subst (λ (l : List Entry). IsMade app image done l y) (sym (append-nil done)) made) tied });
   }
   close_holds (inr shut) = record {
     more = done;
@@ -230,8 +234,8 @@ newest_day : (mark newest : ℕ) (es : List Entry) → newest / 1440 ≡ mark / 
 newest_day mark newest [] same = same
 newest_day mark newest (e ∷ es) same = newest_day e.minute (closed_at (Some e)) es (closed_day e)
 
-module _ (app : Application) (image : List ℕ) (more rest : List Entry) (next : ℕ) (x y : List ℕ) (follow : Follow (end_mark app x) rest) (session : 0 < session_time app x) (tied : IsTied app image more x)
-    (parted : PartedAt app image more rest y) where
+module _ (app : Application) (image : List ℕ) (more rest : List Entry) (next : ℕ) (x y : List ℕ) (follow : Follow (end_mark app x) rest) (session : 0 < session_time app x) (was : List Entry) (tied : IsTied app image more was x)
+    (parted : PartedAt app image more rest (more ++ rest) y) where
   append_then : (more done rest : List Entry) → more ++ (done ++ rest) ≡ (more ++ done) ++ rest
   append_then [] done rest = refl
   append_then (e ∷ more) done rest = ap (λ (l : List Entry). e ∷ l) (append_then more done rest)
@@ -252,10 +256,11 @@ module _ (app : Application) (image : List ℕ) (more rest : List Entry) (next :
       left = ⊎_elim
           (λ broke. inl (broke_more app image more shown.first.done (first_minute next shown.first.rest) y broke))
           (λ begun. inr (begun_more app image more shown.first.done (first_minute next shown.first.rest) y begun.0, begun.1)) shown.first.left;
-      tied = tied_more app image more shown.first.done x y (ap (λ (n : ℕ). n / 1440) shown.first.behind)
-          (parted_made app image more rest y parted shown.first.done shown.first.rest shown.first.split
+      tied = tied_more app image more shown.first.done was ((more ++ shown.first.done) ++ shown.first.rest) x y (ap (λ (n : ℕ). n / 1440) shown.first.behind)
+          (subst (λ (l : List Entry). IsMade app image (more ++ shown.first.done) l y) (ap (λ (l : List Entry). more ++ l) shown.first.split ∙ append_then more shown.first.done shown.first.rest)
+          (parted_made app image more rest (more ++ rest) y parted shown.first.done shown.first.rest shown.first.split
           (up_back (end_mark app y) (all_since image more) shown.first.done (⊎_elim (λ broke. broke.until) (λ begun. begun.0.until) shown.first.left))
-          (first_follow shown.first.done shown.first.rest shown.first.split shown.first.behind)) tied;
+          (first_follow shown.first.done shown.first.rest shown.first.split shown.first.behind))) tied;
     });
   }
 
@@ -266,8 +271,8 @@ module _ (app : Application) (image : List ℕ) (more rest : List Entry) (next :
       from = next;
       later = omega arith;
       goes = goes_more app image more rest next y goes;
-      tied = tied_more app image more rest x y (ap (λ (n : ℕ). n / 1440) at ∙ newest_day (end_mark app x) newest rest same)
-          (parted_made app image more rest y parted rest [] (sym (append-nil rest)) (up_back (end_mark app y) (all_since image more) rest goes.until) tt) tied;
+      tied = tied_more app image more rest was (more ++ rest) x y (ap (λ (n : ℕ). n / 1440) at ∙ newest_day (end_mark app x) newest rest same)
+          (parted_made app image more rest (more ++ rest) y parted rest [] (sym (append-nil rest)) (up_back (end_mark app y) (all_since image more) rest goes.until) tt) tied;
     }
 
     pub all_holds : end_mark app y ≡ newest_behind newest rest → Goes app (and_entries (bound_since image more) rest) (own_covered image) next (with_entries (own_covered image) (counted_since image more) rest) (all_since image more ++ rest) y
@@ -294,7 +299,7 @@ module _ (app : Application) (image : List ℕ) (x y : List ℕ) (same : book_of
     from = s.from;
     later = s.later;
     goes = goes_moved app (bound_since image more) (own_covered image) s.from (counted_since image more) (all_since image more) x y days mark s.goes;
-    tied = tied_still app image more x y (ap (λ (n : ℕ). n / 1440) mark) (made_same app image more x y same s.tied.made) s.tied;
+    tied = tied_still app image more more more x y (ap (λ (n : ℕ). n / 1440) mark) (made_same app image more more x y same s.tied.made) s.tied;
   }
 
   module _ (more rest : List Entry) (from : ℕ) where
@@ -324,7 +329,7 @@ module _ (app : Application) (image : List ℕ) (x y : List ℕ) (same : book_of
           left = ⊎_elim
               (λ old. inl (broke_still h.more h.rest broke.from old))
               (λ begun. inr (begun_still h.more h.rest broke.from begun.0, subst (λ (m : ℕ). IsOnDay m h.rest) (sym mark) begun.1)) broke.left;
-          tied = tied_still app image h.more x y (ap (λ (n : ℕ). n / 1440) mark) (made_same app image h.more x y same broke.tied.made) broke.tied;
+          tied = tied_still app image h.more (h.more ++ h.rest) (h.more ++ h.rest) x y (ap (λ (n : ℕ). n / 1440) mark) (made_same app image h.more (h.more ++ h.rest) x y same broke.tied.made) broke.tied;
         })) h.stands;
   }
 
@@ -375,7 +380,7 @@ brought_holds app image brought es m n next x whole after h = record {
         from = broke.from;
         later = omega (arith, broke.later, first_on n next h.rest es after);
         left = ⊎_elim (λ old. inl old) (λ begun. inr (begun.0, on_first (end_mark app x) h.rest es begun.1)) broke.left;
-        tied = broke.tied;
+        tied = subst (λ (l : List Entry). IsTied app image h.more l x) (append_three h.more h.rest es) (tied_wider app image h.more (h.more ++ h.rest) es x broke.tied);
       })) h.stands;
 }
   where

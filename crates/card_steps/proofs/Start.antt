@@ -36,6 +36,7 @@ use Rattle.card_session.proofs.InsertingValid.{closed_by_words}
 use Rattle.card_session.proofs.Valid.{valid_words}
 use Rattle.card_steps.specs.Since.{HasOn, day_marks, all_since, bound_since, counted_since, IsTied, HoldsSince}
 use Rattle.card_steps.proofs.Deeds.{made_start}
+use Rattle.card_steps.proofs.Since.{tied_wider}
 use Rattle.card_steps.proofs.BehindMark.{quiet_all}
 use Rattle.card_steps.proofs.Clear.{newest_is}
 use Rattle.card_steps.proofs.Lists.{up_both}
@@ -184,7 +185,7 @@ module _ (image : List ℕ) where
         (rests_all (own_sizes image).activity (start_bound 16 (end_mark (own_sizes image) image) D) (bound_since image []) (newest_word D) from (end_mark (own_sizes image) image) (start_of (end_mark (own_sizes image) image) D) D refl bound_up bound_in
         (starts (own_sizes image).activity 16 from (end_mark (own_sizes image) image) D are ends small above behind)))
 
-    pub start_tied : IsTied (own_sizes image) image [] image
+    pub start_tied : IsTied (own_sizes image) image [] [] image
     start_tied = record {
       told = record { newest = λ k newest. by k newest; within = subst (λ (c : Counted). AllIn 0 (all_since image []) c.days) (sym counted_is) there };
       day = inl (ap (λ (n : ℕ). n / 1440) (sym mark_is));
@@ -263,7 +264,7 @@ module _ (image : List ℕ) (brought : List Entry) (next : ℕ) (follow : Follow
             until = up image cut (open_is session) whole ends (suc m) (omega arith) (omega (arith, low)) small same;
             lists = start_lists image cut (open_is session) whole ends (suc m) (omega arith) (omega (arith, low)) small same;
           });
-          tied = start_tied image cut (open_is session) whole ends (suc m) (omega arith) (omega (arith, low)) small same;
+          tied = tied_wider (own_sizes image) image [] [] brought image (start_tied image cut (open_is session) whole ends (suc m) (omega arith) (omega (arith, low)) small same);
         });
       }
 

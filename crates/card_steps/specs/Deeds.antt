@@ -60,13 +60,26 @@ abbrev pub kept_in : List Step → List Entry
 kept_in [] = []
 kept_in (s ∷ ss) = kept_by s ++ kept_in ss
 
--- by keeps of exactly these entries, in their order, with closings and cuts between them
-pub record IsMadeOf (size : ℕ) (start : Book) (more : List Entry) (b : Book) : Type 0 where
+-- EACH KEEP, done or broken off, is that of the next entry: of all these, behind those that were kept
+abbrev pub AreNext : List Step → (all : List Entry) → Type 0
+AreNext [] all = Unit {0}
+AreNext (Done (Keep k) ∷ ss) [] = ⊥
+AreNext (Done (Keep k) ∷ ss) (e ∷ all) = (k.entry ≡ e) × AreNext ss all
+AreNext (Done (Close act) ∷ ss) all = AreNext ss all
+AreNext (Done Cut ∷ ss) all = AreNext ss all
+AreNext (Broken (Keep k) ∷ ss) [] = ⊥
+AreNext (Broken (Keep k) ∷ ss) (e ∷ all) = (k.entry ≡ e) × AreNext ss (e ∷ all)
+AreNext (Broken (Close act) ∷ ss) all = AreNext ss all
+AreNext (Broken Cut ∷ ss) all = AreNext ss all
+
+-- by keeps of exactly these entries, in their order, with closings and cuts between them; and of all these entries no keep was begun but that of the next
+pub record IsMadeOf (size : ℕ) (start : Book) (more all : List Entry) (b : Book) : Type 0 where
   pub steps : List Step
   pub kept : kept_in steps ≡ more
+  pub next : AreNext steps all
   pub made : MadeBy size steps start b
 
 -- THE DAYS of a card, with their words and distances, AND ITS VEHICLE ENTRIES, all of them, are those that the keeps of these entries make of
--- an image at the start.
-pub record IsMade (app : Application) (image : List ℕ) (more : List Entry) (x : List ℕ) : Type 0 where
-  pub deeds : IsMadeOf app.activity (book_of app image) more (book_of app x)
+-- an image at the start, with those that were broken off, each of the next of all that it is to have.
+pub record IsMade (app : Application) (image : List ℕ) (more all : List Entry) (x : List ℕ) : Type 0 where
+  pub deeds : IsMadeOf app.activity (book_of app image) more all (book_of app x)

@@ -43,18 +43,18 @@ abbrev pub counted_since : (image : List ℕ) → (more : List Entry) → Counte
 counted_since image more = counted (own_covered image) (counted_view (own_view image)) more
 
 -- what ties them to the end mark, which lies on the start's day or on one that counts; and days and newest vehicle are made of the start's
--- by the keeps of these entries
-pub record IsTied (app : Application) (image : List ℕ) (more : List Entry) (x : List ℕ) : Type 0 where
+-- by the keeps of these entries, and by those that were broken off, each of the next of all
+pub record IsTied (app : Application) (image : List ℕ) (more all : List Entry) (x : List ℕ) : Type 0 where
   pub told : IsByEntries (bound_since image more) (end_mark app x) (counted_since image more) (all_since image more)
   pub day : (end_mark app x / 1440 ≡ (own_view image).mark / 1440) ⊎ InDays (end_mark app x / 1440) (counted_since image more).days
-  pub made : IsMade app image more x
+  pub made : IsMade app image more all x
 
 -- The days go on with them, where the next entry is not earlier than `next`.
 pub record GoesSince (app : Application) (image : List ℕ) (more : List Entry) (next : ℕ) (x : List ℕ) : Type 0 where
   pub from : ℕ
   pub later : from ≤ next
   pub goes : Goes app (bound_since image more) (own_covered image) from (counted_since image more) (all_since image more) x
-  pub tied : IsTied app image more x
+  pub tied : IsTied app image more more x
 
 -- A session was broken off, and these are the next entries.
 pub record BrokeSince (app : Application) (image : List ℕ) (more rest : List Entry) (next : ℕ) (x : List ℕ) : Type 0 where
@@ -63,7 +63,7 @@ pub record BrokeSince (app : Application) (image : List ℕ) (more rest : List E
   pub later : from ≤ first_minute next rest
   pub left : Broke app (bound_since image more) (own_covered image) from (counted_since image more) (all_since image more) x
       ⊎ (Begun app (bound_since image more) (own_covered image) from (counted_since image more) (all_since image more) x × IsOnDay (end_mark app x) rest)
-  pub tied : IsTied app image more x
+  pub tied : IsTied app image more (more ++ rest) x
 
 -- IN ANY CASE: of the entries that came since the first are on the card, and the others, which it lacks, are later than its end mark. No
 -- further one comes earlier than `next`.

@@ -6,3 +6,4 @@ pub mod Pieces
 pub mod Beginning
 pub mod Known
 mod Worked
+pub mod Standing

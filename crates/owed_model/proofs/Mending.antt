@@ -26,7 +26,7 @@ and_false false b is = refl
 le_false : (a b : ℕ) → b < a → nat_le a b ≡ false
 le_false a b is = grind (arith, nat_tests)
 
-not_counted : (session after kept m : ℕ) → kept < m → counts session after kept m ≡ false
+pub not_counted : (session after kept m : ℕ) → kept < m → counts session after kept m ≡ false
 not_counted session after kept m late = and_false (nat_le (session / 60) m) (nat_lt after m && nat_le m kept) (and_false (nat_lt after m) (nat_le m kept) (le_false m kept late))
 
 later : (a b : ℕ) → nat_lt a b ≡ true → a < b
@@ -90,7 +90,7 @@ module _ (l : List ℕ) (r j : ℕ) (low : r < 8) (few : j < 4) where
   pub minute_is : (cell_in (rows_in l) r j).minute ≡ cell_minute l (r * 4 + j)
   minute_is = numbers.number_in l OWED.place OWED.size (cell_begin r j) CELL_MINUTE.size (omega (arith, low, few)) ∙ ap (λ (q : ℕ). number_at l q CELL_MINUTE.size) place
 
-  word_is : (cell_in (rows_in l) r j).word ≡ cell_word l (r * 4 + j)
+  pub word_is : (cell_in (rows_in l) r j).word ≡ cell_word l (r * 4 + j)
   word_is = numbers.number_in l OWED.place OWED.size (cell_begin r j + CELL_WORD.place) CELL_WORD.size (omega (arith, low, few)) ∙ ap (λ (q : ℕ). number_at l q CELL_WORD.size) place_2
 
 module _ (x c : List ℕ) (rows : HasRowsKept x c) where

@@ -19,6 +19,7 @@ use Rattle.run_entering.specs.Entering.{Ending, Way, Unread, Unsized, Judged, Un
 use Rattle.run_entering.specs.Entered.{FitsInsertion, IsWay, IsFoundIn}
 use Rattle.run_acts.specs.Comings.{VehicleTold, told_in, told_of, TellMore}
 use Rattle.run_acts.proofs.Comings.{leaves-more, insertion-more}
+use Rattle.run_told.proofs.OnCards.{valid-own}
 use Rattle.run_acts.proofs.EnteredStays.{TellsBy}
 use Rattle.recorder_with_cards.specs.EnteredRings.{InsertsAt, WritesBy}
 use Rattle.recorder_with_cards.proofs.EnteredHolder.{previous-long, previous-low}
@@ -61,7 +62,7 @@ pub way-tells : (f : CardFound) (registration : Registration) (e : Entering) (fa
 way-tells f registration e failed unit U W X Y fine small few y at sizes Unread is found writes = tt
 way-tells f registration e failed unit U W X Y fine small few y at sizes (Unsized field) is found writes = leaves-more U W writes
 way-tells f registration e failed unit U W X Y fine small few y at sizes (Judged app (Unfit fid place)) is found writes = leaves-more U W writes
-way-tells f registration e failed unit U W X Y fine small few y at sizes (Judged app (Ahead stored)) is found writes = (leaves-more U W writes, λ valid. (y, at, found.1.1 ∙ ap (λ (a : Application). (card_view a y).stored) (sym found.0 ∙ sizes valid), found.1.2))
+way-tells f registration e failed unit U W X Y fine small few y at sizes (Judged app (Ahead stored)) is found writes = (leaves-more U W writes, (y, at, valid-own app y found.0 found.1.0, (λ valid. found.1.1 ∙ ap (λ (a : Application). (card_view a y).stored) (sym found.0 ∙ sizes valid)), found.1.2))
 way-tells f registration e failed unit U W X Y fine small few y at sizes (Judged app Fell) is found writes = tt
 way-tells f registration e failed unit U W X Y fine small few y at sizes (Judged app Unasked) is found writes = tt
 way-tells f registration e failed unit U W X Y fine small few y at sizes (Judged app (Unnoted entered clock)) is found writes = tt

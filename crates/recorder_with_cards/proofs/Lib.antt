@@ -80,3 +80,6 @@ pub mod OffCards
 pub mod SecondsCards
 pub mod SpanBases
 pub mod SpansWhole
+pub mod AllDue
+pub mod SpansThen
+pub mod ExactStays

@@ -229,6 +229,7 @@ module _ (x a b : List ℕ) (start : ℕ) (items : List Item) (began now : Devic
             tells = λ dense. all.befores.tells (record { points = insertions-inside x may.decodes; dense = dense });
           };
           since = all.since;
+          lone = λ c. ⊎_elim (λ none_. inl none_) (λ valid. inr (subst IsOwnValid (of_image c) valid)) (all.lone c);
           judged = all.judged;
           turned = λ c valid. subst (λ (i : List ℕ). AreTurnedAway run.keeper.memory.registration (own_sizes i).activity (all.stays c) (all.since c) (start_shown i)) (of_image c) (all.turned c (subst IsOwnValid (sym (of_image c)) valid));
           timely = λ c valid. subst (λ (i : List ℕ). AreTimely run.keeper.memory.registration (own_sizes i).activity (all.stays c) (start_shown i)) (of_image c) (own none c valid).timely;
@@ -461,6 +462,7 @@ module _ (x a b : List ℕ) (start : ℕ) (began now : Devices) (opened : Opened
         hold = λ c. (tt, tt);
         placed = λ c valid. placed-bare (notes_in (log_of out) []) run.keeper.cabin c (bare c);
         since = λ c. [];
+        lone = λ c. inl refl;
         judged = subst (λ (fs : List Find). AreMerged (filter (λ (g : Find). is_accepting g.verdict || is_late g.verdict) fs) [] []) (sym finds) (refl, refl);
         turned = λ c valid. tt;
         waits = λ c valid some. refl;

@@ -31,6 +31,7 @@ shows-weaker ring sure Is Now turn notes start x h = record {
   gone = h.gone;
   shown = h.shown;
   full = h.full;
+  few = h.few;
 }
 
 -- an insertion that tells of the start at a card's first coming tells what some image did

@@ -7,7 +7,9 @@ use Rattle.trace_model.specs.declared.Card.{Card}
 use Rattle.trace_model.specs.Trace.{TraceSecond}
 use Rattle.card_layout.specs.Application.{IsApplication}
 use Rattle.card_image.specs.Own.{own_view, own_sizes, IsOwnValid, KeepsOf}
+use Rattle.card_steps.specs.Deeds.{IsMade}
 use Rattle.card_steps.specs.Since.{all_since, HoldsSince}
+use Rattle.card_steps.proofs.Deeds.{made_more}
 use Rattle.card_steps.proofs.Kept.{holds_counted, holds_kept}
 use Rattle.history_model.specs.Minutes.{HistoryMinute, card_history}
 use Rattle.history_model.specs.Presence.{CardStart}
@@ -49,7 +51,10 @@ module _ (r : Recording) (c : Card) (x : List ℕ) where
       kept = subst (λ (es : List Entry). KeepsOf (card_image r c) (all_since (card_image r c) es) (own_view x).held) (holds_counted (own_sizes (card_image r c)) sound (card_image r c) x refl same lies n h)
           (holds_kept (own_sizes (card_image r c)) sound (card_image r c) x refl same lies n h);
     };
-    made = ⊎_elim (λ goes. goes.tied.made) (λ broke. broke.tied.made) h.stands;
+    made = ⊎_elim
+        (λ goes. made_more (own_sizes (card_image r c)) (card_image r c) h.more h.more (h.rest ++ tail) x goes.tied.made)
+        (λ broke. subst (λ (l : List Entry). IsMade (own_sizes (card_image r c)) (card_image r c) h.more l x) (append_assoc h.more h.rest tail) (made_more (own_sizes (card_image r c)) (card_image r c) h.more (h.more ++ h.rest) tail x broke.tied.made))
+        h.stands;
   }
 
   written-held : (image : List ℕ) (start : CardStart) → image ≡ card_image r c → start ≡ brought r c → IsApplication (own_sizes image) → (b : Book) (rest : List HistoryMinute) → history_of r ≡ all b ++ rest → (n : ℕ)

@@ -69,6 +69,7 @@ pub record LeaveStays (r : Recording) (marks : List Mark) (now : Devices) : Type
   pub owes : (c : Card) → AreOwed (IsOwed r.rule (start_of r) r.log r.trace c (brought r c).owed) vehicle (own_sizes (card_image r c)).activity (stays c) (start_shown (card_image r c))
   pub acknowledged : (c : Card) → AllByRecursion (IsAcknowledgedSo marks c) (stays c)
   pub since : Card → List Find
+  pub lone : (c : Card) → (since c ≡ []) ⊎ IsOwnValid (card_image r c)
   pub judged : AreMerged (judged_told r.log) (judged_in (stays A) (since A)) (judged_in (stays B) (since B))
   pub turned : (c : Card) → IsOwnValid (card_image r c) → AreTurnedAway vehicle (own_sizes (card_image r c)).activity (stays c) (since c) (start_shown (card_image r c))
   pub timely : (c : Card) → IsOwnValid (card_image r c) → AreTimely vehicle (own_sizes (card_image r c)).activity (stays c) (start_shown (card_image r c))

@@ -204,6 +204,7 @@ other-judged lines later was now one (inr t) h = merged-as-other (lines ++ t.0 �
 pub record Turns (truths : Truths) (card : Card) (second : ℕ) (f : CardFound) (log later : RunLog) (r : Registration) (noted noted_now : List Spell) (sits sits_now : Bool) (s t : Option Accepted) (U V X Y : State) (ss : List Stay) (since : List Find) : Type 0 where
   pub now : List Stay
   pub left : List Find
+  pub lone : (since ≡ []) ⊎ IsOwnValid f.image → (left ≡ []) ⊎ IsOwnValid f.image
   pub judged : JudgesOne (judged_told log) (judged_told later) (judged_in ss since) (judged_in now left)
   pub turned : IsOwnValid f.image → HasStays second f r noted sits ss s X → (is_some s ≡ true → since ≡ []) → AreTurnedAway r (own_sizes f.image).activity ss since (start_shown f.image) → AreTurnedAway r (own_sizes f.image).activity now left (start_shown f.image)
   pub waits : IsOwnValid f.image → (is_some s ≡ true → since ≡ []) → is_some t ≡ true → left ≡ []
@@ -223,6 +224,7 @@ pub turns-so : (truths : Truths) (card : Card) (second : ℕ) (f : CardFound) (l
 turns-so truths card second f log r noted sits s t U V X Y turn same tells none comes go judged turned had ss since shows hold = record {
   now = turn ss;
   left = since;
+  lone = λ was. was;
   judged = inl (refl, judged ss since);
   turned = λ valid h waits was. turned ss since waits was;
   waits = λ valid waits some. waits (had valid some);
@@ -386,6 +388,7 @@ module _ (o : Origin) (t : Truths) (u : ℕ) where
         hold = h.hold;
         placed = h.placed;
         since = h.since;
+        lone = h.lone;
         judged = h.judged;
         turned = h.turned;
         waits = h.waits;
@@ -420,6 +423,7 @@ module _ (o : Origin) (t : Truths) (u : ℕ) where
         hold = h.hold;
         placed = λ c valid. places none c (h.placed c valid);
         since = h.since;
+        lone = h.lone;
         judged = merged-as (judged_told log) (judged_told later) (judged_in (h.stays A) (h.since A)) (judged_in (h.stays A) (h.since A)) (judged_in (h.stays B) (h.since B)) g.judged refl h.judged;
         turned = h.turned;
         waits = λ c valid some. h.waits c valid (had (session_of cabin.cards c) (session_of after.cards c) (moves none c).session some);
@@ -471,6 +475,7 @@ module _ (o : Origin) (t : Truths) (u : ℕ) where
             hold = λ c. hold h x c;
             placed = λ c valid. placed h c valid;
             since = with_since A x.left h.since;
+            lone = λ c. lone h x c;
             judged = one-judged (judged_told log) (judged_told later) (judged_in (h.stays A) (h.since A)) (judged_in x.now x.left) (judged_in (h.stays B) (h.since B)) x.judged h.judged;
             turned = λ c valid. turned h x c valid;
             waits = λ c valid some. waits h x c valid some;
@@ -502,6 +507,10 @@ module _ (o : Origin) (t : Truths) (u : ℕ) where
           waits h x A valid some = x.waits valid (h.waits A valid) some
           waits h x B valid some = h.waits B valid (sym (ap (λ (q : Option Accepted). is_some q) same) ∙ some)
 
+          lone : (h : Are log notes r cabin (arranged A U X Z)) (x : TurnsOf A log later notes now r cabin after U V X Y (h.stays A) (h.since A)) (c : Card) → (with_since A x.left h.since c ≡ []) ⊎ IsOwnValid (f c).image
+          lone h x A = x.lone (h.lone A)
+          lone h x B = h.lone B
+
           placed : (h : Are log notes r cabin (arranged A U X Z)) (c : Card) → IsOwnValid (f c).image → IsPlaced now after c
           placed h A valid = place none (h.placed A valid)
           placed h B valid = placed-same notes now cabin after B (ap last_slot (spell none)) beside (λ some. ap (λ (q : Option Accepted). is_some q) (sym same) ∙ some) (h.placed B valid)
@@ -520,6 +529,7 @@ module _ (o : Origin) (t : Truths) (u : ℕ) where
             hold = λ c. hold h x c;
             placed = λ c valid. placed h c valid;
             since = with_since B x.left h.since;
+            lone = λ c. lone h x c;
             judged = other-judged (judged_told log) (judged_told later) (judged_in (h.stays B) (h.since B)) (judged_in x.now x.left) (judged_in (h.stays A) (h.since A)) x.judged h.judged;
             turned = λ c valid. turned h x c valid;
             waits = λ c valid some. waits h x c valid some;
@@ -550,6 +560,10 @@ module _ (o : Origin) (t : Truths) (u : ℕ) where
           waits : (h : Are log notes r cabin (arranged B U X Z)) (x : TurnsOf B log later notes now r cabin after U V X Y (h.stays B) (h.since B)) (c : Card) → IsOwnValid (f c).image → is_some (session_of after.cards c) ≡ true → with_since B x.left h.since c ≡ []
           waits h x A valid some = h.waits A valid (sym (ap (λ (q : Option Accepted). is_some q) same) ∙ some)
           waits h x B valid some = x.waits valid (h.waits B valid) some
+
+          lone : (h : Are log notes r cabin (arranged B U X Z)) (x : TurnsOf B log later notes now r cabin after U V X Y (h.stays B) (h.since B)) (c : Card) → (with_since B x.left h.since c ≡ []) ⊎ IsOwnValid (f c).image
+          lone h x A = h.lone A
+          lone h x B = x.lone (h.lone B)
 
           placed : (h : Are log notes r cabin (arranged B U X Z)) (c : Card) → IsOwnValid (f c).image → IsPlaced now after c
           placed h A valid = placed-same notes now cabin after A (ap last_slot (spell none)) beside (λ some. ap (λ (q : Option Accepted). is_some q) (sym same) ∙ some) (h.placed A valid)
@@ -588,6 +602,7 @@ module _ (o : Origin) (t : Truths) (u : ℕ) where
             (spell none c) (ap (λ (k : SlotsKept). sits_in k.seats c) (seats none)) refl
             (one-kept r c (spells_of c notes) (sits_in cabin.slots.seats c) (h.stays c) (ks c) (session_of cabin.cards c) (session_of after.cards c) (card_of d c) (card_of e c) (some none c) (keep c valid) (h.each c valid));
         since = h.since;
+        lone = h.lone;
         judged = merged-as (judged_told log) (judged_told later) (judged_in (h.stays A) (h.since A)) (judged_in (kept_stays (session_of cabin.cards A) (ks A) (h.stays A)) (h.since A)) (judged_in (kept_stays (session_of cabin.cards B) (ks B) (h.stays B)) (h.since B)) g.judged
             (kept-judged (session_of cabin.cards A) (ks A) (h.stays A) (h.since A))
             (merged-as-other (judged_told log) (judged_told log) (judged_in (h.stays A) (h.since A)) (judged_in (h.stays B) (h.since B)) (judged_in (kept_stays (session_of cabin.cards B) (ks B) (h.stays B)) (h.since B)) refl

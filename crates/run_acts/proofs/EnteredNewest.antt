@@ -15,7 +15,7 @@ use Rattle.minute_rules.specs.Kept.{Kept}
 use Rattle.minute_model.specs.Activity.{last}
 use Rattle.card_image.specs.Fields.{session_time, last_use, end_mark}
 use Rattle.card_image.specs.View.{CardView}
-use Rattle.card_image.specs.Own.{own_sizes, own_view}
+use Rattle.card_image.specs.Own.{own_sizes, own_view, IsOwnValid}
 use Rattle.card_session.proofs.NewestStays.{view_word}
 use Rattle.card_session.proofs.Renewing.{stored_least, stored_shut}
 use Rattle.device_steps.proofs.OnCard.{own-is, session-is, mark-is}
@@ -245,6 +245,10 @@ module _ (o : Origin) (done : List TraceSecond) (s : TraceSecond) (n : ℕ) (wai
       (λ began there_ left whole_. whole_ x left ∙ m.origin.image e.which) (card-began o done s n waits fewer e k out unfound next_ begun minutes U X Z w m) there (coherent.counts_now (found_of o.found e.which).began x (card-began o done s n waits fewer e k out unfound next_ begun minutes U X Z w m) there) (mine e.which U X Z (λ (a : State). IsUntouched (found_of o.found e.which) a) whole)))
       (λ may. inr may)
       (w.spared e.which)
+
+  -- a card that is valid was so at the start
+  pub was-valid : (y : List ℕ) → X.may_leave y → IsOwnValid y → IsOwnValid (card_image o.recording e.which)
+  was-valid y there valid = ⊎_elim (λ whole. subst IsOwnValid (whole y there) valid) (λ may. may.valid) written-or
 
   module _ (entered : Entered) (told : IsToldSo o.found (with_standing e.which Out (before o done s n waits fewer e k out unfound next_ begun minutes U X Z w m)) e entered U X) where
     -- its stored time at the start is not later than this second

@@ -126,7 +126,7 @@ finds-noted o done s n waits fewer v d w e at next none order verdict =
 -- tells of a later time, that is what an image of it stored
 abbrev pub TellsBy : (second : ℕ) → Ending → CardFound → (unit unit_after card : State) → Type 0
 TellsBy u (Unfit fid place) f U W X = TellMore [] U W
-TellsBy u (Ahead stored) f U W X = TellMore [] U W × (IsOwnValid f.image → (y : List ℕ) × X.may_leave y × (stored ≡ (card_view (own_sizes f.image) y).stored) × (u < stored))
+TellsBy u (Ahead stored) f U W X = TellMore [] U W × ((y : List ℕ) × X.may_leave y × IsOwnValid y × (IsOwnValid f.image → stored ≡ (card_view (own_sizes f.image) y).stored) × (u < stored))
 TellsBy u Fell f U W X = Unit {0}
 TellsBy u Unasked f U W X = Unit {0}
 TellsBy u (Unnoted entered clock) f U W X = Unit {0}
@@ -137,6 +137,7 @@ TellsBy u (Lost entered clock entry) f U W X = Unit {0}
 
 module _ (o : Origin) (e : Entering) (failed : Bool) (well : failed ≡ false) (k v : Keeper) (noted noted_after : ℕ) (out after : Outcome) (U W X Y Z : State) (notes : RunLog → List Note) (judges : (verdict : Verdict) → NotesFind e (log_of out) notes verdict)
     (seat : seat_in k.cabin.slots.seats e.slot ≡ Some (record { card = e.which; newest = None })) (elsewhere : is_card (seat_in k.cabin.slots.seats (other_slot e.slot)) e.which ≡ false) (t : Truths) (u : ℕ) (room : length out.marks.items + most_owed ≤ out.marks.room)
+    (sound : (y : List ℕ) → X.may_leave y → IsOwnValid y → IsOwnValid (found_of o.found e.which).image)
     (tells_odometer : NothingFailed (log_of out) → (verdict : Verdict) → t.accepted (find_of e verdict) e.odometer.0) where
   abbrev f : CardFound
   f = found_of o.found e.which
@@ -180,10 +181,11 @@ module _ (o : Origin) (e : Entering) (failed : Bool) (well : failed ≡ false) (
   -- a card that is turned away
   turned-away : (ending : Ending) (cabin : Cabin) → acceptances_told (log_by ending) ≡ acceptances_told (log_of out) → spells_of e.which (notes (log_by ending)) ≡ spells_of e.which (notes (log_of out)) → (IsOwnValid f.image → DoesOn (own_sizes f.image) [] X Y) → TellMore [] U W → (ss : List Stay) (since left : List Find) →
       JudgesOne (judged_told (log_of out)) (judged_told (log_by ending)) (judged_in ss since) (judged_in ss left) →
-      (IsOwnValid f.image → HasStays u f vehicle (spells_of e.which (notes (log_of out))) (sits_in k.cabin.slots.seats e.which) ss None X → AreTurnedAway vehicle (own_sizes f.image).activity ss since (start_shown f.image) → AreTurnedAway vehicle (own_sizes f.image).activity ss left (start_shown f.image)) → TurnsBy ending cabin None ss since
-  turned-away ending cabin same spell does go ss since left judged turned = record {
+      (IsOwnValid f.image → HasStays u f vehicle (spells_of e.which (notes (log_of out))) (sits_in k.cabin.slots.seats e.which) ss None X → AreTurnedAway vehicle (own_sizes f.image).activity ss since (start_shown f.image) → AreTurnedAway vehicle (own_sizes f.image).activity ss left (start_shown f.image)) → ((since ≡ []) ⊎ IsOwnValid f.image → (left ≡ []) ⊎ IsOwnValid f.image) → TurnsBy ending cabin None ss since
+  turned-away ending cabin same spell does go ss since left judged turned lone = record {
     now = ss;
     left = left;
+    lone = lone;
     judged = judged;
     turned = λ valid h waits was. turned valid h was;
     waits = λ valid waits some. absurd (let wrong : false ≡ true = some in cc);
@@ -202,23 +204,24 @@ module _ (o : Origin) (e : Entering) (failed : Bool) (well : failed ≡ false) (
       → (ss : List Stay) (since : List Find) → TurnsBy ending (cabin_by ending e noted cabin) (session_by ending noted) ss since
   own-judged (Unfit fid place) behind app w owes cabin is told opens tells none ss since =
       turned-away (Unfit fid place) cabin (none-more (find_of e (NotValid fid place)) refl) (ap (λ (l : RunLog). spells_of e.which (notes l)) (one-find (NotValid fid place)) ∙ (judges (NotValid fid place)).rejects refl) opens tells ss since since
-      (inl (filter-append judging (log_of out).finds (find_of e (NotValid fid place) ∷ []) ∙ append-nil (judged_told (log_of out)), refl)) (λ valid h was. was)
+      (inl (filter-append judging (log_of out).finds (find_of e (NotValid fid place) ∷ []) ∙ append-nil (judged_told (log_of out)), refl)) (λ valid h was. was) (λ was. was)
   own-judged (Ahead stored) behind app w owes cabin is told opens tells none ss since =
       turned-away (Ahead stored) cabin (none-more (find_of e (TimeOverlap stored e.at.second)) refl) (ap (λ (l : RunLog). spells_of e.which (notes l)) (one-find (TimeOverlap stored e.at.second)) ∙ (judges (TimeOverlap stored e.at.second)).rejects refl) opens tells.0 ss since (since ++ find_of e (TimeOverlap stored e.at.second) ∷ [])
       (inr (find_of e (TimeOverlap stored e.at.second), filter-append judging (log_of out).finds (find_of e (TimeOverlap stored e.at.second) ∷ []), judged-late ss since (find_of e (TimeOverlap stored e.at.second))))
       (λ valid h was.
-      let y = tells.1 valid in
+      let y = tells.1 in
       let shown = h.shows y.0 y.1 in
       let same : stored ≡ stored_by (after_stays vehicle (own_sizes f.image).activity ss (start_shown f.image)) =
-      y.2 ∙ stored-shown (own_sizes f.image) y.0 (after_stays vehicle (own_sizes f.image).activity ss (start_shown f.image)) shown.0 shown.1 in
+      y.3 valid ∙ stored-shown (own_sizes f.image) y.0 (after_stays vehicle (own_sizes f.image).activity ss (start_shown f.image)) shown.0 shown.1 in
       turned-late vehicle (own_sizes f.image).activity ss since (find_of e (TimeOverlap stored e.at.second)) (start_shown f.image) was
-      (ap (λ (n : ℕ). TimeOverlap n e.at.second) same, subst (λ (n : ℕ). e.at.second < n) same y.3))
+      (ap (λ (n : ℕ). TimeOverlap n e.at.second) same, subst (λ (n : ℕ). e.at.second < n) same y.4)) (λ was. inr (sound tells.1.0 tells.1.1 tells.1.2))
   own-judged Fell behind app w owes cabin is told opens tells none ss since = no-tear (log_of out) e.slot e.at none
   own-judged Unasked behind app w owes cabin is told opens tells none ss since = fails is
   own-judged (Unnoted entered clock) behind app w owes cabin is told opens tells none ss since = fails is.0
   own-judged (Seated entered clock entry) behind app w owes cabin is told opens tells none ss since = record {
     now = ss ++ new_stay entered since ∷ [];
     left = [];
+    lone = λ was. inl refl;
     judged = inr (find_of e (AcceptedWith entered.replayed), filter-append judging (log_of out).finds (find_of e (AcceptedWith entered.replayed) ∷ []), judged-more ss (new_stay entered since));
     turned = λ valid h waits was. turned-more vehicle (own_sizes f.image).activity ss (new_stay entered since) (start_shown f.image) was;
     waits = λ valid waits some. refl;

@@ -103,3 +103,4 @@ pub mod StayUses
 pub mod PulledBy
 pub mod OwedOn
 pub mod OwedNow
+pub mod HeldSoFar

@@ -266,8 +266,9 @@ pub record AreStays (o : Origin) (t : Truths) (second : ℕ) (notes : List Note)
       HasStays second (found_of o.found c) vehicle (spells_of c notes) (sits_in cabin.slots.seats c) (stays c) (session_of cabin.cards c) (card_of d c)
   pub hold : (c : Card) → AreTrue t c vehicle (found_of o.found c).image (stays c)
   pub placed : (c : Card) → IsOwnValid (found_of o.found c).image → IsPlaced notes cabin c
-  -- by which lines each was turned away since its last stay; none, while it has a session
+  -- by which lines each was turned away since its last stay; none, while it has a session; only a card that was valid was
   pub since : Card → List Find
+  pub lone : (c : Card) → (since c ≡ []) ⊎ IsOwnValid (found_of o.found c).image
   pub judged : AreMerged lines (judged_in (stays A) (since A)) (judged_in (stays B) (since B))
   pub turned : (c : Card) → IsOwnValid (found_of o.found c).image → AreTurnedAway vehicle (own_sizes (found_of o.found c).image).activity (stays c) (since c) (start_shown (found_of o.found c).image)
   pub waits : (c : Card) → IsOwnValid (found_of o.found c).image → is_some (session_of cabin.cards c) ≡ true → since c ≡ []

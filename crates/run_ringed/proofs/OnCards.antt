@@ -14,16 +14,17 @@ use Rattle.log_model.specs.Slots.{same_card}
 use Rattle.side_model.specs.Done.{has_failed_in}
 use Rattle.side_model.specs.Odometer.{SpanFrom, odometer_at}
 use Rattle.side_model.specs.Noted.{PlaceNote, Note, Enters, place_in, places_of}
-use Rattle.side_model.specs.Rings.{Stand}
+use Rattle.side_model.specs.Rings.{Stand, AreNoFewer}
 use Rattle.safety_model.specs.Recording.{card_image}
 use Rattle.safety_model.specs.Safe.{Devices, card_of}
 use Rattle.run_rings.specs.Carried.{Carries}
 use Rattle.run_rings.proofs.Carried.{carries-none, carries-same, carries-more, carries-maybe}
 use Rattle.run_rings.proofs.Standing.{stand-one, stand-unsure}
+use Rattle.run_rings.proofs.Few.{as-many, added-long, adding-long, few-start, few-go, few-as, few-more, few-unsure}
 use Rattle.run_recorded.specs.Origin.{Origin}
 use Rattle.run_ringed.specs.OnCards.{ShowsNotes, has_call_failed_in, places_in, place_width, places_on, IsPlaceOn, is_sure_on, HasPlaces, PlacesOnCards, HasSamePlaces, LeavesPlaces, PlacesStay, TakesPlace, PlaceIsTaken}
 use Rattle.run_ringed.specs.SoFar.{HasMoreBreaks}
-use Rattle.run_ringed.proofs.Stands.{Weaker, stand-as, all-of, with-whole, places-more}
+use Rattle.run_ringed.proofs.Stands.{Weaker, stand-as, unsure-as, all-of, with-whole, places-more}
 
 entry-fits : (r : Shape) (x : List ℕ) (i : ℕ) → length (entry_at r x i) ≤ r.width
 entry-fits r x i = let long : length (entry_at r x i) ≡ min r.width (length (drop (place_of r i) x)) = length-take r.width (drop (place_of r i) x) in omega (arith, long)
@@ -40,15 +41,20 @@ maybe r start x y head sure Is notes n was full is unsure (inl same) = record {
   more = was.more;
   carries = subst (λ (z : List ℕ). Carries r start z was.more) (sym same) was.carries;
   stand = stand-unsure sure Is notes was.more n was.stand unsure;
+  few = few-unsure r sure notes n start x y unsure (adding-long r head x y was.carries.points was.carries.dense (inl same)) was.few;
 }
 maybe r start x y head sure Is notes n was full is unsure (inr moment) = ⊎_elim
-    (λ carries. record { more = was.more; carries = carries; stand = stand-unsure sure Is notes was.more n was.stand unsure })
+    (λ carries. record { more = was.more; carries = carries; stand = stand-unsure sure Is notes was.more n was.stand unsure; few = few })
     (λ carries. record {
       more = was.more ++ head ∷ [];
       carries = subst (λ (l : List ℕ). Carries r start y (was.more ++ l ∷ [])) (whole-head r x (taken r x) head full) carries;
       stand = stand-one sure Is notes was.more n head was.stand is;
+      few = few;
     })
     (carries-maybe r start x was.more was.carries head y moment)
+  where
+    few : AreNoFewer r sure (notes ++ n ∷ []) start y
+    few = few-unsure r sure notes n start x y unsure (adding-long r head x y was.carries.points was.carries.dense (inr moment)) was.few
 
 all-filter : {X : Type 0} (P : X → Type 0) (f : X → Bool) (xs : List X) → AllByRecursion P xs → AllByRecursion P (filter f xs)
 all-filter P f [] all = tt
@@ -117,6 +123,7 @@ places-none o log spans d start c has x left = record {
   more = [];
   carries = subst (λ (y : List ℕ). Carries (places_in (card_image o.recording c)) (card_image o.recording c) y []) (sym (start c x left)) (carries-none (places_in (card_image o.recording c)) (card_image o.recording c) has.ring.points has.ring.dense);
   stand = refl;
+  few = few-start (places_in (card_image o.recording c)) (is_sure_on log) (card_image o.recording c) x (start c x left);
 }
 
 -- NONE IS CALLED
@@ -128,12 +135,16 @@ pub places-go : (o : Origin) (log later : RunLog) (spans now : List SpanFrom) (n
     AllByRecursion (λ (p : PlaceNote). odometer_at p.second now ≡ odometer_at p.second spans) (places_of notes) → PlacesStay o d e → PlacesOnCards o log spans notes d → PlacesOnCards o later now notes e
 places-go o log later spans now notes d e fell same stays v c has y left =
     let w = stays c has.valid y left in
-    let was = v c has w.0 w.1 in record {
+    let was = v c has w.0 w.1 in
+    let weaker : AllByRecursion (Weaker (is_sure_on log) (is_sure_on later) (IsPlaceOn spans) (IsPlaceOn now)) (places_on c (places_of notes)) =
+    all-of (λ (p : PlaceNote). odometer_at p.second now ≡ odometer_at p.second spans) (Weaker (is_sure_on log) (is_sure_on later) (IsPlaceOn spans) (IsPlaceOn now)) (place-on-as log later spans now fell) (places_on c (places_of notes))
+    (all-filter (λ (p : PlaceNote). odometer_at p.second now ≡ odometer_at p.second spans) (λ (p : PlaceNote). same_card p.card c) (places_of notes) same) in record {
       more = was.more;
       carries = carries-same (places_in (card_image o.recording c)) (card_image o.recording c) w.0 was.more was.carries has.shape y w.2;
-      stand = stand-as (is_sure_on log) (is_sure_on later) (IsPlaceOn spans) (IsPlaceOn now) (places_on c (places_of notes)) was.more
-          (all-of (λ (p : PlaceNote). odometer_at p.second now ≡ odometer_at p.second spans) (Weaker (is_sure_on log) (is_sure_on later) (IsPlaceOn spans) (IsPlaceOn now)) (place-on-as log later spans now fell) (places_on c (places_of notes))
-          (all-filter (λ (p : PlaceNote). odometer_at p.second now ≡ odometer_at p.second spans) (λ (p : PlaceNote). same_card p.card c) (places_of notes) same)) was.stand;
+      stand = stand-as (is_sure_on log) (is_sure_on later) (IsPlaceOn spans) (IsPlaceOn now) (places_on c (places_of notes)) was.more weaker was.stand;
+      few = few-go (places_in (card_image o.recording c)) (is_sure_on log) (is_sure_on later) (places_on c (places_of notes)) (places_on c (places_of notes)) (card_image o.recording c) w.0 y
+          (unsure-as (is_sure_on log) (is_sure_on later) (IsPlaceOn spans) (IsPlaceOn now) (places_on c (places_of notes)) weaker)
+          (as-many (places_in (card_image o.recording c)) has.shape w.0 y w.2 was.carries.points) was.few;
     }
 
 -- a note that is no place
@@ -146,6 +157,7 @@ places-beside o log spans notes n d e none stays v c has y left =
       more = was.more;
       carries = carries-same (places_in (card_image o.recording c)) (card_image o.recording c) w.0 was.more was.carries has.shape y w.2;
       stand = was.stand;
+      few = few-as (places_in (card_image o.recording c)) (is_sure_on log) (places_on c (places_of notes)) (card_image o.recording c) w.0 y (as-many (places_in (card_image o.recording c)) has.shape w.0 y w.2 was.carries.points) was.few;
     })
 
 -- A PLACE IS NOTED, or may be
@@ -167,13 +179,19 @@ module _ (o : Origin) (log : RunLog) (spans : List SpanFrom) (notes : List Note)
       let w = leaves y left in
       let was = v c has w.0 w.1 in
       let none : front c ++ places_on c (p ∷ []) ≡ front c = ap (λ (b : Bool). front c ++ cond b (p ∷ []) []) apart_ ∙ append-nil (front c) in
-      subst (λ (l : List PlaceNote). Shows c l y) (sym none) (record { more = was.more; carries = carries-same (places_in (image c)) (image c) w.0 was.more was.carries has.shape y w.2; stand = was.stand })
+      subst (λ (l : List PlaceNote). Shows c l y) (sym none) (record {
+        more = was.more;
+        carries = carries-same (places_in (image c)) (image c) w.0 was.more was.carries has.shape y w.2;
+        stand = was.stand;
+        few = few-as (places_in (image c)) (is_sure_on log) (front c) (image c) w.0 y (as-many (places_in (image c)) has.shape w.0 y w.2 was.carries.points) was.few;
+      })
 
   by-image : (c : Card) (x y : List ℕ) → Shows c (front c) x → TakesPlace log p own (image c) x y → Shows c (front c ++ p ∷ []) y
   by-image c x y was (inl added) = record {
     more = was.more ++ own ∷ [];
     carries = subst (λ (l : List ℕ). Carries (places_in (image c)) (image c) y (was.more ++ l ∷ [])) (whole-head (places_in (image c)) x (taken (places_in (image c)) x) own full) (carries-more (places_in (image c)) (image c) x was.more was.carries own y added);
     stand = stand-one (is_sure_on log) (IsPlaceOn spans) (front c) was.more p own was.stand is;
+    few = few-more (places_in (image c)) (is_sure_on log) (front c) p (image c) x y (added-long (places_in (image c)) own x y was.carries.points was.carries.dense added) was.few;
   }
   by-image c x y was (inr (unsure, moment)) = maybe (places_in (image c)) (image c) x y own (is_sure_on log) (IsPlaceOn spans) (front c) p was full is (ap not unsure) moment
 

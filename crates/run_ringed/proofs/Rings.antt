@@ -13,7 +13,7 @@ use Rattle.log_model.specs.Slots.{same_card}
 use Rattle.side_model.specs.Done.{has_failed_in}
 use Rattle.side_model.specs.Odometer.{SpanFrom, odometer_at}
 use Rattle.side_model.specs.Noted.{Acceptance, InsertionNote, PlaceNote, Note, Accepts, Enters, insertions_of, places_of}
-use Rattle.side_model.specs.Rings.{Stand}
+use Rattle.side_model.specs.Rings.{Stand, AreNoFewer}
 use Rattle.safety_model.specs.Safe.{Devices}
 use Rattle.run_evented.specs.Opened.{HasComeBefore}
 use Rattle.trace_model.specs.Trace.{TraceSecond}
@@ -22,12 +22,13 @@ use Rattle.run_rings.specs.Carried.{Carries}
 use Rattle.run_rings.proofs.Carried.{carries-none, carries-same, carries-more, carries-maybe}
 use Rattle.run_rings.proofs.Indices.{index-stays}
 use Rattle.run_rings.proofs.Standing.{stand-one, stand-unsure}
+use Rattle.run_rings.proofs.Few.{as-many, added-long, few-start, few-go, few-as, few-more}
 use Rattle.run_recorded.specs.Origin.{Origin}
 use Rattle.run_recorded.specs.Beside.{HaveLeftMore}
 use Rattle.run_ringed.specs.Ringed.{holder_in, TellsIn, IsInsertionIn, IsPlaceIn, sure_insertion, sure_place, ShowsNotes, Seating, one_behind, IsSeated, ShowsInsertions, Ringed, GoOn, NoRingIsWritten, RingsStay, FewerSit, IsAddedAt, MayBeAdded, Since}
 use Rattle.run_ringed.specs.OnCards.{place_width, IsPlaceOn, PlacesStay, PlaceIsTaken}
 use Rattle.run_ringed.proofs.OnCards.{whole-head, maybe, places-none, places-go, places-beside, places-taken}
-use Rattle.run_ringed.proofs.Stands.{Weaker, stand-as, each-as, each-append, all-parts, all-of, all-each, with-whole, insertions-more, places-more, insertion-as, place-as}
+use Rattle.run_ringed.proofs.Stands.{Weaker, stand-as, unsure-as, each-as, each-append, all-parts, all-of, all-each, with-whole, insertions-more, places-more, insertion-as, place-as}
 
 pub insertion_shape : IsShape insertion_ring
 insertion_shape = record { some = omega arith; gate = omega arith; pointer = omega arith; holds = λ _. omega arith; short = omega arith }
@@ -43,10 +44,10 @@ Writes R d e = (y : List ℕ) → e.unit.may_leave y → (x : List ℕ) × d.uni
 pub none-noted : (d : Devices) → NoRingIsWritten d
 none-noted d o log spans start cards = record {
   insertions = λ ring x left. record {
-    shows = record { more = []; carries = subst (λ (y : List ℕ). Carries insertion_ring o.origin.recording.unit y []) (sym (start x left)) (carries-none insertion_ring o.origin.recording.unit ring.points ring.dense); stand = refl };
+    shows = record { more = []; carries = subst (λ (y : List ℕ). Carries insertion_ring o.origin.recording.unit y []) (sym (start x left)) (carries-none insertion_ring o.origin.recording.unit ring.points ring.dense); stand = refl; few = few-start insertion_ring (sure_insertion o.origin log spans) o.origin.recording.unit x (start x left) };
     seated = λ c. tt;
   };
-  places = λ ring x left. record { more = []; carries = subst (λ (y : List ℕ). Carries unit_place_ring o.origin.recording.unit y []) (sym (start x left)) (carries-none unit_place_ring o.origin.recording.unit ring.points ring.dense); stand = refl };
+  places = λ ring x left. record { more = []; carries = subst (λ (y : List ℕ). Carries unit_place_ring o.origin.recording.unit y []) (sym (start x left)) (carries-none unit_place_ring o.origin.recording.unit ring.points ring.dense); stand = refl; few = few-start unit_place_ring (sure_place o.origin log spans) o.origin.recording.unit x (start x left) };
   on_cards = places-none o.origin log spans d cards;
 }
 
@@ -157,6 +158,7 @@ come-before d o told later trace now come log spans notes seats v = record {
           more = was.shows.more;
           carries = was.shows.carries;
           stand = stand-as (sure_insertion o log spans) (sure_insertion o log spans) (IsInsertionIn (record { origin = o; told = told; trace = trace }) log spans d) (IsInsertionIn (record { origin = o; told = later; trace = now }) log spans d) (insertions_of notes) was.shows.more all was.shows.stand;
+          few = was.shows.few;
         };
         seated = λ c. seated-since o told later trace now come log log spans spans notes d d (record { unit = λ y h. h; card = λ c y h. h }) (go-on log spans notes) c (seats c) was.shows.more x x refl (was.seated c);
       };
@@ -175,6 +177,9 @@ rings-stay d e o log later spans now notes seats v stays more cards on = record 
           more = was.shows.more;
           carries = carries-same insertion_ring o.origin.recording.unit w.0 was.shows.more was.shows.carries insertion_shape y w.2.insertions;
           stand = stand-as (sure_insertion o.origin log spans) (sure_insertion o.origin later now) (IsInsertionIn o log spans d) (IsInsertionIn o later now e) (insertions_of notes) was.shows.more (insertions-weaker o log later spans now notes d e more on) was.shows.stand;
+          few = few-go insertion_ring (sure_insertion o.origin log spans) (sure_insertion o.origin later now) (insertions_of notes) (insertions_of notes) o.origin.recording.unit w.0 y
+              (unsure-as (sure_insertion o.origin log spans) (sure_insertion o.origin later now) (IsInsertionIn o log spans d) (IsInsertionIn o later now e) (insertions_of notes) (insertions-weaker o log later spans now notes d e more on))
+              (as-many insertion_ring insertion_shape w.0 y w.2.insertions was.shows.carries.points) was.shows.few;
         };
         seated = λ c. seated-as o log later spans now notes d e more on c (seats c) was.shows.more w.0 y is.1 (was.seated c);
       };
@@ -184,6 +189,9 @@ rings-stay d e o log later spans now notes seats v stays more cards on = record 
         more = was.more;
         carries = carries-same unit_place_ring o.origin.recording.unit w.0 was.more was.carries place_shape y w.2.places;
         stand = stand-as (sure_place o.origin log spans) (sure_place o.origin later now) (IsPlaceIn o.origin log spans) (IsPlaceIn o.origin later now) (places_of notes) was.more (places-weaker o log later spans now notes d e more on) was.stand;
+        few = few-go unit_place_ring (sure_place o.origin log spans) (sure_place o.origin later now) (places_of notes) (places_of notes) o.origin.recording.unit w.0 y
+            (unsure-as (sure_place o.origin log spans) (sure_place o.origin later now) (IsPlaceIn o.origin log spans) (IsPlaceIn o.origin later now) (places_of notes) (places-weaker o log later spans now notes d e more on))
+            (as-many unit_place_ring place_shape w.0 y w.2.places was.carries.points) was.few;
       };
   on_cards = places-go o.origin log later spans now notes d e on.fell on.places cards v.on_cards;
 }
@@ -221,6 +229,8 @@ place-noted d e o log spans notes seats v more p head added full is own long on 
           carries = carries-same insertion_ring o.origin.recording.unit w.0 was.shows.more was.shows.carries insertion_shape y bytes;
           stand = subst (λ (l : List InsertionNote). Stand (sure_insertion o.origin log spans) (IsInsertionIn o log spans e) l was.shows.more) (sym notes-same)
               (stand-as (sure_insertion o.origin log spans) (sure_insertion o.origin log spans) (IsInsertionIn o log spans d) (IsInsertionIn o log spans e) (insertions_of notes) was.shows.more (insertions-weaker o log log spans spans notes d e more (go-on log spans notes)) was.shows.stand);
+          few = subst (λ (l : List InsertionNote). AreNoFewer insertion_ring (sure_insertion o.origin log spans) l o.origin.recording.unit y) (sym notes-same)
+              (few-as insertion_ring (sure_insertion o.origin log spans) (insertions_of notes) o.origin.recording.unit w.0 y (as-many insertion_ring insertion_shape w.0 y bytes was.shows.carries.points) was.shows.few);
         };
         seated = λ c. subst (λ (l : List InsertionNote). IfSome (seats c) (λ s. IsSeated (sure_insertion o.origin log spans) (IsInsertionIn o log spans e) c s l was.shows.more y)) (sym notes-same)
             (seated-as o log log spans spans notes d e more (go-on log spans notes) c (seats c) was.shows.more w.0 y same.1 (was.seated c));
@@ -232,6 +242,8 @@ place-noted d e o log spans notes seats v more p head added full is own long on 
         carries = subst (λ (l : List ℕ). Carries unit_place_ring o.origin.recording.unit y (was.more ++ l ∷ [])) (whole-head unit_place_ring w.0 (taken unit_place_ring w.0) head full) (carries-more unit_place_ring o.origin.recording.unit w.0 was.more was.carries head y w.2);
         stand = subst (λ (l : List PlaceNote). Stand (sure_place o.origin log spans) (IsPlaceIn o.origin log spans) l (was.more ++ head ∷ [])) (sym (places-more notes (Enters p)))
             (stand-one (sure_place o.origin log spans) (IsPlaceIn o.origin log spans) (places_of notes) was.more p head was.stand is);
+        few = subst (λ (l : List PlaceNote). AreNoFewer unit_place_ring (sure_place o.origin log spans) l o.origin.recording.unit y) (sym (places-more notes (Enters p)))
+            (few-more unit_place_ring (sure_place o.origin log spans) (places_of notes) p o.origin.recording.unit w.0 y (added-long unit_place_ring head w.0 y was.carries.points was.carries.dense w.2) was.few);
       };
   on_cards = places-taken o.origin log spans notes p own d e long on taken_ v.on_cards;
 }
@@ -250,6 +262,8 @@ place-broken d e o log spans notes seats v more p head adding full is has own lo
           carries = carries-same insertion_ring o.origin.recording.unit w.0 was.shows.more was.shows.carries insertion_shape y bytes;
           stand = subst (λ (l : List InsertionNote). Stand (sure_insertion o.origin log spans) (IsInsertionIn o log spans e) l was.shows.more) (sym notes-same)
               (stand-as (sure_insertion o.origin log spans) (sure_insertion o.origin log spans) (IsInsertionIn o log spans d) (IsInsertionIn o log spans e) (insertions_of notes) was.shows.more (insertions-weaker o log log spans spans notes d e more (go-on log spans notes)) was.shows.stand);
+          few = subst (λ (l : List InsertionNote). AreNoFewer insertion_ring (sure_insertion o.origin log spans) l o.origin.recording.unit y) (sym notes-same)
+              (few-as insertion_ring (sure_insertion o.origin log spans) (insertions_of notes) o.origin.recording.unit w.0 y (as-many insertion_ring insertion_shape w.0 y bytes was.shows.carries.points) was.shows.few);
         };
         seated = λ c. tt;
       };
@@ -321,6 +335,8 @@ insertion-noted d e o log spans notes seats now v more cards a head index added 
           carries = subst (λ (l : List ℕ). Carries insertion_ring o.origin.recording.unit y (was.shows.more ++ l ∷ [])) (whole-head insertion_ring w.0 (taken insertion_ring w.0) head full) (carries-more insertion_ring o.origin.recording.unit w.0 was.shows.more was.shows.carries head y w.2.0);
           stand = subst (λ (l : List InsertionNote). Stand (sure_insertion o.origin log spans) (IsInsertionIn o log spans e) l (was.shows.more ++ head ∷ [])) (sym are)
               (stand-one (sure_insertion o.origin log spans) (IsInsertionIn o log spans e) (insertions_of notes) was.shows.more (record { accepted = a; withdrawn = None }) head stands is);
+          few = subst (λ (l : List InsertionNote). AreNoFewer insertion_ring (sure_insertion o.origin log spans) l o.origin.recording.unit y) (sym are)
+              (few-more insertion_ring (sure_insertion o.origin log spans) (insertions_of notes) (record { accepted = a; withdrawn = None }) o.origin.recording.unit w.0 y (added-long insertion_ring head w.0 y points was.shows.carries.dense w.2.0) was.shows.few);
         };
         seated = λ c. subst (λ (l : List InsertionNote). IfSome (now c) (λ s. IsSeated (sure_insertion o.origin log spans) (IsInsertionIn o log spans e) c s l (was.shows.more ++ head ∷ []) y)) (sym are) (⊎_elim
             (λ other. subst (λ (q : Option Seating). IfSome q (λ s. IsSeated (sure_insertion o.origin log spans) (IsInsertionIn o log spans e) c s (insertions_of notes ++ record { accepted = a; withdrawn = None } ∷ []) (was.shows.more ++ head ∷ []) y)) (sym other.1)
@@ -355,6 +371,7 @@ insertion-noted d e o log spans notes seats now v more cards a head index added 
         more = was.more;
         carries = carries-same unit_place_ring o.origin.recording.unit w.0 was.more was.carries place_shape y bytes;
         stand = was.stand;
+        few = few-as unit_place_ring (sure_place o.origin log spans) (places_of notes) o.origin.recording.unit w.0 y (as-many unit_place_ring place_shape w.0 y bytes was.carries.points) was.few;
       });
   on_cards = places-beside o.origin log spans notes (Accepts a) d e refl cards v.on_cards;
 }
@@ -369,7 +386,7 @@ insertion-broken d e o log spans notes seats v more cards a head adding full is 
       let stands = stand-as (sure_insertion o.origin log spans) (sure_insertion o.origin log spans) (IsInsertionIn o log spans d) (IsInsertionIn o log spans e) (insertions_of notes) was.shows.more (insertions-weaker o log log spans spans notes d e more (go-on log spans notes)) was.shows.stand in
       record {
         shows = subst (λ (l : List InsertionNote). ShowsNotes insertion_ring (sure_insertion o.origin log spans) (IsInsertionIn o log spans e) l o.origin.recording.unit y) (sym (insertions-more notes (Accepts a)))
-            (maybe insertion_ring o.origin.recording.unit w.0 y head (sure_insertion o.origin log spans) (IsInsertionIn o log spans e) (insertions_of notes) (record { accepted = a; withdrawn = None }) (record { more = was.shows.more; carries = was.shows.carries; stand = stands }) full is (ap not has) w.2);
+            (maybe insertion_ring o.origin.recording.unit w.0 y head (sure_insertion o.origin log spans) (IsInsertionIn o log spans e) (insertions_of notes) (record { accepted = a; withdrawn = None }) (record { more = was.shows.more; carries = was.shows.carries; stand = stands; few = was.shows.few }) full is (ap not has) w.2);
         seated = λ c. tt;
       };
   places = λ ring y left.
@@ -380,6 +397,7 @@ insertion-broken d e o log spans notes seats v more cards a head adding full is 
         more = was.more;
         carries = carries-same unit_place_ring o.origin.recording.unit w.0 was.more was.carries place_shape y bytes;
         stand = was.stand;
+        few = few-as unit_place_ring (sure_place o.origin log spans) (places_of notes) o.origin.recording.unit w.0 y (as-many unit_place_ring place_shape w.0 y bytes was.carries.points) was.few;
       });
   on_cards = places-beside o.origin log spans notes (Accepts a) d e refl cards v.on_cards;
 }

@@ -49,13 +49,13 @@ rings-shown began now o log spans notes seats v r unit cards logs traces tells t
       (subst (λ (h : Card → Holder). ShownBy r h (card_image r) (λ c. (card_of began c).clock) o.told o.trace log spans now (insertions_of notes) o.origin.recording.unit x) holders
       (subst (λ (images : Card → List ℕ). ShownBy r (holder_in o.origin) images (λ c. (card_of began c).clock) o.told o.trace log spans now (insertions_of notes) o.origin.recording.unit x) starting
       (subst (λ (t : Card → ℕ). ShownBy r (holder_in o.origin) (card_image o.origin.recording) t o.told o.trace log spans now (insertions_of notes) o.origin.recording.unit x) starts
-      (ring-shows (sure_insertion o.origin log spans) (IsInsertionIn o log spans now) insertion_ring (insertions_of notes) o.origin.recording.unit x was.more was.carries was.stand))))))));
+      (ring-shows (sure_insertion o.origin log spans) (IsInsertionIn o log spans now) insertion_ring (insertions_of notes) o.origin.recording.unit x was.more was.carries was.stand was.few))))))));
   places = λ ring. let was = v.places (subst (HasRing unit_place_ring) unit ring) x left in
       subst (λ (l : RunLog). RingShows unit_place_ring (is_sure_place l spans (holder_of r)) (IsPlace l spans (holder_of r)) (places_of (notes_in r.log r.trace)) r.unit x) (sym logs)
       (subst (λ (n : List Note). RingShows unit_place_ring (is_sure_place log spans (holder_of r)) (IsPlace log spans (holder_of r)) (places_of n) r.unit x) trace
       (subst (λ (u : List ℕ). RingShows unit_place_ring (is_sure_place log spans (holder_of r)) (IsPlace log spans (holder_of r)) (places_of notes) u x) (sym unit)
       (subst (λ (h : Card → Holder). RingShows unit_place_ring (is_sure_place log spans h) (IsPlace log spans h) (places_of notes) o.origin.recording.unit x) holders
-      (ring-shows (sure_place o.origin log spans) (IsPlaceIn o.origin log spans) unit_place_ring (places_of notes) o.origin.recording.unit x was.more was.carries was.stand))));
+      (ring-shows (sure_place o.origin log spans) (IsPlaceIn o.origin log spans) unit_place_ring (places_of notes) o.origin.recording.unit x was.more was.carries was.stand was.few))));
 }
   where
     holders : holder_in o.origin ≡ holder_of r
@@ -73,4 +73,4 @@ places-shown began now o log spans notes seats v r cards logs trace c has x left
     subst (λ (l : RunLog). RingShows (places_in (card_image r c)) (is_sure_on l) (IsPlaceOn spans) (places_on c (places_of (notes_in r.log r.trace))) (card_image r c) x) (sym logs)
     (subst (λ (n : List Note). RingShows (places_in (card_image r c)) (is_sure_on log) (IsPlaceOn spans) (places_on c (places_of n)) (card_image r c) x) trace
     (subst (λ (i : List ℕ). RingShows (places_in i) (is_sure_on log) (IsPlaceOn spans) (places_on c (places_of notes)) i x) (sym (cards c))
-    (ring-shows (is_sure_on log) (IsPlaceOn spans) (places_in (card_image o.origin.recording c)) (places_on c (places_of notes)) (card_image o.origin.recording c) x was.more was.carries was.stand)))
+    (ring-shows (is_sure_on log) (IsPlaceOn spans) (places_in (card_image o.origin.recording c)) (places_on c (places_of notes)) (card_image o.origin.recording c) x was.more was.carries was.stand was.few)))

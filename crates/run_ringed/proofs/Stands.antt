@@ -1,5 +1,5 @@
 -- Entries that stand for notes, as a log and the power spans go on, and as notes are added.
-use Rattle.std.proofs.Common.{◌≡◌, inl, inr, ⊎_elim, ℕ, suc, ◌≤◌, Bool, true, false, not, Option, Some, None, IfSome, List, [], ◌∷◌, ◌++◌, length, refl, ap, sym, subst, ◌∙◌, append-nil}
+use Rattle.std.proofs.Common.{◌≡◌, inl, inr, ⊎_elim, ℕ, suc, ◌≤◌, Bool, true, false, cond, not, Option, Some, None, IfSome, List, [], ◌∷◌, ◌++◌, length, filter, refl, ap, sym, subst, ◌∙◌, arith, append-nil}
 use Rattle.std.specs.List.{AllByRecursion}
 use Rattle.std.proofs.lemmas.Grind.{flat_map-append}
 use Rattle.std.proofs.lemmas.List.Sums.{fold-append}
@@ -11,7 +11,7 @@ use Rattle.side_model.specs.Done.{has_failed_in}
 use Rattle.side_model.specs.Odometer.{SpanFrom, odometer_at}
 use Rattle.side_model.specs.Noted.{InsertionNote, PlaceNote, Note, with_note, place_in, insertions_of, places_of}
 use Rattle.run_ringed.specs.Ringed.{Each}
-use Rattle.side_model.specs.Rings.{Holder, Stand, TellsWithdrawal, IsInsertion, IsPlace, is_sure_insertion, is_sure_place}
+use Rattle.side_model.specs.Rings.{Holder, Stand, unsure_count, TellsWithdrawal, IsInsertion, IsPlace, is_sure_insertion, is_sure_place}
 
 -- less is sure, and what stood for a note does
 module _ {N : Type 0} (sure still : N → Bool) (Is Now : N → List ℕ → Type 0) where
@@ -22,6 +22,18 @@ module _ {N : Type 0} (sure still : N → Bool) (Is Now : N → List ℕ → Typ
   stand-as [] entries all none = none
   stand-as (n ∷ notes) entries all (inl (e, rest, are, is, stand)) = inl (e, rest, are, all.0.1 e is, stand-as notes rest all.1 stand)
   stand-as (n ∷ notes) entries all (inr (unsure, stand)) = inr (all.0.0 unsure, stand-as notes entries all.1 stand)
+
+  -- no more are sure
+  pub unsure-as : (notes : List N) → AllByRecursion Weaker notes → unsure_count sure notes ≤ unsure_count still notes
+  unsure-as [] all = omega arith
+  unsure-as (n ∷ notes) all = by (sure n) (still n) all.0.0 (unsure-as notes all.1)
+    where
+      by : (b c : Bool) → (b ≡ false → c ≡ false) → unsure_count sure notes ≤ unsure_count still notes
+          → length (cond (not b) (n ∷ filter (λ m. not (sure m)) notes) (filter (λ m. not (sure m)) notes)) ≤ length (cond (not c) (n ∷ filter (λ m. not (still m)) notes) (filter (λ m. not (still m)) notes))
+      by true true less few = few
+      by true false less few = omega (arith, few)
+      by false true less few = absurd (let wrong : true ≡ false = less refl in cc)
+      by false false less few = omega (arith, few)
 
   pub each-as : (notes : List N) (entries : List (List ℕ)) → AllByRecursion Weaker notes → Each Is notes entries → Each Now notes entries
   each-as [] [] all none = tt

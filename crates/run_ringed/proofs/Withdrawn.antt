@@ -23,12 +23,13 @@ use Rattle.log_model.specs.Slots.{same_card}
 use Rattle.side_model.specs.Done.{has_failed_in}
 use Rattle.side_model.specs.Odometer.{SpanFrom, odometer_at}
 use Rattle.side_model.specs.Noted.{Withdrawal, InsertionNote, PlaceNote, Note, Withdraws, with_withdrawal as note_withdrawal, insertions_of, places_of}
-use Rattle.side_model.specs.Rings.{Holder, Stand, TellsWithdrawal, IsInsertion}
+use Rattle.side_model.specs.Rings.{Holder, Stand, AreNoFewer, TellsWithdrawal, IsInsertion}
 use Rattle.safety_model.specs.Safe.{Devices}
 use Rattle.run_rings.specs.Carried.{Carries}
 use Rattle.run_rings.proofs.Carried.{same-parts, carries-same, carries-changed, carries-gone, entry-was}
 use Rattle.run_rings.proofs.Indices.{index-alone, index-itself}
 use Rattle.run_rings.proofs.Standing.{stand-append, withdrawal-of-last}
+use Rattle.run_rings.proofs.Few.{as-many, as-many-at, few-as, few-changed}
 use Rattle.run_recorded.specs.Beside.{HaveLeftMore}
 use Rattle.run_ringed.specs.Ringed.{holder_in, TellsIn, Each, HasSameRings, IsInsertionIn, IsPlaceIn, sure_insertion, sure_place, ShowsNotes, Seating, IsSeated, Ringed, IsWithdrawnAt, MayBeWithdrawn, Since}
 use Rattle.run_ringed.specs.OnCards.{PlacesStay}
@@ -238,6 +239,12 @@ module _ (sure : InsertionNote → Bool) (Is : InsertionNote → List ℕ → Ty
       others)
       (splits sits.older sits.own sits.newer at.older at.own at.newer (sym sits.notes_are ∙ at.notes_are))
 
+-- as many are not sure
+withdrawn-few : (sure : InsertionNote → Bool) (notes older : List InsertionNote) (own out : InsertionNote) (newer : List InsertionNote) → notes ≡ older ++ own ∷ newer → (start x y : List ℕ) → sure own ≡ sure out → length (ring_list insertion_ring x) ≤ length (ring_list insertion_ring y) →
+    AreNoFewer insertion_ring sure notes start x → AreNoFewer insertion_ring sure (older ++ out ∷ newer) start y
+withdrawn-few sure notes older own out newer are start x y same long few =
+    few-changed insertion_ring sure older own out newer start x y same long (subst (λ (l : List InsertionNote). AreNoFewer insertion_ring sure l start x) are few)
+
 -- ---- the ring
 
 carried : (start x y : List ℕ) (ms : List (List ℕ)) (h : Carries insertion_ring start x ms) (s : Seating) (olders : List (List ℕ)) (entry : List ℕ) (newers : List (List ℕ)) → ms ≡ olders ++ entry ∷ newers → length newers ≡ s.behind →
@@ -281,6 +288,8 @@ withdrawal-noted d e o log spans notes seats now v more cards w s at below time 
           carries = ring-now.1;
           stand = subst (λ (l : List InsertionNote). Stand (sure_insertion o.origin log spans) (IsInsertionIn o log spans e) l (sits.olders ++ with_withdrawal time odometer sits.entry ∷ sits.newers)) (sym are)
               (stands-now (sure_insertion o.origin log spans) (IsInsertionIn o log spans e) w.card s (insertions_of notes) was.shows.more i.0 y sits w.second (with_withdrawal time odometer sits.entry) is ring-now.0);
+          few = subst (λ (l : List InsertionNote). AreNoFewer insertion_ring (sure_insertion o.origin log spans) l o.origin.recording.unit y) (sym are)
+              (withdrawn-few (sure_insertion o.origin log spans) (insertions_of notes) sits.older sits.own (record sits.own { withdrawn = Some w.second }) sits.newer sits.notes_are o.origin.recording.unit i.0 y refl (as-many-at insertion_ring i.0 y ring-now.0) was.shows.few);
         };
         seated = λ c. ⊎_elim
             (λ other. subst (λ (q : Option Seating). IfSome q (λ t. IsSeated (sure_insertion o.origin log spans) (IsInsertionIn o log spans e) c t (insertions_of (notes ++ Withdraws w ∷ [])) (sits.olders ++ with_withdrawal time odometer sits.entry ∷ sits.newers) y)) (sym other.1)
@@ -297,6 +306,7 @@ withdrawal-noted d e o log spans notes seats now v more cards w s at below time 
         more = was.more;
         carries = carries-same unit_place_ring o.origin.recording.unit i.0 was.more was.carries place_shape y (places-same i.0 y s below time odometer i.2);
         stand = was.stand;
+        few = few-as unit_place_ring (sure_place o.origin log spans) (places_of notes) o.origin.recording.unit i.0 y (as-many unit_place_ring place_shape i.0 y (places-same i.0 y s below time odometer i.2) was.carries.points) was.few;
       });
   on_cards = places-beside o.origin log spans notes (Withdraws w) d e refl cards v.on_cards;
 }
@@ -334,7 +344,7 @@ withdrawal-broken d e o log spans notes seats v more cards w s at below time odo
       (seated-as o log log spans spans notes d e more (go-on log spans notes) w.card (seats w.card) was.shows.more i.0 i.0 refl (was.seated w.card)) in
       let are : insertions_of (notes ++ Withdraws w ∷ []) ≡ sits.older ++ record sits.own { withdrawn = Some w.second } ∷ sits.newer =
       insertions-more notes (Withdraws w) ∙ ap (note_withdrawal w) sits.notes_are ∙ withdrawal-of-last w sits.older sits.own sits.newer sits.card_is sits.last in record {
-        shows = subst (λ (l : List InsertionNote). ShowsNotes insertion_ring (sure_insertion o.origin log spans) (IsInsertionIn o log spans e) l o.origin.recording.unit y) (sym are) (by i.0 y was.shows.more was.shows.carries sits i.2);
+        shows = subst (λ (l : List InsertionNote). ShowsNotes insertion_ring (sure_insertion o.origin log spans) (IsInsertionIn o log spans e) l o.origin.recording.unit y) (sym are) (by i.0 y was.shows.more was.shows.carries was.shows.few sits i.2);
         seated = λ c. tt;
       };
   places = λ ring y left.
@@ -344,6 +354,7 @@ withdrawal-broken d e o log spans notes seats v more cards w s at below time odo
         more = was.more;
         carries = carries-same unit_place_ring o.origin.recording.unit i.0 was.more was.carries place_shape y (places-same i.0 y i.2);
         stand = was.stand;
+        few = few-as unit_place_ring (sure_place o.origin log spans) (places_of notes) o.origin.recording.unit i.0 y (as-many unit_place_ring place_shape i.0 y (places-same i.0 y i.2) was.carries.points) was.few;
       });
   on_cards = places-beside o.origin log spans notes (Withdraws w) d e refl cards v.on_cards;
 }
@@ -354,29 +365,33 @@ withdrawal-broken d e o log spans notes seats v more cards w s at below time odo
     places-same x y (inl (inr (inr whole), lt)) = ring_outside unit_place_ring (place_of insertion_ring s.index) insertion_ring.width x y (inl (omega (arith, below))) whole.outside
     places-same x y (inr (same, many)) = same.places
 
-    by : (x y : List ℕ) (ms : List (List ℕ)) → Carries insertion_ring o.origin.recording.unit x ms → (sits : IsSeated (sure_insertion o.origin log spans) (IsInsertionIn o log spans e) w.card s (insertions_of notes) ms x) → MayBeWithdrawn s time odometer x y →
+    by : (x y : List ℕ) (ms : List (List ℕ)) → Carries insertion_ring o.origin.recording.unit x ms → AreNoFewer insertion_ring (sure_insertion o.origin log spans) (insertions_of notes) o.origin.recording.unit x → (sits : IsSeated (sure_insertion o.origin log spans) (IsInsertionIn o log spans e) w.card s (insertions_of notes) ms x) → MayBeWithdrawn s time odometer x y →
         ShowsNotes insertion_ring (sure_insertion o.origin log spans) (IsInsertionIn o log spans e) (sits.older ++ record sits.own { withdrawn = Some w.second } ∷ sits.newer) o.origin.recording.unit y
-    by x y ms h sits (inl (inl same, lt)) = record {
+    by x y ms h few sits (inl (inl same, lt)) = record {
       more = sits.olders ++ sits.entry ∷ sits.newers;
       carries = subst (λ (z : List ℕ). Carries insertion_ring o.origin.recording.unit z (sits.olders ++ sits.entry ∷ sits.newers)) (sym same) (subst (λ (l : List (List ℕ)). Carries insertion_ring o.origin.recording.unit x l) sits.more_are h);
       stand = stands-now (sure_insertion o.origin log spans) (IsInsertionIn o log spans e) w.card s (insertions_of notes) ms x x sits w.second sits.entry
           (insertion-unwritten log spans (holder_in o.origin) (TellsIn o e sits.own.accepted.second) sits.own sits.entry sits.is w.second time odometer second stood time_fits odometer_fits sits.stays has) refl;
+      few = withdrawn-few (sure_insertion o.origin log spans) (insertions_of notes) sits.older sits.own (record sits.own { withdrawn = Some w.second }) sits.newer sits.notes_are o.origin.recording.unit x y refl (let is : length (ring_list insertion_ring y) ≡ length (ring_list insertion_ring x) = ap (λ (z : List ℕ). length (ring_list insertion_ring z)) same in omega (arith, is)) few;
     }
-    by x y ms h sits (inl (inr (inl set), lt)) = record {
+    by x y ms h few sits (inl (inr (inl set), lt)) = record {
       more = sits.olders ++ put out_place (time_bytes time) sits.entry ∷ sits.newers;
       carries = timed-now o.origin.recording.unit x y ms h s sits.olders sits.entry sits.newers sits.more_are sits.behind sits.there time set lt;
       stand = stands-now (sure_insertion o.origin log spans) (IsInsertionIn o log spans e) w.card s (insertions_of notes) ms x x sits w.second (put out_place (time_bytes time) sits.entry)
           (insertion-timed log spans (holder_in o.origin) (TellsIn o e sits.own.accepted.second) sits.own sits.entry sits.is w.second time odometer second stood time_fits odometer_fits sits.stays has) refl;
+      few = withdrawn-few (sure_insertion o.origin log spans) (insertions_of notes) sits.older sits.own (record sits.own { withdrawn = Some w.second }) sits.newer sits.notes_are o.origin.recording.unit x y refl (as-many-at insertion_ring x y (set.indices_are h.points)) few;
     }
-    by x y ms h sits (inl (inr (inr whole), lt)) = record {
+    by x y ms h few sits (inl (inr (inr whole), lt)) = record {
       more = sits.olders ++ with_withdrawal time odometer sits.entry ∷ sits.newers;
       carries = (carried o.origin.recording.unit x y ms h s sits.olders sits.entry sits.newers sits.more_are sits.behind sits.there time odometer (inl (whole, lt))).1;
       stand = stands-now (sure_insertion o.origin log spans) (IsInsertionIn o log spans e) w.card s (insertions_of notes) ms x x sits w.second (with_withdrawal time odometer sits.entry)
           (insertion-withdrawn log spans (holder_in o.origin) (TellsIn o e sits.own.accepted.second) sits.own sits.entry sits.is w.second time odometer second stood time_fits odometer_fits) refl;
+      few = withdrawn-few (sure_insertion o.origin log spans) (insertions_of notes) sits.older sits.own (record sits.own { withdrawn = Some w.second }) sits.newer sits.notes_are o.origin.recording.unit x y refl (as-many-at insertion_ring x y (whole.indices_are h.points)) few;
     }
-    by x y ms h sits (inr (same, many)) = record {
+    by x y ms h few sits (inr (same, many)) = record {
       more = sits.olders ++ with_withdrawal time odometer sits.entry ∷ sits.newers;
       carries = (carried o.origin.recording.unit x y ms h s sits.olders sits.entry sits.newers sits.more_are sits.behind sits.there time odometer (inr (same, many))).1;
       stand = stands-now (sure_insertion o.origin log spans) (IsInsertionIn o log spans e) w.card s (insertions_of notes) ms x x sits w.second (with_withdrawal time odometer sits.entry)
           (insertion-withdrawn log spans (holder_in o.origin) (TellsIn o e sits.own.accepted.second) sits.own sits.entry sits.is w.second time odometer second stood time_fits odometer_fits) refl;
+      few = withdrawn-few (sure_insertion o.origin log spans) (insertions_of notes) sits.older sits.own (record sits.own { withdrawn = Some w.second }) sits.newer sits.notes_are o.origin.recording.unit x y refl (as-many insertion_ring insertion_shape x y same.insertions h.points) few;
     }

@@ -15,7 +15,7 @@ use Rattle.log_model.specs.Causes.{has_failed, second_of}
 use Rattle.log_model.specs.Slots.{same_card}
 use Rattle.side_model.specs.Odometer.{SpanFrom, odometer_at}
 use Rattle.side_model.specs.Noted.{PlaceNote, Note, places_of}
-use Rattle.side_model.specs.Rings.{Stand, kind_of}
+use Rattle.side_model.specs.Rings.{Stand, AreNoFewer, kind_of}
 use Rattle.safety_model.specs.Recording.{card_image}
 use Rattle.safety_model.specs.Safe.{Devices, card_of}
 use Rattle.run_rings.specs.Carried.{Carries}
@@ -33,6 +33,7 @@ pub record ShowsNotes {N : Type 0} (r : Shape) (is_sure : N → Bool) (Is : N �
   pub more : List (List ℕ)
   pub carries : Carries r start x more
   pub stand : Stand is_sure Is notes more
+  pub few : AreNoFewer r is_sure notes start x
 
 -- ---- the places of a card
 

@@ -1,5 +1,6 @@
 pub mod Carried
 pub mod Standing
+pub mod Few
 pub mod Indices
 pub mod Same
 pub mod Notes

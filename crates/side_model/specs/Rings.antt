@@ -1,5 +1,5 @@
 -- What the rings of insertions and places of a unit show of a run (profile).
-use Rattle.std.specs.Prelude.{◌≡◌, ◌⊎◌, ℕ, ◌+◌, ◌≤◌, Bool, true, false, not, Option, Some, None, List, [], ◌∷◌, ◌++◌, length, if◌then◌else◌}
+use Rattle.std.specs.Prelude.{◌≡◌, ◌⊎◌, ℕ, ◌+◌, ◌≤◌, Bool, true, false, not, Option, Some, None, List, [], ◌∷◌, ◌++◌, length, filter, if◌then◌else◌}
 use Rattle.byte_fields.specs.Fields.{field_at, number_in}
 use Rattle.activity_codec.specs.Words.{slot_number}
 use Rattle.trace_model.specs.declared.Card.{Card}
@@ -24,14 +24,23 @@ Stand is_sure Is (n ∷ notes) entries =
     ((e : List ℕ) × (rest : List (List ℕ)) × (entries ≡ e ∷ rest) × Is n e × Stand is_sure Is notes rest)
     ⊎ ((is_sure n ≡ false) × Stand is_sure Is notes entries)
 
+-- how many of these notes are not sure
+abbrev pub unsure_count : {N : Type 0} → (N → Bool) → List N → ℕ
+unsure_count is_sure notes = length (filter (λ n. not (is_sure n)) notes)
+
+-- a ring shows no fewer entries than at the start, but for one for each note that is not sure
+abbrev pub AreNoFewer : {N : Type 0} → Shape → (N → Bool) → List N → (start x : List ℕ) → Type 0
+AreNoFewer r is_sure notes start x = length (ring_list r start) ≤ length (ring_list r x) + unsure_count is_sure notes
+
 -- A ring that was dense at the start shows what it showed then and entries that stand for the notes; only where it is full, or lacks
--- one entry, are some gone at its old end.
+-- one entry, are some gone at its old end, and no more than entries came, or notes are not sure.
 pub record RingShows {N : Type 0} (r : Shape) (is_sure : N → Bool) (Is : N → List ℕ → Type 0) (notes : List N) (start x : List ℕ) : Type 0 where
   pub more : List (List ℕ)
   pub stand : Stand is_sure Is notes more
   pub gone : List (List ℕ)
   pub shown : ring_list r start ++ more ≡ gone ++ ring_list r x
   pub full : (gone ≡ []) ⊎ (r.count ≤ length (ring_list r x) + 1)
+  pub few : AreNoFewer r is_sure notes start x
 
 -- the type of a place entry (Appendix 1, EntryTypeDailyWorkPeriod): 0 where the day begins, 1 where it ends
 abbrev pub kind_of : (ending : Bool) → ℕ

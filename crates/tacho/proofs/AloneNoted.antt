@@ -1,5 +1,5 @@
 -- What a run of a trace without a card's line notes: no insertion and no place, and events of nobody.
-use Rattle.std.proofs.Common.{◌≡◌, ◌∙◌, ℕ, ◌+◌, Bool, true, false, cond, not, ◌&&◌, Option, Some, None, is_some, List, [], ◌∷◌, ◌++◌, map, refl, ap, sym, subst, append-nil}
+use Rattle.std.proofs.Common.{◌≡◌, ◌∙◌, ℕ, ◌+◌, Bool, true, false, cond, not, ◌&&◌, Option, Some, None, is_some, List, [], ◌∷◌, ◌++◌, length, map, refl, ap, sym, subst, arith, append-nil, length-append}
 use Rattle.std.specs.Prelude.{◌==◌, nat_eq, flat_map, option_to_list}
 use Rattle.std.specs.List.{AllByRecursion}
 use Rattle.trace_model.specs.declared.Card.{Card}
@@ -17,7 +17,7 @@ use Rattle.event_model.specs.Events.{Crew, Event}
 use Rattle.event_model.specs.Places.{place_of, day_place}
 use Rattle.side_model.specs.Done.{CarriedOut, Done, carried_from, done_by, done_from, done_of, course_powered}
 use Rattle.side_model.specs.Noted.{Note, accepted_at, noted_by, noted_in, notes_of}
-use Rattle.side_model.specs.Rings.{Stand, RingShows}
+use Rattle.side_model.specs.Rings.{Stand, AreNoFewer, RingShows}
 use Rattle.side_model.specs.Tables.{held_in, held_of, number_or_none, HasRest, IsNotedAt, AreNoted}
 use Rattle.unit_course.specs.Turn.{IsSelection, empty_slots}
 use Rattle.event_course.specs.Plain.{nobody, driver_seconds, speed_seconds, bare_event, over_event, gap_event, bares_in, overs_in, last_in, gap_between, gaps_in, plain_events, OnlySelect}
@@ -87,12 +87,14 @@ notes-nothing log ss each = all-nothing log (done_from log not_begun.before ss) 
 pub shows-old : {N : Type 0} (r : Shape) (is_sure : N → Bool) (Is : N → List ℕ → Type 0) (notes : List N) (x y : List ℕ) → notes ≡ [] → RingShows r is_sure Is notes x y → IsDense r y → ShowsOld r x y
 shows-old {N} r is_sure Is notes x y none h dense =
     let nothing : h.more ≡ [] = subst (λ (ns : List N). Stand is_sure Is ns h.more) none h.stand in
-    record {
-      gone = h.gone;
-      shown = sym (ap (λ (more : List (List ℕ)). ring_list r x ++ more) nothing ∙ append-nil (ring_list r x)) ∙ h.shown;
-      full = h.full;
-      dense = dense;
-    }
+    let was : ring_list r x ≡ h.gone ++ ring_list r y = sym (ap (λ (more : List (List ℕ)). ring_list r x ++ more) nothing ∙ append-nil (ring_list r x)) ∙ h.shown in
+    let few : AreNoFewer r is_sure [] x y = subst (λ (ns : List N). AreNoFewer r is_sure ns x y) none h.few in
+    record { shown = sym (was ∙ ap (λ (l : List (List ℕ)). l ++ ring_list r y) (none-gone h.gone was few)); dense = dense }
+  where
+    none-gone : (gone : List (List ℕ)) → ring_list r x ≡ gone ++ ring_list r y → AreNoFewer r is_sure [] x y → gone ≡ []
+    none-gone [] was few = refl
+    none-gone (e ∷ gone) was few =
+        absurd (let long : length (ring_list r x) ≡ length (e ∷ gone) + length (ring_list r y) = ap (λ (l : List (List ℕ)). length l) was ∙ length-append (e ∷ gone) (ring_list r y) in omega (arith, long, few))
 
 -- EVENTS OF NOBODY
 abbrev IsNobodys : Event → Type 0

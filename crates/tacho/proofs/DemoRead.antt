@@ -206,6 +206,7 @@ module _ (U V : State) (is : IsRead U V) where
                 owes = s.owes;
                 acknowledged = s.acknowledged;
                 since = s.since;
+                lone = s.lone;
                 judged = s.judged;
                 turned = s.turned;
                 timely = s.timely;

@@ -1,5 +1,5 @@
 -- A run of a trace without a card's line (profile): it uses no card, and its unit is safe, whatever the cards bring.
-use Rattle.std.specs.Prelude.{◌≡◌, ◌⊎◌, ℕ, ◌+◌, ◌≤◌, Bool, true, false, IsTrue, List, [], ◌++◌, length, is_some}
+use Rattle.std.specs.Prelude.{◌≡◌, ◌⊎◌, ℕ, Bool, true, false, IsTrue, List, [], is_some}
 use Rattle.std.specs.List.{AllByRecursion}
 use Rattle.trace_model.specs.declared.Card.{Card}
 use Rattle.trace_model.specs.declared.Action.TheVariants.{Select, Insert, Withdraw, Tear, Place}
@@ -90,11 +90,9 @@ pub record ShowsStored (x : List ℕ) (start : ℕ) (items : List Item) (o : Out
   pub are_spans : AreSpansFrom Original (log_of o) (told_of o start items) (odometer_at x) (last_kept x) spans
   pub odometer : MayStore Original (odometer_at x) (last_kept x) spans (last_kept y) (odometer_at y)
 
--- a ring shows what it showed at the start and nothing else; only where it is full, or lacks one entry, are some gone at its old end
+-- a ring shows exactly what it showed at the start
 pub record ShowsOld (ring : Shape) (x y : List ℕ) : Type 0 where
-  pub gone : List (List ℕ)
-  pub shown : ring_list ring x ≡ gone ++ ring_list ring y
-  pub full : (gone ≡ []) ⊎ (ring.count ≤ length (ring_list ring y) + 1)
+  pub shown : ring_list ring y ≡ ring_list ring x
   pub dense : IsDense ring y
 
 -- WHAT A RUN HAS RECORDED on the unit alone of a trace, that began with this image, at this clock: the crash-safety theorem of the unit.

@@ -8,3 +8,4 @@ pub mod Elsewhere
 pub mod Completing
 pub mod Safety
 pub mod Worked
+pub mod RowsStand

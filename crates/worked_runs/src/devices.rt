@@ -140,6 +140,17 @@ impl Devices {
         Ok(Ran::of(recorded.is_recorded, &recorded.outcome))
     }
 
+    /// Records a trace that is to be recorded.
+    pub fn run_whole(&mut self, alloc: Global, text: &[u8]) -> Result<(), Fail>
+        requires { IsUnit (memory_state self.old.unit.log self.old.unit.counts) }
+        ensures { IsUnit (memory_state self.new.unit.log self.new.unit.counts) }
+    {
+        if self.record(alloc, text)?.is_recorded {
+            return Ok(());
+        }
+        Err(Fail::from("a run that is refused"))
+    }
+
     /// How many calls of each there were.
     pub fn calls(&self) -> Calls {
         Calls {
@@ -212,10 +223,7 @@ pub fn run(alloc: Global, text: &[u8], stops: Stops) -> Result<Ran, Fail> {
 /// How many calls a run makes where these are stopped.
 pub fn calls_with(alloc: Global, text: &[u8], stops: Stops) -> Result<Calls, Fail> {
     let mut d = new_devices(alloc, stops)?;
-    let ran = d.run(alloc, text)?;
-    if !ran.is_recorded {
-        return Err(Fail::from("a run that is refused"));
-    }
+    d.run_whole(alloc, text)?;
     Ok(d.calls())
 }
 

@@ -37,10 +37,7 @@ withdraw codriver
 /// The image of a unit that has recorded a trace.
 fn recorded(alloc: Global, text: &[u8]) -> Result<Vec<u8>, Fail> {
     let mut d = new_devices(alloc, Stops::none(alloc))?;
-    let ran = d.run(alloc, text)?;
-    if !ran.is_recorded {
-        return Err(Fail::from("a run without a stop"));
-    }
+    d.run_whole(alloc, text)?;
     d.unit_image(alloc)
 }
 

@@ -1,4 +1,7 @@
 //! Worked runs.
+ghost use Rattle.tach_media.specs.MemMedium.{memory_state};
+ghost use Rattle.unit_model.specs.Image.{IsUnit};
+
 use crate::devices::{Stops, calls_of, calls_with, new_devices, run};
 use crate::ran::Ran;
 use activity_codec::Slot;
@@ -9,7 +12,7 @@ use std::alloc::{AllocError, Global};
 use std::process::Abort;
 use std::rt::HostRuntime;
 use std::test::Fail;
-use tach_media::{Chip, Left, Stop};
+use tach_media::{Chip, Failed, Left, MemMedium, Stop};
 use worked_devices::{M0, T0, told_by_card, unclosed_on, unit_bytes};
 
 /// An hour of driving with a card.
@@ -253,16 +256,20 @@ fn a_repair_that_is_stopped_within_a_write(rt: HostRuntime) -> Result<(), Fail> 
 /// The first place of a fault.
 const FIRST_FAULT: u32 = 2391674;
 
-/// What stands there of a unit behind a run that stops so: type, record purpose, begin and end; and both cards' numbers at both.
+/// What stands there of a unit: type, record purpose, begin and end; and both cards' numbers at both.
+fn fault_on(unit: &mut MemMedium) -> Result<([u8; 10], [u8; 72]), Failed>
+    requires { IsUnit (memory_state unit.old.log unit.old.counts) }
+{
+    let entry: [u8; 10] = unit_bytes(&mut *unit, FIRST_FAULT)?;
+    let numbers: [u8; 72] = unit_bytes(unit, FIRST_FAULT + 10)?;
+    Ok((entry, numbers))
+}
+
+/// The same behind a run that stops so.
 fn fault_noted(alloc: Global, stops: Stops) -> Result<([u8; 10], [u8; 72]), Fail> {
     let mut d = new_devices(alloc, stops)?;
-    let ran = d.run(alloc, BEHIND)?;
-    if !ran.is_recorded {
-        return Err(Fail::from("a run that is refused"));
-    }
-    let entry: [u8; 10] = unit_bytes(&mut d.unit, FIRST_FAULT)?;
-    let numbers: [u8; 72] = unit_bytes(&mut d.unit, FIRST_FAULT + 10)?;
-    Ok((entry, numbers))
+    d.run_whole(alloc, BEHIND)?;
+    Ok(fault_on(&mut d.unit)?)
 }
 
 /// A card that a failed call tears out is a fault of that second, noted with no card's number: it is out by then.
