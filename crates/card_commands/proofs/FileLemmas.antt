@@ -9,9 +9,9 @@ use Rattle.card_layout.specs.declared.files.Fid.{Fid}
 use Rattle.card_layout.specs.declared.files.Range.{Range}
 use Rattle.card_layout.specs.Application.{first_bad_field, application_of}
 use Rattle.card_layout.specs.Files.{files_of, range_from, range_of, total_size, image_size_of, is_updated_in, is_updated, updated_from, is_listed}
-use Rattle.chip_model.specs.declared.command.ElementaryFile.{ElementaryFile}
+use Rattle.card_layout.specs.declared.command.ElementaryFile.{ElementaryFile}
 use Rattle.tach_media.specs.Medium.{LiesInside}
-use Rattle.chip_model.specs.Outcomes.{is_fixed, fixed_range, sized_file, file_of}
+use Rattle.card_layout.specs.Outcomes.{is_fixed, fixed_range, sized_file, file_of}
 use Rattle.card_commands.specs.Ports.{file_from, file_at, writable_of, told_by}
 
 -- a file as the table has it, from a base on

@@ -2,7 +2,7 @@
 use Rattle.std.proofs.Common.{◌≡◌, ◌⊎◌, inl, inr, ⊎_elim, ℕ, ◌+◌, ◌-◌, ◌≤◌, List, [], ◌∷◌, ◌++◌, length, take, drop, sym, ◌∙◌, ap, subst, arith, append_assoc, length-drop}
 use Rattle.std.proofs.lemmas.List.{length-take-le, drop-drop, take_all, take-append-drop}
 use Rattle.tach_media.specs.Medium.{State, IsCoherent, LeavesOnly, SameOutside, IsPartlyWritten, bytes_at, put}
-use Rattle.chip_model.specs.Issue.{IsPartlyIssued, IsIssued}
+use Rattle.card_layout.specs.Issue.{IsPartlyIssued, IsIssued}
 use Rattle.tach_media.proofs.Images.{put_outside, part_before, part_after, part_put, outside_wider, outside_then}
 
 -- the bytes before the card type, the card type, and the bytes behind it

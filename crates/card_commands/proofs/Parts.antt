@@ -3,7 +3,7 @@ use Rattle.std.proofs.Common.{◌≡◌, ℕ, ◌+◌, ◌≤◌, List, Option, 
 use Rattle.tach_media.proofs.Images.{part_in}
 use Rattle.tach_media.specs.Medium.{State, IsCoherent, bytes_at}
 use Rattle.tach_media.proofs.Runs.{if_told}
-use Rattle.chip_model.specs.declared.command.CardState.{CardState}
+use Rattle.card_layout.specs.declared.command.CardState.{CardState}
 use Rattle.card_commands.specs.Performing.{IsSound}
 
 -- a part of the file is a part of the image

@@ -5,12 +5,12 @@ use Rattle.std.specs.Option.{ForSome}
 use Rattle.std.proofs.lemmas.List.{take_all}
 use Rattle.card_layout.specs.declared.files.Application.{Application}
 use Rattle.card_layout.specs.Application.{first_bad_field, application_of, IsApplication}
-use Rattle.chip_model.specs.declared.command.CardState.{CardState}
-use Rattle.chip_model.specs.declared.command.Directory.{Directory}
-use Rattle.chip_model.specs.declared.command.Directory.TheVariants.{Tachograph}
-use Rattle.chip_model.specs.declared.command.ElementaryFile.{ElementaryFile}
+use Rattle.card_layout.specs.declared.command.CardState.{CardState}
+use Rattle.card_layout.specs.declared.command.Directory.{Directory}
+use Rattle.card_layout.specs.declared.command.Directory.TheVariants.{Tachograph}
+use Rattle.card_layout.specs.declared.command.ElementaryFile.{ElementaryFile}
 use Rattle.tach_media.specs.Medium.{State, bytes_at}
-use Rattle.chip_model.specs.Outcomes.{Fixes, in_directory, is_under}
+use Rattle.card_layout.specs.Outcomes.{Fixes, in_directory, is_under}
 use Rattle.card_commands.specs.Ports.{IsPort, told_by, sizes_of, application_file}
 
 -- what is fixed is there

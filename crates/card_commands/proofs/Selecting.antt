@@ -6,12 +6,12 @@ use Rattle.card_layout.specs.declared.files.Fid.{Fid}
 use Rattle.card_layout.specs.declared.files.Range.{Range}
 use Rattle.card_layout.specs.Application.{first_bad_field, application_of}
 use Rattle.card_layout.specs.Files.{files_of, range_of, is_updated}
-use Rattle.chip_model.specs.declared.command.Command.TheVariants.{Select}
-use Rattle.chip_model.specs.declared.command.CardState.{CardState}
-use Rattle.chip_model.specs.declared.command.Directory.{Directory}
-use Rattle.chip_model.specs.declared.command.Directory.TheVariants.{Master, Tachograph}
-use Rattle.chip_model.specs.declared.command.ElementaryFile.{ElementaryFile}
-use Rattle.chip_model.specs.Outcomes.{Outcome, Fixes, found, file_of, sized_file, is_under, is_fixed, fixed_range, needs_sizes, select_found, select_outcome, in_directory, done, nothing}
+use Rattle.card_layout.specs.declared.command.Command.TheVariants.{Select}
+use Rattle.card_layout.specs.declared.command.CardState.{CardState}
+use Rattle.card_layout.specs.declared.command.Directory.{Directory}
+use Rattle.card_layout.specs.declared.command.Directory.TheVariants.{Master, Tachograph}
+use Rattle.card_layout.specs.declared.command.ElementaryFile.{ElementaryFile}
+use Rattle.card_layout.specs.Outcomes.{Outcome, Fixes, found, file_of, sized_file, is_under, is_fixed, fixed_range, needs_sizes, select_found, select_outcome, in_directory, done, nothing}
 use Rattle.card_commands.specs.Sending.{IsSent}
 
 -- a file that is found needs no sizes that are not fixed yet

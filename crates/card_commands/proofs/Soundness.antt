@@ -3,9 +3,9 @@ use Rattle.std.proofs.Common.{◌≡◌, inl, inr, ⊎_elim, ℕ, ◌+◌, ◌�
 use Rattle.std.proofs.lemmas.Bool.{or_cases}
 use Rattle.std.proofs.lemmas.Bool.Decides.{nat_tests}
 use Rattle.std.proofs.lemmas.Grind.{common_steps}
-use Rattle.chip_model.specs.declared.command.CardState.{CardState}
+use Rattle.card_layout.specs.declared.command.CardState.{CardState}
 use Rattle.tach_media.specs.Medium.{State, IsCoherent, LiesInside, LeavesOnly, Unchanged, HasCause, bytes_at}
-use Rattle.chip_model.specs.Outcomes.{just_issued, after_reset}
+use Rattle.card_layout.specs.Outcomes.{just_issued, after_reset}
 use Rattle.card_commands.specs.Performing.{IsSound, covers}
 
 -- the test of a range, and what it says

@@ -1,11 +1,11 @@
 -- A command that comes after a read of the medium.
 use Rattle.std.proofs.Common.{◌≡◌, ℕ, ◌/◌, ◌%◌, Bool, true, false, List, [], ◌∷◌, ◌++◌, Option, option_map, Result, refl, ◌∙◌, ap, subst, arith}
 use Rattle.tach_media.specs.Medium.{State, LeavesOnly, Reads, Rose, put}
-use Rattle.chip_model.specs.Outcomes.{Effect, nothing, gives, puts, IsAnswered, outcome_from}
+use Rattle.card_layout.specs.Outcomes.{Effect, nothing, gives, puts, IsAnswered, outcome_from}
 use Rattle.tach_media.specs.Chip.{Does, WritesAt}
-use Rattle.chip_model.specs.Commands.{command_of}
-use Rattle.chip_model.specs.declared.command.CardState.{CardState}
-use Rattle.chip_model.specs.declared.command.Command.{Command}
+use Rattle.card_layout.specs.Commands.{command_of}
+use Rattle.card_layout.specs.declared.command.CardState.{CardState}
+use Rattle.card_layout.specs.declared.command.Command.{Command}
 use Rattle.tach_media.proofs.Runs.{weaken, after_reads, reads_then, cause_after}
 use Rattle.card_commands.specs.Performing.{IsPerformed}
 

@@ -3,11 +3,11 @@ use Rattle.std.specs.Prelude.{◌≡◌, ℕ, ◌+◌, ◌≤◌, ◌&&◌, ◌|
 use Rattle.std.specs.Option.{ForSome}
 use Rattle.card_layout.specs.declared.files.TheConstants.{APPLICATION_RANGE, LARGEST_IMAGE}
 use Rattle.card_layout.specs.Application.{application_in}
-use Rattle.chip_model.specs.declared.command.Command.{Command}
-use Rattle.chip_model.specs.declared.command.CardState.{CardState}
-use Rattle.chip_model.specs.declared.command.ElementaryFile.{ElementaryFile}
+use Rattle.card_layout.specs.declared.command.Command.{Command}
+use Rattle.card_layout.specs.declared.command.CardState.{CardState}
+use Rattle.card_layout.specs.declared.command.ElementaryFile.{ElementaryFile}
 use Rattle.tach_media.specs.Medium.{State}
-use Rattle.chip_model.specs.Outcomes.{outcome_from, result_needs_sizes, is_application, Fixes, IsData}
+use Rattle.card_layout.specs.Outcomes.{outcome_from, result_needs_sizes, is_application, Fixes, IsData}
 
 -- whether a range lies inside one of these: `LiesInside` as a test, since a fact that a struct keeps may have one proof only
 abbrev pub covers : List (ℕ × ℕ) → ℕ → ℕ → Bool

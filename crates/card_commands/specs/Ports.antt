@@ -7,10 +7,10 @@ use Rattle.card_layout.specs.declared.files.CardFile.{CardFile}
 use Rattle.card_layout.specs.declared.files.TheConstants.{APPLICATION_RANGE, LARGEST_IMAGE}
 use Rattle.card_layout.specs.Application.{first_bad_field, application_of, IsApplication}
 use Rattle.card_layout.specs.Files.{files_of, image_size_of, updated_ranges}
-use Rattle.chip_model.specs.declared.command.CardState.{CardState}
-use Rattle.chip_model.specs.declared.command.ElementaryFile.{ElementaryFile}
+use Rattle.card_layout.specs.declared.command.CardState.{CardState}
+use Rattle.card_layout.specs.declared.command.ElementaryFile.{ElementaryFile}
 use Rattle.tach_media.specs.Medium.{State, IsCoherent, Commands}
-use Rattle.chip_model.specs.Outcomes.{is_under}
+use Rattle.card_layout.specs.Outcomes.{is_under}
 use Rattle.card_commands.specs.declared.loading.PortFault.{PortFault}
 use Rattle.card_commands.specs.declared.loading.PortFault.TheVariants.{Failed, BadApplication}
 

@@ -1,7 +1,7 @@
 -- What a command brings that was sent to a card.
 use Rattle.std.specs.Prelude.{◌≡◌, ℕ, ◌/◌, ◌%◌, Option, Ok, List, [], ◌∷◌, ◌++◌}
-use Rattle.chip_model.specs.declared.command.Command.{Command}
-use Rattle.chip_model.specs.declared.command.CardState.{CardState}
+use Rattle.card_layout.specs.declared.command.Command.{Command}
+use Rattle.card_layout.specs.declared.command.CardState.{CardState}
 use Rattle.card_commands.specs.Performing.{IsPerformed}
 
 -- its data and its status word

@@ -1,9 +1,9 @@
 -- The bytes of a command as a unit writes it.
 use Rattle.std.specs.Prelude.{ℕ, ◌+◌, ◌/◌, ◌%◌, ◌==◌, ◌<◌, ◌≤◌, if◌then◌else◌, List, [], ◌∷◌, ◌++◌, length}
 use Rattle.card_layout.specs.declared.files.Fid.{Fid}
-use Rattle.chip_model.specs.declared.command.Command.{Command}
-use Rattle.chip_model.specs.declared.command.Command.TheVariants.{Application, Select, Read, Update}
-use Rattle.chip_model.specs.Commands.{tachograph_name}
+use Rattle.card_layout.specs.declared.command.Command.{Command}
+use Rattle.card_layout.specs.declared.command.Command.TheVariants.{Application, Select, Read, Update}
+use Rattle.card_layout.specs.Commands.{tachograph_name}
 
 -- class, instruction, P1 and P2, and the length
 abbrev pub header : ℕ → ℕ → ℕ → ℕ → List ℕ

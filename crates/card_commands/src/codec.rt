@@ -1,12 +1,11 @@
 ghost use Rattle.std.specs.Prelude.{◌≡◌, ◌≤◌, ◌+◌, ◌++◌, Ok, IfOk, length};
 ghost use Rattle.card_commands.specs.declared.port.TheConstants.{WRITE_MOST};
-ghost use Rattle.byte_fields.specs.Images.{number_at};
-ghost use Rattle.chip_model.specs.Commands.{command_of, meaning, has_good_parameters, has_good_length};
+ghost use Rattle.card_layout.specs.Images.{number_at};
+ghost use Rattle.card_layout.specs.Commands.{command_of, meaning, has_good_parameters, has_good_length};
 ghost use Rattle.card_commands.specs.Written.{bytes_of, IsWritable};
 
 use arrayvec::ArrayVec;
-use card_layout::Fid;
-use chip_model::Command;
+use card_layout::{Command, Fid};
 
 /// The name of DF Tachograph.
 const TACHOGRAPH: [u8; 6] = [0xFF, 0x54, 0x41, 0x43, 0x48, 0x4F];

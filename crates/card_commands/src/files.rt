@@ -1,12 +1,11 @@
 ghost use Rattle.std.specs.Prelude.{◌≡◌, ◌≤◌, ◌||◌, ◌&&◌, ◌==◌, nat_le, is_some, false, None, IfSome};
 ghost use Rattle.card_layout.specs.Application.{application_of};
 ghost use Rattle.card_layout.specs.Files.{is_updated};
-ghost use Rattle.chip_model.specs.Outcomes.{is_under, is_fixed, sized_file, file_of};
+ghost use Rattle.card_layout.specs.Outcomes.{is_under, is_fixed, sized_file, file_of};
 ghost use Rattle.card_commands.specs.Performing.{IsFile};
 
 use card_files::{file_range, read_application};
-use card_layout::{APPLICATION_RANGE, Fid, Range};
-use chip_model::{Directory, ElementaryFile};
+use card_layout::{APPLICATION_RANGE, Directory, ElementaryFile, Fid, Range};
 
 /// Whether a file stands in a directory: ICC and IC in the master file, all the others in DF Tachograph.
 pub fn is_under(directory: Directory, fid: Fid) -> bool

@@ -1,6 +1,6 @@
 ghost use Rattle.std.specs.Prelude.{◌≡◌, ◌≤◌, ◌<◌, length, option_map, OnOk, is_err};
 ghost use Rattle.tach_media.specs.Medium.{LiesInside, LeavesOnly, IsSettled, HasCause, Rose, put, last_count};
-ghost use Rattle.chip_model.specs.Issue.{IsIssued};
+ghost use Rattle.card_layout.specs.Issue.{IsIssued};
 
 use card_layout::APPLICATION_RANGE;
 use tach_media::{Failed, Medium};

@@ -5,8 +5,7 @@ ghost use Rattle.card_commands.specs.Ports.{IsPort, IsJudged, has_failed, applic
 
 use crate::sending::{enter, read, select};
 use card_files::{BadApplication, read_application};
-use card_layout::{APPLICATION_RANGE, Application, Fid, LARGEST_IMAGE};
-use chip_model::{Directory, ElementaryFile};
+use card_layout::{APPLICATION_RANGE, Application, Directory, ElementaryFile, Fid, LARGEST_IMAGE};
 use tach_media::{Chip, Failed};
 
 /// Why a card cannot be reached through a port.

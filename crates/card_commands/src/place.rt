@@ -3,8 +3,7 @@ ghost use Rattle.card_layout.specs.Files.{image_size_of, total_size};
 ghost use Rattle.card_commands.specs.Ports.{file_at, file_from};
 
 use card_files::files;
-use card_layout::{Application, CardFile, Range};
-use chip_model::ElementaryFile;
+use card_layout::{Application, CardFile, ElementaryFile, Range};
 
 /// The file in which a place of the flat image lies.
 pub fn file_at(app: &Application, place: u32) -> ElementaryFile

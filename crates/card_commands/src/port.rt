@@ -3,7 +3,7 @@ ghost use Rattle.card_commands.specs.declared.port.TheConstants.{READ_MOST, WRIT
 ghost use Rattle.card_layout.specs.Application.{IsApplication, application_in};
 ghost use Rattle.card_layout.specs.Files.{image_size_of};
 ghost use Rattle.tach_media.specs.Medium.{Reads, bytes_at};
-ghost use Rattle.chip_model.specs.Outcomes.{file_of, is_under};
+ghost use Rattle.card_layout.specs.Outcomes.{file_of, is_under};
 ghost use Rattle.tach_media.specs.Chip.{WritesAt};
 ghost use Rattle.card_commands.specs.Ports.{IsPort, IsJudged, application_file};
 
@@ -11,8 +11,7 @@ use crate::loading::{APPLICATION, PortFault, read_sizes};
 use crate::place::file_at;
 use crate::sending::{enter, read, select, update};
 use card_files::image_size;
-use card_layout::{Application, Fid, LARGEST_IMAGE};
-use chip_model::{Directory, ElementaryFile};
+use card_layout::{Application, Directory, ElementaryFile, Fid, LARGEST_IMAGE};
 use tach_media::{Chip, Failed, Medium};
 
 /// At most so many bytes are read, and written, by one command.

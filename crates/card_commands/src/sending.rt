@@ -1,15 +1,14 @@
 ghost use Rattle.std.specs.Prelude.{◌^◌, ◌≡◌, ◌≤◌, ◌<◌, ◌+◌, true, length, Some, OnOk, OnErr, IfSome, is_err};
 ghost use Rattle.card_commands.specs.declared.port.TheConstants.{READ_MOST, WRITE_MOST};
 ghost use Rattle.tach_media.specs.Medium.{Reads, bytes_at};
-ghost use Rattle.chip_model.specs.Outcomes.{command_outcome, in_directory, found, is_application, Fixes};
+ghost use Rattle.card_layout.specs.Outcomes.{command_outcome, in_directory, found, is_application, Fixes};
 ghost use Rattle.tach_media.specs.Chip.{Does, WritesAt};
 ghost use Rattle.card_commands.specs.Written.{IsWritable};
 ghost use Rattle.card_commands.specs.Sending.{IsSent};
 
 use crate::codec::write_command;
 use arrayvec::ArrayVec;
-use card_layout::Fid;
-use chip_model::{Command, Directory, ElementaryFile};
+use card_layout::{Command, Directory, ElementaryFile, Fid};
 use tach_media::{Answer, Chip, Failed};
 
 // Sends a command and takes its answer.

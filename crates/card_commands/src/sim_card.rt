@@ -1,9 +1,9 @@
 ghost use Rattle.std.specs.Prelude.{◌≡◌, ◌≤◌, ◌<◌, ◌+◌, ◌++◌, ◌/◌, ◌%◌, [], ◌∷◌, true, not, length, Some, None, Ok, OnOk, OnErr, IfOk, IfSome, is_ok, is_err};
 ghost use Rattle.card_commands.specs.declared.port.TheConstants.{READ_MOST};
-ghost use Rattle.chip_model.specs.declared.command.Command.TheVariants.{Select, Read, Update};
+ghost use Rattle.card_layout.specs.declared.command.Command.TheVariants.{Select, Read, Update};
 ghost use Rattle.card_layout.specs.Application.{application_in};
 ghost use Rattle.tach_media.specs.Medium.{State, LiesInside, Reads, bytes_at};
-ghost use Rattle.chip_model.specs.Outcomes.{just_issued, in_directory, is_fixed, file_of, Fixes, command_outcome, outcome_from, gives, IsData, is_application};
+ghost use Rattle.card_layout.specs.Outcomes.{just_issued, in_directory, is_fixed, file_of, Fixes, command_outcome, outcome_from, gives, IsData, is_application};
 ghost use Rattle.tach_media.specs.Chip.{Does, WritesAt};
 ghost use Rattle.card_commands.specs.Performing.{IsFile, IsSound, IsPerformed};
 ghost use Rattle.card_commands.specs.Written.{IsWritable};
@@ -12,8 +12,9 @@ use crate::codec::read_command;
 use crate::files::{fixed_file, is_under, sized_file};
 use crate::issue::issue;
 use arrayvec::ArrayVec;
-use card_layout::{APPLICATION_RANGE, Fid, LARGEST_IMAGE};
-use chip_model::{CardState, Command, Directory, ElementaryFile};
+use card_layout::{
+    APPLICATION_RANGE, CardState, Command, Directory, ElementaryFile, Fid, LARGEST_IMAGE,
+};
 use tach_media::{Answer, Chip, Failed, Medium};
 
 /// The status words of commands that read well.

@@ -1,7 +1,7 @@
 -- A string of days and a ring that are read in their file alone are those of the flat image.
 use Rattle.std.proofs.Common.{◌≡◌, ℕ, ◌+◌, ◌-◌, ◌%◌, ◌<◌, ◌≤◌, Bool, true, false, not, filter, List, [], ◌∷◌, sym, ◌∙◌, ap, arith}
 use Rattle.std.specs.Prelude.{nat_eq, ◌&&◌, ◌==◌}
-use Rattle.byte_fields.specs.Images.{big_number}
+use Rattle.card_layout.specs.Images.{big_number}
 use Rattle.tach_media.specs.Medium.{bytes_at}
 use Rattle.tach_media.proofs.Images.{part_in}
 use Rattle.card_model.specs.Bytes.{number}

@@ -2,8 +2,8 @@
 use Rattle.std.proofs.Common.{◌≡◌, ◌∙◌, ℕ, suc, ◌+◌, List, [], ◌∷◌, ◌++◌, length, map, drop, refl, ap, sym, arith, All, append-nil}
 use Rattle.std.specs.Prelude.{slice_index}
 use Rattle.byteorder.specs.Endian.{big_number}
-use Rattle.byte_fields.specs.Fields.{joined}
-use Rattle.byte_fields.proofs.Numbers.{big_number-big_bytes}
+use Rattle.card_layout.specs.Fields.{joined}
+use Rattle.card_layout.proofs.Numbers.{big_number-big_bytes}
 use Rattle.tach_media.specs.Medium.{bytes_at}
 use Rattle.card_image.specs.CardFile.{FileEntry, entry_bytes, IsFileEntry}
 

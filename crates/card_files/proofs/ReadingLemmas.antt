@@ -1,7 +1,7 @@
 -- Reading and writing Application_Identification undo each other.
 use Rattle.std.proofs.Common.{◌≡◌, ℕ, ◌<◌, ◌^◌, List, length, Some, None, Result, Ok, Err, sym, ◌∙◌, ap}
 use Rattle.std.specs.Prelude.{IfOk}
-use Rattle.byte_fields.specs.Fields.{IsBytes}
+use Rattle.card_layout.specs.Fields.{IsBytes}
 use Rattle.card_layout.specs.declared.files.Application.{Application}
 use Rattle.card_layout.specs.Application.{first_bad_field, application_of, application_bytes, IsApplication}
 use Rattle.card_layout.proofs.ApplicationLemmas.{kind_of_good, application_bytes-application_of, application_of-application_bytes, first_bad_field-application_bytes}

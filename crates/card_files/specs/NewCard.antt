@@ -1,6 +1,6 @@
 -- The flat image of a new card (profile): what its maker writes into each file.
 use Rattle.std.specs.Prelude.{ℕ, ◌+◌, ◌==◌, if◌then◌else◌, List, [], ◌∷◌, map, replicate, codes}
-use Rattle.byte_fields.specs.Fields.{joined}
+use Rattle.card_layout.specs.Fields.{joined}
 use Rattle.card_layout.specs.declared.files.Application.{Application}
 use Rattle.card_layout.specs.declared.files.CardFile.{CardFile}
 use Rattle.card_layout.specs.Application.{application_bytes}

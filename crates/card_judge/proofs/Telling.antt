@@ -2,9 +2,9 @@
 use Rattle.std.proofs.Common.{◌≡◌, ◌≢◌, ℕ, zero, suc, ◌+◌, ◌*◌, ◌^◌, ◌<◌, ◌≤◌, List, [], ◌∷◌, ◌++◌, None, length, max, take, drop, refl, sym, ◌∙◌, ap, subst, arith, length-take}
 use Rattle.std.specs.Prelude.{slice_index}
 use Rattle.byteorder.specs.Endian.{big_number}
-use Rattle.byte_fields.specs.Fields.{place_in}
-use Rattle.byte_fields.proofs.Images.{part_in}
-use Rattle.byte_fields.proofs.Fields.{field_part}
+use Rattle.card_layout.specs.Fields.{place_in}
+use Rattle.card_layout.proofs.Images.{part_in}
+use Rattle.card_layout.proofs.Fields.{field_part}
 use Rattle.card_layout.specs.declared.files.Application.{Application}
 use Rattle.card_layout.specs.Files.{files_of, place_of, size_of}
 use Rattle.card_layout.proofs.ApplicationLemmas.{kind_of_good}

@@ -4,8 +4,8 @@ use Rattle.std.specs.Prelude.{◌==◌, if◌then◌else◌}
 use Rattle.std.proofs.lemmas.Bool.{le-leb, eq-eqb, eqb-true}
 use Rattle.byteorder.specs.Endian.{big_number}
 use Rattle.byteorder.specs.Numbers.{big_from-take}
-use Rattle.byte_fields.specs.Fields.{IsBytes, FitIn, numbers_of, numbers_written}
-use Rattle.byte_fields.proofs.Cuts.{numbers_written-numbers_of, numbers_of-numbers_written}
+use Rattle.card_layout.specs.Fields.{IsBytes, FitIn, numbers_of, numbers_written}
+use Rattle.card_layout.proofs.Cuts.{numbers_written-numbers_of, numbers_of-numbers_written}
 use Rattle.card_layout.specs.declared.files.Application.{Application}
 use Rattle.card_layout.specs.Application.{Field, IsApplication, is_between, application_of, application_bytes, application_fields, application_widths, first_bad_field, first_bad_from}
 

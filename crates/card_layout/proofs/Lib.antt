@@ -1,3 +1,8 @@
+pub mod Numbers
+pub mod Cuts
+pub mod Images
+pub mod Fields
+pub mod Spelled
 mod Rows
 pub mod Ranges
 pub mod Sizes

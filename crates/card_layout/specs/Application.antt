@@ -1,8 +1,8 @@
 -- Application_Identification: its fields in order, with their widths and ranges (Appendix 1, DriverCardApplicationIdentification).
 use Rattle.std.specs.Prelude.{◌≡◌, ℕ, ◌+◌, ◌-◌, ◌%◌, ◌≤◌, ◌==◌, ◌&&◌, nat_le, if◌then◌else◌, Bool, true, Option, Some, None, List, [], ◌∷◌, map, drop}
 use Rattle.byteorder.specs.Endian.{big_number}
-use Rattle.byte_fields.specs.Fields.{number_in, numbers_written}
-use Rattle.byte_fields.specs.Images.{bytes_at}
+use Rattle.card_layout.specs.Fields.{number_in, numbers_written}
+use Rattle.card_layout.specs.Images.{bytes_at}
 use Rattle.card_layout.specs.declared.files.Application.{Application}
 use Rattle.card_layout.specs.declared.files.TheConstants.{APPLICATION_RANGE, STRING_LEAST, STRING_MOST}
 

@@ -1,6 +1,6 @@
 -- Numbers in bytes, high byte first, and decimal digits in half bytes.
 use Rattle.std.specs.Prelude.{ℕ, ◌+◌, ◌*◌, ◌/◌, ◌%◌, List, [], ◌∷◌}
-pub use Rattle.byte_fields.specs.Images.{number}
+pub use Rattle.card_layout.specs.Images.{number}
 
 -- the bytes of a number below 256 ^ 2, and below 256 ^ 4
 abbrev pub two_bytes : ℕ → List ℕ

@@ -1,10 +1,10 @@
 -- The gates of entries, and an entry of which one field was changed.
 use Rattle.std.proofs.Common.{◌≡◌, ◌≢◌, ℕ, ◌<◌, ◌≤◌, ◌^◌, List, length, refl, ◌∙◌, ap, arith}
 use Rattle.byteorder.specs.Numbers.{length-bytes_high_first}
-use Rattle.byte_fields.specs.Fields.{field_at}
-use Rattle.byte_fields.specs.Images.{bytes_at, put}
-use Rattle.byte_fields.proofs.Numbers.{big_number-big_bytes}
-use Rattle.byte_fields.proofs.Fields.{field_put, field_stays}
+use Rattle.card_layout.specs.Fields.{field_at}
+use Rattle.card_layout.specs.Images.{bytes_at, put}
+use Rattle.card_layout.proofs.Numbers.{big_number-big_bytes}
+use Rattle.card_layout.proofs.Fields.{field_put, field_stays}
 use Rattle.tacho_types.specs.declared.numbers.TimeReal.{TimeReal}
 use Rattle.tacho_types.specs.declared.numbers.Odometer.{Odometer}
 use Rattle.tacho_types.specs.declared.places.PlaceEntry.{PlaceEntry}

@@ -2,9 +2,9 @@
 use Rattle.std.proofs.Common.{◌≡◌, ℕ, ◌+◌, ◌*◌, ◌<◌, ◌≤◌, Bool, true, false, cond, Option, Some, IfSome, List, sym, ◌∙◌, ap, subst, arith, lit≤}
 use Rattle.std.specs.Prelude.{◌↔◌, ◌==◌, IsTrue}
 use Rattle.std.proofs.Math.Nat.{mul-le-mul_left}
-use Rattle.byte_fields.specs.Images.{bytes_at, number_at}
-use Rattle.byte_fields.proofs.Images.{part_in}
-use Rattle.byte_fields.proofs.Spelled.{number_within}
+use Rattle.card_layout.specs.Images.{bytes_at, number_at}
+use Rattle.card_layout.proofs.Images.{part_in}
+use Rattle.card_layout.proofs.Spelled.{number_within}
 use Rattle.card_layout.specs.declared.files.Application.{Application}
 use Rattle.card_layout.specs.Files.{files_of, place_of as place_of_file, size_of, image_size_of}
 use Rattle.tach_media.specs.Medium.{State, LeavesOnly, LiesInside}

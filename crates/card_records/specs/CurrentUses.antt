@@ -1,6 +1,6 @@
 -- CardCurrentUse in bytes (Appendix 1): time of the session's opening, registration.
 use Rattle.std.specs.Prelude.{ℕ, List, [], ◌∷◌}
-use Rattle.byte_fields.specs.Fields.{joined, field_at}
+use Rattle.card_layout.specs.Fields.{joined, field_at}
 use Rattle.tacho_types.specs.Numbers.{time_bytes, time_of}
 use Rattle.card_records.specs.declared.current_use.CurrentUse.{CurrentUse}
 

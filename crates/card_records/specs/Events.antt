@@ -1,6 +1,6 @@
 -- CardEventRecord in bytes (Appendix 1): type, begin, end, registration.
 use Rattle.std.specs.Prelude.{ℕ, List, [], ◌∷◌}
-use Rattle.byte_fields.specs.Fields.{joined, field_at, number_in}
+use Rattle.card_layout.specs.Fields.{joined, field_at, number_in}
 use Rattle.tacho_types.specs.Numbers.{time_bytes, time_of}
 use Rattle.card_records.specs.declared.card_event.CardEvent.{CardEvent}
 

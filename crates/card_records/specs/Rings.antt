@@ -1,6 +1,6 @@
 -- The rings of a card's files (Appendix 1 and Appendix 2, section 4): vehicle entries, place entries, and of each type the events.
 use Rattle.std.specs.Prelude.{ℕ, ◌+◌, ◌*◌, ◌==◌, if◌then◌else◌, take}
-use Rattle.byte_fields.specs.Fields.{total_width}
+use Rattle.card_layout.specs.Fields.{total_width}
 use Rattle.card_layout.specs.declared.files.Application.{Application}
 use Rattle.card_layout.specs.declared.files.Fid.{Fid}
 use Rattle.card_layout.specs.Files.{place_of}

@@ -1,6 +1,6 @@
 -- CardVehicleRecord in bytes (Appendix 1): odometer at begin and at end, first and last use, registration, counter.
 use Rattle.std.specs.Prelude.{ℕ, List, [], ◌∷◌}
-use Rattle.byte_fields.specs.Fields.{joined, field_at}
+use Rattle.card_layout.specs.Fields.{joined, field_at}
 use Rattle.tacho_types.specs.Numbers.{time_bytes, time_of, odometer_bytes, odometer_of}
 use Rattle.card_records.specs.declared.vehicle.Vehicle.{Vehicle}
 

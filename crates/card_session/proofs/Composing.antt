@@ -1,7 +1,7 @@
 -- Parts of a call, one after the other.
 use Rattle.std.proofs.Common.{◌≡◌, inl, inr, ⊎_elim, ℕ, Bool, true, false, List, Option, Some, None, IfSome, refl, sym, ◌∙◌, ap, subst, arith}
 use Rattle.std.specs.Prelude.{◌⊎◌, not}
-use Rattle.byte_fields.proofs.Images.{outside_then}
+use Rattle.card_layout.proofs.Images.{outside_then}
 use Rattle.card_layout.specs.declared.files.Application.{Application}
 use Rattle.tach_media.specs.Medium.{State, LeavesOnly, HasCause, Unchanged}
 use Rattle.tach_media.proofs.Runs.{weaken, goes_on, told_too, cause_after, starts, where_told, at_image}

@@ -1,7 +1,7 @@
 -- A card that an insertion leaves at any moment tells the same sizes and the same number, so that it may be inserted again.
 use Rattle.std.proofs.Common.{◌≡◌, ◌≢◌, inl, inr, ⊎_elim, ℕ, ◌+◌, ◌*◌, ◌<◌, ◌≤◌, List, length, Option, refl, sym, ◌∙◌, ap, subst, arith}
 use Rattle.std.specs.Prelude.{◌⊎◌}
-use Rattle.byte_fields.proofs.Images.{part_before, part_after, put_outside}
+use Rattle.card_layout.proofs.Images.{part_before, part_after, put_outside}
 use Rattle.activity_codec.specs.declared.values.Activity.TheVariants.{Rest}
 use Rattle.activity_codec.specs.declared.entries.Entry.{Entry}
 use Rattle.tacho_types.specs.declared.texts.Registration.{Registration}

@@ -1,7 +1,7 @@
 -- What the end of a drop and the cut at a minute make of a card that a session knows.
 use Rattle.std.proofs.Common.{◌≡◌, inl, inr, ⊎_elim, ℕ, ◌+◌, ◌-◌, ◌/◌, ◌<◌, ◌≤◌, Bool, false, List, Option, Some, IfSome, refl, sym, ◌∙◌, ap, subst, arith}
 use Rattle.std.specs.Prelude.{◌⊎◌}
-use Rattle.byte_fields.proofs.Images.{outside_same}
+use Rattle.card_layout.proofs.Images.{outside_same}
 use Rattle.card_layout.specs.declared.files.Application.{Application}
 use Rattle.card_layout.specs.Application.{IsApplication}
 use Rattle.tach_media.specs.Medium.{State, IsCoherent, LeavesOnly, HasCause}

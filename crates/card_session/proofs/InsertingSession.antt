@@ -1,9 +1,9 @@
 -- The session time at each moment of an insertion.
 use Rattle.std.proofs.Common.{◌≡◌, inl, inr, ⊎_elim, ℕ, ◌+◌, ◌*◌, ◌<◌, ◌≤◌, ◌^◌, List, length, refl, sym, ◌∙◌, ap, subst, arith}
 use Rattle.std.specs.Prelude.{◌⊎◌}
-use Rattle.byte_fields.specs.Images.{big_number}
-use Rattle.byte_fields.proofs.Images.{part_before, part_put, put_outside}
-use Rattle.byte_fields.proofs.Numbers.{big_number-big_bytes}
+use Rattle.card_layout.specs.Images.{big_number}
+use Rattle.card_layout.proofs.Images.{part_before, part_put, put_outside}
+use Rattle.card_layout.proofs.Numbers.{big_number-big_bytes}
 use Rattle.activity_codec.specs.declared.values.Activity.TheVariants.{Rest}
 use Rattle.activity_codec.specs.declared.entries.Entry.{Entry}
 use Rattle.tacho_types.specs.declared.texts.Registration.{Registration}

@@ -2,10 +2,10 @@
 use Rattle.std.proofs.Common.{◌≡◌, ◌≢◌, inl, inr, ⊎_elim, ℕ, ◌+◌, ◌*◌, ◌^◌, ◌<◌, ◌≤◌, Bool, false, List, [], ◌∷◌, ◌++◌, length, length-drop, drop, Option, Some, None, option_map, IfSome, refl, sym, ◌∙◌, ap, subst, arith}
 use Rattle.std.specs.Prelude.{◌⊎◌}
 use Rattle.std.proofs.lemmas.List.{append-nil, length-take-le}
-use Rattle.byte_fields.specs.Fields.{field_at}
-use Rattle.byte_fields.proofs.Fields.{field_part}
-use Rattle.byte_fields.proofs.Images.{part_before, part_after, part_put, put_outside, outside_wider, outside_same}
-use Rattle.byte_fields.proofs.Numbers.{big_number-big_bytes}
+use Rattle.card_layout.specs.Fields.{field_at}
+use Rattle.card_layout.proofs.Fields.{field_part}
+use Rattle.card_layout.proofs.Images.{part_before, part_after, part_put, put_outside, outside_wider, outside_same}
+use Rattle.card_layout.proofs.Numbers.{big_number-big_bytes}
 use Rattle.card_layout.specs.declared.files.Application.{Application}
 use Rattle.card_layout.specs.Files.{image_size_of}
 use Rattle.tach_media.specs.Medium.{State, IsCoherent, LeavesOnly, HasCause, SameOutside, put, bytes_at}

@@ -20,8 +20,8 @@ use Rattle.card_retention.proofs.Stops.{stop_none, stop_first, stop_between, sto
 use Rattle.card_retention.proofs.Closing.{kept_lives, closed_lives}
 use Rattle.card_retention.proofs.Listing.{Lists}
 use Rattle.card_layout.specs.Files.{files_of, image_size_of, place_of}
-use Rattle.byte_fields.specs.Images.{big_number}
-use Rattle.byte_fields.proofs.Images.{part_before, part_put, put_outside}
+use Rattle.card_layout.specs.Images.{big_number}
+use Rattle.card_layout.proofs.Images.{part_before, part_put, put_outside}
 use Rattle.tach_media.proofs.Images.{part_in}
 use Rattle.card_records.specs.CurrentUses.{current_use_of}
 use Rattle.tach_media.specs.Medium.{SameOutside, bytes_at}

@@ -1,7 +1,7 @@
 -- The parts of a keep by what a session has kept: the end of the string tells which words and which distance are written.
 use Rattle.std.proofs.Common.{◌≡◌, inl, inr, ⊎_elim, ℕ, suc, ◌*◌, ◌/◌, ◌<◌, ◌≤◌, Bool, true, false, cond, List, Option, Some, None, refl, sym, ◌∙◌, ap, subst, arith}
 use Rattle.std.specs.Prelude.{◌⊎◌, nat_lt, ◌&&◌}
-use Rattle.byte_fields.proofs.Images.{outside_same}
+use Rattle.card_layout.proofs.Images.{outside_same}
 use Rattle.activity_codec.specs.declared.values.Activity.TheVariants.{Rest}
 use Rattle.activity_codec.specs.declared.entries.Entry.{Entry}
 use Rattle.tacho_types.specs.declared.texts.Registration.{Registration}

@@ -2,7 +2,7 @@
 use Rattle.std.proofs.Common.{◌≡◌, ◌∙◌, ℕ, ◌+◌, List, [], ◌∷◌, ◌++◌, length, map, refl, ap, sym, subst, arith}
 use Rattle.std.specs.Prelude.{Option, Some, None, IfSome}
 use Rattle.std.specs.Io.KnownBytes.{Appends}
-use Rattle.byte_fields.specs.Fields.{IsBytes}
+use Rattle.card_layout.specs.Fields.{IsBytes}
 use Rattle.tach_media.specs.Medium.{State, IsCoherent}
 use Rattle.unit_model.specs.Days.{StoredDay}
 use Rattle.unit_model.specs.Image.{IsUnit}

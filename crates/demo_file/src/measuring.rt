@@ -1,6 +1,6 @@
 //! A unit downloaded into memory, for the length of its file and its messages of a day.
 ghost use Rattle.std.specs.Prelude.{◌≡◌, ◌≤◌, [], Some, IfOk, IfErr, IfSome, IsErrOf};
-ghost use Rattle.byte_fields.specs.Fields.{IsBytes};
+ghost use Rattle.card_layout.specs.Fields.{IsBytes};
 ghost use Rattle.unit_model.specs.Image.{IsUnit};
 ghost use Rattle.unit_model.specs.Decoding.{first_bad_place};
 ghost use Rattle.unit_journal.specs.Reading.{ReadsIfAny};

@@ -1,7 +1,7 @@
 -- An event or a place is noted on a card: it stays valid and shows the same, and the rules stay.
 use Rattle.std.proofs.Common.{◌≡◌, ◌⊎◌, inl, inr, ⊎_elim, ℕ, ◌+◌, ◌*◌, ◌/◌, ◌<◌, ◌≤◌, true, Option, Some, None, option_map, IfSome, List, [], refl, ap, subst, ◌∙◌, sym, arith}
-use Rattle.byte_fields.proofs.Images.{part_before, part_after}
-use Rattle.byte_fields.specs.Images.{big_number}
+use Rattle.card_layout.proofs.Images.{part_before, part_after}
+use Rattle.card_layout.specs.Images.{big_number}
 use Rattle.activity_codec.specs.declared.entries.Entry.{Entry}
 use Rattle.trace_model.specs.declared.Card.{Card}
 use Rattle.tach_media.specs.Medium.{State, IsCoherent, LeavesOnly, SameOutside, bytes_at}

@@ -13,7 +13,7 @@ use Rattle.card_layout.specs.declared.files.TheConstants.{APPLICATION_RANGE}
 use Rattle.card_layout.specs.Application.{application_of, IsApplication}
 use Rattle.card_layout.specs.Files.{files_of, image_size_of, place_of}
 use Rattle.card_model.specs.Days.{AreDays}
-use Rattle.byte_fields.proofs.Images.{part_before, put_outside}
+use Rattle.card_layout.proofs.Images.{part_before, put_outside}
 use Rattle.card_image.specs.Fields.{file, file_bytes, card_days, card_number, end_mark, session_time}
 use Rattle.card_image.specs.Judging.{IsValid}
 use Rattle.card_image.specs.Own.{own_sizes, own_view, own_number}

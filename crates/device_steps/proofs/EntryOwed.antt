@@ -23,7 +23,7 @@ use Rattle.joint_rule.specs.Steps.{IsPutting, IsPut, cleared}
 use Rattle.joint_rule.specs.Rules.{Standing, IsPresent, Cells}
 use Rattle.joint_rule.proofs.Viewed.{seen-run}
 use Rattle.joint_rule.proofs.KeepLaws.{owe-card, owe-dark, owe-other, owe-other_dark}
-use Rattle.joint_steps.proofs.Putting.{first_putting, second_putting, first_put, second_put}
+use Rattle.unit_rule.proofs.Putting.{first_putting, second_putting, first_put, second_put}
 use Rattle.unit_rule.specs.Rule.{Started}
 use Rattle.unit_rule.specs.Marks.{Holds}
 use Rattle.unit_rule.proofs.Moves.{ended}

@@ -5,7 +5,7 @@ use Rattle.activity_codec.specs.declared.entries.Entry.{Entry}
 use Rattle.trace_model.specs.declared.Card.{Card}
 use Rattle.trace_model.specs.declared.Card.TheVariants.{A, B}
 use Rattle.run_model.specs.declared.Device.TheVariants.{Unit as Recorder}
-use Rattle.byte_fields.proofs.Images.{part_in}
+use Rattle.card_layout.proofs.Images.{part_in}
 use Rattle.tach_media.specs.Medium.{State, IsCoherent, IsSettled, LeavesOnly, bytes_at, last_count}
 use Rattle.unit_model.specs.Days.{UnitMinute}
 use Rattle.owed_model.specs.Owed.{rows_in, row_index}
@@ -26,7 +26,7 @@ use Rattle.joint_rule.specs.Marked.{of_unit}
 use Rattle.joint_rule.specs.Rules.{Standing, Fits}
 use Rattle.joint_rule.proofs.Viewed.{seen-run}
 use Rattle.joint_rule.proofs.KeepLaws.{keep-card, keep-dark}
-use Rattle.joint_steps.proofs.Keeping.{keeping_view, kept_view}
+use Rattle.unit_rule.proofs.Keeping.{keeping_view, kept_view}
 use Rattle.unit_rule.specs.Rule.{Started}
 use Rattle.unit_rule.specs.Marks.{Holds}
 use Rattle.unit_rule.proofs.Moves.{ended}

@@ -4,7 +4,7 @@ use Rattle.std.specs.Prelude.{option_map}
 use Rattle.activity_codec.specs.declared.entries.Entry.{Entry}
 use Rattle.trace_model.specs.declared.Card.{Card}
 use Rattle.trace_model.specs.declared.Card.TheVariants.{A, B}
-use Rattle.byte_fields.proofs.Images.{part_in}
+use Rattle.card_layout.proofs.Images.{part_in}
 use Rattle.tach_media.specs.Medium.{State, IsCoherent, LeavesOnly, bytes_at}
 use Rattle.unit_model.specs.Days.{ShownDay}
 use Rattle.unit_model.specs.Image.{recorded, last_kept}

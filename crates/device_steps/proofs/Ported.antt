@@ -10,8 +10,8 @@ use Rattle.tach_media.proofs.Runs.{at_image, if_told}
 use Rattle.card_layout.specs.declared.files.Application.{Application}
 use Rattle.card_layout.specs.Files.{files_of, place_of, size_of, is_updated, image_size_of}
 use Rattle.card_layout.proofs.Sizes.{largest_image, days_at, vehicles_at, events_at, use_at}
-use Rattle.chip_model.specs.declared.command.CardState.{CardState}
-use Rattle.chip_model.specs.declared.command.ElementaryFile.{ElementaryFile}
+use Rattle.card_layout.specs.declared.command.CardState.{CardState}
+use Rattle.card_layout.specs.declared.command.ElementaryFile.{ElementaryFile}
 use Rattle.gated_ring.specs.Ring.{size_of as ring_size}
 use Rattle.card_commands.specs.Ports.{IsPort, port_state, writable_of}
 use Rattle.card_commands.proofs.Updated.{updated_writable}

@@ -20,7 +20,7 @@ use Rattle.joint_rule.proofs.Viewed.{seen-run}
 use Rattle.joint_rule.proofs.CardLaws.{look-dark}
 use Rattle.joint_rule.proofs.UnitLaws.{sure-found}
 use Rattle.joint_rule.proofs.EnterLaws.{tear-card, found-dark, mend-dark, mend-card}
-use Rattle.joint_steps.proofs.Mending.{mending_view, mended_view}
+use Rattle.unit_rule.proofs.Mended.{mending_view, mended_view}
 use Rattle.unit_rule.specs.Rule.{Started, seen_unit}
 use Rattle.unit_rule.specs.Marks.{Holds}
 use Rattle.unit_rule.proofs.Moves.{ended, shown-last}

@@ -6,7 +6,7 @@ use Rattle.std.proofs.lemmas.List.{append-nil, length-take-le, length-drop, leng
 use Rattle.std.proofs.lemmas.List.Elements.{All-from_recursion}
 use Rattle.std.specs.List.{AllByRecursion}
 use Rattle.activity_codec.specs.declared.entries.Entry.{Entry}
-use Rattle.byte_fields.specs.Fields.{number_in, field_at}
+use Rattle.card_layout.specs.Fields.{number_in, field_at}
 use Rattle.tacho_types.specs.CardNumber.{card_number_bytes, card_number_of, card_number_widths}
 use Rattle.tach_media.specs.Medium.{State, IsCoherent, HasCause, LeavesOnly, Reads, Unchanged, IsSettled, last_count, bytes_at}
 use Rattle.tach_media.proofs.Runs.{starts, weaken, from_reads, after_reads, goes_same, reads_then, cause_after, at_image, if_told, where_told, no_reads}

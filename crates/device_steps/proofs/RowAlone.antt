@@ -23,7 +23,7 @@ use Rattle.joint_rule.specs.Steps.{IsBeginning, IsBegun}
 use Rattle.joint_rule.specs.Rules.{Standing, Out, In, Torn, Stands, CardDark, CardRule, IsEntered}
 use Rattle.joint_rule.proofs.CardLaws.{dark-beside, rule-beside}
 use Rattle.joint_rule.proofs.EnterLaws.{begin-dark, begin-card}
-use Rattle.joint_steps.proofs.Beginning.{last_same, recorded_same}
+use Rattle.unit_rule.proofs.Beginning.{last_same, recorded_same}
 use Rattle.unit_rule.specs.Rule.{Started}
 use Rattle.unit_rule.specs.Marks.{Holds}
 use Rattle.unit_rule.proofs.Moves.{ended}

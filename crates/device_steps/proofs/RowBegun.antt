@@ -20,7 +20,7 @@ use Rattle.joint_rule.specs.Steps.{IsBeginning}
 use Rattle.joint_rule.specs.Rules.{Standing}
 use Rattle.joint_rule.proofs.Viewed.{seen-run}
 use Rattle.joint_rule.proofs.EnterLaws.{begin-other, begin-other_dark}
-use Rattle.joint_steps.proofs.Beginning.{first_beginning, second_beginning}
+use Rattle.unit_rule.proofs.Beginning.{first_beginning, second_beginning}
 use Rattle.unit_rule.specs.Rule.{Started}
 use Rattle.unit_rule.specs.Marks.{Holds}
 use Rattle.unit_rule.proofs.Elsewhere.{rows-elsewhere, rows-issued, holds-elsewhere}

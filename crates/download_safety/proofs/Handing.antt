@@ -1,6 +1,6 @@
 -- What is kept, handed out.
 use Rattle.std.proofs.Common.{◌≡◌, ℕ, List, length}
-use Rattle.byte_fields.specs.Fields.{IsBytes}
+use Rattle.card_layout.specs.Fields.{IsBytes}
 use Rattle.tach_media.specs.Medium.{State}
 use Rattle.log_model.specs.declared.lines.Mark.{Mark}
 use Rattle.history_model.specs.Minutes.{HistoryMinute}

@@ -1,6 +1,6 @@
 -- A unit file is the messages of one list alone, so a view of it shows the minutes of its image.
 use Rattle.std.proofs.Common.{◌≡◌, ◌∙◌, ℕ, suc, List, [], ◌∷◌, None, map, refl, ap, sym, arith, All}
-use Rattle.byte_fields.specs.Fields.{joined}
+use Rattle.card_layout.specs.Fields.{joined}
 use Rattle.unit_model.specs.Days.{UnitMinute}
 use Rattle.unit_model.specs.Image.{unit_minutes}
 use Rattle.message_model.specs.Messages.{Message, message_bytes, IsMessage}

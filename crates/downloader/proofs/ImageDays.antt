@@ -6,8 +6,8 @@ use Rattle.std.proofs.lemmas.Bool.{cases_lt}
 use Rattle.std.proofs.lemmas.Bool.Decides.{nat_tests}
 use Rattle.std.proofs.lemmas.List.Elements.{All-nil, All-cons, All-head, All-tail, All-filter}
 use Rattle.std.proofs.lemmas.List.FromFn.{length-map-range_with_len}
-use Rattle.byte_fields.specs.Images.{number_at}
-use Rattle.byte_fields.specs.Fields.{IsBytes}
+use Rattle.card_layout.specs.Images.{number_at}
+use Rattle.card_layout.specs.Fields.{IsBytes}
 use Rattle.gated_ring.specs.Ring.{is_there}
 use Rattle.unit_model.specs.Days.{StoredDay, slot_bit, word_minute, day_of, Each}
 use Rattle.unit_model.specs.Image.{last_kept, day_ring, slot_place, slot_date, slot_odometer, slot_count, slot_words, covered_words, recorded_words, recorded_indices}

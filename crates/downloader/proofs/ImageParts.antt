@@ -6,9 +6,9 @@ use Rattle.std.proofs.lemmas.List.{length-map, length-take, length-drop}
 use Rattle.std.proofs.lemmas.List.FromFn.{length-range_with_len}
 use Rattle.std.proofs.lemmas.List.Elements.{All-nil, All-cons}
 use Rattle.byteorder.specs.Numbers.{big_from-lt}
-use Rattle.byte_fields.specs.Images.{bytes_at, number_at}
-use Rattle.byte_fields.specs.Fields.{IsBytes}
-use Rattle.byte_fields.proofs.Cuts.{IsBytes-drop, IsBytes-take}
+use Rattle.card_layout.specs.Images.{bytes_at, number_at}
+use Rattle.card_layout.specs.Fields.{IsBytes}
+use Rattle.card_layout.proofs.Cuts.{IsBytes-drop, IsBytes-take}
 use Rattle.gated_ring.specs.Ring.{Shape, size_of, pointer, is_there, entry_at, next, order, indices, ring_list}
 use Rattle.gated_ring.proofs.Orders.{Each, each_filter, range_each, order_each, next_below}
 use Rattle.message_model.specs.Sending.{entries_in}

@@ -4,7 +4,7 @@ use Rattle.std.specs.List.{AllByRecursion}
 use Rattle.std.proofs.lemmas.List.Elements.{recursion_from_All}
 use Rattle.byteorder.specs.Endian.{big_bytes}
 use Rattle.byteorder.specs.Numbers.{length-bytes_high_first}
-use Rattle.byte_fields.specs.Fields.{joined}
+use Rattle.card_layout.specs.Fields.{joined}
 use Rattle.message_model.specs.Messages.{Message, AnOverview, ADay, AnEventList, ASpeedList, ATechnical, Overview, DayMessage, EventMessage, SpeedMessage, TechnicalMessage, AreEntries, counted, word_bytes, content_of, overview_bytes, day_bytes, event_bytes, speed_bytes, technical_bytes, IsMessage, IsOverview, IsDayMessage, IsEventMessage, IsSpeedMessage, IsTechnicalMessage}
 
 -- entries of one size

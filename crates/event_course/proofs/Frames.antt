@@ -2,8 +2,8 @@
 use Rattle.std.proofs.Common.{◌≡◌, ◌⊎◌, ⊎_elim, ℕ, ◌+◌, ◌-◌, ◌<◌, ◌≤◌, List, [], ◌∷◌, map, take, drop, Contains, refl, ap, sym, ◌∙◌, arith}
 use Rattle.std.specs.List.{range_with_len}
 use Rattle.std.proofs.lemmas.List.{drop-drop}
-use Rattle.byte_fields.specs.Images.{SameOutside, bytes_at, big_number}
-use Rattle.byte_fields.proofs.Images.{part_before, part_after, part_in}
+use Rattle.card_layout.specs.Images.{SameOutside, bytes_at, big_number}
+use Rattle.card_layout.proofs.Images.{part_before, part_after, part_in}
 use Rattle.gated_ring.specs.Ring.{Shape, size_of, place_of, entry_at}
 use Rattle.gated_ring.proofs.Places.{place_low, place_high}
 use Rattle.unit_model.proofs.Growth.{map_range_same}

@@ -1,7 +1,7 @@
 -- What every image of a unit shows of the events of a run without cards (Annex IB, section III.12; profile).
 use Rattle.std.specs.Prelude.{◌≡◌, ℕ, ◌+◌, ◌<◌, ◌≤◌, min, true, List, [], ◌∷◌, length, replicate, Contains, nat_eq, drop, if◌then◌else◌}
 use Rattle.std.specs.List.{AllByRecursion}
-use Rattle.byte_fields.specs.Images.{bytes_at}
+use Rattle.card_layout.specs.Images.{bytes_at}
 use Rattle.trace_model.specs.declared.Card.{Card}
 use Rattle.trace_model.specs.Trace.{TraceSecond}
 use Rattle.tach_media.specs.Medium.{State}

@@ -3,9 +3,9 @@ use Rattle.std.proofs.Common.{◌≡◌, ◌≢◌, ◌⊎◌, inl, inr, ⊎_eli
 use Rattle.std.specs.Prelude.{◌==◌}
 use Rattle.std.specs.Int.{to_be_bytes, w32}
 use Rattle.std.proofs.lemmas.Bool.{ltb-true, ltb-false, eqb-true, eqb-false, ne_eqb}
-use Rattle.byte_fields.specs.Images.{SameOutside, put, number_at}
-use Rattle.byte_fields.proofs.Images.{outside_same, put_outside}
-use Rattle.byte_fields.proofs.Spelled.{number_before, number_after}
+use Rattle.card_layout.specs.Images.{SameOutside, put, number_at}
+use Rattle.card_layout.proofs.Images.{outside_same, put_outside}
+use Rattle.card_layout.proofs.Spelled.{number_before, number_after}
 use Rattle.gated_ring.specs.Ring.{size_of}
 use Rattle.unit_model.specs.declared.layout.TheConstants.{FIRST_OVER, OVER_COUNT}
 use Rattle.unit_model.specs.Image.{number_of}

@@ -1,7 +1,7 @@
 -- A ring of entries inside an image: a pointer, and behind it places of one width. An entry is there where its gate is not 0.
 use Rattle.std.specs.Prelude.{◌≡◌, ◌⊎◌, ℕ, ◌+◌, ◌-◌, ◌*◌, ◌^◌, ◌<◌, ◌≤◌, Bool, not, ◌||◌, List, [], ◌∷◌, ◌++◌, length, drop, map, filter, replicate, if◌then◌else◌, ◌==◌, true, Option, Some, None}
 use Rattle.std.specs.List.{range_with_len}
-pub use Rattle.byte_fields.specs.Images.{number_at}
+pub use Rattle.card_layout.specs.Images.{number_at}
 use Rattle.tach_media.specs.Medium.{State, bytes_at}
 
 -- where a ring begins, how wide an entry is, how many places there are, how wide the pointer is, and where the gate stands in an entry

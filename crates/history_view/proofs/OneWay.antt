@@ -7,8 +7,8 @@ use Rattle.std.proofs.lemmas.Bool.{lt-ltb, and_from}
 use Rattle.std.proofs.lemmas.Bool.Decides.{nat_tests}
 use Rattle.activity_codec.proofs.ByTest.{by_test}
 use Rattle.byteorder.specs.Endian.{big_number}
-use Rattle.byte_fields.specs.Fields.{joined}
-use Rattle.byte_fields.proofs.Numbers.{big_number-big_bytes}
+use Rattle.card_layout.specs.Fields.{joined}
+use Rattle.card_layout.proofs.Numbers.{big_number-big_bytes}
 use Rattle.tach_media.specs.Medium.{bytes_at}
 use Rattle.card_layout.specs.declared.files.Application.{Application}
 use Rattle.card_layout.specs.Application.{application_of, first_bad_field}

@@ -3,9 +3,9 @@ use Rattle.std.proofs.Common.{◌≡◌, ◌∙◌, ℕ, ◌+◌, ◌*◌, ◌<�
 use Rattle.std.specs.Prelude.{slice_index}
 use Rattle.std.proofs.lemmas.List.{length-take-le, take-append-drop, length-drop, drop-drop}
 use Rattle.byteorder.specs.Endian.{big_number, big_bytes}
-use Rattle.byte_fields.specs.Fields.{joined, IsBytes}
-use Rattle.byte_fields.proofs.Cuts.{IsBytes-drop, IsBytes-take}
-use Rattle.byte_fields.proofs.Numbers.{big_number-big_bytes, big_bytes-big_number}
+use Rattle.card_layout.specs.Fields.{joined, IsBytes}
+use Rattle.card_layout.proofs.Cuts.{IsBytes-drop, IsBytes-take}
+use Rattle.card_layout.proofs.Numbers.{big_number-big_bytes, big_bytes-big_number}
 use Rattle.tach_media.specs.Medium.{bytes_at}
 use Rattle.card_image.specs.CardFile.{FileEntry, entry_bytes, IsFileEntry}
 use Rattle.history_view.specs.declared.entry.EntryAt.{EntryAt}

@@ -3,7 +3,7 @@ use Rattle.std.proofs.Common.{◌≡◌, ◌∙◌, ℕ, zero, suc, ◌+◌, ◌
 use Rattle.std.specs.Prelude.{flat_map, is_some, OnOk, Result, Ok, Err}
 use Rattle.std.proofs.lemmas.List.{length-drop, drop-drop}
 use Rattle.std.proofs.lemmas.List.Elements.{All-append, All-nil}
-use Rattle.byte_fields.specs.Fields.{joined}
+use Rattle.card_layout.specs.Fields.{joined}
 use Rattle.unit_model.specs.Days.{UnitMinute}
 use Rattle.message_model.specs.Messages.{Message, Overview, DayMessage, AnOverview, ADay, AnEventList, ASpeedList, ATechnical, message_bytes, IsMessage, IsUnitFile}
 use Rattle.message_model.specs.Showing.{time_in, told_day, day_minutes, minutes_told as told_by, minutes_in}

@@ -2,7 +2,7 @@
 -- followed by that many entries.
 use Rattle.std.specs.Prelude.{◌≡◌, ℕ, ◌%◌, ◌<◌, ◌^◌, List, [], ◌∷◌, ◌++◌, length, map, All}
 use Rattle.byteorder.specs.Endian.{big_bytes}
-use Rattle.byte_fields.specs.Fields.{joined}
+use Rattle.card_layout.specs.Fields.{joined}
 use Rattle.unit_model.specs.declared.layout.TheConstants.{STATE_CERTIFICATE, UNIT_CERTIFICATE, VIN, REGISTRATION, IDENTIFICATION, SENSOR}
 use Rattle.unit_model.specs.Days.{word_minute}
 use Rattle.message_model.specs.declared.sizes.TheConstants.{LAST_DOWNLOAD, LOCK, CONTROL, SIGNATURE, INSERTION, PLACE, CONDITION, FAULT, EVENT, OVER, ADJUSTMENT, SPEED_BLOCK, CALIBRATION}

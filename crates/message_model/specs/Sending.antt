@@ -1,8 +1,8 @@
 -- The messages that a unit sends, of its image (Appendix 7; what it puts into the fields: profile).
 use Rattle.std.specs.Prelude.{ℕ, ◌*◌, ◌/◌, ◌<◌, Bool, ◌||◌, Option, Some, None, option_map, List, [], ◌∷◌, ◌++◌, map, filter, find, replicate, nat_eq}
 use Rattle.std.specs.List.{range_with_len}
-use Rattle.byte_fields.specs.Images.{bytes_at}
-use Rattle.byte_fields.specs.Fields.{joined}
+use Rattle.card_layout.specs.Images.{bytes_at}
+use Rattle.card_layout.specs.Fields.{joined}
 use Rattle.gated_ring.specs.Ring.{Shape, is_there, entry_at, ring_list}
 use Rattle.unit_model.specs.declared.layout.Field.{Field}
 use Rattle.unit_model.specs.declared.layout.TheConstants.{VIN, REGISTRATION, IDENTIFICATION, SENSOR, STATE_CERTIFICATE, UNIT_CERTIFICATE, FIRST_OVER, OVER_COUNT, EVENTS, OVERS, FAULTS}

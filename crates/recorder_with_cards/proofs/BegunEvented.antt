@@ -2,7 +2,7 @@
 use Rattle.std.proofs.Common.{◌≡◌, ◌∙◌, ◌-◌, ◌/◌, ◌%◌, ◌≤◌, Bool, true, false, cond, nat_eq, List, [], refl, ap, sym, subst}
 use Rattle.trace_model.specs.Trace.{TraceSecond}
 use Rattle.tach_media.specs.Medium.{State}
-use Rattle.chip_model.specs.declared.command.CardState.{CardState}
+use Rattle.card_layout.specs.declared.command.CardState.{CardState}
 use Rattle.log_model.specs.Log.{RunLog, In}
 use Rattle.log_model.specs.Course.{Told, went}
 use Rattle.event_model.specs.Events.{Seen, seen_of, seen_spans}

@@ -4,9 +4,9 @@ use Rattle.std.proofs.Common.{◌≡◌, ◌∙◌, ◌⊎◌, inl, inr, ⊎_eli
 use Rattle.std.proofs.lemmas.Bool.{cases_lt}
 use Rattle.std.proofs.lemmas.List.{get_or_past, length-take, length-drop}
 use Rattle.std.proofs.lemmas.List.Elements.{All-get_or, All-take, All-drop}
-use Rattle.byte_fields.specs.Fields.{IsBytes, field_at}
-use Rattle.byte_fields.proofs.Cuts.{IsBytes-drop, IsBytes-take}
-use Rattle.byte_fields.proofs.Numbers.{big_bytes-big_number}
+use Rattle.card_layout.specs.Fields.{IsBytes, field_at}
+use Rattle.card_layout.proofs.Cuts.{IsBytes-drop, IsBytes-take}
+use Rattle.card_layout.proofs.Numbers.{big_bytes-big_number}
 use Rattle.activity_codec.specs.declared.values.Slot.{Slot}
 use Rattle.activity_codec.specs.declared.values.Slot.TheVariants.{Driver, CoDriver}
 use Rattle.activity_codec.specs.Words.{slot_number as slot_told}

@@ -1,7 +1,7 @@
 -- A card is judged: the places of each card stay as they are, whatever becomes of it.
 use Rattle.std.proofs.Common.{◌≡◌, ◌∙◌, ◌⊎◌, inl, inr, ⊎_elim, ℕ, ◌+◌, ◌≤◌, Bool, Option, None, List, [], ◌∷◌, ◌++◌, length, take, drop, refl, sym, ap, subst, arith}
 use Rattle.std.proofs.lemmas.List.{take-take, drop-take, take_at, length-take-le, length-append}
-use Rattle.byte_fields.proofs.Images.{part_before}
+use Rattle.card_layout.proofs.Images.{part_before}
 use Rattle.activity_codec.specs.declared.values.Activity.TheVariants.{Rest}
 use Rattle.activity_codec.specs.declared.entries.Entry.{Entry}
 use Rattle.trace_model.specs.declared.Card.{Card}

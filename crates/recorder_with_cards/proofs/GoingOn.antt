@@ -4,7 +4,7 @@ use Rattle.trace_model.specs.declared.Card.{Card}
 use Rattle.trace_model.specs.declared.Card.TheVariants.{A, B}
 use Rattle.trace_model.specs.Trace.{TraceSecond}
 use Rattle.tach_media.specs.Medium.{State}
-use Rattle.chip_model.specs.declared.command.CardState.{CardState}
+use Rattle.card_layout.specs.declared.command.CardState.{CardState}
 use Rattle.minute_model.specs.Span.{Span, end_of, ungiven_of}
 use Rattle.minute_rules.specs.Kept.{StandsFor, Kept as Minutes}
 use Rattle.log_model.specs.Log.{In}

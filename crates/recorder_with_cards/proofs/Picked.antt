@@ -3,7 +3,7 @@ use Rattle.std.proofs.Common.{◌≡◌, ◌∙◌, ℕ, ◌+◌, ◌-◌, ◌*�
 use Rattle.activity_codec.specs.declared.values.Slot.{Slot}
 use Rattle.activity_codec.specs.declared.values.Pick.{Pick}
 use Rattle.tach_media.specs.Medium.{State}
-use Rattle.chip_model.specs.declared.command.CardState.{CardState}
+use Rattle.card_layout.specs.declared.command.CardState.{CardState}
 use Rattle.minute_model.specs.Span.{Span, end_of, ungiven_of, picked}
 use Rattle.minute_rules.specs.Kept.{StandsFor, Kept as Minutes}
 use Rattle.run_outcome.specs.declared.outcome.Outcome.{Outcome}

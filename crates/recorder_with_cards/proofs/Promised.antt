@@ -15,7 +15,7 @@ use Rattle.card_judge.proofs.Copies.{place_shape}
 use Rattle.gated_ring.specs.Ring.{PointsInside, IsDense}
 use Rattle.device_steps.proofs.Passed.{valid-passes, pointer-passes}
 use Rattle.card_times.specs.Times.{IsTimed}
-use Rattle.chip_model.specs.declared.command.CardState.{CardState}
+use Rattle.card_layout.specs.declared.command.CardState.{CardState}
 use Rattle.tacho_types.specs.declared.card_number.FullCardNumber.{FullCardNumber}
 use Rattle.tacho_types.specs.CardNumber.{card_number_bytes, card_number_of}
 use Rattle.log_model.specs.Log.{RunLog}

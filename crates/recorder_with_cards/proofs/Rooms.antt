@@ -8,7 +8,7 @@ use Rattle.run_acts.specs.declared.run.Power.TheVariants.{Lit, Due, Lost}
 use Rattle.run_acts.specs.Power.{is_lit}
 use Rattle.run_acts.specs.Room.{waiting, waiting_of, falls_of, bare_seats, finds_due, cuts_within, HasRoomFrom, HasRoomWithin, Takes}
 use Rattle.tach_media.specs.Medium.{State}
-use Rattle.chip_model.specs.declared.command.CardState.{CardState}
+use Rattle.card_layout.specs.declared.command.CardState.{CardState}
 use Rattle.run_acts.specs.Going.{IsLit}
 use Rattle.run_acts.proofs.Kept.{owing-sum}
 use Rattle.run_acts.proofs.Torn.{bare-two}

@@ -5,7 +5,7 @@ use Rattle.trace_model.specs.declared.Card.{Card}
 use Rattle.trace_model.specs.declared.Card.TheVariants.{A, B}
 use Rattle.tach_media.specs.Medium.{State, LeavesOnly, HasCause, HasBroken, broken_by}
 use Rattle.tach_media.proofs.Breakdowns.{none_broken, call_broken, fewer_broken}
-use Rattle.chip_model.specs.declared.command.CardState.{CardState}
+use Rattle.card_layout.specs.declared.command.CardState.{CardState}
 use Rattle.card_layout.specs.declared.files.Application.{Application}
 use Rattle.card_commands.specs.Ports.{IsPort}
 use Rattle.device_steps.specs.CardNotes.{IsNote}

@@ -10,10 +10,10 @@ use Rattle.log_model.specs.Slots.{same_card}
 use Rattle.log_model.specs.declared.lines.Break.{Break}
 use Rattle.tach_media.specs.Medium.{State, IsCoherent, LeavesOnly}
 use Rattle.tach_media.proofs.Runs.{at_image}
-use Rattle.chip_model.specs.declared.command.CardState.{CardState}
+use Rattle.card_layout.specs.declared.command.CardState.{CardState}
 use Rattle.card_layout.specs.declared.files.Application.{Application}
 use Rattle.card_records.specs.declared.card_event.CardEvent.{CardEvent}
-use Rattle.byte_fields.proofs.Images.{part_before}
+use Rattle.card_layout.proofs.Images.{part_before}
 use Rattle.tacho_types.specs.declared.places.PlaceEntry.{PlaceEntry}
 use Rattle.tacho_types.specs.declared.card_number.FullCardNumber.{FullCardNumber}
 use Rattle.card_layout.specs.Files.{files_of, place_of, size_of}

@@ -8,7 +8,7 @@ use Rattle.tach_media.proofs.Runs.{at_image}
 use Rattle.tacho_types.specs.declared.places.PlaceEntry.{PlaceEntry}
 use Rattle.tacho_types.specs.declared.card_number.FullCardNumber.{FullCardNumber}
 use Rattle.activity_codec.specs.declared.values.Activity.{Activity}
-use Rattle.chip_model.specs.declared.command.CardState.{CardState}
+use Rattle.card_layout.specs.declared.command.CardState.{CardState}
 use Rattle.card_layout.specs.declared.files.Application.{Application}
 use Rattle.card_image.specs.Own.{IsOwnValid}
 use Rattle.card_records.specs.Noting.{IsNotingPlace, IsPlaceNoted}

@@ -4,10 +4,10 @@ use Rattle.std.specs.Prelude.{◌==◌}
 use Rattle.std.proofs.lemmas.Bool.{cases_eq}
 use Rattle.std.proofs.lemmas.Bool.Decides.{nat_tests}
 use Rattle.std.proofs.lemmas.List.{map-append, length-map, length-take, length-drop}
-use Rattle.byte_fields.specs.Images.{bytes_at, put, big_number}
-use Rattle.byte_fields.specs.Fields.{field_at}
-use Rattle.byte_fields.proofs.Images.{put_outside}
-use Rattle.byte_fields.proofs.Fields.{field_stays}
+use Rattle.card_layout.specs.Images.{bytes_at, put, big_number}
+use Rattle.card_layout.specs.Fields.{field_at}
+use Rattle.card_layout.proofs.Images.{put_outside}
+use Rattle.card_layout.proofs.Fields.{field_stays}
 use Rattle.tach_media.specs.Medium.{State, IsCoherent, LeavesOnly}
 use Rattle.tacho_types.specs.declared.numbers.TimeReal.{TimeReal}
 use Rattle.tacho_types.specs.declared.numbers.Odometer.{Odometer}

@@ -1,6 +1,6 @@
 -- What a card that enters is noted with on the unit leaves its last-kept minute, its odometer and its days alone.
 use Rattle.std.proofs.Common.{⊎_elim, inr, inl, ℕ, List, [], ◌∷◌, arith}
-use Rattle.byte_fields.specs.Images.{SameOutside}
+use Rattle.card_layout.specs.Images.{SameOutside}
 use Rattle.tach_media.specs.Medium.{State, IsCoherent, LeavesOnly}
 use Rattle.gated_ring.specs.Ring.{size_of}
 use Rattle.message_model.specs.Records.{insertion_ring}

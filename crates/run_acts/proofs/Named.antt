@@ -13,7 +13,7 @@ use Rattle.run_rule.specs.Found.{found_of}
 use Rattle.run_crew.specs.declared.cabin.Cabin.{Cabin}
 use Rattle.run_present.specs.Presence.{PresentStand, sits}
 use Rattle.run_recorded.specs.Origin.{Origin}
-use Rattle.byte_fields.specs.Fields.{number_in as field_number, field_at}
+use Rattle.card_layout.specs.Fields.{number_in as field_number, field_at}
 use Rattle.tacho_types.specs.declared.card_number.FullCardNumber.{FullCardNumber}
 use Rattle.tacho_types.specs.CardNumber.{card_number_widths, card_number_bytes, card_number_of}
 use Rattle.run_told.specs.Told.{AreFoundCards}

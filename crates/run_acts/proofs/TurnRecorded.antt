@@ -3,7 +3,7 @@ use Rattle.std.proofs.Common.{◌≡◌, ◌⊎◌, inl, inr, ⊎_elim, ℕ, zer
 use Rattle.trace_model.specs.declared.Action.{Action}
 use Rattle.trace_model.specs.Trace.{TraceSecond, driven}
 use Rattle.tach_media.specs.Medium.{State}
-use Rattle.chip_model.specs.declared.command.CardState.{CardState}
+use Rattle.card_layout.specs.declared.command.CardState.{CardState}
 use Rattle.run_model.specs.declared.Device.TheVariants.{Unit as Recorder}
 use Rattle.minute_model.specs.declared.Minute.{Minute}
 use Rattle.minute_model.specs.Span.{Span, fed_many, decided_in, ungiven_of}

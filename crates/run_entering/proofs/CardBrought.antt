@@ -16,7 +16,7 @@ use Rattle.event_model.specs.declared.kinds.TheConstants.{INSERTION_WHILE_DRIVIN
 use Rattle.run_entering.specs.declared.lines.Entering.{Entering}
 use Rattle.trace_model.specs.declared.Card.{Card}
 use Rattle.trace_model.specs.declared.Card.TheVariants.{A, B}
-use Rattle.chip_model.specs.declared.command.CardState.{CardState}
+use Rattle.card_layout.specs.declared.command.CardState.{CardState}
 use Rattle.run_crew.specs.Cards.{known_of}
 use Rattle.run_crew.specs.Cabin.{with_accepted}
 use Rattle.run_keeping.specs.declared.keeper.Keeper.{Keeper}

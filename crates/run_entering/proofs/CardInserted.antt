@@ -7,8 +7,8 @@ use Rattle.activity_codec.proofs.ByTest.{by_test}
 use Rattle.activity_codec.specs.declared.values.Activity.{Activity}
 use Rattle.activity_codec.specs.declared.values.Activity.TheVariants.{Rest}
 use Rattle.activity_codec.specs.declared.entries.Entry.{Entry}
-use Rattle.byte_fields.specs.Images.{bytes_at, put, SameOutside}
-use Rattle.byte_fields.proofs.Images.{part_before}
+use Rattle.card_layout.specs.Images.{bytes_at, put, SameOutside}
+use Rattle.card_layout.proofs.Images.{part_before}
 use Rattle.tacho_types.specs.declared.texts.Registration.{Registration}
 use Rattle.tacho_types.specs.Numbers.{time_bytes}
 use Rattle.card_layout.specs.declared.files.Application.{Application}

@@ -8,9 +8,9 @@ use Rattle.std.proofs.lemmas.List.FromFn.{length-map-range_with_len, get_or-map-
 use Rattle.std.proofs.lemmas.List.Sums.{position_or_len_is}
 use Rattle.std.proofs.Math.Nat.{mul-le-mul_right}
 use Rattle.activity_codec.proofs.ByTest.{by_test}
-use Rattle.byte_fields.specs.Images.{bytes_at, number_at, SameOutside}
-use Rattle.byte_fields.proofs.Images.{part_before, part_after, part_in}
-use Rattle.byte_fields.proofs.Spelled.{number_within}
+use Rattle.card_layout.specs.Images.{bytes_at, number_at, SameOutside}
+use Rattle.card_layout.proofs.Images.{part_before, part_after, part_in}
+use Rattle.card_layout.proofs.Spelled.{number_within}
 use Rattle.card_layout.specs.declared.files.Application.{Application}
 use Rattle.card_layout.specs.Files.{files_of, place_of as place_of_file, size_of as size_of_file}
 use Rattle.gated_ring.specs.Ring.{Shape, entry_at, gate_of, place_of, is_there, size_of as ring_size, with_head}

@@ -15,7 +15,7 @@ use Rattle.run_crew.specs.declared.cabin.Cabin.{Cabin}
 use Rattle.run_crew.specs.Cards.{known_of, session_of}
 use Rattle.run_crew.specs.Cabin.{with_accepted, with_sizes_of}
 use Rattle.card_layout.specs.declared.files.Application.{Application}
-use Rattle.chip_model.specs.declared.command.CardState.{CardState}
+use Rattle.card_layout.specs.declared.command.CardState.{CardState}
 use Rattle.card_layout.specs.Application.{application_in}
 use Rattle.card_commands.specs.Ports.{IsPort, IsJudged}
 use Rattle.card_image.specs.Own.{own_sizes}

@@ -2,7 +2,7 @@
 -- profile).
 use Rattle.std.specs.Prelude.{◌≡◌, ◌≢◌, ◌⊎◌, ℕ, ◌&&◌, Bool, true, false, Option, Some, None, List, [], ◌∷◌, ◌++◌, length, drop, map, filter, fold, nat_eq, slice_index_or, slice_set, if◌then◌else◌}
 use Rattle.std.specs.List.{range_with_len, list_any}
-use Rattle.byte_fields.specs.Fields.{number_in}
+use Rattle.card_layout.specs.Fields.{number_in}
 use Rattle.tach_media.specs.Medium.{State}
 use Rattle.card_layout.specs.declared.files.Application.{Application}
 use Rattle.gated_ring.specs.Ring.{entry_at}

@@ -5,7 +5,7 @@ use Rattle.tacho_types.specs.CardNumber.{card_number_bytes}
 use Rattle.tacho_types.specs.declared.texts.Registration.{Registration}
 use Rattle.card_layout.specs.declared.files.Application.{Application}
 use Rattle.card_layout.specs.Application.{application_in, first_bad_field}
-use Rattle.chip_model.specs.declared.command.CardState.{CardState}
+use Rattle.card_layout.specs.declared.command.CardState.{CardState}
 use Rattle.card_commands.specs.Ports.{IsPort}
 use Rattle.card_image.specs.Own.{own_sizes}
 use Rattle.card_image.specs.Fields.{session_time, end_mark}

@@ -10,7 +10,7 @@ use Rattle.card_layout.specs.declared.files.Fid.{Fid}
 use Rattle.card_records.specs.declared.vehicle.Vehicle.{Vehicle}
 use Rattle.card_session.specs.Sessions.{Session}
 use Rattle.card_layout.specs.Application.{application_in, first_bad_field, place_of_field}
-use Rattle.chip_model.specs.declared.command.CardState.{CardState}
+use Rattle.card_layout.specs.declared.command.CardState.{CardState}
 use Rattle.card_commands.specs.Ports.{IsPort}
 use Rattle.card_image.specs.Judging.{first_bad_file, IsValid}
 use Rattle.card_image.specs.View.{card_view}

@@ -1,6 +1,6 @@
 ghost use Rattle.std.specs.Prelude.{◌≡◌, ◌≢◌, ℕ, suc, ◌+◌, ◌^◌, ◌<◌, ◌≤◌, true, false, List, [], ◌∷◌, ◌++◌, All, length, take, Contains};
 ghost use Rattle.std.specs.List.{AllByRecursion};
-ghost use Rattle.byte_fields.specs.Images.{SameOutside};
+ghost use Rattle.card_layout.specs.Images.{SameOutside};
 ghost use Rattle.trace_model.specs.declared.Card.{Card};
 ghost use Rattle.trace_model.specs.Trace.{TraceSecond};
 ghost use Rattle.tacho_types.specs.declared.card_number.FullCardNumber.{FullCardNumber};

@@ -7,7 +7,7 @@ use Rattle.trace_model.specs.declared.Card.TheVariants.{A, B}
 use Rattle.tach_media.specs.Medium.{State, IsCoherent, LeavesOnly, IsSettled, last_count}
 use Rattle.tach_media.proofs.Runs.{if_told}
 use Rattle.log_model.specs.declared.lines.Mark.{Mark}
-use Rattle.chip_model.specs.declared.command.CardState.{CardState}
+use Rattle.card_layout.specs.declared.command.CardState.{CardState}
 use Rattle.card_layout.specs.declared.files.Application.{Application}
 use Rattle.card_layout.specs.Files.{image_size_of}
 use Rattle.card_layout.proofs.Sizes.{largest_image}

@@ -10,7 +10,7 @@ use Rattle.tach_media.proofs.Runs.{at_image, told_too}
 use Rattle.tacho_types.specs.declared.numbers.Odometer.{Odometer}
 use Rattle.tacho_types.specs.declared.texts.Registration.{Registration}
 use Rattle.tacho_types.specs.Numbers.{time_bytes}
-use Rattle.byte_fields.proofs.Images.{put_outside}
+use Rattle.card_layout.proofs.Images.{put_outside}
 use Rattle.card_layout.specs.declared.files.Application.{Application}
 use Rattle.card_layout.specs.Application.{IsApplication}
 use Rattle.card_layout.specs.Files.{place_of, image_size_of}

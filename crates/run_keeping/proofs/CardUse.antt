@@ -1,8 +1,8 @@
 -- The current use of a card, as calls write its file or leave it.
 use Rattle.std.proofs.Common.{◌≡◌, ◌⊎◌, inl, inr, ⊎_elim, ℕ, ◌+◌, ◌<◌, ◌≤◌, ◌^◌, List, [], ◌∷◌, length, refl, sym, ◌∙◌, ap, arith}
-use Rattle.byte_fields.specs.Images.{big_number, bytes_at, SameOutside}
-use Rattle.byte_fields.proofs.Images.{part_after, part_put, part_in, put_outside}
-use Rattle.byte_fields.proofs.Numbers.{big_number-big_bytes}
+use Rattle.card_layout.specs.Images.{big_number, bytes_at, SameOutside}
+use Rattle.card_layout.proofs.Images.{part_after, part_put, part_in, put_outside}
+use Rattle.card_layout.proofs.Numbers.{big_number-big_bytes}
 use Rattle.tacho_types.specs.declared.texts.Registration.{Registration}
 use Rattle.tacho_types.specs.Numbers.{time_bytes}
 use Rattle.card_layout.specs.declared.files.Application.{Application}

@@ -1,7 +1,7 @@
 -- The unit over a note: it is the same, what the journal knows is so still, and each row is there; and what might be left of a device.
 use Rattle.std.proofs.Common.{◌≡◌, ◌∙◌, ⊎_elim, ℕ, ◌-◌, ◌<◌, ◌≤◌, true, Option, List, IfSome, ap, subst, sym, arith}
 use Rattle.std.specs.Prelude.{Result}
-use Rattle.byte_fields.proofs.Images.{part_in}
+use Rattle.card_layout.proofs.Images.{part_in}
 use Rattle.tach_media.specs.Medium.{State, IsCoherent, LeavesOnly, bytes_at}
 use Rattle.tach_media.proofs.Runs.{at_image, if_told}
 use Rattle.unit_model.specs.Image.{IsUnit}

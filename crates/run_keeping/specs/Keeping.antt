@@ -7,7 +7,7 @@ use Rattle.activity_codec.specs.declared.values.Slot.TheVariants.{Driver, CoDriv
 use Rattle.trace_model.specs.declared.Card.{Card}
 use Rattle.trace_model.specs.declared.Card.TheVariants.{A, B}
 use Rattle.tach_media.specs.Medium.{State, HasCause}
-use Rattle.chip_model.specs.declared.command.CardState.{CardState}
+use Rattle.card_layout.specs.declared.command.CardState.{CardState}
 use Rattle.card_layout.specs.declared.files.Application.{Application}
 use Rattle.card_commands.specs.Ports.{IsPort}
 use Rattle.card_session.specs.declared.session.Kept.{Kept}

@@ -7,7 +7,7 @@ use Rattle.card_layout.specs.declared.files.TheConstants.{LARGEST_IMAGE}
 use Rattle.card_layout.specs.Application.{IsApplication, first_bad_field, place_of_field, application_in, application_of}
 use Rattle.card_layout.specs.Files.{files_of, image_size_of}
 use Rattle.card_layout.proofs.Sizes.{largest_image}
-use Rattle.chip_model.specs.declared.command.CardState.{CardState}
+use Rattle.card_layout.specs.declared.command.CardState.{CardState}
 use Rattle.tacho_types.specs.declared.card_number.FullCardNumber.{FullCardNumber}
 use Rattle.tacho_types.specs.CardNumber.{card_number_bytes, card_number_of}
 use Rattle.tach_media.specs.Medium.{State, IsCoherent}

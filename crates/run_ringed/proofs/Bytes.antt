@@ -1,8 +1,8 @@
 -- What the bytes of an insertion and of a place tell, as side_model has an entry stand for a note.
 use Rattle.std.proofs.Common.{◌≡◌, ◌∙◌, ℕ, ◌+◌, ◌<◌, ◌^◌, Bool, true, false, None, List, [], ◌∷◌, length, refl, ap, sym, arith}
 use Rattle.std.specs.Prelude.{slice_index_or}
-use Rattle.byte_fields.specs.Fields.{joined, field_at, number_in}
-use Rattle.byte_fields.proofs.Cuts.{cut-joined}
+use Rattle.card_layout.specs.Fields.{joined, field_at, number_in}
+use Rattle.card_layout.proofs.Cuts.{cut-joined}
 use Rattle.byteorder.specs.Numbers.{length-bytes_high_first}
 use Rattle.activity_codec.specs.Words.{slot_number}
 use Rattle.trace_model.specs.declared.Card.{Card}

@@ -1,6 +1,6 @@
 -- At the end of a run its rings are shown.
 use Rattle.std.proofs.Common.{◌≡◌, ℕ, List, sym, subst, ◌⊎◌}
-use Rattle.byte_fields.specs.Fields.{field_at}
+use Rattle.card_layout.specs.Fields.{field_at}
 use Rattle.trace_model.specs.declared.Card.{Card}
 use Rattle.card_image.specs.Fields.{file_bytes, newest_vehicle}
 use Rattle.card_image.specs.Own.{own_sizes, own_number}

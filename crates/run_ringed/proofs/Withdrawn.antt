@@ -2,11 +2,11 @@
 use Rattle.std.proofs.Common.{◌≡◌, ◌≢◌, ◌⊎◌, inl, inr, ⊎_elim, ℕ, ◌+◌, ◌<◌, ◌≤◌, ◌^◌, Bool, true, false, ◌||◌, Option, Some, None, IfSome, List, [], ◌∷◌, ◌++◌, length, refl, ap, sym, subst, ◌∙◌, arith, append_assoc, append-nil}
 use Rattle.std.specs.List.{list_any}
 use Rattle.std.proofs.lemmas.List.{length-map, length-append}
-use Rattle.byte_fields.specs.Images.{bytes_at, put, big_number}
-use Rattle.byte_fields.specs.Fields.{field_at, number_in}
-use Rattle.byte_fields.proofs.Images.{put_outside}
-use Rattle.byte_fields.proofs.Fields.{field_put, field_stays}
-use Rattle.byte_fields.proofs.Numbers.{big_number-big_bytes}
+use Rattle.card_layout.specs.Images.{bytes_at, put, big_number}
+use Rattle.card_layout.specs.Fields.{field_at, number_in}
+use Rattle.card_layout.proofs.Images.{put_outside}
+use Rattle.card_layout.proofs.Fields.{field_put, field_stays}
+use Rattle.card_layout.proofs.Numbers.{big_number-big_bytes}
 use Rattle.tacho_types.specs.declared.numbers.TimeReal.{TimeReal}
 use Rattle.tacho_types.specs.declared.numbers.Odometer.{Odometer}
 use Rattle.tacho_types.specs.Numbers.{time_bytes, odometer_bytes}

@@ -3,7 +3,7 @@ use Rattle.std.specs.Prelude.{◌≡◌, ◌⊎◌, ℕ, Bool, true, false, not,
 use Rattle.std.specs.List.{list_any}
 use Rattle.trace_model.specs.declared.Card.{Card}
 use Rattle.tacho_types.specs.declared.places.PlaceEntry.{PlaceEntry}
-use Rattle.byte_fields.specs.Fields.{total_width}
+use Rattle.card_layout.specs.Fields.{total_width}
 use Rattle.tacho_types.specs.Places.{place_widths, place_bytes}
 use Rattle.tach_media.specs.Medium.{State, bytes_at}
 use Rattle.gated_ring.specs.Ring.{Shape, IsShape, PointsInside, IsDense, size_of}

@@ -4,7 +4,7 @@ use Rattle.std.specs.Prelude.{◌==◌, if◌then◌else◌}
 use Rattle.std.specs.List.{AllByRecursion}
 use Rattle.std.proofs.lemmas.Bool.{ltb-true, ltb-false}
 use Rattle.std.proofs.lemmas.List.{take-append-drop, length-drop, map-append, length-map}
-use Rattle.byte_fields.specs.Images.{SameOutside, bytes_at}
+use Rattle.card_layout.specs.Images.{SameOutside, bytes_at}
 use Rattle.gated_ring.specs.Ring.{Shape, IsShape, PointsInside, size_of, pointer, indices, ring_list, entry_at, taken, with_head, IsDense, newest_of}
 use Rattle.gated_ring.specs.Change.{IsShortened, IsExtended, IsAdding, IsAdded}
 use Rattle.gated_ring.proofs.Elsewhere.{ring_outside, ring_elsewhere}

@@ -2,7 +2,7 @@
 use Rattle.std.proofs.Common.{◌≡◌, ◌⊎◌, inl, inr, ℕ, suc, ◌+◌, ◌-◌, ◌≤◌, Bool, true, false, cond, not, List, [], ◌∷◌, ◌++◌, length, filter, refl, ap, ◌∙◌, arith, length-append}
 use Rattle.std.proofs.lemmas.List.{length-drop, length-map}
 use Rattle.std.proofs.lemmas.List.Elements.{filter-append}
-use Rattle.byte_fields.specs.Images.{bytes_at}
+use Rattle.card_layout.specs.Images.{bytes_at}
 use Rattle.gated_ring.specs.Ring.{Shape, IsShape, PointsInside, size_of, indices, ring_list, entry_at, taken, with_head, newest_of, IsDense}
 use Rattle.gated_ring.specs.Change.{IsShortened, IsExtended, IsAdded, IsAdding}
 use Rattle.gated_ring.proofs.Elsewhere.{ring_elsewhere}

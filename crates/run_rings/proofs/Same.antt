@@ -1,7 +1,7 @@
 -- Which bytes lie outside both rings.
 use Rattle.std.proofs.Common.{◌≡◌, ◌⊎◌, inl, inr, ⊎_elim, ℕ, ◌+◌, ◌*◌, ◌-◌, ◌≤◌, Bool, true, false, cond, nat_eq, List, take, drop, refl, ap, sym, ◌∙◌, arith}
 use Rattle.std.proofs.lemmas.List.{drop-drop}
-use Rattle.byte_fields.specs.Images.{SameOutside, bytes_at}
+use Rattle.card_layout.specs.Images.{SameOutside, bytes_at}
 use Rattle.tach_media.specs.Medium.{State, IsCoherent, LeavesOnly}
 use Rattle.gated_ring.specs.Ring.{size_of}
 use Rattle.gated_ring.proofs.Elsewhere.{ring_outside}

@@ -1,6 +1,6 @@
 -- Calls that leave the rings of insertions and places of a unit as they are (profile).
 use Rattle.std.specs.Prelude.{◌≡◌, ℕ, List}
-use Rattle.byte_fields.specs.Images.{bytes_at}
+use Rattle.card_layout.specs.Images.{bytes_at}
 use Rattle.tach_media.specs.Medium.{State}
 use Rattle.gated_ring.specs.Ring.{size_of}
 use Rattle.message_model.specs.Records.{insertion_ring, unit_place_ring}

@@ -1,6 +1,6 @@
 -- What no call writes of a card stays as it is in each note, keep, closing and insertion, and the places in all but the note of one.
 use Rattle.std.proofs.Common.{◌≡◌, ◌≢◌, ◌⊎◌, inl, inr, ⊎_elim, ℕ, ◌+◌, ◌<◌, ◌≤◌, List, length, Option, sym, ◌∙◌, ap, subst, arith}
-use Rattle.byte_fields.proofs.Images.{part_after, part_before, put_outside}
+use Rattle.card_layout.proofs.Images.{part_after, part_before, put_outside}
 use Rattle.activity_codec.specs.declared.values.Activity.{Activity}
 use Rattle.activity_codec.specs.declared.values.Activity.TheVariants.{Rest}
 use Rattle.activity_codec.specs.declared.entries.Entry.{Entry}

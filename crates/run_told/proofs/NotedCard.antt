@@ -1,7 +1,7 @@
 -- An event or a place is noted on a card: its string and its session stay.
 use Rattle.std.proofs.Common.{◌≡◌, inl, inr, ⊎_elim, ℕ, ◌+◌, ◌/◌, ◌<◌, ◌≤◌, Option, option_map, List, [], ◌∷◌, length, refl, ap, subst, ◌∙◌, sym, arith}
 use Rattle.tach_media.specs.Medium.{bytes_at, SameOutside}
-use Rattle.byte_fields.specs.Images.{big_number}
+use Rattle.card_layout.specs.Images.{big_number}
 use Rattle.tach_media.proofs.Images.{part_after, part_put}
 use Rattle.card_layout.specs.Files.{files_of, image_size_of, place_of, size_of}
 use Rattle.card_records.specs.Rings.{event_ring}

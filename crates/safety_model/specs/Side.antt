@@ -1,7 +1,7 @@
 -- The auxiliary records of a run (profile): what every image that a stop may leave of the unit shows beside the minutes.
 use Rattle.std.specs.Prelude.{◌≡◌, ℕ, ◌+◌, min, Bool, true, not, Option, Some, None, List, [], ◌∷◌, length, replicate, Contains, nat_eq, if◌then◌else◌}
 use Rattle.std.specs.List.{list_all}
-use Rattle.byte_fields.specs.Fields.{field_at}
+use Rattle.card_layout.specs.Fields.{field_at}
 use Rattle.trace_model.specs.declared.Card.{Card}
 use Rattle.tach_media.specs.Medium.{State}
 use Rattle.gated_ring.specs.Ring.{IsDense}

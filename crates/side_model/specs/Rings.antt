@@ -1,6 +1,6 @@
 -- What the rings of insertions and places of a unit show of a run (profile).
 use Rattle.std.specs.Prelude.{◌≡◌, ◌⊎◌, ℕ, ◌+◌, ◌≤◌, Bool, true, false, not, Option, Some, None, List, [], ◌∷◌, ◌++◌, length, filter, if◌then◌else◌}
-use Rattle.byte_fields.specs.Fields.{field_at, number_in}
+use Rattle.card_layout.specs.Fields.{field_at, number_in}
 use Rattle.activity_codec.specs.Words.{slot_number}
 use Rattle.trace_model.specs.declared.Card.{Card}
 use Rattle.gated_ring.specs.Ring.{Shape, ring_list}

@@ -1,8 +1,8 @@
 -- The places of a unit's events and faults after a run (Appendix 1, VuEventRecord, VuOverSpeedingEventRecord, VuFaultRecord).
 use Rattle.std.specs.Prelude.{◌≡◌, ℕ, ◌+◌, ◌-◌, ◌*◌, Bool, true, false, Option, Some, None, option_map, List, [], ◌∷◌, length, map, slice_set, slice_index_or, replicate, nat_eq, if◌then◌else◌}
 use Rattle.std.specs.List.{range_with_len}
-use Rattle.byte_fields.specs.Images.{bytes_at}
-use Rattle.byte_fields.specs.Fields.{field_at, number_in, total_width}
+use Rattle.card_layout.specs.Images.{bytes_at}
+use Rattle.card_layout.specs.Fields.{field_at, number_in, total_width}
 use Rattle.trace_model.specs.declared.Card.{Card}
 use Rattle.gated_ring.specs.Ring.{Shape, entry_at}
 use Rattle.unit_model.specs.declared.layout.TheConstants.{EVENTS, OVERS, FAULTS}

@@ -2,7 +2,7 @@
 use Rattle.std.specs.Borrow.{GName}
 use Rattle.std.proofs.Common.{◌≡◌, ℕ, Bool, List, ◌∷◌, ap}
 use Rattle.tach_media.specs.Medium.{State, Layer, Reference, LeavesOnly, Reads, HasCause, lent}
-use Rattle.chip_model.specs.Outcomes.{Effect, nothing, gives, puts}
+use Rattle.card_layout.specs.Outcomes.{Effect, nothing, gives, puts}
 use Rattle.tach_media.specs.Chip.{Does}
 
 module _ (name : GName) {old new : State} where

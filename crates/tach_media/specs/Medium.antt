@@ -1,8 +1,8 @@
 -- What a medium tells of itself, and what its calls do to that.
 use Rattle.std.specs.Prelude.{◌≡◌, ◌⊎◌, ℕ, ◌+◌, ◌≤◌, ◌<◌, ◌^◌, ◌-◌, ◌/◌, min, max, ◌&&◌, if◌then◌else◌, Bool, true, false, not, List, [], ◌∷◌, length, Option, Some, is_some, option_map}
 use Rattle.std.specs.Borrow.{GName}
-pub use Rattle.byte_fields.specs.Images.{bytes_at, put, SameOutside}
-pub use Rattle.chip_model.specs.Layers.{Layer, Reference, Commands}
+pub use Rattle.card_layout.specs.Images.{bytes_at, put, SameOutside}
+pub use Rattle.card_layout.specs.Layers.{Layer, Reference, Commands}
 
 -- A medium as far as it tells. One that doesn't tell its image tells of no image that a stop may leave.
 pub record State : Type 1 where

@@ -29,7 +29,7 @@ impl Chip for AbsentChip {
 
     ghost state = { λ m. untold_state m.size ((0, m.size) ∷ []) 0 false m.faults m.breakdowns };
 
-    ghost use Rattle.chip_model.specs.Outcomes.{just_issued};
+    ghost use Rattle.card_layout.specs.Outcomes.{just_issued};
 
     ghost card = { λ m. just_issued };
 

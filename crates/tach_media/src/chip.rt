@@ -1,9 +1,9 @@
 ghost use Rattle.std.specs.Prelude.{◌≡◌, ◌≤◌, ◌<◌, [], length, option_map, OnOk, OnErr, is_err};
 ghost use Rattle.std.specs.Option.{ForSome};
-ghost use Rattle.chip_model.specs.declared.command.CardState.{CardState};
+ghost use Rattle.card_layout.specs.declared.command.CardState.{CardState};
 ghost use Rattle.tach_media.specs.Medium.{State, IsCoherent, LeavesOnly, IsSettled, HasCause, Unchanged, Rose, put, last_count, revivable};
-ghost use Rattle.chip_model.specs.Outcomes.{outcome_of, IsAnswered, just_issued, after_reset};
-ghost use Rattle.chip_model.specs.Issue.{IsIssued};
+ghost use Rattle.card_layout.specs.Outcomes.{outcome_of, IsAnswered, just_issued, after_reset};
+ghost use Rattle.card_layout.specs.Issue.{IsIssued};
 ghost use Rattle.tach_media.specs.Chip.{Does};
 
 use crate::Failed;

@@ -1,5 +1,5 @@
 ghost use Rattle.std.specs.Prelude.{◌≡◌, ◌≤◌, ◌+◌, IfOk, IfSome, is_err};
-ghost use Rattle.byte_fields.specs.Images.{number_at};
+ghost use Rattle.card_layout.specs.Images.{number_at};
 ghost use Rattle.tach_media.specs.Medium.{Reads};
 
 use crate::{Failed, Medium};

@@ -5,7 +5,7 @@ use Rattle.std.specs.Io.KnownBytes.{Appends}
 use Rattle.std.proofs.lemmas.List.{drop_all}
 use Rattle.tach_media.specs.Medium.{State, IsCoherent, LeavesOnly, IsSettled, HasCause, Rose, last_count, put}
 use Rattle.tach_media.specs.Streams.{AppendsFront}
-use Rattle.chip_model.specs.Issue.{IsIssued}
+use Rattle.card_layout.specs.Issue.{IsIssued}
 use Rattle.tach_media.proofs.Runs.{weaken}
 use Rattle.run_model.specs.declared.Device.{Device}
 use Rattle.card_layout.specs.Files.{files_of, image_size_of}

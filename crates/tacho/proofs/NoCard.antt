@@ -3,7 +3,7 @@ use Rattle.std.proofs.Common.{◌≡◌, ◌∙◌, ℕ, ◌+◌, ◌-◌, ◌/�
 use Rattle.std.proofs.Math.Nat.{le-max_left}
 use Rattle.std.proofs.lemmas.List.{drop-replicate, take-replicate}
 use Rattle.std.proofs.lemmas.List.Elements.{All-replicate}
-use Rattle.byte_fields.specs.Images.{bytes_at}
+use Rattle.card_layout.specs.Images.{bytes_at}
 use Rattle.card_layout.specs.declared.files.TheConstants.{LARGEST_IMAGE}
 use Rattle.card_layout.specs.Application.{first_bad_field, application_in}
 use Rattle.card_image.specs.Own.{IsOwnValid}

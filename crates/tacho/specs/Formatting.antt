@@ -3,8 +3,8 @@ use Rattle.std.specs.Prelude.{◌≡◌, ◌⊎◌, ◌<◌, false, ℕ, option_
 use Rattle.std.specs.Io.KnownBytes.{Appends}
 use Rattle.tach_media.specs.Medium.{State, LeavesOnly, IsSettled, HasCause, Rose, last_count}
 use Rattle.tach_media.specs.Streams.{AppendsFront}
-use Rattle.chip_model.specs.Issue.{IsPartlyIssued}
-use Rattle.chip_model.specs.Outcomes.{just_issued}
+use Rattle.card_layout.specs.Issue.{IsPartlyIssued}
+use Rattle.card_layout.specs.Outcomes.{just_issued}
 use Rattle.run_model.specs.declared.Device.{Device}
 use Rattle.run_model.specs.declared.Device.TheVariants.{Unit as OfUnit}
 use Rattle.card_files.specs.declared.new_card.CardIdentity.{CardIdentity}

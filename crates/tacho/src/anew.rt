@@ -1,7 +1,7 @@
 //! The unit and card a are made new, and then a trace is recorded.
 ghost use Rattle.std.specs.Prelude.{◌≡◌, ◌≤◌, ◌<◌, ℕ, List, OnOk, IfErr, length};
 ghost use Rattle.tach_media.specs.Medium.{LeavesOnly};
-ghost use Rattle.chip_model.specs.Issue.{IsIssued};
+ghost use Rattle.card_layout.specs.Issue.{IsIssued};
 ghost use Rattle.card_layout.specs.declared.files.TheConstants.{LARGEST_IMAGE};
 ghost use Rattle.unit_model.specs.Image.{IsUnit};
 ghost use Rattle.unit_memory.specs.Formats.{IsFormatting};

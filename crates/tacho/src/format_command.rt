@@ -3,7 +3,7 @@ ghost use Rattle.std.specs.Prelude.{◌≡◌, ◌≢◌, ◌≤◌, Err, OnOk, 
 ghost use Rattle.std.specs.Io.KnownBytes.{Appends};
 ghost use Rattle.tach_media.specs.Medium.{Rose};
 ghost use Rattle.tach_media.specs.Streams.{AppendsFront};
-ghost use Rattle.chip_model.specs.Outcomes.{just_issued};
+ghost use Rattle.card_layout.specs.Outcomes.{just_issued};
 ghost use Rattle.run_model.specs.declared.Device.TheVariants.{Unit as OfUnit};
 ghost use Rattle.unit_model.specs.Image.{IsUnit};
 ghost use Rattle.unit_memory.specs.Formats.{IsFormatting};

@@ -1,6 +1,6 @@
 -- FullCardNumber in bytes (Appendix 1): card type, issuing state, number.
 use Rattle.std.specs.Prelude.{ℕ, List, [], ◌∷◌}
-use Rattle.byte_fields.specs.Fields.{joined, field_at, number_in}
+use Rattle.card_layout.specs.Fields.{joined, field_at, number_in}
 use Rattle.tacho_types.specs.declared.card_number.FullCardNumber.{FullCardNumber}
 
 abbrev pub card_number_widths : List ℕ

@@ -1,6 +1,6 @@
 -- PlaceRecord in bytes (Appendix 1): time, type, country, region, odometer.
 use Rattle.std.specs.Prelude.{ℕ, List, [], ◌∷◌}
-use Rattle.byte_fields.specs.Fields.{joined, field_at, number_in}
+use Rattle.card_layout.specs.Fields.{joined, field_at, number_in}
 use Rattle.tacho_types.specs.Numbers.{time_bytes, time_of, odometer_bytes, odometer_of}
 use Rattle.tacho_types.specs.declared.places.PlaceEntry.{PlaceEntry}
 

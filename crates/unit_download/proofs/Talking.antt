@@ -5,7 +5,7 @@ use Rattle.std.specs.Io.KnownBytes.{Appends, Keeps}
 use Rattle.std.proofs.KnownBytes.{Appends-nil, Appends-trans, Keeps-refl}
 use Rattle.tach_media.specs.Medium.{State}
 use Rattle.tach_media.specs.Streams.{AppendsFront}
-use Rattle.byte_fields.specs.Fields.{IsBytes}
+use Rattle.card_layout.specs.Fields.{IsBytes}
 use Rattle.unit_memory.proofs.Told.{carried, one_told, told_all}
 use Rattle.unit_model.specs.Decoding.{Decodes}
 use Rattle.unit_journal.specs.Reading.{ReadsIfAny}

@@ -2,7 +2,7 @@
 use Rattle.std.specs.Prelude.{◌≡◌, ◌⊎◌, ℕ, ◌<◌, Bool, true, false, List, [], ◌∷◌, ◌++◌, length, Option, Some, None, IfSome, Result, Ok, Err}
 use Rattle.std.specs.Io.KnownBytes.{Appends, Keeps}
 use Rattle.tach_media.specs.Streams.{AppendsFront}
-use Rattle.byte_fields.specs.Fields.{IsBytes}
+use Rattle.card_layout.specs.Fields.{IsBytes}
 use Rattle.link_model.specs.declared.request.Request.{Request}
 use Rattle.link_model.specs.Frames.{Right}
 use Rattle.link_model.specs.Answers.{LinkState}

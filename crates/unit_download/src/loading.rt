@@ -1,4 +1,4 @@
-ghost use Rattle.byte_fields.specs.Fields.{IsBytes};
+ghost use Rattle.card_layout.specs.Fields.{IsBytes};
 ghost use Rattle.unit_model.specs.Image.{IsUnit};
 ghost use Rattle.std.specs.Prelude.{◌≡◌, ◌≤◌, [], List, OnOk, IfErr, OnErr, IfSome, IsErrOf, Some};
 ghost use Rattle.std.specs.Io.KnownBytes.{Appends, Keeps};

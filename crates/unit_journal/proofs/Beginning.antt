@@ -2,10 +2,10 @@
 use Rattle.std.proofs.Common.{◌≡◌, ◌≢◌, ◌⊎◌, inl, inr, ⊎_elim, ℕ, zero, suc, ◌+◌, ◌-◌, ◌*◌, ◌/◌, ◌%◌, ◌<◌, ◌≤◌, Bool, true, false, not, cond, List, [], ◌∷◌, ◌++◌, length, drop, map, filter, refl, sym, ◌∙◌, ap, subst, arith, length-append, length-drop, lit≤, min, replicate}
 use Rattle.std.specs.Prelude.{◌==◌, ◌&&◌, nat_le, nat_lt}
 use Rattle.std.specs.Int.{to_be_bytes, w16, w32}
-use Rattle.byte_fields.specs.Images.{big_number}
+use Rattle.card_layout.specs.Images.{big_number}
 use Rattle.std.proofs.lemmas.Bool.Decides.{nat_tests}
 use Rattle.std.proofs.lemmas.Bool.{cases_lt, cases_eq}
-use Rattle.byte_fields.proofs.Numbers.{big_number-big_bytes}
+use Rattle.card_layout.proofs.Numbers.{big_number-big_bytes}
 use Rattle.std.proofs.lemmas.List.{length-map}
 use Rattle.tach_media.specs.Medium.{SameOutside, IsPartlyWritten, bytes_at}
 use Rattle.tach_media.proofs.Images.{put_outside}

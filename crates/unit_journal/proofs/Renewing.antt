@@ -2,7 +2,7 @@
 use Rattle.std.proofs.Common.{◌≡◌, ◌≢◌, ◌⊎◌, ⊎_elim, ℕ, ◌+◌, ◌*◌, ◌/◌, ◌%◌, ◌<◌, ◌≤◌, Bool, true, false, cond, List, [], ◌∷◌, ◌++◌, length, length-append, append_assoc, refl, sym, ◌∙◌, ap, subst, arith, lit≤, lit<, Some, IfSome}
 use Rattle.std.specs.Prelude.{◌==◌, min}
 use Rattle.std.specs.Int.{to_be_bytes, w16, w32}
-use Rattle.byte_fields.proofs.Numbers.{big_number-big_bytes}
+use Rattle.card_layout.proofs.Numbers.{big_number-big_bytes}
 use Rattle.tach_media.specs.Medium.{State, Reads}
 use Rattle.tach_media.proofs.Runs.{at_image, if_told}
 use Rattle.write_plan.specs.Plan.{Piece, Pieces, piece, more, none, put_all, IsPartway, PutsAll, PutsBy}

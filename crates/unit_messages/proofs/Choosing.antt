@@ -5,14 +5,14 @@ use Rattle.std.specs.Prelude.{◌==◌, ◌||◌}
 use Rattle.std.proofs.lemmas.List.{map-append, length-take, length-drop}
 use Rattle.std.proofs.lemmas.List.Elements.{filter-append}
 use Rattle.std.proofs.Math.Nat.{suc-mul}
-use Rattle.byte_fields.specs.Images.{bytes_at, number_at}
-use Rattle.byte_fields.specs.Fields.{joined}
-use Rattle.byte_fields.proofs.Spelled.{number_within}
+use Rattle.card_layout.specs.Images.{bytes_at, number_at}
+use Rattle.card_layout.specs.Fields.{joined}
+use Rattle.card_layout.proofs.Spelled.{number_within}
 use Rattle.gated_ring.specs.Ring.{Shape, is_there, entry_at, order, place_of}
 use Rattle.unit_model.proofs.Words.{range_add}
 use Rattle.message_model.specs.Records.{insertion_widths, insertion_time, withdrawal_time}
 use Rattle.message_model.specs.Sending.{is_in_day}
-use Rattle.byte_fields.proofs.Fields.{number_part}
+use Rattle.card_layout.proofs.Fields.{number_part}
 use Rattle.unit_messages.specs.declared.entries.Choice.{Choice}
 use Rattle.unit_messages.specs.declared.entries.Choice.TheVariants.{Touching}
 use Rattle.unit_messages.specs.Chosen.{chosen, chosen_at}

@@ -3,7 +3,7 @@ use Rattle.std.proofs.Common.{◌≡◌, ℕ, zero, suc, ◌+◌, ◌-◌, ◌*�
 use Rattle.std.specs.List.{range_with_len}
 use Rattle.std.proofs.lemmas.List.{length-take, length-drop}
 use Rattle.std.proofs.Math.Nat.{mul-le-mul_right, mul-div_cancel, add-mul}
-use Rattle.byte_fields.specs.Fields.{joined}
+use Rattle.card_layout.specs.Fields.{joined}
 use Rattle.tach_media.proofs.Runs.{both_told}
 use Rattle.gated_ring.specs.Ring.{entry_at, place_of}
 use Rattle.gated_ring.proofs.Orders.{Each, range_each}

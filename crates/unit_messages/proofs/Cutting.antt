@@ -8,11 +8,11 @@ use Rattle.std.proofs.lemmas.List.Elements.{All-nil, All-cons}
 use Rattle.std.proofs.lemmas.Option.{option_and_then_some}
 use Rattle.byteorder.specs.Endian.{big_number, big_bytes}
 use Rattle.byteorder.specs.Numbers.{length-bytes_high_first, big_from-lt}
-use Rattle.byte_fields.specs.Images.{bytes_at, number_at}
-use Rattle.byte_fields.specs.Fields.{joined, IsBytes}
-use Rattle.byte_fields.proofs.Numbers.{big_number-big_bytes, big_bytes-big_number}
-use Rattle.byte_fields.proofs.Cuts.{IsBytes-take, IsBytes-drop}
-use Rattle.byte_fields.proofs.Images.{part_split}
+use Rattle.card_layout.specs.Images.{bytes_at, number_at}
+use Rattle.card_layout.specs.Fields.{joined, IsBytes}
+use Rattle.card_layout.proofs.Numbers.{big_number-big_bytes, big_bytes-big_number}
+use Rattle.card_layout.proofs.Cuts.{IsBytes-take, IsBytes-drop}
+use Rattle.card_layout.proofs.Images.{part_split}
 use Rattle.unit_model.proofs.Checks.{le_true, le_of}
 use Rattle.message_model.specs.Messages.{counted, AreEntries}
 use Rattle.unit_messages.specs.declared.parts.Part.{Part}

@@ -9,10 +9,10 @@ use Rattle.unit_model.proofs.Checks.{and_split, and_join}
 use Rattle.std.proofs.lemmas.List.{drop_at, length-map, get_or_append_left, get_or_past}
 use Rattle.byteorder.specs.Endian.{big_number, big_bytes}
 use Rattle.byteorder.specs.Numbers.{length-bytes_high_first, big_from-lt}
-use Rattle.byte_fields.specs.Images.{number_at}
-use Rattle.byte_fields.specs.Fields.{joined, IsBytes}
-use Rattle.byte_fields.proofs.Numbers.{big_bytes-big_number}
-use Rattle.byte_fields.proofs.Cuts.{IsBytes-drop}
+use Rattle.card_layout.specs.Images.{number_at}
+use Rattle.card_layout.specs.Fields.{joined, IsBytes}
+use Rattle.card_layout.proofs.Numbers.{big_bytes-big_number}
+use Rattle.card_layout.proofs.Cuts.{IsBytes-drop}
 use Rattle.unit_model.specs.Days.{word_minute}
 use Rattle.unit_model.specs.Image.{words_at}
 use Rattle.unit_model.proofs.Words.{words_split}

@@ -5,10 +5,10 @@ use Rattle.std.proofs.lemmas.List.{length-map, drop_at}
 use Rattle.std.proofs.lemmas.List.Elements.{All-nil, All-cons}
 use Rattle.byteorder.specs.Endian.{big_number, big_bytes}
 use Rattle.byteorder.specs.Numbers.{length-bytes_high_first, big_from-lt}
-use Rattle.byte_fields.specs.Images.{number_at}
-use Rattle.byte_fields.specs.Fields.{joined, IsBytes}
-use Rattle.byte_fields.proofs.Numbers.{big_bytes-big_number}
-use Rattle.byte_fields.proofs.Cuts.{IsBytes-drop}
+use Rattle.card_layout.specs.Images.{number_at}
+use Rattle.card_layout.specs.Fields.{joined, IsBytes}
+use Rattle.card_layout.proofs.Numbers.{big_bytes-big_number}
+use Rattle.card_layout.proofs.Cuts.{IsBytes-drop}
 use Rattle.unit_model.specs.Image.{words_at}
 use Rattle.unit_model.proofs.Checks.{le_true, le_of, and_split}
 use Rattle.unit_model.proofs.Finding.{eq_of}

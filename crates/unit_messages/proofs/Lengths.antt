@@ -5,7 +5,7 @@ use Rattle.std.proofs.Math.Seq.{take-add}
 use Rattle.link_model.specs.declared.request.Request.{Request}
 use Rattle.byteorder.specs.Endian.{big_bytes}
 use Rattle.byteorder.specs.Numbers.{length-bytes_high_first}
-use Rattle.byte_fields.specs.Fields.{joined}
+use Rattle.card_layout.specs.Fields.{joined}
 use Rattle.gated_ring.specs.Ring.{Shape, PointsInside, next, pointer}
 use Rattle.gated_ring.proofs.Orders.{next_below}
 use Rattle.unit_model.specs.declared.layout.Field.{Field}

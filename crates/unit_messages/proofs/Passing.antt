@@ -5,9 +5,9 @@ use Rattle.std.specs.List.{range_with_len}
 use Rattle.std.proofs.lemmas.List.{append-nil}
 use Rattle.std.proofs.lemmas.Bool.Decides.{nat_tests}
 use Rattle.std.proofs.Math.Nat.{mul-le-mul_right, add-mul}
-use Rattle.byte_fields.specs.Images.{bytes_at, number_at}
-use Rattle.byte_fields.specs.Fields.{joined}
-use Rattle.byte_fields.proofs.Images.{part_in}
+use Rattle.card_layout.specs.Images.{bytes_at, number_at}
+use Rattle.card_layout.specs.Fields.{joined}
+use Rattle.card_layout.proofs.Images.{part_in}
 use Rattle.gated_ring.specs.Ring.{Shape, entry_at, order}
 use Rattle.unit_model.specs.declared.layout.TheConstants.{IMAGE_SIZE}
 use Rattle.unit_model.proofs.Words.{range_add}

@@ -3,7 +3,7 @@ use Rattle.std.proofs.Common.{◌≡◌, ℕ, ◌-◌, ◌*◌, ◌<◌, min, Bo
 use Rattle.std.specs.Prelude.{nat_le}
 use Rattle.std.proofs.lemmas.Bool.Decides.{nat_tests}
 use Rattle.std.proofs.lemmas.List.{length-take, length-drop, take_min}
-use Rattle.byte_fields.specs.Images.{bytes_at}
+use Rattle.card_layout.specs.Images.{bytes_at}
 use Rattle.link_model.specs.Answers.{cut, has_piece}
 
 pub cut_at : (content : List ℕ) (len counter n : ℕ) → length content ≡ len → n ≡ min (len - 251 * (counter - 1)) 251 → bytes_at content (251 * (counter - 1)) n ≡ cut content counter

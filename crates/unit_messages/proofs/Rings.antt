@@ -2,8 +2,8 @@
 use Rattle.std.proofs.Common.{◌≡◌, ℕ, ◌+◌, ◌-◌, ◌*◌, ◌≤◌, ◌<◌, Bool, true, not, cond, List, [], ◌∷◌, ◌++◌, length, map, filter, refl, sym, ◌∙◌, ap, subst, arith}
 use Rattle.std.specs.Prelude.{◌==◌}
 use Rattle.std.specs.List.{range_with_len}
-use Rattle.byte_fields.specs.Images.{bytes_at, number_at}
-use Rattle.byte_fields.specs.Fields.{joined}
+use Rattle.card_layout.specs.Images.{bytes_at, number_at}
+use Rattle.card_layout.specs.Fields.{joined}
 use Rattle.gated_ring.specs.Ring.{Shape, order, next, pointer, indices as ring_indices}
 use Rattle.gated_ring.proofs.Orders.{Each, range_each, each_append, next_below}
 use Rattle.std.proofs.lemmas.List.{append-nil, length-map}

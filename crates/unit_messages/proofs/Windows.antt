@@ -1,9 +1,9 @@
 -- How a window changes as bytes pass by.
 use Rattle.std.proofs.Common.{◌≡◌, ◌⊎◌, ⊎_elim, Option, Some, IfSome, subst, ℕ, zero, suc, ◌+◌, ◌-◌, ◌*◌, ◌/◌, ◌%◌, ◌≤◌, ◌<◌, min, List, [], ◌∷◌, ◌++◌, length, take, drop, refl, sym, ◌∙◌, ap, append_assoc, length-append, arith}
 use Rattle.std.proofs.lemmas.List.{append-nil, length-take, length-drop, drop_all, take_all, take_min, drop_min}
-use Rattle.byte_fields.specs.Images.{bytes_at, number_at}
-use Rattle.byte_fields.specs.Fields.{joined, IsBytes}
-use Rattle.byte_fields.proofs.Images.{part_split, part_in}
+use Rattle.card_layout.specs.Images.{bytes_at, number_at}
+use Rattle.card_layout.specs.Fields.{joined, IsBytes}
+use Rattle.card_layout.proofs.Images.{part_split, part_in}
 use Rattle.unit_model.specs.Image.{words_at}
 use Rattle.unit_model.proofs.Words.{words_split}
 use Rattle.message_model.specs.Messages.{word_bytes}
@@ -72,7 +72,7 @@ words_spelled b n fits long = words_from b 0 n fits (omega (arith, long)) ∙ ta
         ∙ ap (λ (l : List ℕ). joined (word_bytes l)) (words_split b p 1 n)
         ∙ ap (λ (v : ℕ). Rattle.byteorder.specs.Endian.big_bytes 2 v ++ joined (word_bytes (words_at b (p + 2 * 1) n))) first
         ∙ ap (λ (l : List ℕ). l ++ joined (word_bytes (words_at b (p + 2 * 1) n)))
-        (Rattle.byte_fields.proofs.Numbers.big_bytes-big_number 2 (bytes_at b p 2) here (Rattle.byte_fields.proofs.Cuts.IsBytes-take 2 (drop p b) (Rattle.byte_fields.proofs.Cuts.IsBytes-drop p b fits)))
+        (Rattle.card_layout.proofs.Numbers.big_bytes-big_number 2 (bytes_at b p 2) here (Rattle.card_layout.proofs.Cuts.IsBytes-take 2 (drop p b) (Rattle.card_layout.proofs.Cuts.IsBytes-drop p b fits)))
         ∙ ap (λ (l : List ℕ). bytes_at b p 2 ++ l) (words_from b (p + 2 * 1) n fits (omega (arith, inside)))
         ∙ sym (part_split b p 2 (2 * n)) ∙ ap (bytes_at b p) (let e : 2 + 2 * n ≡ 2 * suc n = omega arith in e)
 

@@ -1,7 +1,7 @@
 -- The parts of which messages are made, one after the other, and where bytes are read as them.
 use Rattle.std.specs.Prelude.{◌≡◌, ℕ, ◌+◌, ◌-◌, ◌*◌, ◌%◌, ◌<◌, ◌≤◌, ◌^◌, ◌==◌, ◌&&◌, nat_le, nat_lt, Bool, List, [], ◌∷◌, ◌++◌, length, map, slice_index, Option, Some, None, option_and_then, if◌then◌else◌}
 use Rattle.std.specs.List.{list_all}
-use Rattle.byte_fields.specs.Images.{number_at}
+use Rattle.card_layout.specs.Images.{number_at}
 use Rattle.unit_model.specs.Days.{word_minute}
 use Rattle.unit_model.specs.Image.{words_at}
 use Rattle.link_model.specs.declared.request.Request.{Request}

@@ -2,8 +2,8 @@
 ghost use Rattle.unit_model.specs.declared.layout.TheConstants.{IMAGE_SIZE};
 ghost use Rattle.std.specs.Prelude.{◌≡◌, ◌≤◌, ◌<◌, ◌+◌, ◌*◌, ◌-◌, ℕ, List, IfOk, OnOk, IfSome, length, is_err};
 ghost use Rattle.std.specs.List.{range_with_len};
-ghost use Rattle.byte_fields.specs.Images.{bytes_at};
-ghost use Rattle.byte_fields.specs.Fields.{joined};
+ghost use Rattle.card_layout.specs.Images.{bytes_at};
+ghost use Rattle.card_layout.specs.Fields.{joined};
 ghost use Rattle.tach_media.specs.Medium.{Reads};
 ghost use Rattle.gated_ring.specs.Ring.{order};
 ghost use Rattle.unit_journal.specs.Reading.{ReadsIfAny};

@@ -1,7 +1,7 @@
 //! Messages in pieces (Annex IB, Appendix 7; the counter of two bytes: profile): where a piece stands in what follows the
 //! message's number, and pieces that are joined.
 ghost use Rattle.std.specs.Prelude.{◌≡◌, ◌≢◌, ◌≤◌, ◌<◌, ◌+◌, ◌-◌, ◌⊎◌, ◌↔◌, ℕ, List, [], nat_lt, length, false, IfOk, OnOk, OnErr, IfErr, IfSome, IfNone, IsErrOf};
-ghost use Rattle.byte_fields.specs.Images.{bytes_at};
+ghost use Rattle.card_layout.specs.Images.{bytes_at};
 ghost use Rattle.link_model.specs.Answers.{cut, has_piece};
 ghost use Rattle.unit_messages.specs.declared.joining.TheConstants.{LONGEST};
 ghost use Rattle.unit_messages.specs.Joining.{piece_range, wanted, counter_in, with_piece, IsFaultOf};

@@ -1,6 +1,6 @@
 //! The parts of which a message is made, one after the other, behind its number (Annex IB, Appendix 7, 2.2.6).
 ghost use Rattle.std.specs.Prelude.{◌≡◌, ◌≤◌, ◌<◌, ◌+◌, ◌*◌, ◌^◌, IfSome, length, slice_index_or};
-ghost use Rattle.byte_fields.specs.Images.{bytes_at, number_at};
+ghost use Rattle.card_layout.specs.Images.{bytes_at, number_at};
 ghost use Rattle.unit_messages.specs.Parts.{within, counted_end, part_end, parts_end, most, most_of};
 
 /// A part of a message: a field of so many bytes, or entries of one size behind a count of one byte or of two.

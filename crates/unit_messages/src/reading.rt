@@ -1,6 +1,6 @@
 //! Messages of a download, read by their grammar (Annex IB, Appendix 7, 2.2.6).
 ghost use Rattle.std.specs.Prelude.{ℕ, ◌^◌, ◌≡◌, ◌≤◌, ◌<◌, ◌+◌, ◌*◌, ◌==◌, length, IfOk, IfErr, IfSome, Some};
-ghost use Rattle.byte_fields.specs.Images.{number_at};
+ghost use Rattle.card_layout.specs.Images.{number_at};
 ghost use Rattle.unit_model.specs.Image.{words_at};
 ghost use Rattle.message_model.specs.Messages.{Overview, DayMessage, AnOverview, ADay};
 ghost use Rattle.unit_messages.specs.Reading.{BeginsWith, IsReadAs, BeginsNoMessage, IsOverviewRead};

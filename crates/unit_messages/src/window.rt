@@ -1,7 +1,7 @@
 //! Bytes that pass by, part after part, of which those from a place on are held, at most 252.
 ghost use Rattle.std.specs.Prelude.{ℕ, List, ◌/◌, ◌≡◌, ◌≤◌, ◌<◌, ◌+◌, ◌*◌, ◌-◌, ◌^◌, ◌↔◌, ◌++◌, [], min, OnOk, IfSome, IsTrue, IsFalse, length, is_err};
-ghost use Rattle.byte_fields.specs.Images.{bytes_at};
-ghost use Rattle.byte_fields.specs.Fields.{joined};
+ghost use Rattle.card_layout.specs.Images.{bytes_at};
+ghost use Rattle.card_layout.specs.Fields.{joined};
 ghost use Rattle.unit_model.specs.Image.{words_at};
 ghost use Rattle.unit_journal.specs.Reading.{ReadsIfAny};
 ghost use Rattle.message_model.specs.Messages.{word_bytes};

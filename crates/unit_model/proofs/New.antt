@@ -2,7 +2,7 @@
 use Rattle.std.proofs.Common.{◌≡◌, ℕ, ◌+◌, ◌-◌, ◌/◌, ◌<◌, ◌≤◌, Bool, true, false, not, cond, List, [], ◌∷◌, ◌++◌, length, take, drop, map, filter, refl, sym, ◌∙◌, ap, arith, append_assoc, length-append}
 use Rattle.std.specs.Prelude.{◌==◌, ◌&&◌, ◌||◌, nat_le, nat_lt}
 use Rattle.std.specs.List.{list_all}
-use Rattle.byte_fields.specs.Images.{big_number}
+use Rattle.card_layout.specs.Images.{big_number}
 use Rattle.std.proofs.lemmas.List.{length-replicate, take-replicate, drop-replicate, drop_at, drop-drop}
 use Rattle.tach_media.specs.Medium.{bytes_at}
 use Rattle.gated_ring.specs.Ring.{number_at, pointer, is_there, entry_at, next, order, indices as ring_indices}

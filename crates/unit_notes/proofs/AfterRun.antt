@@ -9,8 +9,8 @@ use Rattle.std.proofs.Math.Seq.{map-set_same}
 use Rattle.std.proofs.lemmas.List.Elements.{All-nil, All-cons, All-head, All-tail}
 use Rattle.std.proofs.lemmas.List.Quantifiers.{position-Some}
 use Rattle.std.proofs.lemmas.List.Sorted.{IsPermutation-refl}
-use Rattle.byte_fields.specs.Fields.{total_width, number_in}
-use Rattle.byte_fields.specs.Images.{big_number, number_at}
+use Rattle.card_layout.specs.Fields.{total_width, number_in}
+use Rattle.card_layout.specs.Images.{big_number, number_at}
 use Rattle.trace_model.specs.declared.Card.{Card}
 use Rattle.event_model.specs.declared.kinds.TheConstants.{CARD_FAULT, OVER_SPEEDING}
 use Rattle.event_model.specs.declared.entries.Held.{Held}

@@ -7,10 +7,10 @@ use Rattle.std.specs.List.{range_with_len, list_all}
 use Rattle.std.proofs.lemmas.List.Quantifiers.{position-Some}
 use Rattle.std.proofs.lemmas.List.FromFn.{length-map-range_with_len, map-range_with_len_more, get_or-map-range_with_len}
 use Rattle.std.proofs.Math.Nat.{mul-le-mul_right}
-use Rattle.byte_fields.specs.Fields.{total_width, number_in}
-use Rattle.byte_fields.specs.Images.{bytes_at, number_at}
-use Rattle.byte_fields.proofs.Fields.{number_part}
-use Rattle.byte_fields.proofs.Images.{part_in}
+use Rattle.card_layout.specs.Fields.{total_width, number_in}
+use Rattle.card_layout.specs.Images.{bytes_at, number_at}
+use Rattle.card_layout.proofs.Fields.{number_part}
+use Rattle.card_layout.proofs.Images.{part_in}
 use Rattle.tach_media.proofs.Runs.{if_told, at_image}
 use Rattle.gated_ring.specs.Ring.{entry_at}
 use Rattle.unit_model.proofs.Growth.{map_range_same}

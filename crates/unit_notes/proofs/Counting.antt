@@ -2,7 +2,7 @@
 use Rattle.std.proofs.Common.{◌≡◌, ◌⊎◌, inl, inr, ⊎_elim, ℕ, ◌+◌, ◌<◌, ◌≤◌, Bool, cond, length, arith, Option, Some, None, IfSome, is_some, option_map, List, refl, sym, ◌∙◌, ap, subst}
 use Rattle.std.specs.Int.{to_be_bytes, w32}
 use Rattle.std.proofs.lemmas.Bool.{ne_eqb, eq-eqb, lt-ltb, le-ltb}
-use Rattle.byte_fields.specs.Images.{number_at, put}
+use Rattle.card_layout.specs.Images.{number_at, put}
 use Rattle.tach_media.specs.Medium.{State, LeavesOnly, LiesInside, IsPartlyWritten}
 use Rattle.tach_media.proofs.Ranges.{lies_still}
 use Rattle.tach_media.proofs.Runs.{weaken, goes_on, told_too, at_image, turned_into, where_told}

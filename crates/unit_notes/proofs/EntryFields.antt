@@ -4,11 +4,11 @@ use Rattle.std.specs.Prelude.{nat_eq, slice_index, slice_index_or}
 use Rattle.std.proofs.lemmas.Bool.{ne_eqb, eq-eqb}
 use Rattle.std.proofs.lemmas.List.{length-append}
 use Rattle.byteorder.specs.Numbers.{length-bytes_high_first}
-use Rattle.byte_fields.specs.Fields.{HaveWidths, joined, cut, total_width, place_in, field_at, number_in}
-use Rattle.byte_fields.specs.Images.{big_number, big_bytes, bytes_at, number_at}
-use Rattle.byte_fields.proofs.Cuts.{cut-joined}
-use Rattle.byte_fields.proofs.Fields.{field_part, number_part}
-use Rattle.byte_fields.proofs.Numbers.{big_number-big_bytes}
+use Rattle.card_layout.specs.Fields.{HaveWidths, joined, cut, total_width, place_in, field_at, number_in}
+use Rattle.card_layout.specs.Images.{big_number, big_bytes, bytes_at, number_at}
+use Rattle.card_layout.proofs.Cuts.{cut-joined}
+use Rattle.card_layout.proofs.Fields.{field_part, number_part}
+use Rattle.card_layout.proofs.Numbers.{big_number-big_bytes}
 use Rattle.trace_model.specs.declared.Card.{Card}
 use Rattle.tacho_types.specs.CardNumber.{card_number_bytes}
 use Rattle.tacho_types.specs.declared.card_number.FullCardNumber.{FullCardNumber}

@@ -4,8 +4,8 @@ use Rattle.std.specs.Prelude.{nat_eq, ◌==◌, ◌&&◌, not, IsTrue}
 use Rattle.std.proofs.lemmas.Bool.{eqb-true}
 use Rattle.std.proofs.lemmas.List.{drop_at}
 use Rattle.activity_codec.proofs.ByTest.{by_test}
-use Rattle.byte_fields.specs.Fields.{joined}
-use Rattle.byte_fields.specs.Images.{big_number, number_at}
+use Rattle.card_layout.specs.Fields.{joined}
+use Rattle.card_layout.specs.Images.{big_number, number_at}
 use Rattle.event_model.specs.Kinds.{is_event}
 use Rattle.side_model.specs.Tables.{held_in}
 use Rattle.unit_notes.specs.Tables.{front_size}

@@ -4,9 +4,9 @@ use Rattle.std.specs.Prelude.{◌==◌, nat_lt}
 use Rattle.std.specs.Int.{to_be_bytes, w32}
 use Rattle.std.proofs.lemmas.Bool.{ltb-true, ltb-false}
 use Rattle.std.proofs.lemmas.List.{drop-drop}
-use Rattle.byte_fields.specs.Images.{SameOutside, bytes_at, big_number, number_at, put}
-use Rattle.byte_fields.proofs.Images.{part_before, part_after, part_in, put_outside}
-use Rattle.byte_fields.proofs.Spelled.{number_before, number_after, number_put, bytes_filled}
+use Rattle.card_layout.specs.Images.{SameOutside, bytes_at, big_number, number_at, put}
+use Rattle.card_layout.proofs.Images.{part_before, part_after, part_in, put_outside}
+use Rattle.card_layout.proofs.Spelled.{number_before, number_after, number_put, bytes_filled}
 use Rattle.tacho_types.specs.declared.numbers.TimeReal.{TimeReal}
 use Rattle.tacho_types.specs.declared.numbers.Odometer.{Odometer}
 use Rattle.gated_ring.specs.Ring.{size_of, place_of}

@@ -1,8 +1,8 @@
 -- What a note changes lies among the places of its type.
 use Rattle.std.proofs.Common.{◌≡◌, inl, inr, ⊎_elim, ℕ, false, ◌+◌, ◌<◌, ◌≤◌, Option, Some, None, IfSome, List, [], ◌∷◌, refl, sym, ◌∙◌, subst, arith}
 use Rattle.std.specs.Prelude.{◌⊎◌}
-use Rattle.byte_fields.specs.Images.{SameOutside}
-use Rattle.byte_fields.proofs.Images.{outside_same, outside_wider}
+use Rattle.card_layout.specs.Images.{SameOutside}
+use Rattle.card_layout.proofs.Images.{outside_same, outside_wider}
 use Rattle.tach_media.specs.Medium.{State, Reads, StaysSettled}
 use Rattle.tach_media.proofs.Runs.{still_settled}
 use Rattle.gated_ring.specs.Ring.{Shape, size_of, place_of}

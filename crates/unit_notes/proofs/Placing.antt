@@ -6,11 +6,11 @@ use Rattle.std.proofs.lemmas.Bool.{eqb-true}
 use Rattle.std.proofs.lemmas.List.{map-set, length-map, length-take, length-take-le, length-drop, drop_all, take-append-le, drop-append-le}
 use Rattle.std.proofs.Math.Seq.{map-set_same, get_or-append_seam}
 use Rattle.std.proofs.lemmas.List.FromFn.{length-map-range_with_len, get_or-map-range_with_len}
-use Rattle.byte_fields.specs.Fields.{total_width, place_in, field_at, number_in}
-use Rattle.byte_fields.specs.Images.{big_number, bytes_at, number_at, put, SameOutside}
-use Rattle.byte_fields.proofs.Fields.{field_part, number_part, place_next, place_last}
-use Rattle.byte_fields.proofs.Images.{part_before, part_put, put_outside}
-use Rattle.byte_fields.proofs.Spelled.{number_before}
+use Rattle.card_layout.specs.Fields.{total_width, place_in, field_at, number_in}
+use Rattle.card_layout.specs.Images.{big_number, bytes_at, number_at, put, SameOutside}
+use Rattle.card_layout.proofs.Fields.{field_part, number_part, place_next, place_last}
+use Rattle.card_layout.proofs.Images.{part_before, part_put, put_outside}
+use Rattle.card_layout.proofs.Spelled.{number_before}
 use Rattle.trace_model.specs.declared.Card.{Card}
 use Rattle.gated_ring.specs.Ring.{Shape, size_of, place_of, entry_at, with_head}
 use Rattle.gated_ring.specs.Change.{SameOthers, IsReplaced, IsSet}

@@ -1,7 +1,7 @@
 -- Worked rows: places of the layout, the entries of an over speeding and of driving without a card, and the places of equals.
 use Rattle.std.proofs.Common.{◌≡◌, ℕ, Option, Some, None, List, [], ◌∷◌, ◌++◌, refl}
 use Rattle.std.specs.Prelude.{replicate}
-use Rattle.byte_fields.specs.Fields.{total_width, place_in}
+use Rattle.card_layout.specs.Fields.{total_width, place_in}
 use Rattle.tacho_types.specs.declared.card_number.FullCardNumber.{FullCardNumber}
 use Rattle.event_model.specs.declared.entries.Over.{Over}
 use Rattle.event_model.specs.declared.entries.Held.{Held}

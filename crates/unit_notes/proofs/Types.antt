@@ -2,9 +2,9 @@
 use Rattle.std.proofs.Common.{◌≡◌, ◌≢◌, ℕ, ◌+◌, ◌-◌, ◌*◌, ◌<◌, ◌≤◌, ◌⊎◌, inr, Bool, true, false, cond, List, [], ◌∷◌, ◌++◌, length, take, refl, sym, ◌∙◌, ap, subst, arith}
 use Rattle.std.specs.Prelude.{nat_eq}
 use Rattle.std.proofs.lemmas.List.{take-append-le, drop-append-le, length-drop, length-append}
-use Rattle.byte_fields.specs.Fields.{total_width, number_in}
-use Rattle.byte_fields.specs.Images.{big_number, bytes_at, number_at}
-use Rattle.byte_fields.proofs.Fields.{number_part}
+use Rattle.card_layout.specs.Fields.{total_width, number_in}
+use Rattle.card_layout.specs.Images.{big_number, bytes_at, number_at}
+use Rattle.card_layout.proofs.Fields.{number_part}
 use Rattle.tach_media.specs.Medium.{LiesInside}
 use Rattle.tach_media.proofs.Ranges.{lies_part}
 use Rattle.gated_ring.specs.Ring.{Shape, size_of, place_of, gate_number}

@@ -1,7 +1,7 @@
 -- The rings of insertions and places inside the image.
 use Rattle.std.proofs.Common.{◌≡◌, ◌≢◌, ◌⊎◌, inl, inr, ℕ, ◌+◌, ◌-◌, ◌*◌, ◌<◌, ◌≤◌, ◌^◌, Option, Some, None, IfSome, is_some, List, [], ◌∷◌, ◌++◌, length, take, drop, refl, sym, ◌∙◌, ap, subst, arith}
-use Rattle.byte_fields.specs.Images.{put, number_at}
-use Rattle.byte_fields.proofs.Images.{outside_then}
+use Rattle.card_layout.specs.Images.{put, number_at}
+use Rattle.card_layout.proofs.Images.{outside_then}
 use Rattle.tach_media.specs.Medium.{LiesInside}
 use Rattle.tach_media.proofs.Ranges.{lies_part}
 use Rattle.tacho_types.specs.declared.numbers.TimeReal.{TimeReal}

@@ -3,7 +3,7 @@ use Rattle.std.proofs.Common.{rules, ◌≡◌, ⊎_elim, ℕ, ◌+◌, ◌-◌,
 use Rattle.std.specs.Prelude.{Result, Ok, Err, IsOk, IfErr, slice_index}
 use Rattle.std.proofs.lemmas.Bool.{cases_lt}
 use Rattle.std.proofs.lemmas.List.{length-replicate, take-replicate, drop-replicate, get_or-replicate, get_or-take, get_or_past}
-use Rattle.byte_fields.specs.Images.{bytes_at, number_at, big_number}
+use Rattle.card_layout.specs.Images.{bytes_at, number_at, big_number}
 use Rattle.tach_media.specs.Medium.{State, Reads}
 use Rattle.tach_media.specs.SliceMedium.{slice_state}
 use Rattle.tach_media.proofs.Runs.{at_image}

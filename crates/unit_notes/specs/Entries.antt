@@ -1,7 +1,7 @@
 -- What a unit notes, in bytes (Appendix 1, VuCardIWRecord, VuPlaceDailyWorkPeriodRecord, VuEventRecord, VuFaultRecord,
 -- VuOverSpeedingEventRecord).
 use Rattle.std.specs.Prelude.{ℕ, List, [], ◌∷◌, ◌++◌}
-use Rattle.byte_fields.specs.Fields.{joined}
+use Rattle.card_layout.specs.Fields.{joined}
 use Rattle.tacho_types.specs.Numbers.{time_bytes, odometer_bytes}
 use Rattle.tacho_types.specs.CardNumber.{card_number_bytes}
 use Rattle.tacho_types.specs.Places.{place_bytes}

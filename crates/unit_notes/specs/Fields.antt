@@ -1,6 +1,6 @@
 -- What the entries that are noted tell, field by field.
 use Rattle.std.specs.Prelude.{◌≡◌, ℕ, ◌^◌, ◌<◌, Option, List, length, nat_eq}
-use Rattle.byte_fields.specs.Fields.{field_at, number_in}
+use Rattle.card_layout.specs.Fields.{field_at, number_in}
 use Rattle.trace_model.specs.declared.Card.{Card}
 use Rattle.tacho_types.specs.CardNumber.{card_number_bytes}
 use Rattle.tacho_types.specs.declared.card_number.FullCardNumber.{FullCardNumber}

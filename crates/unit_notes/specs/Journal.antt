@@ -1,7 +1,7 @@
 -- Images in which nothing has changed that a journal reads or writes: version and vehicle, last-kept minute and odometer, owed rows
 -- and days; nor what stands behind the faults. The two numbers of over speedings between them may differ.
 use Rattle.std.specs.Prelude.{◌≡◌, ℕ, ◌-◌, List, length, drop}
-use Rattle.byte_fields.specs.Images.{bytes_at}
+use Rattle.card_layout.specs.Images.{bytes_at}
 use Rattle.unit_model.specs.declared.layout.TheConstants.{FIRST_OVER, SPARE_COUNTS, INSERTIONS, SPARE_FAULTS}
 use Rattle.unit_model.specs.Decoding.{Decodes}
 

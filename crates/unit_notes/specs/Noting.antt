@@ -1,6 +1,6 @@
 -- What noting leaves of a unit's image, at Ok and at each moment (profile). An entry appears whole, behind its gate.
 use Rattle.std.specs.Prelude.{◌≡◌, ◌⊎◌, ℕ, ◌+◌, ◌==◌, Option, Some, None, List, [], ◌∷◌, ◌++◌, map, nat_lt, if◌then◌else◌}
-use Rattle.byte_fields.specs.Fields.{place_in}
+use Rattle.card_layout.specs.Fields.{place_in}
 use Rattle.std.specs.Int.{to_be_bytes, w32}
 use Rattle.tacho_types.specs.declared.numbers.TimeReal.{TimeReal}
 use Rattle.tacho_types.specs.declared.numbers.Odometer.{Odometer}

@@ -1,6 +1,6 @@
 -- Which events the places of a type hold after a run, and how many similar ones each counts (Annex IB, section III.12).
 use Rattle.std.specs.Prelude.{◌≡◌, ◌≢◌, ◌⊎◌, ℕ, ◌<◌, ◌≤◌, true, false, Option, Some, None, List, ◌++◌, length, map, nat_eq, All, if◌then◌else◌}
-use Rattle.byte_fields.specs.Fields.{number_in}
+use Rattle.card_layout.specs.Fields.{number_in}
 use Rattle.event_model.specs.declared.kinds.TheConstants.{OVER_SPEEDING, CARD_FAULT}
 use Rattle.event_model.specs.declared.entries.Held.{Held}
 use Rattle.event_model.specs.Kinds.{purpose_of, is_by_day, places_of}

@@ -1,8 +1,8 @@
 -- The events and faults that a unit holds of a type, as the choice of a place sees them (Annex IB, section III.12).
 use Rattle.std.specs.Prelude.{ℕ, ◌-◌, ◌*◌, ◌||◌, ◌==◌, Bool, Option, Some, None, List, [], ◌∷◌, ◌++◌, map, nat_eq, if◌then◌else◌}
 use Rattle.std.specs.List.{range_with_len}
-use Rattle.byte_fields.specs.Fields.{total_width}
-use Rattle.byte_fields.specs.Images.{bytes_at}
+use Rattle.card_layout.specs.Fields.{total_width}
+use Rattle.card_layout.specs.Images.{bytes_at}
 use Rattle.gated_ring.specs.Ring.{Shape}
 use Rattle.unit_model.specs.declared.layout.TheConstants.{EVENTS}
 use Rattle.event_model.specs.declared.kinds.TheConstants.{CARD_FAULT, OVER_SPEEDING}

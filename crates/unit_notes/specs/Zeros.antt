@@ -1,6 +1,6 @@
 -- A memory of zeros.
 use Rattle.std.specs.Prelude.{◌≡◌, ℕ, Option, Some, List, true, is_some}
-use Rattle.byte_fields.specs.Images.{number_at}
+use Rattle.card_layout.specs.Images.{number_at}
 use Rattle.tach_media.specs.Medium.{State}
 
 -- it tells an image of this size, in which each number is 0, and no call on it has failed

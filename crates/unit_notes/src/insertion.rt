@@ -1,7 +1,7 @@
 //! Insertions of cards.
 ghost use Rattle.std.specs.Prelude.{◌≡◌, ◌+◌, ◌^◌, ◌<◌, length};
-ghost use Rattle.byte_fields.specs.Fields.{joined};
-ghost use Rattle.byte_fields.specs.Images.{number_at};
+ghost use Rattle.card_layout.specs.Fields.{joined};
+ghost use Rattle.card_layout.specs.Images.{number_at};
 ghost use Rattle.unit_notes.specs.Entries.{holder_fields, use_fields, insertion_bytes};
 
 use tacho_types::{

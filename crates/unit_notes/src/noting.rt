@@ -1,6 +1,6 @@
 //! The noting of events and faults.
 ghost use Rattle.std.specs.Prelude.{◌≡◌, ◌≢◌, ◌≤◌, ◌<◌, ◌+◌, ◌*◌, [], ◌∷◌, length, map, IfOk, IfSome, None, OnOk, is_err, true};
-ghost use Rattle.byte_fields.specs.Fields.{total_width};
+ghost use Rattle.card_layout.specs.Fields.{total_width};
 ghost use Rattle.tach_media.specs.Medium.{Reads, LeavesOnly, HasCause, IsSettled, StaysSettled, last_count};
 ghost use Rattle.unit_model.specs.Image.{IsUnit};
 ghost use Rattle.event_model.specs.Kinds.{places_of};

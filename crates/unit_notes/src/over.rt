@@ -1,6 +1,6 @@
 //! Over speedings: their places, the begin of the first one, and their number.
 ghost use Rattle.std.specs.Prelude.{◌≡◌, ◌≤◌, ◌+◌, length, OnOk, is_err, option_map};
-ghost use Rattle.byte_fields.specs.Images.{number_at};
+ghost use Rattle.card_layout.specs.Images.{number_at};
 ghost use Rattle.tach_media.specs.Medium.{LeavesOnly, HasCause, StaysSettled};
 ghost use Rattle.unit_model.specs.Image.{IsUnit};
 ghost use Rattle.unit_notes.specs.Entries.{over_bytes};

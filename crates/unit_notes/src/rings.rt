@@ -1,7 +1,7 @@
 //! The rings of insertions and places, and what is written in them.
 ghost use Rattle.std.specs.Prelude.{◌≡◌, ◌≤◌, ◌<◌, ◌+◌, ◌*◌, ◌^◌, length, IfSome, OnOk, is_err};
 ghost use Rattle.unit_model.specs.declared.layout.TheConstants.{IMAGE_SIZE};
-ghost use Rattle.byte_fields.specs.Images.{number_at};
+ghost use Rattle.card_layout.specs.Images.{number_at};
 ghost use Rattle.tach_media.specs.Medium.{LeavesOnly, HasCause, IsSettled, Rose, last_count};
 ghost use Rattle.gated_ring.specs.Change.{IsSet, OrUnwritten};
 ghost use Rattle.unit_model.specs.Image.{IsUnit};

@@ -1,7 +1,7 @@
 //! The places of the events and faults of a type.
 ghost use Rattle.std.specs.Prelude.{◌≡◌, ◌≤◌, ◌<◌, ◌+◌, ◌*◌, length, map, IfSome};
 ghost use Rattle.unit_model.specs.declared.layout.TheConstants.{IMAGE_SIZE, EVENTS, FAULTS};
-ghost use Rattle.byte_fields.specs.Fields.{total_width};
+ghost use Rattle.card_layout.specs.Fields.{total_width};
 ghost use Rattle.event_model.specs.Kinds.{places_of};
 ghost use Rattle.side_model.specs.Tables as side;
 ghost use Rattle.side_model.specs.Tables.{widths_of, similar_field};

@@ -1,7 +1,7 @@
 //! Events and faults.
 ghost use Rattle.std.specs.Prelude.{◌≡◌, [], ◌∷◌, length};
-ghost use Rattle.byte_fields.specs.Fields.{joined};
-ghost use Rattle.byte_fields.specs.Images.{number_at};
+ghost use Rattle.card_layout.specs.Fields.{joined};
+ghost use Rattle.card_layout.specs.Images.{number_at};
 ghost use Rattle.tacho_types.specs.CardNumber.{card_number_bytes};
 ghost use Rattle.unit_notes.specs.Entries.{fault_bytes};
 

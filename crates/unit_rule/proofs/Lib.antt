@@ -1,3 +1,9 @@
+pub mod Keeping
+pub mod Beginning
+pub mod Cells
+pub mod Putting
+pub mod Mended
+pub mod New
 pub mod Moves
 pub mod Marking
 pub mod Mending

@@ -30,7 +30,7 @@ use Rattle.joint_rule.proofs.Viewed.{seen-coherent, seen-run}
 use Rattle.safety_model.specs.Unit.{marks_of, is_of, Increase, issued_bytes}
 use Rattle.unit_rule.specs.Rule.{Started, started, seen_unit, IsRuled}
 use Rattle.unit_rule.specs.Marks.{IsHeld, Holds}
-use Rattle.joint_steps.proofs.Keeping.{keeping_view, kept_view}
+use Rattle.unit_rule.proofs.Keeping.{keeping_view, kept_view}
 use Rattle.unit_rule.proofs.Moves.{shown-last, shown-days, issued-besides}
 
 -- the rule does not ask whether the unit works

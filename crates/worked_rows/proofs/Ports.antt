@@ -4,8 +4,8 @@ use Rattle.card_layout.specs.declared.files.Application.{Application}
 use Rattle.card_layout.specs.Application.{application_in}
 use Rattle.card_layout.specs.Files.{files_of, place_of, size_of, image_size_of}
 use Rattle.card_layout.proofs.Sizes.{largest_image, events_at, days_at, vehicles_at, use_at}
-use Rattle.chip_model.specs.declared.command.CardState.{CardState}
-use Rattle.chip_model.specs.declared.command.ElementaryFile.{ElementaryFile}
+use Rattle.card_layout.specs.declared.command.CardState.{CardState}
+use Rattle.card_layout.specs.declared.command.ElementaryFile.{ElementaryFile}
 use Rattle.tach_media.specs.Medium.{State, LiesInside}
 use Rattle.card_commands.specs.Ports.{IsPort, IsJudged, port_state, writable_of}
 use Rattle.card_commands.proofs.Updated.{updated_writable}

@@ -2,8 +2,8 @@
 ghost use Rattle.unit_model.specs.declared.layout.TheConstants.{IMAGE_SIZE, INSERTIONS, INSERTION_SLOTS, PLACES, EVENTS, OVERS, FAULTS};
 ghost use Rattle.std.specs.Prelude.{◌≡◌, ◌==◌, ◌≤◌, ◌<◌, ◌+◌, ◌*◌, ◌^◌, if◌then◌else◌, OnOk, IfSome, is_err, filter, length};
 ghost use Rattle.byteorder.specs.Endian.{big_bytes};
-ghost use Rattle.byte_fields.specs.Images.{number_at};
-ghost use Rattle.byte_fields.specs.Fields.{joined};
+ghost use Rattle.card_layout.specs.Images.{number_at};
+ghost use Rattle.card_layout.specs.Fields.{joined};
 ghost use Rattle.gated_ring.specs.Ring.{ring_list, PointsInside};
 ghost use Rattle.unit_model.specs.Image.{words_at};
 ghost use Rattle.unit_journal.specs.Reading.{ReadsIfAny};

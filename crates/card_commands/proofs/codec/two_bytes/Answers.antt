@@ -1,5 +1,5 @@
 use Rattle.std.proofs.Common.{◌∙◌, sym}
-use Rattle.byte_fields.proofs.Spelled.{number_two_bytes}
+use Rattle.card_layout.proofs.Spelled.{number_two_bytes}
 use Rattle.card_commands.proofs.codec.two_bytes.Goals as goal
 
 pub returns : goal.returns

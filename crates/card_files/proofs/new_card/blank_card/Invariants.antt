@@ -1,5 +1,5 @@
 use Rattle.std.proofs.Common.{◌≡◌, ◌+◌, ◌++◌, drop, map, vec_len}
-use Rattle.byte_fields.specs.Fields.{joined}
+use Rattle.card_layout.specs.Fields.{joined}
 use Rattle.card_layout.specs.Files.{image_size_of}
 use Rattle.card_files.specs.NewCard.{new_card, new_contents, new_total}
 use Rattle.card_files.proofs.new_card.blank_card.Given as goal

@@ -1,7 +1,7 @@
 use Rattle.std.proofs.Common.{List, ℕ, subst, refl}
 use Rattle.std.specs.Prelude.{Some, IfSome}
 use Rattle.std.specs.Io.KnownBytes.{Appends}
-use Rattle.byte_fields.specs.Fields.{IsBytes}
+use Rattle.card_layout.specs.Fields.{IsBytes}
 use Rattle.unit_model.specs.Decoding.{Decodes}
 use Rattle.message_model.specs.Sending.{unit_file}
 use Rattle.demo_file.proofs.Told.{measured-by}

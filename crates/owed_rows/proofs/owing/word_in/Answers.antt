@@ -1,5 +1,5 @@
 use Rattle.std.proofs.Common.{◌∙◌, sym}
-use Rattle.byte_fields.proofs.Spelled.{number_two_bytes}
+use Rattle.card_layout.proofs.Spelled.{number_two_bytes}
 use Rattle.owed_rows.proofs.owing.word_in.Goals as goal
 
 pub returns-clause-value : goal.returns-clause-value

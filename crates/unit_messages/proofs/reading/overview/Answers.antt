@@ -1,6 +1,6 @@
 use Rattle.std.proofs.Common.{◌≡◌, ℕ, List, ◌<◌, ◌^◌, ◌∙◌, ap, arith}
 use Rattle.byteorder.specs.Endian.{big_number, big_bytes}
-use Rattle.byte_fields.proofs.Numbers.{big_number-big_bytes}
+use Rattle.card_layout.proofs.Numbers.{big_number-big_bytes}
 use Rattle.unit_messages.proofs.Overviews.{overview_front}
 use Rattle.unit_messages.proofs.reading.overview.Goals as goal
 

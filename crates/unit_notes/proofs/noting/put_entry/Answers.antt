@@ -1,7 +1,7 @@
 use Rattle.std.proofs.Common.{rules, ◌≡◌, ◌≤◌, length, List, ℕ, sym, ◌∙◌, ap, subst, refl, arith}
 use Rattle.tach_media.specs.Medium.{LeavesOnly}
 use Rattle.gated_ring.specs.Ring.{Shape}
-use Rattle.byte_fields.specs.Fields.{total_width}
+use Rattle.card_layout.specs.Fields.{total_width}
 use Rattle.side_model.specs.Tables.{table_of, widths_of}
 use Rattle.unit_notes.specs.Tables.{with_similar}
 use Rattle.unit_notes.proofs.Types.{entry_wide, ring_fits, ring_index, ring_gate, ring_width, entry_place_writable, ring_opens}

@@ -1,6 +1,6 @@
 use Rattle.std.proofs.Common.{rules, ◌≡◌, ◌≤◌, ◌<◌, ◌+◌, length, List, ℕ, refl, sym, ◌∙◌, subst, arith}
 use Rattle.tach_media.proofs.Runs.{after_reads, weaken, at_image}
-use Rattle.byte_fields.specs.Images.{number_at}
+use Rattle.card_layout.specs.Images.{number_at}
 use Rattle.unit_notes.specs.Noting.{with_first}
 use Rattle.unit_notes.proofs.Counting.{first_turned, four_bytes, four_writable, turned_whole, image_as}
 use Rattle.unit_notes.proofs.over.note_first.Goals as goal

@@ -1,5 +1,5 @@
 use Rattle.std.proofs.Common.{rules, ◌≡◌, ◌≤◌, ◌<◌, ◌+◌, ◌-◌, ◌*◌, length, List, [], ◌∷◌, ◌++◌, ℕ, take, drop, refl, sym, ◌∙◌, ap, subst, arith}
-use Rattle.byte_fields.specs.Fields.{total_width}
+use Rattle.card_layout.specs.Fields.{total_width}
 use Rattle.event_model.specs.declared.entries.Held.{Held}
 use Rattle.side_model.specs.Tables.{widths_of, held_in}
 use Rattle.unit_notes.proofs.Choosing.{row_in, held_first, held_more, length-held_first}

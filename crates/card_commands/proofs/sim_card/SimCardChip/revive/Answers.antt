@@ -1,5 +1,5 @@
 use Rattle.std.proofs.Common.{◌≡◌, sym, ◌∙◌, ap, subst}
-use Rattle.chip_model.specs.declared.command.CardState.{CardState}
+use Rattle.card_layout.specs.declared.command.CardState.{CardState}
 use Rattle.tach_media.specs.Medium.{revivable}
 use Rattle.card_commands.specs.Performing.{IsSound}
 use Rattle.card_commands.proofs.Soundness.{sound_reads, ok_works}

@@ -1,4 +1,4 @@
-use Rattle.chip_model.specs.Outcomes.{outcome_of}
+use Rattle.card_layout.specs.Outcomes.{outcome_of}
 use Rattle.tach_media.proofs.Lending.{lent_does}
 use Rattle.tach_media.proofs.chip.RefMutChip.transmit.Goals as goal
 

@@ -1,5 +1,5 @@
 use Rattle.std.proofs.Common.{◌∙◌, ℕ, ap}
-use Rattle.byte_fields.specs.Images.{bytes_at}
+use Rattle.card_layout.specs.Images.{bytes_at}
 use Rattle.unit_messages.proofs.entries.Entries.entry_in.Goals as goal
 
 pub returns-clause-bytes : goal.returns-clause-bytes

@@ -1,7 +1,7 @@
 use Rattle.std.proofs.Common.{◌≡◌, ◌-◌, rules}
 use Rattle.std.specs.Prelude.{is_err}
 use Rattle.std.specs.List.{range_with_len}
-use Rattle.byte_fields.specs.Fields.{joined}
+use Rattle.card_layout.specs.Fields.{joined}
 use Rattle.tach_media.proofs.Runs.{both_told}
 use Rattle.unit_memory.proofs.Told.{carried}
 use Rattle.unit_journal.proofs.IfAny.{read_same}

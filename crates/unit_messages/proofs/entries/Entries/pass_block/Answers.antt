@@ -1,6 +1,6 @@
 use Rattle.std.proofs.Common.{◌≡◌, ◌∙◌, ℕ, ap, sym, arith}
 use Rattle.std.specs.List.{range_with_len}
-use Rattle.byte_fields.specs.Fields.{joined}
+use Rattle.card_layout.specs.Fields.{joined}
 use Rattle.unit_messages.specs.Windows.{passed}
 use Rattle.unit_messages.specs.Chosen.{chosen_at, shape_of}
 use Rattle.unit_messages.proofs.Windows.{passed_none}

@@ -1,7 +1,7 @@
 use Rattle.std.proofs.Common.{◌≡◌, ◌+◌, ◌*◌, ℕ, List}
 use Rattle.std.specs.List.{range_with_len}
-use Rattle.byte_fields.specs.Images.{bytes_at}
-use Rattle.byte_fields.specs.Fields.{joined}
+use Rattle.card_layout.specs.Images.{bytes_at}
+use Rattle.card_layout.specs.Fields.{joined}
 use Rattle.unit_messages.specs.Windows.{passed}
 use Rattle.unit_messages.specs.Chosen.{chosen_at, shape_of}
 use Rattle.unit_messages.proofs.entries.Entries.pass_block.Given as goal

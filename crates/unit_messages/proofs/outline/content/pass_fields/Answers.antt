@@ -1,6 +1,6 @@
 use Rattle.std.proofs.Common.{◌≡◌, rules}
 use Rattle.std.specs.Prelude.{is_err}
-use Rattle.byte_fields.specs.Images.{bytes_at}
+use Rattle.card_layout.specs.Images.{bytes_at}
 use Rattle.unit_memory.proofs.Told.{carried}
 use Rattle.unit_journal.proofs.IfAny.{read_same}
 use Rattle.unit_messages.specs.Windows.{passed}

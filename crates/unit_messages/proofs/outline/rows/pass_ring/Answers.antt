@@ -1,7 +1,7 @@
 use Rattle.std.proofs.Common.{◌≡◌, ◌*◌, ◌≤◌, ◌<◌, ℕ, length, subst, sym, ap, ◌∙◌, inr, refl, arith, rules}
 use Rattle.std.specs.Prelude.{is_err}
-use Rattle.byte_fields.specs.Images.{number_at}
-use Rattle.byte_fields.specs.Fields.{joined}
+use Rattle.card_layout.specs.Images.{number_at}
+use Rattle.card_layout.specs.Fields.{joined}
 use Rattle.tach_media.proofs.Runs.{both_told}
 use Rattle.gated_ring.specs.Ring.{next, pointer, order}
 use Rattle.gated_ring.proofs.Orders.{next_below}

@@ -1,5 +1,0 @@
-pub mod Numbers
-pub mod Cuts
-pub mod Images
-pub mod Fields
-pub mod Spelled

@@ -1,4 +1,0 @@
-pub mod Commands
-pub mod Issue
-pub mod Layers
-pub mod Outcomes

@@ -1,5 +1,0 @@
-use Rattle.joint_steps.proofs.Mending.{mending_view, mended_view}
-use Rattle.joint_steps.proofs.laws.a_mending_is_seen.Goals as goal
-
-pub returns : goal.returns
-returns c = record { moments = λ a b j x y is. mending_view a b x y j is; mended = mended_view }

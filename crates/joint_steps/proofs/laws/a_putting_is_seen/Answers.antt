@@ -1,8 +1,0 @@
-use Rattle.joint_steps.proofs.Putting.{first_putting, second_putting}
-use Rattle.joint_steps.proofs.laws.a_putting_is_seen.Goals as goal
-
-pub returns : goal.returns
-returns c = record {
-  first = λ a b e x y apart known late all is. first_putting a b e x y apart known late all is;
-  second = λ a b e x y apart known late all is. second_putting a b e x y apart known late all is;
-}

@@ -1,8 +1,0 @@
-use Rattle.joint_steps.proofs.Beginning.{first_begun, second_begun}
-use Rattle.joint_steps.proofs.laws.a_row_is_begun.Goals as goal
-
-pub returns : goal.returns
-returns c = record {
-  first = λ a b session x y apart known is. first_begun a b session x y apart known is;
-  second = λ a b session x y apart known is. second_begun a b session x y apart known is;
-}
