@@ -1,5 +1,5 @@
 //! The actions of a second.
-ghost use Rattle.std.specs.Prelude.{◌≡◌, ◌≢◌, ℕ, ◌+◌, ◌-◌, ◌*◌, ◌/◌, ◌<◌, ◌≤◌, ◌∷◌, [], true, false, Some, None, OnOk, length, min, is_some, is_err};
+ghost use Rattle.std.specs.Prelude.{◌≡◌, ℕ, ◌+◌, ◌-◌, ◌/◌, ◌≤◌, ◌∷◌, [], true, false, None, OnOk, length, min, is_some, is_err};
 ghost use Rattle.std.specs.Result.{result_err};
 ghost use Rattle.tach_media.specs.Medium.{HasCause};
 ghost use Rattle.log_model.specs.Slots.{refusal};
@@ -11,7 +11,7 @@ ghost use Rattle.run_outcome.specs.Broken.{BreaksDown};
 ghost use Rattle.run_rule.specs.Between.{devices};
 ghost use Rattle.run_acts.specs.declared.run.Power.TheVariants.{Lit};
 ghost use Rattle.run_acts.specs.Power.{is_lit};
-ghost use Rattle.run_acts.specs.Going.{largest_number, first_second, end_of_seconds, IsHeld, IsLit, IsWithin};
+ghost use Rattle.run_acts.specs.Going.{largest_number, IsHeld, IsLit, IsWithin};
 ghost use Rattle.run_acts.specs.Room.{HasRoomWithin, Takes};
 ghost use Rattle.run_acts.specs.Recording.{RecordsAction};
 ghost use Rattle.run_acts.specs.Evented.{EventsAction};

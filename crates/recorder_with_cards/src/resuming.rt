@@ -1,5 +1,5 @@
 //! Power is back.
-ghost use Rattle.std.specs.Prelude.{◌≡◌, ◌⊎◌, ℕ, ◌+◌, ◌-◌, ◌*◌, ◌/◌, ◌<◌, ◌≤◌, true, false, IfOk, IfErr, IsOk, OnOk, length, is_err};
+ghost use Rattle.std.specs.Prelude.{◌≡◌, ℕ, ◌+◌, ◌*◌, ◌/◌, ◌<◌, ◌≤◌, true, false, IfOk, IfErr, IsOk, OnOk, length, is_err};
 ghost use Rattle.tach_media.specs.Medium.{HasCause};
 ghost use Rattle.unit_model.specs.Image.{IsUnit};
 ghost use Rattle.run_opening.specs.Units.{IsLoaded};
@@ -7,7 +7,7 @@ ghost use Rattle.run_acts.specs.declared.run.Power.TheVariants.{Lit};
 ghost use Rattle.run_keeping.specs.Later.{AreLater, AreCalm};
 ghost use Rattle.run_outcome.specs.Broken.{failed_cuts, BreaksDown};
 ghost use Rattle.run_acts.specs.Power.{is_lit, has_power, minute_over};
-ghost use Rattle.run_acts.specs.Going.{end_of_seconds, IsHeld, IsLit, IsAt, IsGoing, IsWithin, IsFoundLater};
+ghost use Rattle.run_acts.specs.Going.{IsHeld, IsLit, IsGoing, IsWithin, IsFoundLater};
 ghost use Rattle.run_acts.specs.Room.{HasRoom, HasRoomWithin, falls_of, bare_seats};
 ghost use Rattle.recorder_with_cards.specs.Waking.{IsAwake, TakesUp, TakesAwake};
 ghost use Rattle.recorder_with_cards.specs.Woken.{ResumesSo, WakesSo, EventsResuming, EventsWaking, RingsResuming, RingsWaking};

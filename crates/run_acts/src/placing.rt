@@ -1,5 +1,5 @@
 //! A place is noted.
-ghost use Rattle.std.specs.Prelude.{◌≡◌, ◌≢◌, ℕ, ◌+◌, ◌/◌, ◌<◌, ◌≤◌, ◌^◌, Bool, true, false, Option, Some, None, IfSome, OnOk, [], length, is_err, is_some, if◌then◌else◌};
+ghost use Rattle.std.specs.Prelude.{◌≡◌, ◌≢◌, ℕ, ◌+◌, ◌/◌, ◌<◌, ◌≤◌, ◌^◌, Bool, true, false, Option, Some, IfSome, OnOk, [], length, is_err, is_some, if◌then◌else◌};
 ghost use Rattle.trace_model.specs.declared.Card.{Card};
 ghost use Rattle.tach_media.specs.Medium.{LeavesOnly, HasCause, HasBroken};
 ghost use Rattle.minute_model.specs.Span.{Span, travelled_of};
@@ -10,7 +10,7 @@ ghost use Rattle.unit_notes.specs.Journal.{LeavesJournal};
 ghost use Rattle.slot_machine.specs.Calls.{seat_in, card_in};
 ghost use Rattle.run_crew.specs.Cards.{known_of, session_of};
 ghost use Rattle.run_crew.specs.Cabin.{Stands, number_of_seat};
-ghost use Rattle.run_keeping.specs.Keeping.{UnitReady, CardReady, HasItsRow, tears_of};
+ghost use Rattle.run_keeping.specs.Keeping.{UnitReady, CardReady, HasItsRow};
 ghost use Rattle.run_keeping.specs.Minutes.{odometer_by};
 ghost use Rattle.run_keeping.specs.Later.{AreLater, AreCalm};
 ghost use Rattle.run_rule.specs.Between.{devices};

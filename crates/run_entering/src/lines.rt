@@ -1,9 +1,9 @@
 //! What is told of a card that enters.
-ghost use Rattle.std.specs.Prelude.{◌≡◌, ◌<◌, ◌≤◌, ◌+◌, ℕ, ◌∷◌, [], length, drop};
+ghost use Rattle.std.specs.Prelude.{◌≡◌, ◌<◌, ◌≤◌, ◌+◌, ◌∷◌, [], length};
 ghost use Rattle.joint_rule.specs.Views.{other};
 ghost use Rattle.log_model.specs.Causes.{device_of};
 ghost use Rattle.run_keeping.specs.Keeping.{with_lines};
-ghost use Rattle.run_entering.specs.Entering.{find_of, and_mark, and_marks, last_of, most_owed, slot_number, previous_of, previous_time_of, insertion_of};
+ghost use Rattle.run_entering.specs.Entering.{find_of, and_mark, and_marks, last_of, most_owed, slot_number, insertion_of};
 
 use activity_codec::{Entry, Owed, Slot};
 use card_judge::CardLook;

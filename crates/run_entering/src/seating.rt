@@ -1,5 +1,5 @@
 //! A card that is found to be accepted is so: its insertion is noted, its row begins, and what comes with it is noted.
-ghost use Rattle.std.specs.Prelude.{◌≡◌, ◌≢◌, ℕ, ◌+◌, ◌/◌, ◌<◌, ◌≤◌, ◌^◌, Bool, true, false, Option, Some, None, Ok, IfSome, OnOk, length, is_some, is_err, option_map};
+ghost use Rattle.std.specs.Prelude.{◌≡◌, ◌≢◌, ℕ, ◌+◌, ◌/◌, ◌<◌, ◌≤◌, ◌^◌, Bool, true, false, Option, Some, None, Ok, IfSome, OnOk, length, is_err, option_map};
 ghost use Rattle.trace_model.specs.declared.Card.{Card};
 ghost use Rattle.tach_media.specs.Medium.{HasCause};
 ghost use Rattle.tacho_types.specs.CardNumber.{card_number_bytes};

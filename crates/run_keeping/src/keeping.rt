@@ -1,16 +1,14 @@
 //! A minute is kept by the unit, and then on the cards that were present in it.
 ghost use Rattle.run_keeping.specs.Faults.{last_faults, NotesFaults};
-ghost use Rattle.std.specs.Prelude.{◌≡◌, ◌⊎◌, ◌≢◌, ℕ, ◌+◌, ◌-◌, ◌/◌, ◌<◌, ◌≤◌, false, Option, Some, IfSome, List, ◌∷◌, [], OnOk, OnErr, length, is_some, is_err};
+ghost use Rattle.std.specs.Prelude.{◌≡◌, ◌≢◌, ℕ, ◌+◌, ◌-◌, ◌/◌, ◌<◌, ◌≤◌, false, Option, IfSome, ◌∷◌, [], OnOk, OnErr, length, is_some, is_err};
 ghost use Rattle.tach_media.specs.Medium.{HasCause, HasBroken};
-ghost use Rattle.cyclic_days.specs.Steps.{IsIdle};
 ghost use Rattle.card_session.specs.declared.words.TheConstants.{LATEST_MINUTE};
 ghost use Rattle.unit_model.specs.declared.layout.TheConstants.{HIGHEST_ODOMETER};
 ghost use Rattle.unit_model.specs.Image.{IsUnit};
-ghost use Rattle.unit_journal.specs.Image.{Agrees};
 ghost use Rattle.run_crew.specs.Cabin.{Stands, MayBeKept, AreTwo};
 ghost use Rattle.trace_model.specs.declared.Card.{Card};
 ghost use Rattle.trace_model.specs.declared.Card.TheVariants.{A, B};
-ghost use Rattle.run_keeping.specs.Keeping.{UnitReady, CardReady, IsReady, HasItsRow, HasLeftMore, HaveRows, AreEmptied, SessionsGoOn, entry_in, kept_in, is_this, tears_of, most_tears, with_lines};
+ghost use Rattle.run_keeping.specs.Keeping.{UnitReady, CardReady, IsReady, HasItsRow, HasLeftMore, HaveRows, AreEmptied, SessionsGoOn, kept_in, is_this, tears_of, most_tears, with_lines};
 ghost use Rattle.run_keeping.specs.Keeping.{TellsPresent};
 ghost use Rattle.run_keeping.specs.Minutes.{Round, IsMinute, unit_mark};
 ghost use Rattle.run_keeping.specs.Books.{BooksMinute};

@@ -1,5 +1,5 @@
 //! A card is torn out, since a call on it failed.
-ghost use Rattle.std.specs.Prelude.{◌≡◌, ◌≢◌, ℕ, ◌/◌, ◌<◌, ◌≤◌, ◌∷◌, [], Option, Some, None, IfSome, OnOk, length, is_err};
+ghost use Rattle.std.specs.Prelude.{◌≡◌, ◌≢◌, ℕ, ◌/◌, ◌<◌, ◌≤◌, ◌∷◌, [], Option, IfSome, OnOk, length, is_err};
 ghost use Rattle.trace_model.specs.declared.Card.{Card};
 ghost use Rattle.tach_media.specs.Medium.{LeavesOnly, HasCause};
 ghost use Rattle.event_model.specs.declared.kinds.TheConstants.{CARD_FAULT};

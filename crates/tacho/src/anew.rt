@@ -1,10 +1,7 @@
 //! The unit and card a are made new, and then a trace is recorded.
-ghost use Rattle.std.specs.Prelude.{◌≡◌, ◌≤◌, ◌<◌, ℕ, List, OnOk, IfErr, length};
-ghost use Rattle.tach_media.specs.Medium.{LeavesOnly};
-ghost use Rattle.card_layout.specs.Issue.{IsIssued};
+ghost use Rattle.std.specs.Prelude.{◌≡◌, ◌≤◌, ℕ, List, OnOk, IfErr, length};
 ghost use Rattle.card_layout.specs.declared.files.TheConstants.{LARGEST_IMAGE};
 ghost use Rattle.unit_model.specs.Image.{IsUnit};
-ghost use Rattle.unit_memory.specs.Formats.{IsFormatting};
 ghost use Rattle.trace_text.specs.Trace.{IsWellFormed};
 ghost use Rattle.run_outcome.specs.Room.{IsReserved};
 ghost use Rattle.run_rule.specs.Between.{devices};

@@ -1,7 +1,6 @@
 //! What `record` and `demo` print of an outcome: lines of counts.
 ghost use Rattle.std.specs.Prelude.{◌≡◌, ◌+◌, ◌≤◌, ◌++◌, length};
 ghost use Rattle.arrayvec.specs.ArrayVec.{array_vec_len};
-ghost use Rattle.run_model.specs.declared.Device.{Device as EachDevice};
 ghost use Rattle.safety_model.specs.Unit.{is_of};
 ghost use Rattle.tacho.specs.Outcomes.{count_line, mark_count, outcome_text};
 ghost use Rattle.tacho.specs.Demo.{demo_text};

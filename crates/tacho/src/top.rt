@@ -2,7 +2,6 @@
 ghost use Rattle.std.specs.Prelude.{◌≡◌, Some};
 ghost use Rattle.tacho.specs.Forms.{form_of};
 ghost use Rattle.tacho.specs.Outside.{outside};
-ghost use Rattle.unit_model.specs.Image.{IsUnit};
 ghost use Rattle.tacho.specs.declared.forms.Form.TheVariants.{Record as FormOfRecord, CardFile as FormOfCard, Demo as FormOfDemo};
 ghost use Rattle.tacho.specs.Outcomes.{IsEmpty, IsToldForUnit};
 ghost use Rattle.tacho.specs.Program.{AreDevices, Ends, Spares};
