@@ -1,1 +1,2 @@
 pub mod Times
+pub use Rattle.device_steps.specs.Rule

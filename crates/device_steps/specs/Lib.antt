@@ -4,3 +4,4 @@ pub mod Minute
 pub mod Entering
 pub mod CardNotes
 pub mod Travel
+pub use Rattle.unit_notes.specs.Journal

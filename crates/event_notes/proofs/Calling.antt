@@ -26,7 +26,7 @@ use Rattle.event_course.specs.Shown.{no_number, HasNoted}
 use Rattle.event_course.proofs.Failing.{sure-before, sure-parts, leads-stay}
 use Rattle.event_course.proofs.Shows.{noted-then, noted-aside, noted-after, itself-more}
 use Rattle.event_notes.proofs.Frames.{bares-apart, gaps-apart, noting-more, bare-noted, gap-noted, over-noting, over-noted, overs-stay, bares-stay}
-use Rattle.side_model.specs.Tables.{table_in, IsNoted}
+use Rattle.event_course.specs.Tables.{table_in, IsNoted}
 use Rattle.event_notes.specs.Noting.{ended_in, gap_in, AreUnsure, AreNotedBy, HasBare, IsInOrder, LeavesPlaces}
 
 -- a unit stays one

@@ -12,7 +12,7 @@ use Rattle.unit_model.specs.Image.{number_of}
 use Rattle.unit_model.proofs.Numbers.{number_put4}
 use Rattle.log_model.specs.Log.{RunLog}
 use Rattle.event_model.specs.Events.{Event}
-use Rattle.side_model.specs.Tables.{table_of, table_in, IsNoted, AreNoted}
+use Rattle.event_course.specs.Tables.{table_of, table_in, IsNoted, AreNoted}
 use Rattle.unit_notes.specs.Noting.{IsEventNoted, IsNotingEvent, IsNotingOver, IsOverNoted, with_first, with_one_more}
 use Rattle.unit_notes.specs.Fields.{IsFrontOf}
 use Rattle.unit_notes.proofs.Types.{table_inside}

@@ -5,7 +5,7 @@ use Rattle.log_model.specs.Log.{RunLog}
 use Rattle.event_model.specs.declared.kinds.TheConstants.{DRIVING_WITHOUT_CARD, OVER_SPEEDING}
 use Rattle.event_model.specs.declared.entries.Over.{Over}
 use Rattle.event_model.specs.declared.entries.Span.{Span}
-use Rattle.side_model.specs.Tables.{table_in, IsNoted}
+use Rattle.event_course.specs.Tables.{table_in, IsNoted}
 use Rattle.event_course.specs.Plain.{bare_event, over_event, gap_to}
 use Rattle.event_course.specs.Noted.{Lists, no_events, are_sure, StayFailed, AllLead}
 use Rattle.event_course.specs.Shown.{no_number, HasNoted}

@@ -4,3 +4,6 @@ pub mod Steps
 pub mod Rules
 pub mod Filling
 pub mod Marked
+pub use Rattle.card_image.specs.Fields
+pub use Rattle.card_image.specs.Own
+pub use Rattle.card_image.specs.View

@@ -1,7 +1,7 @@
 -- The insertions and places of a unit's image (Appendix 1, VuCardIWRecord, VuPlaceDailyWorkPeriodRecord).
 use Rattle.std.specs.Prelude.{ℕ, List, [], ◌∷◌}
 use Rattle.card_layout.specs.Fields.{total_width, place_in, number_in}
-use Rattle.gated_ring.specs.Ring.{Shape}
+use Rattle.unit_model.specs.Ring.{Shape}
 use Rattle.unit_model.specs.declared.layout.TheConstants.{INSERTIONS, INSERTION_SLOTS, PLACES, PLACE_SLOTS}
 
 -- an insertion: surname, first names, card number, expiry, time, odometer, slot, withdrawal time and odometer, the previous vehicle and the

@@ -3,7 +3,7 @@ use Rattle.std.specs.Prelude.{ℕ, ◌*◌, ◌/◌, ◌<◌, Bool, ◌||◌, Op
 use Rattle.std.specs.List.{range_with_len}
 use Rattle.card_layout.specs.Images.{bytes_at}
 use Rattle.card_layout.specs.Fields.{joined}
-use Rattle.gated_ring.specs.Ring.{Shape, is_there, entry_at, ring_list}
+use Rattle.unit_model.specs.Ring.{Shape, is_there, entry_at, ring_list}
 use Rattle.unit_model.specs.declared.layout.Field.{Field}
 use Rattle.unit_model.specs.declared.layout.TheConstants.{VIN, REGISTRATION, IDENTIFICATION, SENSOR, STATE_CERTIFICATE, UNIT_CERTIFICATE, FIRST_OVER, OVER_COUNT, EVENTS, OVERS, FAULTS}
 use Rattle.unit_model.specs.Days.{StoredDay, days_kept}

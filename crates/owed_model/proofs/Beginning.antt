@@ -8,7 +8,7 @@ use Rattle.std.proofs.lemmas.Bool.{cases_lt}
 use Rattle.std.proofs.lemmas.Bool.Decides.{nat_tests}
 use Rattle.tach_media.specs.Medium.{put, bytes_at, SameOutside}
 use Rattle.tach_media.proofs.Images.{put_outside, part_before, part_after, part_put, outside_wider}
-use Rattle.gated_ring.specs.Ring.{number_at}
+use Rattle.unit_model.specs.Ring.{number_at}
 use Rattle.write_plan.specs.Plan.{Piece, piece, put_all, IsPartway, IsInside}
 use Rattle.write_plan.proofs.Plans.{partway_either, partway_outside, puts_outside}
 use Rattle.unit_model.specs.declared.layout.TheConstants.{IMAGE_SIZE, OWED, OWED_ROW_SIZE}

@@ -5,7 +5,7 @@ use Rattle.std.specs.Cmp.Lexicographic.{pointwise}
 use Rattle.std.proofs.lemmas.Bool.Decides.{nat_tests}
 use Rattle.activity_codec.specs.declared.entries.Entry.{Entry}
 use Rattle.tach_media.specs.Medium.{bytes_at}
-use Rattle.gated_ring.specs.Ring.{number_at}
+use Rattle.unit_model.specs.Ring.{number_at}
 use Rattle.unit_model.specs.Image.{last_kept}
 use Rattle.unit_model.specs.declared.layout.TheConstants.{OWED, OWED_ROW_SIZE, ROW_CELLS, ROW_SESSION, ROW_NUMBER, CELL_MINUTE, CELL_WORD}
 use Rattle.unit_model.specs.Decoding.{cell_minute, cell_word, cell_place}

@@ -4,7 +4,7 @@ use Rattle.std.specs.List.{AllByRecursion}
 use Rattle.std.specs.Int.{to_be_bytes, w32}
 use Rattle.tach_media.specs.Medium.{put, bytes_at, SameOutside}
 use Rattle.tach_media.proofs.Images.{put_outside, part_before, part_after}
-use Rattle.gated_ring.specs.Ring.{number_at}
+use Rattle.unit_model.specs.Ring.{number_at}
 use Rattle.write_plan.specs.Plan.{Piece, put_all, IsPartway, IsInside}
 use Rattle.unit_model.proofs.Numbers.{number_same, number_put4}
 

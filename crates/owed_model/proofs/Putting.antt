@@ -8,7 +8,7 @@ use Rattle.std.proofs.lemmas.Bool.{cases_lt}
 use Rattle.std.proofs.lemmas.Bool.Decides.{nat_tests}
 use Rattle.tach_media.specs.Medium.{put, bytes_at, SameOutside}
 use Rattle.tach_media.proofs.Images.{put_outside, part_before, part_after, outside_same, outside_wider, outside_then}
-use Rattle.gated_ring.specs.Ring.{number_at}
+use Rattle.unit_model.specs.Ring.{number_at}
 use Rattle.write_plan.specs.Plan.{put_all, IsPartway}
 use Rattle.write_plan.proofs.Plans.{after_some}
 use Rattle.activity_codec.specs.declared.entries.Entry.{Entry}

@@ -5,7 +5,7 @@ use Rattle.std.specs.Cmp.Lexicographic.{pointwise}
 use Rattle.activity_codec.specs.declared.entries.Entry.{Entry}
 use Rattle.activity_codec.specs.Words.{word_slot, word_crew, word_act}
 use Rattle.tach_media.specs.Medium.{bytes_at}
-use Rattle.gated_ring.specs.Ring.{number_at}
+use Rattle.unit_model.specs.Ring.{number_at}
 use Rattle.unit_model.specs.declared.layout.TheConstants.{OWED, OWED_ROWS, OWED_ROW_SIZE, CELLS, CELL_SIZE, ROW_SESSION, ROW_NUMBER, ROW_CELLS, CELL_MINUTE, CELL_WORD}
 use Rattle.unit_model.specs.Image.{last_kept}
 

@@ -1,7 +1,7 @@
 ghost use Rattle.std.specs.Prelude.{◌≡◌, ◌≤◌, ◌<◌, ◌+◌, ◌%◌, ◌==◌, ◌&&◌, ◌↔◌, [], fold, is_some, length, nat_lt, nat_le, true, IfOk, IfSome, is_err, option_map};
 ghost use Rattle.unit_model.specs.declared.layout.TheConstants.{OWED};
 ghost use Rattle.std.specs.List.{prefix_len, range_with_len};
-ghost use Rattle.gated_ring.specs.Ring.{number_at};
+ghost use Rattle.unit_model.specs.Ring.{number_at};
 ghost use Rattle.tach_media.specs.Medium.{Reads};
 ghost use Rattle.unit_model.specs.Image.{IsUnit, last_kept};
 ghost use Rattle.owed_model.specs.Owed.{rows_in, row_in, cell_in, entry_of, placed, counts, owed_of, owed_to};

@@ -3,7 +3,7 @@ ghost use Rattle.std.specs.Prelude.{◌≡◌, ◌≤◌, ◌<◌, ◌+◌, ◌*
 ghost use Rattle.unit_model.specs.declared.layout.TheConstants.{OWED};
 ghost use Rattle.std.specs.Cmp.Lexicographic.{pointwise};
 ghost use Rattle.tach_media.specs.Medium.{Reads};
-ghost use Rattle.gated_ring.specs.Ring.{number_at};
+ghost use Rattle.unit_model.specs.Ring.{number_at};
 ghost use Rattle.unit_model.specs.Image.{IsUnit};
 ghost use Rattle.owed_model.specs.Owed.{rows_in, session_in, is_row_of, row_index};
 ghost use Rattle.owed_rows.specs.Searching.{or_this};

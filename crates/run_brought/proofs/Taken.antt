@@ -7,8 +7,8 @@ use Rattle.history_model.specs.Minutes.{HistoryMinute}
 use Rattle.history_model.specs.Book.{Book, IsMark}
 use Rattle.history_model.proofs.Books.{all-none, mark-more}
 use Rattle.joint_rule.specs.Views.{UnitView, unit_view}
-use Rattle.unit_rule.specs.Rule.{Started}
-use Rattle.unit_rule.specs.Marks.{Holds}
+use Rattle.run_rule.specs.Rule.{Started}
+use Rattle.run_rule.specs.Marks.{Holds}
 use Rattle.run_brought.specs.Going.{IsTakenAt}
 use Rattle.run_brought.proofs.Accounts.{last-of}
 

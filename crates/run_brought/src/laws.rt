@@ -23,8 +23,8 @@ ghost use Rattle.safety_model.specs.Recording.{Recording, card_image, start_of, 
 ghost use Rattle.safety_model.specs.Cards.{shows_lost};
 ghost use Rattle.joint_rule.specs.Rules.{Standing};
 ghost use Rattle.joint_rule.specs.Marked.{HasBrought};
-ghost use Rattle.unit_rule.specs.Rule.{Started};
-ghost use Rattle.unit_rule.specs.Marks.{Holds};
+ghost use Rattle.run_rule.specs.Rule.{Started};
+ghost use Rattle.run_rule.specs.Marks.{Holds};
 ghost use Rattle.run_rule.specs.Found.{Found};
 ghost use Rattle.run_rule.specs.Between.{Carried, IsCarried, IsFound, AreBrought, AreUntouched, devices};
 ghost use Rattle.run_brought.specs.Accounts.{IsAccount, HasAccounts, IsShownLost};

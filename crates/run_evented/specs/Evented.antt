@@ -24,7 +24,7 @@ use Rattle.safety_model.specs.Recording.{Recording, card_image, told_of}
 use Rattle.safety_model.specs.Safe.{Devices, card_of}
 use Rattle.safety_model.specs.Side.{told_kinds, events_in, are_sure, first_begin}
 use Rattle.event_course.specs.Shown.{all_kinds}
-use Rattle.run_rule.specs.Found.{found_of}
+use Rattle.run_recorded.specs.Found.{found_of}
 use Rattle.run_course.specs.Moments.{and_break}
 use Rattle.run_course.specs.Followed.{Progress, Followed}
 use Rattle.run_course.specs.Seconds.{next_told}

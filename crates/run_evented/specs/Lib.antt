@@ -6,3 +6,5 @@ pub mod Noting
 pub mod Bringing
 pub mod SoFar
 pub mod Kept
+pub use Rattle.run_recorded.specs.Beside
+pub use Rattle.run_recorded.specs.Origin

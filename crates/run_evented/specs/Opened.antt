@@ -14,7 +14,7 @@ use Rattle.log_model.specs.Slots.{same_card}
 use Rattle.log_model.specs.Course.{Told, Visit}
 use Rattle.safety_model.specs.Recording.{card_image}
 use Rattle.safety_model.specs.Safe.{Devices, card_of}
-use Rattle.run_rule.specs.Found.{found_of}
+use Rattle.run_recorded.specs.Found.{found_of}
 use Rattle.run_recorded.specs.Origin.{Origin}
 
 -- the session time that an image of a card tells, 0 where none is open

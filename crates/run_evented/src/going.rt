@@ -1,4 +1,4 @@
-ghost use Rattle.run_rule.specs.Between.{devices};
+ghost use Rattle.run_recorded.specs.Between.{devices};
 ghost use Rattle.run_evented.specs.Going.{DarkSecondsBringNothing, AnOffLineBringsNothing, AnOffLineCutsAndBringsNothing, QuietSecondsBringNothing, SecondsAlikeEndNothing};
 
 use tach_media::{Chip, Medium};

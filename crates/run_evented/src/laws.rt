@@ -1,4 +1,4 @@
-ghost use Rattle.run_rule.specs.Between.{devices};
+ghost use Rattle.run_recorded.specs.Between.{devices};
 ghost use Rattle.run_evented.specs.Evented.{EventsStay, EventsAreFound, ASecondIsNoted, ASecondIsBroken, APowerOnIsBroken, ADarkSecondBringsNothing, AnOffCutBringsNothing, NothingIsNoted, EventsAreShown};
 ghost use Rattle.run_evented.specs.Noting.{AStepIsNoted, AStageIsDone, TheSecondBegins, TheSecondIsNoted, TheSecondIsCut};
 ghost use Rattle.run_evented.specs.Bringing.{ATearIsBrought, ARefusalBringsNothing};

@@ -1,4 +1,4 @@
-ghost use Rattle.run_rule.specs.Between.{devices};
+ghost use Rattle.run_recorded.specs.Between.{devices};
 ghost use Rattle.run_evented.specs.SoFar.{StepsFollow, ASecondBegins, ASecondEnds, ATearAdds, AFindAdds, AWakingTearAdds, AnInterruptionAdds, ARefusalAddsNothing, APullAddsNothing, WhatEndsIsAdded, ACallNotes, AFailureCuts};
 ghost use Rattle.run_evented.specs.Kept.{TheInterruptionIsFound, NoBreakNoSpan};
 

@@ -24,7 +24,7 @@ use Rattle.run_crew.specs.Cards.{known_of, session_of, with_session}
 use Rattle.run_rule.specs.Found.{Found, found_of, unit_seen, AnyKept}
 use Rattle.run_rule.specs.Cards.{CardMarksHold}
 use Rattle.run_rule.specs.Between.{Carried, devices}
-use Rattle.run_strung.specs.Strung.{IsHeld}
+use Rattle.run_told.specs.Strung.{IsHeld}
 use Rattle.run_told.specs.Told.{AreFoundCards, GoesOwing, AllGo, IsLitOwing, IsPowerless, arranged, owes_nothing}
 use Rattle.run_told.proofs.Parts.{both_of, as-rests, of-rests, brought-on, CardOff, AreOff, powerless-of}
 use Rattle.run_told.proofs.Noted.{noted-with, go-unit}

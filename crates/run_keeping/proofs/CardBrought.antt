@@ -45,7 +45,7 @@ use Rattle.run_crew.specs.declared.cards.Accepted.{Accepted}
 use Rattle.run_crew.specs.declared.cards.Cards.{Cards}
 use Rattle.run_rule.specs.Found.{CardFound, Found, found_of, unit_seen, AnyKept}
 use Rattle.run_rule.specs.Cards.{brought_by, CardMarksHold}
-use Rattle.run_strung.specs.Strung.{IsHeld, HasSameHolder}
+use Rattle.run_told.specs.Strung.{IsHeld, HasSameHolder}
 use Rattle.run_told.specs.Told.{AreFoundCards, IsOn, GoesOwing}
 use Rattle.run_told.proofs.Parts.{both_of, as-steps, of-steps, left-one, told-one}
 use Rattle.run_told.proofs.Holders.{card-rest}

@@ -39,7 +39,7 @@ use Rattle.run_rule.specs.Cards.{brought_by, counted_to, StringHolds, IsStrung, 
 use Rattle.run_rule.specs.Between.{Carried, devices}
 use Rattle.run_rule.proofs.Behind.{owed-until}
 use Rattle.run_rule.proofs.Waiting.{string-broken, comes-broken, strung-kept}
-use Rattle.run_strung.specs.Strung.{IsHeld}
+use Rattle.run_told.specs.Strung.{IsHeld}
 use Rattle.run_told.specs.Told.{AreFoundCards, sure_of, IsHeldDark, owes_nothing, GoesOwing, AllGo, IsLitWith, IsLitOwing, IsPowerless, AreEarly}
 use Rattle.run_told.proofs.Parts.{both_of, of-steps, of-rests, told-one, held-same, sure-same, strung-with}
 use Rattle.run_keeping.specs.Minutes.{unit_mark}

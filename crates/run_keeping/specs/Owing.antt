@@ -22,7 +22,7 @@ use Rattle.run_crew.specs.Cards.{session_of}
 use Rattle.run_rule.specs.Found.{Found, found_of, unit_seen, AnyKept}
 use Rattle.run_rule.specs.Cards.{CardMarksHold}
 use Rattle.run_rule.specs.Between.{Carried}
-use Rattle.run_strung.specs.Strung.{IsHeld}
+use Rattle.run_told.specs.Strung.{IsHeld}
 use Rattle.run_told.specs.Told.{GoesOwing, AreFoundCards, AllGo, owes_nothing, IsLitWith, IsLitOwing, IsPowerless}
 use Rattle.run_keeping.specs.Keeping.{Fate, is_this, marks_by}
 use Rattle.run_keeping.specs.Minutes.{Told, unit_mark}

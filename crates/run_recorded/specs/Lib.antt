@@ -4,3 +4,5 @@ pub mod Days
 pub mod Ends
 pub mod Beside
 pub mod Whole
+pub use Rattle.run_rule.specs.Between
+pub use Rattle.run_rule.specs.Found

@@ -9,7 +9,7 @@ use Rattle.side_model.specs.Odometer.{SpanFrom, odometer_at}
 use Rattle.side_model.specs.Noted.{InsertionNote, PlaceNote, Note, Accepts, Withdraws, Enters}
 use Rattle.safety_model.specs.Safe.{Devices, card_of}
 use Rattle.run_rule.specs.Found.{found_of}
-use Rattle.run_recorded.specs.Beside.{HaveLeftMore}
+use Rattle.run_evented.specs.Beside.{HaveLeftMore}
 use Rattle.run_ringed.specs.Ringed.{holder_in, TellsIn, IsInsertionIn, Seating, Ringed, HasSameRings, WritesRing, IsAddedAt, MayBeAdded, IsWithdrawnAt, MayBeWithdrawn, AnInsertionIsNoted, APlaceIsNoted, AWithdrawalIsNoted, AWithdrawalIsBroken, AnInsertionIsBroken, APlaceIsBroken, Since}
 use Rattle.run_ringed.specs.OnCards.{PlacesStay, PlaceIsTaken}
 use Rattle.run_ringed.proofs.Stands.{insertion-as}

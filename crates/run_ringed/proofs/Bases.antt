@@ -23,7 +23,7 @@ use Rattle.safety_model.specs.Safe.{Devices}
 use Rattle.run_course.specs.Moments.{and_break}
 use Rattle.run_course.proofs.Lookups.{kept-by}
 use Rattle.run_course.proofs.Logs.{found_log, kept-found}
-use Rattle.run_recorded.specs.Origin.{Origin, rule_of, first_of}
+use Rattle.run_evented.specs.Origin.{Origin, rule_of, first_of}
 use Rattle.run_rings.specs.Spans.{go_on_from, with_second}
 use Rattle.run_ringed.specs.SoFar.{HasMoreBreaks}
 use Rattle.run_ringed.specs.Stored.{IsFoundEnd, IsOpenEnd, limited, minutes_kept, IsNewest, StandsOn, StoresOn, SinceRead, StoresOff}

@@ -27,7 +27,7 @@ use Rattle.side_model.specs.Odometer.{SpanFrom, IsBeingKept}
 use Rattle.run_course.specs.Followed.{Progress, Followed, IsShut, IsTied}
 use Rattle.run_course.proofs.Deciding.{added, decides-now}
 use Rattle.run_course.proofs.Steps.{lit-parts, span-end}
-use Rattle.run_recorded.specs.Origin.{Origin}
+use Rattle.run_evented.specs.Origin.{Origin}
 use Rattle.run_rings.specs.Spans.{go_on_from, with_second}
 use Rattle.run_ringed.specs.Stored.{limited, minutes_kept, IsNewest, StandsOn, StoresOn}
 use Rattle.run_ringed.proofs.Stored.{numbers, mapped, AtEnd, nothing, push, at-end}

@@ -21,7 +21,7 @@ use Rattle.run_rings.specs.Carried.{Carries}
 use Rattle.run_rings.proofs.Carried.{carries-none, carries-same, carries-more, carries-maybe}
 use Rattle.run_rings.proofs.Standing.{stand-one, stand-unsure}
 use Rattle.run_rings.proofs.Few.{as-many, added-long, adding-long, few-start, few-go, few-as, few-more, few-unsure}
-use Rattle.run_recorded.specs.Origin.{Origin}
+use Rattle.run_evented.specs.Origin.{Origin}
 use Rattle.run_ringed.specs.OnCards.{ShowsNotes, has_call_failed_in, places_in, place_width, places_on, IsPlaceOn, is_sure_on, HasPlaces, PlacesOnCards, HasSamePlaces, LeavesPlaces, PlacesStay, TakesPlace, PlaceIsTaken}
 use Rattle.run_ringed.specs.SoFar.{HasMoreBreaks}
 use Rattle.run_ringed.proofs.Stands.{Weaker, stand-as, unsure-as, all-of, with-whole, places-more}

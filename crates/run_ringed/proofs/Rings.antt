@@ -23,8 +23,8 @@ use Rattle.run_rings.proofs.Carried.{carries-none, carries-same, carries-more, c
 use Rattle.run_rings.proofs.Indices.{index-stays}
 use Rattle.run_rings.proofs.Standing.{stand-one, stand-unsure}
 use Rattle.run_rings.proofs.Few.{as-many, added-long, few-start, few-go, few-as, few-more}
-use Rattle.run_recorded.specs.Origin.{Origin}
-use Rattle.run_recorded.specs.Beside.{HaveLeftMore}
+use Rattle.run_evented.specs.Origin.{Origin}
+use Rattle.run_evented.specs.Beside.{HaveLeftMore}
 use Rattle.run_ringed.specs.Ringed.{holder_in, TellsIn, IsInsertionIn, IsPlaceIn, sure_insertion, sure_place, ShowsNotes, Seating, one_behind, IsSeated, ShowsInsertions, Ringed, GoOn, NoRingIsWritten, RingsStay, FewerSit, IsAddedAt, MayBeAdded, Since}
 use Rattle.run_ringed.specs.OnCards.{place_width, IsPlaceOn, PlacesStay, PlaceIsTaken}
 use Rattle.run_ringed.proofs.OnCards.{whole-head, maybe, places-none, places-go, places-beside, places-taken}

@@ -30,8 +30,8 @@ use Rattle.run_rings.proofs.Notes.{Finding, is_at, later-lines, second-noted, cu
 use Rattle.run_rings.proofs.Actions.{power-notes}
 use Rattle.run_rings.proofs.Spans.{are-spans, earlier-stay, alike}
 use Rattle.run_events.proofs.Later.{told-number}
-use Rattle.run_recorded.specs.Origin.{Origin}
-use Rattle.run_recorded.specs.Beside.{HaveLeftMore}
+use Rattle.run_evented.specs.Origin.{Origin}
+use Rattle.run_evented.specs.Beside.{HaveLeftMore}
 use Rattle.run_ringed.specs.Ringed.{Seating, Ringed, StaysInRings, GoOn, notes_in, noted_next, Since, since_behind, since_in}
 use Rattle.run_ringed.specs.SoFar.{noted_at, AreEarlier, RingedBehind, IsSecond, notes_so_far, RingedIn, AreFewer, HasMoreBreaks, ASecondBeginsInRings, RingsGoOn, AnActionNotesNothing, AnActionIsNoted, GoesBehind, TheSecondEndsInRings, ACutEndsInRings, DarkSecondsNoteNothing}
 use Rattle.run_ringed.proofs.Stands.{all-of, all-each}

@@ -17,7 +17,7 @@ use Rattle.run_rings.specs.Notes.{NotesMore, course_behind, accepts_by}
 use Rattle.run_rings.specs.Spans.{with_second}
 use Rattle.run_rings.proofs.Same.{rings-left}
 use Rattle.run_rings.proofs.Actions.{places, withdrawals, insertions}
-use Rattle.run_recorded.specs.Origin.{Origin}
+use Rattle.run_evented.specs.Origin.{Origin}
 use Rattle.run_ringed.specs.Ringed.{Seating, Ringed, since_in}
 use Rattle.run_ringed.specs.SoFar.{notes_so_far, RingedBehind, RingedIn, AreFewer}
 use Rattle.run_ringed.specs.Steps.{GoesOnTo, IsCutIn, spans_cut, nobody, AnActionPasses, AnActionIsCut, APlaceIsEntered, APlaceIsCut, ACardIsWithdrawn, AWithdrawalIsCut, ACardIsAccepted, AnAcceptanceIsCut}

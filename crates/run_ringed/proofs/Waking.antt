@@ -24,8 +24,8 @@ use Rattle.run_rings.specs.Spans.{with_second}
 use Rattle.run_rings.proofs.Same.{rings-left}
 use Rattle.run_rings.proofs.Actions.{power-notes}
 use Rattle.run_rings.proofs.Spans.{earlier-stay}
-use Rattle.run_recorded.specs.Origin.{Origin}
-use Rattle.run_recorded.specs.Beside.{HaveLeftMore}
+use Rattle.run_evented.specs.Origin.{Origin}
+use Rattle.run_evented.specs.Beside.{HaveLeftMore}
 use Rattle.run_ringed.specs.Ringed.{Seating, Ringed, StaysInRings, GoOn, notes_in, since_behind, since_in}
 use Rattle.run_ringed.specs.SoFar.{AreEarlier, RingedBehind, notes_so_far, RingedIn, AreFewer, HasMoreBreaks, GoesBehind}
 use Rattle.run_ringed.specs.Steps.{nobody}

@@ -30,7 +30,7 @@ use Rattle.run_rings.proofs.Carried.{same-parts, carries-same, carries-changed, 
 use Rattle.run_rings.proofs.Indices.{index-alone, index-itself}
 use Rattle.run_rings.proofs.Standing.{stand-append, withdrawal-of-last}
 use Rattle.run_rings.proofs.Few.{as-many, as-many-at, few-as, few-changed}
-use Rattle.run_recorded.specs.Beside.{HaveLeftMore}
+use Rattle.run_evented.specs.Beside.{HaveLeftMore}
 use Rattle.run_ringed.specs.Ringed.{holder_in, TellsIn, Each, HasSameRings, IsInsertionIn, IsPlaceIn, sure_insertion, sure_place, ShowsNotes, Seating, IsSeated, Ringed, IsWithdrawnAt, MayBeWithdrawn, Since}
 use Rattle.run_ringed.specs.OnCards.{PlacesStay}
 use Rattle.run_ringed.proofs.OnCards.{places-beside}

@@ -19,7 +19,7 @@ use Rattle.side_model.specs.Rings.{Stand, AreNoFewer, kind_of}
 use Rattle.safety_model.specs.Recording.{card_image}
 use Rattle.safety_model.specs.Safe.{Devices, card_of}
 use Rattle.run_rings.specs.Carried.{Carries}
-use Rattle.run_recorded.specs.Origin.{Origin}
+use Rattle.run_evented.specs.Origin.{Origin}
 
 -- ---- rings
 

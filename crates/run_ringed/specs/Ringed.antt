@@ -29,8 +29,8 @@ use Rattle.run_rings.specs.Carried.{Carries}
 pub use Rattle.run_rings.specs.Same.{HasSameRings, LeavesRings}
 pub use Rattle.run_ringed.specs.OnCards.{HasRing, ShowsNotes}
 use Rattle.run_ringed.specs.OnCards.{has_call_failed_in, place_width, IsPlaceOn, PlacesOnCards, PlacesStay, PlaceIsTaken, HasPlaces, places_in, places_on, is_sure_on}
-use Rattle.run_recorded.specs.Origin.{Origin}
-use Rattle.run_recorded.specs.Beside.{HaveLeftMore}
+use Rattle.run_evented.specs.Origin.{Origin}
+use Rattle.run_evented.specs.Beside.{HaveLeftMore}
 
 -- ---- how rings show it
 

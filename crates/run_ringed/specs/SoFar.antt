@@ -14,8 +14,8 @@ use Rattle.side_model.specs.Noted.{Note, Accepts, Withdraws, Enters}
 use Rattle.safety_model.specs.Safe.{Devices}
 use Rattle.run_rings.specs.Notes.{notes_to, TellSameTo, NotesMore}
 use Rattle.run_rings.specs.Spans.{with_second, AreAllBefore, AreAlike}
-use Rattle.run_recorded.specs.Origin.{Origin}
-use Rattle.run_recorded.specs.Beside.{HaveLeftMore}
+use Rattle.run_evented.specs.Origin.{Origin}
+use Rattle.run_evented.specs.Beside.{HaveLeftMore}
 use Rattle.run_ringed.specs.OnCards.{PlacesStay}
 use Rattle.run_ringed.specs.Ringed.{Seating, Ringed, StaysInRings, notes_in, since_behind, since_in}
 

@@ -14,7 +14,7 @@ use Rattle.side_model.specs.Done.{has_failed_in}
 use Rattle.side_model.specs.Odometer.{SpanFrom, MayStore, found_kept, last_second, HaveBases}
 pub use Rattle.side_model.specs.Odometer.{limited, minutes_kept, IsNewest}
 use Rattle.safety_model.specs.Safe.{Devices}
-use Rattle.run_recorded.specs.Origin.{Origin, rule_of, first_of}
+use Rattle.run_evented.specs.Origin.{Origin, rule_of, first_of}
 
 -- ---- the ends of spans
 

@@ -13,8 +13,8 @@ use Rattle.side_model.specs.Done.{has_failed_in}
 use Rattle.side_model.specs.Odometer.{SpanFrom}
 use Rattle.safety_model.specs.Safe.{Devices}
 use Rattle.run_rings.specs.Spans.{with_second}
-use Rattle.run_recorded.specs.Origin.{Origin}
-use Rattle.run_recorded.specs.Beside.{HaveLeftMore}
+use Rattle.run_evented.specs.Origin.{Origin}
+use Rattle.run_evented.specs.Beside.{HaveLeftMore}
 use Rattle.run_ringed.specs.OnCards.{PlacesStay}
 use Rattle.run_ringed.specs.Ringed.{Seating, one_behind, StaysInRings, WritesRing, IsInsertionIn, IsAddedAt, MayBeAdded, since_in}
 use Rattle.run_ringed.specs.SoFar.{RingedBehind, IsSecond, RingedIn, AreFewer, HasMoreBreaks, GoesBehind}

@@ -15,13 +15,13 @@ use Rattle.history_model.specs.Minutes.{HistoryMinute, Seat, card_history, on_ca
 use Rattle.history_model.specs.Book.{Rising, IsMark}
 use Rattle.history_model.proofs.Books.{history-append, history-one, history-none, contains-up_to}
 use Rattle.card_retention.specs.Retains.{entries_from}
-use Rattle.card_image.specs.View.{CardView, card_view}
-use Rattle.card_image.specs.Own.{own_view, own_sizes, KeepsOf}
+use Rattle.joint_rule.specs.View.{CardView, card_view}
+use Rattle.joint_rule.specs.Own.{own_view, own_sizes, KeepsOf}
 use Rattle.joint_rule.specs.Views.{UnitView, row, owed, counts, is_session}
 use Rattle.joint_rule.specs.Filling.{seen_by_unit, seat_state, FillsDays}
 use Rattle.joint_rule.proofs.Brought.{brought-marked}
-use Rattle.safety_model.specs.Recording.{Recording}
-use Rattle.safety_model.specs.Cards.{slot_state, StandsInUnit, HasDay}
+use Rattle.unit_rule.specs.Recording.{Recording}
+use Rattle.unit_rule.specs.Cards.{slot_state, StandsInUnit, HasDay}
 use Rattle.run_rule.specs.Cards.{counted_to}
 use Rattle.run_rule.proofs.DayShown.{stands-in}
 

@@ -8,7 +8,7 @@ use Rattle.history_model.specs.Minutes.{HistoryMinute}
 use Rattle.history_model.specs.Growth.{Rises}
 use Rattle.history_model.specs.Book.{Book, all, Follows, IsMark}
 use Rattle.history_model.proofs.Told.{rises}
-use Rattle.safety_model.specs.Recording.{Recording, start_of, history_of, lost_of}
+use Rattle.unit_rule.specs.Recording.{Recording, start_of, history_of, lost_of}
 use Rattle.run_rule.specs.Between.{IsFollowed}
 
 -- a split of minutes that rise

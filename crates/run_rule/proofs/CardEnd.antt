@@ -13,8 +13,8 @@ use Rattle.log_model.specs.Causes.{device_of}
 use Rattle.unit_model.specs.Image.{last_kept}
 use Rattle.card_model.specs.Days.{AreDays}
 use Rattle.card_retention.specs.Retains.{Rise}
-use Rattle.card_image.specs.Fields.{card_days}
-use Rattle.card_image.specs.Own.{own_view, own_sizes, own_number, KeepsFrom, KeepsOf}
+use Rattle.joint_rule.specs.Fields.{card_days}
+use Rattle.joint_rule.specs.Own.{own_view, own_sizes, own_number, KeepsFrom, KeepsOf}
 use Rattle.history_model.specs.Minutes.{HistoryMinute, card_history, up_to}
 use Rattle.history_model.specs.Presence.{CardStart, card_start}
 use Rattle.history_model.specs.Book.{Book, all}
@@ -28,9 +28,9 @@ use Rattle.joint_rule.proofs.Pairs.{owed-above}
 use Rattle.joint_rule.proofs.Holding.{rise-back}
 use Rattle.joint_rule.proofs.Repairing.{repaired-holds}
 use Rattle.joint_rule.proofs.Overwriting.{owed-entries_count}
-use Rattle.safety_model.specs.Recording.{Recording, card_image, brought, start_of, history_of, expected_of, told_of, unit_seen}
-use Rattle.safety_model.specs.Unit.{marks_of}
-use Rattle.safety_model.specs.Cards.{CardShows, CardMarkHolds, acceptances, was_kept, IsRepaired, expected_to}
+use Rattle.unit_rule.specs.Recording.{Recording, card_image, brought, start_of, history_of, expected_of, told_of, unit_seen}
+use Rattle.unit_rule.specs.Unit.{marks_of}
+use Rattle.unit_rule.specs.Cards.{CardShows, CardMarkHolds, acceptances, was_kept, IsRepaired, expected_to}
 use Rattle.run_rule.specs.Found.{CardFound, AnyKept}
 use Rattle.run_rule.specs.Cards.{brought_by, counted_to, StringHolds, StringGoesOn, IsCardHeld}
 use Rattle.run_rule.specs.Between.{AreBrought}

@@ -12,8 +12,8 @@ use Rattle.log_model.specs.Causes.{device_of}
 use Rattle.unit_model.specs.Image.{recorded, unit_minutes, last_kept}
 use Rattle.unit_model.specs.Decoding.{Decodes}
 use Rattle.card_layout.specs.declared.files.Fid.{Fid}
-use Rattle.card_image.specs.View.{CardView}
-use Rattle.card_image.specs.Own.{own_view, own_number, own_bad_file, IsOwnValid, KeepsOf}
+use Rattle.joint_rule.specs.View.{CardView}
+use Rattle.joint_rule.specs.Own.{own_view, own_number, own_bad_file, IsOwnValid, KeepsOf}
 use Rattle.history_model.specs.Minutes.{HistoryMinute, card_history, up_to}
 use Rattle.history_model.specs.Presence.{CardStart}
 use Rattle.history_model.specs.Book.{all, Follows, Rising, IsMark}
@@ -22,10 +22,10 @@ use Rattle.joint_rule.specs.Views.{UnitView, unit_view, owed}
 use Rattle.joint_rule.specs.Filling.{FillsDays}
 use Rattle.joint_rule.specs.Rules.{CardDark, Meets, Had, Shows}
 use Rattle.joint_rule.specs.Marked.{of_card}
-use Rattle.safety_model.specs.Recording.{Recording, card_image, brought, start_of, history_of, lost_of, told_of, unit_seen as seen_in}
-use Rattle.safety_model.specs.Unit.{UnitSafe, marks_of, issued_bytes}
-use Rattle.safety_model.specs.Cards.{CardSafe, IsRepaired, Agree, StandsInUnit, HasDay, expected_to}
-use Rattle.safety_model.specs.Safe.{Devices, card_of, IsSafe}
+use Rattle.unit_rule.specs.Recording.{Recording, card_image, brought, start_of, history_of, lost_of, told_of, unit_seen as seen_in}
+use Rattle.unit_rule.specs.Unit.{UnitSafe, marks_of, issued_bytes}
+use Rattle.unit_rule.specs.Cards.{CardSafe, IsRepaired, Agree, StandsInUnit, HasDay, expected_to}
+use Rattle.unit_rule.specs.Safe.{Devices, card_of, IsSafe}
 use Rattle.unit_rule.specs.Rule.{Started}
 use Rattle.unit_rule.proofs.Safety.{unit-safe}
 use Rattle.run_rule.specs.Found.{CardFound, Found, found_of, unit_seen, AnyKept}

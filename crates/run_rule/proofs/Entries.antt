@@ -6,8 +6,8 @@ use Rattle.std.proofs.lemmas.List.Elements.{All-cons, All-nil, All-weaker, All-c
 use Rattle.activity_codec.specs.declared.entries.Entry.{Entry}
 use Rattle.history_model.proofs.Filters.{filter-none, filter-whole}
 use Rattle.card_retention.specs.Retains.{Rise}
-use Rattle.card_image.specs.View.{Held}
-use Rattle.card_image.specs.Own.{KeepsFrom}
+use Rattle.joint_rule.specs.View.{Held}
+use Rattle.joint_rule.specs.Own.{KeepsFrom}
 use Rattle.run_rule.specs.Cards.{counted_to}
 
 within : (k m : ℕ) → m ≤ k → nat_le m k ≡ true

@@ -11,9 +11,9 @@ use Rattle.card_model.specs.Days.{AreDays}
 use Rattle.card_retention.specs.Expected.{WordDay, is_closed, closes, counted, more}
 use Rattle.card_retention.specs.Shown.{Covers, InDays, AllFrom}
 use Rattle.card_retention.specs.Retains.{Rise, entries_from}
-use Rattle.card_image.specs.Fields.{card_days}
-use Rattle.card_image.specs.View.{card_view}
-use Rattle.card_image.specs.Own.{own_view, own_sizes, own_number, own_covered, counted_view, expected_with, KeepsFrom, KeepsOf, IsOwnValid}
+use Rattle.joint_rule.specs.Fields.{card_days}
+use Rattle.joint_rule.specs.View.{card_view}
+use Rattle.joint_rule.specs.Own.{own_view, own_sizes, own_number, own_covered, counted_view, expected_with, KeepsFrom, KeepsOf, IsOwnValid}
 use Rattle.history_model.specs.Presence.{CardStart, trimmed_by}
 use Rattle.history_model.specs.Book.{not_begun}
 use Rattle.history_model.proofs.Books.{history-none}
@@ -26,7 +26,7 @@ use Rattle.joint_rule.proofs.Pairs.{owed-above}
 use Rattle.joint_rule.proofs.Opening.{opened-card}
 use Rattle.unit_model.specs.Image.{last_kept}
 use Rattle.unit_model.specs.Decoding.{Decodes}
-use Rattle.safety_model.specs.Safe.{Devices, card_of}
+use Rattle.unit_rule.specs.Safe.{Devices, card_of}
 use Rattle.unit_rule.specs.Rule.{Started, started}
 use Rattle.unit_rule.specs.Marks.{Holds}
 use Rattle.unit_rule.proofs.Marking.{holds-started}

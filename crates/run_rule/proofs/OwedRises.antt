@@ -9,7 +9,7 @@ use Rattle.trace_model.specs.declared.Card.{Card}
 use Rattle.trace_model.specs.declared.Card.TheVariants.{A, B}
 use Rattle.card_retention.specs.Retains.{Rise}
 use Rattle.owed_model.specs.Owed.{Cell, OwedRow, row_of, entry_of, holds, cell_entries, placed, seen_row, row_view}
-use Rattle.card_image.specs.View.{CardView}
+use Rattle.joint_rule.specs.View.{CardView}
 use Rattle.joint_rule.specs.Views.{unit_view, row, owed, counts, is_session}
 use Rattle.joint_rule.proofs.OwedView.{placed-more, placed-here}
 use Rattle.run_rule.proofs.Entries.{rise-tail, rise-above}

@@ -21,7 +21,7 @@ use Rattle.history_model.specs.Presence.{Start, CardStart, card_start, newest_mi
 use Rattle.history_model.specs.History.{seated, minutes_after, span_minutes, decided_of, limited_to, history_by, limit_of, unit_history}
 use Rattle.history_model.proofs.Books.{history-append, history-one, history-none}
 use Rattle.history_model.proofs.Filters.{all-one}
-use Rattle.card_image.specs.View.{CardView}
+use Rattle.joint_rule.specs.View.{CardView}
 use Rattle.joint_rule.specs.Views.{UnitView, row, owed, owed_in, counts, is_session, beyond}
 use Rattle.joint_rule.proofs.Owing.{owed-closed}
 

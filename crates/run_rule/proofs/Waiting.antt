@@ -9,8 +9,8 @@ use Rattle.activity_codec.specs.declared.entries.Entry.{Entry}
 use Rattle.trace_model.specs.declared.Card.{Card}
 use Rattle.tach_media.specs.Medium.{State, IsCoherent}
 use Rattle.card_retention.specs.Retains.{Rise}
-use Rattle.card_image.specs.View.{CardView}
-use Rattle.card_image.specs.Own.{own_view, KeepsFrom, KeepsOf}
+use Rattle.joint_rule.specs.View.{CardView}
+use Rattle.joint_rule.specs.Own.{own_view, KeepsFrom, KeepsOf}
 use Rattle.history_model.specs.Minutes.{HistoryMinute, card_history, on_card}
 use Rattle.history_model.specs.Presence.{CardStart}
 use Rattle.history_model.specs.Book.{Book, all, kept, broken, found}

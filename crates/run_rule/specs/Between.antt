@@ -6,14 +6,14 @@ use Rattle.tach_media.specs.Medium.{State}
 use Rattle.log_model.specs.declared.lines.Mark.{Mark}
 use Rattle.unit_model.specs.Image.{last_kept}
 use Rattle.card_model.specs.Days.{AreDays}
-use Rattle.card_image.specs.Fields.{card_days}
-use Rattle.card_image.specs.Own.{own_number, own_sizes, IsOwnValid}
+use Rattle.joint_rule.specs.Fields.{card_days}
+use Rattle.joint_rule.specs.Own.{own_number, own_sizes, IsOwnValid}
 use Rattle.history_model.specs.Minutes.{HistoryMinute, card_history}
 use Rattle.history_model.specs.Book.{Book, Follows}
 use Rattle.joint_rule.specs.Rules.{Standing}
-use Rattle.safety_model.specs.Recording.{Recording, card_image, brought, history_of, lost_of}
-use Rattle.safety_model.specs.Cards.{acceptances, was_kept, MayNotWrite}
-use Rattle.safety_model.specs.Safe.{Devices, card_of}
+use Rattle.unit_rule.specs.Recording.{Recording, card_image, brought, history_of, lost_of}
+use Rattle.unit_rule.specs.Cards.{acceptances, was_kept, MayNotWrite}
+use Rattle.unit_rule.specs.Safe.{Devices, card_of}
 use Rattle.unit_rule.specs.Rule.{started}
 use Rattle.unit_rule.specs.Marks.{Holds}
 use Rattle.run_rule.specs.Found.{Found, found_of}

@@ -6,14 +6,14 @@ use Rattle.tach_media.specs.Medium.{State}
 use Rattle.log_model.specs.declared.lines.Mark.{Mark}
 use Rattle.log_model.specs.Causes.{device_of}
 use Rattle.card_retention.specs.Retains.{Rise}
-use Rattle.card_image.specs.Own.{own_view, own_sizes, own_number, IsOwnValid, KeepsFrom, KeepsOf}
+use Rattle.joint_rule.specs.Own.{own_view, own_sizes, own_number, IsOwnValid, KeepsFrom, KeepsOf}
 use Rattle.history_model.specs.Minutes.{HistoryMinute, card_history, on_card}
 use Rattle.history_model.specs.Presence.{CardStart}
 use Rattle.history_model.specs.Book.{Book, all}
 use Rattle.joint_rule.specs.Views.{unit_view, owed}
 use Rattle.joint_rule.specs.Rules.{Standing, comes_from, Fits, CardDark, CardRule}
 use Rattle.joint_rule.specs.Marked.{of_card, HasMarked, HasBrought, IsBefore}
-use Rattle.safety_model.specs.Unit.{marks_of, Increase}
+use Rattle.unit_rule.specs.Unit.{marks_of, Increase}
 use Rattle.run_rule.specs.Found.{CardFound, Found, found_of, unit_seen, AnyKept}
 
 -- the entries that a card is to have beside those at the start: those that are owed to it there, and then what the minutes of a book say

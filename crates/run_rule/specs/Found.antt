@@ -5,7 +5,7 @@ use Rattle.trace_model.specs.declared.Card.{Card}
 use Rattle.trace_model.specs.declared.Card.TheVariants.{A, B}
 use Rattle.tach_media.specs.Medium.{State}
 use Rattle.history_model.specs.Presence.{CardStart}
-use Rattle.card_image.specs.View.{Held}
+use Rattle.joint_rule.specs.View.{Held}
 use Rattle.joint_rule.specs.Views.{UnitView}
 use Rattle.joint_rule.specs.Device.{Seen}
 use Rattle.joint_rule.specs.Marked.{of_unit}

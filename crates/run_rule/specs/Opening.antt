@@ -3,8 +3,8 @@ use Rattle.std.specs.Prelude.{◌≡◌, ℕ, Some, [], List}
 use Rattle.trace_model.specs.declared.Card.{Card}
 use Rattle.tach_media.specs.Medium.{State}
 use Rattle.card_model.specs.Days.{AreDays}
-use Rattle.card_image.specs.Fields.{card_days}
-use Rattle.card_image.specs.Own.{own_view, own_sizes}
+use Rattle.joint_rule.specs.Fields.{card_days}
+use Rattle.joint_rule.specs.Own.{own_view, own_sizes}
 use Rattle.history_model.specs.Presence.{CardStart}
 use Rattle.history_model.specs.Book.{not_begun}
 use Rattle.joint_rule.specs.Views.{UnitView, unit_view, owed, beyond}

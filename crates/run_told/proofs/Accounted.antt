@@ -10,7 +10,7 @@ use Rattle.unit_rule.specs.Rule.{Started}
 use Rattle.unit_rule.specs.Marks.{Holds}
 use Rattle.unit_rule.proofs.Moves.{shown-last}
 use Rattle.joint_rule.specs.Views.{unit_view}
-use Rattle.safety_model.specs.Safe.{Devices}
+use Rattle.unit_rule.specs.Safe.{Devices}
 use Rattle.run_rule.specs.Found.{Found}
 use Rattle.run_rule.specs.Between.{Carried, IsLit}
 use Rattle.run_brought.specs.Going.{IsTakenAt}

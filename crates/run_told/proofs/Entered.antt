@@ -53,7 +53,7 @@ use Rattle.joint_rule.specs.Marked.{of_card}
 use Rattle.joint_rule.proofs.OwedView.{owed-seen}
 use Rattle.joint_rule.proofs.Pairs.{owed-above}
 use Rattle.joint_rule.proofs.Brought.{all-up_to}
-use Rattle.safety_model.specs.Unit.{marks_of}
+use Rattle.unit_rule.specs.Unit.{marks_of}
 use Rattle.unit_rule.specs.Marks.{Holds}
 use Rattle.unit_rule.proofs.Marking.{holds-read}
 use Rattle.unit_rule.proofs.Moves.{shown-last}

@@ -20,7 +20,7 @@ use Rattle.joint_rule.specs.Views.{other}
 use Rattle.joint_rule.specs.Device.{SettledViews}
 use Rattle.joint_rule.specs.Marked.{of_card, HasMarked}
 use Rattle.joint_rule.proofs.Holding.{acknowledged}
-use Rattle.safety_model.specs.Unit.{is_of, marks_of, Increase}
+use Rattle.unit_rule.specs.Unit.{is_of, marks_of, Increase}
 use Rattle.unit_rule.specs.Rule.{Started}
 use Rattle.unit_rule.specs.Marks.{Holds, IsHeld as IsUnitHeld}
 use Rattle.run_crew.specs.declared.cards.Cards.{Cards}

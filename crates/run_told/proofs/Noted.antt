@@ -16,12 +16,12 @@ use Rattle.card_session.specs.Sessions.{IsSession, IsValue}
 use Rattle.card_session.specs.Cards.{MayEnd}
 use Rattle.card_steps.specs.Since.{GoesSince, HoldsSince}
 use Rattle.card_steps.proofs.Since.{beside_holds}
-use Rattle.unit_notes.specs.Journal.{LeavesJournal}
+use Rattle.device_steps.specs.Journal.{LeavesJournal}
 use Rattle.joint_rule.specs.Views.{other}
 use Rattle.joint_rule.specs.Device.{LeavesViews}
 use Rattle.joint_rule.specs.Rules.{Standing, In, Torn, since, CardDark, CardRule}
 use Rattle.joint_rule.specs.Marked.{of_card, HasBrought}
-use Rattle.safety_model.specs.Safe.{card_of}
+use Rattle.unit_rule.specs.Safe.{card_of}
 use Rattle.device_steps.specs.Rule.{CardHolds}
 use Rattle.device_steps.specs.CardNotes.{IsNote, IsSound}
 use Rattle.device_steps.proofs.Noted.{noted-holds, noted-card}

@@ -21,7 +21,7 @@ use Rattle.joint_rule.specs.Rules.{Standing, In, since, CardDark}
 use Rattle.joint_rule.specs.Marked.{of_card, HasBrought}
 use Rattle.joint_rule.proofs.Staying.{marks-stay}
 use Rattle.joint_rule.proofs.Viewed.{seen-run}
-use Rattle.safety_model.specs.Unit.{marks_of}
+use Rattle.unit_rule.specs.Unit.{marks_of}
 use Rattle.unit_rule.specs.Rule.{Started}
 use Rattle.unit_rule.specs.Marks.{Holds}
 use Rattle.run_rule.specs.Found.{CardFound, Found, found_of, unit_seen, AnyKept}

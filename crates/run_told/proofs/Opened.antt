@@ -26,7 +26,7 @@ use Rattle.history_model.proofs.Books.{history-none}
 use Rattle.joint_rule.specs.Views.{UnitView, unit_view, row, owed, counts, is_session, beyond}
 use Rattle.joint_rule.specs.Rules.{Out}
 use Rattle.joint_rule.proofs.Pairs.{owed-above}
-use Rattle.safety_model.specs.Safe.{Devices, card_of}
+use Rattle.unit_rule.specs.Safe.{Devices, card_of}
 use Rattle.device_steps.proofs.OnCard.{own-is, session-is}
 use Rattle.device_steps.proofs.Inserted.{bound_of as bound_in, beyond_shut}
 use Rattle.run_rule.specs.Found.{Found, found_of}

@@ -18,7 +18,7 @@ use Rattle.history_model.proofs.Books.{history-none}
 use Rattle.joint_rule.specs.Views.{UnitView, other}
 use Rattle.joint_rule.specs.Rules.{Standing, since, CardDark, CardRule}
 use Rattle.joint_rule.specs.Marked.{of_card, HasBrought}
-use Rattle.safety_model.specs.Safe.{Devices, card_of}
+use Rattle.unit_rule.specs.Safe.{Devices, card_of}
 use Rattle.unit_rule.specs.Rule.{Started}
 use Rattle.unit_rule.specs.Marks.{Holds}
 use Rattle.device_steps.specs.Rule.{Both, CardHolds, CardRests}

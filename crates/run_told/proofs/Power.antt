@@ -28,8 +28,8 @@ use Rattle.joint_rule.proofs.Holding.{rise-back}
 use Rattle.joint_rule.proofs.Staying.{note-stays}
 use Rattle.joint_rule.proofs.UnitLaws.{sure-found}
 use Rattle.joint_rule.proofs.Viewed.{seen-run}
-use Rattle.safety_model.specs.Safe.{Devices, card_of}
-use Rattle.safety_model.specs.Unit.{marks_of}
+use Rattle.unit_rule.specs.Safe.{Devices, card_of}
+use Rattle.unit_rule.specs.Unit.{marks_of}
 use Rattle.unit_rule.specs.Rule.{Started, seen_unit}
 use Rattle.unit_rule.specs.Marks.{Holds}
 use Rattle.unit_rule.proofs.Found.{one-image}

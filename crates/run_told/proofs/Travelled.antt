@@ -4,7 +4,7 @@ use Rattle.tach_media.specs.Medium.{State, IsCoherent, LeavesOnly}
 use Rattle.owed_model.specs.Rows.{IsRowBeginning}
 use Rattle.unit_journal.specs.declared.notes.Notes.{Notes}
 use Rattle.unit_journal.specs.Mends.{IsMending}
-use Rattle.unit_notes.specs.Journal.{LeavesJournal}
+use Rattle.device_steps.specs.Journal.{LeavesJournal}
 use Rattle.history_model.specs.Book.{Book}
 use Rattle.unit_course.specs.Legs.{Travel}
 use Rattle.unit_rule.specs.Odometer.{HasTravelled}

@@ -1,1 +1,2 @@
 pub mod Told
+pub use Rattle.run_strung.specs.Strung

@@ -19,7 +19,7 @@ use Rattle.history_model.specs.Book.{Book, found}
 use Rattle.joint_rule.specs.Views.{unit_view, owed}
 use Rattle.joint_rule.specs.Rules.{Standing, In, Out, since, CardRule, IsEntered}
 use Rattle.joint_rule.specs.Marked.{of_card, HasBrought}
-use Rattle.safety_model.specs.Safe.{Devices, card_of}
+use Rattle.unit_rule.specs.Safe.{Devices, card_of}
 use Rattle.unit_rule.specs.Marks.{Holds}
 use Rattle.device_steps.specs.Minute.{IsNotIn}
 use Rattle.run_crew.specs.declared.cards.Accepted.{Accepted}

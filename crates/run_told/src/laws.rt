@@ -9,7 +9,7 @@ ghost use Rattle.card_image.specs.Own.{own_sizes, IsOwnValid};
 ghost use Rattle.card_session.specs.Sessions.{IsSession};
 ghost use Rattle.card_session.specs.Cards.{IsCardClosing};
 ghost use Rattle.unit_model.specs.Image.{last_kept};
-ghost use Rattle.unit_notes.specs.Journal.{LeavesJournal};
+ghost use Rattle.device_steps.specs.Journal.{LeavesJournal};
 ghost use Rattle.joint_rule.specs.Rules.{Out};
 ghost use Rattle.joint_rule.specs.Views.{other};
 ghost use Rattle.device_steps.specs.declared.entering.Entered.{Entered as CardEntered};

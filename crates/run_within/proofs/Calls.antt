@@ -25,7 +25,7 @@ use Rattle.unit_rule.specs.Marks.{Holds}
 use Rattle.unit_rule.specs.Odometer.{ShowsOdometer, HasTravelled}
 use Rattle.unit_rule.proofs.Moves.{shown-last}
 use Rattle.unit_rule.proofs.Travelling.{travelled-read, travelled-found}
-use Rattle.device_steps.specs.Rule.{Both, CardRests, IsTakenUp}
+use Rattle.card_times.specs.Rule.{Both, CardRests, IsTakenUp}
 use Rattle.card_image.specs.Own.{IsOwnValid}
 use Rattle.card_times.specs.Times.{AreTimedSince}
 use Rattle.safety_model.specs.Safe.{Devices, card_of, breakdowns_of}

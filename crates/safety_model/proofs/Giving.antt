@@ -11,9 +11,9 @@ use Rattle.unit_model.specs.Image.{recorded}
 use Rattle.history_model.specs.Minutes.{HistoryMinute, card_history, up_to}
 use Rattle.history_model.specs.Presence.{CardStart, card_start}
 use Rattle.history_model.specs.Book.{Book, IsReached, IsNext, Follows}
-use Rattle.card_image.specs.View.{Held}
-use Rattle.card_image.specs.Own.{own_sizes, own_view, KeepsFrom, KeepsOf}
-use Rattle.card_image.specs.Fields.{card_days}
+use Rattle.joint_rule.specs.View.{Held}
+use Rattle.joint_rule.specs.Own.{own_sizes, own_view, KeepsFrom, KeepsOf}
+use Rattle.joint_rule.specs.Fields.{card_days}
 use Rattle.card_model.specs.Days.{AreDays}
 use Rattle.card_retention.specs.Retains.{Rise}
 use Rattle.joint_rule.specs.Views.{UnitView, owed, unit_view, next_of}

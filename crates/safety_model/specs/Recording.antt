@@ -10,7 +10,7 @@ use Rattle.log_model.specs.Course.{Told, went}
 use Rattle.history_model.specs.Minutes.{HistoryMinute}
 use Rattle.history_model.specs.Presence.{Start, CardStart, expected_entries}
 use Rattle.history_model.specs.History.{unit_history, with_lost}
-use Rattle.card_image.specs.Own.{own_view, own_number}
+use Rattle.joint_rule.specs.Own.{own_view, own_number}
 use Rattle.joint_rule.specs.Views.{UnitView, unit_view, owed, beyond}
 
 -- a run: the rule of minutes, the images that a read gives at the end of the opening, the seconds of the trace, and the log

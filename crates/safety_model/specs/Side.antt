@@ -8,10 +8,10 @@ use Rattle.gated_ring.specs.Ring.{IsDense}
 use Rattle.unit_model.specs.declared.layout.TheConstants.{SPEED_LIMIT, FIRST_OVER, OVER_COUNT}
 use Rattle.unit_model.specs.Image.{number_of, last_kept, odometer_at as stored_odometer}
 use Rattle.card_records.specs.declared.vehicle.Vehicle.{Vehicle}
-use Rattle.card_image.specs.Fields.{file_bytes, newest_vehicle, session_time}
-use Rattle.card_image.specs.Own.{own_sizes, own_number}
+use Rattle.joint_rule.specs.Fields.{file_bytes, newest_vehicle, session_time}
+use Rattle.joint_rule.specs.Own.{own_sizes, own_number}
 use Rattle.event_model.specs.declared.kinds.TheConstants.{CARD_NOT_VALID, TIME_OVERLAP, DRIVING_WITHOUT_CARD, INSERTION_WHILE_DRIVING, SESSION_NOT_CLOSED, OVER_SPEEDING, POWER_INTERRUPTION, CARD_FAULT}
-use Rattle.message_model.specs.Records.{insertion_ring, unit_place_ring}
+use Rattle.side_model.specs.Records.{insertion_ring, unit_place_ring}
 use Rattle.log_model.specs.Course.{Visit}
 use Rattle.side_model.specs.Done.{Done, done_of, has_failed_in}
 use Rattle.side_model.specs.Odometer.{SpanFrom, AreSpansFrom, MayStore}

@@ -4,3 +4,4 @@ pub mod Noted
 pub mod Rings
 pub mod Events
 pub mod Tables
+pub use Rattle.message_model.specs.Records

@@ -3,7 +3,7 @@ use Rattle.std.specs.Prelude.{◌≡◌, ◌⊎◌, ℕ, ◌+◌, ◌≤◌, Boo
 use Rattle.card_layout.specs.Fields.{field_at, number_in}
 use Rattle.activity_codec.specs.Words.{slot_number}
 use Rattle.trace_model.specs.declared.Card.{Card}
-use Rattle.gated_ring.specs.Ring.{Shape, ring_list}
+use Rattle.unit_model.specs.Ring.{Shape, ring_list}
 use Rattle.log_model.specs.Log.{RunLog}
 use Rattle.message_model.specs.Records.{insertion_widths, place_widths}
 use Rattle.side_model.specs.Done.{has_failed_in}

@@ -4,7 +4,7 @@ use Rattle.std.specs.List.{range_with_len}
 use Rattle.card_layout.specs.Images.{bytes_at}
 use Rattle.card_layout.specs.Fields.{field_at, number_in, total_width}
 use Rattle.trace_model.specs.declared.Card.{Card}
-use Rattle.gated_ring.specs.Ring.{Shape, entry_at}
+use Rattle.unit_model.specs.Ring.{Shape, entry_at}
 use Rattle.unit_model.specs.declared.layout.TheConstants.{EVENTS, OVERS, FAULTS}
 use Rattle.event_model.specs.declared.kinds.TheConstants.{CARD_NOT_VALID, TIME_OVERLAP, DRIVING_WITHOUT_CARD, INSERTION_WHILE_DRIVING, SESSION_NOT_CLOSED, OVER_SPEEDING, CARD_FAULT, EVENT_PLACES}
 use Rattle.event_model.specs.declared.entries.Held.{Held}

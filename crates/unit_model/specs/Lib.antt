@@ -7,3 +7,4 @@ pub mod NewImage
 pub mod Changes
 pub mod Writing
 pub mod Cells
+pub use Rattle.gated_ring.specs.Ring

@@ -1,4 +1,4 @@
-use Rattle.run_rule.specs.Between.{devices}
+use Rattle.run_recorded.specs.Between.{devices}
 use Rattle.run_evented.proofs.Unlit.{off-line_cuts}
 use Rattle.run_evented.proofs.going.an_off_line_cuts_and_brings_nothing.Goals as goal
 

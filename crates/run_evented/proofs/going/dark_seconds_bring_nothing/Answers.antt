@@ -1,4 +1,4 @@
-use Rattle.run_rule.specs.Between.{devices}
+use Rattle.run_recorded.specs.Between.{devices}
 use Rattle.run_evented.proofs.Unlit.{dark-seconds}
 use Rattle.run_evented.proofs.going.dark_seconds_bring_nothing.Goals as goal
 

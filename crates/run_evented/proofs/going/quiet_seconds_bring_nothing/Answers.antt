@@ -1,4 +1,4 @@
-use Rattle.run_rule.specs.Between.{devices}
+use Rattle.run_recorded.specs.Between.{devices}
 use Rattle.run_evented.proofs.Quiet.{quiet-brings_nothing}
 use Rattle.run_evented.proofs.going.quiet_seconds_bring_nothing.Goals as goal
 

@@ -1,4 +1,4 @@
-use Rattle.run_rule.specs.Between.{devices}
+use Rattle.run_recorded.specs.Between.{devices}
 use Rattle.run_evented.proofs.Dark.{dark-brings}
 use Rattle.run_evented.proofs.laws.a_dark_second_brings_nothing.Goals as goal
 

@@ -1,4 +1,4 @@
-use Rattle.run_rule.specs.Between.{devices}
+use Rattle.run_recorded.specs.Between.{devices}
 use Rattle.run_evented.proofs.Seconds.{second-broken}
 use Rattle.run_evented.proofs.laws.a_second_is_broken.Goals as goal
 

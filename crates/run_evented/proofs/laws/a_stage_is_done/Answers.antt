@@ -1,4 +1,4 @@
-use Rattle.run_rule.specs.Between.{devices}
+use Rattle.run_recorded.specs.Between.{devices}
 use Rattle.run_evented.proofs.Noting.{stage-done}
 use Rattle.run_evented.proofs.laws.a_stage_is_done.Goals as goal
 

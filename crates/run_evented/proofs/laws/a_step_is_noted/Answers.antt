@@ -1,4 +1,4 @@
-use Rattle.run_rule.specs.Between.{devices}
+use Rattle.run_recorded.specs.Between.{devices}
 use Rattle.run_evented.proofs.Noting.{step-noted}
 use Rattle.run_evented.proofs.laws.a_step_is_noted.Goals as goal
 

@@ -1,4 +1,4 @@
-use Rattle.run_rule.specs.Between.{devices}
+use Rattle.run_recorded.specs.Between.{devices}
 use Rattle.run_evented.proofs.Ends.{off-cut_brings}
 use Rattle.run_evented.proofs.laws.an_off_cut_brings_nothing.Goals as goal
 

@@ -1,4 +1,4 @@
-use Rattle.run_rule.specs.Between.{devices}
+use Rattle.run_recorded.specs.Between.{devices}
 use Rattle.run_evented.proofs.Seconds.{events-found}
 use Rattle.run_evented.proofs.laws.events_are_found.Goals as goal
 

@@ -1,4 +1,4 @@
-use Rattle.run_rule.specs.Between.{devices}
+use Rattle.run_recorded.specs.Between.{devices}
 use Rattle.run_evented.proofs.Ends.{events-shown}
 use Rattle.run_evented.proofs.laws.events_are_shown.Goals as goal
 

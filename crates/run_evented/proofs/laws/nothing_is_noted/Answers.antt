@@ -1,4 +1,4 @@
-use Rattle.run_rule.specs.Between.{devices}
+use Rattle.run_recorded.specs.Between.{devices}
 use Rattle.run_evented.proofs.Ends.{nothing-noted}
 use Rattle.run_evented.proofs.laws.nothing_is_noted.Goals as goal
 

@@ -1,4 +1,4 @@
-use Rattle.run_rule.specs.Between.{devices}
+use Rattle.run_recorded.specs.Between.{devices}
 use Rattle.run_evented.proofs.Adding.{call-notes}
 use Rattle.run_evented.proofs.steps.a_call_notes.Goals as goal
 

@@ -1,4 +1,4 @@
-use Rattle.run_rule.specs.Between.{devices}
+use Rattle.run_recorded.specs.Between.{devices}
 use Rattle.run_evented.proofs.Cutting.{failure-cuts}
 use Rattle.run_evented.proofs.steps.a_failure_cuts.Goals as goal
 

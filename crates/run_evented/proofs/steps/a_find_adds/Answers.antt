@@ -1,4 +1,4 @@
-use Rattle.run_rule.specs.Between.{devices}
+use Rattle.run_recorded.specs.Between.{devices}
 use Rattle.run_evented.proofs.Finding.{find-adds}
 use Rattle.run_evented.proofs.steps.a_find_adds.Goals as goal
 

@@ -1,4 +1,4 @@
-use Rattle.run_rule.specs.Between.{devices}
+use Rattle.run_recorded.specs.Between.{devices}
 use Rattle.run_evented.proofs.Passing.{pull-adds}
 use Rattle.run_evented.proofs.steps.a_pull_adds_nothing.Goals as goal
 

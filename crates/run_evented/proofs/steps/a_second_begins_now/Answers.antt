@@ -1,4 +1,4 @@
-use Rattle.run_rule.specs.Between.{devices}
+use Rattle.run_recorded.specs.Between.{devices}
 use Rattle.run_evented.proofs.Adding.{second-begins_now}
 use Rattle.run_evented.proofs.steps.a_second_begins_now.Goals as goal
 

@@ -1,4 +1,4 @@
-use Rattle.run_rule.specs.Between.{devices}
+use Rattle.run_recorded.specs.Between.{devices}
 use Rattle.run_evented.proofs.Falling.{tear-adds}
 use Rattle.run_evented.proofs.steps.a_tear_adds.Goals as goal
 

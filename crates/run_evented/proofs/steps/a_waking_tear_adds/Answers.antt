@@ -1,4 +1,4 @@
-use Rattle.run_rule.specs.Between.{devices}
+use Rattle.run_recorded.specs.Between.{devices}
 use Rattle.run_evented.proofs.Waking.{waking-tear_adds}
 use Rattle.run_evented.proofs.steps.a_waking_tear_adds.Goals as goal
 

@@ -1,4 +1,4 @@
-use Rattle.run_rule.specs.Between.{devices}
+use Rattle.run_recorded.specs.Between.{devices}
 use Rattle.run_evented.proofs.Waking.{interruption-adds}
 use Rattle.run_evented.proofs.steps.an_interruption_adds.Goals as goal
 

@@ -1,4 +1,4 @@
-use Rattle.run_rule.specs.Between.{devices}
+use Rattle.run_recorded.specs.Between.{devices}
 use Rattle.run_evented.proofs.Adding.{steps-follow}
 use Rattle.run_evented.proofs.steps.steps_follow.Goals as goal
 

@@ -1,4 +1,4 @@
-use Rattle.run_rule.specs.Between.{devices}
+use Rattle.run_recorded.specs.Between.{devices}
 use Rattle.run_evented.proofs.Ending.{ends-added}
 use Rattle.run_evented.proofs.steps.what_ends_is_added.Goals as goal
 

@@ -2,8 +2,8 @@ use Rattle.std.proofs.Common.{◌≡◌, ℕ, List}
 use Rattle.trace_model.specs.declared.Card.{Card}
 use Rattle.trace_model.specs.declared.Card.TheVariants.{A, B}
 use Rattle.tach_media.specs.Medium.{State, IsCoherent}
-use Rattle.card_image.specs.Own.{IsOwnValid}
-use Rattle.safety_model.specs.Safe.{card_of}
+use Rattle.joint_rule.specs.Own.{IsOwnValid}
+use Rattle.unit_rule.specs.Safe.{card_of}
 use Rattle.run_rule.specs.Found.{Found, found_of}
 use Rattle.run_rule.specs.Between.{devices}
 use Rattle.run_rule.specs.Opening.{BeginsAs, IsLookedAt}

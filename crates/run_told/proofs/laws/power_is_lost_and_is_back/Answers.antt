@@ -1,7 +1,7 @@
 use Rattle.trace_model.specs.declared.Card.{Card}
 use Rattle.trace_model.specs.declared.Card.TheVariants.{A, B}
 use Rattle.tach_media.specs.Medium.{State, IsCoherent}
-use Rattle.safety_model.specs.Safe.{card_of}
+use Rattle.unit_rule.specs.Safe.{card_of}
 use Rattle.run_rule.specs.Between.{devices}
 use Rattle.run_told.proofs.Parts.{power-lost}
 use Rattle.run_told.proofs.Power.{found-powerless}
