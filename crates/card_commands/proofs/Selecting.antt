@@ -1,5 +1,5 @@
 -- A SELECT of a file that is found.
-use Rattle.std.proofs.Common.{◌≡◌, ℕ, ◌==◌, ◌||◌, not, if◌then◌else◌, Bool, true, false, List, Option, Some, None, option_map, is_none, refl, sym, ◌∙◌, ap, subst}
+use Rattle.std.proofs.Common.{◌≡◌, ℕ, ◌==◌, ◌||◌, not, if◌then◌else◌, Bool, true, false, List, Option, Some, None, option_map, is_none, refl, sym, ◌∙◌, ap}
 use Rattle.std.specs.Prelude.{option_and_then}
 use Rattle.std.proofs.lemmas.Bool.{eqb-true}
 use Rattle.card_layout.specs.declared.files.Fid.{Fid}
@@ -11,7 +11,7 @@ use Rattle.card_layout.specs.declared.command.CardState.{CardState}
 use Rattle.card_layout.specs.declared.command.Directory.{Directory}
 use Rattle.card_layout.specs.declared.command.Directory.TheVariants.{Master, Tachograph}
 use Rattle.card_layout.specs.declared.command.ElementaryFile.{ElementaryFile}
-use Rattle.card_layout.specs.Outcomes.{Outcome, Fixes, found, file_of, sized_file, is_under, is_fixed, fixed_range, needs_sizes, select_found, select_outcome, in_directory, done, nothing}
+use Rattle.card_layout.specs.Outcomes.{Outcome, Fixes, found, sized_file, is_under, is_fixed, fixed_range, needs_sizes, select_found, select_outcome, in_directory, done, nothing}
 use Rattle.card_commands.specs.Sending.{IsSent}
 
 -- a file that is found needs no sizes that are not fixed yet

@@ -1,8 +1,8 @@
 -- A command that comes after a read of the medium.
 use Rattle.std.proofs.Common.{◌≡◌, ℕ, ◌/◌, ◌%◌, Bool, true, false, List, [], ◌∷◌, ◌++◌, Option, option_map, Result, refl, ◌∙◌, ap, subst, arith}
-use Rattle.tach_media.specs.Medium.{State, LeavesOnly, Reads, Rose, put}
+use Rattle.tach_media.specs.Medium.{State, Reads, Rose, put}
 use Rattle.card_layout.specs.Outcomes.{Effect, nothing, gives, puts, IsAnswered, outcome_from}
-use Rattle.tach_media.specs.Chip.{Does, WritesAt}
+use Rattle.tach_media.specs.Chip.{Does}
 use Rattle.card_layout.specs.Commands.{command_of}
 use Rattle.card_layout.specs.declared.command.CardState.{CardState}
 use Rattle.card_layout.specs.declared.command.Command.{Command}

@@ -1,13 +1,12 @@
 -- What was seen of the words behind the mark, with one word more, and at the end.
-use Rattle.std.proofs.Common.{◌≡◌, ℕ, suc, ◌+◌, ◌*◌, ◌<◌, ◌≤◌, Bool, true, false, cond, not, Option, Some, None, List, [], ◌∷◌, ◌++◌, map, filter, length, get_or, take, refl, sym, ◌∙◌, ap, subst, arith, append_assoc, add-one, length-take}
+use Rattle.std.proofs.Common.{◌≡◌, ℕ, suc, ◌+◌, ◌*◌, ◌<◌, Bool, true, false, cond, not, Option, Some, None, List, [], ◌∷◌, ◌++◌, length, get_or, take, refl, sym, ◌∙◌, ap, subst, arith, append_assoc, add-one, length-take}
 use Rattle.std.specs.Prelude.{nat_eq, nat_le, nat_lt, ◌&&◌}
 use Rattle.std.proofs.lemmas.List.{append-nil}
 use Rattle.std.proofs.Math.Seq.{take-suc}
 use Rattle.std.proofs.lemmas.List.Elements.{filter-append}
 use Rattle.std.proofs.lemmas.Grind.{common_steps}
-use Rattle.std.proofs.lemmas.Bool.{le-leb}
 use Rattle.card_model.specs.Changes.{date_of}
-use Rattle.card_model.specs.Checks.{Check, check, first_failing, file_place}
+use Rattle.card_model.specs.Checks.{first_failing, file_place}
 use Rattle.card_image.specs.Fields.{last_of}
 use Rattle.card_image.specs.Judging.{PlacedWord, minute_at, tells_none, leaves_gap, closing_checks, words_behind_mark, words_placed}
 use Rattle.card_judge.specs.declared.behind.Behind.{Behind}

@@ -1,18 +1,17 @@
 -- The checks of the words of a card's days, one group after the other.
-use Rattle.std.proofs.Common.{◌≡◌, ◌≢◌, ℕ, ◌+◌, ◌%◌, ◌<◌, ◌≤◌, Bool, true, false, cond, Option, Some, None, List, [], ◌∷◌, ◌++◌, length, refl, sym, ◌∙◌, ap, subst, arith}
-use Rattle.std.specs.Prelude.{nat_eq, nat_le, nat_lt}
+use Rattle.std.proofs.Common.{◌≡◌, ℕ, ◌+◌, ◌%◌, Bool, true, false, cond, Option, Some, None, List, [], ◌++◌, refl, sym, ◌∙◌, ap, arith}
+use Rattle.std.specs.Prelude.{nat_eq}
 use Rattle.std.proofs.lemmas.List.{append-nil}
-use Rattle.card_model.specs.Days.{Day, total, len_of}
-use Rattle.card_model.specs.Image.{StringShape, oldest_pointer}
-use Rattle.card_model.specs.Walk.{days_of}
+use Rattle.card_model.specs.Days.{Day}
+use Rattle.card_model.specs.Image.{StringShape}
 use Rattle.card_model.specs.Changes.{date_of, until, trimmed, cut, early, with_early, with_newest}
-use Rattle.card_model.specs.Checks.{Check, check, first_failing}
+use Rattle.card_model.specs.Checks.{Check, first_failing}
 use Rattle.card_model.proofs.Judging.{passed_then, failed_then}
 use Rattle.card_model.proofs.Trims.{with_last}
 use Rattle.card_image.specs.Judging.{words_placed, rising_checks, newest_rises, words_behind_mark, days_placed, word_checks}
 use Rattle.card_judge.specs.declared.walk.Met.{Met}
 use Rattle.card_judge.specs.Words.{first_of, limit_of}
-use Rattle.card_judge.specs.Walks.{IsMet, IsLastMet, IsLastOf}
+use Rattle.card_judge.specs.Walks.{IsLastMet}
 use Rattle.card_judge.proofs.Rising.{early_all, newest_rises-last}
 
 pub failing_then : (a b : List Check) → first_failing (a ++ b) ≡ first_of (first_failing a) (first_failing b)

@@ -1,5 +1,5 @@
 -- What is judged of a copy of the files is what is judged of the card.
-use Rattle.std.proofs.Common.{◌≡◌, ◌≢◌, ℕ, ◌+◌, ◌-◌, ◌*◌, ◌/◌, ◌^◌, ◌<◌, ◌≤◌, Bool, true, false, cond, Option, Some, None, List, [], ◌∷◌, length, refl, sym, ◌∙◌, ap, subst, arith}
+use Rattle.std.proofs.Common.{◌≡◌, ℕ, ◌+◌, ◌-◌, ◌/◌, ◌<◌, ◌≤◌, Bool, true, false, cond, Option, Some, None, List, [], ◌∷◌, length, refl, sym, ◌∙◌, ap, subst, arith}
 use Rattle.std.specs.Prelude.{nat_lt}
 use Rattle.std.proofs.lemmas.Bool.{ltb-true}
 use Rattle.std.proofs.lemmas.Slice.{between-put_mid}
@@ -10,8 +10,8 @@ use Rattle.card_layout.specs.declared.files.Fid.{Fid}
 use Rattle.card_layout.specs.Application.{IsApplication}
 use Rattle.card_layout.specs.Files.{files_of, place_of, size_of}
 use Rattle.tach_media.specs.Medium.{bytes_at}
-use Rattle.gated_ring.specs.Ring.{Shape, IsShape, size_of as ring_size, pointer, PointsInside, IsNewest, indices, entry_at}
-use Rattle.gated_ring.proofs.Elsewhere.{pointer_elsewhere, points_elsewhere, indices_elsewhere, entry_elsewhere, newest_elsewhere}
+use Rattle.gated_ring.specs.Ring.{IsShape, size_of as ring_size, pointer, PointsInside, indices}
+use Rattle.gated_ring.proofs.Elsewhere.{pointer_elsewhere, indices_elsewhere, entry_elsewhere, newest_elsewhere}
 use Rattle.gated_ring.proofs.Listing.{indices_below}
 use Rattle.gated_ring.proofs.Orders.{Each}
 use Rattle.card_records.specs.declared.vehicle.Vehicle.{Vehicle}
@@ -20,7 +20,6 @@ use Rattle.card_records.specs.Vehicles.{vehicle_of}
 use Rattle.card_records.specs.CurrentUses.{current_use_of}
 use Rattle.card_model.specs.Days.{Day}
 use Rattle.card_model.specs.Checks.{first_bad, first_failing}
-use Rattle.card_model.specs.Walk.{days_of}
 use Rattle.card_model.proofs.Elsewhere.{bad_elsewhere, days_elsewhere, oldest_elsewhere}
 use Rattle.card_model.specs.Image.{StringShape, oldest_pointer}
 use Rattle.cyclic_days.specs.Held.{Knows}

@@ -1,18 +1,17 @@
 -- Where the files lie that are judged, by the sizes of a card.
-use Rattle.std.proofs.Common.{◌≡◌, ◌+◌, ◌-◌, ◌*◌, ◌%◌, ◌^◌, ◌<◌, ◌≤◌, ℕ, List, [], ◌∷◌, ◌++◌, Option, Some, None, length, refl, sym, ◌∙◌, ap, subst, arith}
+use Rattle.std.proofs.Common.{◌≡◌, ◌+◌, ◌-◌, ◌≤◌, ℕ, List, [], ◌∷◌, ◌++◌, Some, None, refl, ◌∙◌, ap, subst, arith}
 use Rattle.card_layout.specs.declared.files.Application.{Application}
 use Rattle.card_layout.specs.declared.files.Range.{Range}
 use Rattle.card_layout.specs.Application.{IsApplication}
 use Rattle.card_layout.specs.Files.{files_of, place_of, size_of, image_size_of}
 use Rattle.card_layout.proofs.Sizes.{largest_image}
-use Rattle.gated_ring.specs.Ring.{Shape, IsNewest, indices, entry_at, size_of as ring_size}
+use Rattle.gated_ring.specs.Ring.{IsNewest, entry_at, size_of as ring_size}
 use Rattle.card_records.specs.Vehicles.{vehicle_of}
 use Rattle.card_model.specs.Image.{StringShape, IsStringShape}
-use Rattle.card_model.specs.Checks.{first_bad}
 use Rattle.card_model.specs.Walk.{days_of}
 use Rattle.cyclic_days.specs.Held.{Held, Knows}
 use Rattle.cyclic_days.specs.Loading.{shape_of}
-use Rattle.card_image.specs.Fields.{file, day_string, vehicle_ring, place_ring, last_of, vehicle_at, newest_vehicle}
+use Rattle.card_image.specs.Fields.{file, day_string, vehicle_ring, last_of, vehicle_at, newest_vehicle}
 
 pub day_file : (app : Application) → size_of app (file 0x0504) ≡ 4 + app.activity
 unfolding files_of

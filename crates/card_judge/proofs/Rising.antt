@@ -1,13 +1,13 @@
 -- Whether the words of a day rise, word by word.
-use Rattle.std.proofs.Common.{◌≡◌, ℕ, suc, ◌+◌, ◌*◌, ◌<◌, ◌≤◌, Bool, true, false, cond, Option, Some, None, List, [], ◌∷◌, ◌++◌, length, get_or, take, drop, refl, sym, ◌∙◌, ap, subst, arith, add-one, drop_of_length-le}
+use Rattle.std.proofs.Common.{◌≡◌, ℕ, suc, ◌+◌, ◌<◌, ◌≤◌, Bool, true, false, cond, Option, Some, None, List, [], ◌∷◌, ◌++◌, length, get_or, drop, refl, sym, ◌∙◌, ap, arith, add-one, drop_of_length-le}
 use Rattle.std.specs.Prelude.{nat_le, nat_lt, if◌then◌else◌}
 use Rattle.std.proofs.Math.Seq.{drop-cons}
 use Rattle.std.proofs.lemmas.Grind.{common_steps}
-use Rattle.std.proofs.lemmas.Bool.{le-leb, leb-true}
+use Rattle.std.proofs.lemmas.Bool.{le-leb}
 use Rattle.activity_codec.specs.Words.{word_minute}
 use Rattle.card_model.specs.Days.{Day, total, len_of}
 use Rattle.card_model.specs.Changes.{early}
-use Rattle.card_model.specs.Checks.{Check, check, first_failing, file_place}
+use Rattle.card_model.specs.Checks.{first_failing, file_place}
 use Rattle.card_image.specs.Judging.{PlacedWord, words_placed, rising_checks, newest_rises}
 use Rattle.card_judge.specs.Words.{passes_after}
 

@@ -1,8 +1,8 @@
 -- Reads of bytes in memory do not fail.
-use Rattle.std.proofs.Common.{◌≡◌, ◌+◌, ◌≤◌, ℕ, Bool, true, List, Option, Some, None, Result, Ok, Err, refl, subst, arith}
+use Rattle.std.proofs.Common.{◌≡◌, ℕ, true, List, Option, Some, None, Result, Ok, Err, refl, subst, arith}
 use Rattle.std.specs.Prelude.{IfOk, IfSome, IsOk, OnOk, is_err}
 use Rattle.tach_media.specs.declared.fault.Failed.{Failed}
-use Rattle.tach_media.specs.Medium.{Reads, last_count}
+use Rattle.tach_media.specs.Medium.{Reads}
 use Rattle.tach_media.specs.SliceMedium.{slice_state}
 
 pub never_fails : {A : Type 0} (a b : List ℕ) (r : Result A Failed) → Reads (slice_state a) (slice_state b) (is_err r) → IsOk r

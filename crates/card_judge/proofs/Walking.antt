@@ -1,5 +1,5 @@
 -- A walk over days in memory, from one day to the next.
-use Rattle.std.proofs.Common.{◌≡◌, ◌≢◌, ℕ, ◌+◌, ◌*◌, ◌<◌, ◌≤◌, Option, Some, None, List, [], ◌∷◌, ◌++◌, false, refl, sym, ◌∙◌, ap, subst, arith, append_assoc}
+use Rattle.std.proofs.Common.{◌≡◌, ℕ, ◌+◌, ◌*◌, ◌<◌, ◌≤◌, Option, Some, None, List, [], ◌∷◌, ◌++◌, false, refl, sym, ◌∙◌, ap, subst, arith, append_assoc}
 use Rattle.std.specs.Prelude.{slice_get}
 use Rattle.std.proofs.lemmas.List.{append-nil}
 use Rattle.card_model.specs.Days.{Day, len_of, total}
@@ -10,7 +10,6 @@ use Rattle.card_model.proofs.Reading.{fills}
 use Rattle.cyclic_days.specs.declared.head.DayHead.{DayHead}
 use Rattle.cyclic_days.specs.Heads.{day_head, heads_from, IsAfter}
 use Rattle.cyclic_days.proofs.WalkOrder.{day_here}
-use Rattle.card_judge.specs.declared.behind.Behind.{Behind}
 use Rattle.card_judge.specs.declared.walk.Met.{Met}
 use Rattle.card_judge.specs.declared.walk.Walked.{Walked}
 use Rattle.card_judge.specs.Walks.{IsInMemory, IsMet}

@@ -1,5 +1,5 @@
 -- What is said of a refusal.
-use Rattle.std.specs.Prelude.{◌≡◌, ℕ, Bool, true, false, Result, Ok, Err}
+use Rattle.std.specs.Prelude.{ℕ, Bool, true, false, Result, Ok, Err}
 use Rattle.card_layout.specs.declared.files.Fid.{Fid}
 use Rattle.card_judge.specs.declared.fault.InsertFault.{InsertFault}
 use Rattle.card_judge.specs.declared.fault.InsertFault.TheVariants.{Failed, NotValid, TimeOverlap}

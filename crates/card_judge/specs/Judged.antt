@@ -1,5 +1,5 @@
 -- What the judging of a card's image finds.
-use Rattle.std.specs.Prelude.{◌≡◌, ℕ, ◌<◌, ◌-◌, IfSome, max, Option, Some, None, List, [], ◌∷◌, drop, nat_eq, if◌then◌else◌}
+use Rattle.std.specs.Prelude.{◌≡◌, ℕ, ◌<◌, ◌-◌, IfSome, max, Option, None, List, [], ◌∷◌, drop}
 use Rattle.card_layout.specs.Fields.{field_at}
 use Rattle.card_layout.specs.declared.files.Application.{Application}
 use Rattle.card_layout.specs.declared.files.Fid.{Fid}

@@ -1,11 +1,9 @@
 -- A card's days in memory, and what a walk over them has met.
-use Rattle.std.specs.Prelude.{◌≡◌, ℕ, ◌+◌, ◌<◌, ◌≤◌, ◌^◌, List, [], ◌∷◌, ◌++◌, length, Option, Some, None, slice_get}
+use Rattle.std.specs.Prelude.{◌≡◌, ℕ, ◌+◌, ◌<◌, ◌≤◌, ◌^◌, List, [], ◌∷◌, ◌++◌, length, Option, Some, None}
 use Rattle.card_model.specs.Days.{Day, total}
 use Rattle.card_model.specs.Image.{StringShape, IsStringShape, Holds, IsAt}
 use Rattle.card_model.specs.Walk.{days_of}
 use Rattle.card_layout.specs.declared.files.TheConstants.{STRING_MOST}
-use Rattle.cyclic_days.specs.declared.head.DayHead.{DayHead}
-use Rattle.cyclic_days.specs.Heads.{heads_from}
 use Rattle.card_judge.specs.declared.walk.Met.{Met}
 
 -- the string lies in the image, which holds its days

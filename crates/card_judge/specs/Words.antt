@@ -1,6 +1,5 @@
 -- What a walk tells of the words of the days that it met.
-use Rattle.std.specs.Prelude.{◌≡◌, ◌⊎◌, ℕ, suc, ◌+◌, ◌/◌, ◌%◌, Bool, true, false, not, ◌&&◌, Option, Some, None, List, [], ◌∷◌, ◌++◌, map, filter, nat_eq, nat_le, nat_lt, if◌then◌else◌}
-use Rattle.activity_codec.specs.Words.{word_minute}
+use Rattle.std.specs.Prelude.{◌≡◌, ℕ, suc, ◌+◌, ◌%◌, Bool, true, false, not, ◌&&◌, Option, Some, None, List, [], ◌∷◌, ◌++◌, map, filter, nat_eq, nat_le, nat_lt, if◌then◌else◌}
 use Rattle.card_model.specs.Days.{Day}
 use Rattle.card_model.specs.Image.{StringShape, oldest_pointer}
 use Rattle.card_model.specs.Changes.{date_of, until}

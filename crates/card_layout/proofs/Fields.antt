@@ -1,10 +1,10 @@
 -- One field of an image is changed, and the others are as they were.
-use Rattle.std.proofs.Common.{◌≡◌, ◌≢◌, inl, inr, ⊎_elim, ℕ, zero, suc, ◌+◌, ◌<◌, ◌≤◌, List, [], ◌∷◌, length, take, drop, refl, sym, ◌∙◌, ap, arith}
+use Rattle.std.proofs.Common.{◌≡◌, ◌≢◌, ⊎_elim, ℕ, zero, suc, ◌+◌, ◌<◌, ◌≤◌, List, [], ◌∷◌, length, take, drop, refl, sym, ◌∙◌, ap, arith}
 use Rattle.std.specs.Prelude.{slice_index}
 use Rattle.std.proofs.lemmas.Bool.{cases_lt}
 use Rattle.std.proofs.lemmas.List.{drop-drop}
 use Rattle.byteorder.specs.Endian.{big_number}
-use Rattle.card_layout.specs.Fields.{cut, field_at, number_in, place_in, total_width}
+use Rattle.card_layout.specs.Fields.{field_at, number_in, place_in, total_width}
 use Rattle.card_layout.specs.Images.{bytes_at, put, number_at}
 use Rattle.card_layout.proofs.Images.{part_before, part_after, part_put, put_outside}
 

@@ -1,7 +1,6 @@
 -- The commands of a card (Appendix 2, section 3.6) by their bytes: class, instruction, P1, P2, then a length and data.
-use Rattle.std.specs.Prelude.{ℕ, ◌+◌, ◌==◌, ◌&&◌, ◌||◌, not, nat_le, nat_lt, if◌then◌else◌, Bool, true, false, Result, Ok, Err, List, [], ◌∷◌, length, drop, slice_index, bytes_eq}
+use Rattle.std.specs.Prelude.{ℕ, ◌+◌, ◌==◌, ◌&&◌, ◌||◌, not, nat_lt, if◌then◌else◌, Bool, Result, Ok, Err, List, [], ◌∷◌, length, drop, slice_index, bytes_eq}
 use Rattle.card_layout.specs.Images.{number_at}
-use Rattle.card_layout.specs.declared.files.Fid.{Fid}
 use Rattle.card_layout.specs.declared.command.Command.{Command}
 use Rattle.card_layout.specs.declared.command.Command.TheVariants.{Application, Select, Read, Update}
 

@@ -1,5 +1,5 @@
 -- What a card answers to a command, and what the command does to its flat image (Appendix 2, section 3.6).
-use Rattle.std.specs.Prelude.{◌≡◌, ◌⊎◌, ℕ, ◌+◌, ◌/◌, ◌%◌, ◌==◌, ◌||◌, not, nat_lt, if◌then◌else◌, Bool, true, false, Option, Some, None, option_map, option_and_then, IfSome, IsSomeAnd, is_none, Result, Ok, Err, List, [], ◌∷◌, ◌++◌, length, ◌<◌, ◌≤◌}
+use Rattle.std.specs.Prelude.{◌≡◌, ℕ, ◌+◌, ◌/◌, ◌%◌, ◌==◌, ◌||◌, not, nat_lt, if◌then◌else◌, Bool, true, false, Option, Some, None, option_map, option_and_then, IfSome, IsSomeAnd, is_none, Result, Ok, Err, List, [], ◌∷◌, ◌++◌, length}
 use Rattle.card_layout.specs.declared.files.Fid.{Fid}
 use Rattle.card_layout.specs.declared.files.Range.{Range}
 use Rattle.card_layout.specs.declared.files.TheConstants.{APPLICATION_RANGE}

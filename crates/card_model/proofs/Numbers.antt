@@ -1,5 +1,5 @@
 -- Numbers in bytes, read back.
-use Rattle.std.proofs.Common.{◌≡◌, ℕ, ◌+◌, ◌*◌, ◌/◌, ◌%◌, ◌<◌, ◌≤◌, List, [], ◌∷◌, ◌∙◌, ap, arith}
+use Rattle.std.proofs.Common.{◌≡◌, ℕ, ◌+◌, ◌*◌, ◌/◌, ◌%◌, ◌<◌, ◌≤◌, [], ◌∷◌, ◌∙◌, ap, arith}
 use Rattle.card_layout.specs.Images.{big_bytes}
 use Rattle.card_model.specs.Bytes.{number, two_bytes, four_bytes, decimal_bytes, decimal}
 

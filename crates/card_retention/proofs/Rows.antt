@@ -1,5 +1,5 @@
 -- Worked rows: of the expected days, and of a day that was begun and holds no entry.
-use Rattle.std.proofs.Common.{◌≡◌, inl, inr, ℕ, ◌*◌, Bool, true, false, None, [], ◌∷◌, refl, arith}
+use Rattle.std.proofs.Common.{◌≡◌, inl, inr, ℕ, ◌*◌, true, false, None, [], ◌∷◌, refl, arith}
 use Rattle.activity_codec.specs.declared.entries.Entry.{Entry}
 use Rattle.activity_codec.specs.declared.values.Slot.TheVariants.{Driver}
 use Rattle.activity_codec.specs.declared.values.Activity.{Activity}

@@ -8,8 +8,8 @@ use Rattle.activity_codec.specs.Words.{word_absent, word_minute}
 use Rattle.card_model.specs.Days.{Day, AreDays, last_word}
 use Rattle.card_model.specs.Changes.{Remain, fitting, with_newest, with_word, new_day, until, early, with_early, cut, date_of, trimmed}
 use Rattle.card_retention.specs.Expected.{WordDay, size_of, one_more, more, is_newest, first_words, adds, Counted, with_entry, expected_days}
-use Rattle.card_retention.specs.Shown.{Bound, Covers, InDays, AllFrom, AllIn, Shows, Left, Rising, AllBefore, sizes, size_day, entry_state, is_open, TellsIn, Tells, Rests, Lives, with_closing}
-use Rattle.card_retention.specs.Retains.{is_day, entries_in, begun_on, HasBegun, CardRetains}
+use Rattle.card_retention.specs.Shown.{Bound, InDays, AllFrom, AllIn, Shows, Left, Rising, AllBefore, sizes, size_day, entry_state, is_open, TellsIn, Tells, Rests, Lives, with_closing}
+use Rattle.card_retention.specs.Retains.{is_day, entries_in, begun_on, CardRetains}
 use Rattle.card_model.proofs.Retention.{remain_fitting}
 use Rattle.card_retention.proofs.Growing.{Young, shows_young, left_of, sizes_word, sizes_append, more_back}
 use Rattle.card_model.proofs.Trims.{cut_date}

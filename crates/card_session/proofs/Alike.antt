@@ -1,5 +1,5 @@
 -- Days of the same dates and words: what is said of these is the same, whatever their counters and distances are.
-use Rattle.std.proofs.Common.{◌≡◌, ℕ, suc, ◌+◌, ◌*◌, ◌/◌, ◌%◌, ◌<◌, ◌≤◌, Bool, true, false, cond, ◌&&◌, not, Option, Some, None, List, [], ◌∷◌, ◌++◌, length, refl, sym, ◌∙◌, ap, subst, arith}
+use Rattle.std.proofs.Common.{◌≡◌, ℕ, suc, ◌+◌, ◌/◌, ◌%◌, ◌≤◌, Bool, true, false, cond, ◌&&◌, not, Option, None, List, [], ◌∷◌, ◌++◌, length, refl, sym, ◌∙◌, ap, subst}
 use Rattle.std.specs.Prelude.{nat_eq, nat_lt, nat_le}
 use Rattle.activity_codec.specs.declared.entries.Entry.{Entry}
 use Rattle.activity_codec.specs.Words.{word_minute, word_absent}
@@ -7,7 +7,7 @@ use Rattle.card_model.specs.Days.{Day, AreDays, last_word}
 use Rattle.card_model.specs.Changes.{OnNewest, AreStrict, with_newest, with_early, early, until, cut, trimmed, date_of}
 use Rattle.card_model.proofs.Trims.{cut_date}
 use Rattle.card_retention.specs.Expected.{WordDay, more, Counted, expected_days}
-use Rattle.card_retention.specs.Shown.{Bound, Shows, Grows, sizes, size_day, is_open, owing, Tells, TellsIn, Rests, EndsAbsent, Sound, Sound.Flat, Sound.Tail, Lives, entry_state}
+use Rattle.card_retention.specs.Shown.{Bound, Shows, Grows, sizes, size_day, is_open, owing, Tells, TellsIn, Rests, Sound, Lives}
 use Rattle.card_retention.specs.Entries.{latest, told_by, entry_at, day_entries, entries_up_to, newest_word}
 use Rattle.card_retention.proofs.Flat.{UpTo, newest_flat, flat_newest}
 use Rattle.card_retention.proofs.Listing.{minutes_same}

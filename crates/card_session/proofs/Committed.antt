@@ -1,5 +1,5 @@
 -- A keep whose end mark has moved shows its entry behind those of before, where no minute behind the old end mark told one.
-use Rattle.std.proofs.Common.{◌≡◌, inl, inr, ⊎_elim, ℕ, zero, suc, ◌+◌, ◌-◌, ◌*◌, ◌/◌, ◌%◌, ◌<◌, ◌≤◌, max, Bool, true, false, cond, ◌&&◌, not, Option, Some, None, List, [], ◌∷◌, ◌++◌, length, refl, sym, ◌∙◌, ap, subst, arith}
+use Rattle.std.proofs.Common.{◌≡◌, inl, inr, ⊎_elim, ℕ, zero, suc, ◌+◌, ◌-◌, ◌*◌, ◌/◌, ◌%◌, ◌<◌, ◌≤◌, Bool, true, false, cond, ◌&&◌, not, Option, Some, None, List, [], ◌∷◌, ◌++◌, length, refl, sym, ◌∙◌, ap, subst, arith}
 use Rattle.std.specs.Prelude.{◌⊎◌, ◌||◌, nat_eq, nat_lt, nat_le}
 use Rattle.std.proofs.lemmas.Bool.Decides.{nat_tests}
 use Rattle.std.proofs.lemmas.Bool.{eqb-false, eqb-true}
@@ -11,12 +11,12 @@ use Rattle.tacho_types.specs.declared.texts.Registration.{Registration}
 use Rattle.card_layout.specs.declared.files.Application.{Application}
 use Rattle.card_layout.specs.Application.{IsApplication}
 use Rattle.card_layout.specs.Files.{image_size_of}
-use Rattle.card_model.specs.Days.{Day, AreDays, IsDay, last_word}
+use Rattle.card_model.specs.Days.{Day, AreDays, last_word}
 use Rattle.card_model.specs.Changes.{Remain, OnNewest, fitting, with_newest, with_word, new_day, date_of}
 use Rattle.card_model.proofs.Lists.{last_is}
 use Rattle.card_model.proofs.Retention.{remain_fitting, remain_some}
 use Rattle.card_retention.specs.Expected.{WordDay, is_newest}
-use Rattle.card_retention.specs.Shown.{sizes, is_open, entry_state, AllUpTo, Tells, TellsIn, Entered, Entered.Same, Entered.Word, Entered.Begun}
+use Rattle.card_retention.specs.Shown.{sizes, is_open, AllUpTo, Tells, TellsIn, Entered}
 use Rattle.card_retention.specs.Entries.{latest, told_by, entry_at, minutes_from, day_entries, entries_up_to, newest_word}
 use Rattle.card_retention.specs.Retains.{is_day, entries_in}
 use Rattle.card_retention.proofs.Entering.{on_word, on_append, last_append, date_newest}

@@ -1,9 +1,9 @@
 -- Parts of a call, one after the other.
-use Rattle.std.proofs.Common.{◌≡◌, inl, inr, ⊎_elim, ℕ, Bool, true, false, List, Option, Some, None, IfSome, refl, sym, ◌∙◌, ap, subst, arith}
-use Rattle.std.specs.Prelude.{◌⊎◌, not}
+use Rattle.std.proofs.Common.{◌≡◌, inl, inr, ℕ, Bool, true, false, List, Some, IfSome, refl, sym, ◌∙◌, ap, subst, arith}
+use Rattle.std.specs.Prelude.{◌⊎◌}
 use Rattle.card_layout.proofs.Images.{outside_then}
 use Rattle.card_layout.specs.declared.files.Application.{Application}
-use Rattle.tach_media.specs.Medium.{State, LeavesOnly, HasCause, Unchanged}
+use Rattle.tach_media.specs.Medium.{State, HasCause, Unchanged}
 use Rattle.tach_media.proofs.Runs.{weaken, goes_on, told_too, cause_after, starts, where_told, at_image}
 use Rattle.card_model.specs.Days.{Day}
 use Rattle.cyclic_days.specs.Steps.{IsIdle}

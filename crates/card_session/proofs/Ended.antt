@@ -1,18 +1,17 @@
 -- A card that would be valid, were its session ended: so it is at the end of an insertion and of a keep, and then a withdrawal leaves it valid.
-use Rattle.std.proofs.Common.{◌≡◌, ◌≢◌, inl, inr, ⊎_elim, ℕ, suc, ◌+◌, ◌*◌, ◌/◌, ◌<◌, ◌≤◌, Bool, true, false, cond, Option, List, [], ◌∷◌, length, refl, sym, ◌∙◌, ap, subst, arith}
-use Rattle.std.specs.Prelude.{◌⊎◌, nat_eq}
+use Rattle.std.proofs.Common.{◌≡◌, ◌≢◌, inl, inr, ℕ, suc, ◌*◌, ◌≤◌, Bool, true, false, cond, List, length, refl, sym, ◌∙◌, ap, subst, arith}
+use Rattle.std.specs.Prelude.{nat_eq}
 use Rattle.activity_codec.specs.declared.values.Activity.{Activity}
 use Rattle.activity_codec.specs.declared.values.Activity.TheVariants.{Rest}
 use Rattle.activity_codec.specs.declared.entries.Entry.{Entry}
 use Rattle.tacho_types.specs.declared.texts.Registration.{Registration}
 use Rattle.card_layout.specs.declared.files.Application.{Application}
 use Rattle.card_layout.specs.Application.{IsApplication}
-use Rattle.card_layout.specs.Files.{image_size_of, place_of}
+use Rattle.card_layout.specs.Files.{image_size_of}
 use Rattle.card_model.specs.Days.{Day, AreDays}
 use Rattle.card_model.specs.Changes.{trimmed}
-use Rattle.card_retention.specs.Expected.{is_newest}
-use Rattle.card_retention.specs.Shown.{sizes, is_open}
-use Rattle.card_image.specs.Fields.{file, vehicle_ring, card_days, end_mark, session_time}
+use Rattle.card_retention.specs.Shown.{is_open}
+use Rattle.card_image.specs.Fields.{vehicle_ring, card_days, end_mark, session_time}
 use Rattle.card_image.specs.Beside.{HaveSameSizes, HaveSamePlacePointer}
 use Rattle.card_image.specs.Judging.{IsValid}
 use Rattle.card_image.proofs.Beside.{days_same}
@@ -24,18 +23,16 @@ use Rattle.card_session.specs.Cards.{IsCard, ended, MayEnd}
 use Rattle.card_session.specs.Parts.{IsBeforeGapOf}
 use Rattle.card_session.specs.Inserting.{AreOwed, IsStill, IsShut, InsertsOpen, InsertsClosed}
 use Rattle.gated_ring.specs.Ring.{PointsInside}
-use Rattle.card_session.specs.Overwriting.{BeginsBehind}
-use Rattle.card_session.specs.Repairs.{BeginsLater, lacked_by}
 use Rattle.card_session.proofs.Composing.{told_book}
 use Rattle.card_session.proofs.Marks.{sizes_still, mark_told}
 use Rattle.card_session.proofs.Stopping.{book_days, session_ends, ended_same, ended_days, ended_mark}
-use Rattle.card_session.proofs.Valid.{places_still, valid_strict, flat_of, keep_strict, close_strict, closed_low}
+use Rattle.card_session.proofs.Valid.{places_still, valid_strict, keep_strict, close_strict, closed_low}
 use Rattle.card_session.proofs.NewestStays.{open_low, view_word}
 use Rattle.card_session.proofs.InsertingUse.{use_inside}
 use Rattle.card_session.proofs.InsertingOpen.{Same, opened_same}
 use Rattle.card_session.proofs.InsertingAgain.{Keeps, ended_keeps, inserting_keeps}
 use Rattle.card_session.proofs.Repairing.{mark_beside}
-use Rattle.card_session.proofs.Revalid.{Fine, Low, card_fine, beside_fine, beside_low, low_told, fine_low, strict_told, stands}
+use Rattle.card_session.proofs.Revalid.{Fine, Low, card_fine, beside_fine, beside_low, low_told, fine_low, stands}
 use Rattle.card_session.proofs.ShutValid.{same_valid, strict_book}
 use Rattle.card_session.proofs.Ends.{open_end, closed_end}
 use Rattle.card_session.proofs.Renewing.{keep_word, ends_low, x_may}

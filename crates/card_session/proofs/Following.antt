@@ -1,19 +1,18 @@
 -- The words that a session writes go on with the words of a day, or begin one.
-use Rattle.std.proofs.Common.{◌≡◌, ◌≢◌, ℕ, suc, ◌+◌, ◌*◌, ◌/◌, ◌%◌, ◌<◌, ◌≤◌, Bool, true, false, cond, not, Option, Some, None, List, [], ◌∷◌, ◌++◌, refl, sym, ◌∙◌, ap, arith}
+use Rattle.std.proofs.Common.{◌≡◌, ◌≢◌, ℕ, suc, ◌+◌, ◌/◌, ◌%◌, ◌<◌, ◌≤◌, Bool, true, false, cond, not, Option, Some, None, List, [], ◌∷◌, ◌++◌, refl, sym, ◌∙◌, ap, arith}
 use Rattle.std.specs.Prelude.{nat_eq, nat_lt, ◌&&◌}
 use Rattle.std.proofs.lemmas.Bool.Decides.{nat_tests}
 use Rattle.std.proofs.lemmas.Bool.{eqb-true, eqb-false, and_parts, not-true}
 use Rattle.activity_codec.specs.declared.values.Activity.{Activity}
 use Rattle.activity_codec.specs.declared.values.Activity.TheVariants.{Rest, Available, Work, Driving}
 use Rattle.activity_codec.specs.declared.entries.Entry.{Entry}
-use Rattle.activity_codec.specs.Words.{slot_number, bit, activity_number, word_minute, word_absent, word_slot}
+use Rattle.activity_codec.specs.Words.{activity_number, word_minute, word_absent}
 use Rattle.card_model.specs.Days.{Day, AreDays, last_word}
 use Rattle.card_model.specs.Changes.{AreStrict, Increase, OnNewest, TakesWord, IsLater, IsNext, date_of, with_newest, with_km}
 use Rattle.card_model.proofs.Ascending.{words_below}
 use Rattle.card_retention.specs.Expected.{is_newest}
 use Rattle.card_retention.specs.Shown.{sizes, is_open, entry_state}
 use Rattle.card_retention.specs.Entries.{EndsBy, newest_word}
-use Rattle.cyclic_days.specs.declared.head.Tail.{Tail}
 use Rattle.cyclic_days.specs.Held.{tail_by}
 use Rattle.card_session.specs.Books.{closing_word, entry_word, bare_word, day_words, latest_of, tells_state, km_after, travelled}
 use Rattle.card_session.specs.Telling.{closing_at, gap_word, is_newest_day, entry_change, km_told}

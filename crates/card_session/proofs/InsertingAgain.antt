@@ -1,5 +1,5 @@
 -- A card that an insertion leaves at any moment tells the same sizes and the same number, so that it may be inserted again.
-use Rattle.std.proofs.Common.{◌≡◌, ◌≢◌, inl, inr, ⊎_elim, ℕ, ◌+◌, ◌*◌, ◌<◌, ◌≤◌, List, length, Option, refl, sym, ◌∙◌, ap, subst, arith}
+use Rattle.std.proofs.Common.{◌≡◌, inl, inr, ⊎_elim, ℕ, ◌+◌, ◌<◌, ◌≤◌, List, length, sym, ◌∙◌, ap, subst, arith}
 use Rattle.std.specs.Prelude.{◌⊎◌}
 use Rattle.card_layout.proofs.Images.{part_before, part_after, put_outside}
 use Rattle.activity_codec.specs.declared.values.Activity.TheVariants.{Rest}
@@ -12,7 +12,7 @@ use Rattle.tach_media.specs.Medium.{SameOutside, bytes_at}
 use Rattle.card_records.specs.Rings.{event_ring}
 use Rattle.card_model.specs.Days.{Day}
 use Rattle.card_records.proofs.Sets.{set_inside}
-use Rattle.gated_ring.specs.Ring.{Shape, place_of as entry_place}
+use Rattle.gated_ring.specs.Ring.{place_of as entry_place}
 use Rattle.gated_ring.proofs.Places.{place_high}
 use Rattle.card_image.specs.Fields.{file, day_string, place_ring, card_number}
 use Rattle.card_image.specs.Beside.{HaveSameSizes, HaveSameIdentification, HaveSamePlacePointer}
@@ -22,7 +22,7 @@ use Rattle.card_session.specs.Vehicles.{Vehicles}
 use Rattle.card_session.specs.Books.{closed}
 use Rattle.card_session.specs.Sessions.{book_of}
 use Rattle.card_session.specs.Moments.{IsBook, IsCloseMoment}
-use Rattle.card_session.specs.Inserting.{repaired, IsRepairMoment, Both, During, IsStill, IsRepaired, IsRepairing, IsNoted, IsNoting, IsShut, IsShutting, IsEnded, IsEnding, IsOpened, IsOpening, InsertingClosed, InsertingOpen, IsCardInserting, timed, registered}
+use Rattle.card_session.specs.Inserting.{repaired, IsRepairMoment, During, IsStill, IsRepaired, IsRepairing, IsNoted, IsNoting, IsShut, IsShutting, IsEnded, IsEnding, IsOpening, IsCardInserting, timed, registered}
 
 module _ (app : Application) where
   -- the card has the same length, and tells the same sizes, the same number and the same pointer of places

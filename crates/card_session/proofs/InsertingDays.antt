@@ -1,5 +1,5 @@
 -- What the end of a drop and the cut at a minute make of a card that a session knows.
-use Rattle.std.proofs.Common.{◌≡◌, inl, inr, ⊎_elim, ℕ, ◌+◌, ◌-◌, ◌/◌, ◌<◌, ◌≤◌, Bool, false, List, Option, Some, IfSome, refl, sym, ◌∙◌, ap, subst, arith}
+use Rattle.std.proofs.Common.{◌≡◌, inl, inr, ⊎_elim, ℕ, ◌/◌, ◌<◌, ◌≤◌, Bool, false, List, Option, IfSome, refl, sym, ◌∙◌, ap, subst}
 use Rattle.std.specs.Prelude.{◌⊎◌}
 use Rattle.card_layout.proofs.Images.{outside_same}
 use Rattle.card_layout.specs.declared.files.Application.{Application}
@@ -10,14 +10,12 @@ use Rattle.card_records.specs.declared.vehicle.Vehicle.{Vehicle}
 use Rattle.card_model.specs.Days.{Day}
 use Rattle.card_model.specs.Changes.{Shorter, date_of, trimmed}
 use Rattle.card_model.specs.Image.{StringShape, Holds}
-use Rattle.gated_ring.specs.Ring.{Shape}
 use Rattle.cyclic_days.specs.Held.{Held, Knows}
 use Rattle.cyclic_days.specs.Moments.{IfKnown}
 use Rattle.cyclic_days.specs.Steps.{SameDays}
 use Rattle.cyclic_days.specs.Trim.{IsTrim, IsTrimMoment}
 use Rattle.card_image.specs.Fields.{day_string, vehicle_ring, last_use_of}
 use Rattle.card_session.specs.declared.words.TheConstants.{LATEST_MINUTE}
-use Rattle.card_session.specs.Books.{Book}
 use Rattle.card_session.specs.Sessions.{Session, IsValue, KnowsCard, MayKeep, book_of}
 use Rattle.card_session.specs.Moments.{IsBook}
 use Rattle.card_session.specs.Cards.{IsCard, days_and_vehicles}

@@ -1,5 +1,5 @@
 -- What the answer of the judging says of an insertion that is refused.
-use Rattle.std.proofs.Common.{◌≡◌, ℕ, Bool, true, false, Result, Ok, Err}
+use Rattle.std.proofs.Common.{◌≡◌, ℕ, false, Result, Err}
 use Rattle.std.specs.Prelude.{IfErr, IsErrAnd}
 use Rattle.tach_media.specs.Medium.{State, Reads}
 use Rattle.card_judge.specs.declared.fault.InsertFault.{InsertFault}

@@ -1,7 +1,6 @@
 -- Entries that are replayed one after the other.
-use Rattle.std.proofs.Common.{◌≡◌, inl, inr, ⊎_elim, ℕ, ◌+◌, ◌*◌, ◌<◌, ◌≤◌, Bool, true, false, List, [], ◌∷◌, ◌++◌, length, take, drop, get_or, Option, Some, IfSome, refl, sym, ◌∙◌, ap, subst, arith}
-use Rattle.std.specs.Prelude.{◌⊎◌}
-use Rattle.std.proofs.lemmas.List.{drop_more, take_more, take_all, take-append-drop, append-nil}
+use Rattle.std.proofs.Common.{◌≡◌, inl, inr, ℕ, ◌+◌, ◌<◌, Bool, true, false, List, [], ◌∷◌, ◌++◌, length, take, drop, get_or, IfSome, refl, sym, ◌∙◌, ap, subst}
+use Rattle.std.proofs.lemmas.List.{drop_more, take_more, take-append-drop}
 use Rattle.activity_codec.specs.declared.values.Activity.TheVariants.{Rest}
 use Rattle.activity_codec.specs.declared.values.Slot.TheVariants.{Driver}
 use Rattle.activity_codec.specs.declared.entries.Entry.{Entry}
@@ -12,7 +11,7 @@ use Rattle.tach_media.proofs.Runs.{if_told, told_too, at_image}
 use Rattle.card_model.specs.Days.{Day, AreDays}
 use Rattle.card_session.specs.Vehicles.{Vehicles}
 use Rattle.card_session.specs.Books.{Book, with_entry}
-use Rattle.card_session.specs.Sessions.{Session, IsValue, IsOpenBook, KnowsCard, newest_in, book_of}
+use Rattle.card_session.specs.Sessions.{Session, IsValue, IsOpenBook, KnowsCard, book_of}
 use Rattle.card_session.specs.Moments.{IsBook, IsKeepMoment}
 use Rattle.card_session.specs.Cards.{IsCard}
 use Rattle.card_session.specs.Parts.{DoesPart, IsPartDone, IsPartMoment, IsBeforeGapOf, entered}

@@ -1,6 +1,5 @@
 -- The end of a drop, the repair and the event, one after the other.
-use Rattle.std.proofs.Common.{◌≡◌, inl, inr, ⊎_elim, ℕ, ◌+◌, ◌/◌, ◌<◌, ◌≤◌, Bool, true, false, List, length, get_or, Option, Some, IfSome, refl, sym, ◌∙◌, ap, subst, arith}
-use Rattle.std.specs.Prelude.{◌⊎◌, All}
+use Rattle.std.proofs.Common.{◌≡◌, inl, inr, ℕ, ◌<◌, Bool, true, false, List, IfSome, sym, ◌∙◌, ap, subst}
 use Rattle.activity_codec.specs.declared.entries.Entry.{Entry}
 use Rattle.tacho_types.specs.declared.texts.Registration.{Registration}
 use Rattle.card_layout.specs.declared.files.Application.{Application}
@@ -16,7 +15,7 @@ use Rattle.card_session.specs.Sessions.{Session, IsValue, IsOpenBook, KnowsCard,
 use Rattle.card_session.specs.Cards.{IsCard}
 use Rattle.card_session.specs.Moments.{IsBook}
 use Rattle.card_session.specs.Parts.{DoesPart, IsPartDone, IsPartMoment, AnyBook}
-use Rattle.card_session.specs.Inserting.{MayShut, EndsCut, repaired, IsRepairMoment, Both, During, IsStill, IsRepaired, IsRepairing, IsNoted, IsNoting, Mends, IsSessionMended, IsMendMoment}
+use Rattle.card_session.specs.Inserting.{MayShut, EndsCut, repaired, IsRepairMoment, Both, IsStill, IsRepaired, IsNoted, IsNoting, Mends, IsSessionMended, IsMendMoment}
 use Rattle.card_session.proofs.Composing.{parts_then, part_as, part_failed, told_book}
 use Rattle.card_session.proofs.InsertingCards.{knows_beside, book_beside, noted_same, use_same}
 

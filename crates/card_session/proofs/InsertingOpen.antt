@@ -1,24 +1,22 @@
 -- The closing word, the end of a session and the opening of another, one after the other.
-use Rattle.std.proofs.Common.{◌≡◌, inl, inr, ⊎_elim, ℕ, ◌+◌, ◌*◌, ◌/◌, ◌<◌, ◌≤◌, Bool, true, false, List, length, Option, Some, option_map, IfSome, refl, sym, ◌∙◌, ap, subst, arith}
+use Rattle.std.proofs.Common.{◌≡◌, inl, inr, ⊎_elim, ℕ, ◌+◌, ◌≤◌, Bool, true, false, List, length, option_map, refl, sym, ◌∙◌, ap, subst, arith}
 use Rattle.std.specs.Prelude.{◌⊎◌}
 use Rattle.card_layout.proofs.Images.{put_outside}
 use Rattle.activity_codec.specs.declared.values.Activity.TheVariants.{Rest}
 use Rattle.tacho_types.specs.declared.texts.Registration.{Registration}
 use Rattle.tacho_types.specs.Numbers.{time_bytes}
 use Rattle.card_layout.specs.declared.files.Application.{Application}
-use Rattle.card_layout.specs.Files.{place_of, image_size_of}
-use Rattle.tach_media.specs.Medium.{State, IsCoherent, LeavesOnly, HasCause, put}
+use Rattle.card_layout.specs.Files.{place_of}
+use Rattle.tach_media.specs.Medium.{State, IsCoherent, LeavesOnly, HasCause}
 use Rattle.tach_media.proofs.Runs.{where_told, turned_into}
-use Rattle.card_model.specs.Days.{Day}
 use Rattle.card_image.specs.Fields.{file}
 use Rattle.card_image.specs.Beside.{HaveSameDays, HaveSameVehicles}
-use Rattle.card_session.specs.Books.{Book, closed}
-use Rattle.card_session.specs.Sessions.{Session, IsValue, IsOpenBook, KnowsCard, book_of}
-use Rattle.card_session.specs.Cards.{IsCard}
+use Rattle.card_session.specs.Books.{closed}
+use Rattle.card_session.specs.Sessions.{Session, IsValue, IsOpenBook, book_of}
 use Rattle.card_session.specs.Moments.{IsBook, IsCloseMoment}
 use Rattle.card_session.specs.Parts.{DoesPart, IsPartDone, IsPartMoment, AnyBook}
-use Rattle.card_session.specs.Inserting.{MayInsert, MayShut, Both, During, IsStill, IsShut, IsShutting, IsEnded, IsEnding, IsOpened, IsOpening, IsShutThen, IsShutThenMoment, IsReopened, IsReopening, IsStarted, IsStartMoment, timed, registered}
-use Rattle.card_session.proofs.Composing.{parts_then, part_as, part_failed, told_book}
+use Rattle.card_session.specs.Inserting.{MayInsert, MayShut, Both, During, IsShut, IsShutting, IsEnded, IsEnding, IsOpened, IsOpening, IsShutThen, IsShutThenMoment, IsReopened, IsReopening, IsStarted, IsStartMoment, timed, registered}
+use Rattle.card_session.proofs.Composing.{parts_then, part_failed, told_book}
 use Rattle.card_session.proofs.InsertingBooks.{closed_ready}
 use Rattle.card_session.proofs.InsertingCards.{knows_beside, book_beside, behind_same, use_behind}
 use Rattle.card_session.proofs.InsertingUse.{use_inside}

@@ -1,5 +1,5 @@
 -- The repair of a card whose session was left open: the cut, and the entries that it lacks.
-use Rattle.std.proofs.Common.{◌≡◌, inl, inr, ⊎_elim, ℕ, ◌/◌, Bool, true, false, List, Option, IfSome, refl, sym, ◌∙◌, ap, subst}
+use Rattle.std.proofs.Common.{◌≡◌, inl, inr, ℕ, ◌/◌, Bool, true, false, List, Option, IfSome, refl, sym, ◌∙◌, ap, subst}
 use Rattle.std.specs.Prelude.{◌⊎◌}
 use Rattle.activity_codec.specs.declared.entries.Entry.{Entry}
 use Rattle.tacho_types.specs.declared.texts.Registration.{Registration}
@@ -12,9 +12,7 @@ use Rattle.card_model.specs.Changes.{trimmed}
 use Rattle.card_image.specs.Fields.{last_use_of}
 use Rattle.card_session.specs.Vehicles.{Vehicles}
 use Rattle.card_session.specs.Books.{Book, mark_of}
-use Rattle.card_session.specs.Sessions.{Session, IsValue, IsOpenBook, KnowsCard, EndsStrictly, book_of}
-use Rattle.card_session.specs.Cards.{IsCard}
-use Rattle.card_session.specs.Moments.{IsBook}
+use Rattle.card_session.specs.Sessions.{Session, IsOpenBook, KnowsCard, EndsStrictly, book_of}
 use Rattle.card_session.specs.Parts.{DoesPart, IsPartDone, IsPartMoment, AnyBook}
 use Rattle.card_session.specs.Inserting.{Follow, lacked, with_cut, IsCutting, with_owed, IsBeforeAll, IsReplaying, EndsCut, repaired, IsRepairMoment}
 use Rattle.card_session.proofs.Composing.{part_of, then_part, failed_part, told_book}

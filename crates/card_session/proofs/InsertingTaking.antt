@@ -1,5 +1,5 @@
 -- An accepted card is taken over: repaired where its session was left open, and its session opened.
-use Rattle.std.proofs.Common.{◌≡◌, ◌≢◌, inl, inr, ⊎_elim, ℕ, ◌/◌, max, Bool, true, false, List, [], ◌∷◌, Option, Some, None, IfSome, refl, sym, ◌∙◌, ap, subst, arith}
+use Rattle.std.proofs.Common.{◌≡◌, ◌≢◌, inl, inr, ⊎_elim, ℕ, ◌/◌, max, Bool, true, false, List, [], ◌∷◌, Option, refl, sym, ◌∙◌, ap, subst}
 use Rattle.std.specs.Prelude.{◌⊎◌}
 use Rattle.activity_codec.specs.declared.entries.Entry.{Entry}
 use Rattle.tacho_types.specs.declared.texts.Registration.{Registration}
@@ -14,12 +14,12 @@ use Rattle.card_retention.specs.Entries.{newest_word}
 use Rattle.cyclic_days.specs.declared.head.Tail.{Tail}
 use Rattle.cyclic_days.specs.Held.{Held, Knows, tail_in, tail_by}
 use Rattle.gated_ring.specs.Ring.{Shape}
-use Rattle.card_image.specs.Fields.{last_use_of, current_use, session_time}
-use Rattle.card_session.specs.Books.{Book, mark_of}
+use Rattle.card_image.specs.Fields.{last_use_of, session_time}
+use Rattle.card_session.specs.Books.{Book}
 use Rattle.card_session.specs.Telling.{minute_told}
-use Rattle.card_session.specs.Sessions.{Session, IsSession, IsOpenBook, KnowsCard, newest_in, book_of}
+use Rattle.card_session.specs.Sessions.{Session, IsSession, IsOpenBook, KnowsCard, book_of}
 use Rattle.card_session.specs.Parts.{DoesPart}
-use Rattle.card_session.specs.Inserting.{MayShut, Both, During, IsStill, IsRepaired, IsRepairing, IsNoted, IsNoting, IsShut, IsShutting, IsReopened, IsReopening, IsShutThen, IsShutThenMoment, IsStarted, IsStartMoment, Mends, IsSessionMended, IsMendMoment, InsertsOpen, InsertingOpen, Takes, IsTaken, IsTaking}
+use Rattle.card_session.specs.Inserting.{Both, During, IsStill, IsRepaired, IsRepairing, IsNoted, IsNoting, IsShut, IsShutting, IsReopened, IsReopening, IsShutThen, IsShutThenMoment, IsStarted, IsStartMoment, Mends, IsSessionMended, IsMendMoment, InsertingOpen, Takes, IsTaken, IsTaking}
 use Rattle.card_session.proofs.Composing.{parts_then, part_as, part_failed}
 use Rattle.card_session.proofs.Told.{session}
 

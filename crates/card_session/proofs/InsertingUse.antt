@@ -1,5 +1,5 @@
 -- The current use that an insertion writes, and the event of a session that was not closed.
-use Rattle.std.proofs.Common.{◌≡◌, inl, inr, ⊎_elim, ℕ, ◌+◌, ◌*◌, ◌≤◌, Bool, true, false, List, length, Option, Some, option_map, IfSome, refl, sym, ◌∙◌, ap, subst, arith}
+use Rattle.std.proofs.Common.{◌≡◌, inl, inr, ⊎_elim, ℕ, ◌+◌, ◌≤◌, Bool, true, false, List, length, Option, Some, option_map, IfSome, refl, sym, ◌∙◌, ap, subst, arith}
 use Rattle.std.specs.Prelude.{◌⊎◌, ◌↔◌, IsTrue}
 use Rattle.card_layout.specs.declared.files.Application.{Application}
 use Rattle.card_layout.specs.Files.{files_of, image_size_of, place_of, size_of}
@@ -12,7 +12,7 @@ use Rattle.card_records.specs.declared.current_use.CurrentUse.{CurrentUse}
 use Rattle.card_records.specs.Noting.{HoldsEvent, IsNotingEvent, IsEventNoted}
 use Rattle.card_image.specs.Fields.{file, current_use}
 use Rattle.card_session.proofs.OnCard.{may_still}
-use Rattle.card_session.specs.Inserting.{MayInsert, HoldsUnclosed, IsNoted, IsNoting, unclosed, timed, registered, IsOpening, IsOpened}
+use Rattle.card_session.specs.Inserting.{MayInsert, HoldsUnclosed, IsNoted, IsNoting, unclosed, timed, registered, IsOpening}
 
 -- ---- where it stands
 

@@ -1,20 +1,20 @@
 -- What the judging of the words of a card makes sure of: a word may follow.
-use Rattle.std.proofs.Common.{◌≡◌, ◌≢◌, inl, inr, ⊎_elim, ℕ, suc, ◌+◌, ◌*◌, ◌/◌, ◌%◌, ◌<◌, ◌≤◌, Bool, true, false, cond, not, Option, Some, None, List, [], ◌∷◌, ◌++◌, length, map, filter, refl, sym, ◌∙◌, ap, subst, arith}
-use Rattle.std.specs.Prelude.{nat_eq, nat_le, nat_lt, ◌&&◌}
+use Rattle.std.proofs.Common.{◌≡◌, ℕ, ◌+◌, ◌/◌, ◌≤◌, Bool, true, false, cond, not, Option, Some, None, List, [], ◌∷◌, ◌++◌, map, filter, refl, sym, ◌∙◌, arith}
+use Rattle.std.specs.Prelude.{nat_eq, nat_lt, ◌&&◌}
 use Rattle.std.specs.List.{AllByRecursion}
 use Rattle.std.proofs.lemmas.Bool.Decides.{nat_tests}
-use Rattle.std.proofs.lemmas.Bool.{and_parts, not-true}
+use Rattle.std.proofs.lemmas.Bool.{and_parts}
 use Rattle.activity_codec.specs.Words.{word_minute, word_absent}
 use Rattle.card_layout.specs.declared.files.Application.{Application}
-use Rattle.card_model.specs.Days.{Day, AreDays, AreWords, Ascend, last_word, len_of}
-use Rattle.card_model.specs.Changes.{AreStrict, Increase, trimmed}
-use Rattle.card_model.specs.Checks.{Check, check, first_failing, first_bad}
+use Rattle.card_model.specs.Days.{Day, AreDays, AreWords, last_word, len_of}
+use Rattle.card_model.specs.Changes.{trimmed}
+use Rattle.card_model.specs.Checks.{check, first_failing, first_bad}
 use Rattle.card_model.specs.Image.{oldest_pointer}
 use Rattle.card_model.proofs.Judging.{first_passes}
 use Rattle.card_model.proofs.Trims.{are_trimmed}
 use Rattle.card_retention.specs.Entries.{EndsBy}
-use Rattle.card_image.specs.Fields.{day_string, vehicle_ring, place_ring, last_of, card_days, end_mark, session_time}
-use Rattle.card_image.specs.Judging.{PlacedWord, minute_at, words_placed, days_placed, tells_none, leaves_gap, closing_checks, words_behind_mark, rising_checks, newest_rises, word_checks, file_check, first_bad_of, pointer_bad}
+use Rattle.card_image.specs.Fields.{day_string, vehicle_ring, place_ring, card_days, end_mark, session_time}
+use Rattle.card_image.specs.Judging.{PlacedWord, minute_at, words_placed, days_placed, tells_none, leaves_gap, closing_checks, words_behind_mark, newest_rises, word_checks, file_check, first_bad_of, pointer_bad}
 use Rattle.card_judge.specs.Words.{first_of}
 use Rattle.card_judge.specs.Judged.{first_bad_behind}
 use Rattle.card_judge.proofs.Checking.{checks_open, checks_closed}

@@ -1,5 +1,5 @@
 -- An insertion, whole: what was judged of a card is what a session over it knows.
-use Rattle.std.proofs.Common.{◌≡◌, ◌≢◌, inl, inr, ℕ, ◌/◌, ◌<◌, ◌≤◌, max, Bool, true, false, Option, Some, None, List, IfSome, refl, sym, ◌∙◌, ap, subst, arith}
+use Rattle.std.proofs.Common.{◌≡◌, ◌≢◌, ℕ, ◌/◌, ◌<◌, Bool, true, false, Option, Some, None, List, IfSome, refl, ◌∙◌, subst, arith}
 use Rattle.std.specs.Prelude.{nat_eq}
 use Rattle.std.proofs.lemmas.Bool.Decides.{nat_tests}
 use Rattle.activity_codec.specs.declared.entries.Entry.{Entry}
@@ -8,7 +8,7 @@ use Rattle.card_layout.specs.declared.files.Application.{Application}
 use Rattle.tach_media.specs.Medium.{State, LeavesOnly, Reads}
 use Rattle.tach_media.proofs.Runs.{weaken, after_reads, where_told, at_image}
 use Rattle.card_records.specs.declared.vehicle.Vehicle.{Vehicle}
-use Rattle.card_image.specs.Fields.{last_use_of, current_use, session_time, end_mark, card_days}
+use Rattle.card_image.specs.Fields.{last_use_of, session_time}
 use Rattle.card_judge.specs.declared.files.Judged.{Judged}
 use Rattle.card_judge.specs.Judged.{IsKnown, IsJudged}
 use Rattle.card_session.specs.declared.words.TheConstants.{LATEST_MINUTE}

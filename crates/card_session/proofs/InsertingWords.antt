@@ -1,5 +1,5 @@
 -- The closing word of an insertion, which is not written where the end mark is the last minute.
-use Rattle.std.proofs.Common.{◌≡◌, ℕ, ◌/◌, ◌<◌, Bool, false, List, Option, ap, ◌∙◌, arith}
+use Rattle.std.proofs.Common.{◌≡◌, ℕ, ◌/◌, Bool, false, List, Option, ap, ◌∙◌, arith}
 use Rattle.tach_media.specs.Medium.{State}
 use Rattle.card_records.specs.declared.vehicle.Vehicle.{Vehicle}
 use Rattle.card_model.specs.Days.{Day}
@@ -7,7 +7,7 @@ use Rattle.card_image.specs.Fields.{last_use_of}
 use Rattle.card_session.specs.declared.words.TheConstants.{LATEST_MINUTE}
 use Rattle.card_session.specs.Vehicles.{Vehicles}
 use Rattle.card_session.specs.Books.{Book, mark_of}
-use Rattle.card_session.specs.Sessions.{Session, IsOpenBook, KnowsCard, book_of}
+use Rattle.card_session.specs.Sessions.{Session, IsOpenBook, book_of}
 use Rattle.card_session.specs.Parts.{DoesPart, IsPartDone, IsPartMoment}
 use Rattle.card_session.specs.Inserting.{MayShut}
 use Rattle.card_session.proofs.Composing.{part_as, part_none}

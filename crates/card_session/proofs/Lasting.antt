@@ -1,14 +1,12 @@
 -- What a keep makes of the days is an entry's own words behind the closing word of a gap, so that the stated overwriting goes on.
-use Rattle.std.proofs.Common.{◌≡◌, ℕ, suc, ◌+◌, ◌-◌, ◌*◌, ◌/◌, ◌%◌, ◌≤◌, Bool, true, false, cond, List, [], ◌∷◌, ◌++◌, length, refl, sym, ◌∙◌, ap, subst, arith}
+use Rattle.std.proofs.Common.{◌≡◌, ℕ, ◌-◌, ◌/◌, ◌%◌, Bool, true, false, cond, List, [], ◌∷◌, length, refl, ◌∙◌, ap, arith}
 use Rattle.std.specs.Prelude.{nat_eq}
 use Rattle.std.proofs.lemmas.Bool.{eqb-true, eqb-false}
-use Rattle.activity_codec.specs.declared.values.Activity.TheVariants.{Rest}
 use Rattle.activity_codec.specs.declared.entries.Entry.{Entry}
 use Rattle.activity_codec.specs.Words.{word_minute}
 use Rattle.card_model.specs.Days.{Day, AreDays, last_word}
-use Rattle.card_model.specs.Changes.{date_of}
 use Rattle.card_retention.specs.Expected.{is_newest, first_words}
-use Rattle.card_retention.specs.Shown.{sizes, entry_state, Tells, Entered, Entered.Same, Entered.Word, Entered.Begun}
+use Rattle.card_retention.specs.Shown.{sizes, Tells, Entered}
 use Rattle.card_session.specs.Books.{entry_word, bare_word, day_words, tells_state, with_change, with_new_day, entered_days}
 use Rattle.card_session.proofs.Following.{entry_top, entry_minute}
 

@@ -1,5 +1,5 @@
 -- A card in memory, which may be written everywhere.
-use Rattle.std.proofs.Common.{inl, ◌≡◌, ℕ, ◌+◌, ◌≤◌, arith}
+use Rattle.std.proofs.Common.{inl, ◌+◌, ◌≤◌, arith}
 use Rattle.card_layout.specs.declared.files.Application.{Application}
 use Rattle.card_layout.specs.Files.{files_of, image_size_of, place_of, size_of}
 use Rattle.tach_media.specs.Log.{History}

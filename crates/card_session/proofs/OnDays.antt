@@ -1,16 +1,16 @@
 -- What the calls on the days make of a card that a session knows.
-use Rattle.std.proofs.Common.{◌≡◌, ◌≢◌, inl, inr, ⊎_elim, ℕ, ◌+◌, ◌-◌, ◌*◌, ◌≤◌, Bool, false, List, [], ◌∷◌, ◌++◌, length, Option, Some, None, IfSome, refl, sym, ◌∙◌, ap, subst, arith}
+use Rattle.std.proofs.Common.{◌≡◌, inl, inr, ⊎_elim, ℕ, ◌+◌, ◌-◌, ◌*◌, ◌≤◌, Bool, false, List, [], ◌∷◌, ◌++◌, length, Option, Some, IfSome, refl, sym, ◌∙◌, ap, subst, arith}
 use Rattle.std.specs.Prelude.{◌⊎◌}
 use Rattle.activity_codec.specs.declared.entries.Entry.{Entry}
 use Rattle.card_layout.specs.declared.files.Application.{Application}
 use Rattle.card_layout.specs.Files.{image_size_of}
 use Rattle.tach_media.specs.Medium.{State, IsCoherent, LeavesOnly, HasCause, SameOutside}
 use Rattle.tach_media.proofs.Runs.{weaken, where_told, at_image}
-use Rattle.card_model.specs.Days.{Day, AreDays}
-use Rattle.card_model.specs.Changes.{Remain, fitting, with_newest, with_word, with_km, OnNewest, TakesWord, IsNext, new_day, date_of}
+use Rattle.card_model.specs.Days.{Day}
+use Rattle.card_model.specs.Changes.{Remain, fitting, with_newest, with_word, with_km, IsNext, new_day, date_of}
 use Rattle.card_model.specs.Image.{StringShape, Holds}
 use Rattle.gated_ring.specs.Ring.{PointsInside, IsNewest}
-use Rattle.cyclic_days.specs.Held.{Held, Knows}
+use Rattle.cyclic_days.specs.Held.{Knows}
 use Rattle.cyclic_days.specs.Moments.{IfKnown, IsChanging, IsChanged, KnowsChanged, IsDayBeginning, IsDayBegun, KnowsBegun}
 use Rattle.cyclic_days.specs.Steps.{IsMeasured, IsMeasuring, KnowsMeasured}
 use Rattle.card_image.specs.Fields.{day_string, vehicle_ring}

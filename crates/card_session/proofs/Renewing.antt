@@ -1,6 +1,6 @@
 -- The newest minute, the last use and the newest word of a card at each moment of a withdrawal and of an insertion.
-use Rattle.std.proofs.Common.{◌≡◌, ◌≢◌, inl, inr, ⊎_elim, ℕ, suc, ◌+◌, ◌*◌, ◌/◌, ◌%◌, ◌<◌, ◌≤◌, max, min, Bool, true, false, cond, Option, Some, None, List, [], ◌∷◌, ◌++◌, length, refl, sym, ◌∙◌, ap, subst, arith}
-use Rattle.std.specs.Prelude.{◌⊎◌, nat_eq, nat_lt, All}
+use Rattle.std.proofs.Common.{◌≡◌, inl, inr, ⊎_elim, ℕ, suc, ◌+◌, ◌*◌, ◌/◌, ◌%◌, ◌<◌, ◌≤◌, max, min, Bool, true, false, cond, Some, List, [], ◌∷◌, ◌++◌, length, refl, sym, ◌∙◌, ap, subst, arith}
+use Rattle.std.specs.Prelude.{◌⊎◌, nat_eq, nat_lt}
 use Rattle.std.specs.List.{AllByRecursion}
 use Rattle.std.proofs.lemmas.Bool.{cases_lt, le-ltb}
 use Rattle.std.proofs.lemmas.Bool.Decides.{nat_tests}
@@ -16,8 +16,7 @@ use Rattle.card_layout.specs.Files.{image_size_of, place_of}
 use Rattle.card_model.specs.Days.{Day, AreDays}
 use Rattle.card_model.specs.Changes.{trimmed}
 use Rattle.card_model.proofs.Trims.{are_trimmed, trim_from_moment, trimmed_twice}
-use Rattle.card_retention.specs.Expected.{is_newest}
-use Rattle.card_retention.specs.Shown.{sizes, is_open}
+use Rattle.card_retention.specs.Shown.{is_open}
 use Rattle.card_retention.specs.Entries.{newest_minute, newest_word, closed_at}
 use Rattle.gated_ring.specs.Ring.{PointsInside}
 use Rattle.card_image.specs.Fields.{file, vehicle_ring, last_use, card_days, end_mark, session_time}
@@ -28,23 +27,23 @@ use Rattle.card_image.proofs.Beside.{days_same, last_use_same}
 use Rattle.card_session.specs.Vehicles.{Vehicles, last_use_in}
 use Rattle.card_session.specs.Books.{Book, mark_of, with_entry, closed}
 use Rattle.card_session.specs.Sessions.{Session, IsSession, IsOpenBook, newest_in, book_of}
-use Rattle.card_session.specs.Moments.{IsBook, IsKeepMoment, IsCloseMoment}
+use Rattle.card_session.specs.Moments.{IsBook, IsKeepMoment}
 use Rattle.card_session.specs.Cards.{IsCard, IsCardClosing, ended}
 use Rattle.card_session.specs.Parts.{IsBeforeGapOf}
 use Rattle.card_session.specs.Inserting.{AreOwed, Follow, lacked, with_cut, with_owed, IsBeforeAll, IsReplaying, EndsCut, repaired, IsRepairMoment, IsStill, IsRepaired, IsRepairing, IsNoted, IsNoting, IsShut, IsShutting, InsertsOpen, InsertingOpen, InsertsClosed, InsertingClosed}
-use Rattle.card_session.specs.Repairs.{mark_behind, BeginsLater, lacked_by, newest_behind, NewestSoFar}
+use Rattle.card_session.specs.Repairs.{mark_behind, lacked_by, newest_behind, NewestSoFar}
 use Rattle.card_session.proofs.Composing.{told_book}
 use Rattle.card_session.proofs.Marks.{session_same, mark_told, use_before}
 use Rattle.card_session.proofs.Preparing.{use_at, used_at}
 use Rattle.card_session.proofs.Stopping.{days_there, ended_same}
 use Rattle.card_session.proofs.Valid.{valid_words}
-use Rattle.card_session.proofs.NewestStays.{newest_by_mark, next_newest, next_low, keep_newest, Rewrites, close_newest, closed_in, closed_open, view_newest, view_word}
-use Rattle.card_session.proofs.InsertingBooks.{lacked_follow, lacked_each, cut_ready, trimmed_low}
+use Rattle.card_session.proofs.NewestStays.{newest_by_mark, next_newest, next_low, keep_newest, Rewrites, close_newest, closed_in, view_newest, view_word}
+use Rattle.card_session.proofs.InsertingBooks.{lacked_each, cut_ready, trimmed_low}
 use Rattle.card_session.proofs.InsertingCards.{noted_same, noting_same}
 use Rattle.card_session.proofs.InsertingUse.{use_inside}
 use Rattle.card_session.proofs.InsertingOpen.{Same, opening_same, opened_same, reopening_same, reopened_same}
 use Rattle.card_session.proofs.InsertingValid.{closed_by_words}
-use Rattle.card_session.proofs.Replaying.{with_are, with_before, with_later, replay_low}
+use Rattle.card_session.proofs.Replaying.{with_are, with_before}
 use Rattle.card_session.proofs.Repairing.{lacked_many, lacked_again, owed_at, mark_beside}
 use Rattle.card_session.proofs.Revalid.{book_are, book_may, days_are, cut_strict, full_is, noted_fine, noted_low, noted_fits, use_low, stands}
 

@@ -1,6 +1,6 @@
 -- What a stop in an insertion leaves of a card, by the stated overwriting.
-use Rattle.std.proofs.Common.{◌≡◌, ◌≢◌, inl, inr, ⊎_elim, ℕ, suc, ◌+◌, ◌*◌, ◌/◌, ◌<◌, ◌≤◌, max, Bool, true, false, cond, Option, Some, None, List, [], ◌∷◌, ◌++◌, length, refl, sym, ◌∙◌, ap, subst, arith}
-use Rattle.std.specs.Prelude.{◌⊎◌, nat_eq, nat_lt, All}
+use Rattle.std.proofs.Common.{◌≡◌, inl, inr, ⊎_elim, ℕ, suc, ◌+◌, ◌*◌, ◌/◌, ◌<◌, ◌≤◌, max, Bool, true, false, cond, List, [], ◌∷◌, ◌++◌, length, refl, sym, ◌∙◌, ap, subst, arith}
+use Rattle.std.specs.Prelude.{◌⊎◌, nat_eq, nat_lt}
 use Rattle.std.proofs.lemmas.Bool.{ltb-true, lt-ltb, le-ltb}
 use Rattle.std.specs.List.{AllByRecursion}
 use Rattle.std.proofs.lemmas.Bool.Decides.{nat_tests}
@@ -13,7 +13,7 @@ use Rattle.card_layout.specs.declared.files.Application.{Application}
 use Rattle.card_layout.specs.Application.{IsApplication}
 use Rattle.card_layout.specs.Files.{image_size_of, place_of}
 use Rattle.card_model.specs.Days.{Day, AreDays}
-use Rattle.card_model.specs.Changes.{date_of, trimmed}
+use Rattle.card_model.specs.Changes.{trimmed}
 use Rattle.card_model.proofs.Trims.{trim_from_moment, trimmed_twice}
 use Rattle.card_retention.specs.Expected.{Counted}
 use Rattle.card_retention.specs.Entries.{newest_minute, newest_word}
@@ -27,11 +27,10 @@ use Rattle.card_image.specs.Beside.{HaveSameDays, HaveSameVehicles}
 use Rattle.card_image.specs.Judging.{IsValid}
 use Rattle.card_image.proofs.Beside.{days_same, last_use_same, session_same as session_beside}
 use Rattle.card_session.specs.Vehicles.{Vehicles, last_use_in}
-use Rattle.card_session.specs.Books.{Book, mark_of, closed, closed_days, last_used}
-use Rattle.card_session.specs.Sessions.{EndsStrictly, book_of}
+use Rattle.card_session.specs.Books.{Book, mark_of, closed_days, last_used}
+use Rattle.card_session.specs.Sessions.{book_of}
 use Rattle.card_session.specs.Moments.{IsBook, IsCloseMoment}
-use Rattle.card_session.specs.Cards.{IsCard}
-use Rattle.card_session.specs.Inserting.{AreOwed, Follow, lacked, with_cut, with_owed, IsBeforeAll, EndsCut, repaired, IsRepairMoment, Both, During, IsStill, IsRepaired, IsRepairing, IsNoted, IsNoting, IsShut, IsShutting, IsReopening, InsertsClosed, InsertingClosed, InsertsOpen, InsertingOpen}
+use Rattle.card_session.specs.Inserting.{Follow, lacked, with_cut, with_owed, IsBeforeAll, EndsCut, repaired, IsRepairMoment, IsStill, IsRepaired, IsRepairing, IsNoted, IsNoting, IsShut, IsShutting, InsertsClosed, InsertingClosed, InsertsOpen, InsertingOpen}
 use Rattle.card_session.specs.Overwriting.{GoesOn, IsRepairable}
 use Rattle.card_session.specs.Repairs.{first_minute, mark_behind, and_entries, with_entries, HasFirst, BeginsLater, lacked_by, ShowsFirst, ShowsOwed}
 use Rattle.card_session.proofs.Composing.{told_book}

@@ -1,12 +1,12 @@
 -- What a stop in a replay of entries leaves of the days, by the stated overwriting.
-use Rattle.std.proofs.Common.{◌≡◌, ◌≢◌, inl, inr, ⊎_elim, ℕ, suc, ◌+◌, ◌-◌, ◌*◌, ◌/◌, ◌%◌, ◌<◌, ◌≤◌, max, Bool, true, false, cond, Option, Some, None, List, [], ◌∷◌, ◌++◌, length, refl, sym, ◌∙◌, ap, subst, arith}
+use Rattle.std.proofs.Common.{◌≡◌, ◌≢◌, inl, inr, ⊎_elim, ℕ, suc, ◌+◌, ◌-◌, ◌*◌, ◌/◌, ◌<◌, ◌≤◌, max, Bool, true, false, cond, List, [], ◌∷◌, ◌++◌, length, refl, sym, ◌∙◌, ap, subst, arith}
 use Rattle.std.specs.Prelude.{◌⊎◌, nat_eq}
 use Rattle.std.specs.List.{AllByRecursion}
 use Rattle.std.proofs.lemmas.Bool.Decides.{nat_tests}
 use Rattle.activity_codec.specs.declared.entries.Entry.{Entry}
 use Rattle.tacho_types.specs.declared.texts.Registration.{Registration}
 use Rattle.card_model.specs.Days.{Day, IsDay, AreDays}
-use Rattle.card_model.specs.Changes.{Remain, OnNewest, TakesWord, IsLater, fitting, with_newest, with_word, with_km, new_day, date_of, trimmed}
+use Rattle.card_model.specs.Changes.{Remain, TakesWord, IsLater, fitting, new_day, date_of, trimmed}
 use Rattle.card_model.proofs.Retention.{remain_fitting, remain_some}
 use Rattle.cyclic_days.proofs.Beginning.{new_is}
 use Rattle.card_retention.specs.Expected.{Counted, is_newest, with_entry as counted_with}
@@ -16,13 +16,11 @@ use Rattle.card_retention.proofs.Entering.{fits_sizes, newest_more}
 use Rattle.card_retention.proofs.Growing.{sizes_word, left_newest, left_of}
 use Rattle.card_retention.proofs.Stops.{are_left, stop_none}
 use Rattle.card_session.specs.Vehicles.{Vehicles, last_use_in}
-use Rattle.card_session.specs.Books.{Book, mark_of, with_change, gap_closed, entered_days, travelled, with_entry, with_new_day, day_words, entry_word, tells_state, km_after}
-use Rattle.card_session.specs.Sessions.{IsOpenBook, newest_in}
-use Rattle.card_session.specs.Moments.{IsBook, IsKeepMoment}
+use Rattle.card_session.specs.Books.{Book, mark_of, with_change, gap_closed, entered_days, travelled, with_entry, with_new_day, day_words, entry_word, tells_state}
 use Rattle.card_session.specs.Parts.{IsBeforeGapOf, IsBeforeEntry, with_gap_closed}
 use Rattle.card_session.specs.Inserting.{Follow, with_owed, IsBeforeAll, IsReplaying}
 use Rattle.card_session.specs.Overwriting.{and_entry}
-use Rattle.card_session.specs.Repairs.{first_minute, mark_behind, and_entries, with_entries, HasFirst, BeginsLater}
+use Rattle.card_session.specs.Repairs.{first_minute, and_entries, with_entries, HasFirst, BeginsLater}
 use Rattle.card_session.proofs.Following.{takes_entry, begins_day}
 use Rattle.card_session.proofs.Preparing.{are_with, gap_are, gap_ready, entry_last, used_at}
 use Rattle.card_session.proofs.Alike.{alike_km, sizes_alike}

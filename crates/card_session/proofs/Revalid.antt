@@ -1,5 +1,5 @@
 -- A valid card whose session was left open is valid at each moment of an insertion.
-use Rattle.std.proofs.Common.{◌≡◌, ◌≢◌, inl, inr, ⊎_elim, ℕ, suc, ◌+◌, ◌*◌, ◌/◌, ◌%◌, ◌≤◌, max, Bool, true, false, not, ◌&&◌, cond, Option, Some, None, List, [], ◌∷◌, ◌++◌, length, filter, refl, sym, ◌∙◌, ap, subst, arith}
+use Rattle.std.proofs.Common.{◌≡◌, ◌≢◌, inl, inr, ⊎_elim, ℕ, suc, ◌+◌, ◌/◌, ◌≤◌, Bool, true, false, not, ◌&&◌, cond, Option, Some, None, List, [], ◌∷◌, ◌++◌, length, filter, refl, sym, ◌∙◌, ap, subst, arith}
 use Rattle.std.specs.Prelude.{◌⊎◌, nat_eq, nat_lt, nat_le}
 use Rattle.std.specs.List.{AllByRecursion}
 use Rattle.std.proofs.lemmas.Bool.{eq-eqb, le-ltb}
@@ -24,7 +24,7 @@ use Rattle.gated_ring.specs.Ring.{PointsInside}
 use Rattle.gated_ring.proofs.Elsewhere.{points_elsewhere}
 use Rattle.card_image.specs.Fields.{file, day_string, vehicle_ring, last_of, card_days, end_mark, session_time}
 use Rattle.card_image.specs.Beside.{HaveSameDays, HaveSameVehicles, HaveSameSizes, HaveSamePlacePointer}
-use Rattle.card_image.specs.Judging.{PlacedWord, minute_at, words_placed, days_placed, tells_none, leaves_gap, closing_checks, words_behind_mark, newest_rises, word_checks, IsValid}
+use Rattle.card_image.specs.Judging.{PlacedWord, minute_at, words_placed, days_placed, tells_none, leaves_gap, closing_checks, words_behind_mark, newest_rises, IsValid}
 use Rattle.card_image.proofs.Beside.{days_same, session_same as session_beside}
 use Rattle.card_image.proofs.DaysBeside.{bad_elsewhere}
 use Rattle.card_judge.specs.Words.{first_of}
@@ -35,20 +35,18 @@ use Rattle.card_session.specs.Sessions.{EndsStrictly, IsOpenBook, book_of}
 use Rattle.card_session.specs.Moments.{IsBook, IsCloseMoment}
 use Rattle.card_session.specs.Cards.{IsCard}
 use Rattle.card_session.specs.Parts.{IsBeforeGapOf}
-use Rattle.card_session.specs.Inserting.{AreOwed, Follow, lacked, with_cut, with_owed, IsBeforeAll, IsReplaying, EndsCut, repaired, IsRepairMoment, IsStill, IsRepaired, IsRepairing, IsNoted, IsNoting, IsShut, IsShutting, IsReopening, InsertingOpen}
-use Rattle.card_session.specs.Repairs.{BeginsLater, lacked_by}
+use Rattle.card_session.specs.Inserting.{Follow, lacked, with_cut, with_owed, IsBeforeAll, IsReplaying, EndsCut, repaired, IsRepairMoment, IsStill, IsRepaired, IsRepairing, IsNoted, IsNoting, IsShut, IsShutting, IsReopening, InsertingOpen}
 use Rattle.card_session.proofs.Composing.{told_book}
 use Rattle.card_session.proofs.OnCard.{ring_shape, ring_behind, ring_inside, string_shape}
 use Rattle.card_session.proofs.Preparing.{ends_by}
 use Rattle.card_session.proofs.Marks.{session_same}
-use Rattle.card_session.proofs.Stopping.{book_days}
 use Rattle.card_session.proofs.Valid.{valid_by, valid_strict, strict_passes, flat_of, keep_strict, after_strict, close_strict, closed_low}
 use Rattle.card_session.proofs.InsertingBooks.{cut_ready, trimmed_low}
 use Rattle.card_session.proofs.InsertingCards.{noted_same, noting_same}
 use Rattle.card_session.proofs.InsertingUse.{use_inside}
 use Rattle.card_session.proofs.InsertingOpen.{Same, reopening_same}
 use Rattle.card_session.proofs.InsertingAgain.{noted_keeps, inserting_keeps}
-use Rattle.card_session.proofs.Replaying.{with_are, with_before, with_later, replay_low}
+use Rattle.card_session.proofs.Replaying.{with_are, with_before, replay_low}
 use Rattle.card_session.proofs.Repairing.{lacked_many, mark_beside}
 
 -- ---- no word stands behind the end mark

@@ -1,5 +1,5 @@
 -- Worked rows of a session: what each minute makes of the days and of the vehicle entries of a card.
-use Rattle.std.proofs.Common.{◌≡◌, ◌+◌, ◌*◌, ℕ, List, [], ◌∷◌, Bool, false, Option, Some, None, refl}
+use Rattle.std.proofs.Common.{◌≡◌, ◌+◌, ◌*◌, ℕ, List, [], ◌∷◌, false, Some, None, refl}
 use Rattle.activity_codec.specs.declared.values.Activity.TheVariants.{Work}
 use Rattle.activity_codec.specs.declared.values.Slot.TheVariants.{Driver}
 use Rattle.activity_codec.specs.declared.entries.Entry.{Entry}

@@ -1,5 +1,5 @@
 -- The entries that a card shows at each moment of an insertion.
-use Rattle.std.proofs.Common.{◌≡◌, ◌≢◌, inl, inr, ⊎_elim, ℕ, suc, ◌+◌, ◌*◌, ◌/◌, ◌%◌, ◌<◌, ◌≤◌, max, Bool, true, false, cond, ◌||◌, Option, Some, None, List, [], ◌∷◌, ◌++◌, length, append_assoc, refl, sym, ◌∙◌, ap, subst, arith}
+use Rattle.std.proofs.Common.{◌≡◌, ◌≢◌, inl, inr, ⊎_elim, ℕ, ◌+◌, ◌/◌, ◌%◌, ◌<◌, ◌≤◌, Bool, false, cond, ◌||◌, List, [], ◌∷◌, ◌++◌, length, append_assoc, refl, sym, ◌∙◌, ap, subst, arith}
 use Rattle.std.specs.Prelude.{◌⊎◌, nat_eq}
 use Rattle.std.specs.List.{AllByRecursion}
 use Rattle.std.proofs.lemmas.Bool.Decides.{nat_tests}
@@ -25,12 +25,10 @@ use Rattle.card_image.specs.Beside.{HaveSameDays, HaveSameVehicles}
 use Rattle.card_image.specs.Judging.{IsValid}
 use Rattle.card_image.proofs.Beside.{days_same}
 use Rattle.card_session.specs.Vehicles.{Vehicles, last_use_in}
-use Rattle.card_session.specs.Books.{Book, mark_of, gap_closed, with_entry, closed}
+use Rattle.card_session.specs.Books.{Book, mark_of, gap_closed, with_entry}
 use Rattle.card_session.specs.Sessions.{book_of}
-use Rattle.card_session.specs.Moments.{IsBook, IsCloseMoment}
-use Rattle.card_session.specs.Cards.{IsCard}
 use Rattle.card_session.specs.Parts.{IsBeforeGapOf}
-use Rattle.card_session.specs.Inserting.{Follow, lacked, with_cut, with_owed, IsBeforeAll, IsReplaying, EndsCut, repaired, IsRepairMoment, IsStill, IsRepaired, IsRepairing, IsNoted, IsNoting, IsShut, IsShutting, IsReopening, InsertingClosed, InsertsOpen, InsertingOpen}
+use Rattle.card_session.specs.Inserting.{Follow, lacked, with_cut, with_owed, IsBeforeAll, IsReplaying, EndsCut, repaired, IsRepairMoment, IsStill, IsRepaired, IsRepairing, IsNoted, IsNoting, IsShut, IsShutting, InsertingClosed, InsertsOpen, InsertingOpen}
 use Rattle.card_session.specs.Overwriting.{ShowsEntries}
 use Rattle.card_session.specs.Repairs.{mark_behind, HasShown, BeginsLater, lacked_by, ShowsMore}
 use Rattle.card_session.proofs.Composing.{told_book}

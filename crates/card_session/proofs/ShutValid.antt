@@ -1,6 +1,6 @@
 -- A valid card without a session, whose words are closed, is valid at each moment of an insertion.
-use Rattle.std.proofs.Common.{◌≡◌, ◌≢◌, inl, inr, ⊎_elim, ℕ, suc, ◌+◌, ◌*◌, ◌/◌, ◌%◌, ◌<◌, ◌≤◌, Bool, true, false, cond, not, ◌&&◌, Option, Some, None, List, [], ◌∷◌, ◌++◌, length, map, filter, refl, sym, ◌∙◌, ap, subst, arith}
-use Rattle.std.specs.Prelude.{◌⊎◌, nat_eq, nat_lt, nat_le}
+use Rattle.std.proofs.Common.{◌≡◌, inl, inr, ℕ, suc, ◌+◌, ◌/◌, ◌≤◌, Bool, true, false, cond, not, ◌&&◌, Option, Some, None, List, [], ◌∷◌, ◌++◌, length, map, filter, refl, sym, ◌∙◌, ap, subst, arith}
+use Rattle.std.specs.Prelude.{nat_eq, nat_lt, nat_le}
 use Rattle.std.proofs.lemmas.Bool.{eqb-true}
 use Rattle.activity_codec.specs.declared.values.Activity.TheVariants.{Rest}
 use Rattle.activity_codec.specs.declared.entries.Entry.{Entry}
@@ -11,7 +11,7 @@ use Rattle.card_layout.specs.Application.{IsApplication}
 use Rattle.card_layout.specs.Files.{image_size_of, place_of}
 use Rattle.card_model.specs.Days.{Day, AreDays, len_of}
 use Rattle.card_model.specs.Changes.{date_of, trimmed}
-use Rattle.card_model.specs.Checks.{Check, check, first_failing, first_bad}
+use Rattle.card_model.specs.Checks.{check, first_failing}
 use Rattle.card_model.specs.Image.{oldest_pointer}
 use Rattle.card_model.proofs.Judging.{first_passes}
 use Rattle.card_model.proofs.Trims.{are_trimmed}
@@ -22,15 +22,14 @@ use Rattle.card_image.specs.Judging.{PlacedWord, minute_at, words_placed, days_p
 use Rattle.card_image.proofs.Beside.{days_same}
 use Rattle.card_judge.specs.Words.{first_of}
 use Rattle.card_judge.proofs.Checking.{checks_closed}
-use Rattle.card_session.specs.Books.{Book, mark_of, closed}
+use Rattle.card_session.specs.Books.{Book, mark_of}
 use Rattle.card_session.specs.Sessions.{EndsStrictly, book_of}
 use Rattle.card_session.specs.Moments.{IsBook, IsCloseMoment}
-use Rattle.card_session.specs.Cards.{IsCard}
-use Rattle.card_session.specs.Inserting.{IsStill, IsShut, IsShutting, InsertingClosed}
+use Rattle.card_session.specs.Inserting.{IsStill, IsShutting, InsertingClosed}
 use Rattle.card_session.proofs.Composing.{told_book}
 use Rattle.card_session.proofs.Valid.{valid_by, valid_words, passes_strict, strict_passes}
 use Rattle.card_session.proofs.InsertingUse.{use_inside}
-use Rattle.card_session.proofs.InsertingOpen.{Same, opening_same}
+use Rattle.card_session.proofs.InsertingOpen.{opening_same}
 use Rattle.card_session.proofs.InsertingAgain.{inserting_keeps}
 use Rattle.card_session.proofs.InsertingValid.{first_none}
 use Rattle.card_session.proofs.Repairing.{mark_beside, closed_still}

@@ -1,16 +1,15 @@
 -- The stored time of a card, by what was judged of it; and the owed entries that it lacks.
-use Rattle.std.proofs.Common.{◌≡◌, ℕ, ◌+◌, ◌*◌, ◌<◌, ◌≤◌, max, min, Bool, true, false, cond, Option, Some, None, List, [], ◌∷◌, length, drop, get_or, refl, sym, ◌∙◌, ap, arith}
+use Rattle.std.proofs.Common.{◌≡◌, ℕ, ◌+◌, ◌*◌, ◌<◌, ◌≤◌, max, min, Bool, true, false, cond, Option, List, ◌∷◌, length, drop, sym, ◌∙◌, ap}
 use Rattle.std.specs.Prelude.{nat_eq, nat_lt}
 use Rattle.std.proofs.lemmas.Bool.{lt-ltb, le-ltb}
-use Rattle.std.proofs.lemmas.Bool.Decides.{nat_tests}
 use Rattle.activity_codec.specs.declared.entries.Entry.{Entry}
 use Rattle.card_layout.specs.declared.files.Application.{Application}
 use Rattle.card_records.specs.declared.current_use.CurrentUse.{CurrentUse}
-use Rattle.card_model.specs.Days.{Day, total}
+use Rattle.card_model.specs.Days.{total}
 use Rattle.card_model.specs.Image.{newest_pointer}
 use Rattle.card_retention.specs.Entries.{newest_word}
 use Rattle.cyclic_days.specs.declared.head.Tail.{Tail}
-use Rattle.cyclic_days.specs.Held.{tail_in, tail_by}
+use Rattle.cyclic_days.specs.Held.{tail_in}
 use Rattle.card_image.specs.Fields.{last_use_of, last_use, session_time, card_days}
 use Rattle.card_image.specs.View.{card_view}
 use Rattle.card_judge.specs.declared.files.Judged.{Judged}

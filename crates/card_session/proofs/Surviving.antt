@@ -1,11 +1,10 @@
 -- What is said of a card's days up to its end mark survives all that a keep or a withdrawal writes before that mark moves.
-use Rattle.std.proofs.Common.{◌≡◌, inl, inr, ⊎_elim, ℕ, suc, ◌+◌, ◌-◌, ◌*◌, ◌/◌, ◌%◌, ◌<◌, ◌≤◌, max, Bool, true, false, cond, ◌&&◌, Option, Some, None, List, [], ◌∷◌, ◌++◌, length, refl, sym, ◌∙◌, ap, subst, arith}
-use Rattle.std.specs.Prelude.{◌⊎◌, nat_eq, nat_lt, nat_le}
+use Rattle.std.proofs.Common.{◌≡◌, ⊎_elim, ℕ, suc, ◌+◌, ◌-◌, ◌*◌, ◌/◌, ◌%◌, ◌<◌, ◌≤◌, Bool, true, false, cond, ◌&&◌, List, [], ◌∷◌, ◌++◌, length, refl, sym, ◌∙◌, ap, subst, arith}
+use Rattle.std.specs.Prelude.{◌⊎◌, nat_eq, nat_lt}
 use Rattle.std.proofs.lemmas.Bool.{cases_lt}
 use Rattle.activity_codec.specs.declared.values.Activity.{Activity}
 use Rattle.activity_codec.specs.declared.values.Activity.TheVariants.{Rest}
 use Rattle.activity_codec.specs.declared.entries.Entry.{Entry}
-use Rattle.activity_codec.specs.Words.{word_minute}
 use Rattle.tacho_types.specs.declared.texts.Registration.{Registration}
 use Rattle.card_model.specs.Days.{Day, AreDays}
 use Rattle.card_model.specs.Changes.{Remain, OnNewest, fitting, with_newest, with_word, new_day, date_of, trimmed}
@@ -18,7 +17,7 @@ use Rattle.card_retention.proofs.Entering.{fits_sizes, newest_more, date_newest}
 use Rattle.card_retention.proofs.Growing.{sizes_word, left_newest, left_of}
 use Rattle.card_retention.proofs.Stops.{are_left}
 use Rattle.card_retention.proofs.Listing.{Lists, lists_left, lists_word, lists_day}
-use Rattle.card_session.specs.Books.{Book, mark_of, latest_of, closing_word, with_change, gap_closed, closed_days, entry_word, bare_word, day_words, tells_state, with_new_day, entered_days, travelled, with_entry}
+use Rattle.card_session.specs.Books.{Book, mark_of, latest_of, closing_word, with_change, gap_closed, entry_word, bare_word, day_words, tells_state, with_new_day, entered_days, travelled, with_entry}
 use Rattle.card_session.specs.Sessions.{EndsStrictly}
 use Rattle.card_session.specs.Moments.{IsBeforeGap, IsBeforeWords, IsBeforeMark, IsClosingWord, entry_len}
 use Rattle.card_session.specs.Parts.{IsBeforeGapOf}

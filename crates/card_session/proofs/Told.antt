@@ -1,5 +1,5 @@
 -- The parts of a keep by what a session has kept: the end of the string tells which words and which distance are written.
-use Rattle.std.proofs.Common.{◌≡◌, inl, inr, ⊎_elim, ℕ, suc, ◌*◌, ◌/◌, ◌<◌, ◌≤◌, Bool, true, false, cond, List, Option, Some, None, refl, sym, ◌∙◌, ap, subst, arith}
+use Rattle.std.proofs.Common.{◌≡◌, inl, inr, ⊎_elim, ℕ, suc, ◌/◌, ◌≤◌, Bool, true, false, cond, List, Option, Some, None, refl, sym, ◌∙◌, ap, subst, arith}
 use Rattle.std.specs.Prelude.{◌⊎◌, nat_lt, ◌&&◌}
 use Rattle.card_layout.proofs.Images.{outside_same}
 use Rattle.activity_codec.specs.declared.values.Activity.TheVariants.{Rest}
@@ -21,10 +21,9 @@ use Rattle.card_image.specs.Fields.{day_string, vehicle_ring, last_use_of}
 use Rattle.card_session.specs.Books.{Book, mark_of, latest_of, closing_word, entry_word, tells_state, km_after, travelled, goes_on_with}
 use Rattle.card_session.specs.Telling.{gap_word, is_newest_day, entry_change, km_told}
 use Rattle.card_session.specs.Sessions.{Session, IsValue, KnowsCard, book_of}
-use Rattle.card_session.specs.Moments.{IsBook}
-use Rattle.card_session.specs.Cards.{IsCard, days_and_vehicles}
+use Rattle.card_session.specs.Cards.{days_and_vehicles}
 use Rattle.card_session.specs.Parts.{DoesPart, IsPartDone, IsPartMoment, HasSame, SameButVehicle, TakesSome, with_some, IsAdding, IsBeforeGapOf, with_gap_closed, IsClosingGap, IsBeforeEntry, with_entry_words, IsWriting, BeginsDay, with_day, IsBeforeDay, HasDay, with_more, IsTravelling}
-use Rattle.card_session.proofs.Composing.{part_of, part_none, card_as}
+use Rattle.card_session.proofs.Composing.{part_of, part_none}
 use Rattle.card_session.proofs.OnCard.{newest_told}
 use Rattle.card_session.proofs.Following.{gap_told, day_told, change_told, km_is}
 use Rattle.card_session.proofs.Preparing.{gap_asks, gap_makes, gap_moments, change_asks, change_makes, change_moments, day_asks, day_makes, day_moments}

@@ -1,5 +1,5 @@
 -- A valid card is valid at each moment of a keep or of a withdrawal that leaves its session open.
-use Rattle.std.proofs.Common.{◌≡◌, inl, inr, ⊎_elim, ℕ, suc, ◌+◌, ◌-◌, ◌*◌, ◌/◌, ◌%◌, ◌<◌, ◌≤◌, max, Bool, true, false, cond, Option, Some, None, option_map, List, [], ◌∷◌, ◌++◌, length, refl, sym, ◌∙◌, ap, subst, arith}
+use Rattle.std.proofs.Common.{◌≡◌, inl, inr, ⊎_elim, ℕ, suc, ◌+◌, ◌-◌, ◌*◌, ◌/◌, ◌%◌, ◌<◌, ◌≤◌, Bool, true, false, cond, Option, Some, None, option_map, List, [], ◌∷◌, ◌++◌, length, refl, sym, ◌∙◌, ap, subst, arith}
 use Rattle.std.specs.Prelude.{◌⊎◌, nat_eq, nat_lt}
 use Rattle.std.proofs.lemmas.Bool.{lt-ltb, ltb-true}
 use Rattle.std.proofs.lemmas.Bool.Decides.{nat_tests}
@@ -12,10 +12,9 @@ use Rattle.tacho_types.specs.declared.texts.Registration.{Registration}
 use Rattle.card_layout.specs.declared.files.Application.{Application}
 use Rattle.card_layout.specs.declared.files.Fid.{Fid}
 use Rattle.card_layout.specs.Application.{IsApplication, first_bad_field, place_of_field}
-use Rattle.card_layout.specs.Files.{files_of, image_size_of, place_of}
-use Rattle.tach_media.specs.Medium.{bytes_at}
-use Rattle.gated_ring.specs.Ring.{Shape, pointer, PointsInside}
-use Rattle.card_model.specs.Days.{Day, AreDays, AreWords, Ascend, len_of, last_word}
+use Rattle.card_layout.specs.Files.{files_of, image_size_of}
+use Rattle.gated_ring.specs.Ring.{pointer, PointsInside}
+use Rattle.card_model.specs.Days.{Day, AreDays, AreWords, Ascend, len_of}
 use Rattle.card_model.specs.Changes.{OnNewest, AreStrict, Increase, fitting, date_of, trimmed, TakesWord}
 use Rattle.card_model.specs.Image.{oldest_pointer}
 use Rattle.card_model.specs.Checks.{first_bad, first_failing, file_place}
@@ -23,27 +22,25 @@ use Rattle.card_model.proofs.Ascending.{early_words_all}
 use Rattle.card_model.proofs.Judging.{holds_passes}
 use Rattle.card_model.proofs.Retention.{remain_fitting, remain_some}
 use Rattle.card_model.proofs.Trims.{are_trimmed}
-use Rattle.card_retention.specs.Expected.{is_newest}
 use Rattle.card_retention.specs.Shown.{sizes, is_open}
 use Rattle.card_retention.specs.Entries.{newest_word}
 use Rattle.card_retention.proofs.Flat.{UpTo, flat_newest}
-use Rattle.card_image.specs.Fields.{file, file_bytes, day_string, vehicle_ring, place_ring, card_days, end_mark, session_time}
+use Rattle.card_image.specs.Fields.{file_bytes, day_string, vehicle_ring, place_ring, card_days, end_mark, session_time}
 use Rattle.card_image.specs.Beside.{HaveSameSizes, HaveSamePlacePointer}
 use Rattle.card_image.specs.Judging.{file_check, first_bad_of, first_bad_file, pointer_bad, word_checks, words_behind_mark, days_placed, newest_rises, rising_checks, words_placed, IsValid}
 use Rattle.card_session.specs.Vehicles.{Vehicles, last_use_in}
 use Rattle.card_session.specs.Books.{Book, mark_of, latest_of, closing_word, with_change, closed_days, closed, last_used, with_entry}
-use Rattle.card_session.specs.Sessions.{EndsStrictly, IsOpenBook, book_of, newest_in}
-use Rattle.card_session.specs.Moments.{IsBook, IsBeforeMark, IsKeepMoment, IsCloseMoment}
+use Rattle.card_session.specs.Sessions.{EndsStrictly, IsOpenBook, book_of}
+use Rattle.card_session.specs.Moments.{IsBeforeMark, IsKeepMoment, IsCloseMoment}
 use Rattle.card_session.specs.Cards.{IsCard}
 use Rattle.card_session.specs.Parts.{IsBeforeGapOf}
-use Rattle.card_session.specs.Overwriting.{BeginsBehind}
 use Rattle.card_session.proofs.OnCard.{ring_behind, ring_inside, string_shape}
 use Rattle.card_session.proofs.Marks.{behind_vehicles, session_same, sizes_still, mark_told}
 use Rattle.card_session.proofs.Following.{takes_closing, closing_minute}
 use Rattle.card_session.proofs.Preparing.{entry_last, open_date, strict_with, newest_with, on_as}
 use Rattle.card_session.proofs.OnMark.{begun_strict}
 use Rattle.card_session.proofs.Surviving.{keep_survives_begun, closing_survives, strict_survives}
-use Rattle.card_session.proofs.Stopping.{book_days, mark_at, before_use, mark_moves}
+use Rattle.card_session.proofs.Stopping.{book_days, before_use, mark_moves}
 
 -- ---- the words of the newest day rise
 

@@ -1,5 +1,5 @@
 -- What an insertion makes of a card, and what is left of it at each moment (profile).
-use Rattle.std.specs.Prelude.{◌≡◌, ◌≢◌, ◌⊎◌, ℕ, ◌+◌, ◌/◌, ◌<◌, ◌≤◌, List, [], ◌∷◌, length, nat_eq, nat_lt, All, if◌then◌else◌}
+use Rattle.std.specs.Prelude.{◌≡◌, ◌≢◌, ◌⊎◌, ℕ, ◌+◌, ◌/◌, ◌<◌, List, [], ◌∷◌, length, nat_eq, nat_lt, All, if◌then◌else◌}
 use Rattle.activity_codec.specs.declared.values.Activity.TheVariants.{Rest}
 use Rattle.activity_codec.specs.declared.entries.Entry.{Entry}
 use Rattle.card_layout.specs.declared.files.Application.{Application}

@@ -1,5 +1,5 @@
 -- The closing word that a withdrawal or an insertion writes, by the rule of overwriting: at each moment, and once the end mark is at it.
-use Rattle.std.proofs.Common.{◌≡◌, ⊎_elim, ℕ, suc, ◌*◌, ◌/◌, ◌<◌, ◌≤◌, max, Bool, true, false, cond, Option, List, [], ◌∷◌, refl, sym, ◌∙◌, ap, subst, arith}
+use Rattle.std.proofs.Common.{◌≡◌, ⊎_elim, ℕ, suc, ◌*◌, ◌/◌, ◌<◌, ◌≤◌, max, Bool, true, false, cond, List, [], ◌∷◌, refl, sym, ◌∙◌, ap, subst, arith}
 use Rattle.activity_codec.specs.declared.entries.Entry.{Entry}
 use Rattle.activity_codec.specs.declared.values.Activity.{Activity}
 use Rattle.card_layout.specs.Application.{IsApplication}

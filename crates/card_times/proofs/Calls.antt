@@ -1,5 +1,5 @@
 -- The last use of all images that a card might have left, behind a call on it.
-use Rattle.std.proofs.Common.{◌≡◌, inl, inr, ⊎_elim, ℕ, ◌≤◌, Some, IfSome, List, length, refl, sym, subst, ◌∙◌, ap, arith}
+use Rattle.std.proofs.Common.{◌≡◌, inl, inr, ⊎_elim, ℕ, ◌≤◌, Some, IfSome, List, length, sym, ◌∙◌, ap, arith}
 use Rattle.activity_codec.specs.declared.values.Activity.{Activity}
 use Rattle.activity_codec.specs.declared.entries.Entry.{Entry}
 use Rattle.tach_media.specs.Medium.{State, IsCoherent, LeavesOnly}
@@ -25,7 +25,7 @@ use Rattle.device_steps.specs.CardNotes.{IsNote}
 use Rattle.device_steps.proofs.CardNoted.{left}
 use Rattle.device_steps.proofs.Passed.{valid-passes, pointer-passes}
 use Rattle.card_image.specs.Fields.{vehicle_ring}
-use Rattle.card_times.specs.Times.{own_use, IsWhole, IsTimed, AreTimedSince}
+use Rattle.card_times.specs.Times.{own_use, IsWhole, AreTimedSince}
 use Rattle.card_times.proofs.Times.{whole-then, keeping-whole, closing-whole, ended-whole, inserting-whole}
 
 -- ---- by its own sizes

@@ -1,5 +1,5 @@
 -- The last use of a card at each moment of a keep, of a withdrawal, of an insertion and of a note: the old one, or a whole minute.
-use Rattle.std.proofs.Common.{◌≡◌, ◌⊎◌, inl, inr, ⊎_elim, ℕ, suc, ◌+◌, ◌*◌, ◌≤◌, Bool, true, false, cond, Option, Some, None, option_map, List, [], ◌∷◌, length, refl, sym, subst, ◌∙◌, ap, arith}
+use Rattle.std.proofs.Common.{◌≡◌, ◌⊎◌, inl, inr, ⊎_elim, ℕ, suc, ◌*◌, ◌≤◌, Bool, true, false, cond, Option, Some, None, option_map, List, [], ◌∷◌, length, refl, sym, subst, ◌∙◌, ap, arith}
 use Rattle.activity_codec.specs.declared.values.Activity.{Activity}
 use Rattle.activity_codec.specs.declared.values.Activity.TheVariants.{Rest}
 use Rattle.activity_codec.specs.declared.entries.Entry.{Entry}
@@ -19,7 +19,7 @@ use Rattle.card_session.specs.Books.{Book, mark_of, closed, closed_days, used, l
 use Rattle.card_session.specs.Sessions.{book_of}
 use Rattle.card_session.specs.Moments.{IsBook, IsKeepMoment, IsCloseMoment}
 use Rattle.card_session.specs.Cards.{IsCard, ended}
-use Rattle.card_session.specs.Inserting.{lacked, with_cut, with_owed, IsReplaying, repaired, IsRepairMoment, IsStill, IsRepaired, IsRepairing, IsNoted, IsNoting, IsShut, IsShutting, InsertingOpen, InsertingClosed, IsCardInserting}
+use Rattle.card_session.specs.Inserting.{lacked, with_cut, with_owed, IsReplaying, IsRepairMoment, IsStill, IsRepaired, IsShut, IsShutting, InsertingOpen, InsertingClosed, IsCardInserting}
 use Rattle.card_session.proofs.Preparing.{use_at}
 use Rattle.card_session.proofs.Marks.{use_before}
 use Rattle.card_session.proofs.Stopping.{ended_same}

@@ -6,7 +6,7 @@ use Rattle.tach_media.specs.Medium.{bytes_at}
 use Rattle.card_model.specs.Bytes.{number}
 use Rattle.card_model.specs.Days.{Day, len_of, total, far, IsDay, AreDays}
 use Rattle.card_model.specs.Image.{StringShape, IsStringShape, oldest_pointer, newest_pointer, IsPointer, IsPlace, spot, Holds, IsAt, at}
-use Rattle.card_model.proofs.Lists.{total-append, far_last, previous_of, previous_last, len_even, len_most, len_least, last_len_is, last_least}
+use Rattle.card_model.proofs.Lists.{total-append, far_last, previous_of, previous_last, len_even, len_most, len_least}
 use Rattle.card_model.proofs.Numbers.{number_two}
 use Rattle.card_model.proofs.Walking.{far_below}
 use Rattle.card_model.proofs.Reading.{place_then, place_back, same_distance, same_place, field_place, fills, len_read, from_day, round_part, day_is}

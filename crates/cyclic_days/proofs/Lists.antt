@@ -2,7 +2,7 @@
 use Rattle.std.proofs.Common.{◌≡◌, ◌≢◌, ℕ, ◌+◌, ◌*◌, ◌<◌, ◌≤◌, List, [], ◌∷◌, ◌++◌, length, refl, ap, arith, length-append, lit<}
 use Rattle.activity_codec.specs.Words.{word_minute}
 use Rattle.card_model.specs.Days.{Day, len_of, body, Ascend, AreWords, IsDay, AreDays}
-use Rattle.card_model.specs.Changes.{Increase, AreStrict, with_newest, OnNewest, with_word, TakesWord}
+use Rattle.card_model.specs.Changes.{Increase, AreStrict, OnNewest, with_word, TakesWord}
 use Rattle.card_model.proofs.Lists.{word_bytes_length}
 
 -- some days are the older ones and the newest

@@ -8,9 +8,9 @@ use Rattle.card_model.specs.Bytes.{number, two_bytes, four_bytes, decimal_bytes,
 use Rattle.activity_codec.specs.Words.{word_minute}
 use Rattle.card_model.specs.Days.{Day, len_of, Ascend, AreWords, word_bytes}
 use Rattle.card_model.specs.Walk.{words_of}
-use Rattle.card_model.specs.Checks.{Check, check, first_failing, is_len, is_previous, is_date, is_decimal, field_checks, word_checks, record_checks}
+use Rattle.card_model.specs.Checks.{check, first_failing, is_len, is_previous, is_date, is_decimal, field_checks, word_checks, record_checks}
 use Rattle.card_model.proofs.Numbers.{number_two, number_four}
-use Rattle.card_model.proofs.Judging.{passed_then, failed_then, first_passes, both_pass}
+use Rattle.card_model.proofs.Judging.{passed_then, failed_then, first_passes}
 use Rattle.cyclic_days.specs.declared.head.RecordHead.{RecordHead}
 use Rattle.cyclic_days.specs.Heads.{head_bytes}
 use Rattle.cyclic_days.specs.Loading.{ArePairs, IsRecord}

@@ -1,12 +1,12 @@
 -- What was read of a string from its newest end backwards.
-use Rattle.std.proofs.Common.{◌≡◌, ⊎_elim, ℕ, ◌+◌, ◌-◌, ◌%◌, ◌<◌, ◌≤◌, Bool, true, false, List, [], ◌∷◌, ◌++◌, Option, Some, None, IfSome, length, option_map, take, refl, sym, ◌∙◌, ap, subst, arith}
+use Rattle.std.proofs.Common.{◌≡◌, ⊎_elim, ℕ, ◌+◌, ◌-◌, ◌<◌, ◌≤◌, Bool, true, false, List, [], ◌∷◌, ◌++◌, Option, Some, None, IfSome, length, option_map, take, refl, sym, ◌∙◌, ap, subst, arith}
 use Rattle.std.specs.Prelude.{◌&&◌, nat_lt, nat_le, not}
 use Rattle.std.proofs.lemmas.Bool.Decides.{nat_tests}
 use Rattle.std.proofs.lemmas.Bool.{cases_lt}
 use Rattle.tach_media.specs.Medium.{put, bytes_at, SameOutside}
 use Rattle.tach_media.proofs.Images.{part_after, part_in, put_outside}
 use Rattle.card_model.specs.Bytes.{number, two_bytes}
-use Rattle.card_model.specs.Days.{Day, len_of, IsDay}
+use Rattle.card_model.specs.Days.{Day, IsDay}
 use Rattle.card_model.specs.Image.{StringShape, IsStringShape, turned, oldest_pointer, newest_pointer, string_of, IsPointer, Holds, at}
 use Rattle.card_model.proofs.Lists.{len_least}
 use Rattle.card_model.proofs.Reading.{round_part, day_is}
@@ -14,7 +14,7 @@ use Rattle.cyclic_days.specs.declared.head.RecordHead.{RecordHead}
 use Rattle.cyclic_days.specs.declared.rear.Block.{Block}
 use Rattle.cyclic_days.specs.declared.rear.Rear.{Rear}
 use Rattle.cyclic_days.specs.Heads.{head_bytes}
-use Rattle.cyclic_days.specs.Rears.{head_later, IsBlock, IsRear, LiesOn}
+use Rattle.cyclic_days.specs.Rears.{head_later, IsBlock, IsRear}
 use Rattle.cyclic_days.specs.Trim.{newest_later}
 use Rattle.cyclic_days.proofs.CutLast.{none_there, newest_read}
 use Rattle.cyclic_days.proofs.Lists.{split, some_newest}

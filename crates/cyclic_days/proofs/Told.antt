@@ -1,6 +1,6 @@
 -- What two runs make of an image that is told, and what a fault of the days tells.
 use Rattle.std.proofs.Common.{Result, Ok, Err, ◌≡◌, ℕ, refl}
-use Rattle.std.specs.Prelude.{IsErrAnd, true, false}
+use Rattle.std.specs.Prelude.{IsErrAnd, true}
 pub use Rattle.tach_media.proofs.Runs.{if_told, no_reads, from_told, through, through_both, ok_both, err_is}
 use Rattle.cyclic_days.specs.declared.fault.DaysFault.{DaysFault}
 use Rattle.cyclic_days.specs.declared.fault.DaysFault.TheVariants as fault

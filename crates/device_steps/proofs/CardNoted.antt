@@ -1,34 +1,31 @@
 -- An event or a place is noted on a card: it stays valid and shows the same, and the rules stay.
-use Rattle.std.proofs.Common.{◌≡◌, ◌⊎◌, inl, inr, ⊎_elim, ℕ, ◌+◌, ◌*◌, ◌/◌, ◌<◌, ◌≤◌, true, Option, Some, None, option_map, IfSome, List, [], refl, ap, subst, ◌∙◌, sym, arith}
+use Rattle.std.proofs.Common.{◌≡◌, ◌⊎◌, inl, inr, ⊎_elim, ℕ, ◌+◌, ◌/◌, ◌<◌, ◌≤◌, true, Option, option_map, IfSome, List, [], ap, subst, ◌∙◌, sym, arith}
 use Rattle.card_layout.proofs.Images.{part_before, part_after}
 use Rattle.card_layout.specs.Images.{big_number}
 use Rattle.activity_codec.specs.declared.entries.Entry.{Entry}
 use Rattle.trace_model.specs.declared.Card.{Card}
 use Rattle.tach_media.specs.Medium.{State, IsCoherent, LeavesOnly, SameOutside, bytes_at}
 use Rattle.tach_media.proofs.Runs.{at_image, weaken}
-use Rattle.gated_ring.specs.Ring.{pointer, PointsInside, place_of as entry_place, size_of as ring_size}
-use Rattle.gated_ring.specs.Change.{IsReplacingEntry}
+use Rattle.gated_ring.specs.Ring.{PointsInside, place_of as entry_place, size_of as ring_size}
 use Rattle.gated_ring.proofs.Places.{place_high}
 use Rattle.gated_ring.proofs.Elsewhere.{points_elsewhere}
 use Rattle.card_layout.specs.declared.files.Application.{Application}
 use Rattle.card_layout.specs.Application.{application_of, IsApplication, first_bad_field, place_of_field}
 use Rattle.card_layout.specs.Files.{files_of, place_of, size_of}
 use Rattle.card_records.specs.Rings.{event_ring}
-use Rattle.card_records.specs.Noting.{IsNotingEvent, IsNotingPlace}
 use Rattle.card_records.proofs.Sets.{set_inside}
 use Rattle.card_model.specs.Days.{Day}
 use Rattle.card_model.specs.Image.{oldest_pointer}
-use Rattle.card_model.specs.Checks.{first_failing, first_bad}
+use Rattle.card_model.specs.Checks.{first_failing}
 use Rattle.card_model.proofs.Elsewhere.{oldest_elsewhere, bad_elsewhere}
-use Rattle.card_image.specs.Fields.{file, file_bytes, day_string, vehicle_ring, place_ring, card_days, last_use, end_mark, session_time}
-use Rattle.card_image.specs.Beside.{HaveSameSizes, HaveSameDays, HaveSameVehicles, HaveSameSession, HaveSamePlacePointer}
+use Rattle.card_image.specs.Fields.{file, day_string, vehicle_ring, place_ring, card_days, last_use, session_time}
+use Rattle.card_image.specs.Beside.{HaveSameSizes, HaveSameDays, HaveSameVehicles, HaveSameSession}
 use Rattle.card_image.specs.Judging.{IsValid, word_checks}
 use Rattle.card_image.specs.Own.{own_sizes, own_view}
 use Rattle.card_image.specs.View.{CardView, card_view}
 use Rattle.card_image.proofs.Beside.{days_same, session_same, last_use_same, view_same}
 use Rattle.card_session.proofs.OnCard.{ring_shape}
 use Rattle.history_model.specs.Book.{Book}
-use Rattle.joint_rule.specs.Views.{UnitView}
 use Rattle.joint_rule.specs.Device.{LeavesViews, Nothing}
 use Rattle.joint_rule.specs.Rules.{Standing, Out, In, Torn, Stands}
 use Rattle.joint_rule.proofs.CardLaws.{look-dark}

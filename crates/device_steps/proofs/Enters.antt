@@ -1,5 +1,5 @@
 -- A card is put in, or taken out: the rules of the unit and of both cards.
-use Rattle.std.proofs.Common.{◌≡◌, ◌≢◌, ◌⊎◌, inl, inr, ⊎_elim, ℕ, ◌+◌, ◌/◌, ◌^◌, ◌<◌, ◌≤◌, Bool, true, false, Option, Some, None, is_some, IfSome, List, [], ◌∷◌, length, All, refl, ap, subst, ◌∙◌, sym, arith}
+use Rattle.std.proofs.Common.{◌≡◌, ◌≢◌, ◌⊎◌, inl, inr, ⊎_elim, ℕ, ◌+◌, ◌/◌, ◌^◌, ◌<◌, ◌≤◌, true, false, Option, Some, None, is_some, IfSome, List, [], ◌∷◌, length, All, refl, ap, subst, ◌∙◌, sym, arith}
 use Rattle.std.specs.Prelude.{IfOk, Result, Ok, Err}
 use Rattle.activity_codec.specs.declared.entries.Entry.{Entry}
 use Rattle.activity_codec.specs.declared.values.Activity.{Activity}
@@ -9,15 +9,13 @@ use Rattle.trace_model.specs.declared.Card.TheVariants.{A, B}
 use Rattle.tach_media.specs.Medium.{State, IsCoherent, LeavesOnly, LiesInside, Unchanged}
 use Rattle.tach_media.proofs.Runs.{at_image, weaken}
 use Rattle.card_layout.specs.declared.files.Application.{Application}
-use Rattle.card_layout.specs.declared.files.TheConstants.{APPLICATION_RANGE}
 use Rattle.card_layout.specs.Application.{application_of, IsApplication}
 use Rattle.card_layout.specs.Files.{files_of, image_size_of, place_of}
-use Rattle.card_model.specs.Days.{AreDays}
 use Rattle.card_layout.proofs.Images.{part_before, put_outside}
-use Rattle.card_image.specs.Fields.{file, file_bytes, card_days, card_number, end_mark, session_time}
+use Rattle.card_image.specs.Fields.{file, file_bytes, card_number, end_mark, session_time}
 use Rattle.card_image.specs.Judging.{IsValid}
 use Rattle.card_image.specs.Own.{own_sizes, own_view, own_number}
-use Rattle.card_image.specs.View.{CardView, Held, card_view}
+use Rattle.card_image.specs.View.{CardView, card_view}
 use Rattle.card_session.specs.Sessions.{Session, IsSession}
 use Rattle.card_session.specs.Cards.{IsCardClosing, ended as ended_image}
 use Rattle.card_session.specs.Inserting.{AreOwed, IsCardInserting, IsCardInserted}
@@ -26,7 +24,7 @@ use Rattle.card_session.proofs.InsertingAgain.{inserting_keeps}
 use Rattle.card_session.proofs.InsertingUse.{use_inside}
 use Rattle.card_session.proofs.Marks.{session_same}
 use Rattle.card_session.proofs.Stopping.{closed_session}
-use Rattle.card_session.proofs.Renewing.{Renews, closing_renews}
+use Rattle.card_session.proofs.Renewing.{closing_renews}
 use Rattle.log_model.specs.declared.lines.Mark.{Mark}
 use Rattle.history_model.specs.Minutes.{HistoryMinute}
 use Rattle.history_model.specs.Book.{Book}

@@ -1,5 +1,5 @@
 -- A card is put in, or taken out: what its images show is a step of the joint rule.
-use Rattle.std.proofs.Common.{◌≡◌, ◌≢◌, ◌⊎◌, inl, inr, ⊎_elim, ℕ, zero, suc, ◌+◌, ◌/◌, ◌%◌, ◌^◌, ◌<◌, ◌≤◌, max, Bool, true, false, cond, Option, Some, None, List, [], ◌∷◌, ◌++◌, length, take, drop, filter, All, refl, ap, subst, ◌∙◌, sym, arith}
+use Rattle.std.proofs.Common.{◌≡◌, ◌⊎◌, inl, inr, ⊎_elim, ℕ, suc, ◌+◌, ◌/◌, ◌%◌, ◌^◌, ◌<◌, ◌≤◌, max, Bool, true, false, cond, Some, List, [], ◌∷◌, ◌++◌, length, take, drop, filter, All, refl, ap, subst, ◌∙◌, sym, arith}
 use Rattle.std.specs.Prelude.{nat_lt, nat_eq}
 use Rattle.std.specs.List.{AllByRecursion}
 use Rattle.std.proofs.Math.Seq.{take-append_seam, drop-append_seam}
@@ -7,7 +7,6 @@ use Rattle.std.proofs.lemmas.Bool.{cases_lt}
 use Rattle.std.proofs.lemmas.Bool.Decides.{nat_tests}
 use Rattle.std.proofs.lemmas.List.Elements.{All-from_recursion, All-weaker, All-nil}
 use Rattle.activity_codec.specs.declared.entries.Entry.{Entry}
-use Rattle.activity_codec.specs.declared.values.Activity.{Activity}
 use Rattle.tacho_types.specs.declared.texts.Registration.{Registration}
 use Rattle.minute_model.specs.Activity.{last}
 use Rattle.card_layout.specs.declared.files.Application.{Application}
@@ -17,18 +16,16 @@ use Rattle.card_model.specs.Days.{Day}
 use Rattle.card_model.specs.Changes.{trimmed}
 use Rattle.card_retention.specs.Shown.{is_open}
 use Rattle.card_retention.specs.Entries.{newest_minute, newest_word, closed_at as closed_on_card}
-use Rattle.card_image.specs.Fields.{card_days, end_mark, session_time, last_use}
+use Rattle.card_image.specs.Fields.{card_days, end_mark, session_time}
 use Rattle.card_image.specs.Judging.{IsValid}
-use Rattle.card_image.specs.View.{CardView, Held, card_view}
+use Rattle.card_image.specs.View.{CardView, card_view}
 use Rattle.card_session.specs.Sessions.{Session, IsSession, newest_in, book_of}
-use Rattle.card_session.specs.Inserting.{AreOwed, Follow, lacked, InsertingOpen, InsertingClosed, InsertsOpen, InsertsClosed, IsCardInserting, IsCardInserted}
+use Rattle.card_session.specs.Inserting.{AreOwed, Follow, lacked, InsertingOpen, InsertingClosed, InsertsOpen, InsertsClosed}
 use Rattle.card_session.specs.Repairs.{mark_behind, newest_behind, NewestSoFar, lacked_by}
-use Rattle.card_session.proofs.Ends.{inserted_moment}
 use Rattle.card_session.proofs.InsertingBooks.{lacked_follow, follow_from}
 use Rattle.card_session.proofs.InsertingSession.{open_session, closed_session, open_begun, closed_begun}
 use Rattle.card_session.proofs.Renewing.{Renews, newest_first, newest_end, ends_answered, ends_low, moments_low, closed_renews, closed_answered}
 use Rattle.card_session.proofs.Valid.{above_zero}
-use Rattle.history_model.specs.Presence.{closed_at}
 use Rattle.joint_rule.specs.Views.{newest_with, beyond}
 use Rattle.joint_rule.specs.Steps.{IsInserting, IsInserted, replayed, IsTrimming}
 use Rattle.joint_rule.proofs.Brought.{closed-same}

@@ -1,5 +1,5 @@
 -- What a minute says on the cards, before it is kept and between two of them.
-use Rattle.std.proofs.Common.{◌≡◌, inl, inr, ℕ, suc, ◌<◌, ◌≤◌, Bool, true, false, Option, Some, None, is_some, IfSome, List, [], ◌∷◌, ◌++◌, All, refl, ap, subst, sym, ◌∙◌, arith}
+use Rattle.std.proofs.Common.{◌≡◌, inl, inr, ℕ, suc, ◌<◌, ◌≤◌, Bool, true, false, Option, Some, None, is_some, IfSome, List, [], ◌∷◌, All, refl, subst, sym, ◌∙◌, arith}
 use Rattle.std.specs.Prelude.{◌⊎◌, OnErr, is_err, Result, Ok, Err, option_to_list}
 use Rattle.std.proofs.lemmas.List.Elements.{All-head}
 use Rattle.activity_codec.specs.declared.entries.Entry.{Entry}
@@ -15,14 +15,14 @@ use Rattle.card_session.proofs.Composing.{called_then}
 use Rattle.card_steps.specs.Shows.{IsDone}
 use Rattle.history_model.specs.Minutes.{HistoryMinute, on_card}
 use Rattle.history_model.specs.Presence.{CardStart}
-use Rattle.history_model.specs.Book.{Book, kept, broken}
+use Rattle.history_model.specs.Book.{Book, broken}
 use Rattle.history_model.proofs.Books.{on_card-minute}
 use Rattle.joint_rule.specs.Rules.{Standing, Out, In, Torn, IsPresent, Fits}
 use Rattle.joint_rule.specs.Views.{other}
 use Rattle.unit_rule.specs.Marks.{Holds}
-use Rattle.device_steps.specs.Rule.{Both, opened, CardHolds, CardRests, IsKeptUp}
+use Rattle.device_steps.specs.Rule.{Both, CardHolds, CardRests, IsKeptUp}
 use Rattle.device_steps.specs.OnCard.{IsCarried, IsReady}
-use Rattle.device_steps.specs.Minute.{Known, known_after, AreBetween, SaysBoth, AreOwed, AreDark, AreCutOff, Carry, and_kept, IsClear, IsSitting, IsNotIn}
+use Rattle.device_steps.specs.Minute.{Known, AreCutOff, Carry, and_kept, IsClear, IsSitting, IsNotIn}
 
 -- an entry on a card has its minute
 pub said_minute : (c : Card) (i : HistoryMinute) (e : Entry) → e ∷ [] ≡ on_card c i → e.minute ≡ i.minute

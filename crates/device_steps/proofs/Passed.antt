@@ -1,5 +1,5 @@
 -- The days of a card that passes the checks of its string are days, each later than the one before it.
-use Rattle.std.proofs.Common.{◌≡◌, ◌⊎◌, ℕ, zero, suc, ◌+◌, ◌-◌, ◌*◌, ◌/◌, ◌%◌, ◌<◌, ◌≤◌, Bool, true, false, cond, Option, Some, None, option_map, List, [], ◌∷◌, ◌++◌, length, take, drop, refl, sym, ◌∙◌, ap, subst, arith, append_assoc, length-append, length-drop, take-append-drop}
+use Rattle.std.proofs.Common.{◌≡◌, ℕ, zero, suc, ◌+◌, ◌-◌, ◌*◌, ◌/◌, ◌%◌, ◌<◌, ◌≤◌, Bool, true, false, cond, Option, Some, None, option_map, List, [], ◌∷◌, ◌++◌, length, take, drop, refl, sym, ◌∙◌, ap, subst, arith, append_assoc, length-drop, take-append-drop}
 use Rattle.std.specs.Prelude.{◌&&◌, nat_eq, nat_lt, nat_le}
 use Rattle.std.proofs.lemmas.Bool.{and_parts, le-ltb, lt-ltb}
 use Rattle.std.proofs.lemmas.Bool.Decides.{nat_tests}
@@ -7,7 +7,7 @@ use Rattle.std.proofs.lemmas.List.{length-take-le, take-append-le, drop-append-l
 use Rattle.tach_media.specs.Medium.{bytes_at}
 use Rattle.activity_codec.specs.Words.{word_minute}
 use Rattle.card_model.specs.Bytes.{number, decimal}
-use Rattle.card_model.specs.Days.{Day, Ascend, AreWords, IsDay, AreDays}
+use Rattle.card_model.specs.Days.{Ascend, AreWords, IsDay, AreDays}
 use Rattle.card_model.specs.Image.{StringShape, turned, oldest_pointer, newest_pointer, circle_of, string_of}
 use Rattle.card_model.specs.Walk.{words_of, day_told, days_in, days_of}
 use Rattle.card_model.specs.Checks.{Check, check, first_failing, is_pointer, is_len, is_previous, is_date, is_decimal, field_checks, word_checks, record_checks, file_place, placed_checks, day_checks, distance_of, is_empty, first_bad}

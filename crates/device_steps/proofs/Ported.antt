@@ -1,5 +1,5 @@
 -- A card behind a port may be written where its session writes.
-use Rattle.std.proofs.Common.{◌≡◌, inl, inr, ⊎_elim, ℕ, ◌+◌, ◌-◌, ◌*◌, ◌≤◌, Bool, true, Option, List, [], ◌∷◌, refl, ap, subst, sym, arith}
+use Rattle.std.proofs.Common.{◌≡◌, inl, inr, ⊎_elim, ℕ, ◌+◌, ◌*◌, ◌≤◌, Bool, Option, List, [], ◌∷◌, refl, ap, subst, arith}
 use Rattle.std.specs.Borrow.{GName}
 use Rattle.std.specs.Prelude.{◌⊎◌, IfErr, Result, Ok, Err}
 use Rattle.activity_codec.specs.declared.entries.Entry.{Entry}
@@ -8,7 +8,7 @@ use Rattle.tacho_types.specs.declared.texts.Registration.{Registration}
 use Rattle.tach_media.specs.Medium.{State, LiesInside, LeavesOnly, HasCause, Reads, Layer, Reference, Commands, lent}
 use Rattle.tach_media.proofs.Runs.{at_image, if_told}
 use Rattle.card_layout.specs.declared.files.Application.{Application}
-use Rattle.card_layout.specs.Files.{files_of, place_of, size_of, is_updated, image_size_of}
+use Rattle.card_layout.specs.Files.{files_of, place_of, size_of, image_size_of}
 use Rattle.card_layout.proofs.Sizes.{largest_image, days_at, vehicles_at, events_at, use_at}
 use Rattle.card_layout.specs.declared.command.CardState.{CardState}
 use Rattle.card_layout.specs.declared.command.ElementaryFile.{ElementaryFile}

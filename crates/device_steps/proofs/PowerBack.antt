@@ -1,5 +1,5 @@
 -- Power is back: the cards, as the unit is found and mended; and a card that was torn out, or read.
-use Rattle.std.proofs.Common.{◌≡◌, ℕ, ◌≤◌, Bool, true, false, Option, Some, None, List, [], ◌∷◌, ◌++◌, All, IfSome, refl, ap, subst, ◌∙◌, sym}
+use Rattle.std.proofs.Common.{◌≡◌, ℕ, ◌≤◌, Bool, true, false, Some, List, [], All, IfSome, refl, ap, subst, ◌∙◌, sym}
 use Rattle.trace_model.specs.declared.Card.{Card}
 use Rattle.trace_model.specs.declared.Card.TheVariants.{A, B}
 use Rattle.tach_media.specs.Medium.{State, IsCoherent, LeavesOnly, Unchanged}
@@ -11,7 +11,7 @@ use Rattle.history_model.specs.Minutes.{HistoryMinute}
 use Rattle.history_model.specs.Book.{Book, found}
 use Rattle.card_image.specs.Own.{own_view}
 use Rattle.joint_rule.specs.Views.{UnitView, unit_view}
-use Rattle.joint_rule.specs.Device.{LeavesViews, EndsWith, Nothing}
+use Rattle.joint_rule.specs.Device.{LeavesViews, Nothing}
 use Rattle.joint_rule.specs.Steps.{IsMending, IsMended}
 use Rattle.joint_rule.specs.Marked.{of_unit}
 use Rattle.joint_rule.specs.Rules.{Standing, In, Torn}

@@ -1,6 +1,6 @@
 -- A card is put in: what is owed to it, and its number.
-use Rattle.std.proofs.Common.{◌≡◌, inl, inr, ⊎_elim, ℕ, zero, suc, ◌+◌, ◌-◌, ◌/◌, ◌<◌, ◌≤◌, max, Bool, true, false, cond, ◌&&◌, Option, Some, None, IfSome, List, [], ◌∷◌, ◌++◌, length, take, drop, filter, All, refl, ap, subst, sym, ◌∙◌, arith, append_assoc}
-use Rattle.std.specs.Prelude.{nat_eq, nat_lt, IfOk, IfErr, Result, Ok, Err}
+use Rattle.std.proofs.Common.{◌≡◌, inl, inr, ⊎_elim, ℕ, zero, suc, ◌+◌, ◌-◌, ◌/◌, ◌<◌, ◌≤◌, max, Bool, true, false, cond, Option, Some, None, IfSome, List, [], ◌∷◌, ◌++◌, length, drop, filter, refl, ap, subst, sym, ◌∙◌, arith}
+use Rattle.std.specs.Prelude.{nat_eq, IfOk, IfErr, Result, Ok, Err}
 use Rattle.std.proofs.lemmas.Bool.Decides.{nat_tests}
 use Rattle.std.proofs.lemmas.List.{append-nil, length-take-le, length-drop, length-append, take_all}
 use Rattle.std.proofs.lemmas.List.Elements.{All-from_recursion}
@@ -13,20 +13,20 @@ use Rattle.tach_media.proofs.Runs.{starts, weaken, from_reads, after_reads, goes
 use Rattle.card_layout.specs.declared.files.Application.{Application}
 use Rattle.card_layout.specs.Application.{IsApplication}
 use Rattle.card_layout.specs.Files.{files_of, image_size_of, place_of}
-use Rattle.card_model.specs.Days.{Day, AreDays}
+use Rattle.card_model.specs.Days.{AreDays}
 use Rattle.card_model.specs.Changes.{trimmed}
 use Rattle.card_retention.specs.Entries.{newest_word}
 use Rattle.card_image.specs.Fields.{file, card_number, card_days, end_mark, session_time}
 use Rattle.card_image.specs.Judging.{first_bad_file, IsValid}
-use Rattle.card_image.specs.View.{counting, card_view}
+use Rattle.card_image.specs.View.{card_view}
 use Rattle.card_judge.specs.declared.fault.InsertFault.{InsertFault}
 use Rattle.card_judge.specs.declared.fault.InsertFault.TheVariants.{Failed, NotValid, TimeOverlap}
 use Rattle.card_judge.specs.declared.looking.CardLook.{CardLook}
 use Rattle.card_judge.specs.Faults.{IfNotValid as card_valid, IfTimeOverlap as card_overlap, has_failed}
 use Rattle.card_judge.specs.Judged.{IsLook}
 use Rattle.tacho_types.specs.declared.texts.Registration.{Registration}
-use Rattle.card_session.specs.Sessions.{IsSession, book_of}
-use Rattle.card_session.specs.Inserting.{AreOwed, Follow, IsStill, IsCardInserted, IsCardInserting, replayed_count}
+use Rattle.card_session.specs.Sessions.{IsSession}
+use Rattle.card_session.specs.Inserting.{AreOwed, Follow, IsCardInserted, IsCardInserting, replayed_count}
 use Rattle.card_session.proofs.InsertingBooks.{trimmed_low}
 use Rattle.joint_rule.specs.Views.{counts, is_session}
 use Rattle.joint_rule.proofs.OwedView.{owed-seen}

@@ -1,5 +1,5 @@
 -- A card's row is begun: its own rule, whatever row is spared.
-use Rattle.std.proofs.Common.{◌≡◌, ◌⊎◌, inl, inr, ⊎_elim, ℕ, ◌/◌, ◌<◌, ◌≤◌, Bool, false, true, Option, Some, IfSome, List, [], ◌∷◌, refl, ap, subst, ◌∙◌, sym, arith}
+use Rattle.std.proofs.Common.{◌≡◌, ◌⊎◌, inl, inr, ℕ, ◌/◌, ◌<◌, ◌≤◌, Bool, false, true, Option, Some, IfSome, List, [], refl, ap, subst, ◌∙◌, sym, arith}
 use Rattle.activity_codec.specs.declared.entries.Entry.{Entry}
 use Rattle.trace_model.specs.declared.Card.{Card}
 use Rattle.trace_model.specs.declared.Card.TheVariants.{A, B}
@@ -7,7 +7,7 @@ use Rattle.tach_media.specs.Medium.{State, IsCoherent, LeavesOnly}
 use Rattle.tach_media.proofs.Runs.{at_image}
 use Rattle.gated_ring.specs.Ring.{PointsInside}
 use Rattle.unit_model.specs.Image.{day_ring}
-use Rattle.owed_model.specs.Owed.{Row, rows_in}
+use Rattle.owed_model.specs.Owed.{rows_in}
 use Rattle.owed_model.specs.Rows.{IsRowBeginning, IsRowBegun}
 use Rattle.owed_model.proofs.Laws.{begun_view}
 use Rattle.owed_model.proofs.Taking.{begun_is}
@@ -16,7 +16,6 @@ use Rattle.unit_journal.specs.Image.{Agrees}
 use Rattle.log_model.specs.declared.lines.Mark.{Mark}
 use Rattle.history_model.specs.Book.{Book}
 use Rattle.history_model.proofs.Books.{mark-earlier}
-use Rattle.card_image.specs.View.{CardView}
 use Rattle.joint_rule.specs.Views.{UnitView, unit_view, row, with_row, other}
 use Rattle.joint_rule.specs.Device.{Seen, LeavesViews, EndsWith}
 use Rattle.joint_rule.specs.Steps.{IsBeginning, IsBegun}

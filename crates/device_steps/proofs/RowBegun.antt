@@ -1,5 +1,5 @@
 -- A card's row is begun: the rules of the unit and of the other card.
-use Rattle.std.proofs.Common.{◌≡◌, ◌≢◌, ℕ, ◌/◌, ◌<◌, ◌≤◌, Bool, true, false, Option, Some, None, is_some, option_map, List, [], ◌∷◌, ◌++◌, IfSome, refl, ap, subst, ◌∙◌, sym, arith}
+use Rattle.std.proofs.Common.{◌≡◌, ℕ, Bool, Option, Some, None, is_some, List, IfSome, subst}
 use Rattle.std.specs.Prelude.{OnOk, Result, Ok, Err}
 use Rattle.activity_codec.specs.declared.entries.Entry.{Entry}
 use Rattle.trace_model.specs.declared.Card.{Card}
@@ -14,7 +14,7 @@ use Rattle.unit_journal.specs.declared.notes.Notes.{Notes}
 use Rattle.unit_journal.specs.Image.{Agrees}
 use Rattle.log_model.specs.declared.lines.Mark.{Mark}
 use Rattle.history_model.specs.Book.{Book}
-use Rattle.joint_rule.specs.Views.{UnitView, unit_view, other}
+use Rattle.joint_rule.specs.Views.{unit_view, other}
 use Rattle.joint_rule.specs.Device.{LeavesViews}
 use Rattle.joint_rule.specs.Steps.{IsBeginning}
 use Rattle.joint_rule.specs.Rules.{Standing}

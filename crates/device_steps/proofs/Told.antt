@@ -1,5 +1,5 @@
 -- A card that was accepted answers a newest minute that tells of each later minute what that of the history tells.
-use Rattle.std.proofs.Common.{◌≡◌, inl, inr, ⊎_elim, ℕ, ◌+◌, ◌/◌, ◌<◌, ◌≤◌, max, true, None, List, [], ◌∷◌, ◌++◌, length, filter, All, refl, ap, subst, ◌∙◌, sym, arith}
+use Rattle.std.proofs.Common.{◌≡◌, inl, inr, ℕ, ◌+◌, ◌/◌, ◌<◌, ◌≤◌, true, None, List, [], ◌++◌, length, All, refl, ap, subst, ◌∙◌, sym, arith}
 use Rattle.std.specs.Prelude.{◌↔◌, nat_lt}
 use Rattle.std.proofs.lemmas.Bool.{lt-ltb}
 use Rattle.std.proofs.lemmas.List.Elements.{All-weaker}
@@ -28,7 +28,7 @@ use Rattle.joint_rule.specs.Views.{UnitView, unit_view, row, owed, owed_in, newe
 use Rattle.joint_rule.specs.Rules.{Meets, Out, IsEntered}
 use Rattle.joint_rule.proofs.Holding.{presence-tied}
 use Rattle.joint_rule.proofs.Owing.{owed-new}
-use Rattle.device_steps.specs.Rule.{Both, opened, number_of, unit_seen, card_seen, AnyString, CardHolds}
+use Rattle.device_steps.specs.Rule.{Both, opened, number_of, card_seen, AnyString, CardHolds}
 use Rattle.device_steps.proofs.OnCard.{own-is, session-is}
 use Rattle.device_steps.proofs.Inserted.{beyond_open, beyond_shut}
 

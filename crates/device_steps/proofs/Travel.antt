@@ -1,17 +1,16 @@
 -- The odometer, over the entries that are put and the minute that is kept.
-use Rattle.std.proofs.Common.{◌≡◌, ℕ, ◌≤◌, Bool, true, false, Option, Some, None, IfSome, List, refl, ap, sym, subst, ◌∙◌}
+use Rattle.std.proofs.Common.{◌≡◌, ℕ, ◌≤◌, Bool, true, false, None, IfSome, List, ap, subst, ◌∙◌}
 use Rattle.activity_codec.specs.declared.entries.Entry.{Entry}
 use Rattle.tach_media.specs.Medium.{State, IsCoherent, LeavesOnly}
 use Rattle.unit_rule.proofs.Moves.{ended}
 use Rattle.log_model.specs.declared.lines.Mark.{Mark}
 use Rattle.unit_model.specs.Days.{UnitMinute}
-use Rattle.unit_model.specs.Image.{last_kept}
 use Rattle.owed_model.specs.Rows.{IsPutting}
 use Rattle.unit_journal.specs.Keeping.{IsKept}
 use Rattle.history_model.specs.Minutes.{HistoryMinute}
-use Rattle.history_model.specs.Book.{Book, kept, broken}
+use Rattle.history_model.specs.Book.{Book}
 use Rattle.joint_rule.specs.Filling.{seen_by_unit}
-use Rattle.unit_course.specs.Legs.{Travel, travelled, stranded}
+use Rattle.unit_course.specs.Legs.{Travel}
 use Rattle.unit_rule.specs.Rule.{Started}
 use Rattle.unit_rule.specs.Marks.{Holds}
 use Rattle.unit_rule.specs.Odometer.{HasTravelled, IsKeepingDays, odometer_by, odometer_after}

@@ -4,7 +4,6 @@ use Rattle.activity_codec.specs.declared.entries.Entry.{Entry}
 use Rattle.tach_media.specs.Medium.{State, HasCause, LeavesOnly, Reads, Unchanged, IsSettled, last_count}
 use Rattle.tacho_types.specs.declared.texts.Registration.{Registration}
 use Rattle.card_layout.specs.declared.files.Application.{Application}
-use Rattle.card_layout.specs.declared.files.Fid.{Fid}
 use Rattle.card_judge.specs.declared.fault.InsertFault.{InsertFault}
 use Rattle.card_judge.specs.declared.fault.InsertFault.TheVariants as card
 use Rattle.card_judge.specs.declared.looking.CardLook.{CardLook}

@@ -11,7 +11,7 @@ use Rattle.history_model.specs.Presence.{CardStart}
 use Rattle.history_model.specs.Book.{Book, kept, broken}
 use Rattle.card_image.specs.View.{CardView, Held}
 use Rattle.card_image.specs.Own.{own_view}
-use Rattle.joint_rule.specs.Views.{UnitView, unit_view, other}
+use Rattle.joint_rule.specs.Views.{UnitView, unit_view}
 use Rattle.joint_rule.specs.Device.{Seen, seen}
 use Rattle.joint_rule.specs.Rules.{Standing, In, Out, CardDark, CardRule}
 use Rattle.unit_rule.specs.Rule.{Started}

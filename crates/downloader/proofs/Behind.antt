@@ -1,6 +1,5 @@
 -- What is sent behind a message, by the request that it answers.
-use Rattle.std.proofs.Common.{◌≡◌, ◌∙◌, ℕ, List, [], ◌++◌, refl, ap, sym, append-nil}
-use Rattle.link_model.specs.declared.request.Request.{Request}
+use Rattle.std.proofs.Common.{◌≡◌, ◌∙◌, ℕ, List, [], refl, ap, sym, append-nil}
 use Rattle.link_model.specs.declared.request.Request.TheVariants.{Overview as AskOverview, Day as AskDay, Events as AskEvents, Speed as AskSpeed, Technical as AskTechnical}
 use Rattle.message_model.specs.Messages.{Message, Overview, AnOverview, ADay, AnEventList, ASpeedList, ATechnical, message_bytes}
 use Rattle.unit_messages.specs.declared.reading.OverviewRead.{OverviewRead}

@@ -1,12 +1,12 @@
 -- A message that was closed, and goes out or not.
-use Rattle.std.proofs.Common.{◌≡◌, ◌∙◌, ℕ, true, List, [], Option, Some, None, Result, Ok, Err, refl, ap, sym, subst, inl, inr}
-use Rattle.std.specs.Prelude.{is_some, OnOk, OnErr, IfErr}
-use Rattle.std.specs.Io.KnownBytes.{Appends, Keeps}
+use Rattle.std.proofs.Common.{◌≡◌, ◌∙◌, ℕ, true, List, Option, Some, None, Result, Err, refl, ap, sym, subst, inr}
+use Rattle.std.specs.Prelude.{is_some, IfErr}
+use Rattle.std.specs.Io.KnownBytes.{Appends}
 use Rattle.link_model.specs.declared.request.Request.{Request}
 use Rattle.message_model.specs.Messages.{Message, message_bytes}
 use Rattle.downloader.specs.declared.fault.LoadFault.{LoadFault}
 use Rattle.downloader.specs.declared.fault.LoadFault.TheVariants as faults
-use Rattle.downloader.specs.Loading.{Loading, after_message, over, closed, IsAnswer, AnswersNone, Finishes, Takes, IsRefused, IsNotPut, left_by, LeavesSink}
+use Rattle.downloader.specs.Loading.{Loading, after_message, over, closed, IsAnswer, Finishes, Takes, IsRefused, IsNotPut, left_by, LeavesSink}
 
 -- what is behind Some, or else this
 abbrev pub payload : Request × List ℕ → Option (Request × List ℕ) → Request × List ℕ

@@ -2,8 +2,7 @@
 use Rattle.std.proofs.Common.{◌≡◌, ◌∙◌, ℕ, ◌==◌, Bool, true, false, if◌then◌else◌, List, length, Option, Some, None, option_map, ap}
 use Rattle.link_model.specs.declared.request.Request.{Request}
 use Rattle.downloader.specs.declared.stage.Stage.{Stage}
-use Rattle.downloader.specs.declared.kind.Kind.{Kind}
-use Rattle.downloader.specs.declared.kind.Kind.TheVariants.{Negative, Broken, Agreed, Piece, Single, Other}
+use Rattle.downloader.specs.declared.kind.Kind.TheVariants.{Negative, Agreed, Piece, Single}
 use Rattle.downloader.specs.Stages.{passed_over, behind_answer}
 use Rattle.downloader.specs.Coming.{kind_of}
 use Rattle.downloader.specs.Loading.{Loading, at_stage, continued, with_piece, goes_on, goes_on_by, closed, closed_by}

@@ -1,11 +1,11 @@
 -- A frame is taken in one way.
-use Rattle.std.proofs.Common.{◌≡◌, ◌∙◌, ℕ, true, List, [], ◌++◌, Option, Some, None, ap, sym, inl, inr, append-nil}
+use Rattle.std.proofs.Common.{◌≡◌, ◌∙◌, ℕ, List, [], Option, None, ap, sym, inl, inr, append-nil}
 use Rattle.std.specs.Prelude.{is_some}
 use Rattle.link_model.specs.declared.request.Request.{Request}
 use Rattle.message_model.specs.Messages.{Message, message_bytes}
 use Rattle.message_model.proofs.Reading.{one_way}
 use Rattle.downloader.specs.Coming.{kind_of}
-use Rattle.downloader.specs.Loading.{Loading, Takes, Finishes, goes_on, closed, after_message}
+use Rattle.downloader.specs.Loading.{Loading, Takes, Finishes, goes_on, after_message}
 use Rattle.downloader.proofs.Closing.{payload}
 use Rattle.downloader.proofs.Exact.{nowhere_by}
 

@@ -1,17 +1,15 @@
 -- What of a unit's file is still to come, when a message is asked for.
-use Rattle.std.proofs.Common.{◌≡◌, ◌∙◌, ℕ, ◌+◌, ◌*◌, ◌%◌, ◌<◌, ◌≤◌, Bool, true, false, cond, List, [], ◌∷◌, ◌++◌, map, Option, Some, None, option_map, refl, ap, sym, inl, inr, arith}
-use Rattle.std.specs.Prelude.{◌⊎◌, nat_eq, nat_lt, nat_le, ◌==◌, ◌||◌, if◌then◌else◌}
+use Rattle.std.proofs.Common.{◌≡◌, ◌∙◌, ℕ, ◌+◌, ◌%◌, ◌<◌, ◌≤◌, Bool, true, false, cond, List, [], ◌∷◌, ◌++◌, map, Some, None, refl, ap, sym, inl, inr, arith}
+use Rattle.std.specs.Prelude.{◌⊎◌, nat_eq, nat_lt, if◌then◌else◌}
 use Rattle.std.proofs.lemmas.Bool.Decides.{nat_tests}
 use Rattle.card_layout.specs.Fields.{joined}
 use Rattle.unit_model.specs.Days.{StoredDay}
-use Rattle.unit_model.specs.Image.{last_kept}
 use Rattle.link_model.specs.declared.request.Request.{Request}
 use Rattle.link_model.specs.declared.request.Request.TheVariants.{Overview as AskOverview, Day as AskDay, Events as AskEvents, Speed as AskSpeed, Technical as AskTechnical}
 use Rattle.message_model.specs.Messages.{Message, AnOverview, ADay, AnEventList, ATechnical, message_bytes}
-use Rattle.message_model.specs.Sending.{Follow, sent_days, day_at, period_of, overview_of, day_message_of, event_message_of, technical_message_of, message_of, messages_of, unit_file}
+use Rattle.message_model.specs.Sending.{Follow, sent_days, day_at, overview_of, day_message_of, event_message_of, technical_message_of, messages_of, unit_file}
 use Rattle.downloader.specs.declared.stage.Stage.{Stage}
 use Rattle.downloader.specs.declared.stage.Stage.TheVariants.{Start, Diagnostic, Upload, Asked, Acknowledged, Exit, Stop, Finished}
-use Rattle.downloader.specs.Stages.{first_day, next_day, behind_message, end_told}
 use Rattle.downloader.specs.Talking.{AreDays}
 
 -- the days from one on

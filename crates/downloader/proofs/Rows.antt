@@ -1,12 +1,11 @@
 -- Worked rows of a download.
-use Rattle.std.proofs.Common.{◌≡◌, ℕ, ◌+◌, List, [], ◌∷◌, Option, Some, None, refl, replicate}
+use Rattle.std.proofs.Common.{◌≡◌, ℕ, ◌+◌, [], ◌∷◌, Some, None, refl, replicate}
 use Rattle.link_model.specs.declared.request.Request.TheVariants.{Overview, Day, Events, Speed, Technical}
-use Rattle.downloader.specs.declared.stage.Stage.{Stage}
-use Rattle.downloader.specs.declared.stage.Stage.TheVariants.{Start, Diagnostic, Upload, Asked, Acknowledged, Exit, Stop, Finished}
-use Rattle.downloader.specs.declared.kind.Kind.TheVariants.{Negative, Broken, Agreed, Piece, Single, Other}
+use Rattle.downloader.specs.declared.stage.Stage.TheVariants.{Diagnostic, Upload, Asked, Acknowledged, Stop, Finished}
+use Rattle.downloader.specs.declared.kind.Kind.TheVariants.{Broken, Other}
 use Rattle.downloader.specs.Stages.{sent_at, first_day, next_day}
 use Rattle.downloader.specs.Coming.{kind_of}
-use Rattle.downloader.specs.Loading.{Loading, at_stage, begun, over, goes_on, closed}
+use Rattle.downloader.specs.Loading.{at_stage, begun, goes_on, closed}
 
 -- 2010-03-01, and 00:20 of that day
 abbrev day : ℕ

@@ -1,22 +1,20 @@
 -- What the loader does about the answers that a unit's table gives.
-use Rattle.std.proofs.Common.{◌≡◌, ◌∙◌, ℕ, ◌+◌, ◌-◌, ◌*◌, ◌/◌, ◌%◌, ◌^◌, ◌<◌, ◌≤◌, Bool, true, false, List, [], ◌∷◌, ◌++◌, length, take, drop, Option, Some, None, option_map, refl, ap, sym, inl, inr, arith, append-nil, length-take, length-drop}
+use Rattle.std.proofs.Common.{◌≡◌, ◌∙◌, ℕ, ◌+◌, ◌-◌, ◌*◌, ◌/◌, ◌%◌, ◌<◌, ◌≤◌, Bool, true, false, List, [], ◌∷◌, ◌++◌, length, take, drop, Option, Some, option_map, refl, ap, sym, inl, inr, arith, length-take, length-drop}
 use Rattle.std.specs.Prelude.{◌⊎◌, ◌==◌, ◌&&◌, nat_le, nat_lt, slice_index, if◌then◌else◌}
 use Rattle.std.proofs.lemmas.Bool.Decides.{nat_tests}
 use Rattle.std.proofs.lemmas.List.{take-append-drop, take-take, take_all, drop-take}
 use Rattle.link_model.specs.declared.request.Request.{Request}
-use Rattle.link_model.specs.declared.request.Request.TheVariants.{Overview, Day, Events, Speed, Technical}
 use Rattle.link_model.specs.Answers.{number_of, cut, piece}
 use Rattle.message_model.specs.Messages.{Message, AnOverview, ADay, AnEventList, ASpeedList, ATechnical, IsMessage, message_bytes, content_of}
 use Rattle.unit_messages.specs.Reading.{request_of}
 use Rattle.unit_messages.specs.Joining.{counter_in}
 use Rattle.downloader.specs.declared.stage.Stage.{Stage}
 use Rattle.downloader.specs.declared.stage.Stage.TheVariants.{Asked, Acknowledged}
-use Rattle.downloader.specs.declared.kind.Kind.{Kind}
 use Rattle.downloader.specs.declared.kind.Kind.TheVariants.{Negative, Broken, Piece, Single, Other}
 use Rattle.downloader.specs.Stages.{behind_lack}
-use Rattle.downloader.specs.Coming.{is_negative, begins_as, piece_kind, request_kind, acknowledgement_kind, kind_at, kind_of}
-use Rattle.downloader.specs.Loading.{Loading, at_stage, continued, after_message, goes_on, closed, Takes, IsAnswer}
-use Rattle.downloader.proofs.FrameKinds.{more_goes_on, last_closes, single_closes}
+use Rattle.downloader.specs.Coming.{begins_as, piece_kind, kind_at, kind_of}
+use Rattle.downloader.specs.Loading.{Loading, at_stage, after_message, closed, Takes}
+use Rattle.downloader.proofs.FrameKinds.{single_closes}
 use Rattle.downloader.proofs.Closing.{finishes}
 
 never_both : (b : Bool) → (b && false) ≡ false

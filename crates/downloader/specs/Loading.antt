@@ -1,5 +1,5 @@
 -- A download, frame after frame: where it stands, what a frame finishes, and when one is refused.
-use Rattle.std.specs.Prelude.{◌≡◌, ◌⊎◌, ℕ, ◌==◌, true, if◌then◌else◌, List, [], ◌∷◌, ◌++◌, length, drop, Option, Some, None, option_map, is_some}
+use Rattle.std.specs.Prelude.{◌≡◌, ◌⊎◌, ℕ, ◌==◌, true, if◌then◌else◌, List, [], ◌++◌, length, drop, Option, Some, None, option_map, is_some}
 use Rattle.std.specs.Io.KnownBytes.{Keeps}
 use Rattle.tach_media.specs.Streams.{AppendsFront}
 use Rattle.link_model.specs.declared.request.Request.{Request}

@@ -1,14 +1,14 @@
 -- When the events of a turn are noted, and a turn in which a call fails.
-use Rattle.std.proofs.Common.{◌≡◌, ◌⊎◌, inl, inr, ⊎_elim, ℕ, zero, suc, ◌+◌, ◌-◌, ◌*◌, ◌/◌, ◌<◌, ◌≤◌, Bool, true, false, cond, not, ◌&&◌, Option, Some, None, List, [], ◌∷◌, ◌++◌, map, refl, ap, sym, subst, ◌∙◌, arith, nat_lt, append-nil}
+use Rattle.std.proofs.Common.{◌≡◌, ◌⊎◌, inl, inr, ℕ, suc, ◌+◌, ◌-◌, ◌/◌, ◌<◌, Bool, true, false, cond, not, ◌&&◌, Option, Some, None, List, [], ◌∷◌, ◌++◌, map, refl, ap, sym, ◌∙◌, arith, nat_lt, append-nil}
 use Rattle.std.specs.Prelude.{◌==◌, option_to_list}
-use Rattle.std.specs.List.{AllByRecursion, filter_map, cons_option}
+use Rattle.std.specs.List.{filter_map}
 use Rattle.std.proofs.lemmas.List.{append_cancel_left}
 use Rattle.std.proofs.lemmas.Bool.Decides.{nat_tests}
 use Rattle.log_model.specs.Log.{RunLog}
 use Rattle.event_model.specs.declared.entries.Over.{Over}
 use Rattle.event_model.specs.declared.entries.Span.{Span}
-use Rattle.event_model.specs.Runs.{run_with, last_run, ended_by, runs_behind, ended_runs}
-use Rattle.event_model.specs.Spans.{DriverSecond, SpeedSecond, bare_of, bares_of, over_of, overs_of, is_above, all_bare, at_speed, in_a_row}
+use Rattle.event_model.specs.Runs.{last_run, ended_runs}
+use Rattle.event_model.specs.Spans.{DriverSecond, SpeedSecond, bare_of, bares_of, over_of, overs_of, is_above, all_bare, at_speed}
 use Rattle.event_model.specs.Events.{Event}
 use Rattle.event_model.proofs.RunLemmas.{last_run-append, row-off, ended-on, ended-off}
 use Rattle.event_rules.specs.Bare as bare
@@ -17,8 +17,8 @@ use Rattle.event_rules.proofs.Without as bare_feed
 use Rattle.event_rules.proofs.Fast as over_feed
 use Rattle.side_model.specs.Done.{has_failed_in}
 use Rattle.event_course.specs.Plain.{bare_event, over_event}
-use Rattle.event_course.specs.Noted.{are_sure, Leads, StayFailed}
-use Rattle.event_course.proofs.Failing.{leads-none, sure-parts}
+use Rattle.event_course.specs.Noted.{are_sure}
+use Rattle.event_course.proofs.Failing.{sure-parts}
 
 some-none : {X : Type 0} (x : X) (xs : List X) → xs ≡ xs ++ x ∷ [] → ⊥
 some-none x xs is = absurd (let no : [] ≡ x ∷ [] = append_cancel_left xs [] (x ∷ []) (append-nil xs ∙ is) in cc)

@@ -1,5 +1,5 @@
 -- Where no card bears on a run, its events are those that its power spans tell by themselves.
-use Rattle.std.proofs.Common.{◌≡◌, ℕ, zero, suc, ◌+◌, Bool, true, false, cond, not, ◌&&◌, nat_lt, Option, Some, None, List, [], ◌∷◌, ◌++◌, length, map, filter, take, fold, max, sum, ◌/◌, refl, ap, sym, subst, ◌∙◌, is_some}
+use Rattle.std.proofs.Common.{◌≡◌, ℕ, zero, suc, ◌+◌, Bool, true, false, cond, not, ◌&&◌, nat_lt, Option, Some, None, List, [], ◌∷◌, ◌++◌, length, map, filter, take, fold, max, sum, ◌/◌, refl, ap, sym, ◌∙◌, is_some}
 use Rattle.std.specs.Prelude.{◌==◌, flat_map, option_map, option_to_list}
 use Rattle.std.specs.List.{AllByRecursion, list_any, filter_map, cons_option}
 use Rattle.std.proofs.lemmas.List.{map-append}
@@ -12,7 +12,6 @@ use Rattle.trace_model.specs.declared.Card.{Card}
 use Rattle.trace_model.specs.declared.Action.{Action}
 use Rattle.trace_model.specs.declared.Action.TheVariants.{Select, Insert, Withdraw, Tear, Place}
 use Rattle.trace_model.specs.Trace.{TraceSecond}
-use Rattle.minute_model.specs.Activity.{last}
 use Rattle.log_model.specs.declared.lines.Break.{Break}
 use Rattle.log_model.specs.declared.lines.Break.TheVariants.{Cut, Tear as Torn}
 use Rattle.log_model.specs.declared.lines.Verdict.{Verdict}

@@ -1,10 +1,9 @@
 -- At the end of a run: what its images show of its events, by the run log, with the refused actions.
-use Rattle.std.proofs.Common.{◌≡◌, ℕ, Bool, true, false, cond, Option, Some, None, List, [], ◌∷◌, ◌++◌, map, Contains, refl, ap, sym, subst, ◌∙◌, append-nil}
+use Rattle.std.proofs.Common.{◌≡◌, ℕ, Bool, true, false, cond, Option, Some, None, List, [], ◌∷◌, ◌++◌, map, refl, ap, sym, subst, ◌∙◌, append-nil}
 use Rattle.std.specs.Prelude.{◌==◌, nat_eq, flat_map, option_to_list}
 use Rattle.std.specs.List.{AllByRecursion}
 use Rattle.trace_model.specs.declared.Card.{Card}
 use Rattle.trace_model.specs.Trace.{TraceSecond}
-use Rattle.tach_media.specs.Medium.{State}
 use Rattle.log_model.specs.declared.lines.Break.{Break}
 use Rattle.log_model.specs.declared.lines.Break.TheVariants.{Cut, Tear}
 use Rattle.log_model.specs.declared.lines.Refused.{Refused}
@@ -15,18 +14,16 @@ use Rattle.log_model.specs.Causes.{is_cut}
 use Rattle.unit_model.specs.declared.layout.TheConstants.{SPEED_LIMIT, FIRST_OVER, OVER_COUNT}
 use Rattle.unit_model.specs.Image.{number_of}
 use Rattle.event_model.specs.declared.kinds.TheConstants.{DRIVING_WITHOUT_CARD, OVER_SPEEDING, POWER_INTERRUPTION}
-use Rattle.event_model.specs.declared.entries.Over.{Over}
-use Rattle.event_model.specs.declared.entries.Span.{Span}
 use Rattle.event_model.specs.Spans.{bares_of, overs_of, gap_of}
 use Rattle.event_model.specs.Events.{Crew, Event, Tearing, events_of}
 use Rattle.event_model.specs.Places.{place_of, day_place}
-use Rattle.side_model.specs.Tables.{table_in, held_in, held_of, number_or_none, HasNumbers, HasSpeeds, HasRest, IsNotedAt, IsNoted, AreNoted}
+use Rattle.side_model.specs.Tables.{table_in, held_in, held_of, number_or_none, HasRest, IsNotedAt, AreNoted}
 use Rattle.unit_course.specs.Lines.{log_of, IsCutBefore}
 use Rattle.unit_course.specs.Followed.{Supply, Lit, Due, Lost}
 use Rattle.unit_course.proofs.Steps.{went-refusing}
-use Rattle.event_course.specs.Plain.{nobody, driver_seconds, speed_seconds, bare_event, over_event, gap_event, bares_in, overs_in, gap_to, last_in, gap_since, gap_between, gaps_in, gap_behind, plain_events, IsWithoutCards, OnlySelect}
+use Rattle.event_course.specs.Plain.{nobody, driver_seconds, speed_seconds, bare_event, over_event, gap_event, bares_in, overs_in, gap_to, last_in, gap_between, gaps_in, plain_events, OnlySelect}
 use Rattle.event_course.specs.Noted.{Lists, due_gap, lists_of, of_kind, are_sure, IsNotDue}
-use Rattle.event_course.specs.Shown.{all_kinds, no_number, first_on, count_on, ShowsEvents, ShowsRun}
+use Rattle.event_course.specs.Shown.{no_number, first_on, count_on, ShowsEvents, ShowsRun}
 use Rattle.event_course.proofs.Bridge.{events-plain}
 use Rattle.event_course.proofs.Grown.{gaps-log}
 

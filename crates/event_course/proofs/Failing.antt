@@ -1,7 +1,7 @@
 -- In which seconds a call failed, what was found kept, and which events are sure, as lines are added to a log.
-use Rattle.std.proofs.Common.{◌≡◌, ℕ, zero, suc, ◌+◌, ◌-◌, ◌*◌, ◌<◌, ◌≤◌, Bool, true, false, cond, not, ◌&&◌, ◌||◌, Option, Some, None, List, [], ◌∷◌, ◌++◌, map, filter, refl, ap, sym, subst, ◌∙◌, arith, nat_eq, is_some, append_assoc, append-nil}
+use Rattle.std.proofs.Common.{◌≡◌, ℕ, zero, suc, ◌+◌, ◌-◌, ◌*◌, ◌<◌, ◌≤◌, Bool, true, false, cond, not, ◌&&◌, ◌||◌, Option, Some, None, List, [], ◌∷◌, ◌++◌, map, filter, refl, ap, sym, ◌∙◌, arith, nat_eq, is_some, append_assoc, append-nil}
 use Rattle.std.specs.Prelude.{unwrap_or, ◌==◌, option_to_list}
-use Rattle.std.specs.List.{AllByRecursion, list_any, list_all}
+use Rattle.std.specs.List.{AllByRecursion, list_any}
 use Rattle.std.proofs.lemmas.Bool.Decides.{nat_tests}
 use Rattle.std.proofs.lemmas.List.Elements.{filter-append}
 use Rattle.std.proofs.lemmas.List.Folds.{list_any-append, list_all-append}
@@ -11,7 +11,6 @@ use Rattle.log_model.specs.Log.{RunLog, kept_by, kept_after}
 use Rattle.log_model.specs.Course.{Told}
 use Rattle.log_model.specs.Causes.{is_cut, has_failed, second_of}
 use Rattle.event_model.specs.declared.entries.Span.{Span}
-use Rattle.event_model.specs.Spans.{gap_of}
 use Rattle.event_model.specs.Events.{Event}
 use Rattle.side_model.specs.Done.{has_failed_in}
 use Rattle.side_model.specs.Events.{noting_second}

@@ -1,6 +1,5 @@
 -- Which bytes tell of which events: the places of a type, and writes of the journal.
-use Rattle.std.proofs.Common.{◌≡◌, ◌⊎◌, ⊎_elim, ℕ, ◌+◌, ◌-◌, ◌<◌, ◌≤◌, List, [], ◌∷◌, map, take, drop, Contains, refl, ap, sym, ◌∙◌, arith}
-use Rattle.std.specs.List.{range_with_len}
+use Rattle.std.proofs.Common.{◌≡◌, ◌⊎◌, ⊎_elim, ℕ, ◌+◌, ◌-◌, ◌<◌, ◌≤◌, List, take, drop, Contains, ap, sym, ◌∙◌, arith}
 use Rattle.std.proofs.lemmas.List.{drop-drop}
 use Rattle.card_layout.specs.Images.{SameOutside, bytes_at, big_number}
 use Rattle.card_layout.proofs.Images.{part_before, part_after, part_in}

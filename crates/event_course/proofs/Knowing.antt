@@ -1,18 +1,13 @@
 -- What is known of the cuts between spans, as spans come.
-use Rattle.std.proofs.Common.{◌≡◌, ◌⊎◌, inl, inr, ⊎_elim, ℕ, suc, ◌+◌, ◌-◌, ◌≤◌, Bool, true, false, cond, Option, Some, None, List, [], ◌∷◌, ◌++◌, take, refl, ap, sym, subst, ◌∙◌, append-nil}
+use Rattle.std.proofs.Common.{◌≡◌, inl, ℕ, ◌+◌, ◌-◌, Bool, true, false, cond, Option, Some, None, List, [], ◌∷◌, ◌++◌, sym, subst, append-nil}
 use Rattle.std.specs.List.{AllByRecursion}
 use Rattle.minute_model.specs.Activity.{last}
 use Rattle.log_model.specs.declared.lines.Break.{Break}
-use Rattle.log_model.specs.Log.{kept_after}
 use Rattle.log_model.specs.Course.{Told}
-use Rattle.log_model.specs.Spans.{first_in}
 use Rattle.history_model.specs.History.{cut_second}
-use Rattle.side_model.specs.Done.{has_failed_in}
-use Rattle.unit_course.specs.Turn.{cut_at_end, cut_last}
-use Rattle.unit_course.specs.Lines.{log_of, tells_cut}
 use Rattle.unit_course.specs.Followed.{as_spans}
 use Rattle.event_course.specs.Plain.{number_or_0, last_in}
-use Rattle.event_course.specs.Gaps.{IsTold, IsUntold, IsKnownGap, AreKnownGaps, OfLast}
+use Rattle.event_course.specs.Gaps.{IsTold, IsKnownGap, AreKnownGaps, OfLast}
 
 pub no-end : (xs : List (List Told)) (x : List Told) → xs ++ x ∷ [] ≡ [] → ⊥
 no-end [] x e = cc

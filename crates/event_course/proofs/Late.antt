@@ -3,7 +3,7 @@ use Rattle.std.proofs.Common.{◌≡◌, ℕ, ◌+◌, ◌-◌, ◌/◌, ◌≤�
 use Rattle.std.specs.List.{AllByRecursion, filter_map, cons_option}
 use Rattle.event_model.specs.declared.entries.Over.{Over}
 use Rattle.event_model.specs.declared.entries.Span.{Span}
-use Rattle.event_model.specs.Runs.{runs_behind, ended_runs}
+use Rattle.event_model.specs.Runs.{runs_behind}
 use Rattle.event_model.specs.Spans.{DriverSecond, SpeedSecond, is_above, bare_of, bares_of, over_of, overs_of}
 use Rattle.event_course.proofs.Bridge.{each-push}
 

@@ -1,7 +1,6 @@
 -- What every image shows of the events, from before a step to behind it.
-use Rattle.std.proofs.Common.{◌≡◌, ◌⊎◌, inl, inr, ⊎_elim, ℕ, zero, suc, ◌+◌, ◌-◌, ◌<◌, ◌≤◌, min, Bool, true, false, cond, Option, Some, None, IfSome, List, [], ◌∷◌, ◌++◌, length, Contains, drop, refl, ap, sym, subst, ◌∙◌, arith, nat_eq, is_some, length-append}
+use Rattle.std.proofs.Common.{◌≡◌, ◌⊎◌, ⊎_elim, ℕ, zero, suc, ◌+◌, ◌-◌, ◌<◌, ◌≤◌, Bool, true, false, cond, Option, Some, None, IfSome, List, [], ◌∷◌, ◌++◌, length, Contains, refl, ap, sym, subst, ◌∙◌, arith, nat_eq, is_some, length-append}
 use Rattle.std.specs.Prelude.{◌==◌, slice_index_or}
-use Rattle.std.specs.List.{AllByRecursion}
 use Rattle.std.proofs.lemmas.Bool.Decides.{nat_tests}
 use Rattle.trace_model.specs.declared.Card.{Card}
 use Rattle.tach_media.specs.Medium.{State, IsCoherent, LeavesOnly}
@@ -10,9 +9,9 @@ use Rattle.unit_model.specs.declared.layout.TheConstants.{FIRST_OVER, OVER_COUNT
 use Rattle.unit_model.specs.Image.{number_of}
 use Rattle.event_model.specs.declared.kinds.TheConstants.{DRIVING_WITHOUT_CARD, OVER_SPEEDING, POWER_INTERRUPTION}
 use Rattle.event_model.specs.Events.{Event}
-use Rattle.side_model.specs.Tables.{table_in, IsNoted, AreNoted}
+use Rattle.side_model.specs.Tables.{table_in, AreNoted}
 use Rattle.event_course.specs.Noted.{Lists, no_events, of_kind, are_sure, Leads, AllLead}
-use Rattle.event_course.specs.Shown.{all_kinds, no_number, first_begin, first_on, count_on, HaveBegins, ShowsEvents, HasNoted, ShowsMore}
+use Rattle.event_course.specs.Shown.{all_kinds, no_number, first_on, count_on, HaveBegins, ShowsEvents, HasNoted, ShowsMore}
 
 -- each type
 pub each-kind : (P : ℕ → Type 0) → P 0x01 → P 0x03 → P 0x04 → P 0x05 → P 0x06 → P 0x07 → P 0x08 → P 0x40 → (kind : ℕ) → Contains all_kinds kind → P kind

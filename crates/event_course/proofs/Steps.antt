@@ -1,12 +1,10 @@
 -- THE EVENTS OF A RUN WITHOUT CARDS, STEP BY STEP: what is to be noted behind a step, from what was to be noted before it.
-use Rattle.std.proofs.Common.{◌≡◌, ◌⊎◌, inl, inr, ⊎_elim, ℕ, zero, suc, ◌+◌, ◌-◌, ◌%◌, ◌≤◌, Bool, true, false, Option, Some, None, List, [], ◌∷◌, ◌++◌, length, map, take, drop, fold, refl, ap, sym, subst, ◌∙◌, arith, nat_lt, append_assoc, append-nil}
+use Rattle.std.proofs.Common.{◌≡◌, ◌⊎◌, inl, inr, ⊎_elim, ℕ, zero, suc, ◌+◌, ◌-◌, ◌%◌, ◌≤◌, Bool, true, false, Option, List, [], ◌∷◌, ◌++◌, length, map, take, drop, fold, refl, ap, sym, subst, ◌∙◌, arith, nat_lt, append_assoc, append-nil}
 use Rattle.std.specs.Prelude.{flat_map, option_to_list}
 use Rattle.std.specs.List.{AllByRecursion}
 use Rattle.std.proofs.lemmas.List.{append_cancel_right}
-use Rattle.activity_codec.specs.declared.values.Slot.{Slot}
-use Rattle.activity_codec.specs.declared.values.Pick.{Pick}
 use Rattle.trace_model.specs.declared.Action.{Action}
-use Rattle.trace_model.specs.Trace.{TraceSecond, driven, dark}
+use Rattle.trace_model.specs.Trace.{TraceSecond, driven}
 use Rattle.minute_model.specs.declared.Rule.{Rule}
 use Rattle.run_model.specs.Span.{picks_of}
 use Rattle.log_model.specs.declared.lines.Break.{Break}
@@ -20,17 +18,16 @@ use Rattle.event_model.specs.declared.entries.Over.{Over}
 use Rattle.event_model.specs.declared.entries.Span.{Span}
 use Rattle.event_model.specs.Spans.{bares_of, overs_of, all_bare, at_speed}
 use Rattle.event_model.specs.Events.{Event}
-use Rattle.side_model.specs.Done.{has_failed_in}
 use Rattle.unit_course.specs.Turn.{IsSelection, lit_second, lit_seconds, dark_seconds, cut_last, begins_with}
-use Rattle.unit_course.specs.Lines.{log_of, cut_at, with_kept, found_from, IsCutBefore, tells_cut}
+use Rattle.unit_course.specs.Lines.{log_of, cut_at, found_from, IsCutBefore, tells_cut}
 use Rattle.unit_course.specs.Followed.{Supply, Lit, Due, Lost, Progress, going_on, as_spans, cuts_from, Followed, MayPower, MayFail, IsDark}
-use Rattle.unit_course.proofs.Lines.{kept-now, tells-found, tells-front, tells-behind, tells-none, tells-here, cuts-front, take-front, take-all}
+use Rattle.unit_course.proofs.Lines.{kept-now, tells-found, tells-behind, tells-none, tells-here, cuts-front, take-front, take-all}
 use Rattle.unit_course.proofs.Spans.{spans-parts, spans-lit, spans-dark}
 use Rattle.unit_course.proofs.Resting.{added-tells}
 use Rattle.unit_course.proofs.Ties.{found-same}
 use Rattle.unit_course.proofs.Cutting.{spans-cut, second}
-use Rattle.unit_course.proofs.Seconds.{by-supply, powered_seconds, turned_seconds, failed_seconds, dark_minute, off_seconds}
-use Rattle.event_course.specs.Plain.{driver_seconds, speed_seconds, bare_event, over_event, bares_in, overs_in, gap_to, last_in, gap_since, gap_between, gaps_in, gap_behind, gap_found}
+use Rattle.unit_course.proofs.Seconds.{by-supply, powered_seconds, turned_seconds, failed_seconds}
+use Rattle.event_course.specs.Plain.{driver_seconds, speed_seconds, bare_event, over_event, bares_in, overs_in, gap_to, last_in, gap_since, gaps_in, gap_behind, gap_found}
 use Rattle.event_course.specs.Noted.{Lists, no_events, due_gap, lists_of, lists_at, are_sure, StayFailed, Leads, AllLead}
 use Rattle.event_course.specs.Gaps.{IsTold, IsUntold, IsKnownGap, AreKnownGaps, OfLast, IsKnownLast, HasGaps}
 use Rattle.event_course.proofs.Failing.{failed-stays, failed-here, failed-found, kept-added, kept-earlier, sure-before, sure-parts, leads-stay, leads-more, leads-none, since-failed, behind-failed}

@@ -1,23 +1,21 @@
 -- Seconds as they are fed: one, with the cards that are accepted in it; and several in which nothing happens.
-use Rattle.std.proofs.Common.{◌≡◌, ℕ, zero, suc, ◌+◌, ◌≤◌, Bool, true, false, cond, not, Option, Some, None, List, [], ◌∷◌, ◌++◌, map, take, fold, refl, ap, sym, subst, ◌∙◌, arith, append_assoc, append-nil, is_some}
+use Rattle.std.proofs.Common.{◌≡◌, ℕ, zero, suc, ◌+◌, ◌≤◌, Bool, true, false, cond, Option, Some, None, List, [], ◌∷◌, ◌++◌, map, take, fold, refl, ap, sym, ◌∙◌, arith, append_assoc, append-nil, is_some}
 use Rattle.std.specs.Prelude.{slice_get}
 use Rattle.std.specs.List.{AllByRecursion}
 use Rattle.std.proofs.lemmas.List.Sums.{fold-append}
-use Rattle.activity_codec.specs.declared.values.Slot.{Slot}
 use Rattle.trace_model.specs.declared.Card.{Card}
 use Rattle.trace_model.specs.declared.Action.{Action}
 use Rattle.trace_model.specs.Trace.{TraceSecond, driven}
 use Rattle.tacho_types.specs.declared.card_number.FullCardNumber.{FullCardNumber}
-use Rattle.log_model.specs.Log.{RunLog, Phase, In, Keeping, cut_in}
+use Rattle.log_model.specs.Log.{RunLog, Phase, In, Keeping}
 use Rattle.log_model.specs.Slots.{Slots}
-use Rattle.log_model.specs.Course.{Course, Told, Went, Before, both_told, unmoved, all_acted, fresh, cut_told, lit_course, has_power, second_told, before_next, went, not_begun}
-use Rattle.event_model.specs.Events.{Seen, Watched, Crew as Cards, crew_of, watched_on, course_by, moved_by_action, within_by, seen_by, seen_of}
+use Rattle.log_model.specs.Course.{Course, Told, Before, both_told, unmoved, all_acted, fresh, cut_told, lit_course, has_power, second_told, before_next, went, not_begun}
+use Rattle.event_model.specs.Events.{Watched, crew_of, watched_on, course_by, moved_by_action, within_by, seen_by, seen_of}
 use Rattle.run_course.specs.Quiet.{quiet_second}
 use Rattle.run_course.proofs.Moments.{both-still}
 use Rattle.run_events.specs.Seconds.{IsQuiet, seen_next}
 use Rattle.run_events.proofs.Growing.{sees-all}
 use Rattle.run_events.proofs.Later.{told-number}
-use Rattle.run_crew.specs.declared.cards.Crew.{Crew}
 use Rattle.run_notes.specs.Watching.{CrewSecond, seconds_with}
 use Rattle.event_crews.specs.Watched.{watched, named}
 use Rattle.event_crews.specs.Fed.{IsSilentFrom, going_with, still_second, still_seconds}

@@ -1,5 +1,5 @@
 -- What has ended of a span's seconds, and of these as they are watched, one for one.
-use Rattle.std.proofs.Common.{◌≡◌, ◌∙◌, ℕ, ◌+◌, Bool, true, false, cond, Option, Some, None, List, [], ◌∷◌, ◌++◌, length, map, fold, max, sum, ◌/◌, refl, ap, sym, subst, replicate, nat_lt}
+use Rattle.std.proofs.Common.{◌≡◌, ◌∙◌, ℕ, ◌+◌, Bool, true, false, cond, Option, Some, None, List, [], ◌∷◌, ◌++◌, length, map, fold, max, sum, ◌/◌, refl, ap, sym, subst, nat_lt}
 use Rattle.std.specs.Prelude.{option_map, not, ◌&&◌, is_some, flat_map}
 use Rattle.std.specs.List.{filter_map, cons_option}
 use Rattle.trace_model.specs.declared.Card.{Card}
@@ -7,8 +7,8 @@ use Rattle.tacho_types.specs.CardNumber.{card_number_bytes}
 use Rattle.tacho_types.specs.declared.card_number.FullCardNumber.{FullCardNumber}
 use Rattle.log_model.specs.Slots.{Sitting, is_accepted}
 use Rattle.event_model.specs.declared.entries.Over.{Over}
-use Rattle.event_model.specs.declared.kinds.TheConstants.{DRIVING_WITHOUT_CARD, OVER_SPEEDING}
-use Rattle.event_model.specs.Runs.{run_with, ended_by, runs_behind, ended_runs}
+use Rattle.event_model.specs.declared.kinds.TheConstants.{OVER_SPEEDING}
+use Rattle.event_model.specs.Runs.{runs_behind, ended_runs}
 use Rattle.event_model.specs.Spans.{SpeedSecond, first_of, last_of, over_of, numbers, speeds, is_above}
 use Rattle.trace_model.specs.Trace.{TraceSecond}
 use Rattle.log_model.specs.Log.{RunLog}
@@ -16,7 +16,7 @@ use Rattle.event_model.specs.Events.{Event, Seen, seen_of, seen_spans, is_bare, 
 use Rattle.side_model.specs.Tables.{number_or_none}
 use Rattle.run_crew.specs.declared.cards.Crew.{Crew}
 use Rattle.run_notes.specs.Entries.{number_or_no_card}
-use Rattle.run_notes.specs.Watching.{CrewSecond, BareWith, OverWith, bare_with, over_with, bares_with, overs_with, driver_second, is_fast, last_crew}
+use Rattle.run_notes.specs.Watching.{CrewSecond, OverWith, bare_with, over_with, bares_with, overs_with, driver_second, is_fast, last_crew}
 use Rattle.run_notes.specs.Watching as watch
 use Rattle.event_crews.specs.Watched.{watched, named, number_bytes, ArePairs, IsBareOf, IsFastOf}
 

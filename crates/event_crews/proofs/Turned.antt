@@ -1,8 +1,7 @@
 -- What a turn of seconds ends is what it brings, and what is noted of it is shown.
-use Rattle.std.proofs.Common.{◌≡◌, ◌⊎◌, inl, inr, ⊎_elim, ℕ, ◌+◌, ◌^◌, ◌<◌, Bool, true, false, cond, Option, Some, None, List, [], ◌∷◌, ◌++◌, length, map, fold, Contains, refl, ap, sym, subst, ◌∙◌, arith, nat_eq}
+use Rattle.std.proofs.Common.{◌≡◌, ◌⊎◌, inl, inr, ℕ, ◌+◌, Bool, true, false, cond, Option, Some, None, List, [], ◌∷◌, ◌++◌, length, map, fold, Contains, refl, ap, sym, subst, ◌∙◌, arith}
 use Rattle.std.specs.Prelude.{option_map, option_to_list}
 use Rattle.std.specs.List.{AllByRecursion, filter_map, cons_option}
-use Rattle.std.proofs.lemmas.Bool.{eq-eqb}
 use Rattle.std.proofs.lemmas.List.{map-append}
 use Rattle.std.proofs.lemmas.List.Elements.{filter_map-append}
 use Rattle.trace_model.specs.declared.Card.{Card}
@@ -10,11 +9,10 @@ use Rattle.tacho_types.specs.declared.card_number.FullCardNumber.{FullCardNumber
 use Rattle.log_model.specs.Log.{RunLog}
 use Rattle.event_model.specs.declared.kinds.TheConstants.{DRIVING_WITHOUT_CARD, OVER_SPEEDING}
 use Rattle.event_model.specs.declared.entries.Over.{Over}
-use Rattle.event_model.specs.Runs.{run_with, last_run, ended_by, runs_behind, ended_runs}
-use Rattle.event_model.specs.Spans.{SpeedSecond, over_of}
+use Rattle.event_model.specs.Runs.{run_with, last_run, runs_behind, ended_runs}
+use Rattle.event_model.specs.Spans.{over_of}
 use Rattle.event_model.proofs.RunLemmas.{ended_runs-append}
 use Rattle.event_model.specs.Events.{Event, Seen, number_of, last_seen, is_bare, bare_event, speed_second, over_event, run_event}
-use Rattle.unit_notes.specs.Fields.{IsEventOf, IsOverOf}
 use Rattle.unit_notes.specs.declared.unit_event.UnitEvent.{UnitEvent}
 use Rattle.unit_notes.specs.Entries.{fault_bytes, over_bytes}
 use Rattle.unit_model.specs.declared.layout.TheConstants.{FIRST_OVER, OVER_COUNT}
@@ -33,7 +31,7 @@ use Rattle.run_notes.specs.declared.watch.Ended.{Ended}
 use Rattle.run_notes.specs.declared.watch.Watch.{Watch}
 use Rattle.run_notes.specs.Watching.{BareWith, OverWith, CrewSecond, StandsFor, seconds_with, bares_with, overs_with, bare_ended, over_ended}
 use Rattle.run_notes.specs.Entries.{number_or_no_card, entry_of}
-use Rattle.run_notes.specs.Noting.{IsBareNoted, IsNotingBare, IsFastNoted, IsNotingFast, AreNoted, AreNotedAfter, AreBeingNoted, IsFed}
+use Rattle.run_notes.specs.Noting.{IsBareNoted, IsNotingBare, IsFastNoted, IsNotingFast, AreNoted, AreBeingNoted, IsFed}
 use Rattle.event_crews.specs.Watched.{watched, number_bytes, ArePairs, IsBareOf, IsFastOf}
 use Rattle.event_crews.specs.Turned.{AreEnded, IsLow, AreLow}
 use Rattle.event_crews.proofs.Pairs.{bares-are, fasts-are}

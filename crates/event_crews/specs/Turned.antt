@@ -1,14 +1,13 @@
 -- What a turn of seconds with the same cards brings and notes (Annex IB, section III.12).
-use Rattle.std.specs.Prelude.{◌≡◌, ℕ, ◌^◌, ◌<◌, List, map, option_to_list, ◌++◌}
+use Rattle.std.specs.Prelude.{ℕ, ◌^◌, ◌<◌, List, option_to_list}
 use Rattle.std.specs.List.{AllByRecursion}
 use Rattle.trace_model.specs.declared.Card.{Card}
 use Rattle.tacho_types.specs.declared.card_number.FullCardNumber.{FullCardNumber}
-use Rattle.event_model.specs.Events.{Event, Seen, number_of}
+use Rattle.event_model.specs.Events.{Seen, number_of}
 use Rattle.run_events.specs.Seconds.{bares_by, overs_by}
 use Rattle.run_notes.specs.declared.watch.Ended.{Ended}
-use Rattle.run_notes.specs.declared.watch.Watch.{Watch}
-use Rattle.run_notes.specs.Watching.{StandsFor, bare_ended, over_ended}
-use Rattle.event_crews.specs.Watched.{watched, ArePairs, IsBareOf, IsFastOf}
+use Rattle.run_notes.specs.Watching.{bare_ended, over_ended}
+use Rattle.event_crews.specs.Watched.{ArePairs, IsBareOf, IsFastOf}
 
 -- WHAT HAS ENDED with the second before some new ones, behind those of the span, is what these bring of both types, one for one
 pub record AreEnded (number : Card → FullCardNumber) (limit : ℕ) (span new : List Seen) (ended : Ended) : Type 0 where

@@ -1,5 +1,5 @@
 -- The seconds of a span as they are watched, with the numbers of the cards that are accepted in them (Annex IB, section III.12).
-use Rattle.std.specs.Prelude.{ℕ, Option, option_map, List, [], ◌∷◌}
+use Rattle.std.specs.Prelude.{ℕ, option_map, List, [], ◌∷◌}
 use Rattle.trace_model.specs.declared.Card.{Card}
 use Rattle.tacho_types.specs.CardNumber.{card_number_bytes}
 use Rattle.tacho_types.specs.declared.card_number.FullCardNumber.{FullCardNumber}

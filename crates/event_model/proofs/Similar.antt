@@ -1,6 +1,6 @@
 -- Each held event of a type that keeps one a day counts the events of its day.
-use Rattle.std.proofs.Common.{◌≡◌, ◌≢◌, ◌∙◌, ◌⊎◌, inl, inr, ℕ, zero, suc, ◌+◌, ◌/◌, ◌<◌, ◌≤◌, min, Bool, true, false, cond, Option, Some, None, List, [], ◌∷◌, ◌++◌, length, map, refl, ap, sym, subst, arith, append-nil, append_assoc, All}
-use Rattle.std.specs.Prelude.{nat_lt, ◌==◌, ◌&&◌, not, find, fold, position, slice_index_or, slice_set}
+use Rattle.std.proofs.Common.{◌≡◌, ◌≢◌, ◌∙◌, ◌⊎◌, inl, inr, ℕ, zero, suc, ◌+◌, ◌/◌, ◌<◌, ◌≤◌, min, Bool, true, false, cond, Option, Some, None, List, [], ◌∷◌, ◌++◌, length, refl, ap, sym, subst, arith, append-nil, append_assoc, All}
+use Rattle.std.specs.Prelude.{nat_lt, ◌==◌, ◌&&◌, not, position, slice_set}
 use Rattle.std.specs.List.{list_any}
 use Rattle.std.proofs.lemmas.Bool.{eqb-true, eqb-false, eq-eqb, ne_eqb, ltb-true, ltb-false, cases_eq}
 use Rattle.std.proofs.lemmas.List.{length-append, length-map, map-set, length-set, get_or-set_same, get_or-set_other}
@@ -12,11 +12,11 @@ use Rattle.activity_codec.proofs.ByTest.{by_test}
 use Rattle.event_model.specs.declared.kinds.Purpose.{Purpose}
 use Rattle.event_model.specs.declared.entries.Held.{Held}
 use Rattle.event_model.specs.Kinds.{purpose_of, is_by_day}
-use Rattle.event_model.specs.Places.{earliest, held_at, where_later, recent_place, is_of_day, measure, place_beside, day_place, place_of, placed, noted, similar_after}
+use Rattle.event_model.specs.Places.{earliest, held_at, where_later, is_of_day, measure, place_beside, day_place, place_of, placed, noted, similar_after}
 use Rattle.event_model.specs.Kept.{stored, on_day, KeepsRecent, KeepsDays, all_noted}
-use Rattle.event_model.specs.Counted.{Counted, held_of, counted_in, similar_in, counted_at, counted, all_counted, number_of, similar_on, CountsDays}
+use Rattle.event_model.specs.Counted.{Counted, held_of, counted_in, similar_in, counted_at, counted, all_counted, similar_on, CountsDays}
 use Rattle.event_model.proofs.Retaining.{and-first, and-second, stored-one, stored-none, stored-most}
-use Rattle.event_model.proofs.Daily.{on-append, on-here, on-off, none-on, any-none, position-none, Other}
+use Rattle.event_model.proofs.Daily.{on-append, on-here, on-off, any-none, position-none, Other}
 use Rattle.event_model.proofs.Noting.{recently, daily}
 
 -- ---- one place of a list and those beside it

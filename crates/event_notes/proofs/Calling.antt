@@ -1,5 +1,5 @@
 -- What a note leaves, by what the call on the unit says.
-use Rattle.std.proofs.Common.{◌≡◌, ◌⊎◌, inl, inr, ⊎_elim, ℕ, ◌+◌, ◌*◌, ◌^◌, ◌<◌, ◌≤◌, Bool, true, false, cond, not, Option, Some, None, IfSome, List, [], ◌∷◌, ◌++◌, length, map, replicate, refl, ap, sym, subst, ◌∙◌, arith, append-nil}
+use Rattle.std.proofs.Common.{◌≡◌, ◌⊎◌, inl, inr, ⊎_elim, ℕ, ◌+◌, ◌*◌, ◌^◌, ◌<◌, Bool, true, false, cond, not, Option, Some, None, IfSome, List, [], ◌∷◌, map, replicate, refl, ap, sym, subst, ◌∙◌, arith}
 use Rattle.std.specs.Prelude.{◌==◌, option_to_list}
 use Rattle.tach_media.specs.Medium.{State, IsCoherent, LeavesOnly, HasCause, LiesInside}
 use Rattle.tach_media.proofs.Runs.{goes_on, weaken, at_image, where_told}
@@ -15,15 +15,15 @@ use Rattle.event_model.specs.Spans.{gap_of}
 use Rattle.event_model.specs.Events.{Event}
 use Rattle.unit_notes.specs.declared.unit_event.UnitEvent.{UnitEvent}
 use Rattle.unit_notes.specs.Entries.{fault_bytes, over_bytes}
-use Rattle.unit_notes.specs.Fields.{IsEventOf, IsOverOf}
+use Rattle.unit_notes.specs.Fields.{IsEventOf}
 use Rattle.unit_notes.specs.Noting.{IsNotingEvent, IsEventNoted, IsNotingOver, IsOverNoted}
 use Rattle.unit_notes.specs.Journal.{LeavesJournal}
 use Rattle.unit_notes.proofs.EntryFields.{event_front_of, over_front_of}
 use Rattle.unit_notes.proofs.Placing.{is_noted}
-use Rattle.event_course.specs.Plain.{bare_event, over_event, gap_event, gap_to}
+use Rattle.event_course.specs.Plain.{bare_event, over_event, gap_event}
 use Rattle.event_course.specs.Noted.{Lists, no_events, one_bare, one_over, one_gap, are_sure, Leads, StayFailed, AllLead}
-use Rattle.event_course.specs.Shown.{no_number, HasNoted}
-use Rattle.event_course.proofs.Failing.{sure-before, sure-parts, leads-stay}
+use Rattle.event_course.specs.Shown.{no_number}
+use Rattle.event_course.proofs.Failing.{sure-parts, leads-stay}
 use Rattle.event_course.proofs.Shows.{noted-then, noted-aside, noted-after, itself-more}
 use Rattle.event_notes.proofs.Frames.{bares-apart, gaps-apart, noting-more, bare-noted, gap-noted, over-noting, over-noted, overs-stay, bares-stay}
 use Rattle.event_course.specs.Tables.{table_in, IsNoted}

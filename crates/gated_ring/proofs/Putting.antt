@@ -7,7 +7,7 @@ use Rattle.std.proofs.lemmas.Bool.{cases_eq, cases_lt}
 use Rattle.std.proofs.lemmas.List.{take-take, drop-take, drop-drop}
 use Rattle.tach_media.specs.Medium.{put, bytes_at, SameOutside, IsPartlyWritten}
 use Rattle.tach_media.proofs.Images.{put_outside, part_before, part_after, part_put, part_split, outside_wider, outside_then}
-use Rattle.gated_ring.specs.Ring.{Shape, IsShape, size_of, place_of, gate_of, pointer, PointsInside, is_there, entry_at, next, order, indices, indices_with, indices_without, gate_bytes, gate_number, with_head, up_to, IsRun, IsDense}
+use Rattle.gated_ring.specs.Ring.{Shape, IsShape, size_of, place_of, gate_of, pointer, PointsInside, is_there, entry_at, next, order, indices, indices_with, indices_without, gate_number, with_head, up_to, IsRun, IsDense}
 use Rattle.gated_ring.specs.Change.{SameOthers, IsReplaced, IsAbsent, IsReplacingEntry, IsClosed, IsSet, OrUnwritten}
 use Rattle.gated_ring.proofs.Steps.{freed, with_body, replaced, IsReplacing}
 use Rattle.gated_ring.proofs.Places.{place_high}

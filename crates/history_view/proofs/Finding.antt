@@ -16,7 +16,7 @@ use Rattle.card_image.specs.CardFile.{FileEntry, entry_bytes, is_value, values_o
 use Rattle.view_text.specs.Exact.{both}
 use Rattle.history_view.specs.declared.parts.Found.{Found}
 use Rattle.history_view.specs.CardFiles.{is_empty, are_sizes, sizes_told, are_days, are_vehicles, may_follow, all_follow}
-use Rattle.history_view.specs.Reading.{AreSizes, SizesAre, PartIs, days_size, vehicles_size, Stands}
+use Rattle.history_view.specs.Reading.{SizesAre, PartIs, days_size, vehicles_size, Stands}
 
 -- the values of a file among the entries and one more
 values_both : (fid : ℕ) (es : List FileEntry) (e : FileEntry) → values_of fid (es ++ e ∷ []) ≡ values_of fid es ++ values_of fid (e ∷ [])

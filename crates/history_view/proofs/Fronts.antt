@@ -1,7 +1,7 @@
 -- The front of a card file that was read.
-use Rattle.std.proofs.Common.{◌≡◌, ◌∙◌, ◌⊎◌, inl, inr, ℕ, zero, suc, ◌+◌, ◌*◌, ◌≤◌, ◌<◌, ◌&&◌, Bool, true, false, not, Option, Some, None, List, [], ◌∷◌, ◌++◌, length, map, take, drop, refl, ap, sym, subst, arith, All, append_assoc, append-nil, length-append}
+use Rattle.std.proofs.Common.{◌≡◌, ◌∙◌, inl, inr, ℕ, zero, suc, ◌+◌, ◌*◌, ◌≤◌, ◌<◌, ◌&&◌, Bool, true, false, not, Option, Some, None, List, [], ◌∷◌, ◌++◌, length, map, drop, refl, ap, sym, subst, arith, All, append_assoc, append-nil, length-append}
 use Rattle.std.specs.Prelude.{is_some, ◌||◌, ◌==◌, nat_lt}
-use Rattle.std.proofs.lemmas.List.{length-drop, drop-drop}
+use Rattle.std.proofs.lemmas.List.{length-drop}
 use Rattle.std.proofs.lemmas.List.Elements.{All-append, All-nil}
 use Rattle.std.proofs.lemmas.Bool.{ltb-true}
 use Rattle.std.proofs.lemmas.Bool.Decides.{nat_tests}
@@ -10,15 +10,14 @@ use Rattle.tach_media.specs.Medium.{bytes_at}
 use Rattle.card_layout.specs.declared.files.Application.{Application}
 use Rattle.card_layout.specs.Application.{IsApplication, first_bad_field}
 use Rattle.card_model.specs.Checks.{first_bad}
-use Rattle.card_image.specs.CardFile.{FileEntry, entry_bytes, IsFileEntry, values_of, IsCardFile, string_alone, vehicles_alone}
+use Rattle.card_image.specs.CardFile.{FileEntry, entry_bytes, IsFileEntry, values_of, string_alone, vehicles_alone}
 use Rattle.gated_ring.specs.Ring.{pointer}
 use Rattle.view_text.specs.Exact.{both}
 use Rattle.history_view.specs.declared.entry.EntryAt.{EntryAt}
 use Rattle.history_view.specs.declared.parts.Found.{Found}
-use Rattle.history_view.specs.declared.parts.Parts.{Parts}
-use Rattle.history_view.specs.CardFiles.{is_empty, are_sizes, are_days, are_vehicles, may_follow, all_follow, lacks, HasNoEntry, IsUnfit, IsBadCardFile}
-use Rattle.history_view.specs.Reading.{told_at, IsEntryAt, AreSizes, SizesAre, PartIs, days_size, vehicles_size, Stands, ArePartsOf, AreParts, days_part, vehicles_part}
-use Rattle.history_view.proofs.Finding.{all_more, bytes_more, values_without}
+use Rattle.history_view.specs.CardFiles.{is_empty, are_days, are_vehicles, may_follow, all_follow, lacks, HasNoEntry, IsBadCardFile}
+use Rattle.history_view.specs.Reading.{told_at, IsEntryAt, AreSizes, SizesAre, PartIs, days_size, vehicles_size, Stands, AreParts}
+use Rattle.history_view.proofs.Finding.{all_more, bytes_more}
 
 -- some entries stand one after the other up to a place, and this was found of them
 pub record Front (bytes : List ℕ) (place : ℕ) (f : Found) : Type 0 where

@@ -1,6 +1,6 @@
 -- What loading a string that stands alone tells of its bytes.
-use Rattle.std.proofs.Common.{◌≡◌, ◌∙◌, ℕ, ◌+◌, ◌-◌, ◌%◌, ◌≤◌, ◌&&◌, Bool, true, false, not, Option, Some, None, List, length, refl, ap, sym, subst, arith}
-use Rattle.std.specs.Prelude.{is_some, ◌==◌, Result, Err, IfSome, IfNone}
+use Rattle.std.proofs.Common.{◌≡◌, ◌∙◌, ℕ, ◌+◌, ◌-◌, ◌&&◌, Bool, true, not, Option, Some, None, List, length, refl, ap, sym, subst, arith}
+use Rattle.std.specs.Prelude.{is_some, ◌==◌, Err, IfSome, IfNone}
 use Rattle.std.proofs.lemmas.Bool.Decides.{nat_tests}
 use Rattle.card_layout.specs.declared.files.Application.{Application}
 use Rattle.card_layout.specs.Application.{IsApplication}

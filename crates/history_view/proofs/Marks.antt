@@ -1,5 +1,5 @@
 -- The end mark of a card file, by the newest of its vehicle entries.
-use Rattle.std.proofs.Common.{◌≡◌, ◌∙◌, ℕ, ◌/◌, Option, Some, List, [], ◌∷◌, ◌++◌, ap}
+use Rattle.std.proofs.Common.{◌≡◌, ◌∙◌, ℕ, ◌/◌, Option, List, [], ap}
 use Rattle.card_layout.specs.declared.files.Application.{Application}
 use Rattle.card_records.specs.Vehicles.{vehicle_of}
 use Rattle.card_image.specs.CardFile.{vehicles_alone, last_minute}

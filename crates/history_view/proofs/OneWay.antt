@@ -1,5 +1,5 @@
 -- A card file does not fail: its entries stand in one way, and each may stand where it does.
-use Rattle.std.proofs.Common.{◌≡◌, ◌∙◌, ◌⊎◌, inl, inr, ⊎_elim, ℕ, zero, suc, ◌+◌, ◌*◌, ◌≤◌, ◌<◌, ◌&&◌, Bool, true, false, not, cond, Option, Some, None, List, [], ◌∷◌, ◌++◌, length, map, filter, drop, refl, ap, sym, subst, arith, All, append_assoc, append-nil}
+use Rattle.std.proofs.Common.{◌≡◌, ◌∙◌, ◌⊎◌, ⊎_elim, ℕ, suc, ◌+◌, ◌*◌, true, false, not, Option, Some, None, List, [], ◌∷◌, ◌++◌, length, map, filter, drop, refl, ap, sym, subst, arith, All, append_assoc, append-nil}
 use Rattle.std.specs.Prelude.{is_some, ◌==◌, ◌||◌, nat_lt, slice_index}
 use Rattle.std.proofs.lemmas.List.{map-append}
 use Rattle.std.proofs.lemmas.List.Elements.{filter-append}
@@ -11,7 +11,7 @@ use Rattle.card_layout.specs.Fields.{joined}
 use Rattle.card_layout.proofs.Numbers.{big_number-big_bytes}
 use Rattle.tach_media.specs.Medium.{bytes_at}
 use Rattle.card_layout.specs.declared.files.Application.{Application}
-use Rattle.card_layout.specs.Application.{application_of, first_bad_field}
+use Rattle.card_layout.specs.Application.{first_bad_field}
 use Rattle.card_model.specs.Checks.{first_bad}
 use Rattle.card_image.specs.CardFile.{FileEntry, entry_bytes, IsFileEntry, is_value, values_of, string_alone, vehicles_alone, IsCardFile}
 use Rattle.gated_ring.specs.Ring.{pointer}

@@ -1,11 +1,11 @@
 -- Worked rows, computed by the checker: files that fail, with their places, and the newest days.
-use Rattle.std.proofs.Common.{◌≡◌, inl, inr, ℕ, zero, suc, All, List, [], ◌∷◌, ◌++◌, refl, arith}
+use Rattle.std.proofs.Common.{◌≡◌, inl, inr, ℕ, zero, suc, All, [], ◌∷◌, refl, arith}
 use Rattle.std.proofs.lemmas.List.Elements.{All-nil}
-use Rattle.card_image.specs.CardFile.{FileEntry, IsFileEntry, entry_bytes}
+use Rattle.card_image.specs.CardFile.{FileEntry, IsFileEntry}
 use Rattle.message_model.specs.Messages.{IsMessage}
 use Rattle.history_view.specs.CardFiles.{IsBadCardFile, newest}
 use Rattle.history_view.specs.UnitFiles.{IsBadUnitFile}
-use Rattle.history_view.proofs.Spelling.{short_none, kind_none}
+use Rattle.history_view.proofs.Spelling.{kind_none}
 
 -- no byte at all: 0, as a card file and as a unit file
 empty_card : IsBadCardFile 0 []

@@ -1,18 +1,17 @@
 -- The minutes of the days that are shown of a unit file.
-use Rattle.std.proofs.Common.{◌≡◌, ◌∙◌, ℕ, zero, suc, ◌+◌, ◌-◌, ◌*◌, ◌/◌, ◌%◌, ◌^◌, ◌<◌, ◌≤◌, Bool, true, false, cond, Option, Some, None, option_map, List, [], ◌∷◌, ◌++◌, length, map, take, drop, get_or, refl, ap, sym, subst, arith, append_assoc}
+use Rattle.std.proofs.Common.{◌≡◌, ◌∙◌, ℕ, zero, suc, ◌+◌, ◌-◌, ◌*◌, ◌/◌, ◌%◌, ◌^◌, ◌<◌, ◌≤◌, Bool, true, false, cond, Option, Some, None, option_map, List, [], ◌∷◌, ◌++◌, length, map, take, drop, get_or, ap, sym, subst, arith}
 use Rattle.std.specs.Prelude.{flat_map, ◌==◌}
 use Rattle.std.specs.List.{range_with_len, AllByRecursion}
-use Rattle.std.proofs.lemmas.List.{length-drop, take_more, flat_map_more}
+use Rattle.std.proofs.lemmas.List.{take_more, flat_map_more}
 use Rattle.std.proofs.lemmas.List.FromFn.{get_or-map-range_with_len, length-map-range_with_len, map-range_with_len_more}
 use Rattle.activity_codec.proofs.ByTest.{by_test}
 use Rattle.card_layout.specs.Images.{number_at}
 use Rattle.activity_codec.specs.declared.words.Change.{Change}
 use Rattle.activity_codec.specs.Words.{change_of}
 use Rattle.card_retention.specs.Entries.{latest}
-use Rattle.unit_model.specs.Days.{StoredDay, UnitMinute, slot_bit, state_at, state_in, minute_at, shown, minutes_shown, day_of as stored_day_of}
-use Rattle.unit_model.specs.Image.{words_at}
+use Rattle.unit_model.specs.Days.{StoredDay, UnitMinute, state_at, state_in, minute_at, shown, minutes_shown, day_of as stored_day_of}
 use Rattle.message_model.specs.Messages.{Message, DayMessage}
-use Rattle.message_model.specs.Showing.{time_in, told_day, day_minutes, minutes_in}
+use Rattle.message_model.specs.Showing.{time_in, told_day, day_minutes}
 use Rattle.view_model.specs.declared.State.{State}
 use Rattle.view_model.specs.declared.UnitShown.{UnitShown}
 use Rattle.view_model.specs.declared.Viewed.{Viewed}

@@ -1,15 +1,14 @@
 -- The front of a unit file that was read, and what was told by it.
-use Rattle.std.proofs.Common.{◌≡◌, ◌∙◌, ℕ, zero, suc, ◌+◌, ◌≤◌, ◌<◌, true, false, Option, Some, None, List, [], ◌∷◌, ◌++◌, length, map, drop, get_or, refl, ap, sym, subst, arith, All, append_assoc, append-nil, length-append}
+use Rattle.std.proofs.Common.{◌≡◌, ◌∙◌, ℕ, zero, suc, ◌+◌, ◌≤◌, ◌<◌, false, Option, Some, None, List, [], ◌∷◌, ◌++◌, length, map, drop, get_or, refl, ap, sym, subst, arith, All, append_assoc, append-nil, length-append}
 use Rattle.std.specs.Prelude.{flat_map, is_some, OnOk, Result, Ok, Err}
-use Rattle.std.proofs.lemmas.List.{length-drop, drop-drop}
+use Rattle.std.proofs.lemmas.List.{length-drop}
 use Rattle.std.proofs.lemmas.List.Elements.{All-append, All-nil}
 use Rattle.card_layout.specs.Fields.{joined}
 use Rattle.unit_model.specs.Days.{UnitMinute}
 use Rattle.message_model.specs.Messages.{Message, Overview, DayMessage, AnOverview, ADay, AnEventList, ASpeedList, ATechnical, message_bytes, IsMessage, IsUnitFile}
-use Rattle.message_model.specs.Showing.{time_in, told_day, day_minutes, minutes_told as told_by, minutes_in}
-use Rattle.link_model.specs.declared.request.Request.{Request}
+use Rattle.message_model.specs.Showing.{time_in, told_day, day_minutes, minutes_told as told_by}
 use Rattle.link_model.specs.declared.request.Request.TheVariants.{Overview as AskOverview, Day as AskDay, Events as AskEvents, Speed as AskSpeed, Technical as AskTechnical}
-use Rattle.unit_messages.specs.Reading.{BeginsWith, BeginsNoMessage, request_of}
+use Rattle.unit_messages.specs.Reading.{BeginsNoMessage, request_of}
 use Rattle.history_view.specs.declared.unit.DayAt.{DayAt}
 use Rattle.history_view.specs.declared.unit.Told.{Told}
 use Rattle.history_view.specs.UnitFiles.{HasNoMessage, IsBadUnitFile, days_told}

@@ -1,13 +1,12 @@
 -- Walks over the days of a string, and the minutes of its words.
-use Rattle.std.proofs.Common.{◌≡◌, ◌∙◌, ℕ, zero, suc, ◌+◌, ◌≤◌, ◌<◌, ◌*◌, ◌%◌, Option, Some, None, List, [], ◌∷◌, ◌++◌, length, get_or, refl, ap, sym, subst, arith, append_assoc, append-nil, length-append}
-use Rattle.std.specs.Prelude.{slice_get}
+use Rattle.std.proofs.Common.{◌≡◌, ◌∙◌, ℕ, zero, suc, ◌+◌, ◌≤◌, ◌<◌, Option, Some, None, List, [], ◌∷◌, ◌++◌, length, get_or, refl, ap, sym, subst, arith, append_assoc, append-nil, length-append}
 use Rattle.activity_codec.specs.Words.{word_minute}
 use Rattle.card_model.specs.Days.{Day, len_of, total, Ascend, AreWords, IsDay}
-use Rattle.card_model.specs.Image.{StringShape, IsStringShape, oldest_pointer, spot, Holds}
+use Rattle.card_model.specs.Image.{StringShape, IsStringShape, Holds}
 use Rattle.card_model.proofs.Lists.{total-append}
 use Rattle.card_model.proofs.Reading.{day_is}
 use Rattle.cyclic_days.specs.declared.head.DayHead.{DayHead}
-use Rattle.cyclic_days.specs.Heads.{day_head, heads_from, heads_of, IsWalk}
+use Rattle.cyclic_days.specs.Heads.{heads_from, heads_of, IsWalk}
 use Rattle.cyclic_days.proofs.WalkOrder.{day_here}
 use Rattle.history_view.specs.Walking.{IsDayAt}
 

@@ -1,5 +1,5 @@
 -- The minutes of a unit and the entries of a card as their view shows them, and the minutes that lines stand for.
-use Rattle.std.specs.Prelude.{◌≡◌, ℕ, ◌+◌, ◌-◌, nat_lt, Bool, IsTrue, List, [], ◌∷◌, ◌++◌, map}
+use Rattle.std.specs.Prelude.{◌≡◌, ◌+◌, ◌-◌, nat_lt, Bool, IsTrue, List, [], ◌∷◌, ◌++◌, map}
 use Rattle.std.specs.List.{range_with_len, list_all}
 use Rattle.activity_codec.specs.declared.entries.Entry.{Entry}
 use Rattle.unit_model.specs.Days.{UnitMinute}

@@ -1,5 +1,5 @@
 -- Which bytes are no unit file, and where they first fail: one message is judged after another.
-use Rattle.std.specs.Prelude.{◌≡◌, ◌≢◌, ℕ, ◌-◌, List, [], ◌∷◌, ◌++◌, length, map, drop, All, flat_map}
+use Rattle.std.specs.Prelude.{◌≡◌, ◌≢◌, ℕ, List, [], ◌∷◌, ◌++◌, length, map, All, flat_map}
 use Rattle.card_layout.specs.Fields.{joined}
 use Rattle.unit_model.specs.Days.{UnitMinute}
 use Rattle.message_model.specs.Messages.{Message, AnOverview, ADay, AnEventList, ASpeedList, ATechnical, DayMessage, message_bytes, IsMessage}

@@ -1,5 +1,5 @@
 -- What the rules say of a run's end: acknowledged minutes, the agreement of unit and card, presence.
-use Rattle.std.proofs.Common.{◌≡◌, ⊎_elim, ℕ, suc, ◌<◌, ◌≤◌, ◌↔◌, max, All, Option, List, [], ◌∷◌, ◌++◌, Contains, ap, subst, sym, ◌∙◌, arith}
+use Rattle.std.proofs.Common.{◌≡◌, ⊎_elim, ℕ, suc, ◌<◌, ◌≤◌, ◌↔◌, max, All, Option, List, [], ◌∷◌, ◌++◌, Contains, subst, sym, arith}
 use Rattle.std.proofs.lemmas.List.Elements.{All-contains, Contains-append_left, Contains-append_cases}
 use Rattle.std.specs.Prelude.{option_to_list}
 use Rattle.activity_codec.specs.declared.entries.Entry.{Entry}

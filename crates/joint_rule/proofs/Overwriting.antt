@@ -7,15 +7,15 @@ use Rattle.card_model.specs.Days.{AreDays}
 use Rattle.card_retention.specs.Expected.{WordDay, Counted, counted, expected_days}
 use Rattle.card_retention.specs.Shown.{AllBefore}
 use Rattle.card_retention.specs.Entries.{newest_word}
-use Rattle.card_retention.specs.Retains.{Rise, CardRetains}
+use Rattle.card_retention.specs.Retains.{CardRetains}
 use Rattle.card_retention.proofs.Due.{before_counted, counted_then, retains_due}
 use Rattle.card_image.specs.Fields.{card_days, end_mark, session_time}
-use Rattle.card_image.specs.View.{Held, CardView, card_view}
+use Rattle.card_image.specs.View.{card_view}
 use Rattle.card_image.specs.Own.{own_sizes, own_view, own_covered, counted_view, expected_with, StandsFrom, KeepsFrom, KeepsOf}
 use Rattle.card_image.proofs.Newest.{counting_before}
 use Rattle.history_model.specs.Presence.{CardStart}
 use Rattle.history_model.proofs.Filters.{all-back}
-use Rattle.joint_rule.specs.Views.{beyond, next_of}
+use Rattle.joint_rule.specs.Views.{beyond}
 use Rattle.joint_rule.specs.Rules.{OwedCounts}
 
 module _ (image : List ℕ) where

@@ -7,7 +7,7 @@ use Rattle.std.proofs.lemmas.Bool.Decides.{nat_tests}
 use Rattle.activity_codec.specs.declared.entries.Entry.{Entry}
 use Rattle.unit_model.specs.Image.{last_kept}
 use Rattle.owed_model.specs.Owed as unit
-use Rattle.owed_model.specs.Owed.{Cell, OwedRow, entry_of, holds, cell_entries, placed, in_order, counted, rows_in, row_in, session_in, is_row_of, row_index, row_of, owed_of, owed_to, Row, seen_row, row_view}
+use Rattle.owed_model.specs.Owed.{Cell, OwedRow, entry_of, holds, cell_entries, placed, in_order, rows_in, row_in, session_in, is_row_of, row_index, owed_of, owed_to, seen_row, row_view}
 use Rattle.joint_rule.specs.Views.{counts, owed_in}
 
 lt_true : (a b : ℕ) → a < b → nat_lt a b ≡ true

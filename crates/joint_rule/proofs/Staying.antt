@@ -11,18 +11,17 @@ use Rattle.history_model.proofs.Filters.{take-drop}
 use Rattle.card_image.specs.View.{CardView, Held}
 use Rattle.card_image.specs.Own.{own_view}
 use Rattle.joint_rule.specs.Views.{UnitView, unit_view, row, other, owed, owed_in}
-use Rattle.joint_rule.specs.Device.{Seen, CoherentViews, LeavesViews, EndsWith, Nothing, SettledViews}
+use Rattle.joint_rule.specs.Device.{Seen, LeavesViews, EndsWith, Nothing, SettledViews}
 use Rattle.joint_rule.specs.Filling.{KeepsMinute, GivesUpDay}
 use Rattle.joint_rule.specs.Steps.{IsKeeping, IsKept, IsUnkept, IsPutting, IsBeginning, IsMending, IsInserting, IsInserted, IsOnCard, IsNowOnCard, IsClosing}
-use Rattle.joint_rule.specs.Rules.{Standing, In, Torn, Stands, Cells, Fits, IsPresent, IsEntered, IsRepaired, Acknowledges, EntriesGoOn}
-use Rattle.joint_rule.specs.Marked.{of_unit, of_card, AnyAdded, HasMarked, IsOwing, IsBefore, MayCommit, IsBeside}
+use Rattle.joint_rule.specs.Rules.{Standing, In, Torn, Stands, Cells, Fits, IsPresent, IsEntered, IsRepaired, EntriesGoOn}
+use Rattle.joint_rule.specs.Marked.{of_unit, of_card, AnyAdded, HasMarked, IsOwing, IsBeside}
 use Rattle.joint_rule.proofs.Viewed.{seen-coherent}
 use Rattle.joint_rule.proofs.Holding.{acknowledged, acknowledges-on}
 use Rattle.joint_rule.proofs.Owing.{owed-put, owed-beside, owed-mend, owed-new, owed-insert, owed-close, replayed-owed, row-same}
 use Rattle.joint_rule.proofs.Pairs.{owed-on_card, owed-unmoved}
 use Rattle.joint_rule.proofs.KeepLaws.{near, owed-grown, putting-beside}
 use Rattle.joint_rule.proofs.Repairing.{repaired-unit, repaired-card, inserting-rises, on_card-rises, closing-rises}
-use Rattle.unit_model.specs.Days.{ShownDay}
 
 abbrev AnyKept : ℕ → List Entry → Held → Type 0
 AnyKept next all held = Unit {0}

@@ -1,5 +1,5 @@
 -- The answers to bytes, so far.
-use Rattle.std.proofs.Common.{◌≡◌, ℕ, ◌+◌, ◌-◌, ◌<◌, ◌≤◌, false, List, [], ◌++◌, length, take, drop, Option, IfSome, refl, sym, ◌∙◌, ap, subst, length-take, length-drop, arith}
+use Rattle.std.proofs.Common.{◌≡◌, ℕ, ◌+◌, ◌-◌, ◌<◌, ◌≤◌, false, List, ◌++◌, length, take, drop, Option, IfSome, refl, sym, ◌∙◌, ap, subst, length-take, length-drop, arith}
 use Rattle.std.proofs.lemmas.List.{take_all}
 use Rattle.tach_media.specs.Medium.{State}
 use Rattle.tach_media.proofs.Runs.{both_told}

@@ -7,7 +7,6 @@ use Rattle.tach_media.specs.Medium.{State}
 use Rattle.tach_media.specs.Streams.{AppendsFront}
 use Rattle.unit_journal.specs.Reading.{ReadsIfAny}
 use Rattle.link_model.specs.declared.request.Request.{Request}
-use Rattle.link_model.specs.declared.side.End.TheVariants as side
 use Rattle.link_model.specs.Frames.{Heard}
 use Rattle.link_model.specs.Answers.{LinkState, Reply, answered}
 use Rattle.answer_table.specs.Asking.{asks_unit}

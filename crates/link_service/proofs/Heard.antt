@@ -1,9 +1,8 @@
 -- Lines that were heard, so far.
-use Rattle.std.proofs.Common.{◌≡◌, ℕ, ◌+◌, false, List, [], ◌∷◌, ◌++◌, length, Option, Some, None, IfSome, append-nil, append_assoc, refl, sym, ◌∙◌, ap, subst, length-append, inl, inr, arith}
+use Rattle.std.proofs.Common.{◌≡◌, ℕ, ◌+◌, List, [], ◌∷◌, ◌++◌, length, Option, Some, None, IfSome, append-nil, append_assoc, refl, sym, ◌∙◌, ap, subst, length-append, arith}
 use Rattle.std.specs.Prelude.{◌≢◌, ◌⊎◌}
-use Rattle.tach_media.specs.Medium.{State}
 use Rattle.tach_media.proofs.Runs.{both_told}
-use Rattle.unit_memory.proofs.Told.{carried, one_told, told_all}
+use Rattle.unit_memory.proofs.Told.{told_all}
 use Rattle.text_fields.specs.Pieces.{pieces}
 use Rattle.hex_lines.specs.Lines.{line_bytes}
 use Rattle.link_model.specs.declared.side.End.TheVariants as side

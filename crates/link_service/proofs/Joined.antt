@@ -8,9 +8,7 @@ use Rattle.std.specs.Io.KnownBytes.{Appends}
 use Rattle.std.proofs.KnownBytes.{Appends-nil, Appends-trans}
 use Rattle.tach_media.specs.Streams.{AppendsFront}
 use Rattle.link_model.specs.declared.request.Request.{Request}
-use Rattle.link_model.specs.declared.side.End.TheVariants as side
 use Rattle.link_model.specs.Frames.{Heard}
-use Rattle.link_model.specs.Writing.{written_to}
 use Rattle.link_model.specs.Answers.{LinkState, run_from}
 use Rattle.answer_table.specs.Asking.{asks_unit}
 use Rattle.answer_table.specs.Running.{state_after}

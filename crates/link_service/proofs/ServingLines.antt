@@ -1,5 +1,5 @@
 -- A service of lines so far.
-use Rattle.std.proofs.Common.{◌≡◌, ℕ, ◌+◌, ◌-◌, ◌<◌, ◌≤◌, min, false, List, [], ◌∷◌, ◌++◌, length, take, Option, Some, None, IfSome, Result, Ok, Err, append-nil, refl, sym, ◌∙◌, ap, subst, length-append, length-take, ⊎_elim, inl, inr, arith}
+use Rattle.std.proofs.Common.{◌≡◌, ℕ, ◌+◌, ◌-◌, ◌<◌, ◌≤◌, min, false, List, [], ◌∷◌, ◌++◌, length, take, Option, Some, IfSome, Result, Ok, Err, append-nil, refl, sym, ◌∙◌, ap, subst, length-append, length-take, ⊎_elim, inl, inr, arith}
 use Rattle.std.specs.Prelude.{IsErrAnd, OnOk, IfErr, ◌≢◌, ◌⊎◌}
 use Rattle.std.specs.Io.KnownBytes.{Appends, Consumes, Keeps, IsAtEnd}
 use Rattle.std.proofs.KnownBytes.{Consumes-nil, Consumes-trans, Consumes-kept}
@@ -30,7 +30,7 @@ use Rattle.link_service.specs.declared.fault.LinesFault.TheVariants.{Ended, BadL
 use Rattle.link_service.specs.declared.service.TheConstants.{MOST}
 use Rattle.link_service.specs.Lines.{listening, IsAnswered}
 use Rattle.link_service.specs.Served.{Stops}
-use Rattle.link_service.specs.ServedLines.{bytes_in, lines_to, AreAnswered, WholeAnswered, AreHeard, IsHeard, StopsAt, StopsInLine, StopsAmong, EndedWhere, LinesSend, AreServed}
+use Rattle.link_service.specs.ServedLines.{bytes_in, lines_to, AreAnswered, WholeAnswered, AreHeard, IsHeard, StopsAt, StopsAmong, EndedWhere, LinesSend, AreServed}
 use Rattle.link_service.proofs.Joined.{none_answered, answered_on, stops_behind}
 use Rattle.link_service.proofs.Faults.{err_is}
 use Rattle.link_service.proofs.Pieces.{last_is_one}

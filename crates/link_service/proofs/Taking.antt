@@ -1,5 +1,5 @@
 -- The lines of a text, so far.
-use Rattle.std.proofs.Common.{◌≡◌, ℕ, ◌+◌, ◌<◌, ◌≤◌, false, Bor, List, [], ◌∷◌, ◌++◌, length, Option, Some, None, IfSome, append-nil, refl, sym, ◌∙◌, ap, subst, inl, arith}
+use Rattle.std.proofs.Common.{◌≡◌, ℕ, ◌+◌, ◌<◌, ◌≤◌, false, Bor, List, [], ◌∷◌, ◌++◌, length, Option, Some, None, IfSome, refl, sym, ◌∙◌, ap, subst, inl, arith}
 use Rattle.std.specs.Prelude.{◌≢◌, ◌⊎◌}
 use Rattle.tach_media.specs.Medium.{State}
 use Rattle.unit_memory.proofs.Told.{carried}

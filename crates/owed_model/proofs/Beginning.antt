@@ -14,7 +14,7 @@ use Rattle.write_plan.proofs.Plans.{partway_either, partway_outside, puts_outsid
 use Rattle.unit_model.specs.declared.layout.TheConstants.{IMAGE_SIZE, OWED, OWED_ROW_SIZE}
 use Rattle.unit_model.specs.Days.{word_minute}
 use Rattle.unit_model.specs.Decoding.{cell_check}
-use Rattle.unit_model.proofs.Numbers.{number_same, part_in, number_before, number_after, number_put4}
+use Rattle.unit_model.proofs.Numbers.{number_same, part_in, number_before, number_put4}
 use Rattle.unit_model.proofs.Numbers as numbers
 use Rattle.unit_model.proofs.Checks.{still}
 use Rattle.unit_model.proofs.StillDecodes.{rows_pass}

@@ -1,9 +1,9 @@
 -- The index of a row over a row that is begun: the spared number's stays.
-use Rattle.std.proofs.Common.{◌≡◌, ◌≢◌, ⊎_elim, ℕ, ◌+◌, ◌<◌, ◌≤◌, Bool, true, false, List, Option, Some, None, refl, sym, ◌∙◌, ap, subst, arith}
+use Rattle.std.proofs.Common.{◌≡◌, ◌≢◌, ⊎_elim, ℕ, ◌<◌, Bool, true, false, List, Option, Some, refl, sym, ◌∙◌, ap, subst, arith}
 use Rattle.std.specs.Prelude.{not, ◌&&◌, ◌==◌, nat_eq}
 use Rattle.std.specs.List.{range_with_len}
 use Rattle.std.specs.Cmp.Lexicographic.{pointwise, bytes_decides}
-use Rattle.owed_model.specs.Owed.{OwedRow, rows_in, row_in, session_in, number_in, is_row_of, row_index}
+use Rattle.owed_model.specs.Owed.{rows_in, session_in, number_in, is_row_of}
 use Rattle.owed_model.specs.Rows.{begun_index, or_else, least, empty_index, spared_index, IsRowBegun, IsRowAt}
 use Rattle.owed_model.proofs.Putting.{found_below, found_passes}
 use Rattle.owed_model.proofs.Taking.{begun_is, spared_apart}

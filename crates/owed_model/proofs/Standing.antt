@@ -1,11 +1,11 @@
 -- Rows that stand as they stood owe what they owed, over each step of a unit without a card.
-use Rattle.std.proofs.Common.{◌≡◌, ◌⊎◌, inl, inr, ⊎_elim, ℕ, ◌+◌, ◌*◌, ◌/◌, ◌%◌, ◌<◌, ◌≤◌, Bool, true, false, cond, List, [], ◌∷◌, Option, Some, None, option_map, filter, refl, sym, ◌∙◌, ap, subst, arith}
+use Rattle.std.proofs.Common.{◌≡◌, ◌⊎◌, inl, inr, ⊎_elim, ℕ, ◌+◌, ◌*◌, ◌/◌, ◌%◌, ◌<◌, ◌≤◌, Bool, true, false, cond, List, [], ◌∷◌, Option, Some, None, option_map, refl, sym, ◌∙◌, ap, arith}
 use Rattle.std.specs.Prelude.{◌&&◌, ◌==◌, nat_lt, nat_le}
 use Rattle.std.specs.List.{AllByRecursion}
 use Rattle.std.proofs.lemmas.Bool.Decides.{nat_tests}
 use Rattle.activity_codec.specs.declared.entries.Entry.{Entry}
 use Rattle.unit_model.specs.Image.{last_kept}
-use Rattle.unit_model.specs.declared.layout.TheConstants.{OWED, OWED_ROW_SIZE, ROW_CELLS, CELL_MINUTE, CELL_WORD}
+use Rattle.unit_model.specs.declared.layout.TheConstants.{OWED, OWED_ROW_SIZE, ROW_CELLS}
 use Rattle.tach_media.specs.Medium.{bytes_at}
 use Rattle.unit_model.specs.Decoding.{cell_minute, cell_word}
 use Rattle.unit_model.specs.Cells.{row_head, minute_kept}

@@ -1,5 +1,5 @@
 -- One action more.
-use Rattle.std.proofs.Common.{◌≡◌, ◌∙◌, ℕ, ◌+◌, ◌-◌, ◌<◌, ◌≤◌, Bool, Some, None, Option, List, [], ◌∷◌, ◌++◌, length, take, drop, refl, ap, sym, subst, arith, length-drop}
+use Rattle.std.proofs.Common.{◌≡◌, ◌∙◌, ℕ, ◌+◌, ◌-◌, ◌≤◌, Bool, Some, List, [], ◌∷◌, ◌++◌, length, take, drop, refl, ap, subst, arith, length-drop}
 use Rattle.std.specs.Prelude.{min}
 use Rattle.std.specs.List.{slice_get}
 use Rattle.std.proofs.lemmas.List.{take_more, get_or-drop}

@@ -1,16 +1,15 @@
 -- What an action of a second leaves of the events that are noted so far.
-use Rattle.std.proofs.Common.{◌≡◌, ◌∙◌, ◌⊎◌, ℕ, suc, ◌+◌, ◌<◌, ◌≤◌, Bool, true, false, Option, Some, None, List, [], ◌∷◌, ◌++◌, length, map, refl, ap, sym, subst, arith}
+use Rattle.std.proofs.Common.{◌≡◌, ◌∙◌, ℕ, suc, ◌+◌, Bool, true, false, Option, Some, None, List, [], ◌∷◌, ◌++◌, length, map, refl, ap, sym, subst, arith}
 use Rattle.activity_codec.specs.declared.values.Slot.{Slot}
 use Rattle.activity_codec.specs.declared.values.Slot.TheVariants.{Driver, CoDriver}
 use Rattle.trace_model.specs.declared.Card.{Card}
 use Rattle.trace_model.specs.declared.Action.{Action}
 use Rattle.trace_model.specs.declared.Action.TheVariants.{Tear as Pull}
 use Rattle.trace_model.specs.Trace.{TraceSecond}
-use Rattle.log_model.specs.declared.lines.Break.{Break}
 use Rattle.log_model.specs.declared.lines.Break.TheVariants.{Tear}
 use Rattle.log_model.specs.declared.lines.Refused.{Refused}
 use Rattle.log_model.specs.declared.lines.SlotFault.{SlotFault}
-use Rattle.log_model.specs.Log.{RunLog, Phase, In, phase_of}
+use Rattle.log_model.specs.Log.{RunLog, In}
 use Rattle.log_model.specs.Slots.{Slots, Sitting, refusal, in_slot, other_slot}
 use Rattle.log_model.specs.Course.{Visit, Before, Course, Moved, visits, card_in as card_of_sitting, with_slot, moved_by, answered, went}
 use Rattle.event_model.specs.Events.{Seen}
@@ -27,13 +26,12 @@ use Rattle.run_moments.proofs.Moment.{reaches-of}
 use Rattle.run_course.specs.Moments.{and_break, and_refused}
 use Rattle.run_course.specs.Followed.{Progress}
 use Rattle.run_course.proofs.Lookups.{break-more}
-use Rattle.run_outcome.specs.Lines.{Listed}
 use Rattle.run_outcome.specs.declared.outcome.Outcome.{Outcome}
 use Rattle.run_recorded.specs.Origin.{Origin}
 use Rattle.run_recorded.specs.Beside.{HaveLeftMore}
 use Rattle.run_keeping.specs.Keeping.{with_lines}
 use Rattle.run_within.specs.Within.{Beginning}
-use Rattle.run_evented.specs.Evented.{number_in, limit_in, Evented}
+use Rattle.run_evented.specs.Evented.{number_in, Evented}
 use Rattle.run_evented.specs.Noting.{Acting, NotesThese}
 use Rattle.run_evented.specs.SoFar.{EventedNow}
 use Rattle.run_evented.specs.Uses.{FindsNone}
@@ -42,7 +40,7 @@ use Rattle.run_evented.proofs.Passing.{refusal-adds, pull-adds}
 use Rattle.run_acts.specs.declared.run.Run.{Run}
 use Rattle.run_acts.specs.Power.{is_lit, cut_run}
 use Rattle.run_acts.specs.Acting.{pulled_run, pulled_breaks}
-use Rattle.run_acts.specs.Recording.{log_of, values_of, RunWithin, RunCut, RunGoesOn, IsNow}
+use Rattle.run_acts.specs.Recording.{log_of, values_of, RunCut, RunGoesOn, IsNow}
 use Rattle.run_acts.specs.Evented.{WithinEvented, CutEvented, InSecondEventedBy, InSecondEvented, EventsGoOn, EventsAction, RunWatches, IsWatching, span_seen}
 use Rattle.run_acts.proofs.NotedEvents.{same-says}
 use Rattle.run_acts.proofs.FallEvented.{begins-now}

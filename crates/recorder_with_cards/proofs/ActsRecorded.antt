@@ -1,16 +1,13 @@
 -- What an action of a second leaves of the record.
-use Rattle.std.proofs.Common.{◌≡◌, ◌∙◌, ℕ, suc, ◌+◌, ◌-◌, ◌≤◌, Bool, true, false, Option, Some, None, List, [], ◌∷◌, ◌++◌, length, refl, ap, sym, subst, arith, append_assoc, length-append}
-use Rattle.std.proofs.lemmas.List.{append-nil}
+use Rattle.std.proofs.Common.{◌≡◌, ◌∙◌, ℕ, suc, ◌+◌, ◌-◌, Bool, true, false, Option, Some, None, List, [], ◌∷◌, ◌++◌, length, refl, ap, sym, subst, arith, append_assoc, length-append}
 use Rattle.activity_codec.specs.declared.values.Slot.{Slot}
 use Rattle.activity_codec.specs.declared.values.Pick.{Pick}
 use Rattle.trace_model.specs.declared.Action.{Action}
 use Rattle.trace_model.specs.declared.Action.TheVariants.{Select}
 use Rattle.trace_model.specs.Trace.{TraceSecond}
-use Rattle.log_model.specs.declared.lines.Break.{Break}
 use Rattle.log_model.specs.declared.lines.SlotFault.{SlotFault}
 use Rattle.log_model.specs.Log.{In}
 use Rattle.log_model.specs.Slots.{refusal}
-use Rattle.log_model.specs.Course.{went}
 use Rattle.slot_machine.specs.Calls.{logged}
 use Rattle.slot_machine.proofs.Refusing.{refuse-alike}
 use Rattle.unit_course.specs.Followed.{Lost as IsLost}
@@ -19,22 +16,19 @@ use Rattle.unit_rule.specs.Odometer.{odometer_after}
 use Rattle.safety_model.specs.Safe.{Devices}
 use Rattle.run_course.proofs.Presence.{slots-agree}
 use Rattle.run_crew.specs.declared.cabin.Cabin.{Cabin}
-use Rattle.run_crew.specs.Cabin.{with_power_lost}
 use Rattle.run_moments.specs.Telling.{IsLeft}
 use Rattle.run_outcome.specs.declared.outcome.Outcome.{Outcome}
-use Rattle.run_outcome.specs.Lines.{Listed, cut_at}
+use Rattle.run_outcome.specs.Lines.{cut_at}
 use Rattle.run_recorded.specs.Origin.{Origin, start_at}
 use Rattle.run_keeping.specs.Books.{HaveTime}
 use Rattle.run_keeping.specs.Keeping.{with_lines}
 use Rattle.run_within.specs.Recorded.{Values, Recorded}
-use Rattle.run_within.specs.Within.{Beginning, Within, GoesOn, course_in, told_before, refused_values, heard_values, cut_values, passed_values}
+use Rattle.run_within.specs.Within.{Beginning, course_in, told_before, cut_values, passed_values}
 use Rattle.run_within.proofs.Acting.{refusal-recorded, selection-recorded}
 use Rattle.run_within.proofs.Cutting.{cut-recorded, recounted}
 use Rattle.run_acts.specs.declared.run.Run.{Run}
-use Rattle.run_acts.specs.declared.run.Power.{Power}
-use Rattle.run_acts.specs.declared.run.Power.TheVariants.{Lit, Lost}
 use Rattle.run_acts.specs.Power.{is_lit, cut_run}
-use Rattle.run_acts.specs.Recording.{log_of, values_of, IsOrigin, RunWithin, RunCut, InSecondBy, InSecond, RunFails, RunGoesOn, IsNow, RecordsAction}
+use Rattle.run_acts.specs.Recording.{log_of, values_of, IsOrigin, RunWithin, RunCut, InSecondBy, InSecond, RunFails, RunGoesOn, IsNow}
 use Rattle.recorder_with_cards.specs.Acting.{IsSelected}
 use Rattle.recorder_with_cards.specs.Recorded.{Inside, ActsBy}
 use Rattle.log_model.specs.declared.lines.Refused.{Refused}

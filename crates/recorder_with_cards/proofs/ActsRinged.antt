@@ -1,5 +1,5 @@
 -- What an action of a second leaves of the rings.
-use Rattle.std.proofs.Common.{◌≡◌, ◌∙◌, ◌⊎◌, inl, inr, ℕ, suc, ◌+◌, ◌≤◌, Bool, true, false, Option, Some, None, List, [], ◌∷◌, ◌++◌, length, refl, ap, sym, subst, arith, append_assoc, length-append}
+use Rattle.std.proofs.Common.{◌≡◌, ◌∙◌, ◌⊎◌, inl, inr, ℕ, suc, ◌+◌, ◌≤◌, true, false, Option, Some, None, List, [], ◌∷◌, ◌++◌, length, refl, ap, sym, subst, arith, append_assoc, length-append}
 use Rattle.activity_codec.specs.declared.values.Slot.{Slot}
 use Rattle.activity_codec.specs.declared.values.Pick.{Pick}
 use Rattle.trace_model.specs.declared.Card.{Card}
@@ -26,20 +26,17 @@ use Rattle.run_rings.proofs.Actions.{selections, pulls, refusals}
 use Rattle.run_rings.proofs.Same.{rings-left}
 use Rattle.run_acts.proofs.NotesThen.{behind-refused}
 use Rattle.run_course.specs.Moments.{and_break, and_refused}
-use Rattle.run_course.specs.Followed.{Progress}
 use Rattle.run_moments.specs.Reached.{course_at}
 use Rattle.run_moments.specs.Telling.{IsLeft}
 use Rattle.unit_model.specs.Image.{odometer_at}
 use Rattle.unit_rule.specs.Odometer.{odometer_after}
 use Rattle.run_keeping.specs.Keeping.{with_lines}
-use Rattle.run_outcome.specs.Lines.{Listed}
 use Rattle.run_outcome.specs.declared.outcome.Outcome.{Outcome}
 use Rattle.run_recorded.specs.Origin.{Origin}
 use Rattle.run_crew.specs.Cabin.{torn_out}
 use Rattle.run_within.specs.Within.{Beginning}
 use Rattle.run_evented.specs.Noting.{Acting}
 use Rattle.run_evented.specs.SoFar.{EventedNow}
-use Rattle.run_ringed.specs.Ringed.{Seating}
 use Rattle.run_ringed.specs.SoFar.{RingedBehind, RingedIn}
 use Rattle.run_ringed.specs.Steps.{GoesOnTo, nobody, spans_cut}
 use Rattle.run_ringed.specs.Stored.{StoresOn, StoresOff}
@@ -50,8 +47,8 @@ use Rattle.run_acts.specs.declared.run.Run.{Run}
 use Rattle.run_acts.specs.declared.run.Power.TheVariants.{Lit}
 use Rattle.run_acts.specs.Power.{with_cabin, cut_run}
 use Rattle.run_acts.specs.Acting.{pulled_run, pulled_breaks}
-use Rattle.run_acts.specs.Recording.{log_of, values_of, RunWithin, RunFails, RunGoesOn, IsNow}
-use Rattle.run_acts.specs.Evented.{WithinEvented, CutEvented, RunWatches, span_seen}
+use Rattle.run_acts.specs.Recording.{log_of, RunFails, RunGoesOn, IsNow}
+use Rattle.run_acts.specs.Evented.{CutEvented, RunWatches, span_seen}
 use Rattle.run_acts.specs.RunRinged.{seats_of, IsLastFrom, RingsWithin, WithinRinged, CutRinged, with_cut, RingsGoOn, RingsAction}
 use Rattle.run_acts.proofs.Asked.{pulls-one}
 use Rattle.run_acts.proofs.StoredRun.{run-cut}

@@ -28,7 +28,7 @@ use Rattle.run_keeping.specs.CardDeeds.{made_by, is_open_in, keeps, opens, owed_
 use Rattle.run_keeping.proofs.CardDeeds.{made-append}
 use Rattle.run_recorded.specs.Whole.{NothingFailed}
 use Rattle.run_acts.specs.Closings.{Spell, spell_of}
-use Rattle.run_acts.specs.Stays.{Stay, Shut, Shown, deeds_of, closes, open_from, after_stay, after_stays, stay_spell, spells, start_shown}
+use Rattle.run_acts.specs.Stays.{Stay, Shut, Shown, closes, open_from, after_stay, after_stays, stay_spell, spells, start_shown}
 use Rattle.recorder_with_cards.specs.Stays.{LeaveStays}
 use Rattle.recorder_with_cards.specs.Due.{AreOfRun, HasAllDue, due_on, selected_in, is_pulled_behind, minute_odometer, sittings, next_begins, is_within, keeps as due_keeps, opens as due_opens, closes as due_closes}
 

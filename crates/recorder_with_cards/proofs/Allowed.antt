@@ -1,5 +1,5 @@
 -- What an action finds that slots and speed do not refuse.
-use Rattle.std.proofs.Common.{◌≡◌, ◌∙◌, ℕ, Bool, true, false, cond, Option, Some, None, is_some, refl, ap, sym, subst}
+use Rattle.std.proofs.Common.{◌≡◌, ℕ, Bool, true, false, cond, Option, Some, None, is_some, refl}
 use Rattle.activity_codec.specs.declared.values.Slot.{Slot}
 use Rattle.activity_codec.specs.declared.values.Slot.TheVariants.{Driver, CoDriver}
 use Rattle.trace_model.specs.declared.Card.{Card}
@@ -11,7 +11,7 @@ use Rattle.run_acts.specs.declared.run.Run.{Run}
 use Rattle.recorder_with_cards.specs.Acting.{put_count, refused_by, IsSelected, IsFine}
 use Rattle.log_model.specs.declared.lines.SlotFault.{SlotFault}
 use Rattle.log_model.specs.declared.lines.SlotFault.TheVariants.{Occupied, Elsewhere}
-use Rattle.log_model.specs.Slots.{refusal, other_slot, holds, in_slot}
+use Rattle.log_model.specs.Slots.{refusal, other_slot, holds}
 use Rattle.slot_machine.specs.declared.seats.Seat.{Seat}
 use Rattle.slot_machine.specs.Calls.{Seats, seat_in, is_card, logged, sitting_of}
 

@@ -11,11 +11,11 @@ use Rattle.unit_memory.specs.declared.format.Identity.{Identity}
 use Rattle.safety_model.specs.Safe.{Devices}
 use Rattle.run_course.specs.Followed.{Progress}
 use Rattle.run_course.proofs.Told.{lit-told}
-use Rattle.run_events.specs.Seconds.{last_of, seen_next}
+use Rattle.run_events.specs.Seconds.{last_of}
 use Rattle.run_outcome.specs.declared.outcome.Outcome.{Outcome}
 use Rattle.run_recorded.specs.Origin.{Origin}
 use Rattle.run_within.specs.Recorded.{progress}
-use Rattle.run_evented.specs.Evented.{limit_in, EventedBy}
+use Rattle.run_evented.specs.Evented.{EventedBy}
 use Rattle.run_evented.specs.Noting.{Acting, stage_of}
 use Rattle.run_evented.specs.SoFar.{BeginsNow, EventedNow}
 use Rattle.run_evented.proofs.Adding.{second-begins_now, power-now, starts-now}
@@ -24,7 +24,7 @@ use Rattle.run_acts.specs.declared.run.Run.{Run}
 use Rattle.run_acts.specs.declared.run.Power.TheVariants.{Lit}
 use Rattle.run_acts.specs.Power.{over_by, minute_over}
 use Rattle.run_acts.specs.Going.{first_second, IsLit}
-use Rattle.run_acts.specs.Recording.{IsOrigin, log_of, values_of, RunWithin}
+use Rattle.run_acts.specs.Recording.{log_of, values_of, RunWithin}
 use Rattle.run_acts.specs.Evented.{IsWatching, span_of, span_seen, RunEvented, WithinEvented}
 use Rattle.run_acts.proofs.FallEvented.{begins-now}
 use Rattle.recorder_with_cards.proofs.GoingOn.{second-goes}

@@ -1,12 +1,11 @@
 -- A second begins behind one with power: nothing of its rings is noted yet.
-use Rattle.std.proofs.Common.{◌≡◌, ◌∙◌, ℕ, ◌-◌, ◌/◌, ◌%◌, ◌≤◌, Bool, true, false, not, nat_eq, Option, List, [], ◌∷◌, ◌++◌, cond, refl, ap, sym, subst, arith}
+use Rattle.std.proofs.Common.{◌≡◌, ◌∙◌, ℕ, ◌-◌, ◌/◌, ◌%◌, ◌≤◌, Bool, true, false, not, nat_eq, Option, List, [], ◌∷◌, refl, ap, sym, subst, arith}
 use Rattle.trace_model.specs.declared.Card.{Card}
 use Rattle.trace_model.specs.Trace.{TraceSecond}
 use Rattle.tach_media.specs.Medium.{State}
 use Rattle.card_layout.specs.declared.command.CardState.{CardState}
-use Rattle.log_model.specs.Log.{RunLog, In}
+use Rattle.log_model.specs.Log.{RunLog}
 use Rattle.log_model.specs.Course.{Told, Before, has_power, second_told, went}
-use Rattle.side_model.specs.Odometer.{SpanFrom}
 use Rattle.unit_course.specs.Followed.{Supply}
 use Rattle.unit_course.specs.Followed.{Lit as IsLitBy, Due as IsDueBy, Lost as IsLostBy}
 use Rattle.safety_model.specs.Safe.{Devices}
@@ -25,7 +24,7 @@ use Rattle.run_acts.specs.declared.run.Power.{Power}
 use Rattle.run_acts.specs.declared.run.Power.TheVariants.{Lit}
 use Rattle.run_acts.specs.Power.{is_lit, over_by, minute_over}
 use Rattle.run_acts.specs.Going.{first_second, IsLit}
-use Rattle.run_acts.specs.Recording.{log_of, Supplies, RunRecorded}
+use Rattle.run_acts.specs.Recording.{log_of, Supplies}
 use Rattle.run_acts.specs.RunRinged.{seats_of, IsLastFrom, RunRinged, RingsWithin, WithinRinged}
 use Rattle.run_acts.proofs.RingedSecond.{goes-last}
 use Rattle.recorder_with_cards.proofs.BegunEvented.{lit-evented}

@@ -1,14 +1,13 @@
 -- The events of the cards within a second, by the log as it began or by that of now; with power, or where it was cut.
-use Rattle.std.proofs.Common.{◌≡◌, ◌∙◌, ℕ, ◌<◌, ◌≤◌, Bool, true, false, cond, Option, List, [], ◌∷◌, ◌++◌, length, take, refl, ap, sym, subst, append-nil}
+use Rattle.std.proofs.Common.{◌≡◌, ◌∙◌, ℕ, ◌<◌, Bool, true, false, cond, Option, List, [], ◌∷◌, ◌++◌, length, take, refl, ap, sym, subst, append-nil}
 use Rattle.std.proofs.Math.Seq.{take-append_seam}
-use Rattle.activity_codec.specs.declared.values.Slot.{Slot}
 use Rattle.trace_model.specs.declared.Action.{Action}
 use Rattle.trace_model.specs.Trace.{TraceSecond}
 use Rattle.minute_model.specs.declared.Minute.{Minute}
 use Rattle.event_model.specs.Events.{Event, Seen, seen_of, seen_spans, gap_events, gaps_between, last_number}
 use Rattle.log_model.specs.declared.lines.Break.{Break}
 use Rattle.log_model.specs.Log.{RunLog, Phase, kept_after}
-use Rattle.log_model.specs.Course.{Visit, Went, went}
+use Rattle.log_model.specs.Course.{Visit, Went}
 use Rattle.std.specs.List.{AllByRecursion}
 use Rattle.side_model.specs.Done.{done_by}
 use Rattle.side_model.specs.Noted.{Note, noted_in}

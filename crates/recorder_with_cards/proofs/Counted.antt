@@ -1,12 +1,11 @@
 -- The items of a second, one by one.
-use Rattle.std.proofs.Common.{◌≡◌, ◌∙◌, ℕ, zero, suc, ◌+◌, ◌-◌, ◌<◌, ◌≤◌, Some, List, [], ◌∷◌, take, drop, refl, ap, sym, subst, arith}
-use Rattle.std.specs.Prelude.{count_by}
+use Rattle.std.proofs.Common.{◌≡◌, ◌∙◌, ℕ, suc, ◌+◌, ◌-◌, ◌<◌, Some, List, take, drop, ap, arith}
 use Rattle.std.specs.List.{slice_get}
 use Rattle.std.proofs.lemmas.List.Sums.{sum_by-cons}
 use Rattle.trace_model.specs.declared.Item.{Item}
 use Rattle.run_outcome.specs.Room.{insertions, insertion_count}
 use Rattle.run_outcome.proofs.Items.{left-here}
-use Rattle.recorder_with_cards.specs.Items.{between, insertions_in}
+use Rattle.recorder_with_cards.specs.Items.{insertions_in}
 
 -- there is none behind the last
 pub none-in : (items : List Item) (to : ℕ) → insertions_in to to items ≡ 0

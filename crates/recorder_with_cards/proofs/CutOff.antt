@@ -1,5 +1,5 @@
 -- Power is lost in a second: so a run is cut.
-use Rattle.std.proofs.Common.{◌≡◌, ℕ, suc, true, None, List, [], ◌∷◌, ◌++◌, length, refl, subst}
+use Rattle.std.proofs.Common.{◌≡◌, ℕ, suc, true, List, [], ◌∷◌, ◌++◌, length, refl, subst}
 use Rattle.trace_model.specs.Trace.{TraceSecond}
 use Rattle.log_model.specs.Log.{In}
 use Rattle.unit_course.specs.Followed.{Lost}

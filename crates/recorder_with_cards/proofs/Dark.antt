@@ -1,10 +1,9 @@
 -- Power lost before an `off` line.
-use Rattle.std.proofs.Common.{◌≡◌, ◌∙◌, ℕ, ◌+◌, ◌-◌, ◌*◌, ◌/◌, ◌%◌, ◌<◌, ◌≤◌, Bool, true, false, Option, List, [], ◌∷◌, ◌++◌, length, refl, ap, sym, subst, arith}
+use Rattle.std.proofs.Common.{◌≡◌, ◌∙◌, ℕ, ◌+◌, ◌-◌, ◌/◌, ◌<◌, ◌≤◌, Bool, true, false, Option, [], ◌∷◌, length, refl, ap, arith}
 use Rattle.trace_model.specs.declared.Card.{Card}
 use Rattle.log_model.specs.declared.lines.Break.{Break}
 use Rattle.run_crew.specs.Cabin.{Stands}
 use Rattle.run_outcome.specs.Lines.{Listed, cut_at}
-use Rattle.run_outcome.specs.declared.outcome.TheConstants.{MOST_OWED}
 use Rattle.run_outcome.specs.declared.outcome.Outcome.{Outcome}
 use Rattle.run_keeping.specs.Keeping.{with_lines}
 use Rattle.run_keeping.proofs.Counts.{lines-length}
@@ -12,7 +11,7 @@ use Rattle.run_acts.specs.declared.run.Run.{Run}
 use Rattle.run_acts.specs.declared.run.Power.{Power}
 use Rattle.run_acts.specs.declared.run.Power.TheVariants.{Lit, Due, Lost}
 use Rattle.run_acts.specs.Power.{is_lit, has_power, darkened, off_cut, off_run, cut_run}
-use Rattle.run_acts.specs.Room.{waiting, waiting_of, falls_of, bare_seats, finds_due, cuts_from, HasRoom}
+use Rattle.run_acts.specs.Room.{waiting, finds_due, cuts_from, HasRoom}
 use Rattle.run_acts.proofs.Torn.{cut-falls, bare-two}
 
 -- a second without power begins in one

@@ -1,6 +1,6 @@
 -- The insertion of a card that is accepted tells its newest vehicle entry, as an image of it does that a stop may leave.
 use Rattle.card_image.specs.View.{card_view}
-use Rattle.std.proofs.Common.{◌≡◌, ◌∙◌, ℕ, ◌+◌, ◌^◌, ◌<◌, Bool, false, Option, Some, None, List, [], ◌∷◌, length, refl, ap, sym, subst, arith}
+use Rattle.std.proofs.Common.{◌≡◌, ◌∙◌, ℕ, ◌^◌, ◌<◌, Bool, false, Option, Some, None, List, [], ◌∷◌, length, refl, ap, sym, subst, arith}
 use Rattle.tach_media.specs.Medium.{State}
 use Rattle.tacho_types.specs.declared.texts.Registration.{Registration}
 use Rattle.card_layout.specs.declared.files.Application.{Application}
@@ -15,7 +15,7 @@ use Rattle.unit_notes.specs.Fields.{InsertionFits}
 use Rattle.unit_notes.proofs.EntryFields.{tells_insertion}
 use Rattle.run_rule.specs.Found.{CardFound}
 use Rattle.run_entering.specs.declared.lines.Entering.{Entering}
-use Rattle.run_entering.specs.Entering.{Ending, Way, Unread, Unsized, Judged, Unfit, Ahead, Fell, Unasked, Unnoted, Seated, Lost, ending_of, previous_of, previous_time_of, insertion_of}
+use Rattle.run_entering.specs.Entering.{Way, Unread, Unsized, Judged, Unfit, Ahead, Fell, Unasked, Unnoted, Seated, Lost, ending_of, previous_of, previous_time_of, insertion_of}
 use Rattle.run_entering.specs.Entered.{FitsInsertion, IsWay, IsFoundIn}
 use Rattle.run_acts.specs.Comings.{VehicleTold, told_in, told_of, TellMore}
 use Rattle.run_acts.proofs.Comings.{leaves-more, insertion-more}

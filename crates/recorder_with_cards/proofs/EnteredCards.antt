@@ -1,6 +1,6 @@
 -- A card is judged: the events that this brings it.
-use Rattle.std.proofs.Common.{◌≡◌, ◌≢◌, ◌∙◌, ◌⊎◌, inl, inr, ⊎_elim, ℕ, suc, ◌+◌, ◌<◌, ◌≤◌, Bool, true, false, cond, not, Option, Some, None, IfSome, is_some, nat_eq, List, [], ◌∷◌, ◌++◌, length, refl, ap, sym, subst, arith, append-nil}
-use Rattle.std.specs.Prelude.{◌==◌, ◌&&◌, filter, nat_lt}
+use Rattle.std.proofs.Common.{◌≡◌, ◌∙◌, ◌⊎◌, inl, inr, ⊎_elim, ℕ, ◌+◌, ◌<◌, ◌≤◌, Bool, true, false, cond, not, Option, Some, None, is_some, nat_eq, List, [], ◌∷◌, ◌++◌, refl, ap, sym, subst, arith, append-nil}
+use Rattle.std.specs.Prelude.{◌==◌, ◌&&◌, nat_lt}
 use Rattle.std.proofs.lemmas.Bool.{eqb-true}
 use Rattle.std.proofs.lemmas.Bool.Decides.{nat_tests}
 use Rattle.trace_model.specs.declared.Card.{Card}
@@ -21,13 +21,11 @@ use Rattle.joint_rule.specs.Views.{other}
 use Rattle.log_model.specs.declared.lines.Find.{Find}
 use Rattle.log_model.specs.declared.lines.Verdict.{Verdict}
 use Rattle.log_model.specs.declared.lines.Verdict.TheVariants as verdict
-use Rattle.log_model.specs.Log.{RunLog, Phase, In, cut_in, is_torn_in, found_in, is_accepting}
-use Rattle.log_model.specs.Slots.{same_card, other_slot}
+use Rattle.log_model.specs.Log.{RunLog, In, is_torn_in, found_in}
+use Rattle.log_model.specs.Slots.{same_card}
 use Rattle.log_model.specs.Course.{Visit}
 use Rattle.safety_model.specs.Recording.{card_image}
-use Rattle.safety_model.specs.Safe.{Devices, card_of}
-use Rattle.run_rule.specs.Found.{Found, found_of}
-use Rattle.run_rings.specs.Notes.{TellSameTo}
+use Rattle.run_rule.specs.Found.{found_of}
 use Rattle.run_told.specs.Told.{arranged}
 use Rattle.run_outcome.specs.declared.outcome.Outcome.{Outcome}
 use Rattle.run_recorded.specs.Origin.{Origin}
@@ -39,7 +37,7 @@ use Rattle.run_keeping.specs.declared.keeper.Keeper.{Keeper}
 use Rattle.run_keeping.specs.declared.keeper.Moment.{Moment as KeepingAt}
 use Rattle.run_keeping.specs.Keeping.{tear_of}
 use Rattle.run_entering.specs.declared.lines.Entering.{Entering}
-use Rattle.run_entering.specs.Entering.{Ending, Unfit, Ahead, Fell, Unasked, Unnoted, Seated, Lost, Way, Unread, Unsized, Judged, ending_of, breaks_by, finds_by}
+use Rattle.run_entering.specs.Entering.{Ending, Unfit, Ahead, Fell, Unasked, Unnoted, Seated, Lost, Way, Unread, Unsized, Judged, ending_of, finds_by}
 use Rattle.run_entering.specs.Entered.{IsWay}
 use Rattle.run_entering.specs.Noted.{moving_event}
 use Rattle.run_entering.specs.CardEvents.{events_in, all_noted, AreBeingNoted, of_type, ShowsMore, ShowsThese, unclosed_on}
@@ -51,7 +49,7 @@ use Rattle.run_acts.specs.Entered.{values_with, MayJudge, HasGone, AreSound}
 use Rattle.run_acts.specs.Recording.{IsOrigin, log_of}
 use Rattle.run_acts.specs.Truths.{truths_within, marked}
 use Rattle.run_acts.specs.Stays.{AllStay}
-use Rattle.run_acts.specs.OnCards.{unclosed_at, unclosed_by, events_by, accepts, moving_at, movings, StillShows, IsUse, AreUses}
+use Rattle.run_acts.specs.OnCards.{unclosed_at, unclosed_by, events_by, accepts, moving_at, movings, StillShows, AreUses}
 use Rattle.run_acts.specs.RunCards.{vehicle_in, sizes_in}
 use Rattle.run_acts.proofs.OnCards.{events-none, still-same}
 use Rattle.run_acts.proofs.CardStays.{valid-found}

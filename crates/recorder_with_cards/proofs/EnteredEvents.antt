@@ -1,27 +1,13 @@
 -- What is noted on the unit of a card that enters.
-use Rattle.std.proofs.Common.{◌≡◌, ◌∙◌, ◌⊎◌, inl, inr, ⊎_elim, ℕ, ◌+◌, Bool, true, false, cond, not, nat_eq, Option, Some, None, IfSome, is_some, List, [], ◌∷◌, ◌++◌, length, filter, Contains, refl, ap, sym, subst, arith}
-use Rattle.std.specs.List.{AllByRecursion}
-use Rattle.std.proofs.lemmas.Bool.Decides.{nat_tests}
+use Rattle.std.proofs.Common.{◌≡◌, ◌∙◌, ◌⊎◌, ⊎_elim, ℕ, Bool, true, false, not, Option, Some, None, IfSome, is_some, List, [], ◌∷◌, length, refl, ap, sym, subst, arith}
 use Rattle.trace_model.specs.declared.Card.{Card}
-use Rattle.tach_media.specs.Medium.{State, IsCoherent, LeavesOnly}
-use Rattle.log_model.specs.Log.{RunLog}
-use Rattle.event_model.specs.declared.kinds.TheConstants.{OVER_SPEEDING}
+use Rattle.tach_media.specs.Medium.{State, IsCoherent}
 use Rattle.event_model.specs.Events.{Event}
-use Rattle.event_course.specs.Noted.{are_sure}
-use Rattle.event_course.specs.Shown.{all_kinds, first_on, count_on}
-use Rattle.side_model.specs.Tables.{table_in, AreNoted}
-use Rattle.unit_model.specs.declared.layout.TheConstants.{FIRST_OVER, OVER_COUNT}
-use Rattle.unit_model.specs.Image.{IsUnit, number_of}
-use Rattle.unit_notes.specs.declared.unit_event.UnitEvent.{UnitEvent}
-use Rattle.safety_model.specs.Safe.{Devices}
+use Rattle.unit_model.specs.Image.{IsUnit}
 use Rattle.run_rule.specs.Between.{devices}
-use Rattle.run_events.specs.Shown.{by_kind, none, ShowsMore, AreNumbers, SaysNothing}
-use Rattle.run_events.proofs.Shows.{more-then, nothing-more}
-use Rattle.run_recorded.specs.Origin.{Origin}
-use Rattle.run_evented.specs.Evented.{number_in, NotesMore}
-use Rattle.run_evented.specs.Noting.{NotesThese}
-use Rattle.run_entering.specs.Noted.{UnitNote, Inserts, BeginsRow, Tells, IsOnUnit, IsComing, AreDone, AreBeingDone, HasNoted}
-use Rattle.recorder_with_cards.specs.EnteredTold.{IsTold, TellEvents, AreUnsure}
+use Rattle.run_evented.specs.Evented.{number_in}
+use Rattle.run_entering.specs.Noted.{UnitNote, Inserts, BeginsRow, Tells, IsOnUnit, IsComing, AreDone, HasNoted}
+use Rattle.recorder_with_cards.specs.EnteredTold.{TellEvents}
 use Rattle.run_acts.specs.NotedEvents.{AreTold, NotesEvents}
 use Rattle.recorder_with_cards.specs.EnteredEvents.{events_in}
 use Rattle.recorder_with_cards.proofs.EnteredTold.{same-shown, told-shown, told-moment}

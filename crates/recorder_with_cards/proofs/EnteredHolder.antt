@@ -1,6 +1,6 @@
 -- The insertion of a card that is accepted tells what its image told at the start: names, number and expiry; and its newest vehicle, by an image that
 -- a stop might have left of it.
-use Rattle.std.proofs.Common.{◌≡◌, ◌∙◌, ◌⊎◌, inl, inr, ⊎_elim, ℕ, ◌+◌, ◌^◌, ◌<◌, Option, Some, None, IfSome, List, [], length, take, drop, get_or, All, refl, ap, sym, subst, arith}
+use Rattle.std.proofs.Common.{◌≡◌, ◌∙◌, ◌⊎◌, inl, inr, ⊎_elim, ℕ, ◌^◌, ◌<◌, Option, Some, None, IfSome, List, length, take, drop, get_or, All, refl, ap, sym, subst, arith}
 use Rattle.std.proofs.lemmas.Bool.{cases_lt}
 use Rattle.std.proofs.lemmas.List.{get_or_past, length-take, length-drop}
 use Rattle.std.proofs.lemmas.List.Elements.{All-get_or, All-take, All-drop}
@@ -18,7 +18,7 @@ use Rattle.card_layout.specs.declared.files.Application.{Application}
 use Rattle.card_layout.specs.Files.{place_of, size_of}
 use Rattle.card_records.specs.declared.vehicle.Vehicle.{Vehicle}
 use Rattle.card_image.specs.Fields.{file, file_bytes, newest_vehicle}
-use Rattle.card_image.specs.Own.{own_sizes, own_number, IsOwnValid}
+use Rattle.card_image.specs.Own.{own_sizes, IsOwnValid}
 use Rattle.card_judge.specs.declared.looking.CardLook.{CardLook}
 use Rattle.card_judge.specs.Judged.{IsLook, identification_field}
 use Rattle.log_model.specs.Log.{RunLog}
@@ -27,7 +27,6 @@ use Rattle.unit_notes.specs.Fields.{InsertionFits}
 use Rattle.unit_notes.specs.Entries.{insertion_bytes}
 use Rattle.side_model.specs.Odometer.{SpanFrom, odometer_at}
 use Rattle.side_model.specs.Noted.{Acceptance}
-use Rattle.side_model.specs.Rings.{Holder, IsInsertion}
 use Rattle.safety_model.specs.Recording.{Recording, card_image}
 use Rattle.safety_model.specs.Safe.{Devices, card_of}
 use Rattle.safety_model.specs.Side.{identification_widths, TellsVehicle}

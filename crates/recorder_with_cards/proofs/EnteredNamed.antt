@@ -8,7 +8,6 @@ use Rattle.tacho_types.specs.CardNumber.{card_number_bytes}
 use Rattle.tacho_types.specs.declared.card_number.FullCardNumber.{FullCardNumber}
 use Rattle.log_model.specs.Slots.{same_card, other_slot}
 use Rattle.event_model.specs.Events as events
-use Rattle.side_model.specs.Tables.{number_or_none}
 use Rattle.slot_machine.specs.declared.seats.Seat.{Seat}
 use Rattle.slot_machine.specs.Calls.{seat_in, is_card}
 use Rattle.run_crew.specs.declared.cabin.Cabin.{Cabin}

@@ -1,6 +1,5 @@
 -- A card is judged: its insertion in the rings of a run with cards.
-use Rattle.std.proofs.Common.{◌≡◌, ◌≢◌, ◌∙◌, ◌⊎◌, inl, inr, ℕ, suc, ◌+◌, ◌-◌, ◌^◌, ◌<◌, ◌≤◌, min, Result, Bool, true, false, Option, Some, None, IfSome, is_some, option_map, List, [], ◌∷◌, ◌++◌, length, refl, ap, sym, subst, arith, length-append, ⊎_elim}
-use Rattle.std.specs.Prelude.{filter}
+use Rattle.std.proofs.Common.{◌≡◌, ◌∙◌, ◌⊎◌, inl, inr, ℕ, suc, ◌+◌, ◌-◌, ◌^◌, ◌<◌, ◌≤◌, Result, Bool, true, false, Option, Some, None, IfSome, is_some, option_map, List, [], ◌∷◌, ◌++◌, length, refl, ap, sym, subst, arith, length-append, ⊎_elim}
 use Rattle.activity_codec.specs.declared.values.Slot.{Slot}
 use Rattle.trace_model.specs.declared.Card.{Card}
 use Rattle.trace_model.specs.declared.Card.TheVariants.{A, B}
@@ -8,7 +7,6 @@ use Rattle.trace_model.specs.Trace.{TraceSecond}
 use Rattle.tach_media.specs.Medium.{State}
 use Rattle.tacho_types.specs.CardNumber.{card_number_bytes}
 use Rattle.tacho_types.specs.declared.card_number.FullCardNumber.{FullCardNumber}
-use Rattle.tacho_types.specs.declared.texts.Registration.{Registration}
 use Rattle.minute_rules.specs.Kept.{Kept}
 use Rattle.card_layout.specs.declared.files.Application.{Application}
 use Rattle.card_layout.specs.declared.files.TheConstants.{LARGEST_IMAGE}
@@ -16,18 +14,17 @@ use Rattle.card_image.specs.Own.{own_sizes, IsOwnValid}
 use Rattle.card_judge.specs.declared.looking.CardLook.{CardLook}
 use Rattle.card_judge.specs.Judged.{IsLook}
 use Rattle.joint_rule.specs.Rules.{Out}
-use Rattle.message_model.specs.Records.{insertion_ring}
 use Rattle.log_model.specs.declared.lines.Find.{Find}
 use Rattle.log_model.specs.declared.lines.Verdict.{Verdict}
 use Rattle.log_model.specs.declared.lines.Verdict.TheVariants as verdict
-use Rattle.log_model.specs.Log.{RunLog, In, cut_in, found_in, is_accepting}
-use Rattle.log_model.specs.Slots.{same_card, other_slot}
+use Rattle.log_model.specs.Log.{RunLog, In, cut_in, found_in}
+use Rattle.log_model.specs.Slots.{other_slot}
 use Rattle.log_model.specs.Course.{Visit, went}
 use Rattle.unit_notes.specs.Entries.{insertion_bytes}
 use Rattle.side_model.specs.Odometer.{SpanFrom, odometer_at}
 use Rattle.side_model.specs.Noted.{Acceptance}
 use Rattle.safety_model.specs.Recording.{card_image}
-use Rattle.safety_model.specs.Safe.{Devices, card_of}
+use Rattle.safety_model.specs.Safe.{Devices}
 use Rattle.run_crew.specs.declared.cards.Accepted.{Accepted}
 use Rattle.run_crew.specs.declared.cards.Cards.{Cards}
 use Rattle.run_crew.specs.declared.cabin.Cabin.{Cabin}
@@ -35,7 +32,7 @@ use Rattle.run_crew.specs.Cards.{session_of}
 use Rattle.run_crew.specs.Cabin.{torn_out, with_accepted, with_sizes_of}
 use Rattle.run_evented.specs.Opened.{HasComeBefore}
 use Rattle.recorder_with_cards.proofs.CameFirst.{came-first}
-use Rattle.run_rule.specs.Found.{Found, found_of}
+use Rattle.run_rule.specs.Found.{found_of}
 use Rattle.run_rule.specs.Between.{Carried}
 use Rattle.run_strung.specs.Strung.{HasSameHolder}
 use Rattle.run_rings.specs.Notes.{TellSameTo}

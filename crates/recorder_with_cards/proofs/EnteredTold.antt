@@ -1,24 +1,19 @@
 -- What the notes of a card that enters show of its events.
-use Rattle.std.proofs.Common.{◌≡◌, ◌≢◌, ◌⊎◌, inl, inr, ℕ, zero, suc, ◌+◌, ◌^◌, ◌<◌, ◌≤◌, Bool, true, false, cond, not, nat_lt, nat_eq, Some, List, [], ◌∷◌, ◌++◌, length, Contains, refl, ap, sym, subst, ◌∙◌, arith}
-use Rattle.std.specs.List.{AllByRecursion}
+use Rattle.std.proofs.Common.{◌≡◌, ◌≢◌, inl, inr, ℕ, ◌+◌, ◌^◌, ◌<◌, Bool, true, false, cond, not, nat_lt, nat_eq, Some, List, [], ◌∷◌, ◌++◌, length, Contains, refl, ap, sym, subst, ◌∙◌, arith}
 use Rattle.std.proofs.lemmas.Bool.{eq-eqb}
 use Rattle.std.proofs.lemmas.Bool.Decides.{nat_tests}
 use Rattle.card_layout.specs.Images.{SameOutside}
 use Rattle.trace_model.specs.declared.Card.{Card}
 use Rattle.log_model.specs.Log.{RunLog}
-use Rattle.log_model.specs.declared.lines.Verdict.TheVariants.{Accepted, NotValid, TimeOverlap}
+use Rattle.log_model.specs.declared.lines.Verdict.TheVariants.{Accepted}
 use Rattle.log_model.specs.Course.{Visit}
 use Rattle.unit_model.specs.declared.layout.TheConstants.{FIRST_OVER, OVER_COUNT}
 use Rattle.unit_model.specs.Image as image
 use Rattle.event_model.specs.declared.kinds.TheConstants.{CARD_NOT_VALID, TIME_OVERLAP, INSERTION_WHILE_DRIVING, SESSION_NOT_CLOSED, CARD_FAULT, OVER_SPEEDING}
 use Rattle.event_model.specs.Events.{Event, Crew, Seen, Tearing, number_of, noted_with, crew_judged}
 use Rattle.side_model.specs.Tables.{table_in}
-use Rattle.message_model.specs.Records.{insertion_ring}
-use Rattle.unit_notes.specs.declared.unit_event.UnitEvent.{UnitEvent}
 use Rattle.unit_notes.specs.Entries.{fault_bytes}
-use Rattle.unit_notes.specs.Fields.{IsEventOf}
 use Rattle.unit_notes.specs.Noting.{IsEventNoted, IsNotingEvent}
-use Rattle.event_course.specs.Noted.{are_sure}
 use Rattle.event_course.specs.Shown.{all_kinds}
 use Rattle.event_notes.proofs.Frames.{others-same, numbers-same}
 use Rattle.run_events.specs.Shown.{by_kind, none, ShowsMore, AreNumbers, SaysNothingBut}

@@ -1,5 +1,5 @@
 -- The uses that are found as a card is judged: where it is accepted the one that it has by the notes so far, and none on the other card.
-use Rattle.std.proofs.Common.{◌≡◌, ◌∙◌, ◌⊎◌, ℕ, ◌<◌, ◌≤◌, Bool, true, false, cond, ◌&&◌, nat_eq, Option, None, List, [], ◌∷◌, ◌++◌, map, length, take, drop, refl, ap, sym, subst, arith, append-nil}
+use Rattle.std.proofs.Common.{◌≡◌, ◌∙◌, ◌⊎◌, ℕ, ◌<◌, Bool, true, false, cond, ◌&&◌, nat_eq, Option, None, List, [], ◌∷◌, ◌++◌, map, length, take, drop, refl, ap, sym, subst, arith, append-nil}
 use Rattle.std.proofs.lemmas.Bool.Decides.{nat_tests}
 use Rattle.std.proofs.lemmas.List.{take-append-drop, length-take-le}
 use Rattle.activity_codec.specs.declared.values.Slot.{Slot}
@@ -28,7 +28,6 @@ use Rattle.safety_model.specs.Safe.{Devices, card_of}
 use Rattle.run_course.specs.Moments.{and_find}
 use Rattle.run_course.proofs.Lookups.{find-more}
 use Rattle.run_moments.specs.Reached.{IsFindAt, moved_at}
-use Rattle.run_crew.specs.declared.cabin.Cabin.{Cabin}
 use Rattle.run_crew.specs.Cards.{session_of}
 use Rattle.run_recorded.specs.Origin.{Origin}
 use Rattle.run_recorded.specs.Whole.{NothingFailed}

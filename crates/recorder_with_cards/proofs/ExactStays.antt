@@ -1,5 +1,5 @@
 -- Stays are exact where each of them kept its minutes up to one, and no later (profile): what is late in it is what is owed at the next one.
-use Rattle.std.proofs.Common.{◌≡◌, ◌∙◌, ◌⊎◌, inl, inr, ⊎_elim, ℕ, suc, ◌*◌, ◌/◌, ◌<◌, ◌≤◌, Bool, true, false, cond, not, ◌&&◌, nat_eq, nat_lt, nat_le, Option, Some, None, IfSome, is_some, List, [], ◌∷◌, ◌++◌, All, Contains, map, filter, option_map, refl, ap, sym, subst, arith}
+use Rattle.std.proofs.Common.{◌≡◌, ◌∙◌, ◌⊎◌, ⊎_elim, ℕ, suc, ◌*◌, ◌/◌, ◌<◌, ◌≤◌, Bool, true, false, cond, not, ◌&&◌, nat_eq, nat_lt, nat_le, Option, Some, None, IfSome, is_some, List, [], ◌∷◌, ◌++◌, All, Contains, filter, option_map, refl, ap, sym, subst, arith}
 use Rattle.std.proofs.lemmas.Bool.{cases_lt}
 use Rattle.std.proofs.lemmas.Bool.Decides.{nat_tests}
 use Rattle.std.proofs.lemmas.List.Elements.{All-nil, All-cons, All-head, All-tail, All-append, All-weaker, All-contains, All-filter, filter_passes, filter-append}
@@ -18,7 +18,7 @@ use Rattle.card_session.specs.Books.{Book, mark_of, closed, closed_days, last_us
 use Rattle.card_session.specs.Cards.{grown}
 use Rattle.card_session.specs.Inserting.{lacked, with_cut}
 use Rattle.card_session.proofs.Preparing.{used_at}
-use Rattle.card_steps.specs.Deeds.{Deed, Close}
+use Rattle.card_steps.specs.Deeds.{Close}
 use Rattle.history_model.proofs.Filters.{filter-alike, filter-and, filter-none, all-front, all-back}
 use Rattle.run_rule.proofs.Entries.{all-by, rise-tail, rise-above}
 use Rattle.run_rule.proofs.OwedRises.{rise-filter}

@@ -1,5 +1,5 @@
 -- The interruption of power that ends now, on the cards: who is accepted as it is noted was accepted at the power-on; and who was, and is not, fell.
-use Rattle.std.proofs.Common.{◌≡◌, ◌∙◌, ◌⊎◌, inl, inr, ⊎_elim, ℕ, zero, suc, ◌≤◌, Bool, true, false, cond, not, ◌||◌, ◌&&◌, Option, Some, None, IfSome, is_some, List, [], ◌∷◌, ◌++◌, map, length, refl, ap, sym, subst, arith}
+use Rattle.std.proofs.Common.{◌≡◌, ◌∙◌, ◌⊎◌, ⊎_elim, ℕ, Bool, true, false, cond, not, ◌||◌, ◌&&◌, Option, Some, None, IfSome, is_some, List, [], ◌∷◌, ◌++◌, map, refl, ap, sym, subst, arith}
 use Rattle.std.specs.Prelude.{filter, flat_map, option_map}
 use Rattle.std.specs.List.{list_any}
 use Rattle.activity_codec.specs.declared.values.Slot.{Slot}
@@ -7,9 +7,9 @@ use Rattle.activity_codec.specs.declared.values.Slot.TheVariants.{Driver, CoDriv
 use Rattle.trace_model.specs.declared.Card.{Card}
 use Rattle.trace_model.specs.declared.Card.TheVariants.{A, B}
 use Rattle.trace_model.specs.Trace.{TraceSecond}
-use Rattle.event_model.specs.Events.{Crew, Event, Seen, Tearing, seen_by, seen_of, seen_spans, noted_with, accepted_card, accepted_at, first_card, standing, torn_at}
+use Rattle.event_model.specs.Events.{Crew, Seen, Tearing, seen_by, seen_of, seen_spans, noted_with, accepted_card, accepted_at, first_card, standing, torn_at}
 use Rattle.log_model.specs.declared.lines.Verdict.{Verdict}
-use Rattle.log_model.specs.Log.{RunLog, Phase, In, is_torn_in, found_in, is_accepting}
+use Rattle.log_model.specs.Log.{RunLog, In, is_torn_in, found_in, is_accepting}
 use Rattle.log_model.specs.Slots.{Sitting, in_slot, same_card}
 use Rattle.log_model.specs.Course.{Course, Visit, Before, has_power, went}
 use Rattle.side_model.specs.Done.{course_powered, has_failed_in}
@@ -24,7 +24,7 @@ use Rattle.run_course.specs.Presence.{SitsAs, IsNewest}
 use Rattle.history_model.specs.Minutes.{HistoryMinute}
 use Rattle.history_model.specs.Presence.{Start}
 use Rattle.slot_machine.specs.Kept.{Kept}
-use Rattle.run_moments.specs.Reached.{IsUpTo, course_at}
+use Rattle.run_moments.specs.Reached.{IsUpTo}
 use Rattle.run_outcome.specs.declared.outcome.Outcome.{Outcome}
 use Rattle.run_recorded.specs.Origin.{Origin, start_at}
 use Rattle.run_within.specs.Within.{told_before, course_in}
@@ -32,7 +32,7 @@ use Rattle.run_within.proofs.Pulling.{sitting-now}
 use Rattle.run_within.proofs.Seats.{seat-tells}
 use Rattle.run_evented.specs.SoFar.{AreBare, interruption}
 use Rattle.run_evented.specs.Uses.{notes_now, uses_in}
-use Rattle.run_evented.proofs.Brought.{SameBefore, found-now}
+use Rattle.run_evented.proofs.Brought.{found-now}
 use Rattle.run_evented.proofs.Stood.{acceptance, stands-as, accepted-as, accepted-are}
 use Rattle.run_acts.specs.declared.run.Run.{Run}
 use Rattle.run_acts.specs.Recording.{log_of, values_of, RunWithin}

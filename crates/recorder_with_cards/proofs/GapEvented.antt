@@ -1,7 +1,6 @@
 -- The interruption that ends with a power-on, as events of the run: what it adds with the cards that fell in its note, and how the second goes on.
-use Rattle.std.proofs.Common.{◌≡◌, ◌∙◌, ℕ, zero, suc, ◌+◌, ◌*◌, ◌/◌, ◌^◌, ◌<◌, ◌≤◌, Bool, true, false, cond, Option, Some, None, IfSome, is_some, List, [], ◌∷◌, ◌++◌, Contains, nat_eq, refl, ap, sym, subst, arith}
+use Rattle.std.proofs.Common.{◌≡◌, ◌∙◌, ℕ, ◌+◌, ◌*◌, ◌/◌, ◌^◌, ◌<◌, Bool, true, false, cond, Option, Some, None, IfSome, is_some, List, [], ◌∷◌, ◌++◌, refl, ap, sym, subst, arith}
 use Rattle.std.specs.Prelude.{◌==◌, option_map, option_to_list}
-use Rattle.std.specs.List.{AllByRecursion}
 use Rattle.activity_codec.specs.declared.values.Slot.{Slot}
 use Rattle.activity_codec.specs.declared.values.Slot.TheVariants.{Driver, CoDriver}
 use Rattle.trace_model.specs.declared.Card.{Card}
@@ -10,38 +9,33 @@ use Rattle.trace_model.specs.Trace.{TraceSecond}
 use Rattle.card_image.specs.Own.{IsOwnValid}
 use Rattle.log_model.specs.declared.lines.Break.{Break}
 use Rattle.log_model.specs.declared.lines.Break.TheVariants.{Tear}
-use Rattle.log_model.specs.Log.{RunLog, In, is_torn_in}
-use Rattle.log_model.specs.Slots.{Slots, Sitting, same_card, in_slot}
+use Rattle.log_model.specs.Log.{RunLog, In}
+use Rattle.log_model.specs.Slots.{Slots, Sitting, in_slot}
 use Rattle.log_model.specs.Course.{Before, Course, Told, went}
-use Rattle.event_model.specs.declared.kinds.TheConstants.{POWER_INTERRUPTION, CARD_FAULT, OVER_SPEEDING}
+use Rattle.event_model.specs.declared.kinds.TheConstants.{POWER_INTERRUPTION, CARD_FAULT}
 use Rattle.event_model.specs.declared.entries.Span.{Span}
 use Rattle.event_model.specs.Spans.{gap_of}
 use Rattle.event_model.specs.Events.{Event, Crew, Seen, crew_of as sitting_crew, accepted_card, noted_with, with_card, seen_of, seen_spans}
 use Rattle.unit_notes.specs.declared.unit_event.UnitEvent.{UnitEvent}
 use Rattle.safety_model.specs.Safe.{Devices, breakdowns_of}
-use Rattle.slot_machine.specs.declared.seats.Seat.{Seat}
 use Rattle.slot_machine.specs.Calls.{Seats, seat_in, card_in, is_card}
 use Rattle.run_crew.specs.declared.cabin.Cabin.{Cabin}
 use Rattle.run_crew.specs.declared.cards.Cards.{Cards}
 use Rattle.run_crew.specs.Cards.{session_of, with_session}
-use Rattle.run_crew.specs.Cabin.{Stands, slot_with, left_from, torn_out, crew_of}
+use Rattle.run_crew.specs.Cabin.{Stands, left_from, torn_out, crew_of}
 use Rattle.run_notes.specs.Entries.{IsCrewOf}
-use Rattle.run_rule.specs.Found.{found_of}
 use Rattle.run_course.specs.Followed.{Progress}
 use Rattle.run_course.specs.Moments.{and_break}
 use Rattle.run_moments.specs.Reached.{course_at, Reaches, IsTearAt}
 use Rattle.run_moments.proofs.Lines.{who-sits, tear-seen}
 use Rattle.run_moments.proofs.Moment.{reaches-of}
-use Rattle.run_moments.proofs.Reached.{lines-reached}
 use Rattle.run_outcome.specs.Lines.{Listed}
 use Rattle.run_outcome.specs.declared.outcome.Outcome.{Outcome}
 use Rattle.run_recorded.specs.Origin.{Origin, start_at}
 use Rattle.run_recorded.specs.Beside.{HaveLeftMore}
-use Rattle.run_keeping.specs.declared.keeper.Moment.{Moment}
-use Rattle.run_keeping.specs.Keeping.{Fell, tear_of, with_lines}
+use Rattle.run_keeping.specs.Keeping.{Fell, tear_of}
 use Rattle.run_keeping.proofs.Fates.{no-lines}
-use Rattle.run_within.specs.Recorded.{Values}
-use Rattle.run_within.specs.Within.{Within, told_before}
+use Rattle.run_within.specs.Within.{told_before}
 use Rattle.run_within.proofs.Pulling.{sitting-now}
 use Rattle.run_within.proofs.Seats.{card-seated}
 use Rattle.run_evented.specs.Evented.{number_in}
@@ -53,8 +47,8 @@ use Rattle.run_evented.proofs.Cutting.{failure-cuts}
 use Rattle.run_evented.proofs.Waking.{interruption-adds}
 use Rattle.run_acts.specs.declared.run.Run.{Run}
 use Rattle.run_acts.specs.Acting.{IsNotedOn, IsNotedIn, now_moment}
-use Rattle.run_acts.specs.Noting.{GapReach, NoGap, UnitFailed, DriverFell, BothSlots, AreNotedIn, AreGapEvents, fall_events, gap_event}
-use Rattle.run_acts.specs.NotedEvents.{IsTold, AreTold, NotesEvents}
+use Rattle.run_acts.specs.Noting.{GapReach, NoGap, UnitFailed, DriverFell, BothSlots, AreGapEvents, fall_events, gap_event}
+use Rattle.run_acts.specs.NotedEvents.{AreTold, NotesEvents}
 use Rattle.run_acts.specs.EventCrews.{AreKnownBy}
 use Rattle.run_acts.specs.Named.{CrewValid, NamesValid}
 use Rattle.run_acts.specs.Recording.{IsOrigin, log_of, values_of, RunWithin}

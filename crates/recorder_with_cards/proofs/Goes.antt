@@ -1,14 +1,11 @@
 -- A run goes on behind a card that was accepted or turned away.
-use Rattle.std.proofs.Common.{◌≡◌, ◌∙◌, ◌⊎◌, inl, inr, ⊎_elim, ℕ, ◌+◌, ◌*◌, ◌/◌, ◌<◌, ◌≤◌, ◌^◌, Bool, true, false, Option, Some, None, IfSome, is_some, List, [], ◌∷◌, ◌++◌, length, refl, ap, sym, subst, arith, length-append}
+use Rattle.std.proofs.Common.{◌≡◌, ◌∙◌, ◌⊎◌, inl, inr, ℕ, ◌≤◌, true, Option, Some, None, IfSome, is_some, List, length, refl, ap, sym, subst, arith}
 use Rattle.std.specs.List.{slice_get}
-use Rattle.activity_codec.specs.declared.values.Slot.{Slot}
 use Rattle.trace_model.specs.declared.Card.{Card}
 use Rattle.trace_model.specs.declared.Card.TheVariants.{A, B}
-use Rattle.log_model.specs.declared.lines.Find.{Find}
 use Rattle.joint_rule.specs.Views.{other}
 use Rattle.tach_media.specs.Medium.{State}
 use Rattle.card_layout.specs.declared.command.CardState.{CardState}
-use Rattle.card_layout.specs.declared.files.TheConstants.{LARGEST_IMAGE}
 use Rattle.slot_machine.specs.declared.seats.Ended.{Ended}
 use Rattle.slot_machine.specs.declared.seats.Present.{Present}
 use Rattle.slot_machine.specs.Kept.{Kept as Slots}

@@ -1,5 +1,5 @@
 -- A second begins behind one with power: a minute may be over.
-use Rattle.std.proofs.Common.{◌≡◌, ◌∙◌, ℕ, ◌+◌, ◌-◌, ◌*◌, ◌/◌, ◌%◌, ◌==◌, ◌<◌, ◌≤◌, Bool, true, false, length, nat_eq, None, List, [], ◌∷◌, refl, ap, sym, subst, arith, eqb-true}
+use Rattle.std.proofs.Common.{◌≡◌, ◌∙◌, ℕ, ◌+◌, ◌-◌, ◌*◌, ◌/◌, ◌%◌, ◌≤◌, Bool, true, false, length, nat_eq, None, List, [], ◌∷◌, refl, ap, sym, subst, arith, eqb-true}
 use Rattle.trace_model.specs.declared.Card.{Card}
 use Rattle.trace_model.specs.declared.Card.TheVariants.{A, B}
 use Rattle.trace_model.specs.Trace.{TraceSecond}
@@ -23,7 +23,7 @@ use Rattle.run_outcome.specs.declared.outcome.TheConstants.{MOST_OWED}
 use Rattle.run_outcome.specs.declared.outcome.Outcome.{Outcome}
 use Rattle.run_recorded.specs.Origin.{Origin, rule_of, start_at}
 use Rattle.history_model.specs.Book.{Book}
-use Rattle.run_within.specs.Recorded.{Values, progress, Recorded}
+use Rattle.run_within.specs.Recorded.{progress, Recorded}
 use Rattle.run_within.specs.Within.{Beginning, GoesOn, begun_behind, undecided_from}
 use Rattle.run_within.proofs.Beginning.{second-begins, minute-over}
 use Rattle.run_acts.specs.declared.run.Run.{Run}
@@ -31,7 +31,7 @@ use Rattle.run_acts.specs.declared.run.Power.{Power}
 use Rattle.run_acts.specs.declared.run.Power.TheVariants.{Lit}
 use Rattle.run_acts.specs.Power.{is_lit, has_power, over_by, minute_over}
 use Rattle.run_acts.specs.Going.{first_second, IsLit}
-use Rattle.run_acts.specs.Room.{finds_due, bare_seats, waiting, HasRoom}
+use Rattle.run_acts.specs.Room.{finds_due, bare_seats, HasRoom}
 use Rattle.run_acts.specs.Recording.{log_of, IsOrigin, Supplies, values_of, RunRecorded, RunWithin}
 use Rattle.run_acts.proofs.Kept.{owing-sum}
 use Rattle.minute_model.proofs.Counted.{ahead-most}

@@ -1,7 +1,6 @@
 -- A card is put into a slot: the minutes before are kept, and then it is judged.
-use Rattle.std.proofs.Common.{◌≡◌, ◌∙◌, inr, ⊎_elim, ℕ, suc, ◌+◌, ◌/◌, ◌≤◌, Bool, true, false, Option, Some, None, is_some, List, [], ◌∷◌, ◌++◌, length, refl, ap, sym, subst, arith, append-nil, append_assoc, length-append}
+use Rattle.std.proofs.Common.{◌≡◌, ◌∙◌, inr, ⊎_elim, ℕ, suc, ◌+◌, ◌≤◌, Bool, true, false, Option, Some, None, is_some, List, [], ◌∷◌, ◌++◌, length, refl, ap, sym, subst, arith, append-nil, append_assoc, length-append}
 use Rattle.std.specs.Prelude.{slice_get}
-use Rattle.std.specs.List.{AllByRecursion}
 use Rattle.activity_codec.specs.declared.values.Slot.{Slot}
 use Rattle.activity_codec.specs.declared.values.Slot.TheVariants.{Driver, CoDriver}
 use Rattle.trace_model.specs.declared.Card.{Card}
@@ -22,9 +21,7 @@ use Rattle.side_model.specs.Odometer.{SpanFrom}
 use Rattle.side_model.specs.Odometer as side
 use Rattle.safety_model.specs.Safe.{Devices}
 use Rattle.slot_machine.specs.Calls.{Seats, seat_in, is_card, logged}
-use Rattle.run_moments.specs.Reached.{IsTearAt}
 use Rattle.run_moments.specs.Moment.{entering_by}
-use Rattle.run_outcome.specs.Lines.{Listed}
 use Rattle.run_outcome.specs.declared.outcome.Outcome.{Outcome}
 use Rattle.run_ringed.specs.Ringed.{since_in}
 use Rattle.run_recorded.specs.Origin.{Origin}
@@ -32,7 +29,7 @@ use Rattle.run_keeping.specs.declared.keeper.Moment.{Moment}
 use Rattle.run_keeping.specs.Books.{HaveTime}
 use Rattle.run_keeping.specs.Keeping.{Fate, Still, Has, Fell, breaks_by, tear_of}
 use Rattle.run_keeping.specs.Minutes.{Told, AreKept, none, more}
-use Rattle.run_within.specs.Within.{Beginning, course_in}
+use Rattle.run_within.specs.Within.{Beginning}
 use Rattle.run_within.specs.Taking.{IsPut, AreTearsAt, MayBeJudged}
 use Rattle.run_within.proofs.Putting.{card-put, entered-next}
 use Rattle.run_acts.specs.declared.run.Run.{Run}

@@ -1,5 +1,5 @@
 -- A card is put into a slot, and so the events of the cards go on: the minutes before note none, and what its judging brings it is noted.
-use Rattle.std.proofs.Common.{◌≡◌, ◌∙◌, ◌⊎◌, inl, inr, ⊎_elim, ℕ, suc, ◌+◌, ◌≤◌, Bool, true, false, cond, not, ◌||◌, Option, Some, None, option_map, List, [], ◌∷◌, ◌++◌, length, map, refl, ap, sym, subst, arith, append-nil, append_assoc}
+use Rattle.std.proofs.Common.{◌≡◌, ◌∙◌, ℕ, suc, ◌+◌, ◌≤◌, Bool, true, false, cond, not, ◌||◌, Option, Some, None, option_map, List, [], ◌∷◌, ◌++◌, length, map, refl, ap, sym, subst, arith, append-nil}
 use Rattle.std.specs.Prelude.{◌==◌, ◌&&◌, flat_map, nat_lt}
 use Rattle.std.specs.List.{list_any}
 use Rattle.std.proofs.lemmas.Bool.Decides.{nat_tests}
@@ -12,7 +12,6 @@ use Rattle.trace_model.specs.Trace.{TraceSecond}
 use Rattle.tach_media.specs.Medium.{State}
 use Rattle.tacho_types.specs.declared.texts.Registration.{Registration}
 use Rattle.card_layout.specs.declared.files.Application.{Application}
-use Rattle.card_image.specs.Own.{IsOwnValid}
 use Rattle.card_records.specs.declared.card_event.CardEvent.{CardEvent}
 use Rattle.card_records.specs.declared.current_use.CurrentUse.{CurrentUse}
 use Rattle.event_model.specs.declared.kinds.TheConstants.{INSERTION_WHILE_DRIVING, SESSION_NOT_CLOSED, POWER_INTERRUPTION}
@@ -20,14 +19,11 @@ use Rattle.event_model.specs.Events.{Seen, number_of}
 use Rattle.log_model.specs.declared.lines.Break.{Break}
 use Rattle.log_model.specs.declared.lines.SlotFault.{SlotFault}
 use Rattle.log_model.specs.declared.lines.Verdict.{Verdict}
-use Rattle.log_model.specs.Causes.{second_of}
 use Rattle.log_model.specs.Log.{RunLog, Phase, In, same_phase, cut_in, is_torn_in, found_in, is_accepting}
 use Rattle.log_model.specs.Slots.{Sitting, in_slot, refusal, same_card}
 use Rattle.log_model.specs.Course.{Course, Before, Moved, Visit, visits, leaves, with_slot, carried_out, answered, moved_by, slot_told, both_told, begins, acted, card_in, went}
-use Rattle.safety_model.specs.Recording.{card_image}
 use Rattle.safety_model.specs.Safe.{Devices, card_of}
 use Rattle.run_outcome.specs.declared.outcome.Outcome.{Outcome}
-use Rattle.run_keeping.specs.declared.keeper.Moment.{Moment}
 use Rattle.side_model.specs.Done.{has_failed_in}
 use Rattle.run_recorded.specs.Origin.{Origin}
 use Rattle.run_recorded.specs.Beside.{HaveLeftMore}
@@ -44,7 +40,7 @@ use Rattle.run_within.specs.Within.{course_in}
 use Rattle.run_acts.specs.declared.run.Run.{Run}
 use Rattle.run_acts.specs.Recording.{log_of, values_of, RunWithin}
 use Rattle.run_acts.specs.RunRinged.{with_cut}
-use Rattle.run_acts.specs.OnCards.{unclosed_by, events_by, accepts, moving_at, movings, enters, falls, may_note, is_clear, is_sure_in, NotesThem, StillShows, AreUses}
+use Rattle.run_acts.specs.OnCards.{unclosed_by, events_by, accepts, moving_at, movings, enters, falls, may_note, is_clear, is_sure_in, NotesThem, AreUses}
 use Rattle.run_acts.specs.RunCards.{vehicle_in, sizes_in, seen_behind, CardsIn, CardsGoOn, StillShow}
 use Rattle.run_acts.proofs.CardCourse.{quiet-same, behind-more, behind-same}
 use Rattle.run_acts.proofs.CardSecond.{any-more, quiet-shown, put-shown}
@@ -53,7 +49,7 @@ use Rattle.run_acts.proofs.CardUses.{tears-none, lines-still}
 use Rattle.run_acts.proofs.RingedLines.{AreTears, TellsBeside, tears-beside}
 use Rattle.run_acts.proofs.RingedSecond.{tears-here_, cut-found, cut-torn, cut-failed}
 use Rattle.recorder_with_cards.specs.JudgedRings.{TellsHere}
-use Rattle.recorder_with_cards.specs.JudgedCards.{NotesNone, BringsNow, IsJudgedOnCards}
+use Rattle.recorder_with_cards.specs.JudgedCards.{NotesNone, IsJudgedOnCards}
 use Rattle.recorder_with_cards.proofs.RingsHere.{here-then, here-more, goes-to, course-then, course-cut, is-cut}
 
 -- ---- a card that is put in, and falls as it is judged, is torn out

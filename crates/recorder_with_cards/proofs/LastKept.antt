@@ -9,7 +9,6 @@ use Rattle.history_model.specs.Book.{Book, IsNext, IsMark, Follows}
 use Rattle.joint_rule.specs.Views.{unit_view}
 use Rattle.joint_rule.specs.Rules.{Showed}
 use Rattle.joint_rule.specs.Filling.{FillsDays}
-use Rattle.unit_model.specs.Image.{last_kept}
 use Rattle.safety_model.specs.Recording.{MayCome}
 use Rattle.safety_model.specs.Unit.{marks_of}
 use Rattle.safety_model.proofs.Giving.{passed-reached}

@@ -1,5 +1,5 @@
 -- What holds of a device that is as it was.
-use Rattle.std.proofs.Common.{◌≡◌, ◌≤◌, arith}
+use Rattle.std.proofs.Common.{arith}
 use Rattle.tach_media.specs.Medium.{State}
 use Rattle.run_opening.specs.Opening.{IsAsItWas}
 use Rattle.run_keeping.specs.Later.{IsLater}

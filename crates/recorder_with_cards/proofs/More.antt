@@ -1,5 +1,5 @@
 -- An insertion takes no break away.
-use Rattle.std.proofs.Common.{◌≡◌, ◌⊎◌, ⊎_elim, ℕ, ◌+◌, ◌≤◌, Bool, true, false, List, length, refl, ap, sym, subst, arith, length-append}
+use Rattle.std.proofs.Common.{◌⊎◌, ⊎_elim, ℕ, ◌≤◌, Bool, true, false, List, length, ap, arith, length-append}
 use Rattle.activity_codec.specs.declared.values.Slot.{Slot}
 use Rattle.activity_codec.specs.declared.values.Slot.TheVariants.{Driver, CoDriver}
 use Rattle.trace_model.specs.declared.Card.{Card}
@@ -8,7 +8,7 @@ use Rattle.slot_machine.specs.declared.seats.Present.{Present}
 use Rattle.run_outcome.specs.declared.outcome.Outcome.{Outcome}
 use Rattle.run_keeping.specs.declared.keeper.Moment.{Moment}
 use Rattle.run_keeping.specs.Keeping.{breaks_by, with_lines}
-use Rattle.run_keeping.specs.Minutes.{Round, Told, AreKept, none, more, AreKeptUpTo, IsRound, told_after, minute_of, present_at}
+use Rattle.run_keeping.specs.Minutes.{Round, Told, AreKept, none, more, AreKeptUpTo, told_after, present_at}
 use Rattle.run_keeping.proofs.Counts.{lines-length}
 use Rattle.run_entering.specs.declared.lines.Entering.{Entering}
 use Rattle.run_entering.specs.Entering.{ending_of, breaks_by as entered_breaks}

@@ -1,10 +1,9 @@
 -- The last second turns out to be a cut's, as an `off` line says: it has noted the same, and all odometers are the same.
-use Rattle.std.proofs.Common.{◌≡◌, ◌∙◌, ◌⊎◌, inl, inr, ℕ, suc, ◌+◌, ◌-◌, ◌/◌, ◌<◌, ◌≤◌, min, Bool, true, false, cond, not, ◌&&◌, ◌||◌, nat_eq, Option, Some, None, is_some, List, [], ◌∷◌, ◌++◌, All, length, map, filter, sum, refl, ap, sym, subst, arith, append-nil, length-append}
+use Rattle.std.proofs.Common.{◌≡◌, ◌∙◌, ℕ, ◌+◌, ◌-◌, ◌/◌, ◌<◌, min, Bool, true, false, cond, not, ◌&&◌, ◌||◌, nat_eq, Option, Some, None, is_some, List, [], ◌∷◌, ◌++◌, All, length, map, filter, sum, refl, ap, sym, subst, arith, append-nil, length-append}
 use Rattle.std.specs.Prelude.{nat_lt}
-use Rattle.std.specs.List.{AllByRecursion, list_any}
+use Rattle.std.specs.List.{list_any}
 use Rattle.std.proofs.lemmas.Bool.Decides.{nat_tests}
 use Rattle.std.proofs.lemmas.List.Elements.{All-nil, All-cons}
-use Rattle.activity_codec.specs.declared.values.Slot.{Slot}
 use Rattle.trace_model.specs.declared.Card.{Card}
 use Rattle.trace_model.specs.Trace.{TraceSecond}
 use Rattle.minute_model.specs.Second.{Second}
@@ -12,18 +11,17 @@ use Rattle.minute_model.specs.declared.Rule.{Rule}
 use Rattle.history_model.specs.Presence.{Start}
 use Rattle.unit_model.specs.declared.layout.TheConstants.{HIGHEST_ODOMETER}
 use Rattle.log_model.specs.declared.lines.Break.{Break}
-use Rattle.log_model.specs.Log.{RunLog, Phase, In, cut_in, is_torn_in, found_in}
-use Rattle.log_model.specs.Causes.{second_of}
+use Rattle.log_model.specs.Log.{RunLog, In, cut_in, is_torn_in}
 use Rattle.log_model.specs.Same.{SameAt}
-use Rattle.log_model.specs.Spans.{spans_of, seconds_in, AreInOrder}
+use Rattle.log_model.specs.Spans.{seconds_in, AreInOrder}
 use Rattle.log_model.specs.Course.{Told, Before, Went, begins, has_power, second_told, went}
 use Rattle.log_model.proofs.Growth.{went-more}
 use Rattle.log_model.proofs.Spanning.{order-parts}
 use Rattle.side_model.specs.Odometer.{SpanFrom, odometer_before, has_second, odometer_at}
 use Rattle.side_model.specs.Noted.{Note}
 use Rattle.unit_course.specs.Lines.{cut_at}
-use Rattle.unit_course.specs.Followed.{Supply, Lit}
-use Rattle.unit_course.specs.Turn.{cut_at_end, cut_last}
+use Rattle.unit_course.specs.Followed.{Lit}
+use Rattle.unit_course.specs.Turn.{cut_last}
 use Rattle.unit_course.proofs.Spans.{cut_spans, cut-spans-last}
 use Rattle.safety_model.specs.Safe.{Devices}
 use Rattle.run_course.specs.Moments.{and_break}

@@ -1,16 +1,15 @@
 -- A run whose next second has a selection more.
-use Rattle.std.proofs.Common.{◌≡◌, ◌∙◌, ℕ, ◌+◌, ◌-◌, ◌*◌, ◌/◌, ◌≤◌, length, refl, ap, sym, subst, arith, None}
+use Rattle.std.proofs.Common.{◌≡◌, ◌∙◌, ℕ, ◌-◌, refl, ap, sym, arith}
 use Rattle.activity_codec.specs.declared.values.Slot.{Slot}
 use Rattle.activity_codec.specs.declared.values.Pick.{Pick}
 use Rattle.tach_media.specs.Medium.{State}
 use Rattle.card_layout.specs.declared.command.CardState.{CardState}
-use Rattle.minute_model.specs.Span.{Span, end_of, ungiven_of, picked}
+use Rattle.minute_model.specs.Span.{picked}
 use Rattle.minute_rules.specs.Kept.{StandsFor, Kept as Minutes}
 use Rattle.run_outcome.specs.declared.outcome.Outcome.{Outcome}
 use Rattle.run_acts.specs.declared.run.Run.{Run}
-use Rattle.run_acts.specs.declared.run.Power.{Power}
 use Rattle.run_acts.specs.Going.{IsHeld, IsLit}
-use Rattle.run_acts.specs.Room.{waiting, waiting_of, Takes}
+use Rattle.run_acts.specs.Room.{waiting, Takes}
 use Rattle.run_acts.proofs.Kept.{owing-is}
 
 module _ {U A0 B0 : State} {chip_a chip_b : CardState} (to : ℕ) (run : Run) (minutes : Minutes) (slot : Slot) (pick : Pick) where

@@ -1,5 +1,5 @@
 -- What a run promises, from what was recorded of it; and that nothing is recorded as it begins.
-use Rattle.std.proofs.Common.{◌≡◌, ◌∙◌, ◌⊎◌, inl, inr, ⊎_elim, ℕ, ◌+◌, ◌-◌, ◌/◌, ◌<◌, ◌≤◌, true, false, Option, Some, None, IfSome, option_map, is_some, Result, Ok, List, [], ◌++◌, length, All, refl, ap, sym, subst, arith, ◌||◌}
+use Rattle.std.proofs.Common.{◌≡◌, ◌∙◌, ◌⊎◌, inl, inr, ⊎_elim, ℕ, ◌-◌, ◌/◌, ◌<◌, ◌≤◌, true, Option, Some, None, IfSome, option_map, is_some, List, [], length, All, refl, ap, sym, subst, arith, ◌||◌}
 use Rattle.trace_model.specs.declared.Card.{Card}
 use Rattle.trace_model.specs.declared.Card.TheVariants.{A, B}
 use Rattle.tacho_types.specs.declared.texts.Registration.{Registration}
@@ -24,27 +24,24 @@ use Rattle.log_model.specs.Spans.{spans_of}
 use Rattle.side_model.specs.Done.{done_of}
 use Rattle.side_model.specs.Noted.{Note, notes_of}
 use Rattle.side_model.specs.Odometer.{MayStore, HaveBases}
-use Rattle.run_model.specs.declared.Device.{Device}
 use Rattle.history_model.specs.Book.{not_begun}
 use Rattle.joint_rule.specs.Rules.{Out}
 use Rattle.unit_course.specs.Followed.{Supply, Lit as IsLit, Due as IsDue, Lost as IsLost}
 use Rattle.unit_course.specs.Legs.{not_travelled}
 use Rattle.unit_model.specs.declared.layout.TheConstants.{HIGHEST_ODOMETER}
-use Rattle.unit_model.specs.Image.{number_of, last_kept, odometer_at}
+use Rattle.unit_model.specs.Image.{last_kept, odometer_at}
 use Rattle.unit_model.specs.Decoding.{Decodes}
 use Rattle.unit_rule.specs.Odometer.{HasTravelled}
 use Rattle.unit_rule.specs.Rule.{started}
 use Rattle.unit_rule.proofs.Travelling.{travelled-opened}
-use Rattle.unit_journal.specs.Image.{IsFoundBy}
 use Rattle.unit_journal.proofs.Beside.{passes_beside}
 use Rattle.unit_memory.specs.declared.format.Identity.{Identity}
 use Rattle.safety_model.specs.Recording.{Recording, card_image, brought, history_of, lost_of, start_of}
-use Rattle.safety_model.specs.Safe.{Devices, card_of, breakdowns_of, MayBegin}
+use Rattle.safety_model.specs.Safe.{Devices, card_of, breakdowns_of}
 use Rattle.slot_machine.specs.Kept.{nothing_yet}
 use Rattle.run_crew.specs.declared.cards.Accepted.{Accepted}
 use Rattle.run_crew.specs.declared.cards.Known.{Known}
 use Rattle.run_crew.specs.declared.cards.Cards.{Cards}
-use Rattle.run_crew.specs.declared.cabin.Cabin.{Cabin}
 use Rattle.run_crew.specs.Cards.{known_of as known_in, session_of}
 use Rattle.run_rule.specs.Found.{Found, found_of}
 use Rattle.run_rule.specs.Between.{Carried, IsCarried, IsFound, devices}
@@ -55,11 +52,11 @@ use Rattle.run_moments.specs.Telling.{IsMore}
 use Rattle.run_told.specs.Told.{AreFoundCards, IsHeldDark, IsPowerless}
 use Rattle.run_told.proofs.Opened.{opened-wait, opened-powerless}
 use Rattle.run_recorded.specs.Origin.{Origin, rule_of, start_at}
-use Rattle.run_recorded.specs.Ends.{recording_by, EndsRun}
+use Rattle.run_recorded.specs.Ends.{EndsRun}
 use Rattle.run_recorded.specs.Seconds.{empty_log}
 use Rattle.run_recorded.proofs.Ends.{ends-run}
 use Rattle.event_model.specs.Events.{Seen, seen_of}
-use Rattle.run_evented.specs.Evented.{limit_in, images_in, Evented}
+use Rattle.run_evented.specs.Evented.{images_in, Evented}
 use Rattle.run_evented.specs.Uses.{uses_from, use_behind, vehicle_of, use_in, insertions_on, uses_in}
 use Rattle.run_evented.proofs.Ends.{nothing-noted, events-shown}
 use Rattle.run_ringed.specs.OnCards.{places_in, HasPlaces}
@@ -70,19 +67,15 @@ use Rattle.run_ringed.proofs.Rings.{none-noted, fewer-sit}
 use Rattle.run_ringed.proofs.Shown.{rings-shown, places-shown}
 use Rattle.run_ringed.proofs.Bases.{stored-start}
 use Rattle.run_within.specs.Recorded.{Values, progress, carried, AreThere, IsHeldBy, Recorded}
-use Rattle.run_within.specs.Going.{MayStart}
 use Rattle.run_within.proofs.Going.{begun-recorded}
 use Rattle.run_opening.specs.Begun.{Begin, found_in, known_of, IsReady}
-use Rattle.run_opening.specs.Begun.{IsRefusedBy as IsRefusedAs}
-use Rattle.run_opening.specs.Cards.{IsTold, IsFoundOn, number_by}
-use Rattle.run_opening.specs.Opening.{IsAsItWas}
+use Rattle.run_opening.specs.Cards.{IsFoundOn, number_by}
 use Rattle.run_opening.specs.declared.opening.Opened.{Opened}
-use Rattle.run_opening.specs.declared.fault.RunFault.{RunFault}
 use Rattle.run_opening.proofs.Told.{valid-known}
 use Rattle.run_outcome.specs.declared.outcome.Outcome.{Outcome}
 use Rattle.run_acts.specs.declared.run.Run.{Run}
 use Rattle.run_acts.specs.declared.run.Power.{Power}
-use Rattle.run_acts.specs.declared.run.Power.TheVariants.{Lit, Due, Lost}
+use Rattle.run_acts.specs.declared.run.Power.TheVariants.{Lit, Due}
 use Rattle.run_acts.specs.Power.{is_lit}
 use Rattle.run_acts.specs.Recording.{log_of, values_of, IsOrigin, Supplies, RunRecorded}
 use Rattle.run_acts.proofs.StoredRun.{end-stores}

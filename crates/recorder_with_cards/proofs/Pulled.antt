@@ -1,5 +1,5 @@
 -- A run from which a card was pulled out.
-use Rattle.std.proofs.Common.{◌≡◌, ◌∙◌, ℕ, ◌+◌, ◌-◌, ◌*◌, ◌/◌, ◌≤◌, Option, Some, None, List, [], ◌∷◌, length, refl, arith}
+use Rattle.std.proofs.Common.{◌≡◌, ℕ, ◌-◌, ◌/◌, ◌≤◌, Option, Some, None, [], ◌∷◌, refl, arith}
 use Rattle.activity_codec.specs.declared.values.Slot.{Slot}
 use Rattle.trace_model.specs.declared.Card.{Card}
 use Rattle.trace_model.specs.declared.Card.TheVariants.{A, B}
@@ -18,7 +18,7 @@ use Rattle.run_keeping.proofs.Sessions.{number-set, row-set}
 use Rattle.run_keeping.proofs.Units.{has-row}
 use Rattle.run_acts.specs.declared.run.Run.{Run}
 use Rattle.run_acts.specs.Going.{CardAt, IsHeld, IsLit}
-use Rattle.run_acts.specs.Room.{falls_of, Takes}
+use Rattle.run_acts.specs.Room.{Takes}
 use Rattle.run_acts.proofs.Torn.{torn-past, torn-minute, torn-sessions, sitting-falls, is-there}
 use Rattle.run_acts.specs.Acting.{pulled_run, pulled_breaks, pull_of}
 use Rattle.run_acts.proofs.Cabins.{cabin-going, cabin-held}

@@ -1,5 +1,5 @@
 -- Power is back: the unit was read and mended, a span begins, and the cards in the slots are judged one after the other.
-use Rattle.std.proofs.Common.{◌≡◌, ◌∙◌, inr, ⊎_elim, ℕ, ◌+◌, ◌*◌, ◌/◌, ◌≤◌, min, Bool, true, false, Option, Some, None, IfSome, is_some, List, [], ◌∷◌, ◌++◌, Contains, map, length, refl, ap, sym, subst, arith, append-nil}
+use Rattle.std.proofs.Common.{◌≡◌, ◌∙◌, inr, ⊎_elim, ℕ, ◌+◌, ◌/◌, ◌≤◌, Bool, true, false, Option, Some, None, IfSome, is_some, List, [], ◌∷◌, ◌++◌, Contains, map, length, refl, ap, sym, subst, arith, append-nil}
 use Rattle.std.specs.List.{AllByRecursion}
 use Rattle.std.proofs.lemmas.List.Elements.{Contains-push, Contains-push_cases, Contains-append_left}
 use Rattle.std.proofs.lemmas.List.Sums.{fold-append}
@@ -41,12 +41,12 @@ use Rattle.device_steps.specs.Rule.{Both, CardRests, IsTakenUp}
 use Rattle.side_model.specs.Odometer.{SpanFrom}
 use Rattle.safety_model.specs.Safe.{Devices, card_of, breakdowns_of}
 use Rattle.slot_machine.specs.declared.seats.Seat.{Seat}
-use Rattle.slot_machine.specs.Calls.{Seats, seat_in, card_in}
+use Rattle.slot_machine.specs.Calls.{card_in}
 use Rattle.slot_machine.specs.Kept.{Kept}
 use Rattle.run_crew.specs.declared.cabin.Cabin.{Cabin}
 use Rattle.run_rule.specs.Between.{devices}
 use Rattle.run_course.specs.Moments.{and_find}
-use Rattle.run_course.specs.Presence.{SitsAs, SlotsTell}
+use Rattle.run_course.specs.Presence.{SitsAs}
 use Rattle.run_course.specs.Followed.{Progress, Followed}
 use Rattle.run_course.proofs.Logs.{found_log}
 use Rattle.run_moments.specs.Telling.{IsMore}
@@ -65,7 +65,7 @@ use Rattle.run_keeping.specs.Books.{HaveTime}
 use Rattle.run_entering.specs.declared.lines.Entering.{Entering}
 use Rattle.run_entering.specs.Entering.{Ending, Unfit, Ahead, Fell, Unasked, Unnoted, Seated, Lost, ending_of, find_of, finds_by}
 use Rattle.run_within.specs.Recorded.{Values, progress, carried, slots_of, IsOff, Recorded}
-use Rattle.run_within.specs.Within.{Beginning, Within, CutWithin}
+use Rattle.run_within.specs.Within.{Beginning, CutWithin}
 use Rattle.run_within.specs.Powering.{odometer_found, counted_from, read_values, begun_values, begun_again, IsBack, IsOnlyRead}
 use Rattle.run_within.specs.Waking.{IsWaking, both_slots}
 use Rattle.run_within.proofs.Powering.{off-of, power-wakes, mending-fails}
@@ -77,8 +77,8 @@ use Rattle.run_acts.specs.Power.{IsSpanBegun, is_lit}
 use Rattle.run_acts.specs.Recording.{IsOrigin, log_of, values_of, RunWithin, ComesPower, GoesOnOrCut, GoesOnOrFails}
 use Rattle.run_acts.proofs.NoteRecorded.{same-course}
 use Rattle.run_acts.proofs.Stored.{stored-back}
-use Rattle.recorder_with_cards.specs.Accepting.{IsBare, IsAccepted, IsAnew}
-use Rattle.recorder_with_cards.specs.Judged.{moment_in, RunNext, RunBehind, JudgedTo, JudgesSo, JudgesAnew}
+use Rattle.recorder_with_cards.specs.Accepting.{IsBare, IsAnew}
+use Rattle.recorder_with_cards.specs.Judged.{moment_in, RunNext, RunBehind, JudgedTo, JudgesAnew}
 use Rattle.recorder_with_cards.proofs.Read.{unit-tells, image-of, at-image}
 use Rattle.recorder_with_cards.proofs.StoredCalls.{mend-stays}
 use Rattle.side_model.specs.Noted.{Note}

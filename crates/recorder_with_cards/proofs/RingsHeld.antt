@@ -1,5 +1,5 @@
 -- The rings within a second: with power, or where it was cut; behind the actions so far, and what a log tells of them.
-use Rattle.std.proofs.Common.{◌≡◌, ◌∙◌, ℕ, zero, suc, ◌+◌, ◌<◌, ◌≤◌, Bool, true, false, cond, ◌||◌, ◌&&◌, nat_eq, Option, None, is_some, List, [], ◌∷◌, ◌++◌, length, take, refl, ap, sym, subst, arith, append-nil}
+use Rattle.std.proofs.Common.{◌≡◌, ◌∙◌, ℕ, suc, ◌+◌, ◌≤◌, Bool, true, false, cond, ◌||◌, ◌&&◌, nat_eq, Option, None, is_some, List, [], ◌∷◌, ◌++◌, length, take, refl, ap, sym, subst, arith, append-nil}
 use Rattle.std.proofs.Math.Seq.{take-append_seam}
 use Rattle.std.proofs.lemmas.Bool.Decides.{nat_tests}
 use Rattle.activity_codec.specs.declared.values.Slot.{Slot}
@@ -9,20 +9,17 @@ use Rattle.trace_model.specs.Trace.{TraceSecond}
 use Rattle.log_model.specs.declared.lines.Break.{Break}
 use Rattle.log_model.specs.declared.lines.Break.TheVariants.{Tear}
 use Rattle.log_model.specs.declared.lines.Refused.{Refused}
-use Rattle.log_model.specs.Log.{RunLog, In, cut_in, cut_of, is_torn_in, found_in, tears_here}
-use Rattle.log_model.specs.Course.{Before, Course, begins, all_acted}
+use Rattle.log_model.specs.Log.{RunLog, In, cut_in, is_torn_in, found_in, tears_here}
+use Rattle.log_model.specs.Course.{Before, begins, all_acted}
 use Rattle.side_model.specs.Done.{course_powered}
-use Rattle.side_model.specs.Odometer.{SpanFrom}
-use Rattle.log_model.specs.Course.{Told}
 use Rattle.safety_model.specs.Safe.{Devices}
-use Rattle.run_course.specs.Moments.{and_break, and_refused}
+use Rattle.run_course.specs.Moments.{and_break}
 use Rattle.run_course.proofs.Lookups.{break-more, refusal-more}
 use Rattle.run_moments.specs.Reached.{course_at}
 use Rattle.run_moments.proofs.Reached.{at-by}
 use Rattle.run_outcome.specs.declared.outcome.Outcome.{Outcome}
 use Rattle.run_recorded.specs.Origin.{Origin}
 use Rattle.run_rings.specs.Notes.{TellSameTo, course_behind}
-use Rattle.run_ringed.specs.SoFar.{HasMoreBreaks}
 use Rattle.run_ringed.specs.Steps.{GoesOnTo}
 use Rattle.run_acts.specs.declared.run.Run.{Run}
 use Rattle.run_acts.specs.Power.{is_lit}

@@ -1,5 +1,5 @@
 -- Lines of a second with power, told by a call: earlier seconds go as they did, and a cut may be told behind them.
-use Rattle.std.proofs.Common.{◌≡◌, ◌∙◌, ◌⊎◌, inl, inr, ℕ, suc, ◌<◌, ◌≤◌, Bool, true, nat_eq, Option, Some, None, List, [], ◌∷◌, ◌++◌, length, take, refl, ap, sym, subst, arith, append-nil, append_assoc, length-append}
+use Rattle.std.proofs.Common.{◌≡◌, ◌∙◌, inl, inr, ℕ, suc, ◌≤◌, true, Option, Some, None, List, [], ◌∷◌, ◌++◌, length, take, refl, ap, sym, subst, arith, append-nil, append_assoc, length-append}
 use Rattle.std.specs.Prelude.{nat_lt}
 use Rattle.std.specs.List.{AllByRecursion}
 use Rattle.std.proofs.Math.Seq.{take-append_seam}
@@ -11,7 +11,7 @@ use Rattle.log_model.specs.declared.lines.Break.{Break}
 use Rattle.log_model.specs.declared.lines.Find.{Find}
 use Rattle.log_model.specs.Causes.{second_of}
 use Rattle.log_model.specs.Log.{RunLog, Phase, In, cut_in}
-use Rattle.log_model.specs.Course.{Course, Before, Visit, begins, all_acted, went}
+use Rattle.log_model.specs.Course.{Before, Visit, begins, all_acted}
 use Rattle.side_model.specs.Done.{course_powered}
 use Rattle.safety_model.specs.Safe.{Devices}
 use Rattle.unit_course.specs.Lines.{cut_at}

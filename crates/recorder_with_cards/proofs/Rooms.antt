@@ -1,12 +1,12 @@
 -- The room of an action, and behind it.
-use Rattle.std.proofs.Common.{◌≡◌, ◌∙◌, ℕ, ◌+◌, ◌-◌, ◌*◌, ◌/◌, ◌<◌, ◌≤◌, false, length, refl, ap, sym, arith}
+use Rattle.std.proofs.Common.{◌≡◌, ℕ, ◌+◌, ◌-◌, ◌*◌, ◌/◌, ◌<◌, ◌≤◌, length, ap, arith}
 use Rattle.run_outcome.specs.declared.outcome.TheConstants.{MOST_OWED}
 use Rattle.run_outcome.specs.declared.outcome.Outcome.{Outcome}
 use Rattle.run_acts.specs.declared.run.Run.{Run}
 use Rattle.run_acts.specs.declared.run.Power.{Power}
-use Rattle.run_acts.specs.declared.run.Power.TheVariants.{Lit, Due, Lost}
+use Rattle.run_acts.specs.declared.run.Power.TheVariants.{Lit, Lost}
 use Rattle.run_acts.specs.Power.{is_lit}
-use Rattle.run_acts.specs.Room.{waiting, waiting_of, falls_of, bare_seats, finds_due, cuts_within, HasRoomFrom, HasRoomWithin, Takes}
+use Rattle.run_acts.specs.Room.{waiting, falls_of, finds_due, cuts_within, HasRoomFrom, HasRoomWithin, Takes}
 use Rattle.tach_media.specs.Medium.{State}
 use Rattle.card_layout.specs.declared.command.CardState.{CardState}
 use Rattle.run_acts.specs.Going.{IsLit}

@@ -5,20 +5,16 @@ use Rattle.trace_model.specs.declared.Action.{Action}
 use Rattle.trace_model.specs.Trace.{TraceSecond, driven, dark}
 use Rattle.log_model.specs.declared.lines.Break.{Break}
 use Rattle.log_model.specs.declared.lines.Refused.{Refused}
-use Rattle.log_model.specs.Log.{RunLog}
-use Rattle.log_model.specs.Course.{Told}
 use Rattle.unit_course.specs.Followed.{Supply, IsDark}
 use Rattle.unit_course.specs.Followed.{Lit as IsLit, Due as IsDue, Lost as IsLost}
-use Rattle.unit_course.specs.Lines.{cut_at}
 use Rattle.safety_model.specs.Safe.{Devices}
-use Rattle.run_course.specs.Moments.{and_break}
 use Rattle.run_course.specs.Followed.{Progress}
 use Rattle.run_outcome.specs.declared.outcome.Outcome.{Outcome}
 use Rattle.run_outcome.specs.Lines.{Listed}
 use Rattle.run_keeping.specs.Keeping.{with_lines}
 use Rattle.run_recorded.specs.Origin.{Origin}
 use Rattle.run_within.specs.Recorded.{progress}
-use Rattle.run_evented.specs.Evented.{limit_in, Evented}
+use Rattle.run_evented.specs.Evented.{Evented}
 use Rattle.run_evented.proofs.Unlit.{dark-seconds, off-line, off-line_cuts}
 use Rattle.unit_memory.specs.declared.format.Identity.{Identity}
 use Rattle.run_acts.specs.declared.run.Run.{Run}

@@ -1,6 +1,6 @@
 -- What seconds of a run leave of the record: without power, of an `off` line, and one after another.
-use Rattle.std.proofs.Common.{◌≡◌, ◌∙◌, ℕ, zero, suc, ◌+◌, ◌-◌, ◌%◌, ◌<◌, ◌≤◌, Bool, true, false, List, [], ◌∷◌, ◌++◌, length, map, refl, ap, sym, subst, arith, append_assoc, ⊎_elim, Some, None, is_some}
-use Rattle.std.specs.Prelude.{◌==◌, Result, Ok, Err}
+use Rattle.std.proofs.Common.{◌≡◌, ◌∙◌, ℕ, zero, suc, ◌+◌, ◌-◌, ◌%◌, ◌<◌, ◌≤◌, Bool, true, false, List, [], ◌∷◌, ◌++◌, map, refl, ap, sym, subst, arith, append_assoc, ⊎_elim, Some, None, is_some}
+use Rattle.std.specs.Prelude.{◌==◌, Result, Ok}
 use Rattle.std.proofs.lemmas.List.{append-nil}
 use Rattle.std.proofs.lemmas.Bool.Decides.{nat_tests}
 use Rattle.trace_model.specs.declared.Action.{Action}
@@ -20,15 +20,15 @@ use Rattle.run_outcome.specs.Lines.{Listed, cut_at}
 use Rattle.run_keeping.specs.Keeping.{with_lines}
 use Rattle.run_recorded.specs.Origin.{Origin}
 use Rattle.run_recorded.specs.Seconds.{fault_of, refused_for}
-use Rattle.run_within.specs.Recorded.{Values, Recorded}
-use Rattle.run_within.specs.Going.{dark_values, off_values, off_cut_values}
+use Rattle.run_within.specs.Recorded.{Recorded}
+use Rattle.run_within.specs.Going.{off_values}
 use Rattle.run_within.proofs.Going.{dark-recorded, off-recorded, off-cut-recorded}
 use Rattle.run_acts.specs.declared.run.Run.{Run}
 use Rattle.run_acts.specs.declared.run.Power.{Power}
 use Rattle.run_acts.specs.declared.run.Power.TheVariants.{Lit, Due, Lost}
 use Rattle.run_acts.specs.Power.{is_lit, has_power, darkened, off_run, off_cut, passed}
 use Rattle.run_acts.specs.Turning.{IsTurnOf}
-use Rattle.run_acts.specs.Recording.{log_of, values_of, Supplies, RunRecorded, InSecond}
+use Rattle.run_acts.specs.Recording.{log_of, values_of, Supplies, RunRecorded}
 use Rattle.recorder_with_cards.specs.Acting.{IsItemActed, AreActed}
 use Rattle.recorder_with_cards.specs.Recorded.{Inside, Between, action_of, actions_in, HasBegunBy, HasRunBy}
 use Rattle.trace_model.specs.declared.Card.{Card}

@@ -1,5 +1,5 @@
 -- What seconds of a run leave of its rings: without power, and of an `off` line.
-use Rattle.std.proofs.Common.{◌≡◌, ◌∙◌, ◌⊎◌, inl, inr, ℕ, zero, suc, ◌+◌, ◌-◌, ◌%◌, ◌<◌, ◌≤◌, Bool, true, false, Option, Some, None, List, [], ◌∷◌, ◌++◌, All, length, refl, ap, sym, subst, arith, append-nil}
+use Rattle.std.proofs.Common.{◌≡◌, ◌∙◌, inl, inr, ℕ, zero, suc, ◌+◌, ◌-◌, ◌%◌, ◌<◌, ◌≤◌, Bool, true, false, Option, None, List, [], ◌∷◌, ◌++◌, All, length, refl, ap, sym, subst, arith, append-nil}
 use Rattle.std.proofs.lemmas.List.Elements.{All-nil, All-cons}
 use Rattle.trace_model.specs.declared.Action.{Action}
 use Rattle.trace_model.specs.declared.Card.{Card}
@@ -9,7 +9,7 @@ use Rattle.log_model.specs.declared.lines.Break.{Break}
 use Rattle.log_model.specs.declared.lines.Refused.{Refused}
 use Rattle.log_model.specs.Log.{RunLog}
 use Rattle.log_model.specs.Same.{SameAt}
-use Rattle.log_model.specs.Course.{Told, Before, Went, has_power, went}
+use Rattle.log_model.specs.Course.{Told, Went, has_power, went}
 use Rattle.side_model.specs.Odometer.{SpanFrom}
 use Rattle.unit_course.specs.Followed.{Supply}
 use Rattle.unit_course.specs.Followed.{Lit as IsLit, Due as IsDue, Lost as IsLost}
@@ -31,7 +31,7 @@ use Rattle.run_recorded.specs.Origin.{Origin, rule_of, start_at, first_of}
 use Rattle.run_within.specs.Recorded.{progress}
 use Rattle.run_evented.proofs.Unlit.{acted-last, off-last, behind-more}
 use Rattle.run_ringed.specs.Ringed.{Seating}
-use Rattle.run_ringed.specs.SoFar.{RingedBehind, AreFewer, GoesBehind}
+use Rattle.run_ringed.specs.SoFar.{RingedBehind, GoesBehind}
 use Rattle.run_ringed.specs.Stored.{StoresOff, Stores}
 use Rattle.run_ringed.proofs.SoFar.{dark-ends}
 use Rattle.run_ringed.proofs.Bases.{stored-dark}

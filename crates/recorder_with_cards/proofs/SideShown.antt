@@ -1,6 +1,6 @@
 -- An image that shows the events, the rings and the odometer of a recording shows its auxiliary records.
-use Rattle.std.proofs.Common.{◌≡◌, ◌<◌, ◌≤◌, ℕ, List, Bool}
-use Rattle.gated_ring.specs.Ring.{PointsInside, IsDense, Shape}
+use Rattle.std.proofs.Common.{ℕ, List, Bool}
+use Rattle.gated_ring.specs.Ring.{PointsInside, Shape}
 use Rattle.message_model.specs.Records.{insertion_ring, unit_place_ring}
 use Rattle.unit_model.specs.Decoding.{Decodes}
 use Rattle.unit_model.specs.Image.{last_kept, odometer_at}

@@ -1,5 +1,5 @@
 -- The power spans of a run in which no call failed: each began with the odometer of the start and the whole kilometres of each span before it.
-use Rattle.std.proofs.Common.{◌≡◌, ◌∙◌, ◌⊎◌, inl, inr, ⊎_elim, ℕ, zero, suc, ◌+◌, ◌-◌, ◌*◌, ◌/◌, ◌<◌, ◌≤◌, min, Bool, true, false, nat_le, nat_lt, Option, Some, None, List, [], ◌∷◌, ◌++◌, All, Contains, map, filter, sum, refl, ap, sym, subst, arith, append-nil, append_assoc}
+use Rattle.std.proofs.Common.{◌≡◌, ◌∙◌, ◌⊎◌, inl, inr, ⊎_elim, ℕ, zero, suc, ◌+◌, ◌-◌, ◌*◌, ◌/◌, ◌<◌, ◌≤◌, min, true, false, nat_le, nat_lt, Option, Some, None, List, [], ◌∷◌, ◌++◌, All, Contains, map, filter, sum, refl, ap, sym, subst, arith, append-nil, append_assoc}
 use Rattle.std.specs.Prelude.{flat_map, unwrap_or}
 use Rattle.std.proofs.lemmas.Bool.Decides.{nat_tests}
 use Rattle.std.proofs.lemmas.List.{map-append}
@@ -9,7 +9,7 @@ use Rattle.minute_model.specs.declared.Minute.{Minute}
 use Rattle.minute_model.specs.Activity.{last}
 use Rattle.minute_model.specs.Second.{Second}
 use Rattle.minute_model.specs.Span.{count_from, ungiven_of, AreNumbered}
-use Rattle.minute_model.proofs.Counted.{decided-minutes, count_from-more}
+use Rattle.minute_model.proofs.Counted.{decided-minutes}
 use Rattle.log_model.specs.Log.{RunLog}
 use Rattle.log_model.specs.Course.{Told}
 use Rattle.log_model.specs.Spans.{seconds_in, first_in, end_in, AreApart}

@@ -1,17 +1,16 @@
 -- Where no power span was before, no break is told: so an interruption is noted where there was one.
-use Rattle.std.proofs.Common.{◌≡◌, ◌⊎◌, inl, inr, ⊎_elim, ℕ, Bool, true, false, cond, not, ◌&&◌, List, [], ◌∷◌, ◌++◌, map, filter, fold, refl, ap, sym, subst, ◌∙◌}
+use Rattle.std.proofs.Common.{◌≡◌, ℕ, Bool, true, false, cond, not, ◌&&◌, List, [], ◌∷◌, ◌++◌, map, filter, fold, refl, ap, sym, ◌∙◌}
 use Rattle.std.specs.Prelude.{flat_map}
 use Rattle.std.specs.List.{AllByRecursion}
 use Rattle.activity_codec.specs.declared.values.Slot.{Slot}
 use Rattle.activity_codec.specs.declared.values.Slot.TheVariants.{Driver, CoDriver}
-use Rattle.activity_codec.specs.Activity.{same_slot}
 use Rattle.trace_model.specs.Trace.{TraceSecond}
 use Rattle.run_model.specs.declared.Device.{Device}
 use Rattle.log_model.specs.declared.lines.Break.{Break}
 use Rattle.log_model.specs.declared.lines.Break.TheVariants.{Cut, Tear}
 use Rattle.log_model.specs.Log.{RunLog, Phase, phase_of}
 use Rattle.log_model.specs.Causes.{is_cut, has_failed, second_of, tears, places, visit_places, in_the_slot, pulled_of, torn_of}
-use Rattle.log_model.specs.Course.{Told, Before, Went, Visit, has_power, second_told, before_next, went_on, not_begun, went}
+use Rattle.log_model.specs.Course.{Told, Before, Went, has_power, second_told, before_next, went_on, not_begun, went}
 use Rattle.event_model.specs.Events.{Seen, Watched, seen_by, watched_on, seen_of, seen_on, seen_with, seen_spans}
 use Rattle.run_course.specs.Caused.{AreCaused}
 use Rattle.run_course.proofs.Told.{told-lit}

@@ -1,22 +1,20 @@
 -- What no action of a second changes: which events the run watches, and what its unit was told of the vehicle.
-use Rattle.std.proofs.Common.{◌≡◌, ◌∙◌, ◌⊎◌, inl, inr, ⊎_elim, ℕ, Bool, true, false, Option, Some, None, List, refl, ap, sym}
+use Rattle.std.proofs.Common.{◌≡◌, ◌∙◌, ◌⊎◌, inl, inr, ⊎_elim, ℕ, Bool, true, false, Option, Some, None, List, refl, ap}
 use Rattle.activity_codec.specs.declared.values.Slot.{Slot}
 use Rattle.trace_model.specs.declared.Card.{Card}
 use Rattle.trace_model.specs.declared.Action.{Action}
 use Rattle.trace_model.specs.declared.Action.TheVariants.{Select, Insert, Withdraw, Tear, Place}
 use Rattle.minute_model.specs.declared.Minute.{Minute}
 use Rattle.slot_machine.specs.Calls.{seat_in, card_in}
-use Rattle.run_notes.specs.declared.watch.Watch.{Watch}
 use Rattle.log_model.specs.declared.lines.Break.{Break}
 use Rattle.run_outcome.specs.Lines.{Listed}
 use Rattle.run_outcome.specs.declared.outcome.Outcome.{Outcome}
 use Rattle.run_keeping.specs.declared.keeper.Keeper.{Keeper}
 use Rattle.run_keeping.specs.declared.keeper.Moment.{Moment}
 use Rattle.run_keeping.specs.Minutes.{Told, AreKept, none, more, AreKeptUpTo}
-use Rattle.run_entering.specs.Entering.{ending_of, measured}
 use Rattle.run_acts.specs.declared.run.Run.{Run}
-use Rattle.run_acts.specs.Acting.{IsSettled, IsClosed, IsClosedBehind, IsWithdrawn, IsPlaced, IsNotedOn, noted_run, pulled_run, told_of}
-use Rattle.recorder_with_cards.specs.Accepting.{IsAccepted, IsInserted}
+use Rattle.run_acts.specs.Acting.{IsSettled, IsClosedBehind, IsWithdrawn, IsPlaced, noted_run, pulled_run, told_of}
+use Rattle.recorder_with_cards.specs.Accepting.{IsInserted}
 use Rattle.recorder_with_cards.specs.Acting.{IsDone}
 
 -- both are the same

@@ -1,6 +1,6 @@
 -- Calls that store nothing: reading the unit, and mending it.
 use Rattle.std.proofs.Common.{◌≡◌, ◌⊎◌, ⊎_elim, List, ℕ, refl}
-use Rattle.tach_media.specs.Medium.{State, IsCoherent, LeavesOnly, Unchanged}
+use Rattle.tach_media.specs.Medium.{IsCoherent, LeavesOnly, Unchanged}
 use Rattle.unit_model.specs.Image.{last_kept, odometer_at}
 use Rattle.unit_journal.specs.declared.notes.Notes.{Notes}
 use Rattle.unit_journal.specs.Mends.{IsMending}

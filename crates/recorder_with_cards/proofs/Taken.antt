@@ -1,5 +1,5 @@
 -- What the steps of a power-on take of the room.
-use Rattle.std.proofs.Common.{◌≡◌, ◌∙◌, inl, inr, ℕ, ◌+◌, ◌-◌, ◌*◌, ◌<◌, ◌≤◌, Option, Some, None, List, [], ◌∷◌, length, refl, ap, sym, arith, length-append}
+use Rattle.std.proofs.Common.{◌≡◌, ◌∙◌, inl, inr, ℕ, ◌+◌, ◌-◌, ◌<◌, ◌≤◌, Option, Some, None, [], ◌∷◌, length, refl, ap, arith, length-append}
 use Rattle.activity_codec.specs.declared.values.Slot.{Slot}
 use Rattle.trace_model.specs.declared.Card.{Card}
 use Rattle.run_crew.specs.Cabin.{Stands}
@@ -11,14 +11,13 @@ use Rattle.run_entering.specs.Entering.{ending_of, breaks_by}
 use Rattle.run_acts.specs.Power.{cut_run}
 use Rattle.run_acts.proofs.Torn.{cut-falls}
 use Rattle.recorder_with_cards.specs.Accepting.{IsAccepted, IsAnew}
-use Rattle.run_outcome.specs.declared.outcome.TheConstants.{MOST_OWED}
 use Rattle.run_outcome.specs.declared.outcome.Outcome.{Outcome}
 use Rattle.log_model.specs.declared.lines.Break.{Break}
 use Rattle.run_outcome.specs.Lines.{Listed}
 use Rattle.run_keeping.specs.declared.keeper.Keeper.{Keeper}
 use Rattle.run_acts.specs.declared.run.Run.{Run}
 use Rattle.run_acts.specs.declared.run.Power.{Power}
-use Rattle.run_acts.specs.declared.run.Power.TheVariants.{Lit, Lost}
+use Rattle.run_acts.specs.declared.run.Power.TheVariants.{Lit}
 use Rattle.run_acts.specs.Room.{waiting, waiting_of, falls_of, bare_seats, Takes}
 use Rattle.recorder_with_cards.specs.Waking.{TakesUp, TakesAwake}
 

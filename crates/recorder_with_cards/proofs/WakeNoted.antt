@@ -1,5 +1,5 @@
 -- As power is back, what the mending of the unit and the judging of its cards note, one behind the other.
-use Rattle.std.proofs.Common.{⊎_elim, arith, ◌==◌, ◌<◌, ◌≢◌, ◌≡◌, ℕ, Bool, true, false, Option, Some, None, List, [], ◌∷◌, ◌++◌, ◌∙◌, refl, ap, sym, subst}
+use Rattle.std.proofs.Common.{⊎_elim, arith, ◌==◌, ◌<◌, ◌≢◌, ◌≡◌, ℕ, Bool, true, false, Option, Some, None, List, [], ◌∷◌, ◌++◌, ◌∙◌, refl, ap, subst}
 use Rattle.std.proofs.lemmas.Bool.Decides.{nat_tests}
 use Rattle.activity_codec.specs.declared.values.Slot.{Slot}
 use Rattle.activity_codec.specs.declared.values.Slot.TheVariants.{Driver, CoDriver}
@@ -23,11 +23,6 @@ use Rattle.log_model.specs.declared.lines.Break.{Break}
 use Rattle.unit_course.specs.Lines.{found_from}
 use Rattle.run_outcome.specs.Lines.{Listed}
 use Rattle.run_outcome.specs.declared.outcome.Outcome.{Outcome}
-use Rattle.unit_model.specs.Image.{IsUnit}
-use Rattle.run_keeping.specs.Faults.{faults_to}
-use Rattle.run_acts.proofs.KeptEvents.{faults-are, faults-noted}
-use Rattle.run_acts.specs.Faults.{NotesSettling}
-use Rattle.run_acts.specs.Turning.{told_of}
 use Rattle.run_acts.specs.declared.run.Run.{Run}
 use Rattle.run_acts.specs.Acting.{now_moment}
 use Rattle.recorder_with_cards.specs.Noting.{judged_events, NotesAnew, JudgesThese, JudgesDriver, JudgesBoth, NotesWaking, NotesFound, read_run, read_outcome}

@@ -1,15 +1,13 @@
 -- As power is back, the events of a run beside its record: the span begins, each card is judged, and the interruption before it is noted.
-use Rattle.std.proofs.Common.{◌≡◌, ◌∙◌, ℕ, zero, suc, ◌+◌, ◌/◌, ◌^◌, ◌<◌, ◌≤◌, Bool, true, false, Option, Some, None, List, [], ◌∷◌, ◌++◌, Contains, map, length, drop, take, refl, ap, sym, subst, arith}
+use Rattle.std.proofs.Common.{◌≡◌, ◌∙◌, ℕ, zero, suc, ◌+◌, ◌/◌, ◌^◌, ◌<◌, Bool, true, false, Option, Some, None, List, [], ◌∷◌, ◌++◌, length, refl, ap, sym, subst, arith}
 use Rattle.std.specs.List.{AllByRecursion}
 use Rattle.activity_codec.specs.declared.values.Slot.{Slot}
 use Rattle.activity_codec.specs.declared.values.Slot.TheVariants.{Driver, CoDriver}
 use Rattle.trace_model.specs.declared.Card.{Card}
 use Rattle.trace_model.specs.Trace.{TraceSecond}
-use Rattle.run_model.specs.declared.Device.{Device}
-use Rattle.run_model.specs.declared.Device.TheVariants.{Unit as Recorder}
 use Rattle.log_model.specs.declared.lines.Break.{Break}
-use Rattle.log_model.specs.Log.{RunLog, In, is_torn_in, found_in}
-use Rattle.log_model.specs.Slots.{Slots, is_accepted, other_slot}
+use Rattle.log_model.specs.Log.{RunLog, In}
+use Rattle.log_model.specs.Slots.{is_accepted}
 use Rattle.log_model.specs.Course.{Visit, Went, fresh, went}
 use Rattle.event_model.specs.Events.{Crew, Seen, crew_of as sitting_crew, seen_of, seen_spans}
 use Rattle.event_model.specs.Spans.{gap_of}
@@ -27,7 +25,6 @@ use Rattle.run_course.proofs.Logs.{went-found}
 use Rattle.run_course.proofs.Told.{lit-told}
 use Rattle.run_moments.specs.Moment.{goes_on}
 use Rattle.run_moments.specs.Reached.{course_at}
-use Rattle.run_moments.specs.Telling.{begun_by}
 use Rattle.run_moments.proofs.Moment.{moment-begins}
 use Rattle.run_moments.proofs.Reached.{nothing-told}
 use Rattle.run_events.specs.Shown.{SaysNothing}
@@ -41,12 +38,11 @@ use Rattle.run_recorded.specs.Seconds.{found_again}
 use Rattle.run_keeping.specs.declared.keeper.Moment.{Moment}
 use Rattle.run_keeping.specs.declared.keeper.Keeper.{Keeper}
 use Rattle.run_keeping.specs.Books.{HaveTime}
-use Rattle.run_within.specs.Recorded.{Values, progress, carried, slots_of, IsOff, Recorded}
+use Rattle.run_within.specs.Recorded.{Values, progress, carried, IsOff, Recorded}
 use Rattle.run_within.specs.Within.{Beginning}
-use Rattle.run_within.specs.Powering.{read_values}
 use Rattle.run_within.specs.Waking.{both_slots}
 use Rattle.run_within.proofs.Powering.{off-of}
-use Rattle.run_evented.specs.Evented.{number_in, limit_in, NotesNothing, Evented, EventedBy}
+use Rattle.run_evented.specs.Evented.{number_in, limit_in, NotesNothing, Evented}
 use Rattle.run_evented.specs.Noting.{Stage, Waking, Acting}
 use Rattle.run_evented.specs.SoFar.{EventedNow, BeginsNow, AreBare, ComesInTurn, interruption}
 use Rattle.run_evented.specs.Kept.{interruption_of}
@@ -61,13 +57,13 @@ use Rattle.run_acts.specs.Noting.{GapReach, NoGap, UnitFailed, DriverFell, BothS
 use Rattle.event_model.specs.declared.entries.Span.{Span}
 use Rattle.run_acts.specs.Power.{IsSpanBegun, cut_run}
 use Rattle.run_keeping.specs.Keeping.{with_lines}
-use Rattle.run_acts.specs.Recording.{IsOrigin, log_of, values_of, RunWithin, RunCut, GoesOnOrFails}
-use Rattle.run_acts.specs.Evented.{IsWatching, span_seen, RunWatches, WithinEvented, CutEvented, EventsGoOn}
+use Rattle.run_acts.specs.Recording.{IsOrigin, log_of, RunWithin, RunCut, GoesOnOrFails}
+use Rattle.run_acts.specs.Evented.{IsWatching, span_seen, CutEvented, EventsGoOn}
 use Rattle.run_acts.specs.ActsEvented.{IsFailing}
-use Rattle.recorder_with_cards.specs.Accepting.{IsBare, IsAccepted, IsAnew}
+use Rattle.recorder_with_cards.specs.Accepting.{IsBare, IsAnew}
 use Rattle.recorder_with_cards.specs.Judged.{moment_in, RunNext, IsInTurn, EventsJudged, JudgesAnew, EventsAnew}
 use Rattle.recorder_with_cards.specs.Woken.{EventsWoken}
-use Rattle.recorder_with_cards.proofs.GapEvented.{gap_events, gap-is, gap-small, gap-evented, none-evented}
+use Rattle.recorder_with_cards.proofs.GapEvented.{gap-is, gap-small, gap-evented, none-evented}
 use Rattle.recorder_with_cards.proofs.Resumed.{RunWaking, IsReadAgain, within-of, waiting_in, driver-next, codriver-next, codriver-began}
 use Rattle.recorder_with_cards.proofs.Spanned.{no-span_no-break}
 

@@ -1,6 +1,6 @@
 -- Power is back: the cards in the slots are judged anew, and so the rings go on; or the unit failed before.
-use Rattle.std.proofs.Common.{◌≡◌, ◌∙◌, ◌⊎◌, inl, inr, ⊎_elim, ℕ, suc, ◌+◌, ◌<◌, ◌≤◌, Bool, true, false, cond, not, Option, Some, None, option_map, List, [], ◌∷◌, ◌++◌, length, map, refl, ap, sym, subst, arith, append-nil, append_assoc}
-use Rattle.std.specs.Prelude.{filter, flat_map, Contains}
+use Rattle.std.proofs.Common.{◌≡◌, ◌∙◌, ◌⊎◌, inl, inr, ⊎_elim, ℕ, suc, ◌+◌, ◌≤◌, Bool, true, false, cond, not, Option, Some, None, option_map, List, [], ◌∷◌, ◌++◌, length, map, refl, ap, sym, subst, arith, append-nil}
+use Rattle.std.specs.Prelude.{flat_map, Contains}
 use Rattle.std.proofs.lemmas.List.Elements.{Contains-append_left, Contains-push}
 use Rattle.std.specs.List.{AllByRecursion, list_any}
 use Rattle.activity_codec.specs.declared.values.Slot.{Slot}
@@ -43,13 +43,12 @@ use Rattle.run_outcome.specs.declared.outcome.Outcome.{Outcome}
 use Rattle.run_keeping.specs.declared.keeper.Moment.{Moment}
 use Rattle.run_keeping.specs.Books.{HaveTime}
 use Rattle.run_recorded.specs.Origin.{Origin, rule_of, start_at, first_of}
-use Rattle.run_recorded.specs.Beside.{HaveLeftMore}
 use Rattle.run_rings.specs.Spans.{with_second}
-use Rattle.run_rings.specs.Same.{HasSameRings, LeavesRings}
+use Rattle.run_rings.specs.Same.{LeavesRings}
 use Rattle.run_rings.proofs.Same.{behind-same, rings-left, rings-moments}
 use Rattle.run_ringed.specs.OnCards.{PlacesStay}
-use Rattle.run_ringed.specs.Ringed.{Seating, StaysInRings, IsInsertionIn, since_in}
-use Rattle.run_ringed.specs.SoFar.{RingedBehind, IsSecond, RingedIn, AreFewer, HasMoreBreaks, GoesBehind}
+use Rattle.run_ringed.specs.Ringed.{Seating, IsInsertionIn, since_in}
+use Rattle.run_ringed.specs.SoFar.{RingedBehind, IsSecond, RingedIn, HasMoreBreaks, GoesBehind}
 use Rattle.run_ringed.specs.Steps.{nobody, spans_cut}
 use Rattle.run_ringed.specs.Waking.{NoneFound, IsFoundAnew}
 use Rattle.run_ringed.specs.Stored.{StandsOn, StoresOn, StoresOff}

@@ -1,16 +1,15 @@
 -- Power comes with a second, and the unit fails before its span begins: what it has stored of odometers stands, and the span is that second alone.
-use Rattle.std.proofs.Common.{◌≡◌, ◌∙◌, ℕ, suc, ◌+◌, ◌-◌, ◌≤◌, Bool, true, false, cond, not, Option, Some, None, is_some, List, [], ◌∷◌, ◌++◌, Contains, take, refl, ap, sym, subst, arith, append-nil}
+use Rattle.std.proofs.Common.{◌≡◌, ◌∙◌, ℕ, ◌+◌, ◌-◌, ◌≤◌, Bool, true, false, cond, not, Option, Some, None, is_some, List, [], ◌∷◌, ◌++◌, take, refl, ap, sym, subst, arith, append-nil}
 use Rattle.std.proofs.lemmas.List.Elements.{Contains-append_left}
 use Rattle.trace_model.specs.Trace.{TraceSecond}
 use Rattle.minute_model.specs.Activity.{last}
 use Rattle.unit_model.specs.Image.{last_kept, odometer_at}
 use Rattle.log_model.specs.Log.{RunLog, cut_in}
-use Rattle.log_model.specs.Course.{Told, Before, Went, has_power, went, second_told}
+use Rattle.log_model.specs.Course.{Told, Went, has_power, went, second_told}
 use Rattle.history_model.specs.History.{cut_second}
 use Rattle.unit_course.specs.Lines.{cut_at, tells_cut}
 use Rattle.unit_course.specs.Followed.{Supply, Lit, Due, Lost, cuts_from}
 use Rattle.unit_course.proofs.Lines.{tells-here}
-use Rattle.side_model.specs.Done.{has_failed_in}
 use Rattle.side_model.specs.Odometer.{SpanFrom, MayStore}
 use Rattle.safety_model.specs.Safe.{Devices}
 use Rattle.run_course.specs.Followed.{Progress, Followed, Comes}
@@ -21,7 +20,6 @@ use Rattle.run_course.proofs.Told.{comes-power}
 use Rattle.run_events.proofs.Later.{told-number}
 use Rattle.run_moments.proofs.Reached.{TellsNothing, nothing-told}
 use Rattle.run_recorded.specs.Origin.{Origin, rule_of, start_at, first_of}
-use Rattle.run_rings.specs.Spans.{with_second}
 use Rattle.run_ringed.specs.Stored.{StandsOn, StoresOff}
 use Rattle.run_ringed.specs.Steps.{spans_cut}
 use Rattle.run_ringed.proofs.Stored.{may-more}

@@ -1,6 +1,6 @@
 -- What a run with cards carries of the events that its cards show, beside its rings (profile): between two seconds, and within one. The vehicle is that
 -- of the unit's image at the start.
-use Rattle.std.specs.Prelude.{◌≡◌, ◌++◌, ℕ, Bool, true, false, Result, Ok, Err, List, [], ◌∷◌, take}
+use Rattle.std.specs.Prelude.{◌≡◌, ◌++◌, ℕ, Bool, true, false, Result, List, [], ◌∷◌, take}
 use Rattle.trace_model.specs.declared.Action.{Action}
 use Rattle.trace_model.specs.declared.Item.{Item}
 use Rattle.trace_model.specs.Trace.{TraceSecond, driven}

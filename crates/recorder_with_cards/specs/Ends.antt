@@ -1,5 +1,5 @@
 -- What a run with cards promises, over devices that began with one image each (profile).
-use Rattle.std.specs.Prelude.{◌≢◌, ◌<◌, ◌≤◌, ◌/◌, ℕ, List, [], All}
+use Rattle.std.specs.Prelude.{◌≢◌, ◌<◌, ◌/◌, ℕ, List, [], All}
 use Rattle.trace_model.specs.declared.Item.{Item}
 use Rattle.trace_model.specs.Trace.{TraceSecond, seconds_of}
 use Rattle.minute_model.specs.declared.Rule.TheVariants.{Original}

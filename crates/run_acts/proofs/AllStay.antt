@@ -1,6 +1,6 @@
 -- The stays of both cards, over what each call makes of them and of the log.
 use Rattle.std.proofs.Common.{◌≡◌, ◌⊎◌, ◌∙◌, inl, inr, ⊎_elim, ℕ, suc, zero, Bool, true, false, List, [], ◌∷◌, ◌++◌, append_assoc, Contains, Option, Some, None, refl, ap, sym, subst}
-use Rattle.std.specs.Prelude.{not, ◌&&◌, filter, map, is_some, if◌then◌else◌}
+use Rattle.std.specs.Prelude.{not, ◌&&◌, filter, map, is_some}
 use Rattle.std.specs.List.{AllByRecursion}
 use Rattle.std.proofs.lemmas.List.{append-nil, map-append}
 use Rattle.std.proofs.lemmas.List.Elements.{filter-append, Contains-append_left}
@@ -29,18 +29,16 @@ use Rattle.run_crew.specs.declared.cards.Accepted.{Accepted}
 use Rattle.run_crew.specs.declared.cards.Cards.{Cards}
 use Rattle.run_crew.specs.declared.cabin.Cabin.{Cabin}
 use Rattle.run_crew.specs.Cards.{session_of, with_session}
-use Rattle.run_rule.specs.Found.{CardFound, Found, found_of}
+use Rattle.run_rule.specs.Found.{CardFound, found_of}
 use Rattle.run_rule.specs.Between.{devices}
 use Rattle.run_told.specs.Told.{arranged}
 use Rattle.run_recorded.specs.Origin.{Origin}
 use Rattle.run_recorded.specs.Whole.{NothingFailed}
-use Rattle.run_outcome.specs.Lines.{Listed}
 use Rattle.run_keeping.specs.declared.keeper.Keeper.{Keeper}
 use Rattle.run_keeping.specs.declared.keeper.Moment.{Moment}
-use Rattle.run_keeping.specs.CardDeeds.{DoesOn}
 use Rattle.run_keeping.specs.Keeping.{Fate, Still, Has, Fell, has_fallen, cabin_by, breaks_by, marks_by, tear_of}
 use Rattle.minute_model.specs.declared.Minute.{Minute}
-use Rattle.run_keeping.specs.Minutes.{Round, Told, Done, Reach, Whole, Short, IsReach, cabin_after, breaks_after, told_after, told_by, unit_mark, present_at}
+use Rattle.run_keeping.specs.Minutes.{Told, Done, Reach, Whole, Short, IsReach, told_after, told_by, unit_mark, present_at}
 use Rattle.run_keeping.specs.Deeds.{KeepsOn, AllKeep}
 use Rattle.slot_machine.specs.Calls.{Seats, seat_in, card_in}
 use Rattle.run_acts.specs.Closings.{Spell, spells_of, with_last_shut, last_slot}
@@ -49,7 +47,7 @@ use Rattle.run_ringed.specs.OnCards.{HasRing}
 use Rattle.run_acts.specs.Comings.{VehicleTold, told_of, TellsMore, TellMore}
 use Rattle.run_acts.proofs.Comings.{tells-none, tells-then}
 use Rattle.run_acts.specs.Truths.{Truths, Grow}
-use Rattle.run_acts.specs.Stays.{Stay, Coming, comings_on, lines_of, befores_of, TellsBefores, acceptances_told, founds, spells, sits_in, as_noted, IsPlaced, AreMerged, TellsOwed, IsTrueOf, StaysIn, HasStays, AreStays, AllStay, AreTrue, start_shown, judged_told, judged_in, AreTurnedAway}
+use Rattle.run_acts.specs.Stays.{Stay, Coming, comings_on, befores_of, TellsBefores, acceptances_told, founds, spells, sits_in, as_noted, IsPlaced, AreMerged, TellsOwed, StaysIn, HasStays, AreStays, AllStay, AreTrue, start_shown, judged_told, judged_in, AreTurnedAway}
 use Rattle.run_acts.proofs.Stays.{on_last, on-last-comings, on-last-founds, on-last-owed, on-last-none, on-last-true, with_kepts, true-kepts, all-true-grow, merged-one, merged-other, stays-still, stays-moved, stays-keep, on-last-owes, owes-grow, on-last-judged, on-last-turned}
 
 -- ---- the log tells of no failed call

@@ -1,5 +1,5 @@
 -- A card in a slot that has no session stays there while minutes are kept.
-use Rattle.std.proofs.Common.{◌≡◌, ◌∙◌, ◌⊎◌, inl, inr, ⊎_elim, ℕ, Bool, true, false, cond, Option, Some, None, IfSome, List, [], ◌∷◌, ◌++◌, is_some, refl, ap, sym, subst}
+use Rattle.std.proofs.Common.{◌≡◌, ◌∙◌, ◌⊎◌, ⊎_elim, ℕ, Bool, true, false, cond, Option, Some, None, IfSome, List, is_some, refl, ap, sym, subst}
 use Rattle.activity_codec.specs.declared.values.Slot.{Slot}
 use Rattle.activity_codec.specs.declared.values.Slot.TheVariants.{Driver, CoDriver}
 use Rattle.trace_model.specs.declared.Card.{Card}
@@ -10,7 +10,7 @@ use Rattle.unit_journal.specs.declared.kept.KeptMinute.{KeptMinute}
 use Rattle.log_model.specs.Slots.{same_card}
 use Rattle.slot_machine.specs.declared.seats.Seat.{Seat}
 use Rattle.slot_machine.specs.declared.seats.Present.{Present}
-use Rattle.slot_machine.specs.Calls.{Seats, seat_in, is_card}
+use Rattle.slot_machine.specs.Calls.{seat_in, is_card}
 use Rattle.slot_machine.specs.Kept.{Kept as Slots}
 use Rattle.run_crew.specs.declared.cards.Accepted.{Accepted}
 use Rattle.run_crew.specs.declared.cards.Cards.{Cards}
@@ -19,7 +19,7 @@ use Rattle.run_crew.specs.Cards.{session_of, with_session}
 use Rattle.run_crew.specs.Cabin.{left_from, slot_with}
 use Rattle.run_keeping.specs.declared.keeper.Moment.{Moment}
 use Rattle.run_keeping.specs.Keeping.{Fate, Still, Has, Fell, IsFateOf, cabin_by, session_at, kept_in}
-use Rattle.run_keeping.specs.Minutes.{Round, IsRound, IsBrokenOff, Told, AreKept, none, more, AreKeptUpTo, present_at, minute_of, cabin_after}
+use Rattle.run_keeping.specs.Minutes.{Round, IsRound, Told, AreKept, none, more, present_at, minute_of, cabin_after}
 use Rattle.run_acts.specs.Acting.{IsBareIn}
 
 two-cards : (a b : Card) (cards : Cards) → session_of cards a ≡ None → is_some (session_of cards b) ≡ true → same_card a b ≡ false

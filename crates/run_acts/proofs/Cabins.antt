@@ -1,5 +1,5 @@
 -- A run of which nothing but slots and sessions has changed.
-use Rattle.std.proofs.Common.{◌≡◌, ◌∙◌, ℕ, ◌+◌, ◌-◌, ◌/◌, ◌<◌, ◌≤◌, Bool, true, false, cond, Option, Some, None, Ok, IfSome, is_some, length, refl, ap, sym, subst, arith}
+use Rattle.std.proofs.Common.{◌≡◌, ◌∙◌, ℕ, ◌+◌, ◌-◌, ◌/◌, ◌≤◌, Bool, true, false, cond, Option, Some, None, Ok, is_some, length, refl, ap, sym, subst, arith}
 use Rattle.activity_codec.specs.declared.values.Slot.{Slot}
 use Rattle.trace_model.specs.declared.Card.{Card}
 use Rattle.trace_model.specs.declared.Card.TheVariants.{A, B}
@@ -22,7 +22,7 @@ use Rattle.run_keeping.specs.Keeping.{UnitReady, CardReady, HasItsRow, SessionsG
 use Rattle.run_keeping.proofs.Seats.{sessions-none}
 use Rattle.run_acts.specs.declared.run.Run.{Run}
 use Rattle.run_acts.specs.Power.{with_cabin}
-use Rattle.run_acts.specs.Going.{CardAt, StandSomehow, IsHeld, IsGoingOn, IsLit}
+use Rattle.run_acts.specs.Going.{CardAt, StandSomehow, IsHeld, IsGoingOn}
 use Rattle.run_acts.specs.Room.{falls_of}
 use Rattle.run_acts.proofs.Kept.{moved-going}
 use Rattle.run_acts.proofs.Torn.{torn-past, torn-minute, torn-falls, torn-sessions}

@@ -1,9 +1,8 @@
 -- Actions that bring the cards no events: a place, a withdrawal.
-use Rattle.std.proofs.Common.{◌≡◌, ◌∙◌, ◌⊎◌, inl, inr, ⊎_elim, ℕ, suc, ◌+◌, ◌≤◌, Bool, true, false, Option, Some, None, List, [], ◌∷◌, ◌++◌, length, refl, sym, ap, subst, arith, append_assoc, append-nil, length-append}
+use Rattle.std.proofs.Common.{◌≡◌, ◌∙◌, inr, suc, ◌+◌, Bool, true, false, List, [], ◌∷◌, ◌++◌, length, sym, ap, subst, append_assoc}
 use Rattle.activity_codec.specs.declared.values.Slot.{Slot}
-use Rattle.trace_model.specs.declared.Card.{Card}
 use Rattle.trace_model.specs.declared.Action.{Action}
-use Rattle.trace_model.specs.declared.Action.TheVariants.{Withdraw, Place}
+use Rattle.trace_model.specs.declared.Action.TheVariants.{Place}
 use Rattle.trace_model.specs.Trace.{TraceSecond}
 use Rattle.log_model.specs.declared.lines.Break.{Break}
 use Rattle.log_model.specs.Log.{RunLog, In}
@@ -18,7 +17,7 @@ use Rattle.run_recorded.specs.Whole.{NothingFailed}
 use Rattle.run_evented.proofs.Exact.{no-cut}
 use Rattle.run_ringed.proofs.SoFar.{failed-more}
 use Rattle.run_acts.specs.declared.run.Run.{Run}
-use Rattle.run_acts.specs.Acting.{IsSettled, IsClosed, Closing, Bare, Closed, Fell, closed_breaks, noted_breaks, left_run, told_of}
+use Rattle.run_acts.specs.Acting.{IsSettled, Closing, closed_breaks, noted_breaks, told_of}
 use Rattle.run_acts.specs.CardNotes.{NotesOnCards}
 use Rattle.run_acts.specs.Devices.{AreLeftMore}
 use Rattle.run_acts.specs.Recording.{log_of, values_of, RunWithin}
@@ -28,7 +27,7 @@ use Rattle.run_acts.proofs.CardCourse.{PutsNone}
 use Rattle.run_acts.proofs.CardSecond.{quiet-shown, quiet-action}
 use Rattle.run_acts.proofs.CardStays.{place-still}
 use Rattle.run_acts.proofs.CardUses.{tears-none, lines-still}
-use Rattle.run_acts.proofs.RingedLines.{AreTears, TellsTears, tears-both, up-to-tells}
+use Rattle.run_acts.proofs.RingedLines.{AreTears, tears-both, up-to-tells}
 use Rattle.run_acts.proofs.RingedSecond.{goes-to, is-cut, more-left}
 use Rattle.run_acts.proofs.RingedPlace.{noted-tears}
 use Rattle.run_acts.proofs.RingedClosed.{closed-tears}

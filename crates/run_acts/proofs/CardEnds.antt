@@ -1,7 +1,7 @@
 -- What a card shows of its events as a second begins and ends.
-use Rattle.std.proofs.Common.{◌≡◌, ◌≢◌, ◌∙◌, ◌⊎◌, inl, inr, ⊎_elim, ℕ, zero, suc, ◌+◌, ◌≤◌, ◌<◌, Bool, true, false, cond, not, ◌||◌, Option, Some, None, is_some, nat_eq, List, [], ◌∷◌, ◌++◌, All, map, length, refl, sym, ap, subst, arith, append_assoc, append-nil, length-append}
-use Rattle.std.specs.Prelude.{◌==◌, ◌&&◌, filter, flat_map, nat_lt}
-use Rattle.std.specs.List.{list_all, list_any, AllByRecursion}
+use Rattle.std.proofs.Common.{◌≡◌, ◌∙◌, ◌⊎◌, inl, inr, ℕ, ◌+◌, ◌<◌, Bool, true, false, cond, not, Option, Some, is_some, List, [], ◌∷◌, ◌++◌, length, refl, sym, ap, subst, arith, append-nil}
+use Rattle.std.specs.Prelude.{◌&&◌, filter, flat_map, nat_lt}
+use Rattle.std.specs.List.{list_any, AllByRecursion}
 use Rattle.std.proofs.lemmas.Bool.Decides.{nat_tests}
 use Rattle.activity_codec.specs.declared.values.Slot.{Slot}
 use Rattle.activity_codec.specs.declared.values.Slot.TheVariants.{Driver, CoDriver}
@@ -9,19 +9,14 @@ use Rattle.trace_model.specs.declared.Card.{Card}
 use Rattle.trace_model.specs.declared.Action.{Action}
 use Rattle.trace_model.specs.Trace.{TraceSecond}
 use Rattle.tacho_types.specs.declared.texts.Registration.{Registration}
-use Rattle.card_image.specs.Own.{IsOwnValid}
 use Rattle.log_model.specs.declared.lines.Break.{Break}
-use Rattle.log_model.specs.declared.lines.Verdict.{Verdict}
 use Rattle.log_model.specs.Causes.{second_of}
-use Rattle.log_model.specs.Log.{RunLog, Phase, In, Keeping, same_phase, cut_in, is_torn_in, found_in, kept_after, is_accepting}
-use Rattle.log_model.specs.Slots.{Sitting, same_card}
-use Rattle.log_model.specs.Same.{SameAt}
-use Rattle.log_model.specs.Course.{Course, Visit, Before, Told, Went, begins, both_told, unmoved, fresh, all_acted, acted, cut_told, lit_course, dark_course, second_told, has_power, went}
-use Rattle.event_model.specs.declared.kinds.TheConstants.{POWER_INTERRUPTION}
-use Rattle.event_model.specs.Events.{Event, Seen, number_of, seen_of, seen_spans, seen_by, gap_events, gaps_between, last_number, accepted_at, first_card}
+use Rattle.log_model.specs.Log.{RunLog, In, Keeping, cut_in, found_in, kept_after, is_accepting}
+use Rattle.log_model.specs.Slots.{same_card}
+use Rattle.log_model.specs.Course.{Course, Visit, Before, Told, Went, begins, both_told, unmoved, fresh, all_acted, cut_told, lit_course, second_told, has_power, went}
+use Rattle.event_model.specs.Events.{Event, Seen, number_of, seen_of, seen_spans, gap_events, gaps_between, last_number, first_card}
 use Rattle.side_model.specs.Done.{course_powered, done_by}
 use Rattle.side_model.specs.Noted.{Note, noted_in}
-use Rattle.safety_model.specs.Recording.{card_image}
 use Rattle.safety_model.specs.Safe.{Devices, card_of}
 use Rattle.run_course.proofs.Told.{lit-told, dark-told}
 use Rattle.run_events.specs.Seconds.{gap_by, gap_before, seen_next}
@@ -33,16 +28,15 @@ use Rattle.run_rings.specs.Notes.{notes_to, TellSameTo, course_behind, sits_acce
 use Rattle.run_rings.proofs.Actions.{power-notes}
 use Rattle.run_recorded.specs.Origin.{Origin}
 use Rattle.run_recorded.specs.Beside.{HaveLeftMore}
-use Rattle.run_evented.specs.Evented.{images_in}
 use Rattle.run_evented.specs.Uses.{notes_in, noted_next, notes_now, uses_in}
 use Rattle.run_evented.proofs.Noted.{second-notes}
 use Rattle.run_evented.proofs.Exact.{fewer-none, next-notes, idle-notes, dark-notes}
 use Rattle.run_ringed.specs.SoFar.{GoesBehind}
 use Rattle.run_ringed.proofs.SoFar.{failed-more}
-use Rattle.run_acts.specs.OnCards.{as_accepted, accepted_in, accepted_on, gaps_on, enters, falls, are_sure_on, StillShows}
-use Rattle.run_acts.specs.RunCards.{vehicle_in, sizes_in, CardShown, CardsShown, CardsBehind, so_far, seen_behind, gap_behind, CardsIn, CardsWaking, StillShow}
-use Rattle.run_acts.proofs.OnCards.{gaps-next, gaps-append, still-same}
-use Rattle.run_acts.proofs.CardCourse.{Finding, findings, IsQuiet, quiet-same, quiet-then, both-quiet, behind-same, cut-quiet, acted-append, powered-quiet, powered-as, IsPowered, sitting_at}
+use Rattle.run_acts.specs.OnCards.{as_accepted, accepted_in, gaps_on}
+use Rattle.run_acts.specs.RunCards.{vehicle_in, sizes_in, CardShown, CardsBehind, seen_behind, gap_behind, CardsIn, CardsWaking, StillShow}
+use Rattle.run_acts.proofs.OnCards.{gaps-next, still-same}
+use Rattle.run_acts.proofs.CardCourse.{Finding, findings, IsQuiet, quiet-same, quiet-then, both-quiet, behind-same, cut-quiet, acted-append, powered-quiet, powered-as, sitting_at}
 use Rattle.run_acts.proofs.CardShown.{FindsStill, KeepsFailed, Follows, goes-on, plain-on}
 use Rattle.run_acts.proofs.CardUses.{FoundTo, none-sits, uses-to}
 use Rattle.run_acts.proofs.CardSecond.{is_now, any-more, standing-is}

@@ -1,5 +1,5 @@
 -- The events that the cards show behind the note of an interruption.
-use Rattle.std.proofs.Common.{◌≡◌, ◌≢◌, ◌⊎◌, ◌∙◌, inl, inr, ⊎_elim, ℕ, ◌+◌, ◌≤◌, Bool, true, false, cond, Option, Some, None, IfSome, is_some, List, [], ◌∷◌, ◌++◌, refl, sym, ap, subst, arith}
+use Rattle.std.proofs.Common.{◌≡◌, ◌⊎◌, ◌∙◌, inl, inr, ⊎_elim, ℕ, ◌+◌, ◌≤◌, Bool, true, false, cond, Option, Some, None, IfSome, is_some, List, [], ◌∷◌, ◌++◌, refl, sym, ap, subst, arith}
 use Rattle.std.specs.Prelude.{Ok, ◌||◌, not}
 use Rattle.activity_codec.proofs.ByTest.{by_test}
 use Rattle.activity_codec.specs.declared.values.Slot.{Slot}
@@ -21,13 +21,13 @@ use Rattle.gated_ring.specs.Ring.{size_of as ring_size}
 use Rattle.card_records.specs.Noting.{IsNotingEvent, IsEventNoted, IsNotingPlace}
 use Rattle.card_records.specs.Rings.{file, place_ring}
 use Rattle.slot_machine.specs.declared.seats.Seat.{Seat}
-use Rattle.slot_machine.specs.Calls.{Seats, is_card, card_in, seat_in}
+use Rattle.slot_machine.specs.Calls.{is_card, card_in, seat_in}
 use Rattle.run_crew.specs.declared.cards.Accepted.{Accepted}
 use Rattle.run_crew.specs.declared.cards.Known.{Known}
 use Rattle.run_crew.specs.declared.cards.Cards.{Cards}
 use Rattle.run_crew.specs.declared.cabin.Cabin.{Cabin}
-use Rattle.run_crew.specs.Cards.{known_of, session_of, with_session, accepted_number, IsKnown}
-use Rattle.run_crew.specs.Cabin.{Stands, AreTwo, SitsThere, torn_out, left_from, slot_with, number_of_seat}
+use Rattle.run_crew.specs.Cards.{known_of, session_of, accepted_number, IsKnown}
+use Rattle.run_crew.specs.Cabin.{Stands, AreTwo, left_from, slot_with, number_of_seat}
 use Rattle.run_outcome.specs.Lines.{Listed}
 use Rattle.run_keeping.specs.declared.keeper.Moment.{Moment}
 use Rattle.run_keeping.specs.Keeping.{CardReady}
@@ -41,7 +41,7 @@ use Rattle.run_entering.proofs.CardTables.{all-shown, all-showing, same-file}
 use Rattle.run_entering.proofs.CardInserted.{shows-nothing, shows-unbegun, shows-whole, shows-by}
 use Rattle.run_entering.proofs.CardBrought.{shows-both, shows-first}
 use Rattle.run_acts.specs.declared.run.Run.{Run}
-use Rattle.run_acts.specs.Acting.{noted_run, IsNotedOn, IsNotedIn}
+use Rattle.run_acts.specs.Acting.{noted_run, IsNotedIn}
 use Rattle.run_acts.specs.CardNotes.{NotesOn, NotesOnCards, on_seat}
 
 -- ---- what is noted

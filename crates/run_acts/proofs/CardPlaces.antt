@@ -34,7 +34,6 @@ use Rattle.log_model.specs.Causes.{has_failed, second_of}
 use Rattle.log_model.specs.Log.{RunLog, Phase}
 use Rattle.log_model.specs.Slots.{same_card}
 use Rattle.log_model.specs.Course.{Visit}
-use Rattle.joint_rule.specs.Views.{other}
 use Rattle.side_model.specs.Noted.{PlaceNote}
 use Rattle.safety_model.specs.Recording.{card_image}
 use Rattle.safety_model.specs.Safe.{Devices, card_of}
@@ -49,14 +48,14 @@ use Rattle.run_told.proofs.Parts.{CardLit, parts-of}
 use Rattle.run_within.proofs.Seats.{this-or}
 use Rattle.run_outcome.specs.declared.outcome.Outcome.{Outcome}
 use Rattle.run_recorded.specs.Origin.{Origin}
-use Rattle.run_ringed.specs.OnCards.{has_call_failed_in, HasSamePlaces, places_in, place_width, PlacesStay, TakesPlace, PlaceIsTaken}
+use Rattle.run_ringed.specs.OnCards.{has_call_failed_in, places_in, place_width, PlacesStay, TakesPlace, PlaceIsTaken}
 use Rattle.run_ringed.specs.OnCards.{LeavesPlaces as LeavesRing}
 use Rattle.run_keeping.specs.declared.keeper.Moment.{Moment}
 use Rattle.run_keeping.specs.Books.{AreTimedOn}
 use Rattle.run_keeping.specs.Keeping.{CardReady, tear_of}
 use Rattle.run_acts.specs.declared.run.Run.{Run}
 use Rattle.run_acts.specs.CardNotes.{LeavesPlaces, LeavePlaces}
-use Rattle.run_acts.specs.CardWrites.{MayHavePlace, MayTakePlace, HasPlace, PlaceOn}
+use Rattle.run_acts.specs.CardWrites.{MayHavePlace, MayTakePlace, PlaceOn}
 use Rattle.run_acts.specs.Recording.{IsOrigin, RunWithin}
 use Rattle.run_acts.specs.RunCards.{sizes_in}
 use Rattle.run_acts.proofs.CardSecond.{any-last}

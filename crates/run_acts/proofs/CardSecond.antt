@@ -1,11 +1,10 @@
 -- What a card shows of its events within a second, action by action, and as it ends.
-use Rattle.std.proofs.Common.{◌≡◌, ◌≢◌, ◌∙◌, ◌⊎◌, inl, inr, ⊎_elim, ℕ, suc, ◌+◌, ◌≤◌, ◌<◌, Bool, true, false, cond, not, ◌||◌, Option, Some, None, is_some, nat_eq, List, [], ◌∷◌, ◌++◌, All, map, length, refl, sym, ap, subst, arith, append_assoc, append-nil, length-append}
-use Rattle.std.specs.Prelude.{◌==◌, ◌&&◌, filter, flat_map, nat_lt}
-use Rattle.std.specs.List.{list_all, list_any, AllByRecursion}
+use Rattle.std.proofs.Common.{◌≡◌, ◌∙◌, ◌⊎◌, ℕ, ◌+◌, Bool, true, false, cond, not, ◌||◌, Some, None, nat_eq, List, [], ◌∷◌, ◌++◌, map, length, refl, sym, ap, subst, arith, append_assoc, append-nil}
+use Rattle.std.specs.Prelude.{◌&&◌, filter, flat_map, nat_lt}
+use Rattle.std.specs.List.{list_any, AllByRecursion}
 use Rattle.std.proofs.lemmas.Bool.Decides.{nat_tests}
 use Rattle.std.proofs.lemmas.List.Elements.{filter-append}
 use Rattle.activity_codec.specs.declared.values.Slot.{Slot}
-use Rattle.activity_codec.specs.declared.values.Slot.TheVariants.{Driver, CoDriver}
 use Rattle.activity_codec.specs.Activity.{same_slot}
 use Rattle.trace_model.specs.declared.Card.{Card}
 use Rattle.trace_model.specs.declared.Action.{Action}
@@ -17,25 +16,24 @@ use Rattle.card_records.specs.declared.current_use.CurrentUse.{CurrentUse}
 use Rattle.card_image.specs.Own.{IsOwnValid}
 use Rattle.log_model.specs.declared.lines.SlotFault.{SlotFault}
 use Rattle.log_model.specs.declared.lines.Verdict.{Verdict}
-use Rattle.log_model.specs.Log.{RunLog, Phase, In, Keeping, same_phase, cut_in, is_torn_in, found_in, kept_after, is_accepting}
-use Rattle.log_model.specs.Slots.{Sitting, refusal, same_card}
-use Rattle.log_model.specs.Course.{Course, Visit, Before, Told, Went, begins, both_told, unmoved, fresh, all_acted, acted, cut_told, lit_course, second_told, has_power, went}
-use Rattle.event_model.specs.Events.{Event, Seen, Tearing, number_of, seen_of, seen_spans, seen_by, gap_events, torn_at, accepted_at, first_card, standing}
-use Rattle.side_model.specs.Done.{course_powered}
+use Rattle.log_model.specs.Log.{RunLog, Phase, In, same_phase, cut_in, found_in, kept_after, is_accepting}
+use Rattle.log_model.specs.Slots.{refusal, same_card}
+use Rattle.log_model.specs.Course.{Course, Visit, Before, begins, went}
+use Rattle.event_model.specs.Events.{Event, Seen, number_of, seen_of, seen_spans, gap_events, torn_at, accepted_at, first_card, standing}
 use Rattle.safety_model.specs.Recording.{card_image}
 use Rattle.safety_model.specs.Safe.{Devices, card_of}
-use Rattle.run_events.specs.Seconds.{gap_by, gap_before, seen_next}
+use Rattle.run_events.specs.Seconds.{gap_by}
 use Rattle.run_evented.specs.Evented.{images_in}
 use Rattle.run_evented.specs.Uses.{notes_now, uses_in}
 use Rattle.run_evented.proofs.Bringing.{before-as}
 use Rattle.run_rings.specs.Notes.{TellSameTo, course_behind}
 use Rattle.run_recorded.specs.Origin.{Origin}
 use Rattle.run_recorded.specs.Beside.{HaveLeftMore}
-use Rattle.run_acts.specs.OnCards.{as_accepted, accepted_in, accepted_on, unclosed_by, events_by, accepts, moving_at, movings, moved_in, gaps_on, enters, falls, is_sure_in, are_sure_on, NotesThem, StillShows, AreUses}
-use Rattle.run_acts.specs.RunCards.{vehicle_in, sizes_in, CardShown, CardsShown, CardsBehind, so_far, seen_behind, gap_behind, CardsIn, CardsWaking, StillShow}
-use Rattle.run_acts.proofs.OnCards.{flat-one, gaps-append}
-use Rattle.run_acts.proofs.CardCourse.{Finding, findings, IsQuiet, IsPutIn, quiet-same, quiet-then, both-quiet, acted-quiet, acted-puts, behind-more, behind-same, cut-quiet, powered-quiet, PutsNone}
-use Rattle.run_acts.proofs.CardShown.{FindsUses, FindsStill, KeepsFailed, Follows, card-more, goes-on, sure-on, sure-last, moved-same}
+use Rattle.run_acts.specs.OnCards.{as_accepted, accepted_in, accepted_on, unclosed_by, events_by, accepts, moving_at, movings, moved_in, gaps_on, enters, is_sure_in, NotesThem, StillShows, AreUses}
+use Rattle.run_acts.specs.RunCards.{vehicle_in, sizes_in, CardShown, so_far, seen_behind, gap_behind, CardsIn, StillShow}
+use Rattle.run_acts.proofs.OnCards.{flat-one}
+use Rattle.run_acts.proofs.CardCourse.{Finding, IsQuiet, IsPutIn, acted-quiet, acted-puts, behind-more, behind-same, PutsNone}
+use Rattle.run_acts.proofs.CardShown.{FindsUses, FindsStill, KeepsFailed, Follows, card-more, goes-on, sure-on, sure-last}
 
 -- ---- lists
 

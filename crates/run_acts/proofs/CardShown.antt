@@ -1,13 +1,10 @@
 -- What a card shows of its events, from call to call of a run.
-use Rattle.std.proofs.Common.{◌≡◌, ◌≢◌, ◌∙◌, ◌⊎◌, inl, inr, ⊎_elim, ℕ, Bool, true, false, cond, not, ◌||◌, Option, Some, None, List, [], ◌∷◌, ◌++◌, map, length, refl, sym, ap, subst, arith, append_assoc, append-nil}
-use Rattle.std.specs.Prelude.{◌==◌, ◌&&◌, filter, flat_map, nat_lt}
-use Rattle.std.specs.List.{list_all, list_any, AllByRecursion}
+use Rattle.std.proofs.Common.{◌≡◌, ◌∙◌, ℕ, Bool, true, false, cond, not, ◌||◌, List, [], ◌∷◌, ◌++◌, map, length, refl, sym, ap, subst, append_assoc, append-nil}
+use Rattle.std.specs.Prelude.{◌==◌, ◌&&◌, flat_map, nat_lt}
+use Rattle.std.specs.List.{AllByRecursion}
 use Rattle.std.proofs.lemmas.Bool.{eqb-true}
 use Rattle.trace_model.specs.declared.Card.{Card}
-use Rattle.tach_media.specs.Medium.{State}
 use Rattle.tacho_types.specs.declared.texts.Registration.{Registration}
-use Rattle.card_layout.specs.declared.files.Application.{Application}
-use Rattle.card_image.specs.Own.{IsOwnValid}
 use Rattle.card_records.specs.declared.card_event.CardEvent.{CardEvent}
 use Rattle.card_records.specs.declared.current_use.CurrentUse.{CurrentUse}
 use Rattle.log_model.specs.Log.{RunLog}
@@ -19,10 +16,9 @@ use Rattle.safety_model.specs.Safe.{Devices, card_of}
 use Rattle.run_evented.specs.Evented.{images_in}
 use Rattle.run_recorded.specs.Origin.{Origin}
 use Rattle.run_recorded.specs.Whole.{NothingFailed}
-use Rattle.run_entering.specs.CardEvents.{events_in, all_noted}
-use Rattle.run_acts.specs.OnCards.{unclosed_by, events_by, accepted_in, accepted_on, moving_at, moved_in, gaps_on, enters, falls, may_note, is_clear, is_sure_in, are_sure_on, NotesThem, StillShows, AreUses}
-use Rattle.run_acts.specs.RunCards.{vehicle_in, sizes_in, CardShown, CardsShown}
-use Rattle.run_acts.proofs.OnCards.{all-append, and-first, and-second, and-both, uses-append, uses-still, uses-long, unclosed-append, events-append, events-none, them-more, notes-still, flat-one}
+use Rattle.run_acts.specs.OnCards.{unclosed_by, events_by, accepted_in, accepted_on, moving_at, moved_in, gaps_on, enters, falls, may_note, is_sure_in, are_sure_on, NotesThem, StillShows, AreUses}
+use Rattle.run_acts.specs.RunCards.{vehicle_in, sizes_in, CardShown}
+use Rattle.run_acts.proofs.OnCards.{all-append, and-first, and-second, and-both, uses-append, uses-still, uses-long, unclosed-append, events-append, them-more, notes-still, flat-one}
 
 -- ---- the uses that were found, where no call failed: these more, or none
 abbrev pub FindsUses : (log later : RunLog) → (was more found : List CurrentUse) → Type 0

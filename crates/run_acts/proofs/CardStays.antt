@@ -1,8 +1,7 @@
 -- Calls that leave the events of cards: minutes are kept, a place is noted, a session is closed.
-use Rattle.std.proofs.Common.{◌≡◌, ◌∙◌, ◌⊎◌, inl, inr, ⊎_elim, ℕ, ◌+◌, ◌≤◌, Bool, true, false, not, ◌||◌, is_some, Option, Some, None, IfSome, List, [], ◌∷◌, ◌++◌, length, refl, sym, ap, subst, arith}
+use Rattle.std.proofs.Common.{◌≡◌, ◌∙◌, ◌⊎◌, ⊎_elim, ℕ, ◌≤◌, Bool, true, false, not, ◌||◌, is_some, Option, Some, None, IfSome, List, [], refl, sym, ap, subst, arith}
 use Rattle.activity_codec.specs.declared.values.Activity.{Activity}
 use Rattle.trace_model.specs.declared.Card.{Card}
-use Rattle.trace_model.specs.declared.Card.TheVariants.{A, B}
 use Rattle.trace_model.specs.Trace.{TraceSecond}
 use Rattle.tach_media.specs.Medium.{State, IsCoherent, LeavesOnly}
 use Rattle.tach_media.proofs.Runs.{at_image}
@@ -11,21 +10,19 @@ use Rattle.card_layout.specs.declared.files.TheConstants.{LARGEST_IMAGE}
 use Rattle.card_layout.specs.Application.{IsApplication}
 use Rattle.card_layout.proofs.Sizes.{largest_image}
 use Rattle.card_image.specs.Own.{own_sizes, IsOwnValid}
-use Rattle.card_records.specs.declared.card_event.CardEvent.{CardEvent}
 use Rattle.card_session.specs.Sessions.{IsSession}
 use Rattle.card_session.specs.Cards.{IsCardClosing}
 use Rattle.card_session.proofs.InsertingUse.{use_inside}
 use Rattle.minute_model.specs.declared.Minute.{Minute}
 use Rattle.log_model.specs.Log.{Phase}
 use Rattle.log_model.specs.Course.{Visit}
-use Rattle.joint_rule.specs.Rules.{Standing}
 use Rattle.joint_rule.specs.Views.{other}
 use Rattle.safety_model.specs.Recording.{card_image}
 use Rattle.safety_model.specs.Safe.{Devices, card_of}
 use Rattle.run_crew.specs.declared.cards.Accepted.{Accepted}
 use Rattle.run_crew.specs.declared.cards.Cards.{Cards}
 use Rattle.run_crew.specs.Cards.{session_of}
-use Rattle.run_rule.specs.Found.{Found, found_of}
+use Rattle.run_rule.specs.Found.{found_of}
 use Rattle.run_rule.specs.Between.{Carried}
 use Rattle.run_told.specs.Told.{AreFoundCards, IsPowered, IsOn, GoesWith, arranged}
 use Rattle.run_told.proofs.Parts.{CardLit, parts-of}
@@ -33,7 +30,7 @@ use Rattle.run_outcome.specs.declared.outcome.Outcome.{Outcome}
 use Rattle.run_recorded.specs.Origin.{Origin}
 use Rattle.run_keeping.specs.CardEvents.{LeavesEvents}
 use Rattle.run_keeping.specs.Books.{AreTimedOn}
-use Rattle.run_entering.specs.CardEvents.{events_in, ShowsMore, NotesOnCard}
+use Rattle.run_entering.specs.CardEvents.{events_in, ShowsMore}
 use Rattle.run_entering.proofs.CardTables.{same-file}
 use Rattle.run_entering.proofs.CardInserted.{closing-shown}
 use Rattle.run_acts.specs.declared.run.Run.{Run}

@@ -1,6 +1,5 @@
 -- Seconds of one minute turn over: behind them the cards show their events.
-use Rattle.std.proofs.Common.{◌≡◌, ◌≢◌, ◌∙◌, ◌⊎◌, inl, inr, ⊎_elim, ℕ, zero, suc, ◌+◌, ◌-◌, ◌/◌, ◌%◌, ◌<◌, ◌≤◌, Bool, true, false, not, Option, Some, None, List, [], ◌∷◌, ◌++◌, length, refl, sym, ap, subst, arith, append_assoc, append-nil}
-use Rattle.std.specs.Prelude.{nat_lt}
+use Rattle.std.proofs.Common.{◌≡◌, ◌∙◌, ◌⊎◌, inl, inr, ⊎_elim, ℕ, zero, suc, ◌+◌, ◌-◌, ◌/◌, ◌%◌, ◌<◌, ◌≤◌, Bool, true, false, Option, Some, None, List, [], ◌∷◌, ◌++◌, length, refl, sym, ap, subst, arith, append_assoc, append-nil}
 use Rattle.std.specs.List.{AllByRecursion}
 use Rattle.std.proofs.lemmas.Bool.{lt-ltb}
 use Rattle.trace_model.specs.Trace.{TraceSecond, driven}
@@ -10,7 +9,7 @@ use Rattle.minute_model.specs.declared.Minute.{Minute}
 use Rattle.log_model.specs.declared.lines.Break.{Break}
 use Rattle.log_model.specs.Causes.{second_of}
 use Rattle.log_model.specs.Log.{RunLog, Phase, In, Keeping, cut_in}
-use Rattle.log_model.specs.Course.{Visit, Told, Before, Went, begins, has_power, went, second_told}
+use Rattle.log_model.specs.Course.{Visit, Before, Went, begins, has_power, went, second_told}
 use Rattle.log_model.proofs.Growth.{went-more}
 use Rattle.safety_model.specs.Safe.{Devices, card_of}
 use Rattle.unit_course.specs.Lines.{cut_at}
@@ -42,7 +41,7 @@ use Rattle.run_acts.proofs.OnCards.{still-same}
 use Rattle.run_acts.proofs.TurnRecorded.{last-actions, last-number, turned, timed-last}
 use Rattle.run_acts.proofs.RingedLines.{AreTears, TellsBeside, TellsTears, tears-beside, kept-tells, up-to-tells}
 use Rattle.run_acts.proofs.RingedSecond.{cut-is, cut-torn, cut-found, here-append, tears-here_, goes-by, goes-behind, power-here, more-left}
-use Rattle.run_acts.proofs.CardEnds.{IsLater, IsPlainNext, second-begins, ends-shown, whole-quiet, plain-same}
+use Rattle.run_acts.proofs.CardEnds.{IsLater, second-begins, ends-shown, whole-quiet, plain-same}
 use Rattle.run_acts.proofs.CardStays.{timed-still}
 use Rattle.run_recorded.specs.Whole.{NothingFailed}
 use Rattle.run_evented.proofs.Exact.{no-cut}

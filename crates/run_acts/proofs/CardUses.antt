@@ -1,27 +1,25 @@
 -- The uses that are found on the cards of a second, by its log so far.
-use Rattle.std.proofs.Common.{◌≡◌, ◌∙◌, ℕ, suc, ◌+◌, ◌<◌, ◌≤◌, Bool, true, false, cond, ◌||◌, Option, Some, None, List, [], ◌∷◌, ◌++◌, map, length, refl, sym, ap, subst, arith, append_assoc, append-nil, length-append}
-use Rattle.std.specs.Prelude.{filter, flat_map}
+use Rattle.std.proofs.Common.{◌≡◌, ◌∙◌, ℕ, ◌+◌, ◌<◌, ◌≤◌, Bool, true, false, cond, ◌||◌, Option, Some, None, List, [], ◌∷◌, ◌++◌, length, refl, sym, ap, subst, arith, append_assoc, append-nil, length-append}
+use Rattle.std.specs.Prelude.{filter}
 use Rattle.std.specs.List.{AllByRecursion}
 use Rattle.activity_codec.specs.declared.values.Slot.{Slot}
 use Rattle.activity_codec.specs.declared.values.Slot.TheVariants.{Driver, CoDriver}
 use Rattle.trace_model.specs.declared.Card.{Card}
 use Rattle.trace_model.specs.declared.Action.{Action}
-use Rattle.trace_model.specs.declared.Action.TheVariants.{Insert}
 use Rattle.trace_model.specs.Trace.{TraceSecond}
 use Rattle.card_records.specs.declared.current_use.CurrentUse.{CurrentUse}
 use Rattle.log_model.specs.declared.lines.Break.{Break}
 use Rattle.log_model.specs.declared.lines.SlotFault.{SlotFault}
 use Rattle.log_model.specs.declared.lines.Verdict.{Verdict}
-use Rattle.log_model.specs.Log.{RunLog, Phase, In, cut_in, found_in, is_accepting}
-use Rattle.log_model.specs.Slots.{Sitting, same_card, in_slot, refusal}
+use Rattle.log_model.specs.Log.{RunLog, Phase, In, cut_in, found_in}
+use Rattle.log_model.specs.Slots.{Sitting, same_card, refusal}
 use Rattle.log_model.specs.Course.{Course, Visit, Before, Moved, visits, answered, moved_by, slot_told, both_told, begins, is_settling, acted, has_power, went}
-use Rattle.side_model.specs.Done.{CarriedOut, done_by}
-use Rattle.side_model.specs.Noted.{Note, noted_by, noted_in}
+use Rattle.side_model.specs.Done.{CarriedOut}
+use Rattle.side_model.specs.Noted.{Note, noted_by}
 use Rattle.safety_model.specs.Recording.{card_image}
-use Rattle.run_rings.specs.Notes.{accepted_in, noted_if, action_notes, notes_from, notes_to, TellSameTo, course_behind, accepts_by, sits_accepted, NotesMore}
+use Rattle.run_rings.specs.Notes.{accepted_in, noted_if, action_notes, notes_from, notes_to, TellSameTo, course_behind, accepts_by, sits_accepted}
 use Rattle.run_rings.proofs.Notes.{answered-found, action-notes, later-lines, second-noted}
-use Rattle.run_rings.proofs.Actions.{none-ahead, power-notes, insertions}
-use Rattle.run_ringed.specs.Waking.{IsFoundAnew}
+use Rattle.run_rings.proofs.Actions.{none-ahead, power-notes}
 use Rattle.run_recorded.specs.Origin.{Origin, rule_of, start_at, first_of}
 use Rattle.run_recorded.specs.Whole.{NothingFailed}
 use Rattle.run_course.specs.Followed.{Progress, Followed}

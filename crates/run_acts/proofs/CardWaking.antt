@@ -1,6 +1,6 @@
 -- What a card shows of its events as power is back: it is judged anew, and the interruption is noted.
-use Rattle.std.proofs.Common.{◌≡◌, ◌≢◌, ◌∙◌, ◌⊎◌, inl, inr, ⊎_elim, ℕ, suc, ◌+◌, ◌≤◌, ◌<◌, Bool, true, false, cond, not, ◌||◌, Option, Some, None, is_some, List, [], ◌∷◌, ◌++◌, map, length, refl, sym, ap, subst, append_assoc, append-nil}
-use Rattle.std.specs.Prelude.{◌==◌, ◌&&◌, filter, flat_map, nat_lt}
+use Rattle.std.proofs.Common.{◌≡◌, ◌∙◌, ◌⊎◌, inl, inr, ⊎_elim, ℕ, ◌+◌, Bool, true, false, cond, ◌||◌, Option, Some, None, List, [], ◌∷◌, ◌++◌, map, refl, sym, ap, append-nil}
+use Rattle.std.specs.Prelude.{◌&&◌, flat_map}
 use Rattle.std.specs.List.{list_any}
 use Rattle.activity_codec.specs.declared.values.Slot.{Slot}
 use Rattle.activity_codec.specs.declared.values.Slot.TheVariants.{Driver, CoDriver}
@@ -13,7 +13,7 @@ use Rattle.log_model.specs.declared.lines.Verdict.{Verdict}
 use Rattle.log_model.specs.Log.{RunLog, In, is_torn_in, found_in, is_accepting}
 use Rattle.log_model.specs.Slots.{Sitting, in_slot, same_card}
 use Rattle.log_model.specs.Course.{Course, Visit, Before, went}
-use Rattle.event_model.specs.Events.{Event, Seen, number_of, seen_of, gap_events}
+use Rattle.event_model.specs.Events.{Seen, seen_of, gap_events}
 use Rattle.side_model.specs.Done.{course_powered}
 use Rattle.safety_model.specs.Recording.{card_image}
 use Rattle.safety_model.specs.Safe.{Devices, card_of}
@@ -22,7 +22,7 @@ use Rattle.run_recorded.specs.Beside.{HaveLeftMore}
 use Rattle.run_evented.specs.Evented.{images_in}
 use Rattle.run_evented.specs.Uses.{notes_now, uses_in}
 use Rattle.run_ringed.specs.Waking.{IsFoundAnew}
-use Rattle.run_acts.specs.OnCards.{as_accepted, unclosed_by, events_by, accepts, movings, accepted_in, accepted_on, moved_in, gaps_on, enters, falls, is_sure_in, are_sure_on, NotesThem, StillShows, AreUses}
+use Rattle.run_acts.specs.OnCards.{as_accepted, unclosed_by, events_by, accepts, movings, accepted_in, accepted_on, moved_in, gaps_on, enters, is_sure_in, NotesThem, StillShows, AreUses}
 use Rattle.run_acts.specs.RunCards.{vehicle_in, sizes_in, CardShown, so_far, seen_behind, gap_behind, CardsIn, CardsWaking, StillShow}
 use Rattle.run_acts.proofs.OnCards.{flat-one, gaps-append}
 use Rattle.run_acts.proofs.CardCourse.{Finding, findings, sitting_at, IsPowered, powered-as}

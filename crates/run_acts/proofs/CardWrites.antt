@@ -34,7 +34,7 @@ use Rattle.run_told.specs.Told.{IsPowered, IsOn, arranged}
 use Rattle.run_told.proofs.Parts.{CardLit, parts-of}
 use Rattle.run_keeping.specs.declared.keeper.Moment.{Moment}
 use Rattle.run_keeping.specs.Keeping.{CardReady}
-use Rattle.run_keeping.specs.Minutes.{Told, Done, Reach, Whole, Short, IsReach}
+use Rattle.run_keeping.specs.Minutes.{Told, Reach, Whole, Short, IsReach}
 use Rattle.run_keeping.specs.Books.{HaveTime}
 use Rattle.run_keeping.specs.Decided.{BooksAll, MayBookAll, carried_by}
 use Rattle.run_acts.specs.Acting.{Closing, Closed}

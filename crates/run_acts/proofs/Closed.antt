@@ -1,5 +1,5 @@
 -- The session of a card that has left its slot is closed, behind the minutes that its leaving decides: what is recorded.
-use Rattle.std.proofs.Common.{◌≡◌, ◌∙◌, ◌⊎◌, inl, inr, ℕ, ◌+◌, ◌/◌, ◌^◌, ◌<◌, ◌≤◌, Bool, true, false, not, Option, Some, None, List, [], ◌∷◌, ◌++◌, is_some, refl, ap, sym, subst, arith}
+use Rattle.std.proofs.Common.{◌≡◌, ◌∙◌, ◌⊎◌, inl, inr, ℕ, ◌+◌, ◌/◌, ◌^◌, ◌<◌, ◌≤◌, Bool, true, false, Option, Some, None, List, [], ◌∷◌, ◌++◌, is_some, refl, ap, sym, subst, arith}
 use Rattle.std.specs.Prelude.{IfSome}
 use Rattle.activity_codec.specs.declared.values.Activity.{Activity}
 use Rattle.activity_codec.specs.declared.values.Slot.{Slot}
@@ -11,7 +11,6 @@ use Rattle.tach_media.proofs.Runs.{if_told, at_image, weaken}
 use Rattle.card_layout.specs.declared.files.Application.{Application}
 use Rattle.card_layout.specs.declared.files.TheConstants.{LARGEST_IMAGE}
 use Rattle.card_layout.specs.Application.{IsApplication}
-use Rattle.card_layout.specs.Files.{image_size_of}
 use Rattle.card_layout.proofs.Sizes.{largest_image}
 use Rattle.card_image.specs.Own.{own_sizes, IsOwnValid}
 use Rattle.card_session.specs.Sessions.{IsSession}
@@ -21,8 +20,7 @@ use Rattle.card_times.proofs.Calls.{closing-timed}
 use Rattle.minute_model.specs.Span.{Span, end_of}
 use Rattle.minute_rules.specs.Kept.{StandsFor}
 use Rattle.log_model.specs.declared.lines.Break.{Break}
-use Rattle.log_model.specs.declared.lines.Break.TheVariants.{Tear}
-use Rattle.log_model.specs.Log.{In, phase_of}
+use Rattle.log_model.specs.Log.{In}
 use Rattle.log_model.specs.Causes.{RoseBy}
 use Rattle.log_model.specs.Course.{went}
 use Rattle.unit_notes.specs.Journal.{LeavesJournal}
@@ -51,20 +49,19 @@ use Rattle.run_keeping.proofs.CardBooked.{session-unset}
 use Rattle.run_recorded.specs.Origin.{Origin, rule_of}
 use Rattle.run_within.specs.Recorded.{Values, carried}
 use Rattle.run_within.specs.Within.{IsLeaving, GoesOnSo, GoesOn, CutWithin}
-use Rattle.run_within.specs.Taking.{IsCalledLeaving, closed_values, fallen_values}
+use Rattle.run_within.specs.Taking.{IsCalledLeaving, fallen_values}
 use Rattle.run_within.proofs.Closing.{session-closed, closing-fails, leaving-torn, leaving-tear_fails}
 use Rattle.run_acts.specs.declared.run.Run.{Run}
 use Rattle.run_acts.specs.Power.{with_cabin}
 use Rattle.run_acts.specs.Acting.{Closing, Bare, Closed, Fell, closed_cabin, closed_breaks, closed_falls, IsClosingOf, IsClosed}
 use Rattle.run_acts.specs.Behind.{IsPoweredOrOff, carried_closed}
 use Rattle.run_acts.specs.Recording.{log_of, values_of, RunWithin, GoesOnOrFails}
-use Rattle.log_model.specs.Log.{RunLog}
 use Rattle.log_model.specs.Slots.{other_slot}
 use Rattle.trace_model.specs.declared.Action.{Action}
 use Rattle.event_model.specs.declared.kinds.TheConstants.{CARD_FAULT}
 use Rattle.run_notes.specs.Entries.{entry_of}
 use Rattle.run_course.specs.Moments.{and_break}
-use Rattle.run_moments.specs.Telling.{IsLeft, BrokeDown}
+use Rattle.run_moments.specs.Telling.{IsLeft}
 use Rattle.run_moments.proofs.Telling.{card-torn}
 use Rattle.run_moments.proofs.Reached.{leaves-first}
 use Rattle.run_evented.specs.Noting.{Acting}
@@ -86,11 +83,10 @@ use Rattle.run_acts.proofs.Rising.{card-more, card-fell}
 use Rattle.run_keeping.specs.CardDeeds.{ClosesOn}
 use Rattle.run_keeping.proofs.CardDeeds.{does-close}
 use Rattle.side_model.specs.Noted.{Note}
-use Rattle.std.specs.List.{AllByRecursion}
 use Rattle.run_recorded.specs.Whole.{NothingFailed}
 use Rattle.run_acts.specs.Closings.{spells_of, with_last_shut, last_slot, notes_within}
 use Rattle.run_acts.specs.Truths.{past_of, IsWordIn, truths_within, marked}
-use Rattle.run_acts.specs.Stays.{Shut, Stay, spells, sits_in, as_noted, IsTrueOf, ClosesOnCard, HasStays, AreTrue, start_shown}
+use Rattle.run_acts.specs.Stays.{Shut, Stay, spells, sits_in, as_noted, ClosesOnCard, HasStays, AreTrue, start_shown}
 use Rattle.run_acts.specs.Comings.{TellMore}
 use Rattle.run_acts.proofs.Stays.{on_last, on-last-comings, on-last-founds, on-last-owed, on-last-none, on-last-true, last-shut-slot, with_end, stays-close, on-last-owes, on-last-judged, on-last-turned}
 use Rattle.run_acts.proofs.AllStay.{turns-so, placed-bare, all-one, no-tear, mine-left, others-left}

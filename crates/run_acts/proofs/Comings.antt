@@ -1,5 +1,5 @@
 -- What calls make of the vehicles before that the insertions of a unit tell.
-use Rattle.std.proofs.Common.{◌≡◌, ◌≢◌, ◌⊎◌, inl, inr, ⊎_elim, ℕ, ◌+◌, ◌-◌, ◌<◌, ◌≤◌, min, Bool, true, false, cond, Option, Some, None, List, [], ◌∷◌, ◌++◌, length, map, take, drop, refl, ap, sym, subst, ◌∙◌, arith, append_assoc, append-nil, length-append}
+use Rattle.std.proofs.Common.{◌≡◌, ◌≢◌, ◌⊎◌, inl, inr, ⊎_elim, ℕ, ◌+◌, ◌-◌, ◌<◌, ◌≤◌, min, Bool, true, false, cond, Option, Some, None, List, [], ◌∷◌, ◌++◌, length, map, drop, refl, ap, sym, subst, ◌∙◌, arith, append_assoc, append-nil, length-append}
 use Rattle.std.specs.Prelude.{◌==◌}
 use Rattle.std.proofs.lemmas.Bool.{cases_eq}
 use Rattle.std.proofs.lemmas.Bool.Decides.{nat_tests}
@@ -20,7 +20,7 @@ use Rattle.gated_ring.proofs.Elsewhere.{ring_outside}
 use Rattle.gated_ring.proofs.Orders.{Each}
 use Rattle.gated_ring.proofs.Listing.{indices_below}
 use Rattle.message_model.specs.Records.{insertion_widths, insertion_ring, unit_place_ring}
-use Rattle.unit_notes.specs.Noting.{out_place, out_odometer_place, with_withdrawal, IsWithdrawn}
+use Rattle.unit_notes.specs.Noting.{out_place, with_withdrawal, IsWithdrawn}
 use Rattle.unit_model.specs.Image.{IsUnit}
 use Rattle.run_crew.specs.declared.cards.Accepted.{Accepted}
 use Rattle.run_rings.specs.Carried.{Carries}

@@ -12,7 +12,7 @@ use Rattle.minute_rules.specs.Kept.{Kept}
 use Rattle.card_image.specs.Own.{IsOwnValid}
 use Rattle.card_times.specs.Times.{AreTimedSince}
 use Rattle.log_model.specs.Log.{In}
-use Rattle.log_model.specs.Causes.{device_of, RoseBy}
+use Rattle.log_model.specs.Causes.{RoseBy}
 use Rattle.log_model.specs.Course.{Visit}
 use Rattle.joint_rule.specs.Rules.{Out}
 use Rattle.joint_rule.specs.Views.{other}

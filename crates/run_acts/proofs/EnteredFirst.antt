@@ -11,11 +11,10 @@ use Rattle.tach_media.specs.Medium.{State, IsCoherent}
 use Rattle.minute_rules.specs.Kept.{Kept}
 use Rattle.card_image.specs.View.{CardView}
 use Rattle.card_image.specs.Own.{own_view}
-use Rattle.log_model.specs.declared.lines.Mark.{Mark}
 use Rattle.log_model.specs.Causes.{device_of}
 use Rattle.log_model.specs.Log.{In}
 use Rattle.log_model.specs.Course.{Told, Visit, went}
-use Rattle.history_model.specs.Minutes.{HistoryMinute, card_history, up_to}
+use Rattle.history_model.specs.Minutes.{card_history, up_to}
 use Rattle.history_model.specs.Completeness.{IsMarked}
 use Rattle.history_model.specs.Presence.{CardStart}
 use Rattle.history_model.specs.Book.{Book, all}

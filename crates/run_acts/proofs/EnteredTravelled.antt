@@ -1,5 +1,5 @@
 -- What a card that enters is noted with on the unit leaves its last-kept minute, its odometer and its days alone.
-use Rattle.std.proofs.Common.{⊎_elim, inr, inl, ℕ, List, [], ◌∷◌, arith}
+use Rattle.std.proofs.Common.{⊎_elim, inr, ℕ, List, [], ◌∷◌, arith}
 use Rattle.card_layout.specs.Images.{SameOutside}
 use Rattle.tach_media.specs.Medium.{State, IsCoherent, LeavesOnly}
 use Rattle.gated_ring.specs.Ring.{size_of}

@@ -1,36 +1,29 @@
 -- A card falls in an action: what its tear adds to the events of the second, and how a call goes on that notes what its lines add.
-use Rattle.std.proofs.Common.{◌≡◌, ◌∙◌, ◌⊎◌, inl, inr, ⊎_elim, ℕ, suc, ◌+◌, ◌^◌, ◌<◌, ◌≤◌, Bool, true, false, Option, Some, None, List, [], ◌∷◌, ◌++◌, is_some, length, map, refl, ap, sym, subst, arith, append_assoc, length-append}
+use Rattle.std.proofs.Common.{◌≡◌, ◌∙◌, ℕ, suc, ◌+◌, ◌^◌, ◌<◌, Bool, true, false, Option, Some, None, List, [], ◌∷◌, ◌++◌, is_some, length, map, refl, ap, sym, subst, arith, append_assoc, length-append}
 use Rattle.activity_codec.specs.declared.values.Slot.{Slot}
 use Rattle.trace_model.specs.declared.Card.{Card}
 use Rattle.trace_model.specs.declared.Card.TheVariants.{A, B}
 use Rattle.trace_model.specs.declared.Action.{Action}
 use Rattle.trace_model.specs.Trace.{TraceSecond}
-use Rattle.run_model.specs.declared.Device.{Device}
-use Rattle.run_model.specs.declared.Device.TheVariants.{Unit as Recorder}
 use Rattle.card_image.specs.Own.{IsOwnValid}
 use Rattle.log_model.specs.declared.lines.Break.{Break}
 use Rattle.log_model.specs.Log.{RunLog, Phase, In, is_torn_in}
 use Rattle.log_model.specs.Slots.{Sitting, in_slot, other_slot}
-use Rattle.log_model.specs.Causes.{RoseBy}
 use Rattle.log_model.specs.Course.{Visit, Before, Told, Course, visits, card_in as card_of_sitting, went}
 use Rattle.event_model.specs.declared.kinds.TheConstants.{CARD_FAULT}
-use Rattle.event_model.specs.Events.{Event, with_card, noted_with}
+use Rattle.event_model.specs.Events.{with_card}
 use Rattle.event_model.specs.Events as events
 use Rattle.unit_notes.specs.declared.unit_event.UnitEvent.{UnitEvent}
-use Rattle.unit_course.specs.Lines.{cut_at}
-use Rattle.unit_course.specs.Followed.{Lost as IsLost}
 use Rattle.safety_model.specs.Safe.{Devices, breakdowns_of}
 use Rattle.slot_machine.specs.Calls.{seat_in, card_in}
 use Rattle.run_crew.specs.declared.cabin.Cabin.{Cabin}
 use Rattle.run_crew.specs.Cards.{session_of}
 use Rattle.run_crew.specs.Cabin.{Stands, torn_out, with_session_of, crew_of}
 use Rattle.run_notes.specs.Entries.{IsCrewOf, entry_of}
-use Rattle.run_rule.specs.Found.{found_of}
 use Rattle.run_course.specs.Moments.{and_break}
 use Rattle.run_course.specs.Followed.{Progress}
-use Rattle.run_moments.specs.Reached.{course_at, moved_at, Reaches, IsTearAt}
-use Rattle.run_moments.specs.Moment.{Moment}
-use Rattle.run_moments.specs.Telling.{IsMore, IsOneOut, begun_by, IsLeft}
+use Rattle.run_moments.specs.Reached.{moved_at, Reaches, IsTearAt}
+use Rattle.run_moments.specs.Telling.{IsOneOut, IsLeft}
 use Rattle.run_moments.proofs.Lines.{who-sits}
 use Rattle.run_moments.proofs.Moment.{reaches-of}
 use Rattle.run_keeping.specs.Keeping.{Fell}
@@ -41,17 +34,16 @@ use Rattle.run_within.specs.Within.{Within, course_in, told_before, IsLeaving}
 use Rattle.run_within.proofs.Moved.{not-leaving}
 use Rattle.run_within.proofs.Pulling.{sitting-now}
 use Rattle.run_within.proofs.Seats.{card-seated, none-sits, seat-tells}
-use Rattle.run_evented.specs.Evented.{number_in, Evented}
+use Rattle.run_evented.specs.Evented.{number_in}
 use Rattle.run_evented.specs.Noting.{Acting}
 use Rattle.run_evented.specs.Bringing.{NotFound}
 use Rattle.run_evented.specs.SoFar.{EventedNow, Adds, BeginsNow, MayFollow, crew_at, fault_with, ACallNotes, AFailureCuts, ATearAdds}
-use Rattle.run_acts.specs.declared.run.Run.{Run}
 use Rattle.run_acts.specs.Recording.{IsOrigin}
-use Rattle.run_acts.specs.NotedEvents.{AreTold, NotesEvents}
+use Rattle.run_acts.specs.NotedEvents.{NotesEvents}
 use Rattle.run_acts.specs.EventCrews.{AreKnownBy}
 use Rattle.run_acts.specs.Evented.{EventsGoOn}
 use Rattle.run_acts.specs.ActsEvented.{IsFailing}
-use Rattle.run_acts.proofs.EventCrews.{AllSitWell, all-well, torn-sits, torn-leaves, sessions-known, faults-told}
+use Rattle.run_acts.proofs.EventCrews.{all-well, torn-sits, torn-leaves, sessions-known, faults-told}
 use Rattle.run_acts.proofs.Named.{crew-valid, without-valid}
 use Rattle.run_acts.proofs.Numbers.{AreLong, notes-at}
 use Rattle.run_acts.proofs.RoundFaults.{AddsFaults}

@@ -1,20 +1,18 @@
 -- What the keeping of minutes leaves of the devices is what a call leaves of them: what might have been left might be left still, and a card that was as it was is so, or has a session.
-use Rattle.std.proofs.Common.{◌≡◌, ◌⊎◌, inl, inr, ⊎_elim, ℕ, ◌+◌, ◌-◌, ◌^◌, ◌≤◌, Bool, true, false, Option, Some, None, is_some, List, [], refl, ap, sym, subst, ◌∙◌, arith}
+use Rattle.std.proofs.Common.{◌≡◌, ◌⊎◌, inl, inr, ⊎_elim, ℕ, ◌+◌, ◌-◌, ◌≤◌, Bool, true, false, Option, Some, None, is_some, List, [], refl, subst, ◌∙◌, arith}
 use Rattle.std.proofs.lemmas.Bool.{cases_lt}
 use Rattle.trace_model.specs.declared.Card.{Card}
 use Rattle.trace_model.specs.declared.Card.TheVariants.{A, B}
 use Rattle.tach_media.specs.Medium.{State, Rose, HasCause, LeavesOnly}
 use Rattle.tach_media.proofs.Runs.{cause_after}
 use Rattle.unit_notes.specs.Journal.{LeavesJournal}
-use Rattle.run_model.specs.declared.Device.{Device}
-use Rattle.run_model.specs.declared.Device.TheVariants.{Unit as Recorder, CardA, CardB}
+use Rattle.run_model.specs.declared.Device.TheVariants.{Unit as Recorder}
 use Rattle.log_model.specs.Causes.{RoseBy}
-use Rattle.card_image.specs.Own.{IsOwnValid}
 use Rattle.safety_model.specs.Safe.{Devices, card_of, breakdowns_of}
 use Rattle.run_crew.specs.declared.cards.Accepted.{Accepted}
 use Rattle.run_crew.specs.declared.cards.Cards.{Cards}
 use Rattle.run_crew.specs.Cards.{session_of}
-use Rattle.run_rule.specs.Found.{CardFound, Found, found_of}
+use Rattle.run_rule.specs.Found.{CardFound, found_of}
 use Rattle.run_rule.specs.Cards.{IsUntouched}
 use Rattle.run_rule.specs.Between.{Carried, devices}
 use Rattle.run_told.specs.Told.{IsPowered}

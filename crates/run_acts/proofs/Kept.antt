@@ -1,5 +1,5 @@
 -- A run that has kept what its seconds have decided.
-use Rattle.std.proofs.Common.{◌≡◌, ◌∙◌, ◌⊎◌, ⊎_elim, ℕ, ◌+◌, ◌-◌, ◌*◌, ◌/◌, ◌<◌, ◌≤◌, Bool, true, false, Option, Some, None, IfSome, List, All, length, is_some, refl, ap, sym, subst, arith}
+use Rattle.std.proofs.Common.{◌≡◌, ◌∙◌, ◌⊎◌, ⊎_elim, ℕ, ◌+◌, ◌-◌, ◌/◌, ◌<◌, ◌≤◌, true, Option, Some, None, IfSome, List, All, is_some, refl, ap, sym, subst, arith}
 use Rattle.std.specs.Prelude.{get_or}
 use Rattle.std.proofs.lemmas.List.Elements.{All-weaker}
 use Rattle.trace_model.specs.declared.Card.{Card}
@@ -15,12 +15,10 @@ use Rattle.slot_machine.specs.declared.seats.Present.{Present}
 use Rattle.slot_machine.specs.declared.seats.Ended.{Ended}
 use Rattle.slot_machine.specs.declared.seats.Seat.{Seat}
 use Rattle.slot_machine.specs.Calls.{Seats, present_in}
-use Rattle.slot_machine.specs.Kept.{Kept as Slots}
 use Rattle.run_crew.specs.declared.cards.Accepted.{Accepted}
 use Rattle.run_crew.specs.declared.cards.Cards.{Cards}
-use Rattle.run_crew.specs.declared.cabin.Cabin.{Cabin}
 use Rattle.run_crew.specs.Cards.{session_of}
-use Rattle.run_crew.specs.Cabin.{Stands, KnowsEnded}
+use Rattle.run_crew.specs.Cabin.{Stands}
 use Rattle.run_crew.proofs.Ended.{ended-known, ended-later, ended-same}
 use Rattle.run_notes.specs.declared.watch.Watch.{Watch}
 use Rattle.run_notes.specs.Watching.{Watches}
@@ -28,8 +26,8 @@ use Rattle.run_keeping.specs.Keeping.{IsReady, HasItsRow, HaveRows, AreEmptied, 
 use Rattle.run_keeping.specs.Minutes.{kept_after}
 use Rattle.run_keeping.proofs.Decided.{rows-on}
 use Rattle.run_acts.specs.declared.run.Run.{Run}
-use Rattle.run_acts.specs.Going.{first_second, IsGoingOn}
-use Rattle.run_acts.specs.Room.{bare_count, bare_seats, falls_of}
+use Rattle.run_acts.specs.Going.{IsGoingOn}
+use Rattle.run_acts.specs.Room.{bare_count, bare_seats}
 use Rattle.run_acts.proofs.Due.{Decides}
 
 -- ---- what the keeping is given

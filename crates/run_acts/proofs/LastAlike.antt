@@ -1,23 +1,21 @@
 -- Nothing ends with a second without actions at the speed of the one before it.
-use Rattle.std.proofs.Common.{◌≡◌, ◌∙◌, ◌⊎◌, inl, inr, ⊎_elim, ℕ, zero, suc, ◌<◌, Bool, true, false, cond, not, ◌&&◌, Option, Some, None, is_some, List, [], ◌∷◌, ◌++◌, length, take, nat_lt, refl, ap, sym, subst, arith}
-use Rattle.std.specs.List.{AllByRecursion, list_any, cons_option, filter_map}
-use Rattle.activity_codec.specs.declared.values.Slot.{Slot}
-use Rattle.activity_codec.specs.declared.values.Slot.TheVariants.{Driver, CoDriver}
+use Rattle.std.proofs.Common.{◌≡◌, ◌∙◌, ℕ, Bool, true, false, cond, not, ◌&&◌, Option, None, is_some, List, [], ◌∷◌, ◌++◌, length, take, nat_lt, refl, ap, sym, subst}
+use Rattle.std.specs.List.{cons_option, filter_map}
+use Rattle.activity_codec.specs.declared.values.Slot.TheVariants.{Driver}
 use Rattle.trace_model.specs.declared.Action.{Action}
 use Rattle.trace_model.specs.Trace.{TraceSecond}
 use Rattle.log_model.specs.Log.{RunLog, Phase, In, Keeping, is_torn_in, cut_in}
-use Rattle.log_model.specs.Slots.{Slots, Sitting, in_slot, is_accepted}
-use Rattle.log_model.specs.Course.{Told, Course, Before, Moved, Went, unmoved, fresh, has_power, both_told, all_acted, lit_course, cut_told, before_next, second_told, went}
+use Rattle.log_model.specs.Slots.{Slots, Sitting, is_accepted}
+use Rattle.log_model.specs.Course.{Told, Course, Before, Went, unmoved, fresh, has_power, both_told, all_acted, lit_course, cut_told, before_next, second_told, went}
 use Rattle.log_model.proofs.Growth.{went-more}
-use Rattle.event_model.specs.Runs.{run_with, last_run, runs_behind}
-use Rattle.event_model.specs.Events.{Event, Seen, course_by, seen_of, seen_by, seen_spans, is_bare, bare_event, over_event, speed_second}
+use Rattle.event_model.specs.Runs.{runs_behind}
+use Rattle.event_model.specs.Events.{Event, Seen, course_by, seen_of, seen_spans, is_bare, bare_event, over_event}
 use Rattle.run_course.proofs.Told.{lit-told, dark-told}
 use Rattle.run_events.specs.Seconds.{last_of, span_before, seen_next, bares_by, overs_by, is_fast}
 use Rattle.run_evented.proofs.Brought.{told-speed}
-use Rattle.run_evented.proofs.Parts.{found_now}
 use Rattle.run_evented.proofs.Tearing.{told_slot, both-slot}
 use Rattle.run_evented.proofs.Quiet.{ends-nothing}
-use Rattle.run_acts.specs.Evented.{LastAt, span_of}
+use Rattle.run_acts.specs.Evented.{LastAt}
 use Rattle.run_acts.proofs.SeenSpan.{span-more}
 
 -- ---- behind nothing, nothing ends

@@ -1,5 +1,5 @@
 -- A run whose card has left its slot, and whose session is closed.
-use Rattle.std.proofs.Common.{◌≡◌, ◌∙◌, ℕ, ◌+◌, ◌-◌, ◌/◌, ◌<◌, ◌≤◌, Option, Some, None, length, refl, ap, sym, subst, arith}
+use Rattle.std.proofs.Common.{◌≡◌, ℕ, ◌+◌, ◌-◌, ◌/◌, ◌≤◌, Option, Some, None, length, refl, arith}
 use Rattle.activity_codec.specs.declared.values.Slot.{Slot}
 use Rattle.activity_codec.specs.declared.values.Slot.TheVariants.{Driver, CoDriver}
 use Rattle.trace_model.specs.declared.Card.{Card}
@@ -8,17 +8,14 @@ use Rattle.tach_media.specs.Medium.{State}
 use Rattle.card_layout.specs.declared.command.CardState.{CardState}
 use Rattle.minute_model.specs.Span.{ungiven_of}
 use Rattle.run_crew.specs.declared.cards.Accepted.{Accepted}
-use Rattle.run_crew.specs.declared.cards.Cards.{Cards}
 use Rattle.run_crew.specs.declared.cabin.Cabin.{Cabin}
 use Rattle.run_crew.specs.Cards.{session_of, with_session}
-use Rattle.run_crew.specs.Cabin.{Stands, torn_out, with_session_of, with_slot_left}
-use Rattle.run_keeping.specs.declared.keeper.Keeper.{Keeper}
+use Rattle.run_crew.specs.Cabin.{Stands, with_session_of, with_slot_left}
 use Rattle.run_keeping.specs.declared.keeper.Moment.{Moment}
-use Rattle.run_keeping.specs.Keeping.{UnitReady, CardReady, HasItsRow, SessionsGoOn, tears_of}
+use Rattle.run_keeping.specs.Keeping.{SessionsGoOn, tears_of}
 use Rattle.run_keeping.proofs.Seats.{sessions-none, sessions-then}
 use Rattle.run_acts.specs.declared.run.Run.{Run}
-use Rattle.run_acts.specs.Power.{with_cabin}
-use Rattle.run_acts.specs.Going.{CardAt, IsHeld, IsGoingOn, IsLit}
+use Rattle.run_acts.specs.Going.{IsHeld, IsGoingOn, IsLit}
 use Rattle.run_acts.specs.Room.{falls_of}
 use Rattle.run_acts.proofs.Kept.{moved-going}
 use Rattle.run_acts.proofs.Torn.{torn-past, torn-minute, torn-falls, torn-sessions, sessions-without, tears-without}

@@ -1,11 +1,10 @@
 -- Events name valid cards alone.
-use Rattle.std.proofs.Common.{◌≡◌, ◌∙◌, ℕ, ◌+◌, ◌≤◌, Bool, true, false, Option, Some, None, IfSome, is_some, List, [], ◌∷◌, ◌++◌, length, take_all, refl, ap, sym, subst, arith, append-nil}
-use Rattle.std.specs.List.{AllByRecursion}
+use Rattle.std.proofs.Common.{◌≡◌, ◌∙◌, ℕ, ◌+◌, true, Option, Some, None, IfSome, is_some, List, [], ◌∷◌, ◌++◌, length, take_all, refl, ap, sym, subst, arith, append-nil}
 use Rattle.activity_codec.specs.declared.values.Slot.{Slot}
 use Rattle.activity_codec.specs.declared.values.Slot.TheVariants.{Driver, CoDriver}
 use Rattle.trace_model.specs.declared.Card.{Card}
 use Rattle.card_image.specs.Own.{IsOwnValid}
-use Rattle.log_model.specs.Slots.{Slots, Sitting, in_slot}
+use Rattle.log_model.specs.Slots.{Sitting}
 use Rattle.log_model.specs.Course.{Told, Course}
 use Rattle.joint_rule.specs.Rules.{Standing}
 use Rattle.event_model.specs.Events.{Event, Crew, accepted_card, crew_of, with_card}
@@ -17,7 +16,6 @@ use Rattle.card_layout.specs.Fields.{number_in as field_number, field_at}
 use Rattle.tacho_types.specs.declared.card_number.FullCardNumber.{FullCardNumber}
 use Rattle.tacho_types.specs.CardNumber.{card_number_widths, card_number_bytes, card_number_of}
 use Rattle.run_told.specs.Told.{AreFoundCards}
-use Rattle.run_crew.specs.declared.cards.Accepted.{Accepted}
 use Rattle.run_crew.specs.declared.cards.Cards.{Cards}
 use Rattle.run_crew.specs.Cards.{known_of, session_of}
 use Rattle.run_evented.specs.Evented.{number_in}

@@ -1,5 +1,5 @@
 -- A card that has no session when minutes are kept has none behind it.
-use Rattle.std.proofs.Common.{◌≡◌, ⊎_elim, ℕ, false, Option, Some, None, List, [], ◌∷◌, ◌++◌, subst, sym}
+use Rattle.std.proofs.Common.{◌≡◌, ⊎_elim, ℕ, false, Option, Some, None, List, subst, sym}
 use Rattle.activity_codec.specs.declared.values.Slot.TheVariants.{Driver, CoDriver}
 use Rattle.trace_model.specs.declared.Card.{Card}
 use Rattle.minute_model.specs.declared.Minute.{Minute}

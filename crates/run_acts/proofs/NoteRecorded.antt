@@ -1,6 +1,6 @@
 -- A note at a moment of a second: what is recorded behind it.
-use Rattle.std.proofs.Common.{◌≡◌, ◌∙◌, ◌⊎◌, inl, inr, ⊎_elim, ℕ, suc, ◌+◌, ◌/◌, ◌^◌, ◌<◌, ◌≤◌, Bool, true, false, not, Option, Some, None, List, [], ◌∷◌, ◌++◌, is_some, length, refl, ap, sym, subst, arith, append-nil}
-use Rattle.std.specs.Prelude.{min, IfSome}
+use Rattle.std.proofs.Common.{◌≡◌, ◌∙◌, ◌⊎◌, inl, inr, ⊎_elim, ℕ, suc, ◌+◌, ◌/◌, ◌^◌, ◌<◌, ◌≤◌, Bool, true, false, Option, Some, None, List, [], ◌∷◌, ◌++◌, is_some, length, refl, ap, sym, subst, arith, append-nil}
+use Rattle.std.specs.Prelude.{IfSome}
 use Rattle.std.specs.List.{AllByRecursion}
 use Rattle.std.proofs.lemmas.Bool.{cases_lt}
 use Rattle.trace_model.specs.declared.Card.{Card}
@@ -8,10 +8,9 @@ use Rattle.trace_model.specs.declared.Card.TheVariants.{A, B}
 use Rattle.trace_model.specs.declared.Action.{Action}
 use Rattle.trace_model.specs.declared.Action.TheVariants.{Place}
 use Rattle.trace_model.specs.Trace.{TraceSecond}
-use Rattle.run_model.specs.declared.Device.{Device}
-use Rattle.run_model.specs.declared.Device.TheVariants.{Unit as Recorder, CardA, CardB}
+use Rattle.run_model.specs.declared.Device.TheVariants.{Unit as Recorder}
 use Rattle.activity_codec.specs.declared.values.Slot.{Slot}
-use Rattle.tach_media.specs.Medium.{State, IsCoherent, LeavesOnly, HasCause, HasBroken, Rose, last_count}
+use Rattle.tach_media.specs.Medium.{State, IsCoherent, LeavesOnly, HasCause, HasBroken, Rose}
 use Rattle.card_layout.specs.declared.files.TheConstants.{LARGEST_IMAGE}
 use Rattle.card_session.specs.Sessions.{IsValue}
 use Rattle.card_image.specs.Own.{IsOwnValid}
@@ -22,8 +21,8 @@ use Rattle.minute_model.proofs.Counted.{ungiven-most}
 use Rattle.minute_rules.specs.Kept.{Kept, StandsFor}
 use Rattle.log_model.specs.declared.lines.Break.{Break}
 use Rattle.log_model.specs.declared.lines.Break.TheVariants.{Tear}
-use Rattle.log_model.specs.Log.{Phase, In, Keeping, phase_of}
-use Rattle.log_model.specs.Causes.{RoseBy, device_of, second_of}
+use Rattle.log_model.specs.Log.{Phase, In, phase_of}
+use Rattle.log_model.specs.Causes.{RoseBy, second_of}
 use Rattle.log_model.specs.Course.{Visit, Went, went}
 use Rattle.unit_notes.specs.Journal.{LeavesJournal}
 use Rattle.unit_model.specs.Image.{odometer_at}
@@ -69,7 +68,7 @@ use Rattle.run_acts.specs.declared.run.Run.{Run}
 use Rattle.run_acts.specs.Power.{with_cabin}
 use Rattle.run_acts.specs.Acting.{IsNotedOn, IsNotedIn, now_moment, falls_by}
 use Rattle.run_acts.specs.Behind.{IsPoweredOrOff}
-use Rattle.run_acts.specs.Recording.{log_of, values_of, RunWithin, ComesPower, RunFails, RunGoesOn, GoesOnOrFails, GoesOnOrCut, IsNow}
+use Rattle.run_acts.specs.Recording.{log_of, values_of, RunWithin, ComesPower, RunGoesOn, GoesOnOrFails, GoesOnOrCut, IsNow}
 use Rattle.run_acts.specs.Noting.{carried_noted, IsNoteRecorded}
 use Rattle.run_acts.proofs.Cabins.{noted_cabin}
 use Rattle.run_acts.proofs.Apart.{some-one}

@@ -1,5 +1,5 @@
 -- A run whose unit was noted on.
-use Rattle.std.proofs.Common.{◌≡◌, ◌∙◌, false, true, refl}
+use Rattle.std.proofs.Common.{◌≡◌, true, refl}
 use Rattle.tach_media.specs.Medium.{State, IsCoherent, LeavesOnly}
 use Rattle.trace_model.specs.declared.Card.{Card}
 use Rattle.unit_notes.specs.Journal.{LeavesJournal}

@@ -1,6 +1,5 @@
 -- What calls note on the unit, one call after another.
-use Rattle.std.proofs.Common.{◌≡◌, ◌∙◌, ◌⊎◌, inl, inr, ⊎_elim, ℕ, ◌+◌, Bool, true, false, cond, not, nat_eq, Option, Some, None, IfSome, is_some, List, [], ◌∷◌, ◌++◌, length, filter, Contains, refl, ap, sym, subst, arith}
-use Rattle.std.specs.List.{AllByRecursion}
+use Rattle.std.proofs.Common.{◌≡◌, ◌∙◌, ◌⊎◌, ⊎_elim, ℕ, ◌+◌, Bool, true, false, cond, not, nat_eq, Option, Some, None, IfSome, is_some, List, [], ◌∷◌, ◌++◌, length, refl, ap, sym, subst, arith}
 use Rattle.std.proofs.lemmas.Bool.Decides.{nat_tests}
 use Rattle.trace_model.specs.declared.Card.{Card}
 use Rattle.tach_media.specs.Medium.{State, IsCoherent, LeavesOnly}
@@ -8,22 +7,22 @@ use Rattle.log_model.specs.Log.{RunLog}
 use Rattle.event_model.specs.declared.kinds.TheConstants.{OVER_SPEEDING}
 use Rattle.event_model.specs.Events.{Event}
 use Rattle.event_course.specs.Noted.{are_sure}
-use Rattle.event_course.specs.Shown.{all_kinds, first_on, count_on}
+use Rattle.event_course.specs.Shown.{first_on, count_on}
 use Rattle.side_model.specs.Tables.{table_in, AreNoted}
 use Rattle.unit_model.specs.declared.layout.TheConstants.{FIRST_OVER, OVER_COUNT}
 use Rattle.unit_model.specs.Image.{IsUnit, number_of}
 use Rattle.unit_notes.specs.declared.unit_event.UnitEvent.{UnitEvent}
 use Rattle.safety_model.specs.Safe.{Devices}
 use Rattle.run_rule.specs.Between.{devices}
-use Rattle.run_events.specs.Shown.{by_kind, none, ShowsMore, AreNumbers, SaysNothing}
+use Rattle.run_events.specs.Shown.{by_kind, none, ShowsMore, SaysNothing}
 use Rattle.run_events.proofs.Shows.{more-then, nothing-more, nothing-but}
 use Rattle.run_events.proofs.Frames.{event-more, event-but}
 use Rattle.unit_notes.specs.Entries.{fault_bytes}
 use Rattle.unit_notes.specs.Noting.{IsEventNoted, IsNotingEvent}
 use Rattle.run_recorded.specs.Origin.{Origin}
-use Rattle.run_evented.specs.Evented.{number_in, NotesMore}
+use Rattle.run_evented.specs.Evented.{number_in}
 use Rattle.run_evented.specs.Noting.{NotesThese}
-use Rattle.run_acts.specs.NotedEvents.{IsTold, AreUnsure, AreTold, IsSplit, NotesSo, NotesEvents}
+use Rattle.run_acts.specs.NotedEvents.{AreUnsure, AreTold, IsSplit, NotesSo, NotesEvents}
 
 -- ---- lists of events
 

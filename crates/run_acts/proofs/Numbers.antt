@@ -1,5 +1,5 @@
 -- The numbers by which events are noted: of valid cards, which alone are named in events.
-use Rattle.std.proofs.Common.{◌≡◌, ◌∙◌, ◌⊎◌, inl, inr, ⊎_elim, ℕ, Bool, true, false, cond, nat_eq, Option, Some, None, IfSome, List, [], ◌∷◌, ◌++◌, length, drop, map, replicate, refl, ap, sym, subst, arith, ◌+◌, ◌≤◌}
+use Rattle.std.proofs.Common.{◌≡◌, ◌∙◌, ℕ, Bool, true, false, cond, nat_eq, Option, Some, None, IfSome, List, [], ◌∷◌, length, drop, map, refl, ap, sym, arith, ◌+◌, ◌≤◌}
 use Rattle.std.proofs.lemmas.List.{length-take-le, length-drop, length-append}
 use Rattle.std.specs.List.{AllByRecursion}
 use Rattle.trace_model.specs.declared.Card.{Card}
@@ -17,13 +17,12 @@ use Rattle.log_model.specs.Log.{RunLog}
 use Rattle.event_model.specs.Places.{day_place, place_of, similar_after}
 use Rattle.side_model.specs.Tables.{number_or_none, HasRest, IsEntry, similar_field, similar_at, held_of, held_in, table_in, IsNotedAt, AreNoted}
 use Rattle.unit_notes.specs.declared.unit_event.UnitEvent.{UnitEvent}
-use Rattle.unit_notes.specs.Fields.{IsEventOf}
-use Rattle.safety_model.specs.Recording.{Recording, card_image}
+use Rattle.safety_model.specs.Recording.{card_image}
 use Rattle.safety_model.specs.Safe.{Devices}
 use Rattle.run_events.specs.Shown.{by_kind, none, ShowsMore, AreNumbers}
 use Rattle.run_recorded.specs.Origin.{Origin}
 use Rattle.run_evented.specs.Evented.{number_in}
-use Rattle.run_acts.specs.NotedEvents.{IsTold, AreTold, NotesSo, NotesEvents}
+use Rattle.run_acts.specs.NotedEvents.{AreTold, NotesSo, NotesEvents}
 use Rattle.run_acts.specs.Named.{ValidHere, NamesValid, spare, by_fault, image_or, named_as}
 
 -- the numbers of valid cards fill their field

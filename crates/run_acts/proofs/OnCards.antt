@@ -1,6 +1,6 @@
 -- The events of a run on a card, as one second more comes.
-use Rattle.std.proofs.Common.{◌≡◌, ◌∙◌, ℕ, Bool, true, false, cond, not, ◌||◌, List, [], ◌∷◌, ◌++◌, map, length, suc, arith, refl, sym, ap, subst, append_assoc, append-nil}
-use Rattle.std.specs.Prelude.{◌==◌, ◌&&◌, filter, flat_map, nat_lt}
+use Rattle.std.proofs.Common.{◌≡◌, ◌∙◌, ℕ, Bool, true, false, cond, List, [], ◌∷◌, ◌++◌, map, length, suc, arith, refl, sym, ap, append_assoc, append-nil}
+use Rattle.std.specs.Prelude.{◌==◌, ◌&&◌, filter, flat_map}
 use Rattle.std.specs.List.{list_all}
 use Rattle.std.proofs.lemmas.List.{map-append}
 use Rattle.std.proofs.lemmas.Grind.{flat_map-append}
@@ -19,7 +19,7 @@ use Rattle.run_events.specs.Seconds.{gap_by, seen_next}
 use Rattle.run_events.proofs.Growing.{seen-more, second-brings}
 use Rattle.run_entering.specs.CardEvents.{events_in, all_noted}
 use Rattle.run_entering.proofs.CardBrought.{noted-both}
-use Rattle.run_acts.specs.OnCards.{has_card, as_accepted, unclosed_at, unclosed_by, events_by, accepted_in, accepted_on, moved_in, gap_entry, gaps_on, events_on, is_sure_in, are_sure_on, ShowsThem, ShowsOn, NotesThem, StillShows, IsUse, AreUses}
+use Rattle.run_acts.specs.OnCards.{has_card, as_accepted, unclosed_at, unclosed_by, events_by, accepted_in, accepted_on, moved_in, gap_entry, gaps_on, events_on, is_sure_in, are_sure_on, ShowsThem, ShowsOn, NotesThem, StillShows, AreUses}
 
 -- ---- tests
 

@@ -14,9 +14,6 @@ use Rattle.run_crew.specs.Cabin.{Stands, torn_out}
 use Rattle.run_outcome.specs.declared.outcome.Outcome.{Outcome}
 use Rattle.run_keeping.specs.Keeping.{with_lines}
 use Rattle.run_recorded.specs.Origin.{Origin}
-use Rattle.run_within.specs.Within.{GoesOn}
-use Rattle.run_within.specs.Judging.{torn_values}
-use Rattle.run_within.specs.Taking.{pulled_line}
 use Rattle.run_within.proofs.Pulling.{pulled-out}
 use Rattle.run_acts.specs.declared.run.Run.{Run}
 use Rattle.run_acts.specs.Power.{with_cabin}

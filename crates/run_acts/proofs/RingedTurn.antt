@@ -1,6 +1,5 @@
 -- Seconds of one minute turn over: behind them the rings show what they noted.
 use Rattle.std.proofs.Common.{◌≡◌, ◌∙◌, ◌⊎◌, inl, inr, ⊎_elim, ℕ, zero, suc, ◌+◌, ◌-◌, ◌/◌, ◌%◌, ◌<◌, ◌≤◌, Bool, true, false, not, Option, Some, None, option_map, List, [], ◌∷◌, ◌++◌, All, length, refl, ap, sym, subst, arith, append_assoc, append-nil}
-use Rattle.std.specs.Prelude.{nat_lt}
 use Rattle.std.specs.List.{AllByRecursion}
 use Rattle.std.proofs.lemmas.Bool.{lt-ltb}
 use Rattle.std.proofs.lemmas.List.Elements.{All-nil, All-cons}
@@ -40,7 +39,7 @@ use Rattle.run_ringed.proofs.Rings.{fewer-sit}
 use Rattle.run_ringed.proofs.SoFar.{second-begins, go-on-in, second-ends, dark-ends}
 use Rattle.run_within.specs.Recorded.{Values}
 use Rattle.run_within.specs.Within.{Beginning, Within, CutWithin}
-use Rattle.run_within.specs.Turning.{last_of, before_last, turned_values, BehindFirst, IsTurned}
+use Rattle.run_within.specs.Turning.{last_of, before_last, BehindFirst, IsTurned}
 use Rattle.run_within.proofs.Turning.{turn-ends}
 use Rattle.run_acts.specs.declared.run.Run.{Run}
 use Rattle.run_acts.specs.declared.run.Power.{Power}

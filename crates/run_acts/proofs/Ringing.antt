@@ -1,21 +1,13 @@
 -- What calls write in the rings of the unit, one after another.
-use Rattle.std.proofs.Common.{◌≡◌, ◌∙◌, ◌⊎◌, inl, inr, ⊎_elim, ℕ, ◌+◌, ◌-◌, ◌≤◌, Bool, true, false, not, Option, Some, None, IfSome, is_some, List, [], ◌∷◌, length, refl, ap, sym, subst, arith}
-use Rattle.std.specs.Prelude.{Result, OnOk, is_err}
-use Rattle.tach_media.specs.Medium.{State, IsCoherent, LeavesOnly, HasCause}
-use Rattle.tach_media.proofs.Runs.{at_image, ok_gives}
+use Rattle.std.proofs.Common.{◌≡◌, ◌⊎◌, inl, inr, ⊎_elim, ℕ, ◌+◌, ◌-◌, ◌≤◌, Bool, true, false, not, Option, Some, None, IfSome, is_some, List, length, refl, ap, sym, subst, arith}
+use Rattle.tach_media.specs.Medium.{State, IsCoherent, LeavesOnly}
+use Rattle.tach_media.proofs.Runs.{at_image}
 use Rattle.gated_ring.specs.Ring.{Shape}
 use Rattle.gated_ring.specs.Change.{IsAdded, IsAdding}
 use Rattle.message_model.specs.Records.{insertion_ring, unit_place_ring}
-use Rattle.tacho_types.specs.declared.card_number.FullCardNumber.{FullCardNumber}
 use Rattle.tacho_types.specs.declared.numbers.Odometer.{Odometer}
-use Rattle.tacho_types.specs.declared.numbers.TimeReal.{TimeReal}
-use Rattle.tacho_types.specs.declared.places.PlaceEntry.{PlaceEntry}
-use Rattle.trace_model.specs.declared.Card.{Card}
-use Rattle.activity_codec.specs.declared.values.Slot.{Slot}
-use Rattle.log_model.specs.declared.lines.Break.{Break}
 use Rattle.minute_model.specs.declared.Minute.{Minute}
 use Rattle.unit_notes.specs.declared.unit_event.UnitEvent.{UnitEvent}
-use Rattle.unit_notes.specs.Entries.{unit_place_bytes}
 use Rattle.unit_notes.specs.Noting.{IsEventNoted, IsNotingEvent, IsOverNoted, IsNotingOver, IsWithdrawn, IsWithdrawing, with_first, with_one_more}
 use Rattle.event_model.specs.declared.kinds.TheConstants.{OVER_SPEEDING, DRIVING_WITHOUT_CARD}
 use Rattle.event_notes.proofs.Frames.{first-outside, more-outside}
@@ -24,20 +16,19 @@ use Rattle.run_crew.specs.declared.cards.Accepted.{Accepted}
 use Rattle.run_notes.specs.declared.watch.Ended.{Ended}
 use Rattle.run_notes.specs.Noting.{IsBareNoted, IsNotingBare, IsFastNoted, IsNotingFast, AreNoted, AreBeingNoted}
 use Rattle.run_notes.specs.Watching.{BareWith, OverWith, bare_ended, over_ended}
-use Rattle.run_outcome.specs.Lines.{Listed}
 use Rattle.run_outcome.specs.declared.outcome.Outcome.{Outcome}
 use Rattle.run_rings.proofs.Same.{same-rings, then-same, outside-both, table-outside, rings-then}
-use Rattle.run_ringed.specs.Ringed.{HasSameRings, LeavesRings, Around, WritesImages, Seating, MayBeAdded, IsWithdrawnAt, MayBeWithdrawn}
+use Rattle.run_ringed.specs.Ringed.{HasSameRings, LeavesRings, WritesImages, Seating, MayBeAdded, IsWithdrawnAt, MayBeWithdrawn}
 use Rattle.run_told.proofs.Parts.{told-one}
 use Rattle.run_keeping.specs.declared.keeper.Moment.{Moment}
-use Rattle.run_keeping.specs.Faults.{faults_to, TellsFaults, NotesFaults}
+use Rattle.run_keeping.specs.Faults.{faults_to}
 use Rattle.run_keeping.proofs.Faults.{tells-rings, faults-leave}
 use Rattle.run_acts.specs.declared.run.Run.{Run}
-use Rattle.run_acts.specs.Turning.{IsLitTurn, late_moment, told_of}
-use Rattle.run_acts.specs.Faults.{NotesSettling, EndsTo, NotesEnded, NotesKeeping, NotesTurn}
+use Rattle.run_acts.specs.Turning.{late_moment, told_of}
+use Rattle.run_acts.specs.Faults.{NotesSettling, EndsTo, NotesKeeping, NotesTurn}
 use Rattle.run_acts.proofs.KeptEvents.{as-long, tells-long}
 use Rattle.run_acts.specs.Acting.{Closing, Bare, Closed, Fell}
-use Rattle.run_acts.specs.Ringing.{AddsPlace, WritesPlace, Withdraws, ClosesRings}
+use Rattle.run_acts.specs.Ringing.{AddsPlace, Withdraws, ClosesRings}
 
 -- ---- one call after another
 

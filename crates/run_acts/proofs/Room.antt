@@ -1,12 +1,11 @@
 -- The room behind a turn.
-use Rattle.std.proofs.Common.{◌≡◌, ◌∙◌, ℕ, ◌+◌, ◌-◌, ◌*◌, ◌/◌, ◌%◌, ◌<◌, ◌≤◌, Bool, true, false, length, refl, ap, sym, subst, arith}
-use Rattle.run_crew.specs.declared.cabin.Cabin.{Cabin}
+use Rattle.std.proofs.Common.{◌≡◌, ◌∙◌, ℕ, ◌+◌, ◌-◌, ◌*◌, ◌/◌, ◌%◌, ◌<◌, ◌≤◌, true, false, length, refl, ap, sym, subst, arith}
 use Rattle.run_outcome.specs.declared.outcome.Outcome.{Outcome}
 use Rattle.run_acts.specs.declared.run.Run.{Run}
 use Rattle.run_acts.specs.declared.run.Power.{Power}
 use Rattle.run_acts.specs.declared.run.Power.TheVariants.{Lit, Due, Lost}
 use Rattle.run_acts.specs.Power.{is_lit}
-use Rattle.run_acts.specs.Room.{waiting, waiting_of, falls_of, bare_seats, finds_due, cuts_from, cuts_within, HasRoom, HasRoomWithin}
+use Rattle.run_acts.specs.Room.{waiting, falls_of, finds_due, cuts_from, cuts_within, HasRoom, HasRoomWithin}
 use Rattle.run_acts.proofs.Torn.{bare-two}
 
 -- what a turn takes of the room: three marks for each minute that it decides, and at most the break of a cut

@@ -1,5 +1,5 @@
 -- A decided minute is kept in the keeping of a second, and cards may be torn out: log, slots, standings and marks behind it.
-use Rattle.std.proofs.Common.{◌≡◌, ◌⊎◌, inl, inr, ⊎_elim, ℕ, zero, suc, ◌+◌, ◌*◌, ◌/◌, ◌≤◌, ◌<◌, Bool, true, false, cond, Option, Some, None, IfSome, is_some, List, [], ◌∷◌, ◌++◌, All, Contains, filter, length, map, refl, ap, sym, subst, ◌∙◌, arith, append-nil}
+use Rattle.std.proofs.Common.{◌≡◌, ◌⊎◌, inl, inr, ⊎_elim, ℕ, suc, ◌+◌, ◌*◌, ◌/◌, ◌≤◌, ◌<◌, Bool, true, false, cond, Option, Some, None, is_some, List, [], ◌∷◌, ◌++◌, Contains, filter, map, refl, ap, sym, subst, ◌∙◌, arith, append-nil}
 use Rattle.std.specs.Prelude.{if◌then◌else◌, option_to_list}
 use Rattle.std.proofs.lemmas.List.Elements.{All-nil, All-push, Contains-push, Contains-append_left, Contains-append_cases}
 use Rattle.activity_codec.specs.declared.entries.Entry.{Entry}
@@ -9,39 +9,34 @@ use Rattle.trace_model.specs.declared.Card.{Card}
 use Rattle.trace_model.specs.declared.Card.TheVariants.{A, B}
 use Rattle.trace_model.specs.Trace.{TraceSecond}
 use Rattle.run_model.specs.declared.Device.{Device}
-use Rattle.run_model.specs.declared.Device.TheVariants.{Unit as Recorder}
 use Rattle.minute_model.specs.declared.Minute.{Minute}
 use Rattle.log_model.specs.declared.lines.Mark.{Mark}
 use Rattle.log_model.specs.Log.{RunLog}
 use Rattle.log_model.specs.Slots.{same_card}
 use Rattle.log_model.specs.Causes.{device_of}
-use Rattle.log_model.specs.Course.{Told as Seconds, Course, Visit, went}
+use Rattle.log_model.specs.Course.{Told as Seconds, Course, Visit}
 use Rattle.history_model.specs.Minutes.{HistoryMinute, Seat as HistorySeat, is_crew, entry_in, on_card}
 use Rattle.history_model.specs.History.{seated}
 use Rattle.history_model.specs.Completeness.{IsMarked}
-use Rattle.card_image.specs.Own.{IsOwnValid}
-use Rattle.card_session.specs.declared.session.Kept.{Kept}
 use Rattle.joint_rule.specs.Rules.{Standing}
 use Rattle.slot_machine.specs.declared.seats.Present.{Present}
 use Rattle.slot_machine.specs.declared.seats.Ended.{Ended}
 use Rattle.slot_machine.specs.Calls.{present_in}
 use Rattle.run_crew.specs.declared.cards.Accepted.{Accepted}
-use Rattle.run_crew.specs.declared.cards.Cards.{Cards}
 use Rattle.run_crew.specs.declared.cabin.Cabin.{Cabin}
-use Rattle.run_crew.specs.Cards.{session_of, with_session}
+use Rattle.run_crew.specs.Cards.{session_of}
 use Rattle.run_crew.specs.Cabin.{AreTwo}
 use Rattle.run_crew.proofs.Sessions.{same_is, session_apart}
-use Rattle.run_rule.specs.Found.{found_of}
-use Rattle.run_course.specs.Presence.{SlotsTell, present_at as present_by}
+use Rattle.run_course.specs.Presence.{present_at as present_by}
 use Rattle.run_course.proofs.Presence.{minutes-kept}
 use Rattle.run_moments.specs.Kept.{BrokenSince, StaysOut, AreMarkedSoFar}
 use Rattle.run_moments.proofs.Kept.{one-marked, marks-stay}
-use Rattle.run_present.specs.Presence.{PresentStand, StandsIn, IsIn}
+use Rattle.run_present.specs.Presence.{StandsIn, IsIn}
 use Rattle.run_present.proofs.Presence.{step-leaves}
 use Rattle.run_recorded.specs.Origin.{Origin, start_at}
 use Rattle.run_keeping.specs.declared.keeper.Keeper.{Keeper}
 use Rattle.run_keeping.specs.Keeping.{Fate, Still, Has, Fell, is_this, cabin_by, breaks_by, marks_by, session_at, kept_in, IsFateOf}
-use Rattle.run_keeping.specs.Minutes.{Round, IsRound, Told, cabin_after, marks_after, breaks_after, unit_mark, or_nobody, present_at, minute_of}
+use Rattle.run_keeping.specs.Minutes.{Round, IsRound, Told, cabin_after, unit_mark, or_nobody, present_at, minute_of}
 use Rattle.run_keeping.specs.Books.{standing_by, fate_of}
 use Rattle.run_keeping.specs.Decided.{decided_minute}
 use Rattle.run_keeping.proofs.Counts.{past-by}

@@ -1,43 +1,38 @@
 -- The keeping of some minutes begins: how far it has gone, and what may be booked.
-use Rattle.std.proofs.Common.{◌≡◌, ◌⊎◌, inl, inr, ⊎_elim, ℕ, zero, suc, ◌+◌, ◌-◌, ◌*◌, ◌/◌, ◌≤◌, ◌<◌, Bool, true, false, Option, Some, None, IfSome, is_some, List, [], ◌∷◌, ◌++◌, All, Contains, length, map, refl, ap, sym, subst, ◌∙◌, arith, append_assoc, length-append}
+use Rattle.std.proofs.Common.{◌≡◌, ◌⊎◌, inl, inr, ⊎_elim, ℕ, zero, suc, ◌+◌, ◌-◌, ◌/◌, ◌≤◌, ◌<◌, false, Option, Some, List, [], ◌∷◌, ◌++◌, All, length, map, refl, ap, sym, subst, ◌∙◌, arith, append_assoc, length-append}
 use Rattle.std.proofs.lemmas.List.{length-map}
 use Rattle.std.proofs.lemmas.List.Elements.{All-nil, All-cons, All-head, All-tail}
 use Rattle.activity_codec.specs.declared.entries.Entry.{Entry}
-use Rattle.trace_model.specs.declared.Card.{Card}
 use Rattle.trace_model.specs.Trace.{TraceSecond}
 use Rattle.minute_model.specs.declared.Minute.{Minute}
 use Rattle.minute_model.specs.Span.{count_from, decided_in, ungiven_of}
 use Rattle.minute_model.proofs.Counted.{decided-minutes}
-use Rattle.log_model.specs.declared.lines.Mark.{Mark}
 use Rattle.log_model.specs.Log.{RunLog, Keeping}
 use Rattle.log_model.specs.Course.{Told as Second, Course, went}
 use Rattle.history_model.specs.Minutes.{HistoryMinute, on_card}
 use Rattle.history_model.specs.History.{decided_of}
 use Rattle.card_image.specs.Own.{IsOwnValid}
 use Rattle.joint_rule.specs.Rules.{Standing, In, IsPresent}
-use Rattle.unit_course.specs.Turn.{begins_with, span_at}
+use Rattle.unit_course.specs.Turn.{begins_with}
 use Rattle.safety_model.specs.Safe.{Devices, card_of, breakdowns_of}
 use Rattle.tach_media.specs.Medium.{State}
 use Rattle.slot_machine.specs.declared.seats.Present.{Present}
 use Rattle.slot_machine.specs.Calls.{present_in}
 use Rattle.run_crew.specs.declared.cards.Accepted.{Accepted}
-use Rattle.run_crew.specs.Cards.{session_of}
 use Rattle.run_rule.specs.Found.{CardFound, found_of}
-use Rattle.run_rule.specs.Between.{Carried}
 use Rattle.run_course.specs.Followed.{Progress, Followed}
-use Rattle.run_course.specs.Presence.{present_at as present_by}
 use Rattle.run_course.specs.Seconds.{GoesOnBy, AreNew, next_told}
 use Rattle.run_course.proofs.New.{are-new}
 use Rattle.run_moments.specs.Moment.{goes_on}
 use Rattle.run_moments.specs.Telling.{told_with}
 use Rattle.run_moments.proofs.Telling.{second-ends_told}
 use Rattle.run_moments.proofs.Kept.{second-decided}
-use Rattle.run_present.specs.Presence.{StandsIn, SessionsStand}
+use Rattle.run_present.specs.Presence.{SessionsStand}
 use Rattle.run_present.proofs.Presence.{minute-says}
-use Rattle.run_told.specs.Told.{IsOn, GoesWith}
+use Rattle.run_told.specs.Told.{GoesWith}
 use Rattle.run_recorded.specs.Origin.{Origin, rule_of, start_at, first_of}
 use Rattle.run_keeping.specs.Minutes.{Told, or_nobody, present_at}
-use Rattle.run_keeping.specs.Decided.{MayBookAll, MayAllCome, decided_minute}
+use Rattle.run_keeping.specs.Decided.{MayBookAll, decided_minute}
 use Rattle.run_within.specs.Recorded.{Values}
 use Rattle.run_within.specs.Within.{told_before, course_in}
 use Rattle.run_acts.specs.Rounds.{Point, Outset, told_values, keeping_of, SoFar}

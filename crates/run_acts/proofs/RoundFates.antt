@@ -1,7 +1,6 @@
 -- What became of the entry of a card that was present, in the keeping of a second: the slots, the log and the standings behind it.
-use Rattle.std.proofs.Common.{◌≡◌, ◌⊎◌, inl, inr, ⊎_elim, ℕ, zero, suc, ◌+◌, ◌/◌, ◌≤◌, ◌<◌, Bool, true, false, Option, Some, None, IfSome, is_some, List, [], ◌∷◌, ◌++◌, ◌||◌, All, Contains, length, map, refl, ap, sym, subst, ◌∙◌, arith, append-nil}
+use Rattle.std.proofs.Common.{◌≡◌, ◌⊎◌, inl, inr, ⊎_elim, ℕ, suc, ◌+◌, ◌/◌, ◌≤◌, ◌<◌, Bool, true, false, Option, Some, None, IfSome, is_some, List, [], ◌∷◌, ◌++◌, Contains, map, refl, ap, sym, subst, ◌∙◌, arith, append-nil}
 use Rattle.std.specs.Prelude.{if◌then◌else◌}
-use Rattle.std.specs.List.{list_any}
 use Rattle.std.proofs.lemmas.List.Elements.{Contains-push}
 use Rattle.activity_codec.specs.declared.values.Slot.{Slot}
 use Rattle.activity_codec.specs.declared.values.Slot.TheVariants.{Driver, CoDriver}
@@ -14,27 +13,25 @@ use Rattle.log_model.specs.declared.lines.Break.{Break}
 use Rattle.log_model.specs.Log.{RunLog, Phase, is_torn_in}
 use Rattle.log_model.specs.Slots.{Slots, Sitting, same_card, in_slot}
 use Rattle.log_model.specs.Causes.{device_of, RoseBy}
-use Rattle.log_model.specs.Course.{Told, Course, Visit, Before, visits, card_in, with_slot, went}
+use Rattle.log_model.specs.Course.{Told, Course, Visit, Before, visits, card_in, went}
 use Rattle.history_model.specs.Minutes.{HistoryMinute}
-use Rattle.history_model.specs.Presence.{Start, in_minute}
 use Rattle.card_image.specs.Own.{IsOwnValid}
 use Rattle.card_session.specs.declared.session.Kept.{Kept}
-use Rattle.joint_rule.specs.Rules.{Standing, In, Out, Torn}
+use Rattle.joint_rule.specs.Rules.{Standing, In}
 use Rattle.slot_machine.specs.declared.seats.Seat.{Seat}
-use Rattle.slot_machine.specs.declared.seats.Lefts.{Lefts}
 use Rattle.slot_machine.specs.declared.seats.Present.{Present}
-use Rattle.slot_machine.specs.Calls.{Seats, seat_in, is_card, present_in}
+use Rattle.slot_machine.specs.Calls.{seat_in, is_card, present_in}
 use Rattle.slot_machine.specs.Kept.{Kept as Slate_, SitsSince, SitStill, with_left, left_of, taken}
 use Rattle.slot_machine.proofs.Newest.{found_sits}
 use Rattle.run_crew.specs.declared.cards.Accepted.{Accepted}
 use Rattle.run_crew.specs.declared.cards.Cards.{Cards}
 use Rattle.run_crew.specs.declared.cabin.Cabin.{Cabin}
 use Rattle.run_crew.specs.Cards.{session_of, with_session}
-use Rattle.run_crew.specs.Cabin.{SitsNowhere, slot_with, left_from, torn_out}
+use Rattle.run_crew.specs.Cabin.{SitsNowhere, left_from, torn_out}
 use Rattle.run_crew.proofs.Sessions.{same_self, same_is, session_set, session_apart}
 use Rattle.run_rule.specs.Found.{found_of}
 use Rattle.run_course.specs.Moments.{and_break}
-use Rattle.run_course.specs.Presence.{SitsAs, SlotsTell}
+use Rattle.run_course.specs.Presence.{SlotsTell}
 use Rattle.run_course.specs.Within.{IsTornFrom}
 use Rattle.run_course.proofs.Within.{tear-tells}
 use Rattle.run_moments.specs.Reached.{moved_at, IsTearAt}
@@ -44,12 +41,12 @@ use Rattle.run_moments.specs.Telling.{BrokeDown}
 use Rattle.run_moments.specs.Kept.{StaysOut}
 use Rattle.run_moments.proofs.Lines.{who-sits}
 use Rattle.run_moments.proofs.Telling.{card-torn}
-use Rattle.run_present.specs.Presence.{PresentStand, SessionsStand, StaysSo, HasMore, IsTornOut, sits}
+use Rattle.run_present.specs.Presence.{SessionsStand, StaysSo, HasMore, IsTornOut, sits}
 use Rattle.run_present.proofs.Presence.{step-leaves}
 use Rattle.run_recorded.specs.Origin.{Origin, start_at}
 use Rattle.run_keeping.specs.Keeping.{Fate, Still, Has, Fell, is_this, cabin_by, breaks_by, tear_of, session_at, card_in as present_of, IsFateOf, tears_of}
 use Rattle.run_keeping.specs.Books.{standing_by}
-use Rattle.run_within.specs.Within.{Beginning, told_before, course_in, IsLeaving, AreBackAt}
+use Rattle.run_within.specs.Within.{Beginning, told_before, course_in, IsLeaving}
 use Rattle.run_within.specs.Recorded.{GoesOnIn}
 use Rattle.run_within.proofs.Back.{low-too}
 use Rattle.run_within.proofs.Moved.{not-leaving}

@@ -1,8 +1,7 @@
 -- What the tears of a keeping add to the events of its second: the faults of the cards.
-use Rattle.std.proofs.Common.{◌≡◌, ◌∙◌, ◌⊎◌, inl, inr, ⊎_elim, ℕ, zero, suc, ◌+◌, ◌/◌, ◌^◌, ◌≤◌, ◌<◌, Bool, true, false, Option, Some, None, IfSome, is_some, List, [], ◌∷◌, ◌++◌, ◌||◌, All, length, map, refl, ap, sym, subst, arith, append-nil, append_assoc, length-append}
+use Rattle.std.proofs.Common.{◌≡◌, ◌∙◌, ◌⊎◌, inl, inr, ⊎_elim, ℕ, zero, suc, ◌+◌, ◌/◌, ◌^◌, ◌≤◌, ◌<◌, Bool, true, false, Option, Some, None, IfSome, List, [], ◌∷◌, ◌++◌, length, map, refl, ap, sym, subst, arith, append-nil}
 use Rattle.std.specs.Prelude.{slice_get}
-use Rattle.std.specs.List.{AllByRecursion}
-use Rattle.std.proofs.lemmas.List.Elements.{All-head, All-tail}
+use Rattle.std.proofs.lemmas.List.Elements.{All-head}
 use Rattle.activity_codec.specs.declared.values.Slot.{Slot}
 use Rattle.activity_codec.specs.declared.values.Slot.TheVariants.{Driver, CoDriver}
 use Rattle.trace_model.specs.declared.Card.{Card}
@@ -19,7 +18,7 @@ use Rattle.log_model.specs.declared.lines.Mark.{Mark}
 use Rattle.log_model.specs.declared.lines.SlotFault.{SlotFault}
 use Rattle.log_model.specs.Log.{RunLog, Phase, In, Keeping, is_torn_in, found_in}
 use Rattle.log_model.specs.Slots.{Slots, other_slot}
-use Rattle.log_model.specs.Course.{Course, Before, Visit, moved_by, went}
+use Rattle.log_model.specs.Course.{Course, Before, moved_by, went}
 use Rattle.history_model.specs.Minutes.{HistoryMinute}
 use Rattle.joint_rule.specs.Rules.{Standing}
 use Rattle.slot_machine.specs.declared.seats.Present.{Present}
@@ -33,10 +32,10 @@ use Rattle.run_rule.specs.Between.{Carried}
 use Rattle.run_crew.specs.declared.cards.Accepted.{Accepted}
 use Rattle.run_crew.specs.declared.cards.Cards.{Cards}
 use Rattle.run_crew.specs.declared.cabin.Cabin.{Cabin}
-use Rattle.run_crew.specs.Cards.{known_of, session_of, with_session}
+use Rattle.run_crew.specs.Cards.{session_of}
 use Rattle.run_crew.specs.Cabin.{AreTwo, torn_out}
 use Rattle.run_moments.specs.Moment.{goes_on}
-use Rattle.run_moments.specs.Reached.{moved_at, moved_with, course_at, Reaches, IsTearAt}
+use Rattle.run_moments.specs.Reached.{moved_at, moved_with, Reaches, IsTearAt}
 use Rattle.run_course.specs.Moments.{and_break}
 use Rattle.run_course.proofs.Lookups.{break-more}
 use Rattle.run_recorded.specs.Origin.{Origin, start_at}
@@ -52,7 +51,7 @@ use Rattle.run_evented.proofs.Falling.{tear-adds}
 use Rattle.run_keeping.specs.declared.keeper.Keeper.{Keeper}
 use Rattle.run_keeping.specs.Keeping.{Fate, Still, Has, Fell, IsFateOf, cabin_by, breaks_by, tear_of, session_at, kept_in, card_in as present_of}
 use Rattle.run_keeping.specs.Minutes.{Round, IsRound, Told, Done, Reach, Whole, Short, AreRounds, IsReach, told_after, told_by, cabin_after, present_at, minute_of}
-use Rattle.run_keeping.specs.Faults.{faults_by, round_faults, last_faults, faults_of, faults_to}
+use Rattle.run_keeping.specs.Faults.{faults_by, round_faults, faults_of, faults_to}
 use Rattle.activity_codec.specs.Activity.{same_slot}
 use Rattle.tacho_types.specs.declared.card_number.FullCardNumber.{FullCardNumber}
 use Rattle.tacho_types.specs.CardNumber.{card_number_bytes}
@@ -88,18 +87,18 @@ use Rattle.run_acts.proofs.KeptEvents.{faults-noted}
 use Rattle.run_acts.proofs.Numbers.{notes-at}
 use Rattle.run_acts.specs.Acting.{IsBareIn}
 use Rattle.run_acts.specs.NotedEvents.{AreTold}
-use Rattle.run_acts.specs.EventCrews.{AreKnownBy, fault_events}
+use Rattle.run_acts.specs.EventCrews.{AreKnownBy}
 use Rattle.run_acts.specs.Evented.{IsUntold}
 use Rattle.run_acts.specs.Recording.{IsOrigin}
 use Rattle.run_acts.specs.Rounds.{Point, Outset, told_values, moment_of, and_breaks, StandsOrFell, Slate, HasBrokenDown, HaveBroken, SoFar}
 use Rattle.run_acts.specs.RoundLaws.{InRounds, KeepsSo, HaveBrokenOff, AreGone, carried_at}
-use Rattle.run_acts.proofs.Bare.{fate-bare, still-bare}
+use Rattle.run_acts.proofs.Bare.{fate-bare}
 use Rattle.run_acts.proofs.EventCrews.{AllSitWell, torn-sits, torn-leaves, sessions-known, faults-told}
 use Rattle.run_acts.specs.Named.{CrewValid, NamesValid}
 use Rattle.run_acts.proofs.Named.{both-valid, crew-valid, without-valid}
 use Rattle.run_acts.proofs.Sitting.{SameNumbers, fate-well, fate-numbers}
 use Rattle.run_acts.proofs.RoundLeaving.{slots-or, torn-apart}
-use Rattle.run_acts.proofs.RoundFates.{fate-behind, Behind, IsOut, out-is}
+use Rattle.run_acts.proofs.RoundFates.{IsOut, out-is}
 use Rattle.run_acts.proofs.Round.{unit-slate, there, stands, first-fate, second-is, there1}
 use Rattle.run_keeping.specs.Later.{RestBy}
 use Rattle.run_acts.proofs.Rising.{fell-more}

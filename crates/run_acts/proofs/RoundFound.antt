@@ -1,15 +1,13 @@
 -- What was found of the cards stays, whatever becomes of their sessions.
-use Rattle.std.proofs.Common.{◌≡◌, ℕ, Option, Some, None, IfSome, is_some, true, refl, subst, sym}
+use Rattle.std.proofs.Common.{◌≡◌, ℕ, Option, Some, None, IfSome, is_some, true, subst, sym}
 use Rattle.trace_model.specs.declared.Card.{Card}
-use Rattle.trace_model.specs.declared.Card.TheVariants.{A, B}
 use Rattle.tacho_types.specs.CardNumber.{card_number_bytes}
 use Rattle.tacho_types.specs.declared.card_number.FullCardNumber.{FullCardNumber}
-use Rattle.card_image.specs.Own.{IsOwnValid}
 use Rattle.slot_machine.specs.declared.seats.Present.{Present}
 use Rattle.run_crew.specs.declared.cards.Accepted.{Accepted}
 use Rattle.run_crew.specs.declared.cards.Cards.{Cards}
 use Rattle.run_crew.specs.declared.cabin.Cabin.{Cabin}
-use Rattle.run_crew.specs.Cards.{known_of, with_session}
+use Rattle.run_crew.specs.Cards.{with_session}
 use Rattle.run_rule.specs.Found.{Found, found_of}
 use Rattle.run_told.specs.Told.{AreFoundCards}
 use Rattle.run_keeping.specs.Keeping.{Fate, Still, Has, Fell, cabin_by}

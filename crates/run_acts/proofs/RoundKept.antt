@@ -1,27 +1,20 @@
 -- A keeping is recorded, as far as it came.
-use Rattle.std.proofs.Common.{◌≡◌, ◌⊎◌, inl, inr, ⊎_elim, ℕ, ◌+◌, ◌-◌, ◌≤◌, Bool, true, false, Option, Some, None, is_some, List, [], ◌∷◌, ◌++◌, length, map, refl, ap, sym, subst, ◌∙◌, arith, append-nil}
+use Rattle.std.proofs.Common.{◌≡◌, ◌⊎◌, inl, inr, ⊎_elim, ℕ, ◌+◌, ◌-◌, true, false, Option, Some, None, is_some, List, [], ◌++◌, length, map, refl, ap, sym, subst, ◌∙◌, arith, append-nil}
 use Rattle.std.proofs.lemmas.Bool.{cases_lt}
 use Rattle.std.proofs.lemmas.List.{length-map}
-use Rattle.trace_model.specs.declared.Card.{Card}
 use Rattle.trace_model.specs.declared.Card.TheVariants.{A, B}
-use Rattle.trace_model.specs.Trace.{TraceSecond}
 use Rattle.tach_media.specs.Medium.{State, HasBroken}
-use Rattle.run_model.specs.declared.Device.TheVariants.{Unit as Recorder}
 use Rattle.minute_model.specs.declared.Minute.{Minute}
 use Rattle.log_model.specs.Causes.{RoseBy}
 use Rattle.safety_model.specs.Safe.{Devices, breakdowns_of}
-use Rattle.unit_model.specs.Image.{odometer_at}
-use Rattle.unit_course.specs.Legs.{all_travelled}
 use Rattle.run_crew.specs.declared.cards.Accepted.{Accepted}
-use Rattle.run_recorded.specs.Origin.{Origin}
 use Rattle.run_keeping.specs.Keeping.{tears_of}
-use Rattle.run_keeping.specs.Minutes.{Round, Told, Done, Reach, Whole, Short, IsReach, told_by}
+use Rattle.run_keeping.specs.Minutes.{Told, Done, Whole, Short, told_by}
 use Rattle.run_keeping.specs.Books.{AreBooked}
 use Rattle.run_keeping.specs.Decided.{carried_by}
-use Rattle.run_within.specs.Recorded.{Values}
 use Rattle.run_within.specs.Within.{CutWithin}
-use Rattle.run_acts.specs.Rounds.{Point, told_values, moment_of, HaveBroken}
-use Rattle.run_acts.specs.RoundLaws.{GoOn, carried_at, KeepsSo, LeaveStill, AreGone, HaveBrokenOff, IsKeptTo, TheKeepingIsRecorded, TheNoteFails}
+use Rattle.run_acts.specs.Rounds.{told_values, moment_of}
+use Rattle.run_acts.specs.RoundLaws.{GoOn, carried_at, LeaveStill, AreGone, HaveBrokenOff, TheKeepingIsRecorded, TheNoteFails}
 use Rattle.run_keeping.specs.Later.{RestBy}
 use Rattle.run_acts.proofs.RoundWhole.{minutes-kept_so, leave-still}
 use Rattle.run_acts.proofs.RoundCut.{keeping-fails, cut-behind}

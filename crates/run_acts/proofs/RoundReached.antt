@@ -1,41 +1,34 @@
 -- Decided minutes are kept one after another in the keeping of a second: how far log, slots, standings, marks and book have gone.
-use Rattle.std.proofs.Common.{◌≡◌, ◌⊎◌, inl, inr, ⊎_elim, ℕ, zero, suc, ◌+◌, ◌*◌, ◌/◌, ◌≤◌, ◌<◌, Bool, true, false, Option, Some, None, IfSome, is_some, List, [], ◌∷◌, ◌++◌, All, Contains, length, map, refl, ap, sym, subst, ◌∙◌, arith, append-nil, append_assoc, length-append}
+use Rattle.std.proofs.Common.{◌≡◌, ◌⊎◌, ⊎_elim, ℕ, suc, ◌+◌, ◌/◌, ◌≤◌, ◌<◌, Bool, true, false, List, [], ◌∷◌, ◌++◌, length, map, refl, ap, sym, subst, ◌∙◌, arith, append_assoc, length-append}
 use Rattle.std.proofs.lemmas.List.Elements.{All-head, All-tail}
-use Rattle.activity_codec.specs.declared.values.Slot.TheVariants.{Driver, CoDriver}
+use Rattle.activity_codec.specs.declared.values.Slot.TheVariants.{CoDriver}
 use Rattle.trace_model.specs.declared.Card.{Card}
 use Rattle.trace_model.specs.Trace.{TraceSecond}
 use Rattle.run_model.specs.declared.Device.{Device}
 use Rattle.minute_model.specs.declared.Minute.{Minute}
-use Rattle.minute_model.specs.Span.{Span, count_from, ungiven_of}
+use Rattle.minute_model.specs.Span.{Span, count_from}
 use Rattle.log_model.specs.declared.lines.Mark.{Mark}
 use Rattle.log_model.specs.Log.{RunLog}
 use Rattle.log_model.specs.Course.{Course}
 use Rattle.history_model.specs.Minutes.{HistoryMinute}
 use Rattle.history_model.specs.History.{seated}
 use Rattle.history_model.specs.Book.{Book, kept}
-use Rattle.joint_rule.specs.Rules.{Standing}
-use Rattle.unit_course.specs.Legs.{Travel, travelled, all_travelled}
-use Rattle.unit_course.specs.Turn.{span_at}
+use Rattle.unit_course.specs.Legs.{travelled, all_travelled}
 use Rattle.slot_machine.specs.declared.seats.Present.{Present}
-use Rattle.run_crew.specs.declared.cards.Cards.{Cards}
-use Rattle.run_crew.specs.declared.cabin.Cabin.{Cabin}
 use Rattle.run_crew.specs.Cabin.{AreTwo}
 use Rattle.run_rule.specs.Between.{Carried}
-use Rattle.run_rule.specs.Found.{Found}
 use Rattle.run_course.specs.Seconds.{kept_all}
 use Rattle.run_moments.specs.Kept.{HasDecided, AreMarkedSoFar}
 use Rattle.run_moments.proofs.Kept.{minute-kept, nothing-else, one-travelled}
-use Rattle.run_told.specs.Told.{AreFoundCards, AreEarly}
 use Rattle.run_recorded.specs.Origin.{Origin, rule_of, start_at}
 use Rattle.run_keeping.specs.declared.keeper.Keeper.{Keeper}
-use Rattle.run_keeping.specs.Keeping.{Fate, Still, Has, Fell, cabin_by, session_at, kept_in, breaks_by, IsFateOf}
-use Rattle.run_keeping.specs.Minutes.{Round, IsRound, Told, Done, AreRounds, told_after, told_by, cabin_after, present_at, minute_of}
+use Rattle.run_keeping.specs.Keeping.{cabin_by, session_at, kept_in, IsFateOf}
+use Rattle.run_keeping.specs.Minutes.{Round, IsRound, Told, Done, AreRounds, told_after, told_by, present_at, minute_of}
 use Rattle.run_keeping.specs.Books.{carried_after}
 use Rattle.run_keeping.specs.Decided.{decided_minute, carried_by}
-use Rattle.run_keeping.proofs.Sessions.{number-set}
 use Rattle.run_within.specs.Recorded.{Values}
 use Rattle.run_within.specs.Within.{Beginning, told_before, course_in}
-use Rattle.run_acts.specs.Rounds.{Point, Outset, told_values, moment_of, and_breaks, Slate, OnlyTears, HasBrokenDown, HaveBroken, SoFar}
+use Rattle.run_acts.specs.Rounds.{Point, Outset, told_values, moment_of, Slate, OnlyTears, HasBrokenDown, HaveBroken, SoFar}
 use Rattle.run_acts.proofs.RoundFound.{found-after}
 use Rattle.run_acts.proofs.Round.{minute-is, round-slate, round-same, round-past, round-marked, marks-on, tears-on}
 

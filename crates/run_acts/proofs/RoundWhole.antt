@@ -1,12 +1,12 @@
 -- Decided minutes are kept at a point of a second, and cards may be torn out: the record within the second behind them.
-use Rattle.std.proofs.Common.{◌≡◌, ◌⊎◌, inl, inr, ⊎_elim, ℕ, zero, suc, ◌+◌, ◌*◌, ◌/◌, ◌≤◌, ◌<◌, Bool, true, false, Option, Some, None, IfSome, is_some, List, [], ◌∷◌, ◌++◌, Contains, length, map, refl, ap, sym, subst, ◌∙◌, arith}
+use Rattle.std.proofs.Common.{◌≡◌, ◌⊎◌, inl, inr, ⊎_elim, ℕ, ◌+◌, ◌/◌, ◌≤◌, List, ◌++◌, Contains, length, map, refl, ap, sym, subst, ◌∙◌, arith}
 use Rattle.activity_codec.specs.declared.values.Slot.{Slot}
 use Rattle.trace_model.specs.declared.Card.{Card}
 use Rattle.trace_model.specs.Trace.{TraceSecond}
 use Rattle.minute_model.specs.declared.Minute.{Minute}
 use Rattle.log_model.specs.declared.lines.Mark.{Mark}
 use Rattle.log_model.specs.declared.lines.Verdict.{Verdict}
-use Rattle.log_model.specs.Log.{RunLog, Phase, is_accepting}
+use Rattle.log_model.specs.Log.{RunLog, Phase}
 use Rattle.log_model.specs.Course.{Course, Visit, Before, went}
 use Rattle.history_model.specs.Minutes.{HistoryMinute}
 use Rattle.history_model.specs.Book.{Book}
@@ -21,7 +21,6 @@ use Rattle.run_rule.specs.Between.{Carried}
 use Rattle.run_course.specs.Seconds.{kept_all}
 use Rattle.run_brought.specs.Going.{IsTakenAt}
 use Rattle.run_moments.specs.Lines.{times_of}
-use Rattle.run_moments.specs.Kept.{AreMarkedSoFar}
 use Rattle.run_moments.proofs.Telling.{breakdowns-only}
 use Rattle.run_told.specs.Told.{IsPowered}
 use Rattle.run_recorded.specs.Origin.{Origin, first_of}
@@ -31,7 +30,7 @@ use Rattle.run_keeping.specs.Minutes.{Told, Done, AreRounds, told_by}
 use Rattle.run_keeping.specs.Books.{AreBooked}
 use Rattle.run_keeping.specs.Decided.{carried_by}
 use Rattle.run_within.specs.Recorded.{Values, carried, GoesOnIn}
-use Rattle.run_within.specs.Within.{told_before, course_in, IsFoundSo, MayBeWrittenSo, IsSparedSo, IsLeaving}
+use Rattle.run_within.specs.Within.{course_in, IsFoundSo, MayBeWrittenSo, IsSparedSo, IsLeaving}
 use Rattle.run_within.proofs.Back.{low-too}
 use Rattle.run_within.proofs.Left.{verdict-left, seen-left}
 use Rattle.run_within.proofs.Written.{written-on, spared-called}

@@ -1,24 +1,22 @@
 -- The span of a second, as its events see it, and what a turn of it ends.
-use Rattle.std.proofs.Common.{◌≡◌, ◌∙◌, ℕ, suc, ◌+◌, ◌≤◌, ◌<◌, Bool, true, false, cond, not, Option, Some, None, List, [], ◌∷◌, ◌++◌, length, refl, ap, sym, subst, arith}
+use Rattle.std.proofs.Common.{◌≡◌, ◌∙◌, ℕ, ◌+◌, Bool, true, false, cond, Option, Some, None, List, [], ◌∷◌, ◌++◌, length, refl, ap}
 use Rattle.std.specs.Prelude.{fold, option_map, IfSome, map}
 use Rattle.std.specs.List.{AllByRecursion, cons_option, filter_map}
-use Rattle.std.proofs.lemmas.Bool.Decides.{nat_tests}
 use Rattle.activity_codec.specs.declared.values.Slot.{Slot}
 use Rattle.activity_codec.specs.declared.values.Slot.TheVariants.{Driver, CoDriver}
 use Rattle.trace_model.specs.Trace.{TraceSecond}
-use Rattle.log_model.specs.Log.{RunLog, Phase, In, Keeping, is_torn_in, found_in}
-use Rattle.log_model.specs.Slots.{Slots, Sitting, in_slot}
-use Rattle.log_model.specs.Course.{Told, Course, Before, Moved, unmoved, has_power, both_told, went}
+use Rattle.log_model.specs.Log.{RunLog, Keeping, is_torn_in}
+use Rattle.log_model.specs.Slots.{in_slot}
+use Rattle.log_model.specs.Course.{Course, Before, unmoved, both_told}
 use Rattle.event_model.specs.declared.kinds.TheConstants.{OVER_SPEEDING}
 use Rattle.event_model.specs.declared.entries.Over.{Over}
 use Rattle.event_model.specs.Runs.{run_with, last_run, runs_behind}
 use Rattle.event_model.specs.Spans.{over_of}
-use Rattle.event_model.specs.Events.{Event, Seen, course_by, seen_of, seen_by, seen_on, seen_with, seen_spans, crew_of, last_seen, run_event, bare_event, over_event, is_bare, speed_second}
+use Rattle.event_model.specs.Events.{Event, Seen, course_by, seen_of, seen_on, seen_spans, crew_of, last_seen, run_event, bare_event, over_event, is_bare, speed_second}
 use Rattle.run_moments.specs.Reached.{course_at}
 use Rattle.run_events.specs.Seconds.{last_of, span_before, seen_next, bares_by, overs_by, is_fast}
 use Rattle.run_recorded.specs.Origin.{Origin}
 use Rattle.run_events.proofs.Growing.{seen-more, spans-more}
-use Rattle.run_evented.proofs.Parts.{found_now}
 use Rattle.run_evented.proofs.Tearing.{told_slot, both-slot}
 use Rattle.run_acts.specs.Named.{CrewValid, NamesValid}
 use Rattle.run_acts.specs.Evented.{span_of}

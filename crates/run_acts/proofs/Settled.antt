@@ -1,10 +1,10 @@
 -- What a settling decides.
-use Rattle.std.proofs.Common.{◌≡◌, ◌∙◌, ℕ, ◌+◌, ◌-◌, ◌/◌, ◌<◌, ◌≤◌, List, ◌++◌, Option, refl, ap, arith}
+use Rattle.std.proofs.Common.{◌≡◌, ◌∙◌, ℕ, ◌+◌, ◌-◌, ◌/◌, ◌≤◌, List, ◌++◌, Option, refl, ap, arith}
 use Rattle.trace_model.specs.declared.Card.{Card}
 use Rattle.tach_media.specs.Medium.{State}
 use Rattle.card_layout.specs.declared.command.CardState.{CardState}
 use Rattle.minute_model.specs.declared.Minute.{Minute}
-use Rattle.minute_model.specs.Span.{Span, end_of, ungiven_of, settled, decided_in}
+use Rattle.minute_model.specs.Span.{ungiven_of, settled, decided_in}
 use Rattle.minute_model.proofs.Counted.{settled-more, ungiven-settled, ungiven-most}
 use Rattle.run_acts.specs.declared.run.Run.{Run}
 use Rattle.run_acts.specs.Going.{end_of_seconds, IsGoingOn}

@@ -1,26 +1,25 @@
 -- The minutes that a settling decides are kept in an action: what is noted of the faults of their cards.
-use Rattle.std.proofs.Common.{◌≡◌, ◌∙◌, ℕ, suc, ◌+◌, ◌/◌, ◌^◌, ◌≤◌, ◌<◌, Bool, true, false, List, [], ◌∷◌, ◌++◌, Option, Some, None, refl, ap, sym, subst, arith}
+use Rattle.std.proofs.Common.{◌≡◌, ℕ, suc, ◌+◌, ◌/◌, ◌^◌, ◌≤◌, ◌<◌, Bool, true, false, List, ◌++◌, Option, refl, subst, arith}
 use Rattle.trace_model.specs.declared.Card.{Card}
 use Rattle.trace_model.specs.Trace.{TraceSecond}
 use Rattle.card_layout.specs.declared.command.CardState.{CardState}
 use Rattle.tach_media.specs.Medium.{State, IsCoherent}
 use Rattle.minute_model.specs.declared.Minute.{Minute}
-use Rattle.minute_model.specs.Span.{Span, decided_in, settled, ungiven_of}
+use Rattle.minute_model.specs.Span.{decided_in, settled, ungiven_of}
 use Rattle.minute_rules.specs.Kept.{Kept, StandsFor}
 use Rattle.log_model.specs.declared.lines.Break.{Break}
 use Rattle.log_model.specs.declared.lines.Mark.{Mark}
-use Rattle.log_model.specs.Log.{In, Keeping}
+use Rattle.log_model.specs.Log.{In}
 use Rattle.log_model.specs.Course.{Visit}
 use Rattle.log_model.specs.Causes.{RoseBy}
 use Rattle.run_model.specs.declared.Device.TheVariants.{Unit as Recorder}
 use Rattle.unit_model.specs.Image.{IsUnit}
-use Rattle.event_model.specs.Events.{Event}
 use Rattle.safety_model.specs.Safe.{Devices, breakdowns_of}
 use Rattle.unit_notes.specs.declared.unit_event.UnitEvent.{UnitEvent}
 use Rattle.run_outcome.specs.declared.outcome.Outcome.{Outcome}
 use Rattle.run_outcome.specs.Lines.{Listed}
 use Rattle.run_recorded.specs.Origin.{Origin}
-use Rattle.run_evented.specs.Noting.{Stage, Acting, Ended}
+use Rattle.run_evented.specs.Noting.{Acting}
 use Rattle.run_evented.specs.SoFar.{EventedNow}
 use Rattle.run_evented.proofs.Adding.{call-notes}
 use Rattle.run_keeping.specs.declared.keeper.Keeper.{Keeper}

@@ -1,5 +1,5 @@
 -- A card that sits in a slot has not been withdrawn from it since it was put in.
-use Rattle.std.proofs.Common.{◌≡◌, ◌∙◌, ℕ, suc, ◌+◌, Bool, true, false, cond, ◌||◌, Option, Some, None, is_some, List, [], ◌∷◌, ◌++◌, map, take, refl, ap, sym, subst}
+use Rattle.std.proofs.Common.{◌≡◌, ◌∙◌, ℕ, ◌+◌, Bool, true, false, cond, ◌||◌, Option, Some, None, is_some, List, [], ◌∷◌, ◌++◌, map, take, refl, ap, sym}
 use Rattle.std.specs.Prelude.{not, nat_lt, option_map, flat_map}
 use Rattle.std.specs.List.{list_any}
 use Rattle.activity_codec.specs.declared.values.Slot.{Slot}
@@ -14,7 +14,7 @@ use Rattle.log_model.specs.declared.lines.SlotFault.TheVariants.{Moving, Empty}
 use Rattle.log_model.specs.declared.lines.Verdict.{Verdict}
 use Rattle.log_model.specs.Log.{RunLog, Phase, In, cut_in, is_torn_in, found_in, is_accepting}
 use Rattle.log_model.specs.Slots.{Slots, Sitting, in_slot, refusal}
-use Rattle.log_model.specs.Course.{Course, Visit, Moved, Before, visits, with_slot, leaves, answered, moved_by, slot_told, both_told, begins, is_settling, acted, all_acted, unmoved, fresh}
+use Rattle.log_model.specs.Course.{Course, Visit, Moved, Before, visits, with_slot, leaves, answered, moved_by, slot_told, both_told, begins, is_settling, acted, all_acted}
 use Rattle.side_model.specs.Done.{course_powered}
 use Rattle.event_model.specs.Events.{course_by}
 use Rattle.run_acts.specs.Words.{tried_with, tried}

@@ -1,19 +1,18 @@
 -- As minutes are kept, a card in a slot has a session exactly where it is accepted, and tells the same number.
-use Rattle.std.proofs.Common.{◌≡◌, ◌∙◌, ◌⊎◌, inl, inr, ⊎_elim, ℕ, Bool, true, false, cond, Option, Some, None, is_some, refl, ap, sym, subst}
-use Rattle.activity_codec.specs.declared.values.Slot.{Slot}
+use Rattle.std.proofs.Common.{◌≡◌, ◌∙◌, ◌⊎◌, inl, inr, ℕ, Bool, true, false, cond, Option, Some, None, is_some, refl, ap, sym}
 use Rattle.activity_codec.specs.declared.values.Slot.TheVariants.{Driver, CoDriver}
 use Rattle.trace_model.specs.declared.Card.{Card}
 use Rattle.trace_model.specs.declared.Card.TheVariants.{A, B}
 use Rattle.card_session.specs.declared.session.Kept.{Kept}
 use Rattle.log_model.specs.Slots.{same_card}
 use Rattle.slot_machine.specs.declared.seats.Seat.{Seat}
-use Rattle.slot_machine.specs.Calls.{Seats, is_card}
+use Rattle.slot_machine.specs.Calls.{is_card}
 use Rattle.slot_machine.specs.Kept.{Kept as Slots}
 use Rattle.run_crew.specs.declared.cards.Accepted.{Accepted}
 use Rattle.run_crew.specs.declared.cards.Cards.{Cards}
 use Rattle.run_crew.specs.declared.cabin.Cabin.{Cabin}
 use Rattle.run_crew.specs.Cards.{known_of, session_of, with_session}
-use Rattle.run_crew.specs.Cabin.{left_from, slot_with, torn_out}
+use Rattle.run_crew.specs.Cabin.{left_from}
 use Rattle.run_keeping.specs.Keeping.{Fate, Still, Has, Fell, IsFateOf, cabin_by, session_at}
 use Rattle.run_keeping.proofs.Sessions.{number-set}
 use Rattle.run_acts.proofs.Bare.{has-one}

@@ -1,5 +1,5 @@
 -- What is known of a run where power is lost, goes on, or comes back.
-use Rattle.std.proofs.Common.{◌≡◌, ◌∙◌, ℕ, zero, suc, ◌+◌, ◌-◌, ◌/◌, ◌%◌, ◌==◌, ◌<◌, ◌≤◌, Bool, true, false, Option, Some, None, Ok, IfSome, List, [], is_some, refl, ap, sym, subst, arith, eqb-true}
+use Rattle.std.proofs.Common.{◌≡◌, ◌∙◌, ℕ, zero, ◌+◌, ◌-◌, ◌/◌, ◌%◌, ◌<◌, ◌≤◌, Bool, true, false, Option, None, IfSome, [], is_some, refl, ap, sym, subst, arith, eqb-true}
 use Rattle.std.specs.Prelude.{nat_eq}
 use Rattle.trace_model.specs.declared.Card.{Card}
 use Rattle.trace_model.specs.declared.Card.TheVariants.{A, B}
@@ -8,13 +8,12 @@ use Rattle.card_layout.specs.declared.command.CardState.{CardState}
 use Rattle.minute_model.specs.declared.Rule.{Rule}
 use Rattle.minute_model.specs.declared.Rule.TheVariants.{Original, Amended}
 use Rattle.minute_model.specs.Minute.{minutes_ahead}
-use Rattle.minute_model.specs.Span.{Span, begin, end_of, ungiven_of}
+use Rattle.minute_model.specs.Span.{begin, ungiven_of}
 use Rattle.minute_rules.specs.Kept.{StandsFor}
 use Rattle.event_rules.specs.Bare.{Bare}
 use Rattle.event_rules.specs.declared.speeding.Fast.{Fast}
-use Rattle.slot_machine.specs.declared.seats.Present.{Present}
 use Rattle.slot_machine.specs.Calls.{present_in, ending}
-use Rattle.slot_machine.specs.Kept.{Kept as Slots, left_in}
+use Rattle.slot_machine.specs.Kept.{left_in}
 use Rattle.slot_machine.proofs.Newest.{cut-knows, end-knows}
 use Rattle.unit_model.specs.declared.layout.TheConstants.{HIGHEST_ODOMETER}
 use Rattle.message_model.specs.Records.{insertion_ring}
@@ -22,19 +21,19 @@ use Rattle.run_crew.specs.declared.cards.Accepted.{Accepted}
 use Rattle.run_crew.specs.declared.cards.Known.{Known}
 use Rattle.run_crew.specs.declared.cabin.Cabin.{Cabin}
 use Rattle.run_crew.specs.Cards.{session_of, with_session, IsKnown}
-use Rattle.run_crew.specs.Cabin.{Stands, KnowsEnded, with_minute_ended}
+use Rattle.run_crew.specs.Cabin.{Stands, KnowsEnded}
 use Rattle.run_crew.proofs.Moves.{cut-stands, end-stands}
 use Rattle.run_notes.specs.Watching.{Watches}
 use Rattle.run_notes.specs.Watching as watching
 use Rattle.run_notes.specs.declared.watch.Watch.{Watch}
 use Rattle.unit_journal.specs.declared.notes.Notes.{Notes}
 use Rattle.run_keeping.specs.declared.keeper.Keeper.{Keeper}
-use Rattle.run_keeping.specs.Keeping.{UnitReady, CardReady, HasItsRow, HaveRows}
+use Rattle.run_keeping.specs.Keeping.{UnitReady, CardReady, HaveRows}
 use Rattle.run_acts.specs.declared.run.Run.{Run}
 use Rattle.run_acts.specs.declared.run.Power.{Power}
 use Rattle.run_acts.specs.declared.run.Power.TheVariants.{Lit, Due, Lost}
-use Rattle.run_acts.specs.Power.{is_lit, with_cabin, cut_run, darkened, off_run, over_by, minute_over, passed, IsSpanBegun}
-use Rattle.run_acts.specs.Going.{first_second, end_of_seconds, CardAt, StandSomehow, IsHeld, IsDark, IsGoingOn, IsLit, IsAt, IsGoing, IsWithin}
+use Rattle.run_acts.specs.Power.{is_lit, cut_run, darkened, off_run, over_by, minute_over, passed, IsSpanBegun}
+use Rattle.run_acts.specs.Going.{first_second, end_of_seconds, CardAt, StandSomehow, IsHeld, IsLit, IsAt, IsGoing, IsWithin}
 use Rattle.run_acts.proofs.Past.{none-later, one-more, ended-rows}
 
 pub lit-is : (p : Power) → is_lit p ≡ true → p ≡ Lit

@@ -1,5 +1,5 @@
 -- The current use of a card by its stays is the one that its noted insertions have left.
-use Rattle.std.proofs.Common.{◌≡◌, ◌∙◌, ℕ, Bool, true, false, cond, Option, Some, None, is_some, List, [], ◌∷◌, map, refl, sym, ap, subst}
+use Rattle.std.proofs.Common.{◌≡◌, ◌∙◌, ℕ, cond, Option, Some, None, is_some, List, [], ◌∷◌, map, refl, sym, ap, subst}
 use Rattle.std.specs.Prelude.{option_map}
 use Rattle.trace_model.specs.declared.Card.{Card}
 use Rattle.tach_media.specs.Medium.{State}
@@ -22,7 +22,7 @@ use Rattle.run_acts.specs.Closings.{Spell, spell_of, spells_of}
 use Rattle.run_acts.specs.Recording.{IsOrigin}
 use Rattle.run_acts.specs.RunCards.{sizes_in}
 use Rattle.run_acts.specs.Truths.{Truths}
-use Rattle.run_acts.specs.Stays.{Shut, Stay, Shown, open_from, use_after, after_stay, after_stays, start_shown, acceptances_told, spells, sits_in, as_noted, ShowsStays, AreStays, AllStay, judged_told}
+use Rattle.run_acts.specs.Stays.{Shut, Stay, Shown, open_from, after_stay, after_stays, start_shown, acceptances_told, spells, sits_in, as_noted, ShowsStays, AreStays, AllStay, judged_told}
 
 -- what a spell leaves, and some
 abbrev spell_use : Registration → Spell → CurrentUse

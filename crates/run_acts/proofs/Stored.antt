@@ -1,5 +1,5 @@
 -- What a run has stored of odometers, over its record: while there is power, as power is lost, and as it is back.
-use Rattle.std.proofs.Common.{◌≡◌, ◌⊎◌, inl, inr, ⊎_elim, ℕ, zero, suc, ◌+◌, ◌-◌, ◌*◌, ◌/◌, ◌<◌, ◌≤◌, min, Bool, true, false, cond, not, Option, Some, None, List, [], ◌∷◌, ◌++◌, All, Contains, length, map, take, refl, ap, sym, subst, ◌∙◌, arith, append-nil, append_assoc}
+use Rattle.std.proofs.Common.{◌≡◌, ◌⊎◌, ⊎_elim, ℕ, zero, suc, ◌+◌, ◌-◌, ◌<◌, ◌≤◌, Bool, true, false, cond, not, Option, Some, None, List, [], ◌∷◌, ◌++◌, All, Contains, length, map, take, refl, ap, sym, subst, ◌∙◌, arith, append-nil, append_assoc}
 use Rattle.std.specs.Prelude.{option_map, option_to_list}
 use Rattle.std.specs.List.{AllByRecursion}
 use Rattle.std.proofs.lemmas.List.{map-append, same_from_push, length-append}
@@ -10,7 +10,6 @@ use Rattle.trace_model.specs.declared.Action.{Action}
 use Rattle.trace_model.specs.Trace.{TraceSecond}
 use Rattle.minute_model.specs.Activity.{last}
 use Rattle.minute_model.specs.declared.Minute.{Minute}
-use Rattle.minute_model.specs.Second.{Second}
 use Rattle.minute_model.specs.Span.{AreNumbered, count_from, ungiven_of}
 use Rattle.minute_model.proofs.Numbered.{numbered-parts}
 use Rattle.minute_model.proofs.Ranges.{last-push}
@@ -25,8 +24,7 @@ use Rattle.log_model.proofs.Spanning.{spans-more}
 use Rattle.log_model.proofs.Spanning.{spanned}
 use Rattle.history_model.specs.Minutes.{HistoryMinute}
 use Rattle.history_model.specs.Presence.{Start}
-use Rattle.history_model.specs.History.{seated, settlings_of, decided_of, cut_second}
-use Rattle.history_model.specs.Completeness.{deciding_of}
+use Rattle.history_model.specs.History.{seated, decided_of, cut_second}
 use Rattle.history_model.specs.Book.{Book, all, found, Rising, IsMark}
 use Rattle.history_model.proofs.Growing.{apart-last}
 use Rattle.history_model.proofs.Deciding.{counted}
@@ -34,8 +32,8 @@ use Rattle.joint_rule.specs.Views.{unit_view}
 use Rattle.unit_model.specs.declared.layout.TheConstants.{HIGHEST_ODOMETER}
 use Rattle.unit_model.specs.Image.{last_kept, odometer_at}
 use Rattle.unit_course.specs.Lines.{cut_at, found_from, tells_cut}
-use Rattle.unit_course.specs.Followed.{Supply, Lit, Due, Lost, MayPower, as_spans, cuts_from}
-use Rattle.unit_course.specs.Legs.{Travel, stranded_at, all_travelled, travelled_by}
+use Rattle.unit_course.specs.Followed.{Supply, Lit, MayPower, as_spans, cuts_from}
+use Rattle.unit_course.specs.Legs.{Travel, stranded_at, all_travelled}
 use Rattle.unit_course.specs.Travelled.{MayShow}
 use Rattle.unit_course.specs.Turn.{span_at, begins_with, cut_at_end, cut_last}
 use Rattle.unit_course.proofs.Legs.{travelled-all, travelled-none, travelled-earlier}
@@ -48,7 +46,6 @@ use Rattle.unit_rule.proofs.Moves.{shown-last}
 use Rattle.unit_rule.proofs.Travelling.{odometer-sum}
 use Rattle.side_model.specs.Odometer.{SpanFrom, IsBeingKept, MayStore}
 use Rattle.safety_model.specs.Safe.{Devices, breakdowns_of}
-use Rattle.run_rule.specs.Between.{Carried}
 use Rattle.run_course.specs.Moments.{and_break}
 use Rattle.run_course.specs.Followed.{Progress, Followed, IsBreakBefore}
 use Rattle.run_course.specs.Seconds.{next_told, kept_all, broken_at}

@@ -1,5 +1,5 @@
 -- What a run has stored of odometers, by its own values: between two seconds, at an `off` line, and where power is cut within a second.
-use Rattle.std.proofs.Common.{◌≡◌, ◌∙◌, ℕ, ◌+◌, ◌-◌, ◌<◌, ◌≤◌, Bool, true, false, not, Option, None, List, [], ◌∷◌, ◌++◌, length, map, refl, ap, sym, subst, arith}
+use Rattle.std.proofs.Common.{◌≡◌, ◌∙◌, ℕ, ◌+◌, ◌-◌, ◌<◌, true, false, not, Option, None, List, [], ◌∷◌, ◌++◌, map, refl, ap, sym, subst, arith}
 use Rattle.std.specs.List.{AllByRecursion}
 use Rattle.std.proofs.lemmas.List.{map-append, same_from_push}
 use Rattle.trace_model.specs.declared.Action.{Action}
@@ -26,7 +26,7 @@ use Rattle.run_recorded.specs.Origin.{Origin, rule_of, start_at, first_of}
 use Rattle.run_rings.specs.Spans.{with_second}
 use Rattle.run_ringed.specs.SoFar.{HasMoreBreaks}
 use Rattle.run_ringed.specs.Steps.{spans_cut}
-use Rattle.run_ringed.specs.Stored.{StandsOn, StoresOn, StoresOff, Stores}
+use Rattle.run_ringed.specs.Stored.{StoresOn, StoresOff, Stores}
 use Rattle.run_ringed.proofs.Bases.{stored-bases}
 use Rattle.run_within.specs.Recorded.{Values, Recorded}
 use Rattle.run_within.specs.Within.{CutWithin}

@@ -1,9 +1,8 @@
 -- Worked rows: what is true of three seconds in which a card is withdrawn.
-use Rattle.std.proofs.Common.{◌≡◌, ℕ, ◌+◌, ◌*◌, true, List, [], ◌∷◌, ◌++◌, Contains, refl, arith}
+use Rattle.std.proofs.Common.{◌≡◌, ◌+◌, true, List, [], ◌∷◌, ◌++◌, refl, arith}
 use Rattle.activity_codec.specs.declared.values.Activity.TheVariants as activity
 use Rattle.activity_codec.specs.declared.values.Pick.TheVariants.{Work, Available}
 use Rattle.activity_codec.specs.declared.values.Slot.TheVariants.{Driver}
-use Rattle.trace_model.specs.declared.Action.{Action}
 use Rattle.trace_model.specs.declared.Action.TheVariants.{Select, Withdraw}
 use Rattle.trace_model.specs.Trace.{TraceSecond}
 use Rattle.minute_model.specs.declared.Rule.TheVariants.{Original}

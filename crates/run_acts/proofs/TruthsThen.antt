@@ -1,5 +1,5 @@
 -- What is true of stays, from second to second.
-use Rattle.std.proofs.Common.{◌≡◌, ◌∙◌, ℕ, suc, ◌+◌, Bool, true, false, Option, List, [], ◌∷◌, ◌++◌, Contains, refl, ap, sym, subst, append-nil, append_assoc}
+use Rattle.std.proofs.Common.{◌≡◌, ◌∙◌, ℕ, suc, ◌+◌, Bool, true, false, Option, List, [], ◌∷◌, ◌++◌, refl, ap, sym, subst, append-nil, append_assoc}
 use Rattle.std.proofs.lemmas.List.Elements.{Contains-append_left}
 use Rattle.trace_model.specs.Trace.{TraceSecond, driven}
 use Rattle.minute_model.specs.declared.Minute.{Minute}
@@ -19,8 +19,6 @@ use Rattle.run_within.specs.Turning.{last_of, before_last}
 use Rattle.run_acts.specs.Truths.{Grow, past_of, truths_of, truths_within, SpansGoOn, PastGoesOn}
 use Rattle.run_acts.proofs.AllStay.{fewer-none}
 use Rattle.run_acts.proofs.Truths.{spans-more, spans-alike, spans-on, spans-same, past-grows, grow-on}
-use Rattle.activity_codec.specs.declared.entries.Entry.{Entry}
-use Rattle.trace_model.specs.declared.Card.{Card}
 use Rattle.safety_model.specs.Recording.{brought}
 use Rattle.run_acts.specs.Owed.{IsOwed}
 use Rattle.run_acts.proofs.OwedOn.{owed-more, owed-same, owed-end}

@@ -1,5 +1,5 @@
 -- What a turn leaves of unit and cards: the minutes that are kept, and the note behind them.
-use Rattle.std.proofs.Common.{◌≡◌, ◌<◌, ◌≤◌, Bool, true, false, not, List, refl, arith}
+use Rattle.std.proofs.Common.{◌≡◌, Bool, true, false, not, List, refl, arith}
 use Rattle.std.specs.Prelude.{map}
 use Rattle.trace_model.specs.declared.Card.TheVariants.{A, B}
 use Rattle.tach_media.specs.Medium.{State, IsCoherent, LeavesOnly}

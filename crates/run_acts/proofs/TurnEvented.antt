@@ -1,89 +1,69 @@
 -- The minutes that seconds of one minute decide are kept behind them, and what has ended is noted: the events behind them.
-use Rattle.std.proofs.Common.{◌≡◌, ◌∙◌, ◌⊎◌, inl, inr, ⊎_elim, ℕ, zero, suc, ◌+◌, ◌-◌, ◌/◌, ◌%◌, ◌^◌, ◌≤◌, ◌<◌, Bool, true, false, cond, not, Option, Some, None, List, [], ◌∷◌, ◌++◌, length, map, refl, ap, sym, subst, arith, append-nil, append_assoc}
-use Rattle.std.specs.List.{AllByRecursion}
-use Rattle.activity_codec.specs.declared.values.Slot.{Slot}
-use Rattle.activity_codec.specs.declared.values.Slot.TheVariants.{Driver, CoDriver}
-use Rattle.trace_model.specs.declared.Card.{Card}
-use Rattle.trace_model.specs.declared.Action.{Action}
-use Rattle.trace_model.specs.Trace.{TraceSecond, driven}
+use Rattle.std.proofs.Common.{◌≡◌, ◌∙◌, ◌⊎◌, ⊎_elim, ℕ, suc, ◌+◌, ◌-◌, ◌/◌, ◌^◌, ◌≤◌, ◌<◌, Bool, true, false, Some, List, [], ◌∷◌, ◌++◌, length, refl, ap, sym, subst, arith}
+use Rattle.trace_model.specs.Trace.{TraceSecond}
 use Rattle.run_model.specs.declared.Device.{Device}
 use Rattle.run_model.specs.declared.Device.TheVariants.{Unit as Recorder}
-use Rattle.card_layout.specs.declared.command.CardState.{CardState}
-use Rattle.tach_media.specs.Medium.{State, IsCoherent}
+use Rattle.tach_media.specs.Medium.{IsCoherent}
 use Rattle.minute_model.specs.declared.Minute.{Minute}
-use Rattle.minute_model.specs.Span.{Span, decided_in, fed_many, ungiven_of}
-use Rattle.minute_rules.specs.Kept.{Kept, StandsFor}
+use Rattle.minute_rules.specs.Kept.{Kept}
 use Rattle.log_model.specs.declared.lines.Break.{Break}
 use Rattle.log_model.specs.declared.lines.Mark.{Mark}
-use Rattle.log_model.specs.Log.{RunLog, Phase, In, Keeping, is_torn_in}
+use Rattle.log_model.specs.Log.{RunLog, Keeping}
 use Rattle.log_model.specs.Causes.{RoseBy}
-use Rattle.log_model.specs.Course.{Told as Second, Course, Before, has_power, went}
+use Rattle.log_model.specs.Course.{Told as Second, went}
 use Rattle.unit_memory.specs.declared.format.Identity.{Identity}
 use Rattle.unit_model.specs.Image.{IsUnit, odometer_at}
 use Rattle.unit_rule.specs.Odometer.{odometer_after}
-use Rattle.unit_course.specs.Followed.{Supply}
 use Rattle.unit_course.specs.Followed.{Lit as IsLit, Lost as IsLost}
-use Rattle.unit_course.specs.Turn.{begins_with}
-use Rattle.event_model.specs.Events.{Event, Seen, course_by, seen_of, seen_by, seen_spans, number_of}
-use Rattle.event_model.specs.Events as events
-use Rattle.event_crews.specs.Watched.{watched, named}
+use Rattle.event_model.specs.Events.{Event, Seen, seen_of, seen_spans}
+use Rattle.event_crews.specs.Watched.{watched}
 use Rattle.event_crews.specs.Turned.{AreEnded, AreLow}
-use Rattle.event_crews.proofs.Turned.{turn-ends, turn-stands}
-use Rattle.event_crews.proofs.Fed.{one-fed}
 use Rattle.safety_model.specs.Safe.{Devices, breakdowns_of}
-use Rattle.slot_machine.specs.declared.seats.Present.{Present}
 use Rattle.unit_notes.specs.declared.unit_event.UnitEvent.{UnitEvent}
-use Rattle.run_crew.specs.declared.cabin.Cabin.{Cabin}
 use Rattle.run_crew.specs.Cabin.{AreTwo, crew_of}
-use Rattle.run_course.specs.Followed.{Progress}
 use Rattle.run_course.specs.Moments.{and_break}
 use Rattle.run_course.specs.Seconds.{next_told}
-use Rattle.run_course.proofs.Steps.{with-supply, went-same_}
-use Rattle.run_course.proofs.Told.{lit-told, lit-power, lit-starts}
 use Rattle.run_moments.specs.Moment.{Moment as SecondMoment, goes_on}
-use Rattle.run_moments.specs.Reached.{Reaches, course_at}
-use Rattle.run_moments.specs.Telling.{begun_by}
+use Rattle.run_moments.specs.Reached.{Reaches}
 use Rattle.run_notes.specs.declared.watch.Watch.{Watch}
 use Rattle.run_notes.specs.declared.watch.Ended.{Ended as WatchEnded}
-use Rattle.run_notes.specs.Watching.{StandsFor as WatchStands}
 use Rattle.run_notes.specs.Noting.{IsFed}
 use Rattle.run_outcome.specs.declared.outcome.Outcome.{Outcome}
 use Rattle.run_outcome.specs.Lines.{Listed, cut_at}
-use Rattle.run_recorded.specs.Origin.{Origin, start_at, rule_of, first_of}
+use Rattle.run_recorded.specs.Origin.{Origin}
 use Rattle.run_events.specs.Seconds.{bares_by, overs_by, span_before, seen_next}
-use Rattle.run_events.proofs.Later.{told-number}
 use Rattle.run_evented.specs.Evented.{limit_in, number_in, Evented}
-use Rattle.run_evented.specs.Noting.{Stage, Acting, Ended}
+use Rattle.run_evented.specs.Noting.{Acting, Ended}
 use Rattle.run_evented.specs.SoFar.{EventedNow, Adds, BeginsNow}
 use Rattle.run_evented.proofs.Adding.{call-notes, steps-follow, second-ends_now}
 use Rattle.run_evented.proofs.Ending.{ends-added}
 use Rattle.run_keeping.specs.declared.keeper.Keeper.{Keeper}
 use Rattle.run_keeping.specs.declared.keeper.Moment.{Moment}
 use Rattle.run_keeping.specs.Books.{HaveTime}
-use Rattle.run_keeping.specs.Minutes.{Told, Reach, Whole, Short, IsReach, present_at}
+use Rattle.run_keeping.specs.Minutes.{Told, Reach, Whole, Short, present_at}
 use Rattle.run_keeping.specs.Faults.{faults_to, NotesFaults}
 use Rattle.run_within.specs.Recorded.{Values}
-use Rattle.run_within.specs.Within.{Within, told_before, course_in}
+use Rattle.run_within.specs.Within.{Within}
 use Rattle.run_acts.specs.declared.run.Run.{Run}
 use Rattle.run_acts.specs.declared.run.Power.{Power}
-use Rattle.run_acts.specs.declared.run.Power.TheVariants.{Lit, Lost}
+use Rattle.run_acts.specs.declared.run.Power.TheVariants.{Lit}
 use Rattle.run_acts.specs.Power.{cut_run, passed}
 use Rattle.run_acts.specs.Booked.{IsTurnReach, BooksTurn}
 use Rattle.run_acts.specs.Devices.{DevicesGoOn}
-use Rattle.run_acts.specs.Faults.{NotesKeeping, NotesEnded, EndsTo}
+use Rattle.run_acts.specs.Faults.{NotesKeeping, NotesEnded}
 use Rattle.run_acts.specs.Named.{NamesValid, named_as, watched_as}
 use Rattle.run_acts.specs.NotedEvents.{AreTold, NotesSo}
 use Rattle.run_acts.specs.Recording.{log_of, values_of, Supplies, IsOrigin}
-use Rattle.run_acts.specs.Rounds.{Point, told_values, moment_of, keeping_of}
-use Rattle.run_acts.specs.RoundLaws.{InRounds, KeepsSo, HaveBrokenOff, carried_at}
+use Rattle.run_acts.specs.Rounds.{Point, moment_of, keeping_of}
+use Rattle.run_acts.specs.RoundLaws.{KeepsSo, HaveBrokenOff}
 use Rattle.run_acts.specs.Turning.{late_moment, told_of, cut_where, cut_breaks}
 use Rattle.run_acts.specs.Evented.{IsWatching, span_of, TurnedEvents}
-use Rattle.run_acts.proofs.EventCrews.{AllSitWell, crew-sits}
+use Rattle.run_acts.proofs.EventCrews.{AllSitWell}
 use Rattle.run_acts.proofs.KeptEvents.{faults-are, turn-noted, turn-cut}
 use Rattle.run_acts.proofs.Named.{both-valid, are-numbered}
 use Rattle.run_acts.proofs.Numbers.{all-long, so-as, told-named}
-use Rattle.run_acts.proofs.RoundFaults.{AddsFaults, IsUntoldAt, HasCome, MomentThen, keeping-adds, keeping-moment, keeping-cuts, keeping-notes}
-use Rattle.run_acts.proofs.TurnRecorded.{IsPushed, pushed, keeps, off, rose, at-is}
+use Rattle.run_acts.proofs.RoundFaults.{AddsFaults, IsUntoldAt, HasCome, keeping-adds, keeping-moment, keeping-cuts, keeping-notes}
+use Rattle.run_acts.proofs.TurnRecorded.{pushed, keeps, off, rose, at-is}
 
 pub turn-come : (all : List Minute) (at : Moment) (failed : Bool) (t u : Told) (reach : Reach) → IsTurnReach all at failed t u reach → HasCome all at t u reach
 turn-come all at failed t u (Whole xs) is = is

@@ -1,13 +1,10 @@
 -- More than one second of a minute without actions: what is noted behind them of their events.
-use Rattle.std.proofs.Common.{◌≡◌, ◌∙◌, ◌⊎◌, inl, inr, ⊎_elim, ℕ, zero, suc, ◌+◌, ◌-◌, ◌/◌, ◌%◌, ◌^◌, ◌≤◌, ◌<◌, Bool, true, false, cond, not, Option, Some, None, List, [], ◌∷◌, ◌++◌, length, map, refl, ap, sym, subst, arith, append-nil, append_assoc}
+use Rattle.std.proofs.Common.{◌≡◌, ◌∙◌, ℕ, zero, suc, ◌+◌, ◌-◌, ◌/◌, ◌%◌, ◌^◌, ◌≤◌, ◌<◌, Bool, true, false, cond, not, Option, Some, None, List, [], ◌∷◌, ◌++◌, length, map, refl, ap, sym, subst, arith, append-nil, append_assoc}
 use Rattle.std.specs.List.{AllByRecursion}
 use Rattle.activity_codec.specs.declared.values.Slot.{Slot}
-use Rattle.activity_codec.specs.declared.values.Slot.TheVariants.{Driver, CoDriver}
 use Rattle.trace_model.specs.declared.Card.{Card}
 use Rattle.trace_model.specs.declared.Action.{Action}
 use Rattle.trace_model.specs.Trace.{TraceSecond, driven}
-use Rattle.run_model.specs.declared.Device.{Device}
-use Rattle.run_model.specs.declared.Device.TheVariants.{Unit as Recorder}
 use Rattle.card_layout.specs.declared.command.CardState.{CardState}
 use Rattle.tach_media.specs.Medium.{State, IsCoherent}
 use Rattle.minute_model.specs.declared.Minute.{Minute}
@@ -15,105 +12,71 @@ use Rattle.minute_model.specs.Span.{Span, decided_in, fed_many, ungiven_of}
 use Rattle.minute_rules.specs.Kept.{Kept, StandsFor}
 use Rattle.log_model.specs.declared.lines.Break.{Break}
 use Rattle.log_model.specs.declared.lines.Mark.{Mark}
-use Rattle.log_model.specs.Log.{RunLog, Phase, In, Keeping, is_torn_in}
-use Rattle.log_model.specs.Causes.{RoseBy}
+use Rattle.log_model.specs.Log.{RunLog, In, Keeping, is_torn_in}
 use Rattle.log_model.specs.Course.{Told as Second, Course, Before, has_power, went}
 use Rattle.unit_model.specs.Image.{IsUnit, odometer_at}
 use Rattle.unit_rule.specs.Odometer.{odometer_after}
 use Rattle.unit_course.specs.Followed.{Supply}
 use Rattle.unit_course.specs.Followed.{Lit as IsLit, Lost as IsLost}
 use Rattle.unit_course.specs.Turn.{begins_with}
-use Rattle.event_model.specs.Events.{Event, Seen, course_by, seen_of, seen_by, seen_spans, number_of}
+use Rattle.event_model.specs.Events.{Event, Seen, course_by, seen_of, seen_spans, number_of}
 use Rattle.event_model.specs.Events as events
 use Rattle.event_crews.specs.Watched.{watched, named}
-use Rattle.event_crews.specs.Turned.{AreEnded, AreLow}
-use Rattle.event_crews.proofs.Turned.{turn-ends, turn-stands}
+use Rattle.event_crews.specs.Turned.{AreLow}
 use Rattle.event_crews.proofs.Fed.{one-fed}
 use Rattle.safety_model.specs.Safe.{Devices, breakdowns_of}
-use Rattle.slot_machine.specs.declared.seats.Present.{Present}
-use Rattle.unit_notes.specs.declared.unit_event.UnitEvent.{UnitEvent}
 use Rattle.run_crew.specs.declared.cabin.Cabin.{Cabin}
-use Rattle.run_crew.specs.Cabin.{AreTwo, crew_of}
+use Rattle.run_crew.specs.Cabin.{crew_of}
 use Rattle.run_course.specs.Followed.{Progress}
-use Rattle.run_course.specs.Moments.{and_break}
 use Rattle.run_course.specs.Seconds.{next_told}
 use Rattle.run_course.proofs.Steps.{with-supply, went-same_}
 use Rattle.run_course.proofs.Told.{lit-told, lit-power, lit-starts}
 use Rattle.run_moments.specs.Moment.{Moment as SecondMoment, goes_on}
-use Rattle.run_moments.specs.Reached.{Reaches, course_at}
-use Rattle.run_moments.specs.Telling.{begun_by}
+use Rattle.run_moments.specs.Reached.{Reaches}
 use Rattle.run_notes.specs.declared.watch.Watch.{Watch}
-use Rattle.run_notes.specs.declared.watch.Ended.{Ended as WatchEnded}
-use Rattle.run_notes.specs.Watching.{StandsFor as WatchStands}
-use Rattle.run_notes.specs.Noting.{IsFed}
 use Rattle.run_outcome.specs.declared.outcome.Outcome.{Outcome}
-use Rattle.run_outcome.specs.Lines.{Listed, cut_at}
+use Rattle.run_outcome.specs.Lines.{Listed}
 use Rattle.run_recorded.specs.Origin.{Origin, start_at, rule_of, first_of}
 use Rattle.run_events.specs.Seconds.{bares_by, overs_by, span_before, seen_next}
 use Rattle.run_events.proofs.Later.{told-number}
 use Rattle.run_evented.specs.Evented.{limit_in, number_in, Evented}
-use Rattle.run_evented.specs.Noting.{Stage, Acting, Ended}
+use Rattle.run_evented.specs.Noting.{Acting, Ended}
 use Rattle.run_evented.specs.SoFar.{EventedNow, Adds, BeginsNow}
-use Rattle.run_evented.proofs.Adding.{call-notes, steps-follow, second-ends_now}
+use Rattle.run_evented.proofs.Adding.{call-notes, second-ends_now}
 use Rattle.run_evented.proofs.Ending.{ends-added}
 use Rattle.run_keeping.specs.declared.keeper.Keeper.{Keeper}
-use Rattle.run_keeping.specs.declared.keeper.Moment.{Moment}
 use Rattle.run_keeping.specs.Books.{HaveTime}
-use Rattle.run_keeping.specs.Minutes.{Told, Reach, Whole, Short, IsReach, present_at}
-use Rattle.run_keeping.specs.Faults.{faults_to, NotesFaults}
-use Rattle.run_within.specs.Recorded.{Values}
+use Rattle.run_keeping.specs.Minutes.{Reach}
 use Rattle.run_within.specs.Within.{Within, told_before, course_in}
 use Rattle.run_acts.specs.declared.run.Run.{Run}
 use Rattle.run_acts.specs.declared.run.Power.{Power}
 use Rattle.run_acts.specs.declared.run.Power.TheVariants.{Lit, Lost}
-use Rattle.run_acts.specs.Power.{cut_run, passed}
+use Rattle.run_acts.specs.Power.{passed}
 use Rattle.run_acts.specs.Booked.{IsTurnReach, BooksTurn}
 use Rattle.run_acts.specs.Devices.{DevicesGoOn}
-use Rattle.run_acts.specs.Faults.{NotesKeeping, NotesEnded, EndsTo}
-use Rattle.run_acts.specs.Named.{NamesValid, named_as, watched_as}
-use Rattle.run_acts.specs.NotedEvents.{AreTold, NotesSo}
-use Rattle.run_acts.specs.Recording.{log_of, values_of, Supplies, IsOrigin}
-use Rattle.run_acts.specs.Rounds.{Point, told_values, moment_of, keeping_of}
-use Rattle.run_acts.specs.RoundLaws.{InRounds, KeepsSo, HaveBrokenOff, carried_at}
+use Rattle.run_acts.specs.Faults.{NotesKeeping}
+use Rattle.run_acts.specs.Named.{watched_as}
+use Rattle.run_acts.specs.Recording.{log_of, values_of, Supplies}
 use Rattle.run_acts.specs.Turning.{late_moment, told_of, cut_where, cut_breaks}
-use Rattle.run_acts.specs.Evented.{IsWatching, span_of, TurnedEvents}
+use Rattle.run_acts.specs.Evented.{IsWatching, TurnedEvents}
 use Rattle.run_acts.proofs.EventCrews.{AllSitWell, crew-sits}
-use Rattle.run_acts.proofs.KeptEvents.{faults-are, turn-noted, turn-cut}
-use Rattle.run_acts.proofs.Named.{both-valid, are-numbered}
-use Rattle.run_acts.proofs.Numbers.{all-long, so-as, told-named}
-use Rattle.run_acts.proofs.RoundFaults.{AddsFaults, IsUntoldAt, HasCome, MomentThen, keeping-adds, keeping-moment, keeping-cuts, keeping-notes}
-use Rattle.run_acts.proofs.TurnRecorded.{IsPushed, pushed, keeps, off, rose, at-is}
-use Rattle.std.specs.Prelude.{◌||◌}
+use Rattle.run_acts.proofs.TurnRecorded.{pushed}
 use Rattle.log_model.specs.Course.{Went}
 use Rattle.run_events.specs.Seconds.{last_of as last_span}
 use Rattle.run_events.proofs.Later.{seen-same}
 use Rattle.run_evented.proofs.Lines.{same-before}
-use Rattle.log_model.specs.Log.{tears_here, found_in, phase_of}
 use Rattle.log_model.specs.Slots.{Slots}
 use Rattle.event_crews.specs.Turned.{IsLow}
 use Rattle.run_notes.specs.Watching.{seconds_with}
-use Rattle.run_keeping.specs.Keeping.{Fate, Still, Has, Fell, breaks_by}
-use Rattle.run_keeping.specs.Minutes.{Done, Round, AreRounds, told_after, told_by}
-use Rattle.run_course.specs.Seconds.{GoesOnBy}
-use Rattle.run_course.proofs.Lookups.{break-more}
-use Rattle.run_moments.specs.Reached.{IsUpTo}
-use Rattle.run_evented.proofs.Brought.{SameBefore, course-until}
-use Rattle.run_evented.proofs.Tearing.{told-elsewhere}
 use Rattle.run_within.specs.Turning.{last_of, before_last, IsTurned}
 use Rattle.run_within.proofs.Turning.{turn-is_fed, turn-ends as turn-ended}
-use Rattle.run_acts.specs.Rounds.{and_breaks}
 use Rattle.run_acts.specs.Named.{ValidHere, CrewValid}
-use Rattle.run_acts.specs.Recording.{RunWithin, IsNow}
+use Rattle.run_acts.specs.Recording.{IsNow}
 use Rattle.run_acts.specs.Going.{IsGoingOn, end_of_seconds, first_second}
-use Rattle.run_acts.specs.Evented.{WithinEvented, RunWatches, span_seen, LastAt}
-use Rattle.run_acts.proofs.EventCrews.{all-well}
+use Rattle.run_acts.specs.Evented.{WithinEvented, LastAt}
 use Rattle.run_acts.proofs.Named.{crew-valid, known-as}
-use Rattle.run_acts.proofs.SeenSpan.{span-more, keeping-slots, ends-valid}
-use Rattle.run_acts.proofs.SettledRecorded.{same-ungiven, two-present}
-use Rattle.run_within.specs.Within.{Beginning}
-use Rattle.run_acts.proofs.Turned.{turn-decides, turn-most, turn-one}
-use Rattle.run_acts.proofs.TurnEvented.{turn-come, come-now, moment-then, keeping-events}
-use Rattle.run_acts.proofs.TurnRecorded.{last-actions, last-number}
+use Rattle.run_acts.proofs.SeenSpan.{span-more}
+use Rattle.run_acts.proofs.SettledRecorded.{same-ungiven}
 use Rattle.std.proofs.lemmas.List.{map-append}
 use Rattle.log_model.specs.Course.{fresh}
 use Rattle.unit_course.specs.Turn.{span_at}
@@ -121,18 +84,16 @@ use Rattle.run_course.specs.Quiet.{quiet_seconds}
 use Rattle.run_notes.specs.Watching.{CrewSecond}
 use Rattle.std.specs.Prelude.{is_some, option_map, ◌&&◌, nat_lt}
 use Rattle.log_model.specs.Slots.{Sitting, is_accepted}
-use Rattle.log_model.specs.Log.{cut_in}
-use Rattle.event_model.specs.Events.{is_bare, accepted_card, seen_with, seen_on}
+use Rattle.event_model.specs.Events.{is_bare, accepted_card, seen_on}
 use Rattle.event_rules.proofs.InARow.{one_more}
 use Rattle.event_model.specs.Spans.{in_a_row}
-use Rattle.event_crews.specs.Fed.{IsSilentFrom, going_with, still_second, still_seconds}
+use Rattle.event_crews.specs.Fed.{IsSilentFrom, going_with, still_seconds}
 use Rattle.event_crews.proofs.Fed.{still-seen, still-quiet, still-fed}
 use Rattle.tacho_types.specs.declared.card_number.FullCardNumber.{FullCardNumber}
 use Rattle.run_crew.specs.declared.cards.Crew.{Crew}
 use Rattle.run_course.specs.Followed.{Followed}
 use Rattle.run_moments.proofs.Reached.{at-by, nothing-told}
 use Rattle.run_moments.proofs.Telling.{keeping-comes}
-use Rattle.run_events.specs.Shown.{none as no_events}
 use Rattle.run_events.specs.Seconds.{IsQuiet, is_fast}
 use Rattle.run_events.proofs.Shows.{nothing-more}
 use Rattle.run_events.proofs.Growing.{spans-more}
@@ -159,7 +120,7 @@ use Rattle.run_acts.specs.Booked.{IsBookedTurn}
 use Rattle.run_acts.specs.Turning.{IsLitTurn}
 use Rattle.run_acts.specs.Evented.{EventsLitTurn, CutEvented}
 use Rattle.run_acts.proofs.TurnRecorded.{reach-is, books-is, between-is, new-is, after-is}
-use Rattle.run_acts.proofs.TurnSeconds.{one-events, all-both, well, then_, last-events, lit-x, crew-x, valid-x, low-x, front-now}
+use Rattle.run_acts.proofs.TurnSeconds.{one-events, all-both, well, then_, last-events, crew-x, valid-x, low-x, front-now}
 
 -- ---- a span that goes on
 evented-lit : (o : Origin) (done : List TraceSecond) (log : RunLog) (unfound next : ℕ) (t u : Second) (xs ys : List Second) (d : Devices) → Evented o done log unfound next (IsLit (t ∷ xs)) d → Evented o done log unfound next (IsLit (u ∷ ys)) d

@@ -1,5 +1,5 @@
 -- No line of what is kept, withdrawn or noted is a cut.
-use Rattle.std.proofs.Common.{◌≡◌, ◌∙◌, ◌⊎◌, ⊎_elim, ℕ, ◌+◌, Bool, true, false, List, [], ◌∷◌, ◌++◌, Option, Some, None, refl, ap, sym, arith}
+use Rattle.std.proofs.Common.{◌≡◌, ◌∙◌, ◌⊎◌, ⊎_elim, ℕ, ◌+◌, Bool, true, false, List, [], ◌∷◌, ◌++◌, Option, Some, None, refl, ap, arith}
 use Rattle.activity_codec.specs.declared.values.Slot.{Slot}
 use Rattle.activity_codec.specs.declared.values.Slot.TheVariants.{Driver, CoDriver}
 use Rattle.trace_model.specs.declared.Card.{Card}
@@ -13,10 +13,10 @@ use Rattle.run_outcome.specs.Broken.{failed_cuts, BreaksDown}
 use Rattle.run_outcome.proofs.Broken.{cuts-behind, broke-same, broke-once, broke-then}
 use Rattle.run_outcome.specs.declared.outcome.Outcome.{Outcome}
 use Rattle.run_keeping.specs.declared.keeper.Moment.{Moment}
-use Rattle.run_keeping.specs.Keeping.{Fate, Still, Has, Fell as FellThen, breaks_by, with_lines}
+use Rattle.run_keeping.specs.Keeping.{Fate, Still, Has, Fell as FellThen, breaks_by}
 use Rattle.run_keeping.specs.Minutes.{Round, Told, breaks_after, AreKept, none, more, AreKeptUpTo}
 use Rattle.run_acts.specs.declared.run.Run.{Run}
-use Rattle.run_acts.specs.Acting.{told_of as told_in, IsSettled, Closing, Bare, Closed, Fell, closed_breaks, IsClosed, IsWithdrawn, pulled_breaks, noted_breaks, IsNotedOn, IsPlaced, IsNotedIn}
+use Rattle.run_acts.specs.Acting.{told_of as told_in, IsSettled, Closing, Bare, Closed, Fell, closed_breaks, IsWithdrawn, pulled_breaks, noted_breaks, IsNotedOn, IsPlaced, IsNotedIn}
 use Rattle.run_acts.specs.Noting.{GapReach, NoGap, UnitFailed, DriverFell, BothSlots, AreNotedIn, IsGapNoted}
 use Rattle.run_acts.specs.Turning.{IsKeptInTurn}
 

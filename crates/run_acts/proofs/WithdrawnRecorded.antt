@@ -33,12 +33,12 @@ use Rattle.run_keeping.specs.Minutes.{Told, AreKept}
 use Rattle.run_keeping.specs.Books.{HaveTime}
 use Rattle.run_recorded.specs.Origin.{Origin}
 use Rattle.run_within.specs.Recorded.{Values}
-use Rattle.run_within.specs.Within.{Beginning, IsLeaving, CutWithin}
+use Rattle.run_within.specs.Within.{Beginning, IsLeaving}
 use Rattle.run_within.specs.Taking.{IsLeft}
 use Rattle.run_within.proofs.Leaving.{card-leaves}
 use Rattle.run_acts.specs.declared.run.Run.{Run}
 use Rattle.run_acts.specs.Acting.{Closing, Closed, IsClosed, closed_falls, told_of, left_run}
-use Rattle.run_acts.specs.Recording.{log_of, values_of, RunWithin, RunFails, GoesOnOrFails, IsNow, RecordsAction}
+use Rattle.run_acts.specs.Recording.{log_of, values_of, RunWithin, RunFails, GoesOnOrFails}
 use Rattle.run_acts.specs.Settling.{settled_run, IsSettledIn, RecordsSettling}
 use Rattle.run_acts.proofs.Apart.{not-both}
 use Rattle.run_acts.proofs.Asked.{allowed-in}

@@ -1,5 +1,5 @@
 -- Events name valid cards alone, by numbers of 18 bytes (Appendix 1, FullCardNumber).
-use Rattle.std.specs.Prelude.{Option, Some, None, IfSome, List, [], ◌∷◌, ℕ, replicate}
+use Rattle.std.specs.Prelude.{Option, Some, None, IfSome, List, ℕ, replicate}
 use Rattle.std.specs.List.{AllByRecursion}
 use Rattle.trace_model.specs.declared.Card.{Card}
 use Rattle.card_layout.specs.declared.files.Fid.{Fid}

@@ -1,5 +1,5 @@
 -- Power lost, and power back (profile).
-use Rattle.std.specs.Prelude.{◌≡◌, ℕ, ◌+◌, ◌-◌, ◌/◌, ◌%◌, ◌==◌, Bool, true, false, if◌then◌else◌, List, [], ◌∷◌}
+use Rattle.std.specs.Prelude.{◌≡◌, ℕ, ◌+◌, ◌-◌, ◌/◌, ◌%◌, ◌==◌, Bool, true, false, List, [], ◌∷◌}
 use Rattle.minute_model.specs.declared.Rule.TheVariants.{Original}
 use Rattle.minute_model.specs.Span.{begin}
 use Rattle.minute_rules.specs.Kept.{StandsFor}

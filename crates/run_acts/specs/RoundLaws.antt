@@ -21,7 +21,7 @@ use Rattle.run_course.specs.Seconds.{kept_all}
 use Rattle.run_told.specs.Told.{IsPowerless}
 use Rattle.run_recorded.specs.Origin.{Origin}
 use Rattle.run_keeping.specs.declared.keeper.Keeper.{Keeper}
-use Rattle.run_keeping.specs.Minutes.{Round, Told, Done, Reach, Whole, Short, AreRounds, IsLast, IsReach, told_by, present_at}
+use Rattle.run_keeping.specs.Minutes.{Round, Told, Done, Reach, Whole, AreRounds, IsLast, IsReach, told_by, present_at}
 use Rattle.run_keeping.specs.Keeping.{tears_of}
 use Rattle.run_keeping.specs.Books.{AreBooked}
 use Rattle.run_keeping.specs.Decided.{MayBookAll, IsCutSo, EndsAll, carried_by}

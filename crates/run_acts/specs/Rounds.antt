@@ -1,8 +1,7 @@
 -- What the rounds of a keeping make of the record at a moment of a second (profile): of its values, told or not, and of unit and cards.
-use Rattle.std.specs.Prelude.{◌≡◌, All, map, ◌⊎◌, ℕ, suc, ◌+◌, ◌*◌, ◌/◌, ◌<◌, ◌≤◌, Bool, true, false, Option, Some, None, IfSome, List, [], ◌∷◌, ◌++◌, Contains, length, is_some, if◌then◌else◌}
+use Rattle.std.specs.Prelude.{◌≡◌, All, map, ◌⊎◌, ℕ, ◌+◌, ◌/◌, ◌<◌, ◌≤◌, Bool, true, false, Option, Some, None, IfSome, List, [], ◌∷◌, ◌++◌, Contains, length, is_some, if◌then◌else◌}
 use Rattle.activity_codec.specs.declared.values.Slot.{Slot}
 use Rattle.trace_model.specs.declared.Card.{Card}
-use Rattle.trace_model.specs.declared.Card.TheVariants.{A, B}
 use Rattle.trace_model.specs.Trace.{TraceSecond}
 use Rattle.run_model.specs.declared.Device.{Device}
 use Rattle.run_model.specs.declared.Device.TheVariants.{Unit as Recorder}
@@ -16,7 +15,6 @@ use Rattle.log_model.specs.Course.{Course, Visit, went}
 use Rattle.history_model.specs.Minutes.{HistoryMinute}
 use Rattle.joint_rule.specs.Rules.{Standing}
 use Rattle.unit_course.specs.Turn.{span_at}
-use Rattle.slot_machine.specs.declared.seats.Present.{Present}
 use Rattle.run_crew.specs.declared.cabin.Cabin.{Cabin}
 use Rattle.run_crew.specs.declared.cards.Cards.{Cards}
 use Rattle.run_crew.specs.Cards.{session_of}
@@ -31,7 +29,7 @@ use Rattle.run_told.specs.Told.{AreFoundCards, AreEarly}
 use Rattle.run_keeping.specs.declared.keeper.Moment.{Moment as KeepingAt}
 use Rattle.run_keeping.specs.Keeping.{Fate, Fell, is_this, tears_of}
 use Rattle.run_keeping.specs.declared.keeper.Keeper.{Keeper}
-use Rattle.run_keeping.specs.Minutes.{Told, Round, Done, present_at}
+use Rattle.run_keeping.specs.Minutes.{Told, Done, present_at}
 use Rattle.run_keeping.specs.Books.{standing_by}
 use Rattle.run_within.specs.Recorded.{Values, GoesOnIn}
 use Rattle.run_within.specs.Within.{Beginning, told_before, course_in, IsLeaving, AreBackAt, AreOld}

@@ -5,10 +5,8 @@ use Rattle.trace_model.specs.declared.Card.{Card}
 use Rattle.trace_model.specs.declared.Action.{Action}
 use Rattle.trace_model.specs.declared.Action.TheVariants.{Withdraw, Place}
 use Rattle.trace_model.specs.Trace.{TraceSecond, driven}
-use Rattle.tach_media.specs.Medium.{State}
 use Rattle.card_layout.specs.declared.files.Application.{Application}
 use Rattle.card_image.specs.Own.{own_sizes, IsOwnValid}
-use Rattle.card_records.specs.declared.card_event.CardEvent.{CardEvent}
 use Rattle.card_records.specs.declared.current_use.CurrentUse.{CurrentUse}
 use Rattle.event_model.specs.Events.{Event, Seen, seen_of, seen_spans, gap_events}
 use Rattle.minute_model.specs.declared.Minute.{Minute}

@@ -1,7 +1,7 @@
 -- What a card shows of its stays in a run in which no call failed (profile): its days, with their words and distances, its vehicle entries
 -- and its current use, exactly; one stay for each acceptance that the log tells, closed where the run notes its withdrawal, and nowhere else; and
 -- what its unit tells of the vehicle before, at each of them.
-use Rattle.std.specs.Prelude.{◌≡◌, ◌⊎◌, ◌≤◌, ◌<◌, ℕ, ◌++◌, Bool, true, false, not, ◌||◌, Option, Some, None, IfSome, option_map, List, [], ◌∷◌, is_some, length, map, filter}
+use Rattle.std.specs.Prelude.{◌≡◌, ◌⊎◌, ◌≤◌, ◌<◌, ℕ, ◌++◌, Bool, true, false, ◌||◌, Option, Some, None, IfSome, option_map, List, [], ◌∷◌, is_some, length, map, filter}
 use Rattle.std.specs.List.{AllByRecursion}
 use Rattle.activity_codec.specs.declared.values.Activity.{Activity}
 use Rattle.activity_codec.specs.declared.values.Slot.{Slot}

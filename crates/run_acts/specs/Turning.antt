@@ -12,7 +12,7 @@ use Rattle.run_keeping.specs.declared.keeper.Moment.{Moment}
 use Rattle.run_keeping.specs.Keeping.{with_lines}
 use Rattle.run_keeping.specs.Minutes.{Told, AreKept, AreKeptUpTo}
 use Rattle.run_acts.specs.declared.run.Run.{Run}
-use Rattle.run_acts.specs.Power.{is_lit, cut_run, passed}
+use Rattle.run_acts.specs.Power.{cut_run, passed}
 
 -- the last of n seconds, behind all actions
 abbrev pub late_moment : (next n begun : ℕ) → Moment

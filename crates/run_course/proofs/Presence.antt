@@ -25,7 +25,7 @@ use Rattle.slot_machine.specs.declared.seats.Seat.{Seat}
 use Rattle.slot_machine.specs.declared.seats.Ended.{Ended}
 use Rattle.slot_machine.specs.declared.seats.Lefts.{Lefts}
 use Rattle.slot_machine.specs.declared.seats.Present.{Present}
-use Rattle.slot_machine.specs.Calls.{Seats, SitsAlike, Agrees, present_in, present_of, is_earlier, ending, ended_in, seat_in, with_seat, is_card}
+use Rattle.slot_machine.specs.Calls.{SitsAlike, present_in, present_of, is_earlier, ending, seat_in, is_card}
 use Rattle.slot_machine.specs.Calls as seats
 use Rattle.slot_machine.specs.Kept.{Kept, IsFree, left_in, with_left, put_in, taken, cut_off, minute_ended}
 use Rattle.slot_machine.proofs.Newest.{new-knows, put-knows, take-knows, cut-knows, end-knows}

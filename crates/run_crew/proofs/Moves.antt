@@ -3,7 +3,6 @@ use Rattle.std.proofs.Common.{◌≡◌, ◌∙◌, inl, inr, ℕ, ◌+◌, ◌/
 use Rattle.std.specs.Prelude.{◌⊎◌, Result, Ok, nat_eq, not, ◌&&◌}
 use Rattle.std.proofs.lemmas.Bool.{eqb-true, ltb-true}
 use Rattle.std.proofs.lemmas.List.Elements.{All-nil, All-cons, All-head, All-tail, All-take, All-weaker}
-use Rattle.activity_codec.proofs.ByTest.{by_test}
 use Rattle.activity_codec.specs.declared.values.Slot.{Slot}
 use Rattle.activity_codec.specs.declared.values.Slot.TheVariants.{Driver, CoDriver}
 use Rattle.trace_model.specs.declared.Card.{Card}
@@ -15,7 +14,7 @@ use Rattle.slot_machine.specs.declared.seats.Seat.{Seat}
 use Rattle.slot_machine.specs.declared.seats.Ended.{Ended}
 use Rattle.slot_machine.specs.declared.seats.Present.{Present}
 use Rattle.slot_machine.specs.Calls.{Seats, seat_in, card_in, is_card, powerless, is_earlier, present_of, present_in}
-use Rattle.slot_machine.specs.Kept.{Kept, KnowsNewest, left_in, nothing_yet, put_in, taken, cut_off, minute_ended}
+use Rattle.slot_machine.specs.Kept.{KnowsNewest, left_in, nothing_yet, put_in, taken, cut_off, minute_ended}
 use Rattle.slot_machine.proofs.Newest.{new-knows}
 use Rattle.run_crew.specs.declared.cards.Accepted.{Accepted}
 use Rattle.run_crew.specs.declared.cards.Known.{Known}
@@ -23,7 +22,7 @@ use Rattle.run_crew.specs.declared.cards.Cards.{Cards}
 use Rattle.run_crew.specs.declared.cabin.Cabin.{Cabin}
 use Rattle.run_crew.specs.Cards.{known_of, session_of, with_session, with_number, with_sizes, IsKnown}
 use Rattle.run_crew.specs.Cabin.{Stands, AnswersTo, SeatAnswers, AreTwo, IsBehind, EndedStands, SitsThere, SitsNowhere, MayBeKept, slot_with, left_from, with_card_in, with_sizes_of, with_accepted, with_slot_left, with_session_of, torn_out, with_power_lost, with_minute_ended}
-use Rattle.run_crew.proofs.Sessions.{same_self, same_is, session_set, session_apart, session_named, sized_of, numbered_of, SameBut, seat_apart, two_first, two_second, two_none, off_first, off_second, sits_is, is_sits, behind_none, behind_less, ended_less, gone_or_same, all_gone, kept_is_apart}
+use Rattle.run_crew.proofs.Sessions.{same_self, session_set, session_apart, session_named, sized_of, numbered_of, SameBut, seat_apart, two_first, two_second, two_none, off_first, off_second, sits_is, behind_none, ended_less, gone_or_same, all_gone, kept_is_apart}
 
 -- ---- a card that has no session
 

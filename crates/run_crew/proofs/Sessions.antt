@@ -1,7 +1,6 @@
 -- What a changed session leaves of the others.
-use Rattle.std.proofs.Common.{◌≡◌, ◌∙◌, inl, inr, ℕ, ◌<◌, ◌≤◌, Bool, true, false, Option, Some, None, IfSome, refl, sym, ap, subst, arith, is_some}
+use Rattle.std.proofs.Common.{◌≡◌, ◌∙◌, inl, inr, ℕ, ◌<◌, ◌≤◌, true, false, Option, Some, None, IfSome, refl, sym, ap, subst, arith, is_some}
 use Rattle.std.specs.Prelude.{◌⊎◌, Ok}
-use Rattle.activity_codec.proofs.ByTest.{by_test}
 use Rattle.trace_model.specs.declared.Card.{Card}
 use Rattle.trace_model.specs.declared.Card.TheVariants.{A, B}
 use Rattle.tacho_types.specs.declared.card_number.FullCardNumber.{FullCardNumber}

@@ -1,10 +1,9 @@
 -- What is noted with an accepted card, over plain states.
-use Rattle.std.proofs.Common.{◌≡◌, ◌≢◌, ◌∙◌, inl, inr, ℕ, ◌+◌, ◌<◌, ◌≤◌, Bool, true, false, Option, Some, None, IfSome, List, [], ◌∷◌, ◌++◌, refl, ap, sym, subst, arith}
+use Rattle.std.proofs.Common.{◌≡◌, ◌≢◌, ◌∙◌, inl, ℕ, ◌+◌, ◌<◌, ◌≤◌, Bool, true, false, Option, Some, None, IfSome, List, [], ◌∷◌, refl, ap, sym, subst, arith}
 use Rattle.std.specs.Prelude.{◌||◌, if◌then◌else◌}
 use Rattle.tach_media.specs.Medium.{State, LeavesOnly, HasCause, HasBroken}
 use Rattle.tach_media.proofs.Runs.{weaken}
 use Rattle.tach_media.proofs.Breakdowns.{none_broken}
-use Rattle.tacho_types.specs.declared.texts.Registration.{Registration}
 use Rattle.card_layout.specs.declared.files.Application.{Application}
 use Rattle.log_model.specs.declared.lines.Break.{Break}
 use Rattle.log_model.specs.declared.lines.Find.{Find}
@@ -24,7 +23,7 @@ use Rattle.run_keeping.specs.declared.keeper.Keeper.{Keeper}
 use Rattle.run_keeping.specs.Keeping.{with_lines}
 use Rattle.run_keeping.proofs.Fates.{no-lines}
 use Rattle.run_entering.specs.declared.lines.Entering.{Entering}
-use Rattle.run_entering.specs.Entering.{Ending, and_one, Unnoted, Seated, Lost, seated, fallen, fallen_breaks, find_of, finds_by, taken_as, count_of, replayed_marks, outcome_by}
+use Rattle.run_entering.specs.Entering.{and_one, seated, fallen, fallen_breaks, find_of, taken_as, replayed_marks, outcome_by}
 use Rattle.run_entering.specs.Noted.{HasNoted, IsOnUnit, IsComing, IsOnCard, IsComingOnCard, Shows, event_of, fault_of, moving_event, seat_notes, notes_with, unclosed_notes, moving_on_card}
 use Rattle.run_entering.specs.Entered.{IsMoved, IsNotedOn, IsSeated, IsEntry, IsTaken, writes_behind}
 use Rattle.run_entering.proofs.Notes.{one-note, lt_some, no-notes, notes-then, notes-cut, notes-maybe, notes-as, notes-unbegun, unclosed-none, unclosed-some, with-moved, with-rest, card-moving, card-resting}

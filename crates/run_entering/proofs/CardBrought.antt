@@ -1,8 +1,7 @@
 -- The events that a card shows once it was judged.
-use Rattle.std.proofs.Common.{◌≡◌, ◌≢◌, ◌⊎◌, ◌∙◌, inl, inr, ⊎_elim, ℕ, ◌+◌, ◌≤◌, Bool, true, false, cond, Option, Some, None, IfSome, List, [], ◌∷◌, ◌++◌, length, refl, sym, ap, subst, arith, append-nil}
+use Rattle.std.proofs.Common.{◌≡◌, ◌≢◌, ◌⊎◌, ◌∙◌, inl, inr, ⊎_elim, ℕ, ◌+◌, ◌≤◌, Bool, true, false, cond, Some, IfSome, List, [], ◌∷◌, ◌++◌, length, refl, sym, ap, subst, arith}
 use Rattle.std.specs.Prelude.{nat_lt, nat_eq}
 use Rattle.std.proofs.lemmas.List.Elements.{filter-append}
-use Rattle.activity_codec.proofs.ByTest.{by_test}
 use Rattle.tach_media.specs.Medium.{State, IsCoherent, LeavesOnly, Unchanged}
 use Rattle.tach_media.proofs.Runs.{at_image}
 use Rattle.tacho_types.specs.declared.texts.Registration.{Registration}
@@ -27,7 +26,7 @@ use Rattle.run_entering.specs.Noted.{HasNoted, IsOnCard, IsComingOnCard, CardNot
 use Rattle.run_entering.specs.CardEvents.{events_in, with_event, all_noted, AreBeingNoted, of_type, ShowsMore, NotesOnCard, unclosed_on}
 use Rattle.run_entering.specs.CardBrought.{moving_on, brought_on, is_cut_short}
 use Rattle.run_entering.proofs.CardTables.{all-shown, all-showing, same-file}
-use Rattle.run_entering.proofs.CardInserted.{same-image, shows-nothing, shows-unbegun, shows-whole, inserted-shown, inserting-shown}
+use Rattle.run_entering.proofs.CardInserted.{same-image, shows-nothing, shows-unbegun, inserted-shown, inserting-shown}
 
 -- ---- events, and then others
 

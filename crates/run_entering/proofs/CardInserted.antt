@@ -1,13 +1,13 @@
 -- The events that a card shows behind an insertion, and at its moments: those of before, and that its session was not closed.
-use Rattle.std.proofs.Common.{◌≡◌, ◌≢◌, ◌⊎◌, ◌∙◌, inl, inr, ⊎_elim, ℕ, ◌+◌, ◌*◌, ◌<◌, ◌≤◌, Bool, true, false, cond, Option, List, [], ◌∷◌, ◌++◌, length, take, drop, refl, sym, ap, subst, arith}
-use Rattle.std.specs.Prelude.{nat_eq, ◌&&◌, slice_index_or}
+use Rattle.std.proofs.Common.{◌≡◌, ◌≢◌, ◌⊎◌, ◌∙◌, inl, inr, ⊎_elim, ℕ, ◌+◌, ◌<◌, ◌≤◌, Bool, true, false, cond, List, [], ◌∷◌, ◌++◌, length, take, drop, refl, sym, ap, subst, arith}
+use Rattle.std.specs.Prelude.{nat_eq, ◌&&◌}
 use Rattle.std.proofs.lemmas.Bool.{eqb-true, eq-eqb, ne_eqb}
 use Rattle.std.proofs.lemmas.List.{take-take, drop-take, take_at, length-take-le, length-append}
 use Rattle.activity_codec.proofs.ByTest.{by_test}
 use Rattle.activity_codec.specs.declared.values.Activity.{Activity}
 use Rattle.activity_codec.specs.declared.values.Activity.TheVariants.{Rest}
 use Rattle.activity_codec.specs.declared.entries.Entry.{Entry}
-use Rattle.card_layout.specs.Images.{bytes_at, put, SameOutside}
+use Rattle.card_layout.specs.Images.{bytes_at, put}
 use Rattle.card_layout.proofs.Images.{part_before}
 use Rattle.tacho_types.specs.declared.texts.Registration.{Registration}
 use Rattle.tacho_types.specs.Numbers.{time_bytes}
@@ -18,20 +18,19 @@ use Rattle.card_records.specs.declared.card_event.CardEvent.{CardEvent}
 use Rattle.card_records.specs.declared.current_use.CurrentUse.{CurrentUse}
 use Rattle.card_records.specs.Events.{event_of}
 use Rattle.card_records.specs.Rings.{event_ring}
-use Rattle.card_records.specs.Noting.{IsEvent, HoldsEvent, IsNotingEvent, IsEventNoted}
 use Rattle.card_model.specs.Days.{Day}
-use Rattle.card_image.specs.Fields.{file, file_bytes, current_use, session_time}
+use Rattle.card_image.specs.Fields.{file, current_use, session_time}
 use Rattle.card_session.specs.Vehicles.{Vehicles}
 use Rattle.card_session.specs.Books.{closed}
 use Rattle.card_session.specs.Cards.{IsCard, IsCardKeeping, IsCardClosing, ended, grown}
 use Rattle.card_session.specs.Sessions.{Session, book_of}
 use Rattle.card_session.specs.Moments.{IsBook, IsKeepMoment, IsCloseMoment}
-use Rattle.card_session.specs.Inserting.{repaired, IsRepairMoment, IsStill, IsRepaired, IsRepairing, HoldsUnclosed, IsNoted, IsNoting, unclosed, IsShut, IsShutting, timed, registered, IsEnded, IsEnding, IsOpened, IsOpening, InsertsClosed, InsertingClosed, InsertsOpen, InsertingOpen, IsReopening, IsCardInserted, IsCardInserting}
+use Rattle.card_session.specs.Inserting.{repaired, IsRepairMoment, IsStill, IsRepaired, HoldsUnclosed, IsNoted, IsNoting, unclosed, IsShut, timed, registered, IsEnded, IsEnding, IsOpened, IsOpening, InsertsClosed, InsertingClosed, InsertsOpen, InsertingOpen, IsReopening, IsCardInserted, IsCardInserting}
 use Rattle.card_session.proofs.Marks.{events_same}
 use Rattle.card_session.proofs.InsertingCards.{use_same}
 use Rattle.card_session.proofs.InsertingAgain.{noted_keeps, ended_keeps}
 use Rattle.event_model.specs.declared.kinds.TheConstants.{SESSION_NOT_CLOSED}
-use Rattle.run_entering.specs.CardEvents.{events_in, kind_of, begin_of, is_held, is_told, with_event, all_noted, AreBeingNoted, of_type, ShowsThese, ShowsMore, IsOnCards, unclosed_on}
+use Rattle.run_entering.specs.CardEvents.{events_in, kind_of, begin_of, is_held, is_told, AreBeingNoted, of_type, ShowsThese, ShowsMore, IsOnCards, unclosed_on}
 use Rattle.run_entering.proofs.CardTables.{one-holds, where-holds, length-events, event-at, same-file, noted-here, noted-elsewhere, being-unbegun, being-all, with-new, with-held, shows-behind, more-then, more-begun}
 
 -- ---- of what is shown

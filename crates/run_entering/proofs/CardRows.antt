@@ -1,9 +1,9 @@
 -- Worked rows: which place an event takes on a card, and what is left at a moment.
-use Rattle.std.proofs.Common.{◌≡◌, ℕ, true, false, List, [], ◌∷◌, inl, inr, refl}
+use Rattle.std.proofs.Common.{◌≡◌, ℕ, List, [], ◌∷◌, inl, inr, refl}
 use Rattle.std.specs.Prelude.{replicate}
 use Rattle.card_records.specs.declared.card_event.CardEvent.{CardEvent}
 use Rattle.card_records.specs.Events.{event_bytes}
-use Rattle.run_entering.specs.CardEvents.{noted_in, is_told, with_event, all_noted, AreBeingNoted, of_type}
+use Rattle.run_entering.specs.CardEvents.{noted_in, with_event, all_noted, AreBeingNoted, of_type}
 
 abbrev event : (kind begin : ℕ) → CardEvent
 event kind begin = record { kind = kind; begin = record { 0 = begin }; end = record { 0 = begin }; registration = record { 0 = replicate 15 0x20 } }

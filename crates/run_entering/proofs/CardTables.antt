@@ -1,9 +1,8 @@
 -- What stands at the places of a card's events, as one event or several are noted, and behind calls that leave them.
-use Rattle.std.proofs.Common.{◌≡◌, ◌≢◌, ◌⊎◌, ◌∙◌, inl, inr, ⊎_elim, ℕ, zero, suc, ◌+◌, ◌*◌, ◌<◌, ◌≤◌, Bool, true, false, cond, Option, Some, None, List, [], ◌∷◌, ◌++◌, length, take, drop, map, refl, sym, ap, subst, arith, length-set, get_or-set_same, get_or-set_other, ext_get_or}
+use Rattle.std.proofs.Common.{◌≡◌, ◌≢◌, ◌⊎◌, ◌∙◌, inl, inr, ⊎_elim, ℕ, zero, suc, ◌+◌, ◌*◌, ◌<◌, ◌≤◌, Bool, true, false, cond, Option, Some, None, List, [], ◌∷◌, ◌++◌, length, drop, refl, sym, ap, subst, arith, length-set, get_or-set_same, get_or-set_other, ext_get_or}
 use Rattle.std.specs.Prelude.{nat_eq, nat_lt, nat_le, ◌&&◌, ◌||◌, not, ◌==◌, slice_index_or, slice_set}
-use Rattle.std.specs.List.{list_all, list_any, range_with_len, position_or_len, AllByRecursion}
+use Rattle.std.specs.List.{list_all, list_any, position_or_len, AllByRecursion}
 use Rattle.std.proofs.lemmas.Bool.{eqb-true, eqb-false, eq-eqb, ne_eqb, lt-ltb, le-leb, ltb-true, ltb-false, leb-true}
-use Rattle.std.proofs.lemmas.List.{take-take, drop-take}
 use Rattle.std.proofs.lemmas.List.FromFn.{length-map-range_with_len, get_or-map-range_with_len}
 use Rattle.std.proofs.lemmas.List.Sums.{position_or_len_is}
 use Rattle.std.proofs.Math.Nat.{mul-le-mul_right}
@@ -12,20 +11,20 @@ use Rattle.card_layout.specs.Images.{bytes_at, number_at, SameOutside}
 use Rattle.card_layout.proofs.Images.{part_before, part_after, part_in}
 use Rattle.card_layout.proofs.Spelled.{number_within}
 use Rattle.card_layout.specs.declared.files.Application.{Application}
-use Rattle.card_layout.specs.Files.{files_of, place_of as place_of_file, size_of as size_of_file}
-use Rattle.gated_ring.specs.Ring.{Shape, entry_at, gate_of, place_of, is_there, size_of as ring_size, with_head}
+use Rattle.card_layout.specs.Files.{place_of as place_of_file, size_of as size_of_file}
+use Rattle.gated_ring.specs.Ring.{Shape, entry_at, gate_of, place_of}
 use Rattle.gated_ring.specs.Change.{SameOthers, IsReplaced, IsAbsent}
 use Rattle.gated_ring.proofs.Places.{place_high}
 use Rattle.card_records.specs.declared.card_event.CardEvent.{CardEvent}
-use Rattle.card_records.specs.Events.{event_bytes, event_of}
+use Rattle.card_records.specs.Events.{event_bytes}
 use Rattle.card_records.specs.Rings.{file, event_ring, set_of, set_size}
-use Rattle.card_records.specs.Noting.{IsEvent, HoldsEvent, TakesPlace, IsNotingEvent, IsEventNoted}
+use Rattle.card_records.specs.Noting.{TakesPlace, IsNotingEvent, IsEventNoted}
 use Rattle.card_records.proofs.Sets.{set_inside}
 use Rattle.card_image.specs.Fields.{file_bytes}
 use Rattle.event_model.specs.Places.{earliest}
 use Rattle.event_model.specs.declared.kinds.TheConstants.{SESSION_NOT_CLOSED}
 use Rattle.run_entering.specs.Noted.{AreDone, AreBeingDone}
-use Rattle.run_entering.specs.CardEvents.{events_in, kind_of, begin_of, written, noted_in, is_held, is_told, with_event, all_noted, IsEmptied, AreBeingNoted, of_type, ShowsThese, ShowsMore, IsOnCards, IsPlain}
+use Rattle.run_entering.specs.CardEvents.{events_in, begin_of, written, noted_in, is_held, is_told, with_event, all_noted, IsEmptied, AreBeingNoted, of_type, ShowsThese, ShowsMore, IsOnCards, IsPlain}
 
 -- ---- tests of lists
 

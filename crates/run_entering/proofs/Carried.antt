@@ -1,5 +1,5 @@
 -- What is carried, over an acceptance: the steps on unit and card that device_steps and run_told have laws of.
-use Rattle.std.proofs.Common.{◌≡◌, ◌≢◌, ◌∙◌, inl, inr, ℕ, ◌/◌, ◌≤◌, Bool, true, false, Option, Some, None, IfSome, is_some, List, [], ◌∷◌, All, refl, ap, sym, subst, ◌<◌, arith}
+use Rattle.std.proofs.Common.{◌≡◌, ◌∙◌, inl, inr, ℕ, ◌/◌, ◌≤◌, Bool, true, false, Option, Some, None, IfSome, is_some, List, [], ◌∷◌, All, refl, ap, sym, subst, ◌<◌, arith}
 use Rattle.std.specs.Prelude.{not, option_map}
 use Rattle.std.proofs.lemmas.List.Elements.{All-nil}
 use Rattle.activity_codec.specs.declared.entries.Entry.{Entry}

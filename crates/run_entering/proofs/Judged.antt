@@ -1,9 +1,9 @@
 -- How a card that was judged ended, over plain states.
-use Rattle.std.proofs.Common.{◌≡◌, ◌∙◌, inl, inr, ⊎_elim, ℕ, ◌+◌, ◌^◌, ◌<◌, ◌≤◌, Bool, true, false, Option, Some, None, IfSome, List, [], ◌∷◌, ◌++◌, length, refl, ap, sym, subst, arith}
+use Rattle.std.proofs.Common.{◌≡◌, ◌∙◌, ⊎_elim, ℕ, ◌+◌, ◌^◌, ◌<◌, ◌≤◌, Bool, true, false, Option, Some, None, IfSome, List, [], ◌∷◌, ◌++◌, length, refl, ap, sym, subst, arith}
 use Rattle.std.specs.Prelude.{Result, Ok, Err}
 use Rattle.activity_codec.specs.declared.entries.Entry.{Entry}
 use Rattle.tach_media.specs.Medium.{State, IsCoherent, LeavesOnly, Unchanged, HasCause, HasBroken, broken_by, revivable}
-use Rattle.tach_media.proofs.Runs.{weaken, from_reads, goes_on, at_image, if_told, where_told, told_too, revived}
+use Rattle.tach_media.proofs.Runs.{from_reads, goes_on, at_image, if_told, where_told, told_too, revived}
 use Rattle.tach_media.proofs.Breakdowns.{none_broken, both_broken, fewer_broken, revive_broken}
 use Rattle.tacho_types.specs.declared.texts.Registration.{Registration}
 use Rattle.card_layout.specs.declared.files.Application.{Application}
@@ -18,11 +18,10 @@ use Rattle.card_judge.specs.Judged.{IsLook}
 use Rattle.card_session.specs.Inserting.{IsCardInserted, IsCardInserting, replayed_count}
 use Rattle.log_model.specs.declared.lines.Break.{Break}
 use Rattle.log_model.specs.declared.lines.Find.{Find}
-use Rattle.log_model.specs.declared.lines.Mark.{Mark}
 use Rattle.device_steps.specs.declared.entering.Entered.{Entered}
 use Rattle.device_steps.specs.declared.entering.NotEntered.{NotEntered}
 use Rattle.device_steps.specs.declared.entering.NotEntered.TheVariants.{UnitFailed, CardFailed, NotValid, TimeOverlap}
-use Rattle.device_steps.specs.Entering.{IsEntering, IsAccepted, owed_on}
+use Rattle.device_steps.specs.Entering.{IsEntering, owed_on}
 use Rattle.run_crew.specs.declared.cabin.Cabin.{Cabin}
 use Rattle.run_outcome.specs.Lines.{Listed}
 use Rattle.run_outcome.specs.declared.outcome.Outcome.{Outcome}
@@ -30,10 +29,10 @@ use Rattle.run_keeping.specs.declared.keeper.Keeper.{Keeper}
 use Rattle.run_keeping.specs.Keeping.{with_lines, tear_of}
 use Rattle.run_keeping.proofs.Fates.{no-lines}
 use Rattle.run_entering.specs.declared.lines.Entering.{Entering}
-use Rattle.run_entering.specs.Entering.{Ending, Unfit, Ahead, Fell, Unasked, Unnoted, Seated, Lost, Way, Unread, Unsized, Judged, ending_of, measured, taken_as, falls_of, cabin_by, outcome_by, noted_by}
-use Rattle.run_entering.specs.Noted.{HasNoted, IsOnUnit, IsComing, IsOnCard, IsComingOnCard, UnitNote, CardNote, PutIn, AreDone, AreBeingDone, AreOnCard, AreComingOnCard, fault_of, notes_by, card_notes_by, card_notes_behind, is_cut}
-use Rattle.run_entering.specs.Entered.{IsEnding, FitsInsertion, IsNew, IsClock, IsPlace, IsTold, IsFound, IsFoundIn, IsWay, IsLeft, IsEntry, IsTaken, IsJudgedSo, HasEntered, writes_behind}
-use Rattle.run_entering.proofs.Notes.{not_cut, one-note, no-notes, notes-read, notes-then, notes-after, notes-as}
+use Rattle.run_entering.specs.Entering.{Ending, Unfit, Ahead, Fell, Unasked, Unnoted, Seated, Lost, Unread, Unsized, Judged, ending_of, measured, taken_as, falls_of, cabin_by, outcome_by}
+use Rattle.run_entering.specs.Noted.{HasNoted, IsOnUnit, IsComing, IsOnCard, IsComingOnCard, PutIn, AreOnCard, fault_of, notes_by, card_notes_by, card_notes_behind, is_cut}
+use Rattle.run_entering.specs.Entered.{IsEnding, FitsInsertion, IsNew, IsClock, IsPlace, IsTold, IsFound, IsEntry, IsTaken, IsJudgedSo, HasEntered}
+use Rattle.run_entering.proofs.Notes.{not_cut, one-note, notes-read, notes-then, notes-after, notes-as}
 use Rattle.run_entering.proofs.Accepted.{kept-broken, fell-broken}
 use Rattle.run_entering.proofs.CardBrought.{IsSitting, only-left, brought-by}
 

@@ -1,8 +1,7 @@
 -- Notes, one after another: how they go on.
-use Rattle.std.proofs.Common.{◌≡◌, ◌≢◌, ◌∙◌, inl, inr, ℕ, ◌<◌, ◌≤◌, Bool, true, false, Option, Some, None, IfSome, List, [], ◌∷◌, ◌++◌, refl, ap, sym, subst, arith}
-use Rattle.std.specs.Prelude.{nat_eq, nat_lt, ◌⊎◌, if◌then◌else◌, option_map, Result, OnOk, is_err}
+use Rattle.std.proofs.Common.{◌≡◌, ◌≢◌, inl, inr, ℕ, ◌<◌, ◌≤◌, Bool, true, false, Option, Some, None, IfSome, List, [], ◌∷◌, ◌++◌, refl, ap, sym, subst, arith}
+use Rattle.std.specs.Prelude.{nat_eq, nat_lt, if◌then◌else◌, option_map, Result, OnOk, is_err}
 use Rattle.std.proofs.lemmas.Bool.Decides.{nat_tests}
-use Rattle.std.proofs.lemmas.List.{append-nil}
 use Rattle.tach_media.specs.Medium.{State, LeavesOnly, Unchanged}
 use Rattle.tach_media.proofs.Runs.{starts, weaken, goes_on, after_reads, at_image, where_told, through, ok_gives}
 use Rattle.event_model.specs.declared.kinds.TheConstants.{INSERTION_WHILE_DRIVING, SESSION_NOT_CLOSED, CARD_FAULT}
@@ -22,7 +21,7 @@ use Rattle.run_notes.specs.Entries.{entry_of}
 use Rattle.run_keeping.specs.declared.keeper.Keeper.{Keeper}
 use Rattle.run_keeping.specs.Keeping as keeping
 use Rattle.run_entering.specs.declared.lines.Entering.{Entering}
-use Rattle.run_entering.specs.Noted.{HasNoted, IsOnUnit, IsComing, Inserts, BeginsRow, Tells, AreDone, AreBeingDone, UnitNote, CardNote, Shows, event_of, fault_of, moving_notes, unclosed_notes, moved_notes, notes_with, moving_event, moving_on_card}
+use Rattle.run_entering.specs.Noted.{HasNoted, IsOnUnit, IsComing, Inserts, BeginsRow, Tells, AreDone, AreBeingDone, UnitNote, Shows, event_of, fault_of, moving_notes, unclosed_notes, moved_notes, notes_with, moving_event, moving_on_card}
 
 one-image : (o p : Option (List ℕ)) (x y : List ℕ) → p ≡ o → o ≡ Some x → p ≡ Some y → y ≡ x
 one-image o p x y same was is = cc

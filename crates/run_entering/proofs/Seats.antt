@@ -1,6 +1,6 @@
 -- The rows of the cards behind an acceptance.
-use Rattle.std.proofs.Common.{◌≡◌, ℕ, ◌<◌, Option, Some, None, IfSome, Bool, true, List, [], ◌∷◌, refl, ap, subst, sym, ◌∙◌, arith}
-use Rattle.std.specs.Prelude.{◌≤◌, option_map, is_some, Result, Ok, Err}
+use Rattle.std.proofs.Common.{◌≡◌, ℕ, ◌<◌, Option, Some, None, IfSome, Bool, true, List, refl, ap, subst, sym, ◌∙◌}
+use Rattle.std.specs.Prelude.{option_map, is_some, Result, Ok, Err}
 use Rattle.activity_codec.specs.declared.values.Slot.{Slot}
 use Rattle.trace_model.specs.declared.Card.{Card}
 use Rattle.trace_model.specs.declared.Card.TheVariants.{A, B}

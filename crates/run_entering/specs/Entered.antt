@@ -25,9 +25,9 @@ use Rattle.run_outcome.specs.declared.outcome.Outcome.{Outcome}
 use Rattle.run_keeping.specs.declared.keeper.Keeper.{Keeper}
 use Rattle.run_keeping.specs.Keeping.{with_lines}
 use Rattle.run_entering.specs.declared.lines.Entering.{Entering}
-use Rattle.run_entering.specs.Entering.{Ending, Unfit, Ahead, Fell, Unasked, Unnoted, Seated, Lost, Way, Unread, Unsized, Judged, ending_of, measured, seated, fallen, fallen_breaks, taken_as, falls_of, count_of, cabin_by, outcome_by, noted_by, and_one}
+use Rattle.run_entering.specs.Entering.{Ending, Unfit, Ahead, Fell, Unasked, Unnoted, Seated, Lost, Way, Unread, Unsized, Judged, ending_of, measured, seated, fallen, fallen_breaks, falls_of, count_of, cabin_by, outcome_by, noted_by, and_one}
 use Rattle.run_entering.specs.CardBrought.{BringsOnCard}
-use Rattle.run_entering.specs.Noted.{HasNoted, IsOnUnit, IsComing, IsOnCard, IsComingOnCard, AreDone, AreBeingDone, AreOnCard, AreComingOnCard, Shows, moving_event, moving_on_card, moved_notes, seat_notes, notes_with, notes_by, card_notes_by, card_notes_behind, is_cut}
+use Rattle.run_entering.specs.Noted.{HasNoted, IsOnUnit, IsComing, IsOnCard, IsComingOnCard, AreOnCard, AreComingOnCard, Shows, moving_event, moving_on_card, moved_notes, seat_notes, notes_with, notes_by, card_notes_by, card_notes_behind, is_cut}
 
 -- a card that told these sizes goes by them; of another the field is the first bad one
 abbrev pub IsMeasured : Result Application ℕ → CardState → State → Type 0

@@ -1,24 +1,16 @@
 -- What becomes of a card that was put into a slot, or meets power there, by value (profile).
-use Rattle.std.specs.Prelude.{◌≡◌, ◌≢◌, ℕ, ◌+◌, ◌-◌, ◌<◌, ◌≤◌, ◌^◌, min, Bool, true, false, Option, Some, None, Result, Ok, Err, IfSome, List, [], ◌∷◌, ◌++◌, length, drop, nat_lt, replicate, if◌then◌else◌}
+use Rattle.std.specs.Prelude.{ℕ, ◌+◌, ◌-◌, ◌^◌, min, Bool, true, false, Option, Some, None, Result, Ok, Err, List, [], ◌∷◌, length, drop, nat_lt, replicate, if◌then◌else◌}
 use Rattle.activity_codec.specs.declared.entries.Entry.{Entry}
 use Rattle.activity_codec.specs.declared.values.Slot.{Slot}
 use Rattle.activity_codec.specs.declared.values.Slot.TheVariants.{Driver, CoDriver}
-use Rattle.tach_media.specs.Medium.{State}
 use Rattle.tacho_types.specs.declared.texts.Registration.{Registration}
 use Rattle.card_layout.specs.declared.files.Application.{Application}
 use Rattle.card_layout.specs.declared.files.Fid.{Fid}
 use Rattle.card_records.specs.declared.vehicle.Vehicle.{Vehicle}
 use Rattle.card_session.specs.Sessions.{Session}
-use Rattle.card_layout.specs.Application.{application_in, first_bad_field, place_of_field}
-use Rattle.card_layout.specs.declared.command.CardState.{CardState}
-use Rattle.card_commands.specs.Ports.{IsPort}
-use Rattle.card_image.specs.Judging.{first_bad_file, IsValid}
-use Rattle.card_image.specs.View.{card_view}
+use Rattle.card_layout.specs.Application.{place_of_field}
 use Rattle.card_judge.specs.declared.looking.CardLook.{CardLook}
-use Rattle.card_judge.specs.Judged.{TellsSizes, IsLook}
-use Rattle.message_model.specs.Records.{insertion_ring}
 use Rattle.unit_notes.specs.declared.insertion.Insertion.{Insertion}
-use Rattle.trace_model.specs.declared.Card.{Card}
 use Rattle.run_model.specs.declared.Device.{Device}
 use Rattle.log_model.specs.declared.lines.Break.{Break}
 use Rattle.log_model.specs.declared.lines.Find.{Find}

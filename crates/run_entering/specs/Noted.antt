@@ -22,9 +22,9 @@ use Rattle.joint_rule.specs.Views.{other}
 use Rattle.run_crew.specs.declared.cabin.Cabin.{Cabin}
 use Rattle.run_crew.specs.Cards.{known_of}
 use Rattle.run_crew.specs.Cabin.{torn_out, crew_of}
-use Rattle.run_notes.specs.Entries.{entry_of, card_entry}
+use Rattle.run_notes.specs.Entries.{entry_of}
 use Rattle.run_entering.specs.declared.lines.Entering.{Entering}
-use Rattle.run_entering.specs.Entering.{Ending, Way, Unread, Unsized, Judged, Unfit, Ahead, Fell, Unasked, Unnoted, Seated, Lost, ending_of, seated, insertion_of}
+use Rattle.run_entering.specs.Entering.{Ending, Way, Unread, Unsized, Judged, Unfit, Ahead, Fell, Unasked, Unnoted, Seated, Lost, seated, insertion_of}
 
 -- ---- notes, one after another
 

@@ -1,5 +1,5 @@
 -- What an acceptance leaves of what is carried, over devices that tell their images (profile).
-use Rattle.std.specs.Prelude.{List, ◌++◌, max, ◌≡◌, ◌⊎◌, ℕ, ◌/◌, ◌<◌, ◌≤◌, Bool, true, false, Option, Some, IfSome, is_some, [], ◌∷◌, length, if◌then◌else◌}
+use Rattle.std.specs.Prelude.{List, ◌++◌, max, ◌≡◌, ◌⊎◌, ℕ, ◌/◌, ◌<◌, ◌≤◌, Bool, true, false, Some, IfSome, is_some, [], ◌∷◌, length, if◌then◌else◌}
 use Rattle.trace_model.specs.declared.Card.{Card}
 use Rattle.tach_media.specs.Medium.{State, LeavesOnly, Unchanged, last_count}
 use Rattle.tacho_types.specs.CardNumber.{card_number_bytes}

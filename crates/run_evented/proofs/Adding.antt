@@ -1,6 +1,5 @@
 -- What a second has brought so far, as it begins, with each step, and as it ends.
-use Rattle.std.proofs.Common.{◌≡◌, ℕ, suc, ◌+◌, Bool, true, false, not, ◌&&◌, List, [], ◌∷◌, ◌++◌, Contains, map, refl, ap, sym, subst, ◌∙◌, arith, append_assoc, append-nil}
-use Rattle.std.specs.Prelude.{flat_map, is_some}
+use Rattle.std.proofs.Common.{◌≡◌, ℕ, ◌+◌, true, false, not, ◌&&◌, List, [], ◌∷◌, ◌++◌, Contains, refl, ap, sym, subst, ◌∙◌, arith, append_assoc, append-nil}
 use Rattle.std.specs.List.{AllByRecursion, list_any}
 use Rattle.activity_codec.specs.declared.values.Slot.{Slot}
 use Rattle.activity_codec.specs.Activity.{same_slot}
@@ -10,7 +9,7 @@ use Rattle.card_image.specs.Own.{IsOwnValid}
 use Rattle.log_model.specs.declared.lines.Verdict.{Verdict}
 use Rattle.log_model.specs.Log.{RunLog, In, same_phase, is_accepting}
 use Rattle.log_model.specs.Course.{Told, Visit, Before, Course, has_power, second_told, went, Went}
-use Rattle.event_model.specs.Events.{Event, Seen, Tearing, number_of, seen_by, seen_of, seen_spans, events_of, torn_at, accepted_at}
+use Rattle.event_model.specs.Events.{Event, Seen, Tearing, seen_by, seen_of, seen_spans, events_of}
 use Rattle.unit_course.specs.Followed.{Lit}
 use Rattle.unit_course.specs.Turn.{begins_with}
 use Rattle.side_model.specs.Done.{done_by}
@@ -19,7 +18,7 @@ use Rattle.safety_model.specs.Recording.{card_image}
 use Rattle.safety_model.specs.Safe.{Devices}
 use Rattle.event_course.specs.Shown.{all_kinds}
 use Rattle.event_course.proofs.Shows.{each-kind}
-use Rattle.run_course.specs.Followed.{Progress, Followed}
+use Rattle.run_course.specs.Followed.{Progress}
 use Rattle.run_course.specs.Seconds.{GoesOnBy}
 use Rattle.run_course.proofs.Steps.{with-supply, went-same_}
 use Rattle.run_course.proofs.Told.{lit-power, lit-starts, lit-told}
@@ -36,8 +35,8 @@ use Rattle.run_recorded.specs.Whole.{NothingFailed}
 use Rattle.run_evented.specs.Opened.{IsOpenSo}
 use Rattle.run_evented.specs.Uses.{times_of, opened_in, notes_in, notes_now, uses_in, AreExactIn, FindsNone}
 use Rattle.run_evented.specs.Evented.{number_in, limit_in, brought_now}
-use Rattle.run_evented.specs.Noting.{Stage, Waking, Acting, Ended, is_told, AreOpen, EventedIn, NotesThese, stage_of}
-use Rattle.run_evented.specs.SoFar.{puts_into, planned, FitsSoFar, SoFar, Adds, StepsFollow, EventedNow, BeginsNow, ASecondBegins, ACallNotes, ASecondEnds}
+use Rattle.run_evented.specs.Noting.{Stage, Waking, Acting, Ended, is_told, AreOpen, EventedIn}
+use Rattle.run_evented.specs.SoFar.{planned, FitsSoFar, SoFar, Adds, StepsFollow, EventedNow, BeginsNow, ASecondBegins, ACallNotes, ASecondEnds}
 use Rattle.run_evented.proofs.Bringing.{brought-as}
 use Rattle.run_evented.proofs.Brought.{lit-course}
 use Rattle.run_evented.proofs.Choices.{planned-put, fits-in}

@@ -12,13 +12,13 @@ use Rattle.trace_model.specs.declared.Action.TheVariants.{Select, Insert, Withdr
 use Rattle.trace_model.specs.Trace.{TraceSecond}
 use Rattle.log_model.specs.declared.lines.SlotFault.{SlotFault}
 use Rattle.log_model.specs.Log.{RunLog, Phase, In, Keeping, same_phase, cut_in, is_torn_in, is_accepting}
-use Rattle.log_model.specs.Slots.{Slots, Sitting, in_slot, other_slot, refusal}
+use Rattle.log_model.specs.Slots.{Slots, Sitting, other_slot, refusal}
 use Rattle.log_model.specs.Course.{Visit, Course, Before, Moved, card_in, visits, has_power, second_told, lit_course, slot_told, both_told, moved_by, unmoved, begins, is_settling, fresh, acted, all_acted, answered, cut_told}
-use Rattle.event_model.specs.Events.{Seen, Tearing, number_of, seen_by, is_first, entered_at, torn_at, accepted_at}
+use Rattle.event_model.specs.Events.{Seen, Tearing, number_of, seen_by, is_first}
 use Rattle.run_events.specs.Choice.{IsTornIn}
 use Rattle.run_events.proofs.Later.{told-number}
 use Rattle.run_evented.specs.Noting.{Stage}
-use Rattle.run_evented.specs.SoFar.{puts_into, first_planned, planned, FitsSoFar, MayFollow}
+use Rattle.run_evented.specs.SoFar.{puts_into, planned, FitsSoFar, MayFollow}
 use Rattle.run_evented.specs.Bringing.{ChoiceBefore, TornSecond}
 use Rattle.run_evented.proofs.Brought.{lit-course, told-speed}
 use Rattle.run_evented.proofs.Parts.{found_now, torn_so, accepted_so, judged}

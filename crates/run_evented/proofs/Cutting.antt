@@ -1,9 +1,8 @@
 -- The unit fails in a call, and the cut that is told ends the second: its line takes nothing back.
-use Rattle.std.proofs.Common.{◌≡◌, ◌⊎◌, inl, inr, ⊎_elim, ℕ, zero, suc, ◌+◌, ◌<◌, ◌≤◌, Bool, true, false, cond, not, ◌&&◌, ◌||◌, Option, Some, None, List, [], ◌∷◌, ◌++◌, Contains, map, filter, length, take, nat_eq, nat_lt, is_some, refl, ap, sym, subst, ◌∙◌, arith, append-nil, append_assoc}
+use Rattle.std.proofs.Common.{◌≡◌, ◌⊎◌, inr, ⊎_elim, ℕ, ◌+◌, Bool, true, false, cond, not, ◌&&◌, ◌||◌, Option, Some, None, List, [], ◌∷◌, ◌++◌, Contains, map, filter, length, take, nat_eq, nat_lt, is_some, refl, ap, sym, subst, ◌∙◌, arith, append_assoc}
 use Rattle.std.specs.Prelude.{◌==◌, flat_map, option_map, option_to_list}
 use Rattle.std.specs.List.{AllByRecursion, list_any, filter_map}
 use Rattle.std.proofs.lemmas.Bool.Decides.{nat_tests}
-use Rattle.activity_codec.specs.declared.values.Slot.{Slot}
 use Rattle.activity_codec.specs.declared.values.Slot.TheVariants.{Driver, CoDriver}
 use Rattle.activity_codec.specs.Activity.{same_slot}
 use Rattle.trace_model.specs.declared.Action.{Action}
@@ -13,48 +12,46 @@ use Rattle.run_model.specs.declared.Device.TheVariants.{Unit as Recorder}
 use Rattle.log_model.specs.declared.lines.Break.{Break}
 use Rattle.log_model.specs.declared.lines.Verdict.{Verdict}
 use Rattle.log_model.specs.declared.lines.Verdict.TheVariants.{Accepted, NotValid, TimeOverlap}
-use Rattle.log_model.specs.Log.{RunLog, Phase, In, Keeping, same_phase, cut_in, cut_of, kept_after, is_torn_in, found_in, is_accepting}
-use Rattle.log_model.specs.Slots.{Slots, is_accepted}
+use Rattle.log_model.specs.Log.{RunLog, Phase, In, Keeping, same_phase, cut_in, kept_after, is_torn_in, is_accepting}
+use Rattle.log_model.specs.Slots.{is_accepted}
 use Rattle.log_model.specs.Causes.{RoseBy}
 use Rattle.log_model.specs.Course.{Told, Visit, Course, Before, has_power, second_told, went, Went}
 use Rattle.event_model.specs.declared.kinds.TheConstants.{CARD_NOT_VALID, TIME_OVERLAP, DRIVING_WITHOUT_CARD, INSERTION_WHILE_DRIVING, SESSION_NOT_CLOSED, OVER_SPEEDING, POWER_INTERRUPTION, CARD_FAULT}
 use Rattle.event_model.specs.declared.entries.Span.{Span}
 use Rattle.event_model.specs.Spans.{gap_of}
-use Rattle.event_model.specs.Runs.{last_run, runs_behind, ended_by}
-use Rattle.event_model.specs.Events.{Event, Crew, Seen, Tearing, number_of, last_number, noted_with, course_by, seen_by, seen_of, seen_spans, is_bare, bare_event, speed_second, over_event, gap_event, torn_at, first_card, accepted_at, standing, crew_judged, found_events, fault_of, torn_in_turn, is_codriver_first}
+use Rattle.event_model.specs.Runs.{last_run}
+use Rattle.event_model.specs.Events.{Event, Seen, Tearing, number_of, last_number, noted_with, seen_by, seen_of, seen_spans, is_bare, bare_event, over_event, first_card, standing, crew_judged, found_events, fault_of, torn_in_turn, is_codriver_first}
 use Rattle.unit_course.specs.Lines.{cut_at, tells_cut}
 use Rattle.unit_course.specs.Followed.{Supply, Lit}
 use Rattle.unit_course.specs.Turn.{begins_with}
 use Rattle.safety_model.specs.Safe.{Devices}
 use Rattle.event_course.specs.Noted.{are_sure}
 use Rattle.event_course.specs.Shown.{all_kinds}
-use Rattle.run_course.specs.Moments.{and_break, SameUpTo}
+use Rattle.run_course.specs.Moments.{and_break}
 use Rattle.run_course.specs.Followed.{Progress}
 use Rattle.run_course.specs.Seconds.{GoesOnBy}
 use Rattle.run_course.proofs.Lookups.{break-more}
 use Rattle.run_course.proofs.Moments.{later-lines}
 use Rattle.run_course.proofs.Steps.{went-same_}
-use Rattle.run_moments.specs.Reached.{IsBehind, IsUpTo, course_at}
 use Rattle.run_moments.specs.Moment.{Moment, goes_on}
 use Rattle.run_moments.specs.Telling.{IsMore, begun_by, IsLeft}
 use Rattle.run_moments.proofs.Telling.{cut-ends_told}
 use Rattle.run_events.specs.Shown.{by_kind, none}
-use Rattle.run_events.specs.Seconds.{last_of, span_before, bares_by, overs_by, is_fast, gap_before, gap_by, faults_by, found_by, second_events, seen_next}
-use Rattle.run_events.specs.Gaps.{IsTold, OfLast, IsKnownLast, HasGaps, TellsMore}
+use Rattle.run_events.specs.Seconds.{last_of, span_before, bares_by, overs_by, is_fast, gap_before, gap_by, faults_by, found_by, second_events}
+use Rattle.run_events.specs.Gaps.{IsTold, OfLast, IsKnownLast, HasGaps}
 use Rattle.run_events.specs.Choice.{IsTornIn}
 use Rattle.run_events.proofs.Later.{told-number}
 use Rattle.run_recorded.specs.Origin.{Origin, rule_of, start_at, first_of}
-use Rattle.run_recorded.specs.Beside.{HaveLeftMore}
 use Rattle.run_evented.specs.Evented.{limit_in, brought_now, events_now}
 use Rattle.run_evented.specs.Noting.{Stage, Waking, Acting, Ended, is_told}
-use Rattle.run_evented.specs.SoFar.{FitsSoFar, SoFar, Adds, BeginsNow, EventedNow, AFailureCuts}
-use Rattle.run_evented.proofs.Lines.{same-before, tells-so}
+use Rattle.run_evented.specs.SoFar.{FitsSoFar, SoFar, BeginsNow, AFailureCuts}
+use Rattle.run_evented.proofs.Lines.{tells-so}
 use Rattle.run_evented.proofs.Seconds.{cut-goes}
 use Rattle.run_evented.proofs.Whole.{whole-told}
 use Rattle.run_evented.proofs.Brought.{lit-course, told-speed}
 use Rattle.run_evented.proofs.Bringing.{brought-as}
 use Rattle.run_evented.proofs.Choices.{fits-in}
-use Rattle.run_evented.proofs.Noting.{by-more, bool-or, empty-or, cut-by}
+use Rattle.run_evented.proofs.Noting.{by-more, bool-or, cut-by}
 use Rattle.run_evented.proofs.Adding.{power-now, starts-now, next-as, open-by, open-of, later-images, evented-in}
 use Rattle.run_course.proofs.Told.{lit-told}
 

@@ -1,12 +1,10 @@
 -- What has ended with the second before is noted behind all else.
-use Rattle.std.proofs.Common.{◌≡◌, ◌⊎◌, inl, inr, ⊎_elim, ℕ, Bool, true, false, cond, List, [], ◌∷◌, ◌++◌, Contains, nat_eq, refl, ap, sym, subst, ◌∙◌, arith, append-nil}
+use Rattle.std.proofs.Common.{◌≡◌, ℕ, Bool, true, false, cond, List, [], ◌∷◌, ◌++◌, Contains, nat_eq, refl, ap, sym, subst, ◌∙◌, arith, append-nil}
 use Rattle.std.specs.List.{AllByRecursion}
 use Rattle.std.proofs.lemmas.Bool.{eqb-false}
-use Rattle.trace_model.specs.Trace.{TraceSecond}
-use Rattle.log_model.specs.Log.{RunLog}
-use Rattle.log_model.specs.Course.{Visit, Before, went}
+use Rattle.log_model.specs.Course.{went}
 use Rattle.event_model.specs.declared.kinds.TheConstants.{DRIVING_WITHOUT_CARD, OVER_SPEEDING}
-use Rattle.event_model.specs.Events.{Event, Seen, Tearing, seen_of, seen_spans}
+use Rattle.event_model.specs.Events.{Event, Seen, seen_of, seen_spans}
 use Rattle.safety_model.specs.Safe.{Devices}
 use Rattle.event_course.specs.Shown.{all_kinds}
 use Rattle.event_course.proofs.Shows.{each-kind}

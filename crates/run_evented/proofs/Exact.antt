@@ -11,7 +11,6 @@ use Rattle.trace_model.specs.declared.Card.{Card}
 use Rattle.trace_model.specs.declared.Action.{Action}
 use Rattle.trace_model.specs.declared.Action.TheVariants.{Select, Insert, Withdraw, Tear as Pull, Place}
 use Rattle.trace_model.specs.Trace.{TraceSecond}
-use Rattle.card_image.specs.Own.{IsOwnValid}
 use Rattle.log_model.specs.declared.lines.Break.{Break}
 use Rattle.log_model.specs.declared.lines.Break.TheVariants.{Cut, Tear}
 use Rattle.log_model.specs.declared.lines.Verdict.{Verdict}
@@ -28,7 +27,7 @@ use Rattle.unit_course.specs.Lines.{cut_at, with_kept, found_from}
 use Rattle.run_course.specs.Moments.{and_break}
 use Rattle.run_course.specs.Followed.{Progress, Followed}
 use Rattle.run_course.specs.Seconds.{GoesOnBy, next_told}
-use Rattle.run_course.proofs.Logs.{refused-at, went-refused}
+use Rattle.run_course.proofs.Logs.{went-refused}
 use Rattle.run_course.proofs.Steps.{now-told}
 use Rattle.run_course.proofs.Told.{told-lit}
 use Rattle.run_moments.specs.Reached.{IsTearAt}
@@ -36,7 +35,7 @@ use Rattle.run_events.specs.Seconds.{seen_next}
 use Rattle.run_recorded.specs.Origin.{Origin, rule_of, start_at, first_of}
 use Rattle.run_recorded.specs.Whole.{NothingFailed}
 use Rattle.run_recorded.proofs.Beside.{second-tells}
-use Rattle.run_evented.specs.Uses.{times_of, opened_in, opened_on, notes_in, noted_next, notes_now, vehicle_in, use_in, uses_in, AreExact, AreExactIn}
+use Rattle.run_evented.specs.Uses.{times_of, opened_in, opened_on, notes_in, noted_next, vehicle_in, use_in, uses_in, AreExact, AreExactIn}
 use Rattle.run_evented.specs.Evented.{sessions_now}
 use Rattle.run_evented.proofs.Noted.{notes-alike, second-notes}
 use Rattle.run_evented.proofs.Lines.{same-before, number-next}

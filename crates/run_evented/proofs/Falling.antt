@@ -1,7 +1,5 @@
 -- A card is torn out in an action or in the keeping: what that adds.
-use Rattle.std.proofs.Common.{◌≡◌, ℕ, Bool, true, false, List, [], ◌∷◌, ◌++◌, Contains, is_some, refl, ap, sym, subst, ◌∙◌, arith}
-use Rattle.activity_codec.specs.declared.values.Slot.{Slot}
-use Rattle.trace_model.specs.Trace.{TraceSecond}
+use Rattle.std.proofs.Common.{◌≡◌, true, List, [], ◌∷◌, ◌++◌, Contains, is_some, refl, ap, sym, subst, ◌∙◌, arith}
 use Rattle.log_model.specs.declared.lines.Verdict.{Verdict}
 use Rattle.log_model.specs.Log.{RunLog, is_torn_in}
 use Rattle.log_model.specs.Slots.{other_slot}
@@ -14,7 +12,7 @@ use Rattle.run_moments.proofs.Reached.{lines-reached}
 use Rattle.run_events.specs.Shown.{by_kind}
 use Rattle.run_events.specs.Seconds.{seen_next}
 use Rattle.run_evented.specs.Evented.{brought_now}
-use Rattle.run_evented.specs.Noting.{Stage, Waking, Acting}
+use Rattle.run_evented.specs.Noting.{Waking, Acting}
 use Rattle.run_evented.specs.SoFar.{FitsSoFar, fault_with, crew_at, ATearAdds}
 use Rattle.run_evented.specs.Bringing.{ChoiceBefore, TornSecond}
 use Rattle.run_evented.proofs.Bringing.{apart-of, fault-left, torn-first, accepted-first, found-alike, tear-brings}

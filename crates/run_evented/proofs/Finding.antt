@@ -1,6 +1,6 @@
 -- A card is judged: what that adds.
-use Rattle.std.proofs.Common.{◌≡◌, ◌⊎◌, inl, inr, ⊎_elim, ℕ, zero, suc, ◌+◌, ◌<◌, ◌≤◌, Bool, true, false, cond, not, ◌&&◌, ◌||◌, Option, Some, None, List, [], ◌∷◌, ◌++◌, Contains, map, filter, length, nat_eq, nat_lt, is_some, refl, ap, sym, subst, ◌∙◌, arith, append-nil, append_assoc}
-use Rattle.std.specs.Prelude.{◌==◌, flat_map, option_map, slice_get}
+use Rattle.std.proofs.Common.{◌≡◌, ◌⊎◌, inl, inr, ⊎_elim, ℕ, zero, suc, ◌+◌, ◌<◌, ◌≤◌, Bool, true, false, cond, not, ◌&&◌, Option, Some, None, List, [], ◌∷◌, ◌++◌, Contains, map, filter, length, nat_eq, nat_lt, is_some, refl, ap, sym, subst, ◌∙◌, arith, append-nil, append_assoc}
+use Rattle.std.specs.Prelude.{◌==◌, flat_map, slice_get}
 use Rattle.std.specs.List.{AllByRecursion, list_any}
 use Rattle.std.proofs.lemmas.Bool.{eqb-true}
 use Rattle.std.proofs.lemmas.Bool.Decides.{nat_tests}
@@ -17,11 +17,11 @@ use Rattle.log_model.specs.declared.lines.SlotFault.{SlotFault}
 use Rattle.log_model.specs.declared.lines.Find.{Find}
 use Rattle.log_model.specs.declared.lines.Verdict.{Verdict}
 use Rattle.log_model.specs.declared.lines.Verdict.TheVariants.{Accepted, NotValid, TimeOverlap}
-use Rattle.log_model.specs.Log.{RunLog, Phase, In, Keeping, same_phase, is_torn_in, found_in, kept_after, is_accepting}
-use Rattle.log_model.specs.Slots.{Slots, Sitting, same_card, in_slot, other_slot, is_accepted, refusal}
-use Rattle.log_model.specs.Course.{Told, Visit, Course, Before, Moved, card_in, visits, has_power, moved_by, unmoved, both_told, went}
+use Rattle.log_model.specs.Log.{RunLog, Phase, In, same_phase, is_torn_in, found_in, is_accepting}
+use Rattle.log_model.specs.Slots.{Slots, Sitting, same_card, in_slot, other_slot, refusal}
+use Rattle.log_model.specs.Course.{Visit, Course, Before, Moved, card_in, visits, has_power, moved_by, both_told, went}
 use Rattle.event_model.specs.declared.kinds.TheConstants.{CARD_NOT_VALID, TIME_OVERLAP, DRIVING_WITHOUT_CARD, INSERTION_WHILE_DRIVING, SESSION_NOT_CLOSED, OVER_SPEEDING, POWER_INTERRUPTION, CARD_FAULT}
-use Rattle.event_model.specs.Events.{Event, Crew, Seen, Tearing, number_of, noted_with, crew_of, with_card, accepted_card, course_by, seen_by, seen_of, seen_spans, torn_at, accepted_at, first_card, standing, beside_judged, crew_judged, found_events, is_first, beside_torn, fault_of, is_codriver_first, torn_in_turn}
+use Rattle.event_model.specs.Events.{Event, Crew, Seen, Tearing, number_of, noted_with, crew_of, with_card, accepted_card, course_by, seen_by, seen_of, seen_spans, torn_at, accepted_at, first_card, standing, beside_judged, crew_judged, found_events, is_first, beside_torn, fault_of, torn_in_turn}
 use Rattle.safety_model.specs.Safe.{Devices}
 use Rattle.event_course.specs.Shown.{all_kinds}
 use Rattle.run_course.specs.Moments.{and_find, finds_here}
@@ -32,23 +32,23 @@ use Rattle.run_moments.proofs.Reached.{at-by, lines-reached}
 use Rattle.run_moments.proofs.Lines.{who-sits}
 use Rattle.run_moments.proofs.Telling.{each-of}
 use Rattle.run_events.specs.Shown.{by_kind}
-use Rattle.run_events.specs.Seconds.{span_before, bares_by, overs_by, gap_before, gap_by, faults_by, found_by, second_events}
+use Rattle.run_events.specs.Seconds.{span_before, bares_by, overs_by, gap_by, faults_by, found_by, second_events}
 use Rattle.run_events.specs.Running.{judged_notes}
 use Rattle.run_events.proofs.Later.{told-number}
 use Rattle.run_events.proofs.Notes.{one-judged}
 use Rattle.run_evented.specs.Opened.{IsOpenSo}
 use Rattle.run_evented.specs.Uses.{times_of, opened_in, notes_in, notes_now, uses_in}
 use Rattle.run_evented.specs.Evented.{limit_in}
-use Rattle.run_evented.specs.Noting.{Stage, Waking, Acting, is_told}
+use Rattle.run_evented.specs.Noting.{Acting, is_told}
 use Rattle.run_evented.specs.SoFar.{FitsSoFar, stage_in, AreBare, ComesInTurn, judged_with, crew_at, AFindAdds}
-use Rattle.run_evented.proofs.Fronts.{IsFormer, former-other, DifferAt, torn-same, accepted-same, stands-same, events-as}
+use Rattle.run_evented.proofs.Fronts.{IsFormer, former-other, DifferAt, accepted-same, stands-same, events-as}
 use Rattle.run_evented.proofs.Parts.{outs, found_now, finds}
 use Rattle.run_evented.proofs.Brought.{SameBefore, told-speed, begun-same, moved-same, within-same, differ, faults-then, found-then}
 use Rattle.run_evented.proofs.Bringing.{kinds-then, few-at, before-as, crew-beside, paired}
-use Rattle.run_evented.proofs.Tearing.{and-none, same-self, phase-self, slot-self, slot-apart, slot-beside, other-twice, told_slot, both-slot, cards-kept, IsBeside, turn-few, only-other, few-alone, map-few, not-torn, few-torn}
+use Rattle.run_evented.proofs.Tearing.{and-none, same-self, phase-self, slot-self, slot-apart, slot-beside, told_slot, both-slot, cards-kept, IsBeside, turn-few, only-other, few-alone, map-few, not-torn, few-torn}
 use Rattle.run_evented.proofs.Stood.{accepted_here, bare-card, stands-as}
 use Rattle.run_evented.proofs.Uses.{card-turned}
-use Rattle.run_evented.proofs.Adding.{power-now, starts-now, fits-now, open-now, exact-by, added, aside-acting, aside-waking}
+use Rattle.run_evented.proofs.Adding.{power-now, fits-now, open-now, exact-by, added, aside-acting, aside-waking}
 
 -- ---- what is found open
 abbrev with_session : (own : ℕ → Visit → ℕ) → Phase → Slot → (session : ℕ) → ℕ → Visit → ℕ

@@ -1,32 +1,28 @@
 -- What was kept before a power-on; and events that fit their fields.
-use Rattle.std.proofs.Common.{◌≡◌, ◌⊎◌, ◌^◌, inl, inr, ⊎_elim, ℕ, zero, suc, ◌+◌, ◌*◌, ◌/◌, ◌<◌, ◌≤◌, Bool, true, false, cond, ◌||◌, Option, Some, None, List, [], ◌∷◌, ◌++◌, Contains, All, length, take, drop, nat_lt, is_some, refl, ap, sym, subst, ◌∙◌, arith, append_assoc}
+use Rattle.std.proofs.Common.{◌≡◌, ◌^◌, ℕ, zero, suc, ◌+◌, ◌*◌, ◌/◌, ◌<◌, Bool, true, false, cond, ◌||◌, Option, Some, None, List, [], ◌∷◌, ◌++◌, All, take, drop, nat_lt, is_some, refl, ap, sym, subst, ◌∙◌, arith}
 use Rattle.std.specs.Prelude.{◌==◌, option_map, option_to_list}
-use Rattle.std.specs.List.{AllByRecursion, list_any}
 use Rattle.std.proofs.lemmas.List.Folds.{list_any-append}
 use Rattle.activity_codec.specs.declared.values.Slot.{Slot}
 use Rattle.trace_model.specs.declared.Card.{Card}
 use Rattle.trace_model.specs.Trace.{TraceSecond}
 use Rattle.log_model.specs.declared.lines.Break.{Break}
-use Rattle.log_model.specs.declared.lines.Verdict.{Verdict}
-use Rattle.log_model.specs.declared.lines.Verdict.TheVariants.{Accepted, NotValid, TimeOverlap}
+use Rattle.log_model.specs.declared.lines.Verdict.TheVariants.{Accepted}
 use Rattle.log_model.specs.Log.{RunLog, cut_of, kept_after}
 use Rattle.event_model.specs.declared.kinds.TheConstants.{POWER_INTERRUPTION, INSERTION_WHILE_DRIVING, SESSION_NOT_CLOSED}
 use Rattle.event_model.specs.declared.entries.Span.{Span}
 use Rattle.event_model.specs.Spans.{gap_of}
 use Rattle.event_model.specs.Events.{Event, Crew, Seen, noted_with, with_card, last_number, seen_of, seen_spans}
-use Rattle.unit_course.specs.Lines.{log_of, with_kept, found_from, tells_cut}
+use Rattle.unit_course.specs.Lines.{tells_cut}
 use Rattle.unit_course.specs.Followed.{Supply, Lit, Due, Lost, IsDark}
 use Rattle.unit_course.proofs.Lines.{kept-now}
-use Rattle.run_course.specs.Followed.{Progress, Followed}
-use Rattle.run_course.specs.Seconds.{GoesOnBy}
+use Rattle.run_course.specs.Followed.{Progress}
 use Rattle.run_course.proofs.Logs.{all-before, same-found}
 use Rattle.run_course.proofs.Lookups.{kept-by}
 use Rattle.run_events.specs.Seconds.{last_of}
-use Rattle.run_events.specs.Gaps.{IsTold, IsUntold, OfLast, IsKnownLast, HasGaps}
+use Rattle.run_events.specs.Gaps.{IsTold, IsUntold, OfLast, IsKnownLast}
 use Rattle.run_events.proofs.Gaps.{is-found}
 use Rattle.run_events.proofs.Later.{seen-same}
 use Rattle.log_model.specs.Same.{SameAt}
-use Rattle.run_recorded.specs.Origin.{Origin, rule_of, start_at, first_of}
 use Rattle.run_recorded.specs.Seconds.{found_again}
 use Rattle.run_evented.specs.SoFar.{fault_with, judged_with, interruption}
 use Rattle.run_evented.specs.Kept.{interruption_of, TheInterruptionIsFound, NoBreakNoSpan, AreSmall}

@@ -1,5 +1,5 @@
 -- What adds nothing: an action is refused, or a card is pulled out.
-use Rattle.std.proofs.Common.{◌≡◌, ◌⊎◌, ℕ, suc, Bool, true, false, cond, not, ◌&&◌, Option, Some, None, List, [], ◌∷◌, ◌++◌, Contains, map, is_some, refl, ap, sym, subst, ◌∙◌, arith, append-nil}
+use Rattle.std.proofs.Common.{◌≡◌, ◌⊎◌, ℕ, suc, Bool, true, false, cond, not, ◌&&◌, None, List, [], ◌∷◌, ◌++◌, Contains, map, is_some, refl, ap, sym, subst, ◌∙◌, arith, append-nil}
 use Rattle.std.specs.Prelude.{◌==◌, flat_map}
 use Rattle.std.specs.List.{list_any}
 use Rattle.std.proofs.lemmas.Bool.Decides.{nat_tests}
@@ -10,37 +10,35 @@ use Rattle.trace_model.specs.declared.Card.{Card}
 use Rattle.trace_model.specs.declared.Card.TheVariants.{A}
 use Rattle.trace_model.specs.Trace.{TraceSecond}
 use Rattle.log_model.specs.declared.lines.Break.{Break}
-use Rattle.log_model.specs.declared.lines.Refused.{Refused}
 use Rattle.log_model.specs.declared.lines.Verdict.{Verdict}
-use Rattle.log_model.specs.Log.{RunLog, Phase, In, Keeping, same_phase, kept_by, kept_after, is_torn_in, found_in}
-use Rattle.log_model.specs.Slots.{Slots, in_slot, other_slot}
+use Rattle.log_model.specs.Log.{RunLog, Phase, In, Keeping, same_phase, kept_by, is_torn_in}
+use Rattle.log_model.specs.Slots.{in_slot, other_slot}
 use Rattle.log_model.specs.Course.{Visit, Course, Before, Moved, card_in, visits, has_power, went}
 use Rattle.event_model.specs.declared.kinds.TheConstants.{DRIVING_WITHOUT_CARD, OVER_SPEEDING, POWER_INTERRUPTION, CARD_FAULT}
-use Rattle.event_model.specs.Events.{Event, Seen, Tearing, number_of, noted_with, with_card, accepted_card, seen_by, seen_of, seen_spans, torn_at, standing, found_events, is_first, beside_torn, fault_of, torn_in_turn}
+use Rattle.event_model.specs.Events.{Seen, Tearing, number_of, noted_with, with_card, accepted_card, seen_by, seen_of, seen_spans, torn_at, standing, found_events, is_first, beside_torn, fault_of, torn_in_turn}
 use Rattle.side_model.specs.Noted.{Note}
 use Rattle.safety_model.specs.Safe.{Devices}
 use Rattle.run_course.specs.Moments.{and_break, and_refused}
 use Rattle.run_course.proofs.Lookups.{break-more}
 use Rattle.run_course.proofs.Told.{lit-told}
-use Rattle.run_moments.specs.Reached.{IsBehind, IsMoment, IsUpTo, Reaches, begun_at, moved_at, course_at, IsTearAt}
+use Rattle.run_moments.specs.Reached.{IsMoment, IsUpTo, Reaches, begun_at, moved_at, course_at, IsTearAt}
 use Rattle.run_moments.proofs.Reached.{lines-reached}
-use Rattle.run_events.specs.Shown.{by_kind}
 use Rattle.run_events.specs.Seconds.{span_before, bares_by, overs_by, gap_by, faults_by, found_by, second_events}
 use Rattle.run_events.proofs.Later.{seen-by-same}
 use Rattle.run_evented.specs.Evented.{limit_in}
 use Rattle.run_evented.specs.Noting.{Acting, is_told}
 use Rattle.run_evented.specs.Bringing.{NotFound}
 use Rattle.run_evented.specs.SoFar.{FitsSoFar, ARefusalAddsNothing, APullAddsNothing}
-use Rattle.run_evented.proofs.Fronts.{DifferAt, torn-same, accepted-same, stands-same}
+use Rattle.run_evented.proofs.Fronts.{DifferAt, accepted-same, stands-same}
 use Rattle.run_evented.proofs.Parts.{outs, found_now, finds}
 use Rattle.run_evented.proofs.Brought.{SameBefore, within-same, differ, faults-then, found-then}
-use Rattle.run_evented.proofs.Bringing.{kinds-then, before-as, found-none, paired, torn-here, torn-beside, found-same, same, outs-none, outs-other, few-others, finds-same}
+use Rattle.run_evented.proofs.Bringing.{kinds-then, before-as, found-none, paired, torn-here, same, outs-none, outs-other, few-others, finds-same}
 use Rattle.run_evented.proofs.Refusing.{same-at, refusal-brings}
 use Rattle.run_evented.proofs.Tearing.{IsBeside, both-slot, cards-kept, turn-few, only-other, few-alone, map-few}
 use Rattle.run_evented.specs.Uses.{notes_in, uses_in}
 use Rattle.run_evented.proofs.Noted.{second-alike}
 use Rattle.run_evented.proofs.Exact.{fewer-none}
-use Rattle.run_evented.proofs.Adding.{power-now, OpenBy, fits-now, open-now, exact-still, added, aside-acting}
+use Rattle.run_evented.proofs.Adding.{power-now, OpenBy, fits-now, open-now, exact-still, added}
 
 -- A REFUSAL
 pub refusal-adds : (d : Devices) → ARefusalAddsNothing d

@@ -1,5 +1,5 @@
 -- A refusal brings nothing.
-use Rattle.std.proofs.Common.{◌≡◌, ℕ, Bool, cond, List, [], ◌∷◌, ◌++◌, refl, ap, sym, ◌∙◌}
+use Rattle.std.proofs.Common.{◌≡◌, ℕ, cond, List, [], ◌∷◌, ◌++◌, refl, ap, sym, ◌∙◌}
 use Rattle.std.specs.Prelude.{◌==◌}
 use Rattle.activity_codec.specs.declared.values.Slot.TheVariants.{Driver}
 use Rattle.trace_model.specs.Trace.{TraceSecond}
@@ -10,14 +10,12 @@ use Rattle.log_model.specs.Course.{Visit, Before, went}
 use Rattle.event_model.specs.declared.kinds.TheConstants.{DRIVING_WITHOUT_CARD, OVER_SPEEDING, POWER_INTERRUPTION, CARD_FAULT}
 use Rattle.event_model.specs.Events.{Event, Seen, Tearing, number_of, seen_by, seen_of, seen_spans}
 use Rattle.run_course.specs.Moments.{and_refused}
-use Rattle.run_course.specs.Followed.{Progress, Followed}
 use Rattle.run_course.proofs.Lookups.{refusal-more}
 use Rattle.run_moments.specs.Reached.{Reaches}
 use Rattle.run_moments.specs.Moment.{goes_on}
 use Rattle.run_moments.proofs.Reached.{lines-reached}
-use Rattle.run_events.specs.Seconds.{span_before, bares_by, overs_by, gap_by, faults_by, found_by, second_events}
+use Rattle.run_events.specs.Seconds.{span_before, bares_by, overs_by, gap_by, found_by, second_events}
 use Rattle.run_events.proofs.Later.{seen-by-same, second-faults}
-use Rattle.run_recorded.specs.Origin.{Origin, rule_of, start_at, first_of}
 use Rattle.run_evented.specs.Evented.{limit_in}
 use Rattle.run_evented.specs.Bringing.{ARefusalBringsNothing}
 use Rattle.run_evented.proofs.Bringing.{brought-as, before-as}

@@ -1,7 +1,7 @@
 -- Who stands accepted at a power-on: by the events' words, and by the slots.
-use Rattle.std.proofs.Common.{◌≡◌, ◌⊎◌, inl, inr, ⊎_elim, ℕ, ◌≤◌, Bool, true, false, cond, not, ◌&&◌, ◌||◌, Option, Some, None, List, [], ◌∷◌, ◌++◌, map, filter, length, is_some, refl, ap, sym, subst, ◌∙◌, arith, append-nil}
+use Rattle.std.proofs.Common.{◌≡◌, ◌⊎◌, inl, inr, ⊎_elim, ℕ, ◌≤◌, Bool, true, false, cond, not, ◌&&◌, ◌||◌, Option, Some, None, List, [], ◌∷◌, ◌++◌, map, filter, length, is_some, refl, ap, sym, ◌∙◌, arith}
 use Rattle.std.specs.Prelude.{option_map, flat_map}
-use Rattle.std.specs.List.{AllByRecursion, list_any}
+use Rattle.std.specs.List.{list_any}
 use Rattle.std.proofs.lemmas.List.Elements.{filter-append}
 use Rattle.activity_codec.specs.declared.values.Slot.{Slot}
 use Rattle.activity_codec.specs.declared.values.Slot.TheVariants.{Driver, CoDriver}
@@ -11,16 +11,15 @@ use Rattle.trace_model.specs.Trace.{TraceSecond}
 use Rattle.log_model.specs.declared.lines.Verdict.{Verdict}
 use Rattle.log_model.specs.Log.{RunLog, Phase, In, same_phase, is_torn_in, found_in, is_accepting}
 use Rattle.log_model.specs.Slots.{Slots, Sitting, in_slot, other_slot, is_accepted}
-use Rattle.log_model.specs.Course.{Visit, Course, Before, Moved, card_in, visits, has_power, second_told}
-use Rattle.event_model.specs.Events.{Seen, Tearing, number_of, accepted_card, seen_by, torn_at, first_card, accepted_at, standing}
-use Rattle.run_moments.specs.Reached.{IsMoment, IsUpTo, begun_at, moved_at, course_at}
+use Rattle.log_model.specs.Course.{Visit, Course, Before, Moved, card_in, visits, has_power}
+use Rattle.event_model.specs.Events.{Seen, Tearing, accepted_card, seen_by, torn_at, first_card, accepted_at, standing}
+use Rattle.run_moments.specs.Reached.{IsUpTo, begun_at, moved_at, course_at}
 use Rattle.run_events.proofs.Later.{told-number}
 use Rattle.run_evented.specs.SoFar.{AreBare}
-use Rattle.run_evented.proofs.Fronts.{IsFormer}
 use Rattle.run_evented.proofs.Parts.{outs, found_now, finds}
 use Rattle.run_evented.proofs.Brought.{SameBefore, torn-now, found-now}
 use Rattle.run_evented.proofs.Bringing.{few-at, torn-there}
-use Rattle.run_evented.proofs.Tearing.{and-none, phase-self, slot-self, slot-beside, other-twice, told_slot, both-slot, IsBeside, only-other, few-alone, few-torn, not-torn}
+use Rattle.run_evented.proofs.Tearing.{and-none, phase-self, slot-self, slot-beside, told_slot, both-slot, IsBeside, only-other, few-alone, few-torn, not-torn}
 
 abbrev pub accepted_here : Phase → Slot → Visit × Verdict → Bool
 accepted_here p slot f = same_phase f.0.phase p && (same_slot f.0.slot slot && is_accepting f.1)

@@ -1,5 +1,5 @@
 -- At a power-on: a card is torn out as it is judged, and the interruption is noted.
-use Rattle.std.proofs.Common.{◌≡◌, ◌≢◌, ◌⊎◌, inl, inr, ⊎_elim, ℕ, zero, suc, ◌≤◌, Bool, true, false, cond, not, ◌&&◌, ◌||◌, Option, Some, None, List, [], ◌∷◌, ◌++◌, Contains, map, filter, length, nat_eq, is_some, refl, ap, sym, subst, ◌∙◌, arith, append-nil, append_assoc}
+use Rattle.std.proofs.Common.{◌≡◌, ◌⊎◌, inl, inr, ⊎_elim, ℕ, suc, ◌≤◌, Bool, true, false, cond, not, ◌&&◌, ◌||◌, Option, Some, None, List, [], ◌∷◌, ◌++◌, Contains, map, filter, length, nat_eq, is_some, refl, ap, sym, subst, ◌∙◌, arith, append-nil, append_assoc}
 use Rattle.std.specs.Prelude.{◌==◌, flat_map, option_map, option_to_list}
 use Rattle.std.specs.List.{AllByRecursion, list_any}
 use Rattle.std.proofs.lemmas.Bool.{eqb-true, eqb-false}
@@ -15,18 +15,18 @@ use Rattle.log_model.specs.declared.lines.Break.{Break}
 use Rattle.log_model.specs.declared.lines.Verdict.{Verdict}
 use Rattle.log_model.specs.Log.{RunLog, Phase, In, same_phase, kept_by, kept_after, is_torn_in, found_in, is_accepting}
 use Rattle.log_model.specs.Slots.{Slots, Sitting, in_slot, other_slot}
-use Rattle.log_model.specs.Course.{Told, Visit, Course, Before, Moved, card_in, visits, has_power, both_told, went}
+use Rattle.log_model.specs.Course.{Visit, Course, Before, Moved, card_in, visits, has_power, went}
 use Rattle.event_model.specs.declared.kinds.TheConstants.{DRIVING_WITHOUT_CARD, OVER_SPEEDING, POWER_INTERRUPTION, CARD_FAULT}
 use Rattle.event_model.specs.declared.entries.Span.{Span}
 use Rattle.event_model.specs.Spans.{gap_of}
-use Rattle.event_model.specs.Events.{Event, Crew, Seen, Tearing, number_of, last_number, noted_with, crew_of, with_card, accepted_card, seen_by, seen_of, seen_spans, torn_at, first_card, accepted_at, standing, beside_judged, crew_judged, found_events, beside_torn, fault_of, is_codriver_first, torn_in_turn}
+use Rattle.event_model.specs.Events.{Event, Crew, Seen, Tearing, number_of, last_number, noted_with, crew_of, with_card, accepted_card, seen_by, seen_of, seen_spans, torn_at, first_card, accepted_at, standing, beside_judged, found_events, beside_torn, fault_of, is_codriver_first, torn_in_turn}
 use Rattle.safety_model.specs.Safe.{Devices}
 use Rattle.event_course.specs.Shown.{all_kinds}
 use Rattle.run_course.specs.Moments.{and_break}
 use Rattle.run_course.specs.Followed.{Progress}
 use Rattle.run_course.proofs.Lookups.{break-more}
 use Rattle.run_course.proofs.Told.{lit-told}
-use Rattle.run_moments.specs.Reached.{IsMoment, IsUpTo, Reaches, begun_at, moved_at, course_at, IsTearAt}
+use Rattle.run_moments.specs.Reached.{IsUpTo, Reaches, begun_at, moved_at, course_at, IsTearAt}
 use Rattle.run_moments.proofs.Reached.{lines-reached}
 use Rattle.run_moments.proofs.Lines.{who-sits}
 use Rattle.run_events.specs.Shown.{by_kind}
@@ -36,13 +36,12 @@ use Rattle.run_events.proofs.Notes.{OfKind, of-itself, of-other}
 use Rattle.run_recorded.specs.Origin.{Origin}
 use Rattle.run_evented.specs.Evented.{limit_in, brought_now}
 use Rattle.run_evented.specs.Noting.{Stage, Waking, Acting, is_told}
-use Rattle.run_evented.specs.SoFar.{FitsSoFar, SoFar, Adds, BeginsNow, AreBare, ComesInTurn, fault_with, crew_at, interruption, AWakingTearAdds, FallsAt, AnInterruptionAdds}
-use Rattle.run_evented.specs.Bringing.{ChoiceBefore}
+use Rattle.run_evented.specs.SoFar.{FitsSoFar, SoFar, BeginsNow, AreBare, ComesInTurn, fault_with, crew_at, interruption, AWakingTearAdds, FallsAt, AnInterruptionAdds}
 use Rattle.run_evented.proofs.Fronts.{DifferAt, events-as}
 use Rattle.run_evented.proofs.Parts.{outs, found_now, finds}
-use Rattle.run_evented.proofs.Brought.{begun-same, moved-same, differ, faults-then, found-then}
-use Rattle.run_evented.proofs.Bringing.{kinds-then, one-of, none-of, not-fault, before-as, brought-as, crew-left, paired, IsOf, finds-of, flat-stays, torn-here, torn-beside, found-same, same, outs-own, outs-none, outs-other, few-others, finds-same}
-use Rattle.run_evented.proofs.Tearing.{and-none, same-self, slot-self, slot-apart, slot-beside, told_slot, both-slot, IsBeside, FirstBeside, turn-second, turn-few, only-other, few-alone, few-first, map-few}
+use Rattle.run_evented.proofs.Brought.{differ, faults-then, found-then}
+use Rattle.run_evented.proofs.Bringing.{kinds-then, one-of, none-of, not-fault, before-as, brought-as, crew-left, paired, IsOf, finds-of, flat-stays, torn-beside, found-same, same, outs-own, outs-none, outs-other, few-others, finds-same}
+use Rattle.run_evented.proofs.Tearing.{and-none, same-self, slot-self, slot-apart, told_slot, both-slot, IsBeside, FirstBeside, turn-second, turn-few, only-other, few-alone, few-first, map-few}
 use Rattle.run_evented.proofs.Stood.{untorn-slot, stands-as, accepted-as, bare-as}
 use Rattle.run_evented.proofs.Noting.{by-more, bool-or}
 use Rattle.run_evented.proofs.Exact.{no-tear}

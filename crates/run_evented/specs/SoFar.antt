@@ -1,6 +1,6 @@
 -- WHAT A SECOND HAS BROUGHT SO FAR, whatever is chosen of what no log tells of it, and what each line of it adds: with the cards that sit in the
 -- slots as it is told (Annex IB, section III.12; the moments: profile).
-use Rattle.std.specs.Prelude.{◌≡◌, ◌⊎◌, ℕ, zero, suc, Bool, true, false, not, Option, Some, None, List, [], ◌∷◌, ◌++◌, Contains, is_some, nat_lt, slice_get, option_map, option_to_list, if◌then◌else◌}
+use Rattle.std.specs.Prelude.{◌≡◌, ℕ, zero, suc, Bool, true, false, not, Option, Some, None, List, [], ◌∷◌, ◌++◌, Contains, is_some, nat_lt, slice_get, option_map, option_to_list, if◌then◌else◌}
 use Rattle.std.specs.List.{AllByRecursion}
 use Rattle.activity_codec.specs.declared.values.Slot.{Slot}
 use Rattle.activity_codec.specs.declared.values.Slot.TheVariants.{Driver, CoDriver}
@@ -19,7 +19,7 @@ use Rattle.log_model.specs.declared.lines.Verdict.TheVariants.{Accepted, NotVali
 use Rattle.log_model.specs.Log.{RunLog, Phase, In, Keeping, is_accepting, is_torn_in, found_in, kept_after}
 use Rattle.log_model.specs.Slots.{Slots, Sitting, in_slot, other_slot, is_accepted}
 use Rattle.log_model.specs.Causes.{RoseBy}
-use Rattle.log_model.specs.Course.{Told, Visit, Before, visits, went}
+use Rattle.log_model.specs.Course.{Told, Visit, visits, went}
 use Rattle.event_model.specs.declared.kinds.TheConstants.{CARD_NOT_VALID, TIME_OVERLAP, INSERTION_WHILE_DRIVING, SESSION_NOT_CLOSED, POWER_INTERRUPTION, CARD_FAULT}
 use Rattle.event_model.specs.declared.entries.Span.{Span}
 use Rattle.event_model.specs.Spans.{gap_of}

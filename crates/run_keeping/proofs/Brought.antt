@@ -1,5 +1,5 @@
 -- An entry was brought to a card: what is carried of unit and cards, over the card's part and the note of its fault.
-use Rattle.std.proofs.Common.{◌≡◌, ◌≢◌, ◌∙◌, ℕ, ◌<◌, ◌≤◌, Bool, true, false, not, List, [], ◌∷◌, ◌++◌, Contains, Option, Some, None, IfSome, is_some, refl, ap, sym, subst}
+use Rattle.std.proofs.Common.{◌≡◌, ◌∙◌, ℕ, ◌<◌, Bool, true, false, not, List, [], ◌∷◌, ◌++◌, Contains, Option, Some, None, IfSome, is_some, refl, ap, sym, subst}
 use Rattle.std.proofs.lemmas.List.{append-nil}
 use Rattle.activity_codec.specs.declared.entries.Entry.{Entry}
 use Rattle.trace_model.specs.declared.Card.{Card}
@@ -10,8 +10,7 @@ use Rattle.log_model.specs.declared.lines.Mark.{Mark}
 use Rattle.card_image.specs.Own.{IsOwnValid}
 use Rattle.card_session.specs.declared.session.Kept.{Kept}
 use Rattle.unit_notes.specs.Journal.{LeavesJournal}
-use Rattle.joint_rule.specs.Views.{other}
-use Rattle.joint_rule.specs.Rules.{Standing, CardDark, CardRule}
+use Rattle.joint_rule.specs.Rules.{CardDark, CardRule}
 use Rattle.joint_rule.specs.Marked.{of_card, HasBrought}
 use Rattle.safety_model.specs.Safe.{Devices, card_of}
 use Rattle.unit_rule.specs.Marks.{Holds}
@@ -26,9 +25,8 @@ use Rattle.run_rule.specs.Cards.{CardMarksHold}
 use Rattle.run_rule.specs.Between.{Carried, devices}
 use Rattle.run_told.specs.Strung.{IsHeld}
 use Rattle.run_told.specs.Told.{AreFoundCards, GoesOwing, AllGo, IsLitOwing, IsPowerless, arranged, owes_nothing}
-use Rattle.run_told.proofs.Parts.{both_of, as-rests, of-rests, brought-on, CardOff, AreOff, powerless-of}
+use Rattle.run_told.proofs.Parts.{both_of, as-rests, of-rests, brought-on, CardOff, powerless-of}
 use Rattle.run_told.proofs.Noted.{noted-with, go-unit}
-use Rattle.run_keeping.specs.declared.keeper.Keeper.{Keeper}
 use Rattle.run_keeping.specs.Keeping.{Fate, Still, Has, Fell, cabin_by, marks_by}
 use Rattle.run_keeping.specs.Books.{StaysOn, AreTimedOn, standing_by}
 use Rattle.run_keeping.specs.Deeds.{KeepsOn, AllKeep, kept_for}

@@ -1,11 +1,11 @@
 -- A card to which an entry is owed: it keeps it, or is torn out as it does; or nothing is asked of it, since it was torn out before.
-use Rattle.std.proofs.Common.{◌≡◌, ◌≢◌, ◌∙◌, inl, inr, ⊎_elim, ℕ, suc, max, ◌<◌, ◌≤◌, Bool, true, false, List, [], ◌∷◌, ◌++◌, length, Contains, Option, Some, None, IfSome, is_some, refl, ap, sym, subst, arith}
+use Rattle.std.proofs.Common.{◌≡◌, ◌≢◌, ◌∙◌, ⊎_elim, ℕ, suc, max, ◌<◌, ◌≤◌, Bool, true, false, List, [], ◌∷◌, ◌++◌, length, Contains, Some, None, IfSome, is_some, refl, ap, sym, subst, arith}
 use Rattle.std.proofs.lemmas.List.{append-nil}
 use Rattle.std.proofs.lemmas.List.Elements.{Contains-push}
 use Rattle.activity_codec.specs.declared.entries.Entry.{Entry}
 use Rattle.trace_model.specs.declared.Card.{Card}
 use Rattle.trace_model.specs.declared.Card.TheVariants.{A, B}
-use Rattle.tach_media.specs.Medium.{State, IsCoherent, LeavesOnly, IsSettled, last_count}
+use Rattle.tach_media.specs.Medium.{State, IsCoherent, LeavesOnly, IsSettled}
 use Rattle.tach_media.proofs.Runs.{at_image, weaken}
 use Rattle.log_model.specs.declared.lines.Mark.{Mark}
 use Rattle.log_model.specs.Causes.{device_of}
@@ -24,7 +24,7 @@ use Rattle.card_session.specs.Sessions.{Session, IsSession}
 use Rattle.card_session.specs.Cards.{IsCard, IsCardKept, IsCardKeeping, grown}
 use Rattle.card_session.proofs.Stopping.{asked_at, days_there}
 use Rattle.card_session.proofs.Valid.{keep_valid}
-use Rattle.card_steps.specs.Since.{GoesSince, HoldsSince, bound_since, counted_since, all_since}
+use Rattle.card_steps.specs.Since.{GoesSince, bound_since, counted_since, all_since}
 use Rattle.card_steps.specs.Each.{EachHolds}
 use Rattle.history_model.specs.Minutes.{HistoryMinute, card_history}
 use Rattle.history_model.specs.Book.{Book, all}
@@ -37,7 +37,7 @@ use Rattle.joint_rule.specs.Marked.{of_card, AnyAdded, HasBrought}
 use Rattle.joint_rule.proofs.Staying.{keep-stays}
 use Rattle.joint_rule.proofs.Viewed.{seen-run}
 use Rattle.unit_rule.specs.Marks.{Holds}
-use Rattle.device_steps.specs.Rule.{Both, opened, CardHolds}
+use Rattle.device_steps.specs.Rule.{opened, CardHolds}
 use Rattle.device_steps.specs.OnCard.{IsReady, IsOnItsCard}
 use Rattle.device_steps.specs.Minute.{IsNotIn}
 use Rattle.device_steps.proofs.OnCard.{own-is, session-is, sizes-same, on-card, kept-torn, ends-on_card}
@@ -46,11 +46,11 @@ use Rattle.run_crew.specs.declared.cards.Cards.{Cards}
 use Rattle.run_rule.specs.Found.{CardFound, Found, found_of, unit_seen, AnyKept}
 use Rattle.run_rule.specs.Cards.{brought_by, CardMarksHold}
 use Rattle.run_told.specs.Strung.{IsHeld, HasSameHolder}
-use Rattle.run_told.specs.Told.{AreFoundCards, IsOn, GoesOwing}
+use Rattle.run_told.specs.Told.{AreFoundCards, IsOn}
 use Rattle.run_told.proofs.Parts.{both_of, as-steps, of-steps, left-one, told-one}
 use Rattle.run_told.proofs.Holders.{card-rest}
 use Rattle.run_told.proofs.OnCards.{own-valid, valid-own, valid-on, own-holder-still, then-holder}
-use Rattle.run_keeping.specs.Keeping.{Fate, Still, Has, Fell, marks_by}
+use Rattle.run_keeping.specs.Keeping.{Has, Fell, marks_by}
 use Rattle.run_keeping.specs.Books.{standing_by}
 use Rattle.run_keeping.specs.Owing.{CardOwing}
 use Rattle.run_keeping.proofs.MarksOn.{moment-hold, kept-hold, same-marks}

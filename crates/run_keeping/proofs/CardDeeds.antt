@@ -1,5 +1,5 @@
 -- What calls do on a card, deed by deed: none, one after another, a keep, an insertion and a withdrawal.
-use Rattle.std.proofs.Common.{◌≡◌, ◌≢◌, ◌⊎◌, ◌∙◌, inl, inr, ⊎_elim, ℕ, suc, zero, ◌+◌, ◌<◌, ◌≤◌, ◌^◌, Bool, true, false, List, [], ◌∷◌, ◌++◌, Option, Some, None, IfSome, length, refl, ap, sym, subst, arith}
+use Rattle.std.proofs.Common.{◌≡◌, ◌≢◌, ◌∙◌, inl, inr, ℕ, suc, zero, ◌+◌, ◌<◌, ◌≤◌, ◌^◌, Bool, true, List, [], ◌∷◌, ◌++◌, Option, Some, IfSome, length, refl, ap, sym, subst, arith}
 use Rattle.std.specs.Prelude.{is_some, not, nat_eq}
 use Rattle.std.proofs.Math.Dec.{eqb-suc-zero}
 use Rattle.activity_codec.specs.declared.values.Activity.{Activity}
@@ -21,14 +21,14 @@ use Rattle.card_session.specs.Books.{Book, mark_of, with_entry, closed}
 use Rattle.card_session.specs.Sessions.{Session, IsSession, book_of}
 use Rattle.card_session.specs.Moments.{IsBook}
 use Rattle.card_session.specs.Cards.{IsCardKept, IsCardClosed, ended, grown}
-use Rattle.card_session.specs.Inserting.{lacked, with_cut, with_owed, repaired, IsStill, IsRepaired, IsNoted, IsShut, IsEnded, IsOpened, InsertsClosed, InsertsOpen, IsCardInserted}
+use Rattle.card_session.specs.Inserting.{lacked, with_cut, with_owed, repaired, InsertsClosed, InsertsOpen, IsCardInserted}
 use Rattle.card_session.proofs.Composing.{told_book}
 use Rattle.card_session.proofs.InsertingCards.{noted_same, use_same}
 use Rattle.card_session.proofs.InsertingUse.{use_inside}
 use Rattle.card_session.proofs.InsertingOpen.{opening_same, reopening_same}
 use Rattle.card_session.proofs.InsertingAgain.{noted_keeps}
 use Rattle.card_session.proofs.Stopping.{ended_same}
-use Rattle.card_steps.specs.Deeds.{Deed, Keep, Close, Cut, after}
+use Rattle.card_steps.specs.Deeds.{Deed, Keep, Close, after}
 use Rattle.card_steps.proofs.SameBook.{same_book}
 use Rattle.run_keeping.specs.CardDeeds.{made_by, is_open_in, ShowsBook, DoesOn, keeps, last_odometer, owed_keeps, opens, begun_use, ended_use, OpensOn, ClosesOn}
 use Rattle.run_keeping.proofs.CardUse.{opened-use, ended-use}

@@ -1,5 +1,5 @@
 -- The current use of a card, as calls write its file or leave it.
-use Rattle.std.proofs.Common.{◌≡◌, ◌⊎◌, inl, inr, ⊎_elim, ℕ, ◌+◌, ◌<◌, ◌≤◌, ◌^◌, List, [], ◌∷◌, length, refl, sym, ◌∙◌, ap, arith}
+use Rattle.std.proofs.Common.{◌≡◌, ◌⊎◌, inl, inr, ⊎_elim, ℕ, ◌+◌, ◌<◌, ◌≤◌, ◌^◌, List, [], ◌∷◌, length, sym, ◌∙◌, ap, arith}
 use Rattle.card_layout.specs.Images.{big_number, bytes_at, SameOutside}
 use Rattle.card_layout.proofs.Images.{part_after, part_put, part_in, put_outside}
 use Rattle.card_layout.proofs.Numbers.{big_number-big_bytes}
@@ -9,7 +9,6 @@ use Rattle.card_layout.specs.declared.files.Application.{Application}
 use Rattle.card_layout.specs.Files.{files_of, place_of, size_of}
 use Rattle.gated_ring.specs.Ring.{place_of as entry_place, size_of as ring_size}
 use Rattle.gated_ring.proofs.Places.{place_high}
-use Rattle.card_records.specs.declared.current_use.CurrentUse.{CurrentUse}
 use Rattle.card_records.specs.CurrentUses.{current_use_of}
 use Rattle.card_records.specs.Rings.{event_ring}
 use Rattle.card_records.proofs.Sets.{set_inside}

@@ -1,5 +1,5 @@
 -- The marks that are carried behind decided minutes are those that are told, also where the unit failed in one of them.
-use Rattle.std.proofs.Common.{◌≡◌, ◌∙◌, Option, Some, None, List, [], ◌∷◌, ap, sym}
+use Rattle.std.proofs.Common.{◌≡◌, ◌∙◌, Some, None, List, [], ◌∷◌, ap, sym}
 use Rattle.log_model.specs.declared.lines.Mark.{Mark}
 use Rattle.minute_model.specs.declared.Minute.{Minute}
 use Rattle.run_rule.specs.Between.{Carried}

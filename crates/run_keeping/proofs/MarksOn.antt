@@ -10,7 +10,7 @@ use Rattle.tach_media.specs.Medium.{State, IsCoherent, IsSettled}
 use Rattle.log_model.specs.declared.lines.Mark.{Mark}
 use Rattle.log_model.specs.Causes.{device_of}
 use Rattle.card_image.specs.View.{CardView}
-use Rattle.card_image.specs.Own.{own_view, IsOwnValid}
+use Rattle.card_image.specs.Own.{IsOwnValid}
 use Rattle.history_model.specs.Minutes.{card_history}
 use Rattle.history_model.specs.Book.{Book}
 use Rattle.joint_rule.specs.Views.{other}

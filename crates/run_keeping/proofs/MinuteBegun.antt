@@ -1,20 +1,19 @@
 -- What a minute says on the cards is put for those that were present, one after the other; and then the unit keeps it.
-use Rattle.std.proofs.Common.{◌≡◌, ◌≢◌, ◌∙◌, ◌⊎◌, inl, inr, ⊎_elim, ℕ, ◌<◌, ◌≤◌, Bool, true, false, ◌&&◌, cond, Option, Some, None, is_some, List, [], ◌∷◌, ◌++◌, map, filter, refl, ap, subst, sym}
+use Rattle.std.proofs.Common.{◌≡◌, ◌≢◌, ◌∙◌, ◌⊎◌, inl, inr, ⊎_elim, ℕ, ◌≤◌, Bool, true, false, ◌&&◌, Option, Some, None, is_some, List, [], ◌∷◌, ◌++◌, map, filter, refl, ap, subst, sym}
 use Rattle.std.specs.Prelude.{option_to_list, if◌then◌else◌}
 use Rattle.activity_codec.specs.declared.entries.Entry.{Entry}
 use Rattle.activity_codec.specs.declared.values.Slot.{Slot}
 use Rattle.activity_codec.specs.declared.values.Slot.TheVariants.{Driver, CoDriver}
 use Rattle.trace_model.specs.declared.Card.{Card}
 use Rattle.trace_model.specs.declared.Card.TheVariants.{A, B}
-use Rattle.tach_media.specs.Medium.{State, IsCoherent, HasCause, last_count}
+use Rattle.tach_media.specs.Medium.{State, IsCoherent, HasCause}
 use Rattle.log_model.specs.declared.lines.Mark.{Mark}
 use Rattle.log_model.specs.Slots.{same_card}
 use Rattle.card_image.specs.Own.{IsOwnValid}
 use Rattle.unit_model.specs.Days.{UnitMinute}
 use Rattle.unit_journal.specs.declared.kept.KeptMinute.{KeptMinute}
-use Rattle.unit_journal.specs.Kept.{is_crew, kept_minute}
+use Rattle.unit_journal.specs.Kept.{kept_minute}
 use Rattle.history_model.specs.Minutes.{HistoryMinute, on_card}
-use Rattle.history_model.specs.Presence.{CardStart}
 use Rattle.history_model.specs.Book.{Book}
 use Rattle.joint_rule.specs.Device.{LeavesViews}
 use Rattle.joint_rule.specs.Filling.{seen_by_unit, KeepsMinute, GivesUpDay}
@@ -33,13 +32,13 @@ use Rattle.run_crew.specs.declared.cards.Cards.{Cards}
 use Rattle.run_crew.specs.Cabin.{AreTwo}
 use Rattle.run_rule.specs.Found.{Found, found_of, unit_seen, AnyKept}
 use Rattle.run_rule.specs.Between.{Carried, devices}
-use Rattle.run_told.specs.Told.{AreFoundCards, owes_nothing, AllGo, IsLitWith}
+use Rattle.run_told.specs.Told.{owes_nothing, AllGo, IsLitWith}
 use Rattle.run_told.proofs.Parts.{both_of, as-steps, owing-of}
 use Rattle.run_outcome.specs.Lines.{Listed}
 use Rattle.run_keeping.specs.declared.keeper.Keeper.{Keeper}
 use Rattle.run_keeping.specs.Keeping.{TellsPresent, act_in, entry_in, is_this}
 use Rattle.run_keeping.specs.Minutes.{Told}
-use Rattle.run_keeping.specs.Books.{history_minute, MayCome, MayBook}
+use Rattle.run_keeping.specs.Books.{history_minute, MayCome}
 use Rattle.run_keeping.specs.Owing.{and_put, MayPut, BooksPut, TravelsOn, owes_minute, IsOwedOrCut, BooksOwed}
 use Rattle.run_keeping.proofs.Counts.{apart-turned}
 use Rattle.run_keeping.proofs.MinuteOwed.{owed-or-cut}

@@ -1,5 +1,5 @@
 -- The unit has a minute, and its entries were brought to the cards that were present: so it is booked.
-use Rattle.std.proofs.Common.{◌≡◌, ◌∙◌, inl, inr, ⊎_elim, ℕ, suc, ◌<◌, ◌≤◌, Bool, true, false, Option, Some, None, List, [], ◌∷◌, ◌++◌, refl, ap, subst, sym, arith}
+use Rattle.std.proofs.Common.{◌≡◌, ◌∙◌, inl, inr, ⊎_elim, ℕ, ◌<◌, Bool, true, false, Option, Some, None, List, [], ◌∷◌, ◌++◌, refl, ap, subst, sym, arith}
 use Rattle.std.specs.Prelude.{if◌then◌else◌}
 use Rattle.std.proofs.lemmas.List.{append-nil}
 use Rattle.activity_codec.specs.declared.entries.Entry.{Entry}
@@ -9,7 +9,6 @@ use Rattle.trace_model.specs.declared.Card.TheVariants.{A, B}
 use Rattle.tach_media.specs.Medium.{State, IsCoherent, LeavesOnly, last_count}
 use Rattle.log_model.specs.declared.lines.Break.{Break}
 use Rattle.log_model.specs.declared.lines.Mark.{Mark}
-use Rattle.card_image.specs.Own.{IsOwnValid}
 use Rattle.card_session.specs.declared.session.Kept.{Kept}
 use Rattle.unit_journal.specs.declared.kept.KeptMinute.{KeptMinute}
 use Rattle.unit_notes.specs.Journal.{LeavesJournal}
@@ -22,18 +21,17 @@ use Rattle.joint_rule.specs.Marked.{of_card}
 use Rattle.safety_model.specs.Safe.{Devices, card_of}
 use Rattle.slot_machine.specs.declared.seats.Present.{Present}
 use Rattle.run_crew.specs.declared.cards.Cards.{Cards}
-use Rattle.run_crew.specs.declared.cabin.Cabin.{Cabin}
-use Rattle.run_crew.specs.Cards.{with_session, session_of}
+use Rattle.run_crew.specs.Cards.{session_of}
 use Rattle.run_crew.specs.Cabin.{AreTwo}
 use Rattle.run_outcome.specs.Lines.{Listed}
 use Rattle.run_rule.specs.Found.{Found, found_of, unit_seen, AnyKept}
 use Rattle.run_rule.specs.Between.{Carried, devices}
-use Rattle.run_told.specs.Told.{AreFoundCards, owes_nothing, GoesOwing, AllGo, IsLitWith, IsLitOwing, IsPowered, IsPowerless}
+use Rattle.run_told.specs.Told.{AreFoundCards, owes_nothing, GoesOwing, AllGo, IsLitOwing, IsPowered, IsPowerless}
 use Rattle.run_told.proofs.Parts.{lit-of}
 use Rattle.run_told.proofs.Travelled.{travelled-noted}
 use Rattle.run_keeping.specs.declared.keeper.Keeper.{Keeper}
 use Rattle.run_keeping.specs.Keeping.{Fate, Still, TellsPresent, entry_in, kept_in, cabin_by, is_this}
-use Rattle.run_keeping.specs.Minutes.{Round, Told, unit_mark}
+use Rattle.run_keeping.specs.Minutes.{Round, Told}
 use Rattle.run_keeping.proofs.CardEvents.{stays-then}
 use Rattle.run_keeping.specs.Deeds.{AllKeep, kept_for, kept_on}
 use Rattle.run_keeping.proofs.Deeds.{kept-both, keep-at, keep-then}
@@ -42,7 +40,7 @@ use Rattle.run_keeping.specs.Owing.{owes_minute, but_to, carried_kept, carried_b
 use Rattle.run_keeping.proofs.Counts.{apart-turned}
 use Rattle.run_keeping.proofs.Rounds.{told-of}
 use Rattle.run_keeping.proofs.Brought.{cards-by, found-session}
-use Rattle.run_keeping.proofs.MinuteBegun.{told_with, both_put, clash, this-card, all-said, says-some}
+use Rattle.run_keeping.proofs.MinuteBegun.{told_with, clash, this-card, all-said, says-some}
 
 -- ---- what is carried, by what became of each entry
 

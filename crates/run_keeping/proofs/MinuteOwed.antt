@@ -1,12 +1,11 @@
 -- The unit keeps a minute, and owes its entries to the cards: all that is carried goes on.
-use Rattle.std.proofs.Common.{◌≡◌, ◌≢◌, ◌∙◌, ◌⊎◌, inl, inr, ⊎_elim, ℕ, suc, max, ◌<◌, ◌≤◌, Bool, true, false, Option, Some, None, is_some, List, [], ◌∷◌, ◌++◌, All, Contains, refl, ap, subst, sym, arith, append_assoc}
+use Rattle.std.proofs.Common.{◌≡◌, ◌∙◌, ◌⊎◌, inl, inr, ⊎_elim, ℕ, suc, max, ◌<◌, ◌≤◌, Bool, true, false, Option, Some, None, is_some, List, [], ◌∷◌, ◌++◌, All, Contains, refl, ap, subst, sym, arith, append_assoc}
 use Rattle.std.specs.Prelude.{option_to_list}
 use Rattle.std.proofs.lemmas.List.{append-nil}
 use Rattle.std.proofs.lemmas.List.Elements.{All-nil, All-head, All-weaker, All-append, Contains-append_left, filter-append}
 use Rattle.activity_codec.specs.declared.entries.Entry.{Entry}
 use Rattle.trace_model.specs.declared.Card.{Card}
 use Rattle.trace_model.specs.declared.Card.TheVariants.{A, B}
-use Rattle.run_model.specs.declared.Device.TheVariants.{Unit as Recorder}
 use Rattle.tach_media.specs.Medium.{State, IsCoherent, HasCause, last_count}
 use Rattle.log_model.specs.declared.lines.Mark.{Mark}
 use Rattle.log_model.specs.Causes.{device_of}
@@ -28,7 +27,7 @@ use Rattle.joint_rule.specs.Marked.{of_card, HasBrought}
 use Rattle.joint_rule.proofs.Staying.{commit-stays}
 use Rattle.card_image.specs.View.{CardView}
 use Rattle.safety_model.specs.Unit.{marks_of, Increase}
-use Rattle.safety_model.specs.Safe.{Devices, card_of}
+use Rattle.safety_model.specs.Safe.{card_of}
 use Rattle.unit_course.specs.Legs.{Travel}
 use Rattle.device_steps.specs.Rule.{IsCommitted, IsHeldUp}
 use Rattle.device_steps.specs.Travel.{HasGone}
@@ -40,7 +39,7 @@ use Rattle.run_rule.specs.Between.{Carried, devices}
 use Rattle.run_rule.proofs.Behind.{owed-until}
 use Rattle.run_rule.proofs.Waiting.{string-broken, comes-broken, strung-kept}
 use Rattle.run_told.specs.Strung.{IsHeld}
-use Rattle.run_told.specs.Told.{AreFoundCards, sure_of, IsHeldDark, owes_nothing, GoesOwing, AllGo, IsLitWith, IsLitOwing, IsPowerless, AreEarly}
+use Rattle.run_told.specs.Told.{AreFoundCards, sure_of, IsHeldDark, owes_nothing, AllGo, IsLitWith, IsLitOwing, IsPowerless, AreEarly}
 use Rattle.run_told.proofs.Parts.{both_of, of-steps, of-rests, told-one, held-same, sure-same, strung-with}
 use Rattle.run_keeping.specs.Minutes.{unit_mark}
 use Rattle.run_keeping.specs.Books.{MayCome, carried_broken}

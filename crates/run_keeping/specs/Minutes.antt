@@ -1,5 +1,5 @@
 -- How a minute is kept by the unit and the cards that were present, and some minutes, by value (profile).
-use Rattle.std.specs.Prelude.{◌≡◌, ◌⊎◌, ℕ, ◌<◌, ◌≤◌, Bool, true, false, Option, Some, None, List, [], ◌∷◌, ◌++◌, All, map, is_some}
+use Rattle.std.specs.Prelude.{◌≡◌, ◌⊎◌, ℕ, ◌<◌, ◌≤◌, Bool, true, false, Option, Some, None, List, [], ◌∷◌, ◌++◌, map, is_some}
 use Rattle.activity_codec.specs.declared.values.Slot.TheVariants.{Driver, CoDriver}
 use Rattle.tach_media.specs.Medium.{State}
 use Rattle.minute_model.specs.declared.Minute.{Minute}
@@ -16,7 +16,7 @@ use Rattle.run_crew.specs.declared.cabin.Cabin.{Cabin}
 use Rattle.run_outcome.specs.Lines.{Listed}
 use Rattle.run_keeping.specs.declared.keeper.Keeper.{Keeper}
 use Rattle.run_keeping.specs.declared.keeper.Moment.{Moment}
-use Rattle.run_keeping.specs.Keeping.{HaveRows, Fate, Still, has_fallen, cabin_by, marks_by, breaks_by, with_lines, session_at, state_at, IsFateOf, IsOnCard, kept_in}
+use Rattle.run_keeping.specs.Keeping.{Fate, Still, has_fallen, cabin_by, marks_by, breaks_by, with_lines, session_at, state_at, IsFateOf, IsOnCard, kept_in}
 
 -- ---- one minute
 

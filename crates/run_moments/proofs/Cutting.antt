@@ -1,5 +1,5 @@
 -- What a cut's second has decided.
-use Rattle.std.proofs.Common.{◌≡◌, ℕ, zero, suc, ◌+◌, ◌-◌, ◌*◌, ◌/◌, ◌≤◌, ◌||◌, Bool, true, false, nat_lt, Option, Some, None, List, [], ◌∷◌, ◌++◌, length, map, refl, ap, sym, subst, ◌∙◌, arith, append_assoc}
+use Rattle.std.proofs.Common.{◌≡◌, ℕ, zero, suc, ◌+◌, ◌-◌, ◌/◌, ◌||◌, Bool, true, false, nat_lt, List, [], ◌∷◌, ◌++◌, length, map, ap, sym, subst, ◌∙◌, arith, append_assoc}
 use Rattle.std.proofs.lemmas.Bool.Decides.{nat_tests}
 use Rattle.activity_codec.specs.declared.values.Slot.{Slot}
 use Rattle.activity_codec.specs.declared.values.Pick.{Pick}
@@ -7,26 +7,24 @@ use Rattle.trace_model.specs.Trace.{TraceSecond}
 use Rattle.minute_model.specs.declared.Rule.{Rule}
 use Rattle.minute_model.specs.declared.Minute.{Minute}
 use Rattle.minute_model.specs.Minute.{class_of}
-use Rattle.minute_model.specs.Span.{Span, begin, end_of, fed, fed_many, settled, decided_in, count_from, ungiven_of, AreNumbered, AreSettled}
+use Rattle.minute_model.specs.Span.{Span, end_of, fed, fed_many, settled, decided_in, count_from, ungiven_of, AreNumbered, AreSettled}
 use Rattle.minute_model.proofs.Counted.{settled-more, decided-settled}
 use Rattle.minute_model.proofs.Spans.{decided-fed_many}
-use Rattle.log_model.specs.Log.{RunLog}
-use Rattle.log_model.specs.Course.{Told, Course, went}
-use Rattle.log_model.specs.Spans.{first_in, seconds_in, spans_of, AreApart}
+use Rattle.log_model.specs.Course.{Told}
+use Rattle.log_model.specs.Spans.{AreApart}
 use Rattle.log_model.proofs.Spanning.{spanned}
-use Rattle.history_model.specs.Minutes.{HistoryMinute}
 use Rattle.history_model.specs.Presence.{Start}
 use Rattle.history_model.specs.History.{decided_of}
-use Rattle.history_model.specs.Growth.{as_span, picking, settled_where}
+use Rattle.history_model.specs.Growth.{picking, settled_where}
 use Rattle.history_model.proofs.Deciding.{span-settled}
 use Rattle.history_model.proofs.Growing.{apart-last}
-use Rattle.unit_course.specs.Followed.{Lit, as_spans}
+use Rattle.unit_course.specs.Followed.{Lit}
 use Rattle.unit_course.specs.Turn.{span_at}
 use Rattle.run_course.specs.Followed.{Progress, Followed}
-use Rattle.run_course.specs.Seconds.{GoesOnBy, next_told}
+use Rattle.run_course.specs.Seconds.{next_told}
 use Rattle.run_course.proofs.Steps.{rules_see, with-supply}
-use Rattle.run_moments.specs.Kept.{settled_times, HasDecided, TheCutHasDecided}
-use Rattle.run_moments.proofs.Kept.{fed-times, times-end, decided-span}
+use Rattle.run_moments.specs.Kept.{settled_times, TheCutHasDecided}
+use Rattle.run_moments.proofs.Kept.{fed-times, decided-span}
 
 -- a span whose seconds are numbered, and whose settlings are none of later seconds
 record IsWhole (span : Span) : Type 0 where

@@ -1,15 +1,10 @@
 -- A power-on that fails at once.
-use Rattle.std.proofs.Common.{◌≡◌, ◌⊎◌, inl, inr, ℕ, zero, suc, ◌%◌, ◌≤◌, Bool, true, false, not, Option, Some, None, List, [], ◌∷◌, ◌++◌, length, is_some, refl, ap, sym, subst, ◌∙◌, arith, append-nil}
-use Rattle.std.specs.List.{AllByRecursion}
-use Rattle.activity_codec.specs.declared.values.Slot.{Slot}
+use Rattle.std.proofs.Common.{◌≡◌, inl, ℕ, Bool, true, not, Option, List, [], ◌∷◌, is_some, refl, ap, sym, subst, ◌∙◌, arith, append-nil}
 use Rattle.trace_model.specs.Trace.{TraceSecond}
-use Rattle.run_model.specs.declared.Device.{Device}
-use Rattle.run_model.specs.declared.Device.TheVariants.{Unit as Recorder}
 use Rattle.minute_model.specs.declared.Rule.{Rule}
 use Rattle.log_model.specs.declared.lines.Break.{Break}
-use Rattle.log_model.specs.Log.{RunLog, Phase, In, cut_in}
-use Rattle.log_model.specs.Causes.{second_of, RoseBy}
-use Rattle.log_model.specs.Course.{Told, Went, Course, Before, unmoved, fresh, cut_told, has_power, second_told, went}
+use Rattle.log_model.specs.Log.{RunLog, In, cut_in}
+use Rattle.log_model.specs.Course.{Went, Course, Before, unmoved, fresh, cut_told, has_power, second_told, went}
 use Rattle.history_model.specs.Presence.{Start}
 use Rattle.unit_course.specs.Lines.{cut_at}
 use Rattle.unit_course.specs.Followed.{Supply, Lit, Due, Lost, MayFail}
@@ -19,10 +14,10 @@ use Rattle.run_course.specs.Seconds.{GoesOnBy, next_told}
 use Rattle.run_course.specs.Within.{not_begun}
 use Rattle.run_course.specs.Caused.{AreNewCauses}
 use Rattle.run_course.proofs.Moments.{both-still}
-use Rattle.run_course.proofs.Steps.{with-supply, went-same_}
+use Rattle.run_course.proofs.Steps.{went-same_}
 use Rattle.run_course.proofs.Told.{comes-power, lost-comes}
 use Rattle.run_moments.specs.Reached.{course_at, IsUpTo}
-use Rattle.run_moments.specs.Telling.{IsMore, told_with, APowerOnIsCut}
+use Rattle.run_moments.specs.Telling.{told_with, APowerOnIsCut}
 use Rattle.run_moments.proofs.Reached.{TellsNothing, nothing-told}
 use Rattle.run_moments.proofs.Moment.{HasCourse, entered-here}
 use Rattle.run_moments.proofs.Telling.{cut-now, lit-as, cut-course, cut-causes}

@@ -1,14 +1,12 @@
 -- What a second has decided so far, and which of it is kept and acknowledged.
-use Rattle.std.proofs.Common.{◌≡◌, ◌⊎◌, inl, inr, ⊎_elim, ℕ, zero, suc, ◌+◌, ◌-◌, ◌*◌, ◌/◌, ◌<◌, ◌≤◌, Bool, true, false, cond, nat_lt, nat_eq, Option, Some, None, List, [], ◌∷◌, ◌++◌, Contains, length, map, filter, min, refl, ap, sym, subst, ◌∙◌, arith, append-nil, append_assoc}
+use Rattle.std.proofs.Common.{◌≡◌, ◌⊎◌, inl, inr, ⊎_elim, ℕ, zero, suc, ◌+◌, ◌-◌, ◌*◌, ◌/◌, Bool, true, false, cond, nat_lt, nat_eq, Option, Some, None, List, [], ◌∷◌, ◌++◌, Contains, map, filter, min, refl, ap, sym, subst, ◌∙◌, arith, append-nil, append_assoc}
 use Rattle.std.specs.Prelude.{find, unwrap_or}
 use Rattle.std.specs.List.{list_any}
 use Rattle.std.proofs.lemmas.Bool.Decides.{nat_tests}
-use Rattle.std.proofs.lemmas.List.Elements.{Contains-append_left, Contains-push, Contains-push_cases}
-use Rattle.activity_codec.specs.declared.entries.Entry.{Entry}
+use Rattle.std.proofs.lemmas.List.Elements.{Contains-push, Contains-push_cases}
 use Rattle.activity_codec.specs.declared.values.Slot.{Slot}
 use Rattle.activity_codec.specs.declared.values.Pick.{Pick}
 use Rattle.trace_model.specs.declared.Card.{Card}
-use Rattle.trace_model.specs.Trace.{TraceSecond}
 use Rattle.run_model.specs.declared.Device.{Device}
 use Rattle.run_model.specs.declared.Device.TheVariants.{Unit as Recorder}
 use Rattle.minute_model.specs.declared.Rule.{Rule}
@@ -17,24 +15,19 @@ use Rattle.minute_model.specs.Second.{Second}
 use Rattle.minute_model.specs.Minute.{minutes_ahead, horizon_of, known_at, class_of, is_decided, minutes_in, decided}
 use Rattle.minute_model.specs.Span.{Span, end_of, fed, picked, settled, decided_in}
 use Rattle.log_model.specs.declared.lines.Mark.{Mark}
-use Rattle.log_model.specs.Log.{RunLog}
 use Rattle.log_model.specs.Causes.{device_of}
-use Rattle.log_model.specs.Course.{Told, Course, Visit, went}
+use Rattle.log_model.specs.Course.{Told, Course}
 use Rattle.history_model.specs.Minutes.{HistoryMinute, on_card}
-use Rattle.history_model.specs.Presence.{Start}
-use Rattle.history_model.specs.History.{seated, minutes_after, decided_of}
+use Rattle.history_model.specs.History.{seated, decided_of}
 use Rattle.history_model.specs.Growth.{picking, settled_where}
 use Rattle.history_model.specs.Completeness.{IsMarked}
 use Rattle.history_model.proofs.Closing.{minutes-parts}
-use Rattle.unit_course.specs.Followed.{Lit}
-use Rattle.unit_course.specs.Legs.{Travel, travelled, all_travelled}
+use Rattle.unit_course.specs.Legs.{travelled}
 use Rattle.unit_course.specs.Turn.{span_at}
-use Rattle.run_course.specs.Followed.{Progress, Followed}
-use Rattle.run_course.specs.Seconds.{GoesOnBy, next_told}
-use Rattle.run_course.specs.Complete.{AreAcknowledged}
+use Rattle.run_course.specs.Seconds.{next_told}
 use Rattle.run_course.proofs.Complete.{torn-stays}
 use Rattle.run_course.proofs.Steps.{rules_see}
-use Rattle.run_moments.specs.Kept.{settled_times, fed_where, HasDecided, NothingIsDecidedYet, ASelectionIsHeard, ASettlingDecides, NothingElseDecides, AMinuteIsKept, TheSecondIsFed, TheSecondHasDecided, OneMoreIsTravelled, BrokenSince, AreMarkedSoFar, StaysOut, NothingIsMarkedYet, MarksStay, OneMoreIsMarked, AllAreAcknowledged}
+use Rattle.run_moments.specs.Kept.{settled_times, fed_where, NothingIsDecidedYet, ASelectionIsHeard, ASettlingDecides, NothingElseDecides, AMinuteIsKept, TheSecondIsFed, TheSecondHasDecided, OneMoreIsTravelled, BrokenSince, StaysOut, NothingIsMarkedYet, MarksStay, OneMoreIsMarked, AllAreAcknowledged}
 
 -- SETTLINGS that come twice decide what one decides
 filter-same : {X : Type 0} (f g : X → Bool) → ((x : X) → f x ≡ g x) → (xs : List X) → filter f xs ≡ filter g xs

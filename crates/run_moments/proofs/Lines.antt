@@ -1,5 +1,5 @@
 -- What a line that is told now makes of the moment that a second has reached.
-use Rattle.std.proofs.Common.{◌≡◌, ◌⊎◌, inl, inr, ⊎_elim, ℕ, zero, suc, ◌+◌, ◌<◌, ◌≤◌, Bool, true, false, cond, not, ◌&&◌, ◌||◌, Option, Some, None, List, [], ◌∷◌, ◌++◌, Contains, length, map, filter, nat_eq, refl, ap, sym, subst, ◌∙◌, arith, append-nil, append_assoc, length-append}
+use Rattle.std.proofs.Common.{◌≡◌, ◌⊎◌, inl, ⊎_elim, ℕ, zero, suc, ◌+◌, ◌≤◌, Bool, true, false, cond, ◌&&◌, ◌||◌, Option, Some, None, List, [], ◌∷◌, ◌++◌, Contains, length, map, filter, nat_eq, refl, ap, sym, subst, ◌∙◌, arith, append-nil, length-append}
 use Rattle.std.specs.Prelude.{option_map, slice_get, flat_map}
 use Rattle.std.specs.List.{list_any}
 use Rattle.std.proofs.lemmas.Bool.Decides.{nat_tests}
@@ -20,16 +20,16 @@ use Rattle.log_model.specs.declared.lines.Verdict.{Verdict}
 use Rattle.log_model.specs.Log.{RunLog, Phase, In, Keeping, same_phase, phase_of, cut_in, tears_here, is_torn_in, found_in, is_accepting}
 use Rattle.log_model.specs.Slots.{Slots, Sitting, same_card, in_slot, other_slot, refusal}
 use Rattle.log_model.specs.Causes.{visit_places, in_the_slot}
-use Rattle.log_model.specs.Course.{Course, Visit, Before, Moved, visits, card_in, leaves, with_slot, slot_told, both_told, unmoved, moved_by, answered, fresh}
+use Rattle.log_model.specs.Course.{Course, Visit, Before, Moved, visits, card_in, leaves, with_slot, slot_told, both_told, moved_by}
 use Rattle.event_model.specs.Events.{course_by}
 use Rattle.run_course.specs.Moments.{and_break, and_find, and_refused, finds_here, SameUpTo}
 use Rattle.run_course.specs.Within.{IsTornFrom, TearsAt, IsFoundOf, FindsAt}
-use Rattle.run_course.proofs.Lookups.{break-more, find-more, refusal-more}
+use Rattle.run_course.proofs.Lookups.{break-more, find-more}
 use Rattle.run_course.proofs.Moments.{course-same}
 use Rattle.run_course.proofs.Within.{tear-told, find-told}
 use Rattle.run_moments.specs.Reached.{IsBehind, course_with, moved_with, begun_at, moved_at, course_at, IsUpTo, IsTearAt, IsFindAt}
 use Rattle.run_moments.specs.Lines.{WhoSitsIsNotTorn, times_of, IsTornAt, ATearIsSeen, AFindIsSeen, ARefusalIsSeen}
-use Rattle.run_moments.proofs.Reached.{tear-up_to, find-up_to, refusal-up_to}
+use Rattle.run_moments.proofs.Reached.{tear-up_to, find-up_to}
 
 -- EARLIER MOMENTS stay
 earlier-phase : (p at : Phase) → IsBehind p at → same_phase at p ≡ false

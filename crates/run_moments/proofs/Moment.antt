@@ -1,11 +1,11 @@
 -- The moment that a second has reached, over the actions of the second.
-use Rattle.std.proofs.Common.{◌≡◌, ◌⊎◌, inl, inr, ⊎_elim, ℕ, zero, suc, ◌+◌, ◌<◌, ◌≤◌, Bool, true, false, cond, not, ◌&&◌, ◌||◌, Option, Some, None, List, [], ◌∷◌, ◌++◌, Contains, length, map, filter, nat_eq, is_some, refl, ap, sym, subst, ◌∙◌, arith, append-nil, append_assoc, length-append}
+use Rattle.std.proofs.Common.{◌≡◌, ◌⊎◌, inl, inr, ⊎_elim, ℕ, suc, ◌+◌, ◌<◌, ◌≤◌, Bool, true, false, cond, not, ◌&&◌, ◌||◌, Option, Some, None, List, [], ◌∷◌, ◌++◌, Contains, length, map, filter, is_some, refl, ap, sym, subst, ◌∙◌, arith, append-nil, append_assoc}
 use Rattle.std.specs.Prelude.{flat_map}
 use Rattle.std.specs.List.{AllByRecursion}
 use Rattle.std.proofs.lemmas.Bool.Decides.{nat_tests}
 use Rattle.std.proofs.lemmas.Grind.{flat_map-append}
 use Rattle.std.proofs.lemmas.List.{map-append}
-use Rattle.std.proofs.lemmas.List.Elements.{filter-append, Contains-append_left, Contains-append_right, Contains-append_cases, Contains-push, Contains-push_cases}
+use Rattle.std.proofs.lemmas.List.Elements.{filter-append, Contains-push, Contains-push_cases}
 use Rattle.activity_codec.specs.declared.values.Slot.{Slot}
 use Rattle.activity_codec.specs.declared.values.Slot.TheVariants.{Driver, CoDriver}
 use Rattle.activity_codec.specs.Activity.{same_slot}
@@ -25,22 +25,19 @@ use Rattle.log_model.specs.declared.lines.Verdict.{Verdict}
 use Rattle.log_model.specs.Log.{RunLog, Phase, In, Keeping, same_phase, tears_here, is_torn_in, found_in}
 use Rattle.log_model.specs.Slots.{Slots, Sitting, in_slot, other_slot, refusal}
 use Rattle.log_model.specs.Causes.{device_of, is_cut, second_of, tears, places, visit_places, in_the_slot, has_failed, RoseBy, IsBegun, IsAtPowerOn}
-use Rattle.log_model.specs.Course.{Told, Course, Visit, Before, Moved, visits, card_in, with_slot, slot_told, both_told, moved_by, unmoved, answered, carried_out, fresh, went}
-use Rattle.history_model.specs.Presence.{Start}
+use Rattle.log_model.specs.Course.{Course, Visit, Before, Moved, visits, card_in, slot_told, both_told, moved_by, unmoved, answered, carried_out, fresh, went}
 use Rattle.unit_course.specs.Lines.{log_of}
-use Rattle.unit_course.specs.Followed.{Lit}
 use Rattle.unit_course.specs.Turn.{begins_with}
-use Rattle.run_course.specs.Moments.{and_break, and_find, and_refused}
-use Rattle.run_course.specs.Followed.{Progress, Followed}
+use Rattle.run_course.specs.Moments.{and_break, and_refused}
+use Rattle.run_course.specs.Followed.{Progress}
 use Rattle.run_course.specs.Caused.{StandsBy}
-use Rattle.run_course.specs.Seconds.{GoesOnBy}
 use Rattle.run_course.proofs.Lookups.{break-more}
 use Rattle.run_course.proofs.Moments.{slot-still, both-still}
-use Rattle.run_moments.specs.Reached.{IsBehind, begun_at, moved_at, course_at, IsUpTo, Reaches, IsTearAt, IsFindAt}
-use Rattle.run_moments.specs.Lines.{times_of, IsTornAt}
-use Rattle.run_moments.specs.Moment.{finds_by, refused_as, refused_at, find_as, found_at, found_by, IsJudgedBy, IsWaiting, Moment, goes_on, AMomentBegins, AnActionIsRefused, AnActionIsDone, ACardIsPulled, entering_by, pulls}
-use Rattle.run_moments.proofs.Reached.{push-each, second-reached, action-reached, lines-reached, tear-up_to, refusal-up_to}
-use Rattle.run_moments.proofs.Lines.{times-append, tear-begun, tear-other, tear-seen, refusal-seen}
+use Rattle.run_moments.specs.Reached.{IsBehind, begun_at, moved_at, course_at, Reaches, IsTearAt}
+use Rattle.run_moments.specs.Lines.{times_of}
+use Rattle.run_moments.specs.Moment.{finds_by, refused_as, refused_at, find_as, found_at, IsJudgedBy, IsWaiting, Moment, goes_on, AMomentBegins, AnActionIsRefused, AnActionIsDone, ACardIsPulled, entering_by, pulls}
+use Rattle.run_moments.proofs.Reached.{push-each, second-reached, action-reached, lines-reached}
+use Rattle.run_moments.proofs.Lines.{times-append, tear-begun, tear-other, refusal-seen}
 
 -- what is reached
 pub reaches-of : (p : Progress) (before : Before) (s : TraceSecond) (at : Phase) (log : RunLog) (waits : List Visit) (mid now : Device → ℕ) → Moment p before s at log waits mid now → Reaches p s at log

@@ -1,5 +1,5 @@
 -- How a second begins, goes on with an action, and reaches its keeping.
-use Rattle.std.proofs.Common.{◌≡◌, ◌⊎◌, inl, inr, ⊎_elim, ℕ, zero, suc, ◌+◌, ◌<◌, ◌≤◌, Bool, true, false, cond, not, ◌&&◌, ◌||◌, Option, Some, None, List, [], ◌∷◌, ◌++◌, length, map, filter, nat_eq, is_some, refl, ap, sym, subst, ◌∙◌, arith, append-nil, append_assoc, length-append}
+use Rattle.std.proofs.Common.{◌≡◌, ℕ, zero, suc, ◌+◌, ◌<◌, ◌≤◌, Bool, true, false, cond, not, ◌&&◌, ◌||◌, Option, Some, None, List, [], ◌∷◌, ◌++◌, length, map, filter, nat_eq, is_some, refl, ap, sym, subst, ◌∙◌, arith, append-nil, append_assoc, length-append}
 use Rattle.std.specs.Prelude.{slice_get}
 use Rattle.std.specs.List.{AllByRecursion, list_any}
 use Rattle.std.proofs.lemmas.Bool.Decides.{nat_tests}
@@ -15,21 +15,21 @@ use Rattle.log_model.specs.declared.lines.Refused.{Refused}
 use Rattle.log_model.specs.Log.{RunLog, Phase, In, Keeping, same_phase, phase_of, cut_of, cut_in, tears_here, is_torn_in, found_in}
 use Rattle.log_model.specs.Slots.{refusal}
 use Rattle.log_model.specs.Causes.{second_of}
-use Rattle.log_model.specs.Course.{Told, Course, Visit, Before, Moved, both_told, unmoved, moved_by, answered, fresh, went}
+use Rattle.log_model.specs.Course.{Course, Visit, Before, both_told, unmoved, moved_by, answered, fresh, went}
 use Rattle.event_model.specs.Events.{course_by}
 use Rattle.history_model.specs.Presence.{Start}
 use Rattle.unit_course.specs.Lines.{log_of}
-use Rattle.unit_course.specs.Followed.{Supply, Lit, cuts_from}
+use Rattle.unit_course.specs.Followed.{Lit, cuts_from}
 use Rattle.unit_course.specs.Turn.{begins_with}
 use Rattle.run_course.specs.Moments.{and_break, and_find, and_refused, finds_here}
-use Rattle.run_course.specs.Followed.{Progress, IsBreakBefore, IsSupplied, Followed}
+use Rattle.run_course.specs.Followed.{Progress, IsBreakBefore, Followed}
 use Rattle.run_course.specs.Seconds.{GoesOnBy}
 use Rattle.run_course.proofs.Lookups.{cut-by, torn-by, found-by, cut-first, cut-nothing, break-more, find-more, refusal-more}
 use Rattle.run_course.proofs.Moments.{both-still}
 use Rattle.run_course.proofs.Steps.{cuts-bound, with-supply}
 use Rattle.run_course.proofs.Told.{lit-starts}
 use Rattle.run_course.proofs.Within.{action-moment}
-use Rattle.run_moments.specs.Reached.{IsBehind, IsMoment, course_with, moved_with, begun_at, moved_at, course_at, IsUpTo, Reaches, IsTearAt, IsFindAt}
+use Rattle.run_moments.specs.Reached.{IsBehind, course_with, moved_with, begun_at, moved_at, course_at, IsUpTo, IsTearAt, IsFindAt}
 use Rattle.run_moments.specs.Lines.{ASecondIsReached, AnActionIsReached, TheKeepingIsReached, LinesOfTheMoment}
 
 -- ACTIONS of a second

@@ -1,11 +1,10 @@
 -- What is told at a moment of a second, and how the second ends.
-use Rattle.std.proofs.Common.{◌≡◌, ◌⊎◌, inl, inr, ⊎_elim, ℕ, zero, suc, ◌+◌, ◌-◌, ◌^◌, ◌<◌, ◌≤◌, Bool, true, false, cond, not, ◌&&◌, ◌||◌, Option, Some, None, List, [], ◌∷◌, ◌++◌, Contains, length, map, filter, nat_eq, is_some, refl, ap, sym, subst, ◌∙◌, arith, append-nil, append_assoc, length-append}
+use Rattle.std.proofs.Common.{◌≡◌, ◌⊎◌, inl, inr, ⊎_elim, ℕ, ◌+◌, ◌-◌, ◌^◌, ◌≤◌, Bool, true, false, cond, not, ◌&&◌, ◌||◌, Option, Some, None, List, [], ◌∷◌, ◌++◌, Contains, length, map, filter, nat_eq, is_some, refl, ap, sym, subst, ◌∙◌, arith, append-nil, append_assoc, length-append}
 use Rattle.std.specs.Prelude.{flat_map}
-use Rattle.std.specs.List.{AllByRecursion, list_any}
+use Rattle.std.specs.List.{AllByRecursion}
 use Rattle.std.proofs.lemmas.Bool.Decides.{nat_tests}
-use Rattle.std.proofs.lemmas.Grind.{flat_map-append}
 use Rattle.std.proofs.lemmas.List.{map-append}
-use Rattle.std.proofs.lemmas.List.Elements.{filter-append, Contains-append_cases, Contains-push, Contains-push_cases}
+use Rattle.std.proofs.lemmas.List.Elements.{filter-append, Contains-append_cases, Contains-push_cases}
 use Rattle.activity_codec.specs.declared.values.Slot.{Slot}
 use Rattle.activity_codec.specs.declared.values.Slot.TheVariants.{Driver, CoDriver}
 use Rattle.activity_codec.specs.Activity.{same_slot}
@@ -19,16 +18,15 @@ use Rattle.minute_model.specs.declared.Rule.{Rule}
 use Rattle.log_model.specs.declared.lines.Break.{Break}
 use Rattle.log_model.specs.declared.lines.Break.TheVariants.{Cut, Tear}
 use Rattle.log_model.specs.declared.lines.Find.{Find}
-use Rattle.log_model.specs.declared.lines.SlotFault.{SlotFault}
 use Rattle.log_model.specs.declared.lines.Verdict.{Verdict}
 use Rattle.log_model.specs.Log.{RunLog, Phase, In, Keeping, same_phase, phase_of, cut_of, cut_in, tears_here, is_torn_in, found_in}
 use Rattle.log_model.specs.Slots.{Slots, Sitting, same_card, in_slot}
-use Rattle.log_model.specs.Causes.{device_of, is_cut, has_failed, second_of, cuts, failed_cut_in, ComesBehind, AreInTime, tears, places, visit_places, in_the_slot, refusals_of, pulled_of, torn_of, cards_torn, finds_of, RoseBy, IsBegun, IsAtPowerOn, CutBy, IsJudged}
+use Rattle.log_model.specs.Causes.{device_of, is_cut, has_failed, second_of, cuts, failed_cut_in, ComesBehind, AreInTime, tears, places, visit_places, in_the_slot, RoseBy, IsBegun, IsAtPowerOn, CutBy}
 use Rattle.log_model.specs.Course.{Told, Went, Course, Visit, Before, Moved, visits, card_in, slot_told, both_told, unmoved, cut_told, lit_course, has_power, second_told, went}
 use Rattle.event_model.specs.Events.{course_by}
 use Rattle.history_model.specs.Presence.{Start}
 use Rattle.unit_course.specs.Lines.{log_of, cut_at}
-use Rattle.unit_course.specs.Followed.{Supply, Lit}
+use Rattle.unit_course.specs.Followed.{Lit}
 use Rattle.unit_course.specs.Turn.{begins_with}
 use Rattle.run_course.specs.Moments.{and_break, and_find, finds_here, SameUpTo}
 use Rattle.run_course.specs.Followed.{Progress, Followed}
@@ -40,10 +38,10 @@ use Rattle.run_course.proofs.Moments.{both-still}
 use Rattle.run_course.proofs.Steps.{with-supply, went-same_}
 use Rattle.run_course.proofs.Told.{lit-power, lit-starts}
 use Rattle.run_course.proofs.Within.{second-ends, cut-ends}
-use Rattle.run_moments.specs.Reached.{IsBehind, begun_at, moved_at, course_at, IsUpTo, Reaches, IsTearAt, IsFindAt}
+use Rattle.run_moments.specs.Reached.{IsBehind, moved_at, course_at, IsUpTo, IsTearAt, IsFindAt}
 use Rattle.run_moments.specs.Lines.{times_of, IsTornAt}
-use Rattle.run_moments.specs.Moment.{finds_by, refused_as, refused_at, find_as, found_at, found_by, IsJudgedBy, IsWaiting, Moment, goes_on}
-use Rattle.run_moments.specs.Telling.{IsMore, BreakdownsOnly, BrokeDown, IsOneOut, ACardIsTorn, WaitBut, ATornCardWaitsNoMore, ACardIsJudged, TheKeepingComes, told_with, TheSecondEnds, begun_by, IsLeft, ACutEnds}
+use Rattle.run_moments.specs.Moment.{finds_by, refused_at, find_as, found_at, found_by, IsJudgedBy, IsWaiting, goes_on}
+use Rattle.run_moments.specs.Telling.{IsMore, BreakdownsOnly, BrokeDown, ACardIsTorn, WaitBut, ATornCardWaitsNoMore, ACardIsJudged, TheKeepingComes, told_with, TheSecondEnds, begun_by, IsLeft, ACutEnds}
 use Rattle.run_moments.proofs.Reached.{at-by, push-each, keeping-reached, lines-reached}
 use Rattle.run_moments.proofs.Lines.{tear-seen, find-seen, who-sits}
 use Rattle.run_moments.proofs.Moment.{HasCourse, reaches-of, parts-of, moment-by, places-more}

@@ -1,6 +1,6 @@
 -- What a line that is told now makes of the moment that a second has reached; and how a second begins, goes on and reaches its keeping
 -- (profile).
-use Rattle.std.specs.Prelude.{◌≡◌, ◌⊎◌, ℕ, suc, ◌+◌, Bool, true, false, Some, None, List, [], ◌∷◌, ◌++◌, Contains, length, map, filter}
+use Rattle.std.specs.Prelude.{◌≡◌, ◌⊎◌, ℕ, suc, ◌+◌, Bool, true, false, Some, List, [], ◌∷◌, ◌++◌, Contains, length, map, filter}
 use Rattle.activity_codec.specs.declared.values.Slot.{Slot}
 use Rattle.activity_codec.specs.declared.values.Slot.TheVariants.{Driver, CoDriver}
 use Rattle.trace_model.specs.declared.Card.{Card}
@@ -10,7 +10,7 @@ use Rattle.minute_model.specs.declared.Rule.{Rule}
 use Rattle.log_model.specs.declared.lines.Break.{Break}
 use Rattle.log_model.specs.declared.lines.Find.{Find}
 use Rattle.log_model.specs.declared.lines.Refused.{Refused}
-use Rattle.log_model.specs.Log.{RunLog, Phase, In, Keeping, cut_in, is_torn_in, found_in}
+use Rattle.log_model.specs.Log.{RunLog, Phase, In, Keeping, is_torn_in, found_in}
 use Rattle.log_model.specs.Slots.{Sitting, same_card, in_slot, refusal}
 use Rattle.log_model.specs.Causes.{visit_places, in_the_slot}
 use Rattle.log_model.specs.Course.{Told, Course, Visit, Before, visits, answered, moved_by, fresh, went}

@@ -1,12 +1,11 @@
 -- The moment that a second has reached, with all lines that tell of it so far: each tells what happened, and no more (profile).
-use Rattle.std.specs.Prelude.{◌≡◌, ◌⊎◌, ◌&&◌, ℕ, zero, suc, ◌+◌, ◌≤◌, Bool, true, false, not, Option, Some, None, List, [], ◌∷◌, ◌++◌, Contains, length, map, filter, flat_map}
+use Rattle.std.specs.Prelude.{◌≡◌, ◌⊎◌, ◌&&◌, ℕ, suc, ◌+◌, ◌≤◌, true, false, not, Option, Some, None, List, [], ◌∷◌, ◌++◌, Contains, length, map, filter, flat_map}
 use Rattle.std.specs.List.{AllByRecursion}
 use Rattle.activity_codec.specs.declared.values.Slot.{Slot}
-use Rattle.activity_codec.specs.declared.values.Slot.TheVariants.{Driver, CoDriver}
 use Rattle.activity_codec.specs.Activity.{same_slot}
 use Rattle.trace_model.specs.declared.Card.{Card}
 use Rattle.trace_model.specs.declared.Action.{Action}
-use Rattle.trace_model.specs.declared.Action.TheVariants.{Insert, Withdraw, Tear as Pull}
+use Rattle.trace_model.specs.declared.Action.TheVariants.{Insert, Tear as Pull}
 use Rattle.trace_model.specs.Trace.{TraceSecond}
 use Rattle.run_model.specs.declared.Device.{Device}
 use Rattle.run_model.specs.declared.Device.TheVariants.{Unit as Recorder}
@@ -17,20 +16,19 @@ use Rattle.log_model.specs.declared.lines.Find.{Find}
 use Rattle.log_model.specs.declared.lines.Refused.{Refused}
 use Rattle.log_model.specs.declared.lines.SlotFault.{SlotFault}
 use Rattle.log_model.specs.declared.lines.Verdict.{Verdict}
-use Rattle.log_model.specs.Log.{RunLog, Phase, In, Keeping, same_phase, is_torn_in, found_in}
+use Rattle.log_model.specs.Log.{RunLog, Phase, In, same_phase, is_torn_in}
 use Rattle.log_model.specs.Slots.{Sitting, same_card, in_slot, refusal}
 use Rattle.log_model.specs.Causes.{device_of, is_cut, second_of, tears, places, visit_places, in_the_slot, RoseBy, IsBegun, IsAtPowerOn}
-use Rattle.log_model.specs.Course.{Told, Course, Visit, Before, visits, answered, fresh, is_settling, cut_told, went}
+use Rattle.log_model.specs.Course.{Told, Course, Visit, Before, answered, fresh, went}
 use Rattle.history_model.specs.Presence.{Start}
-use Rattle.unit_course.specs.Lines.{log_of, cut_at}
+use Rattle.unit_course.specs.Lines.{log_of}
 use Rattle.unit_course.specs.Followed.{Lit}
 use Rattle.unit_course.specs.Turn.{begins_with}
-use Rattle.run_course.specs.Moments.{and_break, and_find, and_refused}
+use Rattle.run_course.specs.Moments.{and_break, and_refused}
 use Rattle.run_course.specs.Followed.{Progress, Followed}
-use Rattle.run_course.specs.Seconds.{GoesOnBy, next_told}
-use Rattle.run_course.specs.Within.{not_begun}
-use Rattle.run_course.specs.Caused.{StandsBy, AreNewCauses}
-use Rattle.run_moments.specs.Reached.{IsBehind, course_at, moved_at, IsMoment, IsUpTo, IsTearAt, IsFindAt}
+use Rattle.run_course.specs.Seconds.{GoesOnBy}
+use Rattle.run_course.specs.Caused.{StandsBy}
+use Rattle.run_moments.specs.Reached.{IsBehind, course_at, IsMoment, IsUpTo}
 use Rattle.run_moments.specs.Lines.{times_of}
 
 -- refusals and finds, as lines and as a course has them

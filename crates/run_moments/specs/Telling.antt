@@ -1,5 +1,5 @@
 -- What is told at a moment of a second, and how the second ends (profile).
-use Rattle.std.specs.Prelude.{◌≡◌, ◌⊎◌, ℕ, suc, ◌+◌, ◌≤◌, Bool, true, false, Option, Some, None, List, [], ◌∷◌, ◌++◌, Contains, length, is_some}
+use Rattle.std.specs.Prelude.{◌≡◌, ◌⊎◌, ℕ, ◌+◌, ◌≤◌, Bool, true, false, Some, List, [], ◌∷◌, ◌++◌, Contains, length}
 use Rattle.std.specs.List.{AllByRecursion}
 use Rattle.activity_codec.specs.declared.values.Slot.{Slot}
 use Rattle.activity_codec.specs.declared.values.Slot.TheVariants.{Driver, CoDriver}
@@ -21,12 +21,12 @@ use Rattle.unit_course.specs.Followed.{Lit, MayFail}
 use Rattle.unit_course.specs.Turn.{begins_with}
 use Rattle.run_course.specs.Moments.{and_break, and_find}
 use Rattle.run_course.specs.Followed.{Progress, Followed}
-use Rattle.run_course.specs.Seconds.{GoesOnBy, next_told}
+use Rattle.run_course.specs.Seconds.{next_told}
 use Rattle.run_course.specs.Within.{IsFoundOf, not_begun}
 use Rattle.run_course.specs.Caused.{AreNewCauses}
 use Rattle.run_moments.specs.Reached.{course_at, moved_at, IsTearAt, IsFindAt}
 use Rattle.run_moments.specs.Lines.{times_of, IsTornAt}
-use Rattle.run_moments.specs.Moment.{Moment, goes_on}
+use Rattle.run_moments.specs.Moment.{Moment}
 
 -- the unit broke down as often as before, or more often, and no card did
 pub record IsMore (now later : Device → ℕ) : Type 0 where

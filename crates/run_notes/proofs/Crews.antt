@@ -1,14 +1,14 @@
 -- The cards at the first and at the last second of a run, as more seconds come.
-use Rattle.std.proofs.Common.{◌≡◌, ◌∙◌, ◌⊎◌, inl, inr, ℕ, zero, suc, ◌+◌, ◌<◌, Bool, true, false, cond, Option, Some, None, List, [], ◌∷◌, ◌++◌, map, fold, refl, ap, sym, arith, append-nil}
+use Rattle.std.proofs.Common.{◌≡◌, ◌∙◌, ◌⊎◌, inl, inr, ℕ, zero, suc, ◌+◌, ◌<◌, Bool, true, false, cond, Option, Some, List, [], ◌∷◌, ◌++◌, map, fold, refl, ap, sym, arith}
 use Rattle.std.specs.Prelude.{option_map, unwrap_or}
 use Rattle.std.specs.List.{AllByRecursion}
 use Rattle.std.proofs.lemmas.List.Sums.{fold-append}
 use Rattle.event_model.specs.declared.entries.Over.{Over}
 use Rattle.event_model.specs.declared.entries.Span.{Span}
 use Rattle.event_model.specs.Runs.{run_with, last_run}
-use Rattle.event_model.specs.Spans.{DriverSecond, SpeedSecond, bare_of, over_of, in_a_row}
+use Rattle.event_model.specs.Spans.{DriverSecond, bare_of, over_of, in_a_row}
 use Rattle.run_crew.specs.declared.cards.Crew.{Crew}
-use Rattle.run_notes.specs.Watching.{CrewSecond, seconds_with, is_bare, is_fast, driver_second, speed_second, nobody, first_crew, last_crew, BareWith, OverWith, bare_with, over_with}
+use Rattle.run_notes.specs.Watching.{CrewSecond, seconds_with, is_bare, driver_second, speed_second, nobody, first_crew, last_crew, BareWith, OverWith, bare_with, over_with}
 
 -- ---- lists that are turned
 

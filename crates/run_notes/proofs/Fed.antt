@@ -1,21 +1,20 @@
 -- What is kept of a span's events, once more seconds of one kind were fed.
-use Rattle.std.proofs.Common.{◌≡◌, ◌∙◌, ◌⊎◌, inl, inr, ⊎_elim, ℕ, zero, suc, ◌+◌, ◌<◌, Bool, true, false, cond, Option, Some, None, IfSome, List, [], ◌∷◌, ◌++◌, map, refl, ap, sym, subst, arith, append-nil, nat_lt}
+use Rattle.std.proofs.Common.{◌≡◌, ◌∙◌, ◌⊎◌, inl, inr, ⊎_elim, ℕ, zero, suc, ◌+◌, ◌<◌, Bool, true, false, cond, Option, Some, None, List, [], ◌++◌, map, refl, ap, sym, subst, arith, append-nil, nat_lt}
 use Rattle.std.specs.Prelude.{option_map, option_to_list, unwrap_or}
 use Rattle.std.specs.List.{AllByRecursion}
 use Rattle.std.proofs.lemmas.List.{append_cancel_left, map-append}
 use Rattle.activity_codec.proofs.ByTest.{by_test}
 use Rattle.event_model.specs.declared.entries.Over.{Over}
 use Rattle.event_model.specs.declared.entries.Span.{Span}
-use Rattle.event_model.specs.Runs.{last_run, ended_runs}
-use Rattle.event_model.specs.Spans.{DriverSecond, SpeedSecond, bare_of, bares_of, over_of, overs_of, is_above, all_bare, at_speed, in_a_row}
+use Rattle.event_model.specs.Runs.{last_run}
+use Rattle.event_model.specs.Spans.{DriverSecond, SpeedSecond, bare_of, bares_of, over_of, overs_of, is_above, all_bare, at_speed}
 use Rattle.event_model.proofs.RunLemmas.{last_run-append, row-on, row-off, ended-on, ended-off}
 use Rattle.event_rules.specs.Bare as bare_feed
 use Rattle.event_rules.specs.Speeding as over_feed
-use Rattle.event_notes.proofs.Watching.{each-append, bare-some, over-some}
+use Rattle.event_notes.proofs.Watching.{each-append}
 use Rattle.run_crew.specs.declared.cards.Crew.{Crew}
 use Rattle.run_notes.specs.declared.watch.Watch.{Watch}
-use Rattle.run_notes.specs.declared.watch.Ended.{Ended}
-use Rattle.run_notes.specs.Watching.{CrewSecond, seconds_with, is_bare, is_bare_at, is_fast, driver_second, speed_second, first_crew, last_crew, BareWith, OverWith, bare_with, over_with, bares_with, overs_with, StandsFor, Watches, bare_ended, over_ended}
+use Rattle.run_notes.specs.Watching.{CrewSecond, seconds_with, is_bare, is_bare_at, is_fast, driver_second, speed_second, first_crew, BareWith, OverWith, bare_with, over_with, bares_with, overs_with, StandsFor}
 use Rattle.run_notes.proofs.Crews.{last_turned, bare_turned, row_turned, each_turned, last_with, first_with, last_of_run, bare_is, over_is}
 
 one_option : {T : Type 0} (a b : Option T) → option_to_list a ≡ option_to_list b → a ≡ b

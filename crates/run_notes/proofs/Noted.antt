@@ -1,11 +1,10 @@
 -- What two notes leave, one after the other.
-use Rattle.std.proofs.Common.{◌≡◌, ◌∙◌, ◌⊎◌, inl, inr, ⊎_elim, ℕ, Bool, true, false, Option, Some, None, IfSome, List, refl, ap, sym, subst, is_some}
-use Rattle.std.specs.Prelude.{OnOk, Result}
-use Rattle.tach_media.specs.Medium.{State, IsCoherent, LeavesOnly}
-use Rattle.tach_media.proofs.Runs.{goes_on, weaken, through, starts, if_told, at_image, where_told}
+use Rattle.std.proofs.Common.{◌≡◌, ◌∙◌, inl, inr, ℕ, Some, IfSome, List, sym, is_some}
+use Rattle.tach_media.specs.Medium.{State, LeavesOnly}
+use Rattle.tach_media.proofs.Runs.{goes_on, weaken, through, at_image, where_told}
 use Rattle.run_notes.specs.declared.watch.Ended.{Ended}
-use Rattle.run_notes.specs.Watching.{BareWith, OverWith, bare_ended, over_ended}
-use Rattle.run_notes.specs.Noting.{IsBareNoted, IsNotingBare, IsFastNoted, IsNotingFast, AreNoted, AreNotedAfter, AreBeingNoted}
+use Rattle.run_notes.specs.Watching.{bare_ended, over_ended}
+use Rattle.run_notes.specs.Noting.{IsBareNoted, IsNotingBare, IsFastNoted, IsNotingFast, AreNoted, AreBeingNoted}
 
 -- nothing has ended, and nothing is noted
 pub itself : (S : State) → IfSome S.image (λ x. IfSome S.image (λ y. y ≡ x))

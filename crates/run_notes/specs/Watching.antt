@@ -1,5 +1,5 @@
 -- The events of a power span with the cards of their seconds, and what is kept of them (Annex IB, section III.12; profile).
-use Rattle.std.specs.Prelude.{◌≡◌, ℕ, ◌<◌, Bool, not, ◌&&◌, Option, Some, None, option_map, option_to_list, List, [], ◌∷◌, ◌++◌, fold, map, nat_lt, is_some}
+use Rattle.std.specs.Prelude.{◌≡◌, ℕ, ◌<◌, Bool, not, ◌&&◌, Option, Some, None, option_map, List, [], ◌∷◌, fold, map, nat_lt, is_some}
 use Rattle.std.specs.List.{filter_map, AllByRecursion}
 use Rattle.event_model.specs.declared.entries.Over.{Over}
 use Rattle.event_model.specs.declared.entries.Span.{Span}

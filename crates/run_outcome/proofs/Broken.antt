@@ -1,10 +1,10 @@
 -- How often the unit broke down, over each step.
 use Rattle.std.proofs.Common.{◌≡◌, ℕ, ◌+◌, ◌-◌, ◌≤◌, sym, true, List, [], ◌∷◌, ◌++◌, length, map, filter, refl, ap, ◌∙◌, ⊎_elim, inl, inr, arith, length-append}
-use Rattle.std.specs.Prelude.{min, ◌&&◌}
+use Rattle.std.specs.Prelude.{◌&&◌}
 use Rattle.std.proofs.lemmas.Bool.{cases_lt}
 use Rattle.std.proofs.lemmas.List.{length-map, map-append}
 use Rattle.std.proofs.lemmas.List.Elements.{filter-append}
-use Rattle.tach_media.specs.Medium.{State, Rose, HasBroken, last_count}
+use Rattle.tach_media.specs.Medium.{State, Rose, HasBroken}
 use Rattle.log_model.specs.declared.lines.Break.{Break}
 use Rattle.log_model.specs.Log.{RunLog}
 use Rattle.log_model.specs.Causes.{cuts, is_cut, has_failed, second_of, RoseBy}

@@ -1,33 +1,32 @@
 -- How the cards stand that were present in the minutes that are still to be kept.
-use Rattle.std.proofs.Common.{◌≡◌, ◌⊎◌, inl, inr, ⊎_elim, ℕ, zero, suc, ◌+◌, ◌*◌, ◌/◌, ◌<◌, ◌≤◌, Bool, true, false, cond, not, ◌&&◌, nat_lt, nat_eq, Option, Some, None, List, [], ◌∷◌, ◌++◌, All, Contains, filter, map, is_some, take, refl, ap, sym, subst, ◌∙◌, arith}
-use Rattle.std.specs.Prelude.{find, option_map, option_to_list}
+use Rattle.std.proofs.Common.{◌≡◌, ◌⊎◌, inl, inr, ⊎_elim, ℕ, zero, suc, ◌+◌, ◌*◌, ◌/◌, ◌<◌, ◌≤◌, Bool, true, false, cond, not, ◌&&◌, nat_lt, nat_eq, Option, Some, None, List, [], ◌∷◌, ◌++◌, All, filter, map, is_some, take, refl, ap, sym, subst, ◌∙◌, arith}
+use Rattle.std.specs.Prelude.{option_map, option_to_list}
 use Rattle.std.proofs.lemmas.Bool.Decides.{nat_tests}
 use Rattle.std.proofs.lemmas.List.Elements.{All-head, All-tail, Contains-append_left, Contains-push}
 use Rattle.activity_codec.specs.declared.entries.Entry.{Entry}
 use Rattle.activity_codec.specs.declared.values.Slot.{Slot}
 use Rattle.activity_codec.specs.declared.values.Slot.TheVariants.{Driver, CoDriver}
 use Rattle.trace_model.specs.declared.Card.{Card}
-use Rattle.log_model.specs.Slots.{Slots, Sitting, same_card, in_slot}
-use Rattle.log_model.specs.Course.{Told, Course, Visit, fresh}
-use Rattle.history_model.specs.Minutes.{HistoryMinute, Seat as HistorySeat, is_crew, entry_in, on_card}
+use Rattle.log_model.specs.Slots.{Sitting, same_card, in_slot}
+use Rattle.log_model.specs.Course.{Told, Course}
+use Rattle.history_model.specs.Minutes.{HistoryMinute, Seat as HistorySeat, is_crew, entry_in}
 use Rattle.history_model.specs.Presence.{Start, CardStart, card_start}
-use Rattle.card_image.specs.Own.{IsOwnValid}
-use Rattle.joint_rule.specs.Rules.{Standing, Out, In, Torn, IsPresent}
+use Rattle.joint_rule.specs.Rules.{Standing, In, Torn, IsPresent}
 use Rattle.slot_machine.specs.declared.seats.Seat.{Seat}
 use Rattle.slot_machine.specs.declared.seats.Ended.{Ended}
 use Rattle.slot_machine.specs.declared.seats.Present.{Present}
-use Rattle.slot_machine.specs.Calls.{Seats, seat_in, ended_in, present_in, present_of, is_earlier, ending}
-use Rattle.slot_machine.specs.Kept.{Kept, KnowsNewest, left_in, minute_ended}
+use Rattle.slot_machine.specs.Calls.{ended_in, present_in, present_of, is_earlier, ending}
+use Rattle.slot_machine.specs.Kept.{Kept, KnowsNewest, left_in}
 use Rattle.run_crew.specs.declared.cabin.Cabin.{Cabin}
 use Rattle.run_crew.specs.declared.cards.Accepted.{Accepted}
 use Rattle.run_crew.specs.declared.cards.Cards.{Cards}
 use Rattle.run_crew.specs.Cards.{session_of}
-use Rattle.run_crew.specs.Cabin.{SeatAnswers, AnswersTo, Stands, with_minute_ended}
+use Rattle.run_crew.specs.Cabin.{SeatAnswers, AnswersTo}
 use Rattle.run_crew.proofs.Sessions.{same_self, same_is}
 use Rattle.run_rule.specs.Found.{Found, found_of}
-use Rattle.run_course.specs.Presence.{IsNewestAt, IsNewest, SitsAs, SlotsTell}
+use Rattle.run_course.specs.Presence.{IsNewestAt, IsNewest, SitsAs}
 use Rattle.run_moments.specs.Kept.{BrokenSince, StaysOut}
-use Rattle.run_present.specs.Presence.{IsIn, StandsIn, IsSeated, sits, PresentStand, NoneIsToBeKept, SessionsStand, AMinuteEndsSo, StaysSo, HasMore, IsTornOut, AStepLeavesSo, TheNextBeginsSo, WhatAMinuteSays}
+use Rattle.run_present.specs.Presence.{IsIn, StandsIn, IsSeated, sits, NoneIsToBeKept, SessionsStand, AMinuteEndsSo, AStepLeavesSo, TheNextBeginsSo, WhatAMinuteSays}
 
 -- MINUTES that have ended are over
 found-in : (past : List Ended) (m : ℕ) (p : Present) → present_in past m ≡ Some p → (e : Ended) × (ended_in past m ≡ Some e) × (e.present ≡ p)

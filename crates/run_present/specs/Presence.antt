@@ -1,9 +1,8 @@
 -- How the cards stand that were present in the minutes that are still to be kept (profile).
-use Rattle.std.specs.Prelude.{◌≡◌, ◌⊎◌, ℕ, suc, ◌+◌, ◌*◌, ◌/◌, ◌<◌, ◌≤◌, true, false, Option, Some, None, List, [], ◌∷◌, ◌++◌, Contains, is_some}
-use Rattle.activity_codec.specs.declared.entries.Entry.{Entry}
+use Rattle.std.specs.Prelude.{◌≡◌, ◌⊎◌, ℕ, ◌+◌, ◌*◌, ◌/◌, ◌<◌, ◌≤◌, true, false, Option, Some, None, List, [], ◌∷◌, ◌++◌, Contains, is_some}
 use Rattle.activity_codec.specs.declared.values.Slot.{Slot}
 use Rattle.trace_model.specs.declared.Card.{Card}
-use Rattle.log_model.specs.Slots.{Slots, Sitting, in_slot}
+use Rattle.log_model.specs.Slots.{Sitting, in_slot}
 use Rattle.log_model.specs.Course.{Told, Course, Visit, fresh}
 use Rattle.history_model.specs.Minutes.{HistoryMinute, on_card}
 use Rattle.history_model.specs.Presence.{Start, card_start}

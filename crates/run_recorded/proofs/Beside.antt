@@ -1,5 +1,5 @@
 -- What was found of cards, and which cards may be written, as the seconds of a run go on.
-use Rattle.std.proofs.Common.{◌≡◌, ◌⊎◌, inl, inr, ⊎_elim, ℕ, zero, suc, ◌+◌, ◌-◌, ◌*◌, ◌%◌, ◌/◌, ◌<◌, ◌≤◌, Bool, true, false, cond, nat_eq, nat_le, ◌&&◌, List, [], ◌∷◌, ◌++◌, All, Contains, length, map, filter, drop, refl, ap, sym, subst, ◌∙◌, arith, append-nil, append_assoc, length-append}
+use Rattle.std.proofs.Common.{◌≡◌, ◌⊎◌, inl, inr, ⊎_elim, ℕ, zero, suc, ◌+◌, ◌-◌, ◌/◌, ◌<◌, ◌≤◌, Bool, true, false, cond, nat_eq, nat_le, ◌&&◌, List, [], ◌∷◌, ◌++◌, All, Contains, length, map, filter, drop, refl, ap, sym, subst, ◌∙◌, arith, append-nil, length-append}
 use Rattle.std.specs.Prelude.{flat_map}
 use Rattle.std.specs.List.{AllByRecursion}
 use Rattle.std.proofs.lemmas.Bool.Decides.{nat_tests}
@@ -14,31 +14,28 @@ use Rattle.minute_model.specs.Span.{AreNumbered}
 use Rattle.log_model.specs.declared.lines.Break.{Break}
 use Rattle.log_model.specs.declared.lines.Break.TheVariants.{Cut, Tear}
 use Rattle.log_model.specs.declared.lines.Mark.{Mark}
-use Rattle.log_model.specs.declared.lines.Refused.{Refused}
 use Rattle.log_model.specs.declared.lines.Verdict.{Verdict}
 use Rattle.log_model.specs.declared.lines.Verdict.TheVariants.{Accepted, NotValid, TimeOverlap}
 use Rattle.log_model.specs.Log.{RunLog}
 use Rattle.log_model.specs.Slots.{Slots, same_card}
 use Rattle.log_model.specs.Course.{Told, Went, Visit, went}
 use Rattle.log_model.specs.Causes.{device_of, is_cut}
-use Rattle.log_model.specs.Spans.{seconds_in, AreInOrder}
+use Rattle.log_model.specs.Spans.{seconds_in}
 use Rattle.log_model.proofs.Spanning.{spanned}
 use Rattle.history_model.specs.Completeness.{IsMarked}
 use Rattle.unit_model.specs.Image.{last_kept}
 use Rattle.unit_course.specs.Lines.{cut_at, with_kept, found_from}
-use Rattle.unit_course.specs.Followed.{Lit, Lost}
 use Rattle.unit_course.specs.Turn.{cut_at_end}
-use Rattle.card_image.specs.Own.{IsOwnValid}
-use Rattle.safety_model.specs.Recording.{Recording, told_of, brought}
+use Rattle.safety_model.specs.Recording.{Recording, brought}
 use Rattle.safety_model.specs.Cards.{is_overlap, entered, overlaps}
 use Rattle.safety_model.specs.Safe.{Devices, card_of, WasFound, IsUnfound, entered_by, IsVerdict}
 use Rattle.run_rule.specs.Found.{found_of}
 use Rattle.run_rule.specs.Cards.{IsUntouched}
 use Rattle.run_course.specs.Moments.{and_break}
 use Rattle.run_course.specs.Followed.{Progress, Followed}
-use Rattle.run_course.specs.Seconds.{GoesOnBy, next_told}
-use Rattle.run_course.specs.Quiet.{quiet_second, quiet_seconds}
-use Rattle.run_course.specs.Dark.{dark_told, all_dark}
+use Rattle.run_course.specs.Seconds.{next_told}
+use Rattle.run_course.specs.Quiet.{quiet_seconds}
+use Rattle.run_course.specs.Dark.{all_dark}
 use Rattle.run_course.proofs.Dark.{lost-are-told, off-are-told}
 use Rattle.run_course.proofs.Logs.{went-refused, went-found}
 use Rattle.run_course.proofs.Quiet.{quiet-are-told}
@@ -48,7 +45,7 @@ use Rattle.run_moments.specs.Moment.{finds_by}
 use Rattle.run_moments.proofs.Telling.{each-of}
 use Rattle.run_recorded.specs.Origin.{Origin, rule_of, start_at, first_of}
 use Rattle.run_recorded.specs.Ends.{recording_by, BringsAll, AreFound, AreVerdicts, MayBeWritten, AreSpared}
-use Rattle.run_recorded.specs.Beside.{CardsTold, cards_of, TellsMore, HaveLeftMore, MayBeFound, entered_in, overlaps_in, AreFewer, AreIdle, ASecondTellsMore, FoundTellsNoMore, QuietSecondsTellMore, DarkSecondsTellMore, AnOffLineTellsMore, AnOffCutTellsMore, FewerAreFound, AreFewFound, FewAreFoundOn}
+use Rattle.run_recorded.specs.Beside.{CardsTold, cards_of, TellsMore, HaveLeftMore, MayBeFound, entered_in, AreFewer, AreIdle, ASecondTellsMore, FoundTellsNoMore, QuietSecondsTellMore, DarkSecondsTellMore, AnOffLineTellsMore, AnOffCutTellsMore, FewerAreFound, FewAreFoundOn}
 
 -- NUMBERS of the seconds so far
 number-of : (n : ℕ) (told : List Told) (t : Told) → AreNumbered n (seconds_in told) → Contains told t → t.second.number < n + length told

@@ -1,6 +1,5 @@
 -- What a run promises at its end, of what was carried to it.
 use Rattle.std.proofs.Common.{◌≡◌, ◌⊎◌, inl, inr, ⊎_elim, ℕ, ◌+◌, ◌/◌, ◌<◌, ◌≤◌, min, List, [], ◌∷◌, ◌++◌, All, Contains, filter, length, take, drop, refl, ap, sym, subst, ◌∙◌, arith}
-use Rattle.std.specs.List.{AllByRecursion}
 use Rattle.std.proofs.lemmas.List.Sums.{sum_by-append}
 use Rattle.std.proofs.lemmas.List.Elements.{All-weaker, All-append, Contains-append_left}
 use Rattle.trace_model.specs.declared.Card.{Card}
@@ -10,10 +9,8 @@ use Rattle.tach_media.specs.Medium.{IsCoherent}
 use Rattle.log_model.specs.declared.lines.Break.{Break}
 use Rattle.log_model.specs.declared.lines.Break.TheVariants.{Cut, Tear}
 use Rattle.log_model.specs.declared.lines.Mark.{Mark}
-use Rattle.log_model.specs.declared.lines.Verdict.{Verdict}
-use Rattle.log_model.specs.Log.{RunLog}
 use Rattle.log_model.specs.Slots.{same_card}
-use Rattle.log_model.specs.Course.{Told, Visit, went}
+use Rattle.log_model.specs.Course.{went}
 use Rattle.log_model.specs.Causes.{device_of, second_of, cards_torn, HasCauses, IsBegun, HasMoment}
 use Rattle.unit_model.specs.declared.layout.TheConstants.{HIGHEST_ODOMETER}
 use Rattle.unit_model.specs.Image.{last_kept, odometer_at}
@@ -32,18 +29,16 @@ use Rattle.unit_rule.specs.Odometer.{ShowsOdometer, IsBegunBy, OdometerSafe}
 use Rattle.unit_rule.proofs.Travelling.{odometer-sum, odometer-safe}
 use Rattle.joint_rule.specs.Views.{UnitView, unit_view}
 use Rattle.card_image.specs.Own.{IsOwnValid}
-use Rattle.safety_model.specs.Recording.{Recording, card_image, start_of, told_of, history_of}
-use Rattle.safety_model.specs.Cards.{acceptances, entered, overlaps, MayNotWrite}
+use Rattle.safety_model.specs.Recording.{Recording, card_image, told_of, history_of}
+use Rattle.safety_model.specs.Cards.{acceptances}
 use Rattle.safety_model.specs.Safe.{Devices, card_of, breakdowns_of, WasFound, IsUnfound, IsVerdict, IsSafe, IsCaused}
-use Rattle.run_rule.specs.Found.{found_of}
-use Rattle.run_rule.specs.Cards.{IsUntouched}
-use Rattle.run_rule.specs.Between.{Carried, IsCarried, IsFound, AreBrought, AreUntouched}
+use Rattle.run_rule.specs.Between.{Carried, IsCarried, IsFound, AreUntouched}
 use Rattle.run_rule.proofs.End.{safe-followed}
-use Rattle.run_course.specs.Followed.{Progress, Followed}
+use Rattle.run_course.specs.Followed.{Progress}
 use Rattle.run_course.specs.Caused.{AreCaused}
 use Rattle.run_course.proofs.Travelled.{legs-shown}
 use Rattle.run_brought.specs.Accounts.{so_far}
-use Rattle.run_brought.specs.Going.{IsCutFrom, StandsFor, AreAccounted}
+use Rattle.run_brought.specs.Going.{IsCutFrom, AreAccounted}
 use Rattle.run_brought.proofs.Accounts.{last-of}
 use Rattle.run_brought.proofs.Ends.{ends-follow, ends-brought}
 use Rattle.run_moments.proofs.Telling.{each-of}
@@ -51,7 +46,7 @@ use Rattle.run_recorded.specs.Origin.{Origin, rule_of, start_at, first_of, HasRe
 use Rattle.run_recorded.specs.Days.{IsBegunIn}
 use Rattle.run_recorded.proofs.Whole.{is-whole}
 use Rattle.run_recorded.proofs.Beside.{found-or}
-use Rattle.run_recorded.specs.Ends.{recording_by, AreVerdicts, MayBeWritten, AreSpared, IsBeside, EndsRun}
+use Rattle.run_recorded.specs.Ends.{recording_by, IsBeside, EndsRun}
 
 -- accounts are of the recording so far
 accounts-by : (r : Recording) (c : Card) (first : ℕ) (done : List TraceSecond) (p : Progress) (ks : List ℕ) → AreAccounted r c first done p ks → AreAccounted (so_far r done p.log) c first done p ks

@@ -1,44 +1,34 @@
 -- What is recorded, over each kind of second of a run.
-use Rattle.std.proofs.Common.{◌≡◌, ◌⊎◌, inl, inr, ⊎_elim, ℕ, zero, suc, ◌+◌, ◌-◌, ◌*◌, ◌%◌, ◌/◌, ◌^◌, ◌<◌, ◌≤◌, true, false, Option, Some, None, List, [], ◌∷◌, ◌++◌, All, Contains, length, map, filter, take, refl, ap, sym, subst, ◌∙◌, arith, append-nil, append_assoc}
+use Rattle.std.proofs.Common.{◌≡◌, inl, inr, ℕ, zero, suc, ◌+◌, ◌-◌, ◌%◌, ◌^◌, ◌<◌, ◌≤◌, true, false, Option, Some, None, List, [], ◌∷◌, ◌++◌, Contains, length, filter, refl, ap, sym, subst, ◌∙◌, arith, append-nil, append_assoc}
 use Rattle.std.specs.Prelude.{option_map, option_to_list}
-use Rattle.std.specs.List.{AllByRecursion}
 use Rattle.std.proofs.lemmas.List.Elements.{Contains-push}
-use Rattle.activity_codec.specs.declared.entries.Entry.{Entry}
 use Rattle.trace_model.specs.declared.Card.{Card}
-use Rattle.trace_model.specs.declared.Action.{Action}
 use Rattle.trace_model.specs.Trace.{TraceSecond, driven, dark}
 use Rattle.run_model.specs.declared.Device.{Device}
 use Rattle.run_model.specs.declared.Device.TheVariants.{Unit as Recorder}
-use Rattle.minute_model.specs.declared.Rule.{Rule}
 use Rattle.minute_model.specs.declared.Minute.{Minute}
 use Rattle.log_model.specs.declared.lines.Break.{Break}
-use Rattle.log_model.specs.declared.lines.Find.{Find}
 use Rattle.log_model.specs.declared.lines.Mark.{Mark}
 use Rattle.log_model.specs.declared.lines.Refused.{Refused}
-use Rattle.log_model.specs.Log.{RunLog, Phase, In, Keeping, cut_in}
+use Rattle.log_model.specs.Log.{RunLog, Keeping, cut_in}
 use Rattle.log_model.specs.Slots.{Slots, same_card}
 use Rattle.log_model.specs.Causes.{device_of, second_of, cuts, cards_torn, RoseBy}
-use Rattle.log_model.specs.Course.{Told, Course, Visit, Went, fresh, went}
-use Rattle.history_model.specs.Minutes.{HistoryMinute, on_card}
-use Rattle.history_model.specs.Presence.{Start}
+use Rattle.log_model.specs.Course.{Told, Went, went}
+use Rattle.history_model.specs.Minutes.{HistoryMinute}
 use Rattle.history_model.specs.History.{seated, minutes_after, decided_of}
-use Rattle.history_model.specs.Completeness.{IsMarked, FailedCutIn, IsComplete}
-use Rattle.history_model.specs.Book.{Book, all, found, IsMark}
+use Rattle.history_model.specs.Completeness.{FailedCutIn}
+use Rattle.history_model.specs.Book.{found}
 use Rattle.history_model.proofs.Closing.{minutes-parts}
 use Rattle.unit_course.specs.Caused.{cuts_by}
-use Rattle.unit_course.specs.Lines.{cut_at, found_from}
-use Rattle.unit_course.specs.Followed.{Supply, Lit, Due, Lost, MayPower, MayFail, IsDark}
-use Rattle.unit_course.specs.Legs.{Travel, stranded_at, resumed, all_travelled}
-use Rattle.unit_course.specs.Travelled.{MayShow}
-use Rattle.unit_course.specs.Turn.{begins_with}
+use Rattle.unit_course.specs.Lines.{cut_at}
+use Rattle.unit_course.specs.Followed.{Supply, Lit, IsDark}
+use Rattle.unit_course.specs.Legs.{Travel, stranded_at, all_travelled}
 use Rattle.unit_course.proofs.Offs.{by-same}
-use Rattle.card_image.specs.Own.{IsOwnValid}
-use Rattle.safety_model.specs.Recording.{Recording, card_image, start_of}
 use Rattle.run_course.specs.Moments.{and_break}
 use Rattle.run_course.specs.Followed.{Progress, Followed}
-use Rattle.run_course.specs.Seconds.{GoesOnBy, next_told, DecidedBy, kept_all, broken_at, AreNew}
+use Rattle.run_course.specs.Seconds.{GoesOnBy, next_told, DecidedBy, kept_all, broken_at}
 use Rattle.run_course.specs.Complete.{AllMarked, AreAcknowledged}
-use Rattle.run_course.specs.Caused.{AreCaused, AreNewCauses, WellCaused}
+use Rattle.run_course.specs.Caused.{AreNewCauses}
 use Rattle.run_course.specs.Travelled.{HasLegs}
 use Rattle.run_course.specs.Quiet.{quiet_second, quiet_seconds, quiet_on, begun_after}
 use Rattle.run_course.proofs.Caused.{second-caused, run-caused, found-caused, off-caused, off-cut-caused}
@@ -49,19 +39,18 @@ use Rattle.run_course.proofs.Staying.{failure-stays, found-stays, cut-stays_}
 use Rattle.run_course.proofs.Steps.{went-same_, now-told, goes_on, breaks_off, power_finds, power_fails, stays_dark, off_dark, off_cuts, begins_run}
 use Rattle.unit_course.proofs.Legs.{travelled-image, stranded-image}
 use Rattle.run_course.proofs.Travelled as legs
-use Rattle.run_brought.specs.Going.{acceptances_in, AreAccounted, IsTakenAt, IsBehind}
+use Rattle.run_brought.specs.Going.{AreAccounted}
 use Rattle.run_brought.proofs.Going.{second-accounted, sure-kept, nothing-accounted}
 use Rattle.run_brought.proofs.Lines.{accepts-none}
 use Rattle.run_brought.proofs.Quiet.{failure-accounted, found-accounted, dark-accounted, off-accounted, off-cut-accounted}
-use Rattle.run_moments.specs.Reached.{course_at}
 use Rattle.run_moments.specs.Moment.{Moment, goes_on as lines_of}
-use Rattle.run_moments.specs.Telling.{IsMore, begun_by, IsLeft, told_with}
+use Rattle.run_moments.specs.Telling.{begun_by, told_with}
 use Rattle.run_moments.proofs.Reached.{nothing-told, goes-itself, push-each}
 use Rattle.run_moments.proofs.Moment.{moment-begins}
 use Rattle.run_moments.proofs.Telling.{keeping-comes, second-ends_told, cut-ends_told, cut-now}
 use Rattle.run_moments.proofs.Failing.{power-on_cut}
 use Rattle.run_recorded.specs.Origin.{Origin, rule_of, start_at, first_of, HasRecorded}
-use Rattle.run_recorded.specs.Seconds.{NothingIsRecorded, at_start, empty_log, found_again, WhatWasKeptIsFound, MoreIsRecorded, AreTaken, went_on, seated_now, ASecondIsRecorded, broke_off, seated_next, ASecondIsBroken, failed_on, AFailedPowerOnIsRecorded, QuietSecondsAreRecorded, passed_dark, refused_for, fault_of, DarkSecondsAreRecorded, gone_off, AnOffLineIsRecorded, cut_off, AnOffCutIsRecorded}
+use Rattle.run_recorded.specs.Seconds.{NothingIsRecorded, at_start, empty_log, found_again, WhatWasKeptIsFound, MoreIsRecorded, AreTaken, went_on, seated_now, ASecondIsRecorded, broke_off, seated_next, ASecondIsBroken, failed_on, AFailedPowerOnIsRecorded, QuietSecondsAreRecorded, passed_dark, DarkSecondsAreRecorded, gone_off, AnOffLineIsRecorded, cut_off, AnOffCutIsRecorded}
 
 -- AT THE START
 pub nothing-recorded : NothingIsRecorded

@@ -1,5 +1,5 @@
 -- Where no call failed, an accepted card has all of its entries, but those behind a `tear` line.
-use Rattle.std.proofs.Common.{◌≡◌, ◌⊎◌, inl, inr, ⊎_elim, ℕ, ◌+◌, ◌<◌, ◌≤◌, Bool, true, false, cond, List, [], ◌∷◌, ◌++◌, All, Contains, map, filter, refl, ap, sym, subst, ◌∙◌, arith}
+use Rattle.std.proofs.Common.{◌≡◌, ◌⊎◌, ⊎_elim, ℕ, ◌+◌, ◌<◌, ◌≤◌, Bool, true, false, cond, List, [], ◌∷◌, ◌++◌, All, Contains, refl, ap, sym, subst, ◌∙◌, arith}
 use Rattle.std.specs.Prelude.{flat_map}
 use Rattle.std.proofs.lemmas.List.{append_cancel_left}
 use Rattle.std.proofs.lemmas.List.Elements.{All-contains, Contains-append_left, Contains-append_right, Contains-push_cases, Contains-append_cases}
@@ -26,7 +26,7 @@ use Rattle.history_model.proofs.Books.{history-append, history-one, history-none
 use Rattle.card_image.specs.Own.{own_view, own_number, IsOwnValid}
 use Rattle.joint_rule.specs.Views.{owed}
 use Rattle.history_model.proofs.Decided.{unit-decided}
-use Rattle.safety_model.specs.Recording.{Recording, card_image, told_of, brought, start_of, history_of, expected_of, unit_seen}
+use Rattle.safety_model.specs.Recording.{Recording, card_image, told_of, brought, start_of, history_of, unit_seen}
 use Rattle.safety_model.specs.Unit.{marks_of}
 use Rattle.safety_model.specs.Cards.{CardShows, IsRepaired, acceptances}
 use Rattle.safety_model.specs.Safe.{Devices, card_of, IsSafe, IsCaused}

@@ -1,5 +1,5 @@
 -- What was found of cards, and which cards may be written, as the seconds of a run go on (profile).
-use Rattle.std.specs.Prelude.{◌≡◌, ◌⊎◌, false, ℕ, suc, ◌+◌, ◌-◌, ◌%◌, ◌<◌, ◌≤◌, ◌&&◌, List, [], ◌∷◌, ◌++◌, Contains, length, map, filter}
+use Rattle.std.specs.Prelude.{◌≡◌, ◌⊎◌, false, ℕ, ◌+◌, ◌-◌, ◌%◌, ◌<◌, ◌≤◌, ◌&&◌, List, [], ◌∷◌, ◌++◌, Contains, length, map, filter}
 use Rattle.std.specs.List.{AllByRecursion}
 use Rattle.trace_model.specs.declared.Card.{Card}
 use Rattle.trace_model.specs.declared.Action.{Action}
@@ -11,7 +11,7 @@ use Rattle.log_model.specs.Log.{RunLog}
 use Rattle.log_model.specs.Slots.{same_card}
 use Rattle.log_model.specs.Course.{Told, Visit, went}
 use Rattle.unit_course.specs.Lines.{cut_at, found_from}
-use Rattle.unit_course.specs.Followed.{Lit, Lost, MayPower}
+use Rattle.unit_course.specs.Followed.{Lit, Lost}
 use Rattle.safety_model.specs.Recording.{Recording}
 use Rattle.safety_model.specs.Cards.{is_overlap, entered, overlaps}
 use Rattle.safety_model.specs.Safe.{Devices, card_of, IsVerdict}
@@ -20,8 +20,6 @@ use Rattle.run_rule.specs.Cards.{IsUntouched}
 use Rattle.run_course.specs.Moments.{and_break}
 use Rattle.run_course.specs.Followed.{Progress, Followed}
 use Rattle.run_course.specs.Seconds.{GoesOnBy, next_told}
-use Rattle.run_course.specs.Quiet.{quiet_seconds}
-use Rattle.run_course.specs.Dark.{all_dark}
 use Rattle.run_moments.specs.Lines.{times_of}
 use Rattle.run_moments.specs.Moment.{finds_by}
 use Rattle.run_recorded.specs.Origin.{Origin, rule_of, start_at, first_of}

@@ -22,10 +22,9 @@ use Rattle.safety_model.specs.Cards.{entered, overlaps}
 use Rattle.safety_model.specs.Safe.{Devices, card_of, breakdowns_of, entered_by, WasFound, IsUnfound, IsVerdict, IsSafe, IsCaused}
 use Rattle.run_rule.specs.Found.{found_of}
 use Rattle.run_rule.specs.Cards.{IsUntouched}
-use Rattle.run_rule.specs.Between.{Carried, IsCarried}
 use Rattle.run_course.specs.Followed.{Progress}
 use Rattle.run_brought.specs.Accounts.{so_far}
-use Rattle.run_recorded.specs.Origin.{Origin, HasRecorded}
+use Rattle.run_recorded.specs.Origin.{Origin}
 use Rattle.run_recorded.specs.Days.{IsBegunIn}
 use Rattle.run_recorded.specs.Whole.{NothingFailed, IsWhole}
 

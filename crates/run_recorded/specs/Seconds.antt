@@ -1,29 +1,27 @@
 -- What is recorded, over each kind of second of a run (profile).
-use Rattle.std.specs.Prelude.{◌≡◌, ◌⊎◌, ℕ, suc, ◌+◌, ◌-◌, ◌*◌, ◌%◌, ◌/◌, ◌<◌, ◌≤◌, true, false, Option, Some, None, List, [], ◌∷◌, ◌++◌, All, Contains, length, map, option_map, option_to_list}
-use Rattle.activity_codec.specs.declared.entries.Entry.{Entry}
+use Rattle.std.specs.Prelude.{◌≡◌, ◌⊎◌, ℕ, suc, ◌+◌, ◌-◌, ◌%◌, ◌/◌, ◌<◌, ◌≤◌, true, false, Option, List, [], ◌∷◌, ◌++◌, Contains, length, map, option_map, option_to_list}
 use Rattle.trace_model.specs.declared.Card.{Card}
 use Rattle.trace_model.specs.declared.Action.{Action}
 use Rattle.trace_model.specs.Trace.{TraceSecond, driven, dark}
 use Rattle.run_model.specs.declared.Device.{Device}
 use Rattle.run_model.specs.declared.Device.TheVariants.{Unit as Recorder}
 use Rattle.minute_model.specs.declared.Minute.{Minute}
-use Rattle.log_model.specs.declared.lines.Break.{Break}
 use Rattle.log_model.specs.declared.lines.Mark.{Mark}
 use Rattle.log_model.specs.declared.lines.Refused.{Refused}
 use Rattle.log_model.specs.declared.lines.SlotFault.{SlotFault}
 use Rattle.log_model.specs.declared.lines.SlotFault.TheVariants.{NoPower}
-use Rattle.log_model.specs.Log.{RunLog, Phase, In, Keeping}
+use Rattle.log_model.specs.Log.{RunLog, Phase, Keeping}
 use Rattle.log_model.specs.Causes.{RoseBy}
-use Rattle.log_model.specs.Course.{Told, Course, Visit, went}
+use Rattle.log_model.specs.Course.{Told, Visit, went}
 use Rattle.history_model.specs.Minutes.{HistoryMinute}
 use Rattle.history_model.specs.History.{seated, minutes_after, decided_of}
-use Rattle.history_model.specs.Book.{Book, all, found, not_begun, IsMark}
+use Rattle.history_model.specs.Book.{Book, found, not_begun}
 use Rattle.unit_course.specs.Lines.{cut_at, found_from}
 use Rattle.unit_course.specs.Followed.{Lit, Due, Lost, MayPower, MayFail, IsDark}
 use Rattle.unit_course.specs.Legs.{Travel, not_travelled, stranded_at, resumed, all_travelled}
 use Rattle.unit_course.specs.Travelled.{MayShow}
 use Rattle.card_image.specs.Own.{IsOwnValid}
-use Rattle.safety_model.specs.Recording.{Recording, card_image}
+use Rattle.safety_model.specs.Recording.{card_image}
 use Rattle.run_course.specs.Moments.{and_break}
 use Rattle.run_course.specs.Followed.{Progress}
 use Rattle.run_course.specs.Seconds.{next_told, kept_all, broken_at}

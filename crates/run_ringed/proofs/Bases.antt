@@ -1,5 +1,5 @@
 -- With which odometer the spans of a run began, as its log goes on and spans are added.
-use Rattle.std.proofs.Common.{◌≡◌, ◌⊎◌, inl, inr, ⊎_elim, ℕ, zero, suc, ◌+◌, ◌≤◌, Bool, true, false, cond, ◌||◌, ◌&&◌, nat_eq, Option, Some, None, List, [], ◌∷◌, ◌++◌, All, Contains, length, map, filter, take, drop, refl, ap, sym, subst, ◌∙◌, arith, append-nil, append_assoc}
+use Rattle.std.proofs.Common.{◌≡◌, ◌⊎◌, inl, inr, ⊎_elim, ℕ, zero, suc, ◌+◌, ◌≤◌, Bool, true, false, cond, ◌||◌, ◌&&◌, nat_eq, Option, Some, None, List, [], ◌∷◌, ◌++◌, length, map, filter, take, drop, refl, ap, sym, subst, ◌∙◌, arith, append-nil, append_assoc}
 use Rattle.std.specs.List.{AllByRecursion, list_any}
 use Rattle.std.proofs.lemmas.List.{same_from_push}
 use Rattle.std.proofs.lemmas.List.Elements.{Contains-append_left, filter-append}
@@ -16,7 +16,7 @@ use Rattle.log_model.specs.Log.{RunLog, kept_after}
 use Rattle.log_model.specs.Spans.{first_in}
 use Rattle.history_model.specs.History.{decided_of, cut_second, limit_by}
 use Rattle.unit_course.specs.Lines.{log_of, cut_at, with_kept, found_from, tells_cut}
-use Rattle.unit_course.proofs.Lines.{kept-known, kept-now, tells-append, tells-found, tells-front, tells-behind, tells-here, take-front, take-all}
+use Rattle.unit_course.proofs.Lines.{kept-known, kept-now, tells-append, tells-found, tells-front, tells-behind, take-front, take-all}
 use Rattle.side_model.specs.Done.{has_failed_in}
 use Rattle.side_model.specs.Odometer.{SpanFrom, MayStore, OfStart, OfKept, OfCut, found_kept, last_second, BeginsFrom, HaveBases}
 use Rattle.safety_model.specs.Safe.{Devices}

@@ -1,5 +1,5 @@
 -- How the book of a run goes with its power spans: the numbers of its minutes, and in which second the last of them were decided.
-use Rattle.std.proofs.Common.{◌≡◌, ◌⊎◌, inl, inr, ⊎_elim, ℕ, zero, suc, ◌+◌, ◌-◌, ◌*◌, ◌/◌, ◌<◌, ◌≤◌, Bool, true, false, cond, nat_le, Option, Some, None, List, [], ◌∷◌, ◌++◌, All, Contains, length, map, filter, take, refl, ap, sym, subst, ◌∙◌, arith, append-nil, append_assoc}
+use Rattle.std.proofs.Common.{◌≡◌, ◌⊎◌, inl, inr, ⊎_elim, ℕ, zero, suc, ◌+◌, ◌-◌, ◌/◌, ◌<◌, ◌≤◌, Bool, true, false, cond, nat_le, Option, Some, None, List, [], ◌∷◌, ◌++◌, All, Contains, map, filter, take, refl, ap, sym, subst, ◌∙◌, arith, append-nil}
 use Rattle.std.specs.Prelude.{max}
 use Rattle.std.proofs.lemmas.List.{map-append, append_cancel_right, same_from_push, length-append}
 use Rattle.std.proofs.lemmas.List.Elements.{filter-append, All-map, Contains-push_cases, Contains-append_cases}
@@ -8,7 +8,7 @@ use Rattle.minute_model.specs.Activity.{last}
 use Rattle.minute_model.specs.declared.Minute.{Minute}
 use Rattle.minute_model.specs.declared.Rule.{Rule}
 use Rattle.minute_model.specs.Minute.{minutes_ahead}
-use Rattle.minute_model.specs.Span.{Span, AreNumbered, begin, count_from, decided_in, end_of, latest, ungiven_of}
+use Rattle.minute_model.specs.Span.{AreNumbered, count_from, end_of, latest, ungiven_of}
 use Rattle.minute_model.proofs.Counted.{decided-minutes}
 use Rattle.log_model.specs.Course.{Told, went}
 use Rattle.log_model.specs.Log.{RunLog}
@@ -23,7 +23,7 @@ use Rattle.history_model.proofs.Books.{up_to-within, contains-up_to}
 use Rattle.history_model.proofs.Deciding.{counted, span-settled}
 use Rattle.unit_course.specs.Followed.{Supply, Lit, going_on, as_spans}
 use Rattle.unit_course.specs.Turn.{span_at}
-use Rattle.side_model.specs.Odometer.{SpanFrom, IsBeingKept}
+use Rattle.side_model.specs.Odometer.{SpanFrom}
 use Rattle.run_course.specs.Followed.{Progress, Followed, IsShut, IsTied}
 use Rattle.run_course.proofs.Deciding.{added, decides-now}
 use Rattle.run_course.proofs.Steps.{lit-parts, span-end}

@@ -1,13 +1,13 @@
 -- What the bytes of an insertion and of a place tell, as side_model has an entry stand for a note.
-use Rattle.std.proofs.Common.{◌≡◌, ◌∙◌, ℕ, ◌+◌, ◌<◌, ◌^◌, Bool, true, false, None, List, [], ◌∷◌, length, refl, ap, sym, arith}
+use Rattle.std.proofs.Common.{◌≡◌, ◌∙◌, ℕ, ◌<◌, ◌^◌, None, List, [], length, refl, ap}
 use Rattle.std.specs.Prelude.{slice_index_or}
-use Rattle.card_layout.specs.Fields.{joined, field_at, number_in}
+use Rattle.card_layout.specs.Fields.{field_at, number_in}
 use Rattle.card_layout.proofs.Cuts.{cut-joined}
 use Rattle.byteorder.specs.Numbers.{length-bytes_high_first}
 use Rattle.activity_codec.specs.Words.{slot_number}
 use Rattle.trace_model.specs.declared.Card.{Card}
 use Rattle.tacho_types.specs.CardNumber.{card_number_bytes}
-use Rattle.tacho_types.specs.Numbers.{time_bytes, odometer_bytes}
+use Rattle.tacho_types.specs.Numbers.{time_bytes}
 use Rattle.tacho_types.specs.declared.card_number.FullCardNumber.{FullCardNumber}
 use Rattle.tacho_types.specs.declared.places.PlaceEntry.{PlaceEntry}
 use Rattle.message_model.specs.Records.{insertion_widths}

@@ -4,9 +4,8 @@ use Rattle.std.specs.List.{AllByRecursion, list_any}
 use Rattle.std.proofs.lemmas.List.{length-take}
 use Rattle.std.proofs.lemmas.List.Elements.{filter-append}
 use Rattle.trace_model.specs.declared.Card.{Card}
-use Rattle.tach_media.specs.Medium.{State}
 use Rattle.gated_ring.specs.Ring.{Shape, PointsInside, place_of, entry_at, taken, with_head}
-use Rattle.gated_ring.specs.Change.{IsAdded, IsAdding}
+use Rattle.gated_ring.specs.Change.{IsAdding}
 use Rattle.log_model.specs.declared.lines.Break.{Break}
 use Rattle.log_model.specs.Log.{RunLog}
 use Rattle.log_model.specs.Causes.{is_cut, has_failed, second_of}
@@ -14,7 +13,7 @@ use Rattle.log_model.specs.Slots.{same_card}
 use Rattle.side_model.specs.Done.{has_failed_in}
 use Rattle.side_model.specs.Odometer.{SpanFrom, odometer_at}
 use Rattle.side_model.specs.Noted.{PlaceNote, Note, Enters, place_in, places_of}
-use Rattle.side_model.specs.Rings.{Stand, AreNoFewer}
+use Rattle.side_model.specs.Rings.{AreNoFewer}
 use Rattle.safety_model.specs.Recording.{card_image}
 use Rattle.safety_model.specs.Safe.{Devices, card_of}
 use Rattle.run_rings.specs.Carried.{Carries}
@@ -22,7 +21,7 @@ use Rattle.run_rings.proofs.Carried.{carries-none, carries-same, carries-more, c
 use Rattle.run_rings.proofs.Standing.{stand-one, stand-unsure}
 use Rattle.run_rings.proofs.Few.{as-many, added-long, adding-long, few-start, few-go, few-as, few-more, few-unsure}
 use Rattle.run_evented.specs.Origin.{Origin}
-use Rattle.run_ringed.specs.OnCards.{ShowsNotes, has_call_failed_in, places_in, place_width, places_on, IsPlaceOn, is_sure_on, HasPlaces, PlacesOnCards, HasSamePlaces, LeavesPlaces, PlacesStay, TakesPlace, PlaceIsTaken}
+use Rattle.run_ringed.specs.OnCards.{ShowsNotes, has_call_failed_in, places_in, place_width, places_on, IsPlaceOn, is_sure_on, HasPlaces, PlacesOnCards, LeavesPlaces, PlacesStay, TakesPlace, PlaceIsTaken}
 use Rattle.run_ringed.specs.SoFar.{HasMoreBreaks}
 use Rattle.run_ringed.proofs.Stands.{Weaker, stand-as, unsure-as, all-of, with-whole, places-more}
 

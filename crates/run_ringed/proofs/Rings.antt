@@ -1,10 +1,10 @@
 -- What is carried of the rings, over each step.
-use Rattle.std.proofs.Common.{◌≡◌, ◌⊎◌, inl, inr, ⊎_elim, ℕ, suc, ◌+◌, ◌-◌, ◌≤◌, min, Bool, true, false, not, ◌||◌, Option, Some, None, IfSome, option_map, List, [], ◌∷◌, ◌++◌, drop, length, refl, ap, sym, subst, ◌∙◌, arith, append_assoc, append-nil}
+use Rattle.std.proofs.Common.{◌≡◌, ◌⊎◌, inl, inr, ⊎_elim, ℕ, suc, ◌+◌, ◌-◌, ◌≤◌, Bool, true, false, not, ◌||◌, Option, Some, None, IfSome, option_map, List, [], ◌∷◌, ◌++◌, length, refl, ap, sym, subst, ◌∙◌, arith, append_assoc, append-nil}
 use Rattle.std.specs.List.{AllByRecursion, list_any}
-use Rattle.std.proofs.lemmas.List.{length-take, length-drop, length-map, length-append}
+use Rattle.std.proofs.lemmas.List.{length-drop, length-map, length-append}
 use Rattle.card_layout.specs.Images.{bytes_at}
 use Rattle.trace_model.specs.declared.Card.{Card}
-use Rattle.gated_ring.specs.Ring.{Shape, IsShape, PointsInside, size_of, place_of, indices, ring_list, entry_at, taken, staying, with_head, newest_of, IsDense}
+use Rattle.gated_ring.specs.Ring.{Shape, IsShape, PointsInside, size_of, indices, ring_list, entry_at, taken, staying, with_head, newest_of, IsDense}
 use Rattle.gated_ring.specs.Change.{IsAdded, IsAdding}
 use Rattle.gated_ring.proofs.Elsewhere.{ring_outside, ring_elsewhere}
 use Rattle.message_model.specs.Records.{insertion_ring, unit_place_ring}
@@ -19,16 +19,16 @@ use Rattle.run_evented.specs.Opened.{HasComeBefore}
 use Rattle.trace_model.specs.Trace.{TraceSecond}
 use Rattle.log_model.specs.Course.{Told}
 use Rattle.run_rings.specs.Carried.{Carries}
-use Rattle.run_rings.proofs.Carried.{carries-none, carries-same, carries-more, carries-maybe}
+use Rattle.run_rings.proofs.Carried.{carries-none, carries-same, carries-more}
 use Rattle.run_rings.proofs.Indices.{index-stays}
-use Rattle.run_rings.proofs.Standing.{stand-one, stand-unsure}
+use Rattle.run_rings.proofs.Standing.{stand-one}
 use Rattle.run_rings.proofs.Few.{as-many, added-long, few-start, few-go, few-as, few-more}
 use Rattle.run_evented.specs.Origin.{Origin}
 use Rattle.run_evented.specs.Beside.{HaveLeftMore}
 use Rattle.run_ringed.specs.Ringed.{holder_in, TellsIn, IsInsertionIn, IsPlaceIn, sure_insertion, sure_place, ShowsNotes, Seating, one_behind, IsSeated, ShowsInsertions, Ringed, GoOn, NoRingIsWritten, RingsStay, FewerSit, IsAddedAt, MayBeAdded, Since}
 use Rattle.run_ringed.specs.OnCards.{place_width, IsPlaceOn, PlacesStay, PlaceIsTaken}
 use Rattle.run_ringed.proofs.OnCards.{whole-head, maybe, places-none, places-go, places-beside, places-taken}
-use Rattle.run_ringed.proofs.Stands.{Weaker, stand-as, unsure-as, each-as, each-append, all-parts, all-of, all-each, with-whole, insertions-more, places-more, insertion-as, place-as}
+use Rattle.run_ringed.proofs.Stands.{Weaker, stand-as, unsure-as, each-as, each-append, all-parts, all-of, all-each, insertions-more, places-more, insertion-as, place-as}
 
 pub insertion_shape : IsShape insertion_ring
 insertion_shape = record { some = omega arith; gate = omega arith; pointer = omega arith; holds = λ _. omega arith; short = omega arith }

@@ -1,8 +1,6 @@
 -- The rings within a second: how it begins, goes on and ends.
-use Rattle.std.proofs.Common.{◌≡◌, ◌⊎◌, inl, inr, ℕ, suc, ◌+◌, ◌<◌, ◌≤◌, Bool, true, false, cond, not, ◌&&◌, ◌||◌, Option, Some, None, IfSome, List, [], ◌∷◌, ◌++◌, All, map, filter, fold, length, nat_eq, refl, ap, sym, subst, ◌∙◌, arith, append-nil, append_assoc}
-use Rattle.std.specs.Prelude.{flat_map}
+use Rattle.std.proofs.Common.{◌≡◌, inl, ℕ, suc, ◌+◌, ◌<◌, ◌≤◌, Bool, true, false, cond, not, ◌&&◌, Option, Some, None, IfSome, List, [], ◌∷◌, ◌++◌, map, filter, fold, nat_eq, refl, ap, sym, subst, ◌∙◌, arith, append-nil, append_assoc}
 use Rattle.std.specs.List.{AllByRecursion, list_any}
-use Rattle.std.proofs.lemmas.List.{map-append}
 use Rattle.std.proofs.lemmas.List.Elements.{filter-append}
 use Rattle.trace_model.specs.declared.Action.{Action}
 use Rattle.trace_model.specs.declared.Action.TheVariants.{Select, Insert, Withdraw, Tear, Place}
@@ -12,18 +10,17 @@ use Rattle.minute_model.specs.Second.{Second}
 use Rattle.log_model.specs.declared.lines.Break.{Break}
 use Rattle.log_model.specs.declared.lines.SlotFault.{SlotFault}
 use Rattle.log_model.specs.Log.{RunLog, Phase, In, cut_in, is_torn_in}
-use Rattle.log_model.specs.Causes.{cuts, is_cut, has_failed, second_of}
+use Rattle.log_model.specs.Causes.{is_cut, has_failed, second_of}
 use Rattle.log_model.specs.Slots.{same_card, in_slot, refusal}
-use Rattle.log_model.specs.Same.{SameAt}
 use Rattle.log_model.specs.Spans.{go_on, spans_with, spans_of, seconds_in}
 use Rattle.log_model.specs.Course.{Course, Told, Before, Went, begins, acted, has_power, went, went_on, not_begun, second_told}
 use Rattle.side_model.specs.Done.{CarriedOut, course_powered, done_by, has_failed_in}
 use Rattle.side_model.specs.Odometer.{SpanFrom, odometer_at}
-use Rattle.side_model.specs.Noted.{Acceptance, Withdrawal, InsertionNote, PlaceNote, Note, Accepts, Withdraws, Enters, accepted_card, noted_by, noted_in, with_withdrawal, with_note, insertions_of, place_in, places_of}
+use Rattle.side_model.specs.Noted.{Withdrawal, InsertionNote, PlaceNote, Note, Accepts, Withdraws, Enters, accepted_card, noted_by, noted_in, with_withdrawal, with_note, insertions_of, places_of}
 use Rattle.safety_model.specs.Safe.{Devices}
 use Rattle.run_evented.specs.Opened.{HasComeBefore}
 use Rattle.run_evented.proofs.Opened.{come-told, come-trace}
-use Rattle.run_rings.specs.Notes.{accepted_in, noted_if, action_notes, notes_from, notes_to, TellSameTo, NotesMore}
+use Rattle.run_rings.specs.Notes.{accepted_in, noted_if, action_notes, notes_from, notes_to, NotesMore}
 use Rattle.run_rings.specs.Spans.{go_on_from, with_second, AreBefore, AreAllBefore, AreAlike}
 use Rattle.run_rings.proofs.Same.{rings-left}
 use Rattle.run_rings.proofs.Notes.{Finding, is_at, later-lines, second-noted, cut-notes}
@@ -32,7 +29,7 @@ use Rattle.run_rings.proofs.Spans.{are-spans, earlier-stay, alike}
 use Rattle.run_events.proofs.Later.{told-number}
 use Rattle.run_evented.specs.Origin.{Origin}
 use Rattle.run_evented.specs.Beside.{HaveLeftMore}
-use Rattle.run_ringed.specs.Ringed.{Seating, Ringed, StaysInRings, GoOn, notes_in, noted_next, Since, since_behind, since_in}
+use Rattle.run_ringed.specs.Ringed.{Seating, Ringed, GoOn, notes_in, Since, since_behind, since_in}
 use Rattle.run_ringed.specs.SoFar.{noted_at, AreEarlier, RingedBehind, IsSecond, notes_so_far, RingedIn, AreFewer, HasMoreBreaks, ASecondBeginsInRings, RingsGoOn, AnActionNotesNothing, AnActionIsNoted, GoesBehind, TheSecondEndsInRings, ACutEndsInRings, DarkSecondsNoteNothing}
 use Rattle.run_ringed.proofs.Stands.{all-of, all-each}
 use Rattle.run_evented.proofs.Noted.{second-notes}

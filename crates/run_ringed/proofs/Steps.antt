@@ -1,6 +1,5 @@
 -- The rings over each action of a second.
-use Rattle.std.proofs.Common.{◌≡◌, ◌⊎◌, inl, inr, ℕ, suc, ◌+◌, Bool, true, false, cond, Option, Some, None, is_some, List, [], ◌∷◌, ◌++◌, map, length, refl, ap, sym, subst, ◌∙◌, arith, append_assoc, length-append}
-use Rattle.std.specs.Prelude.{filter}
+use Rattle.std.proofs.Common.{◌≡◌, inl, inr, ℕ, suc, ◌+◌, Bool, true, cond, Option, Some, List, [], ◌∷◌, ◌++◌, map, length, refl, ap, sym, subst, ◌∙◌, arith, append_assoc, length-append}
 use Rattle.activity_codec.specs.declared.values.Slot.{Slot}
 use Rattle.trace_model.specs.declared.Action.{Action}
 use Rattle.trace_model.specs.declared.Action.TheVariants.{Insert, Withdraw, Place}
@@ -8,18 +7,17 @@ use Rattle.trace_model.specs.declared.Card.{Card}
 use Rattle.trace_model.specs.Trace.{TraceSecond}
 use Rattle.log_model.specs.declared.lines.Verdict.{Verdict}
 use Rattle.log_model.specs.Log.{RunLog, In, cut_in, found_in, is_accepting}
-use Rattle.log_model.specs.Slots.{Sitting}
-use Rattle.log_model.specs.Course.{Told, Before, went}
+use Rattle.log_model.specs.Course.{Told, went}
 use Rattle.side_model.specs.Odometer.{SpanFrom}
 use Rattle.side_model.specs.Noted.{Acceptance, Withdrawal, PlaceNote, Note, Accepts, Withdraws, Enters}
 use Rattle.safety_model.specs.Safe.{Devices}
-use Rattle.run_rings.specs.Notes.{NotesMore, course_behind, accepts_by}
+use Rattle.run_rings.specs.Notes.{NotesMore, accepts_by}
 use Rattle.run_rings.specs.Spans.{with_second}
 use Rattle.run_rings.proofs.Same.{rings-left}
 use Rattle.run_rings.proofs.Actions.{places, withdrawals, insertions}
 use Rattle.run_evented.specs.Origin.{Origin}
 use Rattle.run_ringed.specs.Ringed.{Seating, Ringed, since_in}
-use Rattle.run_ringed.specs.SoFar.{notes_so_far, RingedBehind, RingedIn, AreFewer}
+use Rattle.run_ringed.specs.SoFar.{notes_so_far, RingedBehind, RingedIn}
 use Rattle.run_ringed.specs.Steps.{GoesOnTo, IsCutIn, spans_cut, nobody, AnActionPasses, AnActionIsCut, APlaceIsEntered, APlaceIsCut, ACardIsWithdrawn, AWithdrawalIsCut, ACardIsAccepted, AnAcceptanceIsCut}
 use Rattle.run_ringed.proofs.OnCards.{places-itself}
 use Rattle.run_ringed.proofs.Rings.{fewer-sit}

@@ -1,5 +1,5 @@
 -- The rings over a power-on.
-use Rattle.std.proofs.Common.{◌≡◌, ◌⊎◌, inl, inr, ℕ, zero, suc, ◌&&◌, ◌||◌, Bool, true, false, cond, Option, Some, None, List, [], ◌∷◌, ◌++◌, map, length, refl, ap, sym, subst, ◌∙◌, arith, append-nil, append_assoc}
+use Rattle.std.proofs.Common.{◌≡◌, ◌⊎◌, inl, inr, ℕ, zero, suc, ◌&&◌, ◌||◌, Bool, true, false, cond, Option, Some, None, List, [], ◌∷◌, ◌++◌, map, refl, ap, sym, subst, ◌∙◌, arith, append-nil, append_assoc}
 use Rattle.std.specs.Prelude.{filter, nat_eq}
 use Rattle.std.specs.List.{list_any}
 use Rattle.activity_codec.specs.declared.values.Slot.{Slot}
@@ -10,7 +10,7 @@ use Rattle.log_model.specs.declared.lines.Break.{Break}
 use Rattle.log_model.specs.declared.lines.Break.TheVariants.{Cut, Tear}
 use Rattle.log_model.specs.declared.lines.Verdict.{Verdict}
 use Rattle.log_model.specs.Causes.{is_cut, has_failed, second_of}
-use Rattle.log_model.specs.Log.{RunLog, In, cut_in, found_in, is_accepting}
+use Rattle.log_model.specs.Log.{RunLog, In, found_in, is_accepting}
 use Rattle.log_model.specs.Slots.{Sitting, in_slot}
 use Rattle.log_model.specs.Course.{Told, Before, Went, went}
 use Rattle.log_model.specs.Spans.{spans_of}
@@ -19,15 +19,15 @@ use Rattle.side_model.specs.Done.{has_failed_in}
 use Rattle.side_model.specs.Odometer.{SpanFrom}
 use Rattle.side_model.specs.Noted.{Acceptance, Note, Accepts}
 use Rattle.safety_model.specs.Safe.{Devices}
-use Rattle.run_rings.specs.Notes.{notes_to, accepts_by, sits_accepted}
+use Rattle.run_rings.specs.Notes.{notes_to, sits_accepted}
 use Rattle.run_rings.specs.Spans.{with_second}
 use Rattle.run_rings.proofs.Same.{rings-left}
 use Rattle.run_rings.proofs.Actions.{power-notes}
 use Rattle.run_rings.proofs.Spans.{earlier-stay}
 use Rattle.run_evented.specs.Origin.{Origin}
 use Rattle.run_evented.specs.Beside.{HaveLeftMore}
-use Rattle.run_ringed.specs.Ringed.{Seating, Ringed, StaysInRings, GoOn, notes_in, since_behind, since_in}
-use Rattle.run_ringed.specs.SoFar.{AreEarlier, RingedBehind, notes_so_far, RingedIn, AreFewer, HasMoreBreaks, GoesBehind}
+use Rattle.run_ringed.specs.Ringed.{Seating, Ringed, StaysInRings, notes_in, since_behind, since_in}
+use Rattle.run_ringed.specs.SoFar.{AreEarlier, RingedBehind, notes_so_far, RingedIn, HasMoreBreaks, GoesBehind}
 use Rattle.run_ringed.specs.Steps.{nobody}
 use Rattle.run_ringed.specs.Waking.{NoneFound, PowerBeginsInRings, IsFoundAnew, ASlotIsPassedAnew, ACardIsAcceptedAnew, AnAcceptanceIsCutAnew}
 use Rattle.run_ringed.specs.OnCards.{has_call_failed_in, PlacesStay}

@@ -6,7 +6,7 @@ use Rattle.trace_model.specs.Trace.{TraceSecond}
 use Rattle.tacho_types.specs.declared.numbers.TimeReal.{TimeReal}
 use Rattle.tacho_types.specs.declared.numbers.Odometer.{Odometer}
 use Rattle.tach_media.specs.Medium.{State}
-use Rattle.gated_ring.specs.Ring.{Shape, PointsInside, IsDense, indices, taken}
+use Rattle.gated_ring.specs.Ring.{Shape, PointsInside, indices, taken}
 use Rattle.gated_ring.specs.Change.{IsAdded, IsAdding}
 use Rattle.message_model.specs.Records.{insertion_ring, unit_place_ring}
 use Rattle.unit_notes.specs.Noting.{IsWithdrawn, IsWithdrawing}
@@ -25,7 +25,6 @@ use Rattle.card_image.specs.Own.{own_sizes}
 use Rattle.run_evented.specs.Opened.{HasComeBefore}
 pub use Rattle.run_evented.specs.Uses.{notes_in, noted_next}
 use Rattle.run_rule.specs.Found.{found_of}
-use Rattle.run_rings.specs.Carried.{Carries}
 pub use Rattle.run_rings.specs.Same.{HasSameRings, LeavesRings}
 pub use Rattle.run_ringed.specs.OnCards.{HasRing, ShowsNotes}
 use Rattle.run_ringed.specs.OnCards.{has_call_failed_in, place_width, IsPlaceOn, PlacesOnCards, PlacesStay, PlaceIsTaken, HasPlaces, places_in, places_on, is_sure_on}

@@ -1,5 +1,5 @@
 -- What is carried of the rings WITHIN A SECOND (profile): the notes of the seconds before it, and its own up to some of its actions.
-use Rattle.std.specs.Prelude.{◌≡◌, ◌⊎◌, ℕ, suc, ◌+◌, ◌<◌, Bool, true, false, not, Option, Some, None, List, [], ◌∷◌, ◌++◌, All, map, length}
+use Rattle.std.specs.Prelude.{◌≡◌, ◌⊎◌, ℕ, suc, ◌+◌, ◌<◌, true, false, not, Option, Some, None, List, [], ◌∷◌, ◌++◌, All, map, length}
 use Rattle.std.specs.List.{AllByRecursion}
 use Rattle.trace_model.specs.declared.Action.{Action}
 use Rattle.trace_model.specs.declared.Card.{Card}
@@ -13,7 +13,7 @@ use Rattle.side_model.specs.Odometer.{SpanFrom}
 use Rattle.side_model.specs.Noted.{Note, Accepts, Withdraws, Enters}
 use Rattle.safety_model.specs.Safe.{Devices}
 use Rattle.run_rings.specs.Notes.{notes_to, TellSameTo, NotesMore}
-use Rattle.run_rings.specs.Spans.{with_second, AreAllBefore, AreAlike}
+use Rattle.run_rings.specs.Spans.{with_second, AreAllBefore}
 use Rattle.run_evented.specs.Origin.{Origin}
 use Rattle.run_evented.specs.Beside.{HaveLeftMore}
 use Rattle.run_ringed.specs.OnCards.{PlacesStay}

@@ -1,14 +1,12 @@
 -- THE ODOMETERS THAT A RUN STORES (profile): with which one each power span began, and what each image of the unit has stored.
-use Rattle.std.specs.Prelude.{◌≡◌, ◌⊎◌, ℕ, ◌≤◌, Bool, true, false, Option, Some, None, List, [], ◌∷◌, ◌++◌, All, Contains, map, filter, take, nat_le}
+use Rattle.std.specs.Prelude.{◌≡◌, ◌⊎◌, ℕ, Bool, true, false, Some, List, [], ◌∷◌, ◌++◌, take}
 use Rattle.std.specs.List.{AllByRecursion}
 use Rattle.minute_model.specs.Activity.{last}
-use Rattle.minute_model.specs.declared.Minute.{Minute}
-use Rattle.minute_model.specs.declared.Rule.{Rule}
 use Rattle.unit_model.specs.Image.{last_kept, odometer_at}
 use Rattle.log_model.specs.Course.{Told}
 use Rattle.log_model.specs.Log.{RunLog}
 use Rattle.log_model.specs.Spans.{first_in}
-use Rattle.history_model.specs.History.{decided_of, cut_second, limit_by}
+use Rattle.history_model.specs.History.{cut_second}
 use Rattle.unit_course.specs.Lines.{tells_cut}
 use Rattle.side_model.specs.Done.{has_failed_in}
 use Rattle.side_model.specs.Odometer.{SpanFrom, MayStore, found_kept, last_second, HaveBases}

@@ -1,25 +1,24 @@
 -- What each action of a second notes in the rings.
-use Rattle.std.proofs.Common.{◌≡◌, ◌⊎◌, inl, inr, ℕ, zero, suc, ◌+◌, ◌<◌, ◌≤◌, Bool, true, false, cond, not, ◌&&◌, ◌||◌, Option, Some, None, List, [], ◌∷◌, ◌++◌, map, filter, length, nat_eq, is_some, refl, ap, sym, subst, ◌∙◌, arith, append-nil, append_assoc}
+use Rattle.std.proofs.Common.{◌≡◌, ℕ, suc, ◌+◌, ◌<◌, Bool, true, false, cond, not, ◌&&◌, ◌||◌, Option, Some, None, List, [], ◌∷◌, ◌++◌, map, filter, length, nat_eq, is_some, refl, ap, ◌∙◌, arith, append-nil}
 use Rattle.std.specs.Prelude.{flat_map, nat_lt, option_map}
 use Rattle.std.specs.List.{list_any}
 use Rattle.std.proofs.lemmas.Bool.Decides.{nat_tests}
 use Rattle.activity_codec.specs.declared.values.Pick.{Pick}
 use Rattle.activity_codec.specs.declared.values.Slot.{Slot}
 use Rattle.activity_codec.specs.declared.values.Slot.TheVariants.{Driver, CoDriver}
-use Rattle.activity_codec.specs.Activity.{same_slot}
 use Rattle.trace_model.specs.declared.Card.{Card}
 use Rattle.trace_model.specs.declared.Action.{Action}
 use Rattle.trace_model.specs.declared.Action.TheVariants.{Select, Insert, Withdraw, Tear, Place}
 use Rattle.trace_model.specs.Trace.{TraceSecond}
 use Rattle.log_model.specs.declared.lines.SlotFault.{SlotFault}
 use Rattle.log_model.specs.declared.lines.Verdict.{Verdict}
-use Rattle.log_model.specs.Log.{RunLog, Phase, In, Keeping, same_phase, cut_in, is_torn_in, found_in, is_accepting}
+use Rattle.log_model.specs.Log.{RunLog, Phase, In, same_phase, cut_in, is_torn_in, found_in, is_accepting}
 use Rattle.log_model.specs.Slots.{Slots, Sitting, in_slot, is_accepted, refusal}
-use Rattle.log_model.specs.Course.{Course, Visit, Before, Moved, card_in, visits, leaves, with_slot, carried_out, answered, unmoved, moved_by, fresh, slot_told, both_told, begins, is_settling, acted, all_acted}
+use Rattle.log_model.specs.Course.{Course, Visit, Before, Moved, card_in, visits, leaves, with_slot, answered, unmoved, moved_by, fresh, slot_told, both_told, begins, is_settling, acted, all_acted}
 use Rattle.side_model.specs.Done.{CarriedOut, course_powered}
-use Rattle.side_model.specs.Noted.{Note, Accepts, Withdraws, Enters, accepted_card, noted_by}
-use Rattle.run_rings.specs.Notes.{accepted_in, noted_if, action_notes, notes_from, notes_to, course_behind, accepts_by, sits_accepted, NotesMore, SelectionsNoteNothing, PullsNoteNothing, RefusalsNoteNothing, PlacesAreNoted, WithdrawalsAreNoted, InsertionsAreNoted, PowerOnsAreNoted}
-use Rattle.run_rings.proofs.Notes.{Finding, is_at, seen_of, verdicts_at, seen_at, judged_at, accepted-append, none-other, slot-found, seen-other, answered-found, from-append, action-notes}
+use Rattle.side_model.specs.Noted.{Note, Accepts, Withdraws, Enters, accepted_card}
+use Rattle.run_rings.specs.Notes.{accepted_in, noted_if, notes_to, course_behind, accepts_by, sits_accepted, NotesMore, SelectionsNoteNothing, PullsNoteNothing, RefusalsNoteNothing, PlacesAreNoted, WithdrawalsAreNoted, InsertionsAreNoted, PowerOnsAreNoted}
+use Rattle.run_rings.proofs.Notes.{Finding, is_at, seen_of, verdicts_at, seen_at, judged_at, accepted-append, slot-found, seen-other, answered-found, action-notes}
 
 -- ---- nothing was found yet of a later moment
 

@@ -1,9 +1,9 @@
 -- Where an entry that was added stands, as more are added; and that no index stands twice.
-use Rattle.std.proofs.Common.{◌≡◌, ◌⊎◌, inl, inr, ℕ, zero, suc, ◌+◌, ◌-◌, ◌<◌, ◌≤◌, Bool, true, false, cond, List, [], ◌∷◌, ◌++◌, filter, refl, ap, sym, subst, ◌∙◌, arith, nat_eq}
+use Rattle.std.proofs.Common.{◌≡◌, ◌⊎◌, inl, inr, ℕ, zero, suc, ◌+◌, ◌-◌, ◌<◌, ◌≤◌, Bool, true, false, cond, List, [], ◌∷◌, ◌++◌, filter, refl, ap, subst, ◌∙◌, arith}
 use Rattle.std.specs.Prelude.{◌==◌}
 use Rattle.std.specs.List.{AllByRecursion, range_with_len}
 use Rattle.std.proofs.lemmas.Bool.Decides.{nat_tests}
-use Rattle.gated_ring.specs.Ring.{Shape, PointsInside, pointer, next, order, is_there, indices, taken, without_first, staying}
+use Rattle.gated_ring.specs.Ring.{Shape, PointsInside, pointer, next, order, is_there, indices, taken, without_first}
 use Rattle.gated_ring.specs.Change.{IsAdded}
 
 abbrev IsNone : List ℕ → Type 0

@@ -1,5 +1,5 @@
 -- What a second notes in the rings, action by action.
-use Rattle.std.proofs.Common.{◌≡◌, ◌⊎◌, inl, inr, ℕ, zero, suc, ◌+◌, ◌<◌, ◌≤◌, Bool, true, false, cond, not, ◌&&◌, ◌||◌, Option, Some, None, List, [], ◌∷◌, ◌++◌, map, filter, length, nat_eq, is_some, refl, ap, sym, subst, ◌∙◌, arith, append-nil, append_assoc}
+use Rattle.std.proofs.Common.{◌≡◌, ℕ, suc, ◌+◌, ◌≤◌, Bool, true, false, cond, not, ◌&&◌, ◌||◌, Option, Some, None, List, [], ◌∷◌, ◌++◌, map, filter, length, nat_eq, is_some, refl, ap, sym, ◌∙◌, arith, append-nil, append_assoc}
 use Rattle.std.specs.Prelude.{flat_map, nat_lt, option_map}
 use Rattle.std.specs.List.{list_any}
 use Rattle.std.proofs.lemmas.Grind.{flat_map-append}
@@ -14,10 +14,10 @@ use Rattle.trace_model.specs.Trace.{TraceSecond}
 use Rattle.log_model.specs.declared.lines.SlotFault.{SlotFault}
 use Rattle.log_model.specs.declared.lines.Verdict.{Verdict}
 use Rattle.log_model.specs.Log.{RunLog, Phase, In, Keeping, same_phase, cut_in, is_torn_in, found_in, is_accepting}
-use Rattle.log_model.specs.Slots.{Slots, Sitting, in_slot, refusal}
-use Rattle.log_model.specs.Course.{Course, Visit, Before, Moved, card_in, visits, leaves, with_slot, carried_out, answered, unmoved, moved_by, fresh, slot_told, both_told, begins, is_settling, acted, all_acted, cut_told, lit_course, second_told, has_power}
-use Rattle.side_model.specs.Done.{CarriedOut, Done, carried_from, course_powered, done_by}
-use Rattle.side_model.specs.Noted.{Note, Accepts, accepted_at, noted_by, noted_in}
+use Rattle.log_model.specs.Slots.{Sitting, in_slot, refusal}
+use Rattle.log_model.specs.Course.{Course, Visit, Before, Moved, card_in, visits, leaves, with_slot, answered, unmoved, moved_by, fresh, slot_told, both_told, begins, is_settling, acted, all_acted, cut_told, lit_course}
+use Rattle.side_model.specs.Done.{CarriedOut, carried_from, course_powered}
+use Rattle.side_model.specs.Noted.{Note, Accepts, noted_by}
 use Rattle.run_rings.specs.Notes.{accepted_in, noted_if, action_notes, notes_from, notes_to, TellSameTo, LaterLinesChangeNoNote, AnActionNotes, ASecondHasNoted, ACutNotesNoMore}
 
 -- ---- what was found at a moment

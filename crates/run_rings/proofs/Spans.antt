@@ -1,17 +1,16 @@
 -- The odometers of power spans, second by second.
-use Rattle.std.proofs.Common.{◌≡◌, ℕ, zero, suc, ◌+◌, ◌/◌, ◌<◌, ◌≤◌, min, Bool, true, false, cond, ◌||◌, List, [], ◌∷◌, ◌++◌, map, filter, sum, sum_by, nat_eq, refl, ap, sym, subst, ◌∙◌, arith}
+use Rattle.std.proofs.Common.{◌≡◌, ℕ, ◌+◌, ◌/◌, ◌<◌, min, Bool, true, false, cond, ◌||◌, List, [], ◌∷◌, ◌++◌, map, filter, sum, sum_by, nat_eq, refl, ap, sym, subst, ◌∙◌, arith}
 use Rattle.std.specs.Prelude.{nat_lt}
-use Rattle.std.specs.List.{AllByRecursion, list_any}
+use Rattle.std.specs.List.{list_any}
 use Rattle.std.proofs.lemmas.List.{map-append}
 use Rattle.std.proofs.lemmas.List.Sums.{sum_by-cons}
-use Rattle.std.proofs.lemmas.List.Elements.{filter-append}
 use Rattle.std.proofs.lemmas.Bool.Decides.{nat_tests}
 use Rattle.minute_model.specs.Second.{Second}
 use Rattle.unit_model.specs.declared.layout.TheConstants.{HIGHEST_ODOMETER}
 use Rattle.log_model.specs.Course.{Told}
-use Rattle.log_model.specs.Spans.{go_on, spans_with, seconds_in}
-use Rattle.side_model.specs.Odometer.{SpanFrom, driven_before, odometer_before, has_second, odometer_at}
-use Rattle.run_rings.specs.Spans.{go_on_from, with_second, TheyAreTheSpans, EarlierOdometersStay, AreAlike, AlikeSecondsCountAlike, AreBefore, AreAllBefore, odometer_on, TheOdometerOfNow}
+use Rattle.log_model.specs.Spans.{go_on, seconds_in}
+use Rattle.side_model.specs.Odometer.{SpanFrom, odometer_before, has_second, odometer_at}
+use Rattle.run_rings.specs.Spans.{go_on_from, TheyAreTheSpans, EarlierOdometersStay, AreAlike, AlikeSecondsCountAlike, AreBefore, AreAllBefore, odometer_on, TheOdometerOfNow}
 
 -- ---- the spans
 

@@ -1,5 +1,5 @@
 -- What no call writes of a card stays as it is in each note, keep, closing and insertion, and the places in all but the note of one.
-use Rattle.std.proofs.Common.{◌≡◌, ◌≢◌, ◌⊎◌, inl, inr, ⊎_elim, ℕ, ◌+◌, ◌<◌, ◌≤◌, List, length, Option, sym, ◌∙◌, ap, subst, arith}
+use Rattle.std.proofs.Common.{◌≡◌, ◌⊎◌, inl, inr, ⊎_elim, ℕ, ◌+◌, ◌<◌, ◌≤◌, List, length, sym, ◌∙◌, ap, subst, arith}
 use Rattle.card_layout.proofs.Images.{part_after, part_before, put_outside}
 use Rattle.activity_codec.specs.declared.values.Activity.{Activity}
 use Rattle.activity_codec.specs.declared.values.Activity.TheVariants.{Rest}
@@ -23,7 +23,7 @@ use Rattle.card_session.specs.Vehicles.{Vehicles}
 use Rattle.card_session.specs.Books.{closed}
 use Rattle.card_session.specs.Sessions.{Session, book_of}
 use Rattle.card_session.specs.Moments.{IsBook, IsCloseMoment}
-use Rattle.card_session.specs.Inserting.{repaired, IsRepairMoment, Both, During, IsStill, IsRepaired, IsRepairing, IsNoted, IsNoting, IsShut, IsShutting, IsEnded, IsEnding, IsOpened, IsOpening, IsCardInserting, timed, registered}
+use Rattle.card_session.specs.Inserting.{repaired, IsRepairMoment, During, IsStill, IsRepaired, IsRepairing, IsNoted, IsNoting, IsShut, IsShutting, IsEnded, IsEnding, IsOpening, IsCardInserting, timed, registered}
 use Rattle.device_steps.specs.CardNotes.{IsNote}
 use Rattle.run_strung.specs.Strung.{HasSameRest}
 

@@ -1,9 +1,7 @@
 -- An action that changes no slot: it is refused, or selects an activity.
-use Rattle.std.proofs.Common.{◌≡◌, ◌⊎◌, inl, inr, ⊎_elim, ℕ, zero, suc, ◌+◌, ◌-◌, ◌/◌, ◌≤◌, Bool, true, false, Option, Some, None, List, [], ◌∷◌, ◌++◌, length, refl, ap, sym, subst, ◌∙◌, arith}
+use Rattle.std.proofs.Common.{◌≡◌, inl, suc, ◌+◌, ◌-◌, None, List, [], ◌∷◌, ◌++◌, length, refl, sym, subst, arith}
 use Rattle.activity_codec.specs.declared.values.Slot.{Slot}
 use Rattle.activity_codec.specs.declared.values.Pick.{Pick}
-use Rattle.trace_model.specs.declared.Card.{Card}
-use Rattle.trace_model.specs.declared.Action.{Action}
 use Rattle.trace_model.specs.declared.Action.TheVariants.{Select, Place}
 use Rattle.trace_model.specs.Trace.{TraceSecond}
 use Rattle.minute_model.specs.Span.{Span, picked, ungiven_of}
@@ -11,7 +9,6 @@ use Rattle.minute_rules.specs.Kept.{Kept, StandsFor}
 use Rattle.log_model.specs.declared.lines.SlotFault.{SlotFault}
 use Rattle.log_model.specs.Log.{RunLog, Phase, In}
 use Rattle.log_model.specs.Course.{Told, Course, went}
-use Rattle.history_model.specs.Minutes.{HistoryMinute}
 use Rattle.safety_model.specs.Safe.{Devices, breakdowns_of}
 use Rattle.run_course.specs.Followed.{Progress}
 use Rattle.run_course.specs.Moments.{and_refused}
@@ -23,7 +20,7 @@ use Rattle.run_moments.proofs.Kept.{selection-heard, nothing-else}
 use Rattle.run_recorded.specs.Origin.{Origin, rule_of, start_at}
 use Rattle.run_present.specs.Presence.{PresentStand}
 use Rattle.run_within.specs.Recorded.{Values}
-use Rattle.run_within.specs.Within.{told_before, course_in, IsFoundSo, MayBeWrittenSo, IsSparedSo, Within, GoesOn, refused_values, heard_values, ARefusalIsRecorded, ASelectionIsRecorded, APlaceIsRecorded}
+use Rattle.run_within.specs.Within.{told_before, course_in, IsFoundSo, MayBeWrittenSo, IsSparedSo, Within, GoesOn, ARefusalIsRecorded, ASelectionIsRecorded, APlaceIsRecorded}
 use Rattle.run_within.proofs.Back.{back-plain}
 use Rattle.run_within.proofs.Stays.{goes-still}
 use Rattle.run_within.proofs.Written.{written-on, spared-on}

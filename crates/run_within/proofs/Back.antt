@@ -1,24 +1,22 @@
 -- The cards with sessions left a slot last no later than in the first minute that is still to be kept.
-use Rattle.std.proofs.Common.{◌≡◌, ◌⊎◌, inl, inr, ⊎_elim, ℕ, ◌+◌, ◌/◌, ◌≤◌, true, Option, Some, None, IfSome, is_some, nat_eq, List, [], ◌∷◌, ◌++◌, length, refl, ap, sym, subst, ◌∙◌, arith}
+use Rattle.std.proofs.Common.{◌≡◌, ◌⊎◌, inl, ⊎_elim, ℕ, ◌+◌, ◌/◌, ◌≤◌, true, Option, Some, None, IfSome, nat_eq, List, [], ◌∷◌, ◌++◌, refl, ap, subst, ◌∙◌, arith}
 use Rattle.std.proofs.lemmas.Bool.Decides.{nat_tests}
-use Rattle.activity_codec.specs.declared.values.Slot.{Slot}
 use Rattle.trace_model.specs.declared.Card.{Card}
 use Rattle.trace_model.specs.declared.Card.TheVariants.{A, B}
 use Rattle.trace_model.specs.Trace.{TraceSecond}
 use Rattle.log_model.specs.Log.{RunLog, Phase, Keeping}
 use Rattle.log_model.specs.Slots.{Slots}
-use Rattle.log_model.specs.Course.{Told, Before, Visit, went}
+use Rattle.log_model.specs.Course.{Told, Before, Visit}
 use Rattle.history_model.specs.Minutes.{HistoryMinute}
 use Rattle.history_model.specs.Presence.{Start}
 use Rattle.safety_model.specs.Safe.{Devices}
 use Rattle.slot_machine.specs.declared.seats.Lefts.{Lefts}
 use Rattle.slot_machine.specs.Kept.{Kept, is_minute, left_in, left_of}
 use Rattle.run_crew.specs.declared.cabin.Cabin.{Cabin}
-use Rattle.run_crew.specs.Cards.{session_of}
 use Rattle.run_course.specs.Presence.{SlotsTell}
 use Rattle.run_recorded.specs.Origin.{Origin, start_at}
 use Rattle.run_within.specs.Recorded.{Values, AreBack}
-use Rattle.run_within.specs.Within.{told_before, course_in, IsLeaving, AreBackAt, Within}
+use Rattle.run_within.specs.Within.{told_before, course_in, AreBackAt, Within}
 
 same-number : (u : ℕ) → nat_eq u u ≡ true
 same-number u = grind (arith, nat_tests)

@@ -1,6 +1,5 @@
 -- A second begins behind one with power: nothing of it is told, decided or kept yet.
-use Rattle.std.proofs.Common.{◌≡◌, ◌⊎◌, inl, inr, ⊎_elim, ℕ, zero, suc, ◌+◌, ◌-◌, ◌*◌, ◌/◌, ◌<◌, ◌≤◌, Bool, true, false, Option, Some, None, is_some, List, [], ◌∷◌, ◌++◌, Contains, length, refl, ap, sym, subst, ◌∙◌, arith, append-nil, length-append}
-use Rattle.activity_codec.specs.declared.values.Slot.{Slot}
+use Rattle.std.proofs.Common.{◌≡◌, ◌⊎◌, inl, inr, ⊎_elim, ℕ, ◌+◌, ◌-◌, ◌*◌, ◌/◌, ◌≤◌, true, false, Option, None, List, [], ◌∷◌, ◌++◌, Contains, length, refl, ap, sym, subst, ◌∙◌, arith, append-nil, length-append}
 use Rattle.trace_model.specs.declared.Card.{Card}
 use Rattle.trace_model.specs.Trace.{TraceSecond}
 use Rattle.log_model.specs.declared.lines.Verdict.{Verdict}
@@ -11,38 +10,30 @@ use Rattle.log_model.specs.Course.{Told, Went, Course, Visit, second_told, befor
 use Rattle.log_model.proofs.Growth.{went-more}
 use Rattle.log_model.proofs.Spanning.{IsNext, next-told, order-parts}
 use Rattle.history_model.specs.Minutes.{HistoryMinute}
-use Rattle.history_model.specs.Presence.{Start}
 use Rattle.history_model.specs.Book.{Book}
 use Rattle.joint_rule.specs.Rules.{Standing, In as IsInAt}
-use Rattle.slot_machine.specs.declared.seats.Present.{Present}
-use Rattle.slot_machine.specs.Calls.{present_in}
 use Rattle.slot_machine.specs.Kept.{Kept as SlotsKept, minute_ended}
-use Rattle.minute_model.specs.Span.{ungiven_of}
-use Rattle.unit_course.specs.Followed.{Supply, Lit}
+use Rattle.unit_course.specs.Followed.{Lit}
 use Rattle.unit_course.specs.Turn.{span_at}
-use Rattle.safety_model.specs.Cards.{entered, overlaps}
+use Rattle.safety_model.specs.Cards.{entered}
 use Rattle.safety_model.specs.Safe.{Devices, card_of, breakdowns_of}
-use Rattle.card_image.specs.Own.{IsOwnValid}
 use Rattle.run_crew.specs.declared.cards.Accepted.{Accepted}
-use Rattle.run_crew.specs.declared.cards.Cards.{Cards}
 use Rattle.run_crew.specs.declared.cabin.Cabin.{Cabin}
 use Rattle.run_crew.specs.Cards.{session_of}
-use Rattle.run_crew.specs.Cabin.{Stands, with_minute_ended}
 use Rattle.run_rule.specs.Found.{Found, found_of}
-use Rattle.run_course.specs.Followed.{Progress, Followed, HadActions}
+use Rattle.run_course.specs.Followed.{Followed, HadActions}
 use Rattle.run_course.specs.Presence.{SlotsTell, EndsWith}
 use Rattle.run_course.proofs.Presence.{goes-on, minute-ends as told-ends}
-use Rattle.run_moments.specs.Lines.{times_of}
 use Rattle.run_moments.specs.Moment.{Moment}
 use Rattle.run_moments.specs.Kept.{BrokenSince}
 use Rattle.run_moments.proofs.Moment.{moment-begins}
 use Rattle.run_moments.proofs.Kept.{nothing-decided, nothing-marked}
 use Rattle.run_told.specs.Told.{GoesWith, GoesOwing, IsPowered}
 use Rattle.run_recorded.specs.Origin.{Origin, rule_of, start_at, first_of}
-use Rattle.run_present.specs.Presence.{PresentStand, SessionsStand, StandsIn}
+use Rattle.run_present.specs.Presence.{PresentStand, SessionsStand}
 use Rattle.run_present.proofs.Presence.{minute-ends}
 use Rattle.run_within.specs.Recorded.{Values, progress, carried, slots_of, AreBack, IsWrittenSince, IsWritten, IsOn, Recorded}
-use Rattle.run_within.specs.Within.{Beginning, told_before, course_in, MayBeWrittenSo, GoesOn, undecided_from, ASecondBegins, AMinuteIsOver}
+use Rattle.run_within.specs.Within.{Beginning, course_in, MayBeWrittenSo, GoesOn, undecided_from, ASecondBegins, AMinuteIsOver}
 use Rattle.run_within.proofs.Written.{written-begins}
 
 -- who was present stands so later in the second

@@ -1,5 +1,5 @@
 -- The session of a card that is leaving is closed, or the card fails in that.
-use Rattle.std.proofs.Common.{◌≡◌, ◌⊎◌, inl, inr, ⊎_elim, ℕ, ◌+◌, ◌/◌, ◌≤◌, Bool, true, false, Option, Some, None, is_some, List, [], ◌∷◌, ◌++◌, Contains, map, refl, ap, sym, subst, ◌∙◌, arith}
+use Rattle.std.proofs.Common.{◌≡◌, ◌⊎◌, ⊎_elim, ℕ, ◌+◌, true, false, Option, Some, None, List, [], ◌∷◌, ◌++◌, Contains, map, refl, ap, sym, subst, ◌∙◌, arith}
 use Rattle.activity_codec.specs.declared.values.Slot.{Slot}
 use Rattle.trace_model.specs.declared.Card.{Card}
 use Rattle.trace_model.specs.Trace.{TraceSecond}
@@ -11,7 +11,6 @@ use Rattle.joint_rule.specs.Rules.{Out}
 use Rattle.safety_model.specs.Safe.{Devices, breakdowns_of}
 use Rattle.slot_machine.specs.Calls.{seat_in, is_card}
 use Rattle.slot_machine.specs.Kept.{Kept}
-use Rattle.run_crew.specs.declared.cabin.Cabin.{Cabin}
 use Rattle.run_crew.specs.Cards.{with_session}
 use Rattle.run_crew.specs.Cabin.{left_from}
 use Rattle.run_crew.proofs.Sessions.{same_is}
@@ -37,7 +36,7 @@ use Rattle.run_within.proofs.Back.{back-at, back-plain}
 use Rattle.run_within.proofs.Sitting.{seated-still}
 use Rattle.run_within.proofs.Stays.{goes-still}
 use Rattle.run_within.proofs.Seats.{no-both, this-or, for-other, old-less, found-less, none-sits, sits-back, seat-tells, nowhere-none, nowhere-not, emptied, tells-still}
-use Rattle.run_within.proofs.Onward.{IsStep, Powers, steps-on, step-fails}
+use Rattle.run_within.proofs.Onward.{IsStep, steps-on, step-fails}
 
 module _ (o : Origin) (done : List TraceSecond) (s : TraceSecond) (at : Phase) (v : Values) (d e : Devices) (w : Within o done s at [] None [] v d) (slot : Slot) (card : Card) (k : IsCalledLeaving o done s at v d e w slot card) where
   abbrev p : Progress

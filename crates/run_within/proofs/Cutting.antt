@@ -3,7 +3,7 @@ use Rattle.std.specs.Prelude.{IfSome}
 use Rattle.tacho_types.specs.CardNumber.{card_number_bytes}
 use Rattle.run_moments.specs.Lines.{times_of}
 use Rattle.run_moments.specs.Kept.{HasDecided}
-use Rattle.std.proofs.Common.{◌≡◌, ◌⊎◌, inl, inr, ⊎_elim, ℕ, zero, suc, ◌+◌, ◌-◌, ◌*◌, ◌/◌, ◌<◌, ◌≤◌, Bool, true, false, ◌||◌, Option, Some, None, is_some, List, [], ◌∷◌, ◌++◌, All, Contains, length, map, refl, ap, sym, subst, ◌∙◌, arith, append-nil, append_assoc}
+use Rattle.std.proofs.Common.{◌≡◌, ◌⊎◌, inl, inr, ⊎_elim, ℕ, suc, ◌+◌, ◌-◌, ◌/◌, ◌<◌, ◌≤◌, Bool, true, false, ◌||◌, Option, Some, None, is_some, List, [], ◌∷◌, ◌++◌, All, Contains, length, refl, ap, sym, subst, ◌∙◌, arith, append-nil, append_assoc}
 use Rattle.std.specs.Prelude.{option_map, option_to_list}
 use Rattle.std.specs.List.{AllByRecursion, list_any}
 use Rattle.std.proofs.lemmas.List.Elements.{All-head, All-tail, Contains-push_cases}
@@ -11,30 +11,27 @@ use Rattle.trace_model.specs.declared.Card.{Card}
 use Rattle.trace_model.specs.declared.Card.TheVariants.{A, B}
 use Rattle.trace_model.specs.declared.Action.{Action}
 use Rattle.trace_model.specs.Trace.{TraceSecond}
-use Rattle.run_model.specs.declared.Device.{Device}
 use Rattle.minute_model.specs.declared.Minute.{Minute}
 use Rattle.minute_model.specs.Span.{ungiven_of}
 use Rattle.log_model.specs.declared.lines.Break.{Break}
 use Rattle.log_model.specs.declared.lines.Mark.{Mark}
 use Rattle.log_model.specs.declared.lines.Verdict.{Verdict}
-use Rattle.log_model.specs.Log.{RunLog, Phase, In, Keeping, is_accepting}
+use Rattle.log_model.specs.Log.{RunLog, Phase, In, Keeping}
 use Rattle.log_model.specs.Slots.{Slots, Sitting, is_accepted}
 use Rattle.log_model.specs.Causes.{second_of}
 use Rattle.log_model.specs.Course.{Told, Went, Course, Visit, powerless, is_settling, cut_told, went}
 use Rattle.history_model.specs.Minutes.{HistoryMinute}
 use Rattle.history_model.specs.Presence.{Start}
-use Rattle.history_model.specs.History.{seated, minutes_after, decided_of}
-use Rattle.history_model.specs.Book.{Book, IsMark}
+use Rattle.history_model.specs.History.{seated, decided_of}
+use Rattle.history_model.specs.Book.{Book}
 use Rattle.history_model.proofs.Stilled.{minutes-still}
 use Rattle.unit_course.specs.Lines.{cut_at}
-use Rattle.unit_course.specs.Followed.{Lit, Lost}
-use Rattle.unit_course.specs.Legs.{Travel, stranded_at, all_travelled}
+use Rattle.unit_course.specs.Followed.{Lost}
+use Rattle.unit_course.specs.Legs.{stranded_at, all_travelled}
 use Rattle.unit_course.specs.Turn.{begins_with, span_at}
 use Rattle.card_image.specs.Own.{IsOwnValid}
-use Rattle.safety_model.specs.Recording.{card_image}
 use Rattle.safety_model.specs.Safe.{Devices, card_of, breakdowns_of, entered_by, IsVerdict}
 use Rattle.run_crew.specs.declared.cards.Cards.{Cards}
-use Rattle.run_crew.specs.declared.cabin.Cabin.{Cabin}
 use Rattle.run_crew.specs.Cabin.{with_power_lost}
 use Rattle.run_crew.specs.Cards.{known_of, with_session}
 use Rattle.run_crew.proofs.Sessions.{all_gone}
@@ -48,9 +45,8 @@ use Rattle.run_course.specs.Complete.{AllMarked}
 use Rattle.run_course.proofs.New.{are-new}
 use Rattle.run_course.proofs.Presence.{power-lost, second-gone, time-passes}
 use Rattle.run_course.proofs.Steps.{now-is, now-told}
-use Rattle.run_brought.specs.Going.{acceptances_in, IsTakenAt}
+use Rattle.run_brought.specs.Going.{IsTakenAt}
 use Rattle.run_brought.proofs.Going.{sure-kept}
-use Rattle.run_moments.specs.Moment.{Moment}
 use Rattle.run_moments.specs.Telling.{begun_by, IsLeft, told_with}
 use Rattle.run_moments.proofs.Reached.{push-each}
 use Rattle.run_moments.proofs.Telling.{cut-ends_told}
@@ -64,11 +60,11 @@ use Rattle.run_recorded.specs.Beside.{MayBeFound, AreFewFound}
 use Rattle.run_recorded.proofs.Seconds.{second-is_broken}
 use Rattle.run_recorded.proofs.Beside.{second-tells, verdicts-on, kept-on_cut}
 use Rattle.run_within.specs.Recorded.{Values, progress, carried, IsWritten, IsOff, Recorded}
-use Rattle.run_within.specs.Within.{Beginning, told_before, course_in, lost_minute, overlaps_by, MayBeWrittenSo, CutWithin, cut_values}
+use Rattle.run_within.specs.Within.{told_before, course_in, lost_minute, overlaps_by, MayBeWrittenSo, CutWithin, cut_values}
 use Rattle.run_within.proofs.Left.{counted-part}
 use Rattle.run_within.proofs.Stays.{since-later, since-cut}
 use Rattle.run_within.proofs.Written.{few-so_far}
-use Rattle.run_within.proofs.Parts.{still, verdict-by, often-by, entered-grows, entered-by_end, overlaps-by_end, HasAccepted, accepted-or, none-next}
+use Rattle.run_within.proofs.Parts.{verdict-by, often-by, entered-grows, entered-by_end, overlaps-by_end, HasAccepted, accepted-or, none-next}
 
 -- ALL MINUTES that are decided are over
 pub all-rec : (n : ℕ) (xs : List Minute) → All (λ (d : Minute). d.minute < n) xs → AllByRecursion (λ (d : Minute). d.minute < n) xs

@@ -1,63 +1,41 @@
 -- A second ends: behind it all is recorded.
 use Rattle.run_moments.specs.Lines.{times_of}
-use Rattle.run_moments.specs.Kept.{HasDecided, AreMarkedSoFar}
-use Rattle.std.proofs.Common.{◌≡◌, ◌⊎◌, inl, inr, ⊎_elim, ℕ, zero, suc, ◌+◌, ◌-◌, ◌*◌, ◌/◌, ◌<◌, ◌≤◌, Bool, true, false, ◌||◌, Option, Some, None, is_some, List, [], ◌∷◌, ◌++◌, All, Contains, length, map, refl, ap, sym, subst, ◌∙◌, arith, append-nil, append_assoc}
-use Rattle.std.specs.Prelude.{option_map, option_to_list}
-use Rattle.std.specs.List.{AllByRecursion, list_any}
-use Rattle.std.proofs.lemmas.List.Elements.{All-head, All-tail, Contains-push_cases}
+use Rattle.run_moments.specs.Kept.{AreMarkedSoFar}
+use Rattle.std.proofs.Common.{◌≡◌, ◌⊎◌, inl, inr, ⊎_elim, ℕ, suc, ◌+◌, ◌-◌, ◌/◌, ◌<◌, false, Some, None, List, [], ◌∷◌, ◌++◌, All, Contains, length, refl, ap, sym, subst, ◌∙◌, arith, append-nil}
+use Rattle.std.proofs.lemmas.List.Elements.{Contains-push_cases}
 use Rattle.trace_model.specs.declared.Card.{Card}
-use Rattle.trace_model.specs.declared.Card.TheVariants.{A, B}
-use Rattle.trace_model.specs.declared.Action.{Action}
 use Rattle.trace_model.specs.Trace.{TraceSecond}
-use Rattle.run_model.specs.declared.Device.{Device}
 use Rattle.minute_model.specs.declared.Minute.{Minute}
 use Rattle.minute_model.specs.Span.{Span, fed, ungiven_of}
 use Rattle.minute_rules.specs.Kept.{StandsFor}
 use Rattle.history_model.specs.Growth.{picking, settled_where}
-use Rattle.log_model.specs.declared.lines.Break.{Break}
-use Rattle.log_model.specs.declared.lines.Mark.{Mark}
 use Rattle.log_model.specs.declared.lines.Verdict.{Verdict}
-use Rattle.log_model.specs.Log.{RunLog, Phase, In, Keeping, is_accepting}
-use Rattle.log_model.specs.Slots.{Slots, Sitting, is_accepted}
-use Rattle.log_model.specs.Causes.{second_of}
-use Rattle.log_model.specs.Course.{Told, Went, Course, Visit, powerless, is_settling, fresh, went}
+use Rattle.log_model.specs.Log.{RunLog, Keeping}
+use Rattle.log_model.specs.Slots.{Slots}
+use Rattle.log_model.specs.Course.{Told, Went, Course, Visit, fresh, went}
 use Rattle.history_model.specs.Minutes.{HistoryMinute}
-use Rattle.history_model.specs.Presence.{Start}
-use Rattle.history_model.specs.History.{seated, minutes_after, decided_of}
-use Rattle.history_model.specs.Book.{Book, IsMark}
-use Rattle.history_model.proofs.Stilled.{minutes-still}
-use Rattle.unit_course.specs.Lines.{cut_at}
-use Rattle.unit_course.specs.Followed.{Lit, Lost}
+use Rattle.history_model.specs.History.{decided_of}
+use Rattle.history_model.specs.Book.{Book}
+use Rattle.unit_course.specs.Followed.{Lit}
 use Rattle.unit_course.specs.Legs.{Travel, travelled, all_travelled}
 use Rattle.unit_course.specs.Turn.{begins_with, span_at}
-use Rattle.card_image.specs.Own.{IsOwnValid}
-use Rattle.safety_model.specs.Recording.{card_image}
 use Rattle.safety_model.specs.Safe.{Devices, card_of, breakdowns_of, entered_by, IsVerdict}
-use Rattle.run_crew.specs.declared.cards.Cards.{Cards}
-use Rattle.run_crew.specs.declared.cabin.Cabin.{Cabin}
-use Rattle.run_crew.specs.Cabin.{with_power_lost}
-use Rattle.run_crew.specs.Cards.{known_of, with_session}
-use Rattle.run_crew.proofs.Sessions.{all_gone}
-use Rattle.run_rule.specs.Found.{Found, found_of}
-use Rattle.run_course.specs.Moments.{and_break}
+use Rattle.run_rule.specs.Found.{found_of}
 use Rattle.run_course.specs.Followed.{Progress, Followed}
-use Rattle.run_course.specs.Seconds.{GoesOnBy, next_told, kept_all, broken_at}
+use Rattle.run_course.specs.Seconds.{GoesOnBy, next_told, kept_all}
 use Rattle.run_course.specs.Presence.{SlotsTell}
-use Rattle.run_course.specs.Within.{not_begun}
-use Rattle.run_course.specs.Complete.{AllMarked, AreAcknowledged}
+use Rattle.run_course.specs.Complete.{AreAcknowledged}
 use Rattle.run_course.proofs.New.{are-new}
 use Rattle.run_course.proofs.Presence.{second-gone}
 use Rattle.run_course.proofs.Steps.{now-is, now-told, rules_see}
-use Rattle.run_brought.specs.Going.{acceptances_in, IsTakenAt}
+use Rattle.run_brought.specs.Going.{IsTakenAt}
 use Rattle.run_brought.proofs.Going.{sure-kept}
-use Rattle.run_moments.specs.Moment.{Moment, goes_on}
-use Rattle.run_moments.specs.Telling.{begun_by, IsLeft, told_with}
-use Rattle.run_moments.proofs.Reached.{push-each}
+use Rattle.run_moments.specs.Moment.{goes_on}
+use Rattle.run_moments.specs.Telling.{told_with}
 use Rattle.run_moments.proofs.Telling.{second-ends_told}
 use Rattle.run_moments.proofs.Kept.{second-decided, all-acknowledged}
 use Rattle.run_present.specs.Presence.{PresentStand}
 use Rattle.run_present.proofs.Presence.{next-begins}
-use Rattle.run_told.specs.Told.{AreFoundCards}
 use Rattle.run_recorded.specs.Origin.{Origin, rule_of, start_at, first_of, HasRecorded}
 use Rattle.run_recorded.specs.Seconds.{went_on, seated_now, AreTaken}
 use Rattle.run_recorded.specs.Ends.{recording_by, BringsAll, AreFound, AreVerdicts, AreSpared}
@@ -66,14 +44,14 @@ use Rattle.run_recorded.proofs.Seconds.{second-is_recorded}
 use Rattle.run_recorded.proofs.Beside.{second-tells, verdicts-on, kept-on}
 use Rattle.unit_model.specs.Image.{odometer_at}
 use Rattle.unit_rule.specs.Odometer.{odometer_after}
-use Rattle.run_within.specs.Recorded.{Values, progress, carried, AreBack, IsWritten, Recorded}
-use Rattle.run_within.specs.Within.{Beginning, told_before, course_in, overlaps_by, IsFoundSo, MayBeWrittenSo, Within, passed_values, RecordedFrom}
-use Rattle.run_within.proofs.Cutting.{rec-front, marks-all}
+use Rattle.run_within.specs.Recorded.{Values, progress, AreBack, IsWritten}
+use Rattle.run_within.specs.Within.{told_before, course_in, overlaps_by, MayBeWrittenSo, Within, passed_values, RecordedFrom}
+use Rattle.run_within.proofs.Cutting.{marks-all}
 use Rattle.run_within.proofs.Spans.{AreAlike, alike}
 use Rattle.run_within.proofs.Back.{back-plain}
 use Rattle.run_within.proofs.Stays.{since-later}
 use Rattle.run_within.proofs.Written.{few-so_far}
-use Rattle.run_within.proofs.Parts.{still, verdict-by, often-by, entered-grows, entered-by_end, overlaps-by_end, HasAccepted, accepted-or, none-next}
+use Rattle.run_within.proofs.Parts.{still, verdict-by, often-by, entered-grows, entered-by_end, overlaps-by_end, HasAccepted, accepted-or}
 
 -- minutes that are kept add nothing to what was travelled before the span
 pub same-before : (ds : List Minute) (g : Travel) → (all_travelled ds g).before ≡ g.before

@@ -1,16 +1,14 @@
 -- A second is fed behind all of its actions: its keeping comes, and these minutes are to be kept.
-use Rattle.std.proofs.Common.{◌≡◌, ◌⊎◌, inl, inr, ⊎_elim, ℕ, zero, suc, ◌+◌, ◌-◌, ◌/◌, ◌≤◌, ◌<◌, Bool, true, false, Option, Some, None, List, [], ◌∷◌, ◌++◌, length, map, refl, ap, sym, subst, ◌∙◌, arith, length-append}
+use Rattle.std.proofs.Common.{◌≡◌, inl, ℕ, zero, suc, ◌+◌, ◌-◌, ◌/◌, ◌≤◌, Some, None, List, [], ◌++◌, length, refl, ap, sym, subst, ◌∙◌, arith, length-append}
 use Rattle.std.proofs.lemmas.List.{length-map}
-use Rattle.trace_model.specs.declared.Card.{Card}
 use Rattle.trace_model.specs.Trace.{TraceSecond}
 use Rattle.minute_model.specs.declared.Minute.{Minute}
 use Rattle.minute_model.proofs.Counted.{judged}
 use Rattle.minute_model.specs.Span.{Span, fed, count_from, decided_in, ungiven_of}
 use Rattle.minute_model.proofs.Counted.{decided-counted}
 use Rattle.minute_rules.specs.Kept.{Kept, StandsFor}
-use Rattle.log_model.specs.Log.{RunLog, In, Keeping}
+use Rattle.log_model.specs.Log.{In, Keeping}
 use Rattle.log_model.specs.Course.{Told, Course, went}
-use Rattle.history_model.specs.Minutes.{HistoryMinute}
 use Rattle.safety_model.specs.Safe.{Devices, breakdowns_of}
 use Rattle.run_course.specs.Followed.{Progress}
 use Rattle.run_course.specs.Presence.{SlotsTell}
@@ -21,7 +19,7 @@ use Rattle.run_moments.proofs.Kept.{second-fed}
 use Rattle.run_recorded.specs.Origin.{Origin, rule_of, start_at}
 use Rattle.run_present.specs.Presence.{PresentStand}
 use Rattle.run_within.specs.Recorded.{Values}
-use Rattle.run_within.specs.Within.{told_before, course_in, IsFoundSo, MayBeWrittenSo, IsSparedSo, Within, GoesOn, ASecondIsFed}
+use Rattle.run_within.specs.Within.{told_before, course_in, IsFoundSo, MayBeWrittenSo, IsSparedSo, Within, GoesOn}
 use Rattle.run_within.proofs.Back.{back-plain}
 
 many : (a n : ℕ) → length (count_from a n) ≡ n

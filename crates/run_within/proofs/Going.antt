@@ -1,9 +1,7 @@
 -- The record over seconds that are taken at once: without power, of an `off` line, and with power where nothing happens; and at the start.
-use Rattle.std.proofs.Common.{◌≡◌, ◌⊎◌, inl, inr, ⊎_elim, ℕ, zero, suc, ◌+◌, ◌-◌, ◌*◌, ◌/◌, ◌%◌, ◌<◌, ◌≤◌, true, false, Option, Some, None, List, [], ◌∷◌, ◌++◌, All, Contains, length, map, refl, ap, sym, subst, ◌∙◌, arith, append-nil, append_assoc}
-use Rattle.std.specs.Prelude.{option_to_list, is_some, IfSome, max}
+use Rattle.std.proofs.Common.{◌≡◌, ◌⊎◌, inl, inr, ⊎_elim, ℕ, zero, suc, ◌+◌, ◌-◌, ◌/◌, ◌%◌, ◌<◌, ◌≤◌, true, false, None, List, [], ◌∷◌, ◌++◌, Contains, length, map, refl, ap, sym, subst, ◌∙◌, arith, append_assoc}
+use Rattle.std.specs.Prelude.{max}
 use Rattle.std.proofs.lemmas.List.{same_from_push}
-use Rattle.activity_codec.specs.declared.values.Slot.{Slot}
-use Rattle.activity_codec.specs.declared.values.Slot.TheVariants.{Driver, CoDriver}
 use Rattle.trace_model.specs.declared.Card.{Card}
 use Rattle.trace_model.specs.declared.Action.{Action}
 use Rattle.trace_model.specs.Trace.{TraceSecond, driven, dark}
@@ -16,13 +14,12 @@ use Rattle.minute_rules.specs.Kept.{Kept, StandsFor}
 use Rattle.log_model.specs.declared.lines.Mark.{Mark}
 use Rattle.log_model.specs.declared.lines.Refused.{Refused}
 use Rattle.log_model.specs.Log.{RunLog}
-use Rattle.log_model.specs.Slots.{Slots, Sitting, in_slot, is_accepted}
-use Rattle.log_model.specs.Spans.{AreInOrder, end_in}
+use Rattle.log_model.specs.Slots.{Slots, is_accepted}
 use Rattle.log_model.specs.Course.{Told, Went, powerless, fresh, went}
 use Rattle.history_model.specs.Growth.{as_span}
 use Rattle.history_model.specs.Minutes.{HistoryMinute}
 use Rattle.history_model.specs.Presence.{Start}
-use Rattle.history_model.specs.Book.{Book, not_begun}
+use Rattle.history_model.specs.Book.{not_begun}
 use Rattle.history_model.proofs.Deciding.{counted}
 use Rattle.joint_rule.specs.Rules.{Standing, Out}
 use Rattle.unit_course.specs.Followed.{Supply, Lit, Due, Lost, IsDark}
@@ -30,22 +27,19 @@ use Rattle.unit_course.specs.Legs.{not_travelled}
 use Rattle.unit_course.specs.Lines.{cut_at}
 use Rattle.unit_course.specs.Turn.{span_at, cut_at_end}
 use Rattle.unit_course.proofs.Parts.{driven-order, driven-length, dark-order, dark-length}
-use Rattle.safety_model.specs.Recording.{Recording}
 use Rattle.safety_model.specs.Safe.{Devices, card_of, breakdowns_of, entered_by}
 use Rattle.slot_machine.specs.Kept.{Kept as SlotsKept, nothing_yet}
 use Rattle.run_crew.specs.declared.cards.Cards.{Cards}
 use Rattle.run_crew.specs.declared.cabin.Cabin.{Cabin}
 use Rattle.run_crew.specs.Cabin.{with_power_lost}
-use Rattle.run_crew.specs.Cards.{session_of}
 use Rattle.run_crew.proofs.Sessions.{all_gone}
 use Rattle.run_rule.specs.Found.{Found, found_of}
-use Rattle.run_rule.specs.Cards.{IsUntouched}
 use Rattle.run_rule.specs.Between.{Carried}
 use Rattle.run_rule.proofs.End.{lit-carried}
 use Rattle.run_course.specs.Followed.{Progress, Followed}
 use Rattle.run_course.specs.Moments.{and_break}
-use Rattle.run_course.specs.Presence.{SlotsTell, EndsWith}
-use Rattle.run_course.specs.Quiet.{quiet_second, quiet_seconds, begun_after}
+use Rattle.run_course.specs.Presence.{SlotsTell}
+use Rattle.run_course.specs.Quiet.{quiet_second, quiet_seconds}
 use Rattle.run_course.specs.Dark.{all_dark}
 use Rattle.run_course.proofs.Dark.{lost-are-told, off-are-told, dark-tell}
 use Rattle.run_course.proofs.Logs.{went-refused}
@@ -54,7 +48,7 @@ use Rattle.run_course.proofs.Quiet.{quiet-are-told, rules-see-quiet, quiet-tell}
 use Rattle.run_course.proofs.Steps.{span-end, lit-parts, cut-parts}
 use Rattle.run_present.specs.Presence.{PresentStand}
 use Rattle.run_present.proofs.Presence.{next-begins}
-use Rattle.run_told.specs.Told.{AreFoundCards, IsHeldDark, IsPowered, IsPowerless}
+use Rattle.run_told.specs.Told.{IsPowered, IsPowerless}
 use Rattle.run_told.proofs.Parts.{held-dark}
 use Rattle.run_recorded.specs.Origin.{Origin, rule_of, start_at, first_of}
 use Rattle.run_recorded.specs.Ends.{recording_by, AreFound, AreVerdicts, AreSpared, MayBeWritten}

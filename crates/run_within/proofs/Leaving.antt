@@ -1,9 +1,8 @@
 -- The card of a slot leaves it: its session is not closed yet.
-use Rattle.std.proofs.Common.{◌≡◌, ◌⊎◌, inl, inr, ⊎_elim, ℕ, suc, ◌+◌, ◌/◌, ◌<◌, ◌≤◌, Bool, true, false, Option, Some, None, IfSome, is_some, List, [], ◌∷◌, ◌++◌, Contains, length, map, refl, ap, sym, subst, ◌∙◌, arith}
+use Rattle.std.proofs.Common.{◌≡◌, ◌⊎◌, inl, inr, ⊎_elim, ℕ, suc, ◌+◌, ◌/◌, ◌≤◌, Bool, true, Option, Some, None, IfSome, is_some, List, [], ◌∷◌, ◌++◌, Contains, length, map, refl, ap, sym, subst, ◌∙◌, arith}
 use Rattle.std.specs.Prelude.{if◌then◌else◌}
 use Rattle.activity_codec.specs.declared.values.Slot.{Slot}
 use Rattle.activity_codec.specs.declared.values.Slot.TheVariants.{Driver, CoDriver}
-use Rattle.activity_codec.specs.Activity.{same_slot}
 use Rattle.trace_model.specs.declared.Card.{Card}
 use Rattle.trace_model.specs.declared.Action.{Action}
 use Rattle.trace_model.specs.declared.Action.TheVariants.{Withdraw}
@@ -12,7 +11,7 @@ use Rattle.minute_model.specs.declared.Minute.{Minute}
 use Rattle.minute_model.specs.Span.{settled, decided_in}
 use Rattle.minute_rules.specs.Kept.{Kept, StandsFor}
 use Rattle.log_model.specs.declared.lines.SlotFault.{SlotFault}
-use Rattle.log_model.specs.Log.{Phase, In, is_torn_in}
+use Rattle.log_model.specs.Log.{In}
 use Rattle.log_model.specs.Slots.{Sitting, in_slot, refusal}
 use Rattle.log_model.specs.Course.{Told, Course, Visit, Before, Moved, visits, card_in as card_of_sitting, moved_by, carried_out, went}
 use Rattle.safety_model.specs.Safe.{Devices, breakdowns_of}
@@ -22,7 +21,6 @@ use Rattle.slot_machine.specs.Calls.{seat_in, card_in, is_card, present_in}
 use Rattle.slot_machine.specs.Kept.{SitsSince, SitStill, left_of}
 use Rattle.slot_machine.proofs.Newest.{found_sits}
 use Rattle.run_crew.specs.Cards.{session_of}
-use Rattle.run_crew.specs.Cabin.{with_slot_left}
 use Rattle.run_crew.proofs.Sessions.{same_self, same_is}
 use Rattle.run_course.specs.Followed.{Progress}
 use Rattle.run_course.specs.Presence.{SlotsTell}
@@ -45,7 +43,7 @@ use Rattle.run_within.proofs.Sitting.{sits-with}
 use Rattle.run_within.proofs.Stays.{goes-taken}
 use Rattle.run_within.proofs.Seats.{never-none, this-or, card-seated, seated-there, seat-tells, one-slot, nowhere-then, none-there, seat-left}
 use Rattle.run_within.proofs.Until.{settles-to, settles-here}
-use Rattle.run_within.proofs.Onward.{IsStep, Powers, steps-on}
+use Rattle.run_within.proofs.Onward.{IsStep, steps-on}
 use Rattle.run_within.proofs.Putting.{still-goes, slot-itself}
 
 module _ (o : Origin) (done : List TraceSecond) (s : TraceSecond) (v : Values) (d : Devices) (front : List Action) (slot : Slot) (card : Card) (rest : List Action) (are : s.actions ≡ front ++ Withdraw slot ∷ rest)

@@ -1,5 +1,5 @@
 -- A card that waits is accepted and torn out in one call.
-use Rattle.std.proofs.Common.{◌≡◌, inl, inr, ⊎_elim, ℕ, zero, suc, ◌≤◌, ◌/◌, Bool, true, false, cond, is_some, Option, Some, None, List, [], ◌∷◌, ◌++◌, Contains, map, refl, ap, sym, subst, ◌∙◌, arith}
+use Rattle.std.proofs.Common.{◌≡◌, inl, ⊎_elim, ℕ, zero, suc, ◌≤◌, Bool, true, false, cond, is_some, Option, Some, None, List, [], ◌∷◌, ◌++◌, Contains, map, refl, ap, sym, subst, ◌∙◌, arith}
 use Rattle.std.specs.Prelude.{option_map, slice_get}
 use Rattle.activity_codec.specs.declared.values.Slot.{Slot}
 use Rattle.activity_codec.specs.declared.values.Slot.TheVariants.{Driver, CoDriver}
@@ -39,8 +39,8 @@ use Rattle.run_present.proofs.Presence.{none-to_keep}
 use Rattle.run_recorded.specs.Origin.{Origin, rule_of, start_at}
 use Rattle.run_within.specs.Recorded.{Values, AreBack, GoesOnIn}
 use Rattle.run_within.specs.Within.{told_before, course_in, often, IsFoundSo, MayBeWrittenSo, IsSparedSo, Within}
-use Rattle.run_within.specs.Judging.{IsJudged, judged_values}
-use Rattle.run_within.specs.Losing.{lost_values, IsLostSo, ACardIsLost, ALosingFails}
+use Rattle.run_within.specs.Judging.{IsJudged}
+use Rattle.run_within.specs.Losing.{IsLostSo, ACardIsLost, ALosingFails}
 use Rattle.run_within.proofs.Back.{back-by_now}
 use Rattle.run_within.proofs.Stays.{goes-taken}
 use Rattle.run_within.proofs.Written.{written-on, spared-on}

@@ -1,6 +1,5 @@
 -- A second goes on behind a step in which nothing was found and no minute was kept; or the unit failed in that step.
-use Rattle.std.proofs.Common.{◌≡◌, ◌⊎◌, inl, inr, ⊎_elim, ℕ, ◌+◌, ◌-◌, ◌/◌, ◌<◌, ◌≤◌, Bool, true, false, Option, Some, None, is_some, List, [], ◌∷◌, ◌++◌, Contains, length, refl, ap, sym, subst, ◌∙◌, arith}
-use Rattle.activity_codec.specs.declared.values.Slot.{Slot}
+use Rattle.std.proofs.Common.{◌≡◌, ◌⊎◌, inl, inr, ⊎_elim, ◌+◌, ◌-◌, ◌≤◌, None, List, [], ◌++◌, Contains, length, refl, ap, sym, subst, ◌∙◌, arith}
 use Rattle.trace_model.specs.declared.Card.{Card}
 use Rattle.trace_model.specs.Trace.{TraceSecond}
 use Rattle.run_model.specs.declared.Device.TheVariants.{Unit as Recorder}
@@ -9,7 +8,7 @@ use Rattle.minute_model.specs.Span.{Span, ungiven_of}
 use Rattle.minute_rules.specs.Kept.{StandsFor}
 use Rattle.log_model.specs.declared.lines.Mark.{Mark}
 use Rattle.log_model.specs.declared.lines.Verdict.{Verdict}
-use Rattle.log_model.specs.Log.{Phase, Keeping, is_accepting}
+use Rattle.log_model.specs.Log.{Phase, Keeping}
 use Rattle.log_model.specs.Causes.{RoseBy}
 use Rattle.log_model.specs.Course.{Told, Course, Visit, went}
 use Rattle.joint_rule.specs.Rules.{Standing}
@@ -17,7 +16,6 @@ use Rattle.unit_course.specs.Legs.{all_travelled}
 use Rattle.unit_model.specs.Image.{odometer_at}
 use Rattle.unit_rule.specs.Odometer.{HasTravelled}
 use Rattle.safety_model.specs.Safe.{Devices, card_of, breakdowns_of}
-use Rattle.run_crew.specs.Cards.{session_of}
 use Rattle.run_rule.specs.Found.{found_of}
 use Rattle.run_course.specs.Presence.{SlotsTell}
 use Rattle.run_course.specs.Seconds.{kept_all}
@@ -29,7 +27,7 @@ use Rattle.run_told.specs.Told.{AreFoundCards, IsPowered, IsPowerless}
 use Rattle.run_recorded.specs.Origin.{Origin, rule_of, start_at}
 use Rattle.run_present.specs.Presence.{PresentStand}
 use Rattle.run_within.specs.Recorded.{Values, carried, GoesOnIn}
-use Rattle.run_within.specs.Within.{told_before, course_in, often, overlaps_by, IsFoundSo, MayBeWrittenSo, IsSparedSo, AreBackAt, AreOld, GoesOnSo, Within, GoesOn, CutWithin}
+use Rattle.run_within.specs.Within.{told_before, course_in, overlaps_by, IsFoundSo, MayBeWrittenSo, IsSparedSo, AreBackAt, AreOld, GoesOnSo, Within, GoesOn, CutWithin}
 use Rattle.run_within.proofs.Left.{verdict-left}
 use Rattle.run_within.proofs.Sitting.{verdicts-later}
 use Rattle.run_within.proofs.Stays.{since-on}

@@ -1,38 +1,31 @@
 -- What of a second's record goes over into that behind it.
-use Rattle.std.proofs.Common.{◌≡◌, ◌⊎◌, inl, inr, ⊎_elim, ℕ, zero, suc, ◌+◌, ◌*◌, ◌/◌, ◌<◌, ◌≤◌, Bool, true, false, cond, nat_eq, nat_le, ◌&&◌, Option, Some, None, List, [], ◌∷◌, ◌++◌, All, Contains, length, map, filter, refl, ap, sym, subst, ◌∙◌, arith, append-nil, append_assoc, length-append}
-use Rattle.std.specs.Prelude.{flat_map, option_map, option_to_list}
+use Rattle.std.proofs.Common.{◌≡◌, ◌⊎◌, inl, inr, ⊎_elim, ℕ, suc, ◌+◌, ◌/◌, ◌<◌, ◌≤◌, Bool, true, false, cond, nat_eq, nat_le, ◌&&◌, List, [], ◌∷◌, ◌++◌, All, Contains, length, map, filter, refl, ap, sym, subst, ◌∙◌, arith, length-append}
+use Rattle.std.specs.Prelude.{flat_map}
 use Rattle.std.specs.List.{AllByRecursion}
 use Rattle.std.proofs.lemmas.Bool.Decides.{nat_tests}
-use Rattle.std.proofs.lemmas.List.Elements.{All-head, All-tail, All-contains, Contains-append_left, Contains-append_right, Contains-push}
+use Rattle.std.proofs.lemmas.List.Elements.{All-head, All-tail, Contains-append_left, Contains-append_right, Contains-push}
 use Rattle.trace_model.specs.declared.Card.{Card}
 use Rattle.trace_model.specs.Trace.{TraceSecond}
 use Rattle.minute_model.specs.declared.Minute.{Minute}
-use Rattle.minute_model.specs.Second.{minute_of}
-use Rattle.minute_model.specs.Span.{Span, count_from, ungiven_of}
+use Rattle.minute_model.specs.Span.{Span, count_from}
 use Rattle.log_model.specs.declared.lines.Mark.{Mark}
 use Rattle.log_model.specs.declared.lines.Verdict.{Verdict}
 use Rattle.log_model.specs.declared.lines.Verdict.TheVariants.{Accepted, NotValid, TimeOverlap}
 use Rattle.log_model.specs.Log.{RunLog, is_accepting}
 use Rattle.log_model.specs.Slots.{same_card}
-use Rattle.log_model.specs.Course.{Told, Course, Visit, went}
+use Rattle.log_model.specs.Course.{Told, Visit, went}
 use Rattle.history_model.specs.Minutes.{HistoryMinute}
 use Rattle.history_model.specs.Presence.{Start}
 use Rattle.history_model.specs.History.{minutes_after}
-use Rattle.history_model.specs.Book.{Book, IsMark}
 use Rattle.history_model.proofs.Stilled.{minutes-still}
-use Rattle.card_image.specs.Own.{IsOwnValid}
-use Rattle.safety_model.specs.Recording.{Recording, card_image}
 use Rattle.safety_model.specs.Cards.{entered, overlaps, is_overlap}
-use Rattle.safety_model.specs.Safe.{Devices, card_of, entered_by, IsVerdict}
-use Rattle.run_rule.specs.Found.{found_of}
-use Rattle.run_course.specs.Followed.{Progress}
-use Rattle.run_course.specs.Seconds.{kept_all}
-use Rattle.run_brought.specs.Going.{acceptances_in, IsTakenAt}
+use Rattle.safety_model.specs.Safe.{entered_by, IsVerdict}
+use Rattle.run_brought.specs.Going.{acceptances_in}
 use Rattle.run_crew.proofs.Sessions.{same_is}
 use Rattle.run_moments.specs.Lines.{times_of}
-use Rattle.run_recorded.specs.Origin.{Origin, first_of}
+use Rattle.run_recorded.specs.Origin.{Origin}
 use Rattle.run_recorded.specs.Ends.{recording_by, BringsAll}
-use Rattle.run_within.specs.Within.{Beginning, SeenBy, BringsBy, VerdictBy, often, IsFoundSo}
+use Rattle.run_within.specs.Within.{Beginning, SeenBy, BringsBy, VerdictBy}
 
 -- EACH MINUTE that was decided is over
 pub over-front : (n : ℕ) (xs ys : List Minute) → All (λ (d : Minute). d.minute < n) (xs ++ ys) → AllByRecursion (λ (d : Minute). d.minute < n) xs

@@ -1,5 +1,5 @@
 -- Power is back: the unit was read. It was mended, and the second begins; or that failed.
-use Rattle.std.proofs.Common.{◌≡◌, inl, inr, ⊎_elim, ℕ, ◌+◌, ◌-◌, ◌/◌, ◌<◌, max, true, false, is_some, None, List, [], ◌++◌, Contains, length, refl, ap, sym, subst, ◌∙◌, arith}
+use Rattle.std.proofs.Common.{◌≡◌, inl, inr, ⊎_elim, ℕ, ◌+◌, ◌-◌, ◌/◌, ◌<◌, max, true, false, is_some, None, List, [], ◌++◌, Contains, refl, ap, sym, subst, ◌∙◌, arith}
 use Rattle.activity_codec.specs.declared.values.Slot.{Slot}
 use Rattle.activity_codec.specs.declared.values.Slot.TheVariants.{Driver, CoDriver}
 use Rattle.trace_model.specs.declared.Card.{Card}
@@ -18,7 +18,7 @@ use Rattle.unit_course.specs.Followed.{Supply, Lit, Due, Lost, MayPower}
 use Rattle.unit_course.specs.Legs.{resumed}
 use Rattle.unit_course.specs.Travelled.{MayShow}
 use Rattle.unit_course.specs.Turn.{span_at}
-use Rattle.safety_model.specs.Cards.{entered, overlaps}
+use Rattle.safety_model.specs.Cards.{entered}
 use Rattle.safety_model.specs.Safe.{Devices, breakdowns_of, entered_by}
 use Rattle.run_crew.specs.Cards.{session_of}
 use Rattle.run_rule.specs.Between.{Carried}
@@ -26,7 +26,6 @@ use Rattle.run_course.specs.Followed.{Progress}
 use Rattle.run_course.specs.Presence.{SlotsTell}
 use Rattle.run_course.proofs.Logs.{went-found}
 use Rattle.run_course.proofs.Presence.{time-passes, found-kept}
-use Rattle.run_moments.specs.Lines.{times_of}
 use Rattle.run_moments.specs.Moment.{Moment}
 use Rattle.run_moments.specs.Kept.{HasDecided}
 use Rattle.run_moments.proofs.Moment.{moment-begins}
@@ -41,7 +40,7 @@ use Rattle.run_recorded.proofs.Beside.{found-tells, few-on, written-on, idle-ver
 use Rattle.run_present.specs.Presence.{PresentStand, sits}
 use Rattle.run_present.proofs.Presence.{none-to_keep}
 use Rattle.run_within.specs.Recorded.{Values, progress, carried, IsWritten, IsOff, IsHeldBy, Recorded}
-use Rattle.run_within.specs.Within.{Beginning, course_in, overlaps_by, IsFoundSo, IsSparedSo, CutWithin}
+use Rattle.run_within.specs.Within.{Beginning, course_in, IsFoundSo, IsSparedSo, CutWithin}
 use Rattle.run_within.specs.Waking.{IsWaking, both_slots, PowerWakes}
 use Rattle.run_within.specs.Powering.{WasRead, read_values, begun_values, odometer_found, counted_from, begun_again, GoOn, PowerIsBack, AMendingFails}
 use Rattle.run_within.proofs.Parts.{entered-told}

@@ -1,5 +1,5 @@
 -- A card is pulled out of its slot, and no device is called.
-use Rattle.std.proofs.Common.{◌≡◌, ◌⊎◌, inl, inr, ⊎_elim, ℕ, suc, ◌+◌, ◌/◌, ◌≤◌, Bool, true, false, Option, Some, None, is_some, List, [], ◌∷◌, ◌++◌, Contains, length, map, refl, ap, sym, subst, ◌∙◌, arith}
+use Rattle.std.proofs.Common.{◌≡◌, inr, ℕ, suc, ◌+◌, ◌/◌, ◌≤◌, true, Option, Some, None, is_some, List, [], ◌∷◌, ◌++◌, Contains, length, map, refl, ap, sym, subst, ◌∙◌, arith}
 use Rattle.std.proofs.lemmas.List.Elements.{Contains-append_left, Contains-push}
 use Rattle.activity_codec.specs.declared.entries.Entry.{Entry}
 use Rattle.activity_codec.specs.declared.values.Slot.{Slot}
@@ -40,7 +40,7 @@ use Rattle.run_within.proofs.Back.{back-at, back-plain}
 use Rattle.run_within.proofs.Stays.{goes-left_from}
 use Rattle.run_within.proofs.Seats.{bare-same, old-less, found-less, seated-there, seat-tells, sits-there, answers-in, accepted-seat}
 use Rattle.run_within.proofs.Until.{few-left}
-use Rattle.run_within.proofs.Onward.{IsStep, Powers, steps-on}
+use Rattle.run_within.proofs.Onward.{IsStep, steps-on}
 use Rattle.run_within.proofs.Putting.{still-goes}
 use Rattle.run_within.proofs.Torn.{slots-taken, back-torn, torn-present, bare-present, pull-powered}
 

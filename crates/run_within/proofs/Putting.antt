@@ -1,5 +1,5 @@
 -- A card is put into a slot: it waits there, and once the minutes before are kept it may be judged.
-use Rattle.std.proofs.Common.{◌≡◌, ◌⊎◌, inl, inr, ⊎_elim, ℕ, suc, ◌+◌, ◌/◌, ◌<◌, ◌≤◌, Bool, true, false, Option, Some, None, is_some, List, [], ◌∷◌, ◌++◌, Contains, length, refl, ap, sym, subst, ◌∙◌, arith}
+use Rattle.std.proofs.Common.{◌≡◌, ◌⊎◌, inl, ⊎_elim, ℕ, suc, ◌+◌, ◌≤◌, true, Option, Some, None, List, [], ◌∷◌, ◌++◌, Contains, length, refl, ap, sym, subst, ◌∙◌, arith}
 use Rattle.activity_codec.specs.declared.values.Slot.{Slot}
 use Rattle.activity_codec.specs.declared.values.Slot.TheVariants.{Driver, CoDriver}
 use Rattle.activity_codec.specs.Activity.{same_slot}
@@ -10,15 +10,12 @@ use Rattle.trace_model.specs.Trace.{TraceSecond}
 use Rattle.minute_model.specs.declared.Minute.{Minute}
 use Rattle.minute_model.specs.Span.{settled, decided_in}
 use Rattle.minute_rules.specs.Kept.{Kept, StandsFor}
-use Rattle.log_model.specs.declared.lines.Break.{Break}
 use Rattle.log_model.specs.declared.lines.SlotFault.{SlotFault}
-use Rattle.log_model.specs.Log.{RunLog, Phase, In, found_in}
+use Rattle.log_model.specs.Log.{Phase, In}
 use Rattle.log_model.specs.Slots.{in_slot, refusal}
-use Rattle.log_model.specs.Course.{Told, Course, Visit, Before, Moved, with_slot, moved_by, carried_out, went}
+use Rattle.log_model.specs.Course.{Told, Course, Visit, Before, Moved, moved_by, carried_out, went}
 use Rattle.safety_model.specs.Safe.{Devices, breakdowns_of}
-use Rattle.slot_machine.specs.Calls.{seat_in}
 use Rattle.slot_machine.specs.Kept.{IsFree}
-use Rattle.run_crew.specs.Cabin.{with_card_in}
 use Rattle.run_course.specs.Followed.{Progress}
 use Rattle.run_course.specs.Presence.{SlotsTell}
 use Rattle.run_course.proofs.Presence.{put-in}
@@ -31,11 +28,11 @@ use Rattle.run_moments.proofs.Moment.{reaches-of, action-done}
 use Rattle.run_moments.proofs.Kept.{settling-decides}
 use Rattle.run_moments.proofs.Lines.{times-append}
 use Rattle.run_recorded.specs.Origin.{Origin, rule_of, start_at}
-use Rattle.run_present.specs.Presence.{PresentStand, StaysSo, HasMore, sits}
+use Rattle.run_present.specs.Presence.{sits}
 use Rattle.run_present.proofs.Presence.{step-leaves}
-use Rattle.run_within.specs.Recorded.{Values, AreBack}
+use Rattle.run_within.specs.Recorded.{Values}
 use Rattle.run_within.specs.Within.{Beginning, told_before, course_in, GoesOnSo, Within, GoesOn}
-use Rattle.run_within.specs.Taking.{put_values, entered_alone, IsPut, ACardIsPutIn, AreTearsAt, AnEnteredCardIsNext}
+use Rattle.run_within.specs.Taking.{put_values, entered_alone, IsPut, ACardIsPutIn, AnEnteredCardIsNext}
 use Rattle.run_within.proofs.Back.{back-at, back-plain}
 use Rattle.run_within.proofs.Known.{waits-there}
 use Rattle.run_within.proofs.Sitting.{sits-with}
@@ -44,7 +41,7 @@ use Rattle.run_within.proofs.Stays.{goes-put_in}
 use Rattle.run_within.proofs.Seats.{free-for, never-bare}
 use Rattle.run_within.proofs.Until.{settles-to, settles-here}
 use Rattle.run_within.proofs.Moved.{tears-begun, tears-found}
-use Rattle.run_within.proofs.Onward.{IsStep, Powers, steps-on}
+use Rattle.run_within.proofs.Onward.{IsStep, steps-on}
 
 -- no device is called
 pub still-goes : (o : Origin) (v : Values) (d : Devices) → GoesOnSo o v.cabin.cards d d

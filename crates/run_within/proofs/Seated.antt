@@ -1,5 +1,5 @@
 -- An accepted card failed in its slot, as something was to be noted on it: it is torn out.
-use Rattle.std.proofs.Common.{◌≡◌, inl, inr, ℕ, ◌+◌, ◌/◌, ◌≤◌, Bool, true, false, Option, Some, None, is_some, List, [], ◌∷◌, ◌++◌, Contains, map, refl, ap, sym, subst, ◌∙◌, arith}
+use Rattle.std.proofs.Common.{◌≡◌, inl, ℕ, ◌+◌, ◌/◌, ◌≤◌, false, Option, Some, None, List, [], ◌∷◌, ◌++◌, Contains, map, refl, ap, sym, subst, ◌∙◌, arith}
 use Rattle.std.proofs.lemmas.List.Elements.{Contains-push}
 use Rattle.activity_codec.specs.declared.values.Slot.{Slot}
 use Rattle.trace_model.specs.declared.Card.{Card}
@@ -36,7 +36,7 @@ use Rattle.run_within.proofs.Stays.{goes-left_from}
 use Rattle.run_within.proofs.Seats.{old-less, found-less}
 use Rattle.run_within.proofs.Until.{few-left}
 use Rattle.run_within.proofs.Moved.{not-leaving}
-use Rattle.run_within.proofs.Onward.{IsStep, Powers, steps-on, step-fails}
+use Rattle.run_within.proofs.Onward.{IsStep, steps-on, step-fails}
 use Rattle.run_within.proofs.Torn.{slots-taken, back-torn, torn-present}
 use Rattle.run_within.proofs.Pulling.{sitting-now, standing-now}
 

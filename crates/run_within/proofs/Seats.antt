@@ -1,41 +1,33 @@
 -- Who sits in which slot, by the slots and by the log, as a card is put in, leaves or is torn out.
-use Rattle.std.proofs.Common.{◌≡◌, ◌⊎◌, inl, inr, ⊎_elim, ℕ, suc, ◌+◌, ◌/◌, ◌<◌, ◌≤◌, Bool, true, false, cond, ◌||◌, Option, Some, None, IfSome, is_some, List, [], ◌∷◌, ◌++◌, map, refl, ap, sym, subst, ◌∙◌, arith, append-nil}
+use Rattle.std.proofs.Common.{◌≡◌, ◌⊎◌, inl, inr, ⊎_elim, ℕ, ◌+◌, ◌/◌, Bool, true, false, ◌||◌, Option, Some, None, IfSome, is_some, List, [], ◌++◌, refl, ap, sym, subst, ◌∙◌, append-nil}
 use Rattle.std.specs.Prelude.{if◌then◌else◌}
 use Rattle.std.specs.List.{list_any}
 use Rattle.activity_codec.specs.declared.values.Slot.{Slot}
 use Rattle.activity_codec.specs.declared.values.Slot.TheVariants.{Driver, CoDriver}
-use Rattle.activity_codec.specs.Activity.{same_slot}
 use Rattle.tacho_types.specs.CardNumber.{card_number_bytes}
 use Rattle.tacho_types.specs.declared.card_number.FullCardNumber.{FullCardNumber}
 use Rattle.trace_model.specs.declared.Card.{Card}
 use Rattle.trace_model.specs.declared.Card.TheVariants.{A, B}
-use Rattle.trace_model.specs.declared.Action.{Action}
-use Rattle.trace_model.specs.declared.Action.TheVariants.{Select, Insert, Withdraw, Tear as Pull, Place}
-use Rattle.trace_model.specs.Trace.{TraceSecond}
-use Rattle.log_model.specs.declared.lines.SlotFault.{SlotFault}
+use Rattle.trace_model.specs.declared.Action.TheVariants.{Insert}
 use Rattle.log_model.specs.declared.lines.SlotFault.TheVariants.{Occupied, Elsewhere}
-use Rattle.log_model.specs.declared.lines.Verdict.{Verdict}
-use Rattle.log_model.specs.Log.{RunLog, Phase, In, Keeping, is_torn_in, found_in, is_accepting}
 use Rattle.log_model.specs.Slots.{Slots, Sitting, same_card, in_slot, other_slot, holds, refusal}
-use Rattle.log_model.specs.Course.{Told, Course, Visit, Before, Moved, card_in as card_of_sitting, visits, with_slot, leaves, slot_told, both_told, moved_by, unmoved, carried_out, answered}
+use Rattle.log_model.specs.Course.{Told, Course, card_in as card_of_sitting, with_slot}
 use Rattle.history_model.specs.Minutes.{HistoryMinute}
 use Rattle.history_model.specs.Presence.{Start}
-use Rattle.card_image.specs.Own.{IsOwnValid}
 use Rattle.joint_rule.specs.Rules.{Standing}
 use Rattle.slot_machine.specs.declared.seats.Seat.{Seat}
 use Rattle.slot_machine.specs.declared.seats.Lefts.{Lefts}
 use Rattle.slot_machine.specs.Calls.{Seats, seat_in, with_seat, card_in, is_card}
-use Rattle.slot_machine.specs.Kept.{Kept, IsFree, with_left, left_of, put_in, taken}
+use Rattle.slot_machine.specs.Kept.{Kept, IsFree, with_left, left_of}
 use Rattle.run_crew.specs.declared.cards.Accepted.{Accepted}
 use Rattle.run_crew.specs.declared.cards.Cards.{Cards}
 use Rattle.run_crew.specs.declared.cabin.Cabin.{Cabin}
 use Rattle.run_crew.specs.Cards.{known_of, session_of, with_session}
-use Rattle.run_crew.specs.Cabin.{SitsThere, SitsNowhere, AnswersTo, SeatAnswers, Stands, slot_with, left_from, torn_out}
-use Rattle.run_crew.proofs.Sessions.{same_self, same_is, same_turned}
+use Rattle.run_crew.specs.Cabin.{SitsNowhere, AnswersTo, SeatAnswers, Stands, slot_with}
+use Rattle.run_crew.proofs.Sessions.{same_self}
 use Rattle.run_rule.specs.Found.{Found, found_of}
-use Rattle.run_course.specs.Presence.{IsNewest, SitsAs, has_left, SlotsTell}
+use Rattle.run_course.specs.Presence.{SitsAs, has_left, SlotsTell}
 use Rattle.run_course.specs.Within.{IsTornFrom}
-use Rattle.run_moments.specs.Reached.{moved_with, course_with, begun_at, moved_at, course_at}
 use Rattle.run_told.specs.Told.{AreFoundCards, for_card}
 use Rattle.run_present.specs.Presence.{sits}
 

@@ -1,12 +1,11 @@
 -- The span of a second whose settling came more than once is that of the rules of minutes.
-use Rattle.std.proofs.Common.{◌≡◌, ℕ, zero, suc, ◌+◌, ◌-◌, ◌/◌, ◌≤◌, max, Bool, true, false, nat_lt, Option, Some, List, [], ◌∷◌, ◌++◌, refl, ap, sym, subst, ◌∙◌, arith}
+use Rattle.std.proofs.Common.{◌≡◌, ℕ, zero, suc, ◌+◌, ◌-◌, ◌/◌, ◌≤◌, max, Bool, true, false, nat_lt, List, [], ◌∷◌, ◌++◌, refl, ap, sym, subst, ◌∙◌, arith}
 use Rattle.std.specs.List.{AllByRecursion}
 use Rattle.std.proofs.lemmas.Bool.Decides.{nat_tests}
 use Rattle.activity_codec.specs.declared.values.Slot.{Slot}
 use Rattle.activity_codec.specs.declared.values.Pick.{Pick}
-use Rattle.minute_model.specs.declared.Rule.{Rule}
 use Rattle.minute_model.specs.Minute.{minutes_ahead}
-use Rattle.minute_model.specs.Span.{Span, end_of, fed, settled, latest, ungiven_of, AreNumbered, AreSettled}
+use Rattle.minute_model.specs.Span.{Span, end_of, fed, settled, latest, ungiven_of}
 use Rattle.minute_rules.specs.Kept.{Kept, kept_at, StandsFor}
 use Rattle.history_model.specs.Growth.{picking, settled_where}
 use Rattle.run_moments.specs.Kept.{settled_times}

@@ -1,31 +1,21 @@
 -- A call on the devices of which nothing is told: it went well, or the unit failed in it.
-use Rattle.std.proofs.Common.{◌≡◌, ◌⊎◌, inl, inr, ⊎_elim, ℕ, zero, suc, ◌+◌, ◌-◌, ◌/◌, ◌≤◌, Bool, true, false, Option, Some, None, List, [], ◌∷◌, ◌++◌, Contains, length, length-append, refl, ap, sym, subst, ◌∙◌, arith}
-use Rattle.std.specs.Prelude.{option_to_list}
+use Rattle.std.proofs.Common.{ℕ, ◌-◌, List, refl, subst, arith}
 use Rattle.trace_model.specs.declared.Card.{Card}
 use Rattle.trace_model.specs.Trace.{TraceSecond}
 use Rattle.minute_model.specs.declared.Minute.{Minute}
 use Rattle.log_model.specs.declared.lines.Mark.{Mark}
-use Rattle.log_model.specs.declared.lines.Verdict.{Verdict}
-use Rattle.log_model.specs.Log.{Phase, Keeping, is_accepting}
-use Rattle.log_model.specs.Course.{Told, Course, Visit, went}
+use Rattle.log_model.specs.Course.{Course, went}
 use Rattle.history_model.specs.Minutes.{HistoryMinute}
-use Rattle.history_model.specs.Book.{Book, kept}
-use Rattle.unit_course.specs.Legs.{Travel, travelled, all_travelled}
-use Rattle.unit_model.specs.Image.{odometer_at}
-use Rattle.unit_rule.specs.Odometer.{HasTravelled}
+use Rattle.history_model.specs.Book.{kept}
 use Rattle.safety_model.specs.Safe.{Devices, card_of, breakdowns_of}
 use Rattle.run_rule.specs.Found.{found_of}
-use Rattle.run_course.specs.Seconds.{kept_all}
-use Rattle.run_told.specs.Told.{IsPowerless}
 use Rattle.run_moments.specs.Kept.{HasDecided}
-use Rattle.run_moments.proofs.Kept.{minute-kept, one-travelled}
 use Rattle.run_moments.proofs.Telling.{breakdowns-only}
 use Rattle.run_recorded.specs.Origin.{Origin, rule_of, start_at}
 use Rattle.run_recorded.specs.Ends.{AreVerdicts}
 use Rattle.run_recorded.specs.Beside.{HaveLeftMore}
 use Rattle.run_recorded.proofs.Beside.{kept-later}
-use Rattle.run_within.specs.Recorded.{Values, carried}
-use Rattle.run_within.specs.Within.{Beginning, told_before, course_in, IsFoundSo, Within, CutWithin, ACallIsRecorded, AFailureIsRecorded}
+use Rattle.run_within.specs.Within.{Beginning, told_before, course_in, IsFoundSo, ACallIsRecorded, AFailureIsRecorded}
 use Rattle.run_within.proofs.Left.{verdict-left, seen-left}
 use Rattle.run_within.proofs.Written.{spared-called}
 

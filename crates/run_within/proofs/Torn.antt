@@ -1,5 +1,5 @@
 -- The card of a slot is torn or pulled out: how the cards stand behind that, who is back, and unit and cards where no device was called.
-use Rattle.std.proofs.Common.{◌≡◌, ◌⊎◌, inl, inr, ⊎_elim, ℕ, ◌+◌, ◌/◌, ◌≤◌, Bool, true, false, Option, Some, None, IfSome, is_some, List, Contains, refl, ap, sym, subst, ◌∙◌, arith}
+use Rattle.std.proofs.Common.{◌≡◌, ◌⊎◌, inl, inr, ⊎_elim, ℕ, ◌+◌, ◌/◌, ◌≤◌, true, false, Option, Some, None, IfSome, is_some, List, Contains, refl, ap, sym, subst, ◌∙◌, arith}
 use Rattle.activity_codec.specs.declared.values.Slot.{Slot}
 use Rattle.trace_model.specs.declared.Card.{Card}
 use Rattle.trace_model.specs.declared.Card.TheVariants.{A, B}
@@ -10,9 +10,8 @@ use Rattle.history_model.specs.Presence.{Start}
 use Rattle.card_image.specs.Own.{IsOwnValid}
 use Rattle.joint_rule.specs.Rules.{Standing, In, Torn}
 use Rattle.safety_model.specs.Safe.{Devices}
-use Rattle.slot_machine.specs.declared.seats.Seat.{Seat}
 use Rattle.slot_machine.specs.Calls.{seat_in, card_in, is_card}
-use Rattle.slot_machine.specs.Kept.{Kept, KnowsNewest, left_of, taken}
+use Rattle.slot_machine.specs.Kept.{Kept, left_of, taken}
 use Rattle.run_crew.specs.declared.cards.Accepted.{Accepted}
 use Rattle.run_crew.specs.declared.cards.Cards.{Cards}
 use Rattle.run_crew.specs.declared.cabin.Cabin.{Cabin}
@@ -25,7 +24,7 @@ use Rattle.run_course.specs.Presence.{SlotsTell}
 use Rattle.run_moments.specs.Kept.{StaysOut}
 use Rattle.run_told.specs.Told.{AreFoundCards, IsPowered, for_card, with_standing}
 use Rattle.run_told.proofs.Begun.{tear-powered}
-use Rattle.run_present.specs.Presence.{PresentStand, StaysSo, HasMore, IsTornOut, sits}
+use Rattle.run_present.specs.Presence.{PresentStand, StaysSo, IsTornOut, sits}
 use Rattle.run_present.proofs.Presence.{step-leaves}
 use Rattle.run_within.specs.Recorded.{AreBack}
 use Rattle.run_within.proofs.Seats.{no-both, this-or, for-this, for-other, still-has, other-has, old-less, found-less, card-seated, seat-tells, one-slot, which-slot, sits-back, emptied, seat-left}

@@ -1,5 +1,5 @@
 -- So many seconds of one minute are fed at once.
-use Rattle.std.proofs.Common.{◌≡◌, ℕ, zero, suc, ◌+◌, ◌-◌, ◌*◌, ◌/◌, ◌%◌, ◌<◌, ◌≤◌, max, true, false, Some, None, List, [], ◌∷◌, ◌++◌, length, map, refl, ap, sym, subst, ◌∙◌, arith, append_assoc, append-nil}
+use Rattle.std.proofs.Common.{◌≡◌, ℕ, zero, suc, ◌+◌, ◌-◌, ◌/◌, ◌%◌, ◌<◌, ◌≤◌, max, true, false, Some, None, List, [], ◌∷◌, ◌++◌, length, map, refl, ap, sym, subst, ◌∙◌, arith, append_assoc, append-nil}
 use Rattle.std.proofs.lemmas.List.{append_cancel_left}
 use Rattle.trace_model.specs.Trace.{TraceSecond, driven}
 use Rattle.minute_model.specs.declared.Minute.{Minute}
@@ -9,10 +9,8 @@ use Rattle.minute_model.proofs.Spans.{decided-fed_many, fed_many-end}
 use Rattle.minute_rules.specs.Kept.{Kept, StandsFor, run, decided_now, minute_ended}
 use Rattle.minute_rules.proofs.Giving.{fed-stands, fed-given}
 use Rattle.log_model.specs.Log.{In, Keeping}
-use Rattle.log_model.specs.Spans.{end_in}
-use Rattle.log_model.specs.Course.{Told, went}
+use Rattle.log_model.specs.Course.{Told}
 use Rattle.history_model.proofs.Deciding.{counted}
-use Rattle.run_course.specs.Followed.{Progress, Followed}
 use Rattle.run_course.proofs.Steps.{lit-parts, span-end}
 use Rattle.run_moments.specs.Kept.{settled_times}
 use Rattle.unit_course.specs.Followed.{Lit}
@@ -22,7 +20,7 @@ use Rattle.run_course.specs.Seconds.{next_told}
 use Rattle.run_recorded.specs.Origin.{Origin, rule_of, start_at, first_of}
 use Rattle.run_within.specs.Recorded.{Values}
 use Rattle.run_within.specs.Within.{Beginning, Within, GoesOn, RecordedFrom, undecided_from, begun_behind, passed_values}
-use Rattle.run_within.specs.Turning.{BehindFirst, last_of, before_last, turned_values, IsTurned, ATurnIsFed, TheTurnEnds}
+use Rattle.run_within.specs.Turning.{BehindFirst, last_of, before_last, IsTurned, ATurnIsFed, TheTurnEnds}
 use Rattle.run_within.proofs.Beginning.{second-begins}
 use Rattle.run_within.proofs.Feeding.{second-is_fed}
 use Rattle.run_within.proofs.Ending.{second-over, from-is}

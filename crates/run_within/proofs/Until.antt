@@ -1,7 +1,5 @@
 -- Up to which minute a second has decided: none that is later than its own, all before that one behind a settling, and all but a few of them.
-use Rattle.std.proofs.Common.{◌≡◌, ℕ, zero, suc, ◌+◌, ◌-◌, ◌/◌, ◌≤◌, max, Bool, true, false, nat_lt, Option, Some, None, List, [], ◌∷◌, ◌++◌, length, refl, ap, sym, subst, ◌∙◌, arith, length-append}
-use Rattle.activity_codec.specs.declared.values.Slot.{Slot}
-use Rattle.activity_codec.specs.declared.values.Pick.{Pick}
+use Rattle.std.proofs.Common.{◌≡◌, ℕ, zero, suc, ◌+◌, ◌-◌, ◌/◌, ◌≤◌, true, nat_lt, None, List, [], ◌∷◌, ◌++◌, length, refl, ap, sym, subst, ◌∙◌, arith, length-append}
 use Rattle.trace_model.specs.Trace.{TraceSecond}
 use Rattle.minute_model.specs.declared.Rule.{Rule}
 use Rattle.minute_model.specs.declared.Rule.TheVariants.{Original, Amended}
@@ -12,7 +10,6 @@ use Rattle.minute_model.proofs.Counted.{ungiven-most, ungiven-settled}
 use Rattle.minute_rules.specs.Kept.{Kept, StandsFor}
 use Rattle.log_model.specs.Log.{Phase}
 use Rattle.log_model.specs.Course.{Told, Course, Visit}
-use Rattle.log_model.specs.Spans.{first_in, end_in}
 use Rattle.history_model.specs.Presence.{Start}
 use Rattle.history_model.specs.Growth.{picking}
 use Rattle.history_model.proofs.Deciding.{counted}

@@ -1,5 +1,5 @@
 -- Which cards may be written, and are spared, goes on with each step of a second.
-use Rattle.std.proofs.Common.{◌≡◌, ◌⊎◌, inl, inr, ⊎_elim, ℕ, suc, ◌+◌, ◌/◌, ◌≤◌, ◌<◌, Bool, true, false, cond, ◌&&◌, is_some, Option, Some, None, List, [], ◌∷◌, ◌++◌, Contains, length, filter, refl, ap, sym, subst, ◌∙◌, arith, length-append}
+use Rattle.std.proofs.Common.{◌≡◌, ◌⊎◌, inl, inr, ⊎_elim, ℕ, ◌+◌, ◌/◌, ◌≤◌, ◌<◌, Bool, true, false, cond, ◌&&◌, is_some, Some, List, [], ◌∷◌, ◌++◌, length, filter, refl, ap, sym, subst, ◌∙◌, arith, length-append}
 use Rattle.std.proofs.lemmas.List.Elements.{filter-append}
 use Rattle.activity_codec.specs.declared.values.Slot.{Slot}
 use Rattle.trace_model.specs.declared.Card.{Card}
@@ -26,12 +26,10 @@ use Rattle.run_recorded.specs.Origin.{Origin}
 use Rattle.run_recorded.specs.Ends.{recording_by}
 use Rattle.run_recorded.specs.Beside.{AreFewFound}
 use Rattle.run_recorded.proofs.Beside.{fewer-found}
-use Rattle.slot_machine.specs.declared.seats.Seat.{Seat}
-use Rattle.slot_machine.specs.Calls.{seat_in}
-use Rattle.slot_machine.specs.Kept.{Kept, taken, left_of}
-use Rattle.run_within.specs.Recorded.{Values, SitsAccepted, LeftSince, IsWrittenSince, IsWritten, GoesOnIn}
+use Rattle.slot_machine.specs.Kept.{Kept, left_of}
+use Rattle.run_within.specs.Recorded.{SitsAccepted, LeftSince, IsWrittenSince, GoesOnIn}
 use Rattle.run_within.specs.Within.{Beginning, VerdictBy, overlaps_by, MayBeWrittenSo, IsSparedSo}
-use Rattle.run_within.proofs.Stays.{goes-still, since-on}
+use Rattle.run_within.proofs.Stays.{since-on}
 
 -- OVER A STEP that tells nothing of cards
 pub written-on : (o : Origin) (b : Beginning) (done : List TraceSecond) (c e : Course) (waits : List Visit) (u : ℕ) (kept after : Kept) (card : Card) → e.found ≡ c.found → e.entered ≡ c.entered → GoesOnIn u kept after card →

@@ -27,7 +27,7 @@ use Rattle.run_moments.specs.Telling.{IsMore}
 use Rattle.run_told.specs.Told.{AreFoundCards, IsPowerless}
 use Rattle.run_recorded.specs.Origin.{Origin, rule_of, first_of}
 use Rattle.run_recorded.specs.Seconds.{empty_log, fault_of, refused_for}
-use Rattle.run_within.specs.Recorded.{Values, carried, slots_of, AreThere, Recorded}
+use Rattle.run_within.specs.Recorded.{Values, slots_of, AreThere, Recorded}
 use Rattle.run_within.specs.Within.{RecordedFrom}
 
 -- WITHOUT POWER, up to the minute's end after a failed call: the actions of the first second are refused, and the last one had so many

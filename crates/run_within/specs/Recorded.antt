@@ -1,5 +1,5 @@
 -- What the recorder with cards carries BETWEEN TWO SECONDS (profile): by its values, its devices, and the seconds of the trace so far.
-use Rattle.std.specs.Prelude.{◌≡◌, ◌⊎◌, ℕ, ◌-◌, ◌/◌, ◌≤◌, ◌<◌, true, false, Option, Some, None, IfSome, is_some, List, [], ◌∷◌}
+use Rattle.std.specs.Prelude.{◌≡◌, ◌⊎◌, ℕ, ◌-◌, ◌/◌, ◌≤◌, ◌<◌, true, false, Option, Some, None, IfSome, is_some, List, []}
 use Rattle.activity_codec.specs.declared.values.Slot.{Slot}
 use Rattle.trace_model.specs.declared.Card.{Card}
 use Rattle.trace_model.specs.Trace.{TraceSecond}

@@ -1,5 +1,5 @@
 -- Cards are put into their slots and leave them in a run with cards (profile): what each of these actions makes of the record within a second.
-use Rattle.std.specs.Prelude.{◌≡◌, ℕ, suc, ◌+◌, ◌/◌, Bool, true, false, Option, Some, None, List, [], ◌∷◌, ◌++◌, length, is_some}
+use Rattle.std.specs.Prelude.{◌≡◌, ℕ, suc, ◌+◌, ◌/◌, Bool, true, false, Some, None, List, [], ◌∷◌, ◌++◌, length, is_some}
 use Rattle.std.specs.List.{AllByRecursion}
 use Rattle.activity_codec.specs.declared.values.Slot.{Slot}
 use Rattle.activity_codec.specs.Activity.{same_slot}
@@ -9,7 +9,7 @@ use Rattle.trace_model.specs.declared.Action.TheVariants.{Insert, Withdraw, Tear
 use Rattle.trace_model.specs.Trace.{TraceSecond}
 use Rattle.run_model.specs.declared.Device.TheVariants.{Unit as Recorder}
 use Rattle.minute_model.specs.declared.Minute.{Minute}
-use Rattle.minute_model.specs.Span.{Span, settled, decided_in}
+use Rattle.minute_model.specs.Span.{settled, decided_in}
 use Rattle.minute_rules.specs.Kept.{Kept, StandsFor}
 use Rattle.log_model.specs.declared.lines.Break.{Break}
 use Rattle.log_model.specs.declared.lines.Break.TheVariants.{Tear}
@@ -23,9 +23,8 @@ use Rattle.unit_model.specs.Image.{odometer_at}
 use Rattle.unit_rule.specs.Odometer.{HasTravelled}
 use Rattle.safety_model.specs.Safe.{Devices, breakdowns_of}
 use Rattle.slot_machine.specs.Calls.{seat_in, card_in}
-use Rattle.run_crew.specs.Cards.{session_of, with_session}
+use Rattle.run_crew.specs.Cards.{session_of}
 use Rattle.run_crew.specs.Cabin.{Stands, with_card_in, with_slot_left, with_session_of, torn_out}
-use Rattle.run_course.specs.Moments.{and_break}
 use Rattle.run_course.specs.Seconds.{kept_all}
 use Rattle.run_moments.specs.Reached.{moved_at, IsTearAt}
 use Rattle.run_moments.specs.Moment.{entering_by}

@@ -1,6 +1,5 @@
 -- What the recorder with cards carries WITHIN A SECOND that has power (profile): at its power-on, at each of its actions, and in its keeping.
-use Rattle.std.specs.Prelude.{◌≡◌, ◌⊎◌, ◌&&◌, Bool, ℕ, suc, ◌+◌, ◌-◌, ◌*◌, ◌/◌, ◌≤◌, ◌<◌, true, false, Option, Some, None, IfSome, is_some, List, [], ◌∷◌, ◌++◌, All, Contains, length, map, filter, option_map, option_to_list}
-use Rattle.activity_codec.specs.declared.entries.Entry.{Entry}
+use Rattle.std.specs.Prelude.{◌≡◌, ◌⊎◌, ◌&&◌, Bool, ℕ, suc, ◌+◌, ◌-◌, ◌*◌, ◌/◌, ◌≤◌, ◌<◌, true, false, Option, Some, None, IfSome, is_some, List, [], ◌∷◌, ◌++◌, Contains, length, filter, option_map, option_to_list}
 use Rattle.activity_codec.specs.declared.values.Slot.{Slot}
 use Rattle.activity_codec.specs.declared.values.Slot.TheVariants.{Driver, CoDriver}
 use Rattle.activity_codec.specs.declared.values.Pick.{Pick}
@@ -16,19 +15,18 @@ use Rattle.minute_rules.specs.Kept.{Kept, StandsFor}
 use Rattle.log_model.specs.declared.lines.Mark.{Mark}
 use Rattle.log_model.specs.declared.lines.Verdict.{Verdict}
 use Rattle.log_model.specs.declared.lines.Verdict.TheVariants.{Accepted, NotValid, TimeOverlap}
-use Rattle.log_model.specs.Causes.{device_of, RoseBy}
+use Rattle.log_model.specs.Causes.{RoseBy}
 use Rattle.log_model.specs.Log.{RunLog, Phase, In, Keeping, is_accepting, is_torn_in}
 use Rattle.log_model.specs.declared.lines.SlotFault.{SlotFault}
 use Rattle.log_model.specs.Slots.{same_card, refusal}
 use Rattle.log_model.specs.Course.{Told, Course, Visit, Before, went}
-use Rattle.history_model.specs.Minutes.{HistoryMinute, on_card}
-use Rattle.history_model.specs.Completeness.{IsMarked}
+use Rattle.history_model.specs.Minutes.{HistoryMinute}
 use Rattle.history_model.specs.Presence.{card_start}
 use Rattle.history_model.specs.History.{seated}
-use Rattle.history_model.specs.Book.{Book, kept}
+use Rattle.history_model.specs.Book.{kept}
 use Rattle.joint_rule.specs.Rules.{Standing}
 use Rattle.unit_course.specs.Followed.{Supply, Lit, Lost}
-use Rattle.unit_course.specs.Legs.{Travel, travelled, stranded_at, all_travelled}
+use Rattle.unit_course.specs.Legs.{Travel, stranded_at, all_travelled}
 use Rattle.unit_course.specs.Lines.{cut_at}
 use Rattle.unit_course.specs.Turn.{span_at}
 use Rattle.unit_model.specs.Image.{odometer_at}
@@ -40,7 +38,6 @@ use Rattle.safety_model.specs.Cards.{entered, overlaps, is_overlap}
 use Rattle.safety_model.specs.Safe.{Devices, card_of, breakdowns_of, entered_by}
 use Rattle.run_rule.specs.Found.{found_of}
 use Rattle.run_rule.specs.Cards.{IsUntouched}
-use Rattle.run_rule.specs.Between.{Carried}
 use Rattle.run_course.specs.Followed.{Progress}
 use Rattle.run_course.specs.Moments.{and_break, and_refused}
 use Rattle.run_course.specs.Seconds.{next_told, kept_all, broken_at}
@@ -50,10 +47,10 @@ use Rattle.run_moments.specs.Reached.{course_at, moved_at}
 use Rattle.run_moments.specs.Lines.{times_of}
 use Rattle.run_moments.specs.Moment.{Moment}
 use Rattle.run_moments.specs.Telling.{IsMore, begun_by, IsLeft}
-use Rattle.run_moments.specs.Kept.{HasDecided, BrokenSince, AreMarkedSoFar}
+use Rattle.run_moments.specs.Kept.{HasDecided, AreMarkedSoFar}
 use Rattle.run_told.specs.Told.{AreFoundCards, IsPowered, IsPowerless, AreEarly}
 use Rattle.run_recorded.specs.Origin.{Origin, rule_of, start_at, first_of, HasRecorded}
-use Rattle.run_recorded.specs.Ends.{recording_by, IsAllOwed, AreVerdicts, MayBeWritten}
+use Rattle.run_recorded.specs.Ends.{recording_by, IsAllOwed, AreVerdicts}
 use Rattle.run_recorded.specs.Beside.{HaveLeftMore, AreFewFound}
 use Rattle.run_present.specs.Presence.{PresentStand}
 use Rattle.slot_machine.specs.declared.seats.Present.{Present}

@@ -1,13 +1,13 @@
 -- What is found of a card where its time at the start decides.
-use Rattle.std.proofs.Common.{◌≡◌, ◌⊎◌, inl, inr, ℕ, ◌<◌, ◌≤◌, true, List, refl, ap, sym, ◌∙◌, arith}
-use Rattle.std.specs.Prelude.{suc, ◌*◌, ◌/◌, Some, None}
+use Rattle.std.proofs.Common.{◌≡◌, ◌⊎◌, inl, inr, ℕ, ◌<◌, ◌≤◌, true, List, refl, arith}
+use Rattle.std.specs.Prelude.{suc, ◌*◌, ◌/◌, None}
 use Rattle.trace_model.specs.declared.Card.{Card}
 use Rattle.log_model.specs.declared.lines.Verdict.{Verdict}
 use Rattle.log_model.specs.declared.lines.Verdict.TheVariants.{Accepted, NotValid, TimeOverlap}
 use Rattle.log_model.specs.Log.{is_accepting}
 use Rattle.joint_rule.specs.Own.{own_view, own_bad_file, IsOwnValid}
 use Rattle.safety_model.specs.Recording.{Recording, card_image}
-use Rattle.safety_model.specs.Safe.{entered_by, IsLater, IsVerdict}
+use Rattle.safety_model.specs.Safe.{entered_by, IsVerdict}
 
 module _ (r : Recording) (unit card : List ℕ → Type 0) (c : Card) (u : ℕ) (valid : IsOwnValid (card_image r c)) where
   -- the time at the start

@@ -4,7 +4,7 @@ use Rattle.std.specs.List.{list_any}
 use Rattle.activity_codec.specs.declared.values.Slot.{Slot}
 use Rattle.activity_codec.specs.declared.values.Slot.TheVariants.{Driver, CoDriver}
 use Rattle.trace_model.specs.declared.Card.{Card}
-use Rattle.log_model.specs.Slots.{Sitting, same_card, other_slot}
+use Rattle.log_model.specs.Slots.{Sitting, same_card}
 use Rattle.log_model.specs.Slots as log
 use Rattle.slot_machine.specs.declared.seats.Seat.{Seat}
 use Rattle.slot_machine.specs.declared.seats.Present.{Present}

@@ -1,14 +1,12 @@
 -- How a trace with cards ends that is recorded on the unit and both cards.
-use Rattle.std.proofs.Common.{◌≡◌, ◌∙◌, ◌≤◌, ◌<◌, ◌⊎◌, inl, inr, ⊎_elim, ℕ, ◌/◌, true, refl, ap, sym, subst, arith, List, [], length, Option, Some, None}
+use Rattle.std.proofs.Common.{◌≡◌, ◌∙◌, ◌≤◌, ◌⊎◌, inl, inr, ⊎_elim, ℕ, true, refl, sym, subst, arith, List, [], length, Some}
 use Rattle.tach_media.specs.Medium.{State, Rose, HasBroken}
 use Rattle.run_rule.specs.Between.{devices}
 use Rattle.run_model.specs.declared.Device.{Device}
 use Rattle.run_model.specs.declared.Device.TheVariants.{Unit as OfUnit, CardA, CardB}
-use Rattle.log_model.specs.declared.lines.Break.{Break}
-use Rattle.log_model.specs.Log.{RunLog}
 use Rattle.log_model.specs.Causes.{cuts, tears}
-use Rattle.safety_model.specs.Safe.{Devices, breakdowns_of}
-use Rattle.recorder_with_cards.specs.Words.{IsLater, AreLater, log_of, IsFoundLater, HaveTime}
+use Rattle.safety_model.specs.Safe.{breakdowns_of}
+use Rattle.recorder_with_cards.specs.Words.{AreLater, log_of, IsFoundLater, HaveTime}
 use Rattle.trace_model.specs.declared.Card.TheVariants.{A, B}
 use Rattle.trace_model.specs.declared.Item.{Item}
 use Rattle.trace_text.specs.declared.trace.Form.TheVariants.{Whole}
@@ -21,11 +19,11 @@ use Rattle.recorder_with_cards.proofs.WholeOdometer.{all-there}
 use Rattle.recorder_with_cards.specs.Ends.{BeginAs, MayRecord, EndsTrace, IsKeptFrom}
 use Rattle.run_outcome.specs.declared.outcome.Outcome.{Outcome}
 use Rattle.tacho.specs.declared.end.Fault.{Fault}
-use Rattle.tacho.specs.declared.end.Fault.TheVariants.{Done, WriteFault, MediumFault}
+use Rattle.tacho.specs.declared.end.Fault.TheVariants.{WriteFault, MediumFault}
 use Rattle.tacho.specs.Outside.{Outside, memory_of}
 use Rattle.tacho.specs.Program.{HasCauses}
 use Rattle.tacho.specs.Outcomes.{IsEmpty, IsRun, IsRefusal, IsTold, refusal_of_run}
-use Rattle.tacho.specs.CardsRecorded.{devices_of, StartWith, AreSound, HaveCounts, IsTurnedAway, IsRefusedBy, EndsWithCards}
+use Rattle.tacho.specs.CardsRecorded.{devices_of, StartWith, AreSound, HaveCounts, IsTurnedAway, EndsWithCards}
 use Rattle.tacho.proofs.Recordings.{none-bad, run-refusal, refused-no-run}
 use Rattle.tacho.proofs.UnitRuns.{run-done}
 use Rattle.tacho.proofs.Unbroken.{none-failed, unbroken-log}

@@ -1,5 +1,5 @@
 -- How `serve --hex` ends, by what the service of lines answers.
-use Rattle.std.proofs.Common.{◌≡◌, ◌≤◌, ℕ, Bool, true, false, refl, sym, subst, arith}
+use Rattle.std.proofs.Common.{◌≡◌, ◌≤◌, ℕ, Bool, refl, subst}
 use Rattle.std.specs.Prelude.{Result, Ok, Err, Some, IfSome, OnOk, IfErr}
 use Rattle.std.specs.Io.KnownBytes.{IsAtEnd}
 use Rattle.tach_media.specs.Medium.{State, Rose}
@@ -14,13 +14,12 @@ use Rattle.link_service.specs.declared.fault.LinesFault.TheVariants as lines
 use Rattle.link_service.specs.Served.{IsCaused, has_failed}
 use Rattle.link_service.specs.ServedLines.{AreServed, AreCaused, have_failed}
 use Rattle.run_outcome.specs.declared.outcome.Outcome.{Outcome}
-use Rattle.tacho.specs.declared.end.Fault.{Fault}
 use Rattle.tacho.specs.declared.end.Fault.TheVariants.{Done, Usage, BadUnit, ReadFault, WriteFault, MediumFault}
 use Rattle.tacho.specs.declared.forms.Form.TheVariants.{ServeHex}
 use Rattle.tacho.specs.End.{ended_by, is_medium_fault}
 use Rattle.tacho.specs.Outside.{Outside, memory_of}
 use Rattle.tacho.specs.Outcomes.{IsEmpty}
-use Rattle.tacho.specs.Serving.{end_of_service, end_of_lines, EndsServeHex}
+use Rattle.tacho.specs.Serving.{end_of_lines}
 use Rattle.tacho.specs.Program.{Ends}
 use Rattle.tacho.proofs.Services.{not-usage, of-done, of-read, of-write, of-bad, of-unit, IsBadAt}
 

@@ -1,12 +1,11 @@
 -- How `record` ends, by what its calls answered: whatever the trace was recorded on.
-use Rattle.std.proofs.Common.{◌≡◌, ◌∙◌, ◌≤◌, ◌<◌, ℕ, ◌⊎◌, inl, inr, ⊎_elim, refl, ap, sym, subst, arith, true, Bool, List, [], ◌∷◌, length, Option, Some, None}
-use Rattle.std.specs.Prelude.{Result, Ok, Err, OnOk, IfOk, IfErr, IfSome, is_some, IsTrue}
+use Rattle.std.proofs.Common.{◌≡◌, ℕ, inl, refl, sym, subst, List, [], ◌∷◌, Some}
+use Rattle.std.specs.Prelude.{Result, Ok, Err, OnOk, IfErr, IsTrue}
 use Rattle.std.specs.List.{list_all}
 use Rattle.std.specs.Io.KnownBytes.{Appends, IsAtEnd}
 use Rattle.activity_codec.proofs.ByTest.{by_test}
 use Rattle.tach_media.specs.Medium.{Rose}
 use Rattle.tach_media.specs.Streams.{AppendsFront}
-use Rattle.run_model.specs.declared.Device.{Device}
 use Rattle.trace_model.specs.declared.Item.{Item}
 use Rattle.trace_text.specs.declared.trace.Form.TheVariants.{Whole}
 use Rattle.trace_text.specs.declared.trace.TraceFault.{TraceFault}

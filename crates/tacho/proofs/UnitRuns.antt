@@ -1,5 +1,5 @@
 -- How a trace without a card's line ends that is recorded on the unit alone.
-use Rattle.std.proofs.Common.{◌≡◌, ◌∙◌, ◌≤◌, ◌<◌, ◌⊎◌, ℕ, ◌/◌, inl, inr, ⊎_elim, refl, ap, sym, subst, arith, true, Bool, List, [], length, Option, Some, None}
+use Rattle.std.proofs.Common.{◌≡◌, ◌∙◌, ◌≤◌, ◌<◌, ◌⊎◌, ℕ, ◌/◌, inl, inr, ⊎_elim, refl, ap, sym, subst, arith, true, List, [], length, Option, Some, None}
 use Rattle.std.specs.Prelude.{IfSome, is_some}
 use Rattle.tach_media.specs.Medium.{State, IsCoherent, LeavesOnly, Unchanged, Rose, HasBroken, last_count}
 use Rattle.run_model.specs.declared.Device.{Device}

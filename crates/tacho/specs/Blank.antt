@@ -1,5 +1,5 @@
 -- What stands for a card where a trace has no line of one: a memory of zeros (profile).
-use Rattle.std.specs.Prelude.{◌≡◌, ℕ, ◌+◌, Bool, not, List, [], ◌∷◌, Some, length, replicate, if◌then◌else◌}
+use Rattle.std.specs.Prelude.{◌≡◌, ℕ, Bool, not, List, [], ◌∷◌, Some, length, replicate, if◌then◌else◌}
 use Rattle.std.proofs.Common.{ap, arith}
 use Rattle.std.proofs.lemmas.List.{length-replicate}
 use Rattle.card_layout.specs.declared.files.TheConstants.{LARGEST_IMAGE}

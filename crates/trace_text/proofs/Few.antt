@@ -1,14 +1,14 @@
 -- A text has as many lines as bytes at most, and so a trace few items.
-use Rattle.std.proofs.Common.{◌≡◌, ℕ, ◌+◌, ◌*◌, ◌<◌, ◌≤◌, ◌^◌, List, [], ◌∷◌, length, refl, ap, sym, subst, arith}
-use Rattle.std.specs.Prelude.{◌==◌, map}
+use Rattle.std.proofs.Common.{◌≡◌, ℕ, ◌+◌, ◌<◌, ◌≤◌, ◌^◌, List, [], ◌∷◌, length, refl, arith}
+use Rattle.std.specs.Prelude.{◌==◌}
 use Rattle.std.proofs.lemmas.List.{length-map}
 use Rattle.activity_codec.proofs.ByTest.{by_test}
 use Rattle.text_fields.proofs.PieceLemmas.{pieces-some}
 use Rattle.text_fields.specs.Pieces.{pieces, onto_first}
 use Rattle.trace_model.specs.declared.Item.{Item}
 use Rattle.trace_text.specs.declared.trace.Form.{Form}
-use Rattle.trace_text.specs.Text.{counts, fields, closed, text_lines, numbered, counted}
-use Rattle.trace_text.specs.Trace.{IsTraceOf, line_of, items_of, ended}
+use Rattle.trace_text.specs.Text.{counts, closed, text_lines, numbered, counted}
+use Rattle.trace_text.specs.Trace.{IsTraceOf, line_of}
 use Rattle.trace_text.proofs.PutIn.{ended-few}
 
 onto-length : (b : ℕ) (ps : List (List ℕ)) → (ps ≡ [] → ⊥) → length (onto_first b ps) ≡ length ps

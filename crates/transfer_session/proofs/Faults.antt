@@ -1,5 +1,5 @@
 -- A fault that `?` made, or passed on.
-use Rattle.std.proofs.Common.{◌≡◌, ℕ, Bool, true, false, Result, Ok, Err, refl, sym, subst}
+use Rattle.std.proofs.Common.{◌≡◌, ℕ, Bool, true, false, Result, Ok, Err, sym, subst}
 use Rattle.std.specs.Prelude.{IfErr, IsErrAnd}
 use Rattle.tach_media.specs.Medium.{State}
 use Rattle.unit_journal.specs.Reading.{ReadsIfAny}

@@ -21,7 +21,7 @@ use Rattle.history_model.specs.Minutes.{HistoryMinute}
 use Rattle.history_model.specs.Presence.{Start}
 use Rattle.history_model.specs.History.{decided_of, cut_second, limit_by, limit_of, any_long}
 use Rattle.history_model.specs.Growth.{picking, closed_limit, closed_history, Rises}
-use Rattle.history_model.specs.Book.{Book, all, not_begun, broken, found, IsMark}
+use Rattle.history_model.specs.Book.{Book, all, not_begun, found, IsMark}
 use Rattle.history_model.proofs.Books.{all-none, all-found}
 use Rattle.history_model.proofs.Closing.{agree-closed, agree-open, agree-log}
 use Rattle.history_model.proofs.Deciding.{short-none}

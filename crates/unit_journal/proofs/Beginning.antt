@@ -16,7 +16,7 @@ use Rattle.gated_ring.specs.Plans.{room_in}
 use Rattle.unit_model.specs.declared.layout.TheConstants.{DAYS, DAY_COUNT, DAY_SLOTS, DAY_SLOT_SIZE, DAY_WORDS, DAY_WORD_LIMIT, HIGHEST_ODOMETER, IMAGE_SIZE, LAST_KEPT, LAST_MINUTE, ODOMETER}
 use Rattle.unit_model.specs.Days.{slot_bit, word_minute, word_by, bare, state_at, UnitMinute, ShownDay, StoredDay, day_of, day_shown, days_shown, filled, Each, minute_by}
 use Rattle.unit_model.specs.Changes.{change, changes, first_state, first_states, further_words}
-use Rattle.unit_model.specs.Image.{day_ring, slot_place, last_kept, odometer_at, unit_day, unit_days, spare_bytes, recorded, indices, slot_date, slot_odometer, slot_count, slot_words}
+use Rattle.unit_model.specs.Image.{day_ring, slot_place, last_kept, odometer_at, unit_day, unit_days, spare_bytes, recorded, slot_date, slot_odometer, slot_count, slot_words}
 use Rattle.std.specs.List.{list_all}
 use Rattle.unit_model.specs.Decoding.{Decodes, has_day, word_checks}
 use Rattle.unit_model.proofs.Checks.{passes, and_join, IsGood, still}

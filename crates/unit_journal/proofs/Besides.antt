@@ -1,12 +1,12 @@
 -- What a `keep` leaves alone, and how many days there are.
-use Rattle.std.proofs.Common.{◌≡◌, ℕ, suc, ◌+◌, ◌-◌, ◌<◌, ◌≤◌, Bool, true, false, cond, List, [], ◌∷◌, length, drop, filter, inl, inr, refl, ◌∙◌, ap, arith, length-append, ◌/◌}
+use Rattle.std.proofs.Common.{◌≡◌, ℕ, suc, ◌+◌, ◌-◌, ◌<◌, ◌≤◌, Bool, true, false, cond, List, [], ◌∷◌, length, drop, filter, inl, inr, ◌∙◌, ap, arith, length-append, ◌/◌}
 use Rattle.std.proofs.lemmas.List.{length-map}
 use Rattle.std.specs.Prelude.{◌⊎◌, nat_le}
 use Rattle.std.specs.List.{range_with_len}
 use Rattle.std.proofs.lemmas.Bool.Decides.{nat_tests}
 use Rattle.std.proofs.lemmas.List.FromFn.{length-range_with_len}
 use Rattle.tach_media.specs.Medium.{SameOutside}
-use Rattle.tach_media.proofs.Images.{put_outside, part_before, part_after, outside_wider}
+use Rattle.tach_media.proofs.Images.{part_before, part_after, outside_wider}
 use Rattle.gated_ring.specs.Ring.{indices as ring_indices, pointer, is_there, next, order}
 use Rattle.unit_model.specs.declared.layout.TheConstants.{DAYS, DAY_SLOTS, FIRST_OVER, INSERTIONS, LAST_KEPT, ODOMETER, OWED, SPARE_ROWS}
 use Rattle.unit_model.specs.Days.{ShownDay, UnitMinute, day_of, day_shown, newest_days}

@@ -8,7 +8,7 @@ use Rattle.tach_media.specs.Medium.{SameOutside, IsPartlyWritten}
 use Rattle.tach_media.proofs.Images.{put_outside, part_after}
 use Rattle.gated_ring.specs.Ring.{number_at, pointer, is_there, entry_at, next, taken}
 use Rattle.gated_ring.specs.Plans.{room_in}
-use Rattle.unit_model.specs.declared.layout.TheConstants.{DAY_COUNT, DAY_SLOTS, DAY_SLOT_SIZE, DAY_WORDS, DAY_WORD_LIMIT, HIGHEST_ODOMETER, IMAGE_SIZE, LAST_KEPT, LAST_MINUTE, ODOMETER}
+use Rattle.unit_model.specs.declared.layout.TheConstants.{DAY_COUNT, DAY_SLOTS, DAY_SLOT_SIZE, DAY_WORDS, DAY_WORD_LIMIT, HIGHEST_ODOMETER, IMAGE_SIZE, LAST_KEPT, ODOMETER}
 use Rattle.unit_model.specs.Days.{word_minute, bare, UnitMinute, ShownDay, StoredDay, day_of, days_shown, filled, Each, minute_by}
 use Rattle.unit_model.specs.Changes.{changes, closing_words}
 use Rattle.unit_model.specs.Image.{day_ring, slot_place, last_kept, odometer_at, unit_day, unit_days, spare_bytes, recorded, indices, slot_odometer, slot_words}
@@ -20,7 +20,7 @@ use Rattle.unit_model.proofs.StillDecodes.{counted_good}
 use Rattle.unit_model.proofs.WordsGood.{changes_good, good_low}
 use Rattle.unit_model.proofs.KeptDecodes.{behind_good, index_there, last_day as last_checks, put_odometer_good, odometer_decodes}
 use Rattle.unit_journal.specs.Coming.{Coming, IsComing}
-use Rattle.unit_journal.specs.Image.{Notes, IsNotes, IsNewestDay, Agrees}
+use Rattle.unit_journal.specs.Image.{Notes, IsNewestDay}
 use Rattle.unit_journal.specs.Keeping.{SameBesides, IsKeeping}
 use Rattle.unit_journal.proofs.Premises.{IsNoted}
 use Rattle.unit_model.specs.Writing.{written, free_place, DiffersBehind, with_odometer, with_words}

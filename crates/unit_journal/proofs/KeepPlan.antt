@@ -1,5 +1,5 @@
 -- What the writes of a `keep` leave, on the day of the last-kept minute or on a further one.
-use Rattle.std.proofs.Common.{◌≡◌, ◌≢◌, ℕ, ◌+◌, ◌/◌, ◌%◌, ◌<◌, ◌≤◌, Bool, true, false, cond, List, ◌++◌, length, length-append, refl, sym, ◌∙◌, ap, subst, arith, lit≤, Some, IfSome}
+use Rattle.std.proofs.Common.{◌≡◌, ◌≢◌, ℕ, ◌+◌, ◌/◌, ◌%◌, ◌<◌, ◌≤◌, Bool, true, false, cond, List, ◌++◌, length, length-append, refl, sym, ap, subst, arith, lit≤, Some, IfSome}
 use Rattle.std.specs.Prelude.{◌==◌, min}
 use Rattle.std.proofs.lemmas.Bool.Decides.{nat_tests}
 use Rattle.tach_media.specs.Medium.{State, LeavesOnly}

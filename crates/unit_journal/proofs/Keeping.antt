@@ -6,7 +6,7 @@ use Rattle.std.proofs.lemmas.Bool.Decides.{nat_tests}
 use Rattle.tach_media.specs.Medium.{SameOutside, IsPartlyWritten}
 use Rattle.tach_media.proofs.Images.{put_outside}
 use Rattle.gated_ring.specs.Ring.{number_at, pointer, newest_of}
-use Rattle.unit_model.specs.declared.layout.TheConstants.{DAY_COUNT, DAY_SLOTS, DAY_WORDS, DAY_WORD_LIMIT, HIGHEST_ODOMETER, IMAGE_SIZE, LAST_KEPT, LAST_MINUTE, ODOMETER}
+use Rattle.unit_model.specs.declared.layout.TheConstants.{DAY_COUNT, DAY_SLOTS, DAY_WORDS, DAY_WORD_LIMIT, LAST_KEPT, ODOMETER}
 use Rattle.unit_model.specs.Days.{word_minute, word_by, bare, state_at, UnitMinute, ShownDay, StoredDay, day_of, days_shown, filled, Each, minute_by}
 use Rattle.unit_model.specs.Changes.{change, changes, new_words}
 use Rattle.unit_model.specs.Retention.{retained}
@@ -22,7 +22,7 @@ use Rattle.std.proofs.lemmas.List.FromFn.{length-map-range_with_len}
 use Rattle.unit_model.specs.Decoding.{Decodes, word_checks}
 use Rattle.unit_journal.specs.Coming.{Coming, IsComing}
 use Rattle.unit_journal.specs.Minute.{notes_on}
-use Rattle.unit_journal.specs.Image.{Notes, IsNotes, IsNewestDay, Agrees}
+use Rattle.unit_journal.specs.Image.{Notes, IsNewestDay, Agrees}
 use Rattle.unit_journal.specs.Keeping.{SameBesides, IsKeeping}
 use Rattle.unit_journal.proofs.Premises.{IsNoted}
 use Rattle.unit_model.specs.Writing.{written, free_place, DiffersBehind, with_odometer, with_kept, with_words}

@@ -1,5 +1,5 @@
 -- What `load` reads of an image that decodes.
-use Rattle.std.proofs.Common.{◌≡◌, ◌≢◌, inl, ⊎_elim, ℕ, zero, suc, ◌+◌, ◌-◌, ◌*◌, ◌/◌, ◌%◌, ◌<◌, ◌≤◌, min, Bool, true, false, not, cond, List, [], ◌∷◌, ◌++◌, length, length-append, Option, Some, None, is_some, Result, Ok, Err, refl, sym, ◌∙◌, ap, subst, arith}
+use Rattle.std.proofs.Common.{◌≡◌, inl, ⊎_elim, ℕ, zero, suc, ◌+◌, ◌-◌, ◌*◌, ◌/◌, ◌%◌, ◌<◌, ◌≤◌, min, Bool, true, false, not, cond, List, [], ◌∷◌, ◌++◌, length, length-append, Option, Some, None, is_some, Result, Ok, Err, refl, sym, ◌∙◌, ap, subst, arith}
 use Rattle.std.specs.Prelude.{◌==◌, ◌&&◌, ◌||◌, nat_le, nat_lt, MatchOption, unwrap_or, IsTrue}
 use Rattle.std.specs.List.{range_with_len, list_all}
 use Rattle.std.proofs.lemmas.Bool.Decides.{nat_tests}
@@ -7,7 +7,7 @@ use Rattle.gated_ring.specs.Ring.{pointer, is_there, entry_at}
 use Rattle.unit_model.specs.declared.layout.TheConstants.{DAY_SLOTS, DAY_WORDS, DAY_WORD_LIMIT}
 use Rattle.unit_model.specs.Days.{day_of, state_at, word_minute, Each}
 use Rattle.unit_model.specs.Image.{last_kept, odometer_at, day_ring, slot_place, unit_day, indices, slot_date, slot_count, slot_words, words_at}
-use Rattle.unit_model.specs.Decoding.{Check, checks, Decodes, first_failing, word_checks, first_bad_place, has_day, slot_day, is_date_good, is_pointer_good}
+use Rattle.unit_model.specs.Decoding.{Check, checks, Decodes, first_failing, word_checks, first_bad_place, slot_day, is_date_good}
 use Rattle.unit_memory.specs.Scans.{start, scan_from}
 use Rattle.unit_memory.specs.Walks.{walk_start, with_gap, with_day, next_walk, walk_from}
 use Rattle.unit_memory.specs.Judging.{failed_of, pointer_passes, is_whole, turn_at, walk_round}

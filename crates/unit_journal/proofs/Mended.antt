@@ -9,7 +9,7 @@ use Rattle.tach_media.specs.Medium.{put, bytes_at, SameOutside}
 use Rattle.tach_media.proofs.Images.{part_before, put_same, outside_same, outside_then}
 use Rattle.gated_ring.specs.Ring.{number_at, pointer, entry_at}
 use Rattle.unit_model.specs.declared.layout.TheConstants.{DAYS, DAY_COUNT, DAY_SLOTS, DAY_SLOT_SIZE, IMAGE_SIZE, LAST_KEPT, OWED, OWED_ROW_SIZE}
-use Rattle.unit_model.specs.Days.{StoredDay, word_minute, day_of, Each}
+use Rattle.unit_model.specs.Days.{word_minute, day_of, Each}
 use Rattle.unit_model.specs.Decoding.{Decodes, cell_place, cell_minute, is_last_good}
 use Rattle.unit_model.specs.Image.{day_ring, slot_place, last_kept, recorded, indices, unit_days, slot_date, slot_words, words_at}
 use Rattle.unit_model.specs.Writing.{free_place, with_count}

@@ -1,14 +1,14 @@
 -- What the clause `days` of `keep` alone says where four wrong bodies differ, so that it refuses them.
-use Rattle.std.proofs.Common.{◌≡◌, ◌≢◌, ◌⊎◌, inl, inr, ⊎_elim, ℕ, ◌+◌, ◌-◌, ◌*◌, ◌/◌, ◌%◌, ◌<◌, ◌≤◌, Bool, true, false, cond, List, [], ◌∷◌, ◌++◌, length, drop, replicate, refl, sym, ◌∙◌, ap, arith}
+use Rattle.std.proofs.Common.{◌≡◌, ◌⊎◌, ⊎_elim, ℕ, ◌+◌, ◌-◌, ◌/◌, ◌%◌, ◌<◌, Bool, true, cond, List, [], ◌∷◌, ◌++◌, replicate, sym, ◌∙◌, ap, arith}
 use Rattle.std.specs.Prelude.{◌==◌}
 use Rattle.std.proofs.lemmas.Bool.Decides.{nat_tests}
 use Rattle.std.proofs.lemmas.List.{append-nil}
-use Rattle.gated_ring.specs.Ring.{pointer, newest_of}
+use Rattle.gated_ring.specs.Ring.{newest_of}
 use Rattle.unit_model.specs.declared.layout.TheConstants.{DAY_SLOTS}
 use Rattle.unit_model.specs.Days.{StoredDay, day_of, state_at, bare, word_by}
 use Rattle.unit_model.specs.Changes.{change, changes, new_words}
-use Rattle.unit_model.specs.Image.{day_ring, last_kept, unit_days, spare_bytes}
-use Rattle.unit_journal.specs.DaysWith.{day_with, closed_day, begun_day, days_with, HasDays}
+use Rattle.unit_model.specs.Image.{last_kept, unit_days, spare_bytes}
+use Rattle.unit_journal.specs.DaysWith.{day_with, closed_day, begun_day, days_with}
 use Rattle.unit_journal.specs.declared.kept.KeptMinute.{KeptMinute}
 use Rattle.unit_journal.specs.Kept.{coming_of, HasDaysWith}
 

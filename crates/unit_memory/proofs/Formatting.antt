@@ -1,8 +1,8 @@
 -- The images while a unit is made new.
-use Rattle.std.proofs.Common.{◌≡◌, inl, inr, ⊎_elim, ℕ, ◌+◌, ◌-◌, ◌<◌, ◌≤◌, true, false, List, [], ◌∷◌, ◌++◌, length, take, drop, replicate, refl, sym, ◌∙◌, ap, subst, arith, append_assoc, length-append, lit≤, Option, Some, None, option_map}
+use Rattle.std.proofs.Common.{◌≡◌, inl, inr, ⊎_elim, ℕ, ◌+◌, ◌-◌, ◌<◌, ◌≤◌, true, false, List, [], ◌∷◌, ◌++◌, length, take, drop, refl, sym, ◌∙◌, ap, subst, arith, append_assoc, length-append, lit≤, Option, Some, None, option_map}
 use Rattle.std.specs.Int.{to_be_bytes, w32}
 use Rattle.card_layout.specs.Images.{big_number}
-use Rattle.std.proofs.lemmas.List.{append-nil, length-replicate, take-replicate, drop-replicate, length-take-le, drop_all}
+use Rattle.std.proofs.lemmas.List.{append-nil, length-replicate, take-replicate, drop-replicate, drop_all}
 use Rattle.tach_media.specs.Medium.{State, put, SameOutside, IsPartlyWritten, HasCause}
 use Rattle.tach_media.proofs.Images.{put_outside, part_before, part_put, outside_wider, outside_then}
 use Rattle.tach_media.proofs.Chunks.{put_behind, chunk_more, chunk_next}

@@ -1,5 +1,5 @@
 -- What is said of a told image, joined.
-use Rattle.std.proofs.Common.{◌≡◌, List, Option, Some, None, IfSome, ℕ, subst, refl, Result, Ok, Err, true}
+use Rattle.std.proofs.Common.{◌≡◌, List, Option, Some, None, IfSome, ℕ, subst, refl, Result, true}
 use Rattle.std.specs.Prelude.{IsErr, is_err, Bool}
 use Rattle.tach_media.specs.Medium.{State, Reads}
 

@@ -1,11 +1,10 @@
 -- The entries that are there and chosen, one after the other.
-use Rattle.std.proofs.Common.{◌≡◌, ℕ, zero, suc, ◌+◌, ◌-◌, ◌*◌, ◌≤◌, ◌<◌, Bool, true, false, not, cond, List, [], ◌∷◌, ◌++◌, length, map, filter, refl, sym, ◌∙◌, ap, append_assoc, length-append, arith}
+use Rattle.std.proofs.Common.{◌≡◌, ℕ, ◌+◌, ◌-◌, ◌≤◌, Bool, true, false, not, cond, List, [], ◌∷◌, ◌++◌, length, map, filter, refl, sym, ◌∙◌, ap, append_assoc, length-append, arith}
 use Rattle.std.specs.List.{range_with_len}
 use Rattle.std.specs.Prelude.{◌==◌, ◌||◌}
-use Rattle.std.proofs.lemmas.List.{map-append, length-take, length-drop}
+use Rattle.std.proofs.lemmas.List.{map-append}
 use Rattle.std.proofs.lemmas.List.Elements.{filter-append}
-use Rattle.std.proofs.Math.Nat.{suc-mul}
-use Rattle.card_layout.specs.Images.{bytes_at, number_at}
+use Rattle.card_layout.specs.Images.{number_at}
 use Rattle.card_layout.specs.Fields.{joined}
 use Rattle.card_layout.proofs.Spelled.{number_within}
 use Rattle.gated_ring.specs.Ring.{Shape, is_there, entry_at, order, place_of}

@@ -1,5 +1,5 @@
 -- The messages, part after part.
-use Rattle.std.proofs.Common.{◌≡◌, ℕ, ◌*◌, Option, Some, List, [], ◌∷◌, ◌++◌, length, filter, replicate, append_assoc, refl, sym, ◌∙◌, ap}
+use Rattle.std.proofs.Common.{◌≡◌, ℕ, Option, Some, List, [], ◌∷◌, ◌++◌, filter, replicate, append_assoc, refl, sym, ◌∙◌, ap}
 use Rattle.std.specs.Prelude.{option_map}
 use Rattle.byteorder.specs.Endian.{big_bytes}
 use Rattle.gated_ring.specs.Ring.{ring_list}
@@ -8,7 +8,7 @@ use Rattle.unit_model.specs.Days.{StoredDay}
 use Rattle.unit_model.specs.Image.{words_at}
 use Rattle.link_model.specs.declared.request.Request.TheVariants.{Overview as AskOverview, Day as AskDay, Events as AskEvents, Technical as AskTechnical}
 use Rattle.message_model.specs.Records.{insertion_ring, unit_place_ring}
-use Rattle.message_model.specs.Messages.{Message, AnOverview, ADay, AnEventList, ATechnical, counted, word_bytes, message_bytes}
+use Rattle.message_model.specs.Messages.{ADay, counted, word_bytes, message_bytes}
 use Rattle.message_model.specs.Sending.{field_of, message_of, overview_of, day_message_of, event_message_of, technical_message_of, entries_in, event_table, over_table, fault_table, touches_day, place_in_day}
 use Rattle.unit_messages.specs.Windows.{Sight, passed}
 use Rattle.unit_messages.specs.declared.outline.Times.{Times}

@@ -5,12 +5,12 @@ use Rattle.std.proofs.lemmas.List.{length-take, length-drop}
 use Rattle.std.proofs.Math.Nat.{mul-le-mul_right, mul-div_cancel, add-mul}
 use Rattle.card_layout.specs.Fields.{joined}
 use Rattle.tach_media.proofs.Runs.{both_told}
-use Rattle.gated_ring.specs.Ring.{entry_at, place_of}
+use Rattle.gated_ring.specs.Ring.{entry_at}
 use Rattle.gated_ring.proofs.Orders.{Each, range_each}
 use Rattle.unit_model.specs.declared.layout.TheConstants.{IMAGE_SIZE}
 use Rattle.unit_messages.specs.declared.entries.Entries.{Entries}
 use Rattle.unit_messages.specs.Windows.{Sight, passed}
-use Rattle.unit_messages.specs.Chosen.{chosen_at, shape_of, is_meant, meant, AreEntries}
+use Rattle.unit_messages.specs.Chosen.{chosen_at, shape_of, is_meant, AreEntries}
 use Rattle.unit_messages.proofs.Choosing.{chosen_both, joined_both}
 use Rattle.unit_messages.proofs.Passing.{chosen_one, entry_ends}
 

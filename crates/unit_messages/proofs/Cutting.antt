@@ -1,5 +1,5 @@
 -- Where the parts of a message end: of bytes that are made of such parts, and what bytes are made of that have such ends.
-use Rattle.std.proofs.Common.{◌≡◌, ℕ, zero, suc, ◌+◌, ◌-◌, ◌*◌, ◌<◌, ◌≤◌, ◌^◌, min, Bool, true, false, cond, Option, Some, None, List, [], ◌∷◌, ◌++◌, length, take, drop, refl, sym, ◌∙◌, ap, subst, append_assoc, length-append, All, arith}
+use Rattle.std.proofs.Common.{◌≡◌, ℕ, zero, suc, ◌+◌, ◌-◌, ◌*◌, ◌<◌, ◌≤◌, ◌^◌, Bool, true, false, cond, Option, Some, None, List, [], ◌∷◌, ◌++◌, length, take, drop, refl, sym, ◌∙◌, ap, subst, append_assoc, length-append, All, arith}
 use Rattle.std.specs.Prelude.{nat_le, slice_index, option_and_then}
 use Rattle.std.proofs.lemmas.Bool.Decides.{nat_tests}
 use Rattle.std.proofs.lemmas.List.{length-take, length-drop, take-append-drop, drop-drop, take_at, drop_at, get_or-take, get_or-drop}
@@ -14,7 +14,7 @@ use Rattle.card_layout.proofs.Numbers.{big_number-big_bytes, big_bytes-big_numbe
 use Rattle.card_layout.proofs.Cuts.{IsBytes-take, IsBytes-drop}
 use Rattle.card_layout.proofs.Images.{part_split}
 use Rattle.unit_model.proofs.Checks.{le_true, le_of}
-use Rattle.message_model.specs.Messages.{counted, AreEntries}
+use Rattle.message_model.specs.Messages.{counted}
 use Rattle.unit_messages.specs.declared.parts.Part.{Part}
 use Rattle.unit_messages.specs.declared.parts.Part.TheVariants.{Field, Few, Many}
 use Rattle.unit_messages.specs.Parts.{AreCounted, IsPart, AreParts, within, counted_end, part_end, parts_end}

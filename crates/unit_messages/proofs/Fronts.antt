@@ -1,5 +1,5 @@
 -- What stands at the front of bytes: each message of the grammar is read there, and what is read is one.
-use Rattle.std.proofs.Common.{◌≡◌, ℕ, zero, suc, ◌+◌, ◌*◌, ◌%◌, ◌<◌, ◌≤◌, ◌^◌, Bool, true, false, cond, ◌&&◌, Option, Some, None, List, [], ◌∷◌, ◌++◌, length, drop, map, refl, sym, ◌∙◌, ap, subst, append_assoc, length-append, All, arith}
+use Rattle.std.proofs.Common.{◌≡◌, ℕ, suc, ◌+◌, ◌*◌, ◌%◌, ◌<◌, ◌≤◌, ◌^◌, Bool, true, false, cond, ◌&&◌, Option, Some, None, List, [], ◌∷◌, ◌++◌, length, drop, map, refl, sym, ◌∙◌, ap, subst, All, arith}
 use Rattle.std.specs.Prelude.{nat_le, ◌==◌, slice_index}
 use Rattle.std.proofs.lemmas.List.{length-map, drop_at}
 use Rattle.std.proofs.lemmas.List.Elements.{All-nil, All-cons}
@@ -14,7 +14,7 @@ use Rattle.unit_model.proofs.Checks.{le_true, le_of, and_split}
 use Rattle.unit_model.proofs.Finding.{eq_of}
 use Rattle.link_model.specs.declared.request.Request.{Request}
 use Rattle.link_model.specs.declared.request.Request.TheVariants.{Overview as AskOverview, Day as AskDay, Events as AskEvents, Speed as AskSpeed, Technical as AskTechnical}
-use Rattle.message_model.specs.Messages.{Overview, DayMessage, EventMessage, SpeedMessage, TechnicalMessage, Message, AnOverview, ADay, AnEventList, ASpeedList, ATechnical, AreEntries, counted, word_bytes, overview_bytes, day_bytes, event_bytes, speed_bytes, technical_bytes, number_of, content_of, message_bytes, IsOverview, IsDayMessage, IsEventMessage, IsSpeedMessage, IsTechnicalMessage, IsMessage}
+use Rattle.message_model.specs.Messages.{Overview, DayMessage, EventMessage, SpeedMessage, TechnicalMessage, Message, AnOverview, ADay, AnEventList, ASpeedList, ATechnical, AreEntries, counted, word_bytes, day_bytes, number_of, content_of, message_bytes, IsOverview, IsDayMessage, IsEventMessage, IsSpeedMessage, IsTechnicalMessage, IsMessage}
 use Rattle.unit_messages.specs.declared.reading.MessageRead.{MessageRead}
 use Rattle.unit_messages.specs.declared.parts.TheConstants.{OVERVIEW_PARTS, DAY_PARTS, EVENT_PARTS, SPEED_PARTS, TECHNICAL_PARTS}
 use Rattle.unit_messages.specs.Parts.{parts_end, read_as, words_place, word_count, are_words, day_at_front, numbered_at_front, at_front}

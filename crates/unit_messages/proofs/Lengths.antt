@@ -1,12 +1,12 @@
 -- How many bytes each message has.
-use Rattle.std.proofs.Common.{◌≡◌, ℕ, ◌+◌, ◌-◌, ◌*◌, ◌/◌, ◌<◌, ◌≤◌, min, Option, Some, IfSome, List, [], ◌∷◌, ◌++◌, length, take, drop, filter, replicate, refl, sym, ◌∙◌, ap, subst, arith, length-append}
+use Rattle.std.proofs.Common.{◌≡◌, ℕ, ◌+◌, ◌-◌, ◌*◌, ◌/◌, ◌<◌, ◌≤◌, min, Option, Some, IfSome, List, [], ◌∷◌, ◌++◌, length, take, drop, replicate, refl, sym, ◌∙◌, ap, subst, arith, length-append}
 use Rattle.std.proofs.lemmas.List.{length-take, length-drop, take_all}
 use Rattle.std.proofs.Math.Seq.{take-add}
 use Rattle.link_model.specs.declared.request.Request.{Request}
 use Rattle.byteorder.specs.Endian.{big_bytes}
 use Rattle.byteorder.specs.Numbers.{length-bytes_high_first}
 use Rattle.card_layout.specs.Fields.{joined}
-use Rattle.gated_ring.specs.Ring.{Shape, PointsInside, next, pointer}
+use Rattle.gated_ring.specs.Ring.{next, pointer}
 use Rattle.gated_ring.proofs.Orders.{next_below}
 use Rattle.unit_model.specs.declared.layout.Field.{Field}
 use Rattle.unit_model.specs.declared.layout.TheConstants.{VIN, REGISTRATION, IDENTIFICATION, SENSOR, STATE_CERTIFICATE, UNIT_CERTIFICATE, IMAGE_SIZE, INSERTIONS, PLACES, EVENTS, OVERS, FAULTS}

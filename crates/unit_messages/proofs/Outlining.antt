@@ -1,13 +1,12 @@
 -- What is found of a request.
-use Rattle.std.proofs.Common.{◌≡◌, ℕ, ◌+◌, ◌*◌, ◌<◌, ◌≤◌, Bool, true, Option, Some, None, List, [], ◌∷◌, length, map, filter, refl, sym, ◌∙◌, ap, subst, arith}
-use Rattle.std.specs.Prelude.{◌==◌, ◌&&◌, nat_le, nat_lt, slice_get, find, option_map, All, ◌≢◌}
-use Rattle.std.specs.List.{list_all}
+use Rattle.std.proofs.Common.{◌≡◌, ℕ, ◌+◌, ◌*◌, ◌<◌, ◌≤◌, Bool, true, Option, Some, None, List, [], ◌∷◌, length, map, filter, refl, sym, ◌∙◌, ap, arith}
+use Rattle.std.specs.Prelude.{◌==◌, ◌&&◌, nat_le, nat_lt, slice_get, option_map, All, ◌≢◌}
 use Rattle.gated_ring.specs.Ring.{ring_list, number_at, PointsInside}
 use Rattle.unit_model.specs.declared.layout.TheConstants.{VERSION, OVER_COUNT}
 use Rattle.unit_model.specs.Days.{StoredDay}
 use Rattle.unit_model.specs.Image.{number_of as number_in, last_kept, recorded_indices, slot_date, slot_place, words_at, odometer_at}
-use Rattle.unit_model.specs.Decoding.{Decodes, check, is_kept_good}
-use Rattle.unit_model.proofs.Checks.{passes, good_of, le_of, and_split}
+use Rattle.unit_model.specs.Decoding.{Decodes, is_kept_good}
+use Rattle.unit_model.proofs.Checks.{good_of, le_of, and_split}
 use Rattle.unit_model.proofs.WholeDays.{decoded_of}
 use Rattle.unit_journal.specs.declared.notes.Notes.{Notes}
 use Rattle.unit_journal.specs.Image.{IsNotes}
@@ -16,7 +15,7 @@ use Rattle.unit_journal.specs.declared.journal.reading.UnitDay.{UnitDay}
 use Rattle.unit_journal.proofs.Shown.{shown}
 use Rattle.link_model.specs.declared.request.Request.TheVariants.{Day as AskDay, Speed as AskSpeed}
 use Rattle.message_model.specs.Records.{insertion_ring, unit_place_ring}
-use Rattle.message_model.specs.Messages.{Message, ADay}
+use Rattle.message_model.specs.Messages.{ADay}
 use Rattle.message_model.specs.Sending.{sent_days, message_of, day_message_of, period_of, day_at, touches_day, place_in_day}
 use Rattle.unit_messages.specs.declared.outline.Times.{Times}
 use Rattle.unit_messages.specs.declared.outline.DayOutline.{DayOutline}

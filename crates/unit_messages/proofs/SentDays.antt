@@ -1,15 +1,15 @@
 -- The days that a unit sends, by the slots of its recorded days.
-use Rattle.std.proofs.Common.{◌≡◌, ◌≢◌, ℕ, zero, suc, ◌+◌, ◌-◌, ◌*◌, ◌/◌, ◌%◌, ◌<◌, ◌≤◌, min, Bool, true, false, not, cond, Option, Some, None, List, [], ◌∷◌, ◌++◌, length, map, filter, All, ⊎_elim, refl, sym, ◌∙◌, ap, subst, arith}
+use Rattle.std.proofs.Common.{◌≡◌, ◌≢◌, ℕ, zero, suc, ◌+◌, ◌-◌, ◌*◌, ◌/◌, ◌%◌, ◌<◌, ◌≤◌, min, Bool, true, false, cond, Some, None, List, [], ◌∷◌, length, map, filter, All, ⊎_elim, refl, sym, ◌∙◌, ap, subst, arith}
 use Rattle.std.specs.Prelude.{◌==◌, nat_le, slice_get, find}
 use Rattle.std.specs.List.{range_with_len, list_all}
 use Rattle.std.proofs.lemmas.Bool.{cases_lt}
 use Rattle.std.proofs.lemmas.Option.{slice_get_within}
 use Rattle.std.proofs.lemmas.Bool.Decides.{nat_tests}
-use Rattle.gated_ring.specs.Ring.{number_at, is_there, entry_at, order, pointer, next, indices as ring_indices}
+use Rattle.gated_ring.specs.Ring.{number_at, is_there, order, pointer, next, indices as ring_indices}
 use Rattle.gated_ring.proofs.Orders as orders
 use Rattle.gated_ring.proofs.Orders.{each_append, range_each, next_below}
 use Rattle.unit_model.specs.Days.{StoredDay, word_minute, day_of, day_kept, days_kept, Each}
-use Rattle.unit_model.specs.Image.{last_kept, unit_days, day_ring, slot_date, slot_odometer, slot_count, slot_words, slot_place, words_at, indices, recorded_indices, covered_words, recorded_words}
+use Rattle.unit_model.specs.Image.{last_kept, day_ring, slot_date, slot_odometer, slot_count, slot_words, slot_place, words_at, indices, recorded_indices, covered_words, recorded_words}
 use Rattle.unit_model.specs.Decoding.{Decodes, day_checks}
 use Rattle.unit_model.proofs.Checks.{passes, good_of, le_of}
 use Rattle.unit_model.proofs.StillDecodes.{day_split}

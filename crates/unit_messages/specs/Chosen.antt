@@ -1,7 +1,7 @@
 -- Which entries of the unit's memory a message has.
-use Rattle.std.specs.Prelude.{◌≡◌, ℕ, ◌+◌, ◌*◌, ◌<◌, ◌≤◌, Bool, true, not, ◌&&◌, ◌==◌, cond, List, [], ◌∷◌, ◌++◌, length, map, filter}
+use Rattle.std.specs.Prelude.{ℕ, ◌+◌, ◌*◌, ◌≤◌, Bool, true, not, ◌&&◌, ◌==◌, cond, List, [], ◌∷◌, map, filter}
 use Rattle.card_layout.specs.Images.{number_at}
-use Rattle.gated_ring.specs.Ring.{Shape, is_there, entry_at, order, ring_list}
+use Rattle.gated_ring.specs.Ring.{Shape, is_there, entry_at, ring_list}
 use Rattle.unit_model.specs.declared.layout.TheConstants.{INSERTIONS, INSERTION_SLOTS, PLACES, PLACE_SLOTS, IMAGE_SIZE}
 use Rattle.message_model.specs.Sending.{touches_day, place_in_day}
 use Rattle.unit_messages.specs.declared.entries.Choice.{Choice}

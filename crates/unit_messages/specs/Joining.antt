@@ -1,5 +1,5 @@
 -- Messages in pieces: where a piece stands, and pieces that are joined.
-use Rattle.std.specs.Prelude.{◌≡◌, ◌≢◌, ℕ, ◌+◌, ◌-◌, ◌*◌, ◌%◌, ◌≤◌, ◌==◌, ◌||◌, nat_lt, min, List, [], ◌∷◌, ◌++◌, length, take, drop, fold, Option, Some, None, if◌then◌else◌}
+use Rattle.std.specs.Prelude.{◌≡◌, ◌≢◌, ℕ, ◌+◌, ◌-◌, ◌*◌, ◌%◌, ◌==◌, ◌||◌, nat_lt, min, List, [], ◌∷◌, ◌++◌, take, drop, Option, Some, None, if◌then◌else◌}
 use Rattle.card_layout.specs.Images.{number_at}
 use Rattle.unit_messages.specs.declared.joining.JoinFault.{JoinFault}
 use Rattle.unit_messages.specs.declared.joining.JoinFault.TheVariants.{Broken, Memory}

@@ -1,6 +1,6 @@
 -- What the places of a type hold after the events of a run.
 use Rattle.std.proofs.Common.{◌≡◌, ◌≢◌, ◌⊎◌, inl, inr, ⊎_elim, ℕ, zero, suc, ◌+◌, ◌-◌, ◌/◌, ◌<◌, ◌≤◌, Bool, true, false, cond, Option, Some, None, IfSome, List, [], ◌∷◌, ◌++◌, length, map, refl, sym, ◌∙◌, ap, subst, arith, All}
-use Rattle.std.specs.Prelude.{◌==◌, nat_eq, nat_lt, nat_le, slice_set, slice_index_or, IsPermutation}
+use Rattle.std.specs.Prelude.{◌==◌, nat_eq, nat_lt, nat_le, slice_set, slice_index_or}
 use Rattle.std.specs.List.{list_all, list_any}
 use Rattle.std.proofs.lemmas.Bool.{eqb-true, ltb-true, ltb-false, leb-true, le-leb, cases_eq}
 use Rattle.std.proofs.lemmas.Simd.{map-map}
@@ -23,7 +23,7 @@ use Rattle.event_model.proofs.Similar.{recent_all, days_all, similar_counted}
 use Rattle.event_model.specs.Events.{Event}
 use Rattle.side_model.specs.Tables.{over_widths, widths_of, held_in, held_of, similar_field, similar_at, CountsSimilar, HasRest, IsEntry, HasOneMore, IsNotedAt, IsNoted, AreNoted}
 use Rattle.gated_ring.specs.Earliest.{IsEarliest}
-use Rattle.unit_notes.specs.Retention.{IsOfType, held_rows, similar_of, counted_row, counted_rows, CountsOnce, KeepsThese, IsStart, IsAfter}
+use Rattle.unit_notes.specs.Retention.{IsOfType, held_rows, similar_of, counted_row, counted_rows, CountsOnce, IsStart, IsAfter}
 use Rattle.unit_notes.proofs.Types.{held_is, width_is}
 use Rattle.unit_notes.proofs.Placing.{day_below}
 use Rattle.unit_notes.proofs.Journals.{part_of}

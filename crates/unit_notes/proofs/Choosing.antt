@@ -1,5 +1,5 @@
 -- Where an event goes, by the bytes of the places of its type.
-use Rattle.std.proofs.Common.{◌≡◌, ℕ, ◌+◌, ◌*◌, ◌/◌, ◌<◌, ◌≤◌, Bool, true, false, cond, Option, Some, None, IfSome, ◌-◌, List, [], ◌∷◌, ◌++◌, length, map, take, drop, refl, sym, ◌∙◌, ap, subst, arith}
+use Rattle.std.proofs.Common.{◌≡◌, ℕ, ◌+◌, ◌*◌, ◌<◌, ◌≤◌, Bool, true, false, cond, Option, Some, None, IfSome, ◌-◌, List, [], ◌∷◌, ◌++◌, length, map, take, drop, refl, sym, ◌∙◌, ap, subst, arith}
 use Rattle.std.specs.Prelude.{nat_lt, nat_le, nat_eq, position, slice_index_or}
 use Rattle.std.proofs.lemmas.Bool.{ne_eqb}
 use Rattle.std.proofs.lemmas.List.{map-append, length-map, get_or-take, get_or-drop}
@@ -18,7 +18,7 @@ use Rattle.event_model.specs.declared.kinds.TheConstants.{CARD_FAULT, OVER_SPEED
 use Rattle.event_model.specs.declared.kinds.Purpose.{Purpose}
 use Rattle.event_model.specs.declared.entries.Held.{Held}
 use Rattle.event_model.specs.Kinds.{purpose_of, places_of}
-use Rattle.event_model.specs.Places.{earliest, held_at, measure, where_later, recent_place, is_of_day, place_beside, place_of, day_place, similar_after}
+use Rattle.event_model.specs.Places.{earliest, held_at, measure, where_later, place_beside, place_of, day_place, similar_after}
 use Rattle.side_model.specs.Tables.{event_widths, fault_widths, over_widths, widths_of, base_of, table_of, table_in, held_in, similar_field, similar_at}
 use Rattle.unit_notes.specs.Tables.{rows_in, held_table, place_taken, place_of_day, similar_next}
 

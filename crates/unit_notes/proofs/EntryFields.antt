@@ -1,13 +1,13 @@
 -- The fields of the entries that are written, by their widths.
-use Rattle.std.proofs.Common.{◌≡◌, ◌≢◌, ℕ, ◌+◌, ◌-◌, ◌^◌, ◌<◌, ◌≤◌, Bool, true, false, cond, Option, Some, None, List, [], ◌∷◌, ◌++◌, length, refl, sym, ◌∙◌, ap, subst, arith, append_assoc, append-nil}
+use Rattle.std.proofs.Common.{◌≡◌, ◌≢◌, ℕ, ◌-◌, ◌^◌, ◌<◌, Bool, true, false, cond, Option, Some, None, List, [], ◌∷◌, length, refl, sym, ◌∙◌, ap, subst, arith}
 use Rattle.std.specs.Prelude.{nat_eq, slice_index, slice_index_or}
 use Rattle.std.proofs.lemmas.Bool.{ne_eqb, eq-eqb}
 use Rattle.std.proofs.lemmas.List.{length-append}
 use Rattle.byteorder.specs.Numbers.{length-bytes_high_first}
-use Rattle.card_layout.specs.Fields.{HaveWidths, joined, cut, total_width, place_in, field_at, number_in}
-use Rattle.card_layout.specs.Images.{big_number, big_bytes, bytes_at, number_at}
+use Rattle.card_layout.specs.Fields.{HaveWidths, joined, total_width, place_in, field_at, number_in}
+use Rattle.card_layout.specs.Images.{big_number, big_bytes, bytes_at}
 use Rattle.card_layout.proofs.Cuts.{cut-joined}
-use Rattle.card_layout.proofs.Fields.{field_part, number_part}
+use Rattle.card_layout.proofs.Fields.{field_part}
 use Rattle.card_layout.proofs.Numbers.{big_number-big_bytes}
 use Rattle.trace_model.specs.declared.Card.{Card}
 use Rattle.tacho_types.specs.CardNumber.{card_number_bytes}

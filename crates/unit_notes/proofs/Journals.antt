@@ -1,8 +1,8 @@
 -- What a note leaves alone: what a journal reads, and that the image decodes.
-use Rattle.std.proofs.Common.{◌≡◌, ◌⊎◌, inl, inr, ⊎_elim, ℕ, ◌+◌, ◌-◌, ◌*◌, ◌/◌, ◌%◌, ◌<◌, ◌≤◌, Bool, true, false, cond, List, length, drop, refl, sym, ◌∙◌, ap, subst, arith}
+use Rattle.std.proofs.Common.{◌≡◌, ◌⊎◌, inl, inr, ⊎_elim, ℕ, ◌+◌, ◌-◌, ◌<◌, ◌≤◌, Bool, true, false, cond, List, length, drop, refl, sym, ◌∙◌, ap, subst, arith}
 use Rattle.std.specs.Prelude.{◌==◌, nat_lt}
 use Rattle.std.specs.Int.{to_be_bytes, w32}
-use Rattle.std.proofs.lemmas.Bool.{ltb-true, ltb-false}
+use Rattle.std.proofs.lemmas.Bool.{ltb-true}
 use Rattle.std.proofs.lemmas.List.{drop-drop}
 use Rattle.card_layout.specs.Images.{SameOutside, bytes_at, big_number, number_at, put}
 use Rattle.card_layout.proofs.Images.{part_before, part_after, part_in, put_outside}
@@ -15,11 +15,11 @@ use Rattle.event_model.specs.declared.kinds.TheConstants.{OVER_SPEEDING}
 use Rattle.message_model.specs.Records.{insertion_ring, unit_place_ring}
 use Rattle.side_model.specs.Tables.{table_of}
 use Rattle.unit_model.specs.Days.{word_minute}
-use Rattle.unit_model.specs.Decoding.{Decodes, cell_place, cell_minute, cell_word}
-use Rattle.unit_journal.specs.Beside.{SameJournal, PassesBeside}
+use Rattle.unit_model.specs.Decoding.{Decodes, cell_place}
+use Rattle.unit_journal.specs.Beside.{SameJournal}
 use Rattle.unit_journal.proofs.Beside.{decodes_beside, passes_beside}
 use Rattle.unit_notes.specs.Journal.{KeepsJournal}
-use Rattle.unit_notes.specs.Noting.{IsWithdrawing, IsNotingEvent, IsEventNoted, IsNotingOver, IsOverNoted, with_first, with_one_more}
+use Rattle.unit_notes.specs.Noting.{IsWithdrawing, IsEventNoted, IsNotingOver, with_first, with_one_more}
 use Rattle.unit_notes.proofs.Types.{table_inside}
 
 -- ---- what a journal reads

@@ -1,27 +1,26 @@
 -- What the places of a type hold once an event was noted, entry by entry.
-use Rattle.std.proofs.Common.{◌≡◌, ◌≢◌, ◌⊎◌, inl, inr, ℕ, zero, suc, ◌+◌, ◌-◌, ◌*◌, ◌/◌, ◌<◌, ◌≤◌, Bool, true, false, cond, Option, Some, None, IfSome, List, [], ◌∷◌, ◌++◌, length, map, take, drop, refl, sym, ◌∙◌, ap, subst, arith, append-nil}
-use Rattle.std.specs.Prelude.{nat_eq, nat_lt, position, slice_set, slice_index, slice_index_or, option_map}
+use Rattle.std.proofs.Common.{◌≡◌, ◌≢◌, ℕ, zero, suc, ◌+◌, ◌-◌, ◌/◌, ◌<◌, ◌≤◌, Bool, true, false, cond, Option, Some, None, IfSome, List, [], ◌∷◌, ◌++◌, length, map, take, drop, refl, sym, ◌∙◌, ap, subst, arith, append-nil}
+use Rattle.std.specs.Prelude.{nat_eq, position, slice_set, slice_index, slice_index_or}
 use Rattle.std.specs.List.{range_with_len}
-use Rattle.std.proofs.lemmas.Bool.{eqb-true}
-use Rattle.std.proofs.lemmas.List.{map-set, length-map, length-take, length-take-le, length-drop, drop_all, take-append-le, drop-append-le}
+use Rattle.std.proofs.lemmas.List.{map-set, length-map, length-take-le, length-drop, drop_all, take-append-le, drop-append-le}
 use Rattle.std.proofs.Math.Seq.{map-set_same, get_or-append_seam}
 use Rattle.std.proofs.lemmas.List.FromFn.{length-map-range_with_len, get_or-map-range_with_len}
 use Rattle.card_layout.specs.Fields.{total_width, place_in, field_at, number_in}
 use Rattle.card_layout.specs.Images.{big_number, bytes_at, number_at, put, SameOutside}
-use Rattle.card_layout.proofs.Fields.{field_part, number_part, place_next, place_last}
+use Rattle.card_layout.proofs.Fields.{field_part, number_part, place_next}
 use Rattle.card_layout.proofs.Images.{part_before, part_put, put_outside}
 use Rattle.card_layout.proofs.Spelled.{number_before}
 use Rattle.trace_model.specs.declared.Card.{Card}
-use Rattle.gated_ring.specs.Ring.{Shape, size_of, place_of, entry_at, with_head}
+use Rattle.gated_ring.specs.Ring.{place_of, entry_at, with_head}
 use Rattle.gated_ring.specs.Change.{SameOthers, IsReplaced, IsSet}
 use Rattle.gated_ring.proofs.Places.{place_high}
 use Rattle.unit_model.proofs.Growth.{map_range_same}
 use Rattle.event_model.specs.declared.kinds.TheConstants.{CARD_FAULT, OVER_SPEEDING}
 use Rattle.event_model.specs.declared.entries.Held.{Held}
 use Rattle.event_model.specs.Kinds.{purpose_of, is_by_day, places_of}
-use Rattle.event_model.specs.Places.{place_of as place_for, day_place, is_of_day, placed, noted, similar_after}
+use Rattle.event_model.specs.Places.{place_of as place_for, day_place, is_of_day, placed, noted}
 use Rattle.event_model.specs.Events.{Event}
-use Rattle.side_model.specs.Tables.{event_widths, fault_widths, over_widths, widths_of, table_of, table_in, held_in, held_of, similar_field, similar_at, CountsSimilar, HasFront, HasNumbers, HasSpeeds, HasRest, IsEntry, HasOneMore}
+use Rattle.side_model.specs.Tables.{event_widths, fault_widths, over_widths, widths_of, table_of, table_in, held_in, held_of, similar_field, CountsSimilar, HasNumbers, HasSpeeds, HasRest, IsEntry, HasOneMore}
 use Rattle.side_model.specs.Tables as side
 use Rattle.unit_notes.specs.Tables.{held_table, place_taken, place_of_day, similar_next, similar_place, front_size, with_similar}
 use Rattle.unit_notes.specs.Noting as notes

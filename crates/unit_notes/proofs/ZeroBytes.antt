@@ -1,12 +1,11 @@
 -- Zeros, read as bytes and as numbers, and a ring that is loaded from them.
-use Rattle.std.proofs.Common.{rules, ◌≡◌, ⊎_elim, ℕ, ◌+◌, ◌-◌, ◌<◌, ◌≤◌, Bool, true, false, Option, Some, None, IfSome, is_some, List, length, take, drop, replicate, min, refl, sym, ◌∙◌, ap, subst, arith}
+use Rattle.std.proofs.Common.{◌≡◌, ⊎_elim, ℕ, ◌+◌, ◌-◌, ◌<◌, ◌≤◌, true, Option, Some, None, IfSome, is_some, List, length, take, replicate, refl, sym, ◌∙◌, ap, subst, arith}
 use Rattle.std.specs.Prelude.{Result, Ok, Err, IsOk, IfErr, slice_index}
 use Rattle.std.proofs.lemmas.Bool.{cases_lt}
 use Rattle.std.proofs.lemmas.List.{length-replicate, take-replicate, drop-replicate, get_or-replicate, get_or-take, get_or_past}
 use Rattle.card_layout.specs.Images.{bytes_at, number_at, big_number}
 use Rattle.tach_media.specs.Medium.{State, Reads}
 use Rattle.tach_media.specs.SliceMedium.{slice_state}
-use Rattle.tach_media.proofs.Runs.{at_image}
 use Rattle.gated_ring.specs.declared.fault.RingFault.{RingFault}
 use Rattle.gated_ring.specs.declared.fault.RingFault.TheVariants.{Failed, BadPointer}
 use Rattle.gated_ring.specs.Loading.{IfBadPointer, has_failed}

@@ -1,5 +1,5 @@
 -- What the entries that are noted tell, field by field.
-use Rattle.std.specs.Prelude.{◌≡◌, ℕ, ◌^◌, ◌<◌, Option, List, length, nat_eq}
+use Rattle.std.specs.Prelude.{◌≡◌, ℕ, ◌^◌, ◌<◌, List, length, nat_eq}
 use Rattle.card_layout.specs.Fields.{field_at, number_in}
 use Rattle.trace_model.specs.declared.Card.{Card}
 use Rattle.tacho_types.specs.CardNumber.{card_number_bytes}
@@ -7,7 +7,6 @@ use Rattle.tacho_types.specs.declared.card_number.FullCardNumber.{FullCardNumber
 use Rattle.tacho_types.specs.declared.places.PlaceEntry.{PlaceEntry}
 use Rattle.event_model.specs.declared.kinds.TheConstants.{OVER_SPEEDING}
 use Rattle.event_model.specs.declared.entries.Over.{Over}
-use Rattle.event_model.specs.declared.entries.Held.{Held}
 use Rattle.event_model.specs.Kinds.{purpose_of, purpose_number}
 use Rattle.message_model.specs.Records.{insertion_widths, place_widths}
 use Rattle.event_model.specs.Events.{Event}

@@ -1,12 +1,12 @@
 -- What noting leaves of a unit's image, at Ok and at each moment (profile). An entry appears whole, behind its gate.
-use Rattle.std.specs.Prelude.{◌≡◌, ◌⊎◌, ℕ, ◌+◌, ◌==◌, Option, Some, None, List, [], ◌∷◌, ◌++◌, map, nat_lt, if◌then◌else◌}
+use Rattle.std.specs.Prelude.{◌≡◌, ◌⊎◌, ℕ, ◌+◌, ◌==◌, Option, Some, None, List, [], ◌∷◌, map, nat_lt, if◌then◌else◌}
 use Rattle.card_layout.specs.Fields.{place_in}
 use Rattle.std.specs.Int.{to_be_bytes, w32}
 use Rattle.tacho_types.specs.declared.numbers.TimeReal.{TimeReal}
 use Rattle.tacho_types.specs.declared.numbers.Odometer.{Odometer}
 use Rattle.tacho_types.specs.Numbers.{time_bytes, odometer_bytes}
 use Rattle.tach_media.specs.Medium.{put, SameOutside}
-use Rattle.gated_ring.specs.Ring.{PointsInside, Shape, size_of, place_of, pointer, is_there, entry_at, indices, ring_list}
+use Rattle.gated_ring.specs.Ring.{PointsInside, size_of, place_of, pointer, is_there, entry_at, indices, ring_list}
 use Rattle.gated_ring.specs.Change.{SameOthers, IsReplaced, IsReplacingEntry, IsSet, OrUnwritten}
 use Rattle.event_model.specs.declared.kinds.TheConstants.{OVER_SPEEDING}
 use Rattle.message_model.specs.Records.{insertion_widths, insertion_ring}

@@ -1,15 +1,15 @@
 -- The events and faults that a unit holds of a type, as the choice of a place sees them (Annex IB, section III.12).
-use Rattle.std.specs.Prelude.{ℕ, ◌-◌, ◌*◌, ◌||◌, ◌==◌, Bool, Option, Some, None, List, [], ◌∷◌, ◌++◌, map, nat_eq, if◌then◌else◌}
+use Rattle.std.specs.Prelude.{ℕ, ◌-◌, ◌*◌, Option, List, [], ◌∷◌, ◌++◌, map, nat_eq, if◌then◌else◌}
 use Rattle.std.specs.List.{range_with_len}
 use Rattle.card_layout.specs.Fields.{total_width}
 use Rattle.card_layout.specs.Images.{bytes_at}
 use Rattle.gated_ring.specs.Ring.{Shape}
 use Rattle.unit_model.specs.declared.layout.TheConstants.{EVENTS}
-use Rattle.event_model.specs.declared.kinds.TheConstants.{CARD_FAULT, OVER_SPEEDING}
+use Rattle.event_model.specs.declared.kinds.TheConstants.{CARD_FAULT}
 use Rattle.event_model.specs.declared.entries.Held.{Held}
-use Rattle.event_model.specs.Kinds.{is_event, places_of}
+use Rattle.event_model.specs.Kinds.{places_of}
 use Rattle.event_model.specs.Places.{place_of, day_place, similar_after}
-use Rattle.side_model.specs.Tables.{event_widths, widths_of, table_of, table_in, held_in, similar_field, similar_at}
+use Rattle.side_model.specs.Tables.{event_widths, widths_of, table_in, held_in, similar_field, similar_at}
 
 -- all events but over speedings, for reading: of each type the places of its own, one type after the other
 abbrev pub all_events : Shape

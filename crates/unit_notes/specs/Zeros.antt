@@ -1,5 +1,5 @@
 -- A memory of zeros.
-use Rattle.std.specs.Prelude.{◌≡◌, ℕ, Option, Some, List, true, is_some}
+use Rattle.std.specs.Prelude.{◌≡◌, ℕ, Some, List, true, is_some}
 use Rattle.card_layout.specs.Images.{number_at}
 use Rattle.tach_media.specs.Medium.{State}
 

@@ -1,10 +1,10 @@
 -- A new unit is seen with no day, no minute and no row, and owes nothing.
-use Rattle.std.proofs.Common.{◌≡◌, ℕ, None, List, [], Option, option_map, length, refl, ◌∙◌, ap, arith}
+use Rattle.std.proofs.Common.{◌≡◌, ℕ, None, List, [], option_map, length, refl, ◌∙◌, ap, arith}
 use Rattle.unit_model.specs.declared.layout.TheConstants.{OWED}
 use Rattle.unit_model.specs.Image.{last_kept}
 use Rattle.unit_model.specs.NewImage.{zeros, new_image}
 use Rattle.unit_model.proofs.New.{new_zeros, new_kept, new_recorded}
-use Rattle.owed_model.specs.Owed.{OwedRow, rows_in, row_in, row_index, row_of, owed_of, owed_to, row_view, seen_row}
+use Rattle.owed_model.specs.Owed.{rows_in, row_in, row_index, row_of, owed_of, owed_to, row_view, seen_row}
 use Rattle.joint_rule.specs.Views.{unit_view}
 
 -- in rows of zeros no row has a session

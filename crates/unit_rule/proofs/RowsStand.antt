@@ -1,5 +1,5 @@
 -- The owed rows stand as they stood at the start, over each step of a unit without a card.
-use Rattle.std.proofs.Common.{◌≡◌, ◌⊎◌, inl, inr, ⊎_elim, ℕ, ◌+◌, ◌-◌, ◌<◌, ◌≤◌, List, refl, ap, sym, subst, ◌∙◌, arith}
+use Rattle.std.proofs.Common.{◌≡◌, ◌⊎◌, inl, inr, ⊎_elim, ℕ, ◌+◌, ◌-◌, ◌≤◌, List, ap, sym, ◌∙◌, arith}
 use Rattle.tach_media.specs.Medium.{bytes_at}
 use Rattle.unit_model.specs.declared.layout.TheConstants.{LAST_KEPT, FIRST_OVER, SPARE_COUNTS, OWED, DAYS, INSERTIONS}
 use Rattle.unit_model.specs.Days.{UnitMinute}
@@ -9,7 +9,7 @@ use Rattle.owed_model.specs.Owed.{rows_in}
 use Rattle.owed_model.specs.Standing.{AreLow, RowsStand}
 use Rattle.owed_model.proofs.Standing.{stands_mending, low_mended, stands_beside, low_beside}
 use Rattle.unit_journal.specs.declared.notes.Notes.{Notes}
-use Rattle.unit_journal.specs.Keeping.{SameBesides, IsKeeping}
+use Rattle.unit_journal.specs.Keeping.{IsKeeping}
 use Rattle.unit_journal.specs.Mends.{IsMending, IsMended}
 use Rattle.unit_journal.proofs.MendedOwed.{rows_mending, rows_mended}
 use Rattle.unit_rule.proofs.Mending.{mending-odometer}

@@ -1,5 +1,5 @@
 -- A session may write through a port all that it writes of a card, and the sizes that a port goes by are those that the card tells.
-use Rattle.std.proofs.Common.{◌≡◌, ◌≤◌, ◌+◌, ◌*◌, ℕ, List, Option, Some, None, IfSome, Ok, true, refl, sym, subst, arith}
+use Rattle.std.proofs.Common.{◌≡◌, ◌≤◌, ◌+◌, ◌*◌, ℕ, List, Option, Some, None, IfSome, Ok, refl, sym, subst, arith}
 use Rattle.card_layout.specs.declared.files.Application.{Application}
 use Rattle.card_layout.specs.Application.{application_in}
 use Rattle.card_layout.specs.Files.{files_of, place_of, size_of, image_size_of}

@@ -1,12 +1,12 @@
 -- How the writing of a plan goes on.
-use Rattle.std.proofs.Common.{◌≡◌, inl, inr, ⊎_elim, ℕ, zero, suc, ◌+◌, ◌-◌, ◌≤◌, ◌<◌, Bool, true, false, List, [], ◌∷◌, ◌++◌, length, take, drop, map, get_or, length-append, refl, sym, ◌∙◌, ap, subst, arith}
-use Rattle.std.proofs.lemmas.List.{take-append-drop, take_all, length-map, length-take-le}
+use Rattle.std.proofs.Common.{◌≡◌, inl, ⊎_elim, ℕ, zero, suc, ◌+◌, ◌-◌, ◌≤◌, ◌<◌, Bool, true, false, List, [], ◌∷◌, ◌++◌, length, take, drop, map, get_or, length-append, refl, sym, ◌∙◌, ap, subst, arith}
+use Rattle.std.proofs.lemmas.List.{take-append-drop, take_all, length-map}
 use Rattle.std.proofs.lemmas.Bool.{cases_lt}
 use Rattle.std.proofs.Math.Seq.{take-suc}
 use Rattle.std.specs.List.{AllByRecursion}
-use Rattle.tach_media.specs.Medium.{State, Writes, LeavesOnly, LiesInside, put, IsPartlyWritten}
+use Rattle.tach_media.specs.Medium.{State, Writes, LeavesOnly, put, IsPartlyWritten}
 use Rattle.tach_media.proofs.Runs.{no_writes, writes_as, writes_failed, weaken}
-use Rattle.write_plan.specs.Plan.{Piece, Pieces, IsPlan, IsInside, put_all, IsPartway, PutsAll, AreShort, IsAfterSome}
+use Rattle.write_plan.specs.Plan.{Piece, Pieces, IsPlan, IsInside, IsPartway, PutsAll, AreShort, IsAfterSome}
 use Rattle.write_plan.specs.Held.{piece_of}
 use Rattle.write_plan.specs.declared.plan.Held.{Held}
 use Rattle.write_plan.proofs.Plans.{partway_front, after_some, puts_then}

@@ -1,11 +1,11 @@
 -- Laws of plans.
-use Rattle.std.proofs.Common.{◌≡◌, ◌⊎◌, inl, inr, ⊎_elim, ℕ, zero, suc, ◌+◌, ◌≤◌, List, [], ◌∷◌, ◌++◌, length, take, refl, sym, ◌∙◌, ap, subst, arith}
+use Rattle.std.proofs.Common.{◌≡◌, ◌⊎◌, inl, inr, ⊎_elim, ℕ, suc, ◌+◌, ◌≤◌, List, [], ◌∷◌, ◌++◌, length, refl, sym, ◌∙◌, ap, subst, arith}
 use Rattle.std.specs.List.{AllByRecursion}
-use Rattle.tach_media.specs.Medium.{put, IsPartlyWritten, SameOutside}
+use Rattle.tach_media.specs.Medium.{put, SameOutside}
 use Rattle.tach_media.proofs.Images.{put_outside, outside_same, outside_wider, outside_then}
 use Rattle.write_plan.specs.Plan.{Piece, put_all, IsPartway, IsInside, AreShort, IsAfterSome, PutsAll, PutsBy}
 use Rattle.std.proofs.Common.{Bool, true, false, Option, Some, None, IfSome, option_map, length-append}
-use Rattle.tach_media.specs.Medium.{State, Reads, Writes}
+use Rattle.tach_media.specs.Medium.{State, Reads}
 use Rattle.tach_media.proofs.Runs.{writes_then, writes_as, writes_failed, reads_writes, weaken}
 
 -- one plan after another

@@ -1,4 +1,4 @@
-use Rattle.std.proofs.Common.{◌≡◌, Some, is_some, true, rules, sym, ◌∙◌, ap}
+use Rattle.std.proofs.Common.{◌≡◌, is_some, true, rules, sym, ◌∙◌, ap}
 use Rattle.card_layout.specs.declared.files.CardFile.{CardFile}
 use Rattle.std.proofs.Common.{List}
 use Rattle.card_commands.specs.Ports.{file_at, file_from}

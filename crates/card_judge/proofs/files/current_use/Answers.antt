@@ -1,5 +1,5 @@
-use Rattle.std.proofs.Common.{◌≡◌, ◌+◌, ◌-◌, ◌≤◌, ◌∙◌, ℕ, List, length, take, drop, ap, arith}
-use Rattle.card_layout.specs.Files.{place_of, size_of}
+use Rattle.std.proofs.Common.{◌≡◌, ◌+◌, ◌-◌, ◌∙◌, ℕ, take, drop, ap, arith}
+use Rattle.card_layout.specs.Files.{size_of}
 use Rattle.card_records.specs.CurrentUses.{current_use_of}
 use Rattle.card_image.specs.Fields.{file, current_use}
 use Rattle.card_judge.proofs.Places.{use_file}

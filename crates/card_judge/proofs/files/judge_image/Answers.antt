@@ -1,6 +1,5 @@
-use Rattle.std.proofs.Common.{◌≡◌, ◌≤◌, ◌<◌, ℕ, length, rules}
+use Rattle.std.proofs.Common.{rules}
 use Rattle.std.specs.Prelude.{IsTrue, IsFalse}
-use Rattle.gated_ring.specs.Ring.{PointsInside, pointer}
 use Rattle.card_judge.proofs.Verdicts.{days_fail, vehicles_fail, places_fail}
 use Rattle.card_judge.proofs.files.judge_image.Goals as goal
 

@@ -1,4 +1,4 @@
-use Rattle.std.proofs.Common.{◌≡◌, ◌∙◌, ◌/◌, ◌≤◌, ◌<◌, ℕ, Option, Some, None, List, length, sym, ap, subst}
+use Rattle.std.proofs.Common.{◌≡◌, ◌∙◌, ◌/◌, ℕ, Some, None, sym, ap, subst}
 use Rattle.card_records.specs.declared.current_use.CurrentUse.{CurrentUse}
 use Rattle.card_model.specs.Image.{StringShape, oldest_pointer}
 use Rattle.card_image.specs.Fields.{last_use_of, end_mark, session_time, card_days}

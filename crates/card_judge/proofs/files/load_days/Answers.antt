@@ -1,9 +1,7 @@
-use Rattle.std.proofs.Common.{◌≡◌, ◌+◌, ◌≤◌, ◌∙◌, sym, ap, subst, ℕ, List, Option, Some, length, arith}
+use Rattle.std.proofs.Common.{◌∙◌, sym, ap, length, arith}
 use Rattle.card_model.specs.Image.{StringShape}
 use Rattle.card_model.specs.Checks.{first_bad}
 use Rattle.cyclic_days.specs.Loading.{shape_of}
-use Rattle.card_image.specs.Fields.{day_string}
-use Rattle.card_judge.proofs.Slices.{never_failed}
 use Rattle.card_judge.proofs.Places.{day_file, shape_is, knows_at}
 use Rattle.card_judge.proofs.files.load_days.Goals as goal
 

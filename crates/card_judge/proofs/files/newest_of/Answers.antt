@@ -1,6 +1,5 @@
-use Rattle.std.proofs.Common.{◌≡◌, ◌+◌, ◌≤◌, ◌<◌, ℕ, List, Option, IfSome, length, sym, ap, subst, arith}
+use Rattle.std.proofs.Common.{◌+◌, ◌≤◌, ◌<◌, ℕ, List, Option, IfSome, length, sym, ap, subst, arith}
 use Rattle.gated_ring.specs.Ring.{Shape, PointsInside, IsNewest, size_of}
-use Rattle.card_image.specs.Fields.{vehicle_ring}
 use Rattle.card_judge.proofs.Slices.{never_fails, ok_told}
 use Rattle.card_judge.proofs.Places.{vehicles_inside}
 use Rattle.card_judge.proofs.files.newest_of.Goals as goal

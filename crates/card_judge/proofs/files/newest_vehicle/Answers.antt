@@ -1,4 +1,4 @@
-use Rattle.std.proofs.Common.{◌≡◌, ◌∙◌, ℕ, Option, Some, None, sym, ap, subst}
+use Rattle.std.proofs.Common.{◌∙◌, ℕ, Option, Some, sym, ap, subst}
 use Rattle.gated_ring.specs.Ring.{IsNewest}
 use Rattle.card_image.specs.Fields.{vehicle_ring}
 use Rattle.card_records.specs.declared.vehicle.Vehicle.{Vehicle}

@@ -1,8 +1,7 @@
-use Rattle.std.proofs.Common.{◌≡◌, ◌≤◌, ◌∙◌, ℕ, List, Option, Some, IfSome, length, refl, sym, ap, subst, arith}
+use Rattle.std.proofs.Common.{◌∙◌, sym, arith}
 use Rattle.card_layout.proofs.Sizes.{largest_image}
-use Rattle.card_image.specs.Judging.{first_bad_file}
-use Rattle.card_judge.specs.Judged.{IsCopy, TellsSizes, IsKnown, IsJudged, first_bad_behind}
-use Rattle.card_judge.proofs.Faults.{failed_ok, failed_valid, failed_in_time, failed_is}
+use Rattle.card_judge.specs.Judged.{IsCopy, TellsSizes, IsKnown}
+use Rattle.card_judge.proofs.Faults.{failed_ok, failed_valid, failed_in_time}
 use Rattle.card_judge.proofs.Copies.{behind_same, known_same}
 use Rattle.card_judge.proofs.Slices.{told_both}
 use Rattle.card_judge.proofs.Verdicts.{behind_decides}

@@ -1,7 +1,5 @@
-use Rattle.std.proofs.Common.{◌≡◌, ◌≤◌, ◌+◌, ◌∙◌, ℕ, List, Option, Some, IfSome, length, refl, sym, ap, subst, arith}
+use Rattle.std.proofs.Common.{◌≡◌, ◌∙◌, ℕ, List, Option, IfSome, refl, ap, subst, arith}
 use Rattle.tach_media.specs.Medium.{bytes_at}
-use Rattle.card_layout.specs.Files.{place_of}
-use Rattle.card_image.specs.Fields.{file}
 use Rattle.card_judge.specs.Judged.{TellsSizes, IsJudged}
 use Rattle.card_judge.proofs.Faults.{failed_ok, failed_valid, failed_in_time, passed, passed_ok}
 use Rattle.card_judge.proofs.Slices.{told_three}

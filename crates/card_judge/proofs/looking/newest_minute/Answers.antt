@@ -1,7 +1,7 @@
-use Rattle.std.proofs.Common.{◌≡◌, ◌≢◌, ◌∙◌, ◌+◌, ◌/◌, ◌%◌, ℕ, max, Bool, true, false, Option, Some, None, refl, sym, ap, arith}
+use Rattle.std.proofs.Common.{◌≡◌, ◌∙◌, ◌+◌, ◌/◌, ℕ, max, true, false, Some, None, ap, arith}
 use Rattle.std.specs.Prelude.{nat_eq}
 use Rattle.std.proofs.lemmas.Grind.{common_steps}
-use Rattle.card_image.specs.Fields.{last_use_of, card_days}
+use Rattle.card_image.specs.Fields.{card_days}
 use Rattle.card_judge.proofs.Newest.{newest_open, newest_closed}
 use Rattle.card_judge.proofs.looking.newest_minute.Goals as goal
 

@@ -1,4 +1,4 @@
-use Rattle.std.proofs.Common.{◌≡◌, ◌<◌, ℕ, List, Option, IfSome, subst}
+use Rattle.std.proofs.Common.{◌<◌, ℕ, List, Option, IfSome, subst}
 use Rattle.cyclic_days.specs.declared.head.DayHead.{DayHead}
 use Rattle.cyclic_days.specs.Heads.{IsAfter}
 use Rattle.card_judge.proofs.Slices.{never_fails, ok_told}

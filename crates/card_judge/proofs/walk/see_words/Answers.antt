@@ -1,12 +1,9 @@
-use Rattle.std.proofs.Common.{◌≡◌, ◌<◌, ◌≤◌, ◌+◌, ◌*◌, ℕ, suc, List, [], ◌∷◌, ◌++◌, length, get_or, take, refl, sym, ◌∙◌, ap, subst, arith, append_assoc, add-one, rules}
+use Rattle.std.proofs.Common.{◌≡◌, ◌<◌, ◌+◌, ℕ, List, ◌++◌, length, get_or, take, sym, subst, arith, rules}
 use Rattle.std.proofs.lemmas.List.{append-nil, take_all}
-use Rattle.std.proofs.Math.Seq.{take-suc}
 use Rattle.card_model.specs.Image.{oldest_pointer}
-use Rattle.card_model.specs.Checks.{file_place}
 use Rattle.card_image.specs.Judging.{PlacedWord, words_placed}
-use Rattle.card_judge.specs.declared.behind.Behind.{Behind}
 use Rattle.card_judge.specs.Words.{IsBehind}
-use Rattle.card_judge.proofs.Behinds.{seen_more, words_more}
+use Rattle.card_judge.proofs.Behinds.{words_more}
 use Rattle.card_judge.proofs.walk.see_words.Goals as goal
 
 pub loop-index-init : goal.loop-index-init

@@ -1,4 +1,4 @@
-use Rattle.std.proofs.Common.{◌≡◌, ℕ, ◌+◌, List, ◌++◌, take}
+use Rattle.std.proofs.Common.{◌+◌, List, ◌++◌, take}
 use Rattle.card_model.specs.Days.{Day}
 use Rattle.card_model.specs.Image.{oldest_pointer}
 use Rattle.card_image.specs.Judging.{PlacedWord, words_placed}

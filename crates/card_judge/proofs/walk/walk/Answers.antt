@@ -1,5 +1,4 @@
-use Rattle.std.proofs.Common.{◌≡◌, ◌<◌, ◌≤◌, ◌+◌, ◌-◌, ◌*◌, ℕ, false, None, Some, List, [], ◌∷◌, ◌++◌, Option, refl, sym, ◌∙◌, ap, subst, arith, rules}
-use Rattle.card_model.specs.Days.{Day}
+use Rattle.std.proofs.Common.{◌≡◌, ◌+◌, ◌-◌, false, None, [], ◌∷◌, ◌++◌, refl, sym, subst, arith, rules}
 use Rattle.card_model.specs.Walk.{days_of}
 use Rattle.card_judge.specs.declared.behind.Behind.{Behind}
 use Rattle.card_judge.specs.declared.walk.Met.{Met}

@@ -1,4 +1,4 @@
-use Rattle.std.proofs.Common.{◌≡◌, ℕ, ◌<◌, ◌-◌, List, ◌++◌}
+use Rattle.std.proofs.Common.{◌≡◌, ◌<◌, ◌-◌, List, ◌++◌}
 use Rattle.std.specs.Prelude.{slice_get, IfSome}
 use Rattle.card_model.specs.Days.{Day, total}
 use Rattle.card_model.specs.Walk.{days_of}

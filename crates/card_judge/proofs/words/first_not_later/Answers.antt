@@ -1,4 +1,4 @@
-use Rattle.std.proofs.Common.{◌≡◌, ◌≢◌, ◌<◌, ◌≤◌, ◌+◌, ◌*◌, ◌%◌, ℕ, Bool, true, false, Option, Some, None, List, length, get_or, drop, refl, sym, ◌∙◌, ap, arith}
+use Rattle.std.proofs.Common.{◌≡◌, ◌<◌, ◌≤◌, ◌+◌, ◌*◌, ◌%◌, ℕ, true, false, Some, None, length, get_or, sym, ◌∙◌, ap, arith}
 use Rattle.card_model.specs.Image.{oldest_pointer}
 use Rattle.card_model.specs.Checks.{file_place}
 use Rattle.card_judge.specs.Words.{passes_after}

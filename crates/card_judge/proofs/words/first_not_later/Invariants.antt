@@ -1,4 +1,4 @@
-use Rattle.std.proofs.Common.{◌≡◌, ℕ, ◌+◌, ◌*◌, Option, None, List, drop}
+use Rattle.std.proofs.Common.{◌≡◌, ◌+◌, ◌*◌, None, List, drop}
 use Rattle.card_model.specs.Days.{Day}
 use Rattle.card_model.specs.Image.{oldest_pointer}
 use Rattle.card_judge.specs.Walks.{IsMet}

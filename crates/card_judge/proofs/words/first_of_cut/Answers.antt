@@ -1,10 +1,9 @@
-use Rattle.std.proofs.Common.{◌≡◌, ◌∙◌, ◌+◌, ℕ, List, [], Option, Some, sym, ap, subst}
-use Rattle.card_model.specs.Days.{Day}
+use Rattle.std.proofs.Common.{◌≡◌, ◌∙◌, ◌+◌, ℕ, [], Option, sym, ap, subst}
 use Rattle.card_model.specs.Image.{oldest_pointer}
 use Rattle.card_model.specs.Walk.{days_of}
 use Rattle.card_model.specs.Changes.{date_of, until, early}
-use Rattle.card_model.specs.Checks.{Check, first_failing}
-use Rattle.card_image.specs.Judging.{newest_rises, words_placed, rising_checks}
+use Rattle.card_model.specs.Checks.{first_failing}
+use Rattle.card_image.specs.Judging.{words_placed, rising_checks}
 use Rattle.card_judge.specs.declared.walk.Met.{Met}
 use Rattle.card_judge.specs.Walks.{IsLastOf, IsLastMet}
 use Rattle.card_judge.specs.Words.{limit_of}

@@ -1,4 +1,4 @@
-use Rattle.std.proofs.Common.{◌≡◌, ◌∙◌, ℕ, List, [], Option, Some, sym, ap, subst}
+use Rattle.std.proofs.Common.{◌≡◌, ◌∙◌, List, [], Option, sym, ap, subst}
 use Rattle.card_model.specs.Days.{Day}
 use Rattle.card_model.specs.Image.{oldest_pointer}
 use Rattle.card_model.specs.Walk.{days_of}

@@ -1,4 +1,4 @@
-use Rattle.std.proofs.Common.{rules, inl, inr, ◌≡◌, ◌+◌, ◌*◌, ◌≤◌, ℕ, List, length, refl, sym, ◌∙◌, ap, subst, arith}
+use Rattle.std.proofs.Common.{ℕ, List, sym, subst, arith}
 use Rattle.tach_media.specs.Medium.{LiesInside}
 use Rattle.tach_media.proofs.Runs.{ok_gives, on_ok, from_reads, cause_after}
 use Rattle.card_layout.specs.Files.{place_of, size_of}

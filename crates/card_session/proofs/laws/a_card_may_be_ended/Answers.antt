@@ -1,4 +1,4 @@
-use Rattle.std.proofs.Common.{◌≡◌, ◌<◌, ⊎_elim, arith}
+use Rattle.std.proofs.Common.{⊎_elim, arith}
 use Rattle.card_image.specs.Fields.{session_time}
 use Rattle.card_session.specs.Cards.{grown}
 use Rattle.card_session.proofs.Stopping.{asked_at, days_there}

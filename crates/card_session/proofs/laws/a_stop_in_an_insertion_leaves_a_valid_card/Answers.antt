@@ -1,4 +1,4 @@
-use Rattle.std.proofs.Common.{◌≡◌, ◌<◌, ⊎_elim, arith}
+use Rattle.std.proofs.Common.{⊎_elim, arith}
 use Rattle.card_image.specs.Fields.{session_time}
 use Rattle.card_session.proofs.Valid.{above_zero}
 use Rattle.card_session.proofs.Revalid.{again_valid}

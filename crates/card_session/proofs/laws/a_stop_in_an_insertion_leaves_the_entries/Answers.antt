@@ -1,4 +1,4 @@
-use Rattle.std.proofs.Common.{◌≡◌, ◌∙◌, ◌<◌, ⊎_elim, ℕ, ap, arith}
+use Rattle.std.proofs.Common.{◌∙◌, ⊎_elim, ℕ, ap, arith}
 use Rattle.card_image.specs.Fields.{session_time, end_mark}
 use Rattle.card_session.specs.Inserting.{lacked}
 use Rattle.card_session.proofs.Valid.{above_zero}

@@ -1,4 +1,4 @@
-use Rattle.std.proofs.Common.{inl, inr, ⊎_elim}
+use Rattle.std.proofs.Common.{inr}
 use Rattle.card_session.proofs.Ends.{inserted_moment}
 use Rattle.card_session.proofs.laws.an_end_is_a_moment.Goals as goal
 

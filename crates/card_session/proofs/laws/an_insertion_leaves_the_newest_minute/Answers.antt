@@ -1,4 +1,4 @@
-use Rattle.std.proofs.Common.{◌≡◌, ◌∙◌, ◌<◌, ⊎_elim, sym, ap, arith}
+use Rattle.std.proofs.Common.{◌∙◌, ⊎_elim, ap, arith}
 use Rattle.card_layout.specs.declared.files.Application.{Application}
 use Rattle.card_image.specs.Fields.{session_time}
 use Rattle.card_session.specs.Sessions.{newest_in, book_of}

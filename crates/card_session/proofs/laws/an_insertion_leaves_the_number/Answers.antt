@@ -1,4 +1,4 @@
-use Rattle.std.proofs.Common.{◌+◌, ◌≤◌, arith}
+use Rattle.std.proofs.Common.{arith}
 use Rattle.card_session.proofs.InsertingUse.{use_inside}
 use Rattle.card_session.proofs.InsertingAgain.{inserting_keeps, number_again}
 use Rattle.card_session.proofs.laws.an_insertion_leaves_the_number.Goals as goal

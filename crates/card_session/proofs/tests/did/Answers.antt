@@ -1,4 +1,4 @@
-use Rattle.std.proofs.Common.{◌≡◌, ◌+◌, ◌<◌, ◌≤◌, ◌^◌, ap, subst, arith}
+use Rattle.std.proofs.Common.{ap, subst, arith}
 use Rattle.card_layout.specs.declared.files.Application.{Application}
 use Rattle.tach_media.specs.MemMedium.{memory_state}
 use Rattle.card_session.specs.Sessions.{Session, MayKeep}

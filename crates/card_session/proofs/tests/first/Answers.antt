@@ -1,4 +1,4 @@
-use Rattle.std.proofs.Common.{◌≡◌, ◌<◌, sym, subst, arith}
+use Rattle.std.proofs.Common.{sym, subst, arith}
 use Rattle.card_session.specs.Inserting.{AreOwed}
 use Rattle.card_session.proofs.tests.first.Goals as goal
 

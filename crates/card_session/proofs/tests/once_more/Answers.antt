@@ -1,4 +1,4 @@
-use Rattle.std.proofs.Common.{◌/◌, ◌<◌, arith}
+use Rattle.std.proofs.Common.{arith}
 use Rattle.card_session.proofs.tests.once_more.Goals as goal
 
 pub inserted-requires-clause-owed : goal.inserted-requires-clause-owed

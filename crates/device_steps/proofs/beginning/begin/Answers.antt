@@ -1,4 +1,4 @@
-use Rattle.std.proofs.Common.{◌≡◌, Bool, true, false, option_map}
+use Rattle.std.proofs.Common.{option_map}
 use Rattle.tacho_types.specs.CardNumber.{card_number_bytes}
 use Rattle.tach_media.proofs.Runs.{ok_gives}
 use Rattle.device_steps.proofs.EntryOwed.{worked}

@@ -1,4 +1,3 @@
-use Rattle.std.proofs.Common.{◌≡◌, sym, ap, subst}
 use Rattle.tach_media.proofs.Runs.{ok_gives}
 use Rattle.device_steps.proofs.EntryOwed.{worked}
 use Rattle.device_steps.proofs.MinuteKept.{committed-unit, committed-card, keeps-views, same_minute, rows-kept}

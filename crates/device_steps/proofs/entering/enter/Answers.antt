@@ -1,4 +1,4 @@
-use Rattle.std.proofs.Common.{rules, ◌≡◌, ◌/◌, ◌<◌, ◌≤◌, ◌^◌, sym, ◌∙◌, subst, arith}
+use Rattle.std.proofs.Common.{rules, ◌≡◌, subst, arith}
 use Rattle.card_layout.proofs.Sizes.{largest_image}
 use Rattle.joint_rule.specs.Views.{other}
 use Rattle.unit_rule.proofs.Marking.{holds-read}

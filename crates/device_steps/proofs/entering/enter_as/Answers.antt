@@ -1,4 +1,4 @@
-use Rattle.std.proofs.Common.{◌≡◌, inl, option_map, arith}
+use Rattle.std.proofs.Common.{inl, option_map, arith}
 use Rattle.tacho_types.specs.CardNumber.{card_number_bytes}
 use Rattle.device_steps.proofs.PutIn.{owed_fit, enters_inserted, enters_cut, row-entered, row-low}
 use Rattle.tach_media.specs.Medium.{Unchanged}

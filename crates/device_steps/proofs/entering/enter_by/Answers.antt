@@ -1,5 +1,5 @@
 use Rattle.std.specs.Prelude.{Err}
-use Rattle.std.proofs.Common.{◌≡◌, inl, refl, sym, subst, arith}
+use Rattle.std.proofs.Common.{inl, refl, sym, subst, arith}
 use Rattle.card_session.proofs.InsertingUse.{insert_still}
 use Rattle.device_steps.specs.declared.entering.NotEntered.{NotEntered}
 use Rattle.device_steps.specs.Entering.{IsEntering}

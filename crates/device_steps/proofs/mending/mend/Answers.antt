@@ -1,4 +1,3 @@
-use Rattle.std.proofs.Common.{◌≡◌}
 use Rattle.tach_media.proofs.Runs.{ok_gives}
 use Rattle.device_steps.proofs.EntryOwed.{worked}
 use Rattle.device_steps.proofs.PowerBack.{mended-holds, mends-views, taken-up}

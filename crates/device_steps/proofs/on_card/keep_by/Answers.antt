@@ -1,4 +1,3 @@
-use Rattle.std.proofs.Common.{◌≡◌, IfSome, inl, inr}
 use Rattle.tach_media.proofs.Runs.{ok_gives, weaken}
 use Rattle.device_steps.specs.OnCard.{Anything}
 use Rattle.device_steps.proofs.EntryOwed.{worked}

@@ -1,4 +1,4 @@
-use Rattle.std.proofs.Common.{rules, ◌≡◌, List, [], ◌∷◌, IfSome, sym, ◌∙◌, subst}
+use Rattle.std.proofs.Common.{rules, ◌≡◌, [], ◌∷◌, IfSome, sym, ◌∙◌, subst}
 use Rattle.card_layout.specs.declared.files.Application.{Application}
 use Rattle.tach_media.specs.Medium.{State, LeavesOnly, lent}
 use Rattle.card_commands.specs.Ports.{port_state}

@@ -1,4 +1,4 @@
-use Rattle.std.proofs.Common.{◌≡◌, ◌∙◌, ◌<◌, ◌≤◌, true, List, [], IfSome, is_err, refl, sym, ap, subst, arith}
+use Rattle.std.proofs.Common.{◌∙◌, ◌<◌, List, [], IfSome, refl, sym, ap, subst, arith}
 use Rattle.std.specs.Prelude.{option_to_list}
 use Rattle.activity_codec.specs.declared.entries.Entry.{Entry}
 use Rattle.tach_media.proofs.Runs.{on_ok}

@@ -1,4 +1,4 @@
-use Rattle.std.proofs.Common.{◌≡◌, ◌<◌, ◌≤◌, inl, inr, false, List, [], ◌∷◌, Option, Some, IfSome, is_err, refl, sym, subst}
+use Rattle.std.proofs.Common.{◌<◌, ◌≤◌, inl, inr, false, [], Option, IfSome, is_err, refl, sym, subst}
 use Rattle.std.specs.Prelude.{option_to_list}
 use Rattle.activity_codec.specs.declared.entries.Entry.{Entry}
 use Rattle.tacho_types.specs.CardNumber.{card_number_bytes}

@@ -1,4 +1,3 @@
-use Rattle.std.proofs.Common.{◌≡◌, Bool, true, false}
 use Rattle.tach_media.proofs.Runs.{ok_gives}
 use Rattle.tacho_types.specs.CardNumber.{card_number_bytes}
 use Rattle.device_steps.proofs.EntryOwed.{owed-holds, puts, owed-mine, owed-other, put, worked, row-there, row-still}

@@ -1,4 +1,4 @@
-use Rattle.std.proofs.Common.{◌≡◌, ◌≢◌, ℕ, ◌<◌, true, false, Option, Some, None, IfSome, List, refl, ap, sym, subst, ◌∙◌, arith}
+use Rattle.std.proofs.Common.{ℕ, ◌<◌, false, Option, None, IfSome, refl, ap, sym, subst, ◌∙◌, arith}
 use Rattle.std.specs.Prelude.{is_err, IsTrue, OnOk, not, ◌&&◌, ◌==◌}
 use Rattle.tach_media.proofs.Runs.{starts, no_reads, ok_gives, on_ok}
 use Rattle.event_model.specs.declared.entries.Span.{Span}

@@ -1,4 +1,4 @@
-use Rattle.std.proofs.Common.{◌≡◌, ◌≢◌, ℕ, ◌<◌, true, false, Option, Some, None, IfSome, List, refl, ap, sym, subst, ◌∙◌, arith}
+use Rattle.std.proofs.Common.{ℕ, false, IfSome, refl, ap, sym, subst, ◌∙◌, arith}
 use Rattle.std.specs.Prelude.{is_err, IsTrue, not, ◌&&◌, ◌==◌}
 use Rattle.tach_media.proofs.Runs.{starts, no_reads, ok_gives}
 use Rattle.event_model.specs.Kinds.{purpose_of, purpose_number, is_event}

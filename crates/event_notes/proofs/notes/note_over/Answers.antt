@@ -1,4 +1,4 @@
-use Rattle.std.proofs.Common.{◌≡◌, ◌≢◌, rules, ℕ, ◌<◌, ◌^◌, true, false, Option, Some, None, IfSome, List, refl, ap, sym, subst, ◌∙◌, arith}
+use Rattle.std.proofs.Common.{rules, ◌<◌, ◌^◌, false, Option, None, IfSome, sym, subst, arith}
 use Rattle.std.specs.Prelude.{is_err}
 use Rattle.tach_media.proofs.Runs.{starts, no_reads, ok_gives}
 use Rattle.event_model.specs.declared.entries.Over.{Over}

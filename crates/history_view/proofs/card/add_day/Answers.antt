@@ -1,9 +1,9 @@
-use Rattle.std.proofs.Common.{◌≡◌, ◌∙◌, ℕ, suc, ◌+◌, ◌/◌, ◌++◌, List, Option, [], map, option_map, ap, sym, subst, arith, append_assoc, append-nil, add-one}
+use Rattle.std.proofs.Common.{◌≡◌, ◌∙◌, ℕ, ◌+◌, ◌/◌, ◌++◌, List, Option, map, option_map, ap, sym, arith, append_assoc, append-nil, add-one}
 use Rattle.std.specs.Prelude.{option_to_list}
 use Rattle.activity_codec.specs.declared.entries.Entry.{Entry}
 use Rattle.activity_codec.specs.declared.words.Change.{Change}
 use Rattle.activity_codec.specs.Words.{change_of}
-use Rattle.card_retention.specs.Entries.{latest, entry_at, minutes_from, day_entries}
+use Rattle.card_retention.specs.Entries.{latest, entry_at, minutes_from}
 use Rattle.cyclic_days.specs.declared.head.DayHead.{DayHead}
 use Rattle.view_model.specs.Lines.{lines_of, same_card}
 use Rattle.view_text.specs.Entries.{entry_shown}

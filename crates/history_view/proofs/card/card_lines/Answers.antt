@@ -1,14 +1,11 @@
-use Rattle.std.proofs.Common.{◌≡◌, ◌∙◌, ◌<◌, ◌≤◌, ℕ, ◌+◌, ◌-◌, true, false, List, Option, Some, None, [], ◌++◌, length, take, drop, get_or, map, ap, sym, subst, refl, arith}
-use Rattle.std.specs.Prelude.{is_some}
+use Rattle.std.proofs.Common.{◌≡◌, ◌∙◌, ◌≤◌, ℕ, ◌+◌, ◌-◌, true, false, List, [], length, take, drop, get_or, map, ap, sym, subst, arith}
 use Rattle.std.proofs.Math.Seq.{take-length}
-use Rattle.std.proofs.lemmas.List.{get_or-drop, length-drop}
 use Rattle.activity_codec.specs.declared.entries.Entry.{Entry}
 use Rattle.card_model.specs.Days.{Day}
-use Rattle.card_model.specs.Image.{StringShape, IsStringShape, Holds}
+use Rattle.card_model.specs.Image.{StringShape, Holds}
 use Rattle.card_model.specs.Walk.{days_of}
-use Rattle.card_model.specs.Checks.{first_bad}
 use Rattle.card_image.specs.CardFile.{string_alone}
-use Rattle.card_retention.specs.Entries.{entries_up_to, day_entries}
+use Rattle.card_retention.specs.Entries.{entries_up_to}
 use Rattle.view_model.specs.Lines.{lines_of, same_card}
 use Rattle.view_text.specs.Entries.{entry_shown}
 use Rattle.view_text.specs.Exact.{card_exact}

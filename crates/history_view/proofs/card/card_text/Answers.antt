@@ -1,12 +1,11 @@
 use Rattle.std.proofs.Common.{◌≡◌, ◌∙◌, List, map, ap, sym, subst}
 use Rattle.activity_codec.specs.declared.entries.Entry.{Entry}
 use Rattle.view_model.specs.declared.CardShown.{CardShown}
-use Rattle.view_model.specs.declared.Viewed.{Viewed}
 use Rattle.view_model.specs.declared.Line.{Line}
-use Rattle.view_model.specs.Lines.{lines_of, same_card, day_of_minute}
+use Rattle.view_model.specs.Lines.{lines_of, same_card}
 use Rattle.view_model.specs.Text.{IsCardView, IsTextOf, card_words}
 use Rattle.view_text.specs.Entries.{entry_shown}
-use Rattle.history_view.specs.Histories.{minutes_on, entry_told}
+use Rattle.history_view.specs.Histories.{minutes_on}
 use Rattle.history_view.proofs.Lines.{all_low, told_entries}
 use Rattle.history_view.proofs.card.card_text.Goals as goal
 

@@ -1,4 +1,4 @@
-use Rattle.std.proofs.Common.{◌≡◌, List, ℕ, length, ap, refl, subst, arith}
+use Rattle.std.proofs.Common.{List, ℕ, length, ap, refl, subst, arith}
 use Rattle.cyclic_days.specs.Heads.{IsAfter}
 use Rattle.history_view.proofs.string.head_after.Goals as goal
 

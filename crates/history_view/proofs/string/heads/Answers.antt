@@ -1,5 +1,4 @@
-use Rattle.std.proofs.Common.{◌≡◌, ◌∙◌, ℕ, ◌<◌, Option, Some, None, List, [], ◌∷◌, ◌++◌, length, length-append, ap, sym, subst, arith, refl}
-use Rattle.std.specs.Prelude.{slice_get}
+use Rattle.std.proofs.Common.{◌<◌, Option, List, [], ◌∷◌, ◌++◌, length, length-append, ap, sym, subst, arith}
 use Rattle.card_model.specs.Walk.{days_of}
 use Rattle.cyclic_days.specs.declared.head.DayHead.{DayHead}
 use Rattle.cyclic_days.specs.Heads.{heads_of, IsAfter, IsWalk}

@@ -1,10 +1,9 @@
-use Rattle.std.proofs.Common.{◌≡◌, ◌∙◌, ℕ, ◌+◌, ◌/◌, ◌++◌, ◌∷◌, List, Option, [], map, option_map, ap, sym, arith, append_assoc, append-nil}
+use Rattle.std.proofs.Common.{◌≡◌, ◌∙◌, ◌+◌, ◌++◌, ◌∷◌, List, [], map, option_map, ap, sym, arith, append_assoc, append-nil}
 use Rattle.std.proofs.lemmas.List.{map-append}
-use Rattle.activity_codec.specs.declared.words.Change.{Change}
 use Rattle.activity_codec.specs.Words.{change_of}
 use Rattle.card_retention.specs.Entries.{latest}
 use Rattle.unit_model.specs.Days.{UnitMinute, minute_at}
-use Rattle.message_model.specs.Showing.{told_day, day_minutes}
+use Rattle.message_model.specs.Showing.{told_day}
 use Rattle.view_model.specs.declared.UnitShown.{UnitShown}
 use Rattle.view_model.specs.declared.Viewed.{Viewed}
 use Rattle.view_model.specs.Lines.{lines_of, same_unit}

@@ -1,7 +1,7 @@
-use Rattle.std.proofs.Common.{◌≡◌, ◌∙◌, ◌<◌, ℕ, ◌+◌, ◌-◌, List, [], length, take, drop, get_or, map, ap, sym, subst, arith}
+use Rattle.std.proofs.Common.{◌≡◌, ◌∙◌, ℕ, ◌-◌, List, [], length, take, drop, get_or, map, ap, sym, subst, arith}
 use Rattle.std.proofs.Math.Seq.{take-length}
 use Rattle.unit_model.specs.Days.{UnitMinute}
-use Rattle.message_model.specs.Messages.{Message, DayMessage}
+use Rattle.message_model.specs.Messages.{DayMessage}
 use Rattle.view_model.specs.declared.UnitShown.{UnitShown}
 use Rattle.view_model.specs.declared.Viewed.{Viewed}
 use Rattle.view_model.specs.Lines.{lines_of, same_unit}
@@ -10,7 +10,7 @@ use Rattle.history_view.specs.declared.unit.DayAt.{DayAt}
 use Rattle.history_view.specs.Histories.{minute_shown, minute_told}
 use Rattle.history_view.specs.Showing.{before_last}
 use Rattle.history_view.specs.UnitFiles.{days_told}
-use Rattle.history_view.specs.UnitShowing.{AreTold, AreStored, IsStoredAt}
+use Rattle.history_view.specs.UnitShowing.{AreStored}
 use Rattle.history_view.proofs.Lines.{are_lines, minutes_back, unit_back}
 use Rattle.history_view.proofs.UnitFronts.{stored_count}
 use Rattle.history_view.proofs.UnitDays.{days_minutes, shown_stored, shown_stored_count, shown_named, unit_step, unit_told_all}

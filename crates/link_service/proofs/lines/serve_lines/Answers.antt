@@ -1,4 +1,4 @@
-use Rattle.std.proofs.Common.{rules, ◌≡◌, ◌≤◌, ◌<◌, ℕ, List, length, take, ap, arith}
+use Rattle.std.proofs.Common.{rules, ◌≡◌, ◌≤◌, ◌<◌, ℕ, length, take, ap, arith}
 use Rattle.std.proofs.lemmas.List.{length-take-le}
 use Rattle.unit_messages.proofs.Calls.{any_then}
 use Rattle.link_service.proofs.ServingLines.{lines_none, lines_one, lines_on, lines_end, lines_too_long, lines_broken, lines_done, part_is, part_all}

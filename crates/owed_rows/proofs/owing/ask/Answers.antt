@@ -1,4 +1,4 @@
-use Rattle.std.proofs.Common.{◌≡◌, ◌∙◌, ℕ, List, Option, Some, option_map, sym, ap}
+use Rattle.std.proofs.Common.{◌≡◌, ◌∙◌, ℕ, List, Option, option_map, sym, ap}
 use Rattle.unit_model.specs.Image.{last_kept}
 use Rattle.owed_model.specs.Owed.{rows_in, row_in, row_index, owed_of, owed_to}
 use Rattle.owed_model.specs.Rows.{begun_index, IsRowFor}

@@ -1,4 +1,4 @@
-use Rattle.std.proofs.Common.{◌≡◌, ◌∙◌, ℕ, Option, Some, None, option_map, sym}
+use Rattle.std.proofs.Common.{◌≡◌, ◌∙◌, ℕ, Some, None, option_map, sym}
 use Rattle.owed_model.proofs.Taking.{begun_is}
 use Rattle.owed_rows.proofs.rows.begun_row.Goals as goal
 

@@ -1,4 +1,4 @@
-use Rattle.std.proofs.Common.{List, ap, subst, is_err}
+use Rattle.std.proofs.Common.{ap, subst, is_err}
 use Rattle.write_plan.specs.Plan.{Pieces, PutsAll}
 use Rattle.owed_rows.proofs.writing.write_row_at.Goals as goal
 

@@ -1,4 +1,4 @@
-use Rattle.std.proofs.Common.{rules, ◌≡◌, ◌∙◌, ℕ, ◌+◌, ◌*◌, ◌≤◌, Bool, false, Option, Some, None, sym, subst, arith}
+use Rattle.std.proofs.Common.{rules, ◌≡◌, ◌∙◌, ℕ, false, Option, Some, None, sym, subst, arith}
 use Rattle.std.specs.Prelude.{is_err}
 use Rattle.trace_model.specs.declared.Card.{Card}
 use Rattle.safety_model.specs.Safe.{Devices}

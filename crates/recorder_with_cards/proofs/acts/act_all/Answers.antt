@@ -1,5 +1,4 @@
-use Rattle.std.proofs.Common.{◌≡◌, ◌∙◌, ℕ, ◌+◌, ◌-◌, ◌<◌, ◌≤◌, true, false, List, [], length, drop, refl, ap, sym, subst, arith, length-drop}
-use Rattle.std.specs.Prelude.{min}
+use Rattle.std.proofs.Common.{◌≡◌, ◌∙◌, ℕ, ◌+◌, ◌-◌, ◌<◌, ◌≤◌, true, false, List, length, drop, refl, ap, sym, subst, arith, length-drop}
 use Rattle.trace_model.specs.declared.Action.{Action}
 use Rattle.safety_model.specs.Safe.{Devices}
 use Rattle.run_rule.specs.Between.{devices}
@@ -11,7 +10,7 @@ use Rattle.recorder_with_cards.proofs.Waiting.{actions-more, few-actions, one-ac
 use Rattle.std.proofs.lemmas.List.{length-take}
 use Rattle.trace_model.specs.declared.Item.{Item}
 use Rattle.run_outcome.specs.Room.{insertion_count}
-use Rattle.run_acts.specs.Room.{cuts_within, HasRoomWithin}
+use Rattle.run_acts.specs.Room.{cuts_within}
 use Rattle.run_acts.specs.Power.{is_lit}
 use Rattle.recorder_with_cards.specs.Acting.{IsItemActed, AreActed}
 use Rattle.recorder_with_cards.specs.Items.{between, insertions_in}

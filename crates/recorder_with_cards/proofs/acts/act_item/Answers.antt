@@ -1,4 +1,4 @@
-use Rattle.std.proofs.Common.{◌≡◌, ◌∙◌, ℕ, ◌+◌, List, true, false, refl, ap, sym, subst, arith}
+use Rattle.std.proofs.Common.{◌≡◌, ◌∙◌, ℕ, ◌+◌, List, true, false, ap, sym, subst, arith}
 use Rattle.run_outcome.specs.Room.{insertion_count}
 use Rattle.run_acts.specs.Room.{HasRoomWithin}
 use Rattle.trace_model.specs.declared.Action.{Action}

@@ -1,8 +1,7 @@
-use Rattle.std.proofs.Common.{◌≡◌, ◌∙◌, ℕ, ◌/◌, ◌≤◌, true, false, List, [], length, Option, Some, None, refl, ap, sym, subst, arith, Bool}
-use Rattle.std.specs.Prelude.{is_err, suc}
-use Rattle.trace_model.specs.declared.Card.{Card}
+use Rattle.std.proofs.Common.{◌≡◌, ◌∙◌, ℕ, ◌/◌, false, [], None, refl, ap, sym, subst, arith}
+use Rattle.std.specs.Prelude.{is_err}
 use Rattle.trace_model.specs.declared.Action.{Action}
-use Rattle.trace_model.specs.declared.Action.TheVariants.{Select, Insert, Withdraw, Tear, Place}
+use Rattle.trace_model.specs.declared.Action.TheVariants.{Insert, Withdraw, Tear, Place}
 use Rattle.log_model.specs.Slots.{refusal}
 use Rattle.log_model.specs.declared.lines.Break.{Break}
 use Rattle.slot_machine.specs.Calls.{logged, seat_in, card_in}

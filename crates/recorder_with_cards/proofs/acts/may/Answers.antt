@@ -1,4 +1,4 @@
-use Rattle.std.proofs.Common.{◌≡◌, ◌∙◌, ap, sym}
+use Rattle.std.proofs.Common.{◌∙◌, ap, sym}
 use Rattle.trace_model.specs.declared.Action.{Action}
 use Rattle.log_model.specs.Slots.{refusal}
 use Rattle.slot_machine.specs.Calls.{logged}

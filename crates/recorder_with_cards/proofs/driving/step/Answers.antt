@@ -1,4 +1,4 @@
-use Rattle.std.proofs.Common.{rules, ◌≡◌, ◌∙◌, ℕ, ◌+◌, ◌-◌, ◌%◌, ◌<◌, ◌≤◌, true, false, List, [], ◌∷◌, ◌++◌, length, refl, ap, sym, subst, arith}
+use Rattle.std.proofs.Common.{rules, ◌≡◌, ◌∙◌, ℕ, ◌+◌, ◌-◌, ◌<◌, true, false, List, [], ◌∷◌, ◌++◌, refl, ap, sym, subst, arith}
 use Rattle.trace_model.specs.Trace.{TraceSecond, driven}
 use Rattle.tach_media.specs.Medium.{State}
 use Rattle.safety_model.specs.Safe.{Devices}
@@ -8,11 +8,10 @@ use Rattle.run_keeping.specs.Keeping.{with_lines}
 use Rattle.run_outcome.specs.declared.outcome.Outcome.{Outcome}
 use Rattle.run_acts.specs.declared.run.Run.{Run}
 use Rattle.run_acts.specs.Power.{is_lit, has_power, passed}
-use Rattle.run_acts.specs.Recording.{IsNow}
 use Rattle.recorder_with_cards.proofs.Dark.{away-dark}
 use Rattle.recorder_with_cards.proofs.SecondsRecorded.{refused_dark, none-refused, passes-dark, by-power, first-driven}
 use Rattle.std.proofs.lemmas.Grind.{common_steps}
-use Rattle.run_acts.specs.Room.{cuts_from, cuts_within, HasRoom, HasRoomWithin}
+use Rattle.run_acts.specs.Room.{cuts_from, cuts_within}
 use Rattle.recorder_with_cards.proofs.Rooms.{room-less}
 use Rattle.run_acts.specs.RunRinged.{RunRinged, InSecondRinged}
 use Rattle.recorder_with_cards.proofs.SecondsRinged.{dark-ringed}

@@ -1,4 +1,4 @@
-use Rattle.std.proofs.Common.{rules, ◌≡◌, ◌∙◌, inl, inr, ℕ, ◌+◌, ◌*◌, ◌/◌, ◌≤◌, Bool, true, false, Some, None, List, [], ◌∷◌, ◌++◌, length, refl, ap, sym, subst, arith}
+use Rattle.std.proofs.Common.{rules, ◌≡◌, ◌∙◌, inl, inr, ◌+◌, ◌/◌, ◌≤◌, Bool, true, false, Some, None, List, [], ◌∷◌, ◌++◌, length, refl, ap, sym, subst, arith}
 use Rattle.tach_media.proofs.Runs.{cause_after}
 use Rattle.minute_model.specs.Span.{ungiven_of}
 use Rattle.run_crew.specs.declared.cabin.Cabin.{Cabin}
@@ -43,7 +43,6 @@ use Rattle.recorder_with_cards.specs.Accepting.{put_run}
 use Rattle.run_acts.proofs.ActsNoted.{settles-these}
 use Rattle.recorder_with_cards.proofs.WakeNoted.{anew-these}
 use Rattle.run_entering.specs.Entering.{ending_of}
-use Rattle.recorder_with_cards.specs.EnteredRings.{RingsInserting}
 use Rattle.run_acts.proofs.Ringing.{settling-leaves}
 use Rattle.recorder_with_cards.proofs.EnteredRings.{writes-behind}
 use Rattle.run_keeping.proofs.Later.{later-then}

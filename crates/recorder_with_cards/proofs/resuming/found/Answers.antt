@@ -1,12 +1,10 @@
-use Rattle.std.proofs.Common.{rules, ◌≡◌, ◌∙◌, ℕ, ◌+◌, ◌*◌, ◌/◌, ◌<◌, ◌≤◌, Bool, true, false, List, [], ◌∷◌, ◌++◌, length, refl, ap, sym, subst, arith}
+use Rattle.std.proofs.Common.{rules, ◌≡◌, ◌∙◌, ℕ, ◌+◌, ◌/◌, ◌<◌, Bool, true, false, [], ◌∷◌, ◌++◌, refl, ap, sym, subst, arith}
 use Rattle.std.specs.Prelude.{is_err, IfErr}
 use Rattle.std.proofs.lemmas.Grind.{common_steps}
 use Rattle.tach_media.specs.Medium.{State}
 use Rattle.tach_media.proofs.Runs.{ok_gives}
-use Rattle.log_model.specs.declared.lines.Break.TheVariants.{Cut}
 use Rattle.run_outcome.specs.Lines.{Listed, cut_at}
 use Rattle.log_model.specs.declared.lines.Break.{Break}
-use Rattle.run_keeping.specs.declared.keeper.Keeper.{Keeper}
 use Rattle.run_acts.specs.declared.run.Run.{Run}
 use Rattle.run_opening.specs.Units.{IsClockBack}
 use Rattle.run_acts.specs.Going.{IsAt, IsFoundLater}

@@ -1,4 +1,4 @@
-use Rattle.std.proofs.Common.{rules, ◌≡◌, ◌∙◌, inl, inr, ℕ, ◌+◌, ◌-◌, ◌*◌, ◌/◌, ◌<◌, ◌^◌, suc, ◌≤◌, ◌==◌, Bool, true, false, Option, None, option_map, List, [], ◌∷◌, ◌++◌, length, refl, ap, sym, subst, arith}
+use Rattle.std.proofs.Common.{rules, ◌≡◌, ◌∙◌, ℕ, ◌+◌, ◌-◌, ◌/◌, ◌<◌, ◌^◌, suc, ◌==◌, Bool, true, false, Option, None, option_map, List, [], ◌∷◌, ◌++◌, length, refl, ap, sym, subst, arith}
 use Rattle.std.specs.Prelude.{is_err}
 use Rattle.tach_media.specs.Medium.{HasCause}
 use Rattle.tach_media.proofs.Runs.{on_ok, ok_gives, cause_after}
@@ -12,12 +12,11 @@ use Rattle.run_keeping.specs.declared.keeper.Keeper.{Keeper}
 use Rattle.run_keeping.specs.Keeping.{UnitReady}
 use Rattle.run_acts.specs.declared.run.Run.{Run}
 use Rattle.run_acts.specs.Going.{IsHeld, IsLit}
-use Rattle.run_acts.specs.Room.{falls_of, bare_seats, bare_count}
+use Rattle.run_acts.specs.Room.{falls_of, bare_count}
 use Rattle.run_acts.proofs.Standing.{span-lit, span-held}
 use Rattle.recorder_with_cards.specs.Accepting.{IsBare}
 use Rattle.recorder_with_cards.proofs.Begun.{begun-none, dark-bare}
 use Rattle.run_outcome.specs.declared.outcome.Outcome.{Outcome}
-use Rattle.run_acts.specs.Room.{Takes}
 use Rattle.recorder_with_cards.proofs.Taken.{takes-then, takes-breaks, awake-takes, takes-nothing, anew-more}
 use Rattle.slot_machine.specs.Calls.{seat_in, card_in}
 use Rattle.tach_media.specs.Medium.{State}

@@ -1,4 +1,4 @@
-use Rattle.std.proofs.Common.{◌≡◌, ◌∙◌, ℕ, ◌+◌, ◌-◌, ◌<◌, ◌≤◌, Bool, true, false, List, ◌++◌, length, refl, ap, sym, subst, arith}
+use Rattle.std.proofs.Common.{◌≡◌, ◌∙◌, ℕ, ◌+◌, ◌-◌, true, false, List, ◌++◌, length, refl, ap, sym, subst, arith}
 use Rattle.std.proofs.lemmas.List.{append-nil}
 use Rattle.trace_model.specs.declared.Action.{Action}
 use Rattle.trace_model.specs.Trace.{TraceSecond, seconds_at, item_seconds}
@@ -19,7 +19,7 @@ use Rattle.run_outcome.specs.Lines.{Listed}
 use Rattle.run_outcome.specs.Room.{off_count}
 use Rattle.run_keeping.proofs.Counts.{lines-length}
 use Rattle.run_acts.specs.declared.run.Run.{Run}
-use Rattle.run_acts.specs.Power.{is_lit, off_cut, off_run}
+use Rattle.run_acts.specs.Power.{is_lit, off_cut}
 use Rattle.run_acts.specs.Going.{IsGoing}
 use Rattle.run_acts.specs.Room.{cuts_from, HasRoom}
 use Rattle.run_acts.proofs.Standing.{off-at}

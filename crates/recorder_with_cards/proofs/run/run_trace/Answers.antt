@@ -1,10 +1,9 @@
-use Rattle.std.proofs.Common.{rules, ◌≡◌, ◌∙◌, inl, inr, ℕ, ◌+◌, ◌-◌, ◌/◌, ◌<◌, ◌≤◌, Bool, true, false, None, List, [], length, take, drop, refl, ap, sym, subst, arith}
+use Rattle.std.proofs.Common.{rules, ◌≡◌, ◌∙◌, inl, inr, ℕ, ◌+◌, ◌-◌, ◌<◌, ◌≤◌, true, false, None, List, [], length, take, drop, refl, ap, sym, subst, arith}
 use Rattle.std.proofs.lemmas.List.{take_all}
 use Rattle.trace_model.specs.declared.Item.{Item}
 use Rattle.trace_model.specs.Trace.{TraceSecond, seconds_of, number_after}
 use Rattle.run_acts.specs.Going.{largest_number}
 use Rattle.tach_media.specs.Medium.{IsCoherent}
-use Rattle.card_layout.specs.declared.command.CardState.{CardState}
 use Rattle.log_model.specs.declared.lines.Mark.{Mark}
 use Rattle.log_model.specs.declared.lines.Break.{Break}
 use Rattle.log_model.specs.declared.lines.Find.{Find}
@@ -18,24 +17,19 @@ use Rattle.run_opening.specs.Begun.{known_of, IsReady}
 use Rattle.run_opening.specs.Begun.{IsRefusedBy as IsRefusedAs}
 use Rattle.run_opening.specs.Cards.{IsFoundOn}
 use Rattle.recorder_with_cards.specs.Carded.{RunCarded}
-use Rattle.recorder_with_cards.specs.Ends.{BeginAs, opened_with, origin_of}
+use Rattle.recorder_with_cards.specs.Ends.{opened_with, origin_of}
 use Rattle.recorder_with_cards.specs.Recorded.{actions_in}
 use Rattle.recorder_with_cards.specs.Items.{between}
 use Rattle.recorder_with_cards.proofs.Waiting.{Waits, waits-none, waits-more, seconds-none, seconds-more, total-parts}
 use Rattle.recorder_with_cards.proofs.Promised.{both, more-devices, chip_of, begins-with, promised, may-record, is-found, starts-carded}
 use Rattle.std.specs.Prelude.{IfErr}
 use Rattle.std.proofs.lemmas.Grind.{common_steps}
-use Rattle.trace_model.specs.declared.Card.{Card}
 use Rattle.trace_model.specs.Trace.{item_seconds, total_seconds}
-use Rattle.run_crew.specs.declared.cabin.Cabin.{Cabin}
-use Rattle.run_crew.specs.Cards.{session_of}
-use Rattle.run_opening.specs.declared.fault.RunFault.{RunFault}
 use Rattle.run_opening.specs.Opening.{IsRefused}
 use Rattle.run_rule.specs.Between.{devices}
 use Rattle.run_keeping.specs.declared.keeper.Keeper.{Keeper}
 use Rattle.run_outcome.specs.Room.{offs, off_count, insertions}
 use Rattle.run_outcome.proofs.Items.{seconds-here, offs-here}
-use Rattle.run_acts.specs.declared.run.Power.{Power}
 use Rattle.run_acts.specs.Power.{is_lit}
 use Rattle.minute_model.specs.Span.{ungiven_of}
 use Rattle.run_acts.specs.Going.{CardAt, IsFoundLater}

@@ -1,4 +1,4 @@
-use Rattle.std.proofs.Common.{rules, ◌≡◌, ◌≢◌, ◌∙◌, ℕ, ◌+◌, ◌*◌, ◌/◌, ◌<◌, ◌==◌, Bool, true, false, cond, Option, Some, None, refl, ap, sym, subst, arith}
+use Rattle.std.proofs.Common.{rules, ◌≡◌, ◌∙◌, ℕ, ◌+◌, ◌*◌, ◌/◌, ◌==◌, Bool, true, false, cond, Option, Some, None, refl, ap, sym, subst, arith}
 use Rattle.std.specs.Prelude.{is_err}
 use Rattle.tach_media.specs.Medium.{HasCause}
 use Rattle.tach_media.proofs.Runs.{cause_after}
@@ -29,7 +29,6 @@ use Rattle.run_acts.specs.Recording.{GoesOnOrFails}
 use Rattle.run_acts.proofs.Comings.{leaves-more}
 use Rattle.run_acts.proofs.NoteRecorded.{unit-recorded, power-noted, unit-leaves, left-then}
 use Rattle.safety_model.specs.Safe.{breakdowns_of}
-use Rattle.run_recorded.specs.Beside.{HaveLeftMore}
 use Rattle.run_acts.specs.Recording.{log_of}
 use Rattle.run_acts.specs.ActsEvented.{IsFailing}
 use Rattle.run_acts.proofs.Kept.{moved-going}
@@ -41,7 +40,6 @@ use Rattle.run_acts.proofs.RingedGap.{note-ringed}
 use Rattle.card_records.specs.declared.card_event.CardEvent.{CardEvent}
 use Rattle.minute_model.specs.Span.{ungiven_of}
 use Rattle.run_crew.specs.Cards.{session_of}
-use Rattle.run_keeping.specs.declared.keeper.Keeper.{Keeper}
 use Rattle.run_notes.specs.Entries.{card_entry}
 use Rattle.safety_model.specs.Safe.{Devices, card_of}
 use Rattle.trace_model.specs.declared.Card.{Card}

@@ -1,8 +1,8 @@
-use Rattle.std.proofs.Common.{◌≡◌, ◌∙◌, ℕ, ◌+◌, ◌-◌, ◌/◌, ◌≤◌, Bool, true, false, Option, Some, None, [], ◌∷◌, is_some, length, refl, ap, sym, subst, arith}
+use Rattle.std.proofs.Common.{◌≡◌, ◌∙◌, ℕ, ◌+◌, ◌-◌, ◌/◌, Bool, true, false, Option, Some, None, [], ◌∷◌, length, refl, ap, sym, subst, arith}
 use Rattle.activity_codec.specs.declared.values.Slot.{Slot}
 use Rattle.trace_model.specs.declared.Card.{Card}
 use Rattle.trace_model.specs.declared.Card.TheVariants.{A, B}
-use Rattle.tach_media.proofs.Runs.{on_ok, ok_gives, cause_after}
+use Rattle.tach_media.proofs.Runs.{on_ok, ok_gives}
 use Rattle.minute_model.specs.Span.{ungiven_of}
 use Rattle.slot_machine.specs.Calls.{seat_in, card_in}
 use Rattle.run_crew.specs.declared.cards.Known.{Known}
@@ -10,13 +10,11 @@ use Rattle.run_crew.specs.Cards.{session_of}
 use Rattle.run_crew.specs.Cabin.{number_of_seat}
 use Rattle.log_model.specs.declared.lines.Break.{Break}
 use Rattle.run_outcome.specs.Lines.{Listed}
-use Rattle.run_keeping.specs.Keeping.{CardReady}
 use Rattle.run_keeping.proofs.Counts.{lines-length}
 use Rattle.run_acts.specs.declared.run.Run.{Run}
 use Rattle.run_acts.specs.Power.{with_cabin}
 use Rattle.run_acts.specs.Going.{IsHeld, IsLit}
 use Rattle.run_acts.specs.Room.{falls_of}
-use Rattle.run_acts.proofs.Noted.{noted-ready, noted-row}
 use Rattle.run_keeping.specs.declared.keeper.Moment.{Moment}
 use Rattle.run_keeping.proofs.Fates.{no-lines}
 use Rattle.run_acts.specs.Acting.{noted_breaks, now_moment, IsNotedIn}

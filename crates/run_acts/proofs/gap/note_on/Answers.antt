@@ -1,9 +1,8 @@
 use Rattle.std.proofs.Common.{◌≡◌, ◌∙◌, inl, ℕ, Bool, true, false, Option, Some, None, refl, ap, sym, subst}
-use Rattle.std.specs.Prelude.{not, Ok, is_err, IfSome, List, [], ◌∷◌, ◌/◌, ◌≤◌}
+use Rattle.std.specs.Prelude.{not, Ok, is_err, IfSome, [], ◌∷◌, ◌/◌, ◌≤◌}
 use Rattle.tach_media.specs.Medium.{HasCause}
-use Rattle.tach_media.specs.Medium.{LeavesOnly, State}
+use Rattle.tach_media.specs.Medium.{LeavesOnly}
 use Rattle.tach_media.proofs.Runs.{weaken, ok_gives}
-use Rattle.unit_notes.specs.Journal.{LeavesJournal}
 use Rattle.run_crew.specs.declared.cards.Known.{Known}
 use Rattle.run_crew.specs.declared.cards.Cards.{Cards}
 use Rattle.run_crew.specs.declared.cabin.Cabin.{Cabin}
@@ -11,7 +10,7 @@ use Rattle.run_crew.specs.Cards.{known_of, session_of, with_session}
 use Rattle.run_crew.specs.Cabin.{Stands, torn_out, crew_of}
 use Rattle.run_keeping.specs.declared.keeper.Keeper.{Keeper}
 use Rattle.run_keeping.specs.declared.keeper.Moment.{Moment}
-use Rattle.run_keeping.specs.Keeping.{CardReady, HasItsRow, UnitReady, tear_of, with_lines}
+use Rattle.run_keeping.specs.Keeping.{CardReady, HasItsRow, tear_of, with_lines}
 use Rattle.run_keeping.proofs.Sessions.{number-set, row-set, torn-stands}
 use Rattle.run_keeping.proofs.Units.{has-row}
 use Rattle.run_keeping.proofs.CardBooked.{no-session, none-there}
@@ -23,7 +22,6 @@ use Rattle.run_notes.specs.Entries.{entry_of}
 use Rattle.run_rule.specs.Between.{devices}
 use Rattle.run_keeping.specs.Keeping.{fault_of}
 use Rattle.run_acts.proofs.NotedEvents.{one-noted, same-noted, noted-any}
-use Rattle.run_acts.specs.Acting.{IsNotedOn}
 use Rattle.run_rings.proofs.Same.{rings-left, rings-moments, table-outside}
 use Rattle.card_records.specs.declared.card_event.CardEvent.{CardEvent}
 use Rattle.card_records.specs.Noting as on

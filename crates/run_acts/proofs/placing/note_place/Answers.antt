@@ -1,4 +1,4 @@
-use Rattle.std.proofs.Common.{rules, ◌≡◌, ◌∙◌, ℕ, ◌+◌, ◌-◌, ◌/◌, ◌≤◌, Bool, true, false, Option, Some, None, is_some, length, refl, ap, sym, subst, arith, inl, inr, ◌^◌, ◌<◌}
+use Rattle.std.proofs.Common.{rules, ◌≡◌, ◌∙◌, ℕ, ◌+◌, ◌-◌, ◌/◌, Bool, true, false, Option, Some, None, is_some, length, refl, ap, sym, subst, arith, inl, inr, ◌^◌, ◌<◌}
 use Rattle.trace_model.specs.declared.Card.TheVariants.{A, B}
 use Rattle.tach_media.proofs.Runs.{on_ok, ok_gives, cause_after}
 use Rattle.minute_model.specs.Span.{ungiven_of}
@@ -8,7 +8,7 @@ use Rattle.run_crew.specs.Cards.{session_of}
 use Rattle.run_crew.specs.Cabin.{number_of_seat}
 use Rattle.log_model.specs.declared.lines.Break.{Break}
 use Rattle.run_outcome.specs.Lines.{Listed}
-use Rattle.run_keeping.specs.Keeping.{CardReady, HasLeftMore, with_lines}
+use Rattle.run_keeping.specs.Keeping.{HasLeftMore, with_lines}
 use Rattle.run_keeping.proofs.Counts.{lines-length}
 use Rattle.run_acts.specs.declared.run.Run.{Run}
 use Rattle.run_acts.specs.Power.{with_cabin}
@@ -30,18 +30,18 @@ use Rattle.run_rule.specs.Between.{devices}
 use Rattle.run_outcome.specs.declared.outcome.Outcome.{Outcome}
 use Rattle.run_recorded.specs.Origin.{Origin}
 use Rattle.run_within.specs.Within.{Beginning}
-use Rattle.run_acts.specs.Recording.{RunWithin, RunGoesOn, GoesOnOrFails, IsNow, GoesOnOrCut, log_of, values_of}
+use Rattle.run_acts.specs.Recording.{RunWithin, RunGoesOn, GoesOnOrFails, IsNow, log_of, values_of}
 use Rattle.run_acts.proofs.Comings.{leaves-more, place-more}
 use Rattle.run_acts.proofs.NoteRecorded.{noted-some, place-told, unit-recorded, unit-evented, some-evented}
 use Rattle.trace_model.specs.declared.Card.{Card}
 use Rattle.gated_ring.specs.Change.{IsAdding}
 use Rattle.message_model.specs.Records.{unit_place_ring}
 use Rattle.run_acts.specs.NotedEvents.{NotesEvents}
-use Rattle.run_acts.specs.Noting.{NotesFall, NotesPlace, fall_events}
+use Rattle.run_acts.specs.Noting.{NotesPlace, fall_events}
 use Rattle.run_acts.proofs.NotedEvents.{same-noted, noted-any, then-noted}
 use Rattle.run_acts.proofs.ActsNoted.{says-of, quiet-any, adding-nothing, no-place, same-fell}
 use Rattle.tacho_types.specs.declared.card_number.FullCardNumber.{FullCardNumber}
-use Rattle.tach_media.specs.Medium.{State, IsCoherent, LeavesOnly}
+use Rattle.tach_media.specs.Medium.{State, LeavesOnly}
 use Rattle.unit_notes.specs.Entries.{unit_place_bytes}
 use Rattle.slot_machine.specs.declared.seats.Seat.{Seat}
 use Rattle.run_crew.specs.declared.cards.Cards.{Cards}
@@ -49,8 +49,6 @@ use Rattle.run_rings.proofs.Same.{rings-left}
 use Rattle.run_acts.specs.Ringing.{WritesPlace}
 use Rattle.run_acts.proofs.Ringing.{place-broken, place-then}
 use Rattle.run_keeping.proofs.Later.{state-by, later-same, later-then, later-of-unit, later-of-a, later-of-b}
-use Rattle.run_course.specs.Followed.{Progress}
-use Rattle.run_moments.specs.Telling.{IsLeft}
 use Rattle.run_evented.specs.Noting.{Acting}
 use Rattle.run_evented.specs.Bringing.{NotFound}
 use Rattle.run_evented.specs.SoFar.{EventedNow, MayFollow}

@@ -1,16 +1,14 @@
-use Rattle.std.proofs.Common.{◌≡◌, ◌∙◌, inr, ℕ, Bool, true, false, Some, None, refl, ap, sym, subst}
-use Rattle.std.specs.Prelude.{not, is_some, Ok, is_err, List, [], ◌∷◌, ◌/◌, ◌≤◌}
+use Rattle.std.proofs.Common.{◌≡◌, ◌∙◌, inr, Bool, true, false, Some, None, refl, ap, sym, subst}
+use Rattle.std.specs.Prelude.{not, is_some, Ok, is_err, []}
 use Rattle.tach_media.specs.Medium.{HasCause}
 use Rattle.tach_media.proofs.Runs.{weaken, ok_gives}
-use Rattle.unit_notes.specs.Journal.{LeavesJournal}
 use Rattle.run_crew.specs.declared.cards.Known.{Known}
 use Rattle.run_crew.specs.declared.cards.Cards.{Cards}
 use Rattle.run_crew.specs.declared.cabin.Cabin.{Cabin}
 use Rattle.run_crew.specs.Cards.{known_of, session_of, with_session}
-use Rattle.run_crew.specs.Cabin.{Stands, torn_out, crew_of}
+use Rattle.run_crew.specs.Cabin.{Stands, crew_of}
 use Rattle.run_keeping.specs.declared.keeper.Keeper.{Keeper}
-use Rattle.run_keeping.specs.declared.keeper.Moment.{Moment}
-use Rattle.run_keeping.specs.Keeping.{CardReady, HasItsRow, UnitReady, tear_of, with_lines, fault_of}
+use Rattle.run_keeping.specs.Keeping.{CardReady, HasItsRow, fault_of}
 use Rattle.run_keeping.proofs.Sessions.{number-set, row-set, torn-stands}
 use Rattle.run_keeping.proofs.Units.{has-row}
 use Rattle.run_keeping.proofs.CardBooked.{no-session, none-there}

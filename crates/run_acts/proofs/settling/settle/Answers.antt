@@ -1,13 +1,11 @@
-use Rattle.std.proofs.Common.{suc, rules, ◌≡◌, ◌∙◌, ℕ, ◌+◌, ◌-◌, ◌*◌, ◌/◌, ◌<◌, ◌≤◌, Bool, List, Option, All, length, refl, ap, sym, subst, arith}
+use Rattle.std.proofs.Common.{suc, ◌≡◌, ◌∙◌, ℕ, ◌-◌, ◌/◌, length, refl, ap, arith}
 use Rattle.std.specs.Prelude.{is_err}
 use Rattle.tach_media.proofs.Runs.{on_ok, ok_gives}
-use Rattle.minute_model.specs.declared.Minute.{Minute}
-use Rattle.minute_model.specs.Span.{ungiven_of, end_of, settled}
-use Rattle.run_keeping.specs.Keeping.{most_tears}
-use Rattle.run_keeping.specs.Minutes.{AreDue, AreKept, AreKeptUpTo, Told, kept_after}
+use Rattle.minute_model.specs.Span.{ungiven_of, settled}
+use Rattle.run_keeping.specs.Minutes.{AreKept, Told, kept_after}
 use Rattle.run_acts.specs.declared.run.Run.{Run}
 use Rattle.run_acts.specs.declared.run.Power.{Power}
-use Rattle.run_acts.specs.Room.{waiting, bare_seats}
+use Rattle.run_acts.specs.Room.{waiting}
 use Rattle.run_acts.proofs.Kept.{given-ended, given-rows, kept-going, seats-less, owing-is, owing-sum}
 use Rattle.run_acts.specs.Acting.{told_of}
 use Rattle.run_acts.proofs.Settled.{settled-ungiven, settled-later, settled-decides}

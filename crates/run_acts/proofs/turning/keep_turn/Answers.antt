@@ -1,4 +1,4 @@
-use Rattle.std.proofs.Common.{rules, ◌≡◌, ◌∙◌, inl, inr, ℕ, Bool, true, refl, ap, sym, subst}
+use Rattle.std.proofs.Common.{rules, ◌≡◌, ◌∙◌, inl, inr, Bool, true, refl, ap, subst}
 use Rattle.std.specs.Prelude.{is_err, not}
 use Rattle.tach_media.proofs.Runs.{on_ok, cause_after}
 use Rattle.run_crew.specs.declared.cards.Crew.{Crew}

@@ -1,8 +1,7 @@
-use Rattle.std.proofs.Common.{rules, ◌≡◌, ◌≢◌, ◌∙◌, ℕ, ◌+◌, ◌-◌, ◌*◌, ◌/◌, ◌%◌, ◌<◌, ◌≤◌, Bool, true, false, List, All, length, refl, ap, sym, subst, arith, ◌++◌, ◌∷◌, [], length-append}
+use Rattle.std.proofs.Common.{◌≡◌, ◌∙◌, ℕ, ◌+◌, ◌-◌, ◌/◌, true, false, length, refl, ap, sym, subst, arith, ◌∷◌, []}
 use Rattle.std.specs.Prelude.{is_err, None}
 use Rattle.tach_media.proofs.Runs.{ok_gives}
-use Rattle.minute_model.specs.declared.Minute.{Minute}
-use Rattle.minute_model.specs.Span.{ungiven_of, end_of, fed_many}
+use Rattle.minute_model.specs.Span.{ungiven_of, fed_many}
 use Rattle.log_model.specs.declared.lines.Break.{Break}
 use Rattle.run_outcome.specs.Lines.{Listed, cut_at}
 use Rattle.run_outcome.specs.declared.outcome.Outcome.{Outcome}
@@ -16,11 +15,10 @@ use Rattle.minute_rules.specs.Kept.{Kept as Minutes}
 use Rattle.run_crew.specs.Cabin.{with_power_lost}
 use Rattle.run_keeping.proofs.Counts.{lines-length}
 use Rattle.run_acts.specs.Going.{StandSomehow, IsGoing}
-use Rattle.run_acts.specs.Room.{HasRoom, falls_of, cuts_within, waiting}
+use Rattle.run_acts.specs.Room.{falls_of, cuts_within, waiting}
 use Rattle.run_acts.proofs.Kept.{given-ended, given-rows, seats-less, owing-sum}
 use Rattle.run_acts.proofs.Torn.{cut-falls}
-use Rattle.run_acts.specs.Turning.{IsKeptInTurn, cut_where, cut_breaks}
-use Rattle.run_acts.proofs.Turned.{turn-end, turn-later, turn-most, turn-decides, turned-held, turned-cut, turned-lit}
+use Rattle.run_acts.proofs.Turned.{turn-end, turn-most, turn-decides, turned-held, turned-cut, turned-lit}
 use Rattle.run_acts.proofs.Room.{Spends, room-lit, room-lost}
 use Rattle.run_acts.proofs.Uncut.{turn-uncut, uncut-broke, cut-broke}
 use Rattle.run_rule.specs.Between.{devices}

@@ -1,4 +1,4 @@
-use Rattle.std.proofs.Common.{◌≡◌, ◌∙◌, ℕ, ◌+◌, ◌-◌, ◌/◌, ◌≤◌, ◌<◌, Bool, true, false, Option, Some, List, [], ◌∷◌, ◌++◌, length, refl, ap, sym, subst, arith, append-nil, length-append}
+use Rattle.std.proofs.Common.{◌≡◌, ◌∙◌, ℕ, ◌+◌, ◌-◌, ◌<◌, Bool, true, false, List, [], ◌∷◌, ◌++◌, length, refl, ap, sym, subst, arith, append-nil, length-append}
 use Rattle.trace_model.specs.Trace.{TraceSecond, driven}
 use Rattle.log_model.specs.Log.{In}
 use Rattle.run_rule.specs.Between.{devices}
@@ -7,7 +7,7 @@ use Rattle.run_acts.specs.declared.run.Run.{Run}
 use Rattle.run_acts.specs.Power.{is_lit, passed}
 use Rattle.run_acts.specs.Going.{IsGoing}
 use Rattle.run_acts.specs.Room.{HasRoom}
-use Rattle.run_acts.proofs.Standing.{lit-is, passed-at}
+use Rattle.run_acts.proofs.Standing.{passed-at}
 use Rattle.run_acts.specs.Turning.{IsTurnOf}
 use Rattle.run_acts.specs.Recording.{InSecondBy, RunWithin, RunCut, RunRecorded}
 use Rattle.run_acts.proofs.TurnRecorded.{turn-lit, turn-dark}

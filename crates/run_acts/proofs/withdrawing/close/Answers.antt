@@ -1,6 +1,5 @@
-use Rattle.std.proofs.Common.{◌≡◌, ◌∙◌, ℕ, ◌+◌, ◌≤◌, Bool, true, false, Option, Some, None, Ok, refl, ap, sym, subst, arith}
-use Rattle.run_acts.proofs.Withdrawn.{closed-any}
-use Rattle.std.specs.Prelude.{not, is_err, IfSome, List, []}
+use Rattle.std.proofs.Common.{◌≡◌, ◌∙◌, ◌+◌, ◌≤◌, true, false, Option, Some, None, Ok, refl, ap, sym, subst, arith}
+use Rattle.std.specs.Prelude.{not, is_err, IfSome}
 use Rattle.card_layout.specs.declared.files.Application.{Application}
 use Rattle.card_commands.specs.Ports.{IsPort}
 use Rattle.activity_codec.specs.declared.values.Activity.{Activity}
@@ -17,10 +16,9 @@ use Rattle.run_crew.specs.declared.cabin.Cabin.{Cabin}
 use Rattle.run_crew.specs.Cards.{known_of, session_of, with_session}
 use Rattle.run_crew.specs.Cabin.{torn_out, crew_of}
 use Rattle.run_keeping.specs.declared.keeper.Keeper.{Keeper}
-use Rattle.run_keeping.specs.Keeping.{UnitReady, CardReady, HasItsRow, fault_of}
+use Rattle.run_keeping.specs.Keeping.{CardReady, HasItsRow, fault_of}
 use Rattle.run_keeping.proofs.Sessions.{number-set, row-set}
 use Rattle.run_keeping.proofs.Units.{has-row, row-beside}
-use Rattle.run_acts.specs.declared.run.Run.{Run}
 use Rattle.run_acts.proofs.Noted.{noted-ready, noted-row}
 use Rattle.run_keeping.proofs.CardDeeds.{closed-alone}
 use Rattle.run_acts.specs.Stays.{ClosesOnCard}
@@ -28,7 +26,6 @@ use Rattle.run_acts.specs.Acting.{Fell, IsClosingOf, Bare, Closed}
 use Rattle.run_acts.proofs.Cabins.{session-known, twice-ready}
 use Rattle.event_model.specs.declared.kinds.TheConstants.{CARD_FAULT}
 use Rattle.run_notes.specs.Entries.{entry_of}
-use Rattle.run_rule.specs.Between.{devices}
 use Rattle.run_keeping.proofs.CardBooked.{none-there, no-session}
 use Rattle.run_keeping.proofs.Fates.{no-lines}
 use Rattle.run_acts.proofs.NotedEvents.{one-noted, same-noted}

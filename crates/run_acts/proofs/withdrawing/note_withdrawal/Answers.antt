@@ -1,4 +1,4 @@
-use Rattle.std.proofs.Common.{◌≡◌, ◌<◌, ◌+◌, ◌-◌, ◌≤◌, ℕ, ap, subst, arith}
+use Rattle.std.proofs.Common.{◌≡◌, ◌+◌, ◌-◌, ◌≤◌, ℕ, ap, subst, arith}
 use Rattle.unit_notes.specs.Noting.{IsWithdrawing}
 use Rattle.tacho_types.specs.declared.numbers.TimeReal.{TimeReal}
 use Rattle.run_acts.proofs.ActsNoted.{says-of, says-still, withdrawing-nothing}

@@ -1,4 +1,4 @@
-use Rattle.std.proofs.Common.{rules, ◌≡◌, ◌∙◌, inl, inr, ℕ, ◌+◌, ◌-◌, ◌*◌, ◌/◌, ◌≤◌, Bool, true, false, not, Option, Some, None, is_some, List, ◌++◌, All, length, refl, ap, sym, subst, arith, ◌^◌, ◌<◌}
+use Rattle.std.proofs.Common.{rules, ◌≡◌, ◌∙◌, inl, inr, ℕ, ◌+◌, ◌-◌, ◌/◌, ◌≤◌, Bool, true, false, not, Option, Some, None, is_some, List, ◌++◌, All, length, refl, ap, sym, subst, arith, ◌^◌, ◌<◌}
 use Rattle.std.specs.Prelude.{is_err, suc, [], ◌∷◌, IfSome}
 use Rattle.trace_model.specs.declared.Card.{Card}
 use Rattle.trace_model.specs.declared.Card.TheVariants.{A, B}
@@ -17,7 +17,7 @@ use Rattle.run_crew.specs.Cabin.{Stands, with_slot_left}
 use Rattle.run_outcome.specs.Lines.{Listed}
 use Rattle.run_outcome.specs.declared.outcome.Outcome.{Outcome}
 use Rattle.run_keeping.specs.declared.keeper.Moment.{Moment}
-use Rattle.run_keeping.specs.Keeping.{HasLeftMore, tears_of}
+use Rattle.run_keeping.specs.Keeping.{HasLeftMore}
 use Rattle.run_keeping.specs.Minutes.{Told, Reach, IsReach}
 use Rattle.run_keeping.proofs.Counts.{lines-length}
 use Rattle.run_acts.specs.declared.run.Run.{Run}
@@ -31,14 +31,14 @@ use Rattle.run_acts.specs.Acting.{Closing, told_of, IsSettled, IsWithdrawn, clos
 use Rattle.run_acts.proofs.Leaving.{left-going, left-held, left-falls, closed-past, closed-minute, closed-sessions, closed-falls, closed-a, closed-b}
 use Rattle.run_acts.proofs.Cabins.{cabin-only, cabin-going, cabin-held, ready-same, at-same}
 use Rattle.log_model.specs.Log.{In}
-use Rattle.run_acts.specs.Recording.{RunFails, GoesOnOrFails, GoesOnOrCut, log_of}
+use Rattle.run_acts.specs.Recording.{RunFails, GoesOnOrFails, log_of}
 use Rattle.run_acts.specs.Settling.{RecordsSettling}
 use Rattle.run_acts.proofs.Asked.{withdraws-one}
 use Rattle.run_acts.proofs.WithdrawnRecorded.{acting_at, moment-is, settling-cut, closing-recorded, settled-evented, closing-evented, untorn-then, sat-there, settled-still, settled-places, closed-places, closed-still}
 use Rattle.run_ringed.specs.OnCards.{PlacesStay}
 use Rattle.run_acts.proofs.CardPlaces.{stay-then}
 use Rattle.run_acts.specs.Faults.{NotesSettling}
-use Rattle.run_acts.specs.Noting.{NotesClosing, NotesWithdrawing, closed_events}
+use Rattle.run_acts.specs.Noting.{NotesWithdrawing, closed_events}
 use Rattle.run_acts.proofs.NotedEvents.{same-noted, noted-any}
 use Rattle.run_acts.proofs.ActsNoted.{settles-these, withdrawal-cut, withdrawal-noted, closing-any, same-closing}
 use Rattle.run_rings.proofs.Same.{rings-left}

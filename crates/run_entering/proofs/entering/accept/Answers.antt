@@ -1,4 +1,4 @@
-use Rattle.std.proofs.Common.{arith, inl, ◌≡◌, ◌∙◌, ◌≤◌, ℕ, Bool, true, false, rules, Option, None, Ok, refl, ap, sym, subst, [], ◌∷◌}
+use Rattle.std.proofs.Common.{arith, inl, ◌≡◌, ◌∙◌, ◌≤◌, ℕ, true, None, Ok, refl, ap, sym, subst, [], ◌∷◌}
 use Rattle.std.specs.Prelude.{is_err, Result, Err}
 use Rattle.card_layout.specs.declared.files.Application.{Application}
 use Rattle.card_layout.specs.Application.{place_of_field}

@@ -1,10 +1,10 @@
-use Rattle.std.proofs.Common.{◌≡◌, ◌<◌, ◌≤◌, ◌/◌, ◌^◌, ℕ, Bool, true, false, rules, arith, length, Option, None, Ok, List, IfSome, option_map, refl, sym, subst, ap, []}
+use Rattle.std.proofs.Common.{◌≡◌, ◌<◌, ◌^◌, ℕ, rules, arith, length, Option, None, Ok, List, IfSome, option_map, refl, sym, subst, ap, []}
 use Rattle.tacho_types.specs.CardNumber.{card_number_bytes}
 use Rattle.tacho_types.specs.declared.card_number.FullCardNumber.{FullCardNumber}
 use Rattle.owed_model.specs.Rows.{IsRowFor}
 use Rattle.joint_rule.specs.Views.{other}
 use Rattle.run_crew.specs.Cards.{known_of}
-use Rattle.std.specs.Prelude.{is_err, Result, Err}
+use Rattle.std.specs.Prelude.{is_err, Err}
 use Rattle.unit_memory.specs.declared.format.Identity.{Identity}
 use Rattle.device_steps.specs.declared.entering.Entered.{Entered}
 use Rattle.device_steps.specs.declared.entering.NotEntered.{NotEntered}

@@ -1,6 +1,4 @@
-use Rattle.std.proofs.Common.{◌+◌, ◌≤◌, length, List, ℕ, arith}
-use Rattle.card_layout.specs.Files.{place_of, image_size_of}
-use Rattle.card_image.specs.Fields.{file}
+use Rattle.std.proofs.Common.{arith}
 use Rattle.card_session.proofs.InsertingUse.{use_inside}
 use Rattle.run_entering.proofs.CardTables.{all-shown, all-showing, same-file}
 use Rattle.run_entering.proofs.CardInserted.{inserted-shown, inserting-shown, keeping-shown, closing-shown}

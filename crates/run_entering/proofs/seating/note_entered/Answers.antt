@@ -1,4 +1,4 @@
-use Rattle.std.proofs.Common.{◌≡◌, arith, Bool, true, false, rules, refl, sym, subst}
+use Rattle.std.proofs.Common.{◌≡◌, arith, Bool, true, false, rules, subst}
 use Rattle.std.specs.Prelude.{is_err}
 use Rattle.run_told.specs.Told.{arranged}
 use Rattle.run_entering.specs.Told.{BooksNotes}

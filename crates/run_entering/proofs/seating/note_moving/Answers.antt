@@ -1,7 +1,6 @@
-use Rattle.std.proofs.Common.{◌≡◌, Bool, true, false, rules, refl, sym, subst, arith, ◌≤◌, ap}
+use Rattle.std.proofs.Common.{◌≡◌, Bool, true, false, rules, refl, subst, arith, ap}
 use Rattle.std.specs.Prelude.{None, is_err}
 use Rattle.event_model.specs.declared.kinds.TheConstants.{INSERTION_WHILE_DRIVING}
-use Rattle.tach_media.proofs.Runs.{ok_gives}
 use Rattle.run_entering.specs.Noted.{IsOnUnit, IsComing, event_of}
 use Rattle.run_entering.specs.Entered.{IsMoved}
 use Rattle.run_entering.proofs.Opening.{beside-none}

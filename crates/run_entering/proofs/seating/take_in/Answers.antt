@@ -1,4 +1,4 @@
-use Rattle.std.proofs.Common.{◌≡◌, arith, ◌≤◌, ℕ, Bool, true, false, rules, Option, refl, sym, subst}
+use Rattle.std.proofs.Common.{◌≡◌, arith, ◌≤◌, ℕ, Bool, true, false, rules, Option, sym, subst}
 use Rattle.std.specs.Prelude.{is_err}
 use Rattle.log_model.specs.Causes.{device_of}
 use Rattle.run_entering.specs.Entering.{and_marks, last_of, taken_as}

@@ -1,4 +1,4 @@
-use Rattle.std.proofs.Common.{◌≡◌, ◌≢◌, ◌∙◌, ℕ, ◌<◌, true, false, Option, Some, None, IfSome, refl, ap, sym, subst, arith}
+use Rattle.std.proofs.Common.{◌≡◌, ◌<◌, Option, IfSome, refl, ap, sym, subst, arith}
 use Rattle.std.specs.Prelude.{IsTrue, OnOk, not, ◌&&◌, ◌==◌, option_map}
 use Rattle.tach_media.specs.Medium.{LeavesOnly}
 use Rattle.tach_media.proofs.Runs.{starts, no_reads}

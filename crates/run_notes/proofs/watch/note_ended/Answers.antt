@@ -1,5 +1,3 @@
-use Rattle.std.proofs.Common.{◌≡◌, sym, subst}
-use Rattle.std.specs.Prelude.{is_err}
 use Rattle.tach_media.proofs.Runs.{cause_after, on_ok, ok_gives}
 use Rattle.event_notes.proofs.Calling.{journal-then}
 use Rattle.run_notes.proofs.Noted.{first-moments, both-noted, both-moments}

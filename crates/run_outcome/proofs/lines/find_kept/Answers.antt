@@ -1,4 +1,4 @@
-use Rattle.std.proofs.Common.{◌≡◌, ◌∙◌, ℕ, ◌+◌, List, [], ◌∷◌, ◌++◌, length, refl, ap, sym, arith, append_assoc, length-append}
+use Rattle.std.proofs.Common.{◌≡◌, ◌∙◌, ℕ, ◌+◌, List, [], ◌∷◌, ◌++◌, length, ap, sym, append_assoc, length-append}
 use Rattle.std.specs.Prelude.{map, slice_index_or, slice_set}
 use Rattle.std.proofs.lemmas.List.{map-append, length-map}
 use Rattle.log_model.specs.declared.lines.Break.{Break}

@@ -1,6 +1,5 @@
-use Rattle.std.proofs.Common.{◌≡◌, ◌+◌, ◌≤◌, true, false, Bool, drop, ap, sym, ◌∙◌, arith}
+use Rattle.std.proofs.Common.{true, false, Bool, ap, sym, ◌∙◌, arith}
 use Rattle.std.specs.Prelude.{if◌then◌else◌, ℕ}
-use Rattle.run_outcome.specs.Room.{insertions}
 use Rattle.run_outcome.proofs.Items.{insertions-here}
 use Rattle.run_outcome.proofs.outcome.insertions_of.Goals as goal
 use Rattle.run_outcome.proofs.outcome.insertions_of.Goals.{then-is_insertion, else-is_insertion}

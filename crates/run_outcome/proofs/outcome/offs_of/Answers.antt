@@ -1,6 +1,5 @@
-use Rattle.std.proofs.Common.{◌≡◌, ◌+◌, ◌≤◌, true, false, Bool, drop, ap, sym, ◌∙◌, arith}
+use Rattle.std.proofs.Common.{true, false, Bool, ap, sym, ◌∙◌, arith}
 use Rattle.std.specs.Prelude.{if◌then◌else◌, ℕ}
-use Rattle.run_outcome.specs.Room.{offs}
 use Rattle.run_outcome.proofs.Items.{offs-here}
 use Rattle.run_outcome.proofs.outcome.offs_of.Goals as goal
 use Rattle.run_outcome.proofs.outcome.offs_of.Goals.{then-is_off, else-is_off}

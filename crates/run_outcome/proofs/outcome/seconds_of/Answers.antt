@@ -1,5 +1,4 @@
-use Rattle.std.proofs.Common.{◌≡◌, ◌+◌, ◌≤◌, drop, arith}
-use Rattle.trace_model.specs.Trace.{total_seconds}
+use Rattle.std.proofs.Common.{arith}
 use Rattle.run_outcome.proofs.Items.{seconds-here}
 use Rattle.run_outcome.proofs.outcome.seconds_of.Goals as goal
 

@@ -1,4 +1,4 @@
-use Rattle.std.proofs.Common.{◌≡◌, ◌+◌, ◌≤◌, ⊎_elim, inl, inr, List, ℕ, length, refl, sym, subst, arith}
+use Rattle.std.proofs.Common.{◌+◌, ◌≤◌, ⊎_elim, inl, inr, List, ℕ, length, refl, sym, subst, arith}
 use Rattle.tach_media.specs.Medium.{IsPartlyWritten, put}
 use Rattle.tach_media.proofs.Images.{put_outside}
 use Rattle.tach_media.proofs.Ranges.{lies_part, lies_still}

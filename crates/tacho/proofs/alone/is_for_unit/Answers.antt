@@ -1,4 +1,4 @@
-use Rattle.std.proofs.Common.{◌≡◌, ◌+◌, IsTrue, true, drop, sym, subst, ◌∙◌}
+use Rattle.std.proofs.Common.{sym, subst, ◌∙◌}
 use Rattle.run_outcome.proofs.Items.{left-here}
 use Rattle.tacho.specs.Alone.{needs_no_card, IsForUnit}
 use Rattle.tacho.proofs.alone.is_for_unit.Goals as goal

@@ -1,6 +1,6 @@
 use Rattle.std.proofs.Common.{subst, sym, arith, refl, inl, inr}
 use Rattle.tacho.specs.Outcomes.{IsEmpty}
-use Rattle.tacho.proofs.Recordings.{reserved-empty, run-refusal, ends-unread, ends-reserving, ends-refused, ends-run}
+use Rattle.tacho.proofs.Recordings.{reserved-empty, run-refusal, ends-refused, ends-run}
 use Rattle.tacho.proofs.UnitRuns.{refused-on-unit, unit-refused, unit-causes, unit-run}
 use Rattle.tacho.proofs.CardRuns.{refused-when, refused-causes, cards-refused, cards-run}
 use Rattle.tacho.proofs.record_command.record.Goals as goal

@@ -1,4 +1,4 @@
-use Rattle.std.proofs.Common.{◌≡◌, ◌∙◌, sym}
+use Rattle.std.proofs.Common.{◌∙◌, sym}
 use Rattle.tacho.proofs.view_command.file_view.Goals as goal
 
 pub returns-then-is_unit_file-clause-text : goal.returns-then-is_unit_file-clause-text

@@ -1,4 +1,4 @@
-use Rattle.std.proofs.Common.{◌≡◌, ◌∙◌, ◌≤◌, ℕ, length, sym, subst, arith}
+use Rattle.std.proofs.Common.{◌≡◌, ◌∙◌, sym, subst, arith}
 use Rattle.tacho.specs.declared.end.Fault.TheVariants as end
 use Rattle.tacho.specs.View.{PrintsFile, IsBadFile, IsUnshown}
 use Rattle.tacho.proofs.Formats.{of-ok}

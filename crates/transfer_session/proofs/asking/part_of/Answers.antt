@@ -1,4 +1,4 @@
-use Rattle.std.proofs.Common.{◌≡◌, ◌+◌, ◌-◌, ◌∙◌, ℕ, List, [], Option, Some, None, min, length, sym, ap, subst}
+use Rattle.std.proofs.Common.{◌≡◌, ◌-◌, ◌∙◌, ℕ, List, [], Option, Some, None, min, length, sym, ap, subst}
 use Rattle.tach_media.proofs.Runs.{both_told}
 use Rattle.unit_memory.proofs.Told.{one_told, carried}
 use Rattle.unit_journal.proofs.IfAny.{read_same}

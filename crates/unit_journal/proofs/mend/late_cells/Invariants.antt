@@ -1,4 +1,4 @@
-use Rattle.std.proofs.Common.{◌≡◌, ◌+◌, ◌<◌, ◌≤◌, IfSome, false, length}
+use Rattle.std.proofs.Common.{◌≡◌, ◌<◌, ◌≤◌, IfSome, false, length}
 use Rattle.tach_media.specs.Medium.{Reads}
 use Rattle.write_plan.specs.Plan.{more, none}
 use Rattle.unit_model.specs.declared.layout.TheConstants.{IMAGE_SIZE}

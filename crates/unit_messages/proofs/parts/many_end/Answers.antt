@@ -1,5 +1,5 @@
 use Rattle.std.proofs.Common.{arith}
-use Rattle.unit_messages.proofs.Cutting.{counted_is, counted_none}
+use Rattle.unit_messages.proofs.Cutting.{counted_is}
 use Rattle.unit_messages.proofs.parts.many_end.Goals as goal
 
 pub returns-clause-end : goal.returns-clause-end

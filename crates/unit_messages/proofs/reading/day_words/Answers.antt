@@ -1,4 +1,4 @@
-use Rattle.std.proofs.Common.{◌≡◌, ◌∙◌, sym, ap, arith}
+use Rattle.std.proofs.Common.{◌∙◌, sym, arith}
 use Rattle.unit_model.specs.Image.{words_at}
 use Rattle.unit_messages.proofs.Fronts.{day_ends, day_words_laid}
 use Rattle.unit_messages.proofs.reading.day_words.Goals as goal

@@ -1,4 +1,4 @@
-use Rattle.std.proofs.Common.{◌≡◌, ℕ, List, ◌<◌, ◌^◌, ◌∙◌, ap, arith}
+use Rattle.std.proofs.Common.{◌≡◌, ℕ, List, ◌<◌, ◌^◌, ◌∙◌, ap}
 use Rattle.byteorder.specs.Endian.{big_number, big_bytes}
 use Rattle.card_layout.proofs.Numbers.{big_number-big_bytes}
 use Rattle.unit_messages.proofs.Overviews.{overview_front}

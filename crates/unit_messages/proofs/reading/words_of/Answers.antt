@@ -1,4 +1,4 @@
-use Rattle.std.proofs.Common.{rules, arith, ◌≡◌, ◌∙◌, ap}
+use Rattle.std.proofs.Common.{rules, arith}
 use Rattle.unit_messages.proofs.Fronts.{words_inside}
 use Rattle.unit_messages.proofs.reading.words_of.Goals as goal
 

@@ -1,4 +1,4 @@
-use Rattle.std.proofs.Common.{◌≡◌, ◌∙◌, Option, Some, None, IfSome, List, ap, sym, subst, refl, inl}
+use Rattle.std.proofs.Common.{◌≡◌, ◌∙◌, Option, Some, None, IfSome, ap, sym, subst, refl, inl}
 use Rattle.std.specs.Prelude.{option_map}
 use Rattle.std.proofs.lemmas.Result.{IfOk-weaker}
 use Rattle.unit_model.specs.Decoding.{Decodes}
@@ -7,7 +7,7 @@ use Rattle.unit_journal.proofs.IfAny.{read_same}
 use Rattle.unit_journal.specs.Image.{IsFoundBy}
 use Rattle.unit_journal.specs.Reading.{AreRight}
 use Rattle.link_model.specs.declared.request.Request.{Request}
-use Rattle.message_model.specs.Messages.{Message, message_bytes}
+use Rattle.message_model.specs.Messages.{message_bytes}
 use Rattle.unit_messages.specs.declared.outline.Plan.{Plan}
 use Rattle.unit_messages.specs.Outlines.{Outlines, IsOutlined, asked, bytes_sent}
 use Rattle.unit_messages.proofs.Calls.{any_then, reads_any}

@@ -1,8 +1,7 @@
-use Rattle.std.proofs.Common.{◌≡◌, ◌∙◌, Option, Some, None, IfSome, sym, subst, refl, inl, rules}
-use Rattle.std.specs.Prelude.{IfOk, IfErr, IfNone, OnOk}
+use Rattle.std.proofs.Common.{◌≡◌, ◌∙◌, Option, Some, None, IfSome, sym, subst, refl, inl}
 use Rattle.std.proofs.lemmas.Result.{IfOk-weaker}
-use Rattle.unit_model.specs.Decoding.{Decodes, first_bad_place}
-use Rattle.unit_memory.proofs.Told.{told_all, one_told, carried}
+use Rattle.unit_model.specs.Decoding.{Decodes}
+use Rattle.unit_memory.proofs.Told.{one_told, carried}
 use Rattle.unit_journal.proofs.IfAny.{read_same}
 use Rattle.unit_journal.specs.Image.{IsFoundBy}
 use Rattle.unit_journal.specs.Reading.{AreRight}
@@ -10,9 +9,7 @@ use Rattle.link_model.specs.declared.request.Request.{Request}
 use Rattle.unit_messages.specs.declared.outline.Plan.{Plan}
 use Rattle.unit_messages.specs.Outlines.{Outlines, IsOutlined, asked}
 use Rattle.unit_messages.specs.Sent.{IsPiece}
-use Rattle.unit_messages.specs.Faults.{piece_failed, IfBadPiece}
 use Rattle.unit_messages.proofs.Calls.{any_then, reads_any}
-use Rattle.unit_messages.proofs.Joints.{at_told}
 use Rattle.unit_messages.proofs.Faulting.{ok_always, never_bad, never_none}
 use Rattle.unit_messages.proofs.sending.piece.Goals as goal
 

@@ -1,7 +1,5 @@
-use Rattle.std.proofs.Common.{◌≡◌, ◌∙◌, ◌-◌, ℕ, Some, ap, length, min, rules, subst, sym, true}
+use Rattle.std.proofs.Common.{◌≡◌, ◌∙◌, ◌-◌, ℕ, length, min, rules, subst, sym}
 use Rattle.unit_memory.proofs.Told.{one_told}
-use Rattle.unit_messages.specs.Outlines.{asked}
-use Rattle.unit_messages.specs.Sent.{IsPiece}
 use Rattle.unit_messages.specs.Faults.{piece_failed}
 use Rattle.unit_messages.proofs.Calls.{any_failed}
 use Rattle.unit_messages.proofs.sending.piece_of.Goals as goal

@@ -1,4 +1,4 @@
-use Rattle.std.proofs.Common.{rules, ◌≡◌, ◌++◌, length, ℕ, List, sym, ◌∙◌}
+use Rattle.std.proofs.Common.{rules, ◌≡◌, ◌++◌, length, sym, ◌∙◌}
 use Rattle.unit_notes.specs.Entries.{holder_fields, use_fields, insertion_bytes}
 use Rattle.unit_notes.proofs.Fronts.{joined_append, number_behind}
 use Rattle.unit_notes.proofs.insertion.write_insertion.Goals as goal

@@ -1,4 +1,4 @@
-use Rattle.std.proofs.Common.{◌≡◌, ◌<◌, ℕ, Option, Some, None, IfSome, List, [], ◌∷◌, refl, sym, ◌∙◌, subst}
+use Rattle.std.proofs.Common.{◌≡◌, ◌<◌, ℕ, Option, Some, None, IfSome, [], ◌∷◌, refl, sym, ◌∙◌, subst}
 use Rattle.tach_media.proofs.Runs.{starts, weaken, at_image, on_ok, ok_gives, settled_none}
 use Rattle.gated_ring.specs.Change.{IsSet}
 use Rattle.event_model.specs.Kinds.{places_of}

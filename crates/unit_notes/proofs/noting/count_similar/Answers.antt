@@ -1,5 +1,5 @@
-use Rattle.std.proofs.Common.{rules, ◌≡◌, ◌≤◌, ◌+◌, length, List, ℕ, sym, ◌∙◌, ap, subst, refl, arith}
-use Rattle.unit_notes.proofs.Types.{width_is, ring_fits, ring_index, ring_width, ring_writable, ring_behind_gate}
+use Rattle.std.proofs.Common.{arith}
+use Rattle.unit_notes.proofs.Types.{width_is, ring_fits, ring_index, ring_writable}
 use Rattle.unit_notes.proofs.noting.count_similar.Goals as goal
 
 pub set_small-requires-clause-fits : goal.set_small-requires-clause-fits

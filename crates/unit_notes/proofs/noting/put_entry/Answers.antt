@@ -1,9 +1,6 @@
-use Rattle.std.proofs.Common.{rules, ◌≡◌, ◌≤◌, length, List, ℕ, sym, ◌∙◌, ap, subst, refl, arith}
-use Rattle.tach_media.specs.Medium.{LeavesOnly}
-use Rattle.gated_ring.specs.Ring.{Shape}
+use Rattle.std.proofs.Common.{◌≡◌, length, ◌∙◌, ap, arith}
 use Rattle.card_layout.specs.Fields.{total_width}
 use Rattle.side_model.specs.Tables.{table_of, widths_of}
-use Rattle.unit_notes.specs.Tables.{with_similar}
 use Rattle.unit_notes.proofs.Types.{entry_wide, ring_fits, ring_index, ring_gate, ring_width, entry_place_writable, ring_opens}
 use Rattle.unit_notes.proofs.noting.put_entry.Goals as goal
 

@@ -1,4 +1,4 @@
-use Rattle.std.proofs.Common.{rules, ◌≡◌, ◌≤◌, ◌<◌, ◌+◌, length, List, ℕ, refl, sym, ◌∙◌, subst, arith}
+use Rattle.std.proofs.Common.{◌≡◌, refl, sym, ◌∙◌, arith}
 use Rattle.tach_media.proofs.Runs.{after_reads, weaken, at_image}
 use Rattle.card_layout.specs.Images.{number_at}
 use Rattle.unit_notes.specs.Noting.{with_first}

@@ -1,4 +1,4 @@
-use Rattle.std.proofs.Common.{◌≡◌, ◌≤◌, ◌<◌, ◌+◌, length, List, ℕ, IfSome, sym, ◌∙◌, ap, subst, refl, rules, arith}
+use Rattle.std.proofs.Common.{length, subst}
 use Rattle.tach_media.specs.Medium.{LeavesOnly}
 use Rattle.gated_ring.specs.Ring.{Shape}
 use Rattle.gated_ring.specs.Change.{IsSet, OrUnwritten}

@@ -1,4 +1,4 @@
-use Rattle.std.proofs.Common.{rules, ◌≡◌, ◌≤◌, ◌<◌, ◌+◌, ◌-◌, ◌*◌, length, List, [], ◌∷◌, ◌++◌, ℕ, take, drop, refl, sym, ◌∙◌, ap, subst, arith}
+use Rattle.std.proofs.Common.{◌≡◌, ◌+◌, ◌-◌, ◌*◌, length, List, [], ◌∷◌, ◌++◌, ℕ, take, drop, sym, ◌∙◌, ap, arith}
 use Rattle.card_layout.specs.Fields.{total_width}
 use Rattle.event_model.specs.declared.entries.Held.{Held}
 use Rattle.side_model.specs.Tables.{widths_of, held_in}

@@ -1,4 +1,3 @@
-use Rattle.std.proofs.Common.{◌≡◌, None}
 use Rattle.card_layout.specs.Files.{files_of}
 use Rattle.worked_cards.proofs.judging.sizes_of.Goals as goal
 

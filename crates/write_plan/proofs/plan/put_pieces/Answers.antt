@@ -1,9 +1,9 @@
-use Rattle.std.proofs.Common.{rules, is_err, ◌≡◌, ℕ, ◌+◌, ◌-◌, ◌<◌, ◌≤◌, ◌∙◌, ap, sym, subst, arith, length, map, take, refl, List, Bool, true, false}
+use Rattle.std.proofs.Common.{rules, is_err, ◌≡◌, ℕ, ◌+◌, ◌-◌, ◌∙◌, ap, sym, subst, arith, length, map, take, List, Bool, true, false}
 use Rattle.std.proofs.lemmas.List.{length-map}
 use Rattle.tach_media.specs.Medium.{Writes, put, IsPartlyWritten}
 use Rattle.tach_media.proofs.Ranges.{lies_still}
 use Rattle.tach_media.proofs.Runs.{one_written, one_failed}
-use Rattle.write_plan.specs.Plan.{Pieces, Piece, piece, IsInside, IsPlan, PutsAll}
+use Rattle.write_plan.specs.Plan.{Pieces, IsPlan, PutsAll}
 use Rattle.write_plan.specs.Held.{piece_of}
 use Rattle.write_plan.proofs.Looping.{this_piece, still, puts_next, puts_failed, puts_ended, puts_whole}
 use Rattle.write_plan.proofs.plan.put_pieces.Goals as goal

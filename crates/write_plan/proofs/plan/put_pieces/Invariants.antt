@@ -1,4 +1,4 @@
-use Rattle.std.proofs.Common.{◌≡◌, ◌<◌, ◌≤◌, false, take}
+use Rattle.std.proofs.Common.{◌≡◌, ◌<◌, false, take}
 use Rattle.write_plan.specs.Plan.{PutsAll}
 use Rattle.write_plan.proofs.plan.put_pieces.Given as goal
 

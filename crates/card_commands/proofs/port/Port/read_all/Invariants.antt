@@ -1,4 +1,4 @@
-use Rattle.std.proofs.Common.{◌≡◌, ◌≤◌, ◌-◌, false, take, length}
+use Rattle.std.proofs.Common.{◌≡◌, ◌≤◌, ◌-◌, false, take}
 use Rattle.std.specs.Prelude.{IfSome}
 use Rattle.tach_media.specs.Medium.{Reads, bytes_at}
 use Rattle.card_commands.proofs.port.Port.read_all.Given as goal

@@ -1,4 +1,4 @@
-use Rattle.std.proofs.Common.{◌≡◌, ℕ, ◌+◌, Bool, true, false, not, List, length, take, drop, refl, ◌∙◌, ap, arith, ◌≤◌}
+use Rattle.std.proofs.Common.{◌≡◌, ℕ, ◌+◌, Bool, true, false, not, length, take, drop, refl, ◌∙◌, ap, arith, ◌≤◌}
 use Rattle.tach_media.specs.Medium.{bytes_at}
 use Rattle.card_layout.specs.Outcomes.{is_application}
 use Rattle.card_commands.proofs.Parts.{part_of, where_some, told_weaker}

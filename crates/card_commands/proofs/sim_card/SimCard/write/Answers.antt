@@ -1,5 +1,4 @@
 use Rattle.std.proofs.Common.{sym, ◌∙◌, arith, length}
-use Rattle.tach_media.specs.Medium.{IsPartlyWritten}
 use Rattle.tach_media.proofs.Images.{part_before}
 use Rattle.tach_media.proofs.Ranges.{lies_part}
 use Rattle.card_commands.proofs.Soundness.{covers_says, sound_after, ok_works}

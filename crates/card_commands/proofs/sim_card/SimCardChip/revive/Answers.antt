@@ -1,7 +1,4 @@
-use Rattle.std.proofs.Common.{◌≡◌, sym, ◌∙◌, ap, subst}
-use Rattle.card_layout.specs.declared.command.CardState.{CardState}
-use Rattle.tach_media.specs.Medium.{revivable}
-use Rattle.card_commands.specs.Performing.{IsSound}
+use Rattle.std.proofs.Common.{sym, ◌∙◌}
 use Rattle.card_commands.proofs.Soundness.{sound_reads, ok_works}
 use Rattle.card_commands.proofs.sim_card.SimCardChip.revive.Goals as goal
 

@@ -1,4 +1,4 @@
-use Rattle.std.proofs.Common.{rules, ◌≡◌, ℕ, ◌/◌, ◌%◌, [], ◌∷◌, ◌++◌, true, false, is_err, List, refl, sym, ◌∙◌, ap}
+use Rattle.std.proofs.Common.{rules, ◌≡◌, true, false, is_err, refl}
 use Rattle.card_layout.specs.Commands.{command_of}
 use Rattle.card_layout.specs.Outcomes.{outcome_of}
 use Rattle.card_commands.proofs.Waking.{fails_at_once, goes_on_with, answered, does_same, performed_same}

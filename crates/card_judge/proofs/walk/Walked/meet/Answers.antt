@@ -1,5 +1,5 @@
-use Rattle.std.proofs.Common.{◌≡◌, ◌∙◌, ◌+◌, ℕ, Bool, true, false, cond, List, [], ◌∷◌, ◌++◌, Option, Some, sym, ap, subst}
-use Rattle.std.specs.Prelude.{◌||◌, nat_le}
+use Rattle.std.proofs.Common.{◌≡◌, ◌∙◌, ◌+◌, ℕ, Bool, true, false, cond, [], ◌∷◌, ◌++◌, Option, Some, sym, ap, subst}
+use Rattle.std.specs.Prelude.{nat_le}
 use Rattle.card_model.specs.Days.{total}
 use Rattle.card_model.specs.Image.{oldest_pointer}
 use Rattle.card_model.specs.Changes.{date_of}

@@ -1,9 +1,8 @@
-use Rattle.std.proofs.Common.{rules, inl, inr, ◌≡◌, ◌+◌, ◌*◌, ℕ, Bool, true, false, List, Option, Some, None, refl, sym, ◌∙◌, ap, subst, arith}
+use Rattle.std.proofs.Common.{ℕ, false, Option, Some, None, refl, sym, ap, subst}
 use Rattle.std.specs.Prelude.{is_err}
 use Rattle.tach_media.proofs.Runs.{ok_gives}
-use Rattle.cyclic_days.proofs.Counting.{keep_writes}
 use Rattle.card_layout.specs.declared.files.Application.{Application}
-use Rattle.card_session.specs.Sessions.{Session, IsValue, MayKeep}
+use Rattle.card_session.specs.Sessions.{Session, MayKeep}
 use Rattle.card_session.proofs.OnCard.{string_in}
 use Rattle.card_session.proofs.OnDays.{add_part}
 use Rattle.card_session.specs.Parts.{DoesPart, IsPartDone, IsPartMoment, TakesSome, with_some, IsAdding}

@@ -1,5 +1,4 @@
-use Rattle.std.proofs.Common.{◌≤◌, rules, inl, inr, ◌≡◌, ◌+◌, ◌*◌, ℕ, Bool, true, false, List, Option, Some, None, refl, sym, ◌∙◌, ap, subst, arith}
-use Rattle.std.specs.Prelude.{is_err}
+use Rattle.std.proofs.Common.{◌≤◌, ◌+◌, ℕ, refl, sym, ◌∙◌, ap, subst, arith}
 use Rattle.activity_codec.specs.Activity.{activity_of}
 use Rattle.tach_media.proofs.Runs.{ok_gives, on_ok}
 use Rattle.activity_codec.specs.declared.values.Activity.{Activity}
@@ -7,7 +6,7 @@ use Rattle.tach_media.specs.Medium.{LeavesOnly, LiesInside}
 use Rattle.card_layout.specs.declared.files.Application.{Application}
 use Rattle.card_layout.specs.Files.{place_of}
 use Rattle.card_image.specs.Fields.{file}
-use Rattle.card_session.specs.Sessions.{Session, IsValue, IsOpenBook}
+use Rattle.card_session.specs.Sessions.{Session, IsOpenBook}
 use Rattle.card_session.specs.Moments.{IsCloseMoment}
 use Rattle.card_session.specs.Parts.{IsPartMoment}
 use Rattle.card_session.proofs.Composing.{called_then}

@@ -1,4 +1,4 @@
-use Rattle.std.proofs.Common.{rules, inl, inr, ◌≡◌, ◌+◌, ◌*◌, ℕ, suc, Bool, true, false, List, Option, Some, None, refl, sym, ◌∙◌, ap, subst, arith}
+use Rattle.std.proofs.Common.{rules, inl, ◌≡◌, ◌+◌, ◌*◌, ℕ, true, List, sym, ◌∙◌, ap, subst, arith}
 use Rattle.std.specs.Prelude.{is_err}
 use Rattle.card_model.specs.Days.{Day}
 use Rattle.cyclic_days.specs.Held.{Held, Knows, tail_in}

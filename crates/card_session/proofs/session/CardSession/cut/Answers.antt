@@ -1,8 +1,8 @@
-use Rattle.std.proofs.Common.{rules, inl, inr, ◌≡◌, ◌+◌, ◌*◌, ℕ, Bool, true, false, List, Option, Some, None, refl, sym, ◌∙◌, ap, subst, arith}
+use Rattle.std.proofs.Common.{refl, sym, ap, subst}
 use Rattle.std.specs.Prelude.{is_err}
 use Rattle.tach_media.proofs.Runs.{ok_gives}
 use Rattle.card_layout.specs.declared.files.Application.{Application}
-use Rattle.card_session.specs.Sessions.{Session, IsValue, MayKeep}
+use Rattle.card_session.specs.Sessions.{Session, MayKeep}
 use Rattle.card_session.specs.Parts.{DoesPart, IsPartDone, IsPartMoment, AnyBook}
 use Rattle.card_session.specs.Inserting.{with_cut, IsCutting}
 use Rattle.card_session.proofs.OnCard.{string_in}

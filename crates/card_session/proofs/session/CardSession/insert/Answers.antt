@@ -1,5 +1,5 @@
-use Rattle.std.proofs.Common.{rules, inl, inr, ⊎_elim, ◌≡◌, ◌≢◌, ◌+◌, ◌*◌, ◌/◌, ◌<◌, ◌≤◌, ◌^◌, max, ℕ, Bool, true, false, cond, List, Option, length, refl, sym, ◌∙◌, ap, subst, arith}
-use Rattle.std.specs.Prelude.{is_err, nat_eq, All}
+use Rattle.std.proofs.Common.{inl, inr, ◌/◌, ◌<◌, ◌≤◌, max, Bool, true, false, List, Option, length, refl, sym, ◌∙◌, ap, subst, arith}
+use Rattle.std.specs.Prelude.{All}
 use Rattle.tach_media.specs.Medium.{HasCause}
 use Rattle.tach_media.proofs.Runs.{from_reads, if_told, at_image, cause_after}
 use Rattle.activity_codec.specs.declared.entries.Entry.{Entry}

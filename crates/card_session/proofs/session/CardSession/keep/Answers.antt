@@ -1,8 +1,6 @@
-use Rattle.std.proofs.Common.{rules, inl, inr, ◌≡◌, ◌+◌, ◌*◌, ℕ, Bool, true, false, List, Option, Some, None, refl, sym, ◌∙◌, ap, subst, arith}
-use Rattle.std.specs.Prelude.{is_err}
+use Rattle.std.proofs.Common.{Some, refl, ◌∙◌, ap}
 use Rattle.tach_media.proofs.Runs.{weaken}
-use Rattle.tacho_types.specs.declared.numbers.Odometer.{Odometer}
-use Rattle.card_session.specs.Sessions.{Session, IsValue}
+use Rattle.card_session.specs.Sessions.{Session}
 use Rattle.card_session.specs.Cards.{grown}
 use Rattle.card_session.proofs.Told.{session}
 use Rattle.card_session.proofs.Keeping.{kept_moment, kept_told}

@@ -1,9 +1,6 @@
-use Rattle.std.proofs.Common.{rules, inl, inr, ◌≡◌, ◌+◌, ◌*◌, ◌/◌, ◌<◌, ◌≤◌, ℕ, Bool, true, false, List, Option, length, refl, sym, ◌∙◌, ap, subst, arith}
-use Rattle.std.specs.Prelude.{is_err, All}
-use Rattle.activity_codec.specs.declared.entries.Entry.{Entry}
-use Rattle.tach_media.proofs.Runs.{ok_gives}
+use Rattle.std.proofs.Common.{rules, inl, ◌≡◌, ◌/◌, ◌<◌, ◌≤◌, true, false, Option, length, ◌∙◌, ap, subst, arith}
+use Rattle.std.specs.Prelude.{is_err}
 use Rattle.card_layout.specs.declared.files.Application.{Application}
-use Rattle.card_layout.specs.Application.{IsApplication}
 use Rattle.card_image.specs.Fields.{last_use_of, current_use}
 use Rattle.card_records.specs.declared.vehicle.Vehicle.{Vehicle}
 use Rattle.card_session.specs.declared.words.TheConstants.{LATEST_MINUTE}

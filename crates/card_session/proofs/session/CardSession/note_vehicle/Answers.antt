@@ -1,5 +1,5 @@
-use Rattle.std.proofs.Common.{rules, inl, inr, ◌≡◌, ◌+◌, ◌*◌, ℕ, Bool, true, false, List, Option, Some, None, refl, sym, ◌∙◌, ap, subst, arith}
-use Rattle.std.specs.Prelude.{is_err, ◌⊎◌, IfNone}
+use Rattle.std.proofs.Common.{◌≡◌, ℕ, false, Option, None, subst}
+use Rattle.std.specs.Prelude.{◌⊎◌, IfNone}
 use Rattle.card_records.specs.declared.vehicle.Vehicle.{Vehicle}
 use Rattle.card_session.specs.Books.{goes_on_with}
 use Rattle.card_session.proofs.Keeping.{new_use_part}

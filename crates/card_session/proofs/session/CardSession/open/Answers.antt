@@ -1,4 +1,4 @@
-use Rattle.std.proofs.Common.{rules, inl, inr, ◌≡◌, ◌+◌, ◌*◌, ◌≤◌, ℕ, List, length, refl, sym, ◌∙◌, ap, subst, arith}
+use Rattle.std.proofs.Common.{refl}
 use Rattle.tach_media.proofs.Runs.{ok_gives, on_ok, image_then, cause_after}
 use Rattle.card_session.specs.Inserting.{timed, registered}
 use Rattle.card_session.proofs.InsertingUse.{insert_still, opening_failed, opening}

@@ -1,4 +1,3 @@
-use Rattle.std.proofs.Common.{rules, ◌≡◌, ℕ, List, Option, refl, sym, ◌∙◌, ap}
 use Rattle.card_session.proofs.InsertingTaking.{recounted}
 use Rattle.card_session.proofs.session.CardSession.recount.Goals as goal
 

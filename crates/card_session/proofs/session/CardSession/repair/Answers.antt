@@ -1,4 +1,4 @@
-use Rattle.std.proofs.Common.{rules, inl, inr, ◌≡◌, ◌+◌, ◌*◌, ◌/◌, ◌≤◌, ℕ, Bool, true, false, List, length, refl, sym, ◌∙◌, ap, subst, arith}
+use Rattle.std.proofs.Common.{rules, ◌≡◌, ◌/◌, ◌≤◌, ℕ, true, List, length, refl, sym, ◌∙◌, ap, subst, arith}
 use Rattle.std.specs.Prelude.{is_err, All}
 use Rattle.activity_codec.specs.declared.entries.Entry.{Entry}
 use Rattle.card_image.specs.Fields.{last_use_of}

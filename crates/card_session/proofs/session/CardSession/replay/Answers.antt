@@ -1,7 +1,6 @@
-use Rattle.std.proofs.Common.{rules, inl, inr, ◌≡◌, ◌+◌, ◌*◌, ◌<◌, ◌≤◌, ℕ, Bool, true, false, List, length, take, drop, Option, Some, None, refl, sym, ◌∙◌, ap, subst, arith}
+use Rattle.std.proofs.Common.{rules, ◌≡◌, ◌+◌, true, false, take, drop, refl, ◌∙◌, arith}
 use Rattle.std.specs.Prelude.{is_err}
 use Rattle.std.proofs.lemmas.List.{take_all}
-use Rattle.activity_codec.specs.declared.entries.Entry.{Entry}
 use Rattle.card_session.proofs.OnCard.{may_still}
 use Rattle.card_session.proofs.InsertingLoop.{no_entry, goes_none, goes_more, goes_failed, goes_all, goes_open}
 use Rattle.card_session.proofs.session.CardSession.replay.Goals as goal

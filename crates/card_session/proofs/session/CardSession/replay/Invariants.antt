@@ -1,5 +1,4 @@
 use Rattle.std.proofs.Common.{◌≡◌, ◌≤◌, ◌+◌, ◌*◌, false, take, drop}
-use Rattle.tach_media.specs.Medium.{LeavesOnly}
 use Rattle.card_session.specs.Parts.{DoesPart}
 use Rattle.card_session.proofs.InsertingLoop.{Goes, GoesMoment}
 use Rattle.card_session.proofs.session.CardSession.replay.Given as goal

@@ -1,4 +1,4 @@
-use Rattle.std.proofs.Common.{rules, inl, inr, ◌≡◌, ◌+◌, ◌*◌, ◌≤◌, ℕ, List, length, refl, sym, ◌∙◌, ap, subst, arith}
+use Rattle.std.proofs.Common.{rules, ◌≡◌, ◌+◌, ◌≤◌, ℕ, length, ◌∙◌, ap, subst, arith}
 use Rattle.tach_media.proofs.Runs.{ok_gives, on_ok}
 use Rattle.tach_media.specs.Medium.{most_writes}
 use Rattle.card_layout.specs.Files.{place_of}

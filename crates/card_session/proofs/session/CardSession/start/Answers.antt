@@ -1,12 +1,11 @@
-use Rattle.std.proofs.Common.{rules, inl, inr, ⊎_elim, ◌≡◌, ◌+◌, ◌*◌, ◌/◌, ◌<◌, ◌≤◌, ℕ, Bool, true, false, List, Option, length, option_map, refl, sym, ◌∙◌, ap, subst, arith}
+use Rattle.std.proofs.Common.{rules, ⊎_elim, ◌≡◌, Bool, true, false, length, sym, ◌∙◌, subst}
 use Rattle.std.specs.Prelude.{is_err}
 use Rattle.tach_media.specs.Medium.{HasCause}
-use Rattle.tach_media.proofs.Runs.{ok_gives, cause_after}
+use Rattle.tach_media.proofs.Runs.{ok_gives}
 use Rattle.tacho_types.specs.declared.texts.Registration.{Registration}
 use Rattle.card_layout.specs.declared.files.Application.{Application}
-use Rattle.card_session.specs.Sessions.{Session, IsValue}
 use Rattle.card_session.specs.Parts.{DoesPart}
-use Rattle.card_session.specs.Inserting.{IsOpened, IsOpening, IsShutThen, IsShutThenMoment, timed, registered}
+use Rattle.card_session.specs.Inserting.{IsOpened, IsOpening, timed, registered}
 use Rattle.card_session.proofs.OnCard.{may_still}
 use Rattle.card_session.proofs.Composing.{called_then, called_last}
 use Rattle.card_session.proofs.InsertingUse.{insert_still}

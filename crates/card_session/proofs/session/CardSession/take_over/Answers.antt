@@ -1,4 +1,4 @@
-use Rattle.std.proofs.Common.{rules, inl, inr, ⊎_elim, ◌≡◌, ◌≢◌, ◌+◌, ◌*◌, ◌/◌, ◌<◌, ◌≤◌, ℕ, Bool, true, false, cond, List, Option, length, refl, sym, ◌∙◌, ap, subst, arith}
+use Rattle.std.proofs.Common.{rules, ⊎_elim, ◌≡◌, ◌/◌, Bool, true, false, cond, length, sym, ◌∙◌, ap, subst, arith}
 use Rattle.std.specs.Prelude.{is_err, nat_eq}
 use Rattle.std.proofs.lemmas.Grind.{common_steps}
 use Rattle.tach_media.specs.Medium.{HasCause}

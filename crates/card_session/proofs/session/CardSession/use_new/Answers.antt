@@ -1,14 +1,12 @@
-use Rattle.std.proofs.Common.{rules, inl, inr, ◌≡◌, ◌+◌, ◌*◌, ℕ, Bool, true, false, List, length, Option, Some, None, refl, sym, ◌∙◌, ap, subst, arith}
+use Rattle.std.proofs.Common.{rules, ◌≡◌, ◌*◌, ℕ, true, false, List, length, Some, refl, sym, ◌∙◌, ap, subst, arith}
 use Rattle.std.specs.Prelude.{is_err}
-use Rattle.tach_media.proofs.Runs.{ok_gives}
 use Rattle.card_layout.specs.declared.files.Application.{Application}
-use Rattle.card_records.specs.Vehicles.{vehicle_bytes}
 use Rattle.gated_ring.specs.Ring.{Shape}
 use Rattle.card_image.specs.Fields.{vehicle_ring}
 use Rattle.card_session.specs.Sessions.{Session, IsValue, MayKeep}
 use Rattle.card_session.specs.Parts.{AnyBook, with_new_use, IsAddingUse}
 use Rattle.card_records.specs.declared.vehicle.Vehicle.{Vehicle}
-use Rattle.card_session.specs.Books.{Book, begun_vehicle, vehicle_counter}
+use Rattle.card_session.specs.Books.{begun_vehicle, vehicle_counter}
 use Rattle.card_session.proofs.Composing.{failed_part}
 use Rattle.card_session.proofs.Keeping.{new_use_as}
 use Rattle.card_session.proofs.OnCard.{ring_in}

@@ -1,8 +1,5 @@
-use Rattle.std.proofs.Common.{rules, inl, inr, ◌≡◌, ◌+◌, ◌*◌, ℕ, Bool, true, false, List, Option, Some, None, refl, sym, ◌∙◌, ap, subst, arith}
+use Rattle.std.proofs.Common.{rules, ◌≡◌, true}
 use Rattle.std.specs.Prelude.{is_err}
-use Rattle.card_session.specs.Books.{Book}
-use Rattle.card_session.specs.Parts.{AnyBook, with_measured, IsSettingOdometer, with_use, IsUsing}
-use Rattle.card_session.proofs.Composing.{failed_part}
 use Rattle.card_session.proofs.OnCard.{may_still}
 use Rattle.card_session.proofs.Keeping.{on_part, on_then, on_failed}
 use Rattle.card_session.proofs.session.CardSession.use_on.Goals as goal

@@ -1,4 +1,4 @@
-use Rattle.std.proofs.Common.{◌≡◌, ◌+◌, List, [], ℕ, inl, false, IfSome, arith, sym, ◌∙◌}
+use Rattle.std.proofs.Common.{◌≡◌, ◌+◌, List, [], inl, false, IfSome, arith, sym, ◌∙◌}
 use Rattle.tach_media.specs.Medium.{Reads}
 use Rattle.tach_media.proofs.Runs.{goes_on, at_image, where_told, told_too, cause_after}
 use Rattle.card_model.specs.Days.{Day}

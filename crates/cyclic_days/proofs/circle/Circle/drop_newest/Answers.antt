@@ -1,10 +1,10 @@
-use Rattle.std.proofs.Common.{◌≡◌, ◌≢◌, ◌+◌, ◌%◌, ◌≤◌, List, ℕ, length, option_map, arith, refl, sym, ap, ◌∙◌, subst}
-use Rattle.tach_media.specs.Medium.{LeavesOnly, put, bytes_at}
+use Rattle.std.proofs.Common.{◌≡◌, ◌+◌, ◌%◌, ◌≤◌, List, ℕ, length, arith, sym, ap, ◌∙◌, subst}
+use Rattle.tach_media.specs.Medium.{put, bytes_at}
 use Rattle.tach_media.proofs.Runs.{weaken, goes_same, at_image, where_told, turned_into, on_ok}
 use Rattle.card_model.specs.Bytes.{number, two_bytes}
 use Rattle.card_model.specs.Image.{IsPointer, oldest_pointer, newest_pointer, at}
 use Rattle.cyclic_days.specs.Rears.{IsBlock, IsRear}
-use Rattle.cyclic_days.specs.Trim.{IsWithoutLast, IsLosingLast}
+use Rattle.cyclic_days.specs.Trim.{IsWithoutLast}
 use Rattle.cyclic_days.proofs.Rears.{told_put, previous_at, oldest_then, newest_then, block_then}
 use Rattle.cyclic_days.proofs.Trimming.{only_gone, while_only, one_gone, while_one}
 use Rattle.cyclic_days.proofs.circle.Circle.drop_newest.Goals as goal

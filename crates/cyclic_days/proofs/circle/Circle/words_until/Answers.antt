@@ -1,4 +1,4 @@
-use Rattle.std.proofs.Common.{◌≡◌, ◌≤◌, ◌<◌, ◌+◌, ◌-◌, ◌/◌, ◌⊎◌, ℕ, List, Option, IfSome, inl, inr, get_or, length, arith, refl, sym, ap, subst}
+use Rattle.std.proofs.Common.{◌≡◌, ◌≤◌, ◌<◌, ◌+◌, ◌-◌, ◌/◌, ◌⊎◌, ℕ, List, Option, IfSome, inr, get_or, length, arith, refl, sym, ap, subst}
 use Rattle.tach_media.proofs.Runs.{both_told, reads_then}
 use Rattle.activity_codec.specs.Words.{word_minute}
 use Rattle.card_model.specs.Days.{Day}

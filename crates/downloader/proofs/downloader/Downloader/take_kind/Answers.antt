@@ -1,7 +1,6 @@
-use Rattle.std.proofs.Common.{◌≡◌, ◌∙◌, ℕ, List, [], Option, Some, refl, ap, sym, subst, inl}
+use Rattle.std.proofs.Common.{◌≡◌, ◌∙◌, ℕ, List, [], Some, refl, ap, sym, subst, inl}
 use Rattle.std.proofs.KnownBytes.{Appends-nil, Keeps-refl}
 use Rattle.std.proofs.lemmas.Result.{on_ok_weaker, IfErr-weaker}
-use Rattle.link_model.specs.declared.request.Request.{Request}
 use Rattle.downloader.specs.declared.fault.LoadFault.{LoadFault}
 use Rattle.downloader.specs.declared.fault.LoadFault.TheVariants as faults
 use Rattle.downloader.specs.Loading.{Loading, Load, closed, IsRefused, LeavesSink, left_by}

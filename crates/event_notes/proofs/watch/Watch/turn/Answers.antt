@@ -1,5 +1,5 @@
 use Rattle.event_model.specs.Spans.{DriverSecond, SpeedSecond, all_bare, at_speed}
-use Rattle.std.proofs.Common.{ℕ, ◌<◌, List, ◌++◌}
+use Rattle.std.proofs.Common.{◌<◌, ◌++◌}
 use Rattle.event_notes.proofs.Watching.{each-append, bare-row, speed-row, bare-some, over-some}
 use Rattle.event_notes.proofs.watch.Watch.turn.Goals as goal
 

@@ -1,11 +1,10 @@
-use Rattle.std.proofs.Common.{◌≡◌, ◌≢◌, ◌∙◌, ◌&&◌, ℕ, Bool, List, Some, not, length, drop, refl, ap, sym, subst, arith}
+use Rattle.std.proofs.Common.{◌≡◌, ◌≢◌, ◌∙◌, ◌&&◌, ℕ, List, Some, not, drop, refl, ap, sym, subst, arith}
 use Rattle.std.specs.Prelude.{is_some}
 use Rattle.std.specs.Bool.{OnTrue}
 use Rattle.std.proofs.lemmas.List.{length-take-le, length-drop}
 use Rattle.card_layout.specs.Application.{application_of}
-use Rattle.history_view.specs.declared.parts.Found.{Found}
 use Rattle.history_view.specs.CardFiles.{are_sizes, are_days, are_vehicles}
-use Rattle.history_view.specs.Reading.{told_at, value_at}
+use Rattle.history_view.specs.Reading.{told_at}
 use Rattle.history_view.proofs.Finding.{passed_over, sizes_come, days_come, vehicles_come, value_yes, value_no}
 use Rattle.history_view.proofs.parts.Found.take.Goals as goal
 

@@ -1,4 +1,4 @@
-use Rattle.std.proofs.Common.{◌≡◌, ◌≤◌, ◌-◌, length}
+use Rattle.std.proofs.Common.{◌≤◌, ◌-◌, length}
 use Rattle.std.specs.Option.{ForSome}
 use Rattle.card_layout.specs.Application.{IsApplication}
 use Rattle.history_view.proofs.Fronts.{Front}

@@ -1,4 +1,4 @@
-use Rattle.std.proofs.Common.{◌≡◌, sym, subst, arith}
+use Rattle.std.proofs.Common.{sym, subst, arith}
 use Rattle.history_view.specs.Deciding.{Decides}
 use Rattle.history_view.specs.UnitShowing.{slot_words}
 use Rattle.history_view.proofs.UnitDays.{driver_word, codriver_word}

@@ -1,6 +1,6 @@
 use Rattle.std.proofs.Common.{◌≡◌, ◌∙◌, ℕ, ◌∷◌, ◌++◌, [], List, drop, refl, sym, subst}
 use Rattle.std.specs.Prelude.{OnOk}
-use Rattle.message_model.specs.Messages.{Message, AnOverview, ADay}
+use Rattle.message_model.specs.Messages.{Message, AnOverview}
 use Rattle.unit_messages.specs.Reading.{BeginsWith}
 use Rattle.history_view.specs.UnitShowing.{AreTold}
 use Rattle.history_view.proofs.Telling.{rest_is}

@@ -1,6 +1,5 @@
-use Rattle.std.proofs.Common.{◌≡◌, ◌∙◌, ℕ, ◌+◌, List, length, drop, refl, ap, sym, subst, arith}
-use Rattle.std.proofs.lemmas.List.{length-drop}
-use Rattle.unit_messages.specs.Reading.{BeginsWith, BeginsNoMessage}
+use Rattle.std.proofs.Common.{drop, refl, subst}
+use Rattle.unit_messages.specs.Reading.{BeginsNoMessage}
 use Rattle.history_view.proofs.Telling.{rest_is}
 use Rattle.history_view.proofs.UnitFronts.{no_message}
 use Rattle.history_view.proofs.unit.Told.take_at.Goals as goal

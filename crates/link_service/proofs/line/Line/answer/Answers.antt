@@ -1,4 +1,4 @@
-use Rattle.std.proofs.Common.{◌<◌, length, ◌∙◌, length-take, length-drop, arith}
+use Rattle.std.proofs.Common.{◌∙◌, length-take, length-drop, arith}
 use Rattle.unit_messages.proofs.Calls.{any_then}
 use Rattle.transfer_session.proofs.IfAny.{same_size}
 use Rattle.unit_journal.proofs.IfAny.{read_same}

@@ -1,4 +1,4 @@
-use Rattle.std.proofs.Common.{◌≡◌, ℕ, ◌+◌, ◌-◌, ◌/◌, ◌%◌, ◌≤◌, sym, subst, arith}
+use Rattle.std.proofs.Common.{◌≡◌, ℕ, ◌+◌, ◌-◌, ◌/◌, ◌%◌, subst, arith}
 use Rattle.run_crew.specs.Cabin.{KnowsEnded}
 use Rattle.run_acts.proofs.run.Run.end_minute.Goals as goal
 

@@ -1,9 +1,8 @@
 use Rattle.std.proofs.Common.{◌≡◌, ◌∙◌, ℕ, Some, None, inr, ap, subst, sym}
 use Rattle.slot_machine.specs.Kept.{Kept, KnowsNewest, put_in}
 use Rattle.run_crew.specs.declared.cards.Cards.{Cards}
-use Rattle.run_crew.specs.declared.cabin.Cabin.{Cabin}
 use Rattle.run_crew.specs.Cards.{with_session, with_number}
-use Rattle.run_crew.specs.Cabin.{Stands, with_accepted}
+use Rattle.run_crew.specs.Cabin.{Stands}
 use Rattle.run_crew.proofs.Moves.{accept-stands}
 use Rattle.run_crew.proofs.cabin.Cabin.accept.Goals as goal
 

@@ -1,4 +1,4 @@
-use Rattle.std.proofs.Common.{◌≡◌, None, inl, subst, sym}
+use Rattle.std.proofs.Common.{None, inl, subst, sym}
 use Rattle.slot_machine.specs.Kept.{Kept, KnowsNewest}
 use Rattle.run_crew.specs.Cabin.{Stands}
 use Rattle.run_crew.proofs.Moves.{put-stands}

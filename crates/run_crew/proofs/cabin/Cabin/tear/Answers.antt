@@ -1,11 +1,10 @@
-use Rattle.std.proofs.Common.{◌≡◌, ◌∙◌, ℕ, Option, Some, None, ap, subst, sym, refl}
+use Rattle.std.proofs.Common.{◌≡◌, ◌∙◌, Option, None, ap, subst, sym}
 use Rattle.activity_codec.specs.declared.values.Slot.{Slot}
-use Rattle.trace_model.specs.declared.Card.{Card}
 use Rattle.slot_machine.specs.Kept.{Kept, KnowsNewest}
 use Rattle.run_crew.specs.declared.cards.Cards.{Cards}
 use Rattle.run_crew.specs.declared.cabin.Cabin.{Cabin}
 use Rattle.run_crew.specs.Cards.{with_session}
-use Rattle.run_crew.specs.Cabin.{Stands, slot_with, left_from, torn_out}
+use Rattle.run_crew.specs.Cabin.{Stands, slot_with, left_from}
 use Rattle.run_crew.proofs.Moves.{tear-stands, tear-left}
 use Rattle.run_crew.proofs.cabin.Cabin.tear.Goals as goal
 use Rattle.run_crew.proofs.cabin.Cabin.tear.Goals.{in-Some, in_default}

@@ -1,4 +1,4 @@
-use Rattle.std.proofs.Common.{◌≡◌, ◌∙◌, ℕ, List, Option, IfSome, ap, subst, sym}
+use Rattle.std.proofs.Common.{◌∙◌, Option, IfSome, ap, subst}
 use Rattle.owed_model.specs.Rows.{IsPutting}
 use Rattle.tacho_types.specs.CardNumber.{card_number_bytes}
 use Rattle.tacho_types.specs.declared.card_number.FullCardNumber.{FullCardNumber}

@@ -1,12 +1,12 @@
-use Rattle.std.proofs.Common.{◌≡◌, ◌∙◌, ℕ, Bool, cond, Option, Some, None, List, ◌++◌, map, refl, ap, sym, subst, nat_lt}
+use Rattle.std.proofs.Common.{◌≡◌, ◌∙◌, ℕ, Bool, cond, Some, None, ◌++◌, map, refl, ap, sym, subst, nat_lt}
 use Rattle.std.specs.Prelude.{option_map, option_to_list, unwrap_or}
 use Rattle.event_model.specs.declared.entries.Over.{Over}
 use Rattle.event_model.specs.declared.entries.Span.{Span}
-use Rattle.event_model.specs.Spans.{DriverSecond, bares_of, all_bare, at_speed}
+use Rattle.event_model.specs.Spans.{bares_of, all_bare, at_speed}
 use Rattle.event_rules.specs.Bare as bare_feed
 use Rattle.event_notes.proofs.Watching.{bare-row, speed-row, bare-some, over-some}
 use Rattle.run_crew.specs.declared.cards.Crew.{Crew}
-use Rattle.run_notes.specs.Watching.{CrewSecond, seconds_with, is_bare_at, driver_second, speed_second, BareWith, OverWith, bares_with, overs_with, StandsFor}
+use Rattle.run_notes.specs.Watching.{seconds_with, driver_second, speed_second, BareWith, OverWith, bares_with, overs_with, StandsFor}
 use Rattle.run_notes.proofs.Fed.{bares-given, overs-given, stands-on, late-on, drivers-late, speeds-late}
 use Rattle.run_notes.proofs.watch.Watch.feed.Goals as goal
 

@@ -1,4 +1,4 @@
-use Rattle.std.proofs.Common.{◌+◌, ◌<◌, ◌≤◌, arith}
+use Rattle.std.proofs.Common.{arith}
 use Rattle.run_outcome.proofs.Items.{offs-most}
 use Rattle.run_outcome.proofs.outcome.Outcome.reserve.Goals as goal
 

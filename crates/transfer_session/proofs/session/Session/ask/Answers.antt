@@ -1,4 +1,4 @@
-use Rattle.std.proofs.Common.{◌≡◌, Option, sym, ◌∙◌, ap}
+use Rattle.std.proofs.Common.{Option, sym, ◌∙◌, ap}
 use Rattle.std.specs.Prelude.{is_some}
 use Rattle.unit_journal.specs.declared.notes.Notes.{Notes}
 use Rattle.transfer_session.specs.Told.{SessionView, is_judged}

@@ -1,4 +1,4 @@
-use Rattle.std.proofs.Common.{◌+◌, ◌-◌, ◌*◌, ◌≤◌, List, ℕ, length, subst, sym}
+use Rattle.std.proofs.Common.{◌-◌, ◌≤◌, List, ℕ, length, subst, sym}
 use Rattle.unit_memory.proofs.Told.{one_told}
 use Rattle.message_model.specs.Sending.{content_sent}
 use Rattle.answer_table.specs.Sending.{IsPart}

@@ -1,4 +1,4 @@
-use Rattle.std.proofs.Common.{List, IfSome, OnOk, sym, ◌∙◌, subst, ℕ}
+use Rattle.std.proofs.Common.{List, IfSome, OnOk, ◌∙◌, subst, ℕ}
 use Rattle.std.specs.Prelude.{is_err}
 use Rattle.tacho_types.specs.CardNumber.{card_number_bytes}
 use Rattle.tach_media.specs.Medium.{LeavesOnly}

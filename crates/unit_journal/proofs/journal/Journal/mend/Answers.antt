@@ -1,4 +1,4 @@
-use Rattle.std.proofs.Common.{◌≡◌, ℕ, length, IfSome, refl, sym, ◌∙◌, ap, subst}
+use Rattle.std.proofs.Common.{◌≡◌, length, IfSome, refl, sym, ◌∙◌, ap, subst}
 use Rattle.tach_media.proofs.Runs.{weaken, at_image, where_told, turned_into}
 use Rattle.unit_model.specs.declared.layout.TheConstants.{IMAGE_SIZE}
 use Rattle.unit_model.proofs.Sized.{unit_sized}

@@ -1,4 +1,4 @@
-use Rattle.std.proofs.Common.{rules, lit<, length, ◌*◌, ◌≡◌, ℕ, min, ◌+◌, ◌<◌, ◌++◌, ◌∙◌, List, Some, Bool, true, sym, ap, subst, arith}
+use Rattle.std.proofs.Common.{rules, lit<, length, ◌*◌, ◌≡◌, ℕ, min, ◌+◌, ◌<◌, ◌∙◌, List, Some, Bool, true, sym, ap, subst, arith}
 use Rattle.std.specs.Prelude.{is_err}
 use Rattle.tach_media.proofs.Runs.{at_image}
 use Rattle.write_plan.specs.Plan.{Pieces, PutsBy}

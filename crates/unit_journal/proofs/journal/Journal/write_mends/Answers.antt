@@ -1,4 +1,4 @@
-use Rattle.std.proofs.Common.{rules, ◌≡◌, ◌+◌, ◌≤◌, Bool, true, IfSome, sym, subst, arith}
+use Rattle.std.proofs.Common.{rules, ◌≡◌, Bool, true, IfSome, sym, subst, arith}
 use Rattle.std.specs.Prelude.{is_err, OnOk}
 use Rattle.tach_media.proofs.Runs.{on_ok}
 use Rattle.write_plan.specs.Plan.{PutsBy}

@@ -1,4 +1,4 @@
-use Rattle.std.proofs.Common.{◌≡◌, ◌≢◌, ◌∙◌, ◌+◌, ◌/◌, min, sym, ap}
+use Rattle.std.proofs.Common.{◌≡◌, ◌∙◌, ◌+◌, ◌/◌, min, sym, ap}
 use Rattle.tach_media.proofs.Runs.{if_told, on_ok, ok_gives}
 use Rattle.gated_ring.specs.Ring.{taken}
 use Rattle.unit_model.specs.declared.layout.TheConstants.{DAY_SLOTS}

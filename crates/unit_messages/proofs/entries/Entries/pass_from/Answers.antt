@@ -1,4 +1,4 @@
-use Rattle.std.proofs.Common.{◌≡◌, ◌-◌, ◌∙◌, ℕ, ◌∷◌, [], ap, inr, refl, sym, arith, rules, true, Bool}
+use Rattle.std.proofs.Common.{◌≡◌, ◌-◌, ◌∙◌, ℕ, ap, inr, arith, rules}
 use Rattle.std.specs.Prelude.{is_err}
 use Rattle.std.specs.List.{range_with_len}
 use Rattle.card_layout.specs.Fields.{joined}

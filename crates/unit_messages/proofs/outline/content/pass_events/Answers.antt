@@ -1,4 +1,4 @@
-use Rattle.std.proofs.Common.{◌≡◌, ◌∙◌, Some, ap, rules}
+use Rattle.std.proofs.Common.{◌∙◌, ap, rules}
 use Rattle.std.specs.Prelude.{is_err}
 use Rattle.message_model.specs.Sending.{event_table, over_table, fault_table}
 use Rattle.unit_memory.proofs.Told.{told_all}

@@ -1,4 +1,3 @@
-use Rattle.std.proofs.Common.{refl}
 use Rattle.unit_memory.proofs.Told.{told_all}
 use Rattle.unit_messages.proofs.Joints.{at_told}
 use Rattle.unit_messages.proofs.Contents.{technical_passed}

@@ -1,4 +1,4 @@
-use Rattle.std.proofs.Common.{◌≡◌, ◌≤◌, ◌∙◌, ℕ, Option, Some, None, IfSome, List, sym, subst}
+use Rattle.std.proofs.Common.{◌≡◌, ◌≤◌, ℕ, Option, Some, IfSome, sym, subst}
 use Rattle.std.specs.Prelude.{IfOk}
 use Rattle.std.proofs.lemmas.Result.{IfOk-weaker}
 use Rattle.unit_model.specs.declared.layout.TheConstants.{DAY_WORD_LIMIT, HIGHEST_ODOMETER}
@@ -8,7 +8,6 @@ use Rattle.unit_journal.proofs.IfAny.{read_same}
 use Rattle.unit_journal.specs.Reading.{AreRight, IsOfDate, IsSlotPlace}
 use Rattle.unit_journal.specs.declared.journal.reading.UnitDay.{UnitDay}
 use Rattle.link_model.specs.declared.request.Request.TheVariants.{Day as AskDay}
-use Rattle.unit_messages.specs.declared.outline.Plan.{Plan}
 use Rattle.unit_messages.specs.Outlines.{IsOutlined, asked}
 use Rattle.unit_messages.proofs.Calls.{any_then}
 use Rattle.unit_messages.proofs.Joints.{at_told}

@@ -1,4 +1,4 @@
-use Rattle.std.proofs.Common.{◌≡◌, ap}
+use Rattle.std.proofs.Common.{ap}
 use Rattle.link_model.specs.declared.request.Request.TheVariants.{Day as AskDay}
 use Rattle.unit_memory.proofs.Told.{told_all}
 use Rattle.unit_messages.proofs.Joints.{at_told}

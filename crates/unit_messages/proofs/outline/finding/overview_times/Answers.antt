@@ -1,4 +1,4 @@
-use Rattle.std.proofs.Common.{◌≡◌, ◌*◌, refl, inr, arith, rules}
+use Rattle.std.proofs.Common.{refl, inr, arith, rules}
 use Rattle.std.specs.Prelude.{is_err}
 use Rattle.unit_memory.proofs.Told.{told_all}
 use Rattle.unit_messages.proofs.Calls.{no_call, any_failed}

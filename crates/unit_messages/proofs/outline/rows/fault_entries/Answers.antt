@@ -1,4 +1,4 @@
-use Rattle.std.proofs.Common.{◌≡◌, ap, subst, sym, arith}
+use Rattle.std.proofs.Common.{ap, subst, sym, arith}
 use Rattle.unit_model.specs.declared.layout.TheConstants.{FAULTS}
 use Rattle.unit_messages.specs.declared.entries.Entries.{Entries}
 use Rattle.unit_messages.specs.Chosen.{AreEntries, entries_of}

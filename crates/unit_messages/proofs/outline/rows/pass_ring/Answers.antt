@@ -1,6 +1,5 @@
-use Rattle.std.proofs.Common.{◌≡◌, ◌*◌, ◌≤◌, ◌<◌, ℕ, length, subst, sym, ap, ◌∙◌, inr, refl, arith, rules}
+use Rattle.std.proofs.Common.{◌≡◌, ◌*◌, ◌<◌, ℕ, subst, sym, ap, ◌∙◌, inr, refl, arith, rules}
 use Rattle.std.specs.Prelude.{is_err}
-use Rattle.card_layout.specs.Images.{number_at}
 use Rattle.card_layout.specs.Fields.{joined}
 use Rattle.tach_media.proofs.Runs.{both_told}
 use Rattle.gated_ring.specs.Ring.{next, pointer, order}

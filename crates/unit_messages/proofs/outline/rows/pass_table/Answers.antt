@@ -1,4 +1,4 @@
-use Rattle.std.proofs.Common.{◌≡◌, ◌*◌, ◌≤◌, ◌∙◌, length, refl, sym, arith, rules}
+use Rattle.std.proofs.Common.{◌∙◌, sym, arith}
 use Rattle.unit_memory.proofs.Told.{told_all}
 use Rattle.unit_messages.proofs.Calls.{no_call}
 use Rattle.unit_messages.proofs.Joints.{at_told}

@@ -1,4 +1,3 @@
-use Rattle.std.proofs.Common.{arith}
 use Rattle.unit_messages.proofs.Windows.{words_spelled}
 use Rattle.unit_messages.proofs.window.Window.pass_words.Goals as goal
 

@@ -1,4 +1,4 @@
-use Rattle.std.proofs.Common.{◌≡◌, ◌*◌, length, arith, rules}
+use Rattle.std.proofs.Common.{◌≡◌, ◌*◌, length, rules}
 use Rattle.unit_messages.proofs.Windows.{words_told}
 use Rattle.unit_messages.proofs.window.Window.pass_words_at.Goals as goal
 

@@ -1,4 +1,4 @@
-use Rattle.std.proofs.Common.{◌≡◌, ◌≢◌, rules, List, ℕ, length, sym, ◌∙◌, ap, subst}
+use Rattle.std.proofs.Common.{◌≡◌, rules, length, ◌∙◌}
 use Rattle.unit_notes.proofs.Fronts.{event_front, front_begins}
 use Rattle.tach_media.proofs.Runs.{weaken}
 use Rattle.unit_notes.proofs.Journals.{table_keeps, table_decodes}

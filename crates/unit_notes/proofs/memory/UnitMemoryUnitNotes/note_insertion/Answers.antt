@@ -1,7 +1,6 @@
-use Rattle.std.proofs.Common.{◌≡◌, ◌≤◌, ◌<◌, ◌+◌, length, IfSome, IfOk, List, ℕ, sym, ◌∙◌, ap, subst, refl, rules, arith}
-use Rattle.tach_media.specs.Medium.{LeavesOnly}
+use Rattle.std.proofs.Common.{◌≡◌, ◌≤◌, ◌+◌, length, IfSome, IfOk, List, ℕ, subst, rules}
 use Rattle.gated_ring.specs.Ring.{Shape, PointsInside, taken}
-use Rattle.gated_ring.specs.Change.{IsAdding, IsAdded, adding_writes}
+use Rattle.gated_ring.specs.Change.{IsAdding, adding_writes}
 use Rattle.message_model.specs.Records.{insertion_ring}
 use Rattle.unit_notes.proofs.Withdrawing.{shape_fits, shape_writable, number_opens, insertions_inside}
 use Rattle.tach_media.proofs.Runs.{weaken}

@@ -1,9 +1,9 @@
-use Rattle.std.proofs.Common.{◌≡◌, ◌≢◌, inl, IfSome, rules, List, ℕ, length, sym, ◌∙◌, ap, subst}
+use Rattle.std.proofs.Common.{inl, IfSome, List, ℕ, subst}
 use Rattle.tach_media.specs.Medium.{LeavesOnly}
 use Rattle.tach_media.proofs.Runs.{weaken, on_ok, ok_gives, settled_then}
 use Rattle.unit_notes.specs.Noting.{IsNotingOver, IsOverNoted}
 use Rattle.unit_notes.proofs.Fronts.{front_begins}
-use Rattle.unit_notes.proofs.Counting.{over_entry, over_begin, over_number, over_noted}
+use Rattle.unit_notes.proofs.Counting.{over_begin, over_number, over_noted}
 use Rattle.unit_model.proofs.Sized.{unit_sized}
 use Rattle.unit_notes.specs.Entries.{over_bytes}
 use Rattle.unit_notes.proofs.Journals.{over_keeps, over_decodes}

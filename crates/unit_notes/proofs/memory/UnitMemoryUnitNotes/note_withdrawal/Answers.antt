@@ -1,9 +1,7 @@
-use Rattle.std.proofs.Common.{◌≡◌, ◌≤◌, ◌<◌, ◌+◌, ◌⊎◌, inl, inr, length, List, ℕ, Option, Some, IfSome, sym, ◌∙◌, ap, subst, refl, rules, arith}
-use Rattle.tach_media.specs.Medium.{LeavesOnly}
+use Rattle.std.proofs.Common.{List, ℕ, IfSome, subst}
 use Rattle.tach_media.proofs.Runs.{weaken, goes_on, at_image, on_ok, ok_gives}
 use Rattle.gated_ring.specs.Change.{IsSet, OrUnwritten}
 use Rattle.message_model.specs.Records.{insertion_ring}
-use Rattle.unit_notes.specs.Noting.{IsWithdrawing}
 use Rattle.unit_notes.proofs.Withdrawing.{withdrawing_first, withdrawing_next, withdrawn_told}
 use Rattle.unit_notes.proofs.Journals.{withdrawal_keeps, withdrawal_decodes}
 use Rattle.unit_notes.proofs.memory.UnitMemoryUnitNotes.note_withdrawal.Goals as goal

@@ -1,4 +1,4 @@
-use Rattle.std.proofs.Common.{◌≡◌, ◌∙◌, ℕ, List, length, replicate}
+use Rattle.std.proofs.Common.{◌≡◌, ◌∙◌, length, replicate}
 use Rattle.unit_notes.proofs.ZeroBytes.{zero_read}
 use Rattle.unit_notes.proofs.zeros.ZerosMedium.read_at.Goals as goal
 

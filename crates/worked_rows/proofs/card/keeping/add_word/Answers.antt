@@ -1,4 +1,4 @@
-use Rattle.std.proofs.Common.{◌≡◌, ◌∙◌, sym, ap}
+use Rattle.std.proofs.Common.{◌∙◌, sym, ap}
 use Rattle.card_image.specs.Fields.{day_string}
 use Rattle.worked_rows.proofs.Ports.{days_fit, days_writable}
 use Rattle.worked_rows.proofs.card.keeping.add_word.Goals as goal

@@ -1,4 +1,4 @@
-use Rattle.std.proofs.Common.{◌≡◌, ◌≤◌, ◌∙◌, refl, ap, subst}
+use Rattle.std.proofs.Common.{◌≤◌, ◌∙◌, refl, ap, subst}
 use Rattle.card_layout.specs.declared.files.Application.{Application}
 use Rattle.card_layout.specs.Files.{image_size_of}
 use Rattle.card_commands.specs.Ports.{port_state}

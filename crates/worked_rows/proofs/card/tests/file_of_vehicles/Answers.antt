@@ -1,4 +1,4 @@
-use Rattle.std.proofs.Common.{◌≡◌, ◌≤◌, ◌+◌, ◌*◌, refl, arith}
+use Rattle.std.proofs.Common.{◌≤◌, ◌+◌, ◌*◌, refl}
 use Rattle.card_layout.specs.declared.files.Fid.{Fid}
 use Rattle.card_layout.specs.Files.{files_of, image_size_of}
 use Rattle.card_layout.proofs.Ranges.{range_inside}

@@ -1,4 +1,4 @@
-use Rattle.std.proofs.Common.{◌/◌, ◌<◌, arith}
+use Rattle.std.proofs.Common.{arith}
 use Rattle.worked_rows.proofs.card.tests.inserted.Goals as goal
 
 pub insertion-requires-clause-owed : goal.insertion-requires-clause-owed

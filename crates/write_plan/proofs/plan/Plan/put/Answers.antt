@@ -1,8 +1,8 @@
-use Rattle.std.proofs.Common.{rules, arith, ◌≡◌, ◌++◌, ◌∷◌, [], map, ap, sym, ◌∙◌, subst, List, length, ◌<◌, ◌≤◌}
+use Rattle.std.proofs.Common.{rules, arith, ◌≡◌, ◌++◌, ◌∷◌, [], map, ap, sym, subst}
 use Rattle.std.proofs.lemmas.List.{map-append}
 use Rattle.std.specs.List.{AllByRecursion}
 use Rattle.write_plan.specs.Held.{piece_of}
-use Rattle.write_plan.specs.Plan.{Piece, Pieces, piece, IsInside, IsPlan}
+use Rattle.write_plan.specs.Plan.{Pieces, piece, IsInside}
 use Rattle.write_plan.proofs.Looping.{inside_more}
 use Rattle.write_plan.proofs.plan.Plan.put.Goals as goal
 
