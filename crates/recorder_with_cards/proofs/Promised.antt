@@ -330,9 +330,6 @@ due-supply IsDue h = refl
 due-supply IsLost h = absurd h
 
 module _ (x a b : List ℕ) (start : ℕ) (began now : Devices) (opened : Opened) (ready : IsReady (opened_with x a b) start opened began now) where
-  abbrev first-r : Recording
-  first-r = opened_with x a b
-
   abbrev first-o : Origin
   first-o = origin_of x a b start began
 

@@ -249,14 +249,6 @@ module _ (o : Origin) (done : List TraceSecond) (s : TraceSecond) (at : Phase) (
   pub from-low : w.from ≤ s.number / 60
   from-low = let most = ungiven-most w.sp w.minutes.settled in let to = w.until in let n = number in let e = same-end in omega (arith, most, to, n, e, ends)
 
-  pub from-few : run.next / 60 ≤ ungiven_of span + 4 → s.number / 60 ≤ w.from + 4
-  from-few few =
-      let mine = ungiven-most w.sp w.minutes.settled in
-      let theirs = ungiven-most span stands.settled in
-      let owing = sym (ap (λ (k : Kept). k.owing) w.minutes.kept) ∙ ap (λ (k : Kept). k.owing) stands.kept in
-      let to = w.until in let n = number in let e = same-end in
-      omega (arith, mine, theirs, owing, to, n, e, ends, few)
-
 -- ---- A NOTE ON THE UNIT
 
 module _ (o : Origin) (done : List TraceSecond) (s : TraceSecond) (n : ℕ) (run : Run) (out : Outcome) (U V X Y : State) (whole : IsCoherent U) (unit : LeavesOnly U V LeavesJournal) (span : Span) (stands : StandsFor run.minutes span) (ends : end_of span ≡ run.next)
