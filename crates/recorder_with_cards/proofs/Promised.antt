@@ -29,7 +29,7 @@ use Rattle.joint_rule.specs.Rules.{Out}
 use Rattle.unit_course.specs.Followed.{Supply, Lit as IsLit, Due as IsDue, Lost as IsLost}
 use Rattle.unit_course.specs.Legs.{not_travelled}
 use Rattle.unit_model.specs.declared.layout.TheConstants.{HIGHEST_ODOMETER}
-use Rattle.unit_model.specs.Image.{last_kept, odometer_at}
+use Rattle.unit_model.specs.Image.{recorded, last_kept, odometer_at}
 use Rattle.unit_model.specs.Decoding.{Decodes}
 use Rattle.unit_rule.specs.Odometer.{HasTravelled}
 use Rattle.unit_rule.specs.Rule.{started}
@@ -37,6 +37,7 @@ use Rattle.unit_rule.proofs.Travelling.{travelled-opened}
 use Rattle.unit_journal.proofs.Beside.{passes_beside}
 use Rattle.unit_memory.specs.declared.format.Identity.{Identity}
 use Rattle.safety_model.specs.Recording.{Recording, card_image, brought, history_of, lost_of, start_of}
+use Rattle.safety_model.specs.Unit.{UnitSafe}
 use Rattle.safety_model.specs.Safe.{Devices, card_of, breakdowns_of}
 use Rattle.slot_machine.specs.Kept.{nothing_yet}
 use Rattle.run_crew.specs.declared.cards.Accepted.{Accepted}
@@ -95,7 +96,8 @@ use Rattle.recorder_with_cards.proofs.SideShown.{insertions-inside, places-insid
 use Rattle.recorder_with_cards.proofs.Written.{are-written, keep-holders}
 use Rattle.recorder_with_cards.specs.Placed.{ShowsPlaces}
 use Rattle.recorder_with_cards.proofs.KeptAfter.{end-kept}
-use Rattle.recorder_with_cards.proofs.LastKept.{tells-last}
+use Rattle.recorder_with_cards.specs.LastKept.{TellsLast}
+use Rattle.recorder_with_cards.proofs.LastKept.{safe-last}
 use Rattle.run_acts.specs.Closings.{spells_of}
 use Rattle.run_acts.specs.Comings.{TellsMore}
 use Rattle.run_acts.proofs.Comings.{tells-none}
@@ -200,7 +202,7 @@ module _ (x a b : List ℕ) (start : ℕ) (items : List Item) (began now : Devic
       clock = λ s is. let number = first-second start items s is in let later = may.later in omega (arith, number, later);
       numbers = may.numbers;
     };
-    ends = ends-so (seconds_of start items) h.evented.recorded.supply (values_of run out) h.evented.recorded.recorded unit_whole card_whole found may.decodes;
+    ends = let safe = run-ends.safe in record run-ends { safe = record safe { unit = unit-last.0 } };
     side = record { shows = λ y left. (shows y left).shows };
     written = are-written o (seconds_of start items) h.evented.recorded.supply (values_of run out) began now h.evented.recorded.recorded (found-by r0 (seconds_of start items) (log_of out) (found_in r0 began) began found);
     stays = λ none.
@@ -230,10 +232,7 @@ module _ (x a b : List ℕ) (start : ℕ) (items : List Item) (began now : Devic
           };
         };
     kept = end-kept o ss run out now h.evented.recorded h.spans h.ringed.spans_are h.stored;
-    last =
-        let hr = h.evented.recorded.recorded in
-        tells-last (started x began.unit.clock) (history_of r) (lost_of r) hr.due hr.book out.marks.items now.unit hr.recorded.followed.follows
-        (is-carried (seconds_of start items) (values_of run out) (carried (values_of run out) hr.due hr.book hr.standing hr.brought) h.evented.recorded.supply hr.held).unit;
+    last = unit-last.1;
     dense = record {
       insertions = λ dense y left. (h.ringed.ringed.insertions (record { points = insertions-inside x may.decodes; dense = dense }) y left).shows.carries.dense;
       places = λ dense y left. (h.ringed.ringed.places (record { points = places-inside x may.decodes; dense = dense }) y left).carries.dense;
@@ -265,6 +264,16 @@ module _ (x a b : List ℕ) (start : ℕ) (items : List Item) (began now : Devic
 
       of_image : (c : Card) → (found_of o.found c).image ≡ card_image r c
       of_image c = found.image c ∙ sym (images c)
+
+      run-ends : EndsRun r out.marks.items began now
+      run-ends = ends-so (seconds_of start items) h.evented.recorded.supply (values_of run out) h.evented.recorded.recorded unit_whole card_whole found may.decodes
+
+      -- the unit's part of the theorem, with the last-kept minutes
+      unit-last : (s : UnitSafe (recorded x) (history_of r) (lost_of r) out.marks.items began.unit.clock now.unit) × TellsLast (last_kept x) s
+      unit-last =
+          let hr = h.evented.recorded.recorded in
+          safe-last (started x began.unit.clock) (history_of r) (lost_of r) hr.due hr.book out.marks.items now.unit hr.recorded.followed.follows
+          (is-carried (seconds_of start items) (values_of run out) (carried (values_of run out) hr.due hr.book hr.standing hr.brought) h.evented.recorded.supply hr.held).unit run-ends.safe.unit
 
       -- what was owed to it at the start does not hang on the seconds
       owes-as : (c : Card) (stays : List Stay) → AreOwed (IsOwed (rule_of o) (start_at o) (log_of out) (seconds_of start items) c (brought r0 c).owed) run.keeper.memory.registration (own_sizes (card_image r c)).activity stays (start_shown (card_image r c)) →

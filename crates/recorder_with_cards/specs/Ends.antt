@@ -5,9 +5,9 @@ use Rattle.trace_model.specs.Trace.{TraceSecond, seconds_of}
 use Rattle.minute_model.specs.declared.Rule.TheVariants.{Original}
 use Rattle.log_model.specs.Log.{RunLog}
 use Rattle.unit_model.specs.Decoding.{Decodes}
-use Rattle.unit_model.specs.Image.{recorded, last_kept}
+use Rattle.unit_model.specs.Image.{last_kept}
 use Rattle.card_image.specs.Own.{own_number, IsOwnValid}
-use Rattle.safety_model.specs.Recording.{Recording, history_of, lost_of}
+use Rattle.safety_model.specs.Recording.{Recording}
 use Rattle.safety_model.specs.Safe.{Devices, MayBegin, breakdowns_of}
 use Rattle.safety_model.specs.Side.{Side}
 use Rattle.run_rule.specs.Opening.{BeginsAs}
@@ -77,7 +77,7 @@ pub record EndsTrace (unit card_a card_b : List ℕ) (start : ℕ) (items : List
   pub written : AreWritten (recording_of unit card_a card_b start items out) now
   pub stays : HasAllStays (recording_of unit card_a card_b start items out) out.marks.items now
   pub kept : TellsKept (recording_of unit card_a card_b start items out) began.unit.clock now.unit
-  pub last : TellsLast (recorded unit) (last_kept unit) (history_of (recording_of unit card_a card_b start items out)) (lost_of (recording_of unit card_a card_b start items out)) out.marks.items began.unit.clock now.unit
+  pub last : TellsLast (last_kept unit) ends.safe.unit
   pub dense : StayDense (recording_of unit card_a card_b start items out) now
   pub holders : KeepTheirHolders (recording_of unit card_a card_b start items out) began now
   pub places : ShowTheirPlaces (recording_of unit card_a card_b start items out) now

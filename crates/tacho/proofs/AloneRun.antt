@@ -109,11 +109,15 @@ module _ (x : List ℕ) (start : ℕ) (items : List Item) (out : Outcome) (U V A
     lost-same : lost_in r ≡ lost_of cards out start items
     lost-same = with-lost-any Original (start_of r) cards log told (plain-told told none-in)
 
+    -- its part of the theorem, with the last-kept minutes
+    safe-same : (s : UnitSafe (recorded x) (history_of cards out start items) (lost_of cards out start items) out.marks.items U.clock V) × TellsLast (last_kept x) s
+    safe-same = subst (λ (is : List HistoryMinute). (s : UnitSafe (recorded x) is (lost_of cards out start items) out.marks.items U.clock V) × TellsLast (last_kept x) s) history-same
+        (subst (λ (ls : List (List HistoryMinute)). (s : UnitSafe (recorded x) (history_in r) ls out.marks.items U.clock V) × TellsLast (last_kept x) s) lost-same (h.ends.safe.unit, h.last))
+
     -- THE RUN ON THE UNIT ALONE
     pub is-alone : IsAlone cards x start items U.clock out V
     is-alone = record {
-      safe = subst (λ (is : List HistoryMinute). UnitSafe (recorded x) is (lost_of cards out start items) out.marks.items U.clock V) history-same
-          (subst (λ (ls : List (List HistoryMinute)). UnitSafe (recorded x) (history_in r) ls out.marks.items U.clock V) lost-same h.ends.safe.unit);
+      safe = safe-same.0;
       none = λ c. (h.ends.safe.card c).unmarked (none-valid c);
       issued = h.ends.safe.issued;
       odometer = h.ends.odometer;
@@ -123,8 +127,7 @@ module _ (x : List ℕ) (start : ℕ) (items : List Item) (out : Outcome) (U V A
       insertions = λ dense y left. shows-old insertion_ring _ _ _ x y (ap insertions_of (notes-nothing log ss selects)) ((h.side.shows y left).insertions dense) (h.dense.insertions dense y left);
       places = λ dense y left. shows-old unit_place_ring _ _ _ x y (ap places_of (notes-nothing log ss selects)) ((h.side.shows y left).places dense) (h.dense.places dense y left);
       kept = h.kept;
-      last = subst (λ (is : List HistoryMinute). TellsLast (recorded x) (last_kept x) is (lost_of cards out start items) out.marks.items U.clock V) history-same
-          (subst (λ (ls : List (List HistoryMinute)). TellsLast (recorded x) (last_kept x) (history_in r) ls out.marks.items U.clock V) lost-same h.last);
+      last = safe-same.1;
       complete = h.ends.caused.complete.unit;
       whole = λ none.
           let w = h.ends.whole (none, no-failed-tears _ _ _ ss log selects h.ends.caused.causes) in (

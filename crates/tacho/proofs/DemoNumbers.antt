@@ -53,12 +53,17 @@ module _ (x a b : List ℕ) (start : ℕ) (items : List Item) (out : Outcome) (p
         (λ i c. cards c i) (h.insertions dense);
   }
 
+  -- the unit's part of the theorem, with the last-kept minutes
+  safe-by : (s : UnitSafe (recorded r.unit) (history_of r) (lost_of r) out.marks.items p.unit.clock now.unit) → TellsLast (last_kept r.unit) s →
+      (t : UnitSafe (recorded r.unit) (history_of r) (lost_of r) out.marks.items q.unit.clock now.unit) × TellsLast (last_kept r.unit) t
+  safe-by s last = subst (λ (n : ℕ). (t : UnitSafe (recorded r.unit) (history_of r) (lost_of r) out.marks.items n now.unit) × TellsLast (last_kept r.unit) t) unit (s, last)
+
   pub ends-by : EndsTrace x a b start items out p now → EndsTrace x a b start items out q now
   ends-by h = record {
     may = h.may;
     ends = record {
       safe = record {
-        unit = subst (λ (n : ℕ). UnitSafe (recorded r.unit) (history_of r) (lost_of r) out.marks.items n now.unit) unit h.ends.safe.unit;
+        unit = (safe-by h.ends.safe.unit h.last).0;
         issued = subst (λ (n : ℕ). (y : List ℕ) → now.unit.left_since n y → issued_bytes y ≡ issued_bytes r.unit) unit h.ends.safe.issued;
         card = λ c. subst (λ (n : ℕ). CardSafe r c out.marks.items n (card_of now c)) (cards c) (h.ends.safe.card c);
         both = h.ends.safe.both;
@@ -80,7 +85,7 @@ module _ (x a b : List ℕ) (start : ℕ) (items : List Item) (out : Outcome) (p
     written = h.written;
     stays = h.stays;
     kept = subst (λ (n : ℕ). TellsKept r n now.unit) unit h.kept;
-    last = subst (λ (n : ℕ). TellsLast (recorded r.unit) (last_kept r.unit) (history_of r) (lost_of r) out.marks.items n now.unit) unit h.last;
+    last = (safe-by h.ends.safe.unit h.last).1;
     dense = h.dense;
     holders = λ c. subst (λ (n : ℕ). KeepsHolder r c n (card_of now c)) (cards c) (h.holders c);
     places = h.places;

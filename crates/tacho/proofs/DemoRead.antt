@@ -12,7 +12,7 @@ use Rattle.history_model.specs.Minutes.{HistoryMinute}
 use Rattle.tach_media.specs.Medium.{State, LeavesOnly, Unchanged}
 use Rattle.unit_journal.specs.Reading.{ReadsIfAny}
 use Rattle.unit_model.specs.Days.{ShownDay}
-use Rattle.unit_model.specs.Image.{recorded}
+use Rattle.unit_model.specs.Image.{recorded, last_kept}
 use Rattle.message_model.specs.Records.{insertion_ring}
 use Rattle.side_model.specs.Noted.{insertions_of}
 use Rattle.side_model.specs.Rings.{RingShows, IsInsertion, is_sure_insertion}
@@ -31,6 +31,7 @@ use Rattle.recorder_with_cards.specs.Words.{ShowsStays}
 use Rattle.recorder_with_cards.specs.Ends.{recording_of, EndsTrace}
 use Rattle.recorder_with_cards.specs.Sessions.{TellsFirst, HasComeBefore, TellsAtStart}
 use Rattle.recorder_with_cards.specs.CardEvents.{ShowsItsEvents}
+use Rattle.recorder_with_cards.specs.LastKept.{TellsLast}
 use Rattle.recorder_with_cards.proofs.KeptAfter.{more-found}
 use Rattle.tacho.specs.Anew.{EndsAnew, began_at}
 
@@ -67,6 +68,15 @@ module _ (U V : State) (is : IsRead U V) where
     decodes = λ x left. h.decodes x (back since x low left);
     in_order = h.in_order;
     marked = λ m there. mark-read start past lost m (h.marked m there);
+  }
+
+  last-read : (start : List ShownDay) (past : List HistoryMinute) (lost : List (List HistoryMinute)) (marks : List Mark) (since first : ℕ) (low : since ≤ U.clock) (s : UnitSafe start past lost marks since U) → TellsLast first s → TellsLast first (unit-read start past lost marks since low s)
+  unfolding unit-read
+  last-read start past lost marks since first low s h = record {
+    last = λ x left. h.last x (back since x low left);
+    until = λ x left. h.until x (back since x low left);
+    began = h.began;
+    held = λ m at x left. h.held m at x (back m.clock x (s.marked m at).clock left);
   }
 
   module _ (x a b : List ℕ) (start : ℕ) (items : List Item) (out : Outcome) (p : Devices) (Y Z : State) (before : p.unit.clock ≤ U.clock) where
@@ -209,11 +219,7 @@ module _ (U V : State) (is : IsRead U V) where
                 befores = record { comings = s.befores.comings; lines = s.befores.lines; merged = s.befores.merged; tells = λ dense y left. s.befores.tells dense y (now-back y left) };
               };
           kept = more-found (U.left_since p.unit.clock) (V.left_since p.unit.clock) (λ y left. is.leaves.keeps p.unit.clock y before left) r.log (spans_of (told_of r)) h.kept;
-          last = record {
-            shown = λ y left. h.last.shown y (back p.unit.clock y before left);
-            began = h.last.began;
-            held = λ m at y left. h.last.held m at y (back m.clock y (h.ends.safe.unit.marked m at).clock left);
-          };
+          last = last-read (recorded r.unit) (history_of r) (lost_of r) out.marks.items p.unit.clock (last_kept r.unit) before h.ends.safe.unit h.last;
           dense = record { insertions = λ dense y left. h.dense.insertions dense y (now-back y left); places = λ dense y left. h.dense.places dense y (now-back y left) };
           holders = λ c valid y left. h.holders c valid y (told-back c y left);
           places = record { spans = h.places.spans; are_spans = h.places.are_spans; shows = λ c valid dense y left. h.places.shows c valid dense y (card-back c y left) };
