@@ -90,8 +90,7 @@ use Rattle.run_acts.proofs.OnCards.{start-shown}
 use Rattle.run_acts.proofs.Numbers.{own-long}
 use Rattle.recorder_with_cards.specs.Carded.{RunCarded}
 use Rattle.recorder_with_cards.specs.Ends.{BeginAs, recorded_with, recording_of, opened_with, origin_of, MayRecord, EndsTrace}
-use Rattle.recorder_with_cards.proofs.Waiting.{first-second}
-use Rattle.recorder_with_cards.specs.Sessions.{TellFirst}
+use Rattle.recorder_with_cards.specs.Side.{ShowTheSide}
 use Rattle.recorder_with_cards.proofs.SideShown.{insertions-inside, places-inside, side-shown}
 use Rattle.recorder_with_cards.proofs.Written.{are-written, keep-holders}
 use Rattle.recorder_with_cards.specs.Placed.{ShowsPlaces}
@@ -197,13 +196,9 @@ module _ (x a b : List ℕ) (start : ℕ) (items : List Item) (began now : Devic
   pub promised : (run : Run) (out : Outcome) → RunCarded o (seconds_of start items) run out now → (run.power ≡ Lit → (low : ℕ) × Stands low None run.keeper.cabin) → IsCoherent now.unit → ((c : Card) → IsCoherent (card_of now c)) → MayRecord x a b start → IsFound r0 (found_in r0 began) began →
       EndsTrace x a b start items out began now
   promised run out carded sits unit_whole card_whole may found = record {
-    may = record {
-      decodes = may.decodes;
-      clock = λ s is. let number = first-second start items s is in let later = may.later in omega (arith, number, later);
-      numbers = may.numbers;
-    };
+    may = may;
     ends = let safe = run-ends.safe in record run-ends { safe = record safe { unit = unit-last.0 } };
-    side = record { shows = λ y left. (shows y left).shows };
+    side = shows;
     written = are-written o (seconds_of start items) h.evented.recorded.supply (values_of run out) began now h.evented.recorded.recorded (found-by r0 (seconds_of start items) (log_of out) (found_in r0 began) began found);
     stays = λ none.
         let all = h.evented.recorded.stay none in
@@ -239,7 +234,6 @@ module _ (x a b : List ℕ) (start : ℕ) (items : List Item) (began now : Devic
     };
     holders = keep-holders o (seconds_of start items) h.evented.recorded.supply (values_of run out) began now h.evented.recorded.recorded (found-by r0 (seconds_of start items) (log_of out) (found_in r0 began) began found);
     places = record { spans = h.spans; are_spans = record { spans_are = h.ringed.spans_are; bases = stores.0 }; shows = shows-places };
-    sessions = shows;
     cards = λ c valid.
         let one = carded.cards c (subst IsOwnValid (images c) valid) in
         record {
@@ -304,7 +298,7 @@ module _ (x a b : List ℕ) (start : ℕ) (items : List Item) (began now : Devic
       stores : HaveBases (rule_of o) (log_of out) (odometer_at x) (last_kept x) [] h.spans × ((y : List ℕ) → now.unit.may_leave y → MayStore (rule_of o) (odometer_at x) (last_kept x) h.spans (last_kept y) (odometer_at y))
       stores = end-stores o ss run out now h.evented.recorded h.spans h.ringed.spans_are h.stored
 
-      shows : TellFirst r began now
+      shows : ShowTheSide r began now
       shows y left =
           side-shown r began now y may.decodes
           (events-shown began now o (seconds_of start items) (log_of out) run.unfound run.next h.evented.recorded.supply h.evented.evented r refl images refl refl clocks y left)
