@@ -1,5 +1,5 @@
 -- A port's state from its loading on.
-use Rattle.std.proofs.Common.{◌≡◌, ℕ, ◌≤◌, Bool, true, List, length, Option, Some, None, IfSome, is_none, if◌then◌else◌, refl, sym, ◌∙◌, ap, subst, arith}
+use Rattle.std.proofs.Common.{◌≡◌, ℕ, ◌≤◌, true, List, length, Option, Some, None, IfSome, is_none, if◌then◌else◌, refl, sym, ◌∙◌, ap, subst, arith}
 use Rattle.std.specs.Prelude.{option_and_then}
 use Rattle.std.specs.Option.{ForSome}
 use Rattle.std.proofs.lemmas.List.{take_all}
@@ -11,21 +11,13 @@ use Rattle.card_layout.specs.declared.command.Directory.TheVariants.{Tachograph}
 use Rattle.card_layout.specs.declared.command.ElementaryFile.{ElementaryFile}
 use Rattle.tach_media.specs.Medium.{State, bytes_at}
 use Rattle.card_layout.specs.Outcomes.{Fixes, in_directory, is_under}
-use Rattle.card_commands.specs.Ports.{IsPort, told_by, sizes_of, application_file}
+use Rattle.card_commands.specs.Ports.{IsPort, told_by, application_file}
 
 -- what is fixed is there
 fixed_some : (image before after : Option (List ℕ)) → Fixes true image before after → (bytes : List ℕ) × (after ≡ Some bytes)
 fixed_some image (Some bytes) after fixes = (bytes, fixes)
 fixed_some image None None fixes = absurd fixes
 fixed_some image None (Some bytes) fixes = (bytes, refl)
-
--- and stays
-fixed_stays : (app : Application) (needed : Bool) (image before after : Option (List ℕ)) → option_and_then told_by before ≡ Some app → Fixes needed image before after → after ≡ before
-fixed_stays app needed image None after told fixes = absurd (cc)
-fixed_stays app needed image (Some bytes) after told fixes = fixes
-
-pub sizes_stay : (app : Application) (needed : Bool) (image : Option (List ℕ)) (card : CardState) (after : Option (List ℕ)) → sizes_of card ≡ Some app → Fixes needed image card.application after → after ≡ card.application
-sizes_stay app needed image card after told fixes = fixed_stays app needed image card.application after told fixes
 
 said_of : {o : Option (List ℕ)} (P : List ℕ → Type 0) {x : List ℕ} → o ≡ Some x → IfSome o P → P x
 said_of {o} P {x} is said = subst (λ (p : Option (List ℕ)). IfSome p P) is said
@@ -54,30 +46,3 @@ loaded app out c0 c1 c2 c3 image s e1 e2 e3 fixes ten told judged good size work
           let same : application_file ≡ file = cc in
           ap (λ (d : Directory). is_under d file.fid) directory ∙ ap (λ (f : ElementaryFile). is_under Tachograph f.fid) (sym same);
     }
-
--- the file that a port held for selected is forgotten
-pub forgotten : (app : Application) (selected : Option ElementaryFile) (card card' : CardState) (s s' : State) → IsPort app selected card s → s'.size ≡ s.size → card'.application ≡ card.application → IsPort app None card' s'
-forgotten app selected card card' s s' port size same = record {
-  good = port.good;
-  size = omega (arith, port.size, size);
-  sizes = ap (option_and_then told_by) same ∙ port.sizes;
-  works = λ file is. absurd (cc);
-  chosen = λ file is. absurd (cc);
-  current = λ file is. absurd (cc);
-}
-
--- a file is selected
-pub held : (app : Application) (selected : Option ElementaryFile) (card card' : CardState) (s s' : State) (file : ElementaryFile) → IsPort app selected card s → s'.size ≡ s.size → card'.application ≡ card.application
-    → s'.works ≡ true → card'.selected ≡ Some file → is_under card'.directory file.fid ≡ true → IsPort app (Some file) card' s'
-held app selected card card' s s' file port size same works chosen current = record {
-  good = port.good;
-  size = omega (arith, port.size, size);
-  sizes = ap (option_and_then told_by) same ∙ port.sizes;
-  works = λ f is. works;
-  chosen = λ f is. chosen ∙ is;
-  current = λ f is. let equal : file ≡ f = cc in subst (λ (e : ElementaryFile). is_under card'.directory e.fid ≡ true) equal current;
-}
-
--- a port without the file that it held for selected
-pub resumable : {app : Application} {selected : Option ElementaryFile} {card : CardState} {s : State} → IsPort app selected card s → IsPort app None card s
-resumable {app} {selected} {card} {s} port = forgotten app selected card card s s port refl refl

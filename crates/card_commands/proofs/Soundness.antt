@@ -5,7 +5,7 @@ use Rattle.std.proofs.lemmas.Bool.Decides.{nat_tests}
 use Rattle.std.proofs.lemmas.Grind.{common_steps}
 use Rattle.card_layout.specs.declared.command.CardState.{CardState}
 use Rattle.tach_media.specs.Medium.{State, IsCoherent, LiesInside, LeavesOnly, Unchanged, HasCause, bytes_at}
-use Rattle.card_layout.specs.Outcomes.{just_issued, after_reset}
+use Rattle.card_layout.specs.Outcomes.{just_issued}
 use Rattle.card_commands.specs.Performing.{IsSound, covers}
 
 -- the test of a range, and what it says
@@ -42,10 +42,6 @@ sound_reads card works works' s s' whole sound run known = sound_after card work
 pub ok_works : {A E : Type 0} {s s' : State} (r : Result A E) → HasCause s s' (is_err r) → is_ok r ≡ true → s'.works ≡ true
 ok_works (Ok a) cause ok = cause.works
 ok_works (Err e) cause ok = absurd (cc)
-
--- a card that was reset
-pub sound_reset : (card : CardState) (works : Bool) (s : State) → IsSound card works s → IsSound (after_reset card) works s
-sound_reset card works s sound = record { size = sound.size; writable = sound.writable; known = sound.known; selected = λ f is. absurd (cc); ten = sound.ten; agrees = sound.agrees }
 
 -- a card that was issued goes by no bytes yet
 pub sound_issued : {R : List ℕ → List ℕ → Type 0} (card : CardState) (works works' : Bool) (s s' : State) → IsSound card works s → LeavesOnly s s' R → (works' ≡ true → s'.works ≡ true) → IsSound just_issued works' s'

@@ -1,6 +1,6 @@
 -- What is copied behind what was copied before.
 use Rattle.std.proofs.Common.{◌≡◌, ◌≢◌, ℕ, ◌≤◌, ◌+◌, ◌-◌, min, List, [], ◌∷◌, ◌++◌, length, take, map, Option, Some, IfSome, Result, Ok, Err, refl, sym, ◌∙◌, ap, subst, append_assoc, append-nil, arith, length-take, length-drop}
-use Rattle.std.specs.Prelude.{IfErr, IsErrAnd, false, nat_eq}
+use Rattle.std.specs.Prelude.{IsErrAnd, false, nat_eq}
 use Rattle.std.proofs.lemmas.Bool.Decides.{nat_tests}
 use Rattle.std.proofs.lemmas.List.{take-append-le, take_min}
 use Rattle.std.proofs.Math.Seq.{take-append-add}
@@ -16,9 +16,7 @@ use Rattle.card_layout.specs.declared.files.CardFile.{CardFile}
 use Rattle.card_layout.specs.Files.{files_of, place_of, size_of}
 use Rattle.card_image.specs.CardFile.{card_file, entry_bytes}
 use Rattle.card_download.specs.declared.fault.CopyFault.{CopyFault}
-use Rattle.card_download.specs.declared.fault.CopyFault.TheVariants.{Failed, WriteFault}
 use Rattle.card_download.specs.Copied.{Copies, head_bytes, file_part}
-use Rattle.card_download.specs.Faults.{copy_failed}
 
 -- a front of bytes is a front of more
 pub front_more : (h k : Option (List ℕ)) (xs ys : List ℕ) → AppendsFront h k xs → AppendsFront h k (xs ++ ys)
@@ -40,12 +38,6 @@ pub err_copies : {T : Type 0} (r : Result T CopyFault) (e : CopyFault) (bytes : 
 err_copies (Ok done) e bytes h k is front = absurd is
 err_copies (Err fault) e bytes h k is front = front
 
--- the sink alone may have failed
-pub no_card_failed : {T : Type 0} (r : Result T CopyFault) → IfErr r (λ fault. fault ≡ WriteFault) → copy_failed r ≡ false
-no_card_failed (Ok done) only = refl
-no_card_failed (Err Failed) only = absurd (cc)
-no_card_failed (Err WriteFault) only = refl
-
 -- of a range, so many bytes and then some more
 module _ (x : List ℕ) (base k n : ℕ) (h m l : Option (List ℕ)) where
   pub range_on : Appends h m (bytes_at x base k) → Appends m l (bytes_at x (base + k) n) → Appends h l (bytes_at x base (k + n))
@@ -59,9 +51,6 @@ module _ (x : List ℕ) (base k n : ℕ) (h m l : Option (List ℕ)) where
       subst (λ (b : List ℕ). AppendsFront h l b) (sym (part_split x base k n)) (front_behind h m l (bytes_at x base k) (bytes_at x (base + k) n) first next) in
       subst (λ (b : List ℕ). AppendsFront h l b) (sym (part_split x base (k + n) rest) ∙ ap (λ (q : ℕ). bytes_at x base q) (sym whole))
       (front_more h l (bytes_at x base (k + n)) (bytes_at x (base + (k + n)) rest) front)
-
-pub range_none : (x : List ℕ) (base : ℕ) (h : Option (List ℕ)) → Appends h h (bytes_at x base 0)
-range_none x base h = Appends-nil h
 
 -- THE PARTS OF FILES
 no_download : (n : ℕ) → n ≢ 0x050E → nat_eq n 0x050E ≡ false
@@ -119,9 +108,3 @@ module _ (app : Application) (o p : Option (List ℕ)) (same : p ≡ o) (file : 
       let cut = at_image (λ y. AppendsFront k l (file_part app y file)) (same ∙ told) next in
       subst (λ (b : List ℕ). AppendsFront h l b) (moved x s.0 s.2)
       (front_more h l (s.0 ++ file_part app x file) (joined (map (file_part app x) more)) (front_behind h k l s.0 (file_part app x file) s.1 cut))
-
--- all were copied
-pub arrives : (app : Application) (x : List ℕ) (rest : List CardFile) (h k : Option (List ℕ)) → rest ≡ [] → IsOnTheWay app rest h k x → Appends h k (card_file app x)
-arrives app x rest h k none sent =
-    let same : sent.0 ≡ card_file app x = sym (append-nil sent.0) ∙ ap (λ (fs : List CardFile). sent.0 ++ joined (map (file_part app x) fs)) (sym none) ∙ sent.2 in
-    subst (λ (b : List ℕ). Appends h k b) same sent.1

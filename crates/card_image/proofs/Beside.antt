@@ -157,7 +157,3 @@ last_is (j ∷ k ∷ js) i = last_is (k ∷ js) i
 pub last_use_at : (app : Application) (x : List ℕ) (i : ℕ) → IsLast (vehicle_ring app) x i → last_use app x ≡ (vehicle_of (entry_at (vehicle_ring app) x i)).last_use.0
 unfolding newest_vehicle
 last_use_at app x i last = ap (λ (js : List ℕ). last_use_of (vehicle_at app x (last_of js))) last.indices_are ∙ ap (λ (o : Option ℕ). last_use_of (vehicle_at app x o)) (last_is last.older i)
-
-pub no_last_use : (app : Application) (x : List ℕ) → indices (vehicle_ring app) x ≡ [] → last_use app x ≡ 0
-unfolding newest_vehicle
-no_last_use app x none = ap (λ (js : List ℕ). last_use_of (vehicle_at app x (last_of js))) none

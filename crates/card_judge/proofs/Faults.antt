@@ -1,5 +1,5 @@
 -- An answer that `?` made of a failure.
-use Rattle.std.proofs.Common.{◌≡◌, ◌∙◌, ℕ, Bool, true, false, Result, Ok, Err, IfOk, refl, sym, ap, subst}
+use Rattle.std.proofs.Common.{◌≡◌, ℕ, true, Result, Ok, Err, IfOk, refl, sym, subst}
 use Rattle.std.specs.Prelude.{IfErr, IsErrAnd}
 use Rattle.card_layout.specs.declared.files.Fid.{Fid}
 use Rattle.card_judge.specs.declared.fault.InsertFault.{InsertFault}
@@ -36,22 +36,3 @@ passed (Err f) e Q is q = subst Q (sym is) q
 pub passed_ok : {T E : Type 0} (r : Result T E) (e : E) (P : T → Type 0) → IsErrAnd r (λ v. v ≡ e) → IfOk r P
 passed_ok (Ok v) e P is = absurd is
 passed_ok (Err f) e P is = tt
-
-abbrev fails : InsertFault → Bool
-fails Failed = true
-fails (NotValid fid place) = false
-fails (TimeOverlap stored now) = false
-
-pub passed_failed : {T U : Type 0} (r : Result T InsertFault) (s : Result U InsertFault) (e : InsertFault) → IsErrAnd r (λ v. v ≡ e) → s ≡ Err e → has_failed r ≡ has_failed s
-passed_failed (Ok v) s e is was = absurd is
-passed_failed {T = T} {U = U} (Err f) s e is was = of f ∙ ap fails is ∙ sym (of_other e) ∙ sym (ap (λ (q : Result U InsertFault). has_failed q) was)
-  where
-    of : (g : InsertFault) → has_failed {T = T} (Err g) ≡ fails g
-    of Failed = refl
-    of (NotValid fid place) = refl
-    of (TimeOverlap stored now) = refl
-
-    of_other : (g : InsertFault) → has_failed {T = U} (Err g) ≡ fails g
-    of_other Failed = refl
-    of_other (NotValid fid place) = refl
-    of_other (TimeOverlap stored now) = refl

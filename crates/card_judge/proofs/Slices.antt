@@ -1,5 +1,5 @@
 -- Reads of bytes in memory do not fail.
-use Rattle.std.proofs.Common.{◌≡◌, ℕ, true, List, Option, Some, None, Result, Ok, Err, refl, subst, arith}
+use Rattle.std.proofs.Common.{◌≡◌, ℕ, List, Option, Some, None, Result, Ok, Err, refl, subst, arith}
 use Rattle.std.specs.Prelude.{IfOk, IfSome, IsOk, OnOk, is_err}
 use Rattle.tach_media.specs.declared.fault.Failed.{Failed}
 use Rattle.tach_media.specs.Medium.{Reads}
@@ -8,9 +8,6 @@ use Rattle.tach_media.specs.SliceMedium.{slice_state}
 pub never_fails : {A : Type 0} (a b : List ℕ) (r : Result A Failed) → Reads (slice_state a) (slice_state b) (is_err r) → IsOk r
 never_fails a b (Ok v) reads = refl
 never_fails a b (Err e) reads = absurd (omega (arith, reads.cause.fault refl))
-
-pub never_failed : (a b : List ℕ) → Reads (slice_state a) (slice_state b) true → ⊥
-never_failed a b reads = omega (arith, reads.cause.fault refl)
 
 -- what follows of an image that is told from two facts of it
 pub told_both : (o : Option (List ℕ)) (P Q R : List ℕ → Type 0) → ((x : List ℕ) → P x → Q x → R x) → IfSome o P → IfSome o Q → IfSome o R

@@ -1,7 +1,7 @@
 -- Fields that are cut and joined again.
 use Rattle.std.proofs.Common.{◌≡◌, ℕ, ◌+◌, List, [], ◌∷◌, ◌++◌, length, take, drop, refl, sym, arith, inl, inr}
 use Rattle.std.proofs.lemmas.Bool.{cases_lt}
-use Rattle.std.proofs.lemmas.List.{take-append-drop, take_at, drop_at, get_or-drop, get_or-take, get_or_past, length-take, length-drop, length-append}
+use Rattle.std.proofs.lemmas.List.{take-append-drop, take_at, drop_at, get_or-drop, get_or-take, get_or_past, length-take, length-drop}
 use Rattle.byteorder.specs.Endian.{big_number, big_bytes}
 use Rattle.byteorder.specs.Numbers.{length-bytes_high_first}
 use Rattle.card_layout.specs.Fields.{IsBytes, FitIn, HaveWidths, cut, joined, total_width, numbers_of, numbers_written}
@@ -38,13 +38,6 @@ numbers_of-numbers_written (width ∷ widths) (n ∷ numbers) fit =
     let rest : drop width (big_bytes width n ++ numbers_written widths numbers) ≡ numbers_written widths numbers =
     drop_at (big_bytes width n) (numbers_written widths numbers) width (length-bytes_high_first width n) in
     rw (front, rest, big_number-big_bytes width n fit.0, numbers_of-numbers_written widths numbers fit.1) refl
-
--- as many bytes as the widths say
-pub length-numbers_written : (widths numbers : List ℕ) → FitIn widths numbers → length (numbers_written widths numbers) ≡ total_width widths
-length-numbers_written [] numbers fit = refl
-length-numbers_written (width ∷ widths) [] fit = absurd fit
-length-numbers_written (width ∷ widths) (n ∷ numbers) fit =
-    omega (arith, length-append (big_bytes width n) (numbers_written widths numbers), length-bytes_high_first width n, length-numbers_written widths numbers fit.1)
 
 -- fields that are joined and cut again
 pub cut-joined : (widths : List ℕ) (fields : List (List ℕ)) → HaveWidths widths fields → cut widths (joined fields) ≡ fields

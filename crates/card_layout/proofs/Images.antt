@@ -1,6 +1,6 @@
 -- Parts of images, and images that differ in a range alone.
 use Rattle.std.proofs.Common.{◌≡◌, ℕ, ◌+◌, ◌-◌, ◌≤◌, List, ◌++◌, length, take, drop, refl, sym, ◌∙◌, ap, arith, append_assoc, take-add, length-append, length-drop}
-use Rattle.std.proofs.lemmas.List.{take_at, drop_at, take-take, length-take-le, drop-drop, drop-take, take-append-drop, take-append-le, drop-append-le}
+use Rattle.std.proofs.lemmas.List.{take_at, drop_at, take-take, length-take-le, drop-drop, drop-take, take-append-drop}
 use Rattle.card_layout.specs.Images.{bytes_at, put, SameOutside}
 
 -- a part that ends before the range, or begins behind it, is the same
@@ -26,15 +26,6 @@ pub part_put : (place : ℕ) (bytes x : List ℕ) → place + length bytes ≤ l
 part_put place bytes x le =
     let front : length (take place x) ≡ place = length-take-le place x (omega (arith, le)) in
     ap (λ (l : List ℕ). take (length bytes) l) (drop_at (take place x) (bytes ++ drop (place + length bytes) x) place front) ∙ take_at bytes (drop (place + length bytes) x) (length bytes) refl
-
--- a part of what was written stands there
-pub part_put_inside : (place : ℕ) (bytes x : List ℕ) (a n : ℕ) → place + length bytes ≤ length x → a + n ≤ length bytes → bytes_at (put place bytes x) (place + a) n ≡ bytes_at bytes a n
-part_put_inside place bytes x a n le within =
-    let rest = drop (place + length bytes) x in
-    let front : length (take place x) ≡ place = length-take-le place x (omega (arith, le)) in
-    let behind : drop (place + a) (put place bytes x) ≡ drop a bytes ++ rest =
-    sym (drop-drop a place (put place bytes x)) ∙ ap (λ (l : List ℕ). drop a l) (drop_at (take place x) (bytes ++ rest) place front) ∙ drop-append-le a bytes rest (omega (arith, within)) in
-    ap (λ (l : List ℕ). take n l) behind ∙ take-append-le n (drop a bytes) rest (omega (arith, within, length-drop a bytes))
 
 -- a write of what stands there already changes nothing
 pub put_same : (place n : ℕ) (x : List ℕ) → place + n ≤ length x → put place (bytes_at x place n) x ≡ x

@@ -1,5 +1,5 @@
 -- The sizes of a card's files, where the sizes that it tells are in their ranges.
-use Rattle.std.proofs.Common.{◌≡◌, ◌∙◌, sym, subst, ℕ, ◌+◌, ◌*◌, ◌≤◌, ◌<◌, ◌^◌, Option, Some, IfSome, arith}
+use Rattle.std.proofs.Common.{◌≡◌, ◌∙◌, sym, subst, ℕ, ◌+◌, ◌*◌, ◌≤◌, Option, Some, IfSome, arith}
 use Rattle.card_layout.specs.declared.files.Application.{Application}
 use Rattle.card_layout.specs.declared.files.Fid.{Fid}
 use Rattle.card_layout.specs.declared.files.Range.{Range}
@@ -18,11 +18,6 @@ smallest_image app good = omega arith
 -- ranges by their parts
 ranged : {b c m n : ℕ} → b ≡ c → m ≡ n → (let o : Option Range = Some (record { base = b; len = m }) in o) ≡ Some (record { base = c; len = n })
 ranged place size = (λ t. Some (record { base = place t; len = size t }))
-
--- at any sizes
-pub image_fits : (app : Application) → app.events < 2 ^ 8 → app.faults < 2 ^ 8 → app.activity < 2 ^ 16 → app.vehicles < 2 ^ 16 → app.places < 2 ^ 8 → image_size_of app < 2 ^ 22
-unfolding files_of
-image_fits app e f a v p = omega arith
 
 -- the place and the size of each file that the unit updates
 abbrev At : Application → ℕ → (base len : ℕ) → Type 0

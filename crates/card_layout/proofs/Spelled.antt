@@ -5,7 +5,7 @@ use Rattle.std.specs.Int.{from_be_bytes, to_be_bytes, w32}
 use Rattle.std.proofs.lemmas.List.{get_or-take, get_or-drop}
 use Rattle.byteorder.specs.Endian.{big_number, big_bytes}
 use Rattle.byteorder.specs.Numbers.{length-bytes_high_first}
-use Rattle.card_layout.specs.Images.{bytes_at, put, number, number_at, SameOutside}
+use Rattle.card_layout.specs.Images.{bytes_at, put, number_at, SameOutside}
 use Rattle.card_layout.proofs.Images.{part_before, part_after, part_put, part_in}
 use Rattle.card_layout.proofs.Numbers.{big_number-big_bytes}
 
@@ -30,10 +30,6 @@ number_put p n v x le small =
 -- the number in a part of a part
 pub number_within : (x : List ℕ) (p w q n : ℕ) → q + n ≤ w → number_at (bytes_at x p w) q n ≡ number_at x (p + q) n
 number_within x p w q n le = ap (big_number n) (part_in x p w q n le)
-
--- the number in all the bytes of a part
-pub number_of_part : (x : List ℕ) (p n : ℕ) → length (bytes_at x p n) ≡ n → number (bytes_at x p n) ≡ number_at x p n
-number_of_part x p n len = ap (λ (m : ℕ). big_number m (bytes_at x p n)) len
 
 -- the number in two bytes, by the two
 pub number_two_bytes : (x : List ℕ) (p : ℕ) → number_at x p 2 ≡ slice_index x p * 256 + slice_index x (p + 1)

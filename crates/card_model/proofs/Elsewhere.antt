@@ -1,18 +1,13 @@
 -- A write outside the file of days changes nothing of what it holds, and nothing of how it is judged.
-use Rattle.std.proofs.Common.{◌≡◌, ◌⊎◌, inl, inr, ℕ, ◌+◌, ◌-◌, ◌%◌, ◌≤◌, Bool, true, false, List, [], ◌∷◌, sym, ◌∙◌, ap, subst, arith}
+use Rattle.std.proofs.Common.{◌≡◌, ℕ, ◌+◌, ◌-◌, ◌%◌, ◌≤◌, Bool, true, false, List, [], ◌∷◌, sym, ◌∙◌, ap, subst, arith}
 use Rattle.std.specs.Prelude.{nat_eq, ◌&&◌}
-use Rattle.tach_media.specs.Medium.{bytes_at, SameOutside}
-use Rattle.tach_media.proofs.Images.{part_before, part_after, part_in}
+use Rattle.tach_media.specs.Medium.{bytes_at}
+use Rattle.tach_media.proofs.Images.{part_in}
 use Rattle.card_model.specs.Bytes.{number}
 use Rattle.card_model.specs.Days.{Day, far}
 use Rattle.card_model.specs.Image.{StringShape, turned, oldest_pointer, newest_pointer, string_of, circle_of, IsPointer, IsPlace, Holds}
 use Rattle.card_model.specs.Walk.{days_in, days_of}
 use Rattle.card_model.specs.Checks.{Check, check, first_failing, is_pointer, day_checks, distance_of, is_empty, checks_of, first_bad}
-
--- a write before the file or behind it
-pub file_outside : (r : StringShape) (place len : ℕ) (x c : List ℕ) → (place + len ≤ r.base) ⊎ (r.base + (4 + r.size) ≤ place) → SameOutside place len x c → bytes_at c r.base (4 + r.size) ≡ bytes_at x r.base (4 + r.size)
-file_outside r place len x c (inl low) same = part_after place len r.base (4 + r.size) x c same low
-file_outside r place len x c (inr high) same = part_before place len r.base (4 + r.size) x c same high
 
 -- the checks of a string, by what they are made of
 abbrev checks_in : StringShape → (empty : Bool) → (oldest newest : ℕ) → List ℕ → List Check

@@ -1,6 +1,5 @@
 -- Numbers in bytes, read back.
-use Rattle.std.proofs.Common.{◌≡◌, ℕ, ◌+◌, ◌*◌, ◌/◌, ◌%◌, ◌<◌, ◌≤◌, [], ◌∷◌, ◌∙◌, ap, arith}
-use Rattle.card_layout.specs.Images.{big_bytes}
+use Rattle.std.proofs.Common.{◌≡◌, ℕ, ◌+◌, ◌*◌, ◌/◌, ◌%◌, ◌<◌, ◌≤◌, ◌∙◌, ap, arith}
 use Rattle.card_model.specs.Bytes.{number, two_bytes, four_bytes, decimal_bytes, decimal}
 
 pub number_two : (n : ℕ) → number (two_bytes n) ≡ n
@@ -29,10 +28,3 @@ decimal_same n most =
     let h_low : n / 100 < 100 = omega arith in
     let l_low : n % 100 < 100 = omega arith in
     digits (number (decimal_bytes n)) (n / 100 / 10) (n / 100 % 10) (n % 100 / 10) (n % 100 % 10) (omega (arith, h_low)) (omega arith) (omega (arith, l_low)) (omega arith) (omega arith) ∙ omega arith
-
--- the bytes of a number, as card_layout has them
-pub two_bytes_are : (n : ℕ) → n < 65536 → two_bytes n ≡ big_bytes 2 n
-two_bytes_are n small = (λ t. (let e : n / 256 ≡ n / 256 % 256 = omega (arith, small) in e t) ∷ n % 256 ∷ [])
-
-pub four_bytes_are : (n : ℕ) → n < 4294967296 → four_bytes n ≡ big_bytes 4 n
-four_bytes_are n small = (λ t. (let e : n / 16777216 ≡ n / 16777216 % 256 = omega (arith, small) in e t) ∷ n / 65536 % 256 ∷ n / 256 % 256 ∷ n % 256 ∷ [])

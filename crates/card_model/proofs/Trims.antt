@@ -1,11 +1,10 @@
 -- Trimming to a minute: what it makes of days that drop, grow, or were trimmed in part.
 use Rattle.std.proofs.Common.{◌≡◌, ◌⊎◌, inl, inr, ℕ, ◌%◌, ◌<◌, ◌≤◌, Bool, true, false, cond, List, [], ◌∷◌, ◌++◌, length, refl, sym, ◌∙◌, ap, subst, arith}
 use Rattle.std.specs.Prelude.{nat_eq, nat_le}
-use Rattle.std.specs.List.{AllByRecursion}
 use Rattle.std.proofs.lemmas.Bool.{eq-eqb, le-leb, lt-leb, leb-true, leb-false}
 use Rattle.activity_codec.specs.Words.{word_minute}
-use Rattle.card_model.specs.Days.{Day, AreDays, IsDay, AreWords, Ascend, last_word}
-use Rattle.card_model.specs.Changes.{with_newest, with_word, until, early, with_early, date_of, cut, trimmed, OnNewest, Increase, AreStrict, TakesWord, AllLater, Shorter}
+use Rattle.card_model.specs.Days.{Day, AreDays, IsDay, AreWords, Ascend}
+use Rattle.card_model.specs.Changes.{with_newest, with_word, until, early, with_early, date_of, cut, trimmed, OnNewest, AllLater, Shorter}
 
 newest_some : (f : Day → Day) (d : Day) (ds : List Day) → with_newest f (d ∷ ds) ≡ [] → ⊥
 newest_some f d [] e = cc
@@ -204,50 +203,3 @@ early_front m (w ∷ ws) = by (early_front m ws) (nat_le (word_minute w) m)
     by : (rest : List ℕ) × (ws ≡ early m ws ++ rest) → (b : Bool) → (rest : List ℕ) × (w ∷ ws ≡ cond b (w ∷ early m ws) [] ++ rest)
     by more true = (more.0, ap (λ (l : List ℕ). w ∷ l) more.1)
     by more false = (w ∷ ws, refl)
-
-early_increase : (m low : ℕ) (ws : List ℕ) → Increase low ws → Increase low (early m ws)
-early_increase m low [] up = tt
-early_increase m low (w ∷ ws) up = by (early_increase m (word_minute w) ws up.2) (nat_le (word_minute w) m)
-  where
-    by : Increase (word_minute w) (early m ws) → (b : Bool) → Increase low (cond b (w ∷ early m ws) [])
-    by rest true = (up.0, up.1, rest)
-    by rest false = tt
-
--- a day whose words increase is cut to such a day
-pub early_strict : (m : ℕ) (ws : List ℕ) → AreStrict ws → AreStrict (early m ws)
-early_strict m [] are = absurd are
-early_strict m (w ∷ ws) are = by (nat_le (word_minute w) m) (le-leb (word_minute w) m (omega (arith, are.0)))
-  where
-    by : (b : Bool) → b ≡ true → AreStrict (cond b (w ∷ early m ws) [])
-    by true is = (are.0, early_increase m 0 ws are.1)
-    by false is = absurd (cc)
-
-pub cut_strict : (m : ℕ) (d : Day) → AreStrict d.words → AreStrict (cut m d).words
-cut_strict m d are = by (nat_eq d.date (date_of m))
-  where
-    by : (b : Bool) → AreStrict (cond b (with_early (m % 1440) d) d).words
-    by true = early_strict (m % 1440) d.words are
-    by false = are
-
--- where each day's words increase, they do in each that a trim leaves
-pub trimmed_strict : (m : ℕ) (ds : List Day) → AllByRecursion (λ d. AreStrict d.words) ds → AllByRecursion (λ d. AreStrict d.words) (trimmed m ds)
-trimmed_strict m [] are = tt
-trimmed_strict m (d ∷ ds) are = by (nat_le d.date (date_of m)) (until (date_of m) ds) (trimmed_strict m ds are.1)
-  where
-    by : (b : Bool) (us : List Day) → AllByRecursion (λ d. AreStrict d.words) (with_newest (cut m) us) → AllByRecursion (λ d. AreStrict d.words) (with_newest (cut m) (cond b (d ∷ us) []))
-    by false us rest = tt
-    by true [] rest = (cut_strict m d are.0, tt)
-    by true (u ∷ us) rest = (are.0, rest)
-
--- such a day takes a word that is later than its latest
-pub takes_later : (w : ℕ) (d : Day) → AreStrict d.words → word_minute (last_word d.words) < word_minute w → word_minute w < 1440 → TakesWord w d
-takes_later w d are later low = by d.words are later
-  where
-    more : (low_minute v : ℕ) (vs : List ℕ) → Increase low_minute (v ∷ vs) → word_minute (last_word (v ∷ vs)) < word_minute w → Increase low_minute ((v ∷ vs) ++ w ∷ [])
-    more k v [] up lt = (up.0, up.1, (lt, low, tt))
-    more k v (u ∷ vs) up lt = (up.0, up.1, more (word_minute v) u vs up.2 lt)
-
-    by : (ws : List ℕ) → AreStrict ws → word_minute (last_word ws) < word_minute w → AreStrict (ws ++ w ∷ [])
-    by [] are lt = absurd are
-    by (v ∷ []) are lt = (are.0, (omega (arith, lt, are.0), low, tt))
-    by (v ∷ u ∷ vs) are lt = (are.0, more 0 u vs are.1 lt)

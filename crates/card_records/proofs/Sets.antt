@@ -14,7 +14,7 @@ use Rattle.tacho_types.specs.declared.places.PlaceEntry.{PlaceEntry}
 use Rattle.tacho_types.specs.Places.{place_bytes}
 use Rattle.gated_ring.specs.Ring.{Shape, entry_at, gate_of, place_of, size_of as ring_size}
 use Rattle.gated_ring.specs.Earliest.{IsEarliest}
-use Rattle.gated_ring.specs.Change.{IsReplaced, IsReplacingEntry, IsAdding}
+use Rattle.gated_ring.specs.Change.{IsReplacingEntry, IsAdding}
 use Rattle.gated_ring.proofs.Places.{place_high}
 use Rattle.card_records.specs.declared.card_event.CardEvent.{CardEvent}
 use Rattle.card_records.specs.Events.{event_bytes, event_of}
@@ -128,9 +128,6 @@ event_opens e bytes is = ap (λ (v : CardEvent). v.begin.0) is
 
 pub as_event : (app : Application) (e : CardEvent) (r : Shape) (head : List ℕ) (i : ℕ) (x c : List ℕ) → r ≡ event_ring app e.kind → head ≡ event_bytes e → IsReplacingEntry r i head x c → IsReplacingEntry (event_ring app e.kind) i (event_bytes e) x c
 as_event app e r head i x c ring bytes is = subst (λ (h : List ℕ). IsReplacingEntry (event_ring app e.kind) i h x c) bytes (subst (λ (s : Shape). IsReplacingEntry s i head x c) ring is)
-
-pub as_noted : (app : Application) (e : CardEvent) (r : Shape) (head : List ℕ) (i : ℕ) (x y : List ℕ) → r ≡ event_ring app e.kind → head ≡ event_bytes e → IsReplaced r i head x y → IsReplaced (event_ring app e.kind) i (event_bytes e) x y
-as_noted app e r head i x y ring bytes is = subst (λ (h : List ℕ). IsReplaced (event_ring app e.kind) i h x y) bytes (subst (λ (s : Shape). IsReplaced s i head x y) ring is)
 
 pub as_place : {old new : State} (app : Application) (e : PlaceEntry) (r : Shape) (head : List ℕ) → r ≡ place_ring app → head ≡ place_bytes e → LeavesOnly old new (IsAdding r head) → LeavesOnly old new (IsNotingPlace app e)
 as_place {old = old} {new = new} app e r head ring bytes is = subst (λ (h : List ℕ). LeavesOnly old new (IsAdding (place_ring app) h)) bytes (subst (λ (s : Shape). LeavesOnly old new (IsAdding s head)) ring is)

@@ -45,19 +45,9 @@ more_grows [] = tt
 more_grows (w ∷ []) = (refl, omega arith, tt)
 more_grows (w ∷ x ∷ ws) = (refl, omega arith, more_grows (x ∷ ws))
 
-pub grows_same : (ws : List WordDay) → Grows ws ws
-grows_same [] = tt
-grows_same (w ∷ ws) = (refl, omega arith, grows_same ws)
-
 pub grows_longer : (ws vs : List WordDay) → Grows ws (ws ++ vs)
 grows_longer [] vs = tt
 grows_longer (w ∷ ws) vs = (refl, omega arith, grows_longer ws vs)
-
-pub grows_then : (ws vs us : List WordDay) → Grows ws vs → Grows vs us → Grows ws us
-grows_then [] vs us a b = tt
-grows_then (w ∷ ws) [] us a b = absurd a
-grows_then (w ∷ ws) (v ∷ vs) [] a b = absurd b
-grows_then (w ∷ ws) (v ∷ vs) (u ∷ us) a b = (b.0 ∙ a.0, omega (arith, a.1, b.1), grows_then ws vs us a.2 b.2)
 
 -- what is covered leaves something there
 there_is : (there : List WordDay) (d : WordDay) (ds : List WordDay) → Covers there (d ∷ ds) → (t : WordDay) × (ts : List WordDay) × (there ≡ t ∷ ts)

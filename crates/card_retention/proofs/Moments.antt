@@ -1,17 +1,15 @@
 -- The newest minute over a keep, a bound that may only grow, and a trim.
-use Rattle.std.proofs.Common.{◌≡◌, ⊎_elim, ℕ, suc, ◌/◌, ◌%◌, ◌<◌, ◌≤◌, max, Bool, true, false, cond, not, ◌&&◌, Some, List, [], ◌∷◌, refl, sym, ◌∙◌, ap, subst, arith}
+use Rattle.std.proofs.Common.{◌≡◌, ℕ, suc, ◌/◌, ◌%◌, ◌<◌, ◌≤◌, max, Bool, true, false, cond, not, ◌&&◌, Some, List, [], ◌∷◌, refl, ◌∙◌, ap, arith}
 use Rattle.std.specs.Prelude.{nat_eq}
 use Rattle.std.proofs.lemmas.Bool.Decides.{nat_tests}
 use Rattle.std.proofs.Math.Nat.{max-eq_left}
 use Rattle.activity_codec.specs.declared.entries.Entry.{Entry}
 use Rattle.activity_codec.specs.Words.{word_absent}
 use Rattle.card_model.specs.Days.{Day, last_word}
-use Rattle.card_model.specs.Changes.{Remain, OnNewest, date_of, trimmed, Shorter}
+use Rattle.card_model.specs.Changes.{OnNewest, date_of}
 use Rattle.card_retention.specs.Expected.{Counted}
-use Rattle.card_retention.specs.Shown.{Bound, Fits, sizes, entry_state, is_open, Tells, Rests}
+use Rattle.card_retention.specs.Shown.{Bound, entry_state, is_open, Tells, Rests}
 use Rattle.card_retention.specs.Entries.{newest_word, closed_at, newest_minute}
-use Rattle.card_model.proofs.Trims.{trim_from_moment}
-use Rattle.card_retention.proofs.Stops.{open_left}
 use Rattle.card_retention.proofs.Closing.{present_word}
 use Rattle.card_retention.proofs.Flat.{Ends}
 
@@ -31,20 +29,6 @@ rests_later size slack covered from to mark c days le r = record {
   tells = r.tells;
   shows = λ n at. r.shows n (omega (arith, le, at));
 }
-
--- A TRIM that is stopped leaves what it would leave, and one that is whole the session can go on from.
-pub trim_stopped : (size : ℕ) (slack : Bound) (covered from mark : ℕ) (c : Counted) (days kept : List Day) → Shorter (date_of mark) days kept → Rests size slack covered from mark c (trimmed mark days) → Rests size slack covered from mark c (trimmed mark kept)
-trim_stopped size slack covered from mark c days kept short r = subst (λ (l : List Day). Rests size slack covered from mark c l) (sym (trim_from_moment mark days kept short)) r
-
--- DROPS leave the newest minute
-word_left : (room : ℕ) (days kept : List Day) → Fits room (sizes days) → Remain room days kept → newest_word kept ≡ newest_word days
-word_left room [] kept fits left = ap newest_word left
-word_left room (d ∷ []) kept fits left = ⊎_elim (λ is. ap newest_word is) (λ gone. absurd (omega (arith, gone.0, fits))) left
-word_left room (d ∷ e ∷ ds) kept fits left = ⊎_elim (λ is. ap newest_word is) (λ gone. word_left room (e ∷ ds) kept fits gone.1) left
-
-pub newest_left : (mark room : ℕ) (days kept : List Day) → Fits room (sizes days) → Remain room days kept → newest_minute mark kept ≡ newest_minute mark days
-newest_left mark room days kept fits left =
-    ap (λ (b : Bool). cond b (suc mark) (max mark (newest_word kept))) (open_left mark room days kept fits left) ∙ ap (λ (n : ℕ). cond (is_open mark days) (suc mark) (max mark n)) (word_left room days kept fits left)
 
 -- AFTER A KEEP it is the minute behind the entry, or the entry's where that is a day's last
 present : (e : Entry) (w : ℕ) → w / 2048 ≡ entry_state e → word_absent w ≡ false

@@ -18,10 +18,6 @@ last_back [] fs f = refl
 last_back (e ∷ []) fs f = refl
 last_back (e ∷ g ∷ es) fs f = last_back (g ∷ es) fs f
 
-some_entry : {A : Type 0} (o : Option A) → ((a : A) → o ≡ Some a → ⊥) → o ≡ None
-some_entry None f = refl
-some_entry (Some a) f = absurd (f a refl)
-
 pub minutes_none : (f : ℕ → Option Entry) (n t : ℕ) → ((s : ℕ) → t ≤ s → f s ≡ None) → minutes_from f n t ≡ []
 minutes_none f zero t none = refl
 minutes_none f (suc n) t none = ap (λ (o : Option Entry). elim o as (λ _. List Entry) [ Some e ↦ e ∷ minutes_from f n (t + 1) | None ↦ minutes_from f n (t + 1) ]) (none t (omega arith)) ∙ minutes_none f n (t + 1) (λ s le. none s (omega (arith, le)))

@@ -146,9 +146,6 @@ trimmed_in mark date k (d ∷ ds) are le i = by (nat_le d.date (date_of mark)) r
     by true is (u ∷ us) i rest = ⊎_elim (λ same. inl same) (λ later. inr (rest later)) i
 
 module _ (size : ℕ) (slack : Bound) (covered from mark : ℕ) (c : Counted) (days : List Day) (l : Lives size slack covered from mark c days) (next : ℕ) (later : from ≤ next) (long : 5544 ≤ size) (least : 16 ≤ slack.bytes) where
-  r : Rests size slack covered from mark c days
-  r = l.rests
-
   rising_at : (n : ℕ) → Rising (expected_days covered n c)
   rising_at n = closes_is Rising covered c.before n c.days l.rests.rising (rising_more c.days l.rests.rising)
 
@@ -304,20 +301,3 @@ module _ (size : ℕ) (slack : Bound) (covered from mark : ℕ) (c : Counted) (d
   -- torn between two calls, or a session that is opened
   pub stop_none : Rests size slack covered next mark c (trimmed mark days)
   stop_none = stopped days days refl base_days
-
-  -- where no repair comes before the days are seen, as on a closed card
-  pub rests_base : (base : List Day) → Base base → Rests size slack covered next mark c base
-  rests_base base b = record {
-    ordered = b.ordered;
-    rising = l.rests.rising;
-    filled = l.rests.filled;
-    top = l.rests.top;
-    words = l.rests.words;
-    entry = l.rests.entry;
-    low = l.rests.low;
-    next = omega (arith, l.rests.next, later);
-    later = omega (arith, l.rests.later, later);
-    by_mark = l.rests.by_mark;
-    tells = b.tells;
-    shows = b.shows;
-  }

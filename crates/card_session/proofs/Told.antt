@@ -45,15 +45,6 @@ days_else p h r n v g m o s is next = record {
   odometer = ap (λ (t : Session). t.odometer) is;
 }
 
-pub vehicle_else : (p : Application) (h : Held) (r : Shape) (n : Option ℕ) (v : Option Vehicle) (g : Registration) (m : ℕ) (o : Option Odometer) (s : Session) → session p h r n v g m o ≡ s → (newest : Option ℕ) (vehicle : Option Vehicle) → SameButVehicle s (session p h r newest vehicle g m o)
-vehicle_else p h r n v g m o s is newest vehicle = record {
-  application = ap (λ (t : Session). t.application) is;
-  days = ap (λ (t : Session). t.days) is;
-  registration = ap (λ (t : Session). t.registration) is;
-  minute = ap (λ (t : Session). t.minute) is;
-  odometer = ap (λ (t : Session). t.odometer) is;
-}
-
 pub ring_else : (p : Application) (h : Held) (r : Shape) (n : Option ℕ) (v : Option Vehicle) (g : Registration) (m : ℕ) (o : Option Odometer) (s : Session) → session p h r n v g m o ≡ s → (ring : Shape) (newest : Option ℕ) (vehicle : Option Vehicle) → SameButVehicle s (session p h ring newest vehicle g m o)
 ring_else p h r n v g m o s is ring newest vehicle = record {
   application = ap (λ (t : Session). t.application) is;

@@ -375,12 +375,6 @@ module _ (mark : ℕ) where
       at_mark : mark ≡ d.date / 60 + mark % 1440
       at_mark = omega (arith, here)
 
-      abbrev own_late : List PlacedWord
-      own_late = filter late (placed (k + 12) d.date d.words)
-
-      abbrev later_late : List PlacedWord
-      later_late = filter late (days (k + len_of d) ds)
-
       late_is : filter late (placed (k + 12) d.date d.words ++ days (k + len_of d) ds) ≡ filter late (placed (k + 12) d.date d.words) ++ filter late (days (k + len_of d) ds)
       late_is = filter-append late (placed (k + 12) d.date d.words) (days (k + len_of d) ds)
 

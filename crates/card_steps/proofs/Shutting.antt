@@ -12,7 +12,6 @@ use Rattle.card_retention.specs.Shown.{Bound, AllUpTo, is_open}
 use Rattle.card_retention.proofs.ListTrims.{entries_trimmed, lists_trimmed}
 use Rattle.card_retention.proofs.Stops.{stop_none}
 use Rattle.card_image.specs.Fields.{card_days, end_mark}
-use Rattle.card_session.specs.Vehicles.{Vehicles}
 use Rattle.card_session.specs.Books.{Book, mark_of, closed, closed_days, closing_word, latest_of, last_used, with_change}
 use Rattle.card_session.specs.Moments.{IsBook, IsCloseMoment}
 use Rattle.card_session.specs.Sessions.{IsOpenBook, book_of}
@@ -39,9 +38,6 @@ up_more mark m (e ∷ all) le up = (omega (arith, le, up.0), up_more mark m all 
 
 module _ (app : Application) (sound : IsApplication app) (x : List ℕ) (ordered : AreDays 0 (book_of app x).days) (may : IsOpenBook (book_of app x)) (act : Activity) (slack : Bound) (covered from next : ℕ) (c : Counted) (all : List Entry) (least : 16 ≤ slack.bytes) (later : from ≤ next)
     (late : newest_minute (end_mark app x) (card_days app x) < next) (g : Goes app slack covered from c all x) where
-  abbrev Closing : List Day → Vehicles → Type 0
-  Closing = IsCloseMoment app.activity act (book_of app x)
-
   -- with the old end mark
   module _ (y : List ℕ) (card : IsCard app (IsCloseMoment app.activity act (book_of app x)) x y) where
     these : AreDays 0 (card_days app y)

@@ -1,5 +1,5 @@
 -- The writes of a new day.
-use Rattle.std.proofs.Common.{◌≡◌, ◌≢◌, ◌⊎◌, inl, inr, ⊎_elim, ℕ, ◌+◌, ◌*◌, ◌/◌, ◌%◌, ◌<◌, ◌≤◌, Bool, true, false, cond, List, [], ◌∷◌, ◌++◌, length, take, drop, refl, sym, ◌∙◌, ap, subst, arith, lit≤, append_assoc}
+use Rattle.std.proofs.Common.{◌≡◌, ◌⊎◌, inl, inr, ⊎_elim, ℕ, ◌+◌, ◌*◌, ◌/◌, ◌%◌, ◌<◌, ◌≤◌, Bool, true, false, cond, List, [], ◌∷◌, ◌++◌, length, take, drop, refl, sym, ◌∙◌, ap, subst, arith, lit≤, append_assoc}
 use Rattle.std.specs.Prelude.{◌==◌}
 use Rattle.std.proofs.lemmas.Bool.Decides.{nat_tests}
 use Rattle.std.proofs.lemmas.List.{append-nil}
@@ -24,11 +24,6 @@ use Rattle.card_model.proofs.Lists.{last_len_is}
 precedes : (q : ℕ) (d : Day) (ds : List Day) → previous_of q (d ∷ ds) ≡ last_len (d ∷ ds)
 precedes q d [] = refl
 precedes q d (e ∷ ds) = precedes (len_of d) e ds
-
--- the days before a later date
-before_later : (date : ℕ) (d : Day) (ds : List Day) (m : ℕ) → AreDays date (d ∷ ds) → IsLater m (d ∷ ds) → date < m
-before_later date d [] m are later = omega (arith, are.0, later)
-before_later date d (e ∷ ds) m are later = omega (arith, are.0, before_later d.date e ds m are.2 later)
 
 -- a later day may follow
 follows : (date : ℕ) (d : Day) (ds : List Day) (e : Day) → AreDays date (d ∷ ds) → IsLater e.date (d ∷ ds) → IsDay e → AreDays date (d ∷ (ds ++ e ∷ []))
@@ -229,10 +224,6 @@ module _ (r : StringShape) (shape : IsStringShape r) (x : List ℕ) (inside : r.
     empty_same : days ≡ [] → n ≡ p
     empty_same none =
         same_start r.size o n p n_pointer.below p_pointer.below h.oldest.below (subst (λ (m : ℕ). IsPlace r.size o m n) (ap far none) newest_place) (subst (λ (m : ℕ). IsPlace r.size o m p) (ap total none) p_far)
-
-    -- the pointer differs, so there are days
-    pub held_before : n ≢ p → Holds r y3 days
-    held_before other = held_3 (λ none. other (empty_same none))
 
     pub after_length : Holds r y3 days ⊎ Holds r y3 (days ++ new ∷ [])
     after_length = by days refl

@@ -157,10 +157,6 @@ module _ (v : Held) (is : IsHeld v) (w : ℕ) (x : List ℕ) (inside : v.shape.b
   pub change_count : length (change_pieces v w x) + 2 * length (fitting room days) ≡ 2 + 2 * length days
   change_count = omega (arith, length-append (drop_pieces v v.tail.used left) (word_pieces v w), ap length once.0, dropped_count v is x inside room big days (matches v x days k) v.tail.used left k.used left_known)
 
--- how many writes a change makes at most
-pub change_low : (v : Held) (is : IsHeld v) (w : ℕ) (x : List ℕ) → 2 ≤ length (change_pieces v w x)
-change_low v is w x = omega (arith, length-append (drop_pieces v v.tail.used (left_in v 2 x v.tail.used)) (word_pieces v w))
-
 -- what the code read is what the plan tells
 pub change_puts : {old mid new : State} {failed : Bool} (v : Held) (w used left : ℕ) → used ≡ v.tail.used → v.tail.used ≤ v.shape.size → Looks old mid → IfSome old.image (λ x. left ≡ left_in v 2 x used)
     → (used + 2 ≤ v.shape.size → left ≡ used) → PutsAll mid new failed (drop_pieces v used left ++ word_pieces v w)

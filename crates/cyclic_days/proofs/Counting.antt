@@ -50,13 +50,6 @@ drops_most v size used once twice new kept gone still = ⊎_elim
     (λ le. let same = kept le in omega (arith, drop_none v used once same, drop_none v once twice (still (omega (arith, same, le)))))
     (cases_lt size (used + new))
 
--- how many bytes are left, by how many days go at most
-pub left_most : (size used left new : ℕ) → used ≤ size → new ≤ 14 → (used + new ≤ size → left ≡ used) → (size < used + new → left + 14 ≤ used) → left + 14 * most_drops size used new ≤ used
-left_most size used left new low few kept gone = ⊎_elim
-    (λ lt. omega (arith, gone lt, one_goes size used new lt (omega (arith, low, few))))
-    (λ le. omega (arith, kept le, none_go size used new le))
-    (cases_lt size (used + new))
-
 -- A closing word and then a new day take eleven writes at most.
 pub keep_writes : (size used then new : ℕ) → used ≤ size → then + 14 * most_drops size used 2 ≤ used + 2 → new ≤ 16 → (2 + 2 * most_drops size used 2) + (5 + 2 * most_drops size then new) ≤ 11
 keep_writes size used then new low less few = ⊎_elim

@@ -1,5 +1,5 @@
 -- The newest day is cut behind a minute.
-use Rattle.std.proofs.Common.{◌≡◌, ◌≢◌, inl, inr, ⊎_elim, ℕ, ◌+◌, ◌-◌, ◌*◌, ◌/◌, ◌%◌, ◌<◌, ◌≤◌, Bool, true, false, cond, List, [], ◌∷◌, ◌++◌, length, take, refl, sym, ◌∙◌, ap, subst, arith, lit≤}
+use Rattle.std.proofs.Common.{◌≡◌, inl, inr, ⊎_elim, ℕ, ◌+◌, ◌-◌, ◌*◌, ◌/◌, ◌%◌, ◌<◌, ◌≤◌, Bool, true, false, cond, List, [], ◌∷◌, ◌++◌, length, take, refl, sym, ◌∙◌, ap, subst, arith, lit≤}
 use Rattle.std.specs.Prelude.{nat_eq, nat_le}
 use Rattle.std.proofs.lemmas.Bool.Decides.{nat_tests}
 use Rattle.tach_media.specs.Medium.{put, bytes_at, SameOutside, IsPartlyWritten}
@@ -30,12 +30,6 @@ cut_is minute d is = by (nat_eq d.date (date_of minute)) refl
     by : (b : Bool) → nat_eq d.date (date_of minute) ≡ b → (m : ℕ) × (cut minute d ≡ with_early m d)
     by true test = (minute % 1440, ap (λ (b : Bool). cond b (with_early (minute % 1440) d) d) test)
     by false test = (1439, ap (λ (b : Bool). cond b (with_early (minute % 1440) d) d) test ∙ ap (λ (ws : List ℕ). record d { words = ws }) (sym (early_words_all 1439 d.words is.ordered (omega (arith, words_below d.words is.ordered)))))
-
--- the words that stay, by the date
-pub cut_same : (minute : ℕ) (d : Day) → d.date ≢ date_of minute → length (cut minute d).words ≡ length d.words
-cut_same minute d other =
-    let test : nat_eq d.date (date_of minute) ≡ false = grind (arith, nat_tests) in
-    ap (λ (b : Bool). length (cond b (with_early (minute % 1440) d) d).words) test
 
 pub cut_early : (minute : ℕ) (d : Day) → d.date ≡ date_of minute → length (cut minute d).words ≡ length (early (minute % 1440) d.words)
 cut_early minute d same =

@@ -37,9 +37,6 @@ date_halves high low h_short l_short =
 
 -- the numbers that were read are those of the day
 module _ (h : RecordHead) (q : ℕ) (d : Day) (rest : List ℕ) (same : head_bytes h ≡ take 12 (record_of q d ++ rest)) where
-  pub previous_is : h.previous ≡ q
-  previous_is = sym (number_two h.previous) ∙ ap (λ (l : List ℕ). number (bytes_at l 0 2)) same ∙ number_two q
-
   pub len_is : h.len ≡ len_of d
   len_is = sym (number_two h.len) ∙ ap (λ (l : List ℕ). number (bytes_at l 2 2)) same ∙ number_two (len_of d)
 

@@ -27,10 +27,6 @@ pub total_even : (ds : List Day) → total ds % 2 ≡ 0
 total_even [] = refl
 total_even (d ∷ ds) = omega (arith, total_even ds)
 
-no_end : {X : Type 0} (ds : List X) (d : X) (es : List X) → ds ++ d ∷ es ≡ [] → ⊥
-no_end [] d es none = cc
-no_end (e ∷ ds) d es none = cc
-
 -- some days are the older ones and a last one
 abbrev pub Ended : List Day → Type 0
 Ended ds = (front : List Day) × (last : Day) × (ds ≡ front ++ last ∷ [])

@@ -40,6 +40,3 @@ module _ (r : StringShape) (shape : IsStringShape r) (x : List ℕ) (inside : r.
       let e = previous_of day_at.holds.previous day_at.older in
       let front = two_bytes e ++ (two_bytes (len_of d) ++ (four_bytes d.date ++ (decimal_bytes d.counter ++ two_bytes d.km))) in
       ap number (field (12 + 2 * i) q (omega (arith, lt)) q_place q_pointer ∙ part_back (2 * i) 2 front (word_bytes d.words ++ rest) ∙ word_part d.words i rest lt) ∙ number_two (get_or d.words i 0)
-
-  pub km_read : (q : ℕ) → 14 ≤ len_of d → IsPlace r.size p 10 q → IsPointer r.size q → number (bytes_at x (at r q) 2) ≡ d.km
-  km_read q long q_place q_pointer = ap number (field 10 q (omega (arith, long)) q_place q_pointer) ∙ number_two d.km

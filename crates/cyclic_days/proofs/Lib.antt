@@ -30,4 +30,3 @@ pub mod Starting
 pub mod Tails
 pub mod Told
 pub mod Trimming
-pub mod Using

@@ -54,10 +54,6 @@ longer_day w d is takes = record { midnight = is.midnight; decimal = is.decimal;
 pub longer_by_two : (w : ℕ) (d : Day) → len_of (with_word w d) ≡ len_of d + 2
 longer_by_two w d = omega (arith, length-append d.words (w ∷ []))
 
--- a day that takes a word is short
-pub takes_short : (w : ℕ) (d : Day) → TakesWord w d → len_of d + 2 ≤ 2892
-takes_short w d takes = omega (arith, few_strict (d.words ++ w ∷ []) takes, length-append d.words (w ∷ []))
-
 pub body_long : (d : Day) → length (body d) ≡ 8 + 2 * length d.words
 body_long d = omega (arith, word_bytes_length d.words)
 

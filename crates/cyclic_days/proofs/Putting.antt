@@ -1,7 +1,7 @@
 -- What is looked at, if anything, and then a plan.
-use Rattle.std.proofs.Common.{◌≡◌, ⊎_elim, inl, inr, ℕ, Bool, true, List, length, IfSome, option_map, refl, ◌∙◌, ap, subst, arith}
+use Rattle.std.proofs.Common.{◌≡◌, ⊎_elim, inl, inr, ℕ, Bool, List, length, IfSome, option_map, refl, ◌∙◌, ap, subst, arith}
 use Rattle.std.specs.Prelude.{◌≤◌}
-use Rattle.tach_media.specs.Medium.{State, Reads, Writes, HasCause, IsSettled}
+use Rattle.tach_media.specs.Medium.{State, Writes, HasCause, IsSettled}
 use Rattle.tach_media.proofs.Runs.{after_reads, goes_same, reads_then, reads_writes, settled_then}
 use Rattle.write_plan.specs.Plan.{Piece, PutsAll, PutsBy}
 use Rattle.write_plan.proofs.Plans.{puts_as}
@@ -70,11 +70,6 @@ looks_then (inr first) (inr next) = inr (record {
   faults = next.faults ∙ first.faults;
   breakdowns = next.breakdowns ∙ first.breakdowns;
 })
-
--- the same before reads that failed
-pub looks_failed : {old mid new : State} → Looks old mid → Reads mid new true → Reads old new true
-looks_failed (inl first) next = reads_then first next
-looks_failed (inr idle) next = record { same = λ fine. absurd (cc); leaves = goes_same idle.leaves next.leaves; clock = next.clock ∙ idle.clock; cause = idle_cause idle next.cause }
 
 -- the plan is that of the image, where it is told
 pub puts_told : {old mid new : State} {failed : Bool} {least most : ℕ} (ps : List Piece) (plan : List ℕ → List Piece) → Looks old mid → IfSome old.image (λ x. plan x ≡ ps) → PutsAll mid new failed ps

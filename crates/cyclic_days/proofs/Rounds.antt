@@ -5,7 +5,7 @@ use Rattle.std.proofs.lemmas.Bool.Decides.{nat_tests}
 use Rattle.std.proofs.lemmas.Bool.{cases_lt}
 use Rattle.std.proofs.lemmas.List.{length-take-le, drop-drop}
 use Rattle.tach_media.specs.Medium.{put, bytes_at, SameOutside}
-use Rattle.tach_media.proofs.Images.{outside_then, outside_wider, put_outside}
+use Rattle.tach_media.proofs.Images.{outside_then}
 use Rattle.card_model.specs.Image.{StringShape, oldest_pointer, circle_of, IsPointer, IsPlace, spot, at}
 use Rattle.cyclic_days.specs.Steps.{put_round, IsRounding}
 use Rattle.card_model.proofs.Circle.{put_back}
@@ -133,35 +133,3 @@ module _ (r : StringShape) (x : List ℕ) (inside : r.base + (4 + r.size) ≤ le
       let s = scratched (at r 0) (back lt) (y lt) c (omega (arith, y_inside lt, back_length lt, fits, lt)) part.outside in
       let long : length s.bytes ≡ length (back lt) = s.long in
       record { bytes = front lt ++ s.bytes; long = omega (arith, length-append (front lt) s.bytes, long, front_length lt, back_length lt); stands = subst (λ (l : List ℕ). Stands r k (front lt ++ s.bytes) x l) (sym s.is) (both lt s.bytes long) }
-
--- such a write stays in the string
-module _ (r : StringShape) (x : List ℕ) (inside : r.base + (4 + r.size) ≤ length x) (p : ℕ) (bytes : List ℕ) (p_below : p < r.size) (short : length bytes ≤ r.size) where
-  in_string : (q n : ℕ) (u v : List ℕ) → q + n ≤ r.size → SameOutside (at r q) n u v → SameOutside r.base (4 + r.size) u v
-  in_string q n u v fits same = outside_wider r.base (4 + r.size) (at r q) n u v same (omega arith) (omega (arith, fits))
-
-  front_long : r.size - p < length bytes → length (take (r.size - p) bytes) ≡ r.size - p
-  front_long lt = length-take-le (r.size - p) bytes (omega (arith, lt))
-
-  back_long : length (drop (r.size - p) bytes) ≤ r.size
-  back_long = omega (arith, length-drop (r.size - p) bytes, short)
-
-  first_outside : r.size - p < length bytes → SameOutside r.base (4 + r.size) x (put (at r p) (take (r.size - p) bytes) x)
-  first_outside lt = in_string p (length (take (r.size - p) bytes)) x (put (at r p) (take (r.size - p) bytes) x) (omega (arith, front_long lt, p_below)) (put_outside (at r p) (take (r.size - p) bytes) x (omega (arith, inside, front_long lt, p_below)))
-
-  pub rounding_outside : (c : List ℕ) → IsRounding r p bytes x c → SameOutside r.base (4 + r.size) x c
-  rounding_outside c (inl (le, part)) = in_string p (length bytes) x c (omega (arith, le, p_below)) part.outside
-  rounding_outside c (inr (lt, inl part)) = in_string p (length (take (r.size - p) bytes)) x c (omega (arith, front_long lt, p_below)) part.outside
-  rounding_outside c (inr (lt, inr part)) =
-      let y = put (at r p) (take (r.size - p) bytes) x in
-      outside_then r.base (4 + r.size) x y c (first_outside lt) (in_string 0 (length (drop (r.size - p) bytes)) y c (omega (arith, back_long)) part.outside)
-
-  pub round_outside : SameOutside r.base (4 + r.size) x (put_round r p bytes x)
-  round_outside = by (nat_le (length bytes) (r.size - p)) refl
-    where
-      by : (b : Bool) → nat_le (length bytes) (r.size - p) ≡ b → SameOutside r.base (4 + r.size) x (cond b (put (at r p) bytes x) (put (at r 0) (drop (r.size - p) bytes) (put (at r p) (take (r.size - p) bytes) x)))
-      by true test = let le : length bytes ≤ r.size - p = grind (arith, nat_tests, test) in
-          in_string p (length bytes) x (put (at r p) bytes x) (omega (arith, le, p_below)) (put_outside (at r p) bytes x (omega (arith, inside, le, p_below)))
-      by false test = let lt : r.size - p < length bytes = grind (arith, nat_tests, test) in
-          let y = put (at r p) (take (r.size - p) bytes) x in
-          outside_then r.base (4 + r.size) x y (put (at r 0) (drop (r.size - p) bytes) y) (first_outside lt)
-          (in_string 0 (length (drop (r.size - p) bytes)) y (put (at r 0) (drop (r.size - p) bytes) y) (omega (arith, back_long)) (put_outside (at r 0) (drop (r.size - p) bytes) y (omega (arith, back_long, (first_outside lt).same_length, inside))))

@@ -1,5 +1,5 @@
 -- What a stop may leave after a `trim`, which writes where there is a day.
-use Rattle.std.proofs.Common.{◌≡◌, ◌≢◌, inl, inr, ⊎_elim, ℕ, ◌<◌, Bool, true, false, List, [], Some, IfSome, refl, ◌∙◌, subst}
+use Rattle.std.proofs.Common.{◌≡◌, ◌≢◌, ⊎_elim, ℕ, ◌<◌, Bool, true, false, List, [], Some, IfSome, refl, ◌∙◌, subst}
 use Rattle.tach_media.specs.Medium.{State, Reads, IsSettled, last_count}
 use Rattle.tach_media.proofs.Runs.{at_image, reads_then, still_settled}
 use Rattle.card_model.specs.Days.{Day}
@@ -10,10 +10,6 @@ use Rattle.cyclic_days.specs.Trim.{WritesOrReads, WritesWhereDays, newest_later}
 -- reads leave settled what was
 pub settled_reads : {old new : State} → Reads old new false → (old.clock < last_count → IsSettled old) → new.clock < last_count → IsSettled new
 settled_reads reads was low = still_settled reads (was (subst (λ (k : ℕ). k < last_count) reads.clock low))
-
--- a call that writes or reads, and then reads
-pub then_reads : {old mid new : State} → WritesOrReads old mid → Reads mid new false → WritesOrReads old new
-then_reads first next = ⊎_elim (λ was. inl (settled_reads next was)) (λ was. inr (reads_then was next)) first
 
 -- a call that writes or reads, and then one that writes where there is a day
 pub still_after : {old mid new : State} (r : StringShape) → WritesOrReads old mid → WritesWhereDays r mid new → SettlesIfSettled old new

@@ -21,11 +21,6 @@ newest_last h w [] d head word = (head, word)
 newest_last h w (e ∷ []) d head word = (head, word)
 newest_last h w (e ∷ f ∷ older) d head word = newest_last h w (f ∷ older) d head word
 
-pub last_newest : (h : DayHead) (w : ℕ) (older : List Day) (d : Day) → IsNewestHead h w (older ++ d ∷ []) → (h ≡ day_head h.place d) × (w ≡ last_word d.words)
-last_newest h w [] d is = is
-last_newest h w (e ∷ []) d is = is
-last_newest h w (e ∷ f ∷ older) d is = last_newest h w (f ∷ older) d is
-
 pub last_at : (ws : List ℕ) → 0 < length ws → last_word ws ≡ get_or ws (length ws - 1) 0
 last_at [] some = absurd (omega (arith, some))
 last_at (w ∷ []) some = refl

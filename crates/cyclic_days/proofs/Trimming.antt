@@ -168,9 +168,6 @@ trimming_then r date i j x y c first next = record {
       (two.0, shorter_then date i j days one.0 two.0 one.1 two.1, two.2);
 }
 
-pub trimming_none : (r : StringShape) (date : ℕ) (x : List ℕ) → IsTrimming r date 0 x x
-trimming_none r date x = record { outside = outside_same r.base (4 + r.size) x; list = λ days h. (days, record { less = record { gone = []; is = sym (append-nil days); later = tt }; many = lit≤ tt }, h) }
-
 -- the first is no later than the newest
 first_low : (date last : ℕ) (k : Day) (ks gone : List Day) → AreDays last (k ∷ (ks ++ gone)) → newest_later date (k ∷ ks) ≡ false → k.date ≤ date
 first_low date last k [] gone are newest = low k.date date newest

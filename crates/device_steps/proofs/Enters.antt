@@ -95,9 +95,6 @@ module _ (r : Both) (c : Card) (s : Started) (due : ℕ) (b : Book) (marks : Lis
     (h : Holds s due b marks V) (none : b.maybe ≡ None) (late : due ≤ now / 60) (unit : IsCoherent V) (lit : V.works ≡ true) (u : List ℕ) (told : V.image ≡ Some u) (whole : IsCoherent X) (works : X.works ≡ true) (x : List ℕ) (is : X.image ≡ Some x)
     (fits : image_size_of app ≤ length x) (asked : IsAsked r c app x) (valid : IsValid app x) (are : AreOwed now (owed_on app u x))
     (rule : CardHolds r c b Out [] [] V X) (run : LeavesOnly X Y (λ x c. IsCardInserting app registration odometer (owed_on app u x) now x c)) where
-  abbrev given : List Entry
-  given = owed_on app u x
-
   old-view : own_view x ≡ card_view app x
   old-view = own-is app x asked.sizes
 

@@ -1,5 +1,5 @@
 -- What a minute says on the cards, before it is kept and between two of them.
-use Rattle.std.proofs.Common.{◌≡◌, inl, inr, ℕ, suc, ◌<◌, ◌≤◌, Bool, true, false, Option, Some, None, is_some, IfSome, List, [], ◌∷◌, All, refl, subst, sym, ◌∙◌, arith}
+use Rattle.std.proofs.Common.{◌≡◌, inl, inr, ℕ, suc, ◌<◌, ◌≤◌, Bool, true, false, Option, Some, None, is_some, IfSome, List, [], ◌∷◌, All, refl, subst, sym, arith}
 use Rattle.std.specs.Prelude.{◌⊎◌, OnErr, is_err, Result, Ok, Err, option_to_list}
 use Rattle.std.proofs.lemmas.List.Elements.{All-head}
 use Rattle.activity_codec.specs.declared.entries.Entry.{Entry}
@@ -121,16 +121,6 @@ as_card r c d b z m l U X is rule = subst (λ (e : Card). CardHolds r e b z m l 
 
 pub as_rests : (r : Both) (c d : Card) (b : Book) (z : Standing) (U X : State) → d ≡ c → CardRests r d b z U X → CardRests r c b z U X
 as_rests r c d b z U X is rests = subst (λ (e : Card). CardRests r e b z U X) is rests
-
--- causes, of calls that may not be made
-pub cause_failed : {old mid new : State} {well failed : Bool} → well ≡ false → failed ≡ true → HasCause old mid well ⊎ ((well ≡ false) × IsIdle old mid) → HasCause mid new failed ⊎ ((failed ≡ false) × IsIdle mid new) → HasCause old new failed
-cause_failed {well = true} {failed = f} is bad first next = absurd (cc)
-cause_failed {well = false} {failed = f} is bad first (inl next) = called_then first next
-cause_failed {well = false} {failed = f} is bad first (inr idle) = absurd (let no : true ≡ false = sym bad ∙ idle.0 in cc)
-
-pub cause_only : {old new : State} {failed : Bool} → failed ≡ true → HasCause old new failed ⊎ ((failed ≡ false) × IsIdle old new) → HasCause old new failed
-cause_only bad (inl cause) = cause
-cause_only bad (inr idle) = absurd (let no : true ≡ false = sym bad ∙ idle.0 in cc)
 
 pub cause_twice : {old mid late new : State} {failed : Bool} → HasCause old mid false ⊎ ((false ≡ false) × IsIdle old mid) → HasCause mid late false ⊎ ((false ≡ false) × IsIdle mid late) → HasCause late new failed → HasCause old new failed
 cause_twice first next last = called_then first (called_then next last)

@@ -1,29 +1,11 @@
 -- Whether bytes are a message that answers a request.
-use Rattle.std.proofs.Common.{◌≡◌, ◌∙◌, ℕ, List, [], ◌++◌, length, ap, sym, arith, length-append, append-nil}
-use Rattle.std.proofs.lemmas.List.{nil_from_length}
+use Rattle.std.proofs.Common.{◌≡◌, ◌∙◌, ℕ, List, [], length, ap, sym, append-nil}
 use Rattle.link_model.specs.declared.request.Request.{Request}
 use Rattle.message_model.specs.Messages.{Message, message_bytes}
 use Rattle.message_model.proofs.Reading.{one_way}
 use Rattle.unit_messages.specs.declared.reading.MessageRead.{MessageRead}
 use Rattle.unit_messages.specs.Reading.{IsReadAs, BeginsNoMessage, request_of}
 use Rattle.downloader.specs.Loading.{IsAnswer, AnswersNone}
-
--- a front of bytes that is as long as they are is all of them
-pub whole : (bytes message rest : List ℕ) (n : ℕ) → bytes ≡ message ++ rest → n ≡ length message → n ≡ length bytes → bytes ≡ message
-whole bytes message rest n spelled len all =
-    let lengths : length bytes ≡ length (message ++ rest) = ap (λ (l : List ℕ). length l) spelled in
-    let lacks : rest ≡ [] = nil_from_length rest (omega (arith, length-append message rest, lengths, len, all)) in
-    spelled ∙ ap (λ (l : List ℕ). message ++ l) lacks ∙ append-nil message
-
-pub reads_answer : (bytes : List ℕ) (read : MessageRead) (request : Request) → IsReadAs bytes read → read.request ≡ request → read.len ≡ length bytes → (m : Message) × IsAnswer request bytes m
-reads_answer bytes read request is asked len = (
-  is.message,
-  record {
-    is_message = is.begins.is_message;
-    spelled = whole bytes (message_bytes is.message) is.begins.rest read.len is.begins.spelled is.len len;
-    asked = sym asked ∙ is.request;
-  },
-)
 
 -- the message at the front is the one that answers
 pub answer_is_read : (bytes : List ℕ) (read : MessageRead) (request : Request) → IsReadAs bytes read → (m : Message) → IsAnswer request bytes m → (read.request ≡ request) × (read.len ≡ length bytes)
@@ -33,10 +15,6 @@ answer_is_read bytes read request is m answer =
 
 pub none_read : (bytes : List ℕ) (request : Request) → BeginsNoMessage bytes → AnswersNone request bytes
 none_read bytes request lacks = λ m answer. lacks m (record { is_message = answer.is_message; rest = []; spelled = answer.spelled ∙ sym (append-nil (message_bytes m)) })
-
--- another request was asked for
-pub other_read : (bytes : List ℕ) (read : MessageRead) (request : Request) → IsReadAs bytes read → (read.request ≡ request → ⊥) → AnswersNone request bytes
-other_read bytes read request is other = λ m answer. other (answer_is_read bytes read request is m answer).0
 
 -- more bytes follow the message
 pub longer_read : (bytes : List ℕ) (read : MessageRead) (request : Request) → IsReadAs bytes read → (read.len ≡ length bytes → ⊥) → AnswersNone request bytes

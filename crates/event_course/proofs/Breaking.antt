@@ -1,5 +1,5 @@
 -- When the events of a turn are noted, and a turn in which a call fails.
-use Rattle.std.proofs.Common.{◌≡◌, ◌⊎◌, inl, inr, ℕ, suc, ◌+◌, ◌-◌, ◌/◌, ◌<◌, Bool, true, false, cond, not, ◌&&◌, Option, Some, None, List, [], ◌∷◌, ◌++◌, map, refl, ap, sym, ◌∙◌, arith, nat_lt, append-nil}
+use Rattle.std.proofs.Common.{◌≡◌, ℕ, suc, ◌+◌, ◌-◌, ◌/◌, ◌<◌, Bool, true, false, cond, not, ◌&&◌, Option, Some, None, List, [], ◌∷◌, ◌++◌, map, refl, ap, sym, ◌∙◌, arith, nat_lt, append-nil}
 use Rattle.std.specs.Prelude.{◌==◌, option_to_list}
 use Rattle.std.specs.List.{filter_map}
 use Rattle.std.proofs.lemmas.List.{append_cancel_left}
@@ -18,7 +18,6 @@ use Rattle.event_rules.proofs.Fast as over_feed
 use Rattle.side_model.specs.Done.{has_failed_in}
 use Rattle.event_course.specs.Plain.{bare_event, over_event}
 use Rattle.event_course.specs.Noted.{are_sure}
-use Rattle.event_course.proofs.Failing.{sure-parts}
 
 some-none : {X : Type 0} (x : X) (xs : List X) → xs ≡ xs ++ x ∷ [] → ⊥
 some-none x xs is = absurd (let no : [] ≡ x ∷ [] = append_cancel_left xs [] (x ∷ []) (append-nil xs ∙ is) in cc)
@@ -109,9 +108,3 @@ pub over-failed : (later : RunLog) (next : ℕ) → has_failed_in later next ≡
     are_sure later (map over_event (option_to_list ended)) ≡ true → map over_event (option_to_list ended) ≡ []
 over-failed later next failed None ends sure = refl
 over-failed later next failed (Some o) ends sure = absurd (failed-one later next (over_event o) (o.end + 1) failed (ends o refl) sure)
-
--- so they are where they were told and not noted
-pub unsure-behind : (later : RunLog) (events more now : List Event) → now ≡ events ++ more → (are_sure later more ≡ true → more ≡ []) → (more ≡ []) ⊎ (are_sure later now ≡ true → ⊥)
-unsure-behind later events [] now is none = inl refl
-unsure-behind later events (e ∷ more) now is none =
-    inr (λ sure. absurd (let no = none (sure-parts later events (e ∷ more) (ap (are_sure later) (sym is) ∙ sure)).1 in cc))

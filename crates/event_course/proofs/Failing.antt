@@ -24,10 +24,6 @@ same u = grind (arith, nat_tests)
 other : (s u : ℕ) → s < u → nat_eq s u ≡ false
 other s u lt = grind (arith, nat_tests)
 
-pub or-false : (b : Bool) → (b || false) ≡ b
-or-false true = refl
-or-false false = refl
-
 pub or-true : (b : Bool) → (b || true) ≡ true
 or-true true = refl
 or-true false = refl

@@ -9,15 +9,11 @@ use Rattle.unit_model.proofs.Growth.{map_range_same}
 use Rattle.log_model.specs.Log.{RunLog}
 use Rattle.event_model.specs.Kinds.{places_of}
 use Rattle.side_model.specs.Tables.{table_of, table_in}
-use Rattle.tach_media.specs.Medium.{State, IsCoherent, LeavesOnly, Unchanged}
-use Rattle.unit_model.specs.Days.{UnitMinute}
-use Rattle.unit_journal.specs.declared.notes.Notes.{Notes}
-use Rattle.unit_journal.specs.Image.{SameBesides, IsKeeping}
-use Rattle.unit_journal.specs.Mends.{SameButRowsAndSlots, IsMending}
-use Rattle.event_course.specs.Noted.{Lists, no_events, AllLead}
-use Rattle.event_course.specs.Shown.{all_kinds, HasNoted, ShowsMore, KeepsEvents}
-use Rattle.event_course.proofs.Failing.{leads-stay}
-use Rattle.event_course.proofs.Shows.{each-kind, same-more, noted-aside}
+use Rattle.unit_journal.specs.Image.{SameBesides}
+use Rattle.unit_journal.specs.Mends.{SameButRowsAndSlots}
+use Rattle.event_course.specs.Noted.{Lists, no_events}
+use Rattle.event_course.specs.Shown.{all_kinds, ShowsMore, KeepsEvents}
+use Rattle.event_course.proofs.Shows.{each-kind, same-more}
 
 pub le-then : (a b c : ℕ) → a ≤ b → b ≤ c → a ≤ c
 le-then a b c first next = omega (arith, first, next)
@@ -92,19 +88,3 @@ pub keeps-more : (later : RunLog) (now : Lists) (x c : List ℕ) → KeepsEvents
 keeps-more later now x c same =
     same-more later now x c (λ kind there sure. table-behind kind there x c same.rest)
     (λ sure. (ap (big_number 4) (part_of 572 8 0 4 x c (omega arith) same.numbers), ap (big_number 4) (part_of 572 8 4 4 x c (omega arith) same.numbers)))
-
--- nothing more is to be noted
-pub itself-leads : (log : RunLog) (l : Lists) → AllLead log l no_events log l
-itself-leads log l = record { bares = leads-stay log log l.bares (λ u h. h); overs = leads-stay log log l.overs (λ u h. h); gaps = leads-stay log log l.gaps (λ u h. h) }
-
--- reads, a minute that is kept, and a mending: every image shows what was noted before
-pub noted-read : (start : List ℕ) (log : RunLog) (l : Lists) {U V : State} → HasNoted start log l U → IsCoherent U → LeavesOnly U V Unchanged → HasNoted start log l V
-noted-read start log l {U} {V} h whole run = noted-aside start log log l l {U = U} {V = V} h whole (itself-leads log l) Unchanged run (λ x c never. absurd never)
-
-pub noted-kept : (start : List ℕ) (log : RunLog) (l : Lists) {U V : State} (k : UnitMinute) (odometer : ℕ) → HasNoted start log l U → IsCoherent U → LeavesOnly U V (IsKeeping k odometer) → HasNoted start log l V
-noted-kept start log l {U} {V} k odometer h whole run =
-    noted-aside start log log l l {U = U} {V = V} h whole (itself-leads log l) (IsKeeping k odometer) run (λ x c moment. keeps-more log l x c (besides-keeps x c moment.outside))
-
-pub noted-mended : (start : List ℕ) (log : RunLog) (l : Lists) {U V : State} (j : Notes) → HasNoted start log l U → IsCoherent U → LeavesOnly U V (IsMending j) → HasNoted start log l V
-noted-mended start log l {U} {V} j h whole run =
-    noted-aside start log log l l {U = U} {V = V} h whole (itself-leads log l) (IsMending j) run (λ x c moment. keeps-more log l x c (slots-keeps x c moment.outside))

@@ -140,14 +140,3 @@ noted-after start log later l more now {U = U} {V = V} h whole after works tells
     by : (o : Option (List ℕ)) → U.image ≡ o → (c : List ℕ) → V.image ≡ Some c → (x : List ℕ) × U.may_leave x × ShowsMore later now more x c
     by None was c is = absurd (let no : true ≡ false = sym (ap is_some is) ∙ tells ∙ ap is_some was in cc)
     by (Some x) was c is = (x, whole.is_left x was, each x c was (at x c was is))
-
--- at the start
-pub noted-begins : (start : List ℕ) (log : RunLog) {U : State} → ((x : List ℕ) → U.may_leave x → x ≡ start) → number_of start OVER_COUNT ≤ 255 → HasNoted start log no_events U
-noted-begins start log {U} only few = record {
-  shows = λ x left. subst (ShowsEvents start log no_events) (sym (only x left)) (record {
-    tables = λ kind there sure. subst (λ (es : List Event). AreNoted no_number (table_in kind start) es (table_in kind start)) (sym (none-of-kind kind)) refl;
-    first_over = λ sure. sym (first-none (number_of start FIRST_OVER));
-    over_count = λ sure. count-none (number_of start OVER_COUNT) few;
-    begins = λ sure. tt;
-  });
-}

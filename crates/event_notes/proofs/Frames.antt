@@ -106,10 +106,6 @@ none-else true c = refl
 none-else false true = refl
 none-else false false = refl
 
-none-then : (b : Bool) → cond {A = List Event} b [] [] ≡ []
-none-then true = refl
-none-then false = refl
-
 bare-else : (e : Event) (kind : ℕ) → kind ≢ 0x04 → of_kind kind (one_bare e) ≡ []
 bare-else e kind ne = ap (λ (b : Bool). cond b (e ∷ []) (cond (kind == 0x07) [] (cond (kind == 0x08) [] []))) (ne_eqb kind 0x04 ne) ∙ none-else (kind == 0x07) (kind == 0x08)
 

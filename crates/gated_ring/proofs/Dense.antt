@@ -6,7 +6,7 @@ use Rattle.std.proofs.lemmas.List.{drop-append-le, length-map}
 use Rattle.std.proofs.lemmas.List.FromFn.{length-range_with_len}
 use Rattle.std.specs.List.{range_with_len}
 use Rattle.gated_ring.specs.Ring.{Shape, pointer, PointsInside, is_there, next, order, indices, taken, staying, up_to, IsRun, IsDense, newest_of}
-use Rattle.gated_ring.proofs.Orders.{Each, each_filter, rest, rest_others, order_first, order_last, filter_short, filter_skip}
+use Rattle.gated_ring.proofs.Orders.{Each, each_filter, rest, rest_others, order_first, order_last}
 use Rattle.gated_ring.proofs.Listing.{taken_chosen, taken_below, staying_there, staying_no_taken, pointer_last, indices_cases}
 
 pub length_rest : (r : Shape) (i : ℕ) → i < r.count → length (rest r i) + 1 ≡ r.count
@@ -244,22 +244,3 @@ module _ (r : Shape) (x : List ℕ) (known : PointsInside r x) where
       let one : length (list ++ new ∷ []) - r.count ≡ 1 = omega (arith, more, ap length full.1, full.0) in
       sym (ap (λ (k : ℕ). drop k (list ++ new ∷ [])) one ∙ ap (λ (l : List X). drop 1 (l ++ new ∷ [])) full.1))
       stays.1
-
-  -- a ring is dense where the indices up to one are those whose entries are there, and the last of them stands at the pointer, or before it where no entry is there
-  pub dense_found : (last n : ℕ) → last < r.count → n ≤ r.count → (last ≡ pointer r x) ⊎ ((next r last ≡ pointer r x) × (is_there r x (pointer r x) ≡ false))
-      → filter (is_there r x) (order r (next r last)) ≡ up_to r last n → IsDense r x
-  unfolding indices
-  dense_found last n last_below few at are = inr (
-    last,
-    record {
-      below = last_below;
-      at_pointer = ⊎_elim (λ here. inl here) (λ before. inr before.0) at;
-      len = n;
-      few = few;
-      indices_are = ⊎_elim
-          (λ here. ap (λ (k : ℕ). filter (is_there r x) (order r (next r k))) (sym here) ∙ are)
-          (λ before. ap (filter (is_there r x)) (order_last r (pointer r x) known) ∙ filter_short (is_there r x) (rest r (pointer r x)) (pointer r x) before.1
-          ∙ sym (ap (λ (k : ℕ). filter (is_there r x) (order r k)) before.0 ∙ ap (filter (is_there r x)) (order_first r (pointer r x) known) ∙ filter_skip (is_there r x) (pointer r x) (rest r (pointer r x)) before.1) ∙ are)
-          at;
-    },
-  )

@@ -4,7 +4,7 @@ use Rattle.std.specs.Prelude.{◌==◌}
 use Rattle.card_layout.specs.Images.{big_number}
 use Rattle.tach_media.specs.Medium.{bytes_at, SameOutside}
 use Rattle.tach_media.proofs.Images.{part_before, part_after, part_in}
-use Rattle.gated_ring.specs.Ring.{Shape, IsShape, size_of, place_of, gate_of, pointer, PointsInside, is_there, entry_at, next, order, indices, ring_list, IsNewest, taken, staying, without_first, IsDense}
+use Rattle.gated_ring.specs.Ring.{Shape, IsShape, size_of, place_of, gate_of, pointer, PointsInside, is_there, entry_at, next, order, indices, ring_list, IsNewest, taken, IsDense}
 use Rattle.gated_ring.proofs.Orders.{each_weaker, order_each, next_below, filter_same, map_same}
 use Rattle.gated_ring.proofs.Listing.{indices_below}
 use Rattle.gated_ring.proofs.Places.{place_high}
@@ -54,9 +54,6 @@ module _ (r : Shape) (shape : IsShape r) (x c : List ℕ) (same : bytes_at c r.b
     taken_elsewhere =
         ap (λ (p : ℕ). cond (is_there r c p) (next r p) p) pointer_elsewhere
         ∙ ap (λ (b : Bool). cond b (next r (pointer r x)) (pointer r x)) (there_elsewhere (pointer r x) known)
-
-    pub staying_elsewhere : staying r c ≡ staying r x
-    staying_elsewhere = ap (λ (i : ℕ). without_first i (indices r c)) taken_elsewhere ∙ ap (without_first (taken r x)) indices_elsewhere
 
     pub newest_elsewhere : (o : Option ℕ) → IsNewest r x o → IsNewest r c o
     newest_elsewhere None none = indices_elsewhere ∙ none

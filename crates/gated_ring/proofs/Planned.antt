@@ -9,7 +9,7 @@ use Rattle.write_plan.specs.Plan.{Piece, piece, put_all, IsPartway, PutsAll, Put
 use Rattle.write_plan.proofs.Plans.{put_all-append, partway_either, puts_by}
 use Rattle.gated_ring.specs.declared.room.Room.{Room}
 use Rattle.gated_ring.specs.Ring.{Shape, IsShape, size_of, place_of, gate_of, pointer, PointsInside, is_there, taken, gate_bytes, gate_number, number_at}
-use Rattle.gated_ring.specs.Change.{IsAdding, IsAdded, IsReplaced, IsReplacingEntry, pointer_writes, adding_writes, replacing_writes}
+use Rattle.gated_ring.specs.Change.{IsAdding, IsAdded, IsReplaced, IsReplacingEntry, pointer_writes, adding_writes}
 use Rattle.gated_ring.specs.Plans.{some_piece, shut_pieces, body_pieces, pointer_bytes, pointer_pieces, gate_pieces, placing_pieces, room_in, adding_pieces, exchanging_pieces, replacing_pieces}
 use Rattle.gated_ring.proofs.Steps.{freed, with_body, pointed, placed, replaced, IsFilling, IsPlacing, IsReplacing}
 use Rattle.gated_ring.proofs.Places.{place_high}
@@ -269,9 +269,6 @@ module _ (r : Shape) (i : ℕ) (head : List ℕ) (gate : ℕ) (old mid new : Sta
   put_puts = puts_by (exchanging_pieces r i (not (gate == 0)) head) (replacing_pieces r i head) reads
       (if_told old.image (λ x. replacing_pieces r i head x ≡ exchanging_pieces r i (not (gate == 0)) head) (λ x was. sym (ap (λ (b : Bool). exchanging_pieces r i b head) (used_at x was))))
       puts (exchanging_some r i (not (gate == 0)) head).0 (exchanging_some r i (not (gate == 0)) head).1
-
-  pub put_writes : (x : List ℕ) → old.image ≡ Some x → new.clock ≤ old.clock + replacing_writes r x i
-  put_writes x was = omega (arith, puts.clock, reads.clock, exchanging_few r i (not (gate == 0)) head, ap (λ (b : Bool). cond b 1 0 + 3) (used_at x was))
 
   module _ (shape : IsShape r) (sized : (x : List ℕ) → old.image ≡ Some x → r.base + size_of r ≤ length x) (below : i < r.count)
       (gate_fits : r.gate + 4 ≤ length head) (width_fits : length head ≤ r.width) (gate_open : gate_number r head ≢ 0) where

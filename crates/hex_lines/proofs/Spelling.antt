@@ -1,7 +1,7 @@
 -- The bytes of a line, one after the other.
-use Rattle.std.proofs.Common.{◌≡◌, ℕ, ◌<◌, ◌≤◌, ◌≢◌, List, [], ◌∷◌, ◌++◌, length, take, drop, length-drop, ◌-◌, refl, sym, ◌∙◌, ap, append_assoc, arith}
+use Rattle.std.proofs.Common.{◌≡◌, ℕ, ◌<◌, ◌≤◌, List, [], ◌∷◌, ◌++◌, length, take, drop, length-drop, ◌-◌, refl, sym, ◌∙◌, ap, arith}
 use Rattle.std.proofs.Math.Seq.{take-length}
-use Rattle.std.specs.Prelude.{Option, Some, None, option_map, slice_index}
+use Rattle.std.specs.Prelude.{Option, None, option_map, slice_index}
 use Rattle.hex_lines.specs.Lines.{some_bytes, behind_byte, byte_of, in_front, line_bytes}
 
 -- a line that begins with two characters
@@ -18,17 +18,6 @@ one_alone (c ∷ []) some short = refl
 one_alone [] some short = absurd (omega (arith, some))
 one_alone (c ∷ d ∷ text) some short = absurd (omega (arith, short))
 
--- without a space
-pub no_space : (text : List ℕ) → (0 < length text → slice_index text 0 ≢ 32) → behind_byte text ≡ line_bytes text
-no_space [] other = refl
-no_space (c ∷ text) other = grind (arith, other (omega arith))
-
--- with one
-pub space_first : (text : List ℕ) → 2 ≤ length text → slice_index text 0 ≡ 32 → behind_byte text ≡ line_bytes (drop 1 text)
-space_first (c ∷ d ∷ text) long is = grind (arith, is)
-space_first [] long is = absurd (omega (arith, long))
-space_first (c ∷ []) long is = absurd (omega (arith, long))
-
 pub space_alone : (text : List ℕ) → 0 < length text → length text < 2 → slice_index text 0 ≡ 32 → behind_byte text ≡ None
 unfolding some_bytes
 space_alone (c ∷ []) some short is = grind (arith, is)
@@ -42,7 +31,3 @@ all_behind text = ap (λ (n : ℕ). take n (drop 2 text)) (sym (length-drop 2 te
 -- bytes that were read, and those that the rest spells
 abbrev pub with_read : List ℕ → Option (List ℕ) → Option (List ℕ)
 with_read done rest = option_map (λ more. done ++ more) rest
-
-pub read_more : (done : List ℕ) (byte : ℕ) (rest : Option (List ℕ)) → with_read done (in_front (Some byte) rest) ≡ with_read (done ++ byte ∷ []) rest
-read_more done byte None = refl
-read_more done byte (Some more) = ap Some (sym (append_assoc done (byte ∷ []) more))

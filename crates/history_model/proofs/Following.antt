@@ -62,13 +62,6 @@ module _ (k : ℕ) (closed span sure rest : List HistoryMinute) (low : All (λ i
 longer : (minutes past rest more : List HistoryMinute) → minutes ≡ past ++ rest → minutes ++ more ≡ past ++ (rest ++ more)
 longer minutes past rest more is = ap (λ (zs : List HistoryMinute). zs ++ more) is ∙ append_assoc past rest more
 
--- the history goes on
-pub follows-longer : (minutes more : List HistoryMinute) (lost later : List (List HistoryMinute)) (b : Book) → ((past : List HistoryMinute) → Contains lost past → Contains later past) → Follows minutes lost b → Follows (minutes ++ more) later b
-follows-longer minutes more lost later b goes f = record {
-  front = (f.front.0 ++ more, longer minutes (all b) f.front.0 more f.front.1);
-  each = λ past at. ⊎_elim (λ in_. inl (in_.0 ++ more, longer minutes past in_.0 more in_.1)) (λ gone. inr (goes past gone)) (f.each past at);
-}
-
 -- the next minute of the history is kept, or begun
 pub follows-kept : (minutes rest : List HistoryMinute) (lost : List (List HistoryMinute)) (b : Book) (i : HistoryMinute) → b.maybe ≡ None → minutes ≡ all b ++ i ∷ rest → Follows minutes lost b → Follows minutes lost (kept i b)
 follows-kept minutes rest lost b i none next f = record {

@@ -15,7 +15,7 @@ use Rattle.card_layout.specs.Application.{application_of}
 use Rattle.card_image.specs.CardFile.{FileEntry, entry_bytes, is_value, values_of, string_alone, vehicles_alone}
 use Rattle.view_text.specs.Exact.{both}
 use Rattle.history_view.specs.declared.parts.Found.{Found}
-use Rattle.history_view.specs.CardFiles.{is_empty, are_sizes, sizes_told, are_days, are_vehicles, may_follow, all_follow}
+use Rattle.history_view.specs.CardFiles.{are_sizes, are_days, are_vehicles, may_follow, all_follow}
 use Rattle.history_view.specs.Reading.{SizesAre, PartIs, days_size, vehicles_size, Stands}
 
 -- the values of a file among the entries and one more
@@ -50,21 +50,6 @@ part_stays fid len good app None bytes es e other is = values_without fid es e o
 part_stays fid len good None (Some p) bytes es e other is = is
 part_stays fid len good (Some app) (Some p) bytes es e other is = (values_without fid es e other ∙ is.0, is.1, is.2)
 
--- the sizes that were told
-pub sizes_found : (app : Option Application) (es : List FileEntry) → SizesAre app es → sizes_told (values_of 0x0501 es) ≡ app
-sizes_found None es are = ap sizes_told are
-sizes_found (Some app) es are = ap sizes_told are.one ∙ ap Some (sym are.told)
-
--- whether a file is among the entries
-has_sizes : (app : Option Application) (es : List FileEntry) → SizesAre app es → is_empty (values_of 0x0501 es) ≡ not (is_some app)
-has_sizes None es are = ap is_empty are
-has_sizes (Some app) es are = ap is_empty are.one
-
-has_part : (fid : ℕ) (len : Application → ℕ) (good : Option Application → List ℕ → Bool) (app : Option Application) (o : Option ℕ) (bytes : List ℕ) (es : List FileEntry) → PartIs fid len good app o bytes es → is_empty (values_of fid es) ≡ not (is_some o)
-has_part fid len good app None bytes es is = ap is_empty is
-has_part fid len good None (Some p) bytes es is = absurd is
-has_part fid len good (Some app) (Some p) bytes es is = ap is_empty is.0
-
 -- no part is found before the sizes
 part_none : (fid : ℕ) (len : Application → ℕ) (good : Option Application → List ℕ → Bool) (o : Option ℕ) (bytes : List ℕ) (es : List FileEntry) → PartIs fid len good None o bytes es → (o ≡ None) × (values_of fid es ≡ [])
 part_none fid len good None bytes es is = (refl, is)
@@ -86,10 +71,6 @@ module _ (bytes : List ℕ) (f : Found) (es : List FileEntry) (e : FileEntry) (s
       vehicles = part_stays 0x0505 vehicles_size are_vehicles f.app f.vehicles bytes es e no_vehicles s.vehicles;
     },
   )
-
-  -- the sizes
-  pub sizes_judged : is_value 0x0501 e ≡ true → may_follow es e ≡ (not (is_some f.app) && are_sizes e.value)
-  sizes_judged own = rw own (ap (λ (b : Bool). b && are_sizes e.value) (has_sizes f.app es s.sizes))
 
   pub sizes_taken : is_value 0x0501 e ≡ true → is_value 0x0504 e ≡ false → is_value 0x0505 e ≡ false → f.app ≡ None → are_sizes e.value ≡ true → Stands bytes (record f { app = Some (application_of e.value) }) (es ++ e ∷ [])
   sizes_taken own no_days no_vehicles none good =
@@ -113,17 +94,6 @@ module _ (bytes : List ℕ) (f : Found) (es : List FileEntry) (e : FileEntry) (s
         days = part_from 0x0504 days_size are_days (application_of e.value) f.days bytes (es ++ e ∷ []) (days.0, days_empty);
         vehicles = part_from 0x0505 vehicles_size are_vehicles (application_of e.value) f.vehicles bytes (es ++ e ∷ []) (vehicles.0, vehicles_empty);
       }
-
-  -- the days
-  pub days_judged : is_value 0x0501 e ≡ false → is_value 0x0504 e ≡ true → may_follow es e ≡ (not (is_some f.days) && are_days f.app e.value)
-  days_judged no_sizes own =
-      rw (no_sizes, own) (ap (λ (b : Bool). b && are_days (sizes_told (values_of 0x0501 es)) e.value) (has_part 0x0504 days_size are_days f.app f.days bytes es s.days)
-      ∙ ap (λ (o : Option Application). not (is_some f.days) && are_days o e.value) (sizes_found f.app es s.sizes))
-
-  pub vehicles_judged : is_value 0x0501 e ≡ false → is_value 0x0504 e ≡ false → is_value 0x0505 e ≡ true → may_follow es e ≡ (not (is_some f.vehicles) && are_vehicles f.app e.value)
-  vehicles_judged no_sizes no_days own =
-      rw (no_sizes, no_days, own) (ap (λ (b : Bool). b && are_vehicles (sizes_told (values_of 0x0501 es)) e.value) (has_part 0x0505 vehicles_size are_vehicles f.app f.vehicles bytes es s.vehicles)
-      ∙ ap (λ (o : Option Application). not (is_some f.vehicles) && are_vehicles o e.value) (sizes_found f.app es s.sizes))
 
 -- a part that comes
 pub part_comes : (fid : ℕ) (len : Application → ℕ) (good : Option Application → List ℕ → Bool) (app : Option Application) (o : Option ℕ) (bytes : List ℕ) (es : List FileEntry) (e : FileEntry) (p n : ℕ)

@@ -1,6 +1,6 @@
 -- What loading a string that stands alone tells of its bytes.
-use Rattle.std.proofs.Common.{◌≡◌, ◌∙◌, ℕ, ◌+◌, ◌-◌, ◌&&◌, Bool, true, not, Option, Some, None, List, length, refl, ap, sym, subst, arith}
-use Rattle.std.specs.Prelude.{is_some, ◌==◌, Err, IfSome, IfNone}
+use Rattle.std.proofs.Common.{◌≡◌, ◌∙◌, ℕ, ◌+◌, ◌-◌, ◌&&◌, Bool, true, not, Option, Some, None, List, length, ap, sym, subst, arith}
+use Rattle.std.specs.Prelude.{is_some, ◌==◌, IfSome, IfNone}
 use Rattle.std.proofs.lemmas.Bool.Decides.{nat_tests}
 use Rattle.card_layout.specs.declared.files.Application.{Application}
 use Rattle.card_layout.specs.Application.{IsApplication}
@@ -9,16 +9,8 @@ use Rattle.card_model.specs.Image.{StringShape, IsStringShape, Holds}
 use Rattle.card_model.specs.Walk.{days_of}
 use Rattle.card_model.proofs.Judging.{holds_passes}
 use Rattle.card_image.specs.CardFile.{string_alone}
-use Rattle.cyclic_days.specs.declared.fault.DaysFault.{DaysFault}
-use Rattle.cyclic_days.specs.declared.fault.DaysFault.TheVariants as fault
 use Rattle.cyclic_days.specs.Held.{Held, Knows}
-use Rattle.cyclic_days.specs.Loading.{IfBadDays, has_failed}
 use Rattle.history_view.specs.CardFiles.{are_days}
-
--- a fault that is no failure is that of a bad place
-pub bad_found : (f : DaysFault) (o : Option ℕ) → IfBadDays f (λ p. o ≡ Some p) → (has_failed {T = Held} (Err f) ≡ true → ⊥) → is_some o ≡ true
-bad_found fault.Failed o bad cause = absurd (cause refl)
-bad_found (fault.BadDays p) o bad cause = ap is_some bad
 
 -- the shape of a string of so many bytes
 abbrev pub shape_by : ℕ → StringShape

@@ -51,15 +51,8 @@ entry_told bytes e more is spelled =
       omega (arith, long, parts),
     )
 
--- where none of the grammar stands
-pub short_none : (bytes : List ℕ) → length bytes < 5 → HasNoEntry bytes
-short_none bytes short = λ e more is spelled. absurd (omega (arith, (entry_told bytes e more is spelled).0, short))
-
 pub kind_none : (bytes : List ℕ) → 1 < slice_index bytes 2 → HasNoEntry bytes
 kind_none bytes high = λ e more is spelled. absurd (omega (arith, (entry_told bytes e more is spelled).1, is.kind, high))
-
-pub cut_none : (bytes : List ℕ) → length bytes < big_number 2 (bytes_at bytes 3 2) + 5 → HasNoEntry bytes
-cut_none bytes cut = λ e more is spelled. let told = entry_told bytes e more is spelled in absurd (omega (arith, told.2, told.3, cut))
 
 -- and where one does
 pub entry_here : (bytes : List ℕ) (place : ℕ) (at : EntryAt) → IsBytes bytes → place ≤ length bytes → 5 ≤ length (drop place bytes) → at.len + 5 ≤ length (drop place bytes) → at.kind ≤ 1

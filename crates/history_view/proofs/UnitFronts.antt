@@ -1,20 +1,16 @@
 -- The front of a unit file that was read, and what was told by it.
-use Rattle.std.proofs.Common.{◌≡◌, ◌∙◌, ℕ, zero, suc, ◌+◌, ◌≤◌, ◌<◌, false, Option, Some, None, List, [], ◌∷◌, ◌++◌, length, map, drop, get_or, refl, ap, sym, subst, arith, All, append_assoc, append-nil, length-append}
+use Rattle.std.proofs.Common.{◌≡◌, ◌∙◌, ℕ, zero, suc, ◌+◌, ◌<◌, false, Option, Some, None, List, [], ◌∷◌, ◌++◌, length, map, drop, get_or, refl, ap, sym, subst, arith, All, append_assoc, append-nil, length-append}
 use Rattle.std.specs.Prelude.{flat_map, is_some, OnOk, Result, Ok, Err}
-use Rattle.std.proofs.lemmas.List.{length-drop}
 use Rattle.std.proofs.lemmas.List.Elements.{All-append, All-nil}
 use Rattle.card_layout.specs.Fields.{joined}
 use Rattle.unit_model.specs.Days.{UnitMinute}
-use Rattle.message_model.specs.Messages.{Message, Overview, DayMessage, AnOverview, ADay, AnEventList, ASpeedList, ATechnical, message_bytes, IsMessage, IsUnitFile}
+use Rattle.message_model.specs.Messages.{Message, Overview, DayMessage, AnOverview, ADay, AnEventList, ASpeedList, ATechnical, message_bytes, IsMessage}
 use Rattle.message_model.specs.Showing.{time_in, told_day, day_minutes, minutes_told as told_by}
 use Rattle.link_model.specs.declared.request.Request.TheVariants.{Overview as AskOverview, Day as AskDay, Events as AskEvents, Speed as AskSpeed, Technical as AskTechnical}
 use Rattle.unit_messages.specs.Reading.{BeginsNoMessage, request_of}
 use Rattle.history_view.specs.declared.unit.DayAt.{DayAt}
 use Rattle.history_view.specs.declared.unit.Told.{Told}
-use Rattle.history_view.specs.UnitFiles.{HasNoMessage, IsBadUnitFile, days_told}
-use Rattle.history_view.specs.declared.fault.ViewFault.{ViewFault}
-use Rattle.history_view.specs.declared.fault.ViewFault.TheVariants.{BadFile, Memory}
-use Rattle.history_view.specs.Faults.{IfBadFile}
+use Rattle.history_view.specs.UnitFiles.{HasNoMessage, days_told}
 use Rattle.history_view.specs.UnitShowing.{IsStoredAt, AreStored, AreTold, IsTaken, first_time}
 
 -- the days of messages and of one more
@@ -98,11 +94,6 @@ told_none bytes t now days = record { time = now; days = subst (λ (l : List Day
 pub no_message : (bytes : List ℕ) → BeginsNoMessage bytes → HasNoMessage bytes
 no_message bytes none = λ m more is spelled. none m (record { is_message = is; rest = more; spelled = spelled })
 
--- what is said of the place in a fault
-pub fault_by : (fault : ViewFault) (P Q : ℕ → Type 0) → ((at : ℕ) → P at → Q at) → IfBadFile fault P → IfBadFile fault Q
-fault_by (BadFile at) P Q by is = by at is
-fault_by Memory P Q by is = tt
-
 -- one message behind some
 module _ (bytes : List ℕ) (before : List Message) (place end : ℕ) (u : Told) (each : All IsMessage before) (spelled : bytes ≡ joined (map message_bytes before) ++ drop place bytes) (place_is : place ≡ length (joined (map message_bytes before))) (taken : IsTaken bytes before place end u) where
   more : List Message
@@ -143,45 +134,6 @@ unit_front_first bytes end u taken = front_behind bytes [] 0 end u (All-nil IsMe
 
 pub unit_front_more : (bytes : List ℕ) (place end : ℕ) (t u : Told) (front : UnitFront bytes place t) → IsTaken bytes front.messages place end u → UnitFront bytes end u
 unit_front_more bytes place end t u front taken = front_behind bytes front.messages place end u front.each front.spelled front.place_is taken
-
--- a message has bytes
-pub message_grows : (m : Message) → 0 < length (message_bytes m)
-message_grows m = omega arith
-
--- no message at the very front, and none behind some
-pub unit_stops_first : (bytes : List ℕ) → HasNoMessage bytes → IsBadUnitFile 0 bytes
-unit_stops_first bytes none = record {
-  messages = [];
-  rest = bytes;
-  each = All-nil IsMessage;
-  spelled = refl;
-  place_is = refl;
-  stuck = none;
-  stands = λ _. refl;
-}
-
-pub unit_stops : (bytes : List ℕ) (place : ℕ) (t : Told) → UnitFront bytes place t → place < length bytes → HasNoMessage (drop place bytes) → IsBadUnitFile place bytes
-unit_stops bytes place t front low none = record {
-  messages = front.messages;
-  rest = drop place bytes;
-  each = front.each;
-  spelled = front.spelled;
-  place_is = front.place_is;
-  stuck = none;
-  stands = λ empty. absurd (omega (arith, ap (λ (l : List ℕ). length l) empty, length-drop place bytes, low));
-}
-
--- nothing is left
-pub unit_whole : (bytes : List ℕ) (place : ℕ) (t : Told) (front : UnitFront bytes place t) → length bytes ≤ place → IsUnitFile front.messages bytes
-unit_whole bytes place t front high = record {
-  some = front.some;
-  each = front.each;
-  spelled = front.spelled ∙ ap (λ (l : List ℕ). joined (map message_bytes front.messages) ++ l) (nothing (drop place bytes) (omega (arith, length-drop place bytes, high))) ∙ append-nil (joined (map message_bytes front.messages));
-}
-  where
-    nothing : (l : List ℕ) → length l ≡ 0 → l ≡ []
-    nothing [] none = refl
-    nothing (x ∷ l) none = absurd (omega (arith, none))
 
 -- the first of two times, where there was none
 pub first_taken : (o : Option ℕ) (n k : ℕ) → is_some o ≡ false → k ≡ n → Some k ≡ first_time o (Some n)

@@ -1,5 +1,5 @@
 -- The rules at the opening of a run, of what the views show there.
-use Rattle.std.proofs.Common.{All, ◌≡◌, inl, ⊎_elim, ℕ, ◌<◌, ◌≤◌, cond, true, None, Option, List, [], ◌++◌, refl, ap, subst, ◌∙◌, sym, arith, nat_lt}
+use Rattle.std.proofs.Common.{All, ◌≡◌, inl, ⊎_elim, ℕ, ◌<◌, ◌≤◌, cond, None, Option, List, [], ◌++◌, refl, ap, subst, ◌∙◌, sym, arith, nat_lt}
 use Rattle.std.proofs.lemmas.List.Elements.{All-weaker, All-nil}
 use Rattle.std.proofs.lemmas.List.{append-nil}
 use Rattle.std.proofs.Math.Nat.{le-max_right}
@@ -11,7 +11,7 @@ use Rattle.card_image.specs.View.{CardView, Held}
 use Rattle.joint_rule.specs.Views.{UnitView, owed, newest_with}
 use Rattle.joint_rule.specs.Device.{Seen, SettledViews, LeavesViews, Nothing, IsFresh}
 use Rattle.history_model.specs.Book.{not_begun, Between, IsFork}
-use Rattle.joint_rule.specs.Rules.{Shows, UnitHolds, UnitRule, Brings, Meets, Out, comes_from, CardDark}
+use Rattle.joint_rule.specs.Rules.{Shows, UnitHolds, Brings, Meets, Out, comes_from, CardDark}
 use Rattle.history_model.proofs.Books.{history-none}
 use Rattle.joint_rule.proofs.Pairs.{newest-more, owed-above, had-meets}
 use Rattle.joint_rule.proofs.UnitLaws.{showed-shown}
@@ -34,9 +34,6 @@ opened-unit Fills U u due now since days late = record {
   where
     shows : Shows Fills u.last not_begun u
     shows = record { next = None; comes = tt; days = days; sure = All-nil (λ (i : HistoryMinute). i.minute ≤ u.last); mark = inl refl }
-
-pub opened-rule : (Fills : Option HistoryMinute → List HistoryMinute → List ShownDay → Type 0) (U : Seen UnitView) (first began due : ℕ) → U.works ≡ true → UnitHolds Fills first began due not_begun U → UnitRule Fills first began due not_begun U
-opened-rule Fills U first began due works holds = record { works = works; none = refl; holds = holds }
 
 module _ (c : Card) (start : CardStart) (Keeps : ℕ → List Entry → Held → Type 0) where
   pub opened-pair : (u : UnitView) (x : CardView) → Brings Keeps c start u x → Meets c start Keeps [] Out u x

@@ -1,5 +1,5 @@
 -- What an acceptance has brought is owed no more, and no step takes a mark back.
-use Rattle.std.proofs.Common.{◌≡◌, ◌⊎◌, inl, inr, ⊎_elim, ℕ, ◌<◌, ◌≤◌, List, [], ◌++◌, All, Contains, subst, sym, arith, drop}
+use Rattle.std.proofs.Common.{◌≡◌, ◌⊎◌, ⊎_elim, ℕ, ◌<◌, ◌≤◌, List, [], ◌++◌, All, Contains, subst, sym, arith, drop}
 use Rattle.std.proofs.lemmas.List.Elements.{All-append, All-nil, All-drop, All-weaker, All-contains, Contains-append_cases}
 use Rattle.activity_codec.specs.declared.entries.Entry.{Entry}
 use Rattle.trace_model.specs.declared.Card.{Card}
@@ -8,11 +8,9 @@ use Rattle.history_model.specs.Presence.{CardStart}
 use Rattle.card_image.specs.View.{CardView, Held}
 use Rattle.joint_rule.specs.Views.{UnitView, owed}
 use Rattle.joint_rule.specs.Device.{Seen, LeavesViews}
-use Rattle.joint_rule.specs.Steps.{IsKeeping, IsPutting, IsBeginning, IsMending, IsInserting, IsOnCard, IsClosing}
+use Rattle.joint_rule.specs.Steps.{IsInserting, IsOnCard, IsClosing}
 use Rattle.joint_rule.specs.Rules.{Meets, Standing, Stands, In, IsRepaired}
 use Rattle.history_model.proofs.Books.{on_card-minute}
-use Rattle.joint_rule.proofs.KeepLaws.{putting-beside}
-use Rattle.unit_model.specs.Days.{ShownDay}
 
 -- REPAIR
 -- an accepted card is owed nothing
@@ -41,20 +39,6 @@ pub repaired-holds : (c : Card) (start : CardStart) (Keeps : ℕ → List Entry 
 repaired-holds c start Keeps k past s U X e r u x on there m at le = ⊎_elim (λ in_. in_)
     (λ lacked. absurd (omega (arith, le, All-contains (λ (d : Entry). k < d.minute) (owed c u x) e (r u x on there) lacked)))
     (Contains-append_cases m.more (owed c u x) e (subst (λ (zs : List Entry). Contains zs e) (sym m.whole) at))
-
--- MARKS DO NOT FALL
-pub putting-rises : (c : Card) (e : Entry) (u v : UnitView) → IsPutting c e u v → u.last ≤ v.last
-putting-rises c e u v p = omega (arith, (putting-beside c e u v p).0)
-
-pub beginning-rises : (c : Card) (u v : UnitView) → IsBeginning c u v → u.last ≤ v.last
-beginning-rises c u v b = omega (arith, b.last)
-
-pub mending-rises : (u v : UnitView) → IsMending u v → u.last ≤ v.last
-mending-rises u v m = omega (arith, m.last)
-
-pub keeping-rises : (Adds Gives : HistoryMinute → List ShownDay → List ShownDay → Type 0) (i : HistoryMinute) (u v : UnitView) → u.last < i.minute → IsKeeping Adds Gives i u v → u.last ≤ v.last
-keeping-rises Adds Gives i u v late (inl k) = omega (arith, k.last)
-keeping-rises Adds Gives i u v late (inr k) = omega (arith, k.last, late)
 
 pub inserting-rises : (Adds : ℕ → Held → List Entry → Held → Type 0) (given : List Entry) (now : ℕ) (x y : CardView) → IsInserting Adds given now x y → x.mark ≤ y.mark
 inserting-rises Adds given now x y i = i.mark

@@ -1,5 +1,5 @@
 -- The laws asked of days and of entries can be met: by the days of a unit, and by entries of which none is lost.
-use Rattle.std.proofs.Common.{◌≡◌, inl, inr, ℕ, ◌-◌, ◌≤◌, Option, Some, None, List, [], ◌∷◌, ◌++◌, length, map, ap, subst, sym, ◌∙◌, arith, append_assoc, length-drop}
+use Rattle.std.proofs.Common.{◌≡◌, inl, inr, ℕ, ◌-◌, ◌≤◌, Option, Some, None, List, [], ◌∷◌, ◌++◌, length, map, ap, subst, sym, ◌∙◌, arith, length-drop}
 use Rattle.std.specs.Prelude.{option_to_list}
 use Rattle.std.proofs.lemmas.List.{map-append}
 use Rattle.std.proofs.lemmas.List.Sums.{fold-append}
@@ -8,9 +8,8 @@ use Rattle.unit_model.specs.Days.{ShownDay, filled, filled_all, newest_days, Eac
 use Rattle.unit_model.specs.Retention.{UnitRetains}
 use Rattle.unit_model.proofs.Retention.{kept_retains, given_retains}
 use Rattle.history_model.specs.Minutes.{HistoryMinute}
-use Rattle.history_model.specs.Presence.{CardStart}
 use Rattle.joint_rule.specs.Filling.{seen_by_unit, filled_with, FillsDays, KeepsMinute, GivesUpDay}
-use Rattle.joint_rule.specs.Rules.{IsBefore, DaysGoOn, EntriesGoOn, OwedCounts}
+use Rattle.joint_rule.specs.Rules.{IsBefore, DaysGoOn, EntriesGoOn}
 
 filled-more : (start : List ShownDay) (past : List HistoryMinute) (i : HistoryMinute) → filled_with start (past ++ i ∷ []) ≡ filled (filled_with start past) (seen_by_unit i)
 filled-more start past i = ap (filled_all start) (map-append seen_by_unit past (i ∷ [])) ∙ fold-append filled start (map seen_by_unit past) (seen_by_unit i ∷ [])
@@ -38,6 +37,3 @@ entries-go-on = record {
   later = λ next n full x le is. is;
   added = λ next full taken x y is adds. adds ∙ ap (λ (zs : List Entry). zs ++ taken) is;
 }
-
-pub owed-counts : (start : CardStart) → OwedCounts start (λ next full x. x.entries ≡ full) (λ full x. x.entries ≡ full)
-owed-counts start next mark more due x low had above late rise is = ap (λ (zs : List Entry). zs ++ due) is ∙ append_assoc start.entries more due

@@ -88,10 +88,6 @@ module _ (Fills : Option HistoryMinute → List HistoryMinute → List ShownDay 
   pub mending-unit : {U V : Seen UnitView} (began due : ℕ) (b : Book) → UnitHolds Fills first began due b U → LeavesViews U V IsMending → UnitHolds Fills first began due b V
   mending-unit {U} {V} began due b holds run = unit-aside IsMending began due b holds run (λ u v here. (here.days, here.last))
 
-  -- a step beside the minutes that has ended well
-  pub rule-aside : {U V : Seen UnitView} (began due : ℕ) (b : Book) → UnitRule Fills first began due b U → V.works ≡ true → UnitHolds Fills first began due b V → UnitRule Fills first began due b V
-  rule-aside {U} {V} began due b rule works holds = record { works = works; none = rule.none; holds = holds }
-
   -- KEEP of the unit
   module _ (Adds Gives : HistoryMinute → List ShownDay → List ShownDay → Type 0) (law : DaysGoOn Fills Adds Gives) where
     module _ (due : ℕ) (b : Book) (i : HistoryMinute) (none : b.maybe ≡ None) (order : Ordered first due b) (late : due ≤ i.minute) where

@@ -5,7 +5,7 @@ use Rattle.std.proofs.lemmas.Bool.{cases_Bool, and_parts, eqb-true, eq-eqb}
 use Rattle.link_model.specs.declared.side.End.{End}
 use Rattle.link_model.specs.declared.side.End.TheVariants as side
 use Rattle.link_model.specs.Frames.{Heard, Right, Wrong, Shape, Long, Short, second, third, header, body_of, spelled, IsShape, judged, heard_of, Stream}
-use Rattle.link_model.specs.Hearing.{is_kept, after_byte, heard_in, kept_after, heard_in_pieces, kept_after_pieces}
+use Rattle.link_model.specs.Hearing.{is_kept, after_byte, heard_in, kept_after, heard_in_pieces}
 use Rattle.link_model.specs.Writing.{with_sum, written_long, written_to}
 use Rattle.link_model.proofs.Shapes.{same_stream}
 use Rattle.link_model.proofs.Bytes.{byte_read, stays_kept, rest_read, bytes_read, framed}
@@ -25,10 +25,6 @@ pub pieces_heard : (end : End) (kept : List ℕ) (pieces : List (List ℕ)) → 
 pieces_heard end kept [] = refl
 pieces_heard end kept (piece ∷ pieces) =
     ap (λ (l : List Heard). heard_in end kept piece ++ l) (pieces_heard end (kept_after end kept piece) pieces) ∙ sym (heard_append end kept piece (concat pieces))
-
-pub pieces_kept : (end : End) (kept : List ℕ) (pieces : List (List ℕ)) → kept_after_pieces end kept pieces ≡ kept_after end kept (concat pieces)
-pieces_kept end kept [] = refl
-pieces_kept end kept (piece ∷ pieces) = pieces_kept end (kept_after end kept piece) pieces ∙ sym (kept_append end kept piece (concat pieces))
 
 -- of a stream whose first bytes were heard
 pub bytes_and_more : (end : End) (kept bytes more : List ℕ) (seen : List Heard) (rest : List ℕ) → is_kept end kept ≡ true

@@ -63,7 +63,3 @@ kept_after end kept (byte ∷ bytes) = kept_after end (after_byte end kept byte)
 abbrev pub heard_in_pieces : End → List ℕ → List (List ℕ) → List Heard
 heard_in_pieces end kept [] = []
 heard_in_pieces end kept (piece ∷ pieces) = heard_in end kept piece ++ heard_in_pieces end (kept_after end kept piece) pieces
-
-abbrev pub kept_after_pieces : End → List ℕ → List (List ℕ) → List ℕ
-kept_after_pieces end kept [] = kept
-kept_after_pieces end kept (piece ∷ pieces) = kept_after_pieces end (kept_after end kept piece) pieces

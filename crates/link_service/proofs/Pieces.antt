@@ -1,5 +1,5 @@
 -- Pieces of a text, and of more of it.
-use Rattle.std.proofs.Common.{◌≡◌, ◌∙◌, ℕ, true, false, List, [], ◌∷◌, ◌++◌, append-nil, refl, ap, sym, subst}
+use Rattle.std.proofs.Common.{◌≡◌, ◌∙◌, ℕ, true, false, List, [], ◌∷◌, ◌++◌, append-nil, refl, ap, sym}
 use Rattle.std.specs.Prelude.{◌==◌}
 use Rattle.activity_codec.proofs.ByTest.{by_test}
 use Rattle.text_fields.specs.Pieces.{pieces, onto_first}
@@ -11,24 +11,6 @@ no_cut s c text none = rw none refl
 
 a_cut : (s c : ℕ) (text : List ℕ) → (c == s) ≡ true → pieces s (c ∷ text) ≡ [] ∷ pieces s text
 a_cut s c text here = rw here refl
-
--- a first piece has no separator
-one_onto : (s c : ℕ) (first : List ℕ) (rest ps : List (List ℕ)) → (c == s) ≡ false → ((q : List ℕ) (qs : List (List ℕ)) → ps ≡ q ∷ qs → pieces s q ≡ q ∷ [])
-    → onto_first c ps ≡ first ∷ rest → pieces s first ≡ first ∷ []
-one_onto s c first rest [] none again h =
-    let f : first ≡ c ∷ [] = cc in subst (λ (l : List ℕ). pieces s l ≡ l ∷ []) (sym f) (no_cut s c [] none)
-one_onto s c first rest (q ∷ qs) none again h =
-    let f : first ≡ c ∷ q = cc in
-    subst (λ (l : List ℕ). pieces s l ≡ l ∷ []) (sym f) (no_cut s c q none ∙ ap (λ (ps : List (List ℕ)). onto_first c ps) (again q qs refl))
-
-pub first_is_one : (s : ℕ) (text first : List ℕ) (rest : List (List ℕ)) → pieces s text ≡ first ∷ rest → pieces s first ≡ first ∷ []
-first_is_one s [] first rest h =
-    let f : first ≡ [] = cc in subst (λ (l : List ℕ). pieces s l ≡ l ∷ []) (sym f) refl
-first_is_one s (c ∷ text) first rest h =
-    by_test (c == s)
-    (λ here. let e : [] ∷ pieces s text ≡ first ∷ rest = sym (a_cut s c text here) ∙ h in
-    let f : first ≡ [] = cc in subst (λ (l : List ℕ). pieces s l ≡ l ∷ []) (sym f) refl)
-    (λ none. one_onto s c first rest (pieces s text) none (λ q qs is. first_is_one s text q qs is) (sym (no_cut s c text none) ∙ h))
 
 -- a text that is one piece, without its first byte
 tail_onto : (c : ℕ) (text : List ℕ) (ps : List (List ℕ)) → (ps ≡ [] → ⊥) → onto_first c ps ≡ (c ∷ text) ∷ [] → ps ≡ text ∷ []

@@ -30,7 +30,7 @@ use Rattle.link_service.specs.declared.fault.LinesFault.TheVariants.{Ended, BadL
 use Rattle.link_service.specs.declared.service.TheConstants.{MOST}
 use Rattle.link_service.specs.Lines.{listening, IsAnswered}
 use Rattle.link_service.specs.Served.{Stops}
-use Rattle.link_service.specs.ServedLines.{bytes_in, lines_to, AreAnswered, WholeAnswered, AreHeard, IsHeard, StopsAt, StopsAmong, EndedWhere, LinesSend, AreServed}
+use Rattle.link_service.specs.ServedLines.{bytes_in, lines_to, AreAnswered, WholeAnswered, AreHeard, IsHeard, StopsAt, StopsAmong, LinesSend, AreServed}
 use Rattle.link_service.proofs.Joined.{none_answered, answered_on, stops_behind}
 use Rattle.link_service.proofs.Faults.{err_is}
 use Rattle.link_service.proofs.Pieces.{last_is_one}
@@ -72,18 +72,8 @@ lines_none before held lines s scanner session text whole = record {
   reads = no_call s;
 }
 
--- what the next text asks
-pub lines_listen : {turn left : ℕ} {a b : Option (List ℕ)} {lines : Lines} {old mid : State} {h k : Option (List ℕ)} → IsServingLines turn left a b lines old mid h k → lines.line.scanner ≡ listening lines.line.scanner.kept
-lines_listen {turn} {left} {a} {b} {lines} {old} {mid} {h} {k} s = subst (λ (scan : Scan). scan ≡ listening scan.kept) (sym s.heard.hears) refl
-
-pub lines_know : {turn left : ℕ} {a b : Option (List ℕ)} {lines : Lines} {old mid : State} {h k : Option (List ℕ)} → IsServingLines turn left a b lines old mid h k → IfSome mid.image (Knows lines.line.session)
-lines_know {turn} {left} {a} {b} {lines} {old} {mid} {h} {k} s = carried (Knows lines.line.session) (sym (read_same s.reads)) s.knows
-
 pub lines_one : {turn left : ℕ} {a b : Option (List ℕ)} {lines : Lines} {old mid : State} {h k : Option (List ℕ)} → IsServingLines turn left a b lines old mid h k → pieces 10 lines.text.items ≡ lines.text.items ∷ []
 lines_one {turn} {left} {a} {b} {lines} {old} {mid} {h} {k} s = last_is_one 10 s.came s.heard.ended lines.text.items s.heard.stands
-
-pub lines_few : {turn left : ℕ} {a b : Option (List ℕ)} {lines : Lines} {old mid : State} {h k : Option (List ℕ)} → IsServingLines turn left a b lines old mid h k → lines.whole ≤ MOST
-lines_few {turn} {left} {a} {b} {lines} {old} {mid} {h} {k} s = omega (arith, s.few, s.count)
 
 -- the image before reads
 heard_before : {all rest : List (List ℕ)} {whole : ℕ} {kept : List ℕ} {state : LinkState} {text : List ℕ} {reached : ℕ} {scan : Scan} {after : LinkState} {o p h k : Option (List ℕ)} → p ≡ o
@@ -118,12 +108,6 @@ lines_on {turn} {left} {a} {b} {lines} {old} {mid} {h} {k} c next new l bytes pa
 -- the first text of what came, where so much may still come
 first_taken : (came bytes : List ℕ) (left : ℕ) → length came + left ≡ MOST → came ++ take left bytes ≡ take MOST (came ++ bytes)
 first_taken came bytes left count = sym (subst (λ (n : ℕ). take n (came ++ bytes) ≡ came ++ take left bytes) count (take-append-add came bytes left))
-
--- an end that is said of the lines is said of the text
-where_stops : (fault : LinesFault) (P Q R : Type 0) → ((P ⊎ Q) → P ⊎ R) → EndedWhere fault (P ⊎ Q) → EndedWhere fault (P ⊎ R)
-where_stops (Ended fault) P Q R on p = tt
-where_stops (BadLine number) P Q R on p = on p
-where_stops Memory P Q R on p = tt
 
 -- the frames of a line end the service
 line_stops : (messages : Request → Option (List ℕ)) (fault : ServeFault) (source : Type 0) (text : List ℕ) (h l : Option (List ℕ)) (a : StopsAmong (Ended fault) source (pieces 10 text) messages 0 [] Idle h l)
@@ -309,10 +293,3 @@ part_is taken count left block is =
 pub part_all : (taken count left : ℕ) (block : List ℕ) → taken ≡ min count left → count ≤ left → take taken block ≡ take count block
 part_all taken count left block is few =
     let least : taken ≡ count = omega (arith, is, few) in ap (λ (n : ℕ). take n block) least
-
-pub part_few : (taken count left : ℕ) (block : List ℕ) → taken ≡ min count left → length (take taken block) ≤ left
-part_few taken count left block is = omega (arith, is, length-take taken block)
-
--- there is room for the numbers of the lines of so much text
-pub lines_room : {turn left : ℕ} {a b : Option (List ℕ)} {lines : Lines} {old mid : State} {h k : Option (List ℕ)} (part : List ℕ) → IsServingLines turn left a b lines old mid h k → length part ≤ left → lines.whole + length part < 4294967295
-lines_room {turn} {left} {a} {b} {lines} {old} {mid} {h} {k} part s few = omega (arith, s.few, s.count, few)

@@ -1,5 +1,5 @@
 -- The lines of a text, so far.
-use Rattle.std.proofs.Common.{◌≡◌, ℕ, ◌+◌, ◌<◌, ◌≤◌, false, Bor, List, [], ◌∷◌, ◌++◌, length, Option, Some, None, IfSome, refl, sym, ◌∙◌, ap, subst, inl, arith}
+use Rattle.std.proofs.Common.{◌≡◌, ℕ, ◌+◌, ◌<◌, ◌≤◌, false, Bor, List, [], ◌∷◌, ◌++◌, length, Option, Some, None, IfSome, sym, ◌∙◌, ap, subst, inl, arith}
 use Rattle.std.specs.Prelude.{◌≢◌, ◌⊎◌}
 use Rattle.tach_media.specs.Medium.{State}
 use Rattle.unit_memory.proofs.Told.{carried}
@@ -56,13 +56,6 @@ start_out first text front behind s h fault one is listens is_memory =
     subst (λ (f : LinesFault). IfSome s.image (λ x. StopsAmong f ⊥ (pieces 10 (first.text.items ++ text)) (content_sent x) first.whole first.line.scanner.kept first.line.session.state h h)) (sym is_memory)
     (out_here ⊥ (heard_start first.text.items text front behind first.whole first.line.scanner first.line.session.state s.image h one is listens))
 
--- the scanner hears the unit's side, and the session knows the unit, before the next line ends
-pub still_listens : {all rest : List (List ℕ)} {first lines : Lines} {old new : State} {h k : Option (List ℕ)} → IsTaking all rest first lines old new h k → lines.line.scanner ≡ listening lines.line.scanner.kept
-still_listens {all} {rest} {first} {lines} {old} {new} {h} {k} t = subst (λ (s : Scan). s ≡ listening s.kept) (sym t.heard.hears) refl
-
-pub still_knows : {all rest : List (List ℕ)} {first lines : Lines} {old new : State} {h k : Option (List ℕ)} → IsTaking all rest first lines old new h k → IfSome new.image (Knows lines.line.session)
-still_knows {all} {rest} {first} {lines} {old} {new} {h} {k} t = carried (Knows lines.line.session) (sym (read_same t.reads)) t.knows
-
 -- what is heard of an image, by the image before reads
 heard_before : {line kept : List ℕ} {state after : LinkState} {scanner : Scan} {o p h k : Option (List ℕ)} → p ≡ o → IsHeard line kept state scanner after p h k → IsHeard line kept state scanner after o h k
 heard_before {line} {kept} {state} {after} {scanner} {o} {p} {h} {k} same a = subst (λ (q : Option (List ℕ)). IsHeard line kept state scanner after q h k) same a
@@ -109,9 +102,3 @@ taking_stops {all} {first} {lines} {old} {mid} {h} {k} behind rest fault l t is 
     let some : pieces_behind 10 behind ≢ [] = λ none. pieces-some 10 rest.now (sym (behind_is behind rest is) ∙ none) in
     stops_here fault ⊥ l t.heard (ended_where fault ((pieces_behind 10 behind ≢ []) ⊎ ⊥) (inl some))
     (carried (λ x. StopsAt fault (content_sent x) lines.line.session.state lines.line.scanner.kept lines.text.items (lines.whole + 1) k l) (read_same t.reads) stops)
-
--- all lines that have ended were heard
-pub taking_done : {all : List (List ℕ)} {first lines : Lines} {old new : State} {h k : Option (List ℕ)} (behind : Option (Bor (List ℕ))) → IsTaking all (pieces_behind 10 behind) first lines old new h k → behind ≡ None
-    → AreHeard all [] first.whole first.line.scanner.kept first.line.session.state lines.text.items lines.whole lines.line.scanner lines.line.session.state old.image h k
-taking_done {all} {first} {lines} {old} {new} {h} {k} behind t is =
-    subst (λ (o : Option (Bor (List ℕ))). AreHeard all (pieces_behind 10 o) first.whole first.line.scanner.kept first.line.session.state lines.text.items lines.whole lines.line.scanner lines.line.session.state old.image h k) is t.heard

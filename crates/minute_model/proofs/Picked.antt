@@ -2,18 +2,13 @@
 use Rattle.std.proofs.Common.{◌≡◌, true, false, List, [], ◌∷◌, ◌++◌, refl}
 use Rattle.std.specs.Prelude.{filter}
 use Rattle.std.specs.List.{list_any}
-use Rattle.activity_codec.specs.Activity.{activity_of, is_rest_or_available}
+use Rattle.activity_codec.specs.Activity.{is_rest_or_available}
 use Rattle.activity_codec.specs.declared.values.Activity.{Activity}
 use Rattle.activity_codec.specs.declared.values.Activity.TheVariants.{Work}
 use Rattle.activity_codec.specs.declared.values.Pick.{Pick}
 use Rattle.activity_codec.specs.declared.values.Pick.TheVariants as pick
 use Rattle.minute_model.specs.Stops.{last_pick}
 use Rattle.minute_model.proofs.EachSecond.{first_pick}
-
--- the last of all is the last of the later ones, if there is one
-pub last_pick-append : (none : Activity) (xs ys : List Pick) → last_pick none (xs ++ ys) ≡ last_pick (last_pick none xs) ys
-last_pick-append none [] ys = refl
-last_pick-append none (x ∷ xs) ys = last_pick-append (activity_of x) xs ys
 
 -- the first of all is the first of the earlier ones, if there is one
 pub first_pick-append : (none : Activity) (xs ys : List Pick) → first_pick none (xs ++ ys) ≡ first_pick (first_pick none ys) xs

@@ -434,6 +434,3 @@ module _ (number : List ℕ) (session : ℕ) (spared : Option (List ℕ)) (x : L
     index = index_end ∙ sym begun.1.0;
     row = λ s is. subst (λ (k : ℕ). IsTaken number session k x end) (this_row s is) (taken x sized r low number wide session small);
   })
-
-  pub begun_count : length (beginning number session spared (rows_in x)) ≡ 7
-  begun_count = ap (λ (o : Option ℕ). length (pieces_at number session o)) begun.1.0

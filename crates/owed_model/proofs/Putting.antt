@@ -22,11 +22,6 @@ use Rattle.unit_model.proofs.StillDecodes.{rows_pass}
 use Rattle.owed_model.specs.Owed.{Cell, rows_in, row_in, cell_in, session_in, number_in, cell_begin, is_row_of, row_index, row_of}
 use Rattle.owed_model.specs.Rows.{cell_pieces, with_cell, IsPuttingCell, IsPutting, IsPut, putting, pieces_into, entry_word}
 
--- searches that go the same way
-pub find_same : {X : Type 0} (p q : X → Bool) → ((y : X) → p y ≡ q y) → (l : List X) → find p l ≡ find q l
-find_same p q same [] = refl
-find_same p q same (y ∷ l) = λ t. cond (same y t) (Some y) (find_same p q same l t)
-
 -- what a search finds passes
 pub found_passes : (p : ℕ → Bool) (l : List ℕ) (r : ℕ) → find p l ≡ Some r → p r ≡ true
 found_passes p [] r is = absurd (cc)

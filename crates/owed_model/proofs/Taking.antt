@@ -8,12 +8,6 @@ use Rattle.owed_model.specs.Owed.{session_in, number_in, is_row_of, row_index}
 use Rattle.owed_model.specs.Rows.{is_this_row, lesser, least, empty_index, spared_index, or_else, begun_index}
 use Rattle.owed_model.proofs.Putting.{found_passes, found_below, rows_apart, and_both}
 
-some_is : (a b : ℕ) → Some a ≡ Some b → a ≡ b
-some_is a b is = cc
-
-eq_of : (a b : ℕ) → (a == b) ≡ true → a ≡ b
-eq_of a b is = grind (arith, nat_tests)
-
 eq_true : (a b : ℕ) → a ≡ b → (a == b) ≡ true
 eq_true a b is = grind (arith, nat_tests)
 

@@ -46,10 +46,6 @@ or-nothing : (b : Bool) → (b || false) ≡ b
 or-nothing true = refl
 or-nothing false = refl
 
-either-true : (a b : Bool) → (a || b) ≡ true → (a ≡ true) ⊎ (b ≡ true)
-either-true true b is = inl refl
-either-true false b is = inr is
-
 not_both : (b : Bool) → b ≡ true → b ≡ false → ⊥
 not_both b passes fails = let e : true ≡ false = sym passes ∙ fails in cc
 

@@ -95,10 +95,6 @@ and-false : (b : Bool) → (b && false) ≡ false
 and-false true = refl
 and-false false = refl
 
-and-true : (b : Bool) → (b && true) ≡ b
-and-true true = refl
-and-true false = refl
-
 pub next-going : (before : Before) (t : Told) → t.lit ≡ true → t.cut ≡ false → t.given ≡ true → IsGoing (before_next before t)
 next-going before t lit cut given = record {
   running = ap (λ (b : Bool). b && not t.cut) lit ∙ ap (λ (b : Bool). true && not b) cut;

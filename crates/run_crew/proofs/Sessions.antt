@@ -93,10 +93,6 @@ pub sits_is : (card : Card) (seat : Option Seat) → is_card seat card ≡ true 
 sits_is card None here = absurd (cc)
 sits_is card (Some seat) here = ap (λ (c : Card). Some c) (same_is seat.card card here)
 
-pub is_sits : (card : Card) (seat : Option Seat) → card_in seat ≡ Some card → is_card seat card ≡ true
-is_sits card None is = absurd (cc)
-is_sits card (Some seat) is = let e : seat.card ≡ card = cc in subst (λ (c : Card). same_card seat.card c ≡ true) e (same_self seat.card)
-
 -- ---- the cards that were present
 
 pub behind_none : (cards : Cards) (m : ℕ) (o : Option Card) → ((c : Card) → session_of cards c ≡ None) → IsBehind cards m o

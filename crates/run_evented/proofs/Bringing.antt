@@ -103,14 +103,6 @@ few-at log before s (In (suc n)) slot =
     (few-with n (slice_get s.actions n) s.speed (course_by log before s n) slot)
 few-at log before s Keeping slot = few-visits Keeping slot (in_slot (begun_at log before s Keeping).slots slot)
 
-slot-or : (slot : Slot) → (slot ≡ Driver) ⊎ (slot ≡ CoDriver)
-slot-or Driver = inl refl
-slot-or CoDriver = inr refl
-
-never : (slot : Slot) → slot ≡ Driver → slot ≡ CoDriver → ⊥
-never Driver d c = absurd (let wrong : true ≡ false = sym (ap (same_slot Driver) d) ∙ ap (same_slot Driver) c in cc)
-never CoDriver d c = absurd (let wrong : false ≡ true = sym (ap (same_slot Driver) c) ∙ ap (same_slot Driver) d in cc)
-
 -- a cut's minute stays as it is known
 pub gap-as : (t t' : Tearing) (log later : RunLog) (x y : Seen) → ((u : ℕ) → kept_after later u ≡ kept_after log u) → number_of y ≡ number_of x → ((slot : Slot) → standing t' y slot ≡ standing t x slot) → (span : List Seen) →
     gap_event t' later span (y ∷ []) ≡ gap_event t log span (x ∷ [])
@@ -404,9 +396,6 @@ module _ (log : RunLog) (before : Before) (s : TraceSecond) (at : Phase) (power 
     -- the fault of the other's tear stays
     untorn-by : torn_at x at slot ≡ false
     untorn-by = not-torn at slot x start.torn ws (d.torn_x ∙ ap (λ (vs : List Visit). start.torn ++ vs) xs-are) d.torn_before few-ws
-
-    second-torn : TornSecond at slot log s.number t'
-    second-torn = second
 
     within-now : (n : ℕ) → at ≡ In (suc n) → y.within (suc n) ≡ x.within (suc n)
     within-now n is_at = within-same log later before s at power is same (suc n) (λ k lt. subst (IsBehind (In k)) (sym is_at) (omega (arith, lt)))

@@ -1,17 +1,14 @@
 -- What was kept before a power-on; and events that fit their fields.
-use Rattle.std.proofs.Common.{◌≡◌, ◌^◌, ℕ, zero, suc, ◌+◌, ◌*◌, ◌/◌, ◌<◌, Bool, true, false, cond, ◌||◌, Option, Some, None, List, [], ◌∷◌, ◌++◌, All, take, drop, nat_lt, is_some, refl, ap, sym, subst, ◌∙◌, arith}
-use Rattle.std.specs.Prelude.{◌==◌, option_map, option_to_list}
+use Rattle.std.proofs.Common.{◌≡◌, ℕ, zero, suc, ◌+◌, Bool, true, false, ◌||◌, List, [], ◌∷◌, ◌++◌, All, take, drop, is_some, refl, ap, sym, subst, ◌∙◌}
+use Rattle.std.specs.Prelude.{option_map, option_to_list}
 use Rattle.std.proofs.lemmas.List.Folds.{list_any-append}
-use Rattle.activity_codec.specs.declared.values.Slot.{Slot}
-use Rattle.trace_model.specs.declared.Card.{Card}
 use Rattle.trace_model.specs.Trace.{TraceSecond}
 use Rattle.log_model.specs.declared.lines.Break.{Break}
-use Rattle.log_model.specs.declared.lines.Verdict.TheVariants.{Accepted}
 use Rattle.log_model.specs.Log.{RunLog, cut_of, kept_after}
-use Rattle.event_model.specs.declared.kinds.TheConstants.{POWER_INTERRUPTION, INSERTION_WHILE_DRIVING, SESSION_NOT_CLOSED}
+use Rattle.event_model.specs.declared.kinds.TheConstants.{POWER_INTERRUPTION}
 use Rattle.event_model.specs.declared.entries.Span.{Span}
 use Rattle.event_model.specs.Spans.{gap_of}
-use Rattle.event_model.specs.Events.{Event, Crew, Seen, noted_with, with_card, last_number, seen_of, seen_spans}
+use Rattle.event_model.specs.Events.{Event, Seen, noted_with, last_number, seen_of, seen_spans}
 use Rattle.unit_course.specs.Lines.{tells_cut}
 use Rattle.unit_course.specs.Followed.{Supply, Lit, Due, Lost, IsDark}
 use Rattle.unit_course.proofs.Lines.{kept-now}
@@ -24,8 +21,8 @@ use Rattle.run_events.proofs.Gaps.{is-found}
 use Rattle.run_events.proofs.Later.{seen-same}
 use Rattle.log_model.specs.Same.{SameAt}
 use Rattle.run_recorded.specs.Seconds.{found_again}
-use Rattle.run_evented.specs.SoFar.{fault_with, judged_with, interruption}
-use Rattle.run_evented.specs.Kept.{interruption_of, TheInterruptionIsFound, NoBreakNoSpan, AreSmall}
+use Rattle.run_evented.specs.SoFar.{interruption}
+use Rattle.run_evented.specs.Kept.{interruption_of, TheInterruptionIsFound, NoBreakNoSpan}
 use Rattle.run_evented.proofs.Lines.{tells-so}
 
 take-drop : (n : ℕ) (bs : List Break) → take n bs ++ drop n bs ≡ bs
@@ -80,31 +77,3 @@ no-break_no-span done p dark gaps none = by (seen_spans (seen_of p.log done)) (l
     by (span ∷ spans) last =
         let was = of-last (IsUntold p.log (take p.unfound p.log.breaks)) span spans last in
         absurd (let wrong : false ≡ true = sym (ap (tells_cut (last_number (last_of (span ∷ spans)))) none) ∙ was.told in cc)
-
--- ---- times
-pub small-fault : (u : ℕ) (slot : Slot) (crew : Crew) → u < 2 ^ 32 → AreSmall (fault_with u slot crew ∷ [])
-small-fault u slot crew low = ((low, low), tt)
-
-abbrev pub IsSmall : Event → Type 0
-IsSmall e = (e.begin < 2 ^ 32) × (e.end < 2 ^ 32)
-
-pub small-judged : (session u speed : ℕ) (slot : Slot) (card : Card) (crew : Crew) (replayed : ℕ) → u < 2 ^ 32 → session < 2 ^ 32 → AreSmall (judged_with session u speed slot card crew (Accepted replayed))
-small-judged session u speed slot card crew replayed low low_session =
-    by (nat_lt 0 speed) (nat_lt 0 session) (noted_with INSERTION_WHILE_DRIVING u u (with_card slot (Some card) crew)) (noted_with SESSION_NOT_CLOSED session u (with_card slot (Some card) crew)) (low, low) (low_session, low)
-  where
-    by : (m n : Bool) (e g : Event) → IsSmall e → IsSmall g → AreSmall (cond m (e ∷ []) [] ++ cond n (g ∷ []) [])
-    by true true e g a b = (a, (b, tt))
-    by true false e g a b = (a, tt)
-    by false true e g a b = (b, tt)
-    by false false e g a b = tt
-
-pub small-interruption : (k : ℕ) (spans : List (List Seen)) (u : ℕ) (crew : Crew) → u < 2 ^ 32 → k < u / 60 → AreSmall (interruption_of k spans u crew)
-small-interruption k [] u crew low early = tt
-small-interruption k (span ∷ spans) u crew low early = by (k == 0)
-  where
-    begins : 60 * (k + 1) < 2 ^ 32
-    begins = omega (arith, low, early)
-
-    by : (b : Bool) → AreSmall (option_to_list (option_map {T = Span} {U = Event} (λ gap. noted_with POWER_INTERRUPTION gap.begin gap.end crew) (cond {A = Option Span} b None (Some (record { begin = 60 * (k + 1); end = u })))))
-    by true = tt
-    by false = ((begins, low), tt)

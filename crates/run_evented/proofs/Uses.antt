@@ -23,10 +23,6 @@ pub uses-append : (own : Registration) (held : CurrentUse) (xs ys : List Inserti
 uses-append own held [] ys = refl
 uses-append own held (x ∷ xs) ys = ap (λ (l : List CurrentUse). held ∷ l) (uses-append own (left_by own x) xs ys)
 
-pub behind-append : (own : Registration) (held : CurrentUse) (xs ys : List InsertionNote) → use_behind own held (xs ++ ys) ≡ use_behind own (use_behind own held xs) ys
-behind-append own held [] ys = refl
-behind-append own held (x ∷ xs) ys = behind-append own (left_by own x) xs ys
-
 pub times-append : (xs ys : List CurrentUse) → times_of (xs ++ ys) ≡ times_of xs ++ times_of ys
 times-append xs ys = map-append (λ (held : CurrentUse). held.session.0) xs ys
 

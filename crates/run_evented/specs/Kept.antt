@@ -1,6 +1,5 @@
 -- What was kept before a power-on, as its interruption tells it, and the sizes of events (Annex IB, section III.12; profile).
-use Rattle.std.specs.Prelude.{◌≡◌, ℕ, ◌^◌, ◌<◌, List, [], ◌∷◌, option_map, option_to_list}
-use Rattle.std.specs.List.{AllByRecursion}
+use Rattle.std.specs.Prelude.{◌≡◌, ℕ, List, [], ◌∷◌, option_map, option_to_list}
 use Rattle.trace_model.specs.Trace.{TraceSecond}
 use Rattle.log_model.specs.Log.{RunLog}
 use Rattle.event_model.specs.declared.kinds.TheConstants.{POWER_INTERRUPTION}
@@ -29,7 +28,3 @@ TheInterruptionIsFound = (o : Origin) (done : List TraceSecond) (p : Progress) �
 -- where no break was told there was no power span before
 abbrev pub NoBreakNoSpan : Type 0
 NoBreakNoSpan = (done : List TraceSecond) (p : Progress) → IsDark p.supply → HasGaps p.log p.unfound p.supply done → p.log.breaks ≡ [] → seen_spans (seen_of p.log done) ≡ []
-
--- the times of these events fit their fields
-abbrev pub AreSmall : List Event → Type 0
-AreSmall es = AllByRecursion (λ e. (e.begin < 2 ^ 32) × (e.end < 2 ^ 32)) es

@@ -10,10 +10,9 @@ use Rattle.unit_model.specs.Image.{number_of}
 use Rattle.event_model.specs.declared.kinds.TheConstants.{OVER_SPEEDING}
 use Rattle.event_model.specs.Events.{Event}
 use Rattle.side_model.specs.Tables.{table_in, AreNoted}
-use Rattle.event_course.specs.Noted.{are_sure, StayFailed}
+use Rattle.event_course.specs.Noted.{are_sure}
 use Rattle.event_course.specs.Shown.{first_on, count_on, HaveBegins}
 use Rattle.event_course.proofs.Shows.{noted-on, first-none, first-parts, count-parts, count-none, count-few, begins-on}
-use Rattle.event_course.proofs.Failing.{leads-stay, leads-more}
 use Rattle.run_events.specs.Shown.{by_kind, none, ShowsEvents, HasNoted, ShowsMore, AllLead, SaysNothing, SaysNothingBut}
 
 -- a type is another one, or that one
@@ -118,10 +117,3 @@ module _ (number : Card → List ℕ) where
       begins = λ sure. tt;
     });
   }
-
--- STEPS one after the other
-pub all-stay : (log later : RunLog) (l : ℕ → List Event) → StayFailed log later → AllLead log l none later l
-all-stay log later l stay kind = leads-stay log later (l kind) stay
-
-pub all-more : (log later : RunLog) (l : ℕ → List Event) (more : List Event) → StayFailed log later → AllLead log l (by_kind more) later (λ kind. l kind ++ by_kind more kind)
-all-more log later l more stay kind = leads-more log later (l kind) (by_kind more kind) stay

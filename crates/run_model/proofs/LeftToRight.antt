@@ -1,5 +1,5 @@
 -- The seconds with power of a trace that goes on.
-use Rattle.std.proofs.Common.{◌≡◌, ◌∙◌, ℕ, List, [], ◌∷◌, ◌++◌, refl, ap}
+use Rattle.std.proofs.Common.{◌≡◌, ◌∙◌, List, [], ◌∷◌, ◌++◌, refl, ap}
 use Rattle.std.specs.Prelude.{map, filter}
 use Rattle.std.proofs.lemmas.List.{map-append}
 use Rattle.std.proofs.lemmas.List.Elements.{filter-append}
@@ -8,10 +8,8 @@ use Rattle.activity_codec.specs.declared.values.Pick.{Pick}
 use Rattle.minute_model.specs.Second.{Second}
 use Rattle.trace_model.specs.declared.Action.{Action}
 use Rattle.trace_model.specs.declared.Action.TheVariants.{Select, Insert, Withdraw, Tear, Place}
-use Rattle.trace_model.specs.declared.Item.{Item}
-use Rattle.trace_model.specs.Trace.{TraceSecond, seconds_of, number_after, waiting_after, seconds_at}
-use Rattle.trace_model.proofs.LeftToRight.{seconds_of-more}
-use Rattle.run_model.specs.Span.{picks_of, span_of, trace_span}
+use Rattle.trace_model.specs.Trace.{TraceSecond}
+use Rattle.run_model.specs.Span.{picks_of, span_of}
 
 -- the selections among some actions and one more
 pub picks_of-more : (actions : List Action) (slot : Slot) (pick : Pick) → picks_of (actions ++ Select slot pick ∷ []) ≡ picks_of actions ++ (slot, pick) ∷ []
@@ -27,8 +25,3 @@ pub span_of-append : (xs ys : List TraceSecond) → span_of (xs ++ ys) ≡ span_
 span_of-append xs ys =
     let f : TraceSecond → Second = λ s. record { number = s.number; speed = s.speed; picks = picks_of s.actions } in
     ap (map f) (filter-append (λ (s : TraceSecond). s.has_power) xs ys) ∙ map-append f (filter (λ (s : TraceSecond). s.has_power) xs) (filter (λ (s : TraceSecond). s.has_power) ys)
-
--- one more line
-pub trace_span-more : (start : ℕ) (items : List Item) (item : Item) → trace_span start (items ++ item ∷ []) ≡ trace_span start items ++ span_of (seconds_at (number_after start items) (waiting_after items) item)
-trace_span-more start items item =
-    ap span_of (seconds_of-more start items item) ∙ span_of-append (seconds_of start items) (seconds_at (number_after start items) (waiting_after items) item)

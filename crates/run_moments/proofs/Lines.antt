@@ -14,7 +14,6 @@ use Rattle.trace_model.specs.declared.Action.TheVariants.{Select, Insert, Withdr
 use Rattle.trace_model.specs.Trace.{TraceSecond}
 use Rattle.log_model.specs.declared.lines.Break.{Break}
 use Rattle.log_model.specs.declared.lines.Find.{Find}
-use Rattle.log_model.specs.declared.lines.Refused.{Refused}
 use Rattle.log_model.specs.declared.lines.SlotFault.{SlotFault}
 use Rattle.log_model.specs.declared.lines.Verdict.{Verdict}
 use Rattle.log_model.specs.Log.{RunLog, Phase, In, Keeping, same_phase, phase_of, cut_in, tears_here, is_torn_in, found_in, is_accepting}
@@ -22,7 +21,7 @@ use Rattle.log_model.specs.Slots.{Slots, Sitting, same_card, in_slot, other_slot
 use Rattle.log_model.specs.Causes.{visit_places, in_the_slot}
 use Rattle.log_model.specs.Course.{Course, Visit, Before, Moved, visits, card_in, leaves, with_slot, slot_told, both_told, moved_by}
 use Rattle.event_model.specs.Events.{course_by}
-use Rattle.run_course.specs.Moments.{and_break, and_find, and_refused, finds_here, SameUpTo}
+use Rattle.run_course.specs.Moments.{and_break, and_find, finds_here, SameUpTo}
 use Rattle.run_course.specs.Within.{IsTornFrom, TearsAt, IsFoundOf, FindsAt}
 use Rattle.run_course.proofs.Lookups.{break-more, find-more}
 use Rattle.run_course.proofs.Moments.{course-same}
@@ -274,13 +273,6 @@ of-where : (b : Bool) (slot : Slot) (vs : List Visit) → AllOf slot vs → AllO
 of-where true slot vs h = h
 of-where false slot vs h = of-none slot
 
--- what an action takes out of a slot is of that slot
-same-is : (a b : Slot) → same_slot a b ≡ true → a ≡ b
-same-is Driver Driver h = refl
-same-is CoDriver CoDriver h = refl
-same-is Driver CoDriver h = absurd (cc)
-same-is CoDriver Driver h = absurd (cc)
-
 leaving-of : (n : ℕ) (r : Option SlotFault) (a : Action) (slots : Slots) (slot : Slot) → AllOf slot ((moved_by n r a slots).leaving slot)
 leaving-of n (Some fault) a slots slot = of-none slot
 leaving-of n None (Select at pick) slots slot = of-none slot
@@ -445,19 +437,6 @@ find-seen log before s at f is up here none enters order =
     subst (λ (new : Course). IsFoundOf s.number at f.slot f.verdict (course_at log before s at) new)
     (ap (λ (m : Moved). both_told later s.number at m (begun_at log before s at)) (sym same.1) ∙ ap (both_told later s.number at (moved_at later before s at)) (sym same.0))
     (find-told log later s.number at f.slot f.verdict (moved_at log before s at) (begun_at log before s at) (finds-at log s at f is here none) enters order)
-
--- A REFUSAL
-refused-torn : (log : RunLog) (r : Refused) (u : ℕ) (p : Phase) (slot : Slot) → is_torn_in (and_refused log r) u p slot ≡ is_torn_in log u p slot
-unfolding is_torn_in
-refused-torn log r u p slot = refl
-
-refused-found : (log : RunLog) (r : Refused) (u : ℕ) (p : Phase) (slot : Slot) → found_in (and_refused log r) u p slot ≡ found_in log u p slot
-unfolding found_in
-refused-found log r u p slot = refl
-
-refused-cut : (log : RunLog) (r : Refused) (u : ℕ) → cut_in (and_refused log r) u ≡ cut_in log u
-unfolding cut_in
-refused-cut log r u = refl
 
 pub refusal-seen : ARefusalIsSeen
 unfolding is_torn_in found_in cut_in

@@ -173,9 +173,6 @@ other-phase (In n) (In m) lt = grind (arith, nat_tests)
 other-phase (In n) Keeping h = refl
 other-phase Keeping p h = absurd h
 
-none-of : (b : Bool) (o : Option ℕ) → o ≡ None → cond (is_some o) o None ≡ None
-none-of b o is = ap (λ (x : Option ℕ). cond (is_some x) x None) is
-
 pub push-each : {X : Type 0} (P : X → Type 0) (xs : List X) (x : X) → AllByRecursion P xs → P x → AllByRecursion P (xs ++ x ∷ [])
 push-each P [] x h here = (here, tt)
 push-each P (y ∷ xs) x h here = (h.0, push-each P xs x h.1 here)

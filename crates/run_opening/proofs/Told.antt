@@ -9,7 +9,7 @@ use Rattle.card_layout.specs.Files.{files_of, image_size_of}
 use Rattle.card_layout.proofs.Sizes.{largest_image}
 use Rattle.card_layout.specs.declared.command.CardState.{CardState}
 use Rattle.tacho_types.specs.declared.card_number.FullCardNumber.{FullCardNumber}
-use Rattle.tacho_types.specs.CardNumber.{card_number_bytes, card_number_of}
+use Rattle.tacho_types.specs.CardNumber.{card_number_of}
 use Rattle.tach_media.specs.Medium.{State, IsCoherent}
 use Rattle.tach_media.proofs.Runs.{both_told, from_told}
 use Rattle.card_commands.specs.Ports.{IsPort, IsJudged}
@@ -107,14 +107,6 @@ found-days x known on card found whole image told valid =
     let port = found.port (own_sizes x) (valid-known x known told valid) in
     let sized = whole.sized x image in
     valid-days (own_sizes x) port.good x (omega (arith, largest_image (own_sizes x) port.good, port.size, sized)) (sym (own-judged x) ∙ valid)
-
--- a number that was told is that of a valid card
-pub numbered-valid : (x : List ℕ) (known : Known) (n : FullCardNumber) → IsTold x known → known.number ≡ Some n → IsOwnValid x × (own_number x ≡ card_number_bytes n)
-numbered-valid x known n told is = (by (own_bad_file x) refl, sym (subst (λ (o : Option FullCardNumber). IfSome o (λ m. card_number_bytes m ≡ own_number x)) is told.bytes))
-  where
-    by : (o : Option (Fid × ℕ)) → own_bad_file x ≡ o → own_bad_file x ≡ None
-    by None valid = valid
-    by (Some place) bad = absurd (let no = sym is ∙ told.number ∙ ap (λ (o : Option (Fid × ℕ)). number_by o (card_number_of (own_number x))) bad in cc)
 
 -- ---- a card as it is found
 

@@ -1,13 +1,12 @@
 -- How often the unit broke down, over each step.
-use Rattle.std.proofs.Common.{◌≡◌, ℕ, ◌+◌, ◌-◌, ◌≤◌, sym, true, List, [], ◌∷◌, ◌++◌, length, map, filter, refl, ap, ◌∙◌, ⊎_elim, inl, inr, arith, length-append}
+use Rattle.std.proofs.Common.{◌≡◌, ℕ, ◌+◌, ◌-◌, ◌≤◌, sym, true, List, [], ◌∷◌, ◌++◌, length, map, filter, refl, ap, ◌∙◌, arith, length-append}
 use Rattle.std.specs.Prelude.{◌&&◌}
-use Rattle.std.proofs.lemmas.Bool.{cases_lt}
 use Rattle.std.proofs.lemmas.List.{length-map, map-append}
 use Rattle.std.proofs.lemmas.List.Elements.{filter-append}
 use Rattle.tach_media.specs.Medium.{State, Rose, HasBroken}
 use Rattle.log_model.specs.declared.lines.Break.{Break}
 use Rattle.log_model.specs.Log.{RunLog}
-use Rattle.log_model.specs.Causes.{cuts, is_cut, has_failed, second_of, RoseBy}
+use Rattle.log_model.specs.Causes.{cuts, is_cut, has_failed, second_of}
 use Rattle.unit_course.specs.Caused.{cuts_by}
 use Rattle.unit_course.proofs.Offs.{by-same, by-found}
 use Rattle.run_outcome.specs.Lines.{cut_at, found_from}
@@ -78,8 +77,3 @@ calm-all log none h uncut =
     let all : failed_cuts log.breaks ≡ length (cuts true log) = length-map (cuts true log) second_of in
     let few : length (cuts true log) ≡ 0 = ap (λ (bs : List Break). length bs) uncut in
     h.calm (omega (arith, start, all, few))
-
--- so the count of breakdowns rose by as many
-pub rose-by : {old new : State} {n : ℕ} → HasBroken old new n → RoseBy n old.breakdowns new.breakdowns
-rose-by {old} {new} {n} h =
-    ⊎_elim (λ less. inr (let broke = h.breakdowns in omega (arith, broke, less))) (λ all. inl all) (cases_lt new.breakdowns (old.breakdowns + n))

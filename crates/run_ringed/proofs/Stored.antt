@@ -80,10 +80,6 @@ pub rises-numbers : (first : ℕ) (past : List HistoryMinute) → Rising first p
 rises-numbers first [] h = tt
 rises-numbers first (i ∷ past) h = (h.0, rises-numbers i.minute past h.1)
 
-pub rises-front : (first : ℕ) (xs ys : List ℕ) → RisesFrom first (xs ++ ys) → RisesFrom first xs
-rises-front first [] ys h = tt
-rises-front first (x ∷ xs) ys h = (h.0, rises-front x xs ys h.1)
-
 rises-above : (first : ℕ) (ms : List ℕ) (m : ℕ) → RisesFrom first ms → Contains ms m → first < m
 rises-above first [] m h at = absurd (omega (arith, at.1))
 rises-above first (x ∷ ms) m h at = ⊎_elim

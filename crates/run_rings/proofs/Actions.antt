@@ -13,7 +13,7 @@ use Rattle.trace_model.specs.Trace.{TraceSecond}
 use Rattle.log_model.specs.declared.lines.SlotFault.{SlotFault}
 use Rattle.log_model.specs.declared.lines.Verdict.{Verdict}
 use Rattle.log_model.specs.Log.{RunLog, Phase, In, same_phase, cut_in, is_torn_in, found_in, is_accepting}
-use Rattle.log_model.specs.Slots.{Slots, Sitting, in_slot, is_accepted, refusal}
+use Rattle.log_model.specs.Slots.{Sitting, in_slot, is_accepted, refusal}
 use Rattle.log_model.specs.Course.{Course, Visit, Before, Moved, card_in, visits, leaves, with_slot, answered, unmoved, moved_by, fresh, slot_told, both_told, begins, is_settling, acted, all_acted}
 use Rattle.side_model.specs.Done.{CarriedOut, course_powered}
 use Rattle.side_model.specs.Noted.{Note, Accepts, Withdraws, Enters, accepted_card}
@@ -278,9 +278,6 @@ module _ (log : RunLog) (before : Before) (s : TraceSecond) (front : List Action
       (ap (λ (q : Option SlotFault). noted_if q log s.number a (acted log s (length front) (Insert slot card) c).found) fine ∙ put-found slot card fine)
 
 -- ---- a power-on
-
-fresh-slots : (starts : Bool) (slots : Slots) → (fresh starts slots).slots ≡ slots
-fresh-slots starts slots = refl
 
 pub power-notes : PowerOnsAreNoted
 power-notes log before s = (

@@ -27,10 +27,6 @@ abbrev InTurn : ℕ → List ShownDay → Type 0
 InTurn from [] = Unit {0}
 InTurn from (d ∷ days) = (from ≤ d.day) × Own d × InTurn (suc d.day) days
 
-in-turn_from : (a b : ℕ) (days : List ShownDay) → a ≤ b → InTurn b days → InTurn a days
-in-turn_from a b [] le h = tt
-in-turn_from a b (d ∷ days) le h = (omega (arith, le, h.0), h.1, h.2)
-
 in-turn_high : (from : ℕ) (days : List ShownDay) → InTurn from days → All (λ d. from ≤ d.day) days
 in-turn_high from [] h = All-nil (λ (d : ShownDay). from ≤ d.day)
 in-turn_high from (d ∷ days) h = All-cons (λ (e : ShownDay). from ≤ e.day) d days h.0

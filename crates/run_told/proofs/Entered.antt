@@ -302,9 +302,6 @@ module _ (f : Found) (w : Carried) (c : Card) (U V X Y : State) (two : f.card_a.
     abbrev sizes : own_sizes x ≡ own_sizes (found_of f c).image
     sizes = (one.held.now x (whole.is_left x is)).0
 
-    abbrev on-view : (unit_seen f U).may_leave (unit_view f.card_a.number f.card_b.number u)
-    on-view = (u, unit_whole.is_left u told, refl)
-
     abbrev meets : Meets c (found_of f c).start AnyKept (all w.book) Out (unit_view f.card_a.number f.card_b.number u) (own_view x)
     meets = one.rule.dark.meets (unit_view f.card_a.number f.card_b.number u) (own_view x) (u, unit_whole.is_left u told, refl) (x, whole.is_left x is, refl)
 

@@ -238,9 +238,6 @@ module _ (app : Application) (x c : List ℕ) where
   pub card-places : (P : List Day → Vehicles → Type 0) → IsCard app P x c → HaveSameFile app 0x0506 x c
   card-places P is = card-file app (place_of app (file 0x0506)) (size_of app (file 0x0506)) (places-apart app) P x c is
 
-  pub inserting-places : (registration : Registration) (odometer now : ℕ) (owed : List Entry) → length registration.0 ≡ 15 → place_of app (file 0x0507) + 19 ≤ length x → IsCardInserting app registration odometer owed now x c → HaveSameFile app 0x0506 x c
-  inserting-places registration odometer now owed long fits is = inserting-file app (place_of app (file 0x0506)) (size_of app (file 0x0506)) (places-apart app) registration odometer now owed long x c fits is
-
 pub closing-rest : (s : Session) (act : Activity) (x y : List ℕ) → place_of s.application (file 0x0507) + 19 ≤ length x → IsCardClosing s act x y → HaveSameRest s.application x y
 closing-rest s act x y fits closing = all-same s.application x y (λ place size u. closing-file place size s u.apart act x y fits closing)
 

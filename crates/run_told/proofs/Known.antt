@@ -1,5 +1,5 @@
 -- What is known of the cards, as their sessions, their sizes and their numbers change; and the minutes of acceptances.
-use Rattle.std.proofs.Common.{◌≡◌, ℕ, ◌<◌, ◌∷◌, true, false, Option, Some, None, IfSome, is_some, [], Contains, refl, ap, subst, ◌∙◌, sym, arith, ⊎_elim}
+use Rattle.std.proofs.Common.{◌≡◌, ℕ, ◌<◌, ◌∷◌, true, Option, IfSome, is_some, [], Contains, refl, ap, subst, ◌∙◌, sym, arith, ⊎_elim}
 use Rattle.std.specs.Prelude.{Result}
 use Rattle.std.proofs.lemmas.List.Elements.{Contains-push_cases, Contains-append_cases}
 use Rattle.trace_model.specs.declared.Card.{Card}
@@ -8,7 +8,6 @@ use Rattle.tacho_types.specs.CardNumber.{card_number_bytes}
 use Rattle.tacho_types.specs.declared.card_number.FullCardNumber.{FullCardNumber}
 use Rattle.card_layout.specs.declared.files.Application.{Application}
 use Rattle.card_image.specs.Own.{IsOwnValid}
-use Rattle.joint_rule.specs.Views.{other}
 use Rattle.run_crew.specs.declared.cards.Accepted.{Accepted}
 use Rattle.run_crew.specs.declared.cards.Cards.{Cards}
 use Rattle.run_crew.specs.Cards.{known_of, session_of, with_session, with_number, with_sizes}
@@ -17,20 +16,6 @@ use Rattle.run_rule.specs.Between.{Carried}
 use Rattle.run_told.specs.Told.{AreFoundCards, AreEarly, for_card, with_acceptance}
 
 -- ---- the sessions
-
-pub session-own : (c : Card) (s : Option Accepted) (cards : Cards) → session_of (with_session c s cards) c ≡ s
-session-own A s cards = refl
-session-own B s cards = refl
-
-pub session-other : (c : Card) (s : Option Accepted) (cards : Cards) → session_of (with_session c s cards) (other c) ≡ session_of cards (other c)
-session-other A s cards = refl
-session-other B s cards = refl
-
-pub session-numbered : (c d : Card) (n : FullCardNumber) (row : ℕ) (cards : Cards) → session_of (with_number c n row cards) d ≡ session_of cards d
-session-numbered A A n row cards = refl
-session-numbered A B n row cards = refl
-session-numbered B A n row cards = refl
-session-numbered B B n row cards = refl
 
 pub session-sized : (c d : Card) (sizes : Result Application ℕ) (cards : Cards) → session_of (with_sizes c sizes cards) d ≡ session_of cards d
 session-sized A A sizes cards = refl
@@ -88,17 +73,6 @@ found-number f B n row cards own found = record { two = found.two; named = named
     told : (c : Card) → IsOwnValid (found_of f c).image → is_some (known_of (with_number B n row cards) c).number ≡ true
     told A valid = found.told A valid
     told B valid = refl
-
--- what `begin` is to spare: the number of the other card, which has told it
-pub told-number : (f : Found) (cards : Cards) (c : Card) → AreFoundCards f cards → IsOwnValid (found_of f c).image → (n : FullCardNumber) × ((known_of cards c).number ≡ Some n) × (card_number_bytes n ≡ (found_of f c).number)
-told-number f cards c found valid = by (known_of cards c).number (found.told c valid) (found.named c valid)
-  where
-    by : (o : Option FullCardNumber) → is_some o ≡ true → IfSome o (λ n. card_number_bytes n ≡ (found_of f c).number) → (n : FullCardNumber) × (o ≡ Some n) × (card_number_bytes n ≡ (found_of f c).number)
-    by (Some n) is named = (n, refl, named)
-    by None is named = absurd (empty is)
-      where
-        empty : false ≡ true → ⊥
-        empty e = cc
 
 -- ---- the minutes of acceptances are earlier than what may come
 

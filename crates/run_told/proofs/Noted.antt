@@ -131,9 +131,6 @@ module _ (f : Found) (w : Carried) (cards : Cards) (U V X Y : State) (found : Ar
 -- ---- ON A CARD IN ITS SLOT, of these sizes, with this session
 module _ (f : Found) (w : Carried) (c : Card) (U X Y : State) (two : f.card_a.number ≢ f.card_b.number) (unit_whole : IsCoherent U) (whole : IsCoherent X) (after : IsCoherent Y) (unit : UnitLit f w U) (sound : IsApplication (own_sizes (found_of f c).image)) (a : Accepted) (value : IsValue a.session)
     (one : CardLit f w.book (w.standing c) (w.brought c) (Some a) c U X) (run : LeavesOnly X Y (IsNote (own_sizes (found_of f c).image))) where
-  abbrev app : Application
-  app = own_sizes (found_of f c).image
-
   abbrev on : IsOn (found_of f c) one.goes.has (w.standing c) a.session X
   on = one.goes.goes
 

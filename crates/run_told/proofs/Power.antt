@@ -63,9 +63,6 @@ first-late n (e ∷ es) each = All-head (λ (d : Entry). n ≤ d.minute) e es ea
 
 module _ (f : CardFound) (c : Card) (b : Book) (k : ℕ) (z : Standing) (X : State) (whole : IsCoherent X) (sure : All (λ i. i.minute ≤ k) b.sure) (began : f.began ≤ X.clock) (rises : Rise (brought_by c f.start b)) (lacks : (x : List ℕ) → X.left_since f.began x → All (λ e. (own_view x).mark < e.minute) (card_history c (option_to_list b.maybe)))
     (dark : IsHeldDark f c b z X) where
-  abbrev more : List Entry
-  more = card_history c (option_to_list b.maybe)
-
   with-more : brought_by c f.start b ≡ brought_by c f.start (sure_of b) ++ card_history c (option_to_list b.maybe)
   with-more =
       ap (λ (es : List Entry). f.start.owed ++ es) (history-append c b.sure (option_to_list b.maybe) ∙ ap (λ (is : List HistoryMinute). card_history c is ++ card_history c (option_to_list b.maybe)) (sym (append-nil b.sure)))
@@ -140,9 +137,6 @@ module _ (f : Found) (w : Carried) (d : Devices) (V : State) (two : f.card_a.num
       let was = p.carried.cards c valid in
       held-found (found_of f c) c w.book (last_kept x) (w.standing c) (card_of d c) (wholes c) sure was.rests.later was.string.rises
       (λ y left. let had = was.rests.since (own_view y) (y, left, refl) in all-back (λ (e : Entry). (own_view y).mark < e.minute) had.rest (card_history c (option_to_list w.book.maybe)) had.lacks) (p.wait c valid)
-
-  abbrev read : Devices
-  read = devices V d.card_a d.card_b
 
   pub found-powerless : IsPowerless f (carried_found (last_kept x) w) (devices V d.card_a d.card_b)
   found-powerless = record {

@@ -2,7 +2,6 @@
 use Rattle.std.proofs.Common.{◌≡◌, ◌⊎◌, ⊎_elim, ℕ, ◌/◌, ◌^◌, ◌<◌, ◌≤◌, true, None, IfSome, is_some, length, refl, subst}
 use Rattle.std.specs.Prelude.{IfOk, Result, Ok}
 use Rattle.tacho_types.specs.declared.texts.Registration.{Registration}
-use Rattle.tacho_types.specs.CardNumber.{card_number_bytes}
 use Rattle.trace_model.specs.declared.Card.{Card}
 use Rattle.tach_media.specs.Medium.{State, IsCoherent, IsSettled}
 use Rattle.tach_media.proofs.Runs.{at_image}
@@ -24,7 +23,7 @@ use Rattle.run_told.specs.Told.{AreFoundCards, IsPutIn, IsPowered, IsPowerless, 
 use Rattle.run_told.proofs.Parts.{told-one, at-card}
 use Rattle.run_told.proofs.OnCards.{valid-own}
 use Rattle.run_told.proofs.Begun.{out-powered}
-use Rattle.run_told.proofs.Entered.{entered-powered-by, entered-powerless-by, accepted-put-by, accepted-marked-by, accepted-number-by, accepted-found-by, accepted-whole-by, measured-own}
+use Rattle.run_told.proofs.Entered.{entered-powered-by, entered-powerless-by, accepted-put-by, accepted-marked-by, accepted-found-by, measured-own}
 
 -- it is not accepted then
 pub out-now : (c : Card) (w : Carried) → (with_standing c Out w).standing c ≡ Out
@@ -32,9 +31,6 @@ out-now c w = at-card c Out w.standing (λ (z : Standing). z ≡ Out) refl
 
 module _ (f : Found) (w : Carried) (cards : Cards) (c : Card) (U V X Y Z : State) (found : AreFoundCards f cards) (unit_whole : IsCoherent U) (unit_after : IsCoherent V) (whole : IsCoherent X) (after : IsCoherent Y) (registration : Registration) (long : length registration.0 ≡ 15) (odometer now : ℕ) (few : now < 2 ^ 32) (answer : Result Entered NotEntered)
     (bare : session_of cards c ≡ None) (p : IsPowered f w cards (arranged c U X Z)) (late : w.due ≤ now / 60) (app : Application) (told : IfSome X.image (λ x. own_sizes x ≡ app)) (size : image_size_of app ≤ X.size) (enters : IsEntering app registration odometer now U V X Y answer) where
-  abbrev v : Carried
-  v = with_standing c Out w
-
   was-out : IsPowered f (with_standing c Out w) cards (arranged c U X Z)
   was-out = out-powered f w cards cards c U X Z found bare refl p found unit_whole
 
@@ -67,13 +63,6 @@ module _ (f : Found) (w : Carried) (cards : Cards) (c : Card) (U V X Y Z : State
 
     pub put-marked : V.works ≡ true → IsSettled Y → IsPowered f (with_marks (card_marks c Y.clock e.owed.items) (with_standing c Out w)) cards (arranged c V Y Z)
     put-marked = accepted-marked-by f (with_standing c Out w) cards c U V X Y Z found unit_whole unit_after whole after registration long odometer now few answer (out-now c w) bare was-out late app measured size enters valid e ok
-
-    pub put-named : card_number_bytes e.look.number ≡ (found_of f c).number
-    put-named = accepted-number-by f (with_standing c Out w) cards c U V X Y Z found unit_whole unit_after whole after registration long odometer now few answer (out-now c w) bare was-out late app measured size enters valid e ok
-
-    -- the entries that were owed are all that were put on it
-    pub put-whole : e.replayed ≡ length e.owed.items
-    put-whole = accepted-whole-by f (with_standing c Out w) cards c U V X Y Z found unit_whole unit_after whole after registration long odometer now few answer (out-now c w) bare was-out late app measured size enters valid e ok
 
     pub put-found : HasFoundSo f c U X now e.owed.items e.replayed
     put-found = accepted-found-by f (with_standing c Out w) cards c U V X Y Z found unit_whole unit_after whole after registration long odometer now few answer (out-now c w) bare was-out late app measured size enters valid e ok

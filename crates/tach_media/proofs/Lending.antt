@@ -1,6 +1,6 @@
 -- A run of calls through a reference.
 use Rattle.std.specs.Borrow.{GName}
-use Rattle.std.proofs.Common.{◌≡◌, ℕ, Bool, List, ◌∷◌, ap}
+use Rattle.std.proofs.Common.{ℕ, Bool, List, ◌∷◌, ap}
 use Rattle.tach_media.specs.Medium.{State, Layer, Reference, LeavesOnly, Reads, HasCause, lent}
 use Rattle.card_layout.specs.Outcomes.{Effect, nothing, gives, puts}
 use Rattle.tach_media.specs.Chip.{Does}
@@ -20,17 +20,3 @@ pub lent_does : (name : GName) (effect : Effect) (old new : State) (failed : Boo
 lent_does name nothing old new failed does = lent_reads name does
 lent_does name (gives file offset len) old new failed does = lent_reads name does
 lent_does name (puts place bytes) old new failed does = record { written = does.written; leaves = lent_leaves name does.leaves; settled = does.settled; clock = does.clock; few = does.few; cause = lent_cause name does.cause }
-
--- what a run through references says of the memory itself: the references are the same, and the run is
-module _ {a b : GName} {old new : State} where
-  pub same_name : {R : List ℕ → List ℕ → Type 0} → LeavesOnly (lent a old) (lent b new) R → b ≡ a
-  same_name run = let same = run.layers in cc
-
-  pub unlent_leaves : {R : List ℕ → List ℕ → Type 0} → LeavesOnly (lent a old) (lent b new) R → LeavesOnly old new R
-  unlent_leaves run = let same = run.layers in record { size = run.size; behind = run.behind; writable = run.writable; layers = cc; tells = run.tells; later = run.later; since = run.since; now = run.now; keeps = run.keeps }
-
-  pub unlent_cause : {failed : Bool} → HasCause (lent a old) (lent b new) failed → HasCause old new failed
-  unlent_cause cause = record { works = cause.works; broken = cause.broken; faults = cause.faults; fault = cause.fault; breakdowns = cause.breakdowns; breaks = cause.breaks; unbroken = cause.unbroken; already = cause.already }
-
-  pub unlent_reads : {failed : Bool} → Reads (lent a old) (lent b new) failed → Reads old new failed
-  unlent_reads reads = record { same = reads.same; leaves = unlent_leaves reads.leaves; clock = reads.clock; cause = unlent_cause reads.cause }

@@ -1,6 +1,6 @@
 -- Parts of a list, one after another.
 use Rattle.std.proofs.Common.{◌≡◌, ◌∙◌, ℕ, ◌+◌, ◌-◌, ◌≤◌, List, ◌++◌, length, take, drop, refl, sym, arith}
-use Rattle.std.proofs.lemmas.List.{take-append-drop, take-take, drop-take, drop-drop}
+use Rattle.std.proofs.lemmas.List.{take-append-drop, take-take, drop-take}
 use Rattle.std.specs.declared.option.Option.{Option}
 use Rattle.std.specs.Io.KnownBytes.{Appends}
 use Rattle.std.proofs.KnownBytes.{Appends-trans}
@@ -16,8 +16,3 @@ pub Appends-next : (a b c : Option (List ℕ)) (bytes : List ℕ) (n m : ℕ) �
 Appends-next a b c bytes n m first next fits =
     let le : m ≤ length bytes - n = omega arith in
     rw (take-add n m bytes) (Appends-trans a b c _ _ first (rw (take-take m (length bytes - n) (drop n bytes) le) at next))
-
--- what was copied from a place on, and what is left behind it
-pub copied-front : (xs part from : List ℕ) (at n : ℕ) → from ≡ drop at xs → take n part ≡ take n from → drop at xs ≡ take n part ++ drop (at + n) xs
-copied-front xs part from at n is copied =
-    sym (take-append-drop n (drop at xs)) ∙ rw (copied, is, drop-drop n at xs) refl

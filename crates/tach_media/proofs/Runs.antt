@@ -163,14 +163,6 @@ reads_then first next = record { same = λ fine. next.same fine ∙ first.same r
 pub revived : {old new : State} → IsCoherent new → LeavesOnly old new Unchanged → (x : List ℕ) → new.image ≡ Some x → old.may_leave x
 revived {old} {new} whole run x is = ⊎_elim (λ was. was) (λ none. absurd none.2) (run.now x (whole.is_left x is))
 
--- and on a medium that works it changes no byte
-pub unmoved : {old new : State} → IsCoherent old → IsCoherent new → old.works ≡ true → LeavesOnly old new Unchanged → (x : List ℕ) → new.image ≡ Some x → old.image ≡ Some x
-unmoved before after works run x is = before.only x works (revived after run x is)
-
--- after an Ok a stop leaves the image alone
-pub only_image : {old new : State} → IsCoherent new → HasCause old new false → (x : List ℕ) → new.may_leave x → new.image ≡ Some x
-only_image whole cause x left = whole.only x cause.works left
-
 -- no read yet, on a medium that works
 pub no_reads : (s : State) → s.works ≡ true → Reads s s false
 no_reads s works = record {
@@ -239,20 +231,6 @@ reads_writes {old} {mid} {new} {failed} {l} {m} {f} {R} first next = record {
   clock = omega (arith, first.clock, next.clock);
   cause = cause_after first.cause next.cause;
 }
-
-pub writes_reads : {old mid new : State} {failed : Bool} {l m : ℕ} {f : List ℕ → List ℕ} {R : List ℕ → List ℕ → Type 0} → Writes old mid false l m f R → Reads mid new failed → Writes old new failed l m f R
-writes_reads {old} {mid} {new} {failed} {l} {m} {f} {R} first next = record {
-  written = λ fine. next.same fine ∙ first.written refl;
-  leaves = goes_same first.leaves next.leaves;
-  settled = λ fine. settled_then old mid new next.leaves.later (first.settled refl) (λ was known. read fine was);
-  begun = λ fine. omega (arith, next.clock, first.begun refl);
-  clock = omega (arith, first.clock, next.clock);
-  cause = cause_after first.cause next.cause;
-}
-  where
-    read : failed ≡ false → (mid.clock < new.clock) ⊎ IsSettled mid → IsSettled new
-    read fine (inl more) = absurd (omega (arith, more, next.clock))
-    read fine (inr is) = still_settled (subst (λ (b : Bool). Reads mid new b) fine next) is
 
 -- the same said more weakly: other names of what is written, more moments, and a wider count
 pub writes_as : {old new : State} {failed : Bool} {l m l' m' : ℕ} {f h : List ℕ → List ℕ} {R T : List ℕ → List ℕ → Type 0} → Writes old new failed l m f R

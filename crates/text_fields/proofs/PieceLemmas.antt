@@ -3,8 +3,7 @@ use Rattle.std.proofs.Common.{◌≡◌, ◌∙◌, ℕ, ◌+◌, ◌-◌, ◌<�
 use Rattle.std.specs.Prelude.{◌==◌}
 use Rattle.std.specs.List.{list_any}
 use Rattle.std.proofs.lemmas.Bool.{eq-eqb}
-use Rattle.std.proofs.lemmas.List.{take_more, drop_more, take-append-drop, take_rest}
-use Rattle.std.proofs.lemmas.List.Folds.{list_any-append}
+use Rattle.std.proofs.lemmas.List.{drop_more, take-append-drop, take_rest}
 use Rattle.text_fields.specs.Pieces.{pieces, onto_first}
 
 -- a separator is in this text
@@ -28,11 +27,6 @@ pieces-found separator [] rest h = rw (eq-eqb separator separator refl) refl
 pieces-found separator (b ∷ front) rest h =
     let both = or-false (b == separator) (has separator front) h in
     rw (both.0, pieces-found separator front rest both.1) refl
-
--- one more byte that is no separator
-pub has-more : (separator : ℕ) (text : List ℕ) (i : ℕ) → i < length text → has separator (take i text) ≡ false → (get_or text i 0 == separator) ≡ false → has separator (take (i + 1) text) ≡ false
-has-more separator text i lt before here =
-    rw (take_more text i 0 lt, list_any-append (λ b. b == separator) (take i text) (get_or text i 0 ∷ []), before, here) refl
 
 -- the first piece of a text whose first separator is at i
 pub pieces-at : (separator : ℕ) (text : List ℕ) (i : ℕ) → i < length text → has separator (take i text) ≡ false → get_or text i 0 ≡ separator → pieces separator text ≡ take i text ∷ pieces separator (take (length text - (i + 1)) (drop (i + 1) text))

@@ -10,13 +10,13 @@ use Rattle.trace_text.specs.declared.trace.TraceFault.TheVariants.{ReadFault, Ba
 use Rattle.trace_text.specs.declared.reading.Reading.{Reading}
 use Rattle.trace_text.specs.Text.{counts, fields, counted, numbered}
 use Rattle.trace_text.specs.Line.{IsStart, IsItem}
-use Rattle.trace_text.specs.Trace.{Spells, IsTraceOf, IsWithin, items_of, put_in, added, waits, waiting_from, opened, ended}
-use Rattle.trace_text.specs.Judged.{IsFirstBad, bad_line, no_start, IsPassedAt, items_before}
+use Rattle.trace_text.specs.Trace.{Spells, IsWithin, items_of, put_in, added, waits, waiting_from, opened, ended}
+use Rattle.trace_text.specs.Judged.{IsFirstBad, bad_line, IsPassedAt, items_before}
 use Rattle.trace_text.specs.Reading.{HasTaken, HasSpelled, HasStarted, HasRead, IsFaultAt, IsFaultOf}
 use Rattle.trace_text.proofs.Numbering.{counted-line, counted-same}
 use Rattle.trace_text.proofs.Grammar.{spells-start, spells-more, bad_item, bad_start}
 use Rattle.trace_text.proofs.PutIn.{opened-more, waiting-more}
-use Rattle.trace_text.proofs.Passed.{total-append, total-cons, passed-behind}
+use Rattle.trace_text.proofs.Passed.{passed-behind}
 
 one-longer : (lines : List (List ℕ)) (line : List ℕ) (n : ℕ) → length lines ≡ n → length (lines ++ line ∷ []) ≡ n + 1
 one-longer lines line n is = omega (arith, length-append lines (line ∷ []), is)
@@ -83,23 +83,6 @@ item-bad lines behind line old start is later counts_it none =
     let total = s.taken.total in
     let within : IsWithin start (total_seconds (items_of (opened s.written))) = (omega (arith, total, s.taken.within.0), omega (arith, total, s.taken.within.1)) in
     bad_line (counted lines) (fields line) (numbered (old.lines + 2) behind) (counted-line lines line behind old.lines counts_it is.number) (inr (start, s.written, s.spells, within)) (bad_item old.form (counted lines) (old.lines + 1) start (fields line) s.written s.spells none)
-
--- an item was taken
-pub taken-more : (start line : ℕ) (placed : List (ℕ × Item)) (old : Reading) (item : Item) → HasTaken start placed old → IsWithin start (old.total + item_seconds item) → HasTaken start (placed ++ (line, item) ∷ []) (record old { items = old.items ++ item ∷ []; total = old.total + item_seconds item })
-taken-more start line placed old item is within =
-    let e = total-append placed ((line, item) ∷ []) in
-    let f = total-cons line item [] in
-    let none : total_seconds (items_of []) ≡ 0 = refl in
-    let g = is.total in
-    record {
-      items = rw is.items (items-push placed);
-      total = omega (arith, e, f, g, none);
-      within = within;
-    }
-  where
-    items-push : (placed : List (ℕ × Item)) → items_of placed ++ item ∷ [] ≡ items_of (placed ++ (line, item) ∷ [])
-    items-push [] = refl
-    items-push (x ∷ placed) = ap (λ (is : List Item). x.1 ∷ is) (items-push placed)
 
 -- or it passes a limit
 pub taken-long : (start line : ℕ) (placed more : List (ℕ × Item)) (old : Reading) (item : Item) → HasTaken start placed old → (IsWithin start (old.total + item_seconds item) → ⊥) → IsPassedAt start 0 (placed ++ ((line, item) ∷ more)) line
@@ -180,24 +163,6 @@ item-long lines behind line old start item (TooLong n) is later counts_it reads 
       written = written;
       spells = spells-more old.form (counted lines) (old.lines + 1) start (fields line) s.written item s.spells reads;
       passed = subst P (sym items) (passed (opened s.written) first.0 s.taken);
-    }
-
--- no line counts
-pub never-started : (lines : List (List ℕ)) (old : Reading) → HasRead lines old → old.start ≡ None → IsFirstBad old.form lines (old.lines + 1)
-never-started lines old is first = no_start (before-start lines old is first).0 (omega (arith, is.number))
-
--- the end of all lines
-pub read-end : (lines : List (List ℕ)) (old new : Reading) (start : ℕ) → HasRead lines old → old.start ≡ Some start → ((placed : List (ℕ × Item)) → HasTaken start placed old → HasTaken start (placed ++ put_in old.waiting) new) → IsTraceOf old.form lines start new.items
-read-end lines old new start is later took =
-    let s = behind-start lines old start is later in
-    let T : Option ℕ → Type 0 = λ w. HasTaken start (opened s.written ++ put_in w) new in
-    let end : HasTaken start (ended s.written) new = subst T s.waiting (took (opened s.written) s.taken) in
-    let total : new.total ≡ total_seconds new.items = end.total ∙ sym (ap total_seconds end.items) in
-    record {
-      written = s.written;
-      spells = s.spells;
-      items_are = end.items;
-      within = (omega (arith, total, end.within.0), omega (arith, total, end.within.1));
     }
 
 pub end-long : (lines : List (List ℕ)) (old : Reading) (start : ℕ) (fault : TraceFault) → HasRead lines old → old.start ≡ Some start → ((placed more : List (ℕ × Item)) → HasTaken start placed old → IsFaultAt start (placed ++ (put_in old.waiting ++ more)) fault) → IsFaultOf old.form lines fault

@@ -1,7 +1,6 @@
 -- Where a limit is first passed.
-use Rattle.std.proofs.Common.{◌≡◌, ◌∙◌, ℕ, ◌+◌, List, [], ◌∷◌, ◌++◌, ap, sym, subst, arith, inl, inr}
-use Rattle.std.proofs.lemmas.List.{map-append}
-use Rattle.std.proofs.lemmas.List.Sums.{sum_by-cons, sum_by-append}
+use Rattle.std.proofs.Common.{◌≡◌, ◌∙◌, ℕ, ◌+◌, List, [], ◌∷◌, ◌++◌, sym, subst, arith, inl, inr}
+use Rattle.std.proofs.lemmas.List.Sums.{sum_by-cons}
 use Rattle.trace_model.specs.declared.Item.{Item}
 use Rattle.trace_model.specs.Trace.{item_seconds, total_seconds}
 use Rattle.trace_text.specs.Trace.{IsWithin, items_of}
@@ -9,9 +8,6 @@ use Rattle.trace_text.specs.Judged.{IsPassedAt}
 
 pub total-cons : (line : ℕ) (item : Item) (placed : List (ℕ × Item)) → total_seconds (items_of ((line, item) ∷ placed)) ≡ item_seconds item + total_seconds (items_of placed)
 total-cons line item placed = sum_by-cons item_seconds item (items_of placed)
-
-pub total-append : (xs ys : List (ℕ × Item)) → total_seconds (items_of (xs ++ ys)) ≡ total_seconds (items_of xs) + total_seconds (items_of ys)
-total-append xs ys = ap total_seconds (map-append (λ (p : ℕ × Item). p.1) xs ys) ∙ sum_by-append item_seconds (items_of xs) (items_of ys)
 
 -- with more items behind, it is the same line
 pub passed-front : (start total : ℕ) (xs ys : List (ℕ × Item)) (n : ℕ) → IsPassedAt start total xs n → IsPassedAt start total (xs ++ ys) n

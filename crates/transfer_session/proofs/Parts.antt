@@ -43,9 +43,6 @@ pub no_part : (x : List ℕ) (request : Request) (from : ℕ) → message_of x r
 unfolding content_sent
 no_part x request from is = no_message (message_of x request) from is
 
-pub none_at_all : (from : ℕ) → (content : Option (List ℕ)) × IsPart content from None []
-none_at_all from = (None, record { len = refl; bytes_are = refl })
-
 -- of the message that was outlined
 pub outlined_part : (x : List ℕ) (request : Request) (o : Plan) (from : ℕ) (items : List ℕ) → 2 ≤ from → IsOutlined x request (Some o) → IsPiece x (asked o) from (Some (length_of o)) items
     → IsPart (content_sent x request) from (Some (length_of o)) items

@@ -9,13 +9,10 @@ pub mod Lighted
 pub mod Cutting
 pub mod Steps
 pub mod Seconds
-pub mod Completing
-pub mod Marked
 pub mod Causing
 pub mod Offs
 pub mod Caused
 pub mod WithCauses
 pub mod Rows
-pub mod Walk
 pub mod Legs
 pub mod Travelled

@@ -46,29 +46,6 @@ pub dark-length : (n number : ℕ) → length (dark n number) ≡ n
 dark-length zero number = refl
 dark-length (suc n) number = ap suc (dark-length n (number + 1))
 
--- some seconds, and then the others
-pub driven-parts : (n k number speed : ℕ) (actions : List Action) → driven (suc n + k) number speed actions ≡ driven (suc n) number speed actions ++ driven k (number + suc n) speed []
-driven-parts zero k number speed actions =
-    let e : suc zero + k ≡ suc k = omega arith in
-    let f : number + 1 ≡ number + suc zero = omega arith in
-    ap (λ (m : ℕ). driven m number speed actions) e ∙ ap (λ (m : ℕ). given_second number speed actions ∷ driven k m speed []) f
-driven-parts (suc n) k number speed actions =
-    let e : suc (suc n) + k ≡ suc (suc n + k) = omega arith in
-    let f : number + 1 + suc n ≡ number + suc (suc n) = omega arith in
-    ap (λ (m : ℕ). driven m number speed actions) e
-    ∙ ap (λ (ss : List TraceSecond). given_second number speed actions ∷ ss) (driven-parts n k (number + 1) speed [] ∙ ap (λ (m : ℕ). driven (suc n) (number + 1) speed [] ++ driven k m speed []) f)
-
-pub dark-parts : (n k number : ℕ) → dark (n + k) number ≡ dark n number ++ dark k (number + n)
-dark-parts zero k number =
-    let e : zero + k ≡ k = omega arith in
-    let f : number ≡ number + zero = omega arith in
-    ap (λ (m : ℕ). dark m number) e ∙ ap (dark k) f
-dark-parts (suc n) k number =
-    let e : suc n + k ≡ suc (n + k) = omega arith in
-    let f : number + 1 + n ≡ number + suc n = omega arith in
-    ap (λ (m : ℕ). dark m number) e
-    ∙ ap (λ (ss : List TraceSecond). record { number = number; has_power = false; speed = 0; actions = [] } ∷ ss) (dark-parts n k (number + 1) ∙ ap (λ (m : ℕ). dark n (number + 1) ++ dark k m) f)
-
 -- the last one
 pub driven-last : (n number speed : ℕ) (actions : List Action) → driven (suc n) number speed actions ≡ driven n number speed actions ++ given_second (number + n) speed (actions_of_last (suc n) actions) ∷ []
 driven-last zero number speed actions = let e : number ≡ number + zero = omega arith in ap (λ (m : ℕ). given_second m speed actions ∷ []) e
@@ -76,11 +53,6 @@ driven-last (suc zero) number speed actions = refl
 driven-last (suc (suc n)) number speed actions =
     let e : number + 1 + suc n ≡ number + suc (suc n) = omega arith in
     ap (λ (ss : List TraceSecond). given_second number speed actions ∷ ss) (driven-last (suc n) (number + 1) speed [] ∙ ap (λ (m : ℕ). driven (suc n) (number + 1) speed [] ++ given_second m speed [] ∷ []) e)
-
-pub none-of_last : (n : ℕ) → actions_of_last n [] ≡ []
-none-of_last zero = refl
-none-of_last (suc zero) = refl
-none-of_last (suc (suc n)) = refl
 
 -- SECONDS WITHOUT CARDS
 pub plain-append : (xs ys : List Told) → ArePlain xs → ArePlain ys → ArePlain (xs ++ ys)

@@ -151,9 +151,6 @@ and-true false = refl
 pub lit-next : (before : Before) (number speed : ℕ) (picks : List (Slot × Pick)) (starts : Bool) → before_next before (lit_second number speed picks starts false) ≡ going_before
 lit-next before number speed picks starts = rw (and-false before.gone) refl
 
-pub cut-next : (before : Before) (number speed : ℕ) (picks : List (Slot × Pick)) (starts : Bool) → before_next before (lit_second number speed picks starts true) ≡ lost_before
-cut-next before number speed picks starts = refl
-
 one-on : (log : RunLog) (told : List Told) (before : Before) (s : TraceSecond) (t : Told) (next : Before) → second_told log before s ≡ t → before_next before t ≡ next → went_on log (record { told = told; before = before }) s ≡ record { told = told ++ t ∷ []; before = next }
 one-on log told before s t next is goes =
     ap (λ (x : Told). record { told = told ++ x ∷ []; before = before_next before x }) is ∙ ap (λ (b : Before). record { told = told ++ t ∷ []; before = b }) goes

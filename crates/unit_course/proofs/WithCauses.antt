@@ -1,22 +1,17 @@
 -- THE STEPS with their causes, and the causes of a run.
-use Rattle.std.proofs.Common.{◌≡◌, inl, ⊎_elim, ℕ, zero, suc, ◌+◌, ◌-◌, ◌%◌, ◌<◌, ◌≤◌, Bool, true, false, cond, nat_eq, List, [], ◌∷◌, ◌++◌, Contains, length, map, filter, refl, ap, sym, subst, ◌∙◌, arith, append_assoc}
+use Rattle.std.proofs.Common.{◌≡◌, inl, ⊎_elim, ℕ, ◌+◌, ◌-◌, ◌<◌, ◌≤◌, Bool, true, false, cond, List, [], ◌∷◌, ◌++◌, Contains, length, map, filter, refl, ap, sym, subst, ◌∙◌, arith}
 use Rattle.std.specs.Prelude.{flat_map}
-use Rattle.std.specs.List.{AllByRecursion, list_any}
+use Rattle.std.specs.List.{AllByRecursion}
 use Rattle.std.proofs.lemmas.List.Elements.{Contains-append_cases, Contains-push_cases}
-use Rattle.trace_model.specs.declared.Action.{Action}
 use Rattle.trace_model.specs.declared.Card.{Card}
-use Rattle.trace_model.specs.Trace.{TraceSecond, driven, dark}
-use Rattle.run_model.specs.Span.{picks_of}
+use Rattle.trace_model.specs.Trace.{TraceSecond}
 use Rattle.run_model.specs.declared.Device.{Device}
 use Rattle.run_model.specs.declared.Device.TheVariants.{Unit as Recorder}
 use Rattle.minute_model.specs.declared.Rule.{Rule}
-use Rattle.minute_model.specs.declared.Minute.{Minute}
-use Rattle.minute_model.specs.Span.{AreNumbered, fed_many, decided_in}
+use Rattle.minute_model.specs.Span.{AreNumbered}
 use Rattle.log_model.specs.declared.lines.Break.{Break}
 use Rattle.log_model.specs.declared.lines.Break.TheVariants.{Cut, Tear}
 use Rattle.log_model.specs.declared.lines.Refused.{Refused}
-use Rattle.log_model.specs.declared.lines.SlotFault.{SlotFault}
-use Rattle.log_model.specs.declared.lines.SlotFault.TheVariants.{NoPower}
 use Rattle.log_model.specs.declared.lines.Verdict.{Verdict}
 use Rattle.log_model.specs.Log.{RunLog}
 use Rattle.log_model.specs.Slots.{same_card}
@@ -25,108 +20,11 @@ use Rattle.log_model.specs.Causes.{is_cut, second_of, cuts, ComesBehind, AreInTi
 use Rattle.log_model.specs.Spans.{seconds_in}
 use Rattle.log_model.proofs.Spanning.{spanned}
 use Rattle.history_model.specs.Presence.{Start}
-use Rattle.history_model.specs.Growth.{picking}
-use Rattle.history_model.specs.Book.{not_begun}
-use Rattle.unit_course.specs.Turn.{IsSelection, lit_second, dark_seconds, span_at, actions_of_last}
-use Rattle.unit_course.specs.Keeping.{plain}
-use Rattle.unit_course.specs.Lines.{log_of, cut_at, found_from, IsCutBefore}
-use Rattle.unit_course.specs.Followed.{Lit, Due, Lost, Progress, Followed, MayPower, MayFail, IsDark}
-use Rattle.unit_course.specs.Caused.{IsBare, cuts_by, IsOver, Caused, WellCaused}
-use Rattle.unit_course.proofs.Seconds.{by-supply, failed_seconds, dark_minute, off_seconds}
-use Rattle.unit_course.proofs.Offs.{over-dark, over-failed, any-last, by-same}
-use Rattle.unit_course.proofs.Steps.{feeds-by, went-refusing, cut_now as now-lost}
-use Rattle.unit_course.proofs.Cutting.{last-second}
-use Rattle.unit_course.proofs.Caused.{within-next, powered_caused, turned_caused, dark_caused, failed_caused, off_caused, cut_caused, cut_off_caused}
-
--- the power was taken from the last second by a failed call
-failed-over : (breaks : List Break) (v begun : ℕ) (front : List Told) (t : Told) → t.second.number ≡ v → IsOver (cuts_by true (breaks ++ cut_at v true begun ∷ [])) (front ++ t ∷ [])
-failed-over breaks v begun front t is =
-    over-failed (cuts_by true (breaks ++ cut_at v true begun ∷ [])) front t
-    (ap (list_any (nat_eq t.second.number)) (by-same breaks v true begun) ∙ ap (λ (u : ℕ). list_any (nat_eq u) (cuts_by true breaks ++ v ∷ [])) is ∙ any-last (cuts_by true breaks) v)
-
-pub begins : (from : ℕ) → WellCaused [] (record { breaks = []; unfound = 0; next = from; begun = 0; supply = Due; book = not_begun; waiting = [] }) []
-unfolding went
-begins from = record {
-  caused = record { bare = tt; refused = refl; cut_seconds = refl; off_lines = refl; begun = tt };
-  over = λ is. tt;
-}
-
-module _ (rule : Rule) (start : Start) (from first : ℕ) (done : List TraceSecond) (p : Progress) (g : Followed rule start from first done p) (refusals : List Refused) (c : WellCaused done p refusals) where
-  -- any book and waiting minutes will do: nothing is said of them
-  pub powered : MayPower p.supply p.next → (k : ℕ) (q : Progress) → q.breaks ≡ found_from p.unfound k p.breaks → q.supply ≡ Lit [] → WellCaused done q refusals
-  powered may k q is lit = record {
-    caused = subst (λ (bs : List Break). Caused bs refusals done (went (log_of bs) done).told) (sym is) (powered_caused rule start from first done p g refusals c.caused may k);
-    over = λ d. absurd (subst IsDark lit d);
-  }
-
-  pub turned : (span : List Told) → p.supply ≡ Lit span → (n speed : ℕ) (actions : List Action) → AllByRecursion IsSelection actions → (q : Progress) → q.breaks ≡ p.breaks → (span_now : List Told) → q.supply ≡ Lit span_now →
-      WellCaused (done ++ driven (suc n) p.next speed actions) q refusals
-  turned span is n speed actions each q same span_now lit = record {
-    caused = subst (λ (bs : List Break). Caused bs refusals (done ++ driven (suc n) p.next speed actions) (went (log_of bs) (done ++ driven (suc n) p.next speed actions)).told) (sym same) (turned_caused rule start from first done p g refusals c.caused span is n speed actions each);
-    over = λ d. absurd (subst IsDark lit d);
-  }
-
-  pub powers_not : MayFail p.supply p.next → (n speed : ℕ) (actions : List Action) → p.next % 60 + suc n ≤ 60 → AllByRecursion IsSelection actions → (q : Progress) → q.breaks ≡ p.breaks ++ cut_at p.next true 0 ∷ [] →
-      WellCaused (done ++ driven (suc n) p.next speed actions) q refusals
-  powers_not may n speed actions within each q is = record {
-    caused = subst (λ (bs : List Break). Caused bs refusals (done ++ driven (suc n) p.next speed actions) (went (log_of bs) (done ++ driven (suc n) p.next speed actions)).told) (sym is) (failed_caused rule start from first done p g refusals c.caused may n speed actions within each);
-    over = λ d. subst (λ (bs : List Break). IsOver (cuts_by true bs) (went (log_of bs) (done ++ driven (suc n) p.next speed actions)).told) (sym is)
-        (subst (IsOver (cuts_by true (p.breaks ++ cut_at p.next true 0 ∷ []))) (sym (ap (λ (w : Went). w.told) (failed_seconds rule start from first done p g may n speed actions within each))) (over n));
-  }
-    where
-      over : (m : ℕ) → IsOver (cuts_by true (p.breaks ++ cut_at p.next true 0 ∷ [])) ((went (log_of p.breaks) done).told ++ lit_second p.next speed [] true true ∷ dark_seconds m (p.next + 1) speed true [])
-      over zero = failed-over p.breaks p.next 0 (went (log_of p.breaks) done).told (lit_second p.next speed [] true true) refl
-      over (suc m) =
-          subst (IsOver (cuts_by true (p.breaks ++ cut_at p.next true 0 ∷ []))) (append_assoc (went (log_of p.breaks) done).told (lit_second p.next speed [] true true ∷ []) (dark_seconds (suc m) (p.next + 1) speed true []))
-          (over-dark (cuts_by true (p.breaks ++ cut_at p.next true 0 ∷ [])) ((went (log_of p.breaks) done).told ++ lit_second p.next speed [] true true ∷ []) m (p.next + 1) speed true [])
-
-  pub stays_dark : p.supply ≡ Lost → (n speed : ℕ) (actions : List Action) → 0 < p.next % 60 → p.next % 60 + suc n ≤ 60 → (later : List Refused) →
-      map (λ r. (r.second, r.fault)) later ≡ map (λ r. (r.second, r.fault)) refusals ++ map {B = ℕ × SlotFault} (λ (a : Action). (p.next, NoPower)) actions → (q : Progress) → q.breaks ≡ p.breaks →
-      WellCaused (done ++ driven (suc n) p.next speed actions) q later
-  stays_dark is n speed actions some within later adds q same = record {
-    caused = subst (λ (bs : List Break). Caused bs later (done ++ driven (suc n) p.next speed actions) (went (log_of bs) (done ++ driven (suc n) p.next speed actions)).told) (sym same) (dark_caused rule start from first done p g refusals c.caused is n speed actions some within later adds);
-    over = λ d. subst (λ (bs : List Break). IsOver (cuts_by true bs) (went (log_of bs) (done ++ driven (suc n) p.next speed actions)).told) (sym same)
-        (subst (IsOver (cuts_by true p.breaks)) (sym (ap (λ (w : Went). w.told) (dark_minute rule start from first done p g is (suc n) speed actions some within))) (over-dark (cuts_by true p.breaks) (went (log_of p.breaks) done).told n p.next speed true actions));
-  }
-
-  pub goes_off : IsDark p.supply → (n : ℕ) (q : Progress) → q.breaks ≡ p.breaks → WellCaused (done ++ dark (suc n) p.next) q refusals
-  goes_off is n q same = record {
-    caused = subst (λ (bs : List Break). Caused bs refusals (done ++ dark (suc n) p.next) (went (log_of bs) (done ++ dark (suc n) p.next)).told) (sym same) (off_caused rule start from first done p g refusals c.caused is (c.over is) n);
-    over = λ d. subst (λ (bs : List Break). IsOver (cuts_by true bs) (went (log_of bs) (done ++ dark (suc n) p.next)).told) (sym same)
-        (subst (IsOver (cuts_by true p.breaks)) (sym (off_seconds rule start from first done p g is n)) (over-dark (cuts_by true p.breaks) (went (log_of p.breaks) done).told n p.next 0 false []));
-  }
-
-  -- a call fails in the last second so far
-  pub cut_now : (t : Told) (span : List Told) → p.supply ≡ Lit (t ∷ span) → (q : Progress) → q.breaks ≡ p.breaks ++ cut_at (p.next - 1) true p.begun ∷ [] → WellCaused done q refusals
-  cut_now t span is q same =
-      let f = by-supply rule start from first done p g (Lit (t ∷ span)) is in
-      let last_ = last-second rule start from first done p t span f true in
-      record {
-        caused = subst (λ (bs : List Break). Caused bs refusals done (went (log_of bs) done).told) (sym same) (cut_caused rule start from first done p g refusals c.caused t span is);
-        over = λ d. subst (λ (bs : List Break). IsOver (cuts_by true bs) (went (log_of bs) done).told) (sym same)
-            (subst (IsOver (cuts_by true (p.breaks ++ cut_at (p.next - 1) true p.begun ∷ []))) (sym last_.2) (failed-over p.breaks (p.next - 1) p.begun last_.0 last_.1 last_.4));
-      }
-
-  pub cut_off : (t : Told) (span : List Told) → p.supply ≡ Lit (t ∷ span) → p.waiting ≡ [] → (n : ℕ) (q : Progress) → q.breaks ≡ p.breaks ++ cut_at (p.next - 1) false p.begun ∷ [] → WellCaused (done ++ dark (suc n) p.next) q refusals
-  cut_off t span is none n q same = record {
-    caused = subst (λ (bs : List Break). Caused bs refusals (done ++ dark (suc n) p.next) (went (log_of bs) (done ++ dark (suc n) p.next)).told) (sym same) (cut_off_caused rule start from first done p g refusals c.caused t span is none n);
-    over = λ d. subst (λ (bs : List Break). IsOver (cuts_by true bs) (went (log_of bs) (done ++ dark (suc n) p.next)).told) (sym same)
-        (subst (IsOver (cuts_by true (p.breaks ++ cut_at (p.next - 1) false p.begun ∷ [])))
-        (sym (off_seconds rule start from first done (record { breaks = p.breaks ++ cut_at (p.next - 1) false p.begun ∷ []; unfound = p.unfound; next = p.next; begun = p.begun; supply = Lost; book = p.book; waiting = [] })
-        (now-lost rule start from first done p g t span is none false) tt n))
-        (over-dark (cuts_by true (p.breaks ++ cut_at (p.next - 1) false p.begun ∷ [])) (went (log_of (p.breaks ++ cut_at (p.next - 1) false p.begun ∷ [])) done).told n p.next 0 false []));
-  }
-
--- a turn in whose last second a call fails
-pub breaks_off : (rule : Rule) (start : Start) (from first : ℕ) (done : List TraceSecond) (p : Progress) → Followed rule start from first done p → (refusals : List Refused) → WellCaused done p refusals →
-    (n speed : ℕ) (actions : List Action) (each : AllByRecursion IsSelection actions) (new : List Minute) (span : List Told) → p.supply ≡ Lit span → p.waiting ≡ [] →
-    decided_in (fed_many (picking (picks_of actions) (span_at rule p.next span)) speed (suc n)) ≡ decided_in (span_at rule p.next span) ++ new →
-    (q : Progress) → q.breaks ≡ p.breaks ++ cut_at (p.next + suc n - 1) true (length (actions_of_last (suc n) actions)) ∷ [] → WellCaused (done ++ driven (suc n) p.next speed actions) q refusals
-breaks_off rule start from first done p g refusals c n speed actions each new span is none decides q same =
-    let on = feeds-by rule start from first done p n speed actions each new span (by-supply rule start from first done p g (Lit span) is) none decides in
-    let fed : Progress = record p { next = p.next + suc n; begun = length (actions_of_last (suc n) actions); supply = Lit (on.0 ∷ on.1); waiting = map plain new } in
-    let caused = turned rule start from first done p g refusals c span is n speed actions each fed refl (on.0 ∷ on.1) refl in
-    cut_now rule start from first (done ++ driven (suc n) p.next speed actions) fed on.3 refusals caused on.0 on.1 refl q same
+use Rattle.unit_course.specs.Lines.{log_of, IsCutBefore}
+use Rattle.unit_course.specs.Followed.{Progress, Followed}
+use Rattle.unit_course.specs.Caused.{IsBare, cuts_by, Caused}
+use Rattle.unit_course.proofs.Steps.{went-refusing}
+use Rattle.unit_course.proofs.Caused.{within-next}
 
 -- THE CAUSES of a run of a unit alone
 tears-none : (failed : Bool) (number : ℕ) (breaks : List Break) (refusals : List Refused) → AllByRecursion (IsCutBefore number) breaks → tears failed (record { breaks = breaks; refused = refusals; finds = [] }) ≡ []

@@ -1,5 +1,5 @@
 -- Fronts of what goes to a sink.
-use Rattle.std.proofs.Common.{◌≡◌, ◌∙◌, ℕ, List, [], ◌++◌, length, take, drop, Option, Some, None, ap, sym, subst, append_assoc, append-nil}
+use Rattle.std.proofs.Common.{◌≡◌, ◌∙◌, ℕ, List, ◌++◌, length, take, drop, Option, Some, None, ap, sym, subst, append_assoc}
 use Rattle.std.proofs.Math.Seq.{take-append_seam}
 use Rattle.std.proofs.lemmas.List.{take-append-drop}
 use Rattle.std.specs.Io.KnownBytes.{Appends, Keeps}
@@ -11,12 +11,6 @@ Appends-kept None b c bs p q = tt
 Appends-kept (Some x) None c bs p q = absurd p
 Appends-kept (Some x) (Some y) None bs p q = absurd q
 Appends-kept (Some x) (Some y) (Some z) bs p q = q ∙ p
-
--- nothing is appended
-pub Keeps-nothing : (a b : Option (List ℕ)) (bs : List ℕ) → bs ≡ [] → Appends a b bs → Keeps a b
-Keeps-nothing None b bs none p = tt
-Keeps-nothing (Some x) None bs none p = absurd p
-Keeps-nothing (Some x) (Some y) bs none p = p ∙ ap (λ (l : List ℕ). x ++ l) none ∙ append-nil x
 
 -- what went out is a front
 pub front_of : (a b : Option (List ℕ)) (out rest all : List ℕ) → Appends a b out → out ++ rest ≡ all → AppendsFront a b all

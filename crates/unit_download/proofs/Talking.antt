@@ -1,7 +1,7 @@
 -- A download, exchange after exchange.
 use Rattle.std.proofs.Common.{◌≡◌, ◌∙◌, ℕ, ◌≤◌, true, false, List, [], ◌∷◌, ◌++◌, Option, Some, IfSome, Result, Ok, refl, ap, sym, subst, inl, inr, arith, append-nil}
 use Rattle.std.specs.Prelude.{◌⊎◌, ◌||◌, IsErrAnd}
-use Rattle.std.specs.Io.KnownBytes.{Appends, Keeps}
+use Rattle.std.specs.Io.KnownBytes.{Appends}
 use Rattle.std.proofs.KnownBytes.{Appends-nil, Appends-trans, Keeps-refl}
 use Rattle.tach_media.specs.Medium.{State}
 use Rattle.tach_media.specs.Streams.{AppendsFront}
@@ -28,8 +28,7 @@ use Rattle.unit_download.specs.Wires.{of_loader, of_unit, talk_of, Replies, Exch
 use Rattle.unit_download.specs.Tapes.{HasFrames}
 use Rattle.unit_download.specs.Ending.{IsUnanswered, IsUntaken, StopsAt, IsDownload}
 use Rattle.unit_download.proofs.Linked.{runs_on}
-use Rattle.unit_download.proofs.Opening.{Opens, Begins, nothing_out, begins_next, asks_there, judged_next}
-use Rattle.unit_download.proofs.Fronts.{Keeps-nothing}
+use Rattle.unit_download.proofs.Opening.{Opens, Begins, begins_next, asks_there, judged_next}
 use Rattle.unit_download.proofs.Told.{Sized, untold, whole_told, front_told, front_untaken, long_told}
 use Rattle.unit_download.proofs.Faults.{err_is}
 
@@ -68,10 +67,6 @@ talking_none loader session wire s held begins room is none sized =
       room = room;
       sized = sized;
     }
-
--- the image before the exchanges is the one now
-pub still_known : {loader : Load} {session : SessionView} {wire : List Passed} {old mid : State} {held sunk : Option (List ℕ)} → IsTalking loader session wire old mid held sunk → IfSome mid.image (Knows session)
-still_known {loader} {session} {wire} {old} {mid} {held} {sunk} s = carried (Knows session) (sym (read_same s.reads)) s.knows
 
 -- what the unit replies, said of the image at the beginning
 replied_before : (old mid : State) (state : LinkState) (sent : List ℕ) (reply : Reply) → ReadsIfAny old mid false → Replies mid.image state sent reply → Replies old.image state sent reply
@@ -161,13 +156,6 @@ module _ {loader : Load} {session : SessionView} {wire : List Passed} {old mid :
   pub unanswered_front : IfSome old.image (λ x. IsBytes x → AppendsFront held sunk (unit_file x))
   unanswered_front = front_told old.image wire here held sunk s.sized s.runs (known_by old.image session here s.knows s.judged) s.put
 
-  pub nothing_sunk : is_judged session ≡ false → Keeps held sunk
-  nothing_sunk not = by s.judged
-    where
-      by : (is_judged session ≡ true) ⊎ Begins here → Keeps held sunk
-      by (inl is) = absurd (cc)
-      by (inr begins) = Keeps-nothing held sunk s.out (nothing_out here begins) s.put
-
   -- The answer was not taken.
   module _ (fault : DownloadFault) (next : SessionView) (new : State) (filled : Option (List ℕ)) (frame : List ℕ) (a : IsAnswered next new frame) (untaken : IsUntaken fault loader.loading frame sunk filled) where
     answers_before : Replies old.image session.state sent (record { answer = Some frame; state = next.state })
@@ -230,9 +218,6 @@ nothing_began {T} r image held wire is none =
       put = Appends-nil held;
       ends = record { sent = 0x81 ∷ []; sends = refl; stops = inl (inl refl, Keeps-refl held) };
     })
-
-pub nothing_front : (image held : Option (List ℕ)) → IfSome image (λ x. IsBytes x → AppendsFront held held (unit_file x))
-nothing_front image held = told_all image _ (λ x told. λ bytes. (0, Appends-nil held))
 
 -- A tape that tells its frames has those of the download.
 pub told_download : {T : Type 0} (r : Result T DownloadFault) (image : Option (List ℕ)) (wire passed : List Passed) (held sunk : Option (List ℕ)) → HasFrames (Some wire) passed → IsDownload r image passed held sunk → IsDownload r image wire held sunk

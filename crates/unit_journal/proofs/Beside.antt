@@ -1,5 +1,5 @@
 -- Writes beside the bytes that a journal reads leave what it needs.
-use Rattle.std.proofs.Common.{◌≡◌, ◌⊎◌, inl, inr, ⊎_elim, ℕ, ◌+◌, ◌-◌, ◌*◌, ◌/◌, ◌%◌, ◌<◌, ◌≤◌, min, Bool, true, false, cond, List, [], ◌∷◌, ◌++◌, map, filter, Option, Some, None, refl, sym, ◌∙◌, ap, subst, arith}
+use Rattle.std.proofs.Common.{◌≡◌, ◌⊎◌, inl, inr, ⊎_elim, ℕ, ◌+◌, ◌-◌, ◌*◌, ◌/◌, ◌%◌, ◌<◌, ◌≤◌, Bool, true, false, cond, List, [], ◌∷◌, ◌++◌, map, filter, Option, Some, None, refl, sym, ◌∙◌, ap, subst, arith}
 use Rattle.std.specs.Prelude.{◌==◌, ◌&&◌, ◌||◌, nat_le, nat_lt, MatchOption}
 use Rattle.std.specs.Option.{ForSome}
 use Rattle.std.specs.List.{list_all, list_any, range_with_len}
@@ -9,7 +9,7 @@ use Rattle.tach_media.proofs.Images.{part_before, part_after}
 use Rattle.gated_ring.specs.Ring.{number_at, pointer, is_there, entry_at, next, order, taken, indices as ring_indices}
 use Rattle.gated_ring.proofs.Orders as orders
 use Rattle.gated_ring.proofs.Orders.{next_below, order_each, each_append, each_filter, range_each, filter_same, map_same}
-use Rattle.unit_model.specs.declared.layout.TheConstants.{DAYS, DAY_COUNT, DAY_ODOMETER, DAY_SLOTS, DAY_SLOT_SIZE, DAY_WORDS, DAY_WORD_LIMIT, FIRST_OVER, HIGHEST_ODOMETER, INSERTIONS, LAST_KEPT, LAST_MINUTE, ODOMETER, OVER_COUNT, VERSION}
+use Rattle.unit_model.specs.declared.layout.TheConstants.{DAYS, DAY_COUNT, DAY_ODOMETER, DAY_SLOTS, DAY_SLOT_SIZE, DAY_WORDS, FIRST_OVER, HIGHEST_ODOMETER, INSERTIONS, LAST_KEPT, LAST_MINUTE, ODOMETER, OVER_COUNT, VERSION}
 use Rattle.unit_model.specs.Days.{day_of, days_shown, state_at, word_minute, Each}
 use Rattle.unit_model.specs.Image.{number_of, day_ring, slot_place, last_kept, odometer_at, unit_day, unit_days, recorded, indices, slot_date, slot_count, slot_words, words_at}
 use Rattle.unit_model.specs.Decoding.{Decodes, cell_check, cell_minute, cell_word, slot_checks, front_checks, has_day, is_pointer_good, is_last_good, are_dense, indices_before, is_date_good}
@@ -18,8 +18,6 @@ use Rattle.unit_journal.specs.Image.{Notes, IsNotes, IsNewestDay, Agrees, IsFoun
 use Rattle.unit_model.specs.Image.{stray_list}
 use Rattle.unit_model.specs.Writing.{free_place}
 use Rattle.unit_journal.specs.Mends.{IsGateShut, IsMendable}
-use Rattle.unit_journal.specs.Reading.{AreRight}
-use Rattle.unit_model.specs.Image.{recorded_indices, covered_words, recorded_words}
 use Rattle.unit_model.proofs.Checks.{passes, le_true, le_of, and_split, and_join, IsGood, good_of, front_kept, front_today, front_odometer, still}
 use Rattle.unit_model.proofs.Growth.{map_range_same}
 use Rattle.unit_model.proofs.Recorded.{recorded_is}
@@ -32,9 +30,6 @@ pub beside : (a n : ℕ) (x c : List ℕ) → (a + n ≤ LAST_KEPT.place) ⊎ ((
 beside a n x c (inl low) same = record { front = part_after a n LAST_KEPT.place (LAST_KEPT.size + ODOMETER.size) x c same low; days = part_after a n DAYS.place DAYS.size x c same (omega (arith, low)); same_length = same.same_length }
 beside a n x c (inr (inl mid)) same = record { front = part_before a n LAST_KEPT.place (LAST_KEPT.size + ODOMETER.size) x c same (omega (arith, mid.0)); days = part_after a n DAYS.place DAYS.size x c same mid.1; same_length = same.same_length }
 beside a n x c (inr (inr high)) same = record { front = part_before a n LAST_KEPT.place (LAST_KEPT.size + ODOMETER.size) x c same (omega (arith, high)); days = part_before a n DAYS.place DAYS.size x c same (omega (arith, high)); same_length = same.same_length }
-
-pub beside_none : (x : List ℕ) → SameJournal x x
-beside_none x = record { front = refl; days = refl; same_length = refl }
 
 pub beside_then : (x y c : List ℕ) → SameJournal x y → SameJournal y c → SameJournal x c
 beside_then x y c first next = record { front = next.front ∙ first.front; days = next.days ∙ first.days; same_length = next.same_length ∙ first.same_length }
@@ -131,19 +126,6 @@ module _ (x c : List ℕ) (same : SameJournal x c) where
     pub recorded_beside : recorded c ≡ recorded x
     recorded_beside = recorded_is c (last_kept x) last_beside ∙ ap (days_shown (last_kept x)) days_beside ∙ sym (recorded_is x (last_kept x) refl)
 
-    pub recorded_indices_beside : recorded_indices c ≡ recorded_indices x
-    unfolding recorded_indices
-    recorded_indices_beside =
-        ap (filter (λ i. nat_le (slot_date c i / 86400) (last_kept c / 1440))) indices_beside
-        ∙ filter_same (λ i. nat_le (slot_date x i / 86400) (last_kept x / 1440)) (λ i. nat_le (slot_date c i / 86400) (last_kept c / 1440)) (indices x)
-        (orders.each_weaker (λ j. j < DAY_SLOTS) (λ i. nat_le (slot_date c i / 86400) (last_kept c / 1440) ≡ nat_le (slot_date x i / 86400) (last_kept x / 1440)) (indices x) (λ i below. λ t. nat_le (date i below t / 86400) (last_beside t / 1440)) each_below)
-
-    pub recorded_words_beside : (i : ℕ) → i < DAY_SLOTS → recorded_words c i ≡ recorded_words x i
-    recorded_words_beside i below =
-        let covered : covered_words c i ≡ covered_words x i =
-        ap (λ (n : ℕ). slot_words c i (min n DAY_WORD_LIMIT)) (number (slot_place i + DAY_COUNT.place) DAY_COUNT.size (omega arith) (omega (arith, below))) ∙ words (slot_place i + DAY_WORDS.place) (min (slot_count x i) DAY_WORD_LIMIT) (omega arith) (omega (arith, below)) in
-        λ t. cond (date i below t / 86400 == last_beside t / 1440) (filter (λ w. nat_le (word_minute w) (last_beside t % 1440)) (covered t)) (covered t)
-
     -- what the notes say
     older_same : (P : Rattle.unit_model.specs.Days.StoredDay → Type 0) (a : List ℕ) (i : ℕ) → Each (λ j. (j < DAY_SLOTS) × (Rattle.std.proofs.Common.◌≢◌ j i)) a → Each P (map (λ j. unit_day (entry_at day_ring x j)) a) → Each P (map (λ j. unit_day (entry_at day_ring c j)) a)
     older_same P [] i below all = tt
@@ -222,10 +204,6 @@ module _ (x c : List ℕ) (same : SameJournal x c) where
 
   pub found_beside : (j : Notes) → IsFoundBy j x → IsFoundBy j c
   found_beside j found = found_as j j.stray j.stored found
-
-  pub right_beside : (j : Notes) → AreRight j x → AreRight j c
-  right_beside j (inl found) = inl (found_beside j found)
-  right_beside j (inr agrees) = inr (agrees_beside j agrees)
 
   gate_beside : (stray : Option ℕ) → ForSome stray (λ s. s < DAY_SLOTS) → IsGateShut stray x → IsGateShut stray c
   gate_beside None below gate = tt

@@ -18,7 +18,6 @@ pub mod Loading
 pub mod IfAny
 pub mod Shown
 pub mod Minutes
-pub mod ByChanges
 pub mod Planned
 pub mod Renewing
 pub mod KeepPlan
@@ -26,5 +25,4 @@ pub mod DaysWith
 pub mod Retaining
 pub mod MendedOwed
 mod OwedBeside
-pub mod NoSuchDay
 pub mod Refused

@@ -1,13 +1,13 @@
 -- What `load` reads of an image that decodes.
 use Rattle.std.proofs.Common.{◌≡◌, inl, ⊎_elim, ℕ, zero, suc, ◌+◌, ◌-◌, ◌*◌, ◌/◌, ◌%◌, ◌<◌, ◌≤◌, min, Bool, true, false, not, cond, List, [], ◌∷◌, ◌++◌, length, length-append, Option, Some, None, is_some, Result, Ok, Err, refl, sym, ◌∙◌, ap, subst, arith}
-use Rattle.std.specs.Prelude.{◌==◌, ◌&&◌, ◌||◌, nat_le, nat_lt, MatchOption, unwrap_or, IsTrue}
+use Rattle.std.specs.Prelude.{◌==◌, ◌&&◌, ◌||◌, nat_le, nat_lt, MatchOption, unwrap_or}
 use Rattle.std.specs.List.{range_with_len, list_all}
 use Rattle.std.proofs.lemmas.Bool.Decides.{nat_tests}
 use Rattle.gated_ring.specs.Ring.{pointer, is_there, entry_at}
 use Rattle.unit_model.specs.declared.layout.TheConstants.{DAY_SLOTS, DAY_WORDS, DAY_WORD_LIMIT}
 use Rattle.unit_model.specs.Days.{day_of, state_at, word_minute, Each}
 use Rattle.unit_model.specs.Image.{last_kept, odometer_at, day_ring, slot_place, unit_day, indices, slot_date, slot_count, slot_words, words_at}
-use Rattle.unit_model.specs.Decoding.{Check, checks, Decodes, first_failing, word_checks, first_bad_place, slot_day, is_date_good}
+use Rattle.unit_model.specs.Decoding.{first_failing, word_checks, first_bad_place, slot_day, is_date_good}
 use Rattle.unit_memory.specs.Scans.{start, scan_from}
 use Rattle.unit_memory.specs.Walks.{walk_start, with_gap, with_day, next_walk, walk_from}
 use Rattle.unit_memory.specs.Judging.{failed_of, pointer_passes, is_whole, turn_at, walk_round}
@@ -250,16 +250,3 @@ module _ (x : List ℕ) (none : first_bad_place x ≡ None) (i : ℕ) (read : To
     where
       are : noted k o s ≡ notes
       are = λ j. noted (kept_is j) (odometer_is j) (stray_is j)
-
-none_fails : (cs : List Check) → IsTrue (list_all (λ c. c.passes) cs) → first_failing cs ≡ None
-none_fails [] all = refl
-none_fails (c ∷ cs) all = by c.passes refl (none_fails cs)
-  where
-    by : (b : Bool) → c.passes ≡ b → (IsTrue (list_all (λ c. c.passes) cs) → first_failing cs ≡ None) → first_failing (c ∷ cs) ≡ None
-    by true is rest = ap (λ (v : Bool). cond v (first_failing cs) (Some c.place)) is ∙ rest (subst (λ (v : Bool). IsTrue (v && list_all (λ c. c.passes) cs)) is all)
-    by false is rest = let bad : false ≡ true = subst (λ (v : Bool). IsTrue (v && list_all (λ c. c.passes) cs)) is all in absurd (cc)
-
--- where a field fails, the image doesn't decode
-pub not_decoded : (x : List ℕ) (p : ℕ) → first_bad_place x ≡ Some p → Decodes x → ⊥
-unfolding first_bad_place Decodes
-not_decoded x p bad all = let none : Some p ≡ None = sym bad ∙ none_fails (checks x) all in absurd (cc)

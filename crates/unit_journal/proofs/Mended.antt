@@ -1,5 +1,5 @@
 -- A `mend` changes no minute at any moment, leaves what `keep` needs, and may be done again.
-use Rattle.std.proofs.Common.{◌≡◌, ◌≢◌, inl, inr, ⊎_elim, ℕ, ◌+◌, ◌-◌, ◌*◌, ◌/◌, ◌%◌, ◌<◌, ◌≤◌, Bool, true, false, cond, List, [], ◌∷◌, ◌++◌, length, map, refl, sym, ◌∙◌, ap, subst, arith, add-zero, lit≤, Option, Some, None, IfSome}
+use Rattle.std.proofs.Common.{◌≡◌, ◌≢◌, inl, inr, ⊎_elim, ℕ, ◌+◌, ◌-◌, ◌*◌, ◌/◌, ◌%◌, ◌<◌, ◌≤◌, Bool, true, false, cond, List, [], ◌∷◌, ◌++◌, length, map, refl, sym, ◌∙◌, ap, subst, arith, add-zero, lit≤, Option, Some, None}
 use Rattle.std.specs.Prelude.{◌==◌, ◌||◌, ◌⊎◌, nat_le, nat_lt}
 use Rattle.std.specs.Option.{ForSome}
 use Rattle.std.proofs.lemmas.Bool.{cases_lt}
@@ -13,7 +13,7 @@ use Rattle.unit_model.specs.Days.{word_minute, day_of, Each}
 use Rattle.unit_model.specs.Decoding.{Decodes, cell_place, cell_minute, is_last_good}
 use Rattle.unit_model.specs.Image.{day_ring, slot_place, last_kept, recorded, indices, unit_days, slot_date, slot_words, words_at}
 use Rattle.unit_model.specs.Writing.{free_place, with_count}
-use Rattle.unit_journal.specs.Image.{Notes, IsNotes, Agrees, IsStray, IsFoundDay, IsFound, IsFoundBy}
+use Rattle.unit_journal.specs.Image.{Notes, IsNotes, Agrees, IsStray, IsFoundDay, IsFound}
 use Rattle.unit_journal.specs.Beside.{SameJournal}
 use Rattle.unit_journal.specs.DayOdometers.{RecordsDay}
 use Rattle.unit_journal.proofs.DayOdometers.{records-same, records-kept, records-cut}
@@ -140,11 +140,6 @@ module _ (j : Notes) (ok : IsNotes j) (stored : ℕ) (x : List ℕ) (sized : len
 
   pub shut_still : IsGood x → IsGood c
   shut_still = shut_good x c s stray.below (gate_outside x sized s stray.below) (shut_gate x sized s stray.below) stray.at_pointer (other_there x sized s stray.below) later_date last_stays
-
--- what `load` finds may be mended
-pub found_mendable : (image : Option (List ℕ)) (j : Notes) → IfSome image (IsFoundBy j) → IfSome image (IsMendable j)
-found_mendable None j found = tt
-found_mendable (Some x) j found = inl found
 
 -- one mending step on the days: what it leaves alone, and which days there are then
 record IsDayStep (j : Notes) (x y : List ℕ) : Type 0 where
@@ -423,14 +418,3 @@ module _ (j : Notes) (ok : IsNotes j) (x : List ℕ) (sized : length x ≡ IMAGE
 
   pub mend_agrees : Agrees (notes_mended j) (mended j x)
   mend_agrees = agrees_mended j (mended j x) done_all.agrees
-
--- after a `mend` no cell is later than the last-kept minute
-pub cells_mended : (x y : List ℕ) → IsMended x y → (n : ℕ) → n < 32 → cell_minute y n ≤ last_kept x
-cells_mended x y is n below = by (nat_lt (last_kept x) (cell_minute x n)) refl
-  where
-    not_more : (a b : ℕ) → nat_lt a b ≡ false → b ≤ a
-    not_more a b is = grind (arith, nat_tests)
-
-    by : (b : Bool) → nat_lt (last_kept x) (cell_minute x n) ≡ b → cell_minute y n ≤ last_kept x
-    by true late = let none : cell_minute y n ≡ 0 = is.cells n below ∙ ap (λ (b : Bool). cond {A = ℕ} b 0 (cell_minute x n)) late in omega (arith, none)
-    by false now = let same : cell_minute y n ≡ cell_minute x n = is.cells n below ∙ ap (λ (b : Bool). cond {A = ℕ} b 0 (cell_minute x n)) now in let low = not_more (last_kept x) (cell_minute x n) now in omega (arith, same, low)

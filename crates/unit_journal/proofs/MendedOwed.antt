@@ -1,9 +1,8 @@
 -- A mend keeps the owed rows up to the last-kept minute, and what is owed, at each moment.
-use Rattle.std.proofs.Common.{◌≡◌, inl, ⊎_elim, ℕ, List}
+use Rattle.std.proofs.Common.{inl, ⊎_elim, ℕ, List}
 use Rattle.unit_model.specs.Image.{last_kept}
 use Rattle.unit_model.specs.Decoding.{cell_minute}
-use Rattle.owed_model.specs.Owed.{owed_to}
-use Rattle.owed_model.proofs.Mending.{HasRowsKept, kept_or_gone, owed_mended}
+use Rattle.owed_model.proofs.Mending.{HasRowsKept, kept_or_gone}
 use Rattle.unit_journal.specs.Image.{Notes}
 use Rattle.unit_journal.specs.Mends.{IsMending, IsMended}
 
@@ -12,6 +11,3 @@ rows_mending j x c is = record { heads = is.rows.heads; words = is.rows.words; m
 
 pub rows_mended : (x c : List ℕ) → IsMended x c → HasRowsKept x c
 rows_mended x c is = record { heads = is.rows.heads; words = is.rows.words; minutes = λ n below. kept_or_gone (last_kept x) (cell_minute x n) (cell_minute c n) (is.cells n below) }
-
-pub owed_mending : (j : Notes) (x c : List ℕ) → IsMending j x c → last_kept c ≡ last_kept x → (number : List ℕ) (session after : ℕ) → owed_to c number session after ≡ owed_to x number session after
-owed_mending j x c is kept = owed_mended x c (rows_mending j x c is) kept

@@ -1,5 +1,5 @@
 -- What the clause `days` of `keep` alone says where four wrong bodies differ, so that it refuses them.
-use Rattle.std.proofs.Common.{◌≡◌, ◌⊎◌, ⊎_elim, ℕ, ◌+◌, ◌-◌, ◌/◌, ◌%◌, ◌<◌, Bool, true, cond, List, [], ◌∷◌, ◌++◌, replicate, sym, ◌∙◌, ap, arith}
+use Rattle.std.proofs.Common.{◌≡◌, ◌⊎◌, ⊎_elim, ℕ, ◌+◌, ◌-◌, ◌/◌, ◌%◌, ◌<◌, Bool, true, cond, List, [], ◌∷◌, ◌++◌, sym, ◌∙◌, ap, arith}
 use Rattle.std.specs.Prelude.{◌==◌}
 use Rattle.std.proofs.lemmas.Bool.Decides.{nat_tests}
 use Rattle.std.proofs.lemmas.List.{append-nil}
@@ -34,10 +34,6 @@ older_stays k x y has d e was same =
 -- refused: a body that fills spare bytes. On the same day none changes
 pub spare_stays : (k : KeptMinute) (x y : List ℕ) → HasDaysWith k x y → k.minute / 1440 ≡ last_kept x / 1440 → (i : ℕ) → i < DAY_SLOTS → spare_bytes y i ≡ spare_bytes x i
 spare_stays k x y has same i low = ⊎_elim (λ was. was) (λ new. absurd (omega (arith, new.0, same))) (has.spare i low)
-
--- refused: a body that fills spare bytes of the day that it begins. Where they were zeros they are zeros
-pub spare_begun : (k : KeptMinute) (x y : List ℕ) → HasDaysWith k x y → (i : ℕ) → i < DAY_SLOTS → spare_bytes x i ≡ replicate 6 0 → spare_bytes y i ≡ replicate 6 0
-spare_begun k x y has i low zeros = ⊎_elim (λ was. was ∙ zeros) (λ new. new.2) (has.spare i low)
 
 -- the same state makes no word
 change_same : (s t d : ℕ) → change s t d d ≡ []

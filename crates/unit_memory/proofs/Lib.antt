@@ -5,5 +5,4 @@ pub mod Told
 pub mod WordLaws
 pub mod WalkLaws
 pub mod JudgeLaws
-pub mod NewIdentity
 pub mod Heads

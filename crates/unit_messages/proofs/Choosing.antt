@@ -1,5 +1,5 @@
 -- The entries that are there and chosen, one after the other.
-use Rattle.std.proofs.Common.{◌≡◌, ℕ, ◌+◌, ◌-◌, ◌≤◌, Bool, true, false, not, cond, List, [], ◌∷◌, ◌++◌, length, map, filter, refl, sym, ◌∙◌, ap, append_assoc, length-append, arith}
+use Rattle.std.proofs.Common.{◌≡◌, ℕ, ◌+◌, ◌-◌, ◌≤◌, Bool, true, false, not, List, [], ◌∷◌, ◌++◌, length, map, filter, refl, sym, ◌∙◌, ap, append_assoc, length-append, arith}
 use Rattle.std.specs.List.{range_with_len}
 use Rattle.std.specs.Prelude.{◌==◌, ◌||◌}
 use Rattle.std.proofs.lemmas.List.{map-append}
@@ -30,16 +30,6 @@ module _ (r : Shape) (choice : Choice) (x : List ℕ) where
 
   pub chosen_joined : (is js : List ℕ) → joined (chosen_at r choice x (is ++ js)) ≡ joined (chosen_at r choice x is) ++ joined (chosen_at r choice x js)
   chosen_joined is js = ap joined (chosen_both is js) ∙ joined_both (chosen_at r choice x is) (chosen_at r choice x js)
-
-  -- one entry that is not there, one that is there and not chosen, one that is both
-  pub one_missing : (i : ℕ) → is_there r x i ≡ false → chosen_at r choice x (i ∷ []) ≡ []
-  one_missing i is = ap (λ (t : Bool). filter (chosen choice) (map (entry_at r x) (cond t (i ∷ []) []))) is
-
-  pub one_passed : (i : ℕ) → is_there r x i ≡ true → chosen choice (entry_at r x i) ≡ false → chosen_at r choice x (i ∷ []) ≡ []
-  one_passed i is other = ap (λ (t : Bool). filter (chosen choice) (map (entry_at r x) (cond t (i ∷ []) []))) is ∙ ap (λ (t : Bool). cond t (entry_at r x i ∷ []) []) other
-
-  pub one_chosen : (i : ℕ) → is_there r x i ≡ true → chosen choice (entry_at r x i) ≡ true → chosen_at r choice x (i ∷ []) ≡ entry_at r x i ∷ []
-  one_chosen i is same = ap (λ (t : Bool). filter (chosen choice) (map (entry_at r x) (cond t (i ∷ []) []))) is ∙ ap (λ (t : Bool). cond t (entry_at r x i ∷ []) []) same
 
   -- whether an entry is there, by its own bytes
   pub there_in : (i : ℕ) → r.gate + 4 ≤ r.width → is_there r x i ≡ not (number_at (entry_at r x i) r.gate 4 == 0)

@@ -1,8 +1,7 @@
 -- Where the parts of a message end: of bytes that are made of such parts, and what bytes are made of that have such ends.
 use Rattle.std.proofs.Common.{◌≡◌, ℕ, zero, suc, ◌+◌, ◌-◌, ◌*◌, ◌<◌, ◌≤◌, ◌^◌, Bool, true, false, cond, Option, Some, None, List, [], ◌∷◌, ◌++◌, length, take, drop, refl, sym, ◌∙◌, ap, subst, append_assoc, length-append, All, arith}
-use Rattle.std.specs.Prelude.{nat_le, slice_index, option_and_then}
-use Rattle.std.proofs.lemmas.Bool.Decides.{nat_tests}
-use Rattle.std.proofs.lemmas.List.{length-take, length-drop, take-append-drop, drop-drop, take_at, drop_at, get_or-take, get_or-drop}
+use Rattle.std.specs.Prelude.{nat_le, option_and_then}
+use Rattle.std.proofs.lemmas.List.{length-take, length-drop, take-append-drop, drop-drop, take_at, drop_at}
 use Rattle.std.proofs.Math.Nat.{suc-mul}
 use Rattle.std.proofs.lemmas.List.Elements.{All-nil, All-cons}
 use Rattle.std.proofs.lemmas.Option.{option_and_then_some}
@@ -33,15 +32,6 @@ within_some b e f is = let both = if_some (nat_le e (length b)) (Some e) f is in
 pub counted_is : (b : List ℕ) (at w s n : ℕ) (r : Option ℕ) → at + w ≤ length b → n ≡ number_at b at w → r ≡ within b (at + w + n * s) → r ≡ counted_end b at w s
 counted_is b at w s n r inside is ends =
     ends ∙ ap (λ (m : ℕ). within b (at + w + m * s)) is ∙ sym (ap (λ (t : Bool). cond t (within b (at + w + number_at b at w * s)) None) (le_true (at + w) (length b) inside))
-
-pub counted_none : (b : List ℕ) (at w s : ℕ) → length b < at + w → None ≡ counted_end b at w s
-counted_none b at w s behind = sym (ap (λ (t : Bool). cond t (within b (at + w + number_at b at w * s)) None) (let no : nat_le (at + w) (length b) ≡ false = grind (arith, nat_tests) in no))
-
--- the number in one byte
-pub number_one_byte : (x : List ℕ) (p : ℕ) → number_at x p 1 ≡ slice_index x p
-number_one_byte x p =
-    let b0 : slice_index (bytes_at x p 1) 0 ≡ slice_index x p = get_or-take 1 (drop p x) 0 0 (omega arith) ∙ get_or-drop p x 0 0 ∙ ap (slice_index x) (omega arith) in
-    omega (arith, b0)
 
 -- ENTRIES
 -- entries of one size, as long as they are many

@@ -1,10 +1,8 @@
 -- Where a piece stands.
-use Rattle.std.proofs.Common.{◌≡◌, ℕ, ◌-◌, ◌*◌, ◌<◌, min, false, List, length, take, drop, ◌∙◌, ap, arith}
-use Rattle.std.specs.Prelude.{nat_le}
-use Rattle.std.proofs.lemmas.Bool.Decides.{nat_tests}
+use Rattle.std.proofs.Common.{◌≡◌, ℕ, ◌-◌, ◌*◌, min, List, length, take, drop, ◌∙◌, ap, arith}
 use Rattle.std.proofs.lemmas.List.{length-take, length-drop, take_min}
 use Rattle.card_layout.specs.Images.{bytes_at}
-use Rattle.link_model.specs.Answers.{cut, has_piece}
+use Rattle.link_model.specs.Answers.{cut}
 
 pub cut_at : (content : List ℕ) (len counter n : ℕ) → length content ≡ len → n ≡ min (len - 251 * (counter - 1)) 251 → bytes_at content (251 * (counter - 1)) n ≡ cut content counter
 cut_at content len counter n long is =
@@ -15,9 +13,3 @@ pub cut_long : (content : List ℕ) (len counter n : ℕ) → length content ≡
 cut_long content len counter n long is =
     let p = 251 * (counter - 1) in
     omega (arith, is, long, length-drop p content, length-take 251 (drop p content))
-
-pub no_piece : (content : List ℕ) (len counter : ℕ) → length content ≡ len → len < 251 * (counter - 1) → has_piece content counter ≡ false
-no_piece content len counter long low = let p = 251 * (counter - 1) in let behind : length content < p = omega (arith, long, low) in past p (length content) behind
-  where
-    past : (a b : ℕ) → b < a → nat_le a b ≡ false
-    past a b low = grind (arith, nat_tests)

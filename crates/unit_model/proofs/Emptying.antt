@@ -1,5 +1,5 @@
 -- Cells that are emptied, one after the other.
-use Rattle.std.proofs.Common.{◌≡◌, ◌≢◌, inl, inr, ⊎_elim, ℕ, zero, suc, ◌+◌, ◌*◌, ◌/◌, ◌<◌, ◌≤◌, Bool, true, false, cond, List, length, replicate, Option, Some, None, option_map, refl, sym, ◌∙◌, ap, arith, add-one}
+use Rattle.std.proofs.Common.{◌≡◌, ◌≢◌, ⊎_elim, ℕ, zero, suc, ◌+◌, ◌*◌, ◌/◌, ◌<◌, ◌≤◌, Bool, true, false, cond, List, length, replicate, refl, sym, ◌∙◌, ap, arith, add-one}
 use Rattle.std.specs.Prelude.{nat_lt}
 use Rattle.card_layout.specs.Images.{big_number}
 use Rattle.std.proofs.lemmas.Bool.{cases_lt}
@@ -7,7 +7,7 @@ use Rattle.tach_media.specs.Medium.{put, SameOutside}
 use Rattle.tach_media.proofs.Images.{put_outside, part_before, part_after, part_put, outside_same, outside_wider, outside_then}
 use Rattle.unit_model.specs.declared.layout.TheConstants.{IMAGE_SIZE, OWED, OWED_ROW_SIZE, SPARE_ROWS}
 use Rattle.unit_model.specs.Decoding.{cell_place, cell_minute, cell_word}
-use Rattle.unit_model.specs.Cells.{row_head, minute_kept, cells_emptied, cell_emptied, IsEmptying, IsEmptyingAll}
+use Rattle.unit_model.specs.Cells.{row_head, minute_kept, cells_emptied, cell_emptied}
 use Rattle.unit_model.proofs.Numbers.{number_before, number_after}
 
 -- one cell lies behind another
@@ -104,16 +104,3 @@ cells_none kept x = refl
 pub cells_more : (kept n : ℕ) (x : List ℕ) → cells_emptied kept (n + 1) x ≡ cell_emptied kept n (cells_emptied kept n x)
 unfolding cells_emptied
 cells_more kept n x = ap (λ (m : ℕ). cells_emptied kept m x) (add-one n)
-
-pub none_emptied : (kept : ℕ) (image : Option (List ℕ)) → image ≡ option_map (cells_emptied kept 0) image
-none_emptied kept None = refl
-none_emptied kept (Some x) = ap Some (sym (cells_none kept x))
-
--- a moment of the next cell is one of all
-pub emptying_more : (kept n : ℕ) (x c : List ℕ) → n < 32 → IsEmptying kept n (cells_emptied kept n x) c → IsEmptyingAll kept x c
-emptying_more kept n x c below (inl absent) = (n, omega (arith, below), absent)
-emptying_more kept n x c below (inr whole) = (n + 1, omega (arith, below), whole ∙ sym (cells_more kept n x))
-
--- where none is later, the next cell is not
-pub next_not_later : (kept n : ℕ) (x : List ℕ) → length x ≡ IMAGE_SIZE → n < 32 → cell_minute x n ≤ kept → cell_minute (cells_emptied kept n x) n ≤ kept
-next_not_later kept n x sized below low = omega (arith, (emptied kept x sized n (omega (arith, below))).left n (omega arith), low)

@@ -1,15 +1,14 @@
 -- In an image that decodes the last recorded day is that of the last-kept minute, with its minutes up to it.
-use Rattle.std.proofs.Common.{◌≡◌, ℕ, zero, suc, ◌+◌, ◌/◌, ◌%◌, ◌<◌, ◌≤◌, Bool, true, false, cond, List, [], ◌∷◌, ◌++◌, length, map, filter, Option, Some, None, refl, sym, ◌∙◌, ap, subst, arith}
+use Rattle.std.proofs.Common.{◌≡◌, ℕ, zero, suc, ◌+◌, ◌/◌, ◌<◌, ◌≤◌, Bool, true, false, cond, List, [], ◌∷◌, ◌++◌, map, filter, Option, Some, None, refl, sym, ◌∙◌, ap, subst, arith}
 use Rattle.std.specs.Prelude.{◌==◌, ◌&&◌, ◌||◌, nat_le, MatchOption}
 use Rattle.std.specs.List.{list_any, range_with_len}
 use Rattle.std.proofs.lemmas.Bool.Decides.{nat_tests}
-use Rattle.std.proofs.lemmas.List.{append-nil, map-append}
+use Rattle.std.proofs.lemmas.List.{append-nil}
 use Rattle.std.proofs.lemmas.List.Elements.{filter-append}
-use Rattle.std.proofs.lemmas.List.FromFn.{length-map-range_with_len}
 use Rattle.gated_ring.specs.Ring.{pointer, is_there, entry_at}
 use Rattle.gated_ring.proofs.Orders.{filter_last, filter_none}
 use Rattle.unit_model.specs.declared.layout.TheConstants.{DAY_SLOTS}
-use Rattle.unit_model.specs.Days.{ShownDay, day_of, day_shown, minutes_shown, minute_at, Each}
+use Rattle.unit_model.specs.Days.{day_of, day_shown, Each}
 use Rattle.unit_model.specs.Image.{day_ring, last_kept, unit_day, indices, recorded, slot_date}
 use Rattle.unit_model.specs.Decoding.{Decodes, slot_day}
 use Rattle.unit_model.proofs.Decoded.{IsDecoded}
@@ -37,9 +36,6 @@ both_true false b is = absurd (cc)
 
 eq_of : (a b : ℕ) → (a == b) ≡ true → a ≡ b
 eq_of a b is = grind (arith, nat_tests)
-
-eq_true : (a b : ℕ) → a ≡ b → (a == b) ≡ true
-eq_true a b is = grind (arith, nat_tests)
 
 le_true : (a b : ℕ) → a ≤ b → nat_le a b ≡ true
 le_true a b is = grind (arith, nat_tests)
@@ -115,22 +111,3 @@ in_order x ok some =
 -- before the first minute no day is recorded
 pub none_shown : (x : List ℕ) → Decodes x → last_kept x ≡ 0 → recorded x ≡ []
 none_shown x decodes first = recorded_are x ∙ ap (map (λ i. day_shown (last_kept x) (day_at x i))) (none_recorded x (decoded_of x decodes) first)
-
--- and from then on the last one is the last-kept minute's, up to it
-pub last_shown : (x : List ℕ) → Decodes x → 0 < last_kept x
-    → (ds : List ShownDay) × (d : ShownDay) × (recorded x ≡ ds ++ d ∷ []) × (d.day ≡ last_kept x / 1440) × (length d.minutes ≡ last_kept x % 1440 + 1)
-last_shown x decodes some =
-    let k = last_kept x in
-    let f = λ (i : ℕ). day_shown k (day_at x i) in
-    let last = last_recorded x (decoded_of x decodes) some in
-    let older : List ℕ = last.0 in
-    let i : ℕ = last.1 in
-    let day_is : day_of (day_at x i) ≡ k / 1440 = ap (λ (e : ℕ). e / 86400) (date_in x i) ∙ last.2 in
-    let here : (day_of (day_at x i) == k / 1440) ≡ true = eq_true (day_of (day_at x i)) (k / 1440) day_is in
-    let n_is : minutes_shown k (day_of (day_at x i)) ≡ k % 1440 + 1 = ap (λ (b : Bool). cond b (k % 1440 + 1) 1440) here in (
-      map f older,
-      f i,
-      recorded_are x ∙ ap (map f) last.3 ∙ map-append f older (i ∷ []),
-      day_is,
-      length-map-range_with_len (minute_at (day_at x i)) 0 (minutes_shown k (day_of (day_at x i))) ∙ n_is,
-    )

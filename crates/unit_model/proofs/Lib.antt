@@ -22,7 +22,6 @@ pub mod KeptDays
 pub mod Rising
 pub mod LastDay
 pub mod FilledWhole
-pub mod Density
 pub mod WholeDays
 pub mod Front
 pub mod Recorded

@@ -1,5 +1,5 @@
 -- Numbers in images that are written.
-use Rattle.std.proofs.Common.{◌≡◌, ℕ, suc, ◌+◌, ◌-◌, ◌*◌, ◌<◌, ◌≤◌, List, [], ◌∷◌, ◌++◌, length, refl, ◌∙◌, ap, arith}
+use Rattle.std.proofs.Common.{◌≡◌, ℕ, suc, ◌+◌, ◌-◌, ◌*◌, ◌<◌, ◌≤◌, List, [], ◌∷◌, length, refl, ◌∙◌, ap, arith}
 use Rattle.std.specs.Int.{to_be_bytes, w16, w32}
 use Rattle.card_layout.proofs.Spelled.{number_put}
 pub use Rattle.card_layout.proofs.Spelled.{number_same, number_before, number_after, number_within as number_in}
@@ -55,7 +55,3 @@ written_words p (w ∷ ws) x inside short =
     ∙ ap (λ (q : ℕ). number_at z q 2 ∷ words_at z (p + 2 * 1) (length ws)) (omega arith)
     ∙ ap (λ (n : ℕ). n ∷ words_at z (p + 2) (length ws)) (number_before (p + 2) (2 * length ws) p 2 y z rest (omega arith) ∙ number_put2 p w x (omega (arith, inside)) short.0)
     ∙ ap (λ (l : List ℕ). w ∷ l) (written_words (p + 2) ws y (omega (arith, inside, first.same_length)) short.1)
-
-pub written_append : (p : ℕ) (a b x : List ℕ) → written p (a ++ b) x ≡ written (p + 2 * length a) b (written p a x)
-written_append p [] b x = ap (λ (q : ℕ). written q b x) (omega arith)
-written_append p (w ∷ ws) b x = written_append (p + 2) ws b (put p (to_be_bytes w16 w) x) ∙ ap (λ (q : ℕ). written q b (written (p + 2) ws (put p (to_be_bytes w16 w) x))) (omega arith)

@@ -1,7 +1,6 @@
 -- Giving up old days and keeping minutes go together.
-use Rattle.std.proofs.Common.{◌≡◌, ◌⊎◌, inl, inr, ⊎_elim, ℕ, zero, suc, ◌+◌, ◌-◌, ◌/◌, ◌%◌, ◌<◌, ◌≤◌, Bool, true, false, cond, List, [], ◌∷◌, ◌++◌, length, take, drop, refl, sym, ◌∙◌, ap, subst, arith, length-drop}
+use Rattle.std.proofs.Common.{◌≡◌, ◌⊎◌, inl, inr, ⊎_elim, ℕ, zero, suc, ◌+◌, ◌-◌, ◌/◌, ◌%◌, ◌<◌, ◌≤◌, Bool, true, false, cond, List, [], ◌∷◌, ◌++◌, length, drop, refl, sym, ◌∙◌, ap, arith, length-drop}
 use Rattle.std.specs.Prelude.{◌==◌, ◌&&◌, ◌||◌, nat_le, nat_lt, Contains, IsTrue}
-use Rattle.std.proofs.lemmas.Bool.{cases_lt}
 use Rattle.std.proofs.lemmas.Bool.Decides.{nat_tests}
 use Rattle.std.proofs.lemmas.List.{drop-drop}
 use Rattle.std.proofs.lemmas.List.Elements.{Contains-append_left, Contains-append_right, Contains-append_cases}
@@ -25,15 +24,6 @@ filled_least (d ∷ []) k = by (d.day == k.minute / 1440)
     by true = omega arith
     by false = omega arith
 filled_least (d ∷ e ∷ days) k = omega (arith, filled_least (e ∷ days) k)
-
-pub filled_most : (days : List ShownDay) (k : UnitMinute) → length (filled days k) ≤ length days + 1
-filled_most [] k = omega arith
-filled_most (d ∷ []) k = by (d.day == k.minute / 1440)
-  where
-    by : (b : Bool) → length (cond b (with_minute k d ∷ []) (padded 1440 d ∷ day_from k ∷ [])) ≤ 2
-    by true = omega arith
-    by false = omega arith
-filled_most (d ∷ e ∷ days) k = omega (arith, filled_most (e ∷ days) k)
 
 -- and one more where it begins a further day
 pub filled_further : (days : List ShownDay) (k : UnitMinute) → last_day days < k.minute / 1440 → length (filled days k) ≡ length days + 1
@@ -144,27 +134,3 @@ filled_holds (d ∷ e ∷ days) k m has = by (filled_holds (e ∷ days) k m) (Co
     by : (Contains (minutes_of (e ∷ days)) m → Contains (minutes_of (filled (e ∷ days) k)) m) → Contains d.minutes m ⊎ Contains (minutes_of (e ∷ days)) m → Contains (d.minutes ++ minutes_of (filled (e ∷ days) k)) m
     by rest (inl here) = Contains-append_left d.minutes (minutes_of (filled (e ∷ days) k)) m here
     by rest (inr later) = Contains-append_right d.minutes (minutes_of (filled (e ∷ days) k)) m (rest later)
-
-pub drop_holds : (days : List ShownDay) (m : UnitMinute) → Contains (minutes_of days) m → Contains (minutes_of (take 1 days)) m ⊎ Contains (minutes_of (drop 1 days)) m
-drop_holds [] m has = absurd (omega (arith, has.1))
-drop_holds (d ∷ days) m has = ⊎_elim (λ here. inl (Contains-append_left d.minutes [] m here)) (λ later. inr later) (Contains-append_cases d.minutes (minutes_of days) m has)
-
-pub kept_holds : (days : List ShownDay) (k m : UnitMinute) → length days ≤ DAY_SLOTS → Contains (minutes_of days) m
-    → Contains (minutes_of (retained days k)) m ⊎ ((length (filled days k) ≡ 367) × Contains (minutes_of (take 1 days)) m)
-kept_holds days k m few has = ⊎_elim
-    (λ more.
-    let full : length (filled days k) ≡ 367 = omega (arith, more, few, filled_most days k) in
-    let two : 1 < length days = omega (arith, full, filled_most days k) in
-    ⊎_elim
-    (λ first. inr (full, first))
-    (λ rest. inl (subst (λ (n : ℕ). Contains (minutes_of (drop n (filled days k))) m) (let e : 1 ≡ length (filled days k) - DAY_SLOTS = omega (arith, full) in e)
-    (subst (λ (ds : List ShownDay). Contains (minutes_of ds) m) (drop_filled 1 days k two) (filled_holds (drop 1 days) k m rest))))
-    (drop_holds days m has))
-    (λ fits. inl (subst (λ (n : ℕ). Contains (minutes_of (drop n (filled days k))) m) (let e : 0 ≡ length (filled days k) - DAY_SLOTS = omega (arith, fits) in e) (filled_holds days k m has)))
-    (cases_lt DAY_SLOTS (length (filled days k)))
-
-pub given_holds : (days : List ShownDay) (m : UnitMinute) → length days ≡ DAY_SLOTS → Contains (minutes_of days) m → Contains (minutes_of (newest_days (DAY_SLOTS - 1) days)) m ⊎ Contains (minutes_of (take 1 days)) m
-given_holds days m full has = ⊎_elim
-    (λ first. inr first)
-    (λ rest. inl (subst (λ (n : ℕ). Contains (minutes_of (drop n days)) m) (let e : 1 ≡ length days - (DAY_SLOTS - 1) = omega (arith, full) in e) rest))
-    (drop_holds days m has)

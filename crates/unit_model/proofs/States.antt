@@ -82,9 +82,6 @@ each_append P (x ∷ xs) ys left right = (left.0, each_append P xs ys left.1 rig
 
 -- the words that a minute brings after the minutes below `next`
 module _ (next t d c d' c' : ℕ) (order : next ≤ t) (low : t < 1440) (short : d' < 16) (short' : c' < 16) where
-  now_words : List ℕ
-  now_words = changes t d c d' c'
-
   pub driver_by : (t' d0 c0 d1 c1 u : ℕ) → t' < 1440 → d1 < 16 → c1 < 16 → t' ≤ u → state_after 0 u d0 (changes t' d0 c0 d1 c1) ≡ d1
   driver_by t' d0 c0 d1 c1 u lower s1 s2 le =
       state_after_append 0 u d0 (change 0 t' d0 d1) (change 1 t' c0 c1) ∙ ap (λ (e : ℕ). state_after 0 u e (change 1 t' c0 c1)) (change_own 0 d1 t' (omega arith) s1 (omega arith) u d0 le)

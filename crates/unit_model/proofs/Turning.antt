@@ -1,7 +1,6 @@
 -- The slots that are there, before and after a new day takes the next one.
 use Rattle.std.proofs.Common.{◌≡◌, ◌≢◌, ◌⊎◌, inl, inr, ⊎_elim, ℕ, zero, suc, ◌+◌, ◌-◌, ◌<◌, ◌≤◌, Bool, true, false, cond, List, [], ◌∷◌, ◌++◌, length, drop, map, filter, refl, sym, ◌∙◌, ap, subst, arith, length-append, length-drop}
 use Rattle.std.specs.List.{range_with_len}
-use Rattle.std.proofs.lemmas.Bool.Decides.{nat_tests}
 use Rattle.std.proofs.lemmas.List.{append-nil, map-append, length-map}
 use Rattle.std.proofs.lemmas.List.Elements.{filter-append}
 use Rattle.std.proofs.lemmas.List.FromFn.{length-range_with_len}
@@ -33,11 +32,6 @@ each_filter P p (j ∷ js) all = by (each_filter P p js all.1) (p j)
     by rest true = (all.0, rest)
     by rest false = rest
 
-filter_same : (p q : ℕ → Bool) (js : List ℕ) → Each (λ j. p j ≡ q j) js → filter p js ≡ filter q js
-filter_same p q [] all = refl
-filter_same p q (j ∷ js) all =
-    ap (λ (b : Bool). cond b (j ∷ filter p js) (filter p js)) all.0 ∙ ap (λ (l : List ℕ). cond (q j) (j ∷ l) l) (filter_same p q js all.1)
-
 each_map : (P Q : ℕ → Type 0) (js : List ℕ) → ((j : ℕ) → P j → Q j) → Each P js → Each Q js
 each_map P Q [] weaker all = tt
 each_map P Q (j ∷ js) weaker all = (weaker j all.0, each_map P Q js weaker all.1)
@@ -59,9 +53,6 @@ drop_none (suc m) (x ∷ a) le = drop_none m a (omega arith)
 
 pub behind_length : (i : ℕ) → i < DAY_SLOTS → length (behind_index i) ≡ (DAY_SLOTS - 1)
 behind_length i below = omega (arith, length-append (range_with_len (i + 1) (DAY_SLOTS - (i + 1))) (range_with_len 0 i), length-range_with_len (i + 1) (DAY_SLOTS - (i + 1)), length-range_with_len 0 i)
-
-next_below : (p : ℕ) → p < DAY_SLOTS → next day_ring p < DAY_SLOTS
-next_below p below = grind (arith, nat_tests)
 
 abbrev pub others_of : List ℕ → List ℕ
 others_of x = filter (is_there day_ring x) (behind_index (taken day_ring x))

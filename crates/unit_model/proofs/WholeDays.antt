@@ -1,20 +1,17 @@
 -- In an image that decodes each recorded day begins at its date, and its count is in range.
-use Rattle.std.proofs.Common.{◌≡◌, ℕ, ◌/◌, ◌%◌, ◌<◌, ◌≤◌, min, Bool, true, false, cond, List, [], ◌∷◌, map, filter, Some, None, refl, sym, ◌∙◌, ap, arith}
-use Rattle.std.specs.Prelude.{◌==◌, ◌&&◌, nat_le, nat_lt, slice_get}
+use Rattle.std.proofs.Common.{◌≡◌, ℕ, ◌/◌, ◌%◌, ◌<◌, Bool, true, false, cond, List, [], ◌∷◌, map, filter, Some, None, refl, sym, ◌∙◌, ap, arith}
+use Rattle.std.specs.Prelude.{◌==◌, ◌&&◌, nat_le, nat_lt}
 use Rattle.std.specs.List.{list_all}
 use Rattle.std.proofs.lemmas.Bool.Decides.{nat_tests}
 use Rattle.gated_ring.specs.Ring.{pointer, is_there, next, order, indices as ring_indices}
 use Rattle.gated_ring.proofs.Orders as orders
 use Rattle.gated_ring.proofs.Orders.{order_each, next_below}
-use Rattle.unit_model.specs.declared.layout.TheConstants.{DAY_SLOTS, HIGHEST_ODOMETER}
+use Rattle.unit_model.specs.declared.layout.TheConstants.{DAY_SLOTS}
 use Rattle.unit_model.specs.Days.{Each}
-use Rattle.unit_model.specs.Image.{last_kept, day_ring, indices, slot_date, slot_odometer}
-use Rattle.unit_model.specs.Decoding.{Check, first_failing, first_bad_place, checks, day_checks, Decodes, indices_before}
-use Rattle.unit_model.proofs.Decoded.{IsDecoded, IsGoodSlot, decoded}
+use Rattle.unit_model.specs.Image.{last_kept, day_ring, indices, slot_date}
+use Rattle.unit_model.specs.Decoding.{Check, first_failing, first_bad_place, checks, Decodes, indices_before}
+use Rattle.unit_model.proofs.Decoded.{IsDecoded, decoded}
 use Rattle.unit_model.specs.Image.{recorded_indices}
-use Rattle.unit_model.proofs.Recorded.{each_get}
-use Rattle.unit_model.proofs.Checks.{le_of, good_of}
-use Rattle.unit_model.proofs.StillDecodes.{day_split}
 
 none_fails : (cs : List Check) → list_all (λ c. c.passes) cs ≡ true → first_failing cs ≡ None
 none_fails [] all = refl
@@ -60,17 +57,10 @@ module _ (x : List ℕ) (ok : IsDecoded x) where
   recorded_each = each_filter (IsSlot x) (λ i. nat_le (slot_date x i / 86400) (last_kept x / 1440)) (filter (is_there day_ring x) (order day_ring (next day_ring (pointer day_ring x))))
       (slots_there x (order day_ring (next day_ring (pointer day_ring x))) (order_each day_ring (next day_ring (pointer day_ring x)) (next_below day_ring (pointer day_ring x) ok.known)))
 
-  -- a recorded day's slot
-  pub good_slot : (n i : ℕ) → slice_get (recorded_indices x) n ≡ Some i → IsGoodSlot x i
-  good_slot n i is = let slot = each_get (IsSlot x) (recorded_indices x) n i recorded_each is in ok.slots i slot.0 slot.1
-
   whole_at : (i : ℕ) → IsSlot x i → slot_date x i % 86400 ≡ 0
   whole_at i slot = zero_of (slot_date x i % 86400)
       (first_of (slot_date x i % 86400 == 0) (list_all (λ d. nat_lt d (slot_date x i)) (map (slot_date x) (indices_before x i))
       && (Rattle.std.specs.Prelude.◌||◌ (nat_le (slot_date x i / 86400) (last_kept x / 1440)) (list_all (λ d. nat_le (d / 86400) (last_kept x / 1440)) (map (slot_date x) (indices_before x i))))) (ok.slots i slot.0 slot.1).date)
-
-  pub date_whole : (n i : ℕ) → slice_get (recorded_indices x) n ≡ Some i → slot_date x i % 86400 ≡ 0
-  date_whole n i is = whole_at i (each_get (IsSlot x) (recorded_indices x) n i recorded_each is)
 
   pub dates_whole : Each (λ i. slot_date x i % 86400 ≡ 0) (recorded_indices x)
   dates_whole = by (recorded_indices x) recorded_each
@@ -78,12 +68,3 @@ module _ (x : List ℕ) (ok : IsDecoded x) where
       by : (js : List ℕ) → Each (IsSlot x) js → Each (λ i. slot_date x i % 86400 ≡ 0) js
       by [] all = tt
       by (i ∷ js) all = (whole_at i all.0, by js all.1)
-
--- and no recorded day has a higher odometer than the highest
-pub odometer_whole : (x : List ℕ) → Decodes x → (n i : ℕ) → slice_get (recorded_indices x) n ≡ Some i → min (slot_odometer x i) HIGHEST_ODOMETER ≡ slot_odometer x i
-odometer_whole x decodes n i is =
-    let slot = each_get (IsSlot x) (recorded_indices x) n i (recorded_each x (decoded_of x decodes)) is in
-    let good = good_of x decodes in
-    let passes = day_split x i (sym (ap (λ (b : Bool). list_all (λ c. c.passes) (cond b (day_checks x i) [])) slot.1) ∙ good.slots i slot.0) in
-    let low : slot_odometer x i ≤ HIGHEST_ODOMETER = le_of (slot_odometer x i) HIGHEST_ODOMETER passes.odometer in
-    omega (arith, low)

@@ -1,5 +1,5 @@
 -- The cells of the owed rows, and those that are later than the last-kept minute (profile).
-use Rattle.std.specs.Prelude.{◌≡◌, ◌⊎◌, ℕ, zero, suc, ◌+◌, ◌*◌, ◌≤◌, nat_lt, List, replicate, if◌then◌else◌}
+use Rattle.std.specs.Prelude.{◌≡◌, ℕ, zero, suc, ◌+◌, ◌*◌, ◌≤◌, nat_lt, List, replicate, if◌then◌else◌}
 use Rattle.tach_media.specs.Medium.{put, bytes_at}
 use Rattle.unit_model.specs.declared.layout.TheConstants.{OWED, OWED_ROW_SIZE, ROW_CELLS}
 use Rattle.unit_model.specs.Decoding.{cell_place, cell_minute}
@@ -20,10 +20,6 @@ cell_emptied kept n x = if nat_lt kept (cell_minute x n) then put (cell_place n)
 unfoldable pub cells_emptied : (kept n : ℕ) → List ℕ → List ℕ
 cells_emptied kept zero x = x
 cells_emptied kept (suc n) x = cell_emptied kept n (cells_emptied kept n x)
-
--- the moments of the writes, each of which is whole or absent
-abbrev pub IsEmptying : (kept n : ℕ) → List ℕ → List ℕ → Type 0
-IsEmptying kept n x c = (c ≡ x) ⊎ (c ≡ cell_emptied kept n x)
 
 abbrev pub IsEmptyingAll : (kept : ℕ) → List ℕ → List ℕ → Type 0
 IsEmptyingAll kept x c = (n : ℕ) × (n ≤ 32) × (c ≡ cells_emptied kept n x)

@@ -1,5 +1,5 @@
 -- Where an event goes, by the bytes of the places of its type.
-use Rattle.std.proofs.Common.{◌≡◌, ℕ, ◌+◌, ◌*◌, ◌<◌, ◌≤◌, Bool, true, false, cond, Option, Some, None, IfSome, ◌-◌, List, [], ◌∷◌, ◌++◌, length, map, take, drop, refl, sym, ◌∙◌, ap, subst, arith}
+use Rattle.std.proofs.Common.{◌≡◌, ℕ, ◌+◌, ◌*◌, ◌<◌, ◌≤◌, Bool, true, false, cond, Option, Some, None, IfSome, ◌-◌, List, [], ◌∷◌, ◌++◌, length, map, take, drop, refl, sym, ◌∙◌, ap, arith}
 use Rattle.std.specs.Prelude.{nat_lt, nat_le, nat_eq, position, slice_index_or}
 use Rattle.std.proofs.lemmas.Bool.{ne_eqb}
 use Rattle.std.proofs.lemmas.List.{map-append, length-map, get_or-take, get_or-drop}
@@ -132,11 +132,3 @@ similar_there kind bytes i p w n wide at long below other =
     ∙ counted_by (nat_eq kind OVER_SPEEDING) (nat_eq kind CARD_FAULT) (row_in kind bytes i) w (ne_eqb kind CARD_FAULT other) wide
     ∙ ap (counted_in (widths_of kind) (similar_field kind)) (sym there)
     ∙ sym (at_counted kind (rows_in kind bytes) (similar_field kind) i)
-
--- a fault counts none
-fault_none : (b : Bool) (a : Option ℕ) (kind : ℕ) (table : List (List ℕ)) (place : Option ℕ) → b ≡ true → similar_at kind table (cond b None a) place ≡ None
-fault_none true a kind table place is = refl
-fault_none false a kind table place is = absurd (cc)
-
-pub similar_none : (kind : ℕ) (table : List (List ℕ)) (place : Option ℕ) → kind ≡ CARD_FAULT → None ≡ similar_at kind table (similar_field kind) place
-similar_none kind table place is = sym (fault_none (nat_eq kind CARD_FAULT) (cond (nat_eq kind OVER_SPEEDING) (Some 7) (Some 8)) kind table place (subst (λ (k : ℕ). nat_eq k CARD_FAULT ≡ true) (sym is) refl))

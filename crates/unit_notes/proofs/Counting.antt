@@ -1,7 +1,7 @@
 -- An over speeding: its entry, then the begin of the first one, then their number.
 use Rattle.std.proofs.Common.{◌≡◌, ◌⊎◌, inl, inr, ⊎_elim, ℕ, ◌+◌, ◌<◌, ◌≤◌, Bool, cond, length, arith, Option, Some, None, IfSome, option_map, List, refl, sym, ◌∙◌, ap, subst}
 use Rattle.std.specs.Int.{to_be_bytes, w32}
-use Rattle.std.proofs.lemmas.Bool.{ne_eqb, eq-eqb, lt-ltb, le-ltb}
+use Rattle.std.proofs.lemmas.Bool.{eq-eqb, lt-ltb}
 use Rattle.card_layout.specs.Images.{number_at, put}
 use Rattle.tach_media.specs.Medium.{State, LeavesOnly, LiesInside, IsPartlyWritten}
 use Rattle.tach_media.proofs.Ranges.{lies_still}
@@ -23,18 +23,11 @@ noted_last kind front x y noted = record { outside = noted.outside; entry = at_l
 pub first_turned : (begin n : ℕ) (bytes x : List ℕ) → bytes ≡ to_be_bytes w32 begin → n ≡ number_at x 572 4 → n ≡ 0 → put 572 bytes x ≡ with_first begin x
 first_turned begin n bytes x spelled value zero = ap (λ (b : List ℕ). put 572 b x) spelled ∙ sym (ap (λ (b : Bool). cond b (put 572 (to_be_bytes w32 begin) x) x) (eq-eqb (number_at x 572 4) 0 (sym value ∙ zero)))
 
-pub first_kept : (begin n : ℕ) (x : List ℕ) → n ≡ number_at x 572 4 → (n ≡ 0 → ⊥) → x ≡ with_first begin x
-first_kept begin n x value some = sym (ap (λ (b : Bool). cond b (put 572 (to_be_bytes w32 begin) x) x) (ne_eqb (number_at x 572 4) 0 (λ zero. some (value ∙ zero))))
-
 pub count_turned : (n : ℕ) (bytes x : List ℕ) → bytes ≡ to_be_bytes w32 (n + 1) → n ≡ number_at x 576 4 → n < 255 → put 576 bytes x ≡ with_one_more x
 count_turned n bytes x spelled value few =
     ap (λ (b : List ℕ). put 576 b x) spelled
     ∙ ap (λ (k : ℕ). put 576 (to_be_bytes w32 (k + 1)) x) value
     ∙ sym (ap (λ (b : Bool). cond b (put 576 (to_be_bytes w32 (number_at x 576 4 + 1)) x) x) (lt-ltb (number_at x 576 4) 255 (subst (λ (k : ℕ). k < 255) value few)))
-
-pub count_kept : (n : ℕ) (x : List ℕ) → n ≡ number_at x 576 4 → 255 ≤ n → x ≡ with_one_more x
-count_kept n x value many =
-    sym (ap (λ (b : Bool). cond b (put 576 (to_be_bytes w32 (number_at x 576 4 + 1)) x) x) (le-ltb (number_at x 576 4) 255 (subst (λ (k : ℕ). 255 ≤ k) value many)))
 
 -- a number has four bytes
 pub four_bytes : (n : ℕ) (bytes : List ℕ) → bytes ≡ to_be_bytes w32 n → length bytes ≡ 4
@@ -51,11 +44,6 @@ turned_whole f place bytes x c few turned partly = ⊎_elim (λ same. inl same) 
 pub image_as : (o p q : Option (List ℕ)) (h k : List ℕ → List ℕ) → p ≡ o → q ≡ option_map h p → ((x : List ℕ) → o ≡ Some x → h x ≡ k x) → q ≡ option_map k o
 image_as None p q h k same is all = is ∙ ap (option_map h) same
 image_as (Some x) p q h k same is all = is ∙ ap (option_map h) same ∙ ap Some (all x refl)
-
--- and after reads alone
-pub image_kept : (o p : Option (List ℕ)) (k : List ℕ → List ℕ) → p ≡ o → ((x : List ℕ) → o ≡ Some x → x ≡ k x) → p ≡ option_map k o
-image_kept None p k same all = same
-image_kept (Some x) p k same all = same ∙ ap Some (all x refl)
 
 module _ (begin : ℕ) (front : List ℕ) {old mid : State} (first : LeavesOnly old mid (IsNotingEvent 7 front)) (noted : IfSome old.image (λ x. IfSome mid.image (IsEventNoted 7 front x))) where
   noted_at : (x y : List ℕ) → old.image ≡ Some x → mid.image ≡ Some y → IsEventNoted 7 front x y

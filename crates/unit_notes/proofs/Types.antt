@@ -1,5 +1,5 @@
 -- The places and entries of each type: where they stand, and what an entry tells of its event.
-use Rattle.std.proofs.Common.{◌≡◌, ◌≢◌, ℕ, ◌+◌, ◌-◌, ◌*◌, ◌<◌, ◌≤◌, ◌⊎◌, inr, Bool, true, false, cond, List, [], ◌∷◌, ◌++◌, length, take, refl, sym, ◌∙◌, ap, subst, arith}
+use Rattle.std.proofs.Common.{◌≡◌, ◌≢◌, ℕ, ◌+◌, ◌-◌, ◌*◌, ◌<◌, ◌≤◌, Bool, true, false, cond, List, [], ◌∷◌, ◌++◌, length, take, refl, sym, ◌∙◌, ap, subst, arith}
 use Rattle.std.specs.Prelude.{nat_eq}
 use Rattle.std.proofs.lemmas.List.{take-append-le, drop-append-le, length-drop, length-append}
 use Rattle.card_layout.specs.Fields.{total_width, number_in}
@@ -13,10 +13,6 @@ use Rattle.event_model.specs.declared.kinds.TheConstants.{CARD_NOT_VALID, TIME_O
 use Rattle.event_model.specs.Kinds.{places_of}
 use Rattle.side_model.specs.Tables.{event_widths, fault_widths, over_widths, widths_of, table_of, held_in}
 use Rattle.unit_notes.specs.Tables.{front_size, with_similar}
-
--- which widths a type has
-kind_widths : (is_over is_fault : Bool) → List ℕ
-kind_widths is_over is_fault = cond is_over over_widths (cond is_fault fault_widths event_widths)
 
 -- an entry has its begin and its end at the same places in each type
 module _ (e : List ℕ) where
@@ -121,9 +117,6 @@ module _ (kind : ℕ) (r : Shape) (is : r ≡ table_of kind) where
 
   pub ring_width : (n : ℕ) → n ≤ total_width (widths_of kind) → n ≤ r.width
   ring_width n few = subst (λ (s : Shape). n ≤ s.width) (sym is) few
-
-  pub ring_behind_gate : (o n : ℕ) → 6 ≤ o → (o + n ≤ r.gate) ⊎ (r.gate + 4 ≤ o)
-  ring_behind_gate o n behind = subst (λ (s : Shape). (o + n ≤ s.gate) ⊎ (s.gate + 4 ≤ o)) (sym is) (inr behind)
 
   pub ring_writable : (ranges : List (ℕ × ℕ)) (i o n : ℕ) → i < places_of kind → o + n ≤ total_width (widths_of kind) → LiesInside ranges 0 2485808 → LiesInside ranges (place_of r i + o) n
   ring_writable ranges i o n below inside whole =

@@ -54,8 +54,3 @@ begins-line same (line ∷ []) m zero d count off = rw off refl
 begins-line same (line ∷ []) m (suc i) d count off = absurd (omega (arith, count))
 begins-line same (line ∷ next ∷ lines) m zero d count off = absurd (omega (arith, count))
 begins-line same (line ∷ next ∷ lines) m (suc i) d count off = ap (λ (ls : List (Line _)). line ∷ ls) (begins-line same (next ∷ lines) m i d (omega (arith, count)) off)
-
--- no lines
-pub first-line : {X : Type 0} → (same : X → X → Bool) (lines : List (Line X)) (m : Viewed X) → length lines ≡ 0 → with_more same lines m ≡ lines ++ line_at m ∷ []
-first-line same [] m none = refl
-first-line same (line ∷ lines) m none = absurd (omega (arith, none))

@@ -6,7 +6,7 @@ use Rattle.tach_media.proofs.Images.{put_outside, outside_same, outside_wider, o
 use Rattle.write_plan.specs.Plan.{Piece, put_all, IsPartway, IsInside, AreShort, IsAfterSome, PutsAll, PutsBy}
 use Rattle.std.proofs.Common.{Bool, true, false, Option, Some, None, IfSome, option_map, length-append}
 use Rattle.tach_media.specs.Medium.{State, Reads}
-use Rattle.tach_media.proofs.Runs.{writes_then, writes_as, writes_failed, reads_writes, weaken}
+use Rattle.tach_media.proofs.Runs.{writes_then, writes_as, reads_writes, weaken}
 
 -- one plan after another
 pub put_all-append : (ps qs : List Piece) (x : List ℕ) → put_all (ps ++ qs) x ≡ put_all qs (put_all ps x)
@@ -90,10 +90,6 @@ puts_by_then first next run then =
     (λ x c was here. partway_front (first x) (next (put_all (first x) x)) x c here)
     (λ x c was here. partway_behind (first x) (next (put_all (first x) x)) x c here) in
     writes_as both (omega arith) (omega arith) (λ x. sym (put_all-append (first x) (next (put_all (first x) x)) x)) (λ x c was here. here)
-
--- one that failed, where another was to come
-pub puts_by_failed : {old new : State} {l m l' m' : ℕ} (first next : List ℕ → List Piece) → PutsBy old new true l m first → m ≤ m' → PutsBy old new true l' m' (λ x. first x ++ next x)
-puts_by_failed first next run high = writes_failed run high (λ x c was here. partway_front (first x) (next x) x c here)
 
 -- a read that failed before the writes
 pub puts_by_unread : {old new : State} (l m : ℕ) (plan : List ℕ → List Piece) → Reads old new true → PutsBy old new true l m plan
