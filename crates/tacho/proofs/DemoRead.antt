@@ -233,5 +233,6 @@ anew-read x a b start items out old U V Y Z is h = record {
   unit_later = h.unit_later;
   card_later = h.card_later;
   unit_before = omega (arith, h.unit_before, is.clock);
+  card_before = h.card_before;
   ends = ends-read U V is x a b start items out (began_at h.unit_clock h.card_clock old) Y Z h.unit_before h.ends;
 }
