@@ -1,6 +1,6 @@
 -- The unit keeps a minute: its own rule, and that of each card.
-use Rattle.std.proofs.Common.{◌≡◌, ℕ, ◌<◌, ◌≤◌, Bool, true, false, Option, Some, None, is_some, List, [], All, IfSome, refl, ap, subst, ◌∙◌, sym, arith}
-use Rattle.std.specs.Prelude.{OnOk, Result, Ok, Err}
+use Rattle.std.proofs.Common.{◌≡◌, ℕ, ◌+◌, ◌<◌, ◌≤◌, Bool, true, false, Option, Some, None, is_some, List, [], All, IfSome, refl, ap, subst, ◌∙◌, sym, arith}
+use Rattle.std.specs.Prelude.{OnOk, Result, Ok, Err, ◌/◌, ◌==◌, if◌then◌else◌}
 use Rattle.activity_codec.specs.declared.entries.Entry.{Entry}
 use Rattle.trace_model.specs.declared.Card.{Card}
 use Rattle.trace_model.specs.declared.Card.TheVariants.{A, B}
@@ -12,6 +12,7 @@ use Rattle.owed_model.specs.Owed.{rows_in, row_index}
 use Rattle.owed_model.specs.Rows.{IsRowAt}
 use Rattle.unit_journal.specs.declared.kept.KeptMinute.{KeptMinute}
 use Rattle.unit_journal.specs.Kept.{kept_minute}
+use Rattle.unit_journal.specs.Plans.{most_kept}
 use Rattle.unit_journal.specs.Image as journal
 use Rattle.log_model.specs.declared.lines.Mark.{Mark}
 use Rattle.history_model.specs.Minutes.{HistoryMinute, on_card}
@@ -50,6 +51,14 @@ same_minute k i is low = let same : k.minute ≡ i.minute = ap (λ (m : UnitMinu
 pub any-later : (next n : ℕ) (full : List Entry) (h : Held) → next ≤ n → AnyString next full h → AnyString n full h
 any-later next n full h le is = tt
 
+-- it begins twelve writes at most
+pub most-begun : (old new kept minute : ℕ) → new ≤ old + most_kept kept minute → new ≤ old + 12
+most-begun old new kept minute most = omega (arith, most, few (minute / 1440 == kept / 1440))
+  where
+    few : (same : Bool) → (if same then 7 else 12) ≤ 12
+    few true = omega arith
+    few false = omega arith
+
 -- each view that it leaves
 pub keeps-views : {U V : State} (k : UnitMinute) (odometer : ℕ) (i : HistoryMinute) → k ≡ seen_by_unit i → IsCoherent U → LeavesOnly U V (journal.IsKeeping k odometer) → (a b : List ℕ)
     → LeavesViews (of_unit a b U) (of_unit a b V) (IsKeeping KeepsMinute GivesUpDay i)
@@ -64,9 +73,9 @@ module _ {U V : State} (k : UnitMinute) (odometer : ℕ) (i : HistoryMinute) (is
   ends-with : IsCoherent V → V.works ≡ true → IfSome U.image (λ x. IfSome V.image (journal.IsKept k x)) → (c : List ℕ) → V.may_leave c → (x : List ℕ) × U.may_leave x × journal.IsKept (seen_by_unit i) x c
   ends-with after works said c left = subst (λ (m : UnitMinute). (x : List ℕ) × U.may_leave x × journal.IsKept m x c) is (ended (journal.IsKept k) whole after works run said c left)
 
-  pub committed-unit : (failed : Bool) → IsCoherent V → (failed ≡ false → V.works ≡ true) → (failed ≡ false → IfSome U.image (λ x. IfSome V.image (journal.IsKept k x))) → (failed ≡ false → V.clock < last_count → IsSettled V) → IsHeldUp s b marks i failed V
-  committed-unit failed after works said settled = record {
-    lit = λ well below. holds-kept s due b marks h whole i odometer none late keeping (record { device = Recorder; minute = i.minute; clock = V.clock }) refl refl refl after (settled well below) (ends-with after (works well) (said well));
+  pub committed-unit : (failed : Bool) → V.clock ≤ U.clock + 12 → IsCoherent V → (failed ≡ false → V.works ≡ true) → (failed ≡ false → IfSome U.image (λ x. IfSome V.image (journal.IsKept k x))) → (failed ≡ false → V.clock < last_count → IsSettled V) → IsHeldUp s b marks i failed V
+  committed-unit failed most after works said settled = record {
+    lit = λ well below. holds-kept s due b marks h whole i odometer none late keeping (record { device = Recorder; minute = i.minute; clock = V.clock }) refl refl refl most after (settled well below) (ends-with after (works well) (said well));
     dark = holds-broken s due b marks h whole i odometer none late keeping;
   }
 

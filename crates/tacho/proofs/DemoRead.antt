@@ -1,5 +1,5 @@
 -- What was recorded stands where the unit is only read behind the run.
-use Rattle.std.proofs.Common.{◌≡◌, ◌≤◌, ◌-◌, ℕ, List, inl, inr, ⊎_elim, ◌⊎◌, arith, Bool, refl, subst}
+use Rattle.std.proofs.Common.{◌≡◌, ◌≤◌, ◌-◌, ℕ, List, inl, inr, ⊎_elim, ◌⊎◌, arith, Bool, refl, sym, ◌∙◌, subst}
 use Rattle.trace_model.specs.declared.Card.{Card}
 use Rattle.trace_model.specs.declared.Card.TheVariants.{A, B}
 use Rattle.trace_model.specs.declared.Item.{Item}
@@ -58,6 +58,7 @@ module _ (U V : State) (is : IsRead U V) where
     minute = h.minute;
     stands = h.stands;
     clock = omega (arith, h.clock, is.clock);
+    prompt = λ told. let x = h.prompt (sym is.leaves.tells ∙ told) in (x.0, is.leaves.keeps _ x.0 (omega (arith, h.clock)) x.1, x.2);
     shown = λ x left. h.shown x (back m.clock x h.clock left);
   }
 

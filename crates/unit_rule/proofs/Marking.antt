@@ -1,5 +1,5 @@
 -- The unit and its marks, kept by each kind of step.
-use Rattle.std.proofs.Common.{◌≡◌, inl, ⊎_elim, ℕ, suc, ◌-◌, ◌<◌, ◌≤◌, cond, true, None, List, [], ◌∷◌, ◌++◌, All, Contains, refl, ap, sym, subst, ◌∙◌, arith, length, drop}
+use Rattle.std.proofs.Common.{◌≡◌, inl, ⊎_elim, ℕ, suc, ◌+◌, ◌-◌, ◌<◌, ◌≤◌, cond, Bool, true, Option, Some, None, is_some, List, [], ◌∷◌, ◌++◌, All, Contains, refl, ap, sym, subst, ◌∙◌, arith, length, drop}
 use Rattle.std.specs.Prelude.{option_to_list}
 use Rattle.std.proofs.lemmas.List.{append-nil}
 use Rattle.std.proofs.lemmas.List.Elements.{filter-append, All-weaker, All-append, All-nil, All-tail, All-head, All-contains, Contains-push, Contains-append_left}
@@ -27,7 +27,7 @@ use Rattle.joint_rule.proofs.UnitLaws.{unit-aside, keep-unit, keep-unit_dark, la
 use Rattle.joint_rule.proofs.Opening.{opened-unit}
 use Rattle.joint_rule.proofs.Holding.{acknowledges-on}
 use Rattle.joint_rule.proofs.Viewed.{seen-coherent, seen-run}
-use Rattle.safety_model.specs.Unit.{marks_of, is_of, Increase, issued_bytes}
+use Rattle.safety_model.specs.Unit.{marks_of, is_of, IsPrompt, Increase, issued_bytes}
 use Rattle.unit_rule.specs.Rule.{Started, started, seen_unit, IsRuled}
 use Rattle.unit_rule.specs.Marks.{IsHeld, Holds}
 use Rattle.unit_rule.proofs.Keeping.{keeping_view, kept_view}
@@ -49,6 +49,14 @@ rise-push : (marks : List Mark) (m : Mark) → Increase marks → All (λ n. n.m
 rise-push [] m rise each = tt
 rise-push (n ∷ []) m rise each = (All-head (λ (k : Mark). k.minute < m.minute) n [] each, tt)
 rise-push (n ∷ k ∷ marks) m rise each = (rise.0, rise-push (k ∷ marks) m rise.1 (All-tail (λ (l : Mark). l.minute < m.minute) n (k ∷ marks) each))
+
+-- a mark stays one that was told at once
+prompt-on : {U V : State} (R : List ℕ → List ℕ → Type 0) (m : Mark) → LeavesOnly U V R → m.clock ≤ U.clock → IsPrompt U m → IsPrompt V m
+prompt-on R m run within was told = let x = was (sym run.tells ∙ told) in (x.0, run.keeps _ x.0 (omega (arith, within)) x.1, x.2)
+
+told-image : (o : Option (List ℕ)) → is_some o ≡ true → (x : List ℕ) × (o ≡ Some x)
+told-image None told = absurd (cc)
+told-image (Some x) told = (x, refl)
 
 -- THE OPENING: a unit that leaves one image only, with these days, this last-kept minute, and issued so
 pub holds-opened : (s : Started) (unit : State) (x : List ℕ) (due : ℕ) → s.days ≡ recorded x → s.first ≡ last_kept x → s.issued ≡ issued_bytes x → s.began ≤ unit.clock → ((c : List ℕ) → unit.may_leave c → c ≡ x) → ((c : List ℕ) → unit.left_since s.began c → c ≡ x) →
@@ -110,11 +118,12 @@ module _ (s : Started) {U V : State} (due : ℕ) (b : Book) (marks : List Mark) 
       ⊎_elim (λ was. h.issued c was) (λ here. goes here.0 c here.2 ∙ h.issued here.0 (before.counts_now s.began here.0 later (before.is_left here.0 here.1))) (run.since s.began c later on)
 
   -- marks go on to hold where no step falls behind
-  held-all : (S : UnitView → UnitView → Type 0) (d : Book) → ((number_a number_b : List ℕ) → LeavesViews (seen_unit number_a number_b U) (seen_unit number_a number_b V) S) →
+  held-all : (R : List ℕ → List ℕ → Type 0) → LeavesOnly U V R → (S : UnitView → UnitView → Type 0) (d : Book) → ((number_a number_b : List ℕ) → LeavesViews (seen_unit number_a number_b U) (seen_unit number_a number_b V) S) →
       ((number_a number_b : List ℕ) (u v : UnitView) → (seen_unit number_a number_b U).may_leave u → S u v → u.last ≤ v.last) → ((i : HistoryMinute) → Contains b.sure i → Contains d.sure i) → All (IsHeld s d V) (marks_of Recorder marks)
-  held-all S d run rises sure = All-weaker (IsHeld s b U) (IsHeld s d V)
+  held-all R left S d run rises sure = All-weaker (IsHeld s b U) (IsHeld s d V)
       (λ m held. record {
         began = held.began;
+        prompt = prompt-on R m left (held.holds [] []).0 held.prompt;
         holds = λ number_a number_b. acknowledges-on (λ (u : UnitView). u.last) m.minute m.clock (seen_unit number_a number_b U) (seen_unit number_a number_b V) S
             (seen-coherent (unit_view number_a number_b) U before) (run number_a number_b) (rises number_a number_b) (held.holds number_a number_b);
         sure = (held.sure.0, sure held.sure.0 held.sure.1, held.sure.2);
@@ -126,7 +135,7 @@ module _ (s : Started) {U V : State} (due : ℕ) (b : Book) (marks : List Mark) 
     unit_holds = λ number_a number_b. unit-aside (FillsDays s.days) s.first IsAside s.began due b (h.unit_holds number_a number_b) (goes number_a number_b) (λ u v is. is);
     decodes = decodes-on R run (λ x c here. (aside x c here).3);
     issued = issued-on R run (λ x c here. (aside x c here).2);
-    marks_hold = held-all IsAside b goes (λ number_a number_b u v on is. omega (arith, is.1)) (λ i at. at);
+    marks_hold = held-all R run IsAside b goes (λ number_a number_b u v on is. omega (arith, is.1)) (λ i at. at);
     marks_rise = h.marks_rise;
     marks_until = h.marks_until;
   }
@@ -163,9 +172,9 @@ module _ (s : Started) {U V : State} (due : ℕ) (b : Book) (marks : List Mark) 
     until-more = All-weaker (λ (m : Mark). m.minute < due) (λ m. m.minute < suc i.minute) (λ m lt. omega (arith, lt, late)) (marks_of Recorder marks) h.marks_until
 
     -- a minute was kept, and is marked
-    pub holds-kept : (m : Mark) → m.device ≡ Recorder → m.minute ≡ i.minute → m.clock ≡ V.clock → IsCoherent V → IsSettled V →
+    pub holds-kept : (m : Mark) → m.device ≡ Recorder → m.minute ≡ i.minute → m.clock ≡ V.clock → V.clock ≤ U.clock + 12 → IsCoherent V → IsSettled V →
         ((c : List ℕ) → V.may_leave c → (x : List ℕ) × U.may_leave x × journal.IsKept (seen_by_unit i) x c) → Holds s (suc i.minute) (kept i b) (marks ++ m ∷ []) V
-    holds-kept m device is clock whole settled ends = record {
+    holds-kept m device is clock most whole settled ends = record {
       unit_holds = λ number_a number_b.
           let rule = (keep-unit (FillsDays s.days) s.first KeepsMinute GivesUpDay (days-go-on s.days) s.began due b i (ruled number_a number_b) late (lit number_a number_b)
           (record {
@@ -177,9 +186,14 @@ module _ (s : Started) {U V : State} (due : ℕ) (b : Book) (marks : List Mark) 
       issued = issued-on (journal.IsKeeping (seen_by_unit i) odometer) run (λ x c here. issued-besides x c here.outside);
       marks_hold = subst (All (IsHeld s (kept i b) V)) (sym (marks-more marks m device))
           (All-append (IsHeld s (kept i b) V) (marks_of Recorder marks) (m ∷ [])
-          (held-all (IsKeeping KeepsMinute GivesUpDay i) (kept i b) keeps keeps-up (λ j at. Contains-append_left b.sure (i ∷ []) j at))
+          (held-all (journal.IsKeeping (seen_by_unit i) odometer) run (IsKeeping KeepsMinute GivesUpDay i) (kept i b) keeps keeps-up (λ j at. Contains-append_left b.sure (i ∷ []) j at))
           (all-one (IsHeld s (kept i b) V) m (record {
             began = let began : s.began ≤ U.clock = (h.unit_holds [] []).later in omega (arith, began, run.later, clock);
+            prompt = λ told.
+                let x = told-image U.image (sym run.tells ∙ told) in
+                let left = before.is_left x.0 x.1 in
+                let soon : m.clock - 12 ≤ U.clock = omega (arith, clock, most) in
+                (x.0, run.keeps _ x.0 soon (before.counts_now _ x.0 soon left), omega (arith, early [] [] (unit_view [] [] x.0) (x.0, left, refl), shown-last [] [] x.0, is));
             holds = λ number_a number_b. (
               omega (arith, clock),
               λ v on.
@@ -204,7 +218,7 @@ module _ (s : Started) {U V : State} (due : ℕ) (b : Book) (marks : List Mark) 
           record { later = rule.later; order = rule.order; now = rule.now; since = rule.since };
       decodes = decodes-on (journal.IsKeeping (seen_by_unit i) odometer) run (λ x c here. here.decodes);
       issued = issued-on (journal.IsKeeping (seen_by_unit i) odometer) run (λ x c here. issued-besides x c here.outside);
-      marks_hold = held-all (IsKeeping KeepsMinute GivesUpDay i) (broken i b) keeps keeps-up (λ j at. at);
+      marks_hold = held-all (journal.IsKeeping (seen_by_unit i) odometer) run (IsKeeping KeepsMinute GivesUpDay i) (broken i b) keeps keeps-up (λ j at. at);
       marks_rise = h.marks_rise;
       marks_until = until-more;
     }
@@ -221,7 +235,7 @@ module _ (s : Started) {U V : State} (due : ℕ) (b : Book) (marks : List Mark) 
         record { later = rule.later; order = rule.order; now = rule.now; since = rule.since };
     decodes = decodes-on Unchanged run (λ x c never. absurd never);
     issued = issued-on Unchanged run (λ x c never. absurd never);
-    marks_hold = held-all Nothing (found k b) rests (λ number_a number_b u v on never. absurd never)
+    marks_hold = held-all Unchanged run Nothing (found k b) rests (λ number_a number_b u v on never. absurd never)
         (λ i at. contains-up_to k (all b) i (All-contains (λ (j : HistoryMinute). j.minute ≤ k) b.sure i sure at) (Contains-append_left b.sure (option_to_list b.maybe) i at));
     marks_rise = h.marks_rise;
     marks_until = h.marks_until;

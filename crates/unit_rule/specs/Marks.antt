@@ -7,12 +7,13 @@ use Rattle.log_model.specs.declared.lines.Mark.{Mark}
 use Rattle.history_model.specs.Minutes.{HistoryMinute}
 use Rattle.history_model.specs.Book.{Book}
 use Rattle.joint_rule.specs.Rules.{Acknowledges}
-use Rattle.safety_model.specs.Unit.{marks_of, Increase, issued_bytes}
+use Rattle.safety_model.specs.Unit.{marks_of, IsPrompt, Increase, issued_bytes}
 use Rattle.unit_rule.specs.Rule.{Started, seen_unit, IsRuled}
 
--- a mark's minute is a sure one, and every image since its clock is not behind it
+-- a mark's minute is a sure one, it is told at once, and every image since its clock is not behind it
 pub record IsHeld (s : Started) (b : Book) (unit : State) (m : Mark) : Type 0 where
   pub began : s.began ≤ m.clock
+  pub prompt : IsPrompt unit m
   pub holds : (number_a number_b : List ℕ) → Acknowledges (λ u. u.last) m.minute m.clock (seen_unit number_a number_b unit)
   pub sure : (i : HistoryMinute) × Contains b.sure i × (i.minute ≡ m.minute)
 
