@@ -1,11 +1,10 @@
 -- Since when a card sits in a slot: from before a second; or an insertion of the second put it in, of whose acceptance the log tells, as the last one that
 -- it tells of that slot. Since then no action has withdrawn from the slot.
-use Rattle.std.proofs.Common.{◌≡◌, ◌⊎◌, ◌∙◌, inl, inr, ⊎_elim, ℕ, suc, ◌+◌, ◌<◌, ◌≤◌, Bool, true, false, cond, ◌&&◌, ◌||◌, Option, Some, None, is_some, List, [], ◌∷◌, ◌++◌, length, map, filter, take, refl, ap, sym, subst, arith, append-nil, append_assoc}
-use Rattle.std.specs.Prelude.{not, nat_eq, nat_lt, option_map, flat_map}
+use Rattle.std.proofs.Common.{◌≡◌, ◌⊎◌, ◌∙◌, inl, inr, ⊎_elim, ℕ, zero, suc, ◌+◌, ◌<◌, ◌≤◌, Bool, true, false, cond, ◌&&◌, ◌||◌, Option, Some, None, is_some, List, [], ◌∷◌, ◌++◌, length, map, filter, take, refl, ap, sym, subst, arith, append-nil, append_assoc}
+use Rattle.std.specs.Prelude.{not, nat_eq, nat_lt, option_map, flat_map, slice_get}
 use Rattle.std.specs.List.{list_any, AllByRecursion}
-use Rattle.std.proofs.Math.Seq.{length-take}
 use Rattle.std.proofs.lemmas.Bool.Decides.{nat_tests}
-use Rattle.std.proofs.lemmas.List.{length-append}
+use Rattle.std.proofs.lemmas.List.{length-append, length-take-le}
 use Rattle.activity_codec.specs.declared.values.Slot.{Slot}
 use Rattle.activity_codec.specs.declared.values.Slot.TheVariants.{Driver, CoDriver}
 use Rattle.activity_codec.specs.Activity.{same_slot}
@@ -23,9 +22,12 @@ use Rattle.log_model.specs.Course.{Course, Visit, Moved, Before, card_in, visits
 use Rattle.side_model.specs.Done.{course_powered}
 use Rattle.event_model.specs.Events.{course_by}
 use Rattle.run_moments.specs.Moment.{find_as, found_at}
+use Rattle.run_moments.specs.Reached.{course_at, course_with, moved_at, moved_with}
 use Rattle.run_rings.proofs.Notes.{Finding, answered-found}
 use Rattle.run_acts.specs.Words.{withdraws, begun_in}
+use Rattle.run_acts.specs.Truths.{PutsIn}
 use Rattle.run_acts.proofs.TurnSeconds.{all-both}
+use Rattle.run_acts.proofs.NotesThen.{Parts, split, get-at}
 
 -- ---- tests of lists
 
@@ -70,7 +72,7 @@ last-of {X} p (x ∷ xs) some = by (list_any p xs) refl (p x) refl some (λ is. 
 
 -- ---- slots
 
-slot-itself : (slot : Slot) → same_slot slot slot ≡ true
+pub slot-itself : (slot : Slot) → same_slot slot slot ≡ true
 slot-itself Driver = refl
 slot-itself CoDriver = refl
 
@@ -137,9 +139,6 @@ abbrev told_by : RunLog → ℕ → Phase → Moved → Slot → Course → List
 told_by log u p moved y c vs =
     cond (is_torn_in log u p y) (record (leaves y (judged_by p y c vs)) { torn = c.torn ++ (moved.leaving y ++ visits p y c.slots) }) (cond (list_any is_accepting vs) (taken_by u p y c vs) (judged_by p y c vs))
 
-told-as : (log : RunLog) (u : ℕ) (p : Phase) (moved : Moved) (y : Slot) (c : Course) → slot_told log u p moved y c ≡ told_by log u p moved y c (cond (moved.enters y) (found_in log u p y) [])
-told-as log u p moved y c = refl
-
 -- where no card enters it
 none-seen : (p : Phase) (y slot : Slot) (q : Option Sitting) → AllByRecursion (IsApart slot) (flat_map (λ (visit : Visit). map (λ (v : Verdict). (visit, v)) []) (map (λ (card : Card). record { phase = p; slot = y; card = card }) (card_in q)))
 none-seen p y slot None = tt
@@ -163,31 +162,25 @@ other-seen p y slot out vs None = tt
 other-seen p y slot out vs (Some x) = pairs-apart (record { phase = p; slot = y; card = x.card }) slot out vs
 
 other-sits : (log : RunLog) (u : ℕ) (p : Phase) (moved : Moved) (y slot : Slot) (c : Course) → same_slot y slot ≡ false → in_slot (slot_told log u p moved y c).slots slot ≡ in_slot c.slots slot
-other-sits log u p moved y slot c out = by (is_torn_in log u p y) (list_any is_accepting (cond (moved.enters y) (found_in log u p y) []))
+other-sits log u p moved y slot c out = by (cond (moved.enters y) (found_in log u p y) []) (is_torn_in log u p y) (list_any is_accepting (cond (moved.enters y) (found_in log u p y) []))
   where
-    abbrev vs : List Verdict
-    vs = cond (moved.enters y) (found_in log u p y) []
-
-    by : (torn takes : Bool) → in_slot (cond torn (record (leaves y (judged_by p y c vs)) { torn = c.torn ++ (moved.leaving y ++ visits p y c.slots) }) (cond takes (taken_by u p y c vs) (judged_by p y c vs))).slots slot ≡ in_slot c.slots slot
-    by true takes = other-slot y slot out c.slots None
-    by false true = other-slot y slot out c.slots (option_map {T = Sitting} (λ (x : Sitting). record x { accepted = Some u }) (in_slot c.slots y))
-    by false false = refl
+    by : (vs : List Verdict) (torn takes : Bool) → in_slot (cond torn (record (leaves y (judged_by p y c vs)) { torn = c.torn ++ (moved.leaving y ++ visits p y c.slots) }) (cond takes (taken_by u p y c vs) (judged_by p y c vs))).slots slot ≡ in_slot c.slots slot
+    by vs true takes = other-slot y slot out c.slots None
+    by vs false true = other-slot y slot out c.slots (option_map {T = Sitting} (λ (x : Sitting). record x { accepted = Some u }) (in_slot c.slots y))
+    by vs false false = refl
 
 other-told : (log : RunLog) (u : ℕ) (p : Phase) (moved : Moved) (y slot : Slot) (c : Course) → same_slot y slot ≡ false → Keeps slot c (slot_told log u p moved y c)
 other-told log u p moved y slot c out = record {
   sits = λ x is. sym (other-sits log u p moved y slot c out) ∙ is;
   more = seen_by p y c (cond (moved.enters y) (found_in log u p y) []);
-  found = by (is_torn_in log u p y) (list_any is_accepting (cond (moved.enters y) (found_in log u p y) []));
+  found = by (cond (moved.enters y) (found_in log u p y) []) (is_torn_in log u p y) (list_any is_accepting (cond (moved.enters y) (found_in log u p y) []));
   apart = other-seen p y slot out (cond (moved.enters y) (found_in log u p y) []) (in_slot c.slots y);
 }
   where
-    abbrev vs : List Verdict
-    vs = cond (moved.enters y) (found_in log u p y) []
-
-    by : (torn takes : Bool) → (cond torn (record (leaves y (judged_by p y c vs)) { torn = c.torn ++ (moved.leaving y ++ visits p y c.slots) }) (cond takes (taken_by u p y c vs) (judged_by p y c vs))).found ≡ c.found ++ seen_by p y c vs
-    by true takes = refl
-    by false true = refl
-    by false false = refl
+    by : (vs : List Verdict) (torn takes : Bool) → (cond torn (record (leaves y (judged_by p y c vs)) { torn = c.torn ++ (moved.leaving y ++ visits p y c.slots) }) (cond takes (taken_by u p y c vs) (judged_by p y c vs))).found ≡ c.found ++ seen_by p y c vs
+    by vs true takes = refl
+    by vs false true = refl
+    by vs false false = refl
 
 -- of both, where no card enters
 both-quiet : (log : RunLog) (u : ℕ) (p : Phase) (moved : Moved) (slot : Slot) (c : Course) → ((y : Slot) → moved.enters y ≡ false) → Keeps slot c (both_told log u p moved c)
@@ -245,50 +238,54 @@ one-seen n slot card vs (Some x) is =
 abbrev OwnBehind : Slot → Card → ℕ → Course → Type 0
 OwnBehind slot card n c = (x : Sitting) → in_slot c.slots slot ≡ Some x → (x.card ≡ card) × (is_some x.accepted ≡ true → AcceptedAt slot card n c.found)
 
-own-told : (log : RunLog) (u n : ℕ) (moved : Moved) (slot : Slot) (card : Card) (c : Course) → in_slot c.slots slot ≡ Some (record { card = card; accepted = None }) → OwnBehind slot card n (slot_told log u (In n) moved slot c)
-own-told log u n moved slot card c here = by (is_torn_in log u (In n) slot) (list_any is_accepting vs) refl
-  where
-    abbrev vs : List Verdict
-    vs = cond (moved.enters slot) (found_in log u (In n) slot) []
+module _ (u n : ℕ) (slot : Slot) (card : Card) (c : Course) (here : in_slot c.slots slot ≡ Some (record { card = card; accepted = None })) where
+  abbrev visit : Visit
+  visit = record { phase = In n; slot = slot; card = card }
 
-    abbrev visit : Visit
-    visit = record { phase = In n; slot = slot; card = card }
+  own-taken : (vs : List Verdict) → list_any is_accepting vs ≡ true → OwnBehind slot card n (taken_by u (In n) slot c vs)
+  own-taken vs some = λ x is.
+      let sits : Some (record { card = card; accepted = Some u }) ≡ Some x =
+      sym (own-slot slot c.slots (option_map {T = Sitting} (λ (y : Sitting). record y { accepted = Some u }) (in_slot c.slots slot)) ∙ ap (λ (q : Option Sitting). option_map {T = Sitting} (λ (y : Sitting). record y { accepted = Some u }) q) here) ∙ is in
+      let same : record { card = card; accepted = Some u } ≡ x = cc in
+      let l = last-of is_accepting vs some in (
+        sym (ap (λ (y : Sitting). y.card) same),
+        λ yes. record {
+          earlier = c.found ++ map (λ (v : Verdict). (visit, v)) l.front;
+          verdict = l.x;
+          later = map (λ (v : Verdict). (visit, v)) l.rest;
+          are = ap (λ (fs : List Finding). c.found ++ fs) (one-seen n slot card vs (in_slot c.slots slot) here ∙ ap (λ (ws : List Verdict). map (λ (v : Verdict). (visit, v)) ws) l.are ∙ pairs-append visit l.front (l.x ∷ l.rest))
+              ∙ sym (append_assoc c.found (map (λ (v : Verdict). (visit, v)) l.front) (map (λ (v : Verdict). (visit, v)) (l.x ∷ l.rest)));
+          accepts = l.is;
+          apart = refused-apart visit slot l.rest l.none;
+        },
+      )
 
-    seen-is : seen_by (In n) slot c vs ≡ map (λ (v : Verdict). (visit, v)) vs
-    seen-is = one-seen n slot card vs (in_slot c.slots slot) here
+  own-waits : (vs : List Verdict) → OwnBehind slot card n (judged_by (In n) slot c vs)
+  own-waits vs = λ x is.
+      let sits : Some (record { card = card; accepted = None }) ≡ Some x = sym here ∙ is in
+      let same : record { card = card; accepted = None } ≡ x = cc in (
+        sym (ap (λ (y : Sitting). y.card) same),
+        λ yes. absurd (let wrong : false ≡ true = ap (λ (y : Sitting). is_some y.accepted) same ∙ yes in cc),
+      )
 
-    by : (torn takes : Bool) → list_any is_accepting vs ≡ takes → OwnBehind slot card n (cond torn (record (leaves slot (judged_by (In n) slot c vs)) { torn = c.torn ++ (moved.leaving slot ++ visits (In n) slot c.slots) }) (cond takes (taken_by u (In n) slot c vs) (judged_by (In n) slot c vs)))
-    by true takes some = λ x is. nobody x (sym (own-slot slot c.slots None) ∙ is)
-    by false true some = λ x is.
-        let sits : Some (record { card = card; accepted = Some u }) ≡ Some x =
-        sym (own-slot slot c.slots (option_map {T = Sitting} (λ (y : Sitting). record y { accepted = Some u }) (in_slot c.slots slot)) ∙ ap (λ (q : Option Sitting). option_map {T = Sitting} (λ (y : Sitting). record y { accepted = Some u }) q) here) ∙ is in
-        let same : record { card = card; accepted = Some u } ≡ x = cc in
-        let l = last-of is_accepting vs some in (
-          sym (ap (λ (y : Sitting). y.card) same),
-          λ yes. record {
-            earlier = c.found ++ map (λ (v : Verdict). (visit, v)) l.front;
-            verdict = l.x;
-            later = map (λ (v : Verdict). (visit, v)) l.rest;
-            are = ap (λ (fs : List Finding). c.found ++ fs) (seen-is ∙ ap (λ (ws : List Verdict). map (λ (v : Verdict). (visit, v)) ws) l.are ∙ pairs-append visit l.front (l.x ∷ l.rest))
-                ∙ sym (append_assoc c.found (map (λ (v : Verdict). (visit, v)) l.front) (map (λ (v : Verdict). (visit, v)) (l.x ∷ l.rest)));
-            accepts = l.is;
-            apart = refused-apart visit slot l.rest l.none;
-          },
-        )
-    by false false none = λ x is.
-        let sits : Some (record { card = card; accepted = None }) ≡ Some x = sym here ∙ is in
-        let same : record { card = card; accepted = None } ≡ x = cc in (
-          sym (ap (λ (y : Sitting). y.card) same),
-          λ yes. absurd (let wrong : false ≡ true = ap (λ (y : Sitting). is_some y.accepted) same ∙ yes in cc),
-        )
+  own-by : (log : RunLog) (moved : Moved) (vs : List Verdict) → OwnBehind slot card n (told_by log u (In n) moved slot c vs)
+  own-by log moved vs = by (is_torn_in log u (In n) slot) (list_any is_accepting vs) refl
+    where
+      by : (torn takes : Bool) → list_any is_accepting vs ≡ takes → OwnBehind slot card n (cond torn (record (leaves slot (judged_by (In n) slot c vs)) { torn = c.torn ++ (moved.leaving slot ++ visits (In n) slot c.slots) }) (cond takes (taken_by u (In n) slot c vs) (judged_by (In n) slot c vs)))
+      by true takes some = λ x is. nobody x (sym (own-slot slot c.slots None) ∙ is)
+      by false true some = own-taken vs some
+      by false false none = own-waits vs
+
+  own-told : (log : RunLog) (moved : Moved) → OwnBehind slot card n (slot_told log u (In n) moved slot c)
+  own-told log moved = own-by log moved (cond (moved.enters slot) (found_in log u (In n) slot) [])
 
 both-own : (log : RunLog) (u n : ℕ) (moved : Moved) (slot : Slot) (card : Card) (c : Course) → in_slot c.slots slot ≡ Some (record { card = card; accepted = None }) → OwnBehind slot card n (both_told log u (In n) moved c)
 both-own log u n moved Driver card c here = λ x is.
     let own : Course = slot_told log u (In n) moved Driver c in
     let k : Keeps Driver own (both_told log u (In n) moved c) = other-told log u (In n) moved CoDriver Driver own refl in
-    let h = own-told log u n moved Driver card c here x (k.sits x is) in (h.0, λ yes. accepted-keeps Driver card n own (both_told log u (In n) moved c) k (h.1 yes))
+    let h = own-told u n Driver card c here log moved x (k.sits x is) in (h.0, λ yes. accepted-keeps Driver card n own (both_told log u (In n) moved c) k (h.1 yes))
 both-own log u n moved CoDriver card c here =
-    own-told log u n moved CoDriver card (slot_told log u (In n) moved Driver c) (other-sits log u (In n) moved Driver CoDriver c refl ∙ here)
+    own-told u n CoDriver card (slot_told log u (In n) moved Driver c) (other-sits log u (In n) moved Driver CoDriver c refl ∙ here) log moved
 
 -- ---- an action
 
@@ -439,6 +436,42 @@ all-sat log s uncut still slot front (a ∷ actions) n c count sat =
 by-sat : (log : RunLog) (before : Before) (s : TraceSecond) → cut_in log s.number ≡ None → nat_lt 0 s.speed ≡ false → (slot : Slot) (n : ℕ) → Sat slot (take n s.actions) (course_by log before s n)
 by-sat log before s uncut still slot n = all-sat log s uncut still slot [] (take n s.actions) 0 (course_powered log before s) refl (λ x is. inl refl)
 
+-- ---- A CARD THAT ENTERS A SLOT: power comes with it there, or an action puts it in
+
+enters-by : (m : ℕ) (r : Option SlotFault) (a : Action) (slots : Slots) (slot : Slot) → (moved_by m r a slots).enters slot ≡ true → (card : Card) × (a ≡ Insert slot card) × (r ≡ None)
+enters-by m (Some fault) a slots slot is = absurd (let wrong : false ≡ true = is in cc)
+enters-by m None (Select y pick) slots slot is = absurd (let wrong : false ≡ true = is in cc)
+enters-by m None (Insert y card) slots slot is = (card, ap (λ (z : Slot). Insert z card) (slots-same y slot is), refl)
+enters-by m None (Withdraw y) slots slot is = absurd (let wrong : false ≡ true = is in cc)
+enters-by m None (Tear y) slots slot is = absurd (let wrong : false ≡ true = is in cc)
+enters-by m None (Place y ending country region) slots slot is = absurd (let wrong : false ≡ true = is in cc)
+
+put-by : (log : RunLog) (s : TraceSecond) (m : ℕ) (slot : Slot) (c : Course) (x : Sitting) (q : Option Action) (p : Parts s.actions m) → q ≡ Some p.a → (moved_with m q s.speed c).enters slot ≡ true →
+    in_slot (both_told log s.number (In (suc m)) (moved_with m q s.speed c) (course_with m q s.speed c)).slots slot ≡ Some x → PutsIn s.actions (suc m) slot x.card
+put-by log s m slot c x q p got enters there =
+    let r : Option SlotFault = refusal c.slots s.speed p.a in
+    let e = enters-by m r p.a c.slots slot (sym (ap (λ (w : Option Action). (moved_with m w s.speed c).enters slot) got) ∙ enters) in
+    let told : in_slot (both_told log s.number (In (suc m)) (moved_by m r p.a c.slots) (answered m r p.a c)).slots slot ≡ Some x =
+    sym (ap (λ (w : Option Action). in_slot (both_told log s.number (In (suc m)) (moved_with m w s.speed c) (course_with m w s.speed c)).slots slot) got) ∙ there in
+    let plain : in_slot (both_told log s.number (In (suc m)) (moved_by m None p.a c.slots) (answered m None p.a c)).slots slot ≡ Some x =
+    sym (ap (λ (w : Option SlotFault). in_slot (both_told log s.number (In (suc m)) (moved_by m w p.a c.slots) (answered m w p.a c)).slots slot) e.2) ∙ told in
+    let put : in_slot (both_told log s.number (In (suc m)) (moved_by m None (Insert slot e.0) c.slots) (answered m None (Insert slot e.0) c)).slots slot ≡ Some x =
+    sym (ap (λ (b : Action). in_slot (both_told log s.number (In (suc m)) (moved_by m None b c.slots) (answered m None b c)).slots slot) e.1) ∙ plain in
+    let own = both-own log s.number (suc m) (moved_by m None (Insert slot e.0) c.slots) slot e.0 (answered m None (Insert slot e.0) c) (own-slot slot c.slots (Some (record { card = e.0; accepted = None }))) x put in
+    record {
+      front = p.front;
+      rest = p.rest;
+      are = p.are ∙ ap (λ (b : Action). p.front ++ b ∷ p.rest) e.1 ∙ ap (λ (d : Card). p.front ++ Insert slot d ∷ p.rest) (sym own.0);
+      count = ap suc (sym p.count);
+    }
+
+pub line-own : (log : RunLog) (before : Before) (s : TraceSecond) (n : ℕ) → n ≤ length s.actions → (slot : Slot) → (moved_at log before s (In n)).enters slot ≡ true → (x : Sitting) → in_slot (course_at log before s (In n)).slots slot ≡ Some x → (n ≡ 0) ⊎ PutsIn s.actions n slot x.card
+line-own log before s zero few slot enters x there = inl refl
+line-own log before s (suc m) few slot enters x there =
+    let p : Parts s.actions m = split s.actions m few in
+    let got : slice_get s.actions m ≡ Some p.a = ap (λ (as_ : List Action). slice_get as_ m) p.are ∙ ap (λ (k : ℕ). slice_get (p.front ++ p.a ∷ p.rest) k) (sym p.count) ∙ get-at p.front p.a p.rest in
+    inr (put-by log s m slot (course_by log before s m) x (slice_get s.actions m) p got enters there)
+
 -- ---- by the lines of the log
 
 -- a line tells of no acceptance in a slot
@@ -539,7 +572,7 @@ none-mapped : (fs : List Find) → map (λ (f : Find). f.verdict) fs ≡ [] → 
 none-mapped [] is = refl
 none-mapped (f ∷ fs) is = absurd (let wrong : f.verdict ∷ map (λ (g : Find). g.verdict) fs ≡ [] = is in cc)
 
-nat-itself : (n : ℕ) → nat_eq n n ≡ true
+pub nat-itself : (n : ℕ) → nat_eq n n ≡ true
 nat-itself n = grind (arith, nat_tests)
 
 all-low : (u m : ℕ) (fs : List Find) → ((k : ℕ) (slot : Slot) → m < k → filter (here_at u k slot) fs ≡ []) → AllByRecursion (λ (f : Find). begun_in u f ≤ m) fs
@@ -567,12 +600,22 @@ lines-low : (log : RunLog) (u m : ℕ) → ((k : ℕ) (slot : Slot) → m < k �
 unfolding found_in
 lines-low log u m none = all-low u m log.finds (λ k slot late. none-mapped (filter (here_at u k slot) log.finds) (none k slot late))
 
+-- ---- a withdrawal that is not refused
+
+pub allowed-still : (slots : Slots) (speed : ℕ) (slot : Slot) → refusal slots speed (Withdraw slot) ≡ None → nat_lt 0 speed ≡ false
+allowed-still slots speed slot = by (is_some (in_slot slots slot)) (nat_lt 0 speed)
+  where
+    by : (e m : Bool) → cond (not e) (Some (Empty slot)) (cond m (Some (Moving speed)) None) ≡ None → m ≡ false
+    by e false is = refl
+    by false true is = absurd (let wrong : Some (Empty slot) ≡ None = is in cc)
+    by true true is = absurd (let wrong : Some (Moving speed) ≡ None = is in cc)
+
 -- ---- THE CARD OF A SLOT, as its second has come so far
 pub has-sat : (log : RunLog) (before : Before) (s : TraceSecond) (n : ℕ) → n ≤ length s.actions → cut_in log s.number ≡ None → nat_lt 0 s.speed ≡ false → ((k : ℕ) (slot : Slot) → n < k → found_in log s.number (In k) slot ≡ []) →
     (old lines : List Find) → log.finds ≡ old ++ lines → map find_as lines ≡ map (found_at s.number) (course_by log before s n).found →
     (slot : Slot) (card : Card) (since : ℕ) → in_slot (course_by log before s n).slots slot ≡ Some (record { card = card; accepted = Some since }) → HasSat slot card s.number (take n s.actions) log.finds
 has-sat log before s n few uncut still none old lines are told slot card since there = record {
-  low = subst (λ (k : ℕ). AllByRecursion (λ (f : Find). begun_in s.number f ≤ k) log.finds) (sym (length-take n s.actions few)) (lines-low log s.number n none);
+  low = subst (λ (k : ℕ). AllByRecursion (λ (f : Find). begun_in s.number f ≤ k) log.finds) (sym (length-take-le n s.actions few)) (lines-low log s.number n none);
   since = ⊎_elim
       (λ (stayed : list_any (withdraws slot) (take n s.actions) ≡ false). inl stayed)
       (λ (p : IsPut slot card true (take n s.actions) (course_by log before s n).found). inr (record {
