@@ -1,5 +1,5 @@
 -- What a run promises, from what was recorded of it; and that nothing is recorded as it begins.
-use Rattle.std.proofs.Common.{◌≡◌, ◌∙◌, ◌⊎◌, inl, inr, ⊎_elim, ℕ, ◌-◌, ◌/◌, ◌<◌, ◌≤◌, true, Option, Some, None, IfSome, option_map, is_some, List, [], length, All, refl, ap, sym, subst, arith, ◌||◌}
+use Rattle.std.proofs.Common.{◌≡◌, ◌∙◌, ◌⊎◌, inl, inr, ℕ, ◌-◌, ◌/◌, ◌<◌, ◌≤◌, true, Option, Some, None, IfSome, option_map, is_some, List, [], length, All, refl, ap, sym, subst, arith, ◌||◌}
 use Rattle.trace_model.specs.declared.Card.{Card}
 use Rattle.trace_model.specs.declared.Card.TheVariants.{A, B}
 use Rattle.tacho_types.specs.declared.texts.Registration.{Registration}
@@ -99,8 +99,8 @@ use Rattle.recorder_with_cards.proofs.LastKept.{tells-last}
 use Rattle.run_acts.specs.Closings.{spells_of}
 use Rattle.run_acts.specs.Comings.{TellsMore}
 use Rattle.run_acts.proofs.Comings.{tells-none}
-use Rattle.run_acts.specs.Stays.{Stay, Coming, comings_on, registration_in, AreMerged, spells, sits_in, HasStays, ShowsStays, start_shown, AreTimely, AreOwed, AreTurnedAway, is_late}
-use Rattle.recorder_with_cards.proofs.AtEnd.{noted-at-end, sits-at-end, words-so, odometers-so, owes-so}
+use Rattle.run_acts.specs.Stays.{Stay, Coming, comings_on, registration_in, AreMerged, spells, sits_in, HasStays, ShowsStays, start_shown, AreOwed, AreJudged, is_late}
+use Rattle.recorder_with_cards.proofs.AtEnd.{noted-at-end, sits-at-end, entered-so, words-so, odometers-so, owes-so}
 use Rattle.run_recorded.specs.Whole.{NothingFailed}
 use Rattle.run_crew.specs.Cabin.{Stands}
 use Rattle.std.specs.Prelude.{filter}
@@ -162,6 +162,12 @@ own-points : (x : List ℕ) → IsOwnValid x → PointsInside (places_in x) x
 unfolding own_bad_file
 own-points x valid = pointer-passes (places_in x) x (valid-passes (own_sizes x) x valid).places
 
+-- only a valid card has some of the one, and only a valid one some of the other
+only-both : {P Q R S : Type 0} → P ⊎ R → Q ⊎ R → (R → S) → (P × Q) ⊎ S
+only-both (inl p) (inl q) same = inl (p, q)
+only-both (inl p) (inr valid) same = inr (same valid)
+only-both (inr valid) q same = inr (same valid)
+
 -- the comings of cards with these images are those with images that are the same
 merged-by : (comings : List Coming) (vehicle : Registration) (one other : List Stay) (a b now_a now_b : List ℕ) → a ≡ now_a → b ≡ now_b → AreMerged comings (comings_on vehicle a one) (comings_on vehicle b other) → AreMerged comings (comings_on vehicle now_a one) (comings_on vehicle now_b other)
 merged-by comings vehicle one other a b now_a now_b first second h =
@@ -203,13 +209,15 @@ module _ (x a b : List ℕ) (start : ℕ) (items : List Item) (began now : Devic
           vehicle = run.keeper.memory.registration;
           says = all.says;
           stays = all.stays;
-          told = all.told;
-          owed = all.owed;
-          only = λ c. ⊎_elim (λ none_. inl none_) (λ valid. inr (subst IsOwnValid (of_image c) valid)) (all.only c);
+          since = all.since;
+          only = λ c. only-both (all.only c) (all.lone c) (λ valid. subst IsOwnValid (of_image c) valid);
+          judged = all.judged;
+          verdicts = λ c valid. subst (λ (i : List ℕ). AreJudged run.keeper.memory.registration (own_sizes i).activity (all.stays c) (all.since c) (start_shown i)) (of_image c) (all.verdicts c (subst IsOwnValid (sym (of_image c)) valid));
           shows = stay_shows none;
           closed = stay_spells none;
-          words = λ c. words-so r (all.stays c) (all.hold c).0;
-          odometers = λ c. odometers-so r (all.stays c) (all.hold c).0;
+          entered = λ c. entered-so r c (all.stays c) (all.hold c).0;
+          words = λ c. words-so r c (all.stays c) (all.hold c).0;
+          odometers = λ c. odometers-so r c (all.stays c) (all.hold c).0;
           owes = λ c. owes-as c (all.stays c)
               (subst (λ (i : List ℕ). AreOwed (IsOwed (rule_of o) (start_at o) (log_of out) (seconds_of start items) c (brought r0 c).owed) run.keeper.memory.registration (own_sizes i).activity (all.stays c) (start_shown i)) (of_image c)
               (owes-so (IsOwed (rule_of o) (start_at o) (log_of out) (seconds_of start items) c (brought r0 c).owed) out.marks.items c run.keeper.memory.registration (own_sizes (found_of o.found c).image).activity (all.stays c) (start_shown (found_of o.found c).image) (all.hold c).1).0);
@@ -221,11 +229,6 @@ module _ (x a b : List ℕ) (start : ℕ) (items : List Item) (began now : Devic
             merged = merged-by all.befores.comings run.keeper.memory.registration (all.stays A) (all.stays B) (found_of o.found A).image (found_of o.found B).image (card_image r A) (card_image r B) (of_image A) (of_image B) all.befores.merged;
             tells = λ dense. all.befores.tells (record { points = insertions-inside x may.decodes; dense = dense });
           };
-          since = all.since;
-          lone = λ c. ⊎_elim (λ none_. inl none_) (λ valid. inr (subst IsOwnValid (of_image c) valid)) (all.lone c);
-          judged = all.judged;
-          turned = λ c valid. subst (λ (i : List ℕ). AreTurnedAway run.keeper.memory.registration (own_sizes i).activity (all.stays c) (all.since c) (start_shown i)) (of_image c) (all.turned c (subst IsOwnValid (sym (of_image c)) valid));
-          timely = λ c valid. subst (λ (i : List ℕ). AreTimely run.keeper.memory.registration (own_sizes i).activity (all.stays c) (start_shown i)) (of_image c) (own none c valid).timely;
         };
     kept = end-kept o ss run out now h.evented.recorded h.spans h.ringed.spans_are h.stored;
     last =
@@ -330,9 +333,6 @@ due-supply IsDue h = refl
 due-supply IsLost h = absurd h
 
 module _ (x a b : List ℕ) (start : ℕ) (began now : Devices) (opened : Opened) (ready : IsReady (opened_with x a b) start opened began now) where
-  abbrev first-r : Recording
-  first-r = opened_with x a b
-
   abbrev first-o : Origin
   first-o = origin_of x a b start began
 
@@ -443,21 +443,19 @@ module _ (x a b : List ℕ) (start : ℕ) (began now : Devices) (opened : Opened
       stay = λ none. record {
         says = registered;
         stays = λ c. [];
-        told = subst (λ (fs : List Find). AreMerged (filter (λ (g : Find). is_accepting g.verdict) fs) [] []) (sym finds) (refl, refl);
         befores = record {
           comings = [];
           lines = ap (λ (fs : List Find). filter (λ (g : Find). is_accepting g.verdict) fs) (sym finds);
           merged = (refl, refl);
           tells = λ stood y left. subst (TellsMore [] x) (sym (only_unit y left)) (tells-none x stood.points stood.dense);
         };
-        owed = λ c. tt;
         only = λ c. inl refl;
         hold = λ c. (tt, tt);
         placed = λ c valid. placed-bare (notes_in (log_of out) []) run.keeper.cabin c (bare c);
         since = λ c. [];
         lone = λ c. inl refl;
         judged = subst (λ (fs : List Find). AreMerged (filter (λ (g : Find). is_accepting g.verdict || is_late g.verdict) fs) [] []) (sym finds) (refl, refl);
-        turned = λ c valid. tt;
+        verdicts = λ c valid. tt;
         waits = λ c valid some. refl;
         each = λ c valid.
             subst (λ (ns : List Note). HasStays 0 (found_of f c) run.keeper.memory.registration (spells_of c ns) (sits_in run.keeper.cabin.slots.seats c) [] (session_of run.keeper.cabin.cards c) (card_of now c)) (sym (no-notes (log_of out)))

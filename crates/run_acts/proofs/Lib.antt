@@ -57,6 +57,7 @@ pub mod WholeLegs
 pub mod TruthsThen
 mod TruthRows
 mod Since
+pub mod LastLine
 pub mod Words
 pub mod EnteredStays
 pub mod NoteRecorded
@@ -103,4 +104,3 @@ pub mod StayUses
 pub mod PulledBy
 pub mod OwedOn
 pub mod OwedNow
-pub mod HeldSoFar

@@ -197,8 +197,6 @@ module _ (U V : State) (is : IsRead U V) where
                 vehicle = s.vehicle;
                 says = s.says;
                 stays = s.stays;
-                told = s.told;
-                owed = s.owed;
                 only = s.only;
                 shows = λ c valid. subst (λ (x : State). ShowsStays s.vehicle (card_image r c) (s.stays c) x) (same-card c) (s.shows c valid);
                 closed = s.closed;
@@ -207,10 +205,8 @@ module _ (U V : State) (is : IsRead U V) where
                 owes = s.owes;
                 acknowledged = s.acknowledged;
                 since = s.since;
-                lone = s.lone;
                 judged = s.judged;
-                turned = s.turned;
-                timely = s.timely;
+                verdicts = s.verdicts;
                 befores = record { comings = s.befores.comings; lines = s.befores.lines; merged = s.befores.merged; tells = λ dense y left. s.befores.tells dense y (now-back y left) };
               };
           kept = more-found (U.left_since p.unit.clock) (V.left_since p.unit.clock) (λ y left. is.leaves.keeps p.unit.clock y before left) r.log (spans_of (told_of r)) h.kept;
