@@ -52,13 +52,16 @@ record IsAlike (c quiet : Course) : Type 0 where
   pulled : quiet.pulled ≡ c.pulled
   calm : quiet.torn ≡ []
 
+some-none : {X : Type 0} (x : X) (xs : List X) → x ∷ xs ≡ [] → ⊥
+some-none x xs is = absurd (let wrong : x ∷ xs ≡ [] = is in cc)
+
 none-front : {X : Type 0} (xs ys : List X) → xs ++ ys ≡ [] → xs ≡ []
 none-front [] ys is = refl
-none-front {X} (x ∷ xs) ys is = absurd (let wrong : x ∷ (xs ++ ys) ≡ [] = is in cc)
+none-front (x ∷ xs) ys is = absurd (some-none x (xs ++ ys) is)
 
 none-behind : {X : Type 0} (xs ys : List X) → xs ++ ys ≡ [] → ys ≡ []
 none-behind [] ys is = is
-none-behind {X} (x ∷ xs) ys is = absurd (let wrong : x ∷ (xs ++ ys) ≡ [] = is in cc)
+none-behind (x ∷ xs) ys is = absurd (some-none x (xs ++ ys) is)
 
 -- a slot in which nobody is visited is empty
 visits-none : (p : Phase) (slot : Slot) (slots : Slots) → visits p slot slots ≡ [] → card_in (in_slot slots slot) ≡ []
@@ -66,7 +69,7 @@ visits-none p slot slots = by (in_slot slots slot)
   where
     by : (q : Option Sitting) → map (λ (card : Card). record { phase = p; slot = slot; card = card }) (card_in q) ≡ [] → card_in q ≡ []
     by None is = refl
-    by (Some x) is = absurd (let wrong : record { phase = p; slot = slot; card = x.card } ∷ [] ≡ [] = is in cc)
+    by (Some x) is = absurd (some-none {X = Visit} (record { phase = p; slot = slot; card = x.card }) [] is)
 
 -- whoever sits in a slot, if another one changes
 sits-with : (y slot : Slot) (slots : Slots) (q : Option Sitting) → card_in q ≡ card_in (in_slot slots y) → card_in (in_slot (with_slot slots y q) slot) ≡ card_in (in_slot slots slot)

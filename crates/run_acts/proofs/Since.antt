@@ -492,8 +492,9 @@ pub record IsToldLast (slot : Slot) (u n : ℕ) (finds : List Find) : Type 0 whe
 
 elsewhere-by : (slot : Slot) (u : ℕ) (lines : List Find) (found : List Finding) → map find_as lines ≡ map (found_at u) found → AllByRecursion (IsApart slot) found → AllByRecursion (IsElsewhere slot) lines
 elsewhere-by slot u [] found same all = tt
-elsewhere-by slot u (f ∷ lines) [] same all = absurd (let wrong : map find_as (f ∷ lines) ≡ map (found_at u) [] = same in cc)
+elsewhere-by slot u (f ∷ lines) [] same all = absurd (let wrong : find_as f ∷ map find_as lines ≡ [] = same in cc)
 elsewhere-by slot u (f ∷ lines) (x ∷ found) same all =
+    let both : find_as f ∷ map find_as lines ≡ found_at u x ∷ map (found_at u) found = same in
     let one : find_as f ≡ found_at u x = cc in
     let rest : map find_as lines ≡ map (found_at u) found = cc in
     let there : f.slot ≡ x.0.slot = ap (λ (q : ℕ × Phase × Slot × Verdict). q.2) one in
@@ -504,9 +505,10 @@ elsewhere-by slot u (f ∷ lines) (x ∷ found) same all =
 
 told-last : (slot : Slot) (card : Card) (u n : ℕ) (lines : List Find) (earlier : List Finding) (v : Verdict) (later : List Finding) → map find_as lines ≡ map (found_at u) (earlier ++ (record { phase = In n; slot = slot; card = card }, v) ∷ later) → is_accepting v ≡ true →
     AllByRecursion (IsApart slot) later → IsToldLast slot u n lines
-told-last slot card u n [] [] v later same accepts apart = absurd (let wrong : map find_as [] ≡ map (found_at u) ((record { phase = In n; slot = slot; card = card }, v) ∷ later) = same in cc)
-told-last slot card u n [] (x ∷ earlier) v later same accepts apart = absurd (let wrong : map find_as [] ≡ map (found_at u) (x ∷ (earlier ++ (record { phase = In n; slot = slot; card = card }, v) ∷ later)) = same in cc)
+told-last slot card u n [] [] v later same accepts apart = absurd (let wrong : [] ≡ found_at u (record { phase = In n; slot = slot; card = card }, v) ∷ map (found_at u) later = same in cc)
+told-last slot card u n [] (x ∷ earlier) v later same accepts apart = absurd (let wrong : [] ≡ found_at u x ∷ map (found_at u) (earlier ++ (record { phase = In n; slot = slot; card = card }, v) ∷ later) = same in cc)
 told-last slot card u n (f ∷ lines) [] v later same accepts apart =
+    let both : find_as f ∷ map find_as lines ≡ found_at u (record { phase = In n; slot = slot; card = card }, v) ∷ map (found_at u) later = same in
     let one : find_as f ≡ found_at u (record { phase = In n; slot = slot; card = card }, v) = cc in
     let rest : map find_as lines ≡ map (found_at u) later = cc in
     let phase : In f.begun ≡ In n = ap (λ (q : ℕ × Phase × Slot × Verdict). q.1) one in
@@ -522,6 +524,7 @@ told-last slot card u n (f ∷ lines) [] v later same accepts apart =
       apart = elsewhere-by slot u lines later rest apart;
     }
 told-last slot card u n (f ∷ lines) (x ∷ earlier) v later same accepts apart =
+    let both : find_as f ∷ map find_as lines ≡ found_at u x ∷ map (found_at u) (earlier ++ (record { phase = In n; slot = slot; card = card }, v) ∷ later) = same in
     let rest : map find_as lines ≡ map (found_at u) (earlier ++ (record { phase = In n; slot = slot; card = card }, v) ∷ later) = cc in
     let l = told-last slot card u n lines earlier v later rest accepts apart in
     record {
