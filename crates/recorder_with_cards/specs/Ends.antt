@@ -10,6 +10,7 @@ use Rattle.card_image.specs.Own.{own_number, IsOwnValid}
 use Rattle.safety_model.specs.Recording.{Recording, history_of, lost_of}
 use Rattle.safety_model.specs.Safe.{Devices, MayBegin, breakdowns_of}
 use Rattle.safety_model.specs.Side.{Side}
+use Rattle.unit_rule.specs.OtherRows.{KeepsRows}
 use Rattle.run_rule.specs.Opening.{BeginsAs}
 use Rattle.run_recorded.specs.Origin.{Origin}
 use Rattle.run_recorded.specs.Ends.{EndsRun}
@@ -69,13 +70,15 @@ pub record MayRecord (unit card_a card_b : List ℕ) (start : ℕ) : Type 0 wher
 -- valid has been written so; and where no call failed each of these shows exactly what its stays in the slots make of it. What was found kept
 -- after its cuts was so, and the last-kept minute of each image of the unit is that of the last minute which it shows. Rings that were dense stay dense; each valid card stays its holder's, keeps all that no call writes, and shows the
 -- places that were entered by it and its events of the run. As a card comes for the first time, the session is told as open on it that its image
--- at the start tells.
+-- at the start tells. The owed rows of every image of the unit since the start stand as they stood, or were taken for one of the two cards, and what is
+-- owed to any other card stays.
 pub record EndsTrace (unit card_a card_b : List ℕ) (start : ℕ) (items : List Item) (out : Outcome) (began now : Devices) : Type 0 where
   pub may : MayBegin (recording_of unit card_a card_b start items out)
   pub ends : EndsRun (recording_of unit card_a card_b start items out) out.marks.items began now
   pub side : Side (recording_of unit card_a card_b start items out) began now
   pub written : AreWritten (recording_of unit card_a card_b start items out) now
   pub stays : HasAllStays (recording_of unit card_a card_b start items out) out.marks.items now
+  pub rows : (y : List ℕ) → now.unit.left_since began.unit.clock y → KeepsRows unit card_a card_b y
   pub kept : TellsKept (recording_of unit card_a card_b start items out) began.unit.clock now.unit
   pub last : TellsLast (recorded unit) (last_kept unit) (history_of (recording_of unit card_a card_b start items out)) (lost_of (recording_of unit card_a card_b start items out)) out.marks.items began.unit.clock now.unit
   pub dense : StayDense (recording_of unit card_a card_b start items out) now

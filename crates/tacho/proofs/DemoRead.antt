@@ -212,6 +212,7 @@ module _ (U V : State) (is : IsRead U V) where
                 timely = s.timely;
                 befores = record { comings = s.befores.comings; lines = s.befores.lines; merged = s.befores.merged; tells = λ dense y left. s.befores.tells dense y (now-back y left) };
               };
+          rows = λ y left. h.rows y (back p.unit.clock y before left);
           kept = more-found (U.left_since p.unit.clock) (V.left_since p.unit.clock) (λ y left. is.leaves.keeps p.unit.clock y before left) r.log (spans_of (told_of r)) h.kept;
           last = record {
             shown = λ y left. h.last.shown y (back p.unit.clock y before left);
