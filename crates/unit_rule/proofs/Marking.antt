@@ -209,8 +209,8 @@ module _ (s : Started) {U V : State} (due : ℕ) (b : Book) (marks : List Mark) 
 
     kept-rows : (x c : List ℕ) → U.may_leave x → journal.IsKeeping (seen_by_unit i) odometer x c → HasRowsOn s x → HasRowsOn s c
     kept-rows x c there is goes =
-        let before_i = early [] [] (unit_view [] [] x) (x, there, refl) in
-        let later : last_kept x ≤ last_kept c = ⊎_elim (λ old. omega (arith, old.last)) (λ new. omega (arith, new.last, before_i, shown-last [] [] x)) is.side in
+        let before_i : (unit_view [] [] x).last < i.minute = early [] [] (unit_view [] [] x) (x, there, refl) in
+        let later : last_kept x ≤ last_kept c = ⊎_elim (λ old. omega (arith, old.last)) (λ new. let now : last_kept c ≡ i.minute = new.last in omega (arith, now, before_i, shown-last [] [] x)) is.side in
         rows-kept s x c (rows-besides x c is.outside) later goes (h.low is_mended x there)
 
     kept-low : (x c : List ℕ) → journal.IsKeeping (seen_by_unit i) odometer x c → HasRowsOn s x → HasRowsMended s x → HasRowsMended s c

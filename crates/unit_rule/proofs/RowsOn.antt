@@ -7,7 +7,7 @@ use Rattle.unit_model.specs.Image.{last_kept}
 use Rattle.unit_model.proofs.Numbers.{part_in}
 use Rattle.owed_model.specs.Owed.{rows_in}
 use Rattle.owed_model.specs.Rows.{IsPutting, IsRowBeginning}
-use Rattle.owed_model.specs.Standing.{RowsGoOn, AreMended}
+use Rattle.owed_model.specs.Standing.{IsOneOf, RowsGoOn, AreMended}
 use Rattle.owed_model.proofs.Standing.{goes-start, goes-kept, goes-mending, mended-mending, goes-mended, goes-put, mended-put, goes-begun, mended-begun}
 use Rattle.unit_journal.specs.declared.notes.Notes.{Notes}
 use Rattle.unit_journal.specs.Keeping.{SameBesides}
@@ -34,31 +34,31 @@ pub rows-besides : (p c : List ℕ) → SameBesides p c → rows_in c ≡ rows_i
 rows-besides p c is = rows-within p c FIRST_OVER.place (DAYS.place - FIRST_OVER.place) (omega arith) (omega arith) is.between
 
 pub rows-start : (s : Started) (x : List ℕ) → s.image ≡ x → HasRowsOn s x
-rows-start s x is = subst (HasRowsOn s) is (goes-start (IsCards s) s.image)
+rows-start s x is = subst (HasRowsOn s) is (goes-start (IsOneOf s.number_a s.number_b) s.image)
 
 -- A STEP that leaves rows and mark
 pub rows-beside : (s : Started) (p c : List ℕ) → rows_in c ≡ rows_in p → last_kept c ≡ last_kept p → AreRowsOn s p c
 rows-beside s p c rows mark = (
-  λ goes. subst (λ (l : List ℕ). RowsGoOn (IsCards s) s.image l (last_kept c)) (sym rows) (subst (λ (n : ℕ). RowsGoOn (IsCards s) s.image (rows_in p) n) (sym mark) goes),
-  λ goes low. subst (λ (l : List ℕ). AreMended (IsCards s) s.image l) (sym rows) low,
+  λ goes. subst (λ (l : List ℕ). RowsGoOn (IsOneOf s.number_a s.number_b) s.image l (last_kept c)) (sym rows) (subst (λ (n : ℕ). RowsGoOn (IsOneOf s.number_a s.number_b) s.image (rows_in p) n) (sym mark) goes),
+  λ goes low. subst (λ (l : List ℕ). AreMended (IsOneOf s.number_a s.number_b) s.image l) (sym rows) low,
 )
 
 -- A KEEP, once the unit was mended
 pub rows-kept : (s : Started) (p c : List ℕ) → rows_in c ≡ rows_in p → last_kept p ≤ last_kept c → HasRowsOn s p → HasRowsMended s p → HasRowsOn s c
-rows-kept s p c rows on goes low = subst (λ (l : List ℕ). RowsGoOn (IsCards s) s.image l (last_kept c)) (sym rows) (goes-kept (IsCards s) s.image (rows_in p) (last_kept p) (last_kept c) goes low on)
+rows-kept s p c rows on goes low = subst (λ (l : List ℕ). RowsGoOn (IsOneOf s.number_a s.number_b) s.image l (last_kept c)) (sym rows) (goes-kept (IsOneOf s.number_a s.number_b) s.image (rows_in p) (last_kept p) (last_kept c) goes low on)
 
 pub low-kept : (s : Started) (p c : List ℕ) → rows_in c ≡ rows_in p → HasRowsMended s p → HasRowsMended s c
-low-kept s p c rows low = subst (λ (l : List ℕ). AreMended (IsCards s) s.image l) (sym rows) low
+low-kept s p c rows low = subst (λ (l : List ℕ). AreMended (IsOneOf s.number_a s.number_b) s.image l) (sym rows) low
 
 -- A MEND, at each moment, and behind it
 pub rows-mends : (s : Started) (j : Notes) (p c : List ℕ) → IsMending j p c → AreRowsOn s p c
 rows-mends s j p c is = (
-  λ goes. goes-mending (IsCards s) s.image p c (rows_mending j p c is) (mending-odometer j p c is).1 goes,
-  λ goes low. mended-mending (IsCards s) s.image p c (rows_mending j p c is) (mending-odometer j p c is).1 goes low,
+  λ goes. goes-mending (IsOneOf s.number_a s.number_b) s.image p c (rows_mending j p c is) (mending-odometer j p c is).1 goes,
+  λ goes low. mended-mending (IsOneOf s.number_a s.number_b) s.image p c (rows_mending j p c is) (mending-odometer j p c is).1 goes low,
 )
 
 pub rows-low : (s : Started) (p c : List ℕ) → IsMended p c → HasRowsOn s p → HasRowsMended s c
-rows-low s p c is goes = goes-mended (IsCards s) s.image p c (rows_mended p c is) (mark-kept p c is.outside.before) goes is.cells
+rows-low s p c is goes = goes-mended (IsOneOf s.number_a s.number_b) s.image p c (rows_mended p c is) (mark-kept p c is.outside.before) goes is.cells
 
 -- AN ENTRY PUT for a card's number, and its ROW BEGUN
 module _ (s : Started) (number : List ℕ) (whose : IsCards s number) (p c : List ℕ) (mark : last_kept c ≡ last_kept p) where

@@ -47,10 +47,10 @@ IsCards s number = IsOneOf s.number_a s.number_b number
 
 -- the owed rows of an image go on from the start's, and no cell of one that stands is later than the last-kept minute was
 abbrev pub HasRowsOn : Started → List ℕ → Type 0
-HasRowsOn s x = RowsGoOn (IsCards s) s.image (rows_in x) (last_kept x)
+HasRowsOn s x = RowsGoOn (IsOneOf s.number_a s.number_b) s.image (rows_in x) (last_kept x)
 
 abbrev pub HasRowsMended : Started → List ℕ → Type 0
-HasRowsMended s x = AreMended (IsCards s) s.image (rows_in x)
+HasRowsMended s x = AreMended (IsOneOf s.number_a s.number_b) s.image (rows_in x)
 
 -- a unit as it is seen where the cards have these numbers
 abbrev pub seen_unit : (number_a number_b : List ℕ) → State → Seen UnitView
