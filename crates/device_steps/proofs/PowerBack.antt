@@ -1,5 +1,5 @@
 -- Power is back: the cards, as the unit is found and mended; and a card that was torn out, or read.
-use Rattle.std.proofs.Common.{◌≡◌, ℕ, ◌≤◌, Bool, true, false, Some, List, [], All, IfSome, refl, ap, subst, ◌∙◌, sym}
+use Rattle.std.proofs.Common.{◌≡◌, ℕ, ◌≤◌, Bool, true, false, not, Some, List, [], All, IfSome, refl, ap, subst, ◌∙◌, sym}
 use Rattle.trace_model.specs.declared.Card.{Card}
 use Rattle.trace_model.specs.declared.Card.TheVariants.{A, B}
 use Rattle.tach_media.specs.Medium.{State, IsCoherent, LeavesOnly, Unchanged}
@@ -32,15 +32,22 @@ use Rattle.device_steps.specs.Rule.{Both, opened, number_of, unit_seen, card_see
 use Rattle.device_steps.proofs.MinuteKept.{any-later}
 
 pub mended-holds : (s : Started) {U V : State} (due : ℕ) (b : Book) (marks : List Mark) (j : Notes) → IsCoherent U → LeavesOnly U V (IsMendingImage j) → Holds s due b marks U →
-    (failed : Bool) → IsCoherent V → (failed ≡ false → V.works ≡ true) → (failed ≡ false → IfSome U.image (λ x. IfSome V.image (IsMendedImage x))) → IsHeldMended s due b marks failed V
+    (failed : Bool) → IsCoherent V → V.works ≡ not failed → (failed ≡ false → IfSome U.image (λ x. IfSome V.image (IsMendedImage x))) → IsHeldMended s due b marks V
 mended-holds s {U} {V} due b marks j whole run h failed after works said = record { lit = λ well. holds-mended s due b marks V dark (low well); dark = dark }
   where
     dark : Holds s due b marks V
     dark = holds-aside s due b marks h whole (IsMendingImage j) run (λ x c is. mending-aside j x c is) (λ x c is. rows-mends s j x c is)
 
-    low : failed ≡ false → (c : List ℕ) → V.may_leave c → HasRowsMended s c
+    no : true ≡ false → ⊥
+    no e = cc
+
+    ended-well : (b : Bool) → V.works ≡ not b → V.works ≡ true → b ≡ false
+    ended-well false is well = refl
+    ended-well true is well = absurd (no (sym well ∙ is))
+
+    low : V.works ≡ true → (c : List ℕ) → V.may_leave c → HasRowsMended s c
     low well c left =
-        let was = ended IsMendedImage whole after (works well) run (said well) c left in
+        let was = ended IsMendedImage whole after well run (said (ended-well failed works well)) c left in
         rows-low s was.0 c was.2 (h.rows was.0 (whole.counts_now s.began was.0 (h.unit_holds [] []).later was.1))
 
 pub mends-views : {U V : State} (j : Notes) → IsCoherent U → LeavesOnly U V (IsMendingImage j) → (a b : List ℕ) → LeavesViews (of_unit a b U) (of_unit a b V) IsMending

@@ -1,5 +1,5 @@
 -- How a unit and its cards stand between two calls (profile): the rules of joint_rule, of the images of the devices.
-use Rattle.std.specs.Prelude.{◌≡◌, ◌≢◌, ℕ, suc, ◌<◌, Bool, false, List, [], ◌∷◌, ◌++◌}
+use Rattle.std.specs.Prelude.{◌≡◌, ◌≢◌, ℕ, suc, ◌<◌, Bool, true, false, List, [], ◌∷◌, ◌++◌}
 use Rattle.activity_codec.specs.declared.entries.Entry.{Entry}
 use Rattle.trace_model.specs.declared.Card.{Card}
 use Rattle.trace_model.specs.declared.Card.TheVariants.{A, B}
@@ -76,9 +76,9 @@ pub record IsHeldUp (s : Started) (b : Book) (marks : List Mark) (i : HistoryMin
       Holds (once_mended s) (suc i.minute) (kept i b) (marks ++ record { device = Recorder; minute = i.minute; clock = unit.clock } ∷ []) unit
   pub dark : Holds s (suc i.minute) (broken i b) marks unit
 
--- and after a mend, without a failure of which it is mended
-pub record IsHeldMended (s : Started) (due : ℕ) (b : Book) (marks : List Mark) (failed : Bool) (unit : State) : Type 0 where
-  pub lit : failed ≡ false → Holds (once_mended s) due b marks unit
+-- and after a mend: a unit that works is mended
+pub record IsHeldMended (s : Started) (due : ℕ) (b : Book) (marks : List Mark) (unit : State) : Type 0 where
+  pub lit : unit.works ≡ true → Holds (once_mended s) due b marks unit
   pub dark : Holds s due b marks unit
 
 -- after a card's row was begun it is accepted, where that failed it is not yet

@@ -5,7 +5,7 @@ use Rattle.device_steps.proofs.mending.mend.Goals as goal
 
 pub returns-clause-holds : goal.returns-clause-holds
 returns-clause-holds g c = λ s due b marks h. mended-holds s due b marks _ (g.met.M.Medium.coherent c.args.unit.now) c.mend.ensures.moments h _ (g.met.M.Medium.coherent c.mend.new.unit)
-    (λ well. (worked well c.mend.ensures.cause).0) (λ well. ok_gives _ c.mend.ensures.mended well)
+    c.mend.ensures.cause.works (λ well. ok_gives _ c.mend.ensures.mended well)
 
 pub returns-clause-first : goal.returns-clause-first
 returns-clause-first g c = λ r card b z rests.
