@@ -88,7 +88,7 @@ use Rattle.run_acts.specs.Closings.{spells_of, with_last_shut, last_slot, notes_
 use Rattle.run_acts.specs.Truths.{past_of, IsWordIn, truths_within, marked}
 use Rattle.run_acts.specs.Stays.{Shut, Stay, spells, sits_in, as_noted, ClosesOnCard, HasStays, AreTrue, start_shown}
 use Rattle.run_acts.specs.Comings.{TellMore}
-use Rattle.run_acts.proofs.Stays.{on_last, on-last-comings, on-last-founds, on-last-owed, on-last-none, on-last-true, last-shut-slot, with_end, stays-close, on-last-owes, on-last-judged, on-last-turned}
+use Rattle.run_acts.proofs.Stays.{on_last, on-last-comings, on-last-none, on-last-true, last-shut-slot, with_end, stays-close, on-last-owes, on-last-judged, on-last-verdicts}
 use Rattle.run_acts.proofs.AllStay.{turns-so, placed-bare, all-one, no-tear, mine-left, others-left}
 use Rattle.run_acts.proofs.SeatsThen.{sits-nowhere}
 use Rattle.run_acts.proofs.Words.{closed-now}
@@ -199,10 +199,10 @@ module _ {C : Type 0} (state : C → State) (c : Card) (slot : Slot) (at : Momen
         (all-one o (marked told.marks.items (truths_within o w.within.b.run.log done s)) s.number c (log_of told) (log_of told) so-far so-far run.keeper.memory.registration run.keeper.cabin (with_session_of c None run.keeper.cabin) U V (state x) (state y) Z (λ none. none) (others-left c run.keeper.cabin.cards) refl (λ at_ there. there)
         (λ none. refl) (λ none was. placed-bare so-far (with_session_of c None run.keeper.cabin) c (mine-left c run.keeper.cabin.cards))
         (λ none ss since. turns-so (marked told.marks.items (truths_within o w.within.b.run.log done s)) c s.number (found_of o.found c) (log_of told) run.keeper.memory.registration (spells_of c so-far) (sits_in run.keeper.cabin.slots.seats c) (session_of run.keeper.cabin.cards c) (session_of (with_session c None run.keeper.cabin.cards) c) U V (state x) (state y) (on_last (with_end (shut-by shut.0)))
-        (on-last-founds (with_end (shut-by shut.0)) (λ s. refl)) (on-last-owed (with_end (shut-by shut.0)) (λ s tells. tells)) (on-last-none (with_end (shut-by shut.0)))
+        (on-last-none (with_end (shut-by shut.0)))
         (on-last-comings run.keeper.memory.registration (found_of o.found c).image (with_end (shut-by shut.0)) (λ s. refl)) (go is)
         (λ all lines. on-last-judged (with_end (shut-by shut.0)) (λ s. refl) (λ s. refl) all lines)
-        (λ all lines waits was. on-last-turned (with_end (shut-by shut.0)) (λ s. refl) run.keeper.memory.registration (own_sizes (found_of o.found c).image).activity all lines (start_shown (found_of o.found c).image) (waits (ap is_some has)) was)
+        (λ all lines waits was. on-last-verdicts (with_end (shut-by shut.0)) (λ p s is. is) run.keeper.memory.registration (own_sizes (found_of o.found c).image).activity all lines (start_shown (found_of o.found c).image) (waits (ap is_some has)) was)
         (λ valid some. absurd (let wrong : false ≡ true = sym (ap (λ (q : Option Accepted). is_some q) (mine-left c run.keeper.cabin.cards)) ∙ some in cc)) ss since
         (λ valid h. subst (λ (q : Option Accepted). HasStays s.number (found_of o.found c) run.keeper.memory.registration (spells_of c so-far) (sits_in run.keeper.cabin.slots.seats c) (on_last (with_end (shut-by shut.0)) ss) q (state y)) (sym (mine-left c run.keeper.cabin.cards))
         (stays-closed shut valid ss (subst (λ (q : Option Accepted). HasStays s.number (found_of o.found c) run.keeper.memory.registration (spells_of c so-far) (sits_in run.keeper.cabin.slots.seats c) ss q (state x)) has h)))

@@ -103,4 +103,3 @@ pub mod StayUses
 pub mod PulledBy
 pub mod OwedOn
 pub mod OwedNow
-pub mod HeldSoFar

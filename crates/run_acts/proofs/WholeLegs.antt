@@ -243,9 +243,6 @@ module _ (o : Origin) (done : List TraceSecond) (s : TraceSecond) (at : Phase) (
       let are = legs-whole (rule_of o) (closed_limit w.b.run.log) 0 ended_so_far e.legs whole-before closed in
       w.odometer ∙ same-odometer odometer_first w.b.travel.before (whole_legs (rule_of o) ended_so_far) w.travels.begins (sym e.sums ∙ ap kilometres_of are)
 
-  pub legs-now : (ended : List (List Told)) × (spans_of (went w.b.run.log done).told ≡ ended ++ as_spans w.b.span) × (v.odometer ≡ odometer_after (odometer_at o.recording.unit) (whole_legs (rule_of o) ended))
-  legs-now = (ended_so_far, (followed-lit o done s at waits speed rest v d w).spans, base-is)
-
   -- ---- with this second
 
   abbrev this : Told

@@ -119,7 +119,7 @@ pub record IsAlone (cards : Start) (x : List ℕ) (start : ℕ) (items : List It
   -- what was found kept after its cuts was so
   pub kept : TellsKept (recording_of x no_image no_image start items o) clock unit
   -- the last-kept minute of each image that a stop might have left since the start is that of the last minute which it shows
-  pub last : TellsLast (recorded x) (last_kept x) (history_of cards o start items) (lost_of cards o start items) o.marks.items clock unit
+  pub last : TellsLast (last_kept x) safe
   -- each decided minute is acknowledged, but where a call failed in the second that decided it
   pub complete : AreMarked Original (log_of o) (seconds_of start items) o.marks.items
   -- where no call on the unit failed, each decided minute stands in the history, and each image that a stop may leave has all of it
