@@ -57,6 +57,7 @@ pub mod WholeLegs
 pub mod TruthsThen
 mod TruthRows
 mod Since
+pub mod LastLine
 pub mod Words
 pub mod EnteredStays
 pub mod NoteRecorded
