@@ -217,6 +217,7 @@ module _ (U V : State) (is : IsRead U V) where
                 verdicts = s.verdicts;
                 befores = record { comings = s.befores.comings; lines = s.befores.lines; merged = s.befores.merged; tells = λ dense y left. s.befores.tells dense y (now-back y left) };
               };
+          rows = λ y left. h.rows y (back p.unit.clock y before left);
           kept = more-found (U.left_since p.unit.clock) (V.left_since p.unit.clock) (λ y left. is.leaves.keeps p.unit.clock y before left) r.log (spans_of (told_of r)) h.kept;
           last = last-read (recorded r.unit) (history_of r) (lost_of r) out.marks.items p.unit.clock (last_kept r.unit) before h.ends.safe.unit h.last;
           dense = record { insertions = λ dense y left. h.dense.insertions dense y (now-back y left); places = λ dense y left. h.dense.places dense y (now-back y left) };
