@@ -1,4 +1,4 @@
-ghost use Rattle.std.specs.Prelude.{◌≡◌, ℕ, ◌<◌, ◌≤◌, ◌+◌, ◌*◌, ◌/◌, ◌%◌, IfOk, IfSome, vec_len};
+ghost use Rattle.std.specs.Prelude.{◌≡◌, ℕ, ◌<◌, ◌≤◌, ◌+◌, ◌*◌, ◌/◌, ◌%◌, IfSome};
 ghost use Rattle.card_session.specs.Inserting.{AreOwed};
 ghost use Rattle.card_layout.specs.Application.{IsApplication};
 ghost use Rattle.card_layout.specs.Files.{image_size_of};
@@ -7,19 +7,24 @@ ghost use Rattle.tach_media.specs.Medium.{LiesInside};
 
 use crate::card::images::{blank, full, largest, most_days, two_days};
 use crate::card::keeping::{Figures, Stopped, VEHICLE, card, insertion, new_day, word};
+use crate::devices::T0;
+use crate::media::{Room, card_with};
 use activity_codec::{Activity, Entry, Owed, Slot};
-use card_commands::{Port, SimCard};
+use card_commands::Port;
 use card_files::file_range;
 use card_layout::{Application, Fid, LARGEST_IMAGE, Range};
 use cyclic_days::{Days, DaysFault};
 use gated_ring::{Ring, RingFault};
 use std::alloc::Global;
 use std::test::Fail;
-use tach_media::{Chip, Medium, MemMedium};
+use tach_media::{Chip, Medium};
 use tacho_types::TimeReal;
 
-// 2010-03-01
-const MARCH: u32 = 1267401600;
+// The room of a card's log.
+const ROOM: Room = Room {
+    writes: 64,
+    bytes: 1024,
+};
 
 // Begins a day, and adds a word: where the newest day stands, and how many words it has.
 fn day_in<M: Medium>(medium: &mut M, range: Range) -> Result<Option<(u32, u16)>, DaysFault>
@@ -30,7 +35,7 @@ fn day_in<M: Medium>(medium: &mut M, range: Range) -> Result<Option<(u32, u16)>,
     requires high { range.len ≤ 13780 }
 {
     let mut days = Days::load(medium, range)?;
-    days.begin_day(medium, TimeReal(MARCH), &[0])?;
+    days.begin_day(medium, TimeReal(T0), &[0])?;
     days.add_change(medium, 0x1805)?;
     let last = days.last(medium)?;
     Ok(last.map(|day| (day.place, day.words)))
@@ -62,8 +67,7 @@ fn day_on<C: Chip>(card: &mut C) -> Result<Option<(u32, u16)>, Fail>
 #[test]
 fn a_day_through_a_port(rt: HostRuntime) -> Result<(), Fail> {
     let alloc = rt.alloc();
-    let medium = MemMedium::new(alloc, blank(alloc)?, 64, 1024, Vec::new(alloc))?;
-    let mut card = SimCard::new(medium);
+    let mut card = card_with(alloc, blank(alloc)?, ROOM, Vec::new(alloc))?;
     assert_eq!(rt; day_on(&mut card)?, Some((0, 2)));
     Ok(())
 }
@@ -113,8 +117,7 @@ fn entry_on<C: Chip>(card: &mut C) -> Result<(Option<u32>, u8), Fail>
 #[test]
 fn an_entry_through_a_port(rt: HostRuntime) -> Result<(), Fail> {
     let alloc = rt.alloc();
-    let medium = MemMedium::new(alloc, blank(alloc)?, 64, 1024, Vec::new(alloc))?;
-    let mut card = SimCard::new(medium);
+    let mut card = card_with(alloc, blank(alloc)?, ROOM, Vec::new(alloc))?;
     assert_eq!(rt; entry_on(&mut card)?, (Some(0), 9));
     Ok(())
 }

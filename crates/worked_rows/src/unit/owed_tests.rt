@@ -4,6 +4,7 @@ ghost use Rattle.std.specs.Prelude.{IfOk, OnOk, IfSome};
 ghost use Rattle.unit_model.specs.Image.{IsUnit};
 ghost use Rattle.unit_journal.specs.Image.{Agrees};
 
+use crate::devices::card_number;
 use crate::unit::keeping::open;
 use crate::unit::stop_tests::{FIRST, one_day, unit};
 use activity_codec::{Activity, Entry, Slot};
@@ -11,7 +12,7 @@ use std::alloc::{AllocError, Global};
 use std::process::Abort;
 use std::test::Fail;
 use tach_media::{Failed, Left, Medium};
-use tacho_types::{FullCardNumber, Nation};
+use tacho_types::FullCardNumber;
 use unit_journal::Journal;
 
 const LEFT: [Left; 3] = [Left::Before, Left::After, Left::Torn(0xFF)];
@@ -64,11 +65,7 @@ const ROWS: [(u32, u32, u32, u32, u32, u32); 6] = [
 fn card(digit: u8) -> FullCardNumber {
     let mut number = *b"DF00000000000000";
     number[15] = digit;
-    FullCardNumber {
-        kind: 1,
-        state: Nation(13),
-        number,
-    }
+    card_number(&number)
 }
 
 /// An entry of a driving driver.

@@ -4,6 +4,7 @@ ghost use Rattle.tach_media.specs.MemMedium.{memory_state};
 ghost use Rattle.unit_model.specs.Image.{IsUnit};
 ghost use Rattle.unit_journal.specs.Reading.{IsSlotPlace};
 
+use crate::media::{Room, unit_with};
 use crate::unit::image::{DAY, empty, put, put_head, put_word};
 use activity_codec::Activity;
 use std::alloc::{AllocError, Global};
@@ -139,16 +140,18 @@ fn with_later(alloc: Global) -> Result<Vec<u8>, AllocError> {
     Ok(image)
 }
 
+/// Room for the writes of a row.
+const ROOM: Room = Room {
+    writes: 200,
+    bytes: 1000,
+};
+
 /// A unit with this image, whose call of that number fails so.
 pub fn unit(alloc: Global, image: Vec<u8>, call: u64, left: Left) -> Result<MemMedium, Memory>
     ensures { IfOk result (λ unit. IsUnit (memory_state unit.log unit.counts)) }
 {
-    if image.len() != IMAGE_SIZE as usize {
-        return Err(Memory);
-    }
-    let mut stops = Vec::new(alloc);
-    stops.push(Stop { call, left }).map_err(|_| Memory)?;
-    MemMedium::new(alloc, image, 200, 1000, stops)
+    let stops = vec![in alloc; Stop { call, left }]?;
+    unit_with(alloc, image, ROOM, stops)
 }
 
 /// A word of a recorded day.
