@@ -1,6 +1,6 @@
 //! Runs on a unit.
 use crate::alone::running::{ROOM, Ran, run_alone};
-use crate::devices::{Held, M0, T0, held_by_unit, new_unit, stops, unit_tells};
+use crate::devices::{M0, T0, held_by_unit, new_unit, stops, unit_tells};
 use crate::media::Room;
 use recorder_with_cards::{Break, Refused, RunFault, SlotFault};
 use run_model::Device;
@@ -46,23 +46,29 @@ fn twice(alloc: Global, text: &[u8], again: &[u8], stops: Vec<Stop>) -> Result<(
 /// An hour of driving.
 const DRIVE: &[u8] = b"start 1267401600\nrun 60 0\nrun 3540 50\n";
 
-/// It on a new unit, the same again, and what the unit holds then.
-fn driven_twice(alloc: Global) -> Result<(Ran, Ran, Held), Fail> {
+/// What a unit holds: the last-kept minute, the odometer, and whether these are the words of the first day.
+fn held_with(alloc: Global, unit: &mut MemMedium, words: &[u16]) -> Result<(u32, u32, bool), Fail> {
+    let held = held_by_unit(alloc, unit, T0)?;
+    Ok((held.kept, held.odometer, held.words.as_slice() == words))
+}
+
+/// The hour on a new unit, the same again, and what the unit holds then.
+fn driven_twice(alloc: Global, words: &[u16]) -> Result<(Ran, Ran, (u32, u32, bool)), Fail> {
     let mut unit = new_unit(alloc, 0, ROOM, Vec::new(alloc))?;
     let first = run_alone(alloc, DRIVE, &mut unit)?;
     let again = run_alone(alloc, DRIVE, &mut unit)?;
-    Ok((first, again, held_by_unit(alloc, &mut unit, T0)?))
+    Ok((first, again, held_with(alloc, &mut unit, words)?))
 }
 
 #[test]
 fn a_drive_is_kept(rt: HostRuntime) -> Result<(), Fail> {
     let alloc = rt.alloc();
-    let (ran, again, held) = driven_twice(alloc)?;
+    let words = [0x2000u16, 0xA000, 0x3801, 0xA801];
+    let (ran, again, held) = driven_twice(alloc, &words)?;
     assert!(rt; ran.has(58, 0, 0));
     assert_eq!(rt; ran.last, Some(M0 + 57));
     assert_eq!(rt; again.ended, Err(RunFault::ClockBack(M0 + 57, T0)));
-    assert_eq!(rt; (held.kept, held.odometer), (M0 + 57, 47));
-    assert!(rt; held.words.as_slice() == [0x2000u16, 0xA000, 0x3801, 0xA801].as_slice());
+    assert_eq!(rt; held, (M0 + 57, 47, true));
     Ok(())
 }
 

@@ -12,6 +12,7 @@ use card_judge::{CardLook, InsertFault, Judged, judge, look};
 use card_layout::{Application, Fid};
 use card_records::Vehicle;
 use std::alloc::Global;
+use std::process::Abort;
 use std::test::Fail;
 use tach_media::{Left, MemMedium, Memory, SliceMedium, Stop};
 use tacho_types::{Odometer, Registration, TimeReal};
@@ -135,18 +136,31 @@ fn refusal(
     Ok(refused(&image))
 }
 
+// That such a card is refused so, or not.
+fn is_refused(
+    rt: &(impl Abort + AllocGlobal),
+    words: &[u8],
+    last_use: &[u8],
+    session: u8,
+    fault: Option<InsertFault>,
+) -> Result<(), Fail>
+    requires { length words.now ≤ 8 }
+{
+    let found = refusal(rt.alloc(), words, last_use, session)?;
+    assert!(rt; found == fault);
+    Ok(())
+}
+
 #[test]
 fn the_words_of_a_card(rt: HostRuntime) -> Result<(), Fail> {
-    let alloc = rt.alloc();
-    assert!(rt; refusal(alloc, &WORK, &AT_600, 0)?.is_none());
-    assert!(rt; refusal(alloc, &CLOSED, &AT_600, 0)?.is_none());
-    assert!(rt; refusal(alloc, &WORK, &AT_599, 0)? == not_valid(Fid::ACTIVITY, 18));
-    assert!(rt; refusal(alloc, &CLOSED_LATE, &AT_600, 0)? == not_valid(Fid::ACTIVITY, 20));
-    assert!(rt; refusal(alloc, &AGAIN, &AT_600, 0)? == not_valid(Fid::ACTIVITY, 20));
+    is_refused(&rt, &WORK, &AT_600, 0, None)?;
+    is_refused(&rt, &CLOSED, &AT_600, 0, None)?;
+    is_refused(&rt, &WORK, &AT_599, 0, not_valid(Fid::ACTIVITY, 18))?;
+    is_refused(&rt, &CLOSED_LATE, &AT_600, 0, not_valid(Fid::ACTIVITY, 20))?;
+    is_refused(&rt, &AGAIN, &AT_600, 0, not_valid(Fid::ACTIVITY, 20))?;
     // a session that is open: words behind the end mark are cut
-    assert!(rt; refusal(alloc, &WORK, &AT_599, 1)?.is_none());
-    assert!(rt; refusal(alloc, &AGAIN, &AT_600, 1)? == not_valid(Fid::ACTIVITY, 20));
-    Ok(())
+    is_refused(&rt, &WORK, &AT_599, 1, None)?;
+    is_refused(&rt, &AGAIN, &AT_600, 1, not_valid(Fid::ACTIVITY, 20))
 }
 
 /// Why a card is refused with a bad pointer of its places, with one of its vehicles too, and with one of its days too.

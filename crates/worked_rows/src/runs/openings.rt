@@ -4,6 +4,7 @@ use crate::devices::{
     NO_ROOM, NUMBER_A, NUMBER_B, SMALLEST, T0, card_image, card_number, new_image,
 };
 use crate::media::{card_with, unit_with};
+use crate::unit::image::put;
 use card_commands::SimCard;
 use card_layout::LARGEST_IMAGE;
 use run_crew::Known;
@@ -66,12 +67,13 @@ fn opening<M: Medium, C: Chip, D: Chip>(
     })
 }
 
+/// Where the last byte of a unit's version stands.
+const VERSION: usize = 3;
+
 /// The image of a new unit of this version, of a vehicle with this limit.
 fn unit_image(alloc: Global, version: u8, limit: u8) -> Result<Vec<u8>, Memory> {
     let mut image = new_image(alloc, limit)?;
-    if image.len() > 3 {
-        image[3] = version;
-    }
+    put(image.as_mut_slice(), VERSION, &[version]);
     Ok(image)
 }
 
@@ -97,9 +99,7 @@ fn image_of(alloc: Global, of: Card) -> Result<Vec<u8>, Memory> {
         Card::Zeros => Ok(vec![in alloc; 0u8; LARGEST_IMAGE as usize]?),
         Card::Damaged => {
             let mut image = card_image(alloc, NUMBER_A, &SMALLEST)?;
-            if image.len() > VEHICLES + 1 {
-                image[VEHICLES + 1] = 84;
-            }
+            put(image.as_mut_slice(), VEHICLES + 1, &[84]);
             Ok(image)
         }
     }
