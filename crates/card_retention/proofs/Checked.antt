@@ -8,7 +8,7 @@ use Rattle.activity_codec.specs.Words.{word_absent, word_minute}
 use Rattle.card_model.specs.Days.{Day, AreDays, IsDay, AreWords, last_word}
 use Rattle.card_model.specs.Changes.{with_newest, until, early, with_early, OnNewest, date_of, cut, trimmed}
 use Rattle.card_retention.specs.Expected.{more, Counted}
-use Rattle.card_retention.specs.Shown.{Bound, Grows, sizes, is_open, owing, EndsAbsent, Sound, Rests, Lives}
+use Rattle.card_retention.specs.Shown.{Bound, Grows, sizes, is_open, owing, EndsAbsent, Sound, Sound.Flat, Sound.Tail, Rests, Lives}
 use Rattle.card_retention.specs.Entries.{newest_word, IsChecked}
 use Rattle.card_retention.proofs.Entering.{both}
 use Rattle.card_model.proofs.Ascending.{early_words_all}

@@ -10,7 +10,7 @@ use Rattle.activity_codec.specs.Words.{word_absent, activity_number, word_minute
 use Rattle.card_model.specs.Days.{Day, AreDays, last_word}
 use Rattle.card_model.specs.Changes.{fitting, with_newest, with_word, new_day, OnNewest, date_of, trimmed}
 use Rattle.card_retention.specs.Expected.{WordDay, more, Counted, with_entry, expected_days}
-use Rattle.card_retention.specs.Shown.{Bound, AllUpTo, Rising, Shows, sizes, entry_state, is_open, owing, Tells, Rests, with_closing, Entered, EndsAbsent, Sound, Lives}
+use Rattle.card_retention.specs.Shown.{Bound, AllUpTo, Rising, Shows, sizes, entry_state, is_open, owing, Tells, Rests, with_closing, Entered, Entered.Same, Entered.Word, Entered.Begun, EndsAbsent, Sound, Sound.Flat, Sound.Tail, Lives}
 use Rattle.card_model.proofs.Retention.{remain_fitting}
 use Rattle.card_retention.proofs.Growing.{shows_left, left_more, left_of, sizes_word}
 use Rattle.card_retention.proofs.Entering.{with_all, closes_is, rising_more, both, fits_sizes, before_later, kept_rests, on_word, on_append, last_append, date_newest}

@@ -13,7 +13,7 @@ use Rattle.activity_codec.specs.Words.{slot_number, activity_number, bit, word_a
 use Rattle.card_model.specs.Days.{Day, total, AreDays, last_word}
 use Rattle.card_model.specs.Changes.{fitting, with_newest, with_word, new_day, OnNewest, date_of}
 use Rattle.card_retention.specs.Expected.{WordDay, more, is_newest, same_bool, goes_on, is_closed, closes, first_words, adds, Counted, with_entry, expected_days}
-use Rattle.card_retention.specs.Shown.{Covers, Bound, InDays, AllIn, AllUpTo, Shows, Left, Rising, Fits, AllBefore, Filled, sizes, size_day, entry_state, is_open, owing, TellsIn, Tells, Rests, with_closing, Entered}
+use Rattle.card_retention.specs.Shown.{Covers, Bound, InDays, AllIn, AllUpTo, Shows, Left, Rising, Fits, AllBefore, Filled, sizes, size_day, entry_state, is_open, owing, TellsIn, Tells, Rests, with_closing, Entered, Entered.Same, Entered.Word, Entered.Begun}
 use Rattle.card_model.proofs.Retention.{remain_fitting}
 use Rattle.card_retention.proofs.Growing.{shows_more, shows_word, shows_day, shows_again, shows_left, left_more, left_newest, left_of, sizes_word, sizes_append}
 

@@ -8,7 +8,7 @@ use Rattle.activity_codec.specs.Words.{word_absent, word_minute}
 use Rattle.card_model.specs.Days.{Day, total, AreDays, last_word}
 use Rattle.card_model.specs.Changes.{Remain, fitting, with_newest, with_word, new_day, OnNewest, date_of, trimmed, cut, until}
 use Rattle.card_retention.specs.Expected.{WordDay, more, is_newest, first_words, Counted, expected_days}
-use Rattle.card_retention.specs.Shown.{Bound, InDays, AllIn, AllUpTo, Rising, Shows, Left, Grows, Fits, sizes, is_open, owing, Tells, Rests, with_closing, Entered, EndsAbsent, Sound, Lives}
+use Rattle.card_retention.specs.Shown.{Bound, InDays, AllIn, AllUpTo, Rising, Shows, Left, Grows, Fits, sizes, is_open, owing, Tells, Rests, with_closing, Entered, Entered.Same, Entered.Word, Entered.Begun, EndsAbsent, Sound, Sound.Flat, Sound.Tail, Lives}
 use Rattle.card_model.proofs.Retention.{remain_fitting}
 use Rattle.card_retention.proofs.Growing.{shows_fewer, in_more, shows_left, left_more, left_of, sizes_word}
 use Rattle.card_retention.proofs.Entering.{closes_is, rising_more, both, fits_sizes, date_newest}

@@ -7,7 +7,7 @@ use Rattle.card_model.specs.Days.{Day, AreDays, last_word}
 use Rattle.card_model.specs.Changes.{OnNewest, AreStrict, with_newest, with_early, early, until, cut, trimmed, date_of}
 use Rattle.card_model.proofs.Trims.{cut_date}
 use Rattle.card_retention.specs.Expected.{WordDay, more, Counted, expected_days}
-use Rattle.card_retention.specs.Shown.{Bound, Shows, Grows, sizes, size_day, is_open, owing, Tells, TellsIn, Rests, Sound, Lives}
+use Rattle.card_retention.specs.Shown.{Bound, Shows, Grows, sizes, size_day, is_open, owing, Tells, TellsIn, Rests, Sound, Sound.Flat, Sound.Tail, Lives}
 use Rattle.card_retention.specs.Entries.{latest, told_by, entry_at, day_entries, entries_up_to, newest_word}
 use Rattle.card_retention.proofs.Flat.{UpTo, newest_flat, flat_newest}
 use Rattle.card_retention.proofs.Listing.{minutes_same}

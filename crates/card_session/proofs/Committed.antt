@@ -16,7 +16,7 @@ use Rattle.card_model.specs.Changes.{Remain, OnNewest, fitting, with_newest, wit
 use Rattle.card_model.proofs.Lists.{last_is}
 use Rattle.card_model.proofs.Retention.{remain_fitting, remain_some}
 use Rattle.card_retention.specs.Expected.{WordDay, is_newest}
-use Rattle.card_retention.specs.Shown.{sizes, is_open, AllUpTo, Tells, TellsIn, Entered}
+use Rattle.card_retention.specs.Shown.{sizes, is_open, AllUpTo, Tells, TellsIn, Entered, Entered.Same, Entered.Word, Entered.Begun}
 use Rattle.card_retention.specs.Entries.{latest, told_by, entry_at, minutes_from, day_entries, entries_up_to, newest_word}
 use Rattle.card_retention.specs.Retains.{is_day, entries_in}
 use Rattle.card_retention.proofs.Entering.{on_word, on_append, last_append, date_newest}

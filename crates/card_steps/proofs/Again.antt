@@ -11,7 +11,7 @@ use Rattle.card_model.specs.Days.{Day, AreDays, len_of, total, last_word}
 use Rattle.card_model.specs.Changes.{Remain, fitting, with_newest, with_word, with_km, date_of, trimmed}
 use Rattle.card_model.proofs.Retention.{remain_fitting}
 use Rattle.card_retention.specs.Expected.{Counted, is_newest, with_entry as counted_with}
-use Rattle.card_retention.specs.Shown.{Bound, Rests, Lives, sizes, is_open, entry_state}
+use Rattle.card_retention.specs.Shown.{Bound, Rests, Sound.Flat, Lives, sizes, is_open, entry_state}
 use Rattle.card_retention.specs.Entries.{latest, told_by, entries_up_to, newest_word}
 use Rattle.card_retention.proofs.Entering.{last_append}
 use Rattle.card_retention.proofs.Listing.{Lists}

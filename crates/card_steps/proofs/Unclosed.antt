@@ -16,7 +16,7 @@ use Rattle.card_model.proofs.Retention.{remain_fitting, remain_some}
 use Rattle.card_model.proofs.Trims.{Behind, trimmed_word}
 use Rattle.card_retention.specs.Expected.{WordDay, more, Counted}
 use Rattle.card_retention.specs.Entries.{newest_minute, newest_word}
-use Rattle.card_retention.specs.Shown.{Bound, AllUpTo, Grows, EndsAbsent, Sound, Rests, Lives, sizes, is_open, owing}
+use Rattle.card_retention.specs.Shown.{Bound, AllUpTo, Grows, EndsAbsent, Sound, Sound.Flat, Sound.Tail, Rests, Lives, sizes, is_open, owing}
 use Rattle.card_retention.proofs.Closing.{closed_rests}
 use Rattle.card_retention.proofs.Committing.{Quiet}
 use Rattle.card_retention.proofs.Entering.{before_later, fits_sizes, last_append, on_word}
