@@ -14,5 +14,5 @@ pub use recording::{Recorded, line_at, line_at_end, record};
 pub use traces::trace_of;
 pub use units::{
     IDENTITY, M0, NO_ROOM, NUMBER_A, NUMBER_B, SMALLEST, T0, card_image, card_number,
-    card_of_zeros, image_of, new_card, new_image, new_unit, stops,
+    card_of_zeros, image_of, new_card, new_image, new_unit, one_stop, stops,
 };

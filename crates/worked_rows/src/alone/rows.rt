@@ -1,6 +1,6 @@
 //! Runs on a unit.
 use crate::alone::running::{ROOM, Ran, run_alone};
-use crate::devices::{M0, T0, held_by_unit, new_unit, stops, unit_tells};
+use crate::devices::{M0, T0, held_by_unit, new_unit, one_stop, stops, unit_tells};
 use crate::media::Room;
 use recorder_with_cards::{Break, Refused, RunFault, SlotFault};
 use run_model::Device;
@@ -172,7 +172,7 @@ fn stop_once(rt: &(impl Abort + AllocGlobal), call: u64, left: Left) -> Result<(
         failed: true,
         begun: 0,
     };
-    let stops = stops(alloc, 1, call, 1, 0, left)?;
+    let stops = one_stop(alloc, call, left)?;
     let (ran, again) = twice(alloc, FORTY, b"start 1267404300\nrun 300 10", stops)?;
     assert!(rt; ran.ended.is_ok() && ran.breaks == 1, "{call}");
     assert!(rt; ran.is_right || ran.cut == Some(last), "{call}");
@@ -222,7 +222,7 @@ fn a_failing_power_on_is_a_cut(rt: HostRuntime) -> Result<(), Fail> {
 fn an_action_without_power_is_refused(rt: HostRuntime) -> Result<(), Fail> {
     let alloc = rt.alloc();
     let first = calls_of_the_opening(alloc)?;
-    let stops = stops(alloc, 1, first, 1, 0, Left::Before)?;
+    let stops = one_stop(alloc, first, Left::Before)?;
     let text =
         b"start 1267401600\nselect driver work\nrun 30 0\nselect driver work\nselect driver work\nrun 300 0";
     let ran = count_run(alloc, text, stops)?.ran;
@@ -238,7 +238,7 @@ fn an_action_without_power_is_refused(rt: HostRuntime) -> Result<(), Fail> {
 /// That a unit of which this call fails is refused in the opening, and is as it was.
 fn fails_at(rt: &(impl Abort + AllocGlobal), call: u64) -> Result<(), Fail> {
     let alloc = rt.alloc();
-    let stops = stops(alloc, 1, call, 1, 0, Left::Before)?;
+    let stops = one_stop(alloc, call, Left::Before)?;
     let counted = count_run(alloc, b"start 1267401600\nrun 300 0\n", stops)?;
     let failed = Err(RunFault::MediumFault(Device::Unit));
     assert_eq!(rt; counted.ran.ended, failed);

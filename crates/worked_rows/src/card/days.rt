@@ -1,13 +1,13 @@
 ghost use Rattle.std.specs.Prelude.{◌≡◌, ◌≤◌, IfOk, length};
 
 use crate::card::images::{TWO_DAYS, full_string};
-use crate::devices::T0;
+use crate::devices::{T0, one_stop};
 use card_layout::Range;
 use cyclic_days::{DayHead, Days, DaysFault, Tail};
 use std::alloc::Global;
 use std::process::Abort;
 use std::test::Fail;
-use tach_media::{Left, Medium, MemMedium, Memory, Stop};
+use tach_media::{Left, Medium, MemMedium, Memory};
 use tacho_types::{Distance, TimeReal};
 
 const TORN: Left = Left::Torn(0x55);
@@ -20,7 +20,7 @@ const FILE: Range = Range { base: 0, len: 5548 };
 
 // A medium of these bytes, whose call of that number fails.
 fn medium(alloc: Global, image: Vec<u8>, call: u64, left: Left) -> Result<MemMedium, Memory> {
-    let stops = vec![in alloc; Stop { call, left }]?;
+    let stops = one_stop(alloc, call, left)?;
     if image.len() != 5548 {
         return Err(Memory);
     }

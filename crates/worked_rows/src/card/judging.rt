@@ -5,7 +5,7 @@ ghost use Rattle.card_layout.specs.Files.{image_size_of};
 ghost use Rattle.card_judge.specs.Judged.{TellsSizes};
 
 use crate::card::images::{CURRENT_USE, DAYS, VEHICLES};
-use crate::devices::{IDENTITY, M0, NUMBER_A, SMALLEST, T0, card_number};
+use crate::devices::{IDENTITY, M0, NUMBER_A, SMALLEST, T0, card_number, one_stop};
 use crate::unit::image::put;
 use card_files::{blank_card, image_size, read_application};
 use card_judge::{CardLook, InsertFault, Judged, judge, look};
@@ -14,7 +14,7 @@ use card_records::Vehicle;
 use std::alloc::Global;
 use std::process::Abort;
 use std::test::Fail;
-use tach_media::{Left, MemMedium, Memory, SliceMedium, Stop};
+use tach_media::{Left, MemMedium, Memory, SliceMedium};
 use tacho_types::{Odometer, Registration, TimeReal};
 
 /// Where the string of days begins in its image, behind its two pointers, and the file of places.
@@ -308,8 +308,7 @@ fn seen_until(
     let Some(app) = sizes_of(&image) else {
         return Err(Memory);
     };
-    let left = Left::Before;
-    let stops = vec![in alloc; Stop { call, left }]?;
+    let stops = one_stop(alloc, call, Left::Before)?;
     let mut medium = MemMedium::new(alloc, image, 0, 0, stops)?;
     Ok(look(&mut medium, &app))
 }

@@ -122,6 +122,13 @@ pub fn card_of_zeros(alloc: Global, room: Room) -> Result<SimCard<MemMedium>, Me
     card_with(alloc, zeros, room, Vec::new(alloc))
 }
 
+/// One stop, of this call.
+pub fn one_stop(alloc: Global, call: u64, left: Left) -> Result<Vec<Stop>, AllocError> {
+    let mut stops = Vec::new(alloc);
+    stops.push(Stop { call, left })?;
+    Ok(stops)
+}
+
 /// So many stops, the first of this call, and each next one of a call so many later, and by so many more each time.
 pub fn stops(
     alloc: Global,

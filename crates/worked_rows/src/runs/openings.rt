@@ -1,7 +1,7 @@
 //! Openings over a unit and two cards in memory. None of them writes.
 use crate::card::images::VEHICLES;
 use crate::devices::{
-    NO_ROOM, NUMBER_A, NUMBER_B, SMALLEST, T0, card_image, card_number, new_image,
+    NO_ROOM, NUMBER_A, NUMBER_B, SMALLEST, T0, card_image, card_number, new_image, one_stop,
 };
 use crate::media::{card_with, unit_with};
 use crate::unit::image::put;
@@ -146,13 +146,10 @@ fn opened_without_b(alloc: Global) -> Result<Result<Seen, RunFault>, Fail> {
 
 /// Four openings over a new unit and both cards, of each of which one call fails, and then none.
 fn opened_four_times(alloc: Global) -> Result<[Option<RunFault>; 4], Fail> {
-    let stop = Stop {
-        call: 2,
-        left: Left::Before,
-    };
-    let mut unit = unit(alloc, unit_image(alloc, 1, 0)?, vec![in alloc; stop]?)?;
-    let mut a = card_of(alloc, Card::A, vec![in alloc; stop]?)?;
-    let mut b = card_of(alloc, Card::B, vec![in alloc; stop]?)?;
+    let left = Left::Before;
+    let mut unit = unit(alloc, unit_image(alloc, 1, 0)?, one_stop(alloc, 2, left)?)?;
+    let mut a = card_of(alloc, Card::A, one_stop(alloc, 2, left)?)?;
+    let mut b = card_of(alloc, Card::B, one_stop(alloc, 2, left)?)?;
     let mut faults = [None; 4];
     for i in 0..4 {
         faults[i] = opening(&mut unit, &mut a, &mut b, T0)?.err();

@@ -3,7 +3,7 @@ ghost use Rattle.std.specs.Prelude.{IfOk};
 ghost use Rattle.tach_media.specs.MemMedium.{memory_state};
 ghost use Rattle.unit_model.specs.Image.{IsUnit};
 
-use crate::devices::image_of;
+use crate::devices::{image_of, one_stop};
 use crate::media::{Room, unit_with};
 use std::alloc::Global;
 use std::process::Abort;
@@ -86,19 +86,18 @@ fn make(alloc: Global, stops: Vec<Stop>, kind: Image) -> Result<Made, Fail> {
 fn a_unit_is_made_new(rt: HostRuntime) -> Result<(), Fail> {
     let alloc = rt.alloc();
     let made = make(alloc, Vec::new(alloc), Image::New)?;
-    assert_eq!(rt; made.answer, Ok(()));
-    assert_eq!(rt; made.calls, WRITES);
-    assert!(rt; made.is_kind);
+    assert_eq!(rt;
+        (made.answer, made.calls, made.is_kind),
+        (Ok(()), WRITES, true)
+    );
     Ok(())
 }
 
 /// That a unit of ones that stops so leaves an image of this kind.
 fn leaves(rt: &(impl Abort + AllocGlobal), call: u64, left: Left, kind: Image) -> Result<(), Fail> {
     let alloc = rt.alloc();
-    let stop = Stop { call, left };
-    let made = make(alloc, vec![in alloc; stop]?, kind)?;
-    assert_eq!(rt; made.answer, Err(Failed));
-    assert!(rt; made.is_kind);
+    let made = make(alloc, one_stop(alloc, call, left)?, kind)?;
+    assert_eq!(rt; (made.answer, made.is_kind), (Err(Failed), true));
     Ok(())
 }
 

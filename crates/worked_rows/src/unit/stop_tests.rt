@@ -4,13 +4,14 @@ ghost use Rattle.tach_media.specs.MemMedium.{memory_state};
 ghost use Rattle.unit_model.specs.Image.{IsUnit};
 ghost use Rattle.unit_journal.specs.Reading.{IsSlotPlace};
 
+use crate::devices::one_stop;
 use crate::media::{Room, unit_with};
 use crate::unit::image::{DAY, empty, put, put_head, put_word};
 use activity_codec::Activity;
 use std::alloc::{AllocError, Global};
 use std::process::Abort;
 use std::test::Fail;
-use tach_media::{Left, Medium, MemMedium, Memory, Stop};
+use tach_media::{Left, Medium, MemMedium, Memory};
 use tacho_types::{DAYS, Odometer};
 use unit_journal::{Journal, KeptMinute, State, UnitDay};
 use unit_model::layout::IMAGE_SIZE;
@@ -150,8 +151,7 @@ const ROOM: Room = Room {
 pub fn unit(alloc: Global, image: Vec<u8>, call: u64, left: Left) -> Result<MemMedium, Memory>
     ensures { IfOk result (λ unit. IsUnit (memory_state unit.log unit.counts)) }
 {
-    let stops = vec![in alloc; Stop { call, left }]?;
-    unit_with(alloc, image, ROOM, stops)
+    unit_with(alloc, image, ROOM, one_stop(alloc, call, left)?)
 }
 
 /// A word of a recorded day.
