@@ -28,7 +28,7 @@ use Rattle.card_steps.proofs.Unclosed.{unclosed_shown}
 use Rattle.card_steps.proofs.Lists.{SameParts, same_parts}
 use Rattle.card_steps.proofs.OfCards.{open_holds, shut_inserting}
 use Rattle.card_steps.proofs.Deeds.{closed_made, open_parted}
-use Rattle.card_steps.proofs.Since.{since_replay, all_goes, tied_still, none_goes, later_holds, holds_up}
+use Rattle.card_steps.proofs.Since.{since_replay, all_goes, tied_still, tied_wider, none_goes, later_holds, holds_up}
 
 -- entries that follow an end mark are all lacked
 is-later : (m n : ℕ) → m < n → nat_lt m n ≡ true
@@ -77,8 +77,12 @@ module _ (app : Application) (registration : Registration) (odometer now : ℕ) 
   pub replays : (y : List ℕ) → InsertingOpen app registration odometer owed now x y → HoldsSince app image (done ++ lacked_by app x owed) next y
   replays y inserting = open_holds app registration odometer now owed image done next x sound fits long are valid session up wide next (omega arith) late y inserting
 
-  tied : IsTied app image done x
-  tied = subst (λ (l : List Entry). IsTied app image l x) (parts next wide).first (⊎_elim (λ goes. goes.tied) (λ broke. broke.tied) wide.stands)
+  tied : IsTied app image done (done ++ lacked_by app x owed) x
+  tied = ⊎_elim
+      (λ goes. tied_wider app image done done (lacked_by app x owed) x (subst (λ (l : List Entry). IsTied app image l l x) (parts next wide).first goes.tied))
+      (λ broke.
+      subst (λ (l : List Entry). IsTied app image l (l ++ lacked_by app x owed) x) (parts next wide).first
+      (subst (λ (l : List Entry). IsTied app image wide.more (wide.more ++ l) x) (parts next wide).second broke.tied)) wide.stands
 
   stands : GoesSince app image done (first_minute next (lacked_by app x owed)) x ⊎ BrokeSince app image done (lacked_by app x owed) next x
   stands = subst (λ (l : List Entry). GoesSince app image l (first_minute next (lacked_by app x owed)) x ⊎ BrokeSince app image l (lacked_by app x owed) next x) (parts next wide).first
@@ -94,7 +98,7 @@ module _ (app : Application) (registration : Registration) (odometer now : ℕ) 
   replayed-goes y inserts =
       let all = all-shown y inserts in
       let moment = open_end app registration odometer now owed x y inserts in
-      all_goes app image done (lacked_by app x owed) next x y ordered session tied (open_parted app sound registration long now image done x fits tied.made odometer owed are.0 y moment) (card_view app x).newest
+      all_goes app image done (lacked_by app x owed) next x y ordered session (done ++ lacked_by app x owed) tied (open_parted app sound registration long now image done (done ++ lacked_by app x owed) x fits tied.made odometer owed are.0 refl y moment) (card_view app x).newest
       (mark_day app x (days_of_open app x registration odometer now owed y moment)) all.mark all.goes
 
   pub replayed-minute : (y : List ℕ) (t : Session) → InsertsOpen app registration odometer owed now x y → t.application ≡ app → IsSession t y → t.minute ≡ newest_behind (card_view app x).newest (lacked_by app x owed)
@@ -118,4 +122,4 @@ module _ (app : Application) (registration : Registration) (now : ℕ) (image : 
       let moment = closed_end app registration 0 now [] x y inserts in
       let shown =
       unclosed_shown app sound x fits registration long now valid none (bound_since image brought) (own_covered image) s.from next (counted_since image brought) (all_since image brought) (omega arith) (omega (arith, s.later, le)) late s.goes y moment in
-      record { from = next; later = omega arith; goes = shown.0; tied = tied_still app image brought x y shown.1 (closed_made app sound registration long now image brought x fits s.tied.made y moment) s.tied }
+      record { from = next; later = omega arith; goes = shown.0; tied = tied_still app image brought brought brought x y shown.1 (closed_made app sound registration long now image brought brought x fits s.tied.made y moment) s.tied }

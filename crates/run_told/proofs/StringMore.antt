@@ -12,8 +12,9 @@ use Rattle.card_image.specs.Own.{own_view, own_sizes, KeepsOf}
 use Rattle.card_session.specs.Inserting.{Follow}
 use Rattle.card_session.specs.Repairs.{first_minute}
 use Rattle.card_steps.specs.Inserts.{IsOnDay}
-use Rattle.card_steps.specs.Since.{all_since, HoldsSince}
+use Rattle.card_steps.specs.Since.{all_since, IsTied, HoldsSince}
 use Rattle.card_steps.specs.Each.{KeepsSince}
+use Rattle.card_steps.proofs.Since.{tied_wider}
 use Rattle.history_model.specs.Book.{Book}
 use Rattle.joint_rule.specs.Rules.{Standing, since}
 use Rattle.joint_rule.proofs.Holding.{rise-back}
@@ -68,7 +69,7 @@ more-holds app image brought es n x rise after late h =
             from = broke.from;
             later = omega (arith, broke.later, first-on n h.rest es after);
             left = ⊎_elim (λ old. inl old) (λ begun. inr (begun.0, on-first (end_mark app x) h.rest es begun.1)) broke.left;
-            tied = broke.tied;
+            tied = subst (λ (l : List Entry). IsTied app image h.more l x) (append_assoc h.more h.rest es) (tied_wider app image h.more (h.more ++ h.rest) es x broke.tied);
           })) h.stands;
     }
 
