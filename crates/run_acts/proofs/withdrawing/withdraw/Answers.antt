@@ -7,7 +7,7 @@ use Rattle.activity_codec.specs.declared.values.Slot.{Slot}
 use Rattle.minute_model.specs.declared.Minute.{Minute}
 use Rattle.minute_model.specs.Span.{Span, settled, decided_in, ungiven_of}
 use Rattle.minute_rules.specs.Kept.{StandsFor}
-use Rattle.safety_model.specs.Safe.{Devices, card_of}
+use Rattle.safety_model.specs.Safe.{Devices}
 use Rattle.run_rule.specs.Between.{devices}
 use Rattle.log_model.specs.declared.lines.Break.{Break}
 use Rattle.slot_machine.specs.Calls.{seat_in, card_in, logged}
@@ -23,7 +23,7 @@ use Rattle.run_keeping.proofs.Counts.{lines-length}
 use Rattle.run_acts.specs.declared.run.Run.{Run}
 use Rattle.run_acts.specs.Power.{with_cabin}
 use Rattle.run_acts.specs.Going.{IsHeld, IsGoingOn, IsLit}
-use Rattle.run_acts.specs.Room.{waiting_of, falls_of}
+use Rattle.run_acts.specs.Room.{Takes, waiting_of, falls_of}
 use Rattle.run_acts.proofs.Torn.{tears-without}
 use Rattle.run_acts.specs.Behind.{BooksWithdrawn}
 use Rattle.run_acts.proofs.Withdrawn.{withdrawn-cut, withdrawn-closed, time-before}
@@ -45,8 +45,8 @@ use Rattle.run_rings.proofs.Same.{rings-left}
 use Rattle.run_acts.specs.Ringing.{WithdrawsSo, ClosesSo, ClosesRings}
 use Rattle.run_acts.proofs.Comings.{closes-more}
 use Rattle.run_acts.proofs.Ringing.{settling-leaves, closes-behind}
-use Rattle.run_keeping.proofs.Later.{state-by, later-same, later-then, later-of-a, later-of-b}
-use Rattle.tach_media.specs.Medium.{State, LeavesOnly, HasBroken, HasCause, IsCoherent}
+use Rattle.run_keeping.proofs.Later.{state-by, later-same, later-then}
+use Rattle.tach_media.specs.Medium.{State, LeavesOnly, HasBroken, HasCause}
 use Rattle.run_evented.specs.Noting.{Acting}
 use Rattle.run_acts.specs.NotedEvents.{NotesEvents}
 use Rattle.run_acts.specs.Evented.{EventsGoOn, EventsSettling}
@@ -59,36 +59,33 @@ use Rattle.run_crew.specs.declared.cards.Accepted.{Accepted}
 use Rattle.run_acts.specs.RunRinged.{RingsGoOn, RingsWithin}
 use Rattle.run_acts.proofs.Settled.{settled-decides}
 use Rattle.run_acts.proofs.SettledRecorded.{same-ungiven}
-use Rattle.run_acts.proofs.RingedSecond.{left-after, more-left}
+use Rattle.run_acts.proofs.RingedSecond.{more-left}
 use Rattle.run_acts.proofs.RingedClosed.{settling-ringed, closing-ringed, gone-told}
 use Rattle.run_acts.specs.RunCards.{CardsSettling, PlacesSettling, StillShow, CardsGoOn, CardsIn}
 use Rattle.run_acts.proofs.CardStays.{shows-then}
 use Rattle.run_acts.proofs.CardActs.{TellsLines, settled-lines, closed-lines, quiet-goes}
-use Rattle.run_acts.specs.CardWrites.{ShutsSo, ShutsBehind, WithdrawsShut}
+use Rattle.run_acts.specs.CardWrites.{ShutsSo, ShutsBehind, WithdrawsShut, IsShut}
 use Rattle.run_acts.proofs.CardWrites.{withdrawn-shut}
-use Rattle.run_keeping.proofs.Calm.{calm-of-a, calm-of-b, calm-same, calm-then}
+use Rattle.run_keeping.proofs.Calm.{calm-same, calm-then}
 use Rattle.trace_model.specs.declared.Action.{Action}
-use Rattle.run_keeping.specs.Later.{AreCalm, AreLater, IsCalm}
+use Rattle.run_keeping.specs.Later.{AreCalm, AreLater, IsCalm, IsLater}
 use Rattle.run_acts.specs.Devices.{AreLeftMore}
 use Rattle.run_keeping.specs.Decided.{BooksAll}
 use Rattle.card_layout.specs.declared.command.CardState.{CardState}
 use Rattle.run_acts.specs.Stays.{ClosesOnCard}
 use Rattle.run_evented.specs.SoFar.{EventedNow}
-use Rattle.link_service.specs.declared.fault.ServeFault.TheVariants.{Failed}
+use Rattle.tach_media.specs.declared.fault.Failed.{Failed}
 use Rattle.run_recorded.specs.Beside.{HaveLeftMore}
 use Rattle.run_keeping.specs.Books.{HaveTime}
-use Rattle.run_acts.proofs.CardEnds.{IsLater}
-use Rattle.card_session.specs.Inserting.{IsShut}
 use Rattle.unit_model.specs.Image.{IsUnit}
-use Rattle.card_layout.specs.declared.files.TheConstants.{LARGEST_IMAGE}
 use Rattle.unit_notes.specs.Journal.{LeavesJournal}
-use Rattle.run_ringed.specs.Ringed.{LeavesRings}
 use Rattle.run_recorded.specs.Origin.{Origin}
 use Rattle.side_model.specs.Odometer.{SpanFrom}
-use Rattle.downloader.specs.Loading.{Takes}
 use Rattle.trace_model.specs.Trace.{TraceSecond}
 use Rattle.run_told.specs.Told.{arranged}
 use Rattle.log_model.specs.Slots.{refusal}
+use Rattle.run_rings.specs.Same.{LeavesRings}
+use Rattle.run_acts.proofs.OneCard.{OneCard, unit-is, card-is, later-by, calm-by, keeps-by}
 use Rattle.run_acts.proofs.withdrawing.withdraw.Given.{Over}
 use Rattle.run_acts.proofs.withdrawing.withdraw.Goals.{In_ok-settle, In_default, After-from_residual, After-close, After-close-in-B}
 use Rattle.run_acts.proofs.withdrawing.withdraw.Goals as goal
@@ -221,47 +218,6 @@ Closes state chip which slot at result old new breaks after U V x y = record {
   calm : IsCalm breaks.items after.items (state x) (state y);
 }
 
--- one of the two, with its device and the other one's state
-record Side (g : Over) (c : In_ok-settle g) : Type 1 where
-  which : Card
-  is : c.in-Some.card ≡ which
-  S : Type 0
-  state : S → State
-  chip : S → CardState
-  before : S
-  after : S
-  whole : IsCoherent (state before)
-  size : LARGEST_IMAGE ≤ (state before).size
-  beside : State
-  settled_as : devices (g.M.Medium.state c.settle.new.unit) (g.C.Chip.state c.settle.new.card_a) (g.D.Chip.state c.settle.new.card_b) ≡ arranged which (g.M.Medium.state c.settle.new.unit) (state before) beside
-  unit : State
-  unit_whole : IsCoherent unit
-  new : Run
-  breaks : Listed Break
-  result : Result (Unit {0}) Failed
-  ensures : Closes state chip which c.args.slot c.args.at result c.settle.new.run new c.settle.new.outcome.breaks breaks (g.M.Medium.state c.settle.new.unit) unit before after
-
--- the unit is the same, whichever card it is
-unit-is : (card : Card) (U X Z : State) → U ≡ (arranged card U X Z).unit
-unit-is A U X Z = refl
-unit-is B U X Z = refl
-
-card-is : (card : Card) (U X Z : State) → X ≡ card_of (arranged card U X Z) card
-card-is A U X Z = refl
-card-is B U X Z = refl
-
-later-by : (card : Card) (U V X Y Z : State) → IsLater U V → IsLater X Y → AreLater (arranged card U X Z) (arranged card V Y Z)
-later-by A U V X Y Z unit mine = later-of-a U V X Y Z unit mine
-later-by B U V X Y Z unit mine = later-of-b U V Z X Y unit mine
-
-calm-by : (card : Card) {before after : List Break} (U V X Y Z : State) → IsCalm before after X Y → AreCalm before after (arranged card U X Z) (arranged card V Y Z)
-calm-by A U V X Y Z mine = calm-of-a U V X Y Z mine
-calm-by B U V X Y Z mine = calm-of-b U V Z X Y mine
-
-keeps-by : (card : Card) (d : Devices) (U V X Y Z : State) → AreLeftMore d (arranged card U X Z) → AreLater d (arranged card U X Z) → HasLeftMore U V → HasLeftMore X Y → AreLeftMore d (arranged card V Y Z)
-keeps-by A d U V X Y Z keeps later unit mine = record { unit = left-after d.unit U V keeps.unit later.unit.clock unit; card_a = left-after d.card_a X Y keeps.card_a later.card_a.clock mine; card_b = keeps.card_b }
-keeps-by B d U V X Y Z keeps later unit mine = record { unit = left-after d.unit U V keeps.unit later.unit.clock unit; card_a = keeps.card_a; card_b = left-after d.card_b X Y keeps.card_b later.card_b.clock mine }
-
 -- an entry is one of the ring
 entry-of : (n : ℕ) (q : Option Accepted) → IfSome q (λ x. (x.entry < insertion_ring.count) × (x.noted ≤ n)) → IfSome q (λ x. x.entry < insertion_ring.count)
 entry-of n None h = tt
@@ -278,7 +234,7 @@ Booked slot at card failed run new before after d e left = (decided : List Minut
     × IsReach decided at (not (is_some closing)) (told_of (with_cabin left run) before) between reach
     × BooksWithdrawn card decided failed reach closing (told_of (with_cabin left run) before) (told_of new after) d e
 
-module _ (g : Over) (c : In_ok-settle g) (k : Side g c) where
+module _ (g : Over) (c : In_ok-settle g) (k : OneCard c.in-Some.card (g.C.Chip.state c.settle.new.card_a) (g.D.Chip.state c.settle.new.card_b)) (closes : Closes k.state k.chip k.which c.args.slot c.args.at k.result c.settle.new.run k.new c.settle.new.outcome.breaks k.breaks (g.M.Medium.state c.settle.new.unit) k.unit k.before k.after) where
   abbrev first_ : Devices
   first_ = first g c
 
@@ -296,22 +252,22 @@ module _ (g : Over) (c : In_ok-settle g) (k : Side g c) where
 
   withdrawn : IsWithdrawn (card_in (seat_in c.args.run.now.keeper.cabin.slots.seats c.args.slot)) c.args.slot c.args.at (is_err k.result) c.args.run.now k.new c.args.outcome.now told
   withdrawn =
-      let n = k.ensures.closed in
+      let n = closes.closed in
       subst (λ (q : Option Card). IsWithdrawn q c.args.slot c.args.at (is_err k.result) c.args.run.now k.new c.args.outcome.now told) (sym seat)
       (inr (record { between = c.settle.new.run; told = c.settle.new.outcome; settled_first = settled-first g c; closing = n.0; closed = n.1; outcome = refl }))
 
   only : k.new ≡ record c.args.run.now { minutes = k.new.minutes; keeper = k.new.keeper }
-  only = cabin-only c.args.run.now c.settle.new.run k.new (closed_cabin k.ensures.closed.0 k.which c.args.at.second c.settle.new.run.keeper.cabin) c.settle.ensures.settled.only k.ensures.closed.1.run
+  only = cabin-only c.args.run.now c.settle.new.run k.new (closed_cabin closes.closed.0 k.which c.args.at.second c.settle.new.run.keeper.cabin) c.settle.ensures.settled.only closes.closed.1.run
 
   rest_ : told ≡ record c.args.outcome.now { marks = told.marks; breaks = told.breaks }
   rest_ = ap (λ (o : Outcome). record o { breaks = k.breaks }) c.settle.ensures.settled.outcome
 
-  lines : length k.breaks.items ≡ length c.settle.new.outcome.breaks.items + length (closed_breaks k.ensures.closed.0 c.args.slot c.args.at)
-  lines = ap (λ (l : Listed Break). length l.items) k.ensures.closed.1.told ∙ lines-length (closed_breaks k.ensures.closed.0 c.args.slot c.args.at) c.settle.new.outcome.breaks
+  lines : length k.breaks.items ≡ length c.settle.new.outcome.breaks.items + length (closed_breaks closes.closed.0 c.args.slot c.args.at)
+  lines = ap (λ (l : Listed Break). length l.items) closes.closed.1.told ∙ lines-length (closed_breaks closes.closed.0 c.args.slot c.args.at) c.settle.new.outcome.breaks
 
   takes : Takes 0 0 0 c.args.run.now k.new c.args.outcome.now told
   takes =
-      let n = k.ensures.closed in
+      let n = closes.closed in
       let t = c.settle.ensures.takes in
       let b = t.breaks in
       let m = t.marks in
@@ -333,13 +289,13 @@ module _ (g : Over) (c : In_ok-settle g) (k : Side g c) where
 
   later : AreLater first_ last
   later =
-      later-then first_ between last (subst (λ (m : Devices). AreLater first_ m) k.settled_as c.settle.ensures.later)
-      (later-by k.which (g.M.Medium.state c.settle.new.unit) k.unit (k.state k.before) (k.state k.after) k.beside (state-by (g.M.Medium.state c.settle.new.unit) k.unit _ k.ensures.journal.later k.ensures.cause) k.ensures.later)
+      later-then first_ between last (subst (λ (m : Devices). AreLater first_ m) (k.beside_it (g.M.Medium.state c.settle.new.unit)) c.settle.ensures.later)
+      (later-by k.which (g.M.Medium.state c.settle.new.unit) k.unit (k.state k.before) (k.state k.after) k.beside (state-by (g.M.Medium.state c.settle.new.unit) k.unit _ closes.journal.later closes.cause) closes.later)
 
   calm : AreCalm c.args.outcome.now.breaks.items k.breaks.items first_ last
   calm =
-      calm-then first_ between last (subst (λ (m : Devices). AreCalm c.args.outcome.now.breaks.items c.settle.new.outcome.breaks.items first_ m) k.settled_as c.settle.ensures.calm)
-      (calm-by k.which (g.M.Medium.state c.settle.new.unit) k.unit (k.state k.before) (k.state k.after) k.beside k.ensures.calm)
+      calm-then first_ between last (subst (λ (m : Devices). AreCalm c.args.outcome.now.breaks.items c.settle.new.outcome.breaks.items first_ m) (k.beside_it (g.M.Medium.state c.settle.new.unit)) c.settle.ensures.calm)
+      (calm-by k.which (g.M.Medium.state c.settle.new.unit) k.unit (k.state k.before) (k.state k.after) k.beside closes.calm)
 
   -- which card it is that was there
   same-card : (card : Card) → card_in (seat_in c.args.run.now.keeper.cabin.slots.seats c.args.slot) ≡ Some card → k.which ≡ card
@@ -348,12 +304,11 @@ module _ (g : Over) (c : In_ok-settle g) (k : Side g c) where
   books : BooksAll c.in_ok-settle.ensures.booked.0 false c.in_ok-settle.ensures.booked.1 (told_of (with_cabin c.leave.new.self c.args.run.now) c.args.outcome.now) (told_of c.settle.new.run c.settle.new.outcome) first_ between
   books =
       let b = c.in_ok-settle.ensures.booked in
-      subst (λ (m : Devices). BooksAll b.0 false b.1 (told_of (with_cabin c.leave.new.self c.args.run.now) c.args.outcome.now) (told_of c.settle.new.run c.settle.new.outcome) first_ m) k.settled_as b.4
+      subst (λ (m : Devices). BooksAll b.0 false b.1 (told_of (with_cabin c.leave.new.self c.args.run.now) c.args.outcome.now) (told_of c.settle.new.run c.settle.new.outcome) first_ m) (k.beside_it (g.M.Medium.state c.settle.new.unit)) b.4
 
   booked : (card : Card) → card_in (seat_in c.args.run.now.keeper.cabin.slots.seats c.args.slot) ≡ Some card → Booked c.args.slot c.args.at card (is_err k.result) c.args.run.now k.new c.args.outcome.now told first_ last (with_slot_left c.args.slot c.args.at.second c.args.run.now.keeper.cabin)
   booked card there =
-      let e = k.ensures in
-      let n = e.closed in
+      let n = closes.closed in
       let b = c.in_ok-settle.ensures.booked in
       let v = told_of c.settle.new.run c.settle.new.outcome in
       subst (λ (q : Card). Booked c.args.slot c.args.at q (is_err k.result) c.args.run.now k.new c.args.outcome.now told first_ last (with_slot_left c.args.slot c.args.at.second c.args.run.now.keeper.cabin)) (same-card card there)
@@ -364,14 +319,13 @@ module _ (g : Over) (c : In_ok-settle g) (k : Side g c) where
         v,
         b.2,
         b.3,
-        withdrawn-closed k.state k.which c.args.at.second (g.M.Medium.state c.settle.new.unit) k.unit k.beside k.before k.after (g.met.M.Medium.coherent c.settle.new.unit) k.whole k.size e.journal (is_err k.result) e.cause.works n.0 b.0 c.args.at
-            (told_of (with_cabin c.leave.new.self c.args.run.now) c.args.outcome.now) v (told_of k.new told) first_ e.left e.bare n.1.is (ap (λ (r : Run). r.keeper.cabin.cards) n.1.run) refl b.1 b.3 books,
+        withdrawn-closed k.state k.which c.args.at.second (g.M.Medium.state c.settle.new.unit) k.unit k.beside k.before k.after (g.met.M.Medium.coherent c.settle.new.unit) k.whole k.size closes.journal (is_err k.result) closes.cause.works n.0 b.0 c.args.at
+            (told_of (with_cabin c.leave.new.self c.args.run.now) c.args.outcome.now) v (told_of k.new told) first_ closes.left closes.bare n.1.is (ap (λ (r : Run). r.keeper.cabin.cards) n.1.run) refl b.1 b.3 books,
       ))
 
   shut : (card : Card) → card_in (seat_in c.args.run.now.keeper.cabin.slots.seats c.args.slot) ≡ Some card → WithdrawsShut card c.args.slot c.args.at (is_err k.result) c.args.run.now k.new c.args.outcome.now told first_ last
   shut card there =
-      let e = k.ensures in
-      let n = e.shut in
+      let n = closes.shut in
       let b = c.in_ok-settle.ensures.booked in
       subst (λ (q : Card). WithdrawsShut q c.args.slot c.args.at (is_err k.result) c.args.run.now k.new c.args.outcome.now told first_ last) (same-card card there)
       (inr (subst (λ (left : Cabin). ShutsBehind k.which c.args.slot c.args.at (told_of (with_cabin left c.args.run.now) c.args.outcome.now) c.args.run.now k.new told first_ last) c.leave.ensures.kept (record {
@@ -383,26 +337,26 @@ module _ (g : Over) (c : In_ok-settle g) (k : Side g c) where
         closed = n.closed;
         act = n.act;
         selected = n.selected;
-        shut = λ closes f w start t may gone stored time valid.
+        shut = λ how f w start t may gone stored time valid.
             subst (λ (x : State). IsShut (session_of c.settle.new.run.keeper.cabin.cards k.which) n.act x) (card-is k.which k.unit (k.state k.after) k.beside)
-            (withdrawn-shut k.which (g.M.Medium.state c.settle.new.unit) k.unit (k.state k.before) (k.state k.after) k.beside e.journal e.clock_card n.closing b.0 c.args.at (told_of (with_cabin c.leave.new.self c.args.run.now) c.args.outcome.now) (told_of c.settle.new.run c.settle.new.outcome) first_ n.act n.closes b.1 b.3 books
-            closes f w start t may gone stored time valid);
+            (withdrawn-shut k.which (g.M.Medium.state c.settle.new.unit) k.unit (k.state k.before) (k.state k.after) k.beside closes.journal closes.clock_card n.closing b.0 c.args.at (told_of (with_cabin c.leave.new.self c.args.run.now) c.args.outcome.now) (told_of c.settle.new.run c.settle.new.outcome) first_ n.act n.closes b.1 b.3 books
+            how f w start t may gone stored time valid);
       })))
 
   events : NotesWithdrawing (card_in (seat_in c.args.run.now.keeper.cabin.slots.seats c.args.slot)) c.args.slot c.args.at (is_err k.result) c.args.run.now k.new c.args.outcome.now told first_ last
   events =
       let settling = left-there (λ m run. NotesSettling m false run c.settle.new.run c.args.outcome.now c.settle.new.outcome (g.M.Medium.state c.args.unit.now) (g.M.Medium.state c.settle.new.unit)) c.args.slot c.args.at c.args.at c.args.run.now c.leave.new.self c.leave.ensures.kept refl c.in_ok-settle.ensures.noted in
       let these = settles-these c.args.at false (left_run c.args.slot c.args.at.second c.args.run.now) c.settle.new.run c.args.outcome.now c.settle.new.outcome (g.M.Medium.state c.args.unit.now) (g.M.Medium.state c.settle.new.unit) (g.C.Chip.state c.args.card_a.now) (g.D.Chip.state c.args.card_b.now) (g.C.Chip.state c.settle.new.card_a) (g.D.Chip.state c.settle.new.card_b) (g.met.M.Medium.coherent c.args.unit.now) c.requires.held.is_unit settling in
-      withdrawal-noted (card_in (seat_in c.args.run.now.keeper.cabin.slots.seats c.args.slot)) k.which seat c.args.slot c.args.at (is_err k.result) c.args.run.now c.settle.new.run k.new c.args.outcome.now c.settle.new.outcome k.breaks first_ between last these.0 these.1 (subst (λ (m : Devices). NotesEvents these.0 false first_ m) k.settled_as these.2)
+      withdrawal-noted (card_in (seat_in c.args.run.now.keeper.cabin.slots.seats c.args.slot)) k.which seat c.args.slot c.args.at (is_err k.result) c.args.run.now c.settle.new.run k.new c.args.outcome.now c.settle.new.outcome k.breaks first_ between last these.0 these.1 (subst (λ (m : Devices). NotesEvents these.0 false first_ m) (k.beside_it (g.M.Medium.state c.settle.new.unit)) these.2)
       (closing-any k.which c.args.slot c.args.at (is_err k.result) c.settle.new.run k.new c.settle.new.outcome.breaks k.breaks (devices (g.M.Medium.state c.settle.new.unit) (k.state k.before) (k.state k.before)) (devices k.unit (k.state k.after) (k.state k.after)) between last
-      (unit-is k.which (g.M.Medium.state c.settle.new.unit) (k.state k.before) k.beside) (unit-is k.which k.unit (k.state k.after) k.beside) k.ensures.events)
+      (unit-is k.which (g.M.Medium.state c.settle.new.unit) (k.state k.before) k.beside) (unit-is k.which k.unit (k.state k.after) k.beside) closes.events)
 
   leaves : LeavesRings (g.M.Medium.state c.args.unit.now) (g.M.Medium.state c.settle.new.unit)
   leaves = settling-leaves c.args.at false (with_cabin c.leave.new.self c.args.run.now) c.settle.new.run c.args.outcome.now c.settle.new.outcome (g.M.Medium.state c.args.unit.now) (g.M.Medium.state c.settle.new.unit) c.in_ok-settle.ensures.noted
 
   rings_ : is_some (g.M.Medium.state c.args.unit.now).image ≡ true → WithdrawsSo (card_in (seat_in c.args.run.now.keeper.cabin.slots.seats c.args.slot)) c.args.slot c.args.at (is_err k.result) c.args.run.now k.new c.args.outcome.now told (g.M.Medium.state c.args.unit.now) k.unit
   rings_ tells =
-      let n = k.ensures.rings (c.in_ok-settle.ensures.tells ∙ tells) in
+      let n = closes.rings (c.in_ok-settle.ensures.tells ∙ tells) in
       subst (λ (q : Option Card). WithdrawsSo q c.args.slot c.args.at (is_err k.result) c.args.run.now k.new c.args.outcome.now told (g.M.Medium.state c.args.unit.now) k.unit) (sym seat)
       (inr (record {
         closed = record { between = c.settle.new.run; told = c.settle.new.outcome; settled_first = settled-first g c; closing = n.closing; closed = n.closed; outcome = refl };
@@ -422,11 +376,11 @@ module _ (g : Over) (c : In_ok-settle g) (k : Side g c) where
     minutes = c.in_ok-settle.ensures.settled.minutes w.within.sp w.within.minutes
 
     time-then : HaveTime between
-    time-then = time-before k.which (g.M.Medium.state c.settle.new.unit) k.unit (k.state k.before) (k.state k.after) k.beside k.ensures.journal.later k.ensures.clock_card time
+    time-then = time-before k.which (g.M.Medium.state c.settle.new.unit) k.unit (k.state k.before) (k.state k.after) k.beside closes.journal.later closes.clock_card time
 
     records : RecordsSettling c.in_ok-settle.ensures.recorded.0 (acting_at s.number (suc (length front))) false (left_run c.args.slot s.number c.args.run.now) c.settle.new.run c.args.outcome.now c.settle.new.outcome first_ between
     records = left-there (λ m run. RecordsSettling c.in_ok-settle.ensures.recorded.0 m false run c.settle.new.run c.args.outcome.now c.settle.new.outcome first_ between) c.args.slot c.args.at (acting_at s.number (suc (length front))) c.args.run.now c.leave.new.self c.leave.ensures.kept moment
-        (subst (λ (m : Devices). RecordsSettling c.in_ok-settle.ensures.recorded.0 c.args.at false (with_cabin c.leave.new.self c.args.run.now) c.settle.new.run c.args.outcome.now c.settle.new.outcome first_ m) k.settled_as c.in_ok-settle.ensures.recorded.2)
+        (subst (λ (m : Devices). RecordsSettling c.in_ok-settle.ensures.recorded.0 c.args.at false (with_cabin c.leave.new.self c.args.run.now) c.settle.new.run c.args.outcome.now c.settle.new.outcome first_ m) (k.beside_it (g.M.Medium.state c.settle.new.unit)) c.in_ok-settle.ensures.recorded.2)
 
     abbrev kept : IsSettled (acting_at s.number (suc (length front))) false (left_run c.args.slot s.number c.args.run.now) c.settle.new.run c.args.outcome.now c.settle.new.outcome
     kept = left-there (λ m run. IsSettled m false run c.settle.new.run c.args.outcome.now c.settle.new.outcome) c.args.slot c.args.at (acting_at s.number (suc (length front))) c.args.run.now c.leave.new.self c.leave.ensures.kept moment c.in_ok-settle.ensures.settled
@@ -438,15 +392,14 @@ module _ (g : Over) (c : In_ok-settle g) (k : Side g c) where
     recorded =
         let going = going-with g c k.which k.is in
         let r = c.in_ok-settle.ensures.recorded in
-        let e = k.ensures in
-        let n_ = e.closed in
-        let rung = e.rings (c.settle.ensures.tells ∙ w.within.there.unit) in
+        let n_ = closes.closed in
+        let rung = closes.rings (c.settle.ensures.tells ∙ w.within.there.unit) in
         subst (λ (q : ℕ). GoesOnOrFails (is_err k.result) o done s (In q) [] k.new told last w.within.b) (sym n)
         (closing-recorded o done s front rest c.args.slot are speed now.speed_is k.which c.args.run.now c.settle.new.run c.args.outcome.now c.settle.new.outcome first_ w seat allowed (ungiven_of c.requires.going.span) c.requires.going.cabin minutes r.0 (r.1 w.within.sp w.within.minutes)
-        k.state (g.M.Medium.state c.settle.new.unit) k.unit k.beside k.before k.after (g.met.M.Medium.coherent c.settle.new.unit) k.whole k.size e.left e.bare e.journal (is_err k.result) e.cause going.span going.stands going.next
+        k.state (g.M.Medium.state c.settle.new.unit) k.unit k.beside k.before k.after (g.met.M.Medium.coherent c.settle.new.unit) k.whole k.size closes.left closes.bare closes.journal (is_err k.result) closes.cause going.span going.stands going.next
         records time-then c.args.at c.in_ok-settle.ensures.settled.decided (told_of (with_cabin c.leave.new.self c.args.run.now) c.args.outcome.now) c.in_ok-settle.ensures.settled.kept session-then
-        (λ fine. closes-more rung.closing (session_of c.settle.new.run.keeper.cabin.cards k.which) c.args.at (is_err k.result) c.settle.new.run (g.M.Medium.state c.settle.new.unit) k.unit k.unit_whole e.unit going.span going.stands rung.rings fine)
-        k.new k.breaks n_.0 n_.3 (subst (λ (m : Moment). IsClosed k.which c.args.slot m c.settle.new.run k.new c.settle.new.outcome.breaks k.breaks n_.0) moment n_.1) e.calm n_.2)
+        (λ fine. closes-more rung.closing (session_of c.settle.new.run.keeper.cabin.cards k.which) c.args.at (is_err k.result) c.settle.new.run (g.M.Medium.state c.settle.new.unit) k.unit k.unit_whole closes.unit going.span going.stands rung.rings fine)
+        k.new k.breaks n_.0 n_.3 (subst (λ (m : Moment). IsClosed k.which c.args.slot m c.settle.new.run k.new c.settle.new.outcome.breaks k.breaks n_.0) moment n_.1) closes.calm n_.2)
 
     evented : EventedNow o done s w.within.b.run Acting (log_of c.args.outcome.now) first_ → EventsGoOn (is_err k.result) o done s w.within.b.run (In c.args.at.begun) Acting (log_of told) last
     evented before =
@@ -454,29 +407,28 @@ module _ (g : Over) (c : In_ok-settle g) (k : Side g c) where
         let second : c.args.at.second ≡ s.number = c.requires.at ∙ sym now.number in
         let r = c.in_ok-settle.ensures.recorded in
         let v = c.in_ok-settle.ensures.evented in
-        let e = k.ensures in
-        let n_ = e.events in
-        let fell = e.closed in
+        let n_ = closes.events in
+        let fell = closes.closed in
         let settles =
         left-there (λ m run. EventsSettling v.0 m false run c.settle.new.run c.args.outcome.now c.settle.new.outcome first_ between) c.args.slot c.args.at (acting_at s.number (suc (length front))) c.args.run.now c.leave.new.self c.leave.ensures.kept moment
-        (subst (λ (m : Devices). EventsSettling v.0 c.args.at false (with_cabin c.leave.new.self c.args.run.now) c.settle.new.run c.args.outcome.now c.settle.new.outcome first_ m) k.settled_as v.2) in
+        (subst (λ (m : Devices). EventsSettling v.0 c.args.at false (with_cabin c.leave.new.self c.args.run.now) c.settle.new.run c.args.outcome.now c.settle.new.outcome first_ m) (k.beside_it (g.M.Medium.state c.settle.new.unit)) v.2) in
         let told_then = settled-evented o done s front rest c.args.slot are speed now.speed_is k.which c.args.run.now c.settle.new.run c.args.outcome.now c.settle.new.outcome first_ w seat allowed (ungiven_of c.requires.going.span) c.requires.going.cabin minutes v.0 (v.1 w.within.sp w.within.minutes) false between settles before time-then in
         let same = same-closing k.which c.args.slot c.args.at c.settle.new.run k.new c.settle.new.outcome.breaks k.breaks n_.closing fell.0 n_.closed fell.1 in
         let notes =
         noted-any (closed_events n_.closing c.args.at.second k.new) (is_err k.result) (devices (g.M.Medium.state c.settle.new.unit) (k.state k.before) (k.state k.before)) (devices k.unit (k.state k.after) (k.state k.after)) between last (unit-is k.which (g.M.Medium.state c.settle.new.unit) (k.state k.before) k.beside) (unit-is k.which k.unit (k.state k.after) k.beside) n_.notes in
         subst (λ (q : ℕ). EventsGoOn (is_err k.result) o done s w.within.b.run (In q) Acting (log_of told) last) (sym n)
         (closing-evented o done s front rest c.args.slot are speed now.speed_is k.which c.args.run.now c.settle.new.run c.args.outcome.now c.settle.new.outcome first_ w seat allowed (ungiven_of c.requires.going.span) c.requires.going.cabin minutes r.0 (r.1 w.within.sp w.within.minutes)
-        k.state (g.M.Medium.state c.settle.new.unit) k.unit k.beside k.before k.after (g.met.M.Medium.coherent c.settle.new.unit) k.whole k.size e.left e.bare e.journal (is_err k.result) e.cause going.span going.stands going.next
+        k.state (g.M.Medium.state c.settle.new.unit) k.unit k.beside k.before k.after (g.met.M.Medium.coherent c.settle.new.unit) k.whole k.size closes.left closes.bare closes.journal (is_err k.result) closes.cause going.span going.stands going.next
         records time-then c.args.at c.in_ok-settle.ensures.settled.decided (told_of (with_cabin c.leave.new.self c.args.run.now) c.args.outcome.now) c.in_ok-settle.ensures.settled.kept session-then
         small (ap (λ (x : Outcome). x.finds) c.in_ok-settle.ensures.settled.outcome) (ungiven_of going.span) going.cabin told_then
-        k.new k.breaks n_.closing (subst (λ (m : Moment). IsClosed k.which c.args.slot m c.settle.new.run k.new c.settle.new.outcome.breaks k.breaks n_.closing) moment n_.closed) e.calm
+        k.new k.breaks n_.closing (subst (λ (m : Moment). IsClosed k.which c.args.slot m c.settle.new.run k.new c.settle.new.outcome.breaks k.breaks n_.closing) moment n_.closed) closes.calm
         (subst (λ (x : ℕ). HasBroken (k.state k.before) (k.state k.after) x) (sym same) fell.2) (subst (λ (u : ℕ). NotesEvents (closed_events n_.closing u k.new) (is_err k.result) between last) second notes))
 
     left : HaveLeftMore o first_ last
     left =
         more-left o first_ last (w.within.powered.lit.unit.unit_holds [] []).later w.within.there.clocks
-        (keeps-by k.which first_ (g.M.Medium.state c.settle.new.unit) k.unit (k.state k.before) (k.state k.after) k.beside (subst (λ (m : Devices). AreLeftMore first_ m) k.settled_as c.settle.ensures.keeps) (subst (λ (m : Devices). AreLater first_ m) k.settled_as c.settle.ensures.later) k.ensures.journal.keeps
-        (closing-left k.state k.before k.after (session_of c.settle.new.run.keeper.cabin.cards k.which) k.ensures.left k.ensures.bare))
+        (keeps-by k.which first_ (g.M.Medium.state c.settle.new.unit) k.unit (k.state k.before) (k.state k.after) k.beside (subst (λ (m : Devices). AreLeftMore first_ m) (k.beside_it (g.M.Medium.state c.settle.new.unit)) c.settle.ensures.keeps) (subst (λ (m : Devices). AreLater first_ m) (k.beside_it (g.M.Medium.state c.settle.new.unit)) c.settle.ensures.later) closes.journal.keeps
+        (closing-left k.state k.before k.after (session_of c.settle.new.run.keeper.cabin.cards k.which) closes.left closes.bare))
 
     places : PlacesStay o first_ last
     places =
@@ -484,9 +436,9 @@ module _ (g : Over) (c : In_ok-settle g) (k : Side g c) where
         let v = c.in_ok-settle.ensures.places in
         let settles =
         left-there (λ m run. PlacesSettling v.0 m run c.settle.new.run c.args.outcome.now first_ between) c.args.slot c.args.at (acting_at s.number (suc (length front))) c.args.run.now c.leave.new.self c.leave.ensures.kept moment
-        (subst (λ (m : Devices). PlacesSettling v.0 c.args.at (with_cabin c.leave.new.self c.args.run.now) c.settle.new.run c.args.outcome.now first_ m) k.settled_as v.2) in
+        (subst (λ (m : Devices). PlacesSettling v.0 c.args.at (with_cabin c.leave.new.self c.args.run.now) c.settle.new.run c.args.outcome.now first_ m) (k.beside_it (g.M.Medium.state c.settle.new.unit)) v.2) in
         stay-then o first_ between last (settled-places o done s front rest c.args.slot are speed now.speed_is k.which c.args.run.now c.settle.new.run c.args.outcome.now c.settle.new.outcome first_ w seat allowed (ungiven_of c.requires.going.span) c.requires.going.cabin minutes v.0 (v.1 w.within.sp w.within.minutes) between settles time-then)
-        (closed-places o done s front rest c.args.slot are speed now.speed_is k.which c.args.run.now c.settle.new.run c.args.outcome.now c.settle.new.outcome first_ w seat allowed (ungiven_of c.requires.going.span) c.requires.going.cabin minutes r.0 (r.1 w.within.sp w.within.minutes) k.state (g.M.Medium.state c.settle.new.unit) k.unit k.beside k.before k.after k.whole k.size k.ensures.left k.ensures.bare records time-then)
+        (closed-places o done s front rest c.args.slot are speed now.speed_is k.which c.args.run.now c.settle.new.run c.args.outcome.now c.settle.new.outcome first_ w seat allowed (ungiven_of c.requires.going.span) c.requires.going.cabin minutes r.0 (r.1 w.within.sp w.within.minutes) k.state (g.M.Medium.state c.settle.new.unit) k.unit k.beside k.before k.after k.whole k.size closes.left closes.bare records time-then)
 
     shows : StillShow o first_ last
     shows =
@@ -494,13 +446,13 @@ module _ (g : Over) (c : In_ok-settle g) (k : Side g c) where
         let v = c.in_ok-settle.ensures.cards in
         let settles =
         left-there (λ m run. CardsSettling v.0 m run c.settle.new.run c.args.outcome.now first_ between) c.args.slot c.args.at (acting_at s.number (suc (length front))) c.args.run.now c.leave.new.self c.leave.ensures.kept moment
-        (subst (λ (m : Devices). CardsSettling v.0 c.args.at (with_cabin c.leave.new.self c.args.run.now) c.settle.new.run c.args.outcome.now first_ m) k.settled_as v.2) in
+        (subst (λ (m : Devices). CardsSettling v.0 c.args.at (with_cabin c.leave.new.self c.args.run.now) c.settle.new.run c.args.outcome.now first_ m) (k.beside_it (g.M.Medium.state c.settle.new.unit)) v.2) in
         shows-then o first_ between last (settled-still o done s front rest c.args.slot are speed now.speed_is k.which c.args.run.now c.settle.new.run c.args.outcome.now c.settle.new.outcome first_ w seat allowed (ungiven_of c.requires.going.span) c.requires.going.cabin minutes v.0 (v.1 w.within.sp w.within.minutes) between settles time-then)
-        (closed-still o done s front rest c.args.slot are speed now.speed_is k.which c.args.run.now c.settle.new.run c.args.outcome.now c.settle.new.outcome first_ w seat allowed (ungiven_of c.requires.going.span) c.requires.going.cabin minutes r.0 (r.1 w.within.sp w.within.minutes) k.state (g.M.Medium.state c.settle.new.unit) k.unit k.beside k.before k.after k.whole k.size k.ensures.left k.ensures.bare records time-then)
+        (closed-still o done s front rest c.args.slot are speed now.speed_is k.which c.args.run.now c.settle.new.run c.args.outcome.now c.settle.new.outcome first_ w seat allowed (ungiven_of c.requires.going.span) c.requires.going.cabin minutes r.0 (r.1 w.within.sp w.within.minutes) k.state (g.M.Medium.state c.settle.new.unit) k.unit k.beside k.before k.after k.whole k.size closes.left closes.bare records time-then)
 
     cards_ : CardsIn o done s w.within.b.run.log front (log_of c.args.outcome.now) first_ → CardsGoOn (is_err k.result) o done s w.within.b.run.log (front ++ Withdraw c.args.slot ∷ []) (log_of told) last
     cards_ before =
-        let n_ = k.ensures.closed in
+        let n_ = closes.closed in
         let t : TellsLines (acting_at s.number (suc (length front))) c.args.outcome.now told = subst (λ (m : Moment). TellsLines m c.args.outcome.now told) moment
         (closed-lines c.args.at c.args.outcome.now c.settle.new.outcome k.breaks n_.0 c.args.slot (settled-lines c.args.at false (with_cabin c.leave.new.self c.args.run.now) c.settle.new.run c.args.outcome.now c.settle.new.outcome c.in_ok-settle.ensures.settled) n_.1.told) in
         quiet-goes o done s front rest (Withdraw c.args.slot) are c.args.run.now c.args.outcome.now first_ last w tt t.lines (log_of told) t.are t.tears left shows before (is_err k.result)
@@ -509,7 +461,7 @@ module _ (g : Over) (c : In_ok-settle g) (k : Side g c) where
     ringed spans t rings =
         let lit = c.requires.going in
         let r = c.in_ok-settle.ensures.recorded in
-        let n_ = k.ensures.rings (c.settle.ensures.tells ∙ w.within.there.unit) in
+        let n_ = closes.rings (c.settle.ensures.tells ∙ w.within.there.unit) in
         let entries = entry-of c.args.run.now.noted (session_of c.args.run.now.keeper.cabin.cards k.which) (lit.entries k.which) in
         let closed = subst (λ (m : Moment). IsClosed k.which c.args.slot m c.settle.new.run k.new c.settle.new.outcome.breaks k.breaks n_.closing) moment n_.closed in
         let writes : ClosesRings n_.closing (session_of c.settle.new.run.keeper.cabin.cards k.which) (acting_at s.number (suc (length front))) (is_err k.result) c.settle.new.run (g.M.Medium.state c.args.unit.now) last.unit =
@@ -530,7 +482,7 @@ module _ (g : Over) (c : After-close g) where
   abbrev kept-a : In_ok-settle g
   kept-a = (goal.at.returns-in-A-clause-cause g c).In_ok-settle
 
-  abbrev side-a : Side g kept-a
+  abbrev side-a : OneCard kept-a.in-Some.card (g.C.Chip.state c.settle.new.card_a) (g.D.Chip.state c.settle.new.card_b)
   side-a = record {
     which = A;
     is = c.in-A.is;
@@ -540,22 +492,22 @@ module _ (g : Over) (c : After-close g) where
     before = c.settle.new.card_a;
     after = c.close.new.card;
     whole = g.met.C.Chip.coherent c.settle.new.card_a;
+    whole_after = g.met.C.Chip.coherent c.close.new.card;
     size = c.settle.ensures.held.card_a.size;
     beside = g.D.Chip.state c.settle.new.card_b;
-    settled_as = refl;
+    beside_it = λ unit. refl;
     unit = g.M.Medium.state c.close.new.unit;
     unit_whole = g.met.M.Medium.coherent c.close.new.unit;
     new = c.close.new.run;
     breaks = c.close.new.breaks;
     result = c.close.result;
-    ensures = c.close.ensures;
   }
 
 module _ (g : Over) (c : After-close-in-B g) where
   abbrev kept-b : In_ok-settle g
   kept-b = (goal.at.returns-in-B-clause-cause g c).In_ok-settle
 
-  abbrev side-b : Side g kept-b
+  abbrev side-b : OneCard kept-b.in-Some.card (g.C.Chip.state c.settle.new.card_a) (g.D.Chip.state c.settle.new.card_b)
   side-b = record {
     which = B;
     is = c.in-B.is;
@@ -565,15 +517,15 @@ module _ (g : Over) (c : After-close-in-B g) where
     before = c.settle.new.card_b;
     after = c.close-in-B.new.card;
     whole = g.met.D.Chip.coherent c.settle.new.card_b;
+    whole_after = g.met.D.Chip.coherent c.close-in-B.new.card;
     size = c.settle.ensures.held.card_b.size;
     beside = g.C.Chip.state c.settle.new.card_a;
-    settled_as = refl;
+    beside_it = λ unit. refl;
     unit = g.M.Medium.state c.close-in-B.new.unit;
     unit_whole = g.met.M.Medium.coherent c.close-in-B.new.unit;
     new = c.close-in-B.new.run;
     breaks = c.close-in-B.new.breaks;
     result = c.close-in-B.result;
-    ensures = c.close-in-B.ensures;
   }
 
 -- ---- there is none in the slot
@@ -738,13 +690,13 @@ returns-in_err-settle-clause-calm g c = c.settle.ensures.calm
 -- ---- card a, and card b
 
 pub returns-in-A-clause-withdrawn : goal.returns-in-A-clause-withdrawn
-returns-in-A-clause-withdrawn g c = withdrawn g (kept-a g c) (side-a g c)
+returns-in-A-clause-withdrawn g c = withdrawn g (kept-a g c) (side-a g c) c.close.ensures
 
 pub returns-in-A-clause-only : goal.returns-in-A-clause-only
-returns-in-A-clause-only g c = only g (kept-a g c) (side-a g c)
+returns-in-A-clause-only g c = only g (kept-a g c) (side-a g c) c.close.ensures
 
 pub returns-in-A-clause-rest : goal.returns-in-A-clause-rest
-returns-in-A-clause-rest g c = rest_ g (kept-a g c) (side-a g c)
+returns-in-A-clause-rest g c = rest_ g (kept-a g c) (side-a g c) c.close.ensures
 
 pub returns-in-A-clause-held : goal.returns-in-A-clause-held
 returns-in-A-clause-held g c =
@@ -786,52 +738,52 @@ returns-in-A-clause-going g c =
     (closed-past A second between.keeper.cabin n.0) (e.stands (ungiven_of going.span) going.cabin) (closed-sessions A second between.keeper.cabin n.0)))
 
 pub returns-in-A-clause-takes : goal.returns-in-A-clause-takes
-returns-in-A-clause-takes g c = takes g (kept-a g c) (side-a g c)
+returns-in-A-clause-takes g c = takes g (kept-a g c) (side-a g c) c.close.ensures
 
 pub returns-in-A-clause-more : goal.returns-in-A-clause-more
-returns-in-A-clause-more g c = more g (kept-a g c) (side-a g c)
+returns-in-A-clause-more g c = more g (kept-a g c) (side-a g c) c.close.ensures
 
 pub returns-in-A-clause-cause : goal.returns-in-A-clause-cause
 returns-in-A-clause-cause g c = cause_after c.in_ok-settle.ensures.cause c.close.ensures.cause
 
 pub returns-in-A-clause-booked : goal.returns-in-A-clause-booked
-returns-in-A-clause-booked g c = booked g (kept-a g c) (side-a g c)
+returns-in-A-clause-booked g c = booked g (kept-a g c) (side-a g c) c.close.ensures
 
 pub returns-in-A-clause-events : goal.returns-in-A-clause-events
-returns-in-A-clause-events g c = events g (kept-a g c) (side-a g c)
+returns-in-A-clause-events g c = events g (kept-a g c) (side-a g c) c.close.ensures
 
 pub returns-in-A-clause-rings : goal.returns-in-A-clause-rings
-returns-in-A-clause-rings g c = rings_ g (kept-a g c) (side-a g c)
+returns-in-A-clause-rings g c = rings_ g (kept-a g c) (side-a g c) c.close.ensures
 
 pub returns-in-A-clause-shut : goal.returns-in-A-clause-shut
-returns-in-A-clause-shut g c = shut g (kept-a g c) (side-a g c)
+returns-in-A-clause-shut g c = shut g (kept-a g c) (side-a g c) c.close.ensures
 
 pub returns-in-A-clause-later : goal.returns-in-A-clause-later
-returns-in-A-clause-later g c = later g (kept-a g c) (side-a g c)
+returns-in-A-clause-later g c = later g (kept-a g c) (side-a g c) c.close.ensures
 
 pub returns-in-A-clause-calm : goal.returns-in-A-clause-calm
-returns-in-A-clause-calm g c = calm g (kept-a g c) (side-a g c)
+returns-in-A-clause-calm g c = calm g (kept-a g c) (side-a g c) c.close.ensures
 
 pub returns-in-A-clause-recorded : goal.returns-in-A-clause-recorded
-returns-in-A-clause-recorded g c = λ late speed o done s now front rest are n allowed w time. recorded g (kept-a g c) (side-a g c) late speed o done s now front rest are n allowed w time
+returns-in-A-clause-recorded g c = λ late speed o done s now front rest are n allowed w time. recorded g (kept-a g c) (side-a g c) c.close.ensures late speed o done s now front rest are n allowed w time
 
 pub returns-in-A-clause-evented : goal.returns-in-A-clause-evented
-returns-in-A-clause-evented g c = λ late speed o done s now front rest are n allowed w events time. evented g (kept-a g c) (side-a g c) late speed o done s now front rest are n allowed w time events
+returns-in-A-clause-evented g c = λ late speed o done s now front rest are n allowed w events time. evented g (kept-a g c) (side-a g c) c.close.ensures late speed o done s now front rest are n allowed w time events
 
 pub returns-in-A-clause-ringed : goal.returns-in-A-clause-ringed
-returns-in-A-clause-ringed g c = λ late speed o done s now front rest are n allowed w spans t rings time. ringed g (kept-a g c) (side-a g c) late speed o done s now front rest are n allowed w time spans t rings
+returns-in-A-clause-ringed g c = λ late speed o done s now front rest are n allowed w spans t rings time. ringed g (kept-a g c) (side-a g c) c.close.ensures late speed o done s now front rest are n allowed w time spans t rings
 
 pub returns-in-A-clause-cards : goal.returns-in-A-clause-cards
-returns-in-A-clause-cards g c = λ late speed o done s now front rest are n allowed vehicle w cards time. cards_ g (kept-a g c) (side-a g c) late speed o done s now front rest are n allowed w time cards
+returns-in-A-clause-cards g c = λ late speed o done s now front rest are n allowed vehicle w cards time. cards_ g (kept-a g c) (side-a g c) c.close.ensures late speed o done s now front rest are n allowed w time cards
 
 pub returns-in-B-clause-withdrawn : goal.returns-in-B-clause-withdrawn
-returns-in-B-clause-withdrawn g c = withdrawn g (kept-b g c) (side-b g c)
+returns-in-B-clause-withdrawn g c = withdrawn g (kept-b g c) (side-b g c) c.close-in-B.ensures
 
 pub returns-in-B-clause-only : goal.returns-in-B-clause-only
-returns-in-B-clause-only g c = only g (kept-b g c) (side-b g c)
+returns-in-B-clause-only g c = only g (kept-b g c) (side-b g c) c.close-in-B.ensures
 
 pub returns-in-B-clause-rest : goal.returns-in-B-clause-rest
-returns-in-B-clause-rest g c = rest_ g (kept-b g c) (side-b g c)
+returns-in-B-clause-rest g c = rest_ g (kept-b g c) (side-b g c) c.close-in-B.ensures
 
 pub returns-in-B-clause-held : goal.returns-in-B-clause-held
 returns-in-B-clause-held g c =
@@ -873,40 +825,40 @@ returns-in-B-clause-going g c =
     (closed-past B second between.keeper.cabin n.0) (e.stands (ungiven_of going.span) going.cabin) (closed-sessions B second between.keeper.cabin n.0)))
 
 pub returns-in-B-clause-takes : goal.returns-in-B-clause-takes
-returns-in-B-clause-takes g c = takes g (kept-b g c) (side-b g c)
+returns-in-B-clause-takes g c = takes g (kept-b g c) (side-b g c) c.close-in-B.ensures
 
 pub returns-in-B-clause-more : goal.returns-in-B-clause-more
-returns-in-B-clause-more g c = more g (kept-b g c) (side-b g c)
+returns-in-B-clause-more g c = more g (kept-b g c) (side-b g c) c.close-in-B.ensures
 
 pub returns-in-B-clause-cause : goal.returns-in-B-clause-cause
 returns-in-B-clause-cause g c = cause_after c.in_ok-settle.ensures.cause c.close-in-B.ensures.cause
 
 pub returns-in-B-clause-booked : goal.returns-in-B-clause-booked
-returns-in-B-clause-booked g c = booked g (kept-b g c) (side-b g c)
+returns-in-B-clause-booked g c = booked g (kept-b g c) (side-b g c) c.close-in-B.ensures
 
 pub returns-in-B-clause-events : goal.returns-in-B-clause-events
-returns-in-B-clause-events g c = events g (kept-b g c) (side-b g c)
+returns-in-B-clause-events g c = events g (kept-b g c) (side-b g c) c.close-in-B.ensures
 
 pub returns-in-B-clause-rings : goal.returns-in-B-clause-rings
-returns-in-B-clause-rings g c = rings_ g (kept-b g c) (side-b g c)
+returns-in-B-clause-rings g c = rings_ g (kept-b g c) (side-b g c) c.close-in-B.ensures
 
 pub returns-in-B-clause-shut : goal.returns-in-B-clause-shut
-returns-in-B-clause-shut g c = shut g (kept-b g c) (side-b g c)
+returns-in-B-clause-shut g c = shut g (kept-b g c) (side-b g c) c.close-in-B.ensures
 
 pub returns-in-B-clause-later : goal.returns-in-B-clause-later
-returns-in-B-clause-later g c = later g (kept-b g c) (side-b g c)
+returns-in-B-clause-later g c = later g (kept-b g c) (side-b g c) c.close-in-B.ensures
 
 pub returns-in-B-clause-calm : goal.returns-in-B-clause-calm
-returns-in-B-clause-calm g c = calm g (kept-b g c) (side-b g c)
+returns-in-B-clause-calm g c = calm g (kept-b g c) (side-b g c) c.close-in-B.ensures
 
 pub returns-in-B-clause-recorded : goal.returns-in-B-clause-recorded
-returns-in-B-clause-recorded g c = λ late speed o done s now front rest are n allowed w time. recorded g (kept-b g c) (side-b g c) late speed o done s now front rest are n allowed w time
+returns-in-B-clause-recorded g c = λ late speed o done s now front rest are n allowed w time. recorded g (kept-b g c) (side-b g c) c.close-in-B.ensures late speed o done s now front rest are n allowed w time
 
 pub returns-in-B-clause-evented : goal.returns-in-B-clause-evented
-returns-in-B-clause-evented g c = λ late speed o done s now front rest are n allowed w events time. evented g (kept-b g c) (side-b g c) late speed o done s now front rest are n allowed w time events
+returns-in-B-clause-evented g c = λ late speed o done s now front rest are n allowed w events time. evented g (kept-b g c) (side-b g c) c.close-in-B.ensures late speed o done s now front rest are n allowed w time events
 
 pub returns-in-B-clause-ringed : goal.returns-in-B-clause-ringed
-returns-in-B-clause-ringed g c = λ late speed o done s now front rest are n allowed w spans t rings time. ringed g (kept-b g c) (side-b g c) late speed o done s now front rest are n allowed w time spans t rings
+returns-in-B-clause-ringed g c = λ late speed o done s now front rest are n allowed w spans t rings time. ringed g (kept-b g c) (side-b g c) c.close-in-B.ensures late speed o done s now front rest are n allowed w time spans t rings
 
 pub returns-in-B-clause-cards : goal.returns-in-B-clause-cards
-returns-in-B-clause-cards g c = λ late speed o done s now front rest are n allowed vehicle w cards time. cards_ g (kept-b g c) (side-b g c) late speed o done s now front rest are n allowed w time cards
+returns-in-B-clause-cards g c = λ late speed o done s now front rest are n allowed vehicle w cards time. cards_ g (kept-b g c) (side-b g c) c.close-in-B.ensures late speed o done s now front rest are n allowed w time cards
