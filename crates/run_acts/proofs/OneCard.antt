@@ -1,5 +1,5 @@
 -- One of the two cards with its device, and the other one's state.
-use Rattle.std.proofs.Common.{◌≡◌, ◌≤◌, ℕ, Bool, true, false, List, [], refl, sym, subst}
+use Rattle.std.proofs.Common.{◌≡◌, ◌≤◌, ℕ, Bool, true, false, List, [], None, Some, refl, sym, subst, ◌+◌, ◌/◌, Option, ap, arith, is_some, length, ◌∙◌}
 use Rattle.run_keeping.specs.Later.{AreCalm, AreLater, IsCalm, IsLater}
 use Rattle.run_acts.specs.Devices.{AreLeftMore}
 use Rattle.log_model.specs.declared.lines.Break.{Break}
@@ -8,8 +8,8 @@ use Rattle.card_layout.specs.declared.command.CardState.{CardState}
 use Rattle.run_crew.specs.declared.cards.Cards.{Cards}
 use Rattle.safety_model.specs.Safe.{Devices, card_of}
 use Rattle.tach_media.specs.declared.fault.Failed.{Failed}
-use Rattle.run_keeping.specs.Keeping.{HasLeftMore}
-use Rattle.tach_media.specs.Medium.{IsCoherent, State}
+use Rattle.run_keeping.specs.Keeping.{HasLeftMore, CardReady, HasItsRow, UnitReady}
+use Rattle.tach_media.specs.Medium.{IsCoherent, State, HasCause}
 use Rattle.trace_model.specs.declared.Card.TheVariants.{A, B}
 use Rattle.run_crew.specs.declared.cards.Known.{Known}
 use Rattle.card_layout.specs.declared.files.TheConstants.{LARGEST_IMAGE}
@@ -19,14 +19,24 @@ use Rattle.std.specs.Prelude.{Result}
 use Rattle.run_acts.specs.declared.run.Run.{Run}
 use Rattle.run_told.specs.Told.{arranged}
 use Rattle.run_acts.proofs.CardNotes.{both-cards, on-none}
-use Rattle.run_keeping.proofs.Calm.{calm-of-a, calm-of-b}
+use Rattle.run_keeping.proofs.Calm.{calm-of-a, calm-of-b, card-by}
 use Rattle.run_rule.specs.Between.{devices}
 use Rattle.run_crew.specs.Cards.{known_of, session_of}
 use Rattle.run_keeping.proofs.Later.{later-of-a, later-of-b}
 use Rattle.run_acts.proofs.RingedSecond.{left-after}
-use Rattle.run_acts.proofs.Cabins.{noted-a, noted-b, noted_cabin}
+use Rattle.run_acts.proofs.Cabins.{noted-a, noted-b, noted_cabin, at-same, cabin-going, cabin-held, keeper-only, noted-falls, noted-is, noted-minute, noted-past, noted-sessions, ready-same}
 use Rattle.joint_rule.specs.Views.{other}
 use Rattle.log_model.specs.Slots.{same_card}
+use Rattle.run_acts.specs.Going.{IsHeld, IsLit}
+use Rattle.run_acts.specs.Acting.{IsNotedOn, noted_breaks}
+use Rattle.unit_model.specs.Image.{IsUnit}
+use Rattle.run_keeping.specs.declared.keeper.Moment.{Moment}
+use Rattle.activity_codec.specs.declared.values.Slot.{Slot}
+use Rattle.run_crew.specs.Cabin.{Stands}
+use Rattle.run_acts.specs.Room.{falls_of}
+use Rattle.run_keeping.proofs.Counts.{lines-length}
+use Rattle.minute_model.specs.Span.{ungiven_of}
+use Rattle.run_acts.specs.Power.{with_cabin}
 
 -- a call on one card: how its device stood before and behind it, and what it did to unit, run and breaks
 pub record OneCard (card : Card) (a b : State) : Type 1 where
@@ -91,3 +101,83 @@ notes-by B old new U V X Y Z mine known =
 pub noted-beside : (card : Card) (fell : Bool) (second : ℕ) (run : Run) → known_of (noted_cabin fell card second run).cards (other card) ≡ known_of run.keeper.cabin.cards (other card)
 noted-beside A fell second run = noted-b fell second run
 noted-beside B fell second run = noted-a fell second run
+
+-- ---- the run behind a note on it
+
+module _ (card : Card) (slot : Slot) (at : Moment) (run new : Run) (breaks after : Listed Break) (fell : Bool) (noted : IsNotedOn card slot at run new breaks after fell) where
+  pub cabin-noted : new ≡ with_cabin (noted_cabin fell card at.second run) run
+  cabin-noted = noted.run ∙ noted-is fell card at.second run
+
+  pub next-noted : new.next ≡ run.next
+  next-noted = ap (λ (r : Run). r.next) cabin-noted
+
+  -- of the other card the same is known
+  pub known-noted : known_of new.keeper.cabin.cards (other card) ≡ known_of run.keeper.cabin.cards (other card)
+  known-noted = ap (λ (r : Run). known_of r.keeper.cabin.cards (other card)) cabin-noted ∙ noted-beside card fell at.second run
+
+  pub only-noted : new ≡ record run { keeper = new.keeper }
+  only-noted = keeper-only run new (noted_cabin fell card at.second run) cabin-noted
+
+  pub lines-noted : length after.items ≡ length breaks.items + length (noted_breaks fell slot at)
+  lines-noted = ap (λ (l : Listed Break). length l.items) noted.told ∙ lines-length (noted_breaks fell slot at) breaks
+
+  pub more-noted : length breaks.items ≤ length after.items
+  more-noted = let length_is = lines-noted in omega (arith, length_is)
+
+  pub room-noted : is_some (session_of run.keeper.cabin.cards card) ≡ true → (after.room ≡ breaks.room) × (length after.items + falls_of new.keeper.cabin ≤ length breaks.items + falls_of run.keeper.cabin)
+  room-noted some =
+      let falls = noted-falls card at.second run fell slot at some in
+      let same : falls_of new.keeper.cabin ≡ falls_of (noted_cabin fell card at.second run) = ap (λ (r : Run). falls_of r.keeper.cabin) cabin-noted in
+      let length_is = lines-noted in
+      (ap (λ (l : Listed Break). l.room) noted.told, omega (arith, falls, same, length_is))
+
+  pub calm-noted : (X Y : State) → HasCause X Y fell → IsCalm breaks.items after.items X Y
+  calm-noted X Y cause = card-by fell slot at (λ (b : Bool). noted_breaks b slot at) refl refl (ap (λ (l : Listed Break). l.items) noted.told) cause
+
+  minute-noted : at.second ≡ run.next → run.keeper.cabin.slots.minute ≤ run.next / 60 → (noted_cabin fell card at.second run).slots.minute ≤ run.next / 60
+  minute-noted here le = noted-minute card at.second run fell (run.next / 60) le (omega (arith, here))
+
+-- of two things that the cards have, the one of card a, and of card b
+abbrev pub of_a : {T : Type 0} → Card → (mine others : T) → T
+of_a A mine others = mine
+of_a B mine others = others
+
+abbrev pub of_b : {T : Type 0} → Card → (mine others : T) → T
+of_b A mine others = others
+of_b B mine others = mine
+
+-- whatever failed, it is held
+pub held-noted : (card : Card) (slot : Slot) (at : Moment) (run new : Run) (breaks after : Listed Break) (fell : Bool) (noted : IsNotedOn card slot at run new breaks after fell) (U V X Y Z : State) (chip next chip_beside : CardState) →
+    at.second ≡ run.next → IsHeld (run.next / 60) run U (of_a card chip chip_beside) (of_b card chip chip_beside) (of_a card X Z) (of_b card X Z) → IsUnit V → CardReady (known_of new.keeper.cabin.cards card) next Y → Y.size ≡ X.size →
+    ((from : ℕ) (leaving : Option Card) → Stands from leaving run.keeper.cabin → Stands from leaving new.keeper.cabin) →
+    IsHeld (new.next / 60) new V (of_a card next chip_beside) (of_b card next chip_beside) (of_a card Y Z) (of_b card Y Z)
+held-noted A slot at run new breaks after fell noted U V X Y Z chip next chip_beside here held unit mine same stands =
+    let stand = held.stand in
+    subst (λ (m : ℕ). IsHeld (m / 60) new V next chip_beside Y Z) (sym (next-noted A slot at run new breaks after fell noted))
+    (cabin-held (run.next / 60) run new (noted_cabin fell A at.second run) (cabin-noted A slot at run new breaks after fell noted) held unit (minute-noted A slot at run new breaks after fell noted here held.minute)
+    (record { port = mine.port; size = let size = held.card_a.size in omega (arith, same, size) }) (at-same run.keeper.cabin.cards new.keeper.cabin.cards B (known-noted A slot at run new breaks after fell noted) held.card_b) (stand.0, stand.1, stands stand.0 stand.1 stand.2))
+held-noted B slot at run new breaks after fell noted U V X Y Z chip next chip_beside here held unit mine same stands =
+    let stand = held.stand in
+    subst (λ (m : ℕ). IsHeld (m / 60) new V chip_beside next Z Y) (sym (next-noted B slot at run new breaks after fell noted))
+    (cabin-held (run.next / 60) run new (noted_cabin fell B at.second run) (cabin-noted B slot at run new breaks after fell noted) held unit (minute-noted B slot at run new breaks after fell noted here held.minute)
+    (at-same run.keeper.cabin.cards new.keeper.cabin.cards A (known-noted B slot at run new breaks after fell noted) held.card_a) (record { port = mine.port; size = let size = held.card_b.size in omega (arith, same, size) }) (stand.0, stand.1, stands stand.0 stand.1 stand.2))
+
+-- and where nothing failed it goes on
+pub going-noted : (card : Card) (slot : Slot) (at : Moment) (run new : Run) (breaks after : Listed Break) (fell : Bool) (noted : IsNotedOn card slot at run new breaks after fell) (U V X Y Z : State) (chip next chip_beside : CardState) →
+    IsLit (run.next / 60) run U (of_a card chip chip_beside) (of_b card chip chip_beside) (of_a card X Z) (of_b card X Z) → UnitReady new.keeper V → CardReady (known_of new.keeper.cabin.cards card) next Y →
+    ((c : Card) → HasItsRow run.keeper.cabin.cards U c → HasItsRow new.keeper.cabin.cards V c) → ((from : ℕ) (leaving : Option Card) → Stands from leaving run.keeper.cabin → Stands from leaving new.keeper.cabin) →
+    IsLit (new.next / 60) new V (of_a card next chip_beside) (of_b card next chip_beside) (of_a card Y Z) (of_b card Y Z)
+going-noted A slot at run new breaks after fell noted U V X Y Z chip next chip_beside lit unit mine rows stands =
+    subst (λ (m : ℕ). IsLit (m / 60) new V next chip_beside Y Z) (sym (next-noted A slot at run new breaks after fell noted))
+    (cabin-going (run.next / 60) run new (noted_cabin fell A at.second run) (cabin-noted A slot at run new breaks after fell noted) None None lit unit mine (ready-same run.keeper.cabin.cards new.keeper.cabin.cards B (known-noted A slot at run new breaks after fell noted) lit.ready.card_b) rows
+    (noted-past A at.second run fell) (stands (ungiven_of lit.span) None lit.cabin) (noted-sessions A at.second run fell))
+going-noted B slot at run new breaks after fell noted U V X Y Z chip next chip_beside lit unit mine rows stands =
+    subst (λ (m : ℕ). IsLit (m / 60) new V chip_beside next Z Y) (sym (next-noted B slot at run new breaks after fell noted))
+    (cabin-going (run.next / 60) run new (noted_cabin fell B at.second run) (cabin-noted B slot at run new breaks after fell noted) None None lit unit (ready-same run.keeper.cabin.cards new.keeper.cabin.cards A (known-noted B slot at run new breaks after fell noted) lit.ready.card_a) mine rows
+    (noted-past B at.second run fell) (stands (ungiven_of lit.span) None lit.cabin) (noted-sessions B at.second run fell))
+
+-- ---- what it may not know
+
+pub none-there : {T : Type 0} (o : Option T) → ((x : T) → o ≡ Some x → ⊥) → o ≡ None
+none-there None never = refl
+none-there (Some x) never = absurd (never x refl)

@@ -1,4 +1,4 @@
-use Rattle.std.proofs.Common.{rules, ◌≡◌, ◌∙◌, ℕ, ◌+◌, ◌/◌, Bool, true, false, Option, Some, None, is_some, length, refl, ap, sym, subst, arith, inl, inr, ◌^◌, ◌<◌, ◌≤◌}
+use Rattle.std.proofs.Common.{rules, ◌≡◌, ◌∙◌, ℕ, Bool, true, false, Option, Some, None, is_some, length, refl, ap, sym, subst, arith, inl, inr, ◌^◌, ◌<◌, ◌≤◌}
 use Rattle.trace_model.specs.declared.Card.TheVariants.{A, B}
 use Rattle.tach_media.proofs.Runs.{on_ok, ok_gives, cause_after}
 use Rattle.minute_model.specs.Span.{ungiven_of}
@@ -8,14 +8,10 @@ use Rattle.run_crew.specs.Cabin.{number_of_seat, Stands}
 use Rattle.log_model.specs.declared.lines.Break.{Break}
 use Rattle.run_outcome.specs.Lines.{Listed}
 use Rattle.run_keeping.specs.Keeping.{HasLeftMore, with_lines, CardReady, HasItsRow, UnitReady}
-use Rattle.run_keeping.proofs.Counts.{lines-length}
 use Rattle.run_acts.specs.declared.run.Run.{Run}
-use Rattle.run_acts.specs.Power.{with_cabin}
-use Rattle.run_acts.specs.Going.{IsHeld, IsLit, CardAt, StandSomehow}
-use Rattle.run_acts.specs.Room.{falls_of}
 use Rattle.run_acts.proofs.Noted.{noted-ready, noted-row}
-use Rattle.run_acts.specs.Acting.{noted_breaks, noted_run, IsNotedOn, falls_by}
-use Rattle.run_acts.proofs.Cabins.{keeper-only, cabin-going, cabin-held, ready-same, at-same, noted_cabin, noted-is, noted-past, noted-minute, noted-sessions, noted-falls, numbered-session}
+use Rattle.run_acts.specs.Acting.{noted_run, IsNotedOn, falls_by}
+use Rattle.run_acts.proofs.Cabins.{numbered-session}
 use Rattle.std.specs.Prelude.{is_err, suc, IfSome, List, [], ◌∷◌, ◌++◌, OnOk, Result}
 use Rattle.std.proofs.lemmas.List.{append-nil}
 use Rattle.activity_codec.specs.declared.values.Slot.{Slot}
@@ -36,7 +32,7 @@ use Rattle.trace_model.specs.declared.Card.{Card}
 use Rattle.gated_ring.specs.Change.{IsAdding}
 use Rattle.message_model.specs.Records.{unit_place_ring}
 use Rattle.run_acts.specs.NotedEvents.{NotesEvents}
-use Rattle.run_acts.specs.Noting.{NotesFall, NotesPlace, fall_events, IsNoteRecorded}
+use Rattle.run_acts.specs.Noting.{NotesPlace, fall_events, IsNoteRecorded, NotesFall}
 use Rattle.run_acts.proofs.NotedEvents.{same-noted, noted-any, then-noted}
 use Rattle.run_acts.proofs.ActsNoted.{says-of, quiet-any, adding-nothing, no-place, same-fell}
 use Rattle.tacho_types.specs.declared.card_number.FullCardNumber.{FullCardNumber}
@@ -64,8 +60,8 @@ use Rattle.tacho_types.specs.declared.places.PlaceEntry.{PlaceEntry}
 use Rattle.run_keeping.specs.declared.keeper.Moment.{Moment}
 use Rattle.run_acts.proofs.CardPlaces.{PlaceCall, call-unbegun, call-made}
 use Rattle.run_acts.proofs.CardWrites.{place-unit, place-bare, place-any, seat-bare}
-use Rattle.run_keeping.proofs.Calm.{calm-of-unit, calm-same, calm-then, card-by}
-use Rattle.run_acts.proofs.OneCard.{OneCard, unit-is, card-is, later-by, calm-by, keeps-by, apart-by, notes-by, noted-beside}
+use Rattle.run_keeping.proofs.Calm.{calm-of-unit, calm-same, calm-then}
+use Rattle.run_acts.proofs.OneCard.{OneCard, unit-is, card-is, later-by, calm-by, keeps-by, apart-by, notes-by, known-noted, only-noted, more-noted, room-noted, calm-noted, held-noted, going-noted, none-there}
 use Rattle.run_keeping.specs.Later.{AreCalm, AreLater}
 use Rattle.run_acts.specs.Devices.{AreLeftMore}
 use Rattle.card_layout.specs.declared.command.CardState.{CardState}
@@ -74,10 +70,9 @@ use Rattle.tach_media.specs.declared.fault.Failed.{Failed}
 use Rattle.unit_model.specs.Image.{IsUnit}
 use Rattle.card_session.specs.Sessions.{IsValue}
 use Rattle.unit_notes.specs.Journal.{LeavesJournal}
-use Rattle.run_rings.specs.Same.{LeavesRings}
 use Rattle.run_acts.specs.RunRinged.{RingsPlace}
 use Rattle.run_told.specs.Told.{arranged}
-use Rattle.joint_rule.specs.Views.{other}
+use Rattle.run_rings.specs.Same.{LeavesRings}
 use Rattle.run_acts.proofs.placing.note_place.Given.{Over}
 use Rattle.run_acts.proofs.placing.note_place.Goals.{In_ok-note_place, After-note_place_in, After-note_place_in-in-B}
 use Rattle.run_acts.proofs.placing.note_place.Goals as goal
@@ -172,43 +167,8 @@ module _ (g : Over) (c : In_ok-note_place g) (k : OneCard c.in-Some.card (g.C.Ch
   some : is_some (session_of c.args.run.now.keeper.cabin.cards k.which) ≡ true
   some = some-of g c k.which k.is
 
-  -- how the run was left
-  cabin-is : k.new ≡ with_cabin (noted_cabin e.noted.0 k.which c.args.at.second c.args.run.now) c.args.run.now
-  cabin-is = e.noted.1.run ∙ noted-is e.noted.0 k.which c.args.at.second c.args.run.now
-
-  next-is : k.new.next ≡ c.args.run.now.next
-  next-is = ap (λ (r : Run). r.next) cabin-is
-
-  known-beside : known_of k.new.keeper.cabin.cards (other k.which) ≡ known_of c.args.run.now.keeper.cabin.cards (other k.which)
-  known-beside = ap (λ (r : Run). known_of r.keeper.cabin.cards (other k.which)) cabin-is ∙ noted-beside k.which e.noted.0 c.args.at.second c.args.run.now
-
-  minute-then : (noted_cabin e.noted.0 k.which c.args.at.second c.args.run.now).slots.minute ≤ c.args.run.now.next / 60
-  minute-then = let here = c.requires.at in noted-minute k.which c.args.at.second c.args.run.now e.noted.0 (c.args.run.now.next / 60) c.requires.held.minute (omega (arith, here))
-
-  card-at : CardAt (known_of k.new.keeper.cabin.cards k.which) (k.chip k.after) (k.state k.after)
-  card-at = record { port = e.card.port; size = let same = e.size in let size = k.size in omega (arith, same, size) }
-
-  stand-then : StandSomehow k.new.keeper.cabin
-  stand-then = let stand = c.requires.held.stand in (stand.0, stand.1, e.stands stand.0 stand.1 stand.2)
-
   rows-then : is_err k.result ≡ false → (card : Card) → HasItsRow c.args.run.now.keeper.cabin.cards (g.M.Medium.state c.args.unit.now) card → HasItsRow k.new.keeper.cabin.cards k.unit card
   rows-then well card h = ok_gives k.result (e.rows card (noted-row (g.met.M.Medium.coherent c.args.unit.now) (g.met.M.Medium.coherent c.note_place.new.unit) c.note_place.ensures.journal c.args.run.now.keeper c.requires.going.ready.unit_ready c.args.run.now.keeper.cabin.cards card h)) well
-
-  only : k.new ≡ record c.args.run.now { keeper = k.new.keeper }
-  only = keeper-only c.args.run.now k.new (noted_cabin e.noted.0 k.which c.args.at.second c.args.run.now) cabin-is
-
-  lines : length k.breaks.items ≡ length c.args.breaks.now.items + length (noted_breaks e.noted.0 c.args.slot c.args.at)
-  lines = ap (λ (l : Listed Break). length l.items) e.noted.1.told ∙ lines-length (noted_breaks e.noted.0 c.args.slot c.args.at) c.args.breaks.now
-
-  room : (k.breaks.room ≡ c.args.breaks.now.room) × (length k.breaks.items + falls_of k.new.keeper.cabin ≤ length c.args.breaks.now.items + falls_of c.args.run.now.keeper.cabin)
-  room =
-      let falls = noted-falls k.which c.args.at.second c.args.run.now e.noted.0 c.args.slot c.args.at some in
-      let same : falls_of k.new.keeper.cabin ≡ falls_of (noted_cabin e.noted.0 k.which c.args.at.second c.args.run.now) = ap (λ (r : Run). falls_of r.keeper.cabin) cabin-is in
-      let length_is = lines in
-      (ap (λ (l : Listed Break). l.room) e.noted.1.told, omega (arith, falls, same, length_is))
-
-  more : length c.args.breaks.now.items ≤ length k.breaks.items
-  more = let length_is = lines in omega (arith, length_is)
 
   -- what is noted on the unit
   notes-fall : (fell : Bool) → NotesEvents (fall_events fell c.args.at.second k.new) (is_err k.result) (devices (g.M.Medium.state c.note_place.new.unit) (k.state k.before) (k.state k.before)) (devices k.unit (k.state k.after) (k.state k.after)) → NotesEvents (fall_events fell c.args.at.second k.new) (is_err k.result) (middle g c) last
@@ -238,13 +198,13 @@ module _ (g : Over) (c : In_ok-note_place g) (k : OneCard c.in-Some.card (g.C.Ch
   calm =
       calm-then (first g c) (middle g c) last (calm-of-unit (g.M.Medium.state c.args.unit.now) (g.M.Medium.state c.note_place.new.unit) (g.C.Chip.state c.args.card_a.now) (g.D.Chip.state c.args.card_b.now))
       (subst (λ (m : Devices). AreCalm c.args.breaks.now.items k.breaks.items m last) (sym (k.beside_it (g.M.Medium.state c.note_place.new.unit)))
-      (calm-by k.which (g.M.Medium.state c.note_place.new.unit) k.unit (k.state k.before) (k.state k.after) k.beside (card-by e.noted.0 c.args.slot c.args.at (λ (fell : Bool). noted_breaks fell c.args.slot c.args.at) refl refl (ap (λ (l : Listed Break). l.items) e.noted.1.told) e.noted.3)))
+      (calm-by k.which (g.M.Medium.state c.note_place.new.unit) k.unit (k.state k.before) (k.state k.after) k.beside (calm-noted k.which c.args.slot c.args.at c.args.run.now k.new c.args.breaks.now k.breaks e.noted.0 e.noted.1 (k.state k.before) (k.state k.after) e.noted.3)))
 
   -- on the cards
   card-events : NotesOnCards false c.args.run.now.keeper.cabin.cards k.new.keeper.cabin.cards (λ card. []) (first g c) last
   card-events =
       subst (λ (m : Devices). NotesOnCards false c.args.run.now.keeper.cabin.cards k.new.keeper.cabin.cards (λ card. []) m last) (sym (k.beside_it (g.M.Medium.state c.args.unit.now)))
-      (notes-by k.which c.args.run.now.keeper.cabin.cards k.new.keeper.cabin.cards (g.M.Medium.state c.args.unit.now) k.unit (k.state k.before) (k.state k.after) k.beside e.card_events known-beside)
+      (notes-by k.which c.args.run.now.keeper.cabin.cards k.new.keeper.cabin.cards (g.M.Medium.state c.args.unit.now) k.unit (k.state k.before) (k.state k.after) k.beside e.card_events (known-noted k.which c.args.slot c.args.at c.args.run.now k.new c.args.breaks.now k.breaks e.noted.0 e.noted.1))
 
   keeps : AreLeftMore (first g c) last
   keeps =
@@ -389,17 +349,9 @@ no-number : (cards : Cards) (seat : Option Seat) (o : Option Card) → o ≡ car
 no-number cards None o is never = refl
 no-number cards (Some s) o is never = absurd (never s.card is)
 
-none-given : (o : Option FullCardNumber) → ((number : FullCardNumber) → o ≡ Some number → ⊥) → o ≡ None
-none-given None never = refl
-none-given (Some number) never = absurd (never number refl)
-
 -- nobody is refused who has none to enter for
 no-entering : {T : Type 0} (cards : Cards) (seat : Option Seat) (there : IsThere cards seat) → number_of_seat cards seat ≡ None → T
 no-entering {T} cards seat there none = absurd (let clash : Some there.number ≡ None = sym there.numbered ∙ none in cc)
-
-none-in : (o : Option Card) → ((card : Card) → o ≡ Some card → ⊥) → o ≡ None
-none-in None never = refl
-none-in (Some card) never = absurd (never card refl)
 
 pub returns-in_default-clause-recorded : goal.returns-in_default-clause-recorded
 returns-in_default-clause-recorded g c = λ late ending country region speed before is o done s now front rest are n allowed w time.
@@ -436,7 +388,7 @@ pub returns-in_default-number_in-clause-rings : goal.returns-in_default-number_i
 returns-in_default-number_in-clause-rings g c = λ tells.
     let run = c.args.run.now in
     let U = g.M.Medium.state c.args.unit.now in
-    let none : number_of_seat run.keeper.cabin.cards (seat_in run.keeper.cabin.slots.seats c.args.slot) ≡ None = sym c.number_in.ensures ∙ none-given c.number_in.result c.in_default-number_in.not-Some in
+    let none : number_of_seat run.keeper.cabin.cards (seat_in run.keeper.cabin.slots.seats c.args.slot) ≡ None = sym c.number_in.ensures ∙ none-there c.number_in.result c.in_default-number_in.not-Some in
     subst (λ (o : Option FullCardNumber). WritesPlace o c.args.entry.now false U U) (sym none) (rings-left U)
 
 pub returns-in_default-clause-later : goal.returns-in_default-clause-later
@@ -467,7 +419,7 @@ returns-in_default-number_in-clause-ringed g c = λ ending country region now la
     let cabin = c.args.run.now.keeper.cabin in
     let lit = c.requires.going in
     no-entering cabin.cards (seat_in cabin.slots.seats c.args.slot) (who-enters (ungiven_of lit.span) cabin lit.cabin c.args.slot speed ending country region allowed)
-    (sym c.number_in.ensures ∙ none-given c.number_in.result c.in_default-number_in.not-Some)
+    (sym c.number_in.ensures ∙ none-there c.number_in.result c.in_default-number_in.not-Some)
 
 pub returns-in_default-clause-card_events : goal.returns-in_default-clause-card_events
 returns-in_default-clause-card_events g c =
@@ -491,11 +443,11 @@ returns-in_default-number_in-clause-cards g c = λ late ending country region sp
     let cabin = c.args.run.now.keeper.cabin in
     let lit = c.requires.going in
     no-entering cabin.cards (seat_in cabin.slots.seats c.args.slot) (who-enters (ungiven_of lit.span) cabin lit.cabin c.args.slot speed ending country region allowed)
-    (sym c.number_in.ensures ∙ none-given c.number_in.result c.in_default-number_in.not-Some)
+    (sym c.number_in.ensures ∙ none-there c.number_in.result c.in_default-number_in.not-Some)
 
 pub returns-in_default-clause-on_card : goal.returns-in_default-clause-on_card
 returns-in_default-clause-on_card g c = λ card there.
-    let none : card_in (seat_in c.args.run.now.keeper.cabin.slots.seats c.args.slot) ≡ None = sym c.card.ensures ∙ none-in c.card.result c.in_default.not-Some in
+    let none : card_in (seat_in c.args.run.now.keeper.cabin.slots.seats c.args.slot) ≡ None = sym c.card.ensures ∙ none-there c.card.result c.in_default.not-Some in
     absurd (let wrong : None ≡ Some card = sym none ∙ there in cc)
 
 pub returns-in_default-number_in-clause-on_card : goal.returns-in_default-number_in-clause-on_card
@@ -503,7 +455,7 @@ returns-in_default-number_in-clause-on_card g c = λ card there.
     let run = c.args.run.now in
     let cards = run.keeper.cabin.cards in
     let d = devices (g.M.Medium.state c.args.unit.now) (g.C.Chip.state c.args.card_a.now) (g.D.Chip.state c.args.card_b.now) in
-    let unnamed : number_of_seat cards (seat_in run.keeper.cabin.slots.seats c.args.slot) ≡ None = sym c.number_in.ensures ∙ none-given c.number_in.result c.in_default-number_in.not-Some in
+    let unnamed : number_of_seat cards (seat_in run.keeper.cabin.slots.seats c.args.slot) ≡ None = sym c.number_in.ensures ∙ none-there c.number_in.result c.in_default-number_in.not-Some in
     place-bare c.args.entry.now (card_of d card) (card_of d card) (session_of cards card) (session_of cards card) false
     (seat-bare cards (seat_in run.keeper.cabin.slots.seats c.args.slot) card c.requires.going.ready.card_a.is_known c.requires.going.ready.card_b.is_known unnamed there)
 
@@ -636,31 +588,22 @@ returns-in_err-note_place-clause-calm g c = calm-of-unit (g.M.Medium.state c.arg
 
 pub returns-in-A-clause-held : goal.returns-in-A-clause-held
 returns-in-A-clause-held g c =
-    let run = c.args.run.now in
-    let new : Run = c.note_place_in.new.run in
-    subst (λ (m : ℕ). IsHeld (m / 60) new (g.M.Medium.state c.note_place_in.new.unit) (g.C.Chip.card c.note_place_in.new.card) (g.D.Chip.card c.args.card_b.now) (g.C.Chip.state c.note_place_in.new.card) (g.D.Chip.state c.args.card_b.now)) (sym (next-is g (noted-first-a g c) (side-a g c) c.note_place_in.ensures))
-    (cabin-held (run.next / 60) run new (noted_cabin c.note_place_in.ensures.noted.0 A c.args.at.second run) (cabin-is g (noted-first-a g c) (side-a g c) c.note_place_in.ensures) c.requires.held c.note_place_in.ensures.unit (minute-then g (noted-first-a g c) (side-a g c) c.note_place_in.ensures)
-    (card-at g (noted-first-a g c) (side-a g c) c.note_place_in.ensures) (at-same run.keeper.cabin.cards new.keeper.cabin.cards B (known-beside g (noted-first-a g c) (side-a g c) c.note_place_in.ensures) c.requires.held.card_b) (stand-then g (noted-first-a g c) (side-a g c) c.note_place_in.ensures))
+    let e = c.note_place_in.ensures in
+    held-noted A c.args.slot c.args.at c.args.run.now c.note_place_in.new.run c.args.breaks.now c.note_place_in.new.breaks c.note_place_in.ensures.noted.0 c.note_place_in.ensures.noted.1 (g.M.Medium.state c.args.unit.now) (g.M.Medium.state c.note_place_in.new.unit) (g.C.Chip.state c.args.card_a.now) (g.C.Chip.state c.note_place_in.new.card) (g.D.Chip.state c.args.card_b.now) (g.C.Chip.card c.args.card_a.now) (g.C.Chip.card c.note_place_in.new.card) (g.D.Chip.card c.args.card_b.now) c.requires.at c.requires.held e.unit e.card e.size e.stands
 
 pub returns-in-A-clause-going : goal.returns-in-A-clause-going
 returns-in-A-clause-going g c =
-    let run = c.args.run.now in
-    let new : Run = c.note_place_in.new.run in
     let e = c.note_place_in.ensures in
-    on_ok c.note_place_in.result (λ well.
-    subst (λ (m : ℕ). IsLit (m / 60) new (g.M.Medium.state c.note_place_in.new.unit) (g.C.Chip.card c.note_place_in.new.card) (g.D.Chip.card c.args.card_b.now) (g.C.Chip.state c.note_place_in.new.card) (g.D.Chip.state c.args.card_b.now)) (sym (next-is g (noted-first-a g c) (side-a g c) c.note_place_in.ensures))
-    (cabin-going (run.next / 60) run new (noted_cabin e.noted.0 A c.args.at.second run) (cabin-is g (noted-first-a g c) (side-a g c) c.note_place_in.ensures) None None c.requires.going (ok_gives c.note_place_in.result e.ready well)
-    e.card (ready-same run.keeper.cabin.cards new.keeper.cabin.cards B (known-beside g (noted-first-a g c) (side-a g c) c.note_place_in.ensures) c.requires.going.ready.card_b) (rows-then g (noted-first-a g c) (side-a g c) c.note_place_in.ensures well)
-    (noted-past A c.args.at.second run e.noted.0) (e.stands (ungiven_of c.requires.going.span) None c.requires.going.cabin) (noted-sessions A c.args.at.second run e.noted.0)))
+    on_ok c.note_place_in.result (λ well. going-noted A c.args.slot c.args.at c.args.run.now c.note_place_in.new.run c.args.breaks.now c.note_place_in.new.breaks c.note_place_in.ensures.noted.0 c.note_place_in.ensures.noted.1 (g.M.Medium.state c.args.unit.now) (g.M.Medium.state c.note_place_in.new.unit) (g.C.Chip.state c.args.card_a.now) (g.C.Chip.state c.note_place_in.new.card) (g.D.Chip.state c.args.card_b.now) (g.C.Chip.card c.args.card_a.now) (g.C.Chip.card c.note_place_in.new.card) (g.D.Chip.card c.args.card_b.now) c.requires.going (ok_gives c.note_place_in.result e.ready well) e.card (rows-then g (noted-first-a g c) (side-a g c) c.note_place_in.ensures well) e.stands)
 
 pub returns-in-A-clause-only : goal.returns-in-A-clause-only
-returns-in-A-clause-only g c = only g (noted-first-a g c) (side-a g c) c.note_place_in.ensures
+returns-in-A-clause-only g c = only-noted A c.args.slot c.args.at c.args.run.now c.note_place_in.new.run c.args.breaks.now c.note_place_in.new.breaks c.note_place_in.ensures.noted.0 c.note_place_in.ensures.noted.1
 
 pub returns-in-A-clause-room : goal.returns-in-A-clause-room
-returns-in-A-clause-room g c = room g (noted-first-a g c) (side-a g c) c.note_place_in.ensures
+returns-in-A-clause-room g c = room-noted A c.args.slot c.args.at c.args.run.now c.note_place_in.new.run c.args.breaks.now c.note_place_in.new.breaks c.note_place_in.ensures.noted.0 c.note_place_in.ensures.noted.1 (some g (noted-first-a g c) (side-a g c) c.note_place_in.ensures)
 
 pub returns-in-A-clause-more : goal.returns-in-A-clause-more
-returns-in-A-clause-more g c = more g (noted-first-a g c) (side-a g c) c.note_place_in.ensures
+returns-in-A-clause-more g c = more-noted A c.args.slot c.args.at c.args.run.now c.note_place_in.new.run c.args.breaks.now c.note_place_in.new.breaks c.note_place_in.ensures.noted.0 c.note_place_in.ensures.noted.1
 
 pub returns-in-A-clause-cause : goal.returns-in-A-clause-cause
 returns-in-A-clause-cause g c = cause_after c.in_ok-note_place.ensures.cause c.note_place_in.ensures.cause
@@ -700,31 +643,22 @@ returns-in-A-clause-evented g c = λ late ending country region speed before is 
 
 pub returns-in-B-clause-held : goal.returns-in-B-clause-held
 returns-in-B-clause-held g c =
-    let run = c.args.run.now in
-    let new : Run = c.note_place_in-in-B.new.run in
-    subst (λ (m : ℕ). IsHeld (m / 60) new (g.M.Medium.state c.note_place_in-in-B.new.unit) (g.C.Chip.card c.args.card_a.now) (g.D.Chip.card c.note_place_in-in-B.new.card) (g.C.Chip.state c.args.card_a.now) (g.D.Chip.state c.note_place_in-in-B.new.card)) (sym (next-is g (noted-first-b g c) (side-b g c) c.note_place_in-in-B.ensures))
-    (cabin-held (run.next / 60) run new (noted_cabin c.note_place_in-in-B.ensures.noted.0 B c.args.at.second run) (cabin-is g (noted-first-b g c) (side-b g c) c.note_place_in-in-B.ensures) c.requires.held c.note_place_in-in-B.ensures.unit (minute-then g (noted-first-b g c) (side-b g c) c.note_place_in-in-B.ensures)
-    (at-same run.keeper.cabin.cards new.keeper.cabin.cards A (known-beside g (noted-first-b g c) (side-b g c) c.note_place_in-in-B.ensures) c.requires.held.card_a) (card-at g (noted-first-b g c) (side-b g c) c.note_place_in-in-B.ensures) (stand-then g (noted-first-b g c) (side-b g c) c.note_place_in-in-B.ensures))
+    let e = c.note_place_in-in-B.ensures in
+    held-noted B c.args.slot c.args.at c.args.run.now c.note_place_in-in-B.new.run c.args.breaks.now c.note_place_in-in-B.new.breaks c.note_place_in-in-B.ensures.noted.0 c.note_place_in-in-B.ensures.noted.1 (g.M.Medium.state c.args.unit.now) (g.M.Medium.state c.note_place_in-in-B.new.unit) (g.D.Chip.state c.args.card_b.now) (g.D.Chip.state c.note_place_in-in-B.new.card) (g.C.Chip.state c.args.card_a.now) (g.D.Chip.card c.args.card_b.now) (g.D.Chip.card c.note_place_in-in-B.new.card) (g.C.Chip.card c.args.card_a.now) c.requires.at c.requires.held e.unit e.card e.size e.stands
 
 pub returns-in-B-clause-going : goal.returns-in-B-clause-going
 returns-in-B-clause-going g c =
-    let run = c.args.run.now in
-    let new : Run = c.note_place_in-in-B.new.run in
     let e = c.note_place_in-in-B.ensures in
-    on_ok c.note_place_in-in-B.result (λ well.
-    subst (λ (m : ℕ). IsLit (m / 60) new (g.M.Medium.state c.note_place_in-in-B.new.unit) (g.C.Chip.card c.args.card_a.now) (g.D.Chip.card c.note_place_in-in-B.new.card) (g.C.Chip.state c.args.card_a.now) (g.D.Chip.state c.note_place_in-in-B.new.card)) (sym (next-is g (noted-first-b g c) (side-b g c) c.note_place_in-in-B.ensures))
-    (cabin-going (run.next / 60) run new (noted_cabin e.noted.0 B c.args.at.second run) (cabin-is g (noted-first-b g c) (side-b g c) c.note_place_in-in-B.ensures) None None c.requires.going (ok_gives c.note_place_in-in-B.result e.ready well)
-    (ready-same run.keeper.cabin.cards new.keeper.cabin.cards A (known-beside g (noted-first-b g c) (side-b g c) c.note_place_in-in-B.ensures) c.requires.going.ready.card_a) e.card (rows-then g (noted-first-b g c) (side-b g c) c.note_place_in-in-B.ensures well)
-    (noted-past B c.args.at.second run e.noted.0) (e.stands (ungiven_of c.requires.going.span) None c.requires.going.cabin) (noted-sessions B c.args.at.second run e.noted.0)))
+    on_ok c.note_place_in-in-B.result (λ well. going-noted B c.args.slot c.args.at c.args.run.now c.note_place_in-in-B.new.run c.args.breaks.now c.note_place_in-in-B.new.breaks c.note_place_in-in-B.ensures.noted.0 c.note_place_in-in-B.ensures.noted.1 (g.M.Medium.state c.args.unit.now) (g.M.Medium.state c.note_place_in-in-B.new.unit) (g.D.Chip.state c.args.card_b.now) (g.D.Chip.state c.note_place_in-in-B.new.card) (g.C.Chip.state c.args.card_a.now) (g.D.Chip.card c.args.card_b.now) (g.D.Chip.card c.note_place_in-in-B.new.card) (g.C.Chip.card c.args.card_a.now) c.requires.going (ok_gives c.note_place_in-in-B.result e.ready well) e.card (rows-then g (noted-first-b g c) (side-b g c) c.note_place_in-in-B.ensures well) e.stands)
 
 pub returns-in-B-clause-only : goal.returns-in-B-clause-only
-returns-in-B-clause-only g c = only g (noted-first-b g c) (side-b g c) c.note_place_in-in-B.ensures
+returns-in-B-clause-only g c = only-noted B c.args.slot c.args.at c.args.run.now c.note_place_in-in-B.new.run c.args.breaks.now c.note_place_in-in-B.new.breaks c.note_place_in-in-B.ensures.noted.0 c.note_place_in-in-B.ensures.noted.1
 
 pub returns-in-B-clause-room : goal.returns-in-B-clause-room
-returns-in-B-clause-room g c = room g (noted-first-b g c) (side-b g c) c.note_place_in-in-B.ensures
+returns-in-B-clause-room g c = room-noted B c.args.slot c.args.at c.args.run.now c.note_place_in-in-B.new.run c.args.breaks.now c.note_place_in-in-B.new.breaks c.note_place_in-in-B.ensures.noted.0 c.note_place_in-in-B.ensures.noted.1 (some g (noted-first-b g c) (side-b g c) c.note_place_in-in-B.ensures)
 
 pub returns-in-B-clause-more : goal.returns-in-B-clause-more
-returns-in-B-clause-more g c = more g (noted-first-b g c) (side-b g c) c.note_place_in-in-B.ensures
+returns-in-B-clause-more g c = more-noted B c.args.slot c.args.at c.args.run.now c.note_place_in-in-B.new.run c.args.breaks.now c.note_place_in-in-B.new.breaks c.note_place_in-in-B.ensures.noted.0 c.note_place_in-in-B.ensures.noted.1
 
 pub returns-in-B-clause-cause : goal.returns-in-B-clause-cause
 returns-in-B-clause-cause g c = cause_after c.in_ok-note_place.ensures.cause c.note_place_in-in-B.ensures.cause

@@ -23,7 +23,7 @@ use Rattle.run_keeping.proofs.Counts.{lines-length}
 use Rattle.run_acts.specs.declared.run.Run.{Run}
 use Rattle.run_acts.specs.Power.{with_cabin}
 use Rattle.run_acts.specs.Going.{IsHeld, IsGoingOn, IsLit}
-use Rattle.run_acts.specs.Room.{Takes, waiting_of, falls_of}
+use Rattle.run_acts.specs.Room.{waiting_of, falls_of, Takes}
 use Rattle.run_acts.proofs.Torn.{tears-without}
 use Rattle.run_acts.specs.Behind.{BooksWithdrawn}
 use Rattle.run_acts.proofs.Withdrawn.{withdrawn-cut, withdrawn-closed, time-before}
@@ -42,7 +42,7 @@ use Rattle.run_acts.specs.Noting.{NotesWithdrawing, closed_events, NotesClosing}
 use Rattle.run_acts.proofs.NotedEvents.{same-noted, noted-any}
 use Rattle.run_acts.proofs.ActsNoted.{settles-these, withdrawal-cut, withdrawal-noted, closing-any, same-closing}
 use Rattle.run_rings.proofs.Same.{rings-left}
-use Rattle.run_acts.specs.Ringing.{WithdrawsSo, ClosesSo, ClosesRings}
+use Rattle.run_acts.specs.Ringing.{WithdrawsSo, ClosesRings, ClosesSo}
 use Rattle.run_acts.proofs.Comings.{closes-more}
 use Rattle.run_acts.proofs.Ringing.{settling-leaves, closes-behind}
 use Rattle.run_keeping.proofs.Later.{state-by, later-same, later-then}
@@ -64,7 +64,7 @@ use Rattle.run_acts.proofs.RingedClosed.{settling-ringed, closing-ringed, gone-t
 use Rattle.run_acts.specs.RunCards.{CardsSettling, PlacesSettling, StillShow, CardsGoOn, CardsIn}
 use Rattle.run_acts.proofs.CardStays.{shows-then}
 use Rattle.run_acts.proofs.CardActs.{TellsLines, settled-lines, closed-lines, quiet-goes}
-use Rattle.run_acts.specs.CardWrites.{ShutsSo, ShutsBehind, WithdrawsShut, IsShut}
+use Rattle.run_acts.specs.CardWrites.{ShutsBehind, WithdrawsShut, IsShut, ShutsSo}
 use Rattle.run_acts.proofs.CardWrites.{withdrawn-shut}
 use Rattle.run_keeping.proofs.Calm.{calm-same, calm-then}
 use Rattle.trace_model.specs.declared.Action.{Action}
@@ -79,22 +79,18 @@ use Rattle.run_recorded.specs.Beside.{HaveLeftMore}
 use Rattle.run_keeping.specs.Books.{HaveTime}
 use Rattle.unit_model.specs.Image.{IsUnit}
 use Rattle.unit_notes.specs.Journal.{LeavesJournal}
+use Rattle.run_acts.proofs.OneCard.{OneCard, calm-by, keeps-by, later-by, unit-is, card-is, none-there}
 use Rattle.run_recorded.specs.Origin.{Origin}
 use Rattle.side_model.specs.Odometer.{SpanFrom}
 use Rattle.trace_model.specs.Trace.{TraceSecond}
 use Rattle.run_told.specs.Told.{arranged}
 use Rattle.log_model.specs.Slots.{refusal}
 use Rattle.run_rings.specs.Same.{LeavesRings}
-use Rattle.run_acts.proofs.OneCard.{OneCard, unit-is, card-is, later-by, calm-by, keeps-by}
 use Rattle.run_acts.proofs.withdrawing.withdraw.Given.{Over}
 use Rattle.run_acts.proofs.withdrawing.withdraw.Goals.{In_ok-settle, In_default, After-from_residual, After-close, After-close-in-B}
 use Rattle.run_acts.proofs.withdrawing.withdraw.Goals as goal
 
 -- ---- a card that has left its slot
-
-none-there : (o : Option Card) → ((card : Card) → o ≡ Some card → ⊥) → o ≡ None
-none-there None never = refl
-none-there (Some card) never = absurd (never card refl)
 
 -- what is known of the run that it has left, by its cabin and its moment
 left-there : (P : Moment → Run → Type 0) (slot : Slot) (at here : Moment) (run : Run) (left : Cabin) → left ≡ with_slot_left slot at.second run.keeper.cabin → at ≡ here → P at (with_cabin left run) → P here (left_run slot here.second run)
