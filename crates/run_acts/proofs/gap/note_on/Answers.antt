@@ -85,8 +85,11 @@ module _ (g : Over) (c : After-set_session g) where
   cards-back : c.set_session.new.self ≡ c.args.run.now.keeper.cabin.cards
   cards-back = c.set_session.ensures ∙ ap (λ (q : Cards). with_session c.args.which (Some c.in-Some.accepted) q) c.take.ensures.left ∙ session-back c.args.which c.in-Some.accepted c.args.run.now.keeper.cabin.cards (sym c.in-Some.ensures.taken)
 
+  went-well : is_err c.note_event_on.result ≡ false
+  went-well = sym c.is_err.ensures.value ∙ c.if-is_err.false
+
   cause-well : HasCause (g.C.Chip.state c.args.card.now) (g.C.Chip.state c.note_event_on.new.card) false
-  cause-well = subst (λ (b : Bool). HasCause (g.C.Chip.state c.args.card.now) (g.C.Chip.state c.note_event_on.new.card) b) (sym c.is_err.ensures.value ∙ c.if-is_err.false) c.note_event_on.ensures.cause
+  cause-well = subst (λ (b : Bool). HasCause (g.C.Chip.state c.args.card.now) (g.C.Chip.state c.note_event_on.new.card) b) went-well c.note_event_on.ensures.cause
 
   noted-whole : IsNotedOn c.args.which c.args.slot (now_moment c.args.run.now) c.args.run.now (with_cabin (record c.args.run.now.keeper.cabin { cards = c.set_session.new.self }) c.args.run.now) c.args.breaks.now c.args.breaks.now false
   noted-whole = record { run = ap (λ (q : Cards). with_cabin (record c.args.run.now.keeper.cabin { cards = q }) c.args.run.now) cards-back; told = no-lines c.args.breaks.now }
@@ -238,7 +241,7 @@ returns-clause-card_events g c =
     let cause = cause-well g c in
     let cards = cards-back g c in
     let moments = subst (λ (v : CardEvent). LeavesOnly X Y (on.IsNotingEvent c.in-Ok.app v)) same c.note_event_on.ensures.moments in
-    let noted = subst (λ (v : CardEvent). IfSome X.image (λ x. IfSome Y.image (on.IsEventNoted c.in-Ok.app v x))) same (ok_gives c.note_event_on.result c.note_event_on.ensures.noted well) in
+    let noted = subst (λ (v : CardEvent). IfSome X.image (λ x. IfSome Y.image (on.IsEventNoted c.in-Ok.app v x))) same (ok_gives c.note_event_on.result c.note_event_on.ensures.noted (went-well g c)) in
     let works = session-works c.args.which before (g.C.Chip.card c.args.card.now) X c.requires.card c.requires.session in
     subst (λ (q : Cards). NotesOn false (session_of before c.args.which) (session_of q c.args.which) (event ∷ []) X Y) (sym cards)
     (on-session c.args.which before c.in-Ok.app (g.C.Chip.card c.args.card.now) X Y (session_of before c.args.which) (event ∷ []) c.requires.card sizes c.requires.session

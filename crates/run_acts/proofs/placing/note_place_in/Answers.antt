@@ -75,8 +75,11 @@ module _ (g : Over) (c : After-set_session g) where
   cards-back : c.set_session.new.self ≡ c.args.run.now.keeper.cabin.cards
   cards-back = c.set_session.ensures ∙ ap (λ (q : Cards). with_session c.args.which (Some c.in-Some.accepted) q) c.take.ensures.left ∙ session-back c.args.which c.in-Some.accepted c.args.run.now.keeper.cabin.cards (sym c.in-Some.ensures.taken)
 
+  went-well : is_err c.note_place_on.result ≡ false
+  went-well = sym c.is_err.ensures.value ∙ c.if-is_err.false
+
   cause-well : HasCause (g.C.Chip.state c.args.card.now) (g.C.Chip.state c.note_place_on.new.card) false
-  cause-well = subst (λ (b : Bool). HasCause (g.C.Chip.state c.args.card.now) (g.C.Chip.state c.note_place_on.new.card) b) (sym c.is_err.ensures.value ∙ c.if-is_err.false) c.note_place_on.ensures.cause
+  cause-well = subst (λ (b : Bool). HasCause (g.C.Chip.state c.args.card.now) (g.C.Chip.state c.note_place_on.new.card) b) went-well c.note_place_on.ensures.cause
 
   noted-whole : IsNotedOn c.args.which c.args.slot c.args.at c.args.run.now (with_cabin (record c.args.run.now.keeper.cabin { cards = c.set_session.new.self }) c.args.run.now) c.args.breaks.now c.args.breaks.now false
   noted-whole = record { run = ap (λ (q : Cards). with_cabin (record c.args.run.now.keeper.cabin { cards = q }) c.args.run.now) cards-back; told = no-lines c.args.breaks.now }
@@ -237,7 +240,7 @@ returns-clause-on_card g c =
     let cause = cause-well g c in
     let works = session-works c.args.which before (g.C.Chip.card c.args.card.now) X c.requires.card c.requires.session in
     let cards = cards-back g c in
-    let has = place-well c.in-Ok.app c.args.entry.now X Y (g.met.C.Chip.coherent c.args.card.now) (g.met.C.Chip.coherent c.note_place_on.new.card) works cause.works c.note_place_on.ensures.moments (ok_gives c.note_place_on.result c.note_place_on.ensures.noted well) in
+    let has = place-well c.in-Ok.app c.args.entry.now X Y (g.met.C.Chip.coherent c.args.card.now) (g.met.C.Chip.coherent c.note_place_on.new.card) works cause.works c.note_place_on.ensures.moments (ok_gives c.note_place_on.result c.note_place_on.ensures.noted (went-well g c)) in
     subst (λ (q : Cards). PlaceOn (session_of before c.args.which) (session_of q c.args.which) false c.args.entry.now X Y) (sym cards)
     (place-on c.args.entry.now X Y c.args.which before c.in-Ok.app (g.C.Chip.card c.args.card.now) (session_of before c.args.which) c.requires.card sizes has)
 
