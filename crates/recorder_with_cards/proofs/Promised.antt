@@ -32,7 +32,9 @@ use Rattle.unit_model.specs.declared.layout.TheConstants.{HIGHEST_ODOMETER}
 use Rattle.unit_model.specs.Image.{recorded, last_kept, odometer_at}
 use Rattle.unit_model.specs.Decoding.{Decodes}
 use Rattle.unit_rule.specs.Odometer.{HasTravelled}
-use Rattle.unit_rule.specs.Rule.{started}
+use Rattle.unit_rule.specs.Rule.{started, IsCards}
+use Rattle.unit_rule.specs.OtherRows.{valid_number}
+use Rattle.unit_rule.proofs.OtherRows.{valid-number, keeps-rows}
 use Rattle.unit_rule.proofs.Travelling.{travelled-opened}
 use Rattle.unit_journal.proofs.Beside.{passes_beside}
 use Rattle.unit_memory.specs.declared.format.Identity.{Identity}
@@ -101,7 +103,7 @@ use Rattle.run_acts.specs.Closings.{spells_of}
 use Rattle.run_acts.specs.Comings.{TellsMore}
 use Rattle.run_acts.proofs.Comings.{tells-none}
 use Rattle.run_acts.specs.Stays.{Stay, Coming, comings_on, registration_in, AreMerged, spells, sits_in, HasStays, ShowsStays, start_shown, AreOwed, AreJudged, is_late}
-use Rattle.recorder_with_cards.proofs.AtEnd.{noted-at-end, sits-at-end, words-so, odometers-so, owes-so}
+use Rattle.recorder_with_cards.proofs.AtEnd.{noted-at-end, sits-at-end, entered-so, words-so, odometers-so, owes-so}
 use Rattle.run_recorded.specs.Whole.{NothingFailed}
 use Rattle.run_crew.specs.Cabin.{Stands}
 use Rattle.std.specs.Prelude.{filter}
@@ -212,8 +214,9 @@ module _ (x a b : List ℕ) (start : ℕ) (items : List Item) (began now : Devic
           verdicts = λ c valid. subst (λ (i : List ℕ). AreJudged run.keeper.memory.registration (own_sizes i).activity (all.stays c) (all.since c) (start_shown i)) (of_image c) (all.verdicts c (subst IsOwnValid (sym (of_image c)) valid));
           shows = stay_shows none;
           closed = stay_spells none;
-          words = λ c. words-so r (all.stays c) (all.hold c).0;
-          odometers = λ c. odometers-so r (all.stays c) (all.hold c).0;
+          entered = λ c. entered-so r c (all.stays c) (all.hold c).0;
+          words = λ c. words-so r c (all.stays c) (all.hold c).0;
+          odometers = λ c. odometers-so r c (all.stays c) (all.hold c).0;
           owes = λ c. owes-as c (all.stays c)
               (subst (λ (i : List ℕ). AreOwed (IsOwed (rule_of o) (start_at o) (log_of out) (seconds_of start items) c (brought r0 c).owed) run.keeper.memory.registration (own_sizes i).activity (all.stays c) (start_shown i)) (of_image c)
               (owes-so (IsOwed (rule_of o) (start_at o) (log_of out) (seconds_of start items) c (brought r0 c).owed) out.marks.items c run.keeper.memory.registration (own_sizes (found_of o.found c).image).activity (all.stays c) (start_shown (found_of o.found c).image) (all.hold c).1).0);
@@ -226,6 +229,9 @@ module _ (x a b : List ℕ) (start : ℕ) (items : List Item) (began now : Devic
             tells = λ dense. all.befores.tells (record { points = insertions-inside x may.decodes; dense = dense });
           };
         };
+    rows = λ y left.
+        let hr = h.evented.recorded.recorded in
+        keeps-rows x a b y ((is-carried (seconds_of start items) (values_of run out) (carried (values_of run out) hr.due hr.book hr.standing hr.brought) h.evented.recorded.supply hr.held).unit.rows y left);
     kept = end-kept o ss run out now h.evented.recorded h.spans h.ringed.spans_are h.stored;
     last = unit-last.1;
     dense = record {
@@ -266,7 +272,7 @@ module _ (x a b : List ℕ) (start : ℕ) (items : List Item) (began now : Devic
       unit-last : (s : UnitSafe (recorded x) (history_of r) (lost_of r) out.marks.items began.unit.clock now.unit) × TellsLast (last_kept x) s
       unit-last =
           let hr = h.evented.recorded.recorded in
-          safe-last (started x began.unit.clock) (history_of r) (lost_of r) hr.due hr.book out.marks.items now.unit hr.recorded.followed.follows
+          safe-last (started x (valid_number a) (valid_number b) began.unit.clock) (history_of r) (lost_of r) hr.due hr.book out.marks.items now.unit hr.recorded.followed.follows
           (is-carried (seconds_of start items) (values_of run out) (carried (values_of run out) hr.due hr.book hr.standing hr.brought) h.evented.recorded.supply hr.held).unit run-ends.safe.unit
 
       -- what was owed to it at the start does not hang on the seconds
@@ -378,10 +384,15 @@ module _ (x a b : List ℕ) (start : ℕ) (began now : Devices) (opened : Opened
         two = ready.two;
         named = λ c valid. subst (λ (k : Known). IfSome k.number (λ n. card_number_bytes n ≡ (found_of f c).number)) (sym (same c)) (ready.named c);
         told = λ c valid. ap (λ (k : Known). is_some k.number) (same c) ∙ told c (valid-as c valid);
+        own = own;
         sizes = λ c valid. subst (λ (i : List ℕ). IsApplication (own_sizes i)) (sym (ready.found.image c)) (sizes c (valid-as c valid));
         entries = λ c valid. entries c;
       }
         where
+          own : (c : Card) → IsOwnValid (found_of f c).image → IsCards f.unit (found_of f c).number
+          own A valid = inl (valid-number a valid ∙ ap (λ (n : List ℕ). Some n) (sym (ready.found.number A valid)))
+          own B valid = inr (valid-number b valid ∙ ap (λ (n : List ℕ). Some n) (sym (ready.found.number B valid)))
+
           entries : (c : Card) → (found_of f c).start.entries ≡ (own_view (found_of f c).image).held.entries
           entries A = refl
           entries B = refl

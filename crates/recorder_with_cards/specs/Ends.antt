@@ -9,6 +9,7 @@ use Rattle.unit_model.specs.Image.{last_kept}
 use Rattle.card_image.specs.Own.{own_number, IsOwnValid}
 use Rattle.safety_model.specs.Recording.{Recording}
 use Rattle.safety_model.specs.Safe.{Devices, breakdowns_of}
+use Rattle.unit_rule.specs.OtherRows.{KeepsRows}
 use Rattle.run_rule.specs.Opening.{BeginsAs}
 use Rattle.run_recorded.specs.Origin.{Origin}
 use Rattle.run_recorded.specs.Ends.{EndsRun}
@@ -68,13 +69,15 @@ pub record MayRecord (unit card_a card_b : List ℕ) (start : ℕ) : Type 0 wher
 -- image of a card that was valid has been written so (`written`), and where no call failed each of these shows exactly what its stays in the slots make of
 -- it (`stays`). What was found kept after its cuts was so (`kept`), and the last-kept minute of each image of the unit is that of the last minute which it
 -- shows (`last`). Rings that were dense stay dense (`dense`); each valid card stays its holder's, with all that no call writes (`holders`), and shows the
--- places that were entered by it (`places`) and its events of the run (`cards`).
+-- places that were entered by it (`places`) and its events of the run (`cards`). The owed rows of every image of the unit since the start stand as they stood, or were taken for one
+-- of the two cards, and what is owed to any other card stays (`rows`).
 pub record EndsTrace (unit card_a card_b : List ℕ) (start : ℕ) (items : List Item) (out : Outcome) (began now : Devices) : Type 0 where
   pub may : MayRecord unit card_a card_b start
   pub ends : EndsRun (recording_of unit card_a card_b start items out) out.marks.items began now
   pub side : ShowTheSide (recording_of unit card_a card_b start items out) began now
   pub written : AreWritten (recording_of unit card_a card_b start items out) now
   pub stays : HasAllStays (recording_of unit card_a card_b start items out) out.marks.items now
+  pub rows : (y : List ℕ) → now.unit.left_since began.unit.clock y → KeepsRows unit card_a card_b y
   pub kept : TellsKept (recording_of unit card_a card_b start items out) began.unit.clock now.unit
   pub last : TellsLast (last_kept unit) ends.safe.unit
   pub dense : StayDense (recording_of unit card_a card_b start items out) now

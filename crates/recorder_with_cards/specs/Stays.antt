@@ -21,13 +21,17 @@ use Rattle.run_recorded.specs.Whole.{NothingFailed}
 use Rattle.unit_model.specs.Image.{odometer_at}
 use Rattle.card_session.specs.declared.session.Kept.{Kept}
 use Rattle.run_acts.specs.Closings.{spells_of}
-use Rattle.run_acts.specs.Truths.{past_of, IsOdometerBefore, IsOdometerBehind, IsWordIn}
+use Rattle.run_acts.specs.Truths.{past_of, IsOdometerBefore, IsOdometerBehind, IsWordIn, IsLineOf}
 use Rattle.run_acts.specs.Stays.{Stay, TellsBefores, registration_in, acceptances_told, spells, AreMerged, ShowsStays, start_shown, AreOwed, judged_told, judged_in, AreJudged}
 use Rattle.run_acts.specs.Owed.{IsOwed}
 
--- A STAY WAS CLOSED with the word of its slot, where it was, in the second of its withdrawal
+-- A STAY BEGAN with a line of its card's own entering
+abbrev pub IsEnteredSo : Recording → Card → Stay → Type 0
+IsEnteredSo r c s = IsLineOf r.trace c s.found
+
+-- IT WAS CLOSED with the word of its slot, where it was, in the second of its withdrawal
 abbrev pub IsClosedSo : Recording → Stay → Type 0
-IsClosedSo r s = IfSome s.closed (λ x. IsWordIn r.rule (past_of r.log r.trace) s.found.slot x.second x.word)
+IsClosedSo r s = IfSome s.closed (λ x. IsWordIn r.rule (past_of r.log r.trace) s.found x.second x.word)
 
 -- ITS ODOMETER is that of the run as its second begins; and of each minute that it kept, as that ends
 abbrev pub IsCountedSo : Recording → Stay → Type 0
@@ -51,12 +55,13 @@ IsAcknowledgedSo marks c s = All (λ (e : Entry). IsMarked marks (device_of c) e
 -- THE VEHICLE BEFORE of each insertion, as every image that a stop may leave of the unit tells it, is the newest vehicle entry of what the card's stays
 -- before it make of its image at the start: in the order in which the log tells the acceptances, one entry each, the oldest giving way (`befores`).
 -- THEY ARE EXACTLY THE INSERTIONS of the card that the run notes, each of that second and slot, in their order; and those were withdrawn of which the run
--- notes a withdrawal, in its second, and no other (`closed`); with the activity that the slot has as an action of that second withdraws its card: by the
--- seconds of the power span before it and what the actions before it select (`words`).
+-- notes a withdrawal, in its second, and no other (`closed`). The line of each is of the action that puts the card in its slot, where it is not of a power-on
+-- (`entered`); and the card was withdrawn with the activity that the slot has as the first action behind that one withdraws from it: by the seconds of the
+-- power span before its second and what the actions before it select (`words`).
 -- THE ODOMETERS are those of the run: what the unit's image says at the start, with the whole kilometres of each power span before, and of the span so far.
 -- WHAT WAS OWED AT EACH, in order, is all that the unit had of the card, at the start and by the minutes since, that is later than the end mark of what the
--- card showed by then, and nothing else: of the minutes since, only those behind whose end a `tear` line pulled the card out before they were decided
--- (`owes`). Each entry of that has a mark of the card (`acknowledged`).
+-- card showed by then, and nothing else: of the minutes since, only those behind whose end a `tear` line pulled this card out before they were decided, or,
+-- where the second of the acceptance decides them, in that second and before it (`owes`). Each entry of that has a mark of the card (`acknowledged`).
 pub record LeaveStays (r : Recording) (marks : List Mark) (now : Devices) : Type 0 where
   pub vehicle : Registration
   pub says : vehicle.0 ≡ registration_in r.unit
@@ -68,6 +73,7 @@ pub record LeaveStays (r : Recording) (marks : List Mark) (now : Devices) : Type
   pub shows : (c : Card) → IsOwnValid (card_image r c) → ShowsStays vehicle (card_image r c) (stays c) (card_of now c)
   pub befores : TellsBefores (IsDense insertion_ring r.unit) r.unit (acceptances_told r.log) vehicle (card_image r) stays now.unit
   pub closed : (c : Card) → IsOwnValid (card_image r c) → spells (stays c) ≡ spells_of c (notes_of r.log (done_of r.log r.trace))
+  pub entered : (c : Card) → AllByRecursion (IsEnteredSo r c) (stays c)
   pub words : (c : Card) → AllByRecursion (IsClosedSo r) (stays c)
   pub odometers : (c : Card) → AllByRecursion (IsCountedSo r) (stays c)
   pub owes : (c : Card) → AreOwed (IsOwed r.rule (start_of r) r.log r.trace c (brought r c).owed) vehicle (own_sizes (card_image r c)).activity (stays c) (start_shown (card_image r c))

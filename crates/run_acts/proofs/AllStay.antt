@@ -128,7 +128,7 @@ kept-hold : (t : Truths) (c : Card) (r : Registration) (image : List ℕ) (s : O
 unfolding kept_stays
 kept-hold t c r image None ks ss more all = all
 kept-hold t c r image (Some a) ks ss more all = (
-  on-last-true t (with_kepts ks) ss (λ x last is. true-kepts t ks more x is) all.0,
+  on-last-true t c (with_kepts ks) ss (λ x front are is. true-kepts t c ks more x is) all.0,
   on-last-owes (t.owed c) (with_kepts ks) (λ x. refl) (λ x. refl) r (own_sizes image).activity ss (start_shown image) all.1,
 )
 
@@ -426,13 +426,13 @@ module _ (o : Origin) (t : Truths) (u : ℕ) where
   pub all-one : (c : Card) (log later : RunLog) (notes now : List Note) (r : Registration) (cabin after : Cabin) (U V X Y Z : State) → (NothingFailed later → NothingFailed log) → session_of after.cards (other c) ≡ session_of cabin.cards (other c) →
       sits_in after.slots.seats (other c) ≡ sits_in cabin.slots.seats (other c) →
       ((slot : Slot) → card_in (seat_in after.slots.seats slot) ≡ Some (other c) → card_in (seat_in cabin.slots.seats slot) ≡ Some (other c)) → (NothingFailed later → spells_of (other c) now ≡ spells_of (other c) notes)
-      → (NothingFailed later → IsPlaced notes cabin c → IsPlaced now after c) → (NothingFailed later → (ss : List Stay) (since : List Find) → TurnsOf c log later notes now r cabin after U V X Y ss since)
+      → (NothingFailed later → IsPlaced notes cabin c → IsPlaced now after c) → (NothingFailed later → (h : Are log notes r cabin (arranged c U X Z)) → TurnsOf c log later notes now r cabin after U V X Y (h.stays c) (h.since c))
       → AllStay o t u log notes r cabin (arranged c U X Z) → AllStay o t u later now r after (arranged c V Y Z)
   all-one A log later notes now r cabin after U V X Y Z fewer same seat beside spell place own all none = by (all (fewer none))
     where
       by : Are log notes r cabin (arranged A U X Z) → Are later now r after (arranged A V Y Z)
       by h =
-          let x = own none (h.stays A) (h.since A) in
+          let x = own none h in
           record {
             says = h.says;
             stays = with_mine A x.now h.stays;
@@ -480,7 +480,7 @@ module _ (o : Origin) (t : Truths) (u : ℕ) where
     where
       by : Are log notes r cabin (arranged B U X Z) → Are later now r after (arranged B V Y Z)
       by h =
-          let x = own none (h.stays B) (h.since B) in
+          let x = own none h in
           record {
             says = h.says;
             stays = with_mine B x.now h.stays;
@@ -581,8 +581,8 @@ all-true o t now u log notes r cabin d grows all none =
       only = h.only;
       each = h.each;
       hold = λ c. (
-        all-true-grow t now (grows none) (h.stays c) (h.hold c).0,
-        owes-grow (t.owed c) (now.owed c) (λ second mark es was. (grows none).owed c second mark es was) r (own_sizes (found_of o.found c).image).activity (h.stays c) (start_shown (found_of o.found c).image) (h.hold c).1,
+        all-true-grow t now (grows none) c (h.stays c) (h.hold c).0,
+        owes-grow (t.owed c) (now.owed c) (λ g mark es was. (grows none).owed c g mark es was) r (own_sizes (found_of o.found c).image).activity (h.stays c) (start_shown (found_of o.found c).image) (h.hold c).1,
       );
       placed = h.placed;
       befores = h.befores;

@@ -138,7 +138,7 @@ TellsBy u (Lost entered clock entry) f U W X = Unit {0}
 module _ (o : Origin) (e : Entering) (failed : Bool) (well : failed ≡ false) (k v : Keeper) (noted noted_after : ℕ) (out after : Outcome) (U W X Y Z : State) (notes : RunLog → List Note) (judges : (verdict : Verdict) → NotesFind e (log_of out) notes verdict)
     (seat : seat_in k.cabin.slots.seats e.slot ≡ Some (record { card = e.which; newest = None })) (elsewhere : is_card (seat_in k.cabin.slots.seats (other_slot e.slot)) e.which ≡ false) (t : Truths) (u : ℕ) (room : length out.marks.items + most_owed ≤ out.marks.room)
     (sound : (y : List ℕ) → X.may_leave y → IsOwnValid y → IsOwnValid (found_of o.found e.which).image)
-    (tells_odometer : NothingFailed (log_of out) → (verdict : Verdict) → t.accepted (find_of e verdict) e.odometer.0) where
+    (tells_odometer : NothingFailed (log_of out) → (verdict : Verdict) → t.accepted (find_of e verdict) e.odometer.0 × t.entered e.which (find_of e verdict)) where
   abbrev f : CardFound
   f = found_of o.found e.which
 
@@ -172,7 +172,7 @@ module _ (o : Origin) (e : Entering) (failed : Bool) (well : failed ≡ false) (
 
   -- what was owed to it as it was looked at, by an image that it may have left, where each entry of it has its mark by now
   abbrev OwesIn : Carried → Type 0
-  OwesIn w = NothingFailed (log_of out) → (entered : Entered) → IsToldSo o.found w e entered U X → All (λ (d : Entry). IsMarked after.marks.items (device_of e.which) d.minute) entered.owed.items → (y : List ℕ) × X.may_leave y × t.owed e.which e.at.second (mark_of (book_of (own_sizes f.image) y)) entered.owed.items
+  OwesIn w = NothingFailed (log_of out) → (entered : Entered) → IsToldSo o.found w e entered U X → All (λ (d : Entry). IsMarked after.marks.items (device_of e.which) d.minute) entered.owed.items → (y : List ℕ) × X.may_leave y × t.owed e.which (find_of e (AcceptedWith entered.replayed)) (mark_of (book_of (own_sizes f.image) y)) entered.owed.items
 
   -- what becomes of its stays, as it sits in this cabin behind it
   abbrev TurnsBy : Ending → Cabin → Option Accepted → List Stay → List Find → Type 0
@@ -241,9 +241,9 @@ module _ (o : Origin) (e : Entering) (failed : Bool) (well : failed ≡ false) (
         let marks : after.marks.items ≡ out.marks.items ++ card_marks e.which clock entered.owed.items =
         ap (λ (p : Outcome). p.marks.items) behind ∙ marks-are e.which clock entered.owed.items entered.replayed out.marks told.whole (omega (arith, room, most)) in
         let x = owes before entered told (subst (λ (ms : List Mark). All (λ (d : Entry). IsMarked ms (device_of e.which) d.minute) entered.owed.items) (sym marks) (own-marks e.which clock out.marks.items entered.owed.items)) in (
-          true-more t ss (new_stay entered since) all.0 (tells_odometer before (AcceptedWith entered.replayed), tt, tt),
+          (let line = tells_odometer before (AcceptedWith entered.replayed) in true-more t e.which ss (new_stay entered since) all.0 (line.0, tt, tt, line.1)),
           owes-more (t.owed e.which) vehicle (own_sizes f.image).activity ss (new_stay entered since) (start_shown f.image) all.1
-              (subst (λ (b : Book). t.owed e.which e.at.second (mark_of b) entered.owed.items) ((shown told.valid).shows x.0 x.1).0 x.2),
+              (subst (λ (b : Book). t.owed e.which (find_of e (AcceptedWith entered.replayed)) (mark_of b) entered.owed.items) ((shown told.valid).shows x.0 x.1).0 x.2),
         );
     comes = λ shown.
         let seen = tells.1 told.valid in
@@ -345,7 +345,7 @@ module _ (o : Origin) (e : Entering) (failed : Bool) (well : failed ≡ false) (
       ∙ others-slot (ending_of way) (measured way e k).cabin at (sym (ap (λ (q : Cabin). card_in (seat_in q.slots.seats at)) cabin) ∙ there))
       (λ none. others-noted (ending_of way) none)
       (λ none was. own-slot (ending_of way) (measured way e k).cabin v.cabin (sized-slots way) cabin session none)
-      (λ none ss since. turned way w entered known owes tells none ss since bare cabin session) all))
+      (λ none h. turned way w entered known owes tells none (h.stays e.which) (h.since e.which) bare cabin session) all))
     where
       turned : (way : Way) (w : Carried) (entered : HasEntered e failed k v noted noted_after out after U W X Y way) → IsEnteredOn (ending_of way) e failed k v U W X Y Z o.found w → OwesIn w → TellsBy e.at.second (ending_of way) f U W X → NothingFailed (log_by (ending_of way)) → (ss : List Stay) (since : List Find) → session_of k.cabin.cards e.which ≡ None →
           v.cabin ≡ cabin_by (ending_of way) e noted (measured way e k).cabin → session_of v.cabin.cards e.which ≡ session_by (ending_of way) noted →

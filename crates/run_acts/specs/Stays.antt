@@ -134,10 +134,10 @@ AreJudged vehicle size (s ∷ ss) since p = IsJudged p s × AreJudged vehicle si
 
 -- ---- what was owed to their card
 
--- WHAT WAS OWED AT EACH OF THEM is that which is owed so, by its second and the end mark of what the card showed by then.
-abbrev pub AreOwed : (Owes : (second mark : ℕ) → List Entry → Type 0) → Registration → (size : ℕ) → List Stay → Shown → Type 0
+-- WHAT WAS OWED AT EACH OF THEM is that which is owed so, by its line and the end mark of what the card showed by then.
+abbrev pub AreOwed : (Owes : Find → (mark : ℕ) → List Entry → Type 0) → Registration → (size : ℕ) → List Stay → Shown → Type 0
 AreOwed Owes vehicle size [] p = Unit {0}
-AreOwed Owes vehicle size (s ∷ ss) p = Owes s.found.second (mark_of p.book) s.owed × AreOwed Owes vehicle size ss (after_stay vehicle size s p)
+AreOwed Owes vehicle size (s ∷ ss) p = Owes s.found (mark_of p.book) s.owed × AreOwed Owes vehicle size ss (after_stay vehicle size s p)
 
 -- ---- how many
 
@@ -174,13 +174,14 @@ IsPlaced notes cabin c = (slot : Slot) → is_some (session_of cabin.cards c) �
 
 -- ---- what is true of them
 
--- A STAY IS TRUE: its acceptance told the odometer of then, each of its minutes that of its end, and it was closed with the word of its slot.
-abbrev pub IsTrueOf : Truths → Stay → Type 0
-IsTrueOf t s = t.accepted s.found s.odometer × AllByRecursion t.kept s.kepts × IfSome s.closed (λ x. t.closed s.found.slot x.second x.word)
+-- A STAY of a card IS TRUE: its acceptance told the odometer of then, each of its minutes that of its end, it was closed with the word of its slot, and its
+-- line is of the card's own entering.
+abbrev pub IsTrueOf : Truths → Card → Stay → Type 0
+IsTrueOf t c s = t.accepted s.found s.odometer × AllByRecursion t.kept s.kepts × IfSome s.closed (λ x. t.closed s.found x.second x.word) × t.entered c s.found
 
 -- SO IS EACH of these, of a card with this image at the start; and what was owed at it was owed so
 abbrev pub AreTrue : Truths → Card → Registration → (image : List ℕ) → List Stay → Type 0
-AreTrue t c vehicle image ss = AllByRecursion (IsTrueOf t) ss × AreOwed (t.owed c) vehicle (own_sizes image).activity ss (start_shown image)
+AreTrue t c vehicle image ss = AllByRecursion (IsTrueOf t c) ss × AreOwed (t.owed c) vehicle (own_sizes image).activity ss (start_shown image)
 
 -- ---- the vehicle before
 

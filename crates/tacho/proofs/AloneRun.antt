@@ -31,6 +31,7 @@ use Rattle.event_course.specs.Plain.{IsWithoutCards, OnlySelect}
 use Rattle.event_course.specs.Noted.{are_sure}
 use Rattle.event_course.specs.Shown.{first_begin, first_on, count_on, ShowsRun}
 use Rattle.event_course.proofs.Bridge.{events-plain}
+use Rattle.unit_rule.proofs.OtherRows.{owes-still}
 use Rattle.run_rule.specs.Between.{devices}
 use Rattle.run_outcome.specs.declared.outcome.Outcome.{Outcome}
 use Rattle.recorder_with_cards.specs.Words.{log_of}
@@ -120,6 +121,7 @@ module _ (x : List ℕ) (start : ℕ) (items : List Item) (out : Outcome) (U V A
       safe = safe-same.0;
       none = λ c. (h.ends.safe.card c).unmarked (none-valid c);
       issued = h.ends.safe.issued;
+      owed = λ y left. owes-still x no_image no_image y no-valid no-valid (h.rows y left);
       odometer = h.ends.odometer;
       days = h.ends.days;
       stored = λ y left. let s = h.side y left in record { spans = s.spans; are_spans = s.are_spans; odometer = s.odometer };

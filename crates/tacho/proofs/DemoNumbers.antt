@@ -9,6 +9,7 @@ use Rattle.side_model.specs.Noted.{insertions_of}
 use Rattle.side_model.specs.Rings.{RingShows, IsInsertion, is_sure_insertion}
 use Rattle.safety_model.specs.Recording.{Recording, history_of, lost_of, told_of}
 use Rattle.safety_model.specs.Unit.{UnitSafe, issued_bytes}
+use Rattle.unit_rule.specs.OtherRows.{KeepsRows}
 use Rattle.safety_model.specs.Cards.{CardSafe}
 use Rattle.safety_model.specs.Safe.{Devices, card_of, breakdowns_of, IsVerdict, WasFound}
 use Rattle.safety_model.specs.Side.{holder_of, notes_in, IsPrevious}
@@ -89,4 +90,5 @@ module _ (x a b : List ℕ) (start : ℕ) (items : List Item) (out : Outcome) (p
     holders = λ c. subst (λ (n : ℕ). KeepsHolder r c n (card_of now c)) (cards c) (h.holders c);
     places = h.places;
     cards = λ c. subst (λ (n : ℕ). ShowsItsEvents r c n (card_of now c)) (cards c) (h.cards c);
+    rows = subst (λ (n : ℕ). (y : List ℕ) → now.unit.left_since n y → KeepsRows r.unit r.card_a r.card_b y) unit h.rows;
   }

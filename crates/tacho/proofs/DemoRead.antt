@@ -1,5 +1,5 @@
 -- What was recorded stands where the unit is only read behind the run.
-use Rattle.std.proofs.Common.{◌≡◌, ◌≤◌, ◌-◌, ℕ, List, inl, inr, ⊎_elim, ◌⊎◌, arith, Bool, refl, subst}
+use Rattle.std.proofs.Common.{◌≡◌, ◌≤◌, ◌-◌, ℕ, List, inl, inr, ⊎_elim, ◌⊎◌, arith, Bool, refl, sym, ◌∙◌, subst}
 use Rattle.trace_model.specs.declared.Card.{Card}
 use Rattle.trace_model.specs.declared.Card.TheVariants.{A, B}
 use Rattle.trace_model.specs.declared.Item.{Item}
@@ -59,6 +59,7 @@ module _ (U V : State) (is : IsRead U V) where
     minute = h.minute;
     stands = h.stands;
     clock = omega (arith, h.clock, is.clock);
+    prompt = λ told. let x = h.prompt (sym is.leaves.tells ∙ told) in (x.0, is.leaves.keeps _ x.0 (omega (arith, h.clock)) x.1, x.2);
     shown = λ x left. h.shown x (back m.clock x h.clock left);
   }
 
@@ -217,6 +218,7 @@ module _ (U V : State) (is : IsRead U V) where
                 verdicts = s.verdicts;
                 befores = record { comings = s.befores.comings; lines = s.befores.lines; merged = s.befores.merged; tells = λ dense y left. s.befores.tells dense y (now-back y left) };
               };
+          rows = λ y left. h.rows y (back p.unit.clock y before left);
           kept = more-found (U.left_since p.unit.clock) (V.left_since p.unit.clock) (λ y left. is.leaves.keeps p.unit.clock y before left) r.log (spans_of (told_of r)) h.kept;
           last = last-read (recorded r.unit) (history_of r) (lost_of r) out.marks.items p.unit.clock (last_kept r.unit) before h.ends.safe.unit h.last;
           dense = record { insertions = λ dense y left. h.dense.insertions dense y (now-back y left); places = λ dense y left. h.dense.places dense y (now-back y left) };
