@@ -1,4 +1,4 @@
--- A run without a failed call marks each minute that it keeps once, in order; else a minute may be found kept that is not marked.
+-- Where each sure minute is marked the marks are those of a front of the history, and what is left where nothing was lost.
 use Rattle.std.proofs.Common.{◌≡◌, inl, inr, ⊎_elim, ℕ, ◌+◌, true, false, Option, Some, None, List, [], ◌∷◌, ◌++◌, refl, ap, sym, subst, ◌∙◌, arith, map, length, length-append}
 use Rattle.std.proofs.lemmas.List.{map-append}
 use Rattle.run_model.specs.declared.Device.TheVariants.{Unit as Recorder}
