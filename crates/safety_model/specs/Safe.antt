@@ -7,7 +7,7 @@ use Rattle.run_model.specs.declared.Device.{Device}
 use Rattle.run_model.specs.declared.Device.TheVariants.{Unit as Recorder, CardA, CardB}
 use Rattle.tach_media.specs.Medium.{State}
 use Rattle.unit_model.specs.Image.{recorded, last_kept}
-use Rattle.unit_model.specs.Decoding.{Decodes, first_bad_place}
+use Rattle.unit_model.specs.Decoding.{Decodes}
 use Rattle.log_model.specs.declared.lines.Break.{Break}
 use Rattle.log_model.specs.declared.lines.Break.TheVariants.{Cut, Tear}
 use Rattle.log_model.specs.declared.lines.Mark.{Mark}
@@ -104,22 +104,3 @@ module _ (r : Recording) where
     pub decodes : Decodes r.unit
     pub clock : (s : TraceSecond) → first_of r.trace ≡ Some s → last_kept r.unit < s.number / 60
     pub numbers : IsOwnValid r.card_a → IsOwnValid r.card_b → own_number r.card_a ≢ own_number r.card_b
-
-  -- it does not where the unit's image fails, first at this place
-  abbrev pub IsBadUnit : ℕ → Type 0
-  IsBadUnit place = first_bad_place r.unit ≡ Some place
-
-  -- nor where the first second is in no later minute than this last-kept one
-  pub record IsClockBack (kept second : ℕ) : Type 0 where
-    pub decodes : Decodes r.unit
-    pub kept_ : last_kept r.unit ≡ kept
-    pub first : (s : TraceSecond) × (first_of r.trace ≡ Some s) × (s.number ≡ second)
-    pub back : second / 60 ≤ kept
-
-  -- nor where both cards are valid and carry this number
-  pub record IsSameCard (number : List ℕ) : Type 0 where
-    pub decodes : Decodes r.unit
-    pub clock : (s : TraceSecond) → first_of r.trace ≡ Some s → last_kept r.unit < s.number / 60
-    pub valid_a : IsOwnValid r.card_a
-    pub valid_b : IsOwnValid r.card_b
-    pub one : (own_number r.card_a ≡ number) × (own_number r.card_b ≡ number)
