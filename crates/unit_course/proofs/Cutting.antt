@@ -27,7 +27,7 @@ use Rattle.unit_course.specs.Keeping.{plain, broken_at}
 use Rattle.unit_course.specs.Followed.{Lit, Progress, going_before, lost_before, HadActions, IsShut, IsOpen, Followed}
 use Rattle.unit_course.proofs.Lines.{cut-none, cut-here, torn-none, found-none, cuts-later, cuts-push, went-cut, tells-here, tells-none, cuts-front, take-front}
 use Rattle.unit_course.proofs.Turns.{IsQuiet, given_second, lit-told, cut-told, lit-next}
-use Rattle.unit_course.proofs.Spans.{cut_spans, cut-with, cut-push, cut-spans-last, decided-cut, length-cut, cut-number}
+use Rattle.unit_course.proofs.Spans.{cut_spans, cut-with, cut-spans-last, decided-cut, length-cut, cut-number}
 use Rattle.unit_course.proofs.Parts.{plain-append, plain-front, follows-whole, follows-same, whole-history, whole-lost, short-history, short-lost}
 use Rattle.unit_course.proofs.Ties.{closed-same, shut-off, cut-long, cut-lost, same-minutes, same-losses}
 use Rattle.unit_course.proofs.Alike.{known-open, decided-empty}
@@ -107,10 +107,6 @@ module _ (rule : Rule) (start : Start) (from first : ℕ) (done : List TraceSeco
 
   abbrev now : List Told
   now = (went (log_of later) done).told
-
-  -- they are the same seconds but for the last
-  pub now-cut : now ≡ cut_last told
-  now-cut = ap (λ (w : Went). w.told) told-cut ∙ sym (cut-push before.told (t-as false)) ∙ ap cut_last (sym (ap (λ (w : Went). w.told) told-lit))
 
   pub spans-cut : spans_of now ≡ f.ended ++ cut_last (t ∷ span) ∷ []
   spans-cut =

@@ -5,7 +5,7 @@ use Rattle.std.specs.List.{AllByRecursion}
 use Rattle.std.proofs.lemmas.Bool.Decides.{nat_tests}
 use Rattle.std.proofs.lemmas.Option.{none-some}
 use Rattle.std.proofs.lemmas.List.Sums.{sum_by-cons, sum_by-append}
-use Rattle.std.proofs.lemmas.List.Elements.{All-nil, All-cons, All-head, All-tail, All-weaker, All-contains, All-filter, Contains-append_left, Contains-append_right, Contains-push_cases, filter-append}
+use Rattle.std.proofs.lemmas.List.Elements.{All-head, All-tail, All-weaker, All-contains, All-filter, Contains-append_left, Contains-append_right, Contains-push_cases, filter-append}
 use Rattle.minute_model.specs.declared.Rule.{Rule}
 use Rattle.minute_model.specs.declared.Minute.{Minute}
 use Rattle.log_model.specs.declared.lines.Break.{Break}
@@ -19,7 +19,6 @@ use Rattle.history_model.proofs.Books.{contains-up_to, up_to-within}
 use Rattle.history_model.proofs.Closing.{Agree}
 use Rattle.history_model.proofs.Deciding.{short-none}
 use Rattle.history_model.proofs.Filters.{filter-none, filter-whole}
-use Rattle.unit_course.specs.Keeping.{plain}
 use Rattle.unit_course.specs.Followed.{IsKnown}
 use Rattle.unit_course.specs.Legs.{Reckoned, Travel, reckoned, travelled, stranded_at, all_travelled, kilometres_of, travelled_by, IsLeg, AreLegs, AreWhole, whole_legs}
 use Rattle.unit_course.proofs.Alike.{Alike, decided-empty}
@@ -234,9 +233,3 @@ legs-whole rule f k (span ∷ later) [] whole h = absurd h
 legs-whole rule f k (span ∷ later) (leg ∷ legs) whole h =
     ap (λ (l : ℕ). l ∷ legs) (leg-whole (unwrap_or (f span later) k) (decided_of rule span) leg whole.0 h.0)
     ∙ ap (λ (ls : List ℕ). travelled_by (decided_of rule span) ∷ ls) (legs-whole rule f k later legs whole.1 h.1)
-
--- minutes of the book, as they were decided
-pub plain-all : (P : ℕ → Type 0) (ds : List Minute) → All (λ i. P i.minute) (map plain ds) → All (λ d. P d.minute) ds
-plain-all P [] h = All-nil (λ (d : Minute). P d.minute)
-plain-all P (d ∷ ds) h =
-    All-cons (λ (d : Minute). P d.minute) d ds (All-head (λ (i : HistoryMinute). P i.minute) (plain d) (map plain ds) h) (plain-all P ds (All-tail (λ (i : HistoryMinute). P i.minute) (plain d) (map plain ds) h))

@@ -11,8 +11,6 @@ pub mod Steps
 pub mod Seconds
 pub mod Causing
 pub mod Offs
-pub mod Caused
-pub mod WithCauses
 pub mod Rows
 pub mod Legs
 pub mod Travelled

@@ -1,20 +1,19 @@
 -- How the seconds of each step went: the seconds so far, and then exactly these.
-use Rattle.std.proofs.Common.{◌≡◌, ℕ, suc, ◌+◌, ◌-◌, ◌%◌, ◌<◌, ◌≤◌, Bool, true, false, List, [], ◌∷◌, ◌++◌, fold, ap, subst, ◌∙◌}
+use Rattle.std.proofs.Common.{◌≡◌, ℕ, suc, ◌+◌, ◌-◌, ◌%◌, ◌<◌, ◌≤◌, true, List, [], ◌∷◌, ◌++◌, fold, ap, subst, ◌∙◌}
 use Rattle.std.specs.List.{AllByRecursion}
 use Rattle.trace_model.specs.declared.Action.{Action}
-use Rattle.trace_model.specs.Trace.{TraceSecond, driven, dark}
+use Rattle.trace_model.specs.Trace.{TraceSecond, driven}
 use Rattle.minute_model.specs.declared.Rule.{Rule}
 use Rattle.run_model.specs.Span.{picks_of}
-use Rattle.log_model.specs.Course.{Told, Went, Before, went_on, went}
+use Rattle.log_model.specs.Course.{Told, Before, went_on, went}
 use Rattle.history_model.specs.Presence.{Start}
-use Rattle.unit_course.specs.Turn.{IsSelection, empty_slots, lit_second, lit_seconds, dark_seconds, cut_last, begins_with}
+use Rattle.unit_course.specs.Turn.{IsSelection, lit_second, lit_seconds, dark_seconds, begins_with}
 use Rattle.unit_course.specs.Lines.{log_of, cut_at, found_from, IsCutBefore}
-use Rattle.unit_course.specs.Followed.{Supply, Lit, Due, Lost, Progress, going_before, lost_before, Followed, MayPower, MayFail, IsDark}
+use Rattle.unit_course.specs.Followed.{Supply, Lit, Due, Lost, Progress, going_before, lost_before, Followed, MayPower, MayFail}
 use Rattle.unit_course.proofs.Lines.{went-found}
-use Rattle.unit_course.proofs.Turns.{lost-goes, off-goes, went-parts}
+use Rattle.unit_course.proofs.Turns.{lost-goes, went-parts}
 use Rattle.unit_course.proofs.Resting.{failed-goes}
 use Rattle.unit_course.proofs.Lighted.{turn-told}
-use Rattle.unit_course.proofs.Cutting.{told-cut, now-cut}
 use Rattle.unit_course.proofs.Steps.{rests-due, rests-lost, rests-lit, lost-comes}
 
 module _ (rule : Rule) (start : Start) (from first : ℕ) (done : List TraceSecond) (p : Progress) where
@@ -36,14 +35,6 @@ module _ (rule : Rule) (start : Start) (from first : ℕ) (done : List TraceSeco
       ≡ record { told = (went (log_of p.breaks) done).told ++ lit_seconds (suc n) p.next speed (picks_of actions) (begins_with span); before = going_before }
   turned_seconds g span is n speed actions each = turn-told rule start from first done p span (by-supply g (Lit span) is) n speed actions each
 
-  -- the span ends with a cut in the last second so far
-  pub cut_seconds : Followed rule start from first done p → (t : Told) (span : List Told) → p.supply ≡ Lit (t ∷ span) → (failed : Bool) →
-      went (log_of (p.breaks ++ cut_at (p.next - 1) failed p.begun ∷ [])) done ≡ record { told = cut_last (went (log_of p.breaks) done).told; before = lost_before }
-  cut_seconds g t span is failed =
-      let f = by-supply g (Lit (t ∷ span)) is in
-      ap (λ (b : Before). record { told = (went (log_of (p.breaks ++ cut_at (p.next - 1) failed p.begun ∷ [])) done).told; before = b }) (ap (λ (w : Went). w.before) (told-cut rule start from first done p t span f failed))
-      ∙ ap (λ (ts : List Told). record { told = ts; before = lost_before }) (now-cut rule start from first done p t span f failed)
-
   -- the power-on fails in the first of these seconds, and the others are dark
   pub failed_seconds : Followed rule start from first done p → MayFail p.supply p.next → (n speed : ℕ) (actions : List Action) → p.next % 60 + suc n ≤ 60 → AllByRecursion IsSelection actions →
       went (log_of (p.breaks ++ cut_at p.next true 0 ∷ [])) (done ++ driven (suc n) p.next speed actions)
@@ -64,14 +55,3 @@ module _ (rule : Rule) (start : Start) (from first : ℕ) (done : List TraceSeco
       went-parts (log_of p.breaks) done (driven n p.next speed actions)
       ∙ ap (λ (b : Before). fold (went_on (log_of p.breaks)) (record { told = (went (log_of p.breaks) done).told; before = b }) (driven n p.next speed actions)) (by-supply g Lost is).power
       ∙ lost-goes (log_of p.breaks) (went (log_of p.breaks) done).told n p.next speed actions some within
-
-  -- an `off` line
-  pub off_seconds : Followed rule start from first done p → IsDark p.supply → (n : ℕ) →
-      (went (log_of p.breaks) (done ++ dark (suc n) p.next)).told ≡ (went (log_of p.breaks) done).told ++ dark_seconds (suc n) p.next 0 false []
-  off_seconds g is n =
-      ap (λ (w : Went). w.told) (went-parts (log_of p.breaks) done (dark (suc n) p.next) ∙ off-goes (log_of p.breaks) (went (log_of p.breaks) done).told (went (log_of p.breaks) done).before n p.next (empty p.supply is g))
-    where
-      empty : (s : Supply) → IsDark s → Followed rule start from first done (record p { supply = s }) → (went (log_of p.breaks) done).before.slots ≡ empty_slots
-      empty (Lit span) is f = absurd is
-      empty Due is f = (f.power 0).slots
-      empty Lost is f = ap (λ (b : Before). b.slots) f.power
