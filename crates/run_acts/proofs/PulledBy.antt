@@ -64,10 +64,13 @@ none-behind [] ys is = is
 none-behind (x ∷ xs) ys is = absurd (some-none x (xs ++ ys) is)
 
 -- a slot in which nobody is visited is empty
+abbrev visits_by : Phase → Slot → Option Sitting → List Visit
+visits_by p slot q = map (λ (card : Card). record { phase = p; slot = slot; card = card }) (card_in q)
+
 visits-none : (p : Phase) (slot : Slot) (slots : Slots) → visits p slot slots ≡ [] → card_in (in_slot slots slot) ≡ []
 visits-none p slot slots = by (in_slot slots slot)
   where
-    by : (q : Option Sitting) → map (λ (card : Card). record { phase = p; slot = slot; card = card }) (card_in q) ≡ [] → card_in q ≡ []
+    by : (q : Option Sitting) → visits_by p slot q ≡ [] → card_in q ≡ []
     by None is = refl
     by (Some x) is = absurd (some-none {X = Visit} (record { phase = p; slot = slot; card = x.card }) [] is)
 

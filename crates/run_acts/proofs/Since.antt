@@ -23,7 +23,7 @@ use Rattle.side_model.specs.Done.{course_powered}
 use Rattle.event_model.specs.Events.{course_by}
 use Rattle.run_moments.specs.Moment.{find_as, found_at}
 use Rattle.run_moments.specs.Reached.{course_at, course_with, moved_at, moved_with}
-use Rattle.run_rings.proofs.Notes.{Finding, answered-found}
+use Rattle.run_rings.proofs.Notes.{Finding, seen_of, answered-found}
 use Rattle.run_acts.specs.Words.{withdraws, begun_in}
 use Rattle.run_acts.specs.Truths.{PutsIn}
 use Rattle.run_acts.proofs.TurnSeconds.{all-both}
@@ -215,24 +215,30 @@ accepted-keeps slot card n c now k h = record {
   apart = all-both (IsApart slot) h.later k.more h.apart k.apart;
 }
 
-refused-apart : (visit : Visit) (slot : Slot) (vs : List Verdict) → list_any is_accepting vs ≡ false → AllByRecursion (IsApart slot) (map (λ (v : Verdict). (visit, v)) vs)
+refused-apart : (visit : Visit) (slot : Slot) (vs : List Verdict) → list_any is_accepting vs ≡ false → AllByRecursion (IsApart slot) (seen_of visit vs)
 refused-apart visit slot [] none = tt
 refused-apart visit slot (v ∷ vs) none = by (is_accepting v) refl none (λ rest. refused-apart visit slot vs rest)
   where
-    by : (b : Bool) → is_accepting v ≡ b → (b || list_any is_accepting vs) ≡ false → (list_any is_accepting vs ≡ false → AllByRecursion (IsApart slot) (map (λ (w : Verdict). (visit, w)) vs)) → AllByRecursion (IsApart slot) (map (λ (w : Verdict). (visit, w)) (v ∷ vs))
+    by : (b : Bool) → is_accepting v ≡ b → (b || list_any is_accepting vs) ≡ false → (list_any is_accepting vs ≡ false → AllByRecursion (IsApart slot) (seen_of visit vs)) → AllByRecursion (IsApart slot) (seen_of visit (v ∷ vs))
     by true is wrong rest = absurd (cc)
     by false is others rest = (neither-other (same_slot visit.slot slot) (is_accepting v) is, rest others)
 
-pairs-append : (visit : Visit) (vs ws : List Verdict) → map (λ (v : Verdict). (visit, v)) (vs ++ ws) ≡ map (λ (v : Verdict). (visit, v)) vs ++ map (λ (v : Verdict). (visit, v)) ws
+pairs-append : (visit : Visit) (vs ws : List Verdict) → seen_of visit (vs ++ ws) ≡ seen_of visit vs ++ seen_of visit ws
 pairs-append visit [] ws = refl
 pairs-append visit (v ∷ vs) ws = ap (λ (fs : List Finding). (visit, v) ∷ fs) (pairs-append visit vs ws)
 
-one-seen : (n : ℕ) (slot : Slot) (card : Card) (vs : List Verdict) (q : Option Sitting) → q ≡ Some (record { card = card; accepted = None }) →
-    flat_map (λ (visit : Visit). map (λ (v : Verdict). (visit, v)) vs) (map (λ (d : Card). record { phase = In n; slot = slot; card = d }) (card_in q)) ≡ map (λ (v : Verdict). (record { phase = In n; slot = slot; card = card }, v)) vs
+-- of whoever sits in a slot
+abbrev visits_of : ℕ → Slot → Option Sitting → List Visit
+visits_of n slot q = map (λ (card : Card). record { phase = In n; slot = slot; card = card }) (card_in q)
+
+abbrev seen_in : ℕ → Slot → List Verdict → Option Sitting → List Finding
+seen_in n slot vs q = flat_map (λ (visit : Visit). seen_of visit vs) (visits_of n slot q)
+
+one-seen : (n : ℕ) (slot : Slot) (card : Card) (vs : List Verdict) (q : Option Sitting) → q ≡ Some (record { card = card; accepted = None }) → seen_in n slot vs q ≡ seen_of (record { phase = In n; slot = slot; card = card }) vs
 one-seen n slot card vs None is = absurd (let wrong : None ≡ Some (record { card = card; accepted = None }) = is in cc)
 one-seen n slot card vs (Some x) is =
-    append-nil (map (λ (v : Verdict). (record { phase = In n; slot = slot; card = x.card }, v)) vs)
-    ∙ ap (λ (d : Card). map (λ (v : Verdict). (record { phase = In n; slot = slot; card = d }, v)) vs) (let same : x ≡ record { card = card; accepted = None } = cc in ap (λ (s : Sitting). s.card) same)
+    append-nil (seen_of (record { phase = In n; slot = slot; card = x.card }) vs)
+    ∙ ap (λ (d : Card). seen_of (record { phase = In n; slot = slot; card = d }) vs) (let same : x ≡ record { card = card; accepted = None } = cc in ap (λ (s : Sitting). s.card) same)
 
 -- WHO SITS IN THE SLOT behind it is this card, of whose acceptance is told, if it is accepted
 abbrev OwnBehind : Slot → Card → ℕ → Course → Type 0
@@ -250,11 +256,11 @@ module _ (u n : ℕ) (slot : Slot) (card : Card) (c : Course) (here : in_slot c.
       let l = last-of is_accepting vs some in (
         sym (ap (λ (y : Sitting). y.card) same),
         λ yes. record {
-          earlier = c.found ++ map (λ (v : Verdict). (visit, v)) l.front;
+          earlier = c.found ++ seen_of visit l.front;
           verdict = l.x;
-          later = map (λ (v : Verdict). (visit, v)) l.rest;
-          are = ap (λ (fs : List Finding). c.found ++ fs) (one-seen n slot card vs (in_slot c.slots slot) here ∙ ap (λ (ws : List Verdict). map (λ (v : Verdict). (visit, v)) ws) l.are ∙ pairs-append visit l.front (l.x ∷ l.rest))
-              ∙ sym (append_assoc c.found (map (λ (v : Verdict). (visit, v)) l.front) (map (λ (v : Verdict). (visit, v)) (l.x ∷ l.rest)));
+          later = seen_of visit l.rest;
+          are = ap (λ (fs : List Finding). c.found ++ fs) (one-seen n slot card vs (in_slot c.slots slot) here ∙ ap (λ (ws : List Verdict). seen_of visit ws) l.are ∙ pairs-append visit l.front (l.x ∷ l.rest))
+              ∙ sym (append_assoc c.found (seen_of visit l.front) (seen_of visit (l.x ∷ l.rest)));
           accepts = l.is;
           apart = refused-apart visit slot l.rest l.none;
         },

@@ -93,22 +93,22 @@ corner = record { number = 86402; has_power = true; speed = 0; actions = Withdra
 
 -- the card that sat there before is withdrawn with work, the other one with availability
 first-word : IsWordOf Original (first_told ∷ next_told ∷ []) corner before_all activity.Work
-unfolding cut_in
+unfolding went cut_in
 first-word = record { front = []; since = []; rest = Select Driver Available ∷ Insert Driver B ∷ Withdraw Driver ∷ []; are = refl; begun = refl; first = refl; is = refl }
 
 second-word : IsWordOf Original (first_told ∷ next_told ∷ []) corner put_in activity.Available
-unfolding cut_in
+unfolding went cut_in
 second-word = record { front = Withdraw Driver ∷ Select Driver Available ∷ Insert Driver B ∷ []; since = []; rest = []; are = refl; begun = refl; first = refl; is = refl }
 
 -- and the first one with no other word
 word-by : (front since rest : List Action) → corner.actions ≡ front ++ (since ++ Withdraw Driver ∷ rest) → length front ≡ 0 → list_any (withdraws Driver) since ≡ false →
     activity.Available ≡ activity_next Driver (picking (picks_of (front ++ since)) (span_at Original 86402 (first_told ∷ next_told ∷ []))) → ⊥
-unfolding cut_in
-word-by [] [] rest are begun first is = absurd (let wrong : activity.Available ≡ activity.Work = is in cc)
-word-by [] (x ∷ since) rest are begun first is =
+unfolding went cut_in
+word-by [] [] rest are begun none is = absurd (let wrong : activity.Available ≡ activity.Work = is in cc)
+word-by [] (x ∷ since) rest are begun none is =
     let same : Withdraw Driver ≡ x = cc in
-    absurd (let wrong : true ≡ false = ap (λ (a : Action). withdraws Driver a || list_any (withdraws Driver) since) same ∙ first in cc)
-word-by (x ∷ front) since rest are begun first is = absurd (omega (arith, begun))
+    absurd (let wrong : true ≡ false = ap (λ (a : Action). withdraws Driver a || list_any (withdraws Driver) since) same ∙ none in cc)
+word-by (x ∷ front) since rest are begun none is = absurd (omega (arith, begun))
 
 not-second : IsWordOf Original (first_told ∷ next_told ∷ []) corner before_all activity.Available → ⊥
 not-second w = word-by w.front w.since w.rest w.are w.begun w.first w.is
