@@ -138,11 +138,11 @@ module _ (card : Card) (slot : Slot) (at : Moment) (run new : Run) (breaks after
   minute-noted here le = noted-minute card at.second run fell (run.next / 60) le (omega (arith, here))
 
 -- of two things that the cards have, the one of card a, and of card b
-abbrev pub of_a : {T : Type 0} → Card → (mine others : T) → T
+abbrev pub of_a {ℓ} : {T : Type ℓ} → Card → (mine others : T) → T
 of_a A mine others = mine
 of_a B mine others = others
 
-abbrev pub of_b : {T : Type 0} → Card → (mine others : T) → T
+abbrev pub of_b {ℓ} : {T : Type ℓ} → Card → (mine others : T) → T
 of_b A mine others = others
 of_b B mine others = mine
 

@@ -209,6 +209,7 @@ module _ (U V : State) (is : IsRead U V) where
                 only = s.only;
                 shows = λ c valid. subst (λ (x : State). ShowsStays s.vehicle (card_image r c) (s.stays c) x) (same-card c) (s.shows c valid);
                 closed = s.closed;
+                entered = s.entered;
                 words = s.words;
                 odometers = s.odometers;
                 owes = s.owes;

@@ -13,7 +13,7 @@ use card_commands::SimCard;
 use run_model::Device;
 use std::alloc::{AllocError, Global};
 use std::test::Fail;
-use tach_media::{Medium, MemMedium, Memory, Stop};
+use tach_media::{MemMedium, Memory, Stop};
 
 /// The room of each device's log.
 const ROOM: Room = Room {

@@ -176,43 +176,73 @@ fn owed_of_four<M: Medium>(
     owes(&journal, unit, 1, session, after, first, end)
 }
 
-/// The same on a unit that has kept this minute.
-fn is_owed(
-    alloc: Global,
+/// That it is so on a unit that has kept this minute.
+fn check_owed(
+    rt: &(impl Abort + AllocGlobal),
     kept: u32,
     begun: u32,
     session: u32,
     after: u32,
     first: u32,
     end: u32,
-) -> Result<bool, Fail> {
+) -> Result<(), Fail> {
+    let alloc = rt.alloc();
     let mut unit = unit(alloc, one_day(alloc, kept)?, u64::MAX, Left::Before)?;
-    Ok(owed_of_four(&mut unit, begun, session, after, first, end)?)
+    let is_owed = owed_of_four(&mut unit, begun, session, after, first, end)?;
+    assert!(rt; is_owed);
+    Ok(())
 }
 
 #[test]
 fn entries_of_the_session_behind_the_mark(rt: HostRuntime) -> Result<(), Fail> {
     for (kept, begun, session, after, first, end) in ROWS {
-        assert!(rt; is_owed(rt.alloc(), kept, begun, session, after, first, end)?);
+        check_owed(&rt, kept, begun, session, after, first, end)?;
     }
     Ok(())
 }
 
-/// Begins eight rows, each with a later session than those before, and puts a minute into that of each card.
+/// Begins two rows, the second with a later session.
+fn begin_two<M: Medium>(
+    journal: &mut Journal,
+    unit: &mut M,
+    digit: u8,
+    session: u32,
+) -> Result<(), Failed>
+    requires unit { IsUnit (M.state unit.old) }
+    requires agrees { IfSome (M.state unit.old).image (Agrees journal.old) }
+    ensures unit { IsUnit (M.state unit.new) }
+    ensures agrees { OnOk result (IfSome (M.state unit.new).image (Agrees journal.new)) }
+{
+    begin(journal, unit, digit, session, None)?;
+    begin(
+        journal,
+        unit,
+        digit.saturating_add(1),
+        session.saturating_add(1),
+        None,
+    )
+}
+
+/// Begins eight rows, each with a later session than those before.
 fn begin_eight<M: Medium>(journal: &mut Journal, unit: &mut M) -> Result<(), Failed>
     requires unit { IsUnit (M.state unit.old) }
     requires agrees { IfSome (M.state unit.old).image (Agrees journal.old) }
     ensures unit { IsUnit (M.state unit.new) }
     ensures agrees { OnOk result (IfSome (M.state unit.new).image (Agrees journal.new)) }
 {
-    begin(journal, unit, 1, SESSION, None)?;
-    begin(journal, unit, 2, SESSION + 1, None)?;
-    begin(journal, unit, 3, SESSION + 2, None)?;
-    begin(journal, unit, 4, SESSION + 3, None)?;
-    begin(journal, unit, 5, SESSION + 4, None)?;
-    begin(journal, unit, 6, SESSION + 5, None)?;
-    begin(journal, unit, 7, SESSION + 6, None)?;
-    begin(journal, unit, 8, SESSION + 7, None)?;
+    begin_two(journal, unit, 1, SESSION)?;
+    begin_two(journal, unit, 3, SESSION + 2)?;
+    begin_two(journal, unit, 5, SESSION + 4)?;
+    begin_two(journal, unit, 7, SESSION + 6)
+}
+
+/// Puts a minute into the row of each of the first three cards.
+fn put_three<M: Medium>(journal: &mut Journal, unit: &mut M) -> Result<(), Failed>
+    requires unit { IsUnit (M.state unit.old) }
+    requires agrees { IfSome (M.state unit.old).image (Agrees journal.old) }
+    ensures unit { IsUnit (M.state unit.new) }
+    ensures agrees { OnOk result (IfSome (M.state unit.new).image (Agrees journal.new)) }
+{
     put(journal, unit, 1, FIRST + 97)?;
     put(journal, unit, 2, FIRST + 98)?;
     put(journal, unit, 3, FIRST + 99)
@@ -248,6 +278,7 @@ fn owed_to_nine<M: Medium>(unit: &mut M) -> Result<[bool; 4], Failed>
 {
     let mut journal = open(unit)?;
     begin_eight(&mut journal, unit)?;
+    put_three(&mut journal, unit)?;
     begin_ninth(&mut journal, unit)?;
     owes_nine(&journal, unit)
 }

@@ -212,8 +212,8 @@ module _ (g : Over) (c : In_ok-note_place g) (k : OneCard c.in-Some.card (g.C.Ch
       (subst (λ (m : Devices). AreLater (first g c) m) (k.beside_it (g.M.Medium.state c.note_place.new.unit)) (later-noted g c)) e.journal.keeps
       (some-left (session_of c.args.run.now.keeper.cabin.cards k.which) (λ a. IsNote a.session.application) (k.state k.before) (k.state k.after) some e.moments)
 
-  cards : CardsPlace c.args.slot c.args.at (is_err k.result) c.args.run.now c.args.breaks.now k.breaks (first g c) last
-  cards = place-cards c.args.slot c.args.at (is_err k.result) e.noted.0 c.args.run.now k.new c.args.breaks.now k.breaks (first g c) last c.requires.at e.noted.1.told card-events keeps
+  shown : CardsPlace c.args.slot c.args.at (is_err k.result) c.args.run.now c.args.breaks.now k.breaks (first g c) last
+  shown = place-cards c.args.slot c.args.at (is_err k.result) e.noted.0 c.args.run.now k.new c.args.breaks.now k.breaks (first g c) last c.requires.at e.noted.1.told card-events keeps
 
   ringed : RingsPlace c.args.slot c.args.entry.now c.args.at (is_err k.result) c.args.run.now k.new c.args.breaks.now k.breaks (first g c) last
   ringed =
@@ -627,7 +627,7 @@ pub returns-in-A-clause-card_events : goal.returns-in-A-clause-card_events
 returns-in-A-clause-card_events g c = card-events g (noted-first-a g c) (side-a g c) c.note_place_in.ensures
 
 pub returns-in-A-clause-cards : goal.returns-in-A-clause-cards
-returns-in-A-clause-cards g c = cards g (noted-first-a g c) (side-a g c) c.note_place_in.ensures
+returns-in-A-clause-cards g c = shown g (noted-first-a g c) (side-a g c) c.note_place_in.ensures
 
 pub returns-in-A-clause-ringed : goal.returns-in-A-clause-ringed
 returns-in-A-clause-ringed g c = ringed g (noted-first-a g c) (side-a g c) c.note_place_in.ensures
@@ -682,7 +682,7 @@ pub returns-in-B-clause-card_events : goal.returns-in-B-clause-card_events
 returns-in-B-clause-card_events g c = card-events g (noted-first-b g c) (side-b g c) c.note_place_in-in-B.ensures
 
 pub returns-in-B-clause-cards : goal.returns-in-B-clause-cards
-returns-in-B-clause-cards g c = cards g (noted-first-b g c) (side-b g c) c.note_place_in-in-B.ensures
+returns-in-B-clause-cards g c = shown g (noted-first-b g c) (side-b g c) c.note_place_in-in-B.ensures
 
 pub returns-in-B-clause-ringed : goal.returns-in-B-clause-ringed
 returns-in-B-clause-ringed g c = ringed g (noted-first-b g c) (side-b g c) c.note_place_in-in-B.ensures
