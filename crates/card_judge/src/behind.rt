@@ -4,6 +4,7 @@ ghost use Rattle.activity_codec.specs.Words.{word_absent};
 ghost use Rattle.card_model.specs.Changes.{date_of};
 ghost use Rattle.card_judge.specs.Words.{seen_by, with_check, answer_by};
 
+use activity_codec::{WORD_ABSENT, WORD_MINUTES};
 /// What is kept of the first word behind the mark.
 #[derive(Clone, Copy)]
 pub struct First {
@@ -27,10 +28,11 @@ pub struct Behind {
 /// The last minute that a `TimeReal` can name, since 1970-01-01.
 pub const LAST_MINUTE: u32 = 71582788;
 
-/// The seconds of a day, and the minutes.
+/// The seconds of a day.
 const DAY_SECONDS: u32 = 86400;
 
-const DAY_MINUTES: u32 = 1440;
+/// The minutes of a day.
+pub const DAY_MINUTES: u32 = 1440;
 
 /// The first second of the day of a minute.
 pub fn date_of(minute: u32) -> u32
@@ -52,14 +54,14 @@ pub fn is_later_day(date: u32, minute: u32) -> bool
 pub fn is_absent(word: u16) -> bool
     ensures { result ≡ word_absent word }
 {
-    word / 8192 % 2 == 1
+    word / WORD_ABSENT % 2 == 1
 }
 
 /// The minute since 1970-01-01 of a word of a day.
 pub fn minute_at(date: u32, word: u16) -> u32
     ensures { result ≡ date / 60 + word % 2048 }
 {
-    date / 60 + (word % 2048) as u32
+    date / 60 + (word % WORD_MINUTES) as u32
 }
 
 impl Behind {

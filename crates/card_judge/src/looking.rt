@@ -13,6 +13,7 @@ ghost use Rattle.card_judge.specs.Judged.{IsCopy, TellsSizes, IsSized, IsKnown, 
 
 use crate::files::last_use;
 use crate::{BadFile, InsertFault, Judged, judge_image};
+use activity_codec::WORD_MINUTES;
 use card_files::file_of;
 use card_layout::{Application, Fid, LARGEST_IMAGE};
 use card_records::Vehicle;
@@ -98,7 +99,7 @@ fn newest_minute(judged: &Judged) -> u32
     }
     match judged.days.tail() {
         None => mark,
-        Some(tail) => mark.max(tail.head.date.0 / 60 + u32::from(tail.latest % 2048)),
+        Some(tail) => mark.max(tail.head.date.0 / 60 + u32::from(tail.latest % WORD_MINUTES)),
     }
 }
 

@@ -11,10 +11,11 @@ ghost use Rattle.card_judge.specs.Walks.{IsInMemory, IsMet, IsLastOf};
 ghost use Rattle.card_layout.specs.declared.files.TheConstants.{STRING_MOST};
 ghost use Rattle.card_judge.specs.declared.behind.TheConstants.{LAST_MINUTE};
 
-use crate::behind::date_of;
+use crate::behind::{DAY_MINUTES, date_of};
 use crate::memory::word;
 use crate::round::Round;
 use crate::walk::{HEAD, Met, walk};
+use activity_codec::WORD_MINUTES;
 use cyclic_days::Days;
 
 /// No minute of a word is later.
@@ -32,7 +33,7 @@ fn first_not_later(days: &Days, image: &[u8], round: &Round, met: &Met, limit: u
 {
     let mut before = None;
     for index in 0..met.head.words {
-        let minute = word(days, image, &met.head, index) % 2048;
+        let minute = word(days, image, &met.head, index) % WORD_MINUTES;
         if minute > limit {
             return None;
         }
@@ -136,7 +137,7 @@ fn limit_of(mark: u32, date: u32) -> u16
     ensures { result ≡ limit_of mark date }
 {
     if date == date_of(mark) {
-        (mark % 1440) as u16
+        (mark % DAY_MINUTES) as u16
     } else {
         ANY_MINUTE
     }

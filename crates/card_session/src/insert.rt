@@ -25,7 +25,7 @@ ghost use Rattle.card_session.specs.Inserting.{AreOwed, Follow, MayInsert, lacke
 use crate::session::{CardSession, Kept, newest_minute, session_place};
 use crate::vehicle_use::last_use;
 use crate::words::{LATEST_MINUTE, closing};
-use activity_codec::{Activity, Entry, Owed};
+use activity_codec::{Activity, Entry, Owed, WORD_MINUTES};
 use card_judge::{InsertFault, Judged, judge};
 use card_layout::Application;
 use card_records::{CardEvent, CurrentUse, Vehicle, has_event, note_event};
@@ -360,7 +360,7 @@ fn word_second(tail: Option<Tail>) -> u32
     match tail {
         None => 0,
         Some(tail) => {
-            let minute = tail.head.date.0 / 60 + u32::from(tail.latest % 2048);
+            let minute = tail.head.date.0 / 60 + u32::from(tail.latest % WORD_MINUTES);
             minute.saturating_mul(60)
         }
     }

@@ -20,7 +20,7 @@ use crate::vehicle_use::{begun, counter_behind, goes_on, last_use, measured, use
 use crate::words::{
     DAY_MINUTES, bare_word, closing, distance, entry_change, entry_word, gap_word, is_newest_day,
 };
-use activity_codec::{Activity, Entry, Pick};
+use activity_codec::{Activity, Entry, Pick, WORD_MINUTES};
 use card_files::file_range;
 use card_judge::date_of;
 use card_layout::{Application, Fid};
@@ -439,7 +439,7 @@ pub(crate) fn newest_minute(vehicle: &Option<Vehicle>, tail: Option<Tail>) -> u3
     let mark = last_use(vehicle) / 60;
     match tail {
         None => mark,
-        Some(tail) => mark.max(tail.head.date.0 / 60 + u32::from(tail.latest % 2048)),
+        Some(tail) => mark.max(tail.head.date.0 / 60 + u32::from(tail.latest % WORD_MINUTES)),
     }
 }
 

@@ -4,7 +4,7 @@ ghost use Rattle.card_session.specs.Books.{entry_word, bare_word, km_after};
 ghost use Rattle.card_session.specs.declared.words.TheConstants.{LATEST_MINUTE};
 ghost use Rattle.card_session.specs.Telling.{closing_at, gap_word, is_newest_day, entry_change, km_told};
 
-use activity_codec::{Activity, Change, Entry, Slot, decode_change, encode_change};
+use activity_codec::{Activity, Change, Entry, Slot, WORD_MINUTES, decode_change, encode_change};
 use card_judge::date_of;
 use cyclic_days::Tail;
 use tacho_types::Distance;
@@ -96,7 +96,7 @@ pub fn entry_change(tail: Option<Tail>, entry: &Entry) -> Option<u16>
 {
     let word = entry_word(entry);
     match tail {
-        Some(tail) if tail.latest / 2048 == word / 2048 => None,
+        Some(tail) if tail.latest / WORD_MINUTES == word / WORD_MINUTES => None,
         _ => Some(word),
     }
 }

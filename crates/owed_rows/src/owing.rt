@@ -11,7 +11,9 @@ ghost use Rattle.owed_rows.specs.Searching.{with_owed, IsSane};
 use crate::rows::{begun_row, number_at, read_rows, row_index, session_in};
 use activity_codec::{Entry, Owed, decode_change};
 use tach_media::{Failed, Medium};
-use unit_model::layout::{CELL_SIZE, CELL_WORD, CELLS, OWED_ROW_SIZE, ROW_CELLS};
+use unit_model::layout::{
+    CELL_SIZE, CELL_WORD, CELLS, DAY_MINUTES, OWED_ROW_SIZE, ROW_CELLS, WORD_MINUTES,
+};
 
 /// What is asked as a card is put in: the entries that are owed to it, and the row that is begun for it.
 #[derive(Drop)]
@@ -47,7 +49,7 @@ fn entry_of(minute: u32, word: u32) -> Entry
     requires { word < 65536 }
     ensures { result ≡ entry_of (record { minute = minute; word = word }) }
 {
-    match decode_change((word / 2048 * 2048) as u16) {
+    match decode_change((word / WORD_MINUTES * WORD_MINUTES) as u16) {
         Ok(change) => Entry {
             minute,
             slot: change.slot,
@@ -74,7 +76,7 @@ fn add_cell(owed: &mut Owed, cell: u32, minute: u32, word: u32, session: u32, af
 fn is_owed(cell: u32, minute: u32, session: u32, after: u32, kept: u32) -> bool
     ensures { result ≡ (minute % 4 == cell && nat_le 1440 minute) && counts session after kept minute }
 {
-    (minute % CELLS == cell && 1440 <= minute)
+    (minute % CELLS == cell && DAY_MINUTES <= minute)
         && (session / 60 <= minute && (after < minute && minute <= kept))
 }
 

@@ -12,7 +12,8 @@ use crate::rows::{begun_index, read_rows, row_index};
 use activity_codec::{Change, Entry, encode_change};
 use tach_media::{Failed, Medium};
 use unit_model::layout::{
-    CELL_SIZE, CELL_WORD, CELLS, IMAGE_SIZE, OWED, OWED_ROW_SIZE, ROW_CELLS, ROW_NUMBER,
+    CELL_SIZE, CELL_WORD, CELLS, DAY_MINUTES, IMAGE_SIZE, OWED, OWED_ROW_SIZE, ROW_CELLS,
+    ROW_NUMBER,
 };
 use write_plan::{Plan, put_pieces};
 
@@ -26,7 +27,7 @@ fn entry_word(entry: &Entry) -> u16
         crew_or_known: entry.crew,
         absent: false,
         act: entry.act,
-        minute: (entry.minute % 1440) as u16,
+        minute: (entry.minute % DAY_MINUTES) as u16,
     })
 }
 

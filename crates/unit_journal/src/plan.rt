@@ -14,7 +14,9 @@ use crate::bits::{BARE, SlotBits};
 use crate::coming::Coming;
 use crate::notes::Notes;
 use crate::words::first_bits;
-use unit_model::layout::{DAY_COUNT, DAY_WORDS, LAST_KEPT, slot_place};
+use unit_model::layout::{
+    DAY_COUNT, DAY_MINUTES, DAY_WORDS, LAST_KEPT, WORD_MINUTES, WORD_SLOT, slot_place,
+};
 use write_plan::Plan;
 
 /// The writes of a minute. On the last-kept minute's day the odometer, at most four words, their count, and the mark; on a
@@ -45,7 +47,7 @@ pub fn add_change(
     if old == new {
         return count;
     }
-    let word = (32768 * slot + 2048 * new + minute) as u16;
+    let word = (WORD_SLOT * slot + WORD_MINUTES * new + minute) as u16;
     plan.put(
         slot_place(index) + DAY_WORDS.place + 2 * count,
         &word.to_be_bytes(),
@@ -87,8 +89,8 @@ pub fn add_new(plan: &mut Writing, notes: &Notes, coming: Coming) -> u32
     ensures length { length plan.new.pieces ≤ length plan.old.pieces + 4 }
 {
     let index = notes.index;
-    let next = notes.kept % 1440 + 1;
-    let minute = coming.minute % 1440;
+    let next = notes.kept % DAY_MINUTES + 1;
+    let minute = coming.minute % DAY_MINUTES;
     if next == minute {
         return add_changes(plan, index, notes.count, minute, notes.bits, coming.bits);
     }
@@ -118,7 +120,7 @@ pub fn add_further(plan: &mut Writing, index: u32, coming: Coming) -> u32
     ensures plan { plan.new ≡ more plan.old (beginning index coming) }
     ensures length { length plan.new.pieces ≤ length plan.old.pieces + 4 }
 {
-    let now = coming.minute % 1440;
+    let now = coming.minute % DAY_MINUTES;
     let first = first_bits(now, coming.bits);
     let count = add_changes(plan, index, 2, now, first, coming.bits);
     add_count(plan, index, count);

@@ -15,7 +15,8 @@ use gated_ring::{Ring, RingFault};
 use tach_media::{Failed, Medium, read_number};
 use unit_memory::{Scan, UnitFault, scan_day};
 use unit_model::layout::{
-    DAY_COUNT, DAY_DATE, DAY_SLOT_SIZE, DAY_SLOTS, DAY_WORD_LIMIT, DAYS, slot_place,
+    DAY_COUNT, DAY_DATE, DAY_MINUTES, DAY_SECONDS, DAY_SLOT_SIZE, DAY_SLOTS, DAY_WORD_LIMIT, DAYS,
+    slot_place,
 };
 
 /// What is read of the last-kept minute's day: its stored count, how many of its words are not later, and the bits of the
@@ -87,7 +88,7 @@ pub fn later_day(kept: u32, pointer: u32, date: u32) -> Option<u32>
     if date == 0 {
         return None;
     }
-    if date / 86400 <= kept / 1440 {
+    if date / DAY_SECONDS <= kept / DAY_MINUTES {
         return None;
     }
     Some(pointer)
@@ -113,8 +114,8 @@ pub fn read_today<M: Medium>(unit: &mut M, kept: u32, index: u32) -> Result<Toda
     }
     let place = slot_place(index) + DAY_COUNT.place;
     let stored = read_number(unit, place, DAY_COUNT.size)?.min(DAY_WORD_LIMIT);
-    let scan = scan_day(unit, index, stored, kept % 1440)?;
-    Ok(today_of(kept % 1440, stored, scan))
+    let scan = scan_day(unit, index, stored, kept % DAY_MINUTES)?;
+    Ok(today_of(kept % DAY_MINUTES, stored, scan))
 }
 
 // What a scan says, within its ranges.

@@ -5,7 +5,9 @@ ghost use Rattle.unit_journal.specs.Minute.{head_of, new_head};
 
 use crate::bits::{BARE, SlotBits};
 use crate::coming::Coming;
-use unit_model::layout::{DAY_COUNT, DAY_DATE, DAY_ODOMETER, DAY_SPARE};
+use unit_model::layout::{
+    DAY_COUNT, DAY_DATE, DAY_MINUTES, DAY_ODOMETER, DAY_SECONDS, DAY_SPARE, WORD_MINUTES, WORD_SLOT,
+};
 
 /// The states at 00:00 of a new day, whose first kept minute has this number in it.
 pub fn first_bits(minute: u32, bits: SlotBits) -> SlotBits
@@ -35,8 +37,8 @@ fn write_head(date: u32, odometer: u32, first: SlotBits, out: &mut [u8])
     let (spare, words) = out.split_at_mut(DAY_SPARE.size as usize);
     spare.copy_from_slice(&[0; 6]);
     let (driver, codriver) = words.split_at_mut(2);
-    driver.copy_from_slice(&((2048 * first.driver) as u16).to_be_bytes());
-    codriver.copy_from_slice(&((32768 + 2048 * first.codriver) as u16).to_be_bytes());
+    driver.copy_from_slice(&((WORD_MINUTES * first.driver) as u16).to_be_bytes());
+    codriver.copy_from_slice(&((WORD_SLOT + WORD_MINUTES * first.codriver) as u16).to_be_bytes());
 }
 
 /// The beginning of the slot of a minute's day.
@@ -44,10 +46,10 @@ pub fn new_head(coming: Coming) -> [u8; 20]
     requires { IsComing coming }
     ensures { result ≡ new_head coming }
 {
-    let first = first_bits(coming.minute % 1440, coming.bits);
+    let first = first_bits(coming.minute % DAY_MINUTES, coming.bits);
     let mut head = [0; 20];
     write_head(
-        86400 * (coming.minute / 1440),
+        DAY_SECONDS * (coming.minute / DAY_MINUTES),
         coming.odometer,
         first,
         &mut head,

@@ -10,9 +10,9 @@ use crate::slots::{judge_slots, or_else};
 use crate::walk::{Density, Walk};
 use tach_media::{Failed, Medium, read_number};
 use unit_model::layout::{
-    CELL_WORD, CELLS, DAY_SLOTS, DAYS, HIGHEST_ODOMETER, INSERTION_SLOTS, INSERTIONS, LAST_KEPT,
-    LAST_MINUTE, MOST_OVERS, ODOMETER, OVER_COUNT, OWED_ROWS, PLACE_SLOTS, PLACES, VERSION,
-    cell_place,
+    CELL_WORD, CELLS, DAY_MINUTES, DAY_SECONDS, DAY_SLOTS, DAYS, HIGHEST_ODOMETER, INSERTION_SLOTS,
+    INSERTIONS, LAST_KEPT, LAST_MINUTE, MOST_OVERS, ODOMETER, OVER_COUNT, OWED_ROWS, PLACE_SLOTS,
+    PLACES, VERSION, WORD_MINUTES, cell_place,
 };
 
 /// What judging an image tells: the place of the first field that fails, the last-kept minute, the pointer of the days, and
@@ -85,7 +85,7 @@ fn bad_cell<M: Medium>(unit: &mut M) -> Result<Option<u32>, Failed>
 fn cell_passes(minute: u32, word: u32) -> bool
     ensures { result ≡ (minute == 0 || nat_lt (word_minute word) 1440) }
 {
-    minute == 0 || word % 2048 < 1440
+    minute == 0 || word % WORD_MINUTES < DAY_MINUTES
 }
 
 // The pointers of insertions and places.
@@ -117,7 +117,7 @@ fn pointer_passes(kept: u32, pointer: u32, walk: Walk) -> bool
 {
     pointer < DAY_SLOTS
         && walk.density != Density::Broken
-        && (walk.last_date / 86400 <= kept / 1440 || walk.last_index == pointer)
+        && (walk.last_date / DAY_SECONDS <= kept / DAY_MINUTES || walk.last_index == pointer)
 }
 
 // Whether the last-kept minute's day is there.

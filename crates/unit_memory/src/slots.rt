@@ -14,7 +14,8 @@ use crate::walk::{Walk, next_walk};
 use crate::words::{Scan, scan_day, word_in};
 use tach_media::{Failed, Medium};
 use unit_model::layout::{
-    DAY_COUNT, DAY_DATE, DAY_ODOMETER, DAY_SLOT_SIZE, DAY_WORD_LIMIT, DAYS, HIGHEST_ODOMETER,
+    DAY_COUNT, DAY_DATE, DAY_MINUTES, DAY_ODOMETER, DAY_SECONDS, DAY_SLOT_SIZE, DAY_WORD_LIMIT,
+    DAYS, HIGHEST_ODOMETER,
 };
 
 /// What stands in front of a slot's words: its date, its odometer, and how many words it has.
@@ -67,9 +68,9 @@ fn read_head<M: Medium>(unit: &mut M, index: u32) -> Result<Head, Failed>
 fn date_passes(kept: u32, latest: u32, date: u32) -> bool
     ensures { result ≡ date_passes kept latest date }
 {
-    date % 86400 == 0
+    date % DAY_SECONDS == 0
         && latest < date
-        && (date / 86400 <= kept / 1440 || latest / 86400 <= kept / 1440)
+        && (date / DAY_SECONDS <= kept / DAY_MINUTES || latest / DAY_SECONDS <= kept / DAY_MINUTES)
 }
 
 // A day slot that is there.
@@ -150,7 +151,7 @@ fn judge_slot<M: Medium>(
     ensures reads { Reads (M.state unit.old) (M.state unit.new) (is_err result) }
 {
     let head = read_head(unit, index)?;
-    let next = next_walk(kept / 1440, walk, index, head.date);
+    let next = next_walk(kept / DAY_MINUTES, walk, index, head.date);
     if head.date == 0 {
         return Ok((next, None));
     }

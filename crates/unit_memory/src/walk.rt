@@ -2,6 +2,8 @@ ghost use Rattle.std.specs.Prelude.{◌≡◌, ◌≤◌, ◌<◌, ◌+◌};
 ghost use Rattle.unit_model.specs.declared.layout.TheConstants.{DAY_SLOTS};
 ghost use Rattle.unit_memory.specs.Walks.{after_day, after_gap, next_walk};
 
+use unit_model::layout::DAY_SECONDS;
+
 /// How the day slots that are there stand so far, from the oldest place on.
 #[derive(Clone, Copy, Debug, PartialEq, Eq)]
 pub enum Density {
@@ -85,7 +87,7 @@ pub fn next_walk(day: u32, walk: Walk, index: u32, date: u32) -> Walk
         latest: walk.latest.max(date),
         last_index: index,
         last_date: date,
-        today: if date / 86400 == day {
+        today: if date / DAY_SECONDS == day {
             Some(index)
         } else {
             walk.today

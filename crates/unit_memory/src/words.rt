@@ -6,7 +6,7 @@ ghost use Rattle.unit_model.specs.Image.{slot_place, slot_words, words_at};
 ghost use Rattle.unit_memory.specs.Scans.{next_scan, driver_next, codriver_next, start, scan_from, is_first_good};
 
 use tach_media::{Failed, Medium};
-use unit_model::layout::{DAY_SLOT_SIZE, DAY_WORDS, DAYS};
+use unit_model::layout::{DAY_MINUTES, DAY_SLOT_SIZE, DAY_WORDS, DAYS, WORD_MINUTES, WORD_SLOT};
 
 // How many words of a day are read at once.
 const BLOCK: u32 = 240;
@@ -29,11 +29,11 @@ fn next_scan(kept: u32, scan: Scan, place: u32, word: u32) -> Option<Scan>
     ensures next { result ≡ next_scan kept scan place word }
     ensures more { IfSome result (λ next. next.count ≤ scan.count + 1) }
 {
-    let minute = word % 2048;
-    if minute >= 1440 || minute < scan.minute || !is_first_good(place, word) {
+    let minute = word % WORD_MINUTES;
+    if minute >= DAY_MINUTES || minute < scan.minute || !is_first_good(place, word) {
         return None;
     }
-    if word / 32768 % 2 == 0 {
+    if word / WORD_SLOT % 2 == 0 {
         return driver_next(kept, scan, word);
     }
     codriver_next(kept, scan, word)
@@ -43,7 +43,7 @@ fn next_scan(kept: u32, scan: Scan, place: u32, word: u32) -> Option<Scan>
 fn is_first_good(place: u32, word: u32) -> bool
     ensures { result ≡ is_first_good place word }
 {
-    place > 1 || (word / 32768 % 2 == place && word % 2048 == 0)
+    place > 1 || (word / WORD_SLOT % 2 == place && word % WORD_MINUTES == 0)
 }
 
 fn driver_next(kept: u32, scan: Scan, word: u32) -> Option<Scan>
@@ -51,7 +51,7 @@ fn driver_next(kept: u32, scan: Scan, word: u32) -> Option<Scan>
     ensures next { result ≡ driver_next kept scan word }
     ensures more { IfSome result (λ next. next.count ≤ scan.count + 1) }
 {
-    let minute = word % 2048;
+    let minute = word % WORD_MINUTES;
     if minute < scan.next_driver {
         return None;
     }
@@ -67,7 +67,7 @@ fn driver_next(kept: u32, scan: Scan, word: u32) -> Option<Scan>
     }
     Some(Scan {
         count: scan.count + 1,
-        driver: word / 2048 % 16,
+        driver: word / WORD_MINUTES % 16,
         codriver: scan.codriver,
         minute,
         next_driver: minute + 1,
@@ -80,7 +80,7 @@ fn codriver_next(kept: u32, scan: Scan, word: u32) -> Option<Scan>
     ensures next { result ≡ codriver_next kept scan word }
     ensures more { IfSome result (λ next. next.count ≤ scan.count + 1) }
 {
-    let minute = word % 2048;
+    let minute = word % WORD_MINUTES;
     if minute < scan.next_codriver {
         return None;
     }
@@ -96,7 +96,7 @@ fn codriver_next(kept: u32, scan: Scan, word: u32) -> Option<Scan>
     }
     Some(Scan {
         count: scan.count + 1,
-        codriver: word / 2048 % 16,
+        codriver: word / WORD_MINUTES % 16,
         driver: scan.driver,
         minute,
         next_codriver: minute + 1,

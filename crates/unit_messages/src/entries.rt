@@ -14,6 +14,7 @@ ghost use Rattle.unit_messages.specs.Chosen.{chosen, room_of, chosen_at, shape_o
 use crate::parts::{cut, four_in};
 use crate::window::Window;
 use tach_media::{Failed, Medium};
+use unit_model::layout::DAY_SECONDS;
 
 /// Which entries of a ring are meant: each, the insertions of which the insertion or the withdrawal lies in a day, or the places
 /// of a day. A day is told by its first second.
@@ -41,8 +42,6 @@ const WITHDRAWAL_TIME: usize = 102;
 
 /// Where a place has its time, behind the card's number.
 pub(crate) const PLACE_TIME: u32 = 18;
-
-const DAY_SECONDS: u32 = 86400;
 
 // How many entries are read at once.
 const AT_ONCE: u32 = 31;

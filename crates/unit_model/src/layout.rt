@@ -164,6 +164,16 @@ pub const DAY_WORDS: Field = Field {
     size: 5760,
 };
 
+/// In a word: an activity counts so much, and the minute lies below (Annex IB, Appendix 1, ActivityChangeInfo).
+pub const WORD_MINUTES: u32 = 2048;
+/// In a word: the co-driver's slot counts so much.
+pub const WORD_SLOT: u32 = 32768;
+
+/// The minutes of a day.
+pub const DAY_MINUTES: u32 = 1440;
+/// The seconds of a day.
+pub const DAY_SECONDS: u32 = 86400;
+
 /// How many owed rows there are.
 pub const OWED_ROWS: u32 = 8;
 

@@ -8,7 +8,8 @@ use crate::journal::Journal;
 use tach_media::{Failed, Medium, read_number};
 use tacho_types::{Odometer, TimeReal};
 use unit_model::layout::{
-    DAY_COUNT, DAY_ODOMETER, DAY_SLOTS, DAY_WORD_LIMIT, DAY_WORDS, HIGHEST_ODOMETER, slot_place,
+    DAY_COUNT, DAY_MINUTES, DAY_ODOMETER, DAY_SECONDS, DAY_SLOTS, DAY_WORD_LIMIT, DAY_WORDS,
+    HIGHEST_ODOMETER, slot_place,
 };
 
 /// A recorded day of the unit, as its slot has it (profile).
@@ -72,7 +73,7 @@ impl Journal {
         ensures date { result ≡ 86400 * (self.now.kept / 1440) }
         ensures shape { IsNotes self.now }
     {
-        86400 * (self.notes.kept / 1440)
+        DAY_SECONDS * (self.notes.kept / DAY_MINUTES)
     }
 
     // The last-kept minute's day.
