@@ -46,10 +46,9 @@ use Rattle.message_model.specs.Records.{insertion_ring}
 use Rattle.run_ringed.specs.OnCards.{HasRing}
 use Rattle.run_acts.specs.Comings.{VehicleTold, told_of, TellsMore, TellMore}
 use Rattle.run_acts.proofs.Comings.{tells-none, tells-then}
-use Rattle.run_acts.proofs.TurnSeconds.{all-both}
 use Rattle.run_acts.specs.Truths.{Truths, Grow}
 use Rattle.run_acts.specs.Stays.{Stay, Coming, comings_on, befores_of, TellsBefores, acceptances_told, spells, sits_in, as_noted, IsPlaced, AreMerged, StaysIn, HasStays, AreStays, AllStay, AreTrue, start_shown, judged_told, judged_in, AreJudged}
-use Rattle.run_acts.proofs.Stays.{on_last, on-last-comings, on-last-none, on-last-true, with_kepts, true-kepts, all-true-grow, merged-one, merged-other, stays-still, stays-moved, stays-keep, on-last-owes, owes-grow, on-last-judged, on-last-verdicts}
+use Rattle.run_acts.proofs.Stays.{all-both, on_last, on-last-comings, on-last-none, on-last-true, with_kepts, true-kepts, all-true-grow, merged-one, merged-other, stays-still, stays-moved, stays-keep, on-last-owes, owes-grow, on-last-judged, on-last-verdicts}
 
 -- ---- the log tells of no failed call
 

@@ -205,6 +205,11 @@ pub last-shut-slot : (u : ℕ) (ss : List Spell) → last_slot (with_last_shut u
 last-shut-slot u [] = refl
 last-shut-slot u (s ∷ ss) = shut-slot u s ss
 
+-- what holds of two lists holds of both
+pub all-both : {X : Type 0} (P : X → Type 0) (xs ys : List X) → AllByRecursion P xs → AllByRecursion P ys → AllByRecursion P (xs ++ ys)
+all-both P [] ys hx hy = hy
+all-both P (x ∷ xs) ys hx hy = (hx.0, all-both P xs ys hx.1 hy)
+
 -- the slot of the last spell is that of the last stay
 pub last-spelled : (front : List Stay) (s : Stay) → last_slot (spells (front ++ s ∷ [])) ≡ Some s.found.slot
 last-spelled [] s = refl
