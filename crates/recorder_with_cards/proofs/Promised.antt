@@ -29,14 +29,17 @@ use Rattle.joint_rule.specs.Rules.{Out}
 use Rattle.unit_course.specs.Followed.{Supply, Lit as IsLit, Due as IsDue, Lost as IsLost}
 use Rattle.unit_course.specs.Legs.{not_travelled}
 use Rattle.unit_model.specs.declared.layout.TheConstants.{HIGHEST_ODOMETER}
-use Rattle.unit_model.specs.Image.{last_kept, odometer_at}
+use Rattle.unit_model.specs.Image.{recorded, last_kept, odometer_at}
 use Rattle.unit_model.specs.Decoding.{Decodes}
 use Rattle.unit_rule.specs.Odometer.{HasTravelled}
-use Rattle.unit_rule.specs.Rule.{started}
+use Rattle.unit_rule.specs.Rule.{started, IsCards}
+use Rattle.unit_rule.specs.OtherRows.{valid_number}
+use Rattle.unit_rule.proofs.OtherRows.{valid-number, keeps-rows}
 use Rattle.unit_rule.proofs.Travelling.{travelled-opened}
 use Rattle.unit_journal.proofs.Beside.{passes_beside}
 use Rattle.unit_memory.specs.declared.format.Identity.{Identity}
 use Rattle.safety_model.specs.Recording.{Recording, card_image, brought, history_of, lost_of, start_of}
+use Rattle.safety_model.specs.Unit.{UnitSafe}
 use Rattle.safety_model.specs.Safe.{Devices, card_of, breakdowns_of}
 use Rattle.slot_machine.specs.Kept.{nothing_yet}
 use Rattle.run_crew.specs.declared.cards.Accepted.{Accepted}
@@ -89,13 +92,13 @@ use Rattle.run_acts.proofs.OnCards.{start-shown}
 use Rattle.run_acts.proofs.Numbers.{own-long}
 use Rattle.recorder_with_cards.specs.Carded.{RunCarded}
 use Rattle.recorder_with_cards.specs.Ends.{BeginAs, recorded_with, recording_of, opened_with, origin_of, MayRecord, EndsTrace}
-use Rattle.recorder_with_cards.proofs.Waiting.{first-second}
-use Rattle.recorder_with_cards.specs.Sessions.{TellFirst}
+use Rattle.recorder_with_cards.specs.Side.{ShowTheSide}
 use Rattle.recorder_with_cards.proofs.SideShown.{insertions-inside, places-inside, side-shown}
 use Rattle.recorder_with_cards.proofs.Written.{are-written, keep-holders}
 use Rattle.recorder_with_cards.specs.Placed.{ShowsPlaces}
 use Rattle.recorder_with_cards.proofs.KeptAfter.{end-kept}
-use Rattle.recorder_with_cards.proofs.LastKept.{tells-last}
+use Rattle.recorder_with_cards.specs.LastKept.{TellsLast}
+use Rattle.recorder_with_cards.proofs.LastKept.{safe-last}
 use Rattle.run_acts.specs.Closings.{spells_of}
 use Rattle.run_acts.specs.Comings.{TellsMore}
 use Rattle.run_acts.proofs.Comings.{tells-none}
@@ -195,13 +198,9 @@ module _ (x a b : List ℕ) (start : ℕ) (items : List Item) (began now : Devic
   pub promised : (run : Run) (out : Outcome) → RunCarded o (seconds_of start items) run out now → (run.power ≡ Lit → (low : ℕ) × Stands low None run.keeper.cabin) → IsCoherent now.unit → ((c : Card) → IsCoherent (card_of now c)) → MayRecord x a b start → IsFound r0 (found_in r0 began) began →
       EndsTrace x a b start items out began now
   promised run out carded sits unit_whole card_whole may found = record {
-    may = record {
-      decodes = may.decodes;
-      clock = λ s is. let number = first-second start items s is in let later = may.later in omega (arith, number, later);
-      numbers = may.numbers;
-    };
-    ends = ends-so (seconds_of start items) h.evented.recorded.supply (values_of run out) h.evented.recorded.recorded unit_whole card_whole found may.decodes;
-    side = record { shows = λ y left. (shows y left).shows };
+    may = may;
+    ends = let safe = run-ends.safe in record run-ends { safe = record safe { unit = unit-last.0 } };
+    side = shows;
     written = are-written o (seconds_of start items) h.evented.recorded.supply (values_of run out) began now h.evented.recorded.recorded (found-by r0 (seconds_of start items) (log_of out) (found_in r0 began) began found);
     stays = λ none.
         let all = h.evented.recorded.stay none in
@@ -230,18 +229,17 @@ module _ (x a b : List ℕ) (start : ℕ) (items : List Item) (began now : Devic
             tells = λ dense. all.befores.tells (record { points = insertions-inside x may.decodes; dense = dense });
           };
         };
-    kept = end-kept o ss run out now h.evented.recorded h.spans h.ringed.spans_are h.stored;
-    last =
+    rows = λ y left.
         let hr = h.evented.recorded.recorded in
-        tells-last (started x began.unit.clock) (history_of r) (lost_of r) hr.due hr.book out.marks.items now.unit hr.recorded.followed.follows
-        (is-carried (seconds_of start items) (values_of run out) (carried (values_of run out) hr.due hr.book hr.standing hr.brought) h.evented.recorded.supply hr.held).unit;
+        keeps-rows x a b y ((is-carried (seconds_of start items) (values_of run out) (carried (values_of run out) hr.due hr.book hr.standing hr.brought) h.evented.recorded.supply hr.held).unit.rows y left);
+    kept = end-kept o ss run out now h.evented.recorded h.spans h.ringed.spans_are h.stored;
+    last = unit-last.1;
     dense = record {
       insertions = λ dense y left. (h.ringed.ringed.insertions (record { points = insertions-inside x may.decodes; dense = dense }) y left).shows.carries.dense;
       places = λ dense y left. (h.ringed.ringed.places (record { points = places-inside x may.decodes; dense = dense }) y left).carries.dense;
     };
     holders = keep-holders o (seconds_of start items) h.evented.recorded.supply (values_of run out) began now h.evented.recorded.recorded (found-by r0 (seconds_of start items) (log_of out) (found_in r0 began) began found);
     places = record { spans = h.spans; are_spans = record { spans_are = h.ringed.spans_are; bases = stores.0 }; shows = shows-places };
-    sessions = shows;
     cards = λ c valid.
         let one = carded.cards c (subst IsOwnValid (images c) valid) in
         record {
@@ -266,6 +264,16 @@ module _ (x a b : List ℕ) (start : ℕ) (items : List Item) (began now : Devic
 
       of_image : (c : Card) → (found_of o.found c).image ≡ card_image r c
       of_image c = found.image c ∙ sym (images c)
+
+      run-ends : EndsRun r out.marks.items began now
+      run-ends = ends-so (seconds_of start items) h.evented.recorded.supply (values_of run out) h.evented.recorded.recorded unit_whole card_whole found may.decodes
+
+      -- the unit's part of the theorem, with the last-kept minutes
+      unit-last : (s : UnitSafe (recorded x) (history_of r) (lost_of r) out.marks.items began.unit.clock now.unit) × TellsLast (last_kept x) s
+      unit-last =
+          let hr = h.evented.recorded.recorded in
+          safe-last (started x (valid_number a) (valid_number b) began.unit.clock) (history_of r) (lost_of r) hr.due hr.book out.marks.items now.unit hr.recorded.followed.follows
+          (is-carried (seconds_of start items) (values_of run out) (carried (values_of run out) hr.due hr.book hr.standing hr.brought) h.evented.recorded.supply hr.held).unit run-ends.safe.unit
 
       -- what was owed to it at the start does not hang on the seconds
       owes-as : (c : Card) (stays : List Stay) → AreOwed (IsOwed (rule_of o) (start_at o) (log_of out) (seconds_of start items) c (brought r0 c).owed) run.keeper.memory.registration (own_sizes (card_image r c)).activity stays (start_shown (card_image r c)) →
@@ -296,7 +304,7 @@ module _ (x a b : List ℕ) (start : ℕ) (items : List Item) (began now : Devic
       stores : HaveBases (rule_of o) (log_of out) (odometer_at x) (last_kept x) [] h.spans × ((y : List ℕ) → now.unit.may_leave y → MayStore (rule_of o) (odometer_at x) (last_kept x) h.spans (last_kept y) (odometer_at y))
       stores = end-stores o ss run out now h.evented.recorded h.spans h.ringed.spans_are h.stored
 
-      shows : TellFirst r began now
+      shows : ShowTheSide r began now
       shows y left =
           side-shown r began now y may.decodes
           (events-shown began now o (seconds_of start items) (log_of out) run.unfound run.next h.evented.recorded.supply h.evented.evented r refl images refl refl clocks y left)
@@ -376,10 +384,15 @@ module _ (x a b : List ℕ) (start : ℕ) (began now : Devices) (opened : Opened
         two = ready.two;
         named = λ c valid. subst (λ (k : Known). IfSome k.number (λ n. card_number_bytes n ≡ (found_of f c).number)) (sym (same c)) (ready.named c);
         told = λ c valid. ap (λ (k : Known). is_some k.number) (same c) ∙ told c (valid-as c valid);
+        own = own;
         sizes = λ c valid. subst (λ (i : List ℕ). IsApplication (own_sizes i)) (sym (ready.found.image c)) (sizes c (valid-as c valid));
         entries = λ c valid. entries c;
       }
         where
+          own : (c : Card) → IsOwnValid (found_of f c).image → IsCards f.unit (found_of f c).number
+          own A valid = inl (valid-number a valid ∙ ap (λ (n : List ℕ). Some n) (sym (ready.found.number A valid)))
+          own B valid = inr (valid-number b valid ∙ ap (λ (n : List ℕ). Some n) (sym (ready.found.number B valid)))
+
           entries : (c : Card) → (found_of f c).start.entries ≡ (own_view (found_of f c).image).held.entries
           entries A = refl
           entries B = refl

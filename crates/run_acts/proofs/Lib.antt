@@ -87,6 +87,7 @@ pub mod Stored
 pub mod StoredRun
 pub mod CardNotes
 pub mod OnCards
+pub mod OneCard
 pub mod CardCourse
 pub mod CardShown
 pub mod CardSecond

@@ -1,10 +1,10 @@
-use Rattle.std.proofs.Common.{rules, ◌≡◌, ◌∙◌, ℕ, false, Option, Some, None, sym, subst, arith}
+use Rattle.std.proofs.Common.{rules, ◌≡◌, ◌∙◌, ℕ, false, Option, Some, None, sym, subst, arith, ◌*◌, ◌+◌, length, ◌≤◌}
 use Rattle.std.specs.Prelude.{is_err}
 use Rattle.trace_model.specs.declared.Card.{Card}
 use Rattle.safety_model.specs.Safe.{Devices}
 use Rattle.run_rule.specs.Between.{devices}
 use Rattle.slot_machine.specs.Calls.{seat_in, card_in}
-use Rattle.run_acts.specs.Room.{Takes}
+use Rattle.run_acts.specs.Room.{Takes, bare_count}
 use Rattle.recorder_with_cards.specs.Judged.{JudgesAnew, EventsAnew}
 use Rattle.recorder_with_cards.specs.Noting.{NotesAnew}
 use Rattle.recorder_with_cards.proofs.Judged.{none-noting}
@@ -15,34 +15,48 @@ use Rattle.recorder_with_cards.specs.JudgedRings.{RingsJudgedAnew}
 use Rattle.run_keeping.proofs.Later.{later-same}
 use Rattle.recorder_with_cards.specs.JudgedCards.{CardsAnew}
 use Rattle.run_keeping.proofs.Calm.{calm-same}
+use Rattle.run_outcome.specs.declared.outcome.TheConstants.{MOST_OWED}
+use Rattle.slot_machine.specs.declared.seats.Seat.{Seat}
+use Rattle.recorder_with_cards.proofs.accepting.accept_anew.Given.{Over}
+use Rattle.recorder_with_cards.proofs.accepting.accept_anew.Goals.{After-accept_in}
 use Rattle.recorder_with_cards.proofs.accepting.accept_anew.Goals as goal
+
+-- ---- the card that was judged
+
+module _ (g : Over) (c : After-accept_in g) where
+  abbrev before : Devices
+  before = devices (g.M.Medium.state c.args.unit.now) (g.C.Chip.state c.args.card_a.now) (g.D.Chip.state c.args.card_b.now)
+
+  abbrev behind : Devices
+  behind = devices (g.M.Medium.state c.accept_in.new.unit) (g.C.Chip.state c.accept_in.new.card_a) (g.D.Chip.state c.accept_in.new.card_b)
+
+  abbrev seat : Option Seat
+  seat = seat_in c.args.run.now.keeper.cabin.slots.seats c.args.slot
+
+  sits : card_in seat ≡ Some c.in-Some.card
+  sits = sym c.card.ensures ∙ c.in-Some.is
+
+  one : bare_count seat ≡ 1
+  one = bare-one seat c.in-Some.card sits c.requires.bare
+
+  room-here : length c.args.outcome.now.marks.items + MOST_OWED * bare_count seat ≤ c.args.outcome.now.marks.room → length c.args.outcome.now.marks.items + MOST_OWED ≤ c.args.outcome.now.marks.room
+  room-here room = let same = one in omega (arith, room, same)
 
 pub returns-clause-takes : goal.returns-clause-takes
 returns-clause-takes g c =
-    let one = bare-one (seat_in c.args.run.now.keeper.cabin.slots.seats c.args.slot) c.in-Some.card (sym c.card.ensures ∙ c.in-Some.is) c.requires.bare in
-    subst (λ (n : ℕ). Takes n 0 0 c.args.run.now c.accept_in.new.run c.args.outcome.now c.accept_in.new.outcome) (sym one) c.accept_in.ensures.takes
+    subst (λ (n : ℕ). Takes n 0 0 c.args.run.now c.accept_in.new.run c.args.outcome.now c.accept_in.new.outcome) (sym (one g c)) c.accept_in.ensures.takes
 
 -- ---- WHAT IS RECORDED
 
 pub returns-clause-recorded : goal.returns-clause-recorded
 returns-clause-recorded g c = λ room.
-    let seat = seat_in c.args.run.now.keeper.cabin.slots.seats c.args.slot in
-    let is : card_in seat ≡ Some c.in-Some.card = sym c.card.ensures ∙ c.in-Some.is in
-    let one = bare-one seat c.in-Some.card is c.requires.bare in
-    let d : Devices = devices (g.M.Medium.state c.args.unit.now) (g.C.Chip.state c.args.card_a.now) (g.D.Chip.state c.args.card_b.now) in
-    let e : Devices = devices (g.M.Medium.state c.accept_in.new.unit) (g.C.Chip.state c.accept_in.new.card_a) (g.D.Chip.state c.accept_in.new.card_b) in
-    subst (λ (q : Option Card). JudgesAnew q c.args.slot c.args.at (is_err c.accept_in.result) c.args.run.now c.accept_in.new.run c.args.outcome.now c.accept_in.new.outcome d e) (sym is)
-    (c.accept_in.ensures.recorded (omega (arith, room, one)))
+    subst (λ (q : Option Card). JudgesAnew q c.args.slot c.args.at (is_err c.accept_in.result) c.args.run.now c.accept_in.new.run c.args.outcome.now c.accept_in.new.outcome (before g c) (behind g c)) (sym (sits g c))
+    (c.accept_in.ensures.recorded (room-here g c room))
 
 pub returns-clause-evented : goal.returns-clause-evented
 returns-clause-evented g c = λ room.
-    let seat = seat_in c.args.run.now.keeper.cabin.slots.seats c.args.slot in
-    let is : card_in seat ≡ Some c.in-Some.card = sym c.card.ensures ∙ c.in-Some.is in
-    let one = bare-one seat c.in-Some.card is c.requires.bare in
-    let d : Devices = devices (g.M.Medium.state c.args.unit.now) (g.C.Chip.state c.args.card_a.now) (g.D.Chip.state c.args.card_b.now) in
-    let e : Devices = devices (g.M.Medium.state c.accept_in.new.unit) (g.C.Chip.state c.accept_in.new.card_a) (g.D.Chip.state c.accept_in.new.card_b) in
-    subst (λ (q : Option Card). EventsAnew q c.args.slot c.args.at c.args.speed (is_err c.accept_in.result) c.args.run.now c.accept_in.new.run c.args.outcome.now c.accept_in.new.outcome d e) (sym is)
-    (c.accept_in.ensures.evented (omega (arith, room, one)))
+    subst (λ (q : Option Card). EventsAnew q c.args.slot c.args.at c.args.speed (is_err c.accept_in.result) c.args.run.now c.accept_in.new.run c.args.outcome.now c.accept_in.new.outcome (before g c) (behind g c)) (sym (sits g c))
+    (c.accept_in.ensures.evented (room-here g c room))
 
 pub returns-in_default-clause-evented : goal.returns-in_default-clause-evented
 returns-in_default-clause-evented g c = λ room.
@@ -52,10 +66,7 @@ returns-in_default-clause-evented g c = λ room.
 
 pub returns-clause-noted : goal.returns-clause-noted
 returns-clause-noted g c =
-    let is : card_in (seat_in c.args.run.now.keeper.cabin.slots.seats c.args.slot) ≡ Some c.in-Some.card = sym c.card.ensures ∙ c.in-Some.is in
-    let d : Devices = devices (g.M.Medium.state c.args.unit.now) (g.C.Chip.state c.args.card_a.now) (g.D.Chip.state c.args.card_b.now) in
-    let e : Devices = devices (g.M.Medium.state c.accept_in.new.unit) (g.C.Chip.state c.accept_in.new.card_a) (g.D.Chip.state c.accept_in.new.card_b) in
-    subst (λ (q : Option Card). NotesAnew q c.args.slot c.args.at c.args.speed (is_err c.accept_in.result) c.args.run.now c.accept_in.new.run c.args.outcome.now c.accept_in.new.outcome d e) (sym is) c.accept_in.ensures.noted
+    subst (λ (q : Option Card). NotesAnew q c.args.slot c.args.at c.args.speed (is_err c.accept_in.result) c.args.run.now c.accept_in.new.run c.args.outcome.now c.accept_in.new.outcome (before g c) (behind g c)) (sym (sits g c)) c.accept_in.ensures.noted
 
 pub returns-in_default-clause-noted : goal.returns-in_default-clause-noted
 returns-in_default-clause-noted g c =
@@ -68,8 +79,7 @@ returns-in_default-clause-noted g c =
 
 pub returns-clause-rings : goal.returns-clause-rings
 returns-clause-rings g c =
-    let is : card_in (seat_in c.args.run.now.keeper.cabin.slots.seats c.args.slot) ≡ Some c.in-Some.card = sym c.card.ensures ∙ c.in-Some.is in
-    subst (λ (q : Option Card). RingsAnew q c.args.slot c.args.at c.args.speed (is_err c.accept_in.result) c.args.run.now c.accept_in.new.run c.args.outcome.now c.accept_in.new.outcome (g.M.Medium.state c.args.unit.now) (g.M.Medium.state c.accept_in.new.unit)) (sym is) c.accept_in.ensures.rings
+    subst (λ (q : Option Card). RingsAnew q c.args.slot c.args.at c.args.speed (is_err c.accept_in.result) c.args.run.now c.accept_in.new.run c.args.outcome.now c.accept_in.new.outcome (g.M.Medium.state c.args.unit.now) (g.M.Medium.state c.accept_in.new.unit)) (sym (sits g c)) c.accept_in.ensures.rings
 
 pub returns-in_default-clause-rings : goal.returns-in_default-clause-rings
 returns-in_default-clause-rings g c =
@@ -79,13 +89,8 @@ returns-in_default-clause-rings g c =
 
 pub returns-clause-ringed : goal.returns-clause-ringed
 returns-clause-ringed g c = λ room.
-    let seat = seat_in c.args.run.now.keeper.cabin.slots.seats c.args.slot in
-    let is : card_in seat ≡ Some c.in-Some.card = sym c.card.ensures ∙ c.in-Some.is in
-    let one = bare-one seat c.in-Some.card is c.requires.bare in
-    let d : Devices = devices (g.M.Medium.state c.args.unit.now) (g.C.Chip.state c.args.card_a.now) (g.D.Chip.state c.args.card_b.now) in
-    let e : Devices = devices (g.M.Medium.state c.accept_in.new.unit) (g.C.Chip.state c.accept_in.new.card_a) (g.D.Chip.state c.accept_in.new.card_b) in
-    subst (λ (q : Option Card). RingsJudgedAnew q c.args.slot c.args.at (is_err c.accept_in.result) c.args.run.now c.accept_in.new.run c.args.outcome.now c.accept_in.new.outcome d e) (sym is)
-    (c.accept_in.ensures.ringed (omega (arith, room, one)))
+    subst (λ (q : Option Card). RingsJudgedAnew q c.args.slot c.args.at (is_err c.accept_in.result) c.args.run.now c.accept_in.new.run c.args.outcome.now c.accept_in.new.outcome (before g c) (behind g c)) (sym (sits g c))
+    (c.accept_in.ensures.ringed (room-here g c room))
 
 pub returns-in_default-clause-ringed : goal.returns-in_default-clause-ringed
 returns-in_default-clause-ringed g c = λ room.
@@ -105,13 +110,8 @@ returns-clause-later g c = c.accept_in.ensures.later
 
 pub returns-clause-cards : goal.returns-clause-cards
 returns-clause-cards g c = λ room.
-    let seat = seat_in c.args.run.now.keeper.cabin.slots.seats c.args.slot in
-    let is : card_in seat ≡ Some c.in-Some.card = sym c.card.ensures ∙ c.in-Some.is in
-    let one = bare-one seat c.in-Some.card is c.requires.bare in
-    let d : Devices = devices (g.M.Medium.state c.args.unit.now) (g.C.Chip.state c.args.card_a.now) (g.D.Chip.state c.args.card_b.now) in
-    let e : Devices = devices (g.M.Medium.state c.accept_in.new.unit) (g.C.Chip.state c.accept_in.new.card_a) (g.D.Chip.state c.accept_in.new.card_b) in
-    subst (λ (q : Option Card). CardsAnew q c.args.slot c.args.at c.args.speed (is_err c.accept_in.result) c.args.run.now c.args.outcome.now c.accept_in.new.outcome d e) (sym is)
-    (c.accept_in.ensures.cards (omega (arith, room, one)))
+    subst (λ (q : Option Card). CardsAnew q c.args.slot c.args.at c.args.speed (is_err c.accept_in.result) c.args.run.now c.args.outcome.now c.accept_in.new.outcome (before g c) (behind g c)) (sym (sits g c))
+    (c.accept_in.ensures.cards (room-here g c room))
 
 pub returns-in_default-clause-cards : goal.returns-in_default-clause-cards
 returns-in_default-clause-cards g c = λ room.

@@ -1,9 +1,9 @@
-use Rattle.std.proofs.Common.{rules, ◌≡◌, ◌∙◌, ⊎_elim, ℕ, ◌+◌, ◌/◌, ◌^◌, ◌<◌, ◌≤◌, Bool, true, Option, Some, None, IfSome, is_some, List, [], ◌∷◌, ◌++◌, Contains, length, refl, ap, sym, subst, arith, length-append}
+use Rattle.std.proofs.Common.{rules, ◌≡◌, ◌∙◌, ⊎_elim, ℕ, ◌+◌, ◌/◌, ◌^◌, ◌<◌, ◌≤◌, Bool, true, Option, Some, None, IfSome, is_some, List, [], ◌∷◌, ◌++◌, Contains, length, refl, ap, sym, subst, arith, length-append, false}
 use Rattle.tach_media.proofs.Runs.{on_ok, ok_gives}
 use Rattle.trace_model.specs.declared.Card.{Card}
 use Rattle.joint_rule.specs.Views.{other}
 use Rattle.minute_model.specs.Span.{ungiven_of}
-use Rattle.slot_machine.specs.Calls.{present_in}
+use Rattle.slot_machine.specs.Calls.{present_in, is_card, seat_in}
 use Rattle.slot_machine.specs.declared.seats.Ended.{Ended}
 use Rattle.run_crew.specs.declared.cards.Known.{Known}
 use Rattle.run_crew.specs.declared.cards.Accepted.{Accepted}
@@ -12,11 +12,11 @@ use Rattle.run_keeping.specs.declared.keeper.Keeper.{Keeper}
 use Rattle.run_keeping.specs.Keeping.{CardReady, HasItsRow, HaveRows}
 use Rattle.run_keeping.proofs.Units.{unit-stays}
 use Rattle.run_outcome.specs.declared.outcome.Outcome.{Outcome}
-use Rattle.run_entering.specs.Entering.{ending_of, measured, breaks_by, finds_by}
+use Rattle.run_entering.specs.Entering.{ending_of, measured, breaks_by, finds_by, Way}
 use Rattle.run_acts.specs.Going.{CardAt}
 use Rattle.run_acts.proofs.Kept.{owing-sum}
 use Rattle.recorder_with_cards.specs.Accepting.{HasEntry, IsAccepted}
-use Rattle.recorder_with_cards.proofs.Comes.{comes-of}
+use Rattle.recorder_with_cards.proofs.Comes.{Comes, comes-of}
 use Rattle.recorder_with_cards.proofs.Goes.{card-or-other, others-session, both-at, other-at, mine-at, both-ready, other-ready, some-gives, entry-more, rows-went, ended-went, few-finds}
 use Rattle.std.specs.Prelude.{is_err}
 use Rattle.tach_media.specs.Medium.{State}
@@ -36,7 +36,7 @@ use Rattle.run_acts.proofs.EnteredFacts.{known, unit-told, mine-back}
 use Rattle.run_rule.specs.Found.{found_of}
 use Rattle.recorder_with_cards.proofs.EnteredBefore.{way-tells}
 use Rattle.unit_model.specs.Image.{odometer_at}
-use Rattle.run_recorded.specs.Origin.{rule_of}
+use Rattle.run_recorded.specs.Origin.{rule_of, Origin}
 use Rattle.run_acts.specs.Closings.{notes_within}
 use Rattle.run_acts.specs.Truths.{past_of, IsOdometerBefore, truths_within, marked}
 use Rattle.run_acts.proofs.WholeLegs.{accepted-now}
@@ -48,22 +48,100 @@ use Rattle.run_acts.proofs.AllStay.{all-true}
 use Rattle.run_acts.proofs.Truths.{grow-self, marked-grow}
 use Rattle.run_entering.proofs.CardBrought.{sits-works}
 use Rattle.recorder_with_cards.proofs.EnteredCards.{judged-cards}
-use Rattle.recorder_with_cards.proofs.accepting.accept_here.Goals as goal
 use Rattle.card_image.specs.Own.{IsOwnValid}
 use Rattle.run_acts.proofs.EnteredNewest.{was-valid}
 use Rattle.run_acts.proofs.OwedNow.{owed-told}
+use Rattle.run_keeping.specs.Books.{HaveTime}
+use Rattle.run_outcome.specs.declared.outcome.TheConstants.{MOST_OWED}
+use Rattle.recorder_with_cards.specs.Judged.{RunNext, moment_in}
+use Rattle.trace_model.specs.Trace.{TraceSecond}
+use Rattle.log_model.specs.Course.{Visit}
+use Rattle.log_model.specs.Slots.{other_slot}
+use Rattle.recorder_with_cards.proofs.accepting.accept_here.Given.{Over}
+use Rattle.recorder_with_cards.proofs.accepting.accept_here.Goals.{After-len-most}
+use Rattle.recorder_with_cards.proofs.accepting.accept_here.Goals as goal
+
+-- ---- WHAT THE CALL LEAVES
+
+module _ (g : Over) (c : After-len-most g) where
+  abbrev run : Run
+  run = c.args.run.now
+
+  abbrev unit0 : State
+  unit0 = g.M.Medium.state c.args.unit.now
+
+  abbrev unit1 : State
+  unit1 = g.M.Medium.state c.accept-answer.new.unit
+
+  abbrev card0 : State
+  card0 = g.C.Chip.state c.args.card.now
+
+  abbrev card1 : State
+  card1 = g.C.Chip.state c.accept-answer.new.card
+
+  abbrev beside : State
+  beside = g.D.Chip.state c.args.others.now
+
+  abbrev way : Way
+  way = c.accept-answer.ensures.entered.0
+
+  comes : Comes c.args.entering.slot c.args.entering.which c.args.entering.at.second run.noted c.accept-answer.new.noted run.keeper.cabin c.accept-answer.new.keeper.cabin (length (breaks_by (ending_of way) c.args.entering))
+  comes =
+      let w = c.accept-answer.ensures.entered in
+      let h = c.requires.going in
+      comes-of c.args.entering run.keeper c.accept-answer.new.keeper run.noted c.accept-answer.new.noted c.args.outcome.now c.accept-answer.new.outcome _ _ _ _ _ (ungiven_of h.span) h.cabin c.requires.seat (omega arith) w.0 w.1.is w.1.left
+
+  seated : (is_card (seat_in run.keeper.cabin.slots.seats (other_slot c.args.entering.slot)) c.args.entering.which ≡ false) × (session_of run.keeper.cabin.cards c.args.entering.which ≡ None)
+  seated = seat-answers (ungiven_of c.requires.going.span) run.keeper.cabin c.args.entering.slot c.args.entering.which c.requires.going.cabin c.requires.seat
+
+  gone : HasGone c.args.entering (is_err c.accept-answer.result) run.keeper c.accept-answer.new.keeper run.noted c.accept-answer.new.noted c.args.outcome.now c.accept-answer.new.outcome unit0 unit1 card0 card1 beside way
+  gone = record {
+    entered = c.accept-answer.ensures.entered.1;
+    books = c.accept-answer.ensures.entered.2;
+    cause = c.accept-answer.ensures.cause;
+    calm = c.accept-answer.ensures.calm;
+    in_time = c.accept-answer.ensures.in_time;
+  }
+
+  sound : HaveTime (arranged c.args.entering.which unit1 card1 beside) → AreSound unit0 unit1 card0 card1
+  sound time = record {
+    time = mine-time c.args.entering.which unit1 card1 beside time;
+    unit_before = g.met.M.Medium.coherent c.args.unit.now;
+    unit_behind = g.met.M.Medium.coherent c.accept-answer.new.unit;
+    card_before = g.met.C.Chip.coherent c.args.card.now;
+    card_behind = g.met.C.Chip.coherent c.accept-answer.new.card;
+  }
+
+  second-small : (s : TraceSecond) (n : ℕ) → c.args.entering.at ≡ moment_in s n → s.number < 2 ^ 32
+  second-small s n at = let second = c.requires.at in let here = ap (λ (m : Moment). m.second) at in let most = c.requires.small in omega (arith, second, here, most)
+
+  -- the card is judged now
+  may-judge : length c.args.outcome.now.marks.items + MOST_OWED ≤ c.args.outcome.now.marks.room → (o : Origin) (done : List TraceSecond) (s : TraceSecond) (n : ℕ) (waits fewer : List Visit) → c.args.entering.at ≡ moment_in s n →
+      (next : RunNext o done s n waits fewer run c.args.outcome.now (arranged c.args.entering.which unit0 card0 beside) c.args.entering.slot c.args.entering.which) →
+      MayJudge o done s n waits fewer c.args.entering run.keeper c.args.outcome.now run.unfound run.next run.begun run.minutes unit0 card0 beside next.goes.within
+  may-judge room o done s n waits fewer at next = record {
+    origin = found-by o next.goes.origin;
+    moment = at;
+    last = let second = c.requires.at in let most = c.requires.small in omega (arith, second, most);
+    next_ = next.next;
+    none = next.none;
+    order = next.order;
+    ready = c.requires.going.ready.unit_ready;
+    seat = c.requires.seat;
+    elsewhere = seated.0;
+    bare = seated.1;
+    room = room;
+  }
 
 pub returns-clause-beside : goal.returns-clause-beside
-returns-clause-beside g c =
-    let w = c.accept-answer.ensures.entered in let h = c.requires.going in
-    (comes-of c.args.entering c.args.run.now.keeper c.accept-answer.new.keeper c.args.run.now.noted c.accept-answer.new.noted c.args.outcome.now c.accept-answer.new.outcome _ _ _ _ _ (ungiven_of h.span) h.cabin c.requires.seat (omega arith) w.0 w.1.is w.1.left).seat
+returns-clause-beside g c = (comes g c).seat
 
 pub returns-clause-held : goal.returns-clause-held
 returns-clause-held g c =
     let w = c.accept-answer.ensures.entered in let h = c.requires.going in let held = c.requires.held in
     let e = c.args.entering in
     let old = c.args.run.now.keeper.cabin.cards in let new = c.accept-answer.new.keeper.cabin.cards in
-    let k = comes-of e c.args.run.now.keeper c.accept-answer.new.keeper c.args.run.now.noted c.accept-answer.new.noted c.args.outcome.now c.accept-answer.new.outcome _ _ _ _ _ (ungiven_of h.span) h.cabin c.requires.seat (omega arith) w.0 w.1.is w.1.left in
+    let k = comes g c in
     let sum = owing-sum c.args.run.now.minutes h.span h.stands in
     let end = h.next in let none = c.requires.none in let minute = held.minute in let at = c.requires.at in
     let mine = mine-at old (g.C.Chip.card c.args.card.now) (g.D.Chip.card c.args.others.now) (g.C.Chip.state c.args.card.now) (g.D.Chip.state c.args.others.now) e.which held.card_a held.card_b in
@@ -88,7 +166,7 @@ returns-clause-going g c = on_ok c.accept-answer.result (λ well.
     let e = c.args.entering in
     let U = g.M.Medium.state c.args.unit.now in let V = g.M.Medium.state c.accept-answer.new.unit in
     let old = c.args.run.now.keeper.cabin.cards in let new = c.accept-answer.new.keeper.cabin.cards in
-    let k = comes-of e c.args.run.now.keeper c.accept-answer.new.keeper c.args.run.now.noted c.accept-answer.new.noted c.args.outcome.now c.accept-answer.new.outcome _ _ _ _ _ (ungiven_of h.span) h.cabin c.requires.seat (omega arith) w.0 w.1.is w.1.left in
+    let k = comes g c in
     let sum = owing-sum c.args.run.now.minutes h.span h.stands in
     let end = h.next in let none = c.requires.none in let minute = held.minute in
     let same = others-session e.which old new k.others in
@@ -126,7 +204,7 @@ pub returns-clause-takes : goal.returns-clause-takes
 returns-clause-takes g c =
     let w = c.accept-answer.ensures.entered in let h = c.requires.going in
     let e = c.args.entering in let o = c.args.outcome.now in
-    let k = comes-of e c.args.run.now.keeper c.accept-answer.new.keeper c.args.run.now.noted c.accept-answer.new.noted o c.accept-answer.new.outcome _ _ _ _ _ (ungiven_of h.span) h.cabin c.requires.seat (omega arith) w.0 w.1.is w.1.left in
+    let k = comes g c in
     let is = w.1.left.outcome in
     let few = c.accept-answer.ensures.marks.1 in
     let falls = k.falls in
@@ -159,29 +237,10 @@ returns-clause-recorded g c = λ room odometer o done s n waits fewer at next ti
     let Y : State = g.D.Chip.state c.args.others.now in
     let new : Run = record run { keeper = c.accept-answer.new.keeper; noted = c.accept-answer.new.noted } in
     let failed : Bool = is_err c.accept-answer.result in
-    let sits = seat-answers (ungiven_of h.span) run.keeper.cabin e.slot e.which h.cabin c.requires.seat in
-    let may : MayJudge o done s n waits fewer e run.keeper c.args.outcome.now run.unfound run.next run.begun run.minutes U X Y next.goes.within = record {
-      origin = found-by o next.goes.origin;
-      moment = at;
-      last = let second = c.requires.at in let small = c.requires.small in omega (arith, second, small);
-      next_ = next.next;
-      none = next.none;
-      order = next.order;
-      ready = h.ready.unit_ready;
-      seat = c.requires.seat;
-      elsewhere = sits.0;
-      bare = sits.1;
-      room = room;
-    } in
-    let gone : HasGone e failed run.keeper c.accept-answer.new.keeper run.noted c.accept-answer.new.noted c.args.outcome.now c.accept-answer.new.outcome U V X Z Y w.0 =
-    record { entered = w.1; books = w.2; cause = c.accept-answer.ensures.cause; calm = c.accept-answer.ensures.calm; in_time = c.accept-answer.ensures.in_time } in
-    let sound : AreSound U V X Z = record {
-      time = mine-time e.which V Z Y time;
-      unit_before = g.met.M.Medium.coherent c.args.unit.now;
-      unit_behind = g.met.M.Medium.coherent c.accept-answer.new.unit;
-      card_before = g.met.C.Chip.coherent c.args.card.now;
-      card_behind = g.met.C.Chip.coherent c.accept-answer.new.card;
-    } in
+    let may = may-judge g c room o done s n waits fewer at next in
+    let sits = seated g c in
+    let sound = sound g c time in
+    let gone = gone g c in
     let seen = found-in o done s n waits fewer e run.keeper c.args.outcome.now run.unfound run.next run.begun run.minutes U X Y next.goes.within may failed c.accept-answer.new.keeper run.noted c.accept-answer.new.noted c.accept-answer.new.outcome V Z w.0 gone sound in
     let there = unit-told o done s n waits fewer e run.keeper c.args.outcome.now run.unfound run.next run.begun run.minutes U X Y next.goes.within may in
     let writes = accept-writes U V X Z sound.unit_before sound.unit_behind e failed run.keeper c.accept-answer.new.keeper run.noted c.accept-answer.new.noted c.args.outcome.now c.accept-answer.new.outcome w.0 (ap (λ (q : Option (List ℕ)). is_some q) there.1) gone.cause w.1 in
@@ -205,7 +264,7 @@ returns-clause-recorded g c = λ room odometer o done s n waits fewer at next ti
     (way-tells (found_of o.found e.which) run.keeper.memory.registration e failed U.image U V X Z well low c.requires.fits seen.0 seen.1
     (λ valid. ((next.goes.within.powered.go.held e.which valid).now seen.0 (mine-back e.which U X Y (λ (q : State). q.may_leave seen.0) seen.1)).0) w.0 w.1.is seen.2 writes) sits.1
     (others-session e.which run.keeper.cabin.cards c.accept-answer.new.keeper.cabin.cards
-    (comes-of e run.keeper c.accept-answer.new.keeper run.noted c.accept-answer.new.noted c.args.outcome.now c.accept-answer.new.outcome _ _ _ _ _ (ungiven_of h.span) h.cabin c.requires.seat (omega arith) w.0 w.1.is w.1.left).others)
+    (comes g c).others)
     (all-true o (marked c.args.outcome.now.marks.items (truths_within o next.goes.within.b.run.log done s)) (marked c.accept-answer.new.outcome.marks.items (truths_within o next.goes.within.b.run.log done s)) s.number (log_of c.args.outcome.now) (notes_within next.goes.within.b done s (In n) (log_of c.args.outcome.now)) run.keeper.memory.registration run.keeper.cabin (arranged e.which U X Y)
     (λ none_.
     marked-grow c.args.outcome.now.marks.items c.accept-answer.new.outcome.marks.items (truths_within o next.goes.within.b.run.log done s) (truths_within o next.goes.within.b.run.log done s)
@@ -218,41 +277,10 @@ pub returns-clause-evented : goal.returns-clause-evented
 returns-clause-evented g c = λ room o done s n waits fewer at speed next turn events time.
     let run = c.args.run.now in
     let e = c.args.entering in
-    let h = c.requires.going in
-    let w = c.accept-answer.ensures.entered in
-    let U : State = g.M.Medium.state c.args.unit.now in
-    let V : State = g.M.Medium.state c.accept-answer.new.unit in
-    let X : State = g.C.Chip.state c.args.card.now in
-    let Z : State = g.C.Chip.state c.accept-answer.new.card in
-    let Y : State = g.D.Chip.state c.args.others.now in
-    let failed : Bool = is_err c.accept-answer.result in
-    let sits = seat-answers (ungiven_of h.span) run.keeper.cabin e.slot e.which h.cabin c.requires.seat in
-    let may : MayJudge o done s n waits fewer e run.keeper c.args.outcome.now run.unfound run.next run.begun run.minutes U X Y next.goes.within = record {
-      origin = found-by o next.goes.origin;
-      moment = at;
-      last = let second = c.requires.at in let small = c.requires.small in omega (arith, second, small);
-      next_ = next.next;
-      none = next.none;
-      order = next.order;
-      ready = h.ready.unit_ready;
-      seat = c.requires.seat;
-      elsewhere = sits.0;
-      bare = sits.1;
-      room = room;
-    } in
-    let gone : HasGone e failed run.keeper c.accept-answer.new.keeper run.noted c.accept-answer.new.noted c.args.outcome.now c.accept-answer.new.outcome U V X Z Y w.0 =
-    record { entered = w.1; books = w.2; cause = c.accept-answer.ensures.cause; calm = c.accept-answer.ensures.calm; in_time = c.accept-answer.ensures.in_time } in
-    let sound : AreSound U V X Z = record {
-      time = mine-time e.which V Z Y time;
-      unit_before = g.met.M.Medium.coherent c.args.unit.now;
-      unit_behind = g.met.M.Medium.coherent c.accept-answer.new.unit;
-      card_before = g.met.C.Chip.coherent c.args.card.now;
-      card_behind = g.met.C.Chip.coherent c.accept-answer.new.card;
-    } in
-    let small : s.number < 2 ^ 32 = let second = c.requires.at in let here = ap (λ (m : Moment). m.second) at in let few = c.requires.small in omega (arith, second, here, few) in
-    judged-evented o done s n waits fewer e run.keeper c.args.outcome.now run.unfound run.next run.begun run.minutes U X Y next.goes.within may next.goes.origin turn speed small (ungiven_of h.span) h.cabin
-    failed c.accept-answer.new.keeper run.noted c.accept-answer.new.noted c.accept-answer.new.outcome V Z w.0 gone sound next.goes.stay events
-    (judged-notes e failed w.0 run.keeper run.noted U V X Z Y (g.met.M.Medium.coherent c.args.unit.now) (g.met.M.Medium.coherent c.accept-answer.new.unit) c.requires.held.is_unit c.accept-answer.ensures.cause.works w.1.notes)
+    let may = may-judge g c room o done s n waits fewer at next in
+    judged-evented o done s n waits fewer e run.keeper c.args.outcome.now run.unfound run.next run.begun run.minutes (unit0 g c) (card0 g c) (beside g c) next.goes.within may next.goes.origin turn speed (second-small g c s n at) (ungiven_of c.requires.going.span) c.requires.going.cabin
+    (is_err c.accept-answer.result) c.accept-answer.new.keeper run.noted c.accept-answer.new.noted c.accept-answer.new.outcome (unit1 g c) (card1 g c) (way g c) (gone g c) (sound g c time) next.goes.stay events
+    (judged-notes e (is_err c.accept-answer.result) (way g c) run.keeper run.noted (unit0 g c) (unit1 g c) (card0 g c) (card1 g c) (beside g c) (g.met.M.Medium.coherent c.args.unit.now) (g.met.M.Medium.coherent c.accept-answer.new.unit) c.requires.held.is_unit c.accept-answer.ensures.cause.works c.accept-answer.ensures.entered.1.notes)
 
 -- ---- what is noted
 
@@ -286,45 +314,13 @@ pub returns-clause-ringed : goal.returns-clause-ringed
 returns-clause-ringed g c = λ room o done s n waits fewer at next spans odometer counted time.
     let run = c.args.run.now in
     let e = c.args.entering in
-    let h = c.requires.going in
-    let w = c.accept-answer.ensures.entered in
-    let U : State = g.M.Medium.state c.args.unit.now in
-    let V : State = g.M.Medium.state c.accept-answer.new.unit in
-    let X : State = g.C.Chip.state c.args.card.now in
-    let Z : State = g.C.Chip.state c.accept-answer.new.card in
-    let Y : State = g.D.Chip.state c.args.others.now in
-    let failed : Bool = is_err c.accept-answer.result in
-    let may : MayJudge o done s n waits fewer e run.keeper c.args.outcome.now run.unfound run.next run.begun run.minutes U X Y next.goes.within =
-    let sits = seat-answers (ungiven_of h.span) run.keeper.cabin e.slot e.which h.cabin c.requires.seat in
-    record {
-      origin = found-by o next.goes.origin;
-      moment = at;
-      last = let second = c.requires.at in let small = c.requires.small in omega (arith, second, small);
-      next_ = next.next;
-      none = next.none;
-      order = next.order;
-      ready = h.ready.unit_ready;
-      seat = c.requires.seat;
-      elsewhere = sits.0;
-      bare = sits.1;
-      room = room;
-    } in
-    let gone : HasGone e failed run.keeper c.accept-answer.new.keeper run.noted c.accept-answer.new.noted c.args.outcome.now c.accept-answer.new.outcome U V X Z Y w.0 =
-    record { entered = w.1; books = w.2; cause = c.accept-answer.ensures.cause; calm = c.accept-answer.ensures.calm; in_time = c.accept-answer.ensures.in_time } in
-    let sound : AreSound U V X Z = record {
-      time = mine-time e.which V Z Y time;
-      unit_before = g.met.M.Medium.coherent c.args.unit.now;
-      unit_behind = g.met.M.Medium.coherent c.accept-answer.new.unit;
-      card_before = g.met.C.Chip.coherent c.args.card.now;
-      card_behind = g.met.C.Chip.coherent c.accept-answer.new.card;
-    } in
-    let small : s.number < 2 ^ 32 = let second = c.requires.at in let here = ap (λ (m : Moment). m.second) at in let few = c.requires.small in omega (arith, second, here, few) in
-    let others : (card : Card) → IfSome (session_of run.keeper.cabin.cards card) (λ b. b.noted ≤ run.noted) = λ card. entry-noted run.noted (session_of run.keeper.cabin.cards card) (h.entries card) in
+    let may = may-judge g c room o done s n waits fewer at next in
+    let others : (card : Card) → IfSome (session_of run.keeper.cabin.cards card) (λ b. b.noted ≤ run.noted) = λ card. entry-noted run.noted (session_of run.keeper.cabin.cards card) (c.requires.going.entries card) in
     let few : length c.accept-answer.new.outcome.finds.items < 2 ^ 64 = search rules in
-    let v = judged-ringed o done s n waits fewer e run.keeper c.args.outcome.now run.unfound run.next run.begun run.minutes U X Y next.goes.within may next.goes.origin small c.requires.fits spans odometer run.noted counted others
-    failed c.accept-answer.new.keeper c.accept-answer.new.noted c.accept-answer.new.outcome V Z w.0 gone sound few
-    (mine-at run.keeper.cabin.cards (g.C.Chip.card c.args.card.now) (g.D.Chip.card c.args.others.now) X Y e.which c.requires.held.card_a c.requires.held.card_b).size in
-    record { rings = v.rings; others = v.others; here = v.here; cut = v.cut; same = v.same; left = v.left; places = v.places; odometer = ap (λ (q : Keeper). q.odometer) w.1.left.keeper; counted = v.counted }
+    let v = judged-ringed o done s n waits fewer e run.keeper c.args.outcome.now run.unfound run.next run.begun run.minutes (unit0 g c) (card0 g c) (beside g c) next.goes.within may next.goes.origin (second-small g c s n at) c.requires.fits spans odometer run.noted counted others
+    (is_err c.accept-answer.result) c.accept-answer.new.keeper c.accept-answer.new.noted c.accept-answer.new.outcome (unit1 g c) (card1 g c) (way g c) (gone g c) (sound g c time) few
+    (mine-at run.keeper.cabin.cards (g.C.Chip.card c.args.card.now) (g.D.Chip.card c.args.others.now) (card0 g c) (beside g c) e.which c.requires.held.card_a c.requires.held.card_b).size in
+    record { rings = v.rings; others = v.others; here = v.here; cut = v.cut; same = v.same; left = v.left; places = v.places; odometer = ap (λ (q : Keeper). q.odometer) c.accept-answer.ensures.entered.1.left.keeper; counted = v.counted }
 
 -- ---- what holds of the devices after any calls
 
@@ -337,40 +333,10 @@ pub returns-clause-cards : goal.returns-clause-cards
 returns-clause-cards g c = λ room o done s n waits fewer at speed next vehicle time.
     let run = c.args.run.now in
     let e = c.args.entering in
-    let h = c.requires.going in
-    let w = c.accept-answer.ensures.entered in
-    let U : State = g.M.Medium.state c.args.unit.now in
-    let V : State = g.M.Medium.state c.accept-answer.new.unit in
-    let X : State = g.C.Chip.state c.args.card.now in
-    let Z : State = g.C.Chip.state c.accept-answer.new.card in
-    let Y : State = g.D.Chip.state c.args.others.now in
-    let failed : Bool = is_err c.accept-answer.result in
-    let sits = seat-answers (ungiven_of h.span) run.keeper.cabin e.slot e.which h.cabin c.requires.seat in
-    let may : MayJudge o done s n waits fewer e run.keeper c.args.outcome.now run.unfound run.next run.begun run.minutes U X Y next.goes.within = record {
-      origin = found-by o next.goes.origin;
-      moment = at;
-      last = let second = c.requires.at in let small = c.requires.small in omega (arith, second, small);
-      next_ = next.next;
-      none = next.none;
-      order = next.order;
-      ready = h.ready.unit_ready;
-      seat = c.requires.seat;
-      elsewhere = sits.0;
-      bare = sits.1;
-      room = room;
-    } in
-    let gone : HasGone e failed run.keeper c.accept-answer.new.keeper run.noted c.accept-answer.new.noted c.args.outcome.now c.accept-answer.new.outcome U V X Z Y w.0 =
-    record { entered = w.1; books = w.2; cause = c.accept-answer.ensures.cause; calm = c.accept-answer.ensures.calm; in_time = c.accept-answer.ensures.in_time } in
-    let sound : AreSound U V X Z = record {
-      time = mine-time e.which V Z Y time;
-      unit_before = g.met.M.Medium.coherent c.args.unit.now;
-      unit_behind = g.met.M.Medium.coherent c.accept-answer.new.unit;
-      card_before = g.met.C.Chip.coherent c.args.card.now;
-      card_behind = g.met.C.Chip.coherent c.accept-answer.new.card;
-    } in
-    judged-cards o done s n waits fewer e run.keeper c.args.outcome.now run.unfound run.next run.begun run.minutes U X Y next.goes.within may next.goes.origin vehicle speed
-    failed c.accept-answer.new.keeper run.noted c.accept-answer.new.noted c.accept-answer.new.outcome V Z w.0 gone sound
-    (sits-works e (measured w.0 e run.keeper) c.accept-answer.new.keeper run.noted (ending_of w.0) (g.C.Chip.card c.accept-answer.new.card) Z w.1.left.keeper c.accept-answer.ensures.card)
+    let may = may-judge g c room o done s n waits fewer at next in
+    judged-cards o done s n waits fewer e run.keeper c.args.outcome.now run.unfound run.next run.begun run.minutes (unit0 g c) (card0 g c) (beside g c) next.goes.within may next.goes.origin vehicle speed
+    (is_err c.accept-answer.result) c.accept-answer.new.keeper run.noted c.accept-answer.new.noted c.accept-answer.new.outcome (unit1 g c) (card1 g c) (way g c) (gone g c) (sound g c time)
+    (sits-works e (measured (way g c) e run.keeper) c.accept-answer.new.keeper run.noted (ending_of (way g c)) (g.C.Chip.card c.accept-answer.new.card) (card1 g c) c.accept-answer.ensures.entered.1.left.keeper c.accept-answer.ensures.card)
     next.goes.stay
 
 -- ---- where no tear of a failed call is told no card has broken down

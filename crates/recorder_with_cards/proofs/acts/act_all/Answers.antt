@@ -4,7 +4,7 @@ use Rattle.safety_model.specs.Safe.{Devices}
 use Rattle.run_rule.specs.Between.{devices}
 use Rattle.run_acts.specs.Going.{largest_number}
 use Rattle.run_acts.specs.RunRinged.{InSecondRinged}
-use Rattle.recorder_with_cards.specs.Recorded.{action_of, actions_in, RingsActions}
+use Rattle.recorder_with_cards.specs.Recorded.{action_of, actions_in, RingsActions, ActsBy, Inside}
 use Rattle.recorder_with_cards.proofs.ActsRecorded.{no-action, actions-then}
 use Rattle.recorder_with_cards.proofs.Waiting.{actions-more, few-actions, one-action}
 use Rattle.std.proofs.lemmas.List.{length-take}
@@ -21,7 +21,44 @@ use Rattle.run_keeping.proofs.Later.{later-same, later-then}
 use Rattle.recorder_with_cards.specs.Carded.{InSecondCarded, CardsActions}
 use Rattle.run_outcome.proofs.Broken.{broke-none, broke-then}
 use Rattle.run_keeping.proofs.Calm.{calm-same, calm-then}
+use Rattle.recorder_with_cards.proofs.acts.act_all.Given.{Over}
+use Rattle.recorder_with_cards.proofs.acts.act_all.Goals.{After-act_item}
 use Rattle.recorder_with_cards.proofs.acts.act_all.Goals as goal
+
+-- one action more is carried, whatever that is
+module _ (g : Over) (c : After-act_item g) where
+  abbrev dev0 : Devices
+  dev0 = devices (g.M.Medium.state c.args.unit.now) (g.C.Chip.state c.args.card_a.now) (g.D.Chip.state c.args.card_b.now)
+
+  abbrev dev1 : Devices
+  dev1 = devices (g.M.Medium.state c.loop-i.unit) (g.C.Chip.state c.loop-i.card_a) (g.D.Chip.state c.loop-i.card_b)
+
+  abbrev dev2 : Devices
+  dev2 = devices (g.M.Medium.state c.act_item.new.unit) (g.C.Chip.state c.act_item.new.card_a) (g.D.Chip.state c.act_item.new.card_b)
+
+  one-more : (I : Inside) → length (actions_in (between c.args.from (c.loop-i.i + 1) c.args.items.now)) ≡ c.loop-i.i + 1 - c.args.from → c.loop-i.i + 1 - c.args.from ≤ largest_number →
+      (length (actions_in (between c.args.from c.loop-i.i c.args.items.now)) ≡ c.loop-i.i - c.args.from → c.loop-i.i - c.args.from ≤ largest_number →
+      ActsBy I (actions_in (between c.args.from c.loop-i.i c.args.items.now)) (c.loop-i.i - c.args.from) c.args.speed c.args.run.now c.loop-i.run c.args.outcome.now c.loop-i.outcome dev0 dev1) →
+      ActsBy I (action_of c.get.result.now) c.number_of.result c.args.speed c.loop-i.run c.act_item.new.run c.loop-i.outcome c.act_item.new.outcome dev1 dev2 →
+      ActsBy I (actions_in (between c.args.from (c.loop-i.i + 1) c.args.items.now)) (c.loop-i.i + 1 - c.args.from) c.args.speed c.args.run.now c.act_item.new.run c.args.outcome.now c.act_item.new.outcome dev0 dev2
+  one-more I many few were is =
+      let i : ℕ = c.loop-i.i in
+      let from : ℕ = c.args.from in
+      let low : from ≤ i = c.loop-i.auto.i in
+      let items = c.args.items.now in
+      let item = c.get.result.now in
+      let so = actions_in (between from i items) in
+      let more = actions-more items from i item low c.get.ensures in
+      let parts = few-actions items from i item low c.get.ensures in
+      let one = one-action item in
+      let before : length so ≡ i - from = omega (arith, parts.0, parts.1, one, many, low) in
+      let now : length (action_of item) ≡ 1 = omega (arith, parts.0, parts.1, one, many, low) in
+      let number : c.number_of.result ≡ i - from + 1 = let n = c.number_of.ensures in omega (arith, n, few, low) in
+      let same : c.number_of.result ≡ i + 1 - from = omega (arith, number, low) in
+      subst (λ (n : ℕ). ActsBy I (actions_in (between from (i + 1) items)) n c.args.speed c.args.run.now c.act_item.new.run c.args.outcome.now c.act_item.new.outcome dev0 dev2) same
+      (subst (λ (xs : List Action). ActsBy I xs c.number_of.result c.args.speed c.args.run.now c.act_item.new.run c.args.outcome.now c.act_item.new.outcome dev0 dev2) (sym more)
+      (actions-then I so (action_of item) (i - from) c.number_of.result c.args.speed c.args.run.now c.loop-i.run c.act_item.new.run c.args.outcome.now c.loop-i.outcome c.act_item.new.outcome dev0 dev1 dev2
+      (omega (arith, number, now)) c.loop-i.invariant.next c.act_item.ensures.time (were before (omega (arith, few, low))) is))
 
 pub act_item-requires-clause-room : goal.act_item-requires-clause-room
 act_item-requires-clause-room g c =
@@ -71,44 +108,8 @@ loop-i-preserved g c =
           (acted-more c.args.has_power c.args.speed 0 (c.loop-i.i - c.args.from + 1) (between c.args.from c.loop-i.i items) c.get.result.now c.args.run.now c.loop-i.run c.act_item.new.run c.args.outcome.now c.loop-i.outcome c.act_item.new.outcome v.acted
           (let long = length-take (c.loop-i.i - c.args.from) (drop c.args.from items) in let rest = length-drop c.args.from items in let last = c.requires.last in let low = c.loop-i.auto.i in omega (arith, long, rest, last, low, less))
           (subst (λ (n : ℕ). IsItemActed c.get.result.now c.args.has_power (is_lit c.loop-i.run.power) n c.args.speed c.loop-i.run c.act_item.new.run c.loop-i.outcome c.act_item.new.outcome) c.number_of.ensures e.acted));
-      ringed = λ power many few.
-          let i : ℕ = c.loop-i.i in
-          let from : ℕ = c.args.from in
-          let low : from ≤ i = c.loop-i.auto.i in
-          let item = c.get.result.now in
-          let so = actions_in (between from i items) in
-          let more = actions-more items from i item low c.get.ensures in
-          let parts = few-actions items from i item low c.get.ensures in
-          let one = one-action item in
-          let before : length so ≡ i - from = omega (arith, parts.0, parts.1, one, many, low) in
-          let now : length (action_of item) ≡ 1 = omega (arith, parts.0, parts.1, one, many, low) in
-          let number : c.number_of.result ≡ i - from + 1 = let n = c.number_of.ensures in omega (arith, n, few, low) in
-          let d : Devices = devices (g.M.Medium.state c.args.unit.now) (g.C.Chip.state c.args.card_a.now) (g.D.Chip.state c.args.card_b.now) in
-          let m : Devices = devices (g.M.Medium.state c.loop-i.unit) (g.C.Chip.state c.loop-i.card_a) (g.D.Chip.state c.loop-i.card_b) in
-          let f : Devices = devices (g.M.Medium.state c.act_item.new.unit) (g.C.Chip.state c.act_item.new.card_a) (g.D.Chip.state c.act_item.new.card_b) in
-          subst (λ (n : ℕ). RingsActions (actions_in (between from (i + 1) items)) n c.args.speed c.args.run.now c.act_item.new.run c.args.outcome.now c.act_item.new.outcome d f) (let same : c.number_of.result ≡ i + 1 - from = omega (arith, number, low) in same)
-          (subst (λ (xs : List Action). RingsActions xs c.number_of.result c.args.speed c.args.run.now c.act_item.new.run c.args.outcome.now c.act_item.new.outcome d f) (sym more)
-          (actions-then InSecondRinged so (action_of item) (i - from) c.number_of.result c.args.speed c.args.run.now c.loop-i.run c.act_item.new.run c.args.outcome.now c.loop-i.outcome c.act_item.new.outcome d m f
-          (omega (arith, number, now)) v.next e.time (v.ringed power before (omega (arith, few, low))) (e.ringed power)));
-      cards = λ power many few.
-          let i : ℕ = c.loop-i.i in
-          let from : ℕ = c.args.from in
-          let low : from ≤ i = c.loop-i.auto.i in
-          let item = c.get.result.now in
-          let so = actions_in (between from i items) in
-          let more = actions-more items from i item low c.get.ensures in
-          let parts = few-actions items from i item low c.get.ensures in
-          let one = one-action item in
-          let before : length so ≡ i - from = omega (arith, parts.0, parts.1, one, many, low) in
-          let now : length (action_of item) ≡ 1 = omega (arith, parts.0, parts.1, one, many, low) in
-          let number : c.number_of.result ≡ i - from + 1 = let n = c.number_of.ensures in omega (arith, n, few, low) in
-          let d : Devices = devices (g.M.Medium.state c.args.unit.now) (g.C.Chip.state c.args.card_a.now) (g.D.Chip.state c.args.card_b.now) in
-          let m : Devices = devices (g.M.Medium.state c.loop-i.unit) (g.C.Chip.state c.loop-i.card_a) (g.D.Chip.state c.loop-i.card_b) in
-          let f : Devices = devices (g.M.Medium.state c.act_item.new.unit) (g.C.Chip.state c.act_item.new.card_a) (g.D.Chip.state c.act_item.new.card_b) in
-          subst (λ (n : ℕ). CardsActions (actions_in (between from (i + 1) items)) n c.args.speed c.args.run.now c.act_item.new.run c.args.outcome.now c.act_item.new.outcome d f) (let same : c.number_of.result ≡ i + 1 - from = omega (arith, number, low) in same)
-          (subst (λ (xs : List Action). CardsActions xs c.number_of.result c.args.speed c.args.run.now c.act_item.new.run c.args.outcome.now c.act_item.new.outcome d f) (sym more)
-          (actions-then InSecondCarded so (action_of item) (i - from) c.number_of.result c.args.speed c.args.run.now c.loop-i.run c.act_item.new.run c.args.outcome.now c.loop-i.outcome c.act_item.new.outcome d m f
-          (omega (arith, number, now)) v.next e.time (v.cards power before (omega (arith, few, low))) (e.cards power)));
+      ringed = λ power many few. one-more g (goal.at.loop-i-preserved g c).After-act_item InSecondRinged many few (v.ringed power) (e.ringed power);
+      cards = λ power many few. one-more g (goal.at.loop-i-preserved g c).After-act_item InSecondCarded many few (v.cards power) (e.cards power);
       still = λ dark.
           let was = v.still dark in
           let now = e.still was.0 in

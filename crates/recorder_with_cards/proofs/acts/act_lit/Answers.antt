@@ -1,4 +1,4 @@
-use Rattle.std.proofs.Common.{rules, ◌≡◌, ◌∙◌, ℕ, ◌+◌, ◌/◌, ◌<◌, ◌∷◌, [], ◌++◌, List, Bool, true, false, Option, None, length, take, refl, ap, sym, subst, arith, append_assoc, length-append}
+use Rattle.std.proofs.Common.{rules, ◌≡◌, ◌∙◌, ℕ, ◌/◌, ◌<◌, ◌∷◌, [], ◌++◌, List, Bool, true, false, Option, None, length, take, refl, ap, sym, subst, arith, append_assoc, length-append}
 use Rattle.std.proofs.lemmas.Grind.{common_steps}
 use Rattle.std.specs.Prelude.{is_err, suc}
 use Rattle.tach_media.proofs.Runs.{ok_gives}
@@ -15,8 +15,8 @@ use Rattle.run_keeping.proofs.Counts.{lines-length}
 use Rattle.run_rule.specs.Between.{devices}
 use Rattle.safety_model.specs.Safe.{Devices}
 use Rattle.run_acts.specs.declared.run.Run.{Run}
-use Rattle.run_acts.specs.Power.{is_lit}
-use Rattle.run_acts.specs.Recording.{GoesOnOrFails, log_of}
+use Rattle.run_acts.specs.Power.{is_lit, cut_run}
+use Rattle.run_acts.specs.Recording.{GoesOnOrFails, log_of, IsNow, RunFails, RunWithin}
 use Rattle.run_acts.specs.Going.{IsAt}
 use Rattle.run_acts.specs.Room.{falls_of}
 use Rattle.run_acts.proofs.Standing.{cut-at}
@@ -26,10 +26,10 @@ use Rattle.recorder_with_cards.proofs.ActsRecorded.{cut, left, refused}
 use Rattle.recorder_with_cards.proofs.Allowed.{fine-selected}
 use Rattle.recorder_with_cards.proofs.Rooms.{few-wait, room-cut}
 use Rattle.run_evented.specs.Noting.{Acting}
-use Rattle.run_acts.specs.Evented.{EventsGoOn}
-use Rattle.run_acts.specs.RunRinged.{WithinRinged, RingsGoOn, with_cut}
+use Rattle.run_acts.specs.Evented.{EventsGoOn, WithinEvented}
+use Rattle.run_acts.specs.RunRinged.{WithinRinged, RingsGoOn, with_cut, InSecondRinged, RingsCut}
 use Rattle.recorder_with_cards.proofs.ActsEvented.{evented-cuts}
-use Rattle.recorder_with_cards.proofs.RingsHeld.{ringed-lit, in-ringed_lit, in-ringed_cut, at-front}
+use Rattle.recorder_with_cards.proofs.RingsHeld.{ringed-lit, in-ringed_lit, in-ringed_cut, at-front, ringed-cut}
 use Rattle.recorder_with_cards.proofs.ActsRinged.{ringed-on, ringed-cuts, cut-stores, refused-ringed}
 use Rattle.run_keeping.specs.Keeping.{with_lines}
 use Rattle.recorder_with_cards.proofs.Staying.{done-watched}
@@ -39,12 +39,128 @@ use Rattle.run_acts.proofs.Uncut.{uncut-broke, cut-broke}
 use Rattle.recorder_with_cards.proofs.Uncut.{done-uncut}
 use Rattle.run_course.specs.Moments.{and_break}
 use Rattle.run_acts.specs.RunCards.{CardsBehind, CardsIn, CardsGoOn}
-use Rattle.recorder_with_cards.proofs.RingsHeld.{ringed-cut}
 use Rattle.recorder_with_cards.proofs.HereDone.{TellsMoreOf, done-of}
 use Rattle.recorder_with_cards.proofs.CardsHeld.{carded-lit, in-carded_lit, in-carded_cut}
 use Rattle.recorder_with_cards.proofs.ActsCards.{refused-cards, cards-on, cards-now, cut-later, cut-cards}
 use Rattle.run_keeping.proofs.Calm.{calm-more, calm-same}
+use Rattle.run_keeping.specs.Books.{HaveTime}
+use Rattle.recorder_with_cards.specs.Carded.{InSecondCarded, WithinCarded}
+use Rattle.run_recorded.specs.Origin.{Origin}
+use Rattle.trace_model.specs.Trace.{TraceSecond}
+use Rattle.recorder_with_cards.proofs.acts.act_lit.Given.{Over}
+use Rattle.recorder_with_cards.proofs.acts.act_lit.Goals.{After-carry_out}
 use Rattle.recorder_with_cards.proofs.acts.act_lit.Goals as goal
+
+-- ---- WHAT THE ACTION LEAVES
+
+module _ (g : Over) (c : After-carry_out g) where
+  abbrev run : Run
+  run = c.args.run.now
+
+  abbrev out : Outcome
+  out = c.args.outcome.now
+
+  abbrev mid : Run
+  mid = c.carry_out.new.run
+
+  abbrev told : Outcome
+  told = c.carry_out.new.outcome
+
+  abbrev before : Devices
+  before = devices (g.M.Medium.state c.args.unit.now) (g.C.Chip.state c.args.card_a.now) (g.D.Chip.state c.args.card_b.now)
+
+  abbrev behind : Devices
+  behind = devices (g.M.Medium.state c.carry_out.new.unit) (g.C.Chip.state c.carry_out.new.card_a) (g.D.Chip.state c.carry_out.new.card_b)
+
+  allowed : refusal (logged run.keeper.cabin.slots.seats) c.args.speed c.args.action ≡ None
+  allowed = first_of (search rules, grind (arith, common_steps))
+
+  -- it is the next one of this second
+  module _ (o : Origin) (done : List TraceSecond) (s : TraceSecond) (now : IsNow s c.args.speed run) (front rest : List Action) (are : s.actions ≡ front ++ c.args.action ∷ rest) (here : c.args.begun ≡ suc (length front)) (time : HaveTime behind) where
+    abbrev more : List Action
+    more = front ++ c.args.action ∷ []
+
+    many : length more ≡ c.args.begun
+    many = let long = length-append front (c.args.action ∷ []) in omega (arith, long, here)
+
+    some : 0 < s.number
+    some = let low = c.requires.going.low in let number = now.number in omega (arith, low, number)
+
+    still_next : s.number ≡ mid.next
+    still_next = now.number ∙ sym c.carry_out.ensures.stays.next
+
+    all-so : s.actions ≡ more ++ rest
+    all-so = are ∙ sym (append_assoc front (c.args.action ∷ []) rest)
+
+    goes : (w : RunWithin o done s (In (length front)) [] [] run out before) → GoesOnOrFails (is_err c.carry_out.result) o done s (In c.args.begun) [] mid told behind w.within.b
+    goes w = c.carry_out.ensures.recorded o done s now front rest are here allowed w time
+
+    noted : (h : WithinEvented o done s (In (length front)) [] [] Acting run out before) → EventsGoOn (is_err c.carry_out.result) o done s h.within.within.b.run (In c.args.begun) Acting (log_of told) behind
+    noted h = c.carry_out.ensures.evented o done s now front rest are here allowed h.within h.evented time
+
+    rung : (h : WithinRinged o done s (length front) run out before) → RingsGoOn (is_err c.carry_out.result) o done s h.evented.within.within.b more mid (log_of told) h.spans h.told behind
+    rung h = c.carry_out.ensures.ringed o done s now front rest are here allowed h.evented.within h.spans h.told (at-front o done s run out before front (c.args.action ∷ rest) are h) time
+
+    carded : (h : WithinCarded o done s (length front) run out before) → CardsGoOn (is_err c.carry_out.result) o done s h.ringed.evented.within.within.b.run.log more (log_of told) behind
+    carded h = c.carry_out.ensures.cards o done s now front rest are here allowed h.vehicle h.ringed.evented.within (cards-now o done s run out before front (c.args.action ∷ rest) are some h.ringed.evented.within h.cards) time
+
+    -- it goes on
+    ringed-goes : is_err c.carry_out.result ≡ false → WithinRinged o done s (length front) run out before → InSecondRinged o done s c.args.begun mid told behind
+    ringed-goes well h =
+        let w = h.evented.within in
+        in-ringed_lit o done s mid told behind c.args.begun
+        (ringed-on o done s (length front) c.args.begun run mid out told before behind h more rest all-so many (subst (λ (b : Bool). GoesOnOrFails b o done s (In c.args.begun) [] mid told behind w.within.b) well (goes w))
+        (subst (λ (b : Bool). EventsGoOn b o done s w.within.b.run (In c.args.begun) Acting (log_of told) behind) well (noted h.evented))
+        (done-watched c.args.action (moment_of c.args.begun run) c.args.speed (is_err c.carry_out.result) run mid out told c.carry_out.ensures.done)
+        (subst (λ (b : Bool). RingsGoOn b o done s w.within.b more mid (log_of told) h.spans h.told behind) well (rung h)))
+
+    carded-goes : is_err c.carry_out.result ≡ false → WithinCarded o done s (length front) run out before → InSecondCarded o done s c.args.begun mid told behind
+    carded-goes well h =
+        let w = h.ringed.evented.within in
+        let watched = done-watched c.args.action (moment_of c.args.begun run) c.args.speed (is_err c.carry_out.result) run mid out told c.carry_out.ensures.done in
+        in-carded_lit o done s mid told behind c.args.begun (record {
+          ringed = ringed-lit o done s mid told behind c.args.begun (ap is_lit (c.carry_out.ensures.stays.power ∙ c.requires.lit)) (ringed-goes well h.ringed);
+          vehicle = ap (λ m. m.registration) watched.memory ∙ h.vehicle;
+          cards = cards-on o done s c.args.begun mid told behind more rest w.within.b all-so many some (subst (λ (b : Bool). GoesOnOrFails b o done s (In c.args.begun) [] mid told behind w.within.b) well (goes w))
+              (subst (λ (b : Bool). CardsGoOn b o done s w.within.b.run.log more (log_of told) behind) well (carded h));
+        })
+
+    -- or the unit failed, and power is lost
+    module _ (failed : is_err c.carry_out.result ≡ true) (new : Run) (after : Outcome) (cut_so : new ≡ cut_run mid.next mid) (told_so : after ≡ record told { breaks = with_lines (cut_at mid.next true c.args.begun ∷ []) told.breaks }) where
+      fails : (w : RunWithin o done s (In (length front)) [] [] run out before) → RunFails o done s (In c.args.begun) mid told behind
+      fails w = subst (λ (b : Bool). GoesOnOrFails b o done s (In c.args.begun) [] mid told behind w.within.b) failed (goes w)
+
+      rings-cut : (h : WithinRinged o done s (length front) run out before) → RingsCut o done s h.evented.within.within.b more mid (log_of told) h.spans h.told behind
+      rings-cut h = subst (λ (b : Bool). RingsGoOn b o done s h.evented.within.within.b more mid (log_of told) h.spans h.told behind) failed (rung h)
+
+      ringed-lost : WithinRinged o done s (length front) run out before → InSecondRinged o done s c.args.begun new after behind
+      ringed-lost h =
+          let w = h.evented.within in
+          let stays = c.carry_out.ensures.stays in
+          in-ringed_cut o done s new after behind c.args.begun
+          (ringed-cuts o done s w.within.b c.args.begun mid new told after behind h.spans h.told still_next
+          (evented-cuts o done s (length front) c.args.begun run mid new out told after before behind now.number h.evented
+          (cut o done s c.args.begun rest mid new told after behind w.origin still_next (left front rest c.args.action s here are) (fails w) cut_so told_so)
+          (subst (λ (b : Bool). EventsGoOn b o done s w.within.b.run (In c.args.begun) Acting (log_of told) behind) failed (noted h.evented))
+          (done-watched c.args.action (moment_of c.args.begun run) c.args.speed (is_err c.carry_out.result) run mid out told c.carry_out.ensures.done) stays.next stays.unfound cut_so told_so)
+          more many (rings-cut h)
+          (cut-stores o done s (length front) c.args.begun run mid out told before behind h more rest many (fails w) (stays.power ∙ c.requires.lit) (left front rest c.args.action s here are) stays.unfound (rings-cut h))
+          cut_so told_so)
+
+      carded-lost : WithinCarded o done s (length front) run out before → InSecondCarded o done s c.args.begun new after behind
+      carded-lost h =
+          let w = h.ringed.evented.within in
+          let log : with_cut (log_of told) s more ≡ log_of after =
+          ap (λ (n : ℕ). and_break (log_of told) (cut_at s.number true n)) many ∙ ap (λ (u : ℕ). and_break (log_of told) (cut_at u true c.args.begun)) still_next ∙ sym (ap log_of told_so) in
+          let lines = subst (λ (u : ℕ). TellsMoreOf u out.breaks.items told.breaks.items) (sym now.number) (done-of c.args.action (moment_of c.args.begun run) c.args.speed (is_err c.carry_out.result) run mid out told c.carry_out.ensures.done) in
+          let watched = done-watched c.args.action (moment_of c.args.begun run) c.args.speed (is_err c.carry_out.result) run mid out told c.carry_out.ensures.done in
+          let shown = cut-cards o done s (length front) run out before behind w told more rest all-so (cut-later o done s (length front) run out before w told more lines (rings-cut h.ringed).behind some) (fails w).within.moment.up_to.uncut
+          (subst (λ (b : Bool). CardsGoOn b o done s w.within.b.run.log more (log_of told) behind) failed (carded h)) in
+          in-carded_cut o done s new after behind c.args.begun (record {
+            ringed = ringed-cut o done s new after behind c.args.begun (ap (λ (q : Run). is_lit q.power) cut_so) (ringed-lost h.ringed);
+            vehicle = ap (λ (q : Run). q.keeper.memory.registration) cut_so ∙ ap (λ m. m.registration) watched.memory ∙ h.vehicle;
+            cards = subst (λ (l : RunLog). CardsBehind o (done ++ s ∷ []) l behind) log shown;
+          })
 
 -- ---- the unit failed: power is lost
 
@@ -101,10 +217,9 @@ pub returns-then-is_err-clause-acted : goal.returns-then-is_err-clause-acted
 returns-then-is_err-clause-acted g c =
     let run = c.args.run.now in
     let o = c.args.outcome.now in
-    let none : refusal (logged run.keeper.cabin.slots.seats) c.args.speed c.args.action ≡ None = first_of (search rules, grind (arith, common_steps)) in
     let failed : is_err c.carry_out.result ≡ true = sym c.is_err.ensures.value ∙ c.if-is_err.true in
     let told : Outcome = c.carry_out.new.outcome in
-    subst (λ (r : Option SlotFault). IsActedBy r c.args.action c.args.begun c.args.speed run c.cut.new.self o (record told { breaks = c.cut.new.breaks })) (sym none)
+    subst (λ (r : Option SlotFault). IsActedBy r c.args.action c.args.begun c.args.speed run c.cut.new.self o (record told { breaks = c.cut.new.breaks })) (sym (allowed g (goal.at.returns-then-is_err-clause-acted g c).After-carry_out))
     (record {
       failed = true;
       between = c.carry_out.new.run;
@@ -118,10 +233,9 @@ pub returns-else-is_err-clause-acted : goal.returns-else-is_err-clause-acted
 returns-else-is_err-clause-acted g c =
     let run = c.args.run.now in
     let o = c.args.outcome.now in
-    let none : refusal (logged run.keeper.cabin.slots.seats) c.args.speed c.args.action ≡ None = first_of (search rules, grind (arith, common_steps)) in
     let well : is_err c.carry_out.result ≡ false = sym c.is_err.ensures.value ∙ c.if-is_err.false in
     let told : Outcome = c.carry_out.new.outcome in
-    subst (λ (r : Option SlotFault). IsActedBy r c.args.action c.args.begun c.args.speed run c.carry_out.new.run o told) (sym none)
+    subst (λ (r : Option SlotFault). IsActedBy r c.args.action c.args.begun c.args.speed run c.carry_out.new.run o told) (sym (allowed g (goal.at.returns-else-is_err-clause-acted g c).After-carry_out))
     (record {
       failed = false;
       between = c.carry_out.new.run;
@@ -137,14 +251,10 @@ pub returns-in-Err-clause-still : goal.returns-in-Err-clause-still
 returns-in-Err-clause-still g c = λ none. (refl, refl, refl)
 
 pub returns-then-is_err-clause-still : goal.returns-then-is_err-clause-still
-returns-then-is_err-clause-still g c =
-    let allowed : refusal (logged c.args.run.now.keeper.cabin.slots.seats) c.args.speed c.args.action ≡ None = first_of (search rules, grind (arith, common_steps)) in λ none.
-    c.carry_out.ensures.still (subst (λ (r : Option SlotFault). CallsNone r c.args.action) allowed none)
+returns-then-is_err-clause-still g c = λ none. c.carry_out.ensures.still (subst (λ (r : Option SlotFault). CallsNone r c.args.action) (allowed g (goal.at.returns-then-is_err-clause-still g c).After-carry_out) none)
 
 pub returns-else-is_err-clause-still : goal.returns-else-is_err-clause-still
-returns-else-is_err-clause-still g c =
-    let allowed : refusal (logged c.args.run.now.keeper.cabin.slots.seats) c.args.speed c.args.action ≡ None = first_of (search rules, grind (arith, common_steps)) in λ none.
-    c.carry_out.ensures.still (subst (λ (r : Option SlotFault). CallsNone r c.args.action) allowed none)
+returns-else-is_err-clause-still g c = λ none. c.carry_out.ensures.still (subst (λ (r : Option SlotFault). CallsNone r c.args.action) (allowed g (goal.at.returns-else-is_err-clause-still g c).After-carry_out) none)
 
 pub returns-in-Err-clause-time : goal.returns-in-Err-clause-time
 returns-in-Err-clause-time g c = λ h. h
@@ -179,59 +289,15 @@ returns-in-Err-clause-ringed g c = λ o done s now front rest are begun in_ time
     (refused-ringed o done s c.args.speed run out d now front c.args.action rest are h c.in-Err.fault (sym c.in-Err.ensures) told (ap (λ (l : Listed Refused). record out { refused = l }) c.refuse.ensures)))
 
 pub returns-then-is_err-clause-ringed : goal.returns-then-is_err-clause-ringed
-returns-then-is_err-clause-ringed g c =
-    let allowed : refusal (logged c.args.run.now.keeper.cabin.slots.seats) c.args.speed c.args.action ≡ None = first_of (search rules, grind (arith, common_steps)) in
-    λ o done s now front rest are begun in_ time.
-    let run = c.args.run.now in
-    let out = c.args.outcome.now in
-    let mid : Run = c.carry_out.new.run in
-    let told : Outcome = c.carry_out.new.outcome in
-    let d : Devices = devices (g.M.Medium.state c.args.unit.now) (g.C.Chip.state c.args.card_a.now) (g.D.Chip.state c.args.card_b.now) in
-    let e : Devices = devices (g.M.Medium.state c.carry_out.new.unit) (g.C.Chip.state c.carry_out.new.card_a) (g.D.Chip.state c.carry_out.new.card_b) in
-    let failed : is_err c.carry_out.result ≡ true = sym c.is_err.ensures.value ∙ c.if-is_err.true in
-    let here : c.args.begun ≡ suc (length front) = omega (arith, begun) in
-    let h = ringed-lit o done s run out d (length front) (ap is_lit c.requires.lit) in_ in
-    let w = h.evented.within in
-    let more : List Action = front ++ c.args.action ∷ [] in
-    let fails = subst (λ (b : Bool). GoesOnOrFails b o done s (In c.args.begun) [] mid told e w.within.b) failed (c.carry_out.ensures.recorded o done s now front rest are here allowed w time) in
-    let events = subst (λ (b : Bool). EventsGoOn b o done s w.within.b.run (In c.args.begun) Acting (log_of told) e) failed (c.carry_out.ensures.evented o done s now front rest are here allowed w h.evented.evented time) in
-    let rings = subst (λ (b : Bool). RingsGoOn b o done s w.within.b more mid (log_of told) h.spans h.told e) failed
-    (c.carry_out.ensures.ringed o done s now front rest are here allowed w h.spans h.told (at-front o done s run out d front (c.args.action ∷ rest) are h) time) in
-    let after : Outcome = record told { breaks = c.cut.new.breaks } in
-    let stays = c.carry_out.ensures.stays in
-    let many : length more ≡ c.args.begun = let long = length-append front (c.args.action ∷ []) in omega (arith, long, here) in
-    let is_after : after ≡ record told { breaks = with_lines (cut_at mid.next true c.args.begun ∷ []) told.breaks } = ap (λ (l : Listed Break). record told { breaks = l }) c.cut.ensures.breaks in
-    in-ringed_cut o done s c.cut.new.self after e c.args.begun
-    (ringed-cuts o done s w.within.b c.args.begun mid c.cut.new.self told after e h.spans h.told (now.number ∙ sym stays.next)
-    (evented-cuts o done s (length front) c.args.begun run mid c.cut.new.self out told after d e now.number h.evented
-    (cut o done s c.args.begun rest mid c.cut.new.self told after e w.origin (now.number ∙ sym stays.next) (left front rest c.args.action s here are) fails c.cut.ensures.run is_after)
-    events (done-watched c.args.action (moment_of c.args.begun run) c.args.speed (is_err c.carry_out.result) run mid out told c.carry_out.ensures.done) stays.next stays.unfound c.cut.ensures.run is_after)
-    more many rings
-    (cut-stores o done s (length front) c.args.begun run mid out told d e h more rest many fails (stays.power ∙ c.requires.lit) (left front rest c.args.action s here are) stays.unfound rings)
-    c.cut.ensures.run is_after)
+returns-then-is_err-clause-ringed g c = λ o done s now front rest are begun in_ time.
+    let at = (goal.at.returns-then-is_err-clause-ringed g c).After-carry_out in
+    ringed-lost g at o done s now front rest are (omega (arith, begun)) time (sym c.is_err.ensures.value ∙ c.if-is_err.true) c.cut.new.self (record c.carry_out.new.outcome { breaks = c.cut.new.breaks }) c.cut.ensures.run (ap (λ (l : Listed Break). record c.carry_out.new.outcome { breaks = l }) c.cut.ensures.breaks)
+    (ringed-lit o done s (run g at) (out g at) (before g at) (length front) (ap is_lit c.requires.lit) in_)
 
 pub returns-else-is_err-clause-ringed : goal.returns-else-is_err-clause-ringed
-returns-else-is_err-clause-ringed g c =
-    let allowed : refusal (logged c.args.run.now.keeper.cabin.slots.seats) c.args.speed c.args.action ≡ None = first_of (search rules, grind (arith, common_steps)) in
-    λ o done s now front rest are begun in_ time.
-    let run = c.args.run.now in
-    let out = c.args.outcome.now in
-    let mid : Run = c.carry_out.new.run in
-    let told : Outcome = c.carry_out.new.outcome in
-    let d : Devices = devices (g.M.Medium.state c.args.unit.now) (g.C.Chip.state c.args.card_a.now) (g.D.Chip.state c.args.card_b.now) in
-    let e : Devices = devices (g.M.Medium.state c.carry_out.new.unit) (g.C.Chip.state c.carry_out.new.card_a) (g.D.Chip.state c.carry_out.new.card_b) in
-    let well : is_err c.carry_out.result ≡ false = sym c.is_err.ensures.value ∙ c.if-is_err.false in
-    let here : c.args.begun ≡ suc (length front) = omega (arith, begun) in
-    let h = ringed-lit o done s run out d (length front) (ap is_lit c.requires.lit) in_ in
-    let w = h.evented.within in
-    let more : List Action = front ++ c.args.action ∷ [] in
-    let goes = subst (λ (b : Bool). GoesOnOrFails b o done s (In c.args.begun) [] mid told e w.within.b) well (c.carry_out.ensures.recorded o done s now front rest are here allowed w time) in
-    let events = subst (λ (b : Bool). EventsGoOn b o done s w.within.b.run (In c.args.begun) Acting (log_of told) e) well (c.carry_out.ensures.evented o done s now front rest are here allowed w h.evented.evented time) in
-    let rings = subst (λ (b : Bool). RingsGoOn b o done s w.within.b more mid (log_of told) h.spans h.told e) well
-    (c.carry_out.ensures.ringed o done s now front rest are here allowed w h.spans h.told (at-front o done s run out d front (c.args.action ∷ rest) are h) time) in
-    in-ringed_lit o done s mid told e c.args.begun
-    (ringed-on o done s (length front) c.args.begun run mid out told d e h more rest (are ∙ sym (append_assoc front (c.args.action ∷ []) rest)) (let long = length-append front (c.args.action ∷ []) in omega (arith, long, here))
-    goes events (done-watched c.args.action (moment_of c.args.begun run) c.args.speed (is_err c.carry_out.result) run mid out told c.carry_out.ensures.done) rings)
+returns-else-is_err-clause-ringed g c = λ o done s now front rest are begun in_ time.
+    let at = (goal.at.returns-else-is_err-clause-ringed g c).After-carry_out in
+    ringed-goes g at o done s now front rest are (omega (arith, begun)) time (sym c.is_err.ensures.value ∙ c.if-is_err.false) (ringed-lit o done s (run g at) (out g at) (before g at) (length front) (ap is_lit c.requires.lit) in_)
 
 -- ---- how often the unit broke down
 
@@ -273,73 +339,15 @@ returns-in-Err-clause-cards g c = λ o done s now front rest are begun in_ time.
     })
 
 pub returns-then-is_err-clause-cards : goal.returns-then-is_err-clause-cards
-returns-then-is_err-clause-cards g c =
-    let allowed : refusal (logged c.args.run.now.keeper.cabin.slots.seats) c.args.speed c.args.action ≡ None = first_of (search rules, grind (arith, common_steps)) in
-    λ o done s now front rest are begun in_ time.
-    let run = c.args.run.now in
-    let out = c.args.outcome.now in
-    let mid : Run = c.carry_out.new.run in
-    let told : Outcome = c.carry_out.new.outcome in
-    let d : Devices = devices (g.M.Medium.state c.args.unit.now) (g.C.Chip.state c.args.card_a.now) (g.D.Chip.state c.args.card_b.now) in
-    let e : Devices = devices (g.M.Medium.state c.carry_out.new.unit) (g.C.Chip.state c.carry_out.new.card_a) (g.D.Chip.state c.carry_out.new.card_b) in
-    let failed : is_err c.carry_out.result ≡ true = sym c.is_err.ensures.value ∙ c.if-is_err.true in
-    let here : c.args.begun ≡ suc (length front) = omega (arith, begun) in
-    let h = carded-lit o done s run out d (length front) (ap is_lit c.requires.lit) in_ in
-    let w = h.ringed.evented.within in
-    let low = c.requires.going.low in
-    let number = now.number in
-    let some : 0 < s.number = omega (arith, low, number) in
-    let more : List Action = front ++ c.args.action ∷ [] in
-    let many : length more ≡ c.args.begun = let long = length-append front (c.args.action ∷ []) in omega (arith, long, here) in
-    let r = returns-then-is_err-clause-ringed g c o done s now front rest are begun (in-ringed_lit o done s run out d (length front) h.ringed) time in
-    let fails = subst (λ (b : Bool). GoesOnOrFails b o done s (In c.args.begun) [] mid told e w.within.b) failed (c.carry_out.ensures.recorded o done s now front rest are here allowed w time) in
-    let rings = subst (λ (b : Bool). RingsGoOn b o done s w.within.b more mid (log_of told) h.ringed.spans h.ringed.told e) failed
-    (c.carry_out.ensures.ringed o done s now front rest are here allowed w h.ringed.spans h.ringed.told (at-front o done s run out d front (c.args.action ∷ rest) are h.ringed) time) in
-    let cards = subst (λ (b : Bool). CardsGoOn b o done s w.within.b.run.log more (log_of told) e) failed
-    (c.carry_out.ensures.cards o done s now front rest are here allowed h.vehicle w (cards-now o done s run out d front (c.args.action ∷ rest) are some w h.cards) time) in
-    let stays = c.carry_out.ensures.stays in
-    let after : Outcome = record told { breaks = c.cut.new.breaks } in
-    let is_after : after ≡ record told { breaks = with_lines (cut_at mid.next true c.args.begun ∷ []) told.breaks } = ap (λ (l : Listed Break). record told { breaks = l }) c.cut.ensures.breaks in
-    let log : with_cut (log_of told) s more ≡ log_of after =
-    ap (λ (n : ℕ). and_break (log_of told) (cut_at s.number true n)) many ∙ ap (λ (u : ℕ). and_break (log_of told) (cut_at u true c.args.begun)) (now.number ∙ sym stays.next) ∙ sym (ap log_of is_after) in
-    let lines = subst (λ (u : ℕ). TellsMoreOf u out.breaks.items told.breaks.items) (sym now.number) (done-of c.args.action (moment_of c.args.begun run) c.args.speed (is_err c.carry_out.result) run mid out told c.carry_out.ensures.done) in
-    let watched = done-watched c.args.action (moment_of c.args.begun run) c.args.speed (is_err c.carry_out.result) run mid out told c.carry_out.ensures.done in
-    let shown = cut-cards o done s (length front) run out d e w told more rest (are ∙ sym (append_assoc front (c.args.action ∷ []) rest)) (cut-later o done s (length front) run out d w told more lines rings.behind some) fails.within.moment.up_to.uncut cards in
-    in-carded_cut o done s c.cut.new.self after e c.args.begun (record {
-      ringed = ringed-cut o done s c.cut.new.self after e c.args.begun (ap (λ (q : Run). is_lit q.power) c.cut.ensures.run) r;
-      vehicle = ap (λ (q : Run). q.keeper.memory.registration) c.cut.ensures.run ∙ ap (λ m. m.registration) watched.memory ∙ h.vehicle;
-      cards = subst (λ (l : RunLog). CardsBehind o (done ++ s ∷ []) l e) log shown;
-    })
+returns-then-is_err-clause-cards g c = λ o done s now front rest are begun in_ time.
+    let at = (goal.at.returns-then-is_err-clause-cards g c).After-carry_out in
+    carded-lost g at o done s now front rest are (omega (arith, begun)) time (sym c.is_err.ensures.value ∙ c.if-is_err.true) c.cut.new.self (record c.carry_out.new.outcome { breaks = c.cut.new.breaks }) c.cut.ensures.run (ap (λ (l : Listed Break). record c.carry_out.new.outcome { breaks = l }) c.cut.ensures.breaks)
+    (carded-lit o done s (run g at) (out g at) (before g at) (length front) (ap is_lit c.requires.lit) in_)
 
 pub returns-else-is_err-clause-cards : goal.returns-else-is_err-clause-cards
-returns-else-is_err-clause-cards g c =
-    let allowed : refusal (logged c.args.run.now.keeper.cabin.slots.seats) c.args.speed c.args.action ≡ None = first_of (search rules, grind (arith, common_steps)) in
-    λ o done s now front rest are begun in_ time.
-    let run = c.args.run.now in
-    let out = c.args.outcome.now in
-    let mid : Run = c.carry_out.new.run in
-    let told : Outcome = c.carry_out.new.outcome in
-    let d : Devices = devices (g.M.Medium.state c.args.unit.now) (g.C.Chip.state c.args.card_a.now) (g.D.Chip.state c.args.card_b.now) in
-    let e : Devices = devices (g.M.Medium.state c.carry_out.new.unit) (g.C.Chip.state c.carry_out.new.card_a) (g.D.Chip.state c.carry_out.new.card_b) in
-    let well : is_err c.carry_out.result ≡ false = sym c.is_err.ensures.value ∙ c.if-is_err.false in
-    let here : c.args.begun ≡ suc (length front) = omega (arith, begun) in
-    let h = carded-lit o done s run out d (length front) (ap is_lit c.requires.lit) in_ in
-    let w = h.ringed.evented.within in
-    let low = c.requires.going.low in
-    let number = now.number in
-    let some : 0 < s.number = omega (arith, low, number) in
-    let more : List Action = front ++ c.args.action ∷ [] in
-    let many : length more ≡ c.args.begun = let long = length-append front (c.args.action ∷ []) in omega (arith, long, here) in
-    let r = returns-else-is_err-clause-ringed g c o done s now front rest are begun (in-ringed_lit o done s run out d (length front) h.ringed) time in
-    let goes = subst (λ (b : Bool). GoesOnOrFails b o done s (In c.args.begun) [] mid told e w.within.b) well (c.carry_out.ensures.recorded o done s now front rest are here allowed w time) in
-    let cards = subst (λ (b : Bool). CardsGoOn b o done s w.within.b.run.log more (log_of told) e) well
-    (c.carry_out.ensures.cards o done s now front rest are here allowed h.vehicle w (cards-now o done s run out d front (c.args.action ∷ rest) are some w h.cards) time) in
-    let watched = done-watched c.args.action (moment_of c.args.begun run) c.args.speed (is_err c.carry_out.result) run mid out told c.carry_out.ensures.done in
-    in-carded_lit o done s mid told e c.args.begun (record {
-      ringed = ringed-lit o done s mid told e c.args.begun (ap is_lit (c.carry_out.ensures.stays.power ∙ c.requires.lit)) r;
-      vehicle = ap (λ m. m.registration) watched.memory ∙ h.vehicle;
-      cards = cards-on o done s c.args.begun mid told e more rest w.within.b (are ∙ sym (append_assoc front (c.args.action ∷ []) rest)) many some goes cards;
-    })
+returns-else-is_err-clause-cards g c = λ o done s now front rest are begun in_ time.
+    let at = (goal.at.returns-else-is_err-clause-cards g c).After-carry_out in
+    carded-goes g at o done s now front rest are (omega (arith, begun)) time (sym c.is_err.ensures.value ∙ c.if-is_err.false) (carded-lit o done s (run g at) (out g at) (before g at) (length front) (ap is_lit c.requires.lit) in_)
 
 -- ---- where no tear of a failed call is told no card has broken down
 

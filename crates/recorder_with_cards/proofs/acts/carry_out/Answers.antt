@@ -1,4 +1,4 @@
-use Rattle.std.proofs.Common.{◌≡◌, ◌∙◌, ℕ, ◌/◌, false, [], None, refl, ap, sym, subst, arith}
+use Rattle.std.proofs.Common.{◌≡◌, ◌∙◌, ℕ, ◌/◌, false, [], None, refl, ap, sym, subst, arith, ◌*◌, ◌+◌, Option, length, ◌≤◌}
 use Rattle.std.specs.Prelude.{is_err}
 use Rattle.trace_model.specs.declared.Action.{Action}
 use Rattle.trace_model.specs.declared.Action.TheVariants.{Insert, Withdraw, Tear, Place}
@@ -41,7 +41,78 @@ use Rattle.run_acts.specs.RunCards.{CardsAction}
 use Rattle.recorder_with_cards.proofs.ActsCards.{selected-cards, pulled-cards}
 use Rattle.run_keeping.proofs.Calm.{calm-told, calm-same}
 use Rattle.recorder_with_cards.proofs.Uncut.{pulled-calm}
+use Rattle.trace_model.specs.declared.Card.{Card}
+use Rattle.run_outcome.specs.declared.outcome.TheConstants.{MOST_OWED}
+use Rattle.recorder_with_cards.proofs.acts.carry_out.Given.{Over}
+use Rattle.recorder_with_cards.proofs.acts.carry_out.Goals.{After-insert, After-note_place, After-pull, After-withdraw}
 use Rattle.recorder_with_cards.proofs.acts.carry_out.Goals as goal
+
+-- an action that was matched, at the moment that was taken
+moved : (P : Action → Moment → Type 0) (a b : Action) (m n : Moment) → a ≡ b → m ≡ n → P b m → P a n
+moved P a b m n is same h = subst (λ (x : Action). P x n) (sym is) (subst (P b) same h)
+
+module _ (g : Over) (c : After-insert g) where
+  abbrev before-insert : Devices
+  before-insert = devices (g.M.Medium.state c.args.unit.now) (g.C.Chip.state c.args.card_a.now) (g.D.Chip.state c.args.card_b.now)
+
+  abbrev behind-insert : Devices
+  behind-insert = devices (g.M.Medium.state c.insert.new.unit) (g.C.Chip.state c.insert.new.card_a) (g.D.Chip.state c.insert.new.card_b)
+
+  by-insert : (P : Action → Moment → Type 0) → P (Insert c.in-Insert.slot c.in-Insert.card) c.moment-at.result → P c.args.action (moment_of c.args.begun c.args.run.now)
+  by-insert P = moved P c.args.action (Insert c.in-Insert.slot c.in-Insert.card) c.moment-at.result (moment_of c.args.begun c.args.run.now) c.in-Insert.is c.moment-at.ensures
+
+  late-insert : c.moment-at.result.late ≡ false
+  late-insert = ap (λ (m : Moment). m.late) c.moment-at.ensures
+
+  room-insert : length c.args.outcome.now.marks.items + 3 * c.args.run.now.minutes.owing + MOST_OWED ≤ c.args.outcome.now.marks.room
+  room-insert = put-room c.args.run.now c.args.outcome.now (put_count c.args.action) 0 c.requires.lit (few-wait (c.args.run.now.next / 60) c.args.run.now (c.requires.going.lit (ap is_lit c.requires.lit))) c.requires.room
+
+module _ (g : Over) (c : After-withdraw g) where
+  abbrev before-withdraw : Devices
+  before-withdraw = devices (g.M.Medium.state c.args.unit.now) (g.C.Chip.state c.args.card_a.now) (g.D.Chip.state c.args.card_b.now)
+
+  abbrev behind-withdraw : Devices
+  behind-withdraw = devices (g.M.Medium.state c.withdraw.new.unit) (g.C.Chip.state c.withdraw.new.card_a) (g.D.Chip.state c.withdraw.new.card_b)
+
+  by-withdraw : (P : Action → Moment → Type 0) → P (Withdraw c.in-Withdraw.slot) c.moment-at.result → P c.args.action (moment_of c.args.begun c.args.run.now)
+  by-withdraw P = moved P c.args.action (Withdraw c.in-Withdraw.slot) c.moment-at.result (moment_of c.args.begun c.args.run.now) c.in-Withdraw.is c.moment-at.ensures
+
+  late-withdraw : c.moment-at.result.late ≡ false
+  late-withdraw = ap (λ (m : Moment). m.late) c.moment-at.ensures
+
+module _ (g : Over) (c : After-note_place g) where
+  abbrev before-place : Devices
+  before-place = devices (g.M.Medium.state c.args.unit.now) (g.C.Chip.state c.args.card_a.now) (g.D.Chip.state c.args.card_b.now)
+
+  abbrev behind-place : Devices
+  behind-place = devices (g.M.Medium.state c.note_place.new.unit) (g.C.Chip.state c.note_place.new.card_a) (g.D.Chip.state c.note_place.new.card_b)
+
+  by-place : (P : Action → Moment → Type 0) → P (Place c.in-Place.slot c.in-Place.ending c.in-Place.country c.in-Place.region) c.moment-at.result → P c.args.action (moment_of c.args.begun c.args.run.now)
+  by-place P = moved P c.args.action (Place c.in-Place.slot c.in-Place.ending c.in-Place.country c.in-Place.region) c.moment-at.result (moment_of c.args.begun c.args.run.now) c.in-Place.is c.moment-at.ensures
+
+  late-place : c.moment-at.result.late ≡ false
+  late-place = ap (λ (m : Moment). m.late) c.moment-at.ensures
+
+  -- the place that is entered
+  place-now : IsPlaceNow c.in-Place.ending c.in-Place.country c.in-Place.region c.args.run.now c.place-entry.result
+  place-now = let e = c.place-entry.ensures in record { time = e.time; kind = e.kind; country_is = e.where_to.0; region_is = e.where_to.1; odometer = e.odometer; most = e.most }
+
+-- a card that is pulled out
+module _ (g : Over) (c : After-pull g) where
+  abbrev torn : Devices
+  torn = devices (g.M.Medium.state c.args.unit.now) (g.C.Chip.state c.args.card_a.now) (g.D.Chip.state c.args.card_b.now)
+
+  abbrev torn_card : Option Card
+  torn_card = card_in (seat_in c.args.run.now.keeper.cabin.slots.seats c.in-Tear.slot)
+
+  by-tear : (P : Action → Run → Listed Break → Type 0) → P (Tear c.in-Tear.slot) (pulled_run torn_card c.args.run.now.next c.args.run.now) (with_lines (pulled_breaks torn_card c.in-Tear.slot (moment_of c.args.begun c.args.run.now)) c.args.outcome.now.breaks) →
+      P c.args.action c.pull.new.run c.pull.new.breaks
+  by-tear P h =
+      let told = c.pull.ensures.breaks ∙ ap (λ (m : Moment). with_lines (pulled_breaks torn_card c.in-Tear.slot m) c.args.outcome.now.breaks) c.moment-at.ensures in
+      let is = c.pull.ensures.run ∙ ap (λ (m : Moment). pulled_run torn_card m.second c.args.run.now) c.moment-at.ensures in
+      subst (λ (a : Action). P a c.pull.new.run c.pull.new.breaks) (sym c.in-Tear.is)
+      (subst (λ (r : Run). P (Tear c.in-Tear.slot) r c.pull.new.breaks) (sym is)
+      (subst (λ (l : Listed Break). P (Tear c.in-Tear.slot) (pulled_run torn_card c.args.run.now.next c.args.run.now) l) (sym told) h))
 
 pub insert-requires-clause-elsewhere : goal.insert-requires-clause-elsewhere
 insert-requires-clause-elsewhere g c =
@@ -102,18 +173,10 @@ returns-in-Select-clause-done g c =
     subst (λ (a : Action). IsDone a (moment_of c.args.begun run) c.args.speed false run (record run { minutes = c.select.new.self }) o o) (sym c.in-Select.is) (refl, (refl, c.select.ensures.picked), refl)
 
 pub returns-in-Insert-clause-done : goal.returns-in-Insert-clause-done
-returns-in-Insert-clause-done g c =
-    let run = c.args.run.now in
-    let o = c.args.outcome.now in
-    subst (λ (a : Action). IsDone a (moment_of c.args.begun run) c.args.speed (is_err c.insert.result) run c.insert.new.run o c.insert.new.outcome) (sym c.in-Insert.is)
-    (subst (λ (m : Moment). IsDone (Insert c.in-Insert.slot c.in-Insert.card) m c.args.speed (is_err c.insert.result) run c.insert.new.run o c.insert.new.outcome) c.moment-at.ensures c.insert.ensures.inserted)
+returns-in-Insert-clause-done g c = by-insert g c (λ a m. IsDone a m c.args.speed (is_err c.insert.result) c.args.run.now c.insert.new.run c.args.outcome.now c.insert.new.outcome) c.insert.ensures.inserted
 
 pub returns-in-Withdraw-clause-done : goal.returns-in-Withdraw-clause-done
-returns-in-Withdraw-clause-done g c =
-    let run = c.args.run.now in
-    let o = c.args.outcome.now in
-    subst (λ (a : Action). IsDone a (moment_of c.args.begun run) c.args.speed (is_err c.withdraw.result) run c.withdraw.new.run o c.withdraw.new.outcome) (sym c.in-Withdraw.is)
-    (subst (λ (m : Moment). IsDone (Withdraw c.in-Withdraw.slot) m c.args.speed (is_err c.withdraw.result) run c.withdraw.new.run o c.withdraw.new.outcome) c.moment-at.ensures c.withdraw.ensures.withdrawn)
+returns-in-Withdraw-clause-done g c = by-withdraw g c (λ a m. IsDone a m c.args.speed (is_err c.withdraw.result) c.args.run.now c.withdraw.new.run c.args.outcome.now c.withdraw.new.outcome) c.withdraw.ensures.withdrawn
 
 pub returns-in-Tear-clause-done : goal.returns-in-Tear-clause-done
 returns-in-Tear-clause-done g c =
@@ -124,13 +187,7 @@ returns-in-Tear-clause-done g c =
     (refl, c.pull.ensures.run, ap (λ (l : Listed Break). record o { breaks = l }) c.pull.ensures.breaks))
 
 pub returns-in-Place-clause-done : goal.returns-in-Place-clause-done
-returns-in-Place-clause-done g c =
-    let run = c.args.run.now in
-    let o = c.args.outcome.now in
-    let after : Outcome = record o { breaks = c.note_place.new.breaks } in
-    let placed = c.note_place.ensures.placed in
-    subst (λ (a : Action). IsDone a (moment_of c.args.begun run) c.args.speed (is_err c.note_place.result) run c.note_place.new.run o after) (sym c.in-Place.is)
-    (subst (λ (m : Moment). IsDone (Place c.in-Place.slot c.in-Place.ending c.in-Place.country c.in-Place.region) m c.args.speed (is_err c.note_place.result) run c.note_place.new.run o after) c.moment-at.ensures (placed.0, placed.1, refl))
+returns-in-Place-clause-done g c = by-place g c (λ a m. IsDone a m c.args.speed (is_err c.note_place.result) c.args.run.now c.note_place.new.run c.args.outcome.now (record c.args.outcome.now { breaks = c.note_place.new.breaks })) (c.note_place.ensures.placed.0, c.note_place.ensures.placed.1, refl)
 
 -- ---- which devices are called
 
@@ -161,62 +218,25 @@ returns-in-Select-clause-recorded g c = λ o done s now front rest are begun all
     (selected o done s c.args.speed run out d now front c.args.action rest are h c.in-Select.slot c.in-Select.pick c.in-Select.is allowed new (refl, c.select.ensures.picked))
 
 pub returns-in-Tear-clause-recorded : goal.returns-in-Tear-clause-recorded
-returns-in-Tear-clause-recorded g c =
-    let run = c.args.run.now in
-    let o = c.args.outcome.now in
-    let d : Devices = devices (g.M.Medium.state c.args.unit.now) (g.C.Chip.state c.args.card_a.now) (g.D.Chip.state c.args.card_b.now) in
-    let lit = c.requires.going.lit (ap is_lit c.requires.lit) in
-    let card = card_in (seat_in run.keeper.cabin.slots.seats c.in-Tear.slot) in
-    let told : c.pull.new.breaks ≡ with_lines (pulled_breaks card c.in-Tear.slot (moment_of c.args.begun run)) o.breaks = c.pull.ensures.breaks ∙ ap (λ (m : Moment). with_lines (pulled_breaks card c.in-Tear.slot m) o.breaks) c.moment-at.ensures in
-    let is : c.pull.new.run ≡ pulled_run card run.next run = c.pull.ensures.run ∙ ap (λ (m : Moment). pulled_run card m.second run) c.moment-at.ensures in
-    subst (λ (a : Action). RecordsAction a c.args.begun c.args.speed false run c.pull.new.run o (record o { breaks = c.pull.new.breaks }) d d) (sym c.in-Tear.is)
-    (subst (λ (r : Run). RecordsAction (Tear c.in-Tear.slot) c.args.begun c.args.speed false run r o (record o { breaks = c.pull.new.breaks }) d d) (sym is)
-    (subst (λ (l : Listed Break). RecordsAction (Tear c.in-Tear.slot) c.args.begun c.args.speed false run (pulled_run card run.next run) o (record o { breaks = l }) d d) (sym told)
-    (pulled-recorded d c.in-Tear.slot c.args.begun c.args.speed run o _ lit.cabin)))
+returns-in-Tear-clause-recorded g c = by-tear g c (λ a r l. RecordsAction a c.args.begun c.args.speed false c.args.run.now r c.args.outcome.now (record c.args.outcome.now { breaks = l }) (torn g c) (torn g c)) (pulled-recorded (torn g c) c.in-Tear.slot c.args.begun c.args.speed c.args.run.now c.args.outcome.now _ (c.requires.going.lit (ap is_lit c.requires.lit)).cabin)
 
 pub returns-in-Insert-clause-recorded : goal.returns-in-Insert-clause-recorded
-returns-in-Insert-clause-recorded g c =
-    let run = c.args.run.now in
-    let o = c.args.outcome.now in
-    let d : Devices = devices (g.M.Medium.state c.args.unit.now) (g.C.Chip.state c.args.card_a.now) (g.D.Chip.state c.args.card_b.now) in
-    let e : Devices = devices (g.M.Medium.state c.insert.new.unit) (g.C.Chip.state c.insert.new.card_a) (g.D.Chip.state c.insert.new.card_b) in
-    let late = ap (λ (m : Moment). m.late) c.moment-at.ensures in
-    let lit = c.requires.going.lit (ap is_lit c.requires.lit) in
-    let room = put-room run o (put_count c.args.action) 0 c.requires.lit (few-wait (run.next / 60) run lit) c.requires.room in
-    subst (λ (a : Action). RecordsAction a c.args.begun c.args.speed (is_err c.insert.result) run c.insert.new.run o c.insert.new.outcome d e) (sym c.in-Insert.is)
-    (subst (λ (n : ℕ). RecordsAction (Insert c.in-Insert.slot c.in-Insert.card) n c.args.speed (is_err c.insert.result) run c.insert.new.run o c.insert.new.outcome d e) (ap (λ (m : Moment). m.begun) c.moment-at.ensures)
-    (c.insert.ensures.recorded late room))
+returns-in-Insert-clause-recorded g c = by-insert g c (λ a m. RecordsAction a m.begun c.args.speed (is_err c.insert.result) c.args.run.now c.insert.new.run c.args.outcome.now c.insert.new.outcome (before-insert g c) (behind-insert g c)) (c.insert.ensures.recorded (late-insert g c) (room-insert g c))
 
 pub returns-in-Withdraw-clause-recorded : goal.returns-in-Withdraw-clause-recorded
-returns-in-Withdraw-clause-recorded g c =
-    let run = c.args.run.now in
-    let o = c.args.outcome.now in
-    let d : Devices = devices (g.M.Medium.state c.args.unit.now) (g.C.Chip.state c.args.card_a.now) (g.D.Chip.state c.args.card_b.now) in
-    let e : Devices = devices (g.M.Medium.state c.withdraw.new.unit) (g.C.Chip.state c.withdraw.new.card_a) (g.D.Chip.state c.withdraw.new.card_b) in
-    let late = ap (λ (m : Moment). m.late) c.moment-at.ensures in
-    subst (λ (a : Action). RecordsAction a c.args.begun c.args.speed (is_err c.withdraw.result) run c.withdraw.new.run o c.withdraw.new.outcome d e) (sym c.in-Withdraw.is)
-    (subst (λ (n : ℕ). RecordsAction (Withdraw c.in-Withdraw.slot) n c.args.speed (is_err c.withdraw.result) run c.withdraw.new.run o c.withdraw.new.outcome d e) (ap (λ (m : Moment). m.begun) c.moment-at.ensures)
-    (c.withdraw.ensures.recorded late c.args.speed))
+returns-in-Withdraw-clause-recorded g c = by-withdraw g c (λ a m. RecordsAction a m.begun c.args.speed (is_err c.withdraw.result) c.args.run.now c.withdraw.new.run c.args.outcome.now c.withdraw.new.outcome (before-withdraw g c) (behind-withdraw g c)) (c.withdraw.ensures.recorded (late-withdraw g c) c.args.speed)
 
 pub returns-in-Place-clause-recorded : goal.returns-in-Place-clause-recorded
-returns-in-Place-clause-recorded g c =
-    let run = c.args.run.now in
-    let o = c.args.outcome.now in
-    let d : Devices = devices (g.M.Medium.state c.args.unit.now) (g.C.Chip.state c.args.card_a.now) (g.D.Chip.state c.args.card_b.now) in
-    let e : Devices = devices (g.M.Medium.state c.note_place.new.unit) (g.C.Chip.state c.note_place.new.card_a) (g.D.Chip.state c.note_place.new.card_b) in
-    let late = ap (λ (m : Moment). m.late) c.moment-at.ensures in
-    subst (λ (a : Action). RecordsAction a c.args.begun c.args.speed (is_err c.note_place.result) run c.note_place.new.run o (record o { breaks = c.note_place.new.breaks }) d e) (sym c.in-Place.is)
-    (subst (λ (n : ℕ). RecordsAction (Place c.in-Place.slot c.in-Place.ending c.in-Place.country c.in-Place.region) n c.args.speed (is_err c.note_place.result) run c.note_place.new.run o (record o { breaks = c.note_place.new.breaks }) d e) (ap (λ (m : Moment). m.begun) c.moment-at.ensures)
-    (c.note_place.ensures.recorded late c.in-Place.ending c.in-Place.country c.in-Place.region c.args.speed o refl))
+returns-in-Place-clause-recorded g c = by-place g c (λ a m. RecordsAction a m.begun c.args.speed (is_err c.note_place.result) c.args.run.now c.note_place.new.run c.args.outcome.now (record c.args.outcome.now { breaks = c.note_place.new.breaks }) (before-place g c) (behind-place g c)) (c.note_place.ensures.recorded (late-place g c) c.in-Place.ending c.in-Place.country c.in-Place.region c.args.speed c.args.outcome.now refl)
 
 pub returns-in-Insert-clause-time : goal.returns-in-Insert-clause-time
-returns-in-Insert-clause-time g c = time-before (devices (g.M.Medium.state c.args.unit.now) (g.C.Chip.state c.args.card_a.now) (g.D.Chip.state c.args.card_b.now)) (devices (g.M.Medium.state c.insert.new.unit) (g.C.Chip.state c.insert.new.card_a) (g.D.Chip.state c.insert.new.card_b)) c.insert.ensures.clock c.insert.ensures.clock_a c.insert.ensures.clock_b
+returns-in-Insert-clause-time g c = time-before (before-insert g c) (behind-insert g c) c.insert.ensures.clock c.insert.ensures.clock_a c.insert.ensures.clock_b
 
 pub returns-in-Withdraw-clause-time : goal.returns-in-Withdraw-clause-time
-returns-in-Withdraw-clause-time g c = time-before (devices (g.M.Medium.state c.args.unit.now) (g.C.Chip.state c.args.card_a.now) (g.D.Chip.state c.args.card_b.now)) (devices (g.M.Medium.state c.withdraw.new.unit) (g.C.Chip.state c.withdraw.new.card_a) (g.D.Chip.state c.withdraw.new.card_b)) c.withdraw.ensures.clock c.withdraw.ensures.clock_a c.withdraw.ensures.clock_b
+returns-in-Withdraw-clause-time g c = time-before (before-withdraw g c) (behind-withdraw g c) c.withdraw.ensures.clock c.withdraw.ensures.clock_a c.withdraw.ensures.clock_b
 
 pub returns-in-Place-clause-time : goal.returns-in-Place-clause-time
-returns-in-Place-clause-time g c = time-before (devices (g.M.Medium.state c.args.unit.now) (g.C.Chip.state c.args.card_a.now) (g.D.Chip.state c.args.card_b.now)) (devices (g.M.Medium.state c.note_place.new.unit) (g.C.Chip.state c.note_place.new.card_a) (g.D.Chip.state c.note_place.new.card_b)) c.note_place.ensures.clock c.note_place.ensures.clock_a c.note_place.ensures.clock_b
+returns-in-Place-clause-time g c = time-before (before-place g c) (behind-place g c) c.note_place.ensures.clock c.note_place.ensures.clock_a c.note_place.ensures.clock_b
 
 pub returns-in-Select-clause-time : goal.returns-in-Select-clause-time
 returns-in-Select-clause-time g c = λ h. h
@@ -245,52 +265,16 @@ pub returns-in-Select-clause-evented : goal.returns-in-Select-clause-evented
 returns-in-Select-clause-evented g c = λ o done s now front rest are begun allowed h events time. events
 
 pub returns-in-Tear-clause-evented : goal.returns-in-Tear-clause-evented
-returns-in-Tear-clause-evented g c =
-    let run = c.args.run.now in
-    let o = c.args.outcome.now in
-    let d : Devices = devices (g.M.Medium.state c.args.unit.now) (g.C.Chip.state c.args.card_a.now) (g.D.Chip.state c.args.card_b.now) in
-    let card = card_in (seat_in run.keeper.cabin.slots.seats c.in-Tear.slot) in
-    let told : c.pull.new.breaks ≡ with_lines (pulled_breaks card c.in-Tear.slot (moment_of c.args.begun run)) o.breaks = c.pull.ensures.breaks ∙ ap (λ (m : Moment). with_lines (pulled_breaks card c.in-Tear.slot m) o.breaks) c.moment-at.ensures in
-    let is : c.pull.new.run ≡ pulled_run card run.next run = c.pull.ensures.run ∙ ap (λ (m : Moment). pulled_run card m.second run) c.moment-at.ensures in
-    subst (λ (a : Action). EventsAction a c.args.begun c.args.speed false run c.pull.new.run o (record o { breaks = c.pull.new.breaks }) d d) (sym c.in-Tear.is)
-    (subst (λ (r : Run). EventsAction (Tear c.in-Tear.slot) c.args.begun c.args.speed false run r o (record o { breaks = c.pull.new.breaks }) d d) (sym is)
-    (subst (λ (l : Listed Break). EventsAction (Tear c.in-Tear.slot) c.args.begun c.args.speed false run (pulled_run card run.next run) o (record o { breaks = l }) d d) (sym told)
-    (pulled-evented d c.in-Tear.slot c.args.begun c.args.speed run o)))
+returns-in-Tear-clause-evented g c = by-tear g c (λ a r l. EventsAction a c.args.begun c.args.speed false c.args.run.now r c.args.outcome.now (record c.args.outcome.now { breaks = l }) (torn g c) (torn g c)) (pulled-evented (torn g c) c.in-Tear.slot c.args.begun c.args.speed c.args.run.now c.args.outcome.now)
 
 pub returns-in-Insert-clause-evented : goal.returns-in-Insert-clause-evented
-returns-in-Insert-clause-evented g c =
-    let run = c.args.run.now in
-    let o = c.args.outcome.now in
-    let d : Devices = devices (g.M.Medium.state c.args.unit.now) (g.C.Chip.state c.args.card_a.now) (g.D.Chip.state c.args.card_b.now) in
-    let e : Devices = devices (g.M.Medium.state c.insert.new.unit) (g.C.Chip.state c.insert.new.card_a) (g.D.Chip.state c.insert.new.card_b) in
-    let late = ap (λ (m : Moment). m.late) c.moment-at.ensures in
-    let lit = c.requires.going.lit (ap is_lit c.requires.lit) in
-    let room = put-room run o (put_count c.args.action) 0 c.requires.lit (few-wait (run.next / 60) run lit) c.requires.room in
-    subst (λ (a : Action). EventsAction a c.args.begun c.args.speed (is_err c.insert.result) run c.insert.new.run o c.insert.new.outcome d e) (sym c.in-Insert.is)
-    (subst (λ (n : ℕ). EventsAction (Insert c.in-Insert.slot c.in-Insert.card) n c.args.speed (is_err c.insert.result) run c.insert.new.run o c.insert.new.outcome d e) (ap (λ (m : Moment). m.begun) c.moment-at.ensures)
-    (c.insert.ensures.evented late room))
+returns-in-Insert-clause-evented g c = by-insert g c (λ a m. EventsAction a m.begun c.args.speed (is_err c.insert.result) c.args.run.now c.insert.new.run c.args.outcome.now c.insert.new.outcome (before-insert g c) (behind-insert g c)) (c.insert.ensures.evented (late-insert g c) (room-insert g c))
 
 pub returns-in-Withdraw-clause-evented : goal.returns-in-Withdraw-clause-evented
-returns-in-Withdraw-clause-evented g c =
-    let run = c.args.run.now in
-    let o = c.args.outcome.now in
-    let d : Devices = devices (g.M.Medium.state c.args.unit.now) (g.C.Chip.state c.args.card_a.now) (g.D.Chip.state c.args.card_b.now) in
-    let e : Devices = devices (g.M.Medium.state c.withdraw.new.unit) (g.C.Chip.state c.withdraw.new.card_a) (g.D.Chip.state c.withdraw.new.card_b) in
-    let late = ap (λ (m : Moment). m.late) c.moment-at.ensures in
-    subst (λ (a : Action). EventsAction a c.args.begun c.args.speed (is_err c.withdraw.result) run c.withdraw.new.run o c.withdraw.new.outcome d e) (sym c.in-Withdraw.is)
-    (subst (λ (n : ℕ). EventsAction (Withdraw c.in-Withdraw.slot) n c.args.speed (is_err c.withdraw.result) run c.withdraw.new.run o c.withdraw.new.outcome d e) (ap (λ (m : Moment). m.begun) c.moment-at.ensures)
-    (c.withdraw.ensures.evented late c.args.speed))
+returns-in-Withdraw-clause-evented g c = by-withdraw g c (λ a m. EventsAction a m.begun c.args.speed (is_err c.withdraw.result) c.args.run.now c.withdraw.new.run c.args.outcome.now c.withdraw.new.outcome (before-withdraw g c) (behind-withdraw g c)) (c.withdraw.ensures.evented (late-withdraw g c) c.args.speed)
 
 pub returns-in-Place-clause-evented : goal.returns-in-Place-clause-evented
-returns-in-Place-clause-evented g c =
-    let run = c.args.run.now in
-    let o = c.args.outcome.now in
-    let d : Devices = devices (g.M.Medium.state c.args.unit.now) (g.C.Chip.state c.args.card_a.now) (g.D.Chip.state c.args.card_b.now) in
-    let e : Devices = devices (g.M.Medium.state c.note_place.new.unit) (g.C.Chip.state c.note_place.new.card_a) (g.D.Chip.state c.note_place.new.card_b) in
-    let late = ap (λ (m : Moment). m.late) c.moment-at.ensures in
-    subst (λ (a : Action). EventsAction a c.args.begun c.args.speed (is_err c.note_place.result) run c.note_place.new.run o (record o { breaks = c.note_place.new.breaks }) d e) (sym c.in-Place.is)
-    (subst (λ (n : ℕ). EventsAction (Place c.in-Place.slot c.in-Place.ending c.in-Place.country c.in-Place.region) n c.args.speed (is_err c.note_place.result) run c.note_place.new.run o (record o { breaks = c.note_place.new.breaks }) d e) (ap (λ (m : Moment). m.begun) c.moment-at.ensures)
-    (c.note_place.ensures.evented late c.in-Place.ending c.in-Place.country c.in-Place.region c.args.speed o refl))
+returns-in-Place-clause-evented g c = by-place g c (λ a m. EventsAction a m.begun c.args.speed (is_err c.note_place.result) c.args.run.now c.note_place.new.run c.args.outcome.now (record c.args.outcome.now { breaks = c.note_place.new.breaks }) (before-place g c) (behind-place g c)) (c.note_place.ensures.evented (late-place g c) c.in-Place.ending c.in-Place.country c.in-Place.region c.args.speed c.args.outcome.now refl)
 
 -- ---- and the rings with it
 
@@ -303,54 +287,17 @@ returns-in-Select-clause-ringed g c =
     (selected-ringed d c.in-Select.slot c.in-Select.pick c.args.begun c.args.speed run c.select.new.self o)
 
 pub returns-in-Tear-clause-ringed : goal.returns-in-Tear-clause-ringed
-returns-in-Tear-clause-ringed g c =
-    let run = c.args.run.now in
-    let o = c.args.outcome.now in
-    let d : Devices = devices (g.M.Medium.state c.args.unit.now) (g.C.Chip.state c.args.card_a.now) (g.D.Chip.state c.args.card_b.now) in
-    let card = card_in (seat_in run.keeper.cabin.slots.seats c.in-Tear.slot) in
-    let told : c.pull.new.breaks ≡ with_lines (pulled_breaks card c.in-Tear.slot (moment_of c.args.begun run)) o.breaks = c.pull.ensures.breaks ∙ ap (λ (m : Moment). with_lines (pulled_breaks card c.in-Tear.slot m) o.breaks) c.moment-at.ensures in
-    let is : c.pull.new.run ≡ pulled_run card run.next run = c.pull.ensures.run ∙ ap (λ (m : Moment). pulled_run card m.second run) c.moment-at.ensures in
-    subst (λ (a : Action). RingsAction a c.args.begun c.args.speed false run c.pull.new.run o (record o { breaks = c.pull.new.breaks }) d d) (sym c.in-Tear.is)
-    (subst (λ (r : Run). RingsAction (Tear c.in-Tear.slot) c.args.begun c.args.speed false run r o (record o { breaks = c.pull.new.breaks }) d d) (sym is)
-    (subst (λ (l : Listed Break). RingsAction (Tear c.in-Tear.slot) c.args.begun c.args.speed false run (pulled_run card run.next run) o (record o { breaks = l }) d d) (sym told)
-    (pulled-ringed d c.in-Tear.slot c.args.begun c.args.speed run o)))
+returns-in-Tear-clause-ringed g c = by-tear g c (λ a r l. RingsAction a c.args.begun c.args.speed false c.args.run.now r c.args.outcome.now (record c.args.outcome.now { breaks = l }) (torn g c) (torn g c)) (pulled-ringed (torn g c) c.in-Tear.slot c.args.begun c.args.speed c.args.run.now c.args.outcome.now)
 
 pub returns-in-Insert-clause-ringed : goal.returns-in-Insert-clause-ringed
-returns-in-Insert-clause-ringed g c =
-    let run = c.args.run.now in
-    let o = c.args.outcome.now in
-    let d : Devices = devices (g.M.Medium.state c.args.unit.now) (g.C.Chip.state c.args.card_a.now) (g.D.Chip.state c.args.card_b.now) in
-    let e : Devices = devices (g.M.Medium.state c.insert.new.unit) (g.C.Chip.state c.insert.new.card_a) (g.D.Chip.state c.insert.new.card_b) in
-    let late = ap (λ (m : Moment). m.late) c.moment-at.ensures in
-    let lit = c.requires.going.lit (ap is_lit c.requires.lit) in
-    let room = put-room run o (put_count c.args.action) 0 c.requires.lit (few-wait (run.next / 60) run lit) c.requires.room in
-    subst (λ (a : Action). RingsAction a c.args.begun c.args.speed (is_err c.insert.result) run c.insert.new.run o c.insert.new.outcome d e) (sym c.in-Insert.is)
-    (subst (λ (n : ℕ). RingsAction (Insert c.in-Insert.slot c.in-Insert.card) n c.args.speed (is_err c.insert.result) run c.insert.new.run o c.insert.new.outcome d e) (ap (λ (m : Moment). m.begun) c.moment-at.ensures)
-    (c.insert.ensures.ringed late room))
+returns-in-Insert-clause-ringed g c = by-insert g c (λ a m. RingsAction a m.begun c.args.speed (is_err c.insert.result) c.args.run.now c.insert.new.run c.args.outcome.now c.insert.new.outcome (before-insert g c) (behind-insert g c)) (c.insert.ensures.ringed (late-insert g c) (room-insert g c))
 
 pub returns-in-Withdraw-clause-ringed : goal.returns-in-Withdraw-clause-ringed
-returns-in-Withdraw-clause-ringed g c =
-    let run = c.args.run.now in
-    let o = c.args.outcome.now in
-    let d : Devices = devices (g.M.Medium.state c.args.unit.now) (g.C.Chip.state c.args.card_a.now) (g.D.Chip.state c.args.card_b.now) in
-    let e : Devices = devices (g.M.Medium.state c.withdraw.new.unit) (g.C.Chip.state c.withdraw.new.card_a) (g.D.Chip.state c.withdraw.new.card_b) in
-    let late = ap (λ (m : Moment). m.late) c.moment-at.ensures in
-    subst (λ (a : Action). RingsAction a c.args.begun c.args.speed (is_err c.withdraw.result) run c.withdraw.new.run o c.withdraw.new.outcome d e) (sym c.in-Withdraw.is)
-    (subst (λ (n : ℕ). RingsAction (Withdraw c.in-Withdraw.slot) n c.args.speed (is_err c.withdraw.result) run c.withdraw.new.run o c.withdraw.new.outcome d e) (ap (λ (m : Moment). m.begun) c.moment-at.ensures)
-    (c.withdraw.ensures.ringed late c.args.speed))
+returns-in-Withdraw-clause-ringed g c = by-withdraw g c (λ a m. RingsAction a m.begun c.args.speed (is_err c.withdraw.result) c.args.run.now c.withdraw.new.run c.args.outcome.now c.withdraw.new.outcome (before-withdraw g c) (behind-withdraw g c)) (c.withdraw.ensures.ringed (late-withdraw g c) c.args.speed)
 
 pub returns-in-Place-clause-ringed : goal.returns-in-Place-clause-ringed
-returns-in-Place-clause-ringed g c =
-    let run = c.args.run.now in
-    let o = c.args.outcome.now in
-    let d : Devices = devices (g.M.Medium.state c.args.unit.now) (g.C.Chip.state c.args.card_a.now) (g.D.Chip.state c.args.card_b.now) in
-    let e : Devices = devices (g.M.Medium.state c.note_place.new.unit) (g.C.Chip.state c.note_place.new.card_a) (g.D.Chip.state c.note_place.new.card_b) in
-    let late = ap (λ (m : Moment). m.late) c.moment-at.ensures in
-    let entry = c.place-entry.ensures in
-    let now : IsPlaceNow c.in-Place.ending c.in-Place.country c.in-Place.region run c.place-entry.result = record { time = entry.time; kind = entry.kind; country_is = entry.where_to.0; region_is = entry.where_to.1; odometer = entry.odometer; most = entry.most } in
-    subst (λ (a : Action). RingsAction a c.args.begun c.args.speed (is_err c.note_place.result) run c.note_place.new.run o (record o { breaks = c.note_place.new.breaks }) d e) (sym c.in-Place.is)
-    (subst (λ (n : ℕ). RingsAction (Place c.in-Place.slot c.in-Place.ending c.in-Place.country c.in-Place.region) n c.args.speed (is_err c.note_place.result) run c.note_place.new.run o (record o { breaks = c.note_place.new.breaks }) d e) (ap (λ (m : Moment). m.begun) c.moment-at.ensures)
-    (c.note_place.ensures.ringed c.in-Place.ending c.in-Place.country c.in-Place.region now late c.args.speed o refl))
+returns-in-Place-clause-ringed g c = by-place g c (λ a m. RingsAction a m.begun c.args.speed (is_err c.note_place.result) c.args.run.now c.note_place.new.run c.args.outcome.now (record c.args.outcome.now { breaks = c.note_place.new.breaks }) (before-place g c) (behind-place g c))
+    (c.note_place.ensures.ringed c.in-Place.ending c.in-Place.country c.in-Place.region (place-now g c) (late-place g c) c.args.speed c.args.outcome.now refl)
 
 -- ---- what the rings get
 
@@ -369,36 +316,15 @@ returns-in-Tear-clause-rings g c = λ tells.
     subst (λ (a : Action). RingsDone a (moment_of c.args.begun run) c.args.speed false run c.pull.new.run o (record o { breaks = c.pull.new.breaks }) U U) (sym c.in-Tear.is) (rings-left U)
 
 pub returns-in-Insert-clause-rings : goal.returns-in-Insert-clause-rings
-returns-in-Insert-clause-rings g c = λ tells.
-    let run = c.args.run.now in
-    let o = c.args.outcome.now in
-    let U = g.M.Medium.state c.args.unit.now in
-    let V = g.M.Medium.state c.insert.new.unit in
-    subst (λ (a : Action). RingsDone a (moment_of c.args.begun run) c.args.speed (is_err c.insert.result) run c.insert.new.run o c.insert.new.outcome U V) (sym c.in-Insert.is)
-    (subst (λ (m : Moment). RingsDone (Insert c.in-Insert.slot c.in-Insert.card) m c.args.speed (is_err c.insert.result) run c.insert.new.run o c.insert.new.outcome U V) c.moment-at.ensures (c.insert.ensures.rings tells))
+returns-in-Insert-clause-rings g c = λ tells. by-insert g c (λ a m. RingsDone a m c.args.speed (is_err c.insert.result) c.args.run.now c.insert.new.run c.args.outcome.now c.insert.new.outcome (g.M.Medium.state c.args.unit.now) (g.M.Medium.state c.insert.new.unit)) (c.insert.ensures.rings tells)
 
 pub returns-in-Withdraw-clause-rings : goal.returns-in-Withdraw-clause-rings
-returns-in-Withdraw-clause-rings g c = λ tells.
-    let run = c.args.run.now in
-    let o = c.args.outcome.now in
-    let U = g.M.Medium.state c.args.unit.now in
-    let V = g.M.Medium.state c.withdraw.new.unit in
-    subst (λ (a : Action). RingsDone a (moment_of c.args.begun run) c.args.speed (is_err c.withdraw.result) run c.withdraw.new.run o c.withdraw.new.outcome U V) (sym c.in-Withdraw.is)
-    (subst (λ (m : Moment). RingsDone (Withdraw c.in-Withdraw.slot) m c.args.speed (is_err c.withdraw.result) run c.withdraw.new.run o c.withdraw.new.outcome U V) c.moment-at.ensures (c.withdraw.ensures.rings tells))
+returns-in-Withdraw-clause-rings g c = λ tells. by-withdraw g c (λ a m. RingsDone a m c.args.speed (is_err c.withdraw.result) c.args.run.now c.withdraw.new.run c.args.outcome.now c.withdraw.new.outcome (g.M.Medium.state c.args.unit.now) (g.M.Medium.state c.withdraw.new.unit)) (c.withdraw.ensures.rings tells)
 
 pub returns-in-Place-clause-rings : goal.returns-in-Place-clause-rings
 returns-in-Place-clause-rings g c = λ tells.
-    let run = c.args.run.now in
-    let o = c.args.outcome.now in
-    let U = g.M.Medium.state c.args.unit.now in
-    let V = g.M.Medium.state c.note_place.new.unit in
-    let after : Outcome = record o { breaks = c.note_place.new.breaks } in
-    let e = c.place-entry.ensures in
-    subst (λ (a : Action). RingsDone a (moment_of c.args.begun run) c.args.speed (is_err c.note_place.result) run c.note_place.new.run o after U V) (sym c.in-Place.is) (
-      c.place-entry.result,
-      record { time = e.time; kind = e.kind; country_is = e.where_to.0; region_is = e.where_to.1; odometer = e.odometer; most = e.most },
-      c.note_place.ensures.rings tells,
-    )
+    subst (λ (a : Action). RingsDone a (moment_of c.args.begun c.args.run.now) c.args.speed (is_err c.note_place.result) c.args.run.now c.note_place.new.run c.args.outcome.now (record c.args.outcome.now { breaks = c.note_place.new.breaks }) (g.M.Medium.state c.args.unit.now) (g.M.Medium.state c.note_place.new.unit))
+    (sym c.in-Place.is) (c.place-entry.result, place-now g c, c.note_place.ensures.rings tells)
 
 -- ---- what is noted on the unit
 
@@ -419,32 +345,13 @@ returns-in-Tear-clause-events g c =
     (same-noted (g.M.Medium.state c.args.unit.now) (g.C.Chip.state c.args.card_a.now) (g.D.Chip.state c.args.card_b.now))
 
 pub returns-in-Insert-clause-events : goal.returns-in-Insert-clause-events
-returns-in-Insert-clause-events g c =
-    let run = c.args.run.now in
-    let o = c.args.outcome.now in
-    let d = devices (g.M.Medium.state c.args.unit.now) (g.C.Chip.state c.args.card_a.now) (g.D.Chip.state c.args.card_b.now) in
-    let e = devices (g.M.Medium.state c.insert.new.unit) (g.C.Chip.state c.insert.new.card_a) (g.D.Chip.state c.insert.new.card_b) in
-    subst (λ (a : Action). NotesDone a (moment_of c.args.begun run) c.args.speed (is_err c.insert.result) run c.insert.new.run o c.insert.new.outcome d e) (sym c.in-Insert.is)
-    (subst (λ (m : Moment). NotesDone (Insert c.in-Insert.slot c.in-Insert.card) m c.args.speed (is_err c.insert.result) run c.insert.new.run o c.insert.new.outcome d e) c.moment-at.ensures c.insert.ensures.noted)
+returns-in-Insert-clause-events g c = by-insert g c (λ a m. NotesDone a m c.args.speed (is_err c.insert.result) c.args.run.now c.insert.new.run c.args.outcome.now c.insert.new.outcome (before-insert g c) (behind-insert g c)) c.insert.ensures.noted
 
 pub returns-in-Withdraw-clause-events : goal.returns-in-Withdraw-clause-events
-returns-in-Withdraw-clause-events g c =
-    let run = c.args.run.now in
-    let o = c.args.outcome.now in
-    let d = devices (g.M.Medium.state c.args.unit.now) (g.C.Chip.state c.args.card_a.now) (g.D.Chip.state c.args.card_b.now) in
-    let e = devices (g.M.Medium.state c.withdraw.new.unit) (g.C.Chip.state c.withdraw.new.card_a) (g.D.Chip.state c.withdraw.new.card_b) in
-    subst (λ (a : Action). NotesDone a (moment_of c.args.begun run) c.args.speed (is_err c.withdraw.result) run c.withdraw.new.run o c.withdraw.new.outcome d e) (sym c.in-Withdraw.is)
-    (subst (λ (m : Moment). NotesDone (Withdraw c.in-Withdraw.slot) m c.args.speed (is_err c.withdraw.result) run c.withdraw.new.run o c.withdraw.new.outcome d e) c.moment-at.ensures c.withdraw.ensures.events)
+returns-in-Withdraw-clause-events g c = by-withdraw g c (λ a m. NotesDone a m c.args.speed (is_err c.withdraw.result) c.args.run.now c.withdraw.new.run c.args.outcome.now c.withdraw.new.outcome (before-withdraw g c) (behind-withdraw g c)) c.withdraw.ensures.events
 
 pub returns-in-Place-clause-events : goal.returns-in-Place-clause-events
-returns-in-Place-clause-events g c =
-    let run = c.args.run.now in
-    let o = c.args.outcome.now in
-    let after : Outcome = record o { breaks = c.note_place.new.breaks } in
-    let d = devices (g.M.Medium.state c.args.unit.now) (g.C.Chip.state c.args.card_a.now) (g.D.Chip.state c.args.card_b.now) in
-    let e = devices (g.M.Medium.state c.note_place.new.unit) (g.C.Chip.state c.note_place.new.card_a) (g.D.Chip.state c.note_place.new.card_b) in
-    subst (λ (a : Action). NotesDone a (moment_of c.args.begun run) c.args.speed (is_err c.note_place.result) run c.note_place.new.run o after d e) (sym c.in-Place.is)
-    (subst (λ (m : Moment). NotesDone (Place c.in-Place.slot c.in-Place.ending c.in-Place.country c.in-Place.region) m c.args.speed (is_err c.note_place.result) run c.note_place.new.run o after d e) c.moment-at.ensures c.note_place.ensures.events)
+returns-in-Place-clause-events g c = by-place g c (λ a m. NotesDone a m c.args.speed (is_err c.note_place.result) c.args.run.now c.note_place.new.run c.args.outcome.now (record c.args.outcome.now { breaks = c.note_place.new.breaks }) (before-place g c) (behind-place g c)) c.note_place.ensures.events
 
 -- ---- what the cards show
 
@@ -456,50 +363,16 @@ returns-in-Select-clause-cards g c =
     subst (λ (a : Action). CardsAction a c.args.begun c.args.speed false run o o d d) (sym c.in-Select.is) (selected-cards d c.in-Select.slot c.in-Select.pick c.args.begun c.args.speed run o)
 
 pub returns-in-Tear-clause-cards : goal.returns-in-Tear-clause-cards
-returns-in-Tear-clause-cards g c =
-    let run = c.args.run.now in
-    let o = c.args.outcome.now in
-    let d : Devices = devices (g.M.Medium.state c.args.unit.now) (g.C.Chip.state c.args.card_a.now) (g.D.Chip.state c.args.card_b.now) in
-    let card = card_in (seat_in run.keeper.cabin.slots.seats c.in-Tear.slot) in
-    let told : c.pull.new.breaks ≡ with_lines (pulled_breaks card c.in-Tear.slot (moment_of c.args.begun run)) o.breaks = c.pull.ensures.breaks ∙ ap (λ (m : Moment). with_lines (pulled_breaks card c.in-Tear.slot m) o.breaks) c.moment-at.ensures in
-    subst (λ (a : Action). CardsAction a c.args.begun c.args.speed false run o (record o { breaks = c.pull.new.breaks }) d d) (sym c.in-Tear.is)
-    (subst (λ (l : Listed Break). CardsAction (Tear c.in-Tear.slot) c.args.begun c.args.speed false run o (record o { breaks = l }) d d) (sym told)
-    (pulled-cards d c.in-Tear.slot c.args.begun c.args.speed run o))
+returns-in-Tear-clause-cards g c = by-tear g c (λ a r l. CardsAction a c.args.begun c.args.speed false c.args.run.now c.args.outcome.now (record c.args.outcome.now { breaks = l }) (torn g c) (torn g c)) (pulled-cards (torn g c) c.in-Tear.slot c.args.begun c.args.speed c.args.run.now c.args.outcome.now)
 
 pub returns-in-Insert-clause-cards : goal.returns-in-Insert-clause-cards
-returns-in-Insert-clause-cards g c =
-    let run = c.args.run.now in
-    let o = c.args.outcome.now in
-    let d : Devices = devices (g.M.Medium.state c.args.unit.now) (g.C.Chip.state c.args.card_a.now) (g.D.Chip.state c.args.card_b.now) in
-    let e : Devices = devices (g.M.Medium.state c.insert.new.unit) (g.C.Chip.state c.insert.new.card_a) (g.D.Chip.state c.insert.new.card_b) in
-    let late = ap (λ (m : Moment). m.late) c.moment-at.ensures in
-    let lit = c.requires.going.lit (ap is_lit c.requires.lit) in
-    let room = put-room run o (put_count c.args.action) 0 c.requires.lit (few-wait (run.next / 60) run lit) c.requires.room in
-    subst (λ (a : Action). CardsAction a c.args.begun c.args.speed (is_err c.insert.result) run o c.insert.new.outcome d e) (sym c.in-Insert.is)
-    (subst (λ (n : ℕ). CardsAction (Insert c.in-Insert.slot c.in-Insert.card) n c.args.speed (is_err c.insert.result) run o c.insert.new.outcome d e) (ap (λ (m : Moment). m.begun) c.moment-at.ensures)
-    (c.insert.ensures.cards late room))
+returns-in-Insert-clause-cards g c = by-insert g c (λ a m. CardsAction a m.begun c.args.speed (is_err c.insert.result) c.args.run.now c.args.outcome.now c.insert.new.outcome (before-insert g c) (behind-insert g c)) (c.insert.ensures.cards (late-insert g c) (room-insert g c))
 
 pub returns-in-Withdraw-clause-cards : goal.returns-in-Withdraw-clause-cards
-returns-in-Withdraw-clause-cards g c =
-    let run = c.args.run.now in
-    let o = c.args.outcome.now in
-    let d : Devices = devices (g.M.Medium.state c.args.unit.now) (g.C.Chip.state c.args.card_a.now) (g.D.Chip.state c.args.card_b.now) in
-    let e : Devices = devices (g.M.Medium.state c.withdraw.new.unit) (g.C.Chip.state c.withdraw.new.card_a) (g.D.Chip.state c.withdraw.new.card_b) in
-    let late = ap (λ (m : Moment). m.late) c.moment-at.ensures in
-    subst (λ (a : Action). CardsAction a c.args.begun c.args.speed (is_err c.withdraw.result) run o c.withdraw.new.outcome d e) (sym c.in-Withdraw.is)
-    (subst (λ (n : ℕ). CardsAction (Withdraw c.in-Withdraw.slot) n c.args.speed (is_err c.withdraw.result) run o c.withdraw.new.outcome d e) (ap (λ (m : Moment). m.begun) c.moment-at.ensures)
-    (c.withdraw.ensures.cards late c.args.speed))
+returns-in-Withdraw-clause-cards g c = by-withdraw g c (λ a m. CardsAction a m.begun c.args.speed (is_err c.withdraw.result) c.args.run.now c.args.outcome.now c.withdraw.new.outcome (before-withdraw g c) (behind-withdraw g c)) (c.withdraw.ensures.cards (late-withdraw g c) c.args.speed)
 
 pub returns-in-Place-clause-cards : goal.returns-in-Place-clause-cards
-returns-in-Place-clause-cards g c =
-    let run = c.args.run.now in
-    let o = c.args.outcome.now in
-    let d : Devices = devices (g.M.Medium.state c.args.unit.now) (g.C.Chip.state c.args.card_a.now) (g.D.Chip.state c.args.card_b.now) in
-    let e : Devices = devices (g.M.Medium.state c.note_place.new.unit) (g.C.Chip.state c.note_place.new.card_a) (g.D.Chip.state c.note_place.new.card_b) in
-    let late = ap (λ (m : Moment). m.late) c.moment-at.ensures in
-    subst (λ (a : Action). CardsAction a c.args.begun c.args.speed (is_err c.note_place.result) run o (record o { breaks = c.note_place.new.breaks }) d e) (sym c.in-Place.is)
-    (subst (λ (n : ℕ). CardsAction (Place c.in-Place.slot c.in-Place.ending c.in-Place.country c.in-Place.region) n c.args.speed (is_err c.note_place.result) run o (record o { breaks = c.note_place.new.breaks }) d e) (ap (λ (m : Moment). m.begun) c.moment-at.ensures)
-    (c.note_place.ensures.cards late c.in-Place.ending c.in-Place.country c.in-Place.region c.args.speed o refl))
+returns-in-Place-clause-cards g c = by-place g c (λ a m. CardsAction a m.begun c.args.speed (is_err c.note_place.result) c.args.run.now c.args.outcome.now (record c.args.outcome.now { breaks = c.note_place.new.breaks }) (before-place g c) (behind-place g c)) (c.note_place.ensures.cards (late-place g c) c.in-Place.ending c.in-Place.country c.in-Place.region c.args.speed c.args.outcome.now refl)
 
 -- ---- where no tear of a failed call is told no card has broken down
 

@@ -1,8 +1,7 @@
-use Rattle.std.proofs.Common.{rules, ◌≡◌, ◌∙◌, ℕ, ◌+◌, ◌-◌, ◌%◌, ◌<◌, ◌≤◌, Bool, true, false, List, [], ◌++◌, length, refl, ap, sym, subst, arith}
+use Rattle.std.proofs.Common.{rules, ◌≡◌, ◌∙◌, ℕ, ◌+◌, ◌-◌, ◌<◌, ◌≤◌, Bool, true, false, List, [], ◌++◌, length, refl, ap, sym, subst, arith}
 use Rattle.std.proofs.lemmas.List.{append-nil}
 use Rattle.trace_model.specs.declared.Action.{Action}
 use Rattle.trace_model.specs.Trace.{TraceSecond, driven}
-use Rattle.tach_media.specs.Medium.{State}
 use Rattle.safety_model.specs.Safe.{Devices}
 use Rattle.run_rule.specs.Between.{devices}
 use Rattle.run_keeping.proofs.DecidedBooked.{time-before}
@@ -16,7 +15,7 @@ use Rattle.run_keeping.specs.Keeping.{with_lines}
 use Rattle.run_acts.specs.Room.{cuts_from, cuts_within}
 use Rattle.recorder_with_cards.specs.Acting.{AreActed}
 use Rattle.recorder_with_cards.specs.Items.{between, insertions_in}
-use Rattle.recorder_with_cards.specs.Recorded.{actions_in}
+use Rattle.recorder_with_cards.specs.Recorded.{actions_in, Between, HasBegunBy, Inside}
 use Rattle.recorder_with_cards.proofs.SecondsRecorded.{refused_dark, acted-dark, passes-dark, by-power, run-then}
 use Rattle.recorder_with_cards.proofs.Rooms.{room-less}
 use Rattle.recorder_with_cards.proofs.Dark.{away-dark}
@@ -27,7 +26,101 @@ use Rattle.run_outcome.proofs.Broken.{broke-then}
 use Rattle.recorder_with_cards.specs.Carded.{RunCarded, InSecondCarded}
 use Rattle.recorder_with_cards.proofs.SecondsCards.{turned-carded, dark-carded}
 use Rattle.run_keeping.proofs.Calm.{calm-then}
+use Rattle.run_keeping.specs.Books.{HaveTime}
+use Rattle.std.specs.Prelude.{Ok}
+use Rattle.run_recorded.specs.Origin.{Origin}
+use Rattle.run_acts.specs.Going.{largest_number}
+use Rattle.recorder_with_cards.proofs.Resumed.{same-devices}
+use Rattle.recorder_with_cards.proofs.driving.drive.Given.{Over}
+use Rattle.recorder_with_cards.proofs.driving.drive.Goals.{After-drive_on}
 use Rattle.recorder_with_cards.proofs.driving.drive.Goals as goal
+
+-- ---- THE FIRST SECOND, and those behind it
+
+module _ (g : Over) (c : After-drive_on g) where
+  abbrev dev0 : Devices
+  dev0 = devices (g.M.Medium.state c.args.unit.now) (g.C.Chip.state c.args.card_a.now) (g.D.Chip.state c.args.card_b.now)
+
+  abbrev dev1 : Devices
+  dev1 = devices (g.M.Medium.state c.begin_second.new.unit) (g.C.Chip.state c.begin_second.new.card_a) (g.D.Chip.state c.begin_second.new.card_b)
+
+  abbrev dev2 : Devices
+  dev2 = devices (g.M.Medium.state c.act_all.new.unit) (g.C.Chip.state c.act_all.new.card_a) (g.D.Chip.state c.act_all.new.card_b)
+
+  abbrev dev3 : Devices
+  dev3 = devices (g.M.Medium.state c.turn.new.unit) (g.C.Chip.state c.turn.new.card_a) (g.D.Chip.state c.turn.new.card_b)
+
+  abbrev dev4 : Devices
+  dev4 = devices (g.M.Medium.state c.drive_on.new.unit) (g.C.Chip.state c.drive_on.new.card_a) (g.D.Chip.state c.drive_on.new.card_b)
+
+  abbrev acts : List Action
+  acts = actions_in (between c.args.from c.args.to c.args.items.now)
+
+  abbrev second : TraceSecond
+  second = record { number = c.args.run.now.next; has_power = true; speed = c.args.speed; actions = acts }
+
+  begun-next : c.begin_second.new.run.next ≡ c.args.run.now.next
+  begun-next = c.in_ok-has_power.ensures.next
+
+  now-begun : IsNow second c.args.speed c.begin_second.new.run
+  now-begun = record { number = sym begun-next; given = refl; speed_is = refl }
+
+  now-acted : IsNow second c.args.speed c.act_all.new.run
+  now-acted = record { number = sym begun-next ∙ sym c.act_all.ensures.next; given = refl; speed_is = refl }
+
+  later-by-one : c.turn.new.run.next ≡ c.args.run.now.next + 1
+  later-by-one = c.turn.ensures.next ∙ ap (λ (n : ℕ). n + 1) (c.act_all.ensures.next ∙ begun-next)
+
+  begun-all : length acts ≡ c.args.to - c.args.from → c.args.to - c.args.from ≤ largest_number → c.number_of-begun.result ≡ c.args.to - c.args.from
+  begun-all many few = let n = c.number_of-begun.ensures in omega (arith, n, few)
+
+  time-three : HaveTime dev4 → HaveTime dev3
+  time-three = c.drive_on.ensures.time
+
+  time-two : HaveTime dev4 → HaveTime dev2
+  time-two time = time-before dev2 dev3 c.turn.ensures.clock c.turn.ensures.clock_a c.turn.ensures.clock_b (time-three time)
+
+  time-one : HaveTime dev4 → HaveTime dev1
+  time-one time = c.act_all.ensures.time (time-two time)
+
+  -- there was no power: nothing was called
+  module _ (away : c.in_ok-has_power.has_power ≡ false) where
+    none-given : has_power c.args.run.now.power c.args.run.now.next ≡ false
+    none-given = sym c.in_ok-has_power.ensures.power ∙ away
+
+    dark : is_lit c.begin_second.new.run.power ≡ false
+    dark = ap (λ (x : Run). is_lit x.power) (c.in_ok-has_power.ensures.dark away).0 ∙ away-dark c.args.run.now.power c.args.run.now.next none-given
+
+    still : (P : Devices → Type 0) → P dev0 → P dev3
+    still P h =
+        let kept = c.in_ok-has_power.ensures.dark away in
+        let acted = c.act_all.ensures.still dark in
+        let turned = c.turn.ensures.dark acted.0 in
+        same-devices P g.M.Medium.state g.C.Chip.state g.D.Chip.state c.args.unit.now c.turn.new.unit c.args.card_a.now c.turn.new.card_a c.args.card_b.now c.turn.new.card_b (turned.0 ∙ acted.1 ∙ kept.2, turned.1 ∙ acted.2 ∙ kept.3, turned.2 ∙ acted.3 ∙ kept.4) h
+
+    acted-so : (c.act_all.new.run ≡ c.begin_second.new.run) × (c.act_all.new.outcome ≡ record c.begin_second.new.outcome { refused = with_lines (refused_dark c.begin_second.new.run.next acts) c.begin_second.new.outcome.refused })
+    acted-so =
+        acted-dark c.args.speed 0 (between c.args.from c.args.to c.args.items.now) c.begin_second.new.run c.act_all.new.run c.begin_second.new.outcome c.act_all.new.outcome
+        (subst (λ (b : Bool). AreActed b c.args.speed 0 (between c.args.from c.args.to c.args.items.now) c.begin_second.new.run c.act_all.new.run c.begin_second.new.outcome c.act_all.new.outcome) away c.act_all.ensures.acted)
+
+    passes : (c.turn.new.run ≡ passed 1 c.number_of-begun.result c.act_all.new.run) × (c.turn.new.outcome ≡ c.act_all.new.outcome)
+    passes = passes-dark c.act_all.new.run c.turn.new.run c.act_all.new.outcome c.turn.new.outcome 1 c.args.speed c.number_of-begun.result (c.act_all.ensures.still dark).0 c.turn.ensures.turned
+
+    passed-on : c.turn.new.run ≡ passed 1 c.number_of-begun.result c.args.run.now
+    passed-on = passes.0 ∙ ap (passed 1 c.number_of-begun.result) (acted-so.0 ∙ (c.in_ok-has_power.ensures.dark away).0)
+
+    refused-all : c.turn.new.outcome ≡ record c.args.outcome.now { refused = with_lines (refused_dark c.args.run.now.next acts) c.args.outcome.now.refused }
+    refused-all =
+        passes.1 ∙ acted-so.1 ∙ ap (λ (x : Outcome). record x { refused = with_lines (refused_dark c.begin_second.new.run.next acts) x.refused }) (c.in_ok-has_power.ensures.dark away).1
+        ∙ ap (λ (n : ℕ). record c.args.outcome.now { refused = with_lines (refused_dark n acts) c.args.outcome.now.refused }) begun-next
+
+  -- what is carried behind it
+  first-second : (R : Between) (I : Inside) (o : Origin) (done : List TraceSecond) → HasBegunBy R I (Ok c.in_ok-has_power.has_power) o done second c.begin_second.new.run c.begin_second.new.outcome dev1 →
+      (c.in_ok-has_power.has_power ≡ true → I o done second 0 c.begin_second.new.run c.begin_second.new.outcome dev1 → R o (done ++ driven 1 c.args.run.now.next c.args.speed acts) c.turn.new.run c.turn.new.outcome dev3) →
+      (c.in_ok-has_power.has_power ≡ false → R o (done ++ driven 1 c.args.run.now.next c.args.speed acts) c.turn.new.run c.turn.new.outcome dev0) → R o (done ++ driven 1 c.args.run.now.next c.args.speed acts) c.turn.new.run c.turn.new.outcome dev3
+  first-second R I o done begun lit dark_so =
+      by-power R I c.in_ok-has_power.has_power o done second c.begin_second.new.run c.begin_second.new.outcome dev1 begun lit
+      (λ away was_. still away (λ (x : Devices). R o (done ++ driven 1 c.args.run.now.next c.args.speed acts) c.turn.new.run c.turn.new.outcome x) (dark_so away))
 
 pub begin_second-requires-clause-room : goal.begin_second-requires-clause-room
 begin_second-requires-clause-room g c =
@@ -125,16 +218,13 @@ returns-in_err-has_power-clause-gone g c = record {
 }
 
 pub returns-clause-time : goal.returns-clause-time
-returns-clause-time g c = λ h. time-before (devices (g.M.Medium.state c.args.unit.now) (g.C.Chip.state c.args.card_a.now) (g.D.Chip.state c.args.card_b.now)) (devices (g.M.Medium.state c.begin_second.new.unit) (g.C.Chip.state c.begin_second.new.card_a) (g.D.Chip.state c.begin_second.new.card_b)) c.in_ok-has_power.ensures.clock c.in_ok-has_power.ensures.clock_a c.in_ok-has_power.ensures.clock_b (c.act_all.ensures.time
-    (time-before (devices (g.M.Medium.state c.act_all.new.unit) (g.C.Chip.state c.act_all.new.card_a) (g.D.Chip.state c.act_all.new.card_b)) (devices (g.M.Medium.state c.turn.new.unit) (g.C.Chip.state c.turn.new.card_a) (g.D.Chip.state c.turn.new.card_b)) c.turn.ensures.clock c.turn.ensures.clock_a c.turn.ensures.clock_b (c.drive_on.ensures.time h)))
+returns-clause-time g c = λ time. time-before (dev0 g c) (dev1 g c) c.in_ok-has_power.ensures.clock c.in_ok-has_power.ensures.clock_a c.in_ok-has_power.ensures.clock_b (time-one g c time)
 
 pub returns-in_err-has_power-clause-time : goal.returns-in_err-has_power-clause-time
 returns-in_err-has_power-clause-time g c = time-before (devices (g.M.Medium.state c.args.unit.now) (g.C.Chip.state c.args.card_a.now) (g.D.Chip.state c.args.card_b.now)) (devices (g.M.Medium.state c.begin_second.new.unit) (g.C.Chip.state c.begin_second.new.card_a) (g.D.Chip.state c.begin_second.new.card_b)) c.in_err-has_power.ensures.clock c.in_err-has_power.ensures.clock_a c.in_err-has_power.ensures.clock_b
 
 pub returns-clause-later : goal.returns-clause-later
-returns-clause-later g c = later-then (devices (g.M.Medium.state c.args.unit.now) (g.C.Chip.state c.args.card_a.now) (g.D.Chip.state c.args.card_b.now)) (devices (g.M.Medium.state c.begin_second.new.unit) (g.C.Chip.state c.begin_second.new.card_a) (g.D.Chip.state c.begin_second.new.card_b)) (devices (g.M.Medium.state c.drive_on.new.unit) (g.C.Chip.state c.drive_on.new.card_a) (g.D.Chip.state c.drive_on.new.card_b)) c.in_ok-has_power.ensures.later
-    (later-then (devices (g.M.Medium.state c.begin_second.new.unit) (g.C.Chip.state c.begin_second.new.card_a) (g.D.Chip.state c.begin_second.new.card_b)) (devices (g.M.Medium.state c.act_all.new.unit) (g.C.Chip.state c.act_all.new.card_a) (g.D.Chip.state c.act_all.new.card_b)) (devices (g.M.Medium.state c.drive_on.new.unit) (g.C.Chip.state c.drive_on.new.card_a) (g.D.Chip.state c.drive_on.new.card_b)) c.act_all.ensures.later
-    (later-then (devices (g.M.Medium.state c.act_all.new.unit) (g.C.Chip.state c.act_all.new.card_a) (g.D.Chip.state c.act_all.new.card_b)) (devices (g.M.Medium.state c.turn.new.unit) (g.C.Chip.state c.turn.new.card_a) (g.D.Chip.state c.turn.new.card_b)) (devices (g.M.Medium.state c.drive_on.new.unit) (g.C.Chip.state c.drive_on.new.card_a) (g.D.Chip.state c.drive_on.new.card_b)) c.turn.ensures.later c.drive_on.ensures.later))
+returns-clause-later g c = later-then (dev0 g c) (dev1 g c) (dev4 g c) c.in_ok-has_power.ensures.later (later-then (dev1 g c) (dev2 g c) (dev4 g c) c.act_all.ensures.later (later-then (dev2 g c) (dev3 g c) (dev4 g c) c.turn.ensures.later c.drive_on.ensures.later))
 
 pub returns-in_err-has_power-clause-later : goal.returns-in_err-has_power-clause-later
 returns-in_err-has_power-clause-later g c = c.in_err-has_power.ensures.later
@@ -142,58 +232,19 @@ returns-in_err-has_power-clause-later g c = c.in_err-has_power.ensures.later
 -- ---- what is recorded, with its events and rings
 
 pub returns-clause-ringed : goal.returns-clause-ringed
-returns-clause-ringed g c = λ many few.
-    let number : c.number_of-begun.result ≡ c.args.to - c.args.from = let n = c.number_of-begun.ensures in omega (arith, n, few) in
-    let whole : c.args.to - c.args.from ≡ 0 + length (actions_in (between c.args.from c.args.to c.args.items.now)) = omega (arith, many) in
-    let minute : c.args.run.now.next % 60 + 1 ≤ 60 = omega arith in
-    let one : 0 < 1 = omega arith in
-    λ o done r time.
-    let old = c.args.run.now in
-    let out = c.args.outcome.now in
-    let acts : List Action = actions_in (between c.args.from c.args.to c.args.items.now) in
-    let s : TraceSecond = record { number = old.next; has_power = true; speed = c.args.speed; actions = acts } in
-    let d0 : Devices = devices (g.M.Medium.state c.args.unit.now) (g.C.Chip.state c.args.card_a.now) (g.D.Chip.state c.args.card_b.now) in
-    let d1 : Devices = devices (g.M.Medium.state c.begin_second.new.unit) (g.C.Chip.state c.begin_second.new.card_a) (g.D.Chip.state c.begin_second.new.card_b) in
-    let d2 : Devices = devices (g.M.Medium.state c.act_all.new.unit) (g.C.Chip.state c.act_all.new.card_a) (g.D.Chip.state c.act_all.new.card_b) in
-    let d3 : Devices = devices (g.M.Medium.state c.turn.new.unit) (g.C.Chip.state c.turn.new.card_a) (g.D.Chip.state c.turn.new.card_b) in
-    let r1 : Run = c.begin_second.new.run in
-    let r2 : Run = c.act_all.new.run in
-    let r3 : Run = c.turn.new.run in
-    let p1 : Outcome = c.begin_second.new.outcome in
-    let p2 : Outcome = c.act_all.new.outcome in
-    let p3 : Outcome = c.turn.new.outcome in
-    let begun_next : r1.next ≡ old.next = c.in_ok-has_power.ensures.next in
-    let acted_next : r2.next ≡ r1.next = c.act_all.ensures.next in
-    let time3 = c.drive_on.ensures.time time in
-    let time2 = time-before d2 d3 c.turn.ensures.clock c.turn.ensures.clock_a c.turn.ensures.clock_b time3 in
-    let time1 = c.act_all.ensures.time time2 in
-    let begun = c.in_ok-has_power.ensures.ringed o done s (record { number = refl; given = refl; speed_is = refl }) r time1 in
-    let behind : RunRinged o (done ++ driven 1 old.next c.args.speed acts) r3 p3 d3 =
-    by-power RunRinged InSecondRinged c.in_ok-has_power.has_power o done s r1 p1 d1 begun
+returns-clause-ringed g c = λ many few o done r time.
+    let number = begun-all g c many few in
+    let whole : c.args.to - c.args.from ≡ 0 + length (acts g c) = omega (arith, many) in
+    let s : TraceSecond = second g c in
+    let begun = c.in_ok-has_power.ensures.ringed o done s (record { number = refl; given = refl; speed_is = refl }) r (time-one g c time) in
+    let behind = first-second g c RunRinged InSecondRinged o done begun
     (λ lit in_.
-    let now1 : IsNow s c.args.speed r1 = record { number = sym begun_next; given = refl; speed_is = refl } in
-    let acted = c.act_all.ensures.ringed lit many few o done s now1 [] [] (sym (append-nil acts)) whole in_ time2 in
-    c.turn.ensures.ringed o done s (record { number = sym begun_next ∙ sym acted_next; given = refl; speed_is = refl }) (many ∙ sym number) (λ more. absurd (omega (arith, more)))
-    (subst (λ (n : ℕ). InSecondRinged o done s n r2 p2 d2) (sym number) acted) time3)
-    (λ away was.
-    let kept = c.in_ok-has_power.ensures.dark away in
-    let none : has_power old.power old.next ≡ false = sym c.in_ok-has_power.ensures.power ∙ away in
-    let dark_old : is_lit old.power ≡ false = away-dark old.power old.next none in
-    let dark1 : is_lit r1.power ≡ false = ap (λ (x : Run). is_lit x.power) kept.0 ∙ dark_old in
-    let still = c.act_all.ensures.still dark1 in
-    let acted = acted-dark c.args.speed 0 (between c.args.from c.args.to c.args.items.now) r1 r2 p1 p2 (subst (λ (b : Bool). AreActed b c.args.speed 0 (between c.args.from c.args.to c.args.items.now) r1 r2 p1 p2) away c.act_all.ensures.acted) in
-    let turned = c.turn.ensures.turned in
-    let turn_still = c.turn.ensures.dark still.0 in
-    let passes = passes-dark r2 r3 p2 p3 1 c.args.speed c.number_of-begun.result still.0 turned in
-    let is : r3 ≡ passed 1 c.number_of-begun.result old = passes.0 ∙ ap (passed 1 c.number_of-begun.result) (acted.0 ∙ kept.0) in
-    let told : p3 ≡ record out { refused = with_lines (refused_dark old.next acts) out.refused } = passes.1 ∙ acted.1 ∙ ap (λ (x : Outcome). record x { refused = with_lines (refused_dark r1.next acts) x.refused }) kept.1 ∙ ap (λ (n : ℕ). record out { refused = with_lines (refused_dark n acts) out.refused }) begun_next in
-    subst (λ (x : State). RunRinged o (done ++ driven 1 old.next c.args.speed acts) r3 p3 (devices x (g.C.Chip.state c.turn.new.card_a) (g.D.Chip.state c.turn.new.card_b))) (sym (ap g.M.Medium.state (turn_still.0 ∙ still.1 ∙ kept.2)))
-    (subst (λ (x : State). RunRinged o (done ++ driven 1 old.next c.args.speed acts) r3 p3 (devices (g.M.Medium.state c.args.unit.now) x (g.D.Chip.state c.turn.new.card_b))) (sym (ap g.C.Chip.state (turn_still.1 ∙ still.2 ∙ kept.3)))
-    (subst (λ (x : State). RunRinged o (done ++ driven 1 old.next c.args.speed acts) r3 p3 (devices (g.M.Medium.state c.args.unit.now) (g.C.Chip.state c.args.card_a.now) x)) (sym (ap g.D.Chip.state (turn_still.2 ∙ still.3 ∙ kept.4)))
-    (dark-ringed o done old out d0 r 1 c.args.speed c.number_of-begun.result acts one none minute r3 p3 is told)))) in
-    let later : r3.next ≡ old.next + 1 = c.turn.ensures.next ∙ ap (λ (n : ℕ). n + 1) (acted_next ∙ begun_next) in
-    run-then RunRinged c.drive_on.result o done c.args.seconds old.next r3.next c.args.speed acts c.drive_on.new.run c.drive_on.new.outcome (devices (g.M.Medium.state c.drive_on.new.unit) (g.C.Chip.state c.drive_on.new.card_a) (g.D.Chip.state c.drive_on.new.card_b)) c.requires.some later
-    (c.drive_on.ensures.ringed o (done ++ driven 1 old.next c.args.speed acts) (done, s, refl, refl) behind time)
+    let acted = c.act_all.ensures.ringed lit many few o done s (now-begun g c) [] [] (sym (append-nil (acts g c))) whole in_ (time-two g c time) in
+    c.turn.ensures.ringed o done s (now-acted g c) (many ∙ sym number) (λ more. absurd (omega (arith, more)))
+    (subst (λ (n : ℕ). InSecondRinged o done s n c.act_all.new.run c.act_all.new.outcome (dev2 g c)) (sym number) acted) (time-three g c time))
+    (λ away. dark-ringed o done c.args.run.now c.args.outcome.now (dev0 g c) r 1 c.args.speed c.number_of-begun.result (acts g c) (omega arith) (none-given g c away) (omega arith) c.turn.new.run c.turn.new.outcome (passed-on g c away) (refused-all g c away)) in
+    run-then RunRinged c.drive_on.result o done c.args.seconds c.args.run.now.next c.turn.new.run.next c.args.speed (acts g c) c.drive_on.new.run c.drive_on.new.outcome (dev4 g c) c.requires.some (later-by-one g c)
+    (c.drive_on.ensures.ringed o (done ++ driven 1 c.args.run.now.next c.args.speed (acts g c)) (done, s, refl, refl) behind time)
 
 pub returns-in_err-has_power-clause-ringed : goal.returns-in_err-has_power-clause-ringed
 returns-in_err-has_power-clause-ringed g c = λ many few o done r time.
@@ -203,62 +254,23 @@ returns-in_err-has_power-clause-ringed g c = λ many few o done r time.
 -- ---- and the events on the cards
 
 pub returns-clause-cards : goal.returns-clause-cards
-returns-clause-cards g c = λ many few.
-    let number : c.number_of-begun.result ≡ c.args.to - c.args.from = let n = c.number_of-begun.ensures in omega (arith, n, few) in
-    let whole : c.args.to - c.args.from ≡ 0 + length (actions_in (between c.args.from c.args.to c.args.items.now)) = omega (arith, many) in
-    let minute : c.args.run.now.next % 60 + 1 ≤ 60 = omega arith in
-    let one : 0 < 1 = omega arith in
+returns-clause-cards g c = λ many few o done r time.
+    let number = begun-all g c many few in
+    let whole : c.args.to - c.args.from ≡ 0 + length (acts g c) = omega (arith, many) in
+    let s : TraceSecond = second g c in
     let low = c.requires.going.low in
     let positive : 0 < c.args.run.now.next = omega (arith, low) in
-    λ o done r time.
-    let old = c.args.run.now in
-    let out = c.args.outcome.now in
-    let acts : List Action = actions_in (between c.args.from c.args.to c.args.items.now) in
-    let s : TraceSecond = record { number = old.next; has_power = true; speed = c.args.speed; actions = acts } in
-    let d0 : Devices = devices (g.M.Medium.state c.args.unit.now) (g.C.Chip.state c.args.card_a.now) (g.D.Chip.state c.args.card_b.now) in
-    let d1 : Devices = devices (g.M.Medium.state c.begin_second.new.unit) (g.C.Chip.state c.begin_second.new.card_a) (g.D.Chip.state c.begin_second.new.card_b) in
-    let d2 : Devices = devices (g.M.Medium.state c.act_all.new.unit) (g.C.Chip.state c.act_all.new.card_a) (g.D.Chip.state c.act_all.new.card_b) in
-    let d3 : Devices = devices (g.M.Medium.state c.turn.new.unit) (g.C.Chip.state c.turn.new.card_a) (g.D.Chip.state c.turn.new.card_b) in
-    let r1 : Run = c.begin_second.new.run in
-    let r2 : Run = c.act_all.new.run in
-    let r3 : Run = c.turn.new.run in
-    let p1 : Outcome = c.begin_second.new.outcome in
-    let p2 : Outcome = c.act_all.new.outcome in
-    let p3 : Outcome = c.turn.new.outcome in
-    let begun_next : r1.next ≡ old.next = c.in_ok-has_power.ensures.next in
-    let acted_next : r2.next ≡ r1.next = c.act_all.ensures.next in
-    let time3 = c.drive_on.ensures.time time in
-    let time2 = time-before d2 d3 c.turn.ensures.clock c.turn.ensures.clock_a c.turn.ensures.clock_b time3 in
-    let time1 = c.act_all.ensures.time time2 in
-    let begun = c.in_ok-has_power.ensures.cards o done s (record { number = refl; given = refl; speed_is = refl }) r time1 in
-    let behind : RunCarded o (done ++ driven 1 old.next c.args.speed acts) r3 p3 d3 =
-    by-power RunCarded InSecondCarded c.in_ok-has_power.has_power o done s r1 p1 d1 begun
+    let begun = c.in_ok-has_power.ensures.cards o done s (record { number = refl; given = refl; speed_is = refl }) r (time-one g c time) in
+    let behind = first-second g c RunCarded InSecondCarded o done begun
     (λ lit in_.
-    let now1 : IsNow s c.args.speed r1 = record { number = sym begun_next; given = refl; speed_is = refl } in
-    let acted = c.act_all.ensures.cards lit many few o done s now1 [] [] (sym (append-nil acts)) whole in_ time2 in
-    let now2 : IsNow s c.args.speed r2 = record { number = sym begun_next ∙ sym acted_next; given = refl; speed_is = refl } in
-    turned-carded o done s 1 c.args.speed c.number_of-begun.result r2 r3 p2 p3 d2 d3 (many ∙ sym number) positive (subst (λ (n : ℕ). InSecondCarded o done s n r2 p2 d2) (sym number) acted) c.turn.ensures.turned
-    (λ x. c.turn.ensures.ringed o done s now2 (many ∙ sym number) (λ more. absurd (omega (arith, more))) x time3)
-    (λ x. c.turn.ensures.cards o done s now2 (many ∙ sym number) (λ more. absurd (omega (arith, more))) x time3))
-    (λ away was.
-    let kept = c.in_ok-has_power.ensures.dark away in
-    let none : has_power old.power old.next ≡ false = sym c.in_ok-has_power.ensures.power ∙ away in
-    let dark_old : is_lit old.power ≡ false = away-dark old.power old.next none in
-    let dark1 : is_lit r1.power ≡ false = ap (λ (x : Run). is_lit x.power) kept.0 ∙ dark_old in
-    let still = c.act_all.ensures.still dark1 in
-    let acted = acted-dark c.args.speed 0 (between c.args.from c.args.to c.args.items.now) r1 r2 p1 p2 (subst (λ (b : Bool). AreActed b c.args.speed 0 (between c.args.from c.args.to c.args.items.now) r1 r2 p1 p2) away c.act_all.ensures.acted) in
-    let turned = c.turn.ensures.turned in
-    let turn_still = c.turn.ensures.dark still.0 in
-    let passes = passes-dark r2 r3 p2 p3 1 c.args.speed c.number_of-begun.result still.0 turned in
-    let is : r3 ≡ passed 1 c.number_of-begun.result old = passes.0 ∙ ap (passed 1 c.number_of-begun.result) (acted.0 ∙ kept.0) in
-    let told : p3 ≡ record out { refused = with_lines (refused_dark old.next acts) out.refused } = passes.1 ∙ acted.1 ∙ ap (λ (x : Outcome). record x { refused = with_lines (refused_dark r1.next acts) x.refused }) kept.1 ∙ ap (λ (n : ℕ). record out { refused = with_lines (refused_dark n acts) out.refused }) begun_next in
-    subst (λ (x : State). RunCarded o (done ++ driven 1 old.next c.args.speed acts) r3 p3 (devices x (g.C.Chip.state c.turn.new.card_a) (g.D.Chip.state c.turn.new.card_b))) (sym (ap g.M.Medium.state (turn_still.0 ∙ still.1 ∙ kept.2)))
-    (subst (λ (x : State). RunCarded o (done ++ driven 1 old.next c.args.speed acts) r3 p3 (devices (g.M.Medium.state c.args.unit.now) x (g.D.Chip.state c.turn.new.card_b))) (sym (ap g.C.Chip.state (turn_still.1 ∙ still.2 ∙ kept.3)))
-    (subst (λ (x : State). RunCarded o (done ++ driven 1 old.next c.args.speed acts) r3 p3 (devices (g.M.Medium.state c.args.unit.now) (g.C.Chip.state c.args.card_a.now) x)) (sym (ap g.D.Chip.state (turn_still.2 ∙ still.3 ∙ kept.4)))
-    (dark-carded o done old out d0 r c.requires.going.low 1 c.args.speed c.number_of-begun.result acts one none minute r3 p3 is told)))) in
-    let later : r3.next ≡ old.next + 1 = c.turn.ensures.next ∙ ap (λ (n : ℕ). n + 1) (acted_next ∙ begun_next) in
-    run-then RunCarded c.drive_on.result o done c.args.seconds old.next r3.next c.args.speed acts c.drive_on.new.run c.drive_on.new.outcome (devices (g.M.Medium.state c.drive_on.new.unit) (g.C.Chip.state c.drive_on.new.card_a) (g.D.Chip.state c.drive_on.new.card_b)) c.requires.some later
-    (c.drive_on.ensures.cards o (done ++ driven 1 old.next c.args.speed acts) (done, s, refl, refl) behind time)
+    let acted = c.act_all.ensures.cards lit many few o done s (now-begun g c) [] [] (sym (append-nil (acts g c))) whole in_ (time-two g c time) in
+    turned-carded o done s 1 c.args.speed c.number_of-begun.result c.act_all.new.run c.turn.new.run c.act_all.new.outcome c.turn.new.outcome (dev2 g c) (dev3 g c) (many ∙ sym number) positive
+    (subst (λ (n : ℕ). InSecondCarded o done s n c.act_all.new.run c.act_all.new.outcome (dev2 g c)) (sym number) acted) c.turn.ensures.turned
+    (λ x. c.turn.ensures.ringed o done s (now-acted g c) (many ∙ sym number) (λ more. absurd (omega (arith, more))) x (time-three g c time))
+    (λ x. c.turn.ensures.cards o done s (now-acted g c) (many ∙ sym number) (λ more. absurd (omega (arith, more))) x (time-three g c time)))
+    (λ away. dark-carded o done c.args.run.now c.args.outcome.now (dev0 g c) r c.requires.going.low 1 c.args.speed c.number_of-begun.result (acts g c) (omega arith) (none-given g c away) (omega arith) c.turn.new.run c.turn.new.outcome (passed-on g c away) (refused-all g c away)) in
+    run-then RunCarded c.drive_on.result o done c.args.seconds c.args.run.now.next c.turn.new.run.next c.args.speed (acts g c) c.drive_on.new.run c.drive_on.new.outcome (dev4 g c) c.requires.some (later-by-one g c)
+    (c.drive_on.ensures.cards o (done ++ driven 1 c.args.run.now.next c.args.speed (acts g c)) (done, s, refl, refl) behind time)
 
 pub returns-in_err-has_power-clause-cards : goal.returns-in_err-has_power-clause-cards
 returns-in_err-has_power-clause-cards g c = λ many few o done r time.
@@ -276,7 +288,7 @@ returns-in_err-has_power-clause-broke g c = c.in_err-has_power.ensures.broke
 -- ---- where no tear of a failed call is told no card has broken down
 
 pub returns-clause-calm : goal.returns-clause-calm
-returns-clause-calm g c = calm-then (devices (g.M.Medium.state c.args.unit.now) (g.C.Chip.state c.args.card_a.now) (g.D.Chip.state c.args.card_b.now)) (devices (g.M.Medium.state c.begin_second.new.unit) (g.C.Chip.state c.begin_second.new.card_a) (g.D.Chip.state c.begin_second.new.card_b)) (devices (g.M.Medium.state c.drive_on.new.unit) (g.C.Chip.state c.drive_on.new.card_a) (g.D.Chip.state c.drive_on.new.card_b)) c.in_ok-has_power.ensures.calm (calm-then (devices (g.M.Medium.state c.begin_second.new.unit) (g.C.Chip.state c.begin_second.new.card_a) (g.D.Chip.state c.begin_second.new.card_b)) (devices (g.M.Medium.state c.act_all.new.unit) (g.C.Chip.state c.act_all.new.card_a) (g.D.Chip.state c.act_all.new.card_b)) (devices (g.M.Medium.state c.drive_on.new.unit) (g.C.Chip.state c.drive_on.new.card_a) (g.D.Chip.state c.drive_on.new.card_b)) c.act_all.ensures.calm (calm-then (devices (g.M.Medium.state c.act_all.new.unit) (g.C.Chip.state c.act_all.new.card_a) (g.D.Chip.state c.act_all.new.card_b)) (devices (g.M.Medium.state c.turn.new.unit) (g.C.Chip.state c.turn.new.card_a) (g.D.Chip.state c.turn.new.card_b)) (devices (g.M.Medium.state c.drive_on.new.unit) (g.C.Chip.state c.drive_on.new.card_a) (g.D.Chip.state c.drive_on.new.card_b)) c.turn.ensures.calm c.drive_on.ensures.calm))
+returns-clause-calm g c = calm-then (dev0 g c) (dev1 g c) (dev4 g c) c.in_ok-has_power.ensures.calm (calm-then (dev1 g c) (dev2 g c) (dev4 g c) c.act_all.ensures.calm (calm-then (dev2 g c) (dev3 g c) (dev4 g c) c.turn.ensures.calm c.drive_on.ensures.calm))
 
 pub returns-in_err-has_power-clause-calm : goal.returns-in_err-has_power-clause-calm
 returns-in_err-has_power-clause-calm g c = c.in_err-has_power.ensures.calm

@@ -1,11 +1,9 @@
 use Rattle.std.proofs.Common.{rules, ◌≡◌, ◌∙◌, ℕ, ◌+◌, ◌-◌, ◌<◌, true, false, List, [], ◌∷◌, ◌++◌, refl, ap, sym, subst, arith}
 use Rattle.trace_model.specs.Trace.{TraceSecond, driven}
-use Rattle.tach_media.specs.Medium.{State}
 use Rattle.safety_model.specs.Safe.{Devices}
 use Rattle.run_rule.specs.Between.{devices}
 use Rattle.run_keeping.proofs.DecidedBooked.{time-before}
 use Rattle.run_keeping.specs.Keeping.{with_lines}
-use Rattle.run_outcome.specs.declared.outcome.Outcome.{Outcome}
 use Rattle.run_acts.specs.declared.run.Run.{Run}
 use Rattle.run_acts.specs.Power.{is_lit, has_power, passed}
 use Rattle.recorder_with_cards.proofs.Dark.{away-dark}
@@ -20,7 +18,68 @@ use Rattle.run_outcome.proofs.Broken.{broke-then}
 use Rattle.recorder_with_cards.specs.Carded.{RunCarded, InSecondCarded}
 use Rattle.recorder_with_cards.proofs.SecondsCards.{turned-carded, dark-carded}
 use Rattle.run_keeping.proofs.Calm.{calm-then}
+use Rattle.recorder_with_cards.specs.Recorded.{Between, HasBegunBy, Inside}
+use Rattle.run_keeping.specs.Books.{HaveTime}
+use Rattle.run_acts.specs.Recording.{IsNow}
+use Rattle.std.specs.Prelude.{Ok}
+use Rattle.run_recorded.specs.Origin.{Origin}
+use Rattle.recorder_with_cards.proofs.Resumed.{same-devices}
+use Rattle.recorder_with_cards.proofs.driving.step.Given.{Over}
+use Rattle.recorder_with_cards.proofs.driving.step.Goals.{After-turn}
 use Rattle.recorder_with_cards.proofs.driving.step.Goals as goal
+
+-- ---- THE SECOND THAT BEGINS, and those up to the turn
+
+module _ (g : Over) (c : After-turn g) where
+  abbrev dev0 : Devices
+  dev0 = devices (g.M.Medium.state c.args.unit.now) (g.C.Chip.state c.args.card_a.now) (g.D.Chip.state c.args.card_b.now)
+
+  abbrev dev1 : Devices
+  dev1 = devices (g.M.Medium.state c.begin_second.new.unit) (g.C.Chip.state c.begin_second.new.card_a) (g.D.Chip.state c.begin_second.new.card_b)
+
+  abbrev dev2 : Devices
+  dev2 = devices (g.M.Medium.state c.turn.new.unit) (g.C.Chip.state c.turn.new.card_a) (g.D.Chip.state c.turn.new.card_b)
+
+  abbrev second : TraceSecond
+  second = record { number = c.args.run.now.next; has_power = true; speed = c.args.speed; actions = [] }
+
+  now-begun : IsNow second c.args.speed c.begin_second.new.run
+  now-begun = record { number = sym c.in_ok-begin_second.ensures.next; given = refl; speed_is = refl }
+
+  time-begun : HaveTime dev2 → HaveTime dev1
+  time-begun time = time-before dev1 dev2 c.turn.ensures.clock c.turn.ensures.clock_a c.turn.ensures.clock_b time
+
+  -- there was no power: nothing was called
+  module _ (away : c.in_ok-begin_second.field-0 ≡ false) where
+    none-given : has_power c.args.run.now.power c.args.run.now.next ≡ false
+    none-given = sym c.in_ok-begin_second.ensures.power ∙ away
+
+    dark : is_lit c.begin_second.new.run.power ≡ false
+    dark = ap (λ (x : Run). is_lit x.power) (c.in_ok-begin_second.ensures.dark away).0 ∙ away-dark c.args.run.now.power c.args.run.now.next none-given
+
+    still : (P : Devices → Type 0) → P dev0 → P dev2
+    still P h =
+        let kept = c.in_ok-begin_second.ensures.dark away in
+        let turned = c.turn.ensures.dark dark in
+        same-devices P g.M.Medium.state g.C.Chip.state g.D.Chip.state c.args.unit.now c.turn.new.unit c.args.card_a.now c.turn.new.card_a c.args.card_b.now c.turn.new.card_b (turned.0 ∙ kept.2, turned.1 ∙ kept.3, turned.2 ∙ kept.4) h
+
+    passes : (c.turn.new.run ≡ passed c.args.n 0 c.begin_second.new.run) × (c.turn.new.outcome ≡ c.begin_second.new.outcome)
+    passes = passes-dark c.begin_second.new.run c.turn.new.run c.begin_second.new.outcome c.turn.new.outcome c.args.n c.args.speed 0 dark c.turn.ensures.turned
+
+    passed-on : c.turn.new.run ≡ passed c.args.n 0 c.args.run.now
+    passed-on = passes.0 ∙ ap (passed c.args.n 0) (c.in_ok-begin_second.ensures.dark away).0
+
+    refused-none : c.turn.new.outcome ≡ record c.args.outcome.now { refused = with_lines (refused_dark c.args.run.now.next []) c.args.outcome.now.refused }
+    refused-none = passes.1 ∙ (c.in_ok-begin_second.ensures.dark away).1 ∙ none-refused c.args.outcome.now
+
+  -- what is carried behind them
+  stepped : (R : Between) (I : Inside) (o : Origin) (done : List TraceSecond) → HasBegunBy R I (Ok c.in_ok-begin_second.field-0) o done second c.begin_second.new.run c.begin_second.new.outcome dev1 →
+      (I o done second 0 c.begin_second.new.run c.begin_second.new.outcome dev1 → R o (done ++ second ∷ driven (c.args.n - 1) (c.args.run.now.next + 1) c.args.speed []) c.turn.new.run c.turn.new.outcome dev2) →
+      (c.in_ok-begin_second.field-0 ≡ false → R o (done ++ driven c.args.n c.args.run.now.next c.args.speed []) c.turn.new.run c.turn.new.outcome dev0) → R o (done ++ driven c.args.n c.args.run.now.next c.args.speed []) c.turn.new.run c.turn.new.outcome dev2
+  stepped R I o done begun lit dark_so =
+      by-power R I c.in_ok-begin_second.field-0 o done second c.begin_second.new.run c.begin_second.new.outcome dev1 begun
+      (λ lit_ in_. subst (λ (ss : List TraceSecond). R o ss c.turn.new.run c.turn.new.outcome dev2) (ap (λ (ss : List TraceSecond). done ++ ss) (sym (first-driven c.args.n c.args.run.now.next c.args.speed [] c.requires.some))) (lit in_))
+      (λ away was_. still away (λ (x : Devices). R o (done ++ driven c.args.n c.args.run.now.next c.args.speed []) c.turn.new.run c.turn.new.outcome x) (dark_so away))
 
 pub begin_second-requires-clause-room : goal.begin_second-requires-clause-room
 begin_second-requires-clause-room g c = let some = c.requires.some in room-less cuts_from c.args.run.now c.args.outcome.now c.args.n 1 0 0 0 0 0 0 (omega (arith, some)) (omega arith) (omega arith) (omega arith) c.requires.room
@@ -59,13 +118,13 @@ returns-in_err-begin_second-clause-gone g c = record {
 }
 
 pub returns-clause-time : goal.returns-clause-time
-returns-clause-time g c = λ h. time-before (devices (g.M.Medium.state c.args.unit.now) (g.C.Chip.state c.args.card_a.now) (g.D.Chip.state c.args.card_b.now)) (devices (g.M.Medium.state c.begin_second.new.unit) (g.C.Chip.state c.begin_second.new.card_a) (g.D.Chip.state c.begin_second.new.card_b)) c.in_ok-begin_second.ensures.clock c.in_ok-begin_second.ensures.clock_a c.in_ok-begin_second.ensures.clock_b (time-before (devices (g.M.Medium.state c.begin_second.new.unit) (g.C.Chip.state c.begin_second.new.card_a) (g.D.Chip.state c.begin_second.new.card_b)) (devices (g.M.Medium.state c.turn.new.unit) (g.C.Chip.state c.turn.new.card_a) (g.D.Chip.state c.turn.new.card_b)) c.turn.ensures.clock c.turn.ensures.clock_a c.turn.ensures.clock_b h)
+returns-clause-time g c = λ time. time-before (dev0 g c) (dev1 g c) c.in_ok-begin_second.ensures.clock c.in_ok-begin_second.ensures.clock_a c.in_ok-begin_second.ensures.clock_b (time-begun g c time)
 
 pub returns-in_err-begin_second-clause-time : goal.returns-in_err-begin_second-clause-time
 returns-in_err-begin_second-clause-time g c = time-before (devices (g.M.Medium.state c.args.unit.now) (g.C.Chip.state c.args.card_a.now) (g.D.Chip.state c.args.card_b.now)) (devices (g.M.Medium.state c.begin_second.new.unit) (g.C.Chip.state c.begin_second.new.card_a) (g.D.Chip.state c.begin_second.new.card_b)) c.in_err-begin_second.ensures.clock c.in_err-begin_second.ensures.clock_a c.in_err-begin_second.ensures.clock_b
 
 pub returns-clause-later : goal.returns-clause-later
-returns-clause-later g c = later-then (devices (g.M.Medium.state c.args.unit.now) (g.C.Chip.state c.args.card_a.now) (g.D.Chip.state c.args.card_b.now)) (devices (g.M.Medium.state c.begin_second.new.unit) (g.C.Chip.state c.begin_second.new.card_a) (g.D.Chip.state c.begin_second.new.card_b)) (devices (g.M.Medium.state c.turn.new.unit) (g.C.Chip.state c.turn.new.card_a) (g.D.Chip.state c.turn.new.card_b)) c.in_ok-begin_second.ensures.later c.turn.ensures.later
+returns-clause-later g c = later-then (dev0 g c) (dev1 g c) (dev2 g c) c.in_ok-begin_second.ensures.later c.turn.ensures.later
 
 pub returns-in_err-begin_second-clause-later : goal.returns-in_err-begin_second-clause-later
 returns-in_err-begin_second-clause-later g c = c.in_err-begin_second.ensures.later
@@ -74,36 +133,9 @@ returns-in_err-begin_second-clause-later g c = c.in_err-begin_second.ensures.lat
 
 pub returns-clause-ringed : goal.returns-clause-ringed
 returns-clause-ringed g c = λ o done last r time.
-    let old = c.args.run.now in
-    let out = c.args.outcome.now in
-    let s : TraceSecond = record { number = old.next; has_power = true; speed = c.args.speed; actions = [] } in
-    let d0 : Devices = devices (g.M.Medium.state c.args.unit.now) (g.C.Chip.state c.args.card_a.now) (g.D.Chip.state c.args.card_b.now) in
-    let d1 : Devices = devices (g.M.Medium.state c.begin_second.new.unit) (g.C.Chip.state c.begin_second.new.card_a) (g.D.Chip.state c.begin_second.new.card_b) in
-    let d3 : Devices = devices (g.M.Medium.state c.turn.new.unit) (g.C.Chip.state c.turn.new.card_a) (g.D.Chip.state c.turn.new.card_b) in
-    let r1 : Run = c.begin_second.new.run in
-    let r3 : Run = c.turn.new.run in
-    let p1 : Outcome = c.begin_second.new.outcome in
-    let p3 : Outcome = c.turn.new.outcome in
-    let begun_next : r1.next ≡ old.next = c.in_ok-begin_second.ensures.next in
-    let all_ : done ++ s ∷ driven (c.args.n - 1) (old.next + 1) c.args.speed [] ≡ done ++ driven c.args.n old.next c.args.speed [] = ap (λ (ss : List TraceSecond). done ++ ss) (sym (first-driven c.args.n old.next c.args.speed [] c.requires.some)) in
-    let begun = c.in_ok-begin_second.ensures.ringed o done s (record { number = refl; given = refl; speed_is = refl }) r (time-before d1 d3 c.turn.ensures.clock c.turn.ensures.clock_a c.turn.ensures.clock_b time) in
-    by-power RunRinged InSecondRinged c.in_ok-begin_second.field-0 o done s r1 p1 d1 begun
-    (λ lit in_.
-    subst (λ (ss : List TraceSecond). RunRinged o ss r3 p3 d3) all_
-    (c.turn.ensures.ringed o done s (record { number = sym begun_next; given = refl; speed_is = refl }) refl (λ more. (refl, last)) in_ time))
-    (λ away was.
-    let kept = c.in_ok-begin_second.ensures.dark away in
-    let none : has_power old.power old.next ≡ false = sym c.in_ok-begin_second.ensures.power ∙ away in
-    let dark_old : is_lit old.power ≡ false = away-dark old.power old.next none in
-    let dark1 : is_lit r1.power ≡ false = ap (λ (x : Run). is_lit x.power) kept.0 ∙ dark_old in
-    let turn_still = c.turn.ensures.dark dark1 in
-    let passes = passes-dark r1 r3 p1 p3 c.args.n c.args.speed 0 dark1 c.turn.ensures.turned in
-    let is : r3 ≡ passed c.args.n 0 old = passes.0 ∙ ap (passed c.args.n 0) kept.0 in
-    let told : p3 ≡ record out { refused = with_lines (refused_dark old.next []) out.refused } = passes.1 ∙ kept.1 ∙ none-refused out in
-    subst (λ (x : State). RunRinged o (done ++ driven c.args.n old.next c.args.speed []) r3 p3 (devices x (g.C.Chip.state c.turn.new.card_a) (g.D.Chip.state c.turn.new.card_b))) (sym (ap g.M.Medium.state (turn_still.0 ∙ kept.2)))
-    (subst (λ (x : State). RunRinged o (done ++ driven c.args.n old.next c.args.speed []) r3 p3 (devices (g.M.Medium.state c.args.unit.now) x (g.D.Chip.state c.turn.new.card_b))) (sym (ap g.C.Chip.state (turn_still.1 ∙ kept.3)))
-    (subst (λ (x : State). RunRinged o (done ++ driven c.args.n old.next c.args.speed []) r3 p3 (devices (g.M.Medium.state c.args.unit.now) (g.C.Chip.state c.args.card_a.now) x)) (sym (ap g.D.Chip.state (turn_still.2 ∙ kept.4)))
-    (dark-ringed o done old out d0 r c.args.n c.args.speed 0 [] c.requires.some none c.requires.minute r3 p3 is told))))
+    stepped g c RunRinged InSecondRinged o done (c.in_ok-begin_second.ensures.ringed o done (second g c) (record { number = refl; given = refl; speed_is = refl }) r (time-begun g c time))
+    (λ in_. c.turn.ensures.ringed o done (second g c) (now-begun g c) refl (λ more. (refl, last)) in_ time)
+    (λ away. dark-ringed o done c.args.run.now c.args.outcome.now (dev0 g c) r c.args.n c.args.speed 0 [] c.requires.some (none-given g c away) c.requires.minute c.turn.new.run c.turn.new.outcome (passed-on g c away) (refused-none g c away))
 
 pub returns-in_err-begin_second-clause-ringed : goal.returns-in_err-begin_second-clause-ringed
 returns-in_err-begin_second-clause-ringed g c = λ o done last r time.
@@ -114,38 +146,13 @@ returns-in_err-begin_second-clause-ringed g c = λ o done last r time.
 
 pub returns-clause-cards : goal.returns-clause-cards
 returns-clause-cards g c = λ o done last r time.
-    let old = c.args.run.now in
-    let out = c.args.outcome.now in
-    let s : TraceSecond = record { number = old.next; has_power = true; speed = c.args.speed; actions = [] } in
-    let d0 : Devices = devices (g.M.Medium.state c.args.unit.now) (g.C.Chip.state c.args.card_a.now) (g.D.Chip.state c.args.card_b.now) in
-    let d1 : Devices = devices (g.M.Medium.state c.begin_second.new.unit) (g.C.Chip.state c.begin_second.new.card_a) (g.D.Chip.state c.begin_second.new.card_b) in
-    let d3 : Devices = devices (g.M.Medium.state c.turn.new.unit) (g.C.Chip.state c.turn.new.card_a) (g.D.Chip.state c.turn.new.card_b) in
-    let r1 : Run = c.begin_second.new.run in
-    let r3 : Run = c.turn.new.run in
-    let p1 : Outcome = c.begin_second.new.outcome in
-    let p3 : Outcome = c.turn.new.outcome in
-    let begun_next : r1.next ≡ old.next = c.in_ok-begin_second.ensures.next in
-    let all_ : done ++ s ∷ driven (c.args.n - 1) (old.next + 1) c.args.speed [] ≡ done ++ driven c.args.n old.next c.args.speed [] = ap (λ (ss : List TraceSecond). done ++ ss) (sym (first-driven c.args.n old.next c.args.speed [] c.requires.some)) in
-    let begun = c.in_ok-begin_second.ensures.cards o done s (record { number = refl; given = refl; speed_is = refl }) r (time-before d1 d3 c.turn.ensures.clock c.turn.ensures.clock_a c.turn.ensures.clock_b time) in
-    by-power RunCarded InSecondCarded c.in_ok-begin_second.field-0 o done s r1 p1 d1 begun
-    (λ lit in_.
-    subst (λ (ss : List TraceSecond). RunCarded o ss r3 p3 d3) all_
-    (turned-carded o done s c.args.n c.args.speed 0 r1 r3 p1 p3 d1 d3 refl (let low = c.requires.going.low in let positive : 0 < s.number = omega (arith, low) in positive) in_ c.turn.ensures.turned
-    (λ x. c.turn.ensures.ringed o done s (record { number = sym begun_next; given = refl; speed_is = refl }) refl (λ more. (refl, last)) x time)
-    (λ x. c.turn.ensures.cards o done s (record { number = sym begun_next; given = refl; speed_is = refl }) refl (λ more. refl) x time)))
-    (λ away was.
-    let kept = c.in_ok-begin_second.ensures.dark away in
-    let none : has_power old.power old.next ≡ false = sym c.in_ok-begin_second.ensures.power ∙ away in
-    let dark_old : is_lit old.power ≡ false = away-dark old.power old.next none in
-    let dark1 : is_lit r1.power ≡ false = ap (λ (x : Run). is_lit x.power) kept.0 ∙ dark_old in
-    let turn_still = c.turn.ensures.dark dark1 in
-    let passes = passes-dark r1 r3 p1 p3 c.args.n c.args.speed 0 dark1 c.turn.ensures.turned in
-    let is : r3 ≡ passed c.args.n 0 old = passes.0 ∙ ap (passed c.args.n 0) kept.0 in
-    let told : p3 ≡ record out { refused = with_lines (refused_dark old.next []) out.refused } = passes.1 ∙ kept.1 ∙ none-refused out in
-    subst (λ (x : State). RunCarded o (done ++ driven c.args.n old.next c.args.speed []) r3 p3 (devices x (g.C.Chip.state c.turn.new.card_a) (g.D.Chip.state c.turn.new.card_b))) (sym (ap g.M.Medium.state (turn_still.0 ∙ kept.2)))
-    (subst (λ (x : State). RunCarded o (done ++ driven c.args.n old.next c.args.speed []) r3 p3 (devices (g.M.Medium.state c.args.unit.now) x (g.D.Chip.state c.turn.new.card_b))) (sym (ap g.C.Chip.state (turn_still.1 ∙ kept.3)))
-    (subst (λ (x : State). RunCarded o (done ++ driven c.args.n old.next c.args.speed []) r3 p3 (devices (g.M.Medium.state c.args.unit.now) (g.C.Chip.state c.args.card_a.now) x)) (sym (ap g.D.Chip.state (turn_still.2 ∙ kept.4)))
-    (dark-carded o done old out d0 r c.requires.going.low c.args.n c.args.speed 0 [] c.requires.some none c.requires.minute r3 p3 is told))))
+    let low = c.requires.going.low in
+    let positive : 0 < c.args.run.now.next = omega (arith, low) in
+    stepped g c RunCarded InSecondCarded o done (c.in_ok-begin_second.ensures.cards o done (second g c) (record { number = refl; given = refl; speed_is = refl }) r (time-begun g c time))
+    (λ in_. turned-carded o done (second g c) c.args.n c.args.speed 0 c.begin_second.new.run c.turn.new.run c.begin_second.new.outcome c.turn.new.outcome (dev1 g c) (dev2 g c) refl positive in_ c.turn.ensures.turned
+    (λ x. c.turn.ensures.ringed o done (second g c) (now-begun g c) refl (λ more. (refl, last)) x time)
+    (λ x. c.turn.ensures.cards o done (second g c) (now-begun g c) refl (λ more. refl) x time))
+    (λ away. dark-carded o done c.args.run.now c.args.outcome.now (dev0 g c) r c.requires.going.low c.args.n c.args.speed 0 [] c.requires.some (none-given g c away) c.requires.minute c.turn.new.run c.turn.new.outcome (passed-on g c away) (refused-none g c away))
 
 pub returns-in_err-begin_second-clause-cards : goal.returns-in_err-begin_second-clause-cards
 returns-in_err-begin_second-clause-cards g c = λ o done last r time.
@@ -163,7 +170,7 @@ returns-in_err-begin_second-clause-broke g c = c.in_err-begin_second.ensures.bro
 -- ---- where no tear of a failed call is told no card has broken down
 
 pub returns-clause-calm : goal.returns-clause-calm
-returns-clause-calm g c = calm-then (devices (g.M.Medium.state c.args.unit.now) (g.C.Chip.state c.args.card_a.now) (g.D.Chip.state c.args.card_b.now)) (devices (g.M.Medium.state c.begin_second.new.unit) (g.C.Chip.state c.begin_second.new.card_a) (g.D.Chip.state c.begin_second.new.card_b)) (devices (g.M.Medium.state c.turn.new.unit) (g.C.Chip.state c.turn.new.card_a) (g.D.Chip.state c.turn.new.card_b)) c.in_ok-begin_second.ensures.calm c.turn.ensures.calm
+returns-clause-calm g c = calm-then (dev0 g c) (dev1 g c) (dev2 g c) c.in_ok-begin_second.ensures.calm c.turn.ensures.calm
 
 pub returns-in_err-begin_second-clause-calm : goal.returns-in_err-begin_second-clause-calm
 returns-in_err-begin_second-clause-calm g c = c.in_err-begin_second.ensures.calm

@@ -1,16 +1,16 @@
-use Rattle.std.proofs.Common.{rules, ◌≡◌, ◌∙◌, inl, inr, ◌+◌, ◌/◌, ◌≤◌, Bool, true, false, Some, None, List, [], ◌∷◌, ◌++◌, length, refl, ap, sym, subst, arith}
+use Rattle.std.proofs.Common.{rules, ◌≡◌, ◌∙◌, inl, inr, ◌+◌, ◌/◌, ◌≤◌, Bool, true, false, Some, None, List, [], ◌∷◌, ◌++◌, length, refl, ap, sym, subst, arith, ◌*◌}
 use Rattle.tach_media.proofs.Runs.{cause_after}
 use Rattle.minute_model.specs.Span.{ungiven_of}
 use Rattle.run_crew.specs.declared.cabin.Cabin.{Cabin}
-use Rattle.run_crew.specs.Cabin.{Stands}
+use Rattle.run_crew.specs.Cabin.{Stands, with_card_in}
 use Rattle.run_acts.specs.Power.{with_cabin}
 use Rattle.run_acts.specs.Going.{IsHeld, IsLit}
 use Rattle.run_acts.specs.Room.{Takes, waiting}
 use Rattle.slot_machine.specs.Calls.{seat_in}
-use Rattle.run_acts.specs.Acting.{IsSettled, IsBareIn}
+use Rattle.run_acts.specs.Acting.{IsSettled, IsBareIn, told_of}
 use Rattle.recorder_with_cards.proofs.Puts.{put-held, put-going, put-takes, put-then, put-bare, put-falls, seat-put}
 use Rattle.std.specs.Prelude.{is_err}
-use Rattle.log_model.specs.Log.{In}
+use Rattle.log_model.specs.Log.{In, RunLog}
 use Rattle.safety_model.specs.Safe.{Devices}
 use Rattle.run_rule.specs.Between.{devices}
 use Rattle.run_outcome.specs.declared.outcome.Outcome.{Outcome}
@@ -22,12 +22,10 @@ use Rattle.run_acts.specs.Settling.{RecordsSettling}
 use Rattle.run_evented.specs.Noting.{Acting}
 use Rattle.run_acts.specs.Evented.{EventsGoOn, EventsSettling}
 use Rattle.log_model.specs.declared.lines.Break.{Break}
-use Rattle.log_model.specs.Log.{RunLog}
 use Rattle.trace_model.specs.declared.Action.TheVariants.{Insert}
 use Rattle.run_keeping.specs.declared.keeper.Moment.{Moment}
 use Rattle.run_moments.specs.Moment.{entering_by}
 use Rattle.run_rings.specs.Spans.{with_second}
-use Rattle.run_acts.specs.Acting.{told_of}
 use Rattle.run_acts.specs.RunRinged.{RingsGoOn}
 use Rattle.run_acts.proofs.RingedLines.{AreTears, up-to-tells}
 use Rattle.run_acts.proofs.RingedSecond.{more-left}
@@ -51,7 +49,73 @@ use Rattle.run_acts.specs.RunCards.{vehicle_in, StillShow, CardsSettling, Places
 use Rattle.recorder_with_cards.proofs.InsertedCards.{unsettled-cards, inserted-cards}
 use Rattle.recorder_with_cards.proofs.Staying.{settled-watched}
 use Rattle.run_keeping.proofs.Calm.{calm-then}
+use Rattle.run_keeping.specs.Books.{HaveTime}
+use Rattle.run_outcome.specs.declared.outcome.TheConstants.{MOST_OWED}
+use Rattle.recorder_with_cards.proofs.inserting.insert.Given.{Over}
+use Rattle.recorder_with_cards.proofs.inserting.insert.Goals.{After-accept_in, After-from_residual, After-settle, In_ok-settle}
 use Rattle.recorder_with_cards.proofs.inserting.insert.Goals as goal
+
+-- ---- WHAT THE SETTLING LEAVES
+
+module _ (g : Over) (c : After-settle g) where
+  abbrev put : Run
+  put = put_run c.args.slot c.args.card c.args.run.now
+
+  abbrev found : Devices
+  found = devices (g.M.Medium.state c.args.unit.now) (g.C.Chip.state c.args.card_a.now) (g.D.Chip.state c.args.card_b.now)
+
+  abbrev settled : Devices
+  settled = devices (g.M.Medium.state c.settle.new.unit) (g.C.Chip.state c.settle.new.card_a) (g.D.Chip.state c.settle.new.card_b)
+
+  bare : IsBareIn (with_card_in c.args.slot c.args.card c.args.run.now.keeper.cabin) c.args.slot
+  bare =
+      let h = c.requires.going in
+      put-bare c.args.slot c.args.card c.args.run.now.keeper.cabin (ungiven_of h.span) (subst (λ (b : Cabin). Stands (ungiven_of h.span) None b) c.put_in.ensures.kept (c.put_in.ensures.stands (ungiven_of h.span) h.cabin))
+
+  taken : Takes 0 0 0 put c.settle.new.run c.args.outcome.now c.settle.new.outcome
+  taken = subst (λ (b : Cabin). Takes 0 0 0 (with_cabin b c.args.run.now) c.settle.new.run c.args.outcome.now c.settle.new.outcome) c.put_in.ensures.kept c.settle.ensures.takes
+
+-- the card sits in its slot
+seat-there : (g : Over) (c : In_ok-settle g) → seat_in c.settle.new.run.keeper.cabin.slots.seats c.args.slot ≡ Some (record { card = c.args.card; newest = None })
+seat-there g c =
+    let h = c.requires.going in
+    let cabin = c.args.run.now.keeper.cabin in
+    let stands = subst (λ (b : Cabin). Stands (ungiven_of h.span) None b) c.put_in.ensures.kept (c.put_in.ensures.stands (ungiven_of h.span) h.cabin) in
+    let here = subst (λ (b : Cabin). IsBareIn b c.args.slot) (sym c.put_in.ensures.kept) (put-bare c.args.slot c.args.card cabin (ungiven_of h.span) stands) in
+    (c.in_ok-settle.ensures.bare c.args.slot here).0 ∙ ap (λ (b : Cabin). seat_in b.slots.seats c.args.slot) c.put_in.ensures.kept ∙ seat-put c.args.slot c.args.card cabin
+
+-- where the unit failed
+module _ (g : Over) (c : After-from_residual g) where
+  failed : true ≡ is_err c.from_residual.result
+  failed = search rules
+
+  unsettles : IsSettled c.args.at true (put_run c.args.slot c.args.card c.args.run.now) c.settle.new.run c.args.outcome.now c.settle.new.outcome
+  unsettles = subst (λ (b : Cabin). IsSettled c.args.at true (with_cabin b c.args.run.now) c.settle.new.run c.args.outcome.now c.settle.new.outcome) c.put_in.ensures.kept c.in_err-settle.ensures.settled
+
+-- and where the card was judged
+module _ (g : Over) (c : After-accept_in g) where
+  abbrev settling : After-settle g
+  settling = (goal.at.returns-clause-cause g c).After-settle
+
+  abbrev behind : Devices
+  behind = devices (g.M.Medium.state c.accept_in.new.unit) (g.C.Chip.state c.accept_in.new.card_a) (g.D.Chip.state c.accept_in.new.card_b)
+
+  settles : IsSettled c.args.at false (put g settling) c.settle.new.run c.args.outcome.now c.settle.new.outcome
+  settles = subst (λ (b : Cabin). IsSettled c.args.at false (with_cabin b c.args.run.now) c.settle.new.run c.args.outcome.now c.settle.new.outcome) c.put_in.ensures.kept c.in_ok-settle.ensures.settled
+
+  records : RecordsSettling c.in_ok-settle.ensures.recorded.0 c.args.at false (put g settling) c.settle.new.run c.args.outcome.now c.settle.new.outcome (found g settling) (settled g settling)
+  records =
+      subst (λ (b : Cabin). RecordsSettling c.in_ok-settle.ensures.recorded.0 c.args.at false (with_cabin b c.args.run.now) c.settle.new.run c.args.outcome.now c.settle.new.outcome (found g settling) (settled g settling)) c.put_in.ensures.kept c.in_ok-settle.ensures.recorded.2
+
+  time-settled : HaveTime behind → HaveTime (settled g settling)
+  time-settled time = time-before (settled g settling) behind c.accept_in.ensures.clock c.accept_in.ensures.clock_a c.accept_in.ensures.clock_b time
+
+  room-then : length c.args.outcome.now.marks.items + 3 * c.args.run.now.minutes.owing + MOST_OWED ≤ c.args.outcome.now.marks.room → length c.settle.new.outcome.marks.items + MOST_OWED ≤ c.settle.new.outcome.marks.room
+  room-then room =
+      let marks = (taken g settling).marks in
+      let rooms = (taken g settling).rooms.0 in
+      let was = ap (λ (p : Power). waiting p c.args.run.now.minutes.owing) c.requires.lit in
+      omega (arith, room, marks, rooms, was)
 
 pub settle-requires-clause-held : goal.settle-requires-clause-held
 settle-requires-clause-held g c =
@@ -72,13 +136,13 @@ pub returns-in_err-settle-clause-takes : goal.returns-in_err-settle-clause-takes
 returns-in_err-settle-clause-takes g c =
     let run = c.args.run.now in
     put-takes c.args.slot c.args.card run c.requires.empty c.settle.new.run c.args.outcome.now c.settle.new.outcome
-    (subst (λ (b : Cabin). Takes 0 0 0 (with_cabin b run) c.settle.new.run c.args.outcome.now c.settle.new.outcome) c.put_in.ensures.kept c.settle.ensures.takes)
+    (taken g (goal.at.returns-in_err-settle-clause-takes g c).After-settle)
 
 pub returns-clause-takes : goal.returns-clause-takes
 returns-clause-takes g c =
     let run = c.args.run.now in
     put-then c.args.slot c.args.card run c.requires.empty c.settle.new.run c.accept_in.new.run c.args.outcome.now c.settle.new.outcome c.accept_in.new.outcome
-    (subst (λ (b : Cabin). Takes 0 0 0 (with_cabin b run) c.settle.new.run c.args.outcome.now c.settle.new.outcome) c.put_in.ensures.kept c.settle.ensures.takes) c.accept_in.ensures.takes
+    (taken g (settling g c)) c.accept_in.ensures.takes
 
 pub returns-clause-cause : goal.returns-clause-cause
 returns-clause-cause g c = cause_after c.in_ok-settle.ensures.cause c.accept_in.ensures.cause
@@ -103,15 +167,11 @@ returns-clause-inserted g c =
     })
 
 pub accept_in-requires-clause-seat : goal.accept_in-requires-clause-seat
-accept_in-requires-clause-seat g c =
-    let h = c.requires.going in let cabin = c.args.run.now.keeper.cabin in
-    let stands = subst (λ (b : Cabin). Stands (ungiven_of h.span) None b) c.put_in.ensures.kept (c.put_in.ensures.stands (ungiven_of h.span) h.cabin) in
-    let bare = subst (λ (b : Cabin). IsBareIn b c.args.slot) (sym c.put_in.ensures.kept) (put-bare c.args.slot c.args.card cabin (ungiven_of h.span) stands) in
-    (c.in_ok-settle.ensures.bare c.args.slot bare).0 ∙ ap (λ (b : Cabin). seat_in b.slots.seats c.args.slot) c.put_in.ensures.kept ∙ seat-put c.args.slot c.args.card cabin
+accept_in-requires-clause-seat g c = seat-there g (goal.at.accept_in-requires-clause-seat g c).In_ok-settle
 
 pub accept_in-requires-clause-breaks : goal.accept_in-requires-clause-breaks
 accept_in-requires-clause-breaks g c =
-    let t = (subst (λ (b : Cabin). Takes 0 0 0 (with_cabin b c.args.run.now) c.settle.new.run c.args.outcome.now c.settle.new.outcome) c.put_in.ensures.kept c.settle.ensures.takes).breaks in
+    let t = (taken g (goal.at.accept_in-requires-clause-breaks g c).After-settle).breaks in
     let room = c.settle.ensures.takes.rooms.1 in let f = put-falls c.args.slot c.args.card c.args.run.now.keeper.cabin c.requires.empty in
     let had = c.requires.breaks in
     omega (arith, t, room, f, had)
@@ -120,90 +180,36 @@ accept_in-requires-clause-breaks g c =
 
 pub returns-in_err-settle-clause-recorded : goal.returns-in_err-settle-clause-recorded
 returns-in_err-settle-clause-recorded g c = λ late room o done s now front rest actions begun allowed within time.
-    let run = c.args.run.now in
-    let out = c.args.outcome.now in
-    let h = c.requires.going in
-    let mid : Run = c.settle.new.run in
-    let told : Outcome = c.settle.new.outcome in
-    let d : Devices = devices (g.M.Medium.state c.args.unit.now) (g.C.Chip.state c.args.card_a.now) (g.D.Chip.state c.args.card_b.now) in
-    let e : Devices = devices (g.M.Medium.state c.settle.new.unit) (g.C.Chip.state c.settle.new.card_a) (g.D.Chip.state c.settle.new.card_b) in
+    let at = (goal.at.returns-in_err-settle-clause-recorded g c).After-settle in
     let r = c.in_err-settle.ensures.recorded in
-    let settles = subst (λ (b : Cabin). IsSettled c.args.at true (with_cabin b run) mid out told) c.put_in.ensures.kept c.in_err-settle.ensures.settled in
-    let records = subst (λ (b : Cabin). RecordsSettling r.0 c.args.at true (with_cabin b run) mid out told d e) c.put_in.ensures.kept r.2 in
-    let fails = unsettled c.args.slot c.args.card c.args.at c.args.speed run out d o done s now front rest actions c.requires.at begun late allowed within (ungiven_of c.requires.going.span) c.requires.going.cabin mid told true settles r.0 r.1 e records time refl in
-    let failed : true ≡ is_err c.from_residual.result = search rules in
-    subst (λ (f : Bool). GoesOnOrFails f o done s (In c.args.at.begun) [] mid told e within.within.b) failed fails
+    let records = subst (λ (b : Cabin). RecordsSettling r.0 c.args.at true (with_cabin b c.args.run.now) c.settle.new.run c.args.outcome.now c.settle.new.outcome (found g at) (settled g at)) c.put_in.ensures.kept r.2 in
+    let fails = unsettled c.args.slot c.args.card c.args.at c.args.speed c.args.run.now c.args.outcome.now (found g at) o done s now front rest actions c.requires.at begun late allowed within (ungiven_of c.requires.going.span) c.requires.going.cabin c.settle.new.run c.settle.new.outcome true (unsettles g c) r.0 r.1 (settled g at) records time refl in
+    subst (λ (f : Bool). GoesOnOrFails f o done s (In c.args.at.begun) [] c.settle.new.run c.settle.new.outcome (settled g at) within.within.b) (failed g c) fails
 
 pub returns-clause-recorded : goal.returns-clause-recorded
 returns-clause-recorded g c = λ late room o done s now front rest actions begun allowed within time.
-    let run = c.args.run.now in
-    let out = c.args.outcome.now in
-    let h = c.requires.going in
-    let mid : Run = c.settle.new.run in
-    let told : Outcome = c.settle.new.outcome in
-    let d : Devices = devices (g.M.Medium.state c.args.unit.now) (g.C.Chip.state c.args.card_a.now) (g.D.Chip.state c.args.card_b.now) in
-    let e : Devices = devices (g.M.Medium.state c.settle.new.unit) (g.C.Chip.state c.settle.new.card_a) (g.D.Chip.state c.settle.new.card_b) in
-    let last : Devices = devices (g.M.Medium.state c.accept_in.new.unit) (g.C.Chip.state c.accept_in.new.card_a) (g.D.Chip.state c.accept_in.new.card_b) in
     let r = c.in_ok-settle.ensures.recorded in
-    let stands = subst (λ (b : Cabin). Stands (ungiven_of h.span) None b) c.put_in.ensures.kept (c.put_in.ensures.stands (ungiven_of h.span) h.cabin) in
-    let bare = subst (λ (b : Cabin). IsBareIn b c.args.slot) (sym c.put_in.ensures.kept) (put-bare c.args.slot c.args.card run.keeper.cabin (ungiven_of h.span) stands) in
-    let seat = (c.in_ok-settle.ensures.bare c.args.slot bare).0 ∙ ap (λ (b : Cabin). seat_in b.slots.seats c.args.slot) c.put_in.ensures.kept ∙ seat-put c.args.slot c.args.card run.keeper.cabin in
-    let settles = subst (λ (b : Cabin). IsSettled c.args.at false (with_cabin b run) mid out told) c.put_in.ensures.kept c.in_ok-settle.ensures.settled in
-    let records = subst (λ (b : Cabin). RecordsSettling r.0 c.args.at false (with_cabin b run) mid out told d e) c.put_in.ensures.kept r.2 in
-    let t = (subst (λ (b : Cabin). Takes 0 0 0 (with_cabin b run) mid out told) c.put_in.ensures.kept c.settle.ensures.takes) in
-    let marks = t.marks in
-    let rooms = t.rooms.0 in
-    let was = ap (λ (p : Power). waiting p run.minutes.owing) c.requires.lit in
-    inserted c.args.slot c.args.card c.args.at c.args.speed run out d o done s now front rest actions c.requires.at begun late allowed within (ungiven_of c.requires.going.span) c.requires.going.cabin mid told false settles r.0 r.1 e records
-    (time-before e last c.accept_in.ensures.clock c.accept_in.ensures.clock_a c.accept_in.ensures.clock_b time) refl seat (is_err c.accept_in.result) c.accept_in.new.run c.accept_in.new.outcome last
-    (c.accept_in.ensures.recorded (omega (arith, room, marks, rooms, was))) time
+    inserted c.args.slot c.args.card c.args.at c.args.speed c.args.run.now c.args.outcome.now (found g (settling g c)) o done s now front rest actions c.requires.at begun late allowed within (ungiven_of c.requires.going.span) c.requires.going.cabin c.settle.new.run c.settle.new.outcome false (settles g c) r.0 r.1 (settled g (settling g c)) (records g c)
+    (time-settled g c time) refl (seat-there g (goal.at.returns-clause-recorded g c).In_ok-settle) (is_err c.accept_in.result) c.accept_in.new.run c.accept_in.new.outcome (behind g c)
+    (c.accept_in.ensures.recorded (room-then g c room)) time
 
 -- ---- the events of it
 
 pub returns-in_err-settle-clause-evented : goal.returns-in_err-settle-clause-evented
 returns-in_err-settle-clause-evented g c = λ late room o done s now front rest actions begun allowed within events time.
-    let run = c.args.run.now in
-    let out = c.args.outcome.now in
-    let h = c.requires.going in
-    let mid : Run = c.settle.new.run in
-    let told : Outcome = c.settle.new.outcome in
-    let d : Devices = devices (g.M.Medium.state c.args.unit.now) (g.C.Chip.state c.args.card_a.now) (g.D.Chip.state c.args.card_b.now) in
-    let e : Devices = devices (g.M.Medium.state c.settle.new.unit) (g.C.Chip.state c.settle.new.card_a) (g.D.Chip.state c.settle.new.card_b) in
+    let at = (goal.at.returns-in_err-settle-clause-evented g c).After-settle in
     let r = c.in_err-settle.ensures.evented in
-    let stands = subst (λ (b : Cabin). Stands (ungiven_of h.span) None b) c.put_in.ensures.kept (c.put_in.ensures.stands (ungiven_of h.span) h.cabin) in
-    let bare = put-bare c.args.slot c.args.card run.keeper.cabin (ungiven_of h.span) stands in
-    let settles = subst (λ (b : Cabin). IsSettled c.args.at true (with_cabin b run) mid out told) c.put_in.ensures.kept c.in_err-settle.ensures.settled in
-    let notes = subst (λ (b : Cabin). EventsSettling r.0 c.args.at true (with_cabin b run) mid out told d e) c.put_in.ensures.kept r.2 in
-    let fails = unsettled-evented c.args.slot c.args.card c.args.at c.args.speed run out d o done s now front rest actions c.requires.at begun late allowed within (ungiven_of c.requires.going.span) c.requires.going.cabin bare mid told true settles r.0 r.1 e notes time events refl in
-    let failed : true ≡ is_err c.from_residual.result = search rules in
-    subst (λ (f : Bool). EventsGoOn f o done s within.within.b.run (In c.args.at.begun) Acting (log_of told) e) failed fails
+    let notes = subst (λ (b : Cabin). EventsSettling r.0 c.args.at true (with_cabin b c.args.run.now) c.settle.new.run c.args.outcome.now c.settle.new.outcome (found g at) (settled g at)) c.put_in.ensures.kept r.2 in
+    let fails = unsettled-evented c.args.slot c.args.card c.args.at c.args.speed c.args.run.now c.args.outcome.now (found g at) o done s now front rest actions c.requires.at begun late allowed within (ungiven_of c.requires.going.span) c.requires.going.cabin (bare g at) c.settle.new.run c.settle.new.outcome true (unsettles g c) r.0 r.1 (settled g at) notes time events refl in
+    subst (λ (f : Bool). EventsGoOn f o done s within.within.b.run (In c.args.at.begun) Acting (log_of c.settle.new.outcome) (settled g at)) (failed g c) fails
 
 pub returns-clause-evented : goal.returns-clause-evented
 returns-clause-evented g c = λ late room o done s now front rest actions begun allowed within events time.
-    let run = c.args.run.now in
-    let out = c.args.outcome.now in
-    let h = c.requires.going in
-    let mid : Run = c.settle.new.run in
-    let told : Outcome = c.settle.new.outcome in
-    let d : Devices = devices (g.M.Medium.state c.args.unit.now) (g.C.Chip.state c.args.card_a.now) (g.D.Chip.state c.args.card_b.now) in
-    let e : Devices = devices (g.M.Medium.state c.settle.new.unit) (g.C.Chip.state c.settle.new.card_a) (g.D.Chip.state c.settle.new.card_b) in
-    let last : Devices = devices (g.M.Medium.state c.accept_in.new.unit) (g.C.Chip.state c.accept_in.new.card_a) (g.D.Chip.state c.accept_in.new.card_b) in
     let r = c.in_ok-settle.ensures.evented in
     let q = c.in_ok-settle.ensures.recorded in
-    let stands = subst (λ (b : Cabin). Stands (ungiven_of h.span) None b) c.put_in.ensures.kept (c.put_in.ensures.stands (ungiven_of h.span) h.cabin) in
-    let put = put-bare c.args.slot c.args.card run.keeper.cabin (ungiven_of h.span) stands in
-    let bare = subst (λ (b : Cabin). IsBareIn b c.args.slot) (sym c.put_in.ensures.kept) put in
-    let seat = (c.in_ok-settle.ensures.bare c.args.slot bare).0 ∙ ap (λ (b : Cabin). seat_in b.slots.seats c.args.slot) c.put_in.ensures.kept ∙ seat-put c.args.slot c.args.card run.keeper.cabin in
-    let settles = subst (λ (b : Cabin). IsSettled c.args.at false (with_cabin b run) mid out told) c.put_in.ensures.kept c.in_ok-settle.ensures.settled in
-    let t = (subst (λ (b : Cabin). Takes 0 0 0 (with_cabin b run) mid out told) c.put_in.ensures.kept c.settle.ensures.takes) in
-    let marks = t.marks in
-    let rooms = t.rooms.0 in
-    let was = ap (λ (p : Power). waiting p run.minutes.owing) c.requires.lit in
-    let notes = subst (λ (b : Cabin). EventsSettling r.0 c.args.at false (with_cabin b run) mid out told d e) c.put_in.ensures.kept r.2 in
-    let records = subst (λ (b : Cabin). RecordsSettling q.0 c.args.at false (with_cabin b run) mid out told d e) c.put_in.ensures.kept q.2 in
-    let before = time-before e last c.accept_in.ensures.clock c.accept_in.ensures.clock_a c.accept_in.ensures.clock_b time in
-    inserted-evented c.args.slot c.args.card c.args.at c.args.speed run out d o done s now front rest actions c.requires.at begun late allowed within (ungiven_of c.requires.going.span) c.requires.going.cabin put mid told false settles r.0 r.1 e notes before events
-    q.0 q.1 records refl seat (is_err c.accept_in.result) c.accept_in.new.run c.accept_in.new.outcome last (c.accept_in.ensures.evented (omega (arith, room, marks, rooms, was))) time
+    let notes = subst (λ (b : Cabin). EventsSettling r.0 c.args.at false (with_cabin b c.args.run.now) c.settle.new.run c.args.outcome.now c.settle.new.outcome (found g (settling g c)) (settled g (settling g c))) c.put_in.ensures.kept r.2 in
+    inserted-evented c.args.slot c.args.card c.args.at c.args.speed c.args.run.now c.args.outcome.now (found g (settling g c)) o done s now front rest actions c.requires.at begun late allowed within (ungiven_of c.requires.going.span) c.requires.going.cabin (bare g (settling g c)) c.settle.new.run c.settle.new.outcome false (settles g c) r.0 r.1 (settled g (settling g c)) notes (time-settled g c time) events
+    q.0 q.1 (records g c) refl (seat-there g (goal.at.returns-clause-evented g c).In_ok-settle) (is_err c.accept_in.result) c.accept_in.new.run c.accept_in.new.outcome (behind g c) (c.accept_in.ensures.evented (room-then g c room)) time
 
 -- ---- its insertion in the rings of the run
 
@@ -218,7 +224,7 @@ returns-in_err-settle-clause-ringed g c = λ late room o done s now front rest a
     let V : State = g.M.Medium.state c.settle.new.unit in
     let d : Devices = devices U (g.C.Chip.state c.args.card_a.now) (g.D.Chip.state c.args.card_b.now) in
     let e : Devices = devices V (g.C.Chip.state c.settle.new.card_a) (g.D.Chip.state c.settle.new.card_b) in
-    let settles : IsSettled c.args.at true put mid out told = subst (λ (b : Cabin). IsSettled c.args.at true (with_cabin b run) mid out told) c.put_in.ensures.kept c.in_err-settle.ensures.settled in
+    let settles = unsettles g c in
     let lines = up-to-tells c.args.at settles.decided true (told_of put out) (told_of mid told) settles.kept in
     let at = at-is c.args.slot c.args.card c.args.at c.args.speed run out d o done s now front rest actions c.requires.at begun late allowed within (ungiven_of c.requires.going.span) c.requires.going.cabin in
     let v = c.in_err-settle.ensures.places in
@@ -230,33 +236,23 @@ returns-in_err-settle-clause-ringed g c = λ late room o done s now front rest a
     (settling-leaves c.args.at true (with_cabin c.put_in.new.self run) mid out told U V c.in_err-settle.ensures.noted)
     (more-left o d e (within.within.powered.lit.unit.unit_holds [] []).later within.within.there.clocks c.settle.ensures.keeps) places
     (fewer-seats put mid (ap (λ (r : Run). r.noted) settles.only) lines.sessions) lines.odometer (ap (λ (r : Run). r.noted) settles.only) in
-    let failed : true ≡ is_err c.from_residual.result = search rules in
-    subst (λ (f : Bool). RingsGoOn f o done s within.within.b (front ++ Insert c.args.slot c.args.card ∷ []) mid (log_of told) spans t e) failed rung
+    subst (λ (f : Bool). RingsGoOn f o done s within.within.b (front ++ Insert c.args.slot c.args.card ∷ []) mid (log_of told) spans t e) (failed g c) rung
 
 pub returns-clause-ringed : goal.returns-clause-ringed
 returns-clause-ringed g c = λ late room o done s now front rest actions begun allowed within spans t rings time.
     let run = c.args.run.now in
     let out = c.args.outcome.now in
-    let h = c.requires.going in
     let put : Run = put_run c.args.slot c.args.card run in
     let mid : Run = c.settle.new.run in
     let told : Outcome = c.settle.new.outcome in
     let U : State = g.M.Medium.state c.args.unit.now in
     let V : State = g.M.Medium.state c.settle.new.unit in
-    let d : Devices = devices U (g.C.Chip.state c.args.card_a.now) (g.D.Chip.state c.args.card_b.now) in
-    let e : Devices = devices V (g.C.Chip.state c.settle.new.card_a) (g.D.Chip.state c.settle.new.card_b) in
-    let last : Devices = devices (g.M.Medium.state c.accept_in.new.unit) (g.C.Chip.state c.accept_in.new.card_a) (g.D.Chip.state c.accept_in.new.card_b) in
+    let d = found g (settling g c) in
+    let e = settled g (settling g c) in
+    let last = behind g c in
     let q = c.in_ok-settle.ensures.recorded in
-    let stands = subst (λ (b : Cabin). Stands (ungiven_of h.span) None b) c.put_in.ensures.kept (c.put_in.ensures.stands (ungiven_of h.span) h.cabin) in
-    let bare = subst (λ (b : Cabin). IsBareIn b c.args.slot) (sym c.put_in.ensures.kept) (put-bare c.args.slot c.args.card run.keeper.cabin (ungiven_of h.span) stands) in
-    let seat = (c.in_ok-settle.ensures.bare c.args.slot bare).0 ∙ ap (λ (b : Cabin). seat_in b.slots.seats c.args.slot) c.put_in.ensures.kept ∙ seat-put c.args.slot c.args.card run.keeper.cabin in
-    let settles : IsSettled c.args.at false put mid out told = subst (λ (b : Cabin). IsSettled c.args.at false (with_cabin b run) mid out told) c.put_in.ensures.kept c.in_ok-settle.ensures.settled in
-    let u = (subst (λ (b : Cabin). Takes 0 0 0 (with_cabin b run) mid out told) c.put_in.ensures.kept c.settle.ensures.takes) in
-    let marks = u.marks in
-    let rooms = u.rooms.0 in
-    let was = ap (λ (p : Power). waiting p run.minutes.owing) c.requires.lit in
-    let records = subst (λ (b : Cabin). RecordsSettling q.0 c.args.at false (with_cabin b run) mid out told d e) c.put_in.ensures.kept q.2 in
-    let before = time-before e last c.accept_in.ensures.clock c.accept_in.ensures.clock_a c.accept_in.ensures.clock_b time in
+    let settles = settles g c in
+    let before = time-settled g c time in
     let lines = up-to-tells c.args.at settles.decided false (told_of put out) (told_of mid told) settles.kept in
     let at = at-is c.args.slot c.args.card c.args.at c.args.speed run out d o done s now front rest actions c.requires.at begun late allowed within (ungiven_of c.requires.going.span) c.requires.going.cabin in
     let fine = refuses o done s c.args.speed run out d now front (Insert c.args.slot c.args.card) rest actions within None allowed in
@@ -271,9 +267,9 @@ returns-clause-ringed g c = λ late room o done s now front rest actions begun a
     let noted : mid.noted ≡ run.noted = ap (λ (r : Run). r.noted) settles.only in
     let fewer = fewer-seats put mid noted lines.sessions in
     let counted : mid.noted ≤ length (log_of told).finds = let few = rings.counted in let same = ap (λ (l : RunLog). length l.finds) log in omega (arith, few, same, noted) in
-    let j = next-judged c.args.slot c.args.card c.args.at c.args.speed run out d o done s now front rest actions c.requires.at begun late allowed within (ungiven_of c.requires.going.span) c.requires.going.cabin mid told false settles q.0 q.1 e records before refl seat (with_second spans run.keeper.odometer t)
+    let j = next-judged c.args.slot c.args.card c.args.at c.args.speed run out d o done s now front rest actions c.requires.at begun late allowed within (ungiven_of c.requires.going.span) c.requires.going.cabin mid told false settles q.0 q.1 e (records g c) before refl (seat-there g (goal.at.returns-clause-ringed g c).In_ok-settle) (with_second spans run.keeper.odometer t)
     (odometer-mid o done s front rest c.args.slot c.args.card actions run out d within spans t rings fine mid told e lines.lines log tears leaves left places fewer lines.odometer noted (entering_by (length front) (Insert c.args.slot c.args.card)))
-    counted (is_err c.accept_in.result) c.accept_in.new.run c.accept_in.new.outcome last (c.accept_in.ensures.ringed (omega (arith, room, marks, rooms, was))) time in
+    counted (is_err c.accept_in.result) c.accept_in.new.run c.accept_in.new.outcome last (c.accept_in.ensures.ringed (room-then g c room)) time in
     inserted-ringed o done s front rest c.args.slot c.args.card actions run out d within spans t rings fine mid told e lines.lines log tears leaves left places fewer lines.odometer noted
     (is_err c.accept_in.result) c.accept_in.new.run c.accept_in.new.outcome last j
 
@@ -294,11 +290,10 @@ returns-in_err-settle-clause-noted g c =
     let Y1 : State = g.D.Chip.state c.settle.new.card_b in
     let settling = subst (λ (b : Cabin). NotesSettling c.args.at true (with_cabin b run) mid out told U V) c.put_in.ensures.kept c.in_err-settle.ensures.noted in
     let these = settles-these c.args.at true put mid out told U V X Y X1 Y1 (g.met.M.Medium.coherent c.args.unit.now) c.requires.held.is_unit settling in
-    let failed : true ≡ is_err c.from_residual.result = search rules in
     record {
       events = these.0;
-      are = inl (sym failed, these.1);
-      notes = subst (λ (f : Bool). NotesEvents these.0 f (devices U X Y) (devices V X1 Y1)) failed these.2;
+      are = inl (sym (failed g c), these.1);
+      notes = subst (λ (f : Bool). NotesEvents these.0 f (devices U X Y) (devices V X1 Y1)) (failed g c) these.2;
     }
 
 pub returns-clause-noted : goal.returns-clause-noted
@@ -331,32 +326,21 @@ returns-clause-noted g c =
 
 pub returns-in_err-settle-clause-rings : goal.returns-in_err-settle-clause-rings
 returns-in_err-settle-clause-rings g c = λ tells.
-    let run = c.args.run.now in
-    let out = c.args.outcome.now in
-    let mid : Run = c.settle.new.run in
-    let told : Outcome = c.settle.new.outcome in
     let U : State = g.M.Medium.state c.args.unit.now in
     let V : State = g.M.Medium.state c.settle.new.unit in
-    let settles = subst (λ (b : Cabin). IsSettled c.args.at true (with_cabin b run) mid out told) c.put_in.ensures.kept c.in_err-settle.ensures.settled in
-    let failed : true ≡ is_err c.from_residual.result = search rules in
-    inl (sym failed, settles, settling-leaves c.args.at true (with_cabin c.put_in.new.self run) mid out told U V c.in_err-settle.ensures.noted)
+    inl (sym (failed g c), unsettles g c, settling-leaves c.args.at true (with_cabin c.put_in.new.self c.args.run.now) c.settle.new.run c.args.outcome.now c.settle.new.outcome U V c.in_err-settle.ensures.noted)
 
 pub returns-clause-rings : goal.returns-clause-rings
 returns-clause-rings g c = λ tells.
-    let run = c.args.run.now in
-    let out = c.args.outcome.now in
-    let mid : Run = c.settle.new.run in
-    let told : Outcome = c.settle.new.outcome in
     let U : State = g.M.Medium.state c.args.unit.now in
     let V : State = g.M.Medium.state c.settle.new.unit in
     let W : State = g.M.Medium.state c.accept_in.new.unit in
-    let settles = subst (λ (b : Cabin). IsSettled c.args.at false (with_cabin b run) mid out told) c.put_in.ensures.kept c.in_ok-settle.ensures.settled in
-    let leaves = settling-leaves c.args.at false (with_cabin c.put_in.new.self run) mid out told U V c.in_ok-settle.ensures.noted in
+    let leaves = settling-leaves c.args.at false (with_cabin c.put_in.new.self c.args.run.now) c.settle.new.run c.args.outcome.now c.settle.new.outcome U V c.in_ok-settle.ensures.noted in
     let j = c.accept_in.ensures.rings in
     inr (record {
-      between = mid;
-      told = told;
-      settled_first = settles;
+      between = c.settle.new.run;
+      told = c.settle.new.outcome;
+      settled_first = settles g c;
       judges = (
         j.0,
         j.1,
@@ -373,7 +357,7 @@ pub returns-in_err-settle-clause-later : goal.returns-in_err-settle-clause-later
 returns-in_err-settle-clause-later g c = c.settle.ensures.later
 
 pub returns-clause-later : goal.returns-clause-later
-returns-clause-later g c = later-then (devices (g.M.Medium.state c.args.unit.now) (g.C.Chip.state c.args.card_a.now) (g.D.Chip.state c.args.card_b.now)) (devices (g.M.Medium.state c.settle.new.unit) (g.C.Chip.state c.settle.new.card_a) (g.D.Chip.state c.settle.new.card_b)) (devices (g.M.Medium.state c.accept_in.new.unit) (g.C.Chip.state c.accept_in.new.card_a) (g.D.Chip.state c.accept_in.new.card_b)) c.settle.ensures.later c.accept_in.ensures.later
+returns-clause-later g c = later-then (found g (settling g c)) (settled g (settling g c)) (behind g c) c.settle.ensures.later c.accept_in.ensures.later
 
 -- ---- its events on the card
 
@@ -386,7 +370,7 @@ returns-in_err-settle-clause-cards g c = λ late room o done s now front rest ac
     let told : Outcome = c.settle.new.outcome in
     let d : Devices = devices (g.M.Medium.state c.args.unit.now) (g.C.Chip.state c.args.card_a.now) (g.D.Chip.state c.args.card_b.now) in
     let e : Devices = devices (g.M.Medium.state c.settle.new.unit) (g.C.Chip.state c.settle.new.card_a) (g.D.Chip.state c.settle.new.card_b) in
-    let settles : IsSettled c.args.at true put mid out told = subst (λ (b : Cabin). IsSettled c.args.at true (with_cabin b run) mid out told) c.put_in.ensures.kept c.in_err-settle.ensures.settled in
+    let settles = unsettles g c in
     let lines = up-to-tells c.args.at settles.decided true (told_of put out) (told_of mid told) settles.kept in
     let at = at-is c.args.slot c.args.card c.args.at c.args.speed run out d o done s now front rest actions c.requires.at begun late allowed within (ungiven_of c.requires.going.span) c.requires.going.cabin in
     let v = c.in_err-settle.ensures.cards in
@@ -396,33 +380,23 @@ returns-in_err-settle-clause-cards g c = λ late room o done s now front rest ac
     let goes = unsettled-cards o done s front rest c.args.slot c.args.card actions run out d within cards (refuses o done s c.args.speed run out d now front (Insert c.args.slot c.args.card) rest actions within None allowed)
     told e lines.lines (ap log_of settles.outcome ∙ ap (λ (bs : List Break). record (log_of out) { breaks = bs }) lines.are) (subst (λ (m : Moment). AreTears m lines.lines) at lines.tears)
     (more-left o d e (within.within.powered.lit.unit.unit_holds [] []).later within.within.there.clocks c.settle.ensures.keeps) still in
-    let failed : true ≡ is_err c.from_residual.result = search rules in
-    subst (λ (f : Bool). CardsGoOn f o done s within.within.b.run.log (front ++ Insert c.args.slot c.args.card ∷ []) (log_of told) e) failed goes
+    subst (λ (f : Bool). CardsGoOn f o done s within.within.b.run.log (front ++ Insert c.args.slot c.args.card ∷ []) (log_of told) e) (failed g c) goes
 
 pub returns-clause-cards : goal.returns-clause-cards
 returns-clause-cards g c = λ late room o done s now front rest actions begun allowed vehicle within cards time.
     let run = c.args.run.now in
     let out = c.args.outcome.now in
-    let h = c.requires.going in
     let put : Run = put_run c.args.slot c.args.card run in
     let mid : Run = c.settle.new.run in
     let told : Outcome = c.settle.new.outcome in
-    let d : Devices = devices (g.M.Medium.state c.args.unit.now) (g.C.Chip.state c.args.card_a.now) (g.D.Chip.state c.args.card_b.now) in
-    let e : Devices = devices (g.M.Medium.state c.settle.new.unit) (g.C.Chip.state c.settle.new.card_a) (g.D.Chip.state c.settle.new.card_b) in
-    let last : Devices = devices (g.M.Medium.state c.accept_in.new.unit) (g.C.Chip.state c.accept_in.new.card_a) (g.D.Chip.state c.accept_in.new.card_b) in
+    let d = found g (settling g c) in
+    let e = settled g (settling g c) in
+    let last = behind g c in
     let q = c.in_ok-settle.ensures.recorded in
     let v = c.in_ok-settle.ensures.cards in
-    let stands = subst (λ (b : Cabin). Stands (ungiven_of h.span) None b) c.put_in.ensures.kept (c.put_in.ensures.stands (ungiven_of h.span) h.cabin) in
-    let bare = subst (λ (b : Cabin). IsBareIn b c.args.slot) (sym c.put_in.ensures.kept) (put-bare c.args.slot c.args.card run.keeper.cabin (ungiven_of h.span) stands) in
-    let seat = (c.in_ok-settle.ensures.bare c.args.slot bare).0 ∙ ap (λ (b : Cabin). seat_in b.slots.seats c.args.slot) c.put_in.ensures.kept ∙ seat-put c.args.slot c.args.card run.keeper.cabin in
-    let settles : IsSettled c.args.at false put mid out told = subst (λ (b : Cabin). IsSettled c.args.at false (with_cabin b run) mid out told) c.put_in.ensures.kept c.in_ok-settle.ensures.settled in
-    let u = (subst (λ (b : Cabin). Takes 0 0 0 (with_cabin b run) mid out told) c.put_in.ensures.kept c.settle.ensures.takes) in
-    let marks = u.marks in
-    let rooms = u.rooms.0 in
-    let was = ap (λ (p : Power). waiting p run.minutes.owing) c.requires.lit in
-    let records = subst (λ (b : Cabin). RecordsSettling q.0 c.args.at false (with_cabin b run) mid out told d e) c.put_in.ensures.kept q.2 in
+    let settles = settles g c in
     let shows = subst (λ (b : Cabin). CardsSettling v.0 c.args.at (with_cabin b run) mid out d e) c.put_in.ensures.kept v.2 in
-    let before = time-before e last c.accept_in.ensures.clock c.accept_in.ensures.clock_a c.accept_in.ensures.clock_b time in
+    let before = time-settled g c time in
     let lines = up-to-tells c.args.at settles.decided false (told_of put out) (told_of mid told) settles.kept in
     let at = at-is c.args.slot c.args.card c.args.at c.args.speed run out d o done s now front rest actions c.requires.at begun late allowed within (ungiven_of c.requires.going.span) c.requires.going.cabin in
     let fine = refuses o done s c.args.speed run out d now front (Insert c.args.slot c.args.card) rest actions within None allowed in
@@ -432,8 +406,8 @@ returns-clause-cards g c = λ late room o done s now front rest actions begun al
     let still : StillShow o d e = shows o done s (length front) (entering_by (length front) (Insert c.args.slot c.args.card)) at
     (waits-within c.args.slot c.args.card c.args.at c.args.speed run out d o done s now front rest actions c.requires.at begun late allowed within (ungiven_of c.requires.going.span) c.requires.going.cabin mid told false settles v.0 v.1) before in
     let own : mid.keeper.memory.registration ≡ vehicle_in o = ap (λ m. m.registration) (settled-watched c.args.at false put mid out told settles).memory ∙ vehicle in
-    let j = next-cards c.args.slot c.args.card c.args.at c.args.speed run out d o done s now front rest actions c.requires.at begun late allowed within (ungiven_of c.requires.going.span) c.requires.going.cabin mid told false settles q.0 q.1 e records before refl seat
-    (is_err c.accept_in.result) c.accept_in.new.outcome last (c.accept_in.ensures.cards (omega (arith, room, marks, rooms, was))) own time in
+    let j = next-cards c.args.slot c.args.card c.args.at c.args.speed run out d o done s now front rest actions c.requires.at begun late allowed within (ungiven_of c.requires.going.span) c.requires.going.cabin mid told false settles q.0 q.1 e (records g c) before refl (seat-there g (goal.at.returns-clause-cards g c).In_ok-settle)
+    (is_err c.accept_in.result) c.accept_in.new.outcome last (c.accept_in.ensures.cards (room-then g c room)) own time in
     inserted-cards o done s front rest c.args.slot c.args.card actions run out d within cards fine told e lines.lines log tears left still (is_err c.accept_in.result) c.accept_in.new.outcome last j
 
 -- ---- where no tear of a failed call is told no card has broken down
@@ -442,4 +416,4 @@ pub returns-in_err-settle-clause-calm : goal.returns-in_err-settle-clause-calm
 returns-in_err-settle-clause-calm g c = c.settle.ensures.calm
 
 pub returns-clause-calm : goal.returns-clause-calm
-returns-clause-calm g c = calm-then (devices (g.M.Medium.state c.args.unit.now) (g.C.Chip.state c.args.card_a.now) (g.D.Chip.state c.args.card_b.now)) (devices (g.M.Medium.state c.settle.new.unit) (g.C.Chip.state c.settle.new.card_a) (g.D.Chip.state c.settle.new.card_b)) (devices (g.M.Medium.state c.accept_in.new.unit) (g.C.Chip.state c.accept_in.new.card_a) (g.D.Chip.state c.accept_in.new.card_b)) c.settle.ensures.calm c.accept_in.ensures.calm
+returns-clause-calm g c = calm-then (found g (settling g c)) (settled g (settling g c)) (behind g c) c.settle.ensures.calm c.accept_in.ensures.calm

@@ -1,9 +1,8 @@
-use Rattle.std.proofs.Common.{rules, ◌≡◌, ◌∙◌, ℕ, ◌+◌, ◌-◌, ◌/◌, ◌<◌, ◌^◌, suc, ◌==◌, Bool, true, false, Option, None, option_map, List, [], ◌∷◌, ◌++◌, length, refl, ap, sym, subst, arith}
-use Rattle.std.specs.Prelude.{is_err}
-use Rattle.tach_media.specs.Medium.{HasCause}
+use Rattle.std.proofs.Common.{rules, ◌≡◌, ◌∙◌, ℕ, ◌+◌, ◌/◌, ◌<◌, ◌^◌, suc, Bool, true, false, Option, None, option_map, List, [], ◌∷◌, ◌++◌, length, refl, ap, sym, subst, arith, ◌≤◌, ◌*◌}
+use Rattle.std.specs.Prelude.{is_err, IfSome}
+use Rattle.tach_media.specs.Medium.{HasCause, State}
 use Rattle.tach_media.proofs.Runs.{on_ok, ok_gives, cause_after}
 use Rattle.activity_codec.specs.declared.values.Slot.TheVariants.{Driver, CoDriver}
-use Rattle.std.specs.Prelude.{IfSome}
 use Rattle.unit_journal.specs.Image.{Agrees}
 use Rattle.unit_journal.specs.declared.notes.Notes.{Notes}
 use Rattle.run_crew.specs.declared.cabin.Cabin.{Cabin}
@@ -12,27 +11,25 @@ use Rattle.run_keeping.specs.declared.keeper.Keeper.{Keeper}
 use Rattle.run_keeping.specs.Keeping.{UnitReady}
 use Rattle.run_acts.specs.declared.run.Run.{Run}
 use Rattle.run_acts.specs.Going.{IsHeld, IsLit}
-use Rattle.run_acts.specs.Room.{falls_of, bare_count}
+use Rattle.run_acts.specs.Room.{falls_of, bare_count, waiting, Takes, bare_seats}
 use Rattle.run_acts.proofs.Standing.{span-lit, span-held}
 use Rattle.recorder_with_cards.specs.Accepting.{IsBare}
 use Rattle.recorder_with_cards.proofs.Begun.{begun-none, dark-bare}
 use Rattle.run_outcome.specs.declared.outcome.Outcome.{Outcome}
 use Rattle.recorder_with_cards.proofs.Taken.{takes-then, takes-breaks, awake-takes, takes-nothing, anew-more}
-use Rattle.slot_machine.specs.Calls.{seat_in, card_in}
-use Rattle.tach_media.specs.Medium.{State}
-use Rattle.log_model.specs.Log.{In}
+use Rattle.slot_machine.specs.Calls.{card_in}
+use Rattle.log_model.specs.Log.{In, RunLog}
 use Rattle.slot_machine.specs.declared.seats.Seat.{Seat}
 use Rattle.run_rule.specs.Between.{devices}
 use Rattle.run_keeping.proofs.DecidedBooked.{time-before}
-use Rattle.run_within.specs.Recorded.{Values}
+use Rattle.run_within.specs.Recorded.{Values, progress, Recorded}
 use Rattle.run_acts.specs.declared.run.Power.{Power}
-use Rattle.run_acts.specs.Room.{waiting}
-use Rattle.run_acts.specs.Recording.{GoesOnOrCut, GoesOnOrFails}
+use Rattle.run_acts.specs.Recording.{GoesOnOrCut, GoesOnOrFails, log_of, IsOrigin, values_of, ComesPower, RunWithin, RunFails}
 use Rattle.run_acts.proofs.NoteRecorded.{goes-plain}
 use Rattle.recorder_with_cards.specs.Judged.{moment_in}
-use Rattle.recorder_with_cards.proofs.Resumed.{RunWaking, waiting_in, at-once, wholes-of, kept-of, same-devices, awake, awake-is, awake-stands, unmended, unmended-read, unmended-stands, within-of, driver-judged, codriver-judged, codriver-power, codriver-on, comes-waking}
+use Rattle.recorder_with_cards.proofs.Resumed.{RunWaking, waiting_in, at-once, wholes-of, kept-of, same-devices, awake, awake-is, awake-stands, unmended, unmended-read, unmended-stands, within-of, driver-judged, codriver-judged, codriver-on, comes-waking, IsReadAgain}
 use Rattle.recorder_with_cards.specs.Woken.{EventsWoken, RingsWoken}
-use Rattle.log_model.specs.Course.{Told, went, second_told}
+use Rattle.log_model.specs.Course.{Told, went, second_told, Visit}
 use Rattle.run_within.specs.Waking.{both_slots}
 use Rattle.run_ringed.specs.SoFar.{RingedBehind}
 use Rattle.run_ringed.specs.Stored.{StandsOn, StoresOff}
@@ -49,31 +46,28 @@ use Rattle.recorder_with_cards.proofs.WokenRinged.{WakesRinged, in-both, places-
 use Rattle.recorder_with_cards.proofs.WokenStored.{unmended-stored}
 use Rattle.recorder_with_cards.proofs.StoredCalls.{mend-stays}
 use Rattle.recorder_with_cards.proofs.WokenEvented.{WakesEvented, unmended-evented, wakes-evented, driver-evented, codriver-evented, anew-limit, woken-fails, woken-on, woken-ends, none-woken, gap-woken, here-empty, begun-watched, gap-memory, none-told, some-told}
-use Rattle.log_model.specs.Log.{RunLog}
 use Rattle.unit_course.specs.Lines.{cut_at}
-use Rattle.unit_course.specs.Followed.{Lost}
+use Rattle.unit_course.specs.Followed.{Lost, Supply, MayPower}
 use Rattle.run_course.specs.Moments.{and_break}
-use Rattle.run_course.specs.Followed.{Progress}
+use Rattle.run_course.specs.Followed.{Progress, Followed}
 use Rattle.unit_memory.specs.declared.format.Identity.{Identity}
 use Rattle.run_recorded.specs.Seconds.{found_again}
-use Rattle.run_within.specs.Recorded.{progress}
 use Rattle.run_within.specs.Within.{Beginning}
 use Rattle.minute_model.specs.Span.{ungiven_of}
-use Rattle.run_evented.specs.Evented.{limit_in, Evented}
+use Rattle.run_evented.specs.Evented.{limit_in, Evented, NotesNothing}
 use Rattle.run_evented.specs.Noting.{Waking}
-use Rattle.run_acts.specs.Recording.{log_of}
 use Rattle.run_acts.specs.Evented.{EventsGoOn}
 use Rattle.event_model.specs.Spans.{gap_of}
 use Rattle.run_acts.specs.NotedEvents.{NotesEvents}
 use Rattle.run_acts.proofs.NotedEvents.{same-noted, then-noted}
 use Rattle.run_acts.specs.Acting.{now_moment}
-use Rattle.recorder_with_cards.specs.Noting.{Unmended, AtDriver, AtCoDriver, NoneBefore, AtGap, HasBegunSpan}
+use Rattle.recorder_with_cards.specs.Noting.{Unmended, AtDriver, AtCoDriver, NoneBefore, AtGap, JudgesDriver, JudgesBoth}
 use Rattle.recorder_with_cards.proofs.WakeNoted.{says, mended-noted, driver-these, both-these, is-none, is-some}
 use Rattle.run_keeping.proofs.Later.{state-by, later-then, later-of-unit}
 use Rattle.run_acts.proofs.Uncut.{gap-uncut}
 use Rattle.recorder_with_cards.proofs.Uncut.{anew-uncut}
 use Rattle.event_model.specs.declared.entries.Span.{Span}
-use Rattle.run_evented.specs.SoFar.{AreBare}
+use Rattle.run_evented.specs.SoFar.{AreBare, EventedNow, ComesInTurn}
 use Rattle.run_ringed.proofs.SoFar.{left-itself}
 use Rattle.run_acts.specs.Noting.{NoGap, AreGapEvents}
 use Rattle.run_acts.specs.RunCards.{vehicle_in, CardsBehind, CardsWaking}
@@ -82,92 +76,643 @@ use Rattle.recorder_with_cards.proofs.GapEvented.{gap_events as gap_list}
 use Rattle.recorder_with_cards.proofs.GapShown.{some-list, none-list, gap-shown, none-noted, none-fails, woken-all}
 use Rattle.recorder_with_cards.proofs.WakesCards.{WakesOn, unit-alone, unpowered-cards, wakes-cards, driver-woken, codriver-woken}
 use Rattle.run_keeping.proofs.Calm.{calm-of-unit, calm-then}
+use Rattle.trace_model.specs.declared.Card.{Card}
+use Rattle.trace_model.specs.Trace.{TraceSecond}
+use Rattle.safety_model.specs.Safe.{Devices}
+use Rattle.run_keeping.specs.Books.{HaveTime}
+use Rattle.run_keeping.specs.Later.{AreLater, AreCalm}
+use Rattle.run_outcome.specs.Broken.{failed_cuts}
+use Rattle.run_outcome.specs.declared.outcome.TheConstants.{MOST_OWED}
+use Rattle.run_recorded.specs.Origin.{Origin, rule_of, start_at, first_of}
+use Rattle.run_recorded.specs.Beside.{HaveLeftMore}
+use Rattle.run_within.specs.Powering.{read_values}
+use Rattle.run_acts.specs.Stays.{AllStay}
+use Rattle.run_acts.specs.Truths.{truths_of, marked}
+use Rattle.run_ringed.specs.Ringed.{Seating, notes_in}
+use Rattle.run_acts.specs.declared.run.Power.TheVariants.{Lit}
+use Rattle.unit_notes.specs.declared.unit_event.UnitEvent.{UnitEvent}
+use Rattle.recorder_with_cards.specs.Waking.{TakesUp}
+use Rattle.recorder_with_cards.proofs.resuming.resume.Given.{Over}
+use Rattle.recorder_with_cards.proofs.resuming.resume.Goals.{After-moment-at, After-accept_anew, After-accept_anew-2, After-note_gap, After-from_residual, After-from_residual-in_err-accept_anew, After-from_residual-in_err-accept_anew-2, Then-is_first}
 use Rattle.recorder_with_cards.proofs.resuming.resume.Goals as goal
+
+-- ---- WHAT EACH RETURN STANDS ON
+
+-- a second with power begins behind what is recorded, and there is room for its marks
+record Behind (k : ℕ) (old : Run) (before : Outcome) (d : Devices) : Type 0 where
+  room : length before.marks.items + MOST_OWED * bare_seats old.keeper.cabin.slots.seats ≤ before.marks.room
+  o : Origin
+  origin : IsOrigin o
+  done : List TraceSecond
+  s : TraceSecond
+  supply : Supply
+  v : Values
+  r : Recorded o done supply v d
+  stay : AllStay o (marked v.marks (truths_of o v.log done)) 0 v.log (notes_in v.log done) old.keeper.memory.registration v.cabin d
+  may : MayPower supply v.next
+  number : s.number ≡ v.next
+  given : s.has_power ≡ true
+  values : values_of old before ≡ read_values k v
+
+-- their events were noted
+record BehindEvents (k speed : ℕ) (old : Run) (before : Outcome) (d : Devices) (p : Behind k old before d) : Type 0 where
+  speed_is : p.s.speed ≡ speed
+  evented : Evented p.o p.done p.v.log p.v.unfound p.v.next p.supply d
+  limit : old.keeper.memory.limit ≡ limit_in p.o
+
+-- and the rings show what they noted
+record BehindRings (k : ℕ) (old : Run) (before : Outcome) (d : Devices) (p : Behind k old before d) : Type 0 where
+  spans : List SpanFrom
+  seats : Card → Option Seating
+  ringed : RingedBehind p.o p.done (log_of before) p.s.number spans seats d
+  counted : old.noted ≤ length (log_of before).finds
+  off : StoresOff p.o p.v.log p.v.unfound spans d
+
+-- the way back from a card that was judged to the calls before it
+pub branch-accept_anew-requires : goal.branch-accept_anew-requires
+branch-accept_anew-requires g c κs = search rules
+
+pub branch-accept_anew-requires-2 : goal.branch-accept_anew-requires-2
+branch-accept_anew-requires-2 g c κs = search rules
+
+-- ---- the unit was mended, and a span has begun
+
+module _ (g : Over) (c : After-moment-at g) where
+  abbrev run : Run
+  run = c.args.run.now
+
+  abbrev out : Outcome
+  out = c.args.outcome.now
+
+  abbrev mid : Run
+  mid = c.begin_span.new.self
+
+  abbrev dev0 : Devices
+  dev0 = devices (g.M.Medium.state c.args.unit.now) (g.C.Chip.state c.args.card_a.now) (g.D.Chip.state c.args.card_b.now)
+
+  abbrev mended : Devices
+  mended = devices (g.M.Medium.state c.mend.new.unit) (g.C.Chip.state c.args.card_a.now) (g.D.Chip.state c.args.card_b.now)
+
+  abbrev first_card : Option Card
+  first_card = card_in mid.keeper.cabin.slots.seats.driver
+
+  abbrev others : List Visit
+  others = waiting_in CoDriver (card_in mid.keeper.cabin.slots.seats.codriver)
+
+  abbrev Premises : Type 0
+  Premises = Behind c.args.journal.kept run out dev0
+
+  abbrev WithEvents : Premises → Type 0
+  WithEvents p = BehindEvents c.args.journal.kept c.args.speed run out dev0 p
+
+  abbrev WithRings : Premises → Type 0
+  WithRings p = BehindRings c.args.journal.kept run out dev0 p
+
+  cabin : mid.keeper.cabin ≡ run.keeper.cabin
+  cabin = ap (λ (k : Keeper). k.cabin) c.begin_span.ensures.begun.keeper
+
+  none : mid.minutes.owing ≡ 0
+  none = begun-none mid.minutes run.next c.begin_span.ensures.begun.minutes
+
+  bare : IsBare mid.keeper.cabin.slots.seats.driver
+  bare =
+      let dark = c.requires.going.dark c.requires.dark in
+      subst (λ (b : Cabin). IsBare b.slots.seats.driver) (sym cabin) (dark-bare 0 run.keeper.cabin.cards run.keeper.cabin.slots.seats.driver dark.bare (dark.stands 0).driver)
+
+  bare_too : IsBare mid.keeper.cabin.slots.seats.codriver
+  bare_too =
+      let dark = c.requires.going.dark c.requires.dark in
+      subst (λ (b : Cabin). IsBare b.slots.seats.codriver) (sym cabin) (dark-bare 0 run.keeper.cabin.cards run.keeper.cabin.slots.seats.codriver dark.bare (dark.stands 0).codriver)
+
+  falls : falls_of mid.keeper.cabin ≡ falls_of run.keeper.cabin
+  falls = ap falls_of cabin
+
+  few : bare_count mid.keeper.cabin.slots.seats.driver ≡ bare_count run.keeper.cabin.slots.seats.driver
+  few = ap (λ (b : Cabin). bare_count b.slots.seats.driver) cabin
+
+  few_too : bare_count mid.keeper.cabin.slots.seats.codriver ≡ bare_count run.keeper.cabin.slots.seats.codriver
+  few_too = ap (λ (b : Cabin). bare_count b.slots.seats.codriver) cabin
+
+  ready : UnitReady mid.keeper (g.M.Medium.state c.mend.new.unit)
+  ready = record {
+    is_unit = c.mend.ensures.unit;
+    works = c.in_ok-mend.ensures.cause.works;
+    agrees = subst (λ (k : Keeper). IfSome (g.M.Medium.state c.mend.new.unit).image (Agrees k.journal)) (sym c.begin_span.ensures.begun.keeper) c.in_ok-mend.ensures.agrees;
+  }
+
+  quiet : NotesNothing dev0 mended
+  quiet = says c.args.journal (g.M.Medium.state c.args.unit.now) (g.M.Medium.state c.mend.new.unit) (g.C.Chip.state c.args.card_a.now) (g.D.Chip.state c.args.card_b.now) (g.met.M.Medium.coherent c.args.unit.now) c.mend.ensures.moments
+
+  noted : NotesEvents [] false dev0 mended
+  noted = mended-noted c.args.journal (g.M.Medium.state c.args.unit.now) (g.M.Medium.state c.mend.new.unit) (g.C.Chip.state c.args.card_a.now) (g.D.Chip.state c.args.card_b.now) (g.met.M.Medium.coherent c.args.unit.now) c.mend.ensures.moments false
+
+  later : AreLater dev0 mended
+  later = later-of-unit (g.M.Medium.state c.args.unit.now) (g.M.Medium.state c.mend.new.unit) (g.C.Chip.state c.args.card_a.now) (g.D.Chip.state c.args.card_b.now) (state-by (g.M.Medium.state c.args.unit.now) (g.M.Medium.state c.mend.new.unit) _ c.mend.ensures.clock c.mend.ensures.cause)
+
+  calm : AreCalm out.breaks.items out.breaks.items dev0 mended
+  calm = calm-of-unit (g.M.Medium.state c.args.unit.now) (g.M.Medium.state c.mend.new.unit) (g.C.Chip.state c.args.card_a.now) (g.D.Chip.state c.args.card_b.now)
+
+  abbrev premises : length out.marks.items + MOST_OWED * bare_seats run.keeper.cabin.slots.seats ≤ out.marks.room → (o : Origin) → IsOrigin o → (done : List TraceSecond) (s : TraceSecond) (supply : Supply) (v : Values) → Recorded o done supply v dev0 →
+      AllStay o (marked v.marks (truths_of o v.log done)) 0 v.log (notes_in v.log done) run.keeper.memory.registration v.cabin dev0 → MayPower supply v.next → s.number ≡ v.next → s.has_power ≡ true → values_of run out ≡ read_values c.args.journal.kept v → Premises
+  premises room o origin done s supply v r stay may number given values = record { room = room; o = o; origin = origin; done = done; s = s; supply = supply; v = v; r = r; stay = stay; may = may; number = number; given = given; values = values }
+
+  module _ (p : Premises) where
+    woke : (b : Beginning) × RunWaking p.o p.done p.s b (waiting_in Driver first_card ++ others) both_slots mid out mended
+    woke =
+        let U : State = g.M.Medium.state c.args.unit.now in
+        let X : State = g.C.Chip.state c.args.card_a.now in
+        let Y : State = g.D.Chip.state c.args.card_b.now in
+        let ok = c.in_ok-mend.ensures in
+        let loaded = c.requires.loaded in
+        awake p.o p.origin p.done p.s p.supply p.v U X Y p.r p.may p.number p.given (g.met.M.Medium.coherent c.args.unit.now) (wholes-of U X Y (g.met.C.Chip.coherent c.args.card_a.now) (g.met.D.Chip.coherent c.args.card_b.now)) loaded.works c.args.journal (kept-of c.args.journal U.image loaded.found)
+        (g.M.Medium.state c.mend.new.unit) false c.mend.ensures.moments c.mend.ensures.tells ok.cause c.mend.ensures.holds ok.first ok.second run out p.values refl c.mend.new.journal ok.agrees mid c.begin_span.ensures.begun (g.met.M.Medium.coherent c.mend.new.unit) p.stay
+
+    is : (woke.0.run ≡ found_again c.args.journal.kept (progress p.v p.supply p.r.book)) × (woke.0.span ≡ []) × HaveLeftMore p.o dev0 mended
+    unfolding woke
+    is =
+        let U : State = g.M.Medium.state c.args.unit.now in
+        let X : State = g.C.Chip.state c.args.card_a.now in
+        let Y : State = g.D.Chip.state c.args.card_b.now in
+        let ok = c.in_ok-mend.ensures in
+        let loaded = c.requires.loaded in
+        awake-is p.o p.origin p.done p.s p.supply p.v U X Y p.r p.may p.number p.given (g.met.M.Medium.coherent c.args.unit.now) (wholes-of U X Y (g.met.C.Chip.coherent c.args.card_a.now) (g.met.D.Chip.coherent c.args.card_b.now)) loaded.works c.args.journal (kept-of c.args.journal U.image loaded.found)
+        (g.M.Medium.state c.mend.new.unit) false c.mend.ensures.moments c.mend.ensures.tells ok.cause c.mend.ensures.holds ok.first ok.second run out p.values refl c.mend.new.journal ok.agrees mid c.begin_span.ensures.begun (g.met.M.Medium.coherent c.mend.new.unit) p.stay
+
+    next_is : run.next ≡ p.s.number
+    next_is = ap (λ (x : Values). x.next) p.values ∙ sym p.number
+
+    positive : 0 < p.s.number
+    positive = let here = next_is in let low = c.requires.going.low in omega (arith, here, low)
+
+    small : p.s.number < 2 ^ 32
+    small = let here = next_is in let most = c.requires.going.small in omega (arith, here, most)
+
+    now : c.moment-at.result ≡ moment_in p.s 0
+    now = c.moment-at.ensures ∙ ap (λ (m : ℕ). record { second = m; begun = 0; late = false }) (c.begin_span.ensures.begun.next ∙ next_is)
+
+    log_is : log_of out ≡ (found_again c.args.journal.kept (progress p.v p.supply p.r.book)).log
+    log_is = ap (λ (x : Values). x.log) p.values
+
+    began_log : woke.0.run.log ≡ log_of out
+    began_log = ap (λ (q : Progress). q.log) is.0 ∙ sym log_is
+
+    woken : WithEvents p → WakesEvented p.o p.done p.s woke.0 (waiting_in Driver first_card ++ others) both_slots mid out mended × ComesInTurn Driver (log_of out) p.s.number × Followed (rule_of p.o) (start_at p.o) p.o.from (first_of p.o) p.done (found_again c.args.journal.kept (progress p.v p.supply p.r.book))
+    woken e = wakes-evented p.o p.done p.s p.supply p.v dev0 mended p.r p.may p.number p.given c.args.journal.kept e.evented quiet woke.0 (waiting_in Driver first_card ++ others) mid out woke.1 is log_is
+
+    -- of the rings
+    module _ (q : WithRings p) where
+      abbrev told : Told
+      told = second_told (log_of out) (went (log_of out) p.done).before p.s
+
+      starts : WakesRinged p.o p.done p.s woke.0 (waiting_in Driver first_card ++ others) both_slots q.spans told mid out mended
+      starts =
+          let noted_so : mid.noted ≡ run.noted = c.begin_span.ensures.begun.noted in
+          let counted = q.counted in
+          let U : State = g.M.Medium.state c.args.unit.now in
+          let W : State = g.M.Medium.state c.mend.new.unit in
+          wakes-ringed p.o p.done p.s woke.0 (waiting_in Driver first_card ++ others) mid out mended woke.1 (sym began_log) q.spans q.seats
+          (behind-stays dev0 mended p.o p.done (log_of out) p.s.number q.spans q.seats q.ringed (mend-leaves c.args.journal U W (g.met.M.Medium.coherent c.args.unit.now) c.mend.ensures.moments) is.2 (places-beside p.o U W (g.C.Chip.state c.args.card_a.now) (g.D.Chip.state c.args.card_b.now)))
+          (λ card. ap (option_map (seating_of mid.noted)) (ap (λ (b : Cabin). session_of b.cards card) cabin ∙ (c.requires.going.dark c.requires.dark).bare card)) (omega (arith, counted, noted_so))
+
+      stands : StandsOn p.o (log_of out) mid.unfound q.spans mid.keeper.odometer
+      stands =
+          let U : State = g.M.Medium.state c.args.unit.now in
+          let X : State = g.C.Chip.state c.args.card_a.now in
+          let Y : State = g.D.Chip.state c.args.card_b.now in
+          let ok = c.in_ok-mend.ensures in
+          let loaded = c.requires.loaded in
+          let kept_now : c.mend.new.journal.kept ≡ c.args.journal.kept = ap (λ (j : Notes). j.kept) ok.notes in
+          subst (λ (n : ℕ). StandsOn p.o (log_of out) n q.spans mid.keeper.odometer) (sym c.begin_span.ensures.begun.unfound)
+          (awake-stands p.o p.origin p.done p.s p.supply p.v U X Y p.r p.may p.number p.given (g.met.M.Medium.coherent c.args.unit.now) (wholes-of U X Y (g.met.C.Chip.coherent c.args.card_a.now) (g.met.D.Chip.coherent c.args.card_b.now)) loaded.works c.args.journal (kept-of c.args.journal U.image loaded.found)
+          (g.M.Medium.state c.mend.new.unit) false c.mend.ensures.moments c.mend.ensures.tells ok.cause c.mend.ensures.holds ok.first ok.second run out p.values refl c.mend.new.journal ok.agrees mid c.begin_span.ensures.begun (g.met.M.Medium.coherent c.mend.new.unit) p.stay
+          kept_now q.spans (spans-before p.o p.done p.supply p.v dev0 p.r c.args.journal.kept (log_of out) log_is q.spans q.ringed.spans_are) q.off)
+
+      -- behind the calls that follow
+      rings-then : (failed : Bool) (new : Run) (after : Outcome) (e : Devices) → RingsGoOn failed p.o p.done p.s woke.0 [] new (log_of after) q.spans told e → (failed ≡ true → RunFails p.o p.done p.s (In 0) new after e) → new.power ≡ Lit → new.unfound ≡ mid.unfound →
+          (failed ≡ false → new.keeper.odometer ≡ mid.keeper.odometer) → RingsWoken failed (log_of out) p.o p.done p.s q.spans new (log_of after) e
+      rings-then = woken-rings p.o p.done p.s woke.0 (waiting_in Driver first_card ++ others) both_slots q.spans told mid out mended starts (log_of out) began_log stands
+
+    -- of the cards
+    cards-begun : CardsBehind p.o p.done (log_of out) dev0 → CardsWaking p.o p.done p.s woke.0.run.log (log_of out) mended
+    cards-begun shown =
+        wakes-cards p.o p.done p.s woke.0 (waiting_in Driver first_card ++ others) mid out mended woke.1 (sym began_log)
+        (unit-alone p.o p.done (log_of out) (g.M.Medium.state c.args.unit.now) (g.M.Medium.state c.mend.new.unit) (g.C.Chip.state c.args.card_a.now) (g.D.Chip.state c.args.card_b.now) shown)
+
+-- ---- the card in the driver slot was judged
+
+module _ (g : Over) (c : After-accept_anew g) where
+  abbrev span : After-moment-at g
+  span = (goal.at.branch-accept_anew-requires g c).After-moment-at
+
+  abbrev one : Run
+  one = c.accept_anew.new.run
+
+  abbrev out1 : Outcome
+  out1 = c.accept_anew.new.outcome
+
+  abbrev dev1 : Devices
+  dev1 = devices (g.M.Medium.state c.accept_anew.new.unit) (g.C.Chip.state c.accept_anew.new.card_a) (g.D.Chip.state c.accept_anew.new.card_b)
+
+  still : first_card g span ≡ None → (P : Devices → Type 0) → P (mended g span) → P dev1
+  still nobody_sits P = same-devices P g.M.Medium.state g.C.Chip.state g.D.Chip.state c.mend.new.unit c.accept_anew.new.unit c.args.card_a.now c.accept_anew.new.card_a c.args.card_b.now c.accept_anew.new.card_b (c.accept_anew.ensures.still nobody_sits)
+
+  same-one : (one.keeper.memory ≡ (mid g span).keeper.memory) × (one.watch ≡ (mid g span).watch)
+  same-one = anew-limit (first_card g span) Driver c.moment-at.result c.args.speed (mid g span) one (out g span) out1 c.accept_anew.ensures.accepted
+
+  power-one : one.power ≡ Lit
+  power-one = ap (λ (r : Run). r.power) c.accept_anew.ensures.only ∙ c.begin_span.ensures.begun.power
+
+  unfound-one : one.unfound ≡ (mid g span).unfound
+  unfound-one = ap (λ (r : Run). r.unfound) c.accept_anew.ensures.only
+
+  next-one : one.next ≡ (mid g span).next
+  next-one = ap (λ (r : Run). r.next) c.accept_anew.ensures.only
+
+  vehicle-one : (o : Origin) → (run g span).keeper.memory.registration ≡ vehicle_in o → ((mid g span).keeper.memory.registration ≡ vehicle_in o) × (one.keeper.memory.registration ≡ vehicle_in o)
+  vehicle-one o vehicle =
+      let begun = ap (λ (k : Keeper). k.memory.registration) c.begin_span.ensures.begun.keeper ∙ vehicle in
+      (begun, ap (λ (m : Identity). m.registration) same-one.0 ∙ begun)
+
+  noted-one : (vs : List UnitEvent) × JudgesDriver c.args.speed (mid g span) one (out g span) out1 vs × NotesEvents vs (is_err c.accept_anew.result) (dev0 g span) dev1
+  noted-one = driver-these c.moment-at.result c.args.speed (is_err c.accept_anew.result) (mid g span) one (out g span) out1 (dev0 g span) (mended g span) dev1 c.moment-at.ensures (noted g span) c.accept_anew.ensures.noted
+
+  later-one : AreLater (dev0 g span) dev1
+  later-one = later-then (dev0 g span) (mended g span) dev1 (later g span) c.accept_anew.ensures.later
+
+  calm-one : AreCalm (out g span).breaks.items out1.breaks.items (dev0 g span) dev1
+  calm-one = calm-then (dev0 g span) (mended g span) dev1 (calm g span) c.accept_anew.ensures.calm
+
+  module _ (p : Premises g span) (time : HaveTime dev1) where
+    room-one : length (out g span).marks.items + MOST_OWED * bare_count (mid g span).keeper.cabin.slots.seats.driver ≤ (out g span).marks.room
+    room-one = let room = p.room in let same = few g span in omega (arith, room, same)
+
+    first : (is_err c.accept_anew.result ≡ false → RunWaking p.o p.done p.s (woke g span p).0 (others g span) (CoDriver ∷ []) one out1 dev1) × (is_err c.accept_anew.result ≡ true → GoesOnOrCut true p.o p.done p.s (In 0) [] one out1 dev1)
+    first =
+        driver-judged p.o p.done p.s (woke g span p).0 (first_card g span) (others g span) (mid g span) (out g span) (mended g span) (woke g span p).1 (at-once CoDriver (card_in (mid g span).keeper.cabin.slots.seats.codriver)) refl (bare g span)
+        c.moment-at.result (now g span p) c.args.speed (is_err c.accept_anew.result) one out1 c.accept_anew.ensures.accepted dev1 still time (c.accept_anew.ensures.recorded room-one)
+
+    evented-one : WithEvents g span p → EventsGoOn (is_err c.accept_anew.result) p.o p.done p.s (woke g span p).0.run (In 0) Waking (log_of out1) dev1
+    evented-one e =
+        driver-evented p.o p.done p.s (woke g span p).0 (first_card g span) (others g span) (mid g span) (out g span) (mended g span) (woken g span p e).0 (woken g span p e).1 (at-once CoDriver (card_in (mid g span).keeper.cabin.slots.seats.codriver)) refl (bare g span)
+        c.moment-at.result (now g span p) c.args.speed e.speed_is (is_err c.accept_anew.result) one out1 c.accept_anew.ensures.accepted dev1 still time (c.accept_anew.ensures.recorded room-one) (c.accept_anew.ensures.evented room-one)
+
+    limit-one : WithEvents g span p → one.keeper.memory.limit ≡ limit_in p.o
+    limit-one e = ap (λ (m : Identity). m.limit) (same-one.0 ∙ ap (λ (k : Keeper). k.memory) c.begin_span.ensures.begun.keeper) ∙ e.limit
+
+    began-unfound : (woke g span p).0.run.unfound ≡ one.unfound
+    began-unfound = ap (λ (q : Progress). q.unfound) (is g span p).0 ∙ sym (ap (λ (x : Values). x.unfound) p.values) ∙ sym c.begin_span.ensures.begun.unfound ∙ sym unfound-one
+
+    began-next : (woke g span p).0.run.next ≡ one.next
+    began-next = ap (λ (q : Progress). q.next) (is g span p).0 ∙ sym (ap (λ (x : Values). x.next) p.values) ∙ sym c.begin_span.ensures.begun.next ∙ sym next-one
+
+    ringed-one : (q : WithRings g span p) → RingsGoOn (is_err c.accept_anew.result) p.o p.done p.s (woke g span p).0 [] one (log_of out1) q.spans (told g span p q) dev1
+    ringed-one q =
+        driver-ringed p.o p.done p.s (woke g span p).0 (first_card g span) (others g span) (mid g span) (out g span) (mended g span) q.spans (told g span p q) (starts g span p q) ((woke g span p).1.waking.none CoDriver (in-both CoDriver))
+        (at-once CoDriver (card_in (mid g span).keeper.cabin.slots.seats.codriver)) refl (bare g span) c.moment-at.result (now g span p) c.args.speed (is_err c.accept_anew.result) one out1 c.accept_anew.ensures.accepted dev1 still time (c.accept_anew.ensures.recorded room-one) (c.accept_anew.ensures.ringed room-one)
+
+    cards-one : p.s.speed ≡ c.args.speed → (run g span).keeper.memory.registration ≡ vehicle_in p.o → CardsBehind p.o p.done (log_of (out g span)) (dev0 g span) → WakesOn (is_err c.accept_anew.result) p.o p.done p.s (woke g span p).0.run.log (log_of out1) dev1
+    cards-one speed_is vehicle shown =
+        driver-woken p.o p.done p.s (woke g span p).0 (first_card g span) (others g span) (mid g span) (out g span) (mended g span) (woke g span p).1 (at-once CoDriver (card_in (mid g span).keeper.cabin.slots.seats.codriver)) refl (bare g span) (positive g span p) (vehicle-one p.o vehicle).0
+        (cards-begun g span p shown) c.moment-at.result (now g span p) c.args.speed speed_is (is_err c.accept_anew.result) one out1 c.accept_anew.ensures.accepted dev1 still time (c.accept_anew.ensures.recorded room-one) (c.accept_anew.ensures.cards room-one)
+
+-- ---- and that in the co-driver slot
+
+module _ (g : Over) (c : After-accept_anew-2 g) where
+  abbrev driver : After-accept_anew g
+  driver = (goal.at.branch-accept_anew-requires-2 g c).After-accept_anew
+
+  abbrev start : After-moment-at g
+  start = (goal.at.branch-accept_anew-requires-2 g c).After-moment-at
+
+  abbrev two : Run
+  two = c.accept_anew-2.new.run
+
+  abbrev out2 : Outcome
+  out2 = c.accept_anew-2.new.outcome
+
+  abbrev dev2 : Devices
+  dev2 = devices (g.M.Medium.state c.accept_anew-2.new.unit) (g.C.Chip.state c.accept_anew-2.new.card_a) (g.D.Chip.state c.accept_anew-2.new.card_b)
+
+  abbrev second_card : Option Card
+  second_card = card_in (one g driver).keeper.cabin.slots.seats.codriver
+
+  well : is_err c.accept_anew.result ≡ false
+  well = search rules
+
+  beside : (one g driver).keeper.cabin.slots.seats.codriver ≡ (mid g start).keeper.cabin.slots.seats.codriver
+  beside = c.accept_anew.ensures.beside
+
+  bare-two : IsBare (one g driver).keeper.cabin.slots.seats.codriver
+  bare-two = subst IsBare (sym beside) (bare_too g start)
+
+  few-two : bare_count (one g driver).keeper.cabin.slots.seats.codriver ≡ bare_count (run g start).keeper.cabin.slots.seats.codriver
+  few-two = ap bare_count beside ∙ few_too g start
+
+  still-two : second_card ≡ None → (P : Devices → Type 0) → P (dev1 g driver) → P dev2
+  still-two nobody_sits P = same-devices P g.M.Medium.state g.C.Chip.state g.D.Chip.state c.accept_anew.new.unit c.accept_anew-2.new.unit c.accept_anew.new.card_a c.accept_anew-2.new.card_a c.accept_anew.new.card_b c.accept_anew-2.new.card_b (c.accept_anew-2.ensures.still nobody_sits)
+
+  same-two : (two.keeper.memory ≡ (one g driver).keeper.memory) × (two.watch ≡ (one g driver).watch)
+  same-two = anew-limit second_card CoDriver c.moment-at.result c.args.speed (one g driver) two (out1 g driver) out2 c.accept_anew-2.ensures.accepted
+
+  power-two : two.power ≡ Lit
+  power-two = ap (λ (r : Run). r.power) c.accept_anew-2.ensures.only ∙ power-one g driver
+
+  unfound-two : two.unfound ≡ (mid g start).unfound
+  unfound-two = ap (λ (r : Run). r.unfound) c.accept_anew-2.ensures.only ∙ unfound-one g driver
+
+  vehicle-two : (o : Origin) → (run g start).keeper.memory.registration ≡ vehicle_in o → two.keeper.memory.registration ≡ vehicle_in o
+  vehicle-two o vehicle = ap (λ (m : Identity). m.registration) same-two.0 ∙ (vehicle-one g driver o vehicle).1
+
+  takes-two : Takes (bare_count (mid g start).keeper.cabin.slots.seats.driver + bare_count (one g driver).keeper.cabin.slots.seats.codriver) 0 0 (mid g start) two (out g start) out2
+  takes-two =
+      takes-then (bare_count (mid g start).keeper.cabin.slots.seats.driver) (bare_count (one g driver).keeper.cabin.slots.seats.codriver) (mid g start) (one g driver) two (out g start) (out1 g driver) out2 c.accept_anew.ensures.takes c.accept_anew-2.ensures.takes
+
+  seats-two : bare_count (mid g start).keeper.cabin.slots.seats.driver + bare_count (one g driver).keeper.cabin.slots.seats.codriver ≤ bare_seats (run g start).keeper.cabin.slots.seats
+  seats-two = let driver_few = few g start in let codriver_few = few-two in omega (arith, driver_few, codriver_few)
+
+  taken-up : TakesUp (run g start) two (out g start) out2
+  taken-up = awake-takes (bare_count (mid g start).keeper.cabin.slots.seats.driver + bare_count (one g driver).keeper.cabin.slots.seats.codriver) (run g start) (mid g start) two (out g start) out2 (falls g start) c.begin_span.ensures.begun.power (none g start) seats-two takes-two
+
+  more-two : length (out g start).breaks.items ≤ length out2.breaks.items
+  more-two =
+      let first_more = anew-more (first_card g start) Driver c.moment-at.result c.args.speed (mid g start) (one g driver) (out g start) (out1 g driver) c.accept_anew.ensures.accepted in
+      let second_more = anew-more second_card CoDriver c.moment-at.result c.args.speed (one g driver) two (out1 g driver) out2 c.accept_anew-2.ensures.accepted in
+      omega (arith, first_more, second_more)
+
+  noted-two : (ws : List UnitEvent) × JudgesBoth c.args.speed (mid g start) two (out g start) out2 ws × NotesEvents ws (is_err c.accept_anew-2.result) (dev0 g start) dev2
+  noted-two =
+      let these = noted-one g driver in
+      both-these c.moment-at.result c.args.speed (is_err c.accept_anew-2.result) (mid g start) (one g driver) two (out g start) (out1 g driver) out2 (dev0 g start) (dev1 g driver) dev2 c.moment-at.ensures these.0 these.1
+      (subst (λ (f : Bool). NotesEvents these.0 f (dev0 g start) (dev1 g driver)) well these.2) c.accept_anew-2.ensures.noted
+
+  later-two : AreLater (dev0 g start) dev2
+  later-two = later-then (dev0 g start) (dev1 g driver) dev2 (later-one g driver) c.accept_anew-2.ensures.later
+
+  calm-two : AreCalm (out g start).breaks.items out2.breaks.items (dev0 g start) dev2
+  calm-two = calm-then (dev0 g start) (dev1 g driver) dev2 (calm-one g driver) c.accept_anew-2.ensures.calm
+
+  uncut-two : failed_cuts out2.breaks.items ≡ failed_cuts (out g start).breaks.items
+  uncut-two = anew-uncut _ _ _ _ _ _ _ _ c.accept_anew-2.ensures.accepted ∙ anew-uncut _ _ _ _ _ _ _ _ c.accept_anew.ensures.accepted
+
+  module _ (p : Premises g start) (time : HaveTime dev2) where
+    time-one : HaveTime (dev1 g driver)
+    time-one = time-before (dev1 g driver) dev2 c.accept_anew-2.ensures.clock c.accept_anew-2.ensures.clock_a c.accept_anew-2.ensures.clock_b time
+
+    room-two : length (out1 g driver).marks.items + MOST_OWED * bare_count (one g driver).keeper.cabin.slots.seats.codriver ≤ (out1 g driver).marks.room
+    room-two =
+        let room = p.room in
+        let driver_few = few g start in
+        let codriver_few = few-two in
+        let none_waits = none g start in
+        let waits_none = ap (λ (q : Power). waiting q (mid g start).minutes.owing) c.begin_span.ensures.begun.power in
+        let marks = c.accept_anew.ensures.takes.marks in
+        let same_room = c.accept_anew.ensures.takes.rooms.0 in
+        omega (arith, room, driver_few, codriver_few, none_waits, waits_none, marks, same_room)
+
+    waking : RunWaking p.o p.done p.s (woke g start p).0 (waiting_in CoDriver second_card) (CoDriver ∷ []) (one g driver) (out1 g driver) (dev1 g driver)
+    waking = subst (λ (seat : Option Seat). RunWaking p.o p.done p.s (woke g start p).0 (waiting_in CoDriver (card_in seat)) (CoDriver ∷ []) (one g driver) (out1 g driver) (dev1 g driver)) (sym beside) ((first g driver p time-one).0 well)
+
+    second : GoesOnOrCut (is_err c.accept_anew-2.result) p.o p.done p.s (In 0) [] two out2 dev2
+    second =
+        codriver-judged p.o p.done p.s (woke g start p).0 second_card (one g driver) (out1 g driver) (dev1 g driver) waking refl bare-two c.moment-at.result (now g start p) c.args.speed (is_err c.accept_anew-2.result) two out2 c.accept_anew-2.ensures.accepted dev2 still-two time
+        (c.accept_anew-2.ensures.recorded room-two)
+
+    -- nobody waits any more
+    goes-on : is_err c.accept_anew-2.result ≡ false → RunWaking p.o p.done p.s (woke g start p).0 [] [] two out2 dev2
+    goes-on fine =
+        codriver-on p.o p.done p.s (woke g start p).0 second_card (one g driver) (out1 g driver) (dev1 g driver) waking refl bare-two c.moment-at.result (now g start p) c.args.speed (is_err c.accept_anew-2.result) two out2 c.accept_anew-2.ensures.accepted dev2 still-two time
+        (c.accept_anew-2.ensures.recorded room-two) fine
+
+    evented-two : WithEvents g start p → EventsGoOn (is_err c.accept_anew-2.result) p.o p.done p.s (woke g start p).0.run (In 0) Waking (log_of out2) dev2
+    evented-two e =
+        let behind : WakesEvented p.o p.done p.s (woke g start p).0 (waiting_in CoDriver second_card) (CoDriver ∷ []) (one g driver) (out1 g driver) (dev1 g driver) = record {
+          waking = waking;
+          bare = (woken g start p e).0.bare;
+          empty = (woken g start p e).0.empty;
+          evented = subst (λ (f : Bool). EventsGoOn f p.o p.done p.s (woke g start p).0.run (In 0) Waking (log_of (out1 g driver)) (dev1 g driver)) well (evented-one g driver p time-one e);
+        } in
+        codriver-evented p.o p.done p.s (woke g start p).0 second_card (one g driver) (out1 g driver) (dev1 g driver) behind refl bare-two c.moment-at.result (now g start p) c.args.speed e.speed_is (is_err c.accept_anew-2.result) two out2 c.accept_anew-2.ensures.accepted dev2 still-two time
+        (c.accept_anew-2.ensures.recorded room-two) (c.accept_anew-2.ensures.evented room-two)
+
+    limit-two : WithEvents g start p → two.keeper.memory.limit ≡ limit_in p.o
+    limit-two e = ap (λ (m : Identity). m.limit) same-two.0 ∙ limit-one g driver p time-one e
+
+    began-unfound-two : (woke g start p).0.run.unfound ≡ two.unfound
+    began-unfound-two = began-unfound g driver p time-one ∙ sym (ap (λ (r : Run). r.unfound) c.accept_anew-2.ensures.only)
+
+    began-next-two : (woke g start p).0.run.next ≡ two.next
+    began-next-two = began-next g driver p time-one ∙ sym (ap (λ (r : Run). r.next) c.accept_anew-2.ensures.only)
+
+    ringed-two : (q : WithRings g start p) → RingsGoOn (is_err c.accept_anew-2.result) p.o p.done p.s (woke g start p).0 [] two (log_of out2) q.spans (told g start p q) dev2
+    ringed-two q =
+        let behind : WakesRinged p.o p.done p.s (woke g start p).0 (waiting_in CoDriver second_card) (CoDriver ∷ []) q.spans (told g start p q) (one g driver) (out1 g driver) (dev1 g driver) = record {
+          waking = waking;
+          rings = subst (λ (f : Bool). RingsGoOn f p.o p.done p.s (woke g start p).0 [] (one g driver) (log_of (out1 g driver)) q.spans (told g start p q) (dev1 g driver)) well (ringed-one g driver p time-one q);
+        } in
+        codriver-ringed p.o p.done p.s (woke g start p).0 second_card (one g driver) (out1 g driver) (dev1 g driver) q.spans (told g start p q) behind refl bare-two c.moment-at.result (now g start p) c.args.speed (is_err c.accept_anew-2.result) two out2 c.accept_anew-2.ensures.accepted dev2 still-two time
+        (c.accept_anew-2.ensures.recorded room-two) (c.accept_anew-2.ensures.ringed room-two)
+
+    rings-two : (q : WithRings g start p) → RingsWoken (is_err c.accept_anew-2.result) (log_of (out g start)) p.o p.done p.s q.spans two (log_of out2) dev2
+    rings-two q =
+        rings-then g start p q (is_err c.accept_anew-2.result) two out2 dev2 (ringed-two q) (λ fails. subst (λ (f : Bool). GoesOnOrCut f p.o p.done p.s (In 0) [] two out2 dev2) fails second) power-two unfound-two
+        (λ fine. (goes-on fine).odometer ∙ sym (woke g start p).1.odometer)
+
+    cards-two : p.s.speed ≡ c.args.speed → (run g start).keeper.memory.registration ≡ vehicle_in p.o → CardsBehind p.o p.done (log_of (out g start)) (dev0 g start) → WakesOn (is_err c.accept_anew-2.result) p.o p.done p.s (woke g start p).0.run.log (log_of out2) dev2
+    cards-two speed_is vehicle shown =
+        codriver-woken p.o p.done p.s (woke g start p).0 second_card (one g driver) (out1 g driver) (dev1 g driver) waking refl bare-two (positive g start p) (vehicle-one g driver p.o vehicle).1
+        (subst (λ (f : Bool). WakesOn f p.o p.done p.s (woke g start p).0.run.log (log_of (out1 g driver)) (dev1 g driver)) well (cards-one g driver p time-one speed_is vehicle shown))
+        c.moment-at.result (now g start p) c.args.speed speed_is (is_err c.accept_anew-2.result) two out2 c.accept_anew-2.ensures.accepted dev2 still-two time (c.accept_anew-2.ensures.recorded room-two) (c.accept_anew-2.ensures.cards room-two)
+
+    -- where all went well
+    module _ (fine : is_err c.accept_anew-2.result ≡ false) where
+      abbrev within : RunWithin p.o p.done p.s (In 0) [] [] two out2 dev2
+      within = within-of p.o p.done p.s (woke g start p).0 [] [] two out2 dev2 (goes-on fine)
+
+      began : within.within.b ≡ (woke g start p).0
+      began = (goes-on fine).waking.began
+
+      comes : ComesPower p.done out2
+      comes = comes-waking p.o p.done p.s (woke g start p).0 [] [] two out2 dev2 (goes-on fine)
+
+      lit : IsLit (two.next / 60) two (g.M.Medium.state c.accept_anew-2.new.unit) (g.C.Chip.card c.accept_anew-2.new.card_a) (g.D.Chip.card c.accept_anew-2.new.card_b) (g.C.Chip.state c.accept_anew-2.new.card_a) (g.D.Chip.state c.accept_anew-2.new.card_b)
+      lit = ok_gives c.accept_anew-2.result c.accept_anew-2.ensures.going fine
+
+      began-here : within.within.b.run.log ≡ log_of (out g start)
+      began-here = ap (λ (b : Beginning). b.run.log) began ∙ began_log g start p
+
+      evented-on : WithEvents g start p → EventedNow p.o p.done p.s (woke g start p).0.run Waking (log_of out2) dev2
+      evented-on e = subst (λ (f : Bool). EventsGoOn f p.o p.done p.s (woke g start p).0.run (In 0) Waking (log_of out2) dev2) fine (evented-two e)
+
+      empty : WithEvents g start p → within.within.b.span ≡ []
+      empty e =
+          here-empty p.o p.origin p.done p.s p.supply p.v (dev0 g start) (mended g start) p.r p.may p.number p.given c.args.journal.kept e.evented (quiet g start) (is g start p).2 (woken g start p e).2 (woke g start p).0 (is g start p).0 (is g start p).1 (woken g start p e).0.bare
+          two out2 dev2 (goes-on fine) (evented-on e) (ungiven_of lit.span) lit.cabin (small g start p)
+
+      off-here : (went within.within.b.run.log p.done).before.running ≡ false
+      off-here = subst (λ (b : Beginning). (went b.run.log p.done).before.running ≡ false) (sym began) (goes-on fine).waking.starts
+
+      bare-here : WithEvents g start p → AreBare (went within.within.b.run.log p.done).before.slots
+      bare-here e = subst (λ (b : Beginning). AreBare (went b.run.log p.done).before.slots) (sym began) (woken g start p e).0.bare
+
+      log-here : within.within.b.run.log ≡ (found_again c.args.journal.kept (progress p.v p.supply p.r.book)).log
+      log-here = ap (λ (b : Beginning). b.run.log) began ∙ ap (λ (q : Progress). q.log) (is g start p).0
+
+      cards-here : p.s.speed ≡ c.args.speed → (run g start).keeper.memory.registration ≡ vehicle_in p.o → CardsBehind p.o p.done (log_of (out g start)) (dev0 g start) → CardsWaking p.o p.done p.s within.within.b.run.log (log_of out2) dev2
+      cards-here speed_is vehicle shown =
+          subst (λ (b : Beginning). CardsWaking p.o p.done p.s b.run.log (log_of out2) dev2) (sym began) (subst (λ (f : Bool). WakesOn f p.o p.done p.s (woke g start p).0.run.log (log_of out2) dev2) fine (cards-two speed_is vehicle shown))
+
+-- ---- and the interruption was noted
+
+module _ (g : Over) (c : After-note_gap g) where
+  abbrev both : After-accept_anew-2 g
+  both = (goal.at.returns-clause-more g c).After-accept_anew-2
+
+  abbrev begin : After-moment-at g
+  begin = (goal.at.returns-clause-more g c).After-moment-at
+
+  abbrev new : Run
+  new = c.note_gap.new.run
+
+  abbrev out3 : Outcome
+  out3 = record (out2 g both) { breaks = c.note_gap.new.breaks }
+
+  abbrev dev3 : Devices
+  dev3 = devices (g.M.Medium.state c.note_gap.new.unit) (g.C.Chip.state c.note_gap.new.card_a) (g.D.Chip.state c.note_gap.new.card_b)
+
+  fine : is_err c.accept_anew-2.result ≡ false
+  fine = search rules
+
+  some : 0 < length (out g begin).breaks.items
+  some = is-some (length (out g begin).breaks.items) (sym c.is_empty-is_first.ensures ∙ c.if-is_first.false)
+
+  stays : new.keeper.memory ≡ (two g both).keeper.memory
+  stays = gap-memory (gap_of c.last_kept-kept.result (two g both).next) (now_moment (two g both)) (is_err c.note_gap.result) (two g both) new (out2 g both).breaks c.note_gap.new.breaks c.note_gap.ensures.noted.0 c.note_gap.ensures.noted.1
+
+  -- its events, by what was kept before
+  gap-events : AreGapEvents (gap_of c.args.journal.kept (two g both).next) (now_moment (two g both)) (is_err c.note_gap.result) (two g both) new (out2 g both).breaks c.note_gap.new.breaks c.note_gap.ensures.events.0 c.note_gap.ensures.events.1
+  gap-events =
+      subst (λ (k : ℕ). AreGapEvents (gap_of k (two g both).next) (now_moment (two g both)) (is_err c.note_gap.result) (two g both) new (out2 g both).breaks c.note_gap.new.breaks c.note_gap.ensures.events.0 c.note_gap.ensures.events.1) c.last_kept-kept.ensures.kept c.note_gap.ensures.events.2
+
+  module _ (p : Premises g begin) (time : HaveTime dev3) where
+    time-two : HaveTime (dev2 g both)
+    time-two = time-before (dev2 g both) dev3 c.note_gap.ensures.clock c.note_gap.ensures.clock_a c.note_gap.ensures.clock_b time
+
+    abbrev here : RunWithin p.o p.done p.s (In 0) [] [] (two g both) (out2 g both) (dev2 g both)
+    here = within g both p time-two fine
+
+    goes : GoesOnOrFails (is_err c.note_gap.result) p.o p.done p.s (In 0) [] new out3 dev3 here.within.b
+    goes = c.note_gap.ensures.recorded p.o p.done p.s (out2 g both) here (λ first_. comes g both p time-two fine)
+
+    told-before : p.v.log.breaks ≡ [] → ⊥
+    told-before = some-told p.v.unfound c.args.journal.kept p.v.log.breaks (out g begin).breaks.items (ap (λ (x : Values). x.log.breaks) p.values) some
+
+-- ---- where the unit failed as it was mended
+
+module _ (g : Over) (c : After-from_residual g) where
+  abbrev as_found : Devices
+  as_found = devices (g.M.Medium.state c.args.unit.now) (g.C.Chip.state c.args.card_a.now) (g.D.Chip.state c.args.card_b.now)
+
+  abbrev as_left : Devices
+  as_left = devices (g.M.Medium.state c.mend.new.unit) (g.C.Chip.state c.args.card_a.now) (g.D.Chip.state c.args.card_b.now)
+
+  failed-mend : true ≡ is_err c.from_residual.result
+  failed-mend = search rules
+
+  module _ (p : Behind c.args.journal.kept c.args.run.now c.args.outcome.now as_found) where
+    read : IsReadAgain p.o p.done (progress p.v p.supply p.r.book) c.args.journal.kept as_found as_left
+    read =
+        let U : State = g.M.Medium.state c.args.unit.now in
+        let X : State = g.C.Chip.state c.args.card_a.now in
+        let Y : State = g.D.Chip.state c.args.card_b.now in
+        let bad = c.in_err-mend.ensures in
+        let loaded = c.requires.loaded in
+        unmended-read p.o p.origin p.done p.s p.supply p.v U X Y p.r p.may p.number p.given (g.met.M.Medium.coherent c.args.unit.now) (wholes-of U X Y (g.met.C.Chip.coherent c.args.card_a.now) (g.met.D.Chip.coherent c.args.card_b.now)) loaded.works c.args.journal (kept-of c.args.journal U.image loaded.found)
+        (g.M.Medium.state c.mend.new.unit) true c.mend.ensures.moments c.mend.ensures.tells bad.cause c.mend.ensures.holds bad.first bad.second c.args.run.now c.args.outcome.now p.values refl
+
+    log-found : log_of c.args.outcome.now ≡ (found_again c.args.journal.kept (progress p.v p.supply p.r.book)).log
+    log-found = ap (λ (x : Values). x.log) p.values
+
+-- ---- whether a call failed
+
+fails-one : (g : Over) (c : After-from_residual-in_err-accept_anew g) → is_err c.accept_anew.result ≡ true
+fails-one g c = search rules
+
+failed-one : (g : Over) (c : After-from_residual-in_err-accept_anew g) → true ≡ is_err c.from_residual-in_err-accept_anew.result
+failed-one g c = search rules
+
+fails-two : (g : Over) (c : After-from_residual-in_err-accept_anew-2 g) → is_err c.accept_anew-2.result ≡ true
+fails-two g c = search rules
+
+failed-two : (g : Over) (c : After-from_residual-in_err-accept_anew-2 g) → true ≡ is_err c.from_residual-in_err-accept_anew-2.result
+failed-two g c = search rules
+
+fine-first : (g : Over) (c : Then-is_first g) → is_err c.accept_anew-2.result ≡ false
+fine-first g c = search rules
+
+none-before : (g : Over) (c : Then-is_first g) → length c.args.outcome.now.breaks.items ≡ 0
+none-before g c = is-none (length c.args.outcome.now.breaks.items) (sym c.is_empty-is_first.ensures ∙ c.if-is_first.true)
+
+-- ---- the span that begins
 
 pub accept_anew-requires-clause-held : goal.accept_anew-requires-clause-held
 accept_anew-requires-clause-held g c =
-    let run = c.args.run.now in
-    let new : Run = c.begin_span.new.self in
-    let b = c.begin_span.ensures.begun in
-    let journal : Notes = c.mend.new.journal in
-    let kept : journal.kept ≡ c.args.journal.kept = ap (λ (j : Notes). j.kept) c.in_ok-mend.ensures.notes in
-    let unit : UnitReady new.keeper (g.M.Medium.state c.mend.new.unit) = record {
-      is_unit = c.mend.ensures.unit;
-      works = c.in_ok-mend.ensures.cause.works;
-      agrees = subst (λ (k : Keeper). IfSome (g.M.Medium.state c.mend.new.unit).image (Agrees k.journal)) (sym b.keeper) c.in_ok-mend.ensures.agrees;
-    } in
-    let next : new.next ≡ run.next = b.next in
-    let later = c.requires.later in
-    subst (λ (m : ℕ). IsHeld (m / 60) new (g.M.Medium.state c.mend.new.unit) (g.C.Chip.card c.args.card_a.now) (g.D.Chip.card c.args.card_b.now) (g.C.Chip.state c.args.card_a.now) (g.D.Chip.state c.args.card_b.now)) (sym next) (span-held run new journal c.requires.going b unit c.begin_span.ensures.odometer)
+    let at = (goal.at.accept_anew-requires-clause-held g c).After-moment-at in
+    subst (λ (m : ℕ). IsHeld (m / 60) (mid g at) (g.M.Medium.state c.mend.new.unit) (g.C.Chip.card c.args.card_a.now) (g.D.Chip.card c.args.card_b.now) (g.C.Chip.state c.args.card_a.now) (g.D.Chip.state c.args.card_b.now)) (sym c.begin_span.ensures.begun.next)
+    (span-held (run g at) (mid g at) c.mend.new.journal c.requires.going c.begin_span.ensures.begun (ready g at) c.begin_span.ensures.odometer)
 
 pub accept_anew-requires-clause-going : goal.accept_anew-requires-clause-going
 accept_anew-requires-clause-going g c =
-    let run = c.args.run.now in
-    let new : Run = c.begin_span.new.self in
-    let b = c.begin_span.ensures.begun in
-    let journal : Notes = c.mend.new.journal in
-    let kept : journal.kept ≡ c.args.journal.kept = ap (λ (j : Notes). j.kept) c.in_ok-mend.ensures.notes in
-    let unit : UnitReady new.keeper (g.M.Medium.state c.mend.new.unit) = record {
-      is_unit = c.mend.ensures.unit;
-      works = c.in_ok-mend.ensures.cause.works;
-      agrees = subst (λ (k : Keeper). IfSome (g.M.Medium.state c.mend.new.unit).image (Agrees k.journal)) (sym b.keeper) c.in_ok-mend.ensures.agrees;
-    } in
-    let next : new.next ≡ run.next = b.next in
-    let later = c.requires.later in
-    let lit = span-lit run new journal c.requires.dark c.requires.going b (omega (arith, kept, later)) unit in
-    subst (λ (m : ℕ). IsLit (m / 60) new (g.M.Medium.state c.mend.new.unit) (g.C.Chip.card c.args.card_a.now) (g.D.Chip.card c.args.card_b.now) (g.C.Chip.state c.args.card_a.now) (g.D.Chip.state c.args.card_b.now)) (sym next) lit
+    let at = (goal.at.accept_anew-requires-clause-going g c).After-moment-at in
+    let kept = ap (λ (j : Notes). j.kept) c.in_ok-mend.ensures.notes in
+    let early = c.requires.later in
+    subst (λ (m : ℕ). IsLit (m / 60) (mid g at) (g.M.Medium.state c.mend.new.unit) (g.C.Chip.card c.args.card_a.now) (g.D.Chip.card c.args.card_b.now) (g.C.Chip.state c.args.card_a.now) (g.D.Chip.state c.args.card_b.now)) (sym c.begin_span.ensures.begun.next)
+    (span-lit (run g at) (mid g at) c.mend.new.journal c.requires.dark c.requires.going c.begin_span.ensures.begun (omega (arith, kept, early)) (ready g at))
 
 pub accept_anew-requires-clause-none : goal.accept_anew-requires-clause-none
-accept_anew-requires-clause-none g c = begun-none c.begin_span.new.self.minutes c.args.run.now.next c.begin_span.ensures.begun.minutes
+accept_anew-requires-clause-none g c = none g (goal.at.accept_anew-requires-clause-none g c).After-moment-at
 
 pub accept_anew-requires-clause-bare : goal.accept_anew-requires-clause-bare
-accept_anew-requires-clause-bare g c =
-    let dark = c.requires.going.dark c.requires.dark in
-    let cabin = ap (λ (k : Keeper). k.cabin) c.begin_span.ensures.begun.keeper in
-    subst (λ (b : Cabin). IsBare b.slots.seats.driver) (sym cabin) (dark-bare 0 c.args.run.now.keeper.cabin.cards c.args.run.now.keeper.cabin.slots.seats.driver dark.bare (dark.stands 0).driver)
+accept_anew-requires-clause-bare g c = bare g (goal.at.accept_anew-requires-clause-bare g c).After-moment-at
 
 pub accept_anew-requires-clause-breaks : goal.accept_anew-requires-clause-breaks
 accept_anew-requires-clause-breaks g c =
-    let same = ap (λ (k : Keeper). falls_of k.cabin) c.begin_span.ensures.begun.keeper in
+    let same = falls g (goal.at.accept_anew-requires-clause-breaks g c).After-moment-at in
     let room = c.requires.breaks in
     omega (arith, same, room)
 
 pub accept_anew-requires-clause-finds : goal.accept_anew-requires-clause-finds
 accept_anew-requires-clause-finds g c =
-    let same = ap (λ (k : Keeper). bare_count k.cabin.slots.seats.driver) c.begin_span.ensures.begun.keeper in
+    let same = few g (goal.at.accept_anew-requires-clause-finds g c).After-moment-at in
     let room = c.requires.finds in
     omega (arith, same, room)
 
 -- ---- the co-driver's slot
 
 pub accept_anew-requires-2-clause-none : goal.accept_anew-requires-2-clause-none
-accept_anew-requires-2-clause-none g c =
-    ap (λ (r : Run). r.minutes.owing) c.accept_anew.ensures.only ∙ begun-none c.begin_span.new.self.minutes c.args.run.now.next c.begin_span.ensures.begun.minutes
+accept_anew-requires-2-clause-none g c = ap (λ (r : Run). r.minutes.owing) c.accept_anew.ensures.only ∙ none g (goal.at.accept_anew-requires-2-clause-none g c).After-moment-at
 
 pub accept_anew-requires-2-clause-bare : goal.accept_anew-requires-2-clause-bare
-accept_anew-requires-2-clause-bare g c =
-    let dark = c.requires.going.dark c.requires.dark in
-    let cabin = ap (λ (k : Keeper). k.cabin.slots.seats.codriver) c.begin_span.ensures.begun.keeper in
-    subst IsBare (sym (c.accept_anew.ensures.beside ∙ cabin)) (dark-bare 0 c.args.run.now.keeper.cabin.cards c.args.run.now.keeper.cabin.slots.seats.codriver dark.bare (dark.stands 0).codriver)
+accept_anew-requires-2-clause-bare g c = subst IsBare (sym c.accept_anew.ensures.beside) (bare_too g (goal.at.accept_anew-requires-2-clause-bare g c).After-moment-at)
 
 pub accept_anew-requires-2-clause-breaks : goal.accept_anew-requires-2-clause-breaks
 accept_anew-requires-2-clause-breaks g c =
-    let same = ap (λ (k : Keeper). falls_of k.cabin) c.begin_span.ensures.begun.keeper in
-    let t = c.accept_anew.ensures.takes.breaks in
-    let r = c.accept_anew.ensures.takes.rooms.1 in
+    let same = falls g (goal.at.accept_anew-requires-2-clause-breaks g c).After-moment-at in
+    let told_so = c.accept_anew.ensures.takes.breaks in
+    let rooms = c.accept_anew.ensures.takes.rooms.1 in
     let room = c.requires.breaks in
-    omega (arith, same, room, t, r)
+    omega (arith, same, room, told_so, rooms)
 
 pub accept_anew-requires-2-clause-finds : goal.accept_anew-requires-2-clause-finds
 accept_anew-requires-2-clause-finds g c =
-    let d = ap (λ (k : Keeper). bare_count k.cabin.slots.seats.driver) c.begin_span.ensures.begun.keeper in
-    let e = ap bare_count (c.accept_anew.ensures.beside ∙ ap (λ (k : Keeper). k.cabin.slots.seats.codriver) c.begin_span.ensures.begun.keeper) in
-    let t = c.accept_anew.ensures.takes.finds in
-    let r = c.accept_anew.ensures.takes.rooms.2 in
+    let at = (goal.at.accept_anew-requires-2-clause-finds g c).After-moment-at in
+    let driver_few = few g at in
+    let codriver_few = ap bare_count c.accept_anew.ensures.beside ∙ few_too g at in
+    let told_so = c.accept_anew.ensures.takes.finds in
+    let rooms = c.accept_anew.ensures.takes.rooms.2 in
     let room = c.requires.finds in
-    omega (arith, d, e, t, r, room)
+    omega (arith, driver_few, codriver_few, told_so, rooms, room)
 
--- ---- the unit failed as it was mended
+-- ---- what is held and taken up
 
 pub returns-in_err-mend-clause-held : goal.returns-in_err-mend-clause-held
 returns-in_err-mend-clause-held g c =
@@ -177,91 +722,41 @@ returns-in_err-mend-clause-held g c =
 pub returns-in_err-mend-clause-takes : goal.returns-in_err-mend-clause-takes
 returns-in_err-mend-clause-takes g c = takes-nothing c.args.run.now c.args.outcome.now
 
--- ---- or in the driver's slot
-
 pub returns-in_err-accept_anew-clause-takes : goal.returns-in_err-accept_anew-clause-takes
 returns-in_err-accept_anew-clause-takes g c =
-    let run = c.args.run.now in
-    let mid : Run = c.begin_span.new.self in
-    let b = c.begin_span.ensures.begun in
-    let falls = ap (λ (k : Keeper). falls_of k.cabin) b.keeper in
-    let none = begun-none mid.minutes run.next b.minutes in
-    let d = ap (λ (k : Keeper). bare_count k.cabin.slots.seats.driver) b.keeper in
-    awake-takes (bare_count mid.keeper.cabin.slots.seats.driver) run mid c.accept_anew.new.run c.args.outcome.now c.accept_anew.new.outcome falls b.power none (omega (arith, d)) c.accept_anew.ensures.takes
-
--- ---- or in the co-driver's
+    let at = (goal.at.returns-in_err-accept_anew-clause-takes g c).After-moment-at in
+    let same = few g at in
+    awake-takes (bare_count (mid g at).keeper.cabin.slots.seats.driver) (run g at) (mid g at) c.accept_anew.new.run (out g at) c.accept_anew.new.outcome (falls g at) c.begin_span.ensures.begun.power (none g at) (omega (arith, same)) c.accept_anew.ensures.takes
 
 pub returns-in_err-accept_anew-2-clause-takes : goal.returns-in_err-accept_anew-2-clause-takes
-returns-in_err-accept_anew-2-clause-takes g c =
-    let run = c.args.run.now in
-    let mid : Run = c.begin_span.new.self in
-    let b = c.begin_span.ensures.begun in
-    let falls = ap (λ (k : Keeper). falls_of k.cabin) b.keeper in
-    let none = begun-none mid.minutes run.next b.minutes in
-    let d = ap (λ (k : Keeper). bare_count k.cabin.slots.seats.driver) b.keeper in
-    let e = ap bare_count (c.accept_anew.ensures.beside ∙ ap (λ (k : Keeper). k.cabin.slots.seats.codriver) b.keeper) in
-    let f : ℕ = bare_count mid.keeper.cabin.slots.seats.driver in
-    let h : ℕ = bare_count c.accept_anew.new.run.keeper.cabin.slots.seats.codriver in
-    let both = takes-then f h mid c.accept_anew.new.run c.accept_anew-2.new.run c.args.outcome.now c.accept_anew.new.outcome c.accept_anew-2.new.outcome c.accept_anew.ensures.takes c.accept_anew-2.ensures.takes in
-    awake-takes (f + h) run mid c.accept_anew-2.new.run c.args.outcome.now c.accept_anew-2.new.outcome falls b.power none (omega (arith, d, e)) both
-
--- ---- no power-on came before
+returns-in_err-accept_anew-2-clause-takes g c = taken-up g (goal.at.returns-in_err-accept_anew-2-clause-takes g c).After-accept_anew-2
 
 pub returns-then-is_first-clause-takes : goal.returns-then-is_first-clause-takes
-returns-then-is_first-clause-takes g c =
-    let run = c.args.run.now in
-    let mid : Run = c.begin_span.new.self in
-    let b = c.begin_span.ensures.begun in
-    let falls = ap (λ (k : Keeper). falls_of k.cabin) b.keeper in
-    let none = begun-none mid.minutes run.next b.minutes in
-    let d = ap (λ (k : Keeper). bare_count k.cabin.slots.seats.driver) b.keeper in
-    let e = ap bare_count (c.accept_anew.ensures.beside ∙ ap (λ (k : Keeper). k.cabin.slots.seats.codriver) b.keeper) in
-    let f : ℕ = bare_count mid.keeper.cabin.slots.seats.driver in
-    let h : ℕ = bare_count c.accept_anew.new.run.keeper.cabin.slots.seats.codriver in
-    let both = takes-then f h mid c.accept_anew.new.run c.accept_anew-2.new.run c.args.outcome.now c.accept_anew.new.outcome c.accept_anew-2.new.outcome c.accept_anew.ensures.takes c.accept_anew-2.ensures.takes in
-    awake-takes (f + h) run mid c.accept_anew-2.new.run c.args.outcome.now c.accept_anew-2.new.outcome falls b.power none (omega (arith, d, e)) both
-
--- ---- the interruption is noted
+returns-then-is_first-clause-takes g c = taken-up g (goal.at.returns-then-is_first-clause-takes g c).After-accept_anew-2
 
 pub returns-clause-takes : goal.returns-clause-takes
 returns-clause-takes g c =
-    let run = c.args.run.now in
-    let mid : Run = c.begin_span.new.self in
-    let b = c.begin_span.ensures.begun in
-    let falls = ap (λ (k : Keeper). falls_of k.cabin) b.keeper in
-    let none = begun-none mid.minutes run.next b.minutes in
-    let d = ap (λ (k : Keeper). bare_count k.cabin.slots.seats.driver) b.keeper in
-    let e = ap bare_count (c.accept_anew.ensures.beside ∙ ap (λ (k : Keeper). k.cabin.slots.seats.codriver) b.keeper) in
-    let f : ℕ = bare_count mid.keeper.cabin.slots.seats.driver in
-    let h : ℕ = bare_count c.accept_anew.new.run.keeper.cabin.slots.seats.codriver in
-    let both = takes-then f h mid c.accept_anew.new.run c.accept_anew-2.new.run c.args.outcome.now c.accept_anew.new.outcome c.accept_anew-2.new.outcome c.accept_anew.ensures.takes c.accept_anew-2.ensures.takes in
-    let gap = takes-breaks c.accept_anew-2.new.run c.note_gap.new.run c.accept_anew-2.new.outcome c.note_gap.new.breaks c.note_gap.ensures.only c.note_gap.ensures.room.0 c.note_gap.ensures.room.1 in
-    let all = takes-then (f + h) 0 mid c.accept_anew-2.new.run c.note_gap.new.run c.args.outcome.now c.accept_anew-2.new.outcome (record c.accept_anew-2.new.outcome { breaks = c.note_gap.new.breaks }) both gap in
-    awake-takes (f + h + 0) run mid c.note_gap.new.run c.args.outcome.now (record c.accept_anew-2.new.outcome { breaks = c.note_gap.new.breaks }) falls b.power none (omega (arith, d, e)) all
+    let cards = both g c in
+    let at = begin g c in
+    let some_seats : ℕ = bare_count (mid g at).keeper.cabin.slots.seats.driver + bare_count c.accept_anew.new.run.keeper.cabin.slots.seats.codriver in
+    let gap = takes-breaks (two g cards) (new g c) (out2 g cards) c.note_gap.new.breaks c.note_gap.ensures.only c.note_gap.ensures.room.0 c.note_gap.ensures.room.1 in
+    let seats : some_seats ≤ bare_seats (run g at).keeper.cabin.slots.seats = seats-two g cards in
+    awake-takes (some_seats + 0) (run g at) (mid g at) (new g c) (out g at) (out3 g c) (falls g at) c.begin_span.ensures.begun.power (none g at) (omega (arith, seats)) (takes-then some_seats 0 (mid g at) (two g cards) (new g c) (out g at) (out2 g cards) (out3 g c) (takes-two g cards) gap)
 
 -- ---- breaks, and what failed
 
 pub returns-in_err-accept_anew-2-clause-more : goal.returns-in_err-accept_anew-2-clause-more
-returns-in_err-accept_anew-2-clause-more g c =
-    let mid : Run = c.begin_span.new.self in
-    let next : Run = c.accept_anew.new.run in
-    let one = anew-more (card_in (seat_in mid.keeper.cabin.slots.seats Driver)) Driver c.moment-at.result c.args.speed mid next c.args.outcome.now c.accept_anew.new.outcome c.accept_anew.ensures.accepted in
-    let two = anew-more (card_in (seat_in next.keeper.cabin.slots.seats CoDriver)) CoDriver c.moment-at.result c.args.speed next c.accept_anew-2.new.run c.accept_anew.new.outcome c.accept_anew-2.new.outcome c.accept_anew-2.ensures.accepted in
-    omega (arith, one, two)
+returns-in_err-accept_anew-2-clause-more g c = more-two g (goal.at.returns-in_err-accept_anew-2-clause-more g c).After-accept_anew-2
 
 pub returns-clause-more : goal.returns-clause-more
 returns-clause-more g c =
-    let mid : Run = c.begin_span.new.self in
-    let next : Run = c.accept_anew.new.run in
-    let one = anew-more (card_in (seat_in mid.keeper.cabin.slots.seats Driver)) Driver c.moment-at.result c.args.speed mid next c.args.outcome.now c.accept_anew.new.outcome c.accept_anew.ensures.accepted in
-    let two = anew-more (card_in (seat_in next.keeper.cabin.slots.seats CoDriver)) CoDriver c.moment-at.result c.args.speed next c.accept_anew-2.new.run c.accept_anew.new.outcome c.accept_anew-2.new.outcome c.accept_anew-2.ensures.accepted in
-    let three = c.note_gap.ensures.more in
-    omega (arith, one, two, three)
+    let cards = more-two g (both g c) in
+    let gap = c.note_gap.ensures.more in
+    omega (arith, cards, gap)
 
 pub returns-in_err-accept_anew-2-clause-cause : goal.returns-in_err-accept_anew-2-clause-cause
 returns-in_err-accept_anew-2-clause-cause g c =
-    let failed : true ≡ is_err c.from_residual-in_err-accept_anew-2.result = search rules in
-    subst (λ (f : Bool). HasCause (g.M.Medium.state c.args.unit.now) (g.M.Medium.state c.accept_anew-2.new.unit) f) failed (cause_after c.in_ok-mend.ensures.cause (cause_after c.in_ok-accept_anew.ensures.cause c.in_err-accept_anew-2.ensures.cause))
+    subst (λ (f : Bool). HasCause (g.M.Medium.state c.args.unit.now) (g.M.Medium.state c.accept_anew-2.new.unit) f) (failed-two g c) (cause_after c.in_ok-mend.ensures.cause (cause_after c.in_ok-accept_anew.ensures.cause c.in_err-accept_anew-2.ensures.cause))
 
 pub returns-then-is_first-clause-cause : goal.returns-then-is_first-clause-cause
 returns-then-is_first-clause-cause g c = cause_after c.in_ok-mend.ensures.cause (cause_after c.in_ok-accept_anew.ensures.cause c.in_ok-accept_anew-2.ensures.cause)
@@ -270,13 +765,11 @@ pub returns-clause-cause : goal.returns-clause-cause
 returns-clause-cause g c = cause_after c.in_ok-mend.ensures.cause (cause_after c.in_ok-accept_anew.ensures.cause (cause_after c.in_ok-accept_anew-2.ensures.cause c.note_gap.ensures.cause))
 
 pub returns-clause-power : goal.returns-clause-power
-returns-clause-power g c = on_ok c.note_gap.result (λ well.
-    ap (λ (r : Run). r.power) c.note_gap.ensures.only ∙ ap (λ (r : Run). r.power) c.accept_anew-2.ensures.only ∙ ap (λ (r : Run). r.power) c.accept_anew.ensures.only ∙ c.begin_span.ensures.begun.power)
+returns-clause-power g c = on_ok c.note_gap.result (λ well_. ap (λ (r : Run). r.power) c.note_gap.ensures.only ∙ power-two g (both g c))
 
 pub returns-clause-none : goal.returns-clause-none
-returns-clause-none g c = on_ok c.note_gap.result (λ well.
-    ap (λ (r : Run). r.minutes.owing) c.note_gap.ensures.only ∙ ap (λ (r : Run). r.minutes.owing) c.accept_anew-2.ensures.only ∙ ap (λ (r : Run). r.minutes.owing) c.accept_anew.ensures.only
-    ∙ begun-none c.begin_span.new.self.minutes c.args.run.now.next c.begin_span.ensures.begun.minutes)
+returns-clause-none g c = on_ok c.note_gap.result (λ well_.
+    ap (λ (r : Run). r.minutes.owing) c.note_gap.ensures.only ∙ ap (λ (r : Run). r.minutes.owing) c.accept_anew-2.ensures.only ∙ ap (λ (r : Run). r.minutes.owing) c.accept_anew.ensures.only ∙ none g (begin g c))
 
 -- ---- WHAT IS RECORDED
 
@@ -288,669 +781,168 @@ returns-in_err-mend-clause-recorded g c = λ room o origin done s supply v r sta
     let W : State = g.M.Medium.state c.mend.new.unit in
     let bad = c.in_err-mend.ensures in
     let loaded = c.requires.loaded in
-    let failed : true ≡ is_err c.from_residual.result = search rules in
-    subst (λ (f : Bool). GoesOnOrCut f o done s (In 0) [] c.args.run.now c.args.outcome.now (devices W X Y)) failed
+    subst (λ (f : Bool). GoesOnOrCut f o done s (In 0) [] c.args.run.now c.args.outcome.now (as_left g c)) (failed-mend g c)
     (unmended o origin done s supply v U X Y r may number given (g.met.M.Medium.coherent c.args.unit.now) (wholes-of U X Y (g.met.C.Chip.coherent c.args.card_a.now) (g.met.D.Chip.coherent c.args.card_b.now)) loaded.works c.args.journal (kept-of c.args.journal U.image loaded.found)
     W true c.mend.ensures.moments c.mend.ensures.tells bad.cause c.mend.ensures.holds bad.first bad.second c.args.run.now c.args.outcome.now values refl c.requires.dark)
 
 pub returns-in_err-accept_anew-clause-recorded : goal.returns-in_err-accept_anew-clause-recorded
 returns-in_err-accept_anew-clause-recorded g c = λ room o origin done s supply v r stay may number given values time.
-    let run = c.args.run.now in
-    let mid : Run = c.begin_span.new.self in
-    let begun = c.begin_span.ensures.begun in
-    let U : State = g.M.Medium.state c.args.unit.now in
-    let X : State = g.C.Chip.state c.args.card_a.now in
-    let Y : State = g.D.Chip.state c.args.card_b.now in
-    let W : State = g.M.Medium.state c.mend.new.unit in
-    let ok = c.in_ok-mend.ensures in
-    let loaded = c.requires.loaded in
-    let woke = awake o origin done s supply v U X Y r may number given (g.met.M.Medium.coherent c.args.unit.now) (wholes-of U X Y (g.met.C.Chip.coherent c.args.card_a.now) (g.met.D.Chip.coherent c.args.card_b.now)) loaded.works c.args.journal (kept-of c.args.journal U.image loaded.found)
-    W false c.mend.ensures.moments c.mend.ensures.tells ok.cause c.mend.ensures.holds ok.first ok.second run c.args.outcome.now values refl c.mend.new.journal ok.agrees mid begun (g.met.M.Medium.coherent c.mend.new.unit) stay in
-    let dark = c.requires.going.dark c.requires.dark in
-    let cards = run.keeper.cabin.cards in
-    let cabin = ap (λ (k : Keeper). k.cabin) begun.keeper in
-    let bare = subst (λ (b : Cabin). IsBare b.slots.seats.driver) (sym cabin) (dark-bare 0 cards run.keeper.cabin.slots.seats.driver dark.bare (dark.stands 0).driver) in
-    let few = ap (λ (b : Cabin). bare_count b.slots.seats.driver) cabin in
-    let now : c.moment-at.result ≡ moment_in s 0 = c.moment-at.ensures ∙ ap (λ (m : ℕ). record { second = m; begun = 0; late = false }) (begun.next ∙ ap (λ (x : Values). x.next) values ∙ sym number) in
-    let one : Run = c.accept_anew.new.run in
-    let V1 : State = g.M.Medium.state c.accept_anew.new.unit in
-    let X1 : State = g.C.Chip.state c.accept_anew.new.card_a in
-    let Y1 : State = g.D.Chip.state c.accept_anew.new.card_b in
-    let first = driver-judged o done s woke.0 (card_in mid.keeper.cabin.slots.seats.driver) (waiting_in CoDriver (card_in mid.keeper.cabin.slots.seats.codriver)) mid c.args.outcome.now (devices W X Y) woke.1
-    (at-once CoDriver (card_in mid.keeper.cabin.slots.seats.codriver)) refl bare c.moment-at.result now c.args.speed (is_err c.accept_anew.result) one c.accept_anew.new.outcome c.accept_anew.ensures.accepted (devices V1 X1 Y1)
-    (λ none P. same-devices P g.M.Medium.state g.C.Chip.state g.D.Chip.state c.mend.new.unit c.accept_anew.new.unit c.args.card_a.now c.accept_anew.new.card_a c.args.card_b.now c.accept_anew.new.card_b (c.accept_anew.ensures.still none)) time
-    (c.accept_anew.ensures.recorded (omega (arith, room, few))) in
-    let fails : is_err c.accept_anew.result ≡ true = search rules in
-    let failed : true ≡ is_err c.from_residual-in_err-accept_anew.result = search rules in
-    subst (λ (f : Bool). GoesOnOrCut f o done s (In 0) [] one c.accept_anew.new.outcome (devices V1 X1 Y1)) failed (first.1 fails)
+    let card = (goal.at.returns-in_err-accept_anew-clause-recorded g c).After-accept_anew in
+    let p = premises g (span g card) room o origin done s supply v r stay may number given values in
+    subst (λ (f : Bool). GoesOnOrCut f o done s (In 0) [] (one g card) (out1 g card) (dev1 g card)) (failed-one g c) ((first g card p time).1 (fails-one g c))
 
 pub returns-in_err-accept_anew-2-clause-recorded : goal.returns-in_err-accept_anew-2-clause-recorded
 returns-in_err-accept_anew-2-clause-recorded g c = λ room o origin done s supply v r stay may number given values time.
-    let run = c.args.run.now in
-    let mid : Run = c.begin_span.new.self in
-    let begun = c.begin_span.ensures.begun in
-    let U : State = g.M.Medium.state c.args.unit.now in
-    let X : State = g.C.Chip.state c.args.card_a.now in
-    let Y : State = g.D.Chip.state c.args.card_b.now in
-    let W : State = g.M.Medium.state c.mend.new.unit in
-    let ok = c.in_ok-mend.ensures in
-    let loaded = c.requires.loaded in
-    let woke = awake o origin done s supply v U X Y r may number given (g.met.M.Medium.coherent c.args.unit.now) (wholes-of U X Y (g.met.C.Chip.coherent c.args.card_a.now) (g.met.D.Chip.coherent c.args.card_b.now)) loaded.works c.args.journal (kept-of c.args.journal U.image loaded.found)
-    W false c.mend.ensures.moments c.mend.ensures.tells ok.cause c.mend.ensures.holds ok.first ok.second run c.args.outcome.now values refl c.mend.new.journal ok.agrees mid begun (g.met.M.Medium.coherent c.mend.new.unit) stay in
-    let dark = c.requires.going.dark c.requires.dark in
-    let cards = run.keeper.cabin.cards in
-    let cabin = ap (λ (k : Keeper). k.cabin) begun.keeper in
-    let bare = subst (λ (b : Cabin). IsBare b.slots.seats.driver) (sym cabin) (dark-bare 0 cards run.keeper.cabin.slots.seats.driver dark.bare (dark.stands 0).driver) in
-    let few = ap (λ (b : Cabin). bare_count b.slots.seats.driver) cabin in
-    let now : c.moment-at.result ≡ moment_in s 0 = c.moment-at.ensures ∙ ap (λ (m : ℕ). record { second = m; begun = 0; late = false }) (begun.next ∙ ap (λ (x : Values). x.next) values ∙ sym number) in
-    let one : Run = c.accept_anew.new.run in
-    let V1 : State = g.M.Medium.state c.accept_anew.new.unit in
-    let X1 : State = g.C.Chip.state c.accept_anew.new.card_a in
-    let Y1 : State = g.D.Chip.state c.accept_anew.new.card_b in
-    let first = driver-judged o done s woke.0 (card_in mid.keeper.cabin.slots.seats.driver) (waiting_in CoDriver (card_in mid.keeper.cabin.slots.seats.codriver)) mid c.args.outcome.now (devices W X Y) woke.1
-    (at-once CoDriver (card_in mid.keeper.cabin.slots.seats.codriver)) refl bare c.moment-at.result now c.args.speed (is_err c.accept_anew.result) one c.accept_anew.new.outcome c.accept_anew.ensures.accepted (devices V1 X1 Y1)
-    (λ none P. same-devices P g.M.Medium.state g.C.Chip.state g.D.Chip.state c.mend.new.unit c.accept_anew.new.unit c.args.card_a.now c.accept_anew.new.card_a c.args.card_b.now c.accept_anew.new.card_b (c.accept_anew.ensures.still none)) (time-before (devices V1 X1 Y1) (devices (g.M.Medium.state c.accept_anew-2.new.unit) (g.C.Chip.state c.accept_anew-2.new.card_a) (g.D.Chip.state c.accept_anew-2.new.card_b)) c.accept_anew-2.ensures.clock c.accept_anew-2.ensures.clock_a c.accept_anew-2.ensures.clock_b time)
-    (c.accept_anew.ensures.recorded (omega (arith, room, few))) in
-    let well : is_err c.accept_anew.result ≡ false = search rules in
-    let two : Run = c.accept_anew-2.new.run in
-    let V2 : State = g.M.Medium.state c.accept_anew-2.new.unit in
-    let X2 : State = g.C.Chip.state c.accept_anew-2.new.card_a in
-    let Y2 : State = g.D.Chip.state c.accept_anew-2.new.card_b in
-    let beside : seat_in one.keeper.cabin.slots.seats CoDriver ≡ seat_in mid.keeper.cabin.slots.seats CoDriver = c.accept_anew.ensures.beside in
-    let bare_too = subst IsBare (sym (beside ∙ ap (λ (b : Cabin). b.slots.seats.codriver) cabin)) (dark-bare 0 cards run.keeper.cabin.slots.seats.codriver dark.bare (dark.stands 0).codriver) in
-    let few_too = ap bare_count (beside ∙ ap (λ (b : Cabin). b.slots.seats.codriver) cabin) in
-    let none_waits = begun-none mid.minutes run.next begun.minutes in
-    let waits_none = ap (λ (p : Power). waiting p mid.minutes.owing) begun.power in
-    let t = c.accept_anew.ensures.takes.marks in
-    let same_room = c.accept_anew.ensures.takes.rooms.0 in
-    let second = codriver-judged o done s woke.0 (card_in one.keeper.cabin.slots.seats.codriver) one c.accept_anew.new.outcome (devices V1 X1 Y1)
-    (subst (λ (seat : Option Seat). RunWaking o done s woke.0 (waiting_in CoDriver (card_in seat)) (CoDriver ∷ []) one c.accept_anew.new.outcome (devices V1 X1 Y1)) (sym beside) (first.0 well))
-    refl bare_too c.moment-at.result now c.args.speed (is_err c.accept_anew-2.result) two c.accept_anew-2.new.outcome c.accept_anew-2.ensures.accepted (devices V2 X2 Y2)
-    (λ none P. same-devices P g.M.Medium.state g.C.Chip.state g.D.Chip.state c.accept_anew.new.unit c.accept_anew-2.new.unit c.accept_anew.new.card_a c.accept_anew-2.new.card_a c.accept_anew.new.card_b c.accept_anew-2.new.card_b (c.accept_anew-2.ensures.still none)) time
-    (c.accept_anew-2.ensures.recorded (omega (arith, room, few, few_too, none_waits, waits_none, t, same_room))) in
-    let fails : is_err c.accept_anew-2.result ≡ true = search rules in
-    let failed : true ≡ is_err c.from_residual-in_err-accept_anew-2.result = search rules in
-    subst (λ (f : Bool). GoesOnOrCut f o done s (In 0) [] two c.accept_anew-2.new.outcome (devices V2 X2 Y2)) (fails ∙ failed) second
+    let cards = (goal.at.returns-in_err-accept_anew-2-clause-recorded g c).After-accept_anew-2 in
+    let p = premises g (start g cards) room o origin done s supply v r stay may number given values in
+    subst (λ (f : Bool). GoesOnOrCut f o done s (In 0) [] (two g cards) (out2 g cards) (dev2 g cards)) (fails-two g c ∙ failed-two g c) (second g cards p time)
 
 pub returns-then-is_first-clause-recorded : goal.returns-then-is_first-clause-recorded
 returns-then-is_first-clause-recorded g c = λ room o origin done s supply v r stay may number given values time.
-    let run = c.args.run.now in
-    let mid : Run = c.begin_span.new.self in
-    let begun = c.begin_span.ensures.begun in
-    let U : State = g.M.Medium.state c.args.unit.now in
-    let X : State = g.C.Chip.state c.args.card_a.now in
-    let Y : State = g.D.Chip.state c.args.card_b.now in
-    let W : State = g.M.Medium.state c.mend.new.unit in
-    let ok = c.in_ok-mend.ensures in
-    let loaded = c.requires.loaded in
-    let woke = awake o origin done s supply v U X Y r may number given (g.met.M.Medium.coherent c.args.unit.now) (wholes-of U X Y (g.met.C.Chip.coherent c.args.card_a.now) (g.met.D.Chip.coherent c.args.card_b.now)) loaded.works c.args.journal (kept-of c.args.journal U.image loaded.found)
-    W false c.mend.ensures.moments c.mend.ensures.tells ok.cause c.mend.ensures.holds ok.first ok.second run c.args.outcome.now values refl c.mend.new.journal ok.agrees mid begun (g.met.M.Medium.coherent c.mend.new.unit) stay in
-    let dark = c.requires.going.dark c.requires.dark in
-    let cards = run.keeper.cabin.cards in
-    let cabin = ap (λ (k : Keeper). k.cabin) begun.keeper in
-    let bare = subst (λ (b : Cabin). IsBare b.slots.seats.driver) (sym cabin) (dark-bare 0 cards run.keeper.cabin.slots.seats.driver dark.bare (dark.stands 0).driver) in
-    let few = ap (λ (b : Cabin). bare_count b.slots.seats.driver) cabin in
-    let now : c.moment-at.result ≡ moment_in s 0 = c.moment-at.ensures ∙ ap (λ (m : ℕ). record { second = m; begun = 0; late = false }) (begun.next ∙ ap (λ (x : Values). x.next) values ∙ sym number) in
-    let one : Run = c.accept_anew.new.run in
-    let V1 : State = g.M.Medium.state c.accept_anew.new.unit in
-    let X1 : State = g.C.Chip.state c.accept_anew.new.card_a in
-    let Y1 : State = g.D.Chip.state c.accept_anew.new.card_b in
-    let first = driver-judged o done s woke.0 (card_in mid.keeper.cabin.slots.seats.driver) (waiting_in CoDriver (card_in mid.keeper.cabin.slots.seats.codriver)) mid c.args.outcome.now (devices W X Y) woke.1
-    (at-once CoDriver (card_in mid.keeper.cabin.slots.seats.codriver)) refl bare c.moment-at.result now c.args.speed (is_err c.accept_anew.result) one c.accept_anew.new.outcome c.accept_anew.ensures.accepted (devices V1 X1 Y1)
-    (λ none P. same-devices P g.M.Medium.state g.C.Chip.state g.D.Chip.state c.mend.new.unit c.accept_anew.new.unit c.args.card_a.now c.accept_anew.new.card_a c.args.card_b.now c.accept_anew.new.card_b (c.accept_anew.ensures.still none)) (time-before (devices V1 X1 Y1) (devices (g.M.Medium.state c.accept_anew-2.new.unit) (g.C.Chip.state c.accept_anew-2.new.card_a) (g.D.Chip.state c.accept_anew-2.new.card_b)) c.accept_anew-2.ensures.clock c.accept_anew-2.ensures.clock_a c.accept_anew-2.ensures.clock_b time)
-    (c.accept_anew.ensures.recorded (omega (arith, room, few))) in
-    let well : is_err c.accept_anew.result ≡ false = search rules in
-    let two : Run = c.accept_anew-2.new.run in
-    let V2 : State = g.M.Medium.state c.accept_anew-2.new.unit in
-    let X2 : State = g.C.Chip.state c.accept_anew-2.new.card_a in
-    let Y2 : State = g.D.Chip.state c.accept_anew-2.new.card_b in
-    let beside : seat_in one.keeper.cabin.slots.seats CoDriver ≡ seat_in mid.keeper.cabin.slots.seats CoDriver = c.accept_anew.ensures.beside in
-    let bare_too = subst IsBare (sym (beside ∙ ap (λ (b : Cabin). b.slots.seats.codriver) cabin)) (dark-bare 0 cards run.keeper.cabin.slots.seats.codriver dark.bare (dark.stands 0).codriver) in
-    let few_too = ap bare_count (beside ∙ ap (λ (b : Cabin). b.slots.seats.codriver) cabin) in
-    let none_waits = begun-none mid.minutes run.next begun.minutes in
-    let waits_none = ap (λ (p : Power). waiting p mid.minutes.owing) begun.power in
-    let t = c.accept_anew.ensures.takes.marks in
-    let same_room = c.accept_anew.ensures.takes.rooms.0 in
-    let second = codriver-judged o done s woke.0 (card_in one.keeper.cabin.slots.seats.codriver) one c.accept_anew.new.outcome (devices V1 X1 Y1)
-    (subst (λ (seat : Option Seat). RunWaking o done s woke.0 (waiting_in CoDriver (card_in seat)) (CoDriver ∷ []) one c.accept_anew.new.outcome (devices V1 X1 Y1)) (sym beside) (first.0 well))
-    refl bare_too c.moment-at.result now c.args.speed (is_err c.accept_anew-2.result) two c.accept_anew-2.new.outcome c.accept_anew-2.ensures.accepted (devices V2 X2 Y2)
-    (λ none P. same-devices P g.M.Medium.state g.C.Chip.state g.D.Chip.state c.accept_anew.new.unit c.accept_anew-2.new.unit c.accept_anew.new.card_a c.accept_anew-2.new.card_a c.accept_anew.new.card_b c.accept_anew-2.new.card_b (c.accept_anew-2.ensures.still none)) time
-    (c.accept_anew-2.ensures.recorded (omega (arith, room, few, few_too, none_waits, waits_none, t, same_room))) in
-    let fine : is_err c.accept_anew-2.result ≡ false = search rules in
-    subst (λ (f : Bool). GoesOnOrCut f o done s (In 0) [] two c.accept_anew-2.new.outcome (devices V2 X2 Y2)) fine second
+    let cards = (goal.at.returns-then-is_first-clause-recorded g c).After-accept_anew-2 in
+    let p = premises g (start g cards) room o origin done s supply v r stay may number given values in
+    subst (λ (f : Bool). GoesOnOrCut f o done s (In 0) [] (two g cards) (out2 g cards) (dev2 g cards)) (fine-first g c) (second g cards p time)
 
 pub returns-clause-recorded : goal.returns-clause-recorded
 returns-clause-recorded g c = λ room o origin done s supply v r stay may number given values time.
-    let V3 : State = g.M.Medium.state c.note_gap.new.unit in
-    let X3 : State = g.C.Chip.state c.note_gap.new.card_a in
-    let Y3 : State = g.D.Chip.state c.note_gap.new.card_b in
-    let V2 : State = g.M.Medium.state c.accept_anew-2.new.unit in
-    let X2 : State = g.C.Chip.state c.accept_anew-2.new.card_a in
-    let Y2 : State = g.D.Chip.state c.accept_anew-2.new.card_b in
-    let time_two = time-before (devices V2 X2 Y2) (devices V3 X3 Y3) c.note_gap.ensures.clock c.note_gap.ensures.clock_a c.note_gap.ensures.clock_b time in
-    let run = c.args.run.now in
-    let mid : Run = c.begin_span.new.self in
-    let begun = c.begin_span.ensures.begun in
-    let U : State = g.M.Medium.state c.args.unit.now in
-    let X : State = g.C.Chip.state c.args.card_a.now in
-    let Y : State = g.D.Chip.state c.args.card_b.now in
-    let W : State = g.M.Medium.state c.mend.new.unit in
-    let ok = c.in_ok-mend.ensures in
-    let loaded = c.requires.loaded in
-    let woke = awake o origin done s supply v U X Y r may number given (g.met.M.Medium.coherent c.args.unit.now) (wholes-of U X Y (g.met.C.Chip.coherent c.args.card_a.now) (g.met.D.Chip.coherent c.args.card_b.now)) loaded.works c.args.journal (kept-of c.args.journal U.image loaded.found)
-    W false c.mend.ensures.moments c.mend.ensures.tells ok.cause c.mend.ensures.holds ok.first ok.second run c.args.outcome.now values refl c.mend.new.journal ok.agrees mid begun (g.met.M.Medium.coherent c.mend.new.unit) stay in
-    let dark = c.requires.going.dark c.requires.dark in
-    let cards = run.keeper.cabin.cards in
-    let cabin = ap (λ (k : Keeper). k.cabin) begun.keeper in
-    let bare = subst (λ (b : Cabin). IsBare b.slots.seats.driver) (sym cabin) (dark-bare 0 cards run.keeper.cabin.slots.seats.driver dark.bare (dark.stands 0).driver) in
-    let few = ap (λ (b : Cabin). bare_count b.slots.seats.driver) cabin in
-    let now : c.moment-at.result ≡ moment_in s 0 = c.moment-at.ensures ∙ ap (λ (m : ℕ). record { second = m; begun = 0; late = false }) (begun.next ∙ ap (λ (x : Values). x.next) values ∙ sym number) in
-    let one : Run = c.accept_anew.new.run in
-    let V1 : State = g.M.Medium.state c.accept_anew.new.unit in
-    let X1 : State = g.C.Chip.state c.accept_anew.new.card_a in
-    let Y1 : State = g.D.Chip.state c.accept_anew.new.card_b in
-    let first = driver-judged o done s woke.0 (card_in mid.keeper.cabin.slots.seats.driver) (waiting_in CoDriver (card_in mid.keeper.cabin.slots.seats.codriver)) mid c.args.outcome.now (devices W X Y) woke.1
-    (at-once CoDriver (card_in mid.keeper.cabin.slots.seats.codriver)) refl bare c.moment-at.result now c.args.speed (is_err c.accept_anew.result) one c.accept_anew.new.outcome c.accept_anew.ensures.accepted (devices V1 X1 Y1)
-    (λ none P. same-devices P g.M.Medium.state g.C.Chip.state g.D.Chip.state c.mend.new.unit c.accept_anew.new.unit c.args.card_a.now c.accept_anew.new.card_a c.args.card_b.now c.accept_anew.new.card_b (c.accept_anew.ensures.still none)) (time-before (devices V1 X1 Y1) (devices (g.M.Medium.state c.accept_anew-2.new.unit) (g.C.Chip.state c.accept_anew-2.new.card_a) (g.D.Chip.state c.accept_anew-2.new.card_b)) c.accept_anew-2.ensures.clock c.accept_anew-2.ensures.clock_a c.accept_anew-2.ensures.clock_b time_two)
-    (c.accept_anew.ensures.recorded (omega (arith, room, few))) in
-    let well : is_err c.accept_anew.result ≡ false = search rules in
-    let two : Run = c.accept_anew-2.new.run in
-    let beside : seat_in one.keeper.cabin.slots.seats CoDriver ≡ seat_in mid.keeper.cabin.slots.seats CoDriver = c.accept_anew.ensures.beside in
-    let bare_too = subst IsBare (sym (beside ∙ ap (λ (b : Cabin). b.slots.seats.codriver) cabin)) (dark-bare 0 cards run.keeper.cabin.slots.seats.codriver dark.bare (dark.stands 0).codriver) in
-    let few_too = ap bare_count (beside ∙ ap (λ (b : Cabin). b.slots.seats.codriver) cabin) in
-    let none_waits = begun-none mid.minutes run.next begun.minutes in
-    let waits_none = ap (λ (p : Power). waiting p mid.minutes.owing) begun.power in
-    let t = c.accept_anew.ensures.takes.marks in
-    let same_room = c.accept_anew.ensures.takes.rooms.0 in
-    let second = codriver-judged o done s woke.0 (card_in one.keeper.cabin.slots.seats.codriver) one c.accept_anew.new.outcome (devices V1 X1 Y1)
-    (subst (λ (seat : Option Seat). RunWaking o done s woke.0 (waiting_in CoDriver (card_in seat)) (CoDriver ∷ []) one c.accept_anew.new.outcome (devices V1 X1 Y1)) (sym beside) (first.0 well))
-    refl bare_too c.moment-at.result now c.args.speed (is_err c.accept_anew-2.result) two c.accept_anew-2.new.outcome c.accept_anew-2.ensures.accepted (devices V2 X2 Y2)
-    (λ none P. same-devices P g.M.Medium.state g.C.Chip.state g.D.Chip.state c.accept_anew.new.unit c.accept_anew-2.new.unit c.accept_anew.new.card_a c.accept_anew-2.new.card_a c.accept_anew.new.card_b c.accept_anew-2.new.card_b (c.accept_anew-2.ensures.still none)) time_two
-    (c.accept_anew-2.ensures.recorded (omega (arith, room, few, few_too, none_waits, waits_none, t, same_room))) in
-    let fine : is_err c.accept_anew-2.result ≡ false = search rules in
-    let comes = codriver-power o done s woke.0 (card_in one.keeper.cabin.slots.seats.codriver) one c.accept_anew.new.outcome (devices V1 X1 Y1)
-    (subst (λ (seat : Option Seat). RunWaking o done s woke.0 (waiting_in CoDriver (card_in seat)) (CoDriver ∷ []) one c.accept_anew.new.outcome (devices V1 X1 Y1)) (sym beside) (first.0 well))
-    refl bare_too c.moment-at.result now c.args.speed (is_err c.accept_anew-2.result) two c.accept_anew-2.new.outcome c.accept_anew-2.ensures.accepted (devices V2 X2 Y2)
-    time_two
-    (c.accept_anew-2.ensures.recorded (omega (arith, room, few, few_too, none_waits, waits_none, t, same_room))) fine in
-    let judged = subst (λ (f : Bool). GoesOnOrCut f o done s (In 0) [] two c.accept_anew-2.new.outcome (devices V2 X2 Y2)) fine second in
-    goes-plain (is_err c.note_gap.result) o done s (In 0) [] c.note_gap.new.run (record c.accept_anew-2.new.outcome { breaks = c.note_gap.new.breaks }) (devices V3 X3 Y3) judged.within.b
-    (c.note_gap.ensures.recorded o done s c.accept_anew-2.new.outcome judged (λ first. comes))
+    let p = premises g (begin g c) room o origin done s supply v r stay may number given values in
+    goes-plain (is_err c.note_gap.result) o done s (In 0) [] (new g c) (out3 g c) (dev3 g c) (here g c p time).within.b (goes g c p time)
 
 -- ---- WHAT IS NOTED
 
 pub returns-in_err-mend-clause-noted : goal.returns-in_err-mend-clause-noted
-returns-in_err-mend-clause-noted g c =
-    let U : State = g.M.Medium.state c.args.unit.now in
-    let X : State = g.C.Chip.state c.args.card_a.now in
-    let Y : State = g.D.Chip.state c.args.card_b.now in
-    let W : State = g.M.Medium.state c.mend.new.unit in
-    let failed : true ≡ is_err c.from_residual.result = search rules in
-    record {
-      reach = Unmended;
-      events = [];
-      are = (sym failed, refl, refl, refl);
-      notes = mended-noted c.args.journal U W X Y (g.met.M.Medium.coherent c.args.unit.now) c.mend.ensures.moments (is_err c.from_residual.result);
-    }
+returns-in_err-mend-clause-noted g c = record {
+  reach = Unmended;
+  events = [];
+  are = (sym (failed-mend g c), refl, refl, refl);
+  notes = mended-noted c.args.journal (g.M.Medium.state c.args.unit.now) (g.M.Medium.state c.mend.new.unit) (g.C.Chip.state c.args.card_a.now) (g.D.Chip.state c.args.card_b.now) (g.met.M.Medium.coherent c.args.unit.now) c.mend.ensures.moments (is_err c.from_residual.result);
+}
 
 pub returns-in_err-accept_anew-clause-noted : goal.returns-in_err-accept_anew-clause-noted
 returns-in_err-accept_anew-clause-noted g c =
-    let run = c.args.run.now in
-    let mid : Run = c.begin_span.new.self in
-    let U : State = g.M.Medium.state c.args.unit.now in
-    let X : State = g.C.Chip.state c.args.card_a.now in
-    let Y : State = g.D.Chip.state c.args.card_b.now in
-    let W : State = g.M.Medium.state c.mend.new.unit in
-    let dev0 = devices U X Y in
-    let begun : HasBegunSpan run mid = (c.mend.new.journal, c.begin_span.ensures.begun) in
-    let mended = mended-noted c.args.journal U W X Y (g.met.M.Medium.coherent c.args.unit.now) c.mend.ensures.moments false in
-    let one : Run = c.accept_anew.new.run in
-    let dev1 = devices (g.M.Medium.state c.accept_anew.new.unit) (g.C.Chip.state c.accept_anew.new.card_a) (g.D.Chip.state c.accept_anew.new.card_b) in
-    let driver = driver-these c.moment-at.result c.args.speed (is_err c.accept_anew.result) mid one c.args.outcome.now c.accept_anew.new.outcome dev0 (devices W X Y) dev1 c.moment-at.ensures mended c.accept_anew.ensures.noted in
-    let fails : is_err c.accept_anew.result ≡ true = search rules in
-    let failed : true ≡ is_err c.from_residual-in_err-accept_anew.result = search rules in
+    let card = (goal.at.returns-in_err-accept_anew-clause-noted g c).After-accept_anew in
+    let these = noted-one g card in
     record {
-      reach = AtDriver mid;
-      events = driver.0;
-      are = (begun, sym failed, driver.1);
-      notes = subst (λ (q : Bool). NotesEvents driver.0 q dev0 dev1) (fails ∙ failed) driver.2;
+      reach = AtDriver (mid g (span g card));
+      events = these.0;
+      are = ((c.mend.new.journal, c.begin_span.ensures.begun), sym (failed-one g c), these.1);
+      notes = subst (λ (f : Bool). NotesEvents these.0 f (dev0 g (span g card)) (dev1 g card)) (fails-one g c ∙ failed-one g c) these.2;
     }
 
 pub returns-in_err-accept_anew-2-clause-noted : goal.returns-in_err-accept_anew-2-clause-noted
 returns-in_err-accept_anew-2-clause-noted g c =
-    let run = c.args.run.now in
-    let mid : Run = c.begin_span.new.self in
-    let U : State = g.M.Medium.state c.args.unit.now in
-    let X : State = g.C.Chip.state c.args.card_a.now in
-    let Y : State = g.D.Chip.state c.args.card_b.now in
-    let W : State = g.M.Medium.state c.mend.new.unit in
-    let dev0 = devices U X Y in
-    let begun : HasBegunSpan run mid = (c.mend.new.journal, c.begin_span.ensures.begun) in
-    let mended = mended-noted c.args.journal U W X Y (g.met.M.Medium.coherent c.args.unit.now) c.mend.ensures.moments false in
-    let one : Run = c.accept_anew.new.run in
-    let dev1 = devices (g.M.Medium.state c.accept_anew.new.unit) (g.C.Chip.state c.accept_anew.new.card_a) (g.D.Chip.state c.accept_anew.new.card_b) in
-    let driver = driver-these c.moment-at.result c.args.speed (is_err c.accept_anew.result) mid one c.args.outcome.now c.accept_anew.new.outcome dev0 (devices W X Y) dev1 c.moment-at.ensures mended c.accept_anew.ensures.noted in
-    let well : is_err c.accept_anew.result ≡ false = search rules in
-    let two : Run = c.accept_anew-2.new.run in
-    let dev2 = devices (g.M.Medium.state c.accept_anew-2.new.unit) (g.C.Chip.state c.accept_anew-2.new.card_a) (g.D.Chip.state c.accept_anew-2.new.card_b) in
-    let both = both-these c.moment-at.result c.args.speed (is_err c.accept_anew-2.result) mid one two c.args.outcome.now c.accept_anew.new.outcome c.accept_anew-2.new.outcome dev0 dev1 dev2 c.moment-at.ensures driver.0 driver.1
-    (subst (λ (q : Bool). NotesEvents driver.0 q dev0 dev1) well driver.2) c.accept_anew-2.ensures.noted in
-    let fails : is_err c.accept_anew-2.result ≡ true = search rules in
-    let failed : true ≡ is_err c.from_residual-in_err-accept_anew-2.result = search rules in
+    let cards = (goal.at.returns-in_err-accept_anew-2-clause-noted g c).After-accept_anew-2 in
+    let these = noted-two g cards in
     record {
-      reach = AtCoDriver mid;
-      events = both.0;
-      are = (begun, sym failed, both.1);
-      notes = subst (λ (q : Bool). NotesEvents both.0 q dev0 dev2) (fails ∙ failed) both.2;
+      reach = AtCoDriver (mid g (start g cards));
+      events = these.0;
+      are = ((c.mend.new.journal, c.begin_span.ensures.begun), sym (failed-two g c), these.1);
+      notes = subst (λ (f : Bool). NotesEvents these.0 f (dev0 g (start g cards)) (dev2 g cards)) (fails-two g c ∙ failed-two g c) these.2;
     }
 
 pub returns-then-is_first-clause-noted : goal.returns-then-is_first-clause-noted
 returns-then-is_first-clause-noted g c =
-    let run = c.args.run.now in
-    let mid : Run = c.begin_span.new.self in
-    let U : State = g.M.Medium.state c.args.unit.now in
-    let X : State = g.C.Chip.state c.args.card_a.now in
-    let Y : State = g.D.Chip.state c.args.card_b.now in
-    let W : State = g.M.Medium.state c.mend.new.unit in
-    let dev0 = devices U X Y in
-    let begun : HasBegunSpan run mid = (c.mend.new.journal, c.begin_span.ensures.begun) in
-    let mended = mended-noted c.args.journal U W X Y (g.met.M.Medium.coherent c.args.unit.now) c.mend.ensures.moments false in
-    let one : Run = c.accept_anew.new.run in
-    let dev1 = devices (g.M.Medium.state c.accept_anew.new.unit) (g.C.Chip.state c.accept_anew.new.card_a) (g.D.Chip.state c.accept_anew.new.card_b) in
-    let driver = driver-these c.moment-at.result c.args.speed (is_err c.accept_anew.result) mid one c.args.outcome.now c.accept_anew.new.outcome dev0 (devices W X Y) dev1 c.moment-at.ensures mended c.accept_anew.ensures.noted in
-    let well : is_err c.accept_anew.result ≡ false = search rules in
-    let two : Run = c.accept_anew-2.new.run in
-    let dev2 = devices (g.M.Medium.state c.accept_anew-2.new.unit) (g.C.Chip.state c.accept_anew-2.new.card_a) (g.D.Chip.state c.accept_anew-2.new.card_b) in
-    let both = both-these c.moment-at.result c.args.speed (is_err c.accept_anew-2.result) mid one two c.args.outcome.now c.accept_anew.new.outcome c.accept_anew-2.new.outcome dev0 dev1 dev2 c.moment-at.ensures driver.0 driver.1
-    (subst (λ (q : Bool). NotesEvents driver.0 q dev0 dev1) well driver.2) c.accept_anew-2.ensures.noted in
-    let fine : is_err c.accept_anew-2.result ≡ false = search rules in
-    let none : (length c.args.outcome.now.breaks.items == 0) ≡ true = sym c.is_empty-is_first.ensures ∙ c.if-is_first.true in
+    let cards = (goal.at.returns-then-is_first-clause-noted g c).After-accept_anew-2 in
+    let these = noted-two g cards in
     record {
-      reach = NoneBefore mid;
-      events = both.0;
-      are = (begun, refl, is-none (length c.args.outcome.now.breaks.items) none, both.1);
-      notes = subst (λ (q : Bool). NotesEvents both.0 q dev0 dev2) fine both.2;
+      reach = NoneBefore (mid g (start g cards));
+      events = these.0;
+      are = ((c.mend.new.journal, c.begin_span.ensures.begun), refl, none-before g c, these.1);
+      notes = subst (λ (f : Bool). NotesEvents these.0 f (dev0 g (start g cards)) (dev2 g cards)) (fine-first g c) these.2;
     }
 
 pub returns-clause-noted : goal.returns-clause-noted
 returns-clause-noted g c =
-    let run = c.args.run.now in
-    let mid : Run = c.begin_span.new.self in
-    let U : State = g.M.Medium.state c.args.unit.now in
-    let X : State = g.C.Chip.state c.args.card_a.now in
-    let Y : State = g.D.Chip.state c.args.card_b.now in
-    let W : State = g.M.Medium.state c.mend.new.unit in
-    let dev0 = devices U X Y in
-    let begun : HasBegunSpan run mid = (c.mend.new.journal, c.begin_span.ensures.begun) in
-    let mended = mended-noted c.args.journal U W X Y (g.met.M.Medium.coherent c.args.unit.now) c.mend.ensures.moments false in
-    let one : Run = c.accept_anew.new.run in
-    let dev1 = devices (g.M.Medium.state c.accept_anew.new.unit) (g.C.Chip.state c.accept_anew.new.card_a) (g.D.Chip.state c.accept_anew.new.card_b) in
-    let driver = driver-these c.moment-at.result c.args.speed (is_err c.accept_anew.result) mid one c.args.outcome.now c.accept_anew.new.outcome dev0 (devices W X Y) dev1 c.moment-at.ensures mended c.accept_anew.ensures.noted in
-    let well : is_err c.accept_anew.result ≡ false = search rules in
-    let two : Run = c.accept_anew-2.new.run in
-    let dev2 = devices (g.M.Medium.state c.accept_anew-2.new.unit) (g.C.Chip.state c.accept_anew-2.new.card_a) (g.D.Chip.state c.accept_anew-2.new.card_b) in
-    let both = both-these c.moment-at.result c.args.speed (is_err c.accept_anew-2.result) mid one two c.args.outcome.now c.accept_anew.new.outcome c.accept_anew-2.new.outcome dev0 dev1 dev2 c.moment-at.ensures driver.0 driver.1
-    (subst (λ (q : Bool). NotesEvents driver.0 q dev0 dev1) well driver.2) c.accept_anew-2.ensures.noted in
-    let fine : is_err c.accept_anew-2.result ≡ false = search rules in
-    let some : (length c.args.outcome.now.breaks.items == 0) ≡ false = sym c.is_empty-is_first.ensures ∙ c.if-is_first.false in
-    let kept : c.last_kept-kept.result ≡ c.args.journal.kept = c.last_kept-kept.ensures.kept in
-    let dev3 = devices (g.M.Medium.state c.note_gap.new.unit) (g.C.Chip.state c.note_gap.new.card_a) (g.D.Chip.state c.note_gap.new.card_b) in
-    let after : Outcome = record c.accept_anew-2.new.outcome { breaks = c.note_gap.new.breaks } in
+    let cards = both g c in
+    let these = noted-two g cards in
     let gap = c.note_gap.ensures.events in
     record {
-      reach = AtGap mid gap.0;
-      events = both.0 ++ gap.1;
+      reach = AtGap (mid g (begin g c)) gap.0;
+      events = these.0 ++ gap.1;
       are = (
-        begun,
-        is-some (length c.args.outcome.now.breaks.items) some,
+        (c.mend.new.journal, c.begin_span.ensures.begun),
+        some g c,
         record {
-          two = two;
-          told = c.accept_anew-2.new.outcome;
-          judged = both.0;
+          two = two g cards;
+          told = out2 g cards;
+          judged = these.0;
           later = gap.1;
-          both = both.1;
-          gap = subst (λ (k : ℕ). AreGapEvents (gap_of k two.next) (now_moment two) (is_err c.note_gap.result) two c.note_gap.new.run c.accept_anew-2.new.outcome.breaks c.note_gap.new.breaks gap.0 gap.1) kept gap.2;
+          both = these.1;
+          gap = gap-events g c;
           rest = refl;
           are = refl;
         },
       );
-      notes = then-noted both.0 gap.1 (is_err c.note_gap.result) dev0 dev2 dev3 (subst (λ (q : Bool). NotesEvents both.0 q dev0 dev2) fine both.2) gap.3;
+      notes = then-noted these.0 gap.1 (is_err c.note_gap.result) (dev0 g (begin g c)) (dev2 g cards) (dev3 g c) (subst (λ (f : Bool). NotesEvents these.0 f (dev0 g (begin g c)) (dev2 g cards)) (fine g c) these.2) gap.3;
     }
 
 -- ---- WHAT IS NOTED, beside what is recorded
 
 pub returns-in_err-mend-clause-evented : goal.returns-in_err-mend-clause-evented
 returns-in_err-mend-clause-evented g c = λ room o origin done s supply v r stay may number given speed_is values evented limit time.
-    let U : State = g.M.Medium.state c.args.unit.now in
-    let X : State = g.C.Chip.state c.args.card_a.now in
-    let Y : State = g.D.Chip.state c.args.card_b.now in
-    let W : State = g.M.Medium.state c.mend.new.unit in
-    let run = c.args.run.now in
-    let out = c.args.outcome.now in
-    let bad = c.in_err-mend.ensures in
-    let loaded = c.requires.loaded in
-    let quiet = says c.args.journal U W X Y (g.met.M.Medium.coherent c.args.unit.now) c.mend.ensures.moments in
-    let read = unmended-read o origin done s supply v U X Y r may number given (g.met.M.Medium.coherent c.args.unit.now) (wholes-of U X Y (g.met.C.Chip.coherent c.args.card_a.now) (g.met.D.Chip.coherent c.args.card_b.now)) loaded.works c.args.journal (kept-of c.args.journal U.image loaded.found)
-    W true c.mend.ensures.moments c.mend.ensures.tells bad.cause c.mend.ensures.holds bad.first bad.second run out values refl in
-    let lost = unmended-evented o done s supply v (devices U X Y) (devices W X Y) r may number given c.args.journal.kept evented quiet read.left read.followed read in
-    let failed : true ≡ is_err c.from_residual.result = search rules in
-    subst (λ (f : Bool). EventsWoken f (log_of c.args.outcome.now) o done s run out (devices W X Y)) failed
-    (woken-fails o done s (found_again c.args.journal.kept (progress v supply r.book)) Waking run out (devices W X Y) (log_of out)
-    (subst (λ (l : RunLog). Evented o (done ++ s ∷ []) (and_break l (cut_at s.number true 0)) (found_again c.args.journal.kept (progress v supply r.book)).unfound (suc v.next) Lost (devices W X Y)) (sym (ap (λ (x : Values). x.log) values)) lost)
+    let p : Behind c.args.journal.kept c.args.run.now c.args.outcome.now (as_found g c) = record { room = room; o = o; origin = origin; done = done; s = s; supply = supply; v = v; r = r; stay = stay; may = may; number = number; given = given; values = values } in
+    let again : Progress = found_again c.args.journal.kept (progress v supply r.book) in
+    let silent = says c.args.journal (g.M.Medium.state c.args.unit.now) (g.M.Medium.state c.mend.new.unit) (g.C.Chip.state c.args.card_a.now) (g.D.Chip.state c.args.card_b.now) (g.met.M.Medium.coherent c.args.unit.now) c.mend.ensures.moments in
+    let lost = unmended-evented o done s supply v (as_found g c) (as_left g c) r may number given c.args.journal.kept evented silent (read g c p).left (read g c p).followed (read g c p) in
+    subst (λ (f : Bool). EventsWoken f (log_of c.args.outcome.now) o done s c.args.run.now c.args.outcome.now (as_left g c)) (failed-mend g c)
+    (woken-fails o done s again Waking c.args.run.now c.args.outcome.now (as_left g c) (log_of c.args.outcome.now)
+    (subst (λ (l : RunLog). Evented o (done ++ s ∷ []) (and_break l (cut_at s.number true 0)) again.unfound (suc v.next) Lost (as_left g c)) (sym (log-found g c p)) lost)
     (sym (ap (λ (x : Values). x.unfound) values)) (sym (ap (λ (x : Values). x.next) values)) limit)
 
 pub returns-in_err-accept_anew-clause-evented : goal.returns-in_err-accept_anew-clause-evented
 returns-in_err-accept_anew-clause-evented g c = λ room o origin done s supply v r stay may number given speed_is values evented limit time.
-    let run = c.args.run.now in
-    let mid : Run = c.begin_span.new.self in
-    let begun = c.begin_span.ensures.begun in
-    let U : State = g.M.Medium.state c.args.unit.now in
-    let X : State = g.C.Chip.state c.args.card_a.now in
-    let Y : State = g.D.Chip.state c.args.card_b.now in
-    let W : State = g.M.Medium.state c.mend.new.unit in
-    let k : ℕ = c.args.journal.kept in
-    let ok = c.in_ok-mend.ensures in
-    let loaded = c.requires.loaded in
-    let woke = awake o origin done s supply v U X Y r may number given (g.met.M.Medium.coherent c.args.unit.now) (wholes-of U X Y (g.met.C.Chip.coherent c.args.card_a.now) (g.met.D.Chip.coherent c.args.card_b.now)) loaded.works c.args.journal (kept-of c.args.journal U.image loaded.found)
-    W false c.mend.ensures.moments c.mend.ensures.tells ok.cause c.mend.ensures.holds ok.first ok.second run c.args.outcome.now values refl c.mend.new.journal ok.agrees mid begun (g.met.M.Medium.coherent c.mend.new.unit) stay in
-    let is = awake-is o origin done s supply v U X Y r may number given (g.met.M.Medium.coherent c.args.unit.now) (wholes-of U X Y (g.met.C.Chip.coherent c.args.card_a.now) (g.met.D.Chip.coherent c.args.card_b.now)) loaded.works c.args.journal (kept-of c.args.journal U.image loaded.found)
-    W false c.mend.ensures.moments c.mend.ensures.tells ok.cause c.mend.ensures.holds ok.first ok.second run c.args.outcome.now values refl c.mend.new.journal ok.agrees mid begun (g.met.M.Medium.coherent c.mend.new.unit) stay in
-    let quiet = says c.args.journal U W X Y (g.met.M.Medium.coherent c.args.unit.now) c.mend.ensures.moments in
-    let dark = c.requires.going.dark c.requires.dark in
-    let cards = run.keeper.cabin.cards in
-    let cabin = ap (λ (k : Keeper). k.cabin) begun.keeper in
-    let bare = subst (λ (b : Cabin). IsBare b.slots.seats.driver) (sym cabin) (dark-bare 0 cards run.keeper.cabin.slots.seats.driver dark.bare (dark.stands 0).driver) in
-    let few = ap (λ (b : Cabin). bare_count b.slots.seats.driver) cabin in
-    let now : c.moment-at.result ≡ moment_in s 0 = c.moment-at.ensures ∙ ap (λ (m : ℕ). record { second = m; begun = 0; late = false }) (begun.next ∙ ap (λ (x : Values). x.next) values ∙ sym number) in
-    let one : Run = c.accept_anew.new.run in
-    let out1 : Outcome = c.accept_anew.new.outcome in
-    let V1 : State = g.M.Medium.state c.accept_anew.new.unit in
-    let X1 : State = g.C.Chip.state c.accept_anew.new.card_a in
-    let Y1 : State = g.D.Chip.state c.accept_anew.new.card_b in
-    let first_card = card_in mid.keeper.cabin.slots.seats.driver in
-    let others = waiting_in CoDriver (card_in mid.keeper.cabin.slots.seats.codriver) in
-    let once = at-once CoDriver (card_in mid.keeper.cabin.slots.seats.codriver) in
-    let woken = wakes-evented o done s supply v (devices U X Y) (devices W X Y) r may number given k evented quiet woke.0 (waiting_in Driver first_card ++ others) mid c.args.outcome.now woke.1 is (ap (λ (x : Values). x.log) values) in
-    let recorded_one = c.accept_anew.ensures.recorded (omega (arith, room, few)) in
-    let first = driver-judged o done s woke.0 first_card others mid c.args.outcome.now (devices W X Y) woke.1 once refl bare c.moment-at.result now c.args.speed (is_err c.accept_anew.result) one out1 c.accept_anew.ensures.accepted (devices V1 X1 Y1)
-    (λ none P. same-devices P g.M.Medium.state g.C.Chip.state g.D.Chip.state c.mend.new.unit c.accept_anew.new.unit c.args.card_a.now c.accept_anew.new.card_a c.args.card_b.now c.accept_anew.new.card_b (c.accept_anew.ensures.still none)) time recorded_one in
-    let one_evented = driver-evented o done s woke.0 first_card others mid c.args.outcome.now (devices W X Y) woken.0 woken.1 once refl bare c.moment-at.result now c.args.speed speed_is (is_err c.accept_anew.result) one out1 c.accept_anew.ensures.accepted (devices V1 X1 Y1)
-    (λ none P. same-devices P g.M.Medium.state g.C.Chip.state g.D.Chip.state c.mend.new.unit c.accept_anew.new.unit c.args.card_a.now c.accept_anew.new.card_a c.args.card_b.now c.accept_anew.new.card_b (c.accept_anew.ensures.still none)) time recorded_one
-    (c.accept_anew.ensures.evented (omega (arith, room, few))) in
-    let same_one = anew-limit first_card Driver c.moment-at.result c.args.speed mid one c.args.outcome.now out1 c.accept_anew.ensures.accepted in
-    let limit_one : one.keeper.memory.limit ≡ limit_in o = ap (λ (m : Identity). m.limit) (same_one.0 ∙ ap (λ (k : Keeper). k.memory) begun.keeper) ∙ limit in
-    let unfound_one : woke.0.run.unfound ≡ one.unfound = ap (λ (q : Progress). q.unfound) is.0 ∙ sym (ap (λ (x : Values). x.unfound) values) ∙ sym begun.unfound ∙ sym (ap (λ (r : Run). r.unfound) c.accept_anew.ensures.only) in
-    let next_one : woke.0.run.next ≡ one.next = ap (λ (q : Progress). q.next) is.0 ∙ sym (ap (λ (x : Values). x.next) values) ∙ sym begun.next ∙ sym (ap (λ (r : Run). r.next) c.accept_anew.ensures.only) in
-    let fails : is_err c.accept_anew.result ≡ true = search rules in
-    let failed : true ≡ is_err c.from_residual-in_err-accept_anew.result = search rules in
-    subst (λ (f : Bool). EventsWoken f (log_of c.args.outcome.now) o done s one out1 (devices V1 X1 Y1)) failed
-    (woken-fails o done s woke.0.run Waking one out1 (devices V1 X1 Y1) (log_of c.args.outcome.now) (subst (λ (f : Bool). EventsGoOn f o done s woke.0.run (In 0) Waking (log_of out1) (devices V1 X1 Y1)) fails one_evented) unfound_one next_one limit_one)
+    let card = (goal.at.returns-in_err-accept_anew-clause-evented g c).After-accept_anew in
+    let at = span g card in
+    let p = premises g at room o origin done s supply v r stay may number given values in
+    let e : WithEvents g at p = record { speed_is = speed_is; evented = evented; limit = limit } in
+    let cut = subst (λ (f : Bool). EventsGoOn f o done s (woke g at p).0.run (In 0) Waking (log_of (out1 g card)) (dev1 g card)) (fails-one g c) (evented-one g card p time e) in
+    subst (λ (f : Bool). EventsWoken f (log_of (out g at)) o done s (one g card) (out1 g card) (dev1 g card)) (failed-one g c)
+    (woken-fails o done s (woke g at p).0.run Waking (one g card) (out1 g card) (dev1 g card) (log_of (out g at)) cut (began-unfound g card p time) (began-next g card p time) (limit-one g card p time e))
 
 pub returns-in_err-accept_anew-2-clause-evented : goal.returns-in_err-accept_anew-2-clause-evented
 returns-in_err-accept_anew-2-clause-evented g c = λ room o origin done s supply v r stay may number given speed_is values evented limit time.
-    let run = c.args.run.now in
-    let mid : Run = c.begin_span.new.self in
-    let begun = c.begin_span.ensures.begun in
-    let U : State = g.M.Medium.state c.args.unit.now in
-    let X : State = g.C.Chip.state c.args.card_a.now in
-    let Y : State = g.D.Chip.state c.args.card_b.now in
-    let W : State = g.M.Medium.state c.mend.new.unit in
-    let k : ℕ = c.args.journal.kept in
-    let ok = c.in_ok-mend.ensures in
-    let loaded = c.requires.loaded in
-    let woke = awake o origin done s supply v U X Y r may number given (g.met.M.Medium.coherent c.args.unit.now) (wholes-of U X Y (g.met.C.Chip.coherent c.args.card_a.now) (g.met.D.Chip.coherent c.args.card_b.now)) loaded.works c.args.journal (kept-of c.args.journal U.image loaded.found)
-    W false c.mend.ensures.moments c.mend.ensures.tells ok.cause c.mend.ensures.holds ok.first ok.second run c.args.outcome.now values refl c.mend.new.journal ok.agrees mid begun (g.met.M.Medium.coherent c.mend.new.unit) stay in
-    let is = awake-is o origin done s supply v U X Y r may number given (g.met.M.Medium.coherent c.args.unit.now) (wholes-of U X Y (g.met.C.Chip.coherent c.args.card_a.now) (g.met.D.Chip.coherent c.args.card_b.now)) loaded.works c.args.journal (kept-of c.args.journal U.image loaded.found)
-    W false c.mend.ensures.moments c.mend.ensures.tells ok.cause c.mend.ensures.holds ok.first ok.second run c.args.outcome.now values refl c.mend.new.journal ok.agrees mid begun (g.met.M.Medium.coherent c.mend.new.unit) stay in
-    let quiet = says c.args.journal U W X Y (g.met.M.Medium.coherent c.args.unit.now) c.mend.ensures.moments in
-    let dark = c.requires.going.dark c.requires.dark in
-    let cards = run.keeper.cabin.cards in
-    let cabin = ap (λ (k : Keeper). k.cabin) begun.keeper in
-    let bare = subst (λ (b : Cabin). IsBare b.slots.seats.driver) (sym cabin) (dark-bare 0 cards run.keeper.cabin.slots.seats.driver dark.bare (dark.stands 0).driver) in
-    let few = ap (λ (b : Cabin). bare_count b.slots.seats.driver) cabin in
-    let now : c.moment-at.result ≡ moment_in s 0 = c.moment-at.ensures ∙ ap (λ (m : ℕ). record { second = m; begun = 0; late = false }) (begun.next ∙ ap (λ (x : Values). x.next) values ∙ sym number) in
-    let one : Run = c.accept_anew.new.run in
-    let out1 : Outcome = c.accept_anew.new.outcome in
-    let V1 : State = g.M.Medium.state c.accept_anew.new.unit in
-    let X1 : State = g.C.Chip.state c.accept_anew.new.card_a in
-    let Y1 : State = g.D.Chip.state c.accept_anew.new.card_b in
-    let first_card = card_in mid.keeper.cabin.slots.seats.driver in
-    let others = waiting_in CoDriver (card_in mid.keeper.cabin.slots.seats.codriver) in
-    let once = at-once CoDriver (card_in mid.keeper.cabin.slots.seats.codriver) in
-    let woken = wakes-evented o done s supply v (devices U X Y) (devices W X Y) r may number given k evented quiet woke.0 (waiting_in Driver first_card ++ others) mid c.args.outcome.now woke.1 is (ap (λ (x : Values). x.log) values) in
-    let recorded_one = c.accept_anew.ensures.recorded (omega (arith, room, few)) in
-    let first = driver-judged o done s woke.0 first_card others mid c.args.outcome.now (devices W X Y) woke.1 once refl bare c.moment-at.result now c.args.speed (is_err c.accept_anew.result) one out1 c.accept_anew.ensures.accepted (devices V1 X1 Y1)
-    (λ none P. same-devices P g.M.Medium.state g.C.Chip.state g.D.Chip.state c.mend.new.unit c.accept_anew.new.unit c.args.card_a.now c.accept_anew.new.card_a c.args.card_b.now c.accept_anew.new.card_b (c.accept_anew.ensures.still none)) (time-before (devices V1 X1 Y1) (devices (g.M.Medium.state c.accept_anew-2.new.unit) (g.C.Chip.state c.accept_anew-2.new.card_a) (g.D.Chip.state c.accept_anew-2.new.card_b)) c.accept_anew-2.ensures.clock c.accept_anew-2.ensures.clock_a c.accept_anew-2.ensures.clock_b time) recorded_one in
-    let one_evented = driver-evented o done s woke.0 first_card others mid c.args.outcome.now (devices W X Y) woken.0 woken.1 once refl bare c.moment-at.result now c.args.speed speed_is (is_err c.accept_anew.result) one out1 c.accept_anew.ensures.accepted (devices V1 X1 Y1)
-    (λ none P. same-devices P g.M.Medium.state g.C.Chip.state g.D.Chip.state c.mend.new.unit c.accept_anew.new.unit c.args.card_a.now c.accept_anew.new.card_a c.args.card_b.now c.accept_anew.new.card_b (c.accept_anew.ensures.still none)) (time-before (devices V1 X1 Y1) (devices (g.M.Medium.state c.accept_anew-2.new.unit) (g.C.Chip.state c.accept_anew-2.new.card_a) (g.D.Chip.state c.accept_anew-2.new.card_b)) c.accept_anew-2.ensures.clock c.accept_anew-2.ensures.clock_a c.accept_anew-2.ensures.clock_b time) recorded_one
-    (c.accept_anew.ensures.evented (omega (arith, room, few))) in
-    let same_one = anew-limit first_card Driver c.moment-at.result c.args.speed mid one c.args.outcome.now out1 c.accept_anew.ensures.accepted in
-    let limit_one : one.keeper.memory.limit ≡ limit_in o = ap (λ (m : Identity). m.limit) (same_one.0 ∙ ap (λ (k : Keeper). k.memory) begun.keeper) ∙ limit in
-    let unfound_one : woke.0.run.unfound ≡ one.unfound = ap (λ (q : Progress). q.unfound) is.0 ∙ sym (ap (λ (x : Values). x.unfound) values) ∙ sym begun.unfound ∙ sym (ap (λ (r : Run). r.unfound) c.accept_anew.ensures.only) in
-    let next_one : woke.0.run.next ≡ one.next = ap (λ (q : Progress). q.next) is.0 ∙ sym (ap (λ (x : Values). x.next) values) ∙ sym begun.next ∙ sym (ap (λ (r : Run). r.next) c.accept_anew.ensures.only) in
-    let well : is_err c.accept_anew.result ≡ false = search rules in
-    let two : Run = c.accept_anew-2.new.run in
-    let out2 : Outcome = c.accept_anew-2.new.outcome in
-    let V2 : State = g.M.Medium.state c.accept_anew-2.new.unit in
-    let X2 : State = g.C.Chip.state c.accept_anew-2.new.card_a in
-    let Y2 : State = g.D.Chip.state c.accept_anew-2.new.card_b in
-    let beside : seat_in one.keeper.cabin.slots.seats CoDriver ≡ seat_in mid.keeper.cabin.slots.seats CoDriver = c.accept_anew.ensures.beside in
-    let bare_too = subst IsBare (sym (beside ∙ ap (λ (b : Cabin). b.slots.seats.codriver) cabin)) (dark-bare 0 cards run.keeper.cabin.slots.seats.codriver dark.bare (dark.stands 0).codriver) in
-    let few_too = ap bare_count (beside ∙ ap (λ (b : Cabin). b.slots.seats.codriver) cabin) in
-    let none_waits = begun-none mid.minutes run.next begun.minutes in
-    let waits_none = ap (λ (p : Power). waiting p mid.minutes.owing) begun.power in
-    let t = c.accept_anew.ensures.takes.marks in
-    let same_room = c.accept_anew.ensures.takes.rooms.0 in
-    let second_card = card_in one.keeper.cabin.slots.seats.codriver in
-    let behind_one : WakesEvented o done s woke.0 (waiting_in CoDriver second_card) (CoDriver ∷ []) one out1 (devices V1 X1 Y1) = record {
-      waking = subst (λ (seat : Option Seat). RunWaking o done s woke.0 (waiting_in CoDriver (card_in seat)) (CoDriver ∷ []) one out1 (devices V1 X1 Y1)) (sym beside) (first.0 well);
-      bare = woken.0.bare;
-      empty = woken.0.empty;
-      evented = subst (λ (f : Bool). EventsGoOn f o done s woke.0.run (In 0) Waking (log_of out1) (devices V1 X1 Y1)) well one_evented;
-    } in
-    let recorded_two = c.accept_anew-2.ensures.recorded (omega (arith, room, few, few_too, none_waits, waits_none, t, same_room)) in
-    let two_evented = codriver-evented o done s woke.0 second_card one out1 (devices V1 X1 Y1) behind_one refl bare_too c.moment-at.result now c.args.speed speed_is (is_err c.accept_anew-2.result) two out2 c.accept_anew-2.ensures.accepted (devices V2 X2 Y2)
-    (λ none P. same-devices P g.M.Medium.state g.C.Chip.state g.D.Chip.state c.accept_anew.new.unit c.accept_anew-2.new.unit c.accept_anew.new.card_a c.accept_anew-2.new.card_a c.accept_anew.new.card_b c.accept_anew-2.new.card_b (c.accept_anew-2.ensures.still none)) time recorded_two
-    (c.accept_anew-2.ensures.evented (omega (arith, room, few, few_too, none_waits, waits_none, t, same_room))) in
-    let same_two = anew-limit second_card CoDriver c.moment-at.result c.args.speed one two out1 out2 c.accept_anew-2.ensures.accepted in
-    let limit_two : two.keeper.memory.limit ≡ limit_in o = ap (λ (m : Identity). m.limit) same_two.0 ∙ limit_one in
-    let unfound_two : woke.0.run.unfound ≡ two.unfound = unfound_one ∙ sym (ap (λ (r : Run). r.unfound) c.accept_anew-2.ensures.only) in
-    let next_two : woke.0.run.next ≡ two.next = next_one ∙ sym (ap (λ (r : Run). r.next) c.accept_anew-2.ensures.only) in
-    let fails : is_err c.accept_anew-2.result ≡ true = search rules in
-    let failed : true ≡ is_err c.from_residual-in_err-accept_anew-2.result = search rules in
-    subst (λ (f : Bool). EventsWoken f (log_of c.args.outcome.now) o done s two out2 (devices V2 X2 Y2)) failed
-    (woken-fails o done s woke.0.run Waking two out2 (devices V2 X2 Y2) (log_of c.args.outcome.now) (subst (λ (f : Bool). EventsGoOn f o done s woke.0.run (In 0) Waking (log_of out2) (devices V2 X2 Y2)) fails two_evented) unfound_two next_two limit_two)
+    let cards = (goal.at.returns-in_err-accept_anew-2-clause-evented g c).After-accept_anew-2 in
+    let at = start g cards in
+    let p = premises g at room o origin done s supply v r stay may number given values in
+    let e : WithEvents g at p = record { speed_is = speed_is; evented = evented; limit = limit } in
+    let cut = subst (λ (f : Bool). EventsGoOn f o done s (woke g at p).0.run (In 0) Waking (log_of (out2 g cards)) (dev2 g cards)) (fails-two g c) (evented-two g cards p time e) in
+    subst (λ (f : Bool). EventsWoken f (log_of (out g at)) o done s (two g cards) (out2 g cards) (dev2 g cards)) (failed-two g c)
+    (woken-fails o done s (woke g at p).0.run Waking (two g cards) (out2 g cards) (dev2 g cards) (log_of (out g at)) cut (began-unfound-two g cards p time) (began-next-two g cards p time) (limit-two g cards p time e))
 
 pub returns-then-is_first-clause-evented : goal.returns-then-is_first-clause-evented
 returns-then-is_first-clause-evented g c = λ room o origin done s supply v r stay may number given speed_is values evented limit time.
-    let run = c.args.run.now in
-    let mid : Run = c.begin_span.new.self in
-    let begun = c.begin_span.ensures.begun in
-    let U : State = g.M.Medium.state c.args.unit.now in
-    let X : State = g.C.Chip.state c.args.card_a.now in
-    let Y : State = g.D.Chip.state c.args.card_b.now in
-    let W : State = g.M.Medium.state c.mend.new.unit in
-    let k : ℕ = c.args.journal.kept in
-    let ok = c.in_ok-mend.ensures in
-    let loaded = c.requires.loaded in
-    let woke = awake o origin done s supply v U X Y r may number given (g.met.M.Medium.coherent c.args.unit.now) (wholes-of U X Y (g.met.C.Chip.coherent c.args.card_a.now) (g.met.D.Chip.coherent c.args.card_b.now)) loaded.works c.args.journal (kept-of c.args.journal U.image loaded.found)
-    W false c.mend.ensures.moments c.mend.ensures.tells ok.cause c.mend.ensures.holds ok.first ok.second run c.args.outcome.now values refl c.mend.new.journal ok.agrees mid begun (g.met.M.Medium.coherent c.mend.new.unit) stay in
-    let is = awake-is o origin done s supply v U X Y r may number given (g.met.M.Medium.coherent c.args.unit.now) (wholes-of U X Y (g.met.C.Chip.coherent c.args.card_a.now) (g.met.D.Chip.coherent c.args.card_b.now)) loaded.works c.args.journal (kept-of c.args.journal U.image loaded.found)
-    W false c.mend.ensures.moments c.mend.ensures.tells ok.cause c.mend.ensures.holds ok.first ok.second run c.args.outcome.now values refl c.mend.new.journal ok.agrees mid begun (g.met.M.Medium.coherent c.mend.new.unit) stay in
-    let quiet = says c.args.journal U W X Y (g.met.M.Medium.coherent c.args.unit.now) c.mend.ensures.moments in
-    let dark = c.requires.going.dark c.requires.dark in
-    let cards = run.keeper.cabin.cards in
-    let cabin = ap (λ (k : Keeper). k.cabin) begun.keeper in
-    let bare = subst (λ (b : Cabin). IsBare b.slots.seats.driver) (sym cabin) (dark-bare 0 cards run.keeper.cabin.slots.seats.driver dark.bare (dark.stands 0).driver) in
-    let few = ap (λ (b : Cabin). bare_count b.slots.seats.driver) cabin in
-    let now : c.moment-at.result ≡ moment_in s 0 = c.moment-at.ensures ∙ ap (λ (m : ℕ). record { second = m; begun = 0; late = false }) (begun.next ∙ ap (λ (x : Values). x.next) values ∙ sym number) in
-    let one : Run = c.accept_anew.new.run in
-    let out1 : Outcome = c.accept_anew.new.outcome in
-    let V1 : State = g.M.Medium.state c.accept_anew.new.unit in
-    let X1 : State = g.C.Chip.state c.accept_anew.new.card_a in
-    let Y1 : State = g.D.Chip.state c.accept_anew.new.card_b in
-    let first_card = card_in mid.keeper.cabin.slots.seats.driver in
-    let others = waiting_in CoDriver (card_in mid.keeper.cabin.slots.seats.codriver) in
-    let once = at-once CoDriver (card_in mid.keeper.cabin.slots.seats.codriver) in
-    let woken = wakes-evented o done s supply v (devices U X Y) (devices W X Y) r may number given k evented quiet woke.0 (waiting_in Driver first_card ++ others) mid c.args.outcome.now woke.1 is (ap (λ (x : Values). x.log) values) in
-    let recorded_one = c.accept_anew.ensures.recorded (omega (arith, room, few)) in
-    let first = driver-judged o done s woke.0 first_card others mid c.args.outcome.now (devices W X Y) woke.1 once refl bare c.moment-at.result now c.args.speed (is_err c.accept_anew.result) one out1 c.accept_anew.ensures.accepted (devices V1 X1 Y1)
-    (λ none P. same-devices P g.M.Medium.state g.C.Chip.state g.D.Chip.state c.mend.new.unit c.accept_anew.new.unit c.args.card_a.now c.accept_anew.new.card_a c.args.card_b.now c.accept_anew.new.card_b (c.accept_anew.ensures.still none)) (time-before (devices V1 X1 Y1) (devices (g.M.Medium.state c.accept_anew-2.new.unit) (g.C.Chip.state c.accept_anew-2.new.card_a) (g.D.Chip.state c.accept_anew-2.new.card_b)) c.accept_anew-2.ensures.clock c.accept_anew-2.ensures.clock_a c.accept_anew-2.ensures.clock_b time) recorded_one in
-    let one_evented = driver-evented o done s woke.0 first_card others mid c.args.outcome.now (devices W X Y) woken.0 woken.1 once refl bare c.moment-at.result now c.args.speed speed_is (is_err c.accept_anew.result) one out1 c.accept_anew.ensures.accepted (devices V1 X1 Y1)
-    (λ none P. same-devices P g.M.Medium.state g.C.Chip.state g.D.Chip.state c.mend.new.unit c.accept_anew.new.unit c.args.card_a.now c.accept_anew.new.card_a c.args.card_b.now c.accept_anew.new.card_b (c.accept_anew.ensures.still none)) (time-before (devices V1 X1 Y1) (devices (g.M.Medium.state c.accept_anew-2.new.unit) (g.C.Chip.state c.accept_anew-2.new.card_a) (g.D.Chip.state c.accept_anew-2.new.card_b)) c.accept_anew-2.ensures.clock c.accept_anew-2.ensures.clock_a c.accept_anew-2.ensures.clock_b time) recorded_one
-    (c.accept_anew.ensures.evented (omega (arith, room, few))) in
-    let same_one = anew-limit first_card Driver c.moment-at.result c.args.speed mid one c.args.outcome.now out1 c.accept_anew.ensures.accepted in
-    let limit_one : one.keeper.memory.limit ≡ limit_in o = ap (λ (m : Identity). m.limit) (same_one.0 ∙ ap (λ (k : Keeper). k.memory) begun.keeper) ∙ limit in
-    let unfound_one : woke.0.run.unfound ≡ one.unfound = ap (λ (q : Progress). q.unfound) is.0 ∙ sym (ap (λ (x : Values). x.unfound) values) ∙ sym begun.unfound ∙ sym (ap (λ (r : Run). r.unfound) c.accept_anew.ensures.only) in
-    let next_one : woke.0.run.next ≡ one.next = ap (λ (q : Progress). q.next) is.0 ∙ sym (ap (λ (x : Values). x.next) values) ∙ sym begun.next ∙ sym (ap (λ (r : Run). r.next) c.accept_anew.ensures.only) in
-    let well : is_err c.accept_anew.result ≡ false = search rules in
-    let two : Run = c.accept_anew-2.new.run in
-    let out2 : Outcome = c.accept_anew-2.new.outcome in
-    let V2 : State = g.M.Medium.state c.accept_anew-2.new.unit in
-    let X2 : State = g.C.Chip.state c.accept_anew-2.new.card_a in
-    let Y2 : State = g.D.Chip.state c.accept_anew-2.new.card_b in
-    let beside : seat_in one.keeper.cabin.slots.seats CoDriver ≡ seat_in mid.keeper.cabin.slots.seats CoDriver = c.accept_anew.ensures.beside in
-    let bare_too = subst IsBare (sym (beside ∙ ap (λ (b : Cabin). b.slots.seats.codriver) cabin)) (dark-bare 0 cards run.keeper.cabin.slots.seats.codriver dark.bare (dark.stands 0).codriver) in
-    let few_too = ap bare_count (beside ∙ ap (λ (b : Cabin). b.slots.seats.codriver) cabin) in
-    let none_waits = begun-none mid.minutes run.next begun.minutes in
-    let waits_none = ap (λ (p : Power). waiting p mid.minutes.owing) begun.power in
-    let t = c.accept_anew.ensures.takes.marks in
-    let same_room = c.accept_anew.ensures.takes.rooms.0 in
-    let second_card = card_in one.keeper.cabin.slots.seats.codriver in
-    let behind_one : WakesEvented o done s woke.0 (waiting_in CoDriver second_card) (CoDriver ∷ []) one out1 (devices V1 X1 Y1) = record {
-      waking = subst (λ (seat : Option Seat). RunWaking o done s woke.0 (waiting_in CoDriver (card_in seat)) (CoDriver ∷ []) one out1 (devices V1 X1 Y1)) (sym beside) (first.0 well);
-      bare = woken.0.bare;
-      empty = woken.0.empty;
-      evented = subst (λ (f : Bool). EventsGoOn f o done s woke.0.run (In 0) Waking (log_of out1) (devices V1 X1 Y1)) well one_evented;
-    } in
-    let recorded_two = c.accept_anew-2.ensures.recorded (omega (arith, room, few, few_too, none_waits, waits_none, t, same_room)) in
-    let two_evented = codriver-evented o done s woke.0 second_card one out1 (devices V1 X1 Y1) behind_one refl bare_too c.moment-at.result now c.args.speed speed_is (is_err c.accept_anew-2.result) two out2 c.accept_anew-2.ensures.accepted (devices V2 X2 Y2)
-    (λ none P. same-devices P g.M.Medium.state g.C.Chip.state g.D.Chip.state c.accept_anew.new.unit c.accept_anew-2.new.unit c.accept_anew.new.card_a c.accept_anew-2.new.card_a c.accept_anew.new.card_b c.accept_anew-2.new.card_b (c.accept_anew-2.ensures.still none)) time recorded_two
-    (c.accept_anew-2.ensures.evented (omega (arith, room, few, few_too, none_waits, waits_none, t, same_room))) in
-    let same_two = anew-limit second_card CoDriver c.moment-at.result c.args.speed one two out1 out2 c.accept_anew-2.ensures.accepted in
-    let limit_two : two.keeper.memory.limit ≡ limit_in o = ap (λ (m : Identity). m.limit) same_two.0 ∙ limit_one in
-    let unfound_two : woke.0.run.unfound ≡ two.unfound = unfound_one ∙ sym (ap (λ (r : Run). r.unfound) c.accept_anew-2.ensures.only) in
-    let next_two : woke.0.run.next ≡ two.next = next_one ∙ sym (ap (λ (r : Run). r.next) c.accept_anew-2.ensures.only) in
-    let fine : is_err c.accept_anew-2.result ≡ false = search rules in
-    let both = codriver-on o done s woke.0 second_card one out1 (devices V1 X1 Y1) behind_one.waking refl bare_too c.moment-at.result now c.args.speed (is_err c.accept_anew-2.result) two out2 c.accept_anew-2.ensures.accepted (devices V2 X2 Y2)
-    (λ none P. same-devices P g.M.Medium.state g.C.Chip.state g.D.Chip.state c.accept_anew.new.unit c.accept_anew-2.new.unit c.accept_anew.new.card_a c.accept_anew-2.new.card_a c.accept_anew.new.card_b c.accept_anew-2.new.card_b (c.accept_anew-2.ensures.still none)) time recorded_two fine in
-    let noted_two = subst (λ (f : Bool). EventsGoOn f o done s woke.0.run (In 0) Waking (log_of out2) (devices V2 X2 Y2)) fine two_evented in
-    let lit = ok_gives c.accept_anew-2.result c.accept_anew-2.ensures.going fine in
-    let next_is = ap (λ (x : Values). x.next) values in
-    let most = c.requires.going.small in
-    let small : s.number < 2 ^ 32 = omega (arith, number, next_is, most) in
-    let watch_two = same_two.1 ∙ same_one.1 in
-    let none : (length c.args.outcome.now.breaks.items == 0) ≡ true = sym c.is_empty-is_first.ensures ∙ c.if-is_first.true in
-    let untold = none-told v.unfound k v.log.breaks c.args.outcome.now.breaks.items (ap (λ (x : Values). x.log.breaks) values) (is-none (length c.args.outcome.now.breaks.items) none) in
-    let noted = none-woken o origin done s supply v (devices U X Y) (devices W X Y) r may number given k evented quiet is.2 woken.2 woke.0 is.0 is.1 woken.0.bare two out2 (devices V2 X2 Y2) both noted_two (ungiven_of lit.span) lit.cabin small untold (same-noted V2 X2 Y2) in
-    let x = within-of o done s woke.0 [] [] two out2 (devices V2 X2 Y2) both in
-    woken-on o done s x.within.b two out2 (devices V2 X2 Y2) (here-empty o origin done s supply v (devices U X Y) (devices W X Y) r may number given k evented quiet is.2 woken.2 woke.0 is.0 is.1 woken.0.bare two out2 (devices V2 X2 Y2) both noted_two (ungiven_of lit.span) lit.cabin small)
-    x refl noted limit_two (begun-watched o run mid two c.mend.new.journal begun limit watch_two)
-    (log_of c.args.outcome.now) (ap (λ (b : Beginning). b.run.log) both.waking.began ∙ ap (λ (q : Progress). q.log) is.0 ∙ sym (ap (λ (x : Values). x.log) values))
+    let cards = (goal.at.returns-then-is_first-clause-evented g c).After-accept_anew-2 in
+    let at = start g cards in
+    let well_two = fine-first g c in
+    let p = premises g at room o origin done s supply v r stay may number given values in
+    let e : WithEvents g at p = record { speed_is = speed_is; evented = evented; limit = limit } in
+    let untold = none-told v.unfound c.args.journal.kept v.log.breaks (out g at).breaks.items (ap (λ (x : Values). x.log.breaks) values) (none-before g c) in
+    let stands_so = lit g cards p time well_two in
+    let noted_so =
+    none-woken o origin done s supply v (dev0 g at) (mended g at) r may number given c.args.journal.kept evented (quiet g at) (is g at p).2 (woken g at p e).2 (woke g at p).0 (is g at p).0 (is g at p).1 (woken g at p e).0.bare
+    (two g cards) (out2 g cards) (dev2 g cards) (goes-on g cards p time well_two) (evented-on g cards p time well_two e) (ungiven_of stands_so.span) stands_so.cabin (small g at p) untold (same-noted (dev2 g cards).unit (dev2 g cards).card_a (dev2 g cards).card_b) in
+    woken-on o done s (within g cards p time well_two).within.b (two g cards) (out2 g cards) (dev2 g cards) (empty g cards p time well_two e) (within g cards p time well_two) refl noted_so (limit-two g cards p time e)
+    (begun-watched o (run g at) (mid g at) (two g cards) c.mend.new.journal c.begin_span.ensures.begun limit ((same-two g cards).1 ∙ (same-one g (driver g cards)).1)) (log_of (out g at)) (began-here g cards p time well_two)
 
 pub returns-clause-evented : goal.returns-clause-evented
 returns-clause-evented g c = λ room o origin done s supply v r stay may number given speed_is values evented limit time.
-    let V3 : State = g.M.Medium.state c.note_gap.new.unit in
-    let X3 : State = g.C.Chip.state c.note_gap.new.card_a in
-    let Y3 : State = g.D.Chip.state c.note_gap.new.card_b in
-    let time_two = time-before (devices (g.M.Medium.state c.accept_anew-2.new.unit) (g.C.Chip.state c.accept_anew-2.new.card_a) (g.D.Chip.state c.accept_anew-2.new.card_b)) (devices V3 X3 Y3) c.note_gap.ensures.clock c.note_gap.ensures.clock_a c.note_gap.ensures.clock_b time in
-    let run = c.args.run.now in
-    let mid : Run = c.begin_span.new.self in
-    let begun = c.begin_span.ensures.begun in
-    let U : State = g.M.Medium.state c.args.unit.now in
-    let X : State = g.C.Chip.state c.args.card_a.now in
-    let Y : State = g.D.Chip.state c.args.card_b.now in
-    let W : State = g.M.Medium.state c.mend.new.unit in
-    let k : ℕ = c.args.journal.kept in
-    let ok = c.in_ok-mend.ensures in
-    let loaded = c.requires.loaded in
-    let woke = awake o origin done s supply v U X Y r may number given (g.met.M.Medium.coherent c.args.unit.now) (wholes-of U X Y (g.met.C.Chip.coherent c.args.card_a.now) (g.met.D.Chip.coherent c.args.card_b.now)) loaded.works c.args.journal (kept-of c.args.journal U.image loaded.found)
-    W false c.mend.ensures.moments c.mend.ensures.tells ok.cause c.mend.ensures.holds ok.first ok.second run c.args.outcome.now values refl c.mend.new.journal ok.agrees mid begun (g.met.M.Medium.coherent c.mend.new.unit) stay in
-    let is = awake-is o origin done s supply v U X Y r may number given (g.met.M.Medium.coherent c.args.unit.now) (wholes-of U X Y (g.met.C.Chip.coherent c.args.card_a.now) (g.met.D.Chip.coherent c.args.card_b.now)) loaded.works c.args.journal (kept-of c.args.journal U.image loaded.found)
-    W false c.mend.ensures.moments c.mend.ensures.tells ok.cause c.mend.ensures.holds ok.first ok.second run c.args.outcome.now values refl c.mend.new.journal ok.agrees mid begun (g.met.M.Medium.coherent c.mend.new.unit) stay in
-    let quiet = says c.args.journal U W X Y (g.met.M.Medium.coherent c.args.unit.now) c.mend.ensures.moments in
-    let dark = c.requires.going.dark c.requires.dark in
-    let cards = run.keeper.cabin.cards in
-    let cabin = ap (λ (k : Keeper). k.cabin) begun.keeper in
-    let bare = subst (λ (b : Cabin). IsBare b.slots.seats.driver) (sym cabin) (dark-bare 0 cards run.keeper.cabin.slots.seats.driver dark.bare (dark.stands 0).driver) in
-    let few = ap (λ (b : Cabin). bare_count b.slots.seats.driver) cabin in
-    let now : c.moment-at.result ≡ moment_in s 0 = c.moment-at.ensures ∙ ap (λ (m : ℕ). record { second = m; begun = 0; late = false }) (begun.next ∙ ap (λ (x : Values). x.next) values ∙ sym number) in
-    let one : Run = c.accept_anew.new.run in
-    let out1 : Outcome = c.accept_anew.new.outcome in
-    let V1 : State = g.M.Medium.state c.accept_anew.new.unit in
-    let X1 : State = g.C.Chip.state c.accept_anew.new.card_a in
-    let Y1 : State = g.D.Chip.state c.accept_anew.new.card_b in
-    let first_card = card_in mid.keeper.cabin.slots.seats.driver in
-    let others = waiting_in CoDriver (card_in mid.keeper.cabin.slots.seats.codriver) in
-    let once = at-once CoDriver (card_in mid.keeper.cabin.slots.seats.codriver) in
-    let woken = wakes-evented o done s supply v (devices U X Y) (devices W X Y) r may number given k evented quiet woke.0 (waiting_in Driver first_card ++ others) mid c.args.outcome.now woke.1 is (ap (λ (x : Values). x.log) values) in
-    let recorded_one = c.accept_anew.ensures.recorded (omega (arith, room, few)) in
-    let first = driver-judged o done s woke.0 first_card others mid c.args.outcome.now (devices W X Y) woke.1 once refl bare c.moment-at.result now c.args.speed (is_err c.accept_anew.result) one out1 c.accept_anew.ensures.accepted (devices V1 X1 Y1)
-    (λ none P. same-devices P g.M.Medium.state g.C.Chip.state g.D.Chip.state c.mend.new.unit c.accept_anew.new.unit c.args.card_a.now c.accept_anew.new.card_a c.args.card_b.now c.accept_anew.new.card_b (c.accept_anew.ensures.still none)) (time-before (devices V1 X1 Y1) (devices (g.M.Medium.state c.accept_anew-2.new.unit) (g.C.Chip.state c.accept_anew-2.new.card_a) (g.D.Chip.state c.accept_anew-2.new.card_b)) c.accept_anew-2.ensures.clock c.accept_anew-2.ensures.clock_a c.accept_anew-2.ensures.clock_b time_two) recorded_one in
-    let one_evented = driver-evented o done s woke.0 first_card others mid c.args.outcome.now (devices W X Y) woken.0 woken.1 once refl bare c.moment-at.result now c.args.speed speed_is (is_err c.accept_anew.result) one out1 c.accept_anew.ensures.accepted (devices V1 X1 Y1)
-    (λ none P. same-devices P g.M.Medium.state g.C.Chip.state g.D.Chip.state c.mend.new.unit c.accept_anew.new.unit c.args.card_a.now c.accept_anew.new.card_a c.args.card_b.now c.accept_anew.new.card_b (c.accept_anew.ensures.still none)) (time-before (devices V1 X1 Y1) (devices (g.M.Medium.state c.accept_anew-2.new.unit) (g.C.Chip.state c.accept_anew-2.new.card_a) (g.D.Chip.state c.accept_anew-2.new.card_b)) c.accept_anew-2.ensures.clock c.accept_anew-2.ensures.clock_a c.accept_anew-2.ensures.clock_b time_two) recorded_one
-    (c.accept_anew.ensures.evented (omega (arith, room, few))) in
-    let same_one = anew-limit first_card Driver c.moment-at.result c.args.speed mid one c.args.outcome.now out1 c.accept_anew.ensures.accepted in
-    let limit_one : one.keeper.memory.limit ≡ limit_in o = ap (λ (m : Identity). m.limit) (same_one.0 ∙ ap (λ (k : Keeper). k.memory) begun.keeper) ∙ limit in
-    let unfound_one : woke.0.run.unfound ≡ one.unfound = ap (λ (q : Progress). q.unfound) is.0 ∙ sym (ap (λ (x : Values). x.unfound) values) ∙ sym begun.unfound ∙ sym (ap (λ (r : Run). r.unfound) c.accept_anew.ensures.only) in
-    let next_one : woke.0.run.next ≡ one.next = ap (λ (q : Progress). q.next) is.0 ∙ sym (ap (λ (x : Values). x.next) values) ∙ sym begun.next ∙ sym (ap (λ (r : Run). r.next) c.accept_anew.ensures.only) in
-    let well : is_err c.accept_anew.result ≡ false = search rules in
-    let two : Run = c.accept_anew-2.new.run in
-    let out2 : Outcome = c.accept_anew-2.new.outcome in
-    let V2 : State = g.M.Medium.state c.accept_anew-2.new.unit in
-    let X2 : State = g.C.Chip.state c.accept_anew-2.new.card_a in
-    let Y2 : State = g.D.Chip.state c.accept_anew-2.new.card_b in
-    let beside : seat_in one.keeper.cabin.slots.seats CoDriver ≡ seat_in mid.keeper.cabin.slots.seats CoDriver = c.accept_anew.ensures.beside in
-    let bare_too = subst IsBare (sym (beside ∙ ap (λ (b : Cabin). b.slots.seats.codriver) cabin)) (dark-bare 0 cards run.keeper.cabin.slots.seats.codriver dark.bare (dark.stands 0).codriver) in
-    let few_too = ap bare_count (beside ∙ ap (λ (b : Cabin). b.slots.seats.codriver) cabin) in
-    let none_waits = begun-none mid.minutes run.next begun.minutes in
-    let waits_none = ap (λ (p : Power). waiting p mid.minutes.owing) begun.power in
-    let t = c.accept_anew.ensures.takes.marks in
-    let same_room = c.accept_anew.ensures.takes.rooms.0 in
-    let second_card = card_in one.keeper.cabin.slots.seats.codriver in
-    let behind_one : WakesEvented o done s woke.0 (waiting_in CoDriver second_card) (CoDriver ∷ []) one out1 (devices V1 X1 Y1) = record {
-      waking = subst (λ (seat : Option Seat). RunWaking o done s woke.0 (waiting_in CoDriver (card_in seat)) (CoDriver ∷ []) one out1 (devices V1 X1 Y1)) (sym beside) (first.0 well);
-      bare = woken.0.bare;
-      empty = woken.0.empty;
-      evented = subst (λ (f : Bool). EventsGoOn f o done s woke.0.run (In 0) Waking (log_of out1) (devices V1 X1 Y1)) well one_evented;
-    } in
-    let recorded_two = c.accept_anew-2.ensures.recorded (omega (arith, room, few, few_too, none_waits, waits_none, t, same_room)) in
-    let two_evented = codriver-evented o done s woke.0 second_card one out1 (devices V1 X1 Y1) behind_one refl bare_too c.moment-at.result now c.args.speed speed_is (is_err c.accept_anew-2.result) two out2 c.accept_anew-2.ensures.accepted (devices V2 X2 Y2)
-    (λ none P. same-devices P g.M.Medium.state g.C.Chip.state g.D.Chip.state c.accept_anew.new.unit c.accept_anew-2.new.unit c.accept_anew.new.card_a c.accept_anew-2.new.card_a c.accept_anew.new.card_b c.accept_anew-2.new.card_b (c.accept_anew-2.ensures.still none)) time_two recorded_two
-    (c.accept_anew-2.ensures.evented (omega (arith, room, few, few_too, none_waits, waits_none, t, same_room))) in
-    let same_two = anew-limit second_card CoDriver c.moment-at.result c.args.speed one two out1 out2 c.accept_anew-2.ensures.accepted in
-    let limit_two : two.keeper.memory.limit ≡ limit_in o = ap (λ (m : Identity). m.limit) same_two.0 ∙ limit_one in
-    let unfound_two : woke.0.run.unfound ≡ two.unfound = unfound_one ∙ sym (ap (λ (r : Run). r.unfound) c.accept_anew-2.ensures.only) in
-    let next_two : woke.0.run.next ≡ two.next = next_one ∙ sym (ap (λ (r : Run). r.next) c.accept_anew-2.ensures.only) in
-    let fine : is_err c.accept_anew-2.result ≡ false = search rules in
-    let both = codriver-on o done s woke.0 second_card one out1 (devices V1 X1 Y1) behind_one.waking refl bare_too c.moment-at.result now c.args.speed (is_err c.accept_anew-2.result) two out2 c.accept_anew-2.ensures.accepted (devices V2 X2 Y2)
-    (λ none P. same-devices P g.M.Medium.state g.C.Chip.state g.D.Chip.state c.accept_anew.new.unit c.accept_anew-2.new.unit c.accept_anew.new.card_a c.accept_anew-2.new.card_a c.accept_anew.new.card_b c.accept_anew-2.new.card_b (c.accept_anew-2.ensures.still none)) time_two recorded_two fine in
-    let noted_two = subst (λ (f : Bool). EventsGoOn f o done s woke.0.run (In 0) Waking (log_of out2) (devices V2 X2 Y2)) fine two_evented in
-    let lit = ok_gives c.accept_anew-2.result c.accept_anew-2.ensures.going fine in
-    let next_is = ap (λ (x : Values). x.next) values in
-    let most = c.requires.going.small in
-    let small : s.number < 2 ^ 32 = omega (arith, number, next_is, most) in
-    let watch_two = same_two.1 ∙ same_one.1 in
-    let new : Run = c.note_gap.new.run in
-    let out3 : Outcome = record out2 { breaks = c.note_gap.new.breaks } in
-    let some : (length c.args.outcome.now.breaks.items == 0) ≡ false = sym c.is_empty-is_first.ensures ∙ c.if-is_first.false in
-    let told_before = some-told v.unfound k v.log.breaks c.args.outcome.now.breaks.items (ap (λ (x : Values). x.log.breaks) values) (is-some (length c.args.outcome.now.breaks.items) some) in
-    let kept : c.last_kept-kept.result ≡ k = c.last_kept-kept.ensures.kept in
-    let later = c.requires.later in
-    let early : k < s.number / 60 = subst (λ (n : ℕ). k < n / 60) (next_is ∙ sym number) later in
+    let cards = both g c in
+    let at = begin g c in
+    let p = premises g at room o origin done s supply v r stay may number given values in
+    let e : WithEvents g at p = record { speed_is = speed_is; evented = evented; limit = limit } in
+    let past = time-two g c p time in
+    let stands_so = lit g cards p past (fine g c) in
+    let early : c.args.journal.kept < s.number / 60 = subst (λ (n : ℕ). c.args.journal.kept < n / 60) (next_is g at p) c.requires.later in
     let gap = c.note_gap.ensures.events in
-    let x = within-of o done s woke.0 [] [] two out2 (devices V2 X2 Y2) both in
-    let comes = comes-waking o done s woke.0 [] [] two out2 (devices V2 X2 Y2) both in
-    let are = subst (λ (n : ℕ). AreGapEvents (gap_of n two.next) (now_moment two) (is_err c.note_gap.result) two new out2.breaks c.note_gap.new.breaks gap.0 gap.1) kept gap.2 in
-    let noted = gap-woken o origin done s supply v (devices U X Y) (devices W X Y) r may number given k evented quiet is.2 woken.2 woke.0 is.0 is.1 woken.0.bare two out2 (devices V2 X2 Y2) both noted_two (ungiven_of lit.span) lit.cabin small told_before early (devices V3 X3 Y3)
-    (is_err c.note_gap.result) new c.note_gap.new.breaks gap.0 gap.1 are gap.3 (c.note_gap.ensures.leaves o done s out2 x comes) in
-    let empty = here-empty o origin done s supply v (devices U X Y) (devices W X Y) r may number given k evented quiet is.2 woken.2 woke.0 is.0 is.1 woken.0.bare two out2 (devices V2 X2 Y2) both noted_two (ungiven_of lit.span) lit.cabin small in
-    let began : x.within.b ≡ woke.0 = both.waking.began in
-    let stays = gap-memory (gap_of c.last_kept-kept.result two.next) (now_moment two) (is_err c.note_gap.result) two new out2.breaks c.note_gap.new.breaks c.note_gap.ensures.noted.0 c.note_gap.ensures.noted.1 in
-    woken-ends o done s x.within.b empty (is_err c.note_gap.result) new out3 (devices V3 X3 Y3) (c.note_gap.ensures.recorded o done s out2 x (λ first. comes)) noted
-    (ap (λ (b : Beginning). b.run.unfound) began ∙ unfound_two ∙ sym (ap (λ (r : Run). r.unfound) c.note_gap.ensures.only)) (ap (λ (b : Beginning). b.run.next) began ∙ next_two ∙ sym (ap (λ (r : Run). r.next) c.note_gap.ensures.only))
-    (ap (λ (m : Identity). m.limit) stays ∙ limit_two) (begun-watched o run mid new c.mend.new.journal begun limit (ap (λ (r : Run). r.watch) c.note_gap.ensures.only ∙ watch_two))
-    (log_of c.args.outcome.now) (ap (λ (b : Beginning). b.run.log) began ∙ ap (λ (q : Progress). q.log) is.0 ∙ sym (ap (λ (x : Values). x.log) values))
+    let noted_so =
+    gap-woken o origin done s supply v (dev0 g at) (mended g at) r may number given c.args.journal.kept evented (quiet g at) (is g at p).2 (woken g at p e).2 (woke g at p).0 (is g at p).0 (is g at p).1 (woken g at p e).0.bare
+    (two g cards) (out2 g cards) (dev2 g cards) (goes-on g cards p past (fine g c)) (evented-on g cards p past (fine g c) e) (ungiven_of stands_so.span) stands_so.cabin (small g at p) (told-before g c p time) early (dev3 g c)
+    (is_err c.note_gap.result) (new g c) c.note_gap.new.breaks gap.0 gap.1 (gap-events g c) gap.3 (c.note_gap.ensures.leaves o done s (out2 g cards) (here g c p time) (comes g cards p past (fine g c))) in
+    woken-ends o done s (here g c p time).within.b (empty g cards p past (fine g c) e) (is_err c.note_gap.result) (new g c) (out3 g c) (dev3 g c) (goes g c p time) noted_so
+    (ap (λ (b : Beginning). b.run.unfound) (began g cards p past (fine g c)) ∙ began-unfound-two g cards p past ∙ sym (ap (λ (r : Run). r.unfound) c.note_gap.ensures.only))
+    (ap (λ (b : Beginning). b.run.next) (began g cards p past (fine g c)) ∙ began-next-two g cards p past ∙ sym (ap (λ (r : Run). r.next) c.note_gap.ensures.only))
+    (ap (λ (m : Identity). m.limit) (stays g c) ∙ limit-two g cards p past e)
+    (begun-watched o (run g at) (mid g at) (new g c) c.mend.new.journal c.begin_span.ensures.begun limit (ap (λ (r : Run). r.watch) c.note_gap.ensures.only ∙ (same-two g cards).1 ∙ (same-one g (driver g cards)).1)) (log_of (out g at)) (began-here g cards p past (fine g c))
 
 -- ---- the rings
 
@@ -960,670 +952,133 @@ returns-in_err-mend-clause-ringed g c = λ room o origin done s supply v r stay 
     let X : State = g.C.Chip.state c.args.card_a.now in
     let Y : State = g.D.Chip.state c.args.card_b.now in
     let W : State = g.M.Medium.state c.mend.new.unit in
-    let run = c.args.run.now in
-    let out = c.args.outcome.now in
     let bad = c.in_err-mend.ensures in
     let loaded = c.requires.loaded in
-    let read = unmended-read o origin done s supply v U X Y r may number given (g.met.M.Medium.coherent c.args.unit.now) (wholes-of U X Y (g.met.C.Chip.coherent c.args.card_a.now) (g.met.D.Chip.coherent c.args.card_b.now)) loaded.works c.args.journal (kept-of c.args.journal U.image loaded.found)
-    W true c.mend.ensures.moments c.mend.ensures.tells bad.cause c.mend.ensures.holds bad.first bad.second run out values refl in
+    let p : Behind c.args.journal.kept c.args.run.now c.args.outcome.now (as_found g c) = record { room = room; o = o; origin = origin; done = done; s = s; supply = supply; v = v; r = r; stay = stay; may = may; number = number; given = given; values = values } in
     let q : Progress = found_again c.args.journal.kept (progress v supply r.book) in
-    let log : log_of out ≡ q.log = ap (λ (x : Values). x.log) values in
-    let behind = behind-stays (devices U X Y) (devices W X Y) o done (log_of out) s.number spans seats ringed (mend-leaves c.args.journal U W (g.met.M.Medium.coherent c.args.unit.now) c.mend.ensures.moments) read.left (places-beside o U W X Y) in
-    let log_is : log_of out ≡ found_log v.unfound c.args.journal.kept v.log = log in
-    let are = spans-before o done supply v (devices U X Y) r c.args.journal.kept (log_of out) log_is spans ringed.spans_are in
-    let stands = unmended-stands o origin done s supply v U X Y r may number given (g.met.M.Medium.coherent c.args.unit.now) (wholes-of U X Y (g.met.C.Chip.coherent c.args.card_a.now) (g.met.D.Chip.coherent c.args.card_b.now)) loaded.works c.args.journal (kept-of c.args.journal U.image loaded.found)
-    W true c.mend.ensures.moments c.mend.ensures.tells bad.cause c.mend.ensures.holds bad.first bad.second run out values refl spans are off in
-    let base = stands.0 in
-    let cut = unpowered-ringed o done s q read.followed read.followed.power number given (devices W X Y) spans seats (subst (λ (l : RunLog). RingedBehind o done l s.number spans seats (devices W X Y)) log behind) base in
-    let mended = stays-stored o v.log v.unfound spans (devices U X Y) (devices W X Y) (mend-stays c.args.journal (devices U X Y) (devices W X Y) (g.met.M.Medium.coherent c.args.unit.now) c.mend.ensures.moments) off in
-    let stored = unmended-stored o done s q read.followed read.followed.power number given spans (devices W X Y) base stands.1 mended.stores in
-    let now : List SpanFrom = spans_cut spans base (with_cut q.log s []) done s in
-    let failed : true ≡ is_err c.from_residual.result = search rules in
-    subst (λ (f : Bool). RingsWoken f (log_of out) o done s spans run (log_of out) (devices W X Y)) failed (
-      now,
+    let behind = behind-stays (as_found g c) (as_left g c) o done (log_of c.args.outcome.now) s.number spans seats ringed (mend-leaves c.args.journal U W (g.met.M.Medium.coherent c.args.unit.now) c.mend.ensures.moments) (read g c p).left (places-beside o U W X Y) in
+    let log_now : log_of c.args.outcome.now ≡ found_log v.unfound c.args.journal.kept v.log = log-found g c p in
+    let are = spans-before o done supply v (as_found g c) r c.args.journal.kept (log_of c.args.outcome.now) log_now spans ringed.spans_are in
+    let stands_so =
+    unmended-stands o origin done s supply v U X Y r may number given (g.met.M.Medium.coherent c.args.unit.now) (wholes-of U X Y (g.met.C.Chip.coherent c.args.card_a.now) (g.met.D.Chip.coherent c.args.card_b.now)) loaded.works c.args.journal (kept-of c.args.journal U.image loaded.found)
+    W true c.mend.ensures.moments c.mend.ensures.tells bad.cause c.mend.ensures.holds bad.first bad.second c.args.run.now c.args.outcome.now values refl spans are off in
+    let base = stands_so.0 in
+    let cut = unpowered-ringed o done s q (read g c p).followed (read g c p).followed.power number given (as_left g c) spans seats (subst (λ (l : RunLog). RingedBehind o done l s.number spans seats (as_left g c)) (log-found g c p) behind) base in
+    let kept_so = stays-stored o v.log v.unfound spans (as_found g c) (as_left g c) (mend-stays c.args.journal (as_found g c) (as_left g c) (g.met.M.Medium.coherent c.args.unit.now) c.mend.ensures.moments) off in
+    let stored = unmended-stored o done s q (read g c p).followed (read g c p).followed.power number given spans (as_left g c) base stands_so.1 kept_so.stores in
+    let after : List SpanFrom = spans_cut spans base (with_cut q.log s []) done s in
+    subst (λ (f : Bool). RingsWoken f (log_of c.args.outcome.now) o done s spans c.args.run.now (log_of c.args.outcome.now) (as_left g c)) (failed-mend g c) (
+      after,
       counted,
-      subst (λ (l : RunLog). RingedBehind o (done ++ s ∷ []) (with_cut l s []) (suc s.number) now nobody (devices W X Y)) (sym log) cut,
-      subst (λ (l : RunLog). StoresOff o (with_cut l s []) run.unfound now (devices W X Y)) (sym log) (subst (λ (n : ℕ). StoresOff o (with_cut q.log s []) n now (devices W X Y)) (sym (ap (λ (x : Values). x.unfound) values)) stored),
+      subst (λ (l : RunLog). RingedBehind o (done ++ s ∷ []) (with_cut l s []) (suc s.number) after nobody (as_left g c)) (sym (log-found g c p)) cut,
+      subst (λ (l : RunLog). StoresOff o (with_cut l s []) c.args.run.now.unfound after (as_left g c)) (sym (log-found g c p)) (subst (λ (n : ℕ). StoresOff o (with_cut q.log s []) n after (as_left g c)) (sym (ap (λ (x : Values). x.unfound) values)) stored),
     )
 
 pub returns-in_err-accept_anew-clause-ringed : goal.returns-in_err-accept_anew-clause-ringed
-returns-in_err-accept_anew-clause-ringed g c =
-    let failed : is_err c.accept_anew.result ≡ is_err c.from_residual-in_err-accept_anew.result = search rules in
-    λ room o origin done s supply v r stay may number given values spans seats ringed counted off time.
-    let run = c.args.run.now in
-    let out = c.args.outcome.now in
-    let mid : Run = c.begin_span.new.self in
-    let begun = c.begin_span.ensures.begun in
-    let U : State = g.M.Medium.state c.args.unit.now in
-    let X : State = g.C.Chip.state c.args.card_a.now in
-    let Y : State = g.D.Chip.state c.args.card_b.now in
-    let W : State = g.M.Medium.state c.mend.new.unit in
-    let k : ℕ = c.args.journal.kept in
-    let ok = c.in_ok-mend.ensures in
-    let loaded = c.requires.loaded in
-    let woke = awake o origin done s supply v U X Y r may number given (g.met.M.Medium.coherent c.args.unit.now) (wholes-of U X Y (g.met.C.Chip.coherent c.args.card_a.now) (g.met.D.Chip.coherent c.args.card_b.now)) loaded.works c.args.journal (kept-of c.args.journal U.image loaded.found)
-    W false c.mend.ensures.moments c.mend.ensures.tells ok.cause c.mend.ensures.holds ok.first ok.second run c.args.outcome.now values refl c.mend.new.journal ok.agrees mid begun (g.met.M.Medium.coherent c.mend.new.unit) stay in
-    let is = awake-is o origin done s supply v U X Y r may number given (g.met.M.Medium.coherent c.args.unit.now) (wholes-of U X Y (g.met.C.Chip.coherent c.args.card_a.now) (g.met.D.Chip.coherent c.args.card_b.now)) loaded.works c.args.journal (kept-of c.args.journal U.image loaded.found)
-    W false c.mend.ensures.moments c.mend.ensures.tells ok.cause c.mend.ensures.holds ok.first ok.second run c.args.outcome.now values refl c.mend.new.journal ok.agrees mid begun (g.met.M.Medium.coherent c.mend.new.unit) stay in
-    let dark = c.requires.going.dark c.requires.dark in
-    let cards = run.keeper.cabin.cards in
-    let cabin = ap (λ (k : Keeper). k.cabin) begun.keeper in
-    let bare = subst (λ (b : Cabin). IsBare b.slots.seats.driver) (sym cabin) (dark-bare 0 cards run.keeper.cabin.slots.seats.driver dark.bare (dark.stands 0).driver) in
-    let few = ap (λ (b : Cabin). bare_count b.slots.seats.driver) cabin in
-    let now : c.moment-at.result ≡ moment_in s 0 = c.moment-at.ensures ∙ ap (λ (m : ℕ). record { second = m; begun = 0; late = false }) (begun.next ∙ ap (λ (x : Values). x.next) values ∙ sym number) in
-    let one : Run = c.accept_anew.new.run in
-    let out1 : Outcome = c.accept_anew.new.outcome in
-    let V1 : State = g.M.Medium.state c.accept_anew.new.unit in
-    let X1 : State = g.C.Chip.state c.accept_anew.new.card_a in
-    let Y1 : State = g.D.Chip.state c.accept_anew.new.card_b in
-    let first_card = card_in mid.keeper.cabin.slots.seats.driver in
-    let others = waiting_in CoDriver (card_in mid.keeper.cabin.slots.seats.codriver) in
-    let once = at-once CoDriver (card_in mid.keeper.cabin.slots.seats.codriver) in
-    let t : Told = second_told (log_of out) (went (log_of out) done).before s in
-    let log0 : woke.0.run.log ≡ log_of out = ap (λ (q : Progress). q.log) is.0 ∙ sym (ap (λ (x : Values). x.log) values) in
-    let mended = behind-stays (devices U X Y) (devices W X Y) o done (log_of out) s.number spans seats ringed (mend-leaves c.args.journal U W (g.met.M.Medium.coherent c.args.unit.now) c.mend.ensures.moments) is.2 (places-beside o U W X Y) in
-    let noted : mid.noted ≡ run.noted = begun.noted in
-    let starts : WakesRinged o done s woke.0 (waiting_in Driver first_card ++ others) both_slots spans t mid out (devices W X Y) =
-    wakes-ringed o done s woke.0 (waiting_in Driver first_card ++ others) mid out (devices W X Y) woke.1 (sym log0) spans seats mended
-    (λ card. ap (option_map (seating_of mid.noted)) (ap (λ (b : Cabin). session_of b.cards card) cabin ∙ dark.bare card)) (omega (arith, counted, noted)) in
-    let log_is : log_of out ≡ found_log v.unfound k v.log = ap (λ (x : Values). x.log) values in
-    let are = spans-before o done supply v (devices U X Y) r k (log_of out) log_is spans ringed.spans_are in
-    let kept_now : c.mend.new.journal.kept ≡ k = ap (λ (j : Notes). j.kept) c.in_ok-mend.ensures.notes in
-    let stands : StandsOn o (log_of out) mid.unfound spans mid.keeper.odometer = subst (λ (n : ℕ). StandsOn o (log_of out) n spans mid.keeper.odometer) (sym begun.unfound)
-    (awake-stands o origin done s supply v U X Y r may number given (g.met.M.Medium.coherent c.args.unit.now) (wholes-of U X Y (g.met.C.Chip.coherent c.args.card_a.now) (g.met.D.Chip.coherent c.args.card_b.now)) loaded.works c.args.journal (kept-of c.args.journal U.image loaded.found)
-    W false c.mend.ensures.moments c.mend.ensures.tells ok.cause c.mend.ensures.holds ok.first ok.second run c.args.outcome.now values refl c.mend.new.journal ok.agrees mid begun (g.met.M.Medium.coherent c.mend.new.unit) stay kept_now spans are off) in
-    let recorded_one = c.accept_anew.ensures.recorded (omega (arith, room, few)) in
-    let one_ringed : RingsGoOn (is_err c.accept_anew.result) o done s woke.0 [] one (log_of out1) spans t (devices V1 X1 Y1) =
-    driver-ringed o done s woke.0 first_card others mid out (devices W X Y) spans t starts (woke.1.waking.none CoDriver (in-both CoDriver)) once refl bare c.moment-at.result now c.args.speed (is_err c.accept_anew.result) one out1 c.accept_anew.ensures.accepted (devices V1 X1 Y1)
-    (λ none P. same-devices P g.M.Medium.state g.C.Chip.state g.D.Chip.state c.mend.new.unit c.accept_anew.new.unit c.args.card_a.now c.accept_anew.new.card_a c.args.card_b.now c.accept_anew.new.card_b (c.accept_anew.ensures.still none)) time recorded_one
-    (c.accept_anew.ensures.ringed (omega (arith, room, few))) in
-    let first = driver-judged o done s woke.0 first_card others mid c.args.outcome.now (devices W X Y) woke.1 once refl bare c.moment-at.result now c.args.speed (is_err c.accept_anew.result) one out1 c.accept_anew.ensures.accepted (devices V1 X1 Y1)
-    (λ none P. same-devices P g.M.Medium.state g.C.Chip.state g.D.Chip.state c.mend.new.unit c.accept_anew.new.unit c.args.card_a.now c.accept_anew.new.card_a c.args.card_b.now c.accept_anew.new.card_b (c.accept_anew.ensures.still none)) time recorded_one in
-    subst (λ (f : Bool). RingsWoken f (log_of out) o done s spans one (log_of out1) (devices V1 X1 Y1)) failed
-    (woken-rings o done s woke.0 (waiting_in Driver first_card ++ others) both_slots spans t mid out (devices W X Y) starts (log_of out) log0 stands (is_err c.accept_anew.result) one out1 (devices V1 X1 Y1) one_ringed (λ f. first.1 f) (ap (λ (r : Run). r.power) c.accept_anew.ensures.only ∙ begun.power) (ap (λ (r : Run). r.unfound) c.accept_anew.ensures.only) (λ well. (first.0 well).odometer ∙ sym woke.1.odometer))
+returns-in_err-accept_anew-clause-ringed g c = λ room o origin done s supply v r stay may number given values spans seats ringed counted off time.
+    let card = (goal.at.returns-in_err-accept_anew-clause-ringed g c).After-accept_anew in
+    let at = span g card in
+    let p = premises g at room o origin done s supply v r stay may number given values in
+    let q : WithRings g at p = record { spans = spans; seats = seats; ringed = ringed; counted = counted; off = off } in
+    subst (λ (f : Bool). RingsWoken f (log_of (out g at)) o done s spans (one g card) (log_of (out1 g card)) (dev1 g card)) (fails-one g c ∙ failed-one g c)
+    (rings-then g at p q (is_err c.accept_anew.result) (one g card) (out1 g card) (dev1 g card) (ringed-one g card p time q) (first g card p time).1 (power-one g card) (unfound-one g card) (λ well_one. ((first g card p time).0 well_one).odometer ∙ sym (woke g at p).1.odometer))
 
 pub returns-in_err-accept_anew-2-clause-ringed : goal.returns-in_err-accept_anew-2-clause-ringed
-returns-in_err-accept_anew-2-clause-ringed g c =
-    let failed : is_err c.accept_anew-2.result ≡ is_err c.from_residual-in_err-accept_anew-2.result = search rules in
-    let well : is_err c.accept_anew.result ≡ false = search rules in
-    λ room o origin done s supply v r stay may number given values spans seats ringed counted off time.
-    let run = c.args.run.now in
-    let out = c.args.outcome.now in
-    let mid : Run = c.begin_span.new.self in
-    let begun = c.begin_span.ensures.begun in
-    let U : State = g.M.Medium.state c.args.unit.now in
-    let X : State = g.C.Chip.state c.args.card_a.now in
-    let Y : State = g.D.Chip.state c.args.card_b.now in
-    let W : State = g.M.Medium.state c.mend.new.unit in
-    let k : ℕ = c.args.journal.kept in
-    let ok = c.in_ok-mend.ensures in
-    let loaded = c.requires.loaded in
-    let woke = awake o origin done s supply v U X Y r may number given (g.met.M.Medium.coherent c.args.unit.now) (wholes-of U X Y (g.met.C.Chip.coherent c.args.card_a.now) (g.met.D.Chip.coherent c.args.card_b.now)) loaded.works c.args.journal (kept-of c.args.journal U.image loaded.found)
-    W false c.mend.ensures.moments c.mend.ensures.tells ok.cause c.mend.ensures.holds ok.first ok.second run c.args.outcome.now values refl c.mend.new.journal ok.agrees mid begun (g.met.M.Medium.coherent c.mend.new.unit) stay in
-    let is = awake-is o origin done s supply v U X Y r may number given (g.met.M.Medium.coherent c.args.unit.now) (wholes-of U X Y (g.met.C.Chip.coherent c.args.card_a.now) (g.met.D.Chip.coherent c.args.card_b.now)) loaded.works c.args.journal (kept-of c.args.journal U.image loaded.found)
-    W false c.mend.ensures.moments c.mend.ensures.tells ok.cause c.mend.ensures.holds ok.first ok.second run c.args.outcome.now values refl c.mend.new.journal ok.agrees mid begun (g.met.M.Medium.coherent c.mend.new.unit) stay in
-    let dark = c.requires.going.dark c.requires.dark in
-    let cards = run.keeper.cabin.cards in
-    let cabin = ap (λ (k : Keeper). k.cabin) begun.keeper in
-    let bare = subst (λ (b : Cabin). IsBare b.slots.seats.driver) (sym cabin) (dark-bare 0 cards run.keeper.cabin.slots.seats.driver dark.bare (dark.stands 0).driver) in
-    let few = ap (λ (b : Cabin). bare_count b.slots.seats.driver) cabin in
-    let now : c.moment-at.result ≡ moment_in s 0 = c.moment-at.ensures ∙ ap (λ (m : ℕ). record { second = m; begun = 0; late = false }) (begun.next ∙ ap (λ (x : Values). x.next) values ∙ sym number) in
-    let one : Run = c.accept_anew.new.run in
-    let out1 : Outcome = c.accept_anew.new.outcome in
-    let V1 : State = g.M.Medium.state c.accept_anew.new.unit in
-    let X1 : State = g.C.Chip.state c.accept_anew.new.card_a in
-    let Y1 : State = g.D.Chip.state c.accept_anew.new.card_b in
-    let first_card = card_in mid.keeper.cabin.slots.seats.driver in
-    let others = waiting_in CoDriver (card_in mid.keeper.cabin.slots.seats.codriver) in
-    let once = at-once CoDriver (card_in mid.keeper.cabin.slots.seats.codriver) in
-    let t : Told = second_told (log_of out) (went (log_of out) done).before s in
-    let log0 : woke.0.run.log ≡ log_of out = ap (λ (q : Progress). q.log) is.0 ∙ sym (ap (λ (x : Values). x.log) values) in
-    let mended = behind-stays (devices U X Y) (devices W X Y) o done (log_of out) s.number spans seats ringed (mend-leaves c.args.journal U W (g.met.M.Medium.coherent c.args.unit.now) c.mend.ensures.moments) is.2 (places-beside o U W X Y) in
-    let noted : mid.noted ≡ run.noted = begun.noted in
-    let starts : WakesRinged o done s woke.0 (waiting_in Driver first_card ++ others) both_slots spans t mid out (devices W X Y) =
-    wakes-ringed o done s woke.0 (waiting_in Driver first_card ++ others) mid out (devices W X Y) woke.1 (sym log0) spans seats mended
-    (λ card. ap (option_map (seating_of mid.noted)) (ap (λ (b : Cabin). session_of b.cards card) cabin ∙ dark.bare card)) (omega (arith, counted, noted)) in
-    let log_is : log_of out ≡ found_log v.unfound k v.log = ap (λ (x : Values). x.log) values in
-    let are = spans-before o done supply v (devices U X Y) r k (log_of out) log_is spans ringed.spans_are in
-    let kept_now : c.mend.new.journal.kept ≡ k = ap (λ (j : Notes). j.kept) c.in_ok-mend.ensures.notes in
-    let stands : StandsOn o (log_of out) mid.unfound spans mid.keeper.odometer = subst (λ (n : ℕ). StandsOn o (log_of out) n spans mid.keeper.odometer) (sym begun.unfound)
-    (awake-stands o origin done s supply v U X Y r may number given (g.met.M.Medium.coherent c.args.unit.now) (wholes-of U X Y (g.met.C.Chip.coherent c.args.card_a.now) (g.met.D.Chip.coherent c.args.card_b.now)) loaded.works c.args.journal (kept-of c.args.journal U.image loaded.found)
-    W false c.mend.ensures.moments c.mend.ensures.tells ok.cause c.mend.ensures.holds ok.first ok.second run c.args.outcome.now values refl c.mend.new.journal ok.agrees mid begun (g.met.M.Medium.coherent c.mend.new.unit) stay kept_now spans are off) in
-    let recorded_one = c.accept_anew.ensures.recorded (omega (arith, room, few)) in
-    let one_ringed : RingsGoOn (is_err c.accept_anew.result) o done s woke.0 [] one (log_of out1) spans t (devices V1 X1 Y1) =
-    driver-ringed o done s woke.0 first_card others mid out (devices W X Y) spans t starts (woke.1.waking.none CoDriver (in-both CoDriver)) once refl bare c.moment-at.result now c.args.speed (is_err c.accept_anew.result) one out1 c.accept_anew.ensures.accepted (devices V1 X1 Y1)
-    (λ none P. same-devices P g.M.Medium.state g.C.Chip.state g.D.Chip.state c.mend.new.unit c.accept_anew.new.unit c.args.card_a.now c.accept_anew.new.card_a c.args.card_b.now c.accept_anew.new.card_b (c.accept_anew.ensures.still none)) (time-before (devices V1 X1 Y1) (devices (g.M.Medium.state c.accept_anew-2.new.unit) (g.C.Chip.state c.accept_anew-2.new.card_a) (g.D.Chip.state c.accept_anew-2.new.card_b)) c.accept_anew-2.ensures.clock c.accept_anew-2.ensures.clock_a c.accept_anew-2.ensures.clock_b time) recorded_one
-    (c.accept_anew.ensures.ringed (omega (arith, room, few))) in
-    let first = driver-judged o done s woke.0 first_card others mid c.args.outcome.now (devices W X Y) woke.1 once refl bare c.moment-at.result now c.args.speed (is_err c.accept_anew.result) one out1 c.accept_anew.ensures.accepted (devices V1 X1 Y1)
-    (λ none P. same-devices P g.M.Medium.state g.C.Chip.state g.D.Chip.state c.mend.new.unit c.accept_anew.new.unit c.args.card_a.now c.accept_anew.new.card_a c.args.card_b.now c.accept_anew.new.card_b (c.accept_anew.ensures.still none)) (time-before (devices V1 X1 Y1) (devices (g.M.Medium.state c.accept_anew-2.new.unit) (g.C.Chip.state c.accept_anew-2.new.card_a) (g.D.Chip.state c.accept_anew-2.new.card_b)) c.accept_anew-2.ensures.clock c.accept_anew-2.ensures.clock_a c.accept_anew-2.ensures.clock_b time) recorded_one in
-    let two : Run = c.accept_anew-2.new.run in
-    let out2 : Outcome = c.accept_anew-2.new.outcome in
-    let V2 : State = g.M.Medium.state c.accept_anew-2.new.unit in
-    let X2 : State = g.C.Chip.state c.accept_anew-2.new.card_a in
-    let Y2 : State = g.D.Chip.state c.accept_anew-2.new.card_b in
-    let beside : seat_in one.keeper.cabin.slots.seats CoDriver ≡ seat_in mid.keeper.cabin.slots.seats CoDriver = c.accept_anew.ensures.beside in
-    let bare_too = subst IsBare (sym (beside ∙ ap (λ (b : Cabin). b.slots.seats.codriver) cabin)) (dark-bare 0 cards run.keeper.cabin.slots.seats.codriver dark.bare (dark.stands 0).codriver) in
-    let few_too = ap bare_count (beside ∙ ap (λ (b : Cabin). b.slots.seats.codriver) cabin) in
-    let none_waits = begun-none mid.minutes run.next begun.minutes in
-    let waits_none = ap (λ (p : Power). waiting p mid.minutes.owing) begun.power in
-    let marks = c.accept_anew.ensures.takes.marks in
-    let same_room = c.accept_anew.ensures.takes.rooms.0 in
-    let second_card = card_in one.keeper.cabin.slots.seats.codriver in
-    let behind_one : WakesRinged o done s woke.0 (waiting_in CoDriver second_card) (CoDriver ∷ []) spans t one out1 (devices V1 X1 Y1) = record {
-      waking = subst (λ (seat : Option Seat). RunWaking o done s woke.0 (waiting_in CoDriver (card_in seat)) (CoDriver ∷ []) one out1 (devices V1 X1 Y1)) (sym beside) (first.0 well);
-      rings = subst (λ (f : Bool). RingsGoOn f o done s woke.0 [] one (log_of out1) spans t (devices V1 X1 Y1)) well one_ringed;
-    } in
-    let recorded_two = c.accept_anew-2.ensures.recorded (omega (arith, room, few, few_too, none_waits, waits_none, marks, same_room)) in
-    let two_ringed : RingsGoOn (is_err c.accept_anew-2.result) o done s woke.0 [] two (log_of out2) spans t (devices V2 X2 Y2) =
-    codriver-ringed o done s woke.0 second_card one out1 (devices V1 X1 Y1) spans t behind_one refl bare_too c.moment-at.result now c.args.speed (is_err c.accept_anew-2.result) two out2 c.accept_anew-2.ensures.accepted (devices V2 X2 Y2)
-    (λ none P. same-devices P g.M.Medium.state g.C.Chip.state g.D.Chip.state c.accept_anew.new.unit c.accept_anew-2.new.unit c.accept_anew.new.card_a c.accept_anew-2.new.card_a c.accept_anew.new.card_b c.accept_anew-2.new.card_b (c.accept_anew-2.ensures.still none)) time recorded_two
-    (c.accept_anew-2.ensures.ringed (omega (arith, room, few, few_too, none_waits, waits_none, marks, same_room))) in
-    let both = λ (well_two : is_err c.accept_anew-2.result ≡ false). codriver-on o done s woke.0 second_card one out1 (devices V1 X1 Y1) behind_one.waking refl bare_too c.moment-at.result now c.args.speed (is_err c.accept_anew-2.result) two out2 c.accept_anew-2.ensures.accepted (devices V2 X2 Y2)
-    (λ none P. same-devices P g.M.Medium.state g.C.Chip.state g.D.Chip.state c.accept_anew.new.unit c.accept_anew-2.new.unit c.accept_anew.new.card_a c.accept_anew-2.new.card_a c.accept_anew.new.card_b c.accept_anew-2.new.card_b (c.accept_anew-2.ensures.still none)) time recorded_two well_two in
-    let second = codriver-judged o done s woke.0 second_card one out1 (devices V1 X1 Y1) behind_one.waking refl bare_too c.moment-at.result now c.args.speed (is_err c.accept_anew-2.result) two out2 c.accept_anew-2.ensures.accepted (devices V2 X2 Y2)
-    (λ none P. same-devices P g.M.Medium.state g.C.Chip.state g.D.Chip.state c.accept_anew.new.unit c.accept_anew-2.new.unit c.accept_anew.new.card_a c.accept_anew-2.new.card_a c.accept_anew.new.card_b c.accept_anew-2.new.card_b (c.accept_anew-2.ensures.still none)) time recorded_two in
-    subst (λ (f : Bool). RingsWoken f (log_of out) o done s spans two (log_of out2) (devices V2 X2 Y2)) failed
-    (woken-rings o done s woke.0 (waiting_in Driver first_card ++ others) both_slots spans t mid out (devices W X Y) starts (log_of out) log0 stands (is_err c.accept_anew-2.result) two out2 (devices V2 X2 Y2) two_ringed (λ f. subst (λ (q : Bool). GoesOnOrCut q o done s (In 0) [] two out2 (devices V2 X2 Y2)) f second) (ap (λ (r : Run). r.power) c.accept_anew-2.ensures.only ∙ ap (λ (r : Run). r.power) c.accept_anew.ensures.only ∙ begun.power) (ap (λ (r : Run). r.unfound) c.accept_anew-2.ensures.only ∙ ap (λ (r : Run). r.unfound) c.accept_anew.ensures.only) (λ well_two. (both well_two).odometer ∙ sym woke.1.odometer))
-
-never-true : false ≡ true → ⊥
-never-true bad = cc
+returns-in_err-accept_anew-2-clause-ringed g c = λ room o origin done s supply v r stay may number given values spans seats ringed counted off time.
+    let cards = (goal.at.returns-in_err-accept_anew-2-clause-ringed g c).After-accept_anew-2 in
+    let p = premises g (start g cards) room o origin done s supply v r stay may number given values in
+    let q : WithRings g (start g cards) p = record { spans = spans; seats = seats; ringed = ringed; counted = counted; off = off } in
+    subst (λ (f : Bool). RingsWoken f (log_of (out g (start g cards))) o done s spans (two g cards) (log_of (out2 g cards)) (dev2 g cards)) (fails-two g c ∙ failed-two g c) (rings-two g cards p time q)
 
 pub returns-then-is_first-clause-ringed : goal.returns-then-is_first-clause-ringed
-returns-then-is_first-clause-ringed g c =
-    let fine : is_err c.accept_anew-2.result ≡ false = search rules in
-    let well : is_err c.accept_anew.result ≡ false = search rules in
-    λ room o origin done s supply v r stay may number given values spans seats ringed counted off time.
-    let run = c.args.run.now in
-    let out = c.args.outcome.now in
-    let mid : Run = c.begin_span.new.self in
-    let begun = c.begin_span.ensures.begun in
-    let U : State = g.M.Medium.state c.args.unit.now in
-    let X : State = g.C.Chip.state c.args.card_a.now in
-    let Y : State = g.D.Chip.state c.args.card_b.now in
-    let W : State = g.M.Medium.state c.mend.new.unit in
-    let k : ℕ = c.args.journal.kept in
-    let ok = c.in_ok-mend.ensures in
-    let loaded = c.requires.loaded in
-    let woke = awake o origin done s supply v U X Y r may number given (g.met.M.Medium.coherent c.args.unit.now) (wholes-of U X Y (g.met.C.Chip.coherent c.args.card_a.now) (g.met.D.Chip.coherent c.args.card_b.now)) loaded.works c.args.journal (kept-of c.args.journal U.image loaded.found)
-    W false c.mend.ensures.moments c.mend.ensures.tells ok.cause c.mend.ensures.holds ok.first ok.second run c.args.outcome.now values refl c.mend.new.journal ok.agrees mid begun (g.met.M.Medium.coherent c.mend.new.unit) stay in
-    let is = awake-is o origin done s supply v U X Y r may number given (g.met.M.Medium.coherent c.args.unit.now) (wholes-of U X Y (g.met.C.Chip.coherent c.args.card_a.now) (g.met.D.Chip.coherent c.args.card_b.now)) loaded.works c.args.journal (kept-of c.args.journal U.image loaded.found)
-    W false c.mend.ensures.moments c.mend.ensures.tells ok.cause c.mend.ensures.holds ok.first ok.second run c.args.outcome.now values refl c.mend.new.journal ok.agrees mid begun (g.met.M.Medium.coherent c.mend.new.unit) stay in
-    let dark = c.requires.going.dark c.requires.dark in
-    let cards = run.keeper.cabin.cards in
-    let cabin = ap (λ (k : Keeper). k.cabin) begun.keeper in
-    let bare = subst (λ (b : Cabin). IsBare b.slots.seats.driver) (sym cabin) (dark-bare 0 cards run.keeper.cabin.slots.seats.driver dark.bare (dark.stands 0).driver) in
-    let few = ap (λ (b : Cabin). bare_count b.slots.seats.driver) cabin in
-    let now : c.moment-at.result ≡ moment_in s 0 = c.moment-at.ensures ∙ ap (λ (m : ℕ). record { second = m; begun = 0; late = false }) (begun.next ∙ ap (λ (x : Values). x.next) values ∙ sym number) in
-    let one : Run = c.accept_anew.new.run in
-    let out1 : Outcome = c.accept_anew.new.outcome in
-    let V1 : State = g.M.Medium.state c.accept_anew.new.unit in
-    let X1 : State = g.C.Chip.state c.accept_anew.new.card_a in
-    let Y1 : State = g.D.Chip.state c.accept_anew.new.card_b in
-    let first_card = card_in mid.keeper.cabin.slots.seats.driver in
-    let others = waiting_in CoDriver (card_in mid.keeper.cabin.slots.seats.codriver) in
-    let once = at-once CoDriver (card_in mid.keeper.cabin.slots.seats.codriver) in
-    let t : Told = second_told (log_of out) (went (log_of out) done).before s in
-    let log0 : woke.0.run.log ≡ log_of out = ap (λ (q : Progress). q.log) is.0 ∙ sym (ap (λ (x : Values). x.log) values) in
-    let mended = behind-stays (devices U X Y) (devices W X Y) o done (log_of out) s.number spans seats ringed (mend-leaves c.args.journal U W (g.met.M.Medium.coherent c.args.unit.now) c.mend.ensures.moments) is.2 (places-beside o U W X Y) in
-    let noted : mid.noted ≡ run.noted = begun.noted in
-    let starts : WakesRinged o done s woke.0 (waiting_in Driver first_card ++ others) both_slots spans t mid out (devices W X Y) =
-    wakes-ringed o done s woke.0 (waiting_in Driver first_card ++ others) mid out (devices W X Y) woke.1 (sym log0) spans seats mended
-    (λ card. ap (option_map (seating_of mid.noted)) (ap (λ (b : Cabin). session_of b.cards card) cabin ∙ dark.bare card)) (omega (arith, counted, noted)) in
-    let log_is : log_of out ≡ found_log v.unfound k v.log = ap (λ (x : Values). x.log) values in
-    let are = spans-before o done supply v (devices U X Y) r k (log_of out) log_is spans ringed.spans_are in
-    let kept_now : c.mend.new.journal.kept ≡ k = ap (λ (j : Notes). j.kept) c.in_ok-mend.ensures.notes in
-    let stands : StandsOn o (log_of out) mid.unfound spans mid.keeper.odometer = subst (λ (n : ℕ). StandsOn o (log_of out) n spans mid.keeper.odometer) (sym begun.unfound)
-    (awake-stands o origin done s supply v U X Y r may number given (g.met.M.Medium.coherent c.args.unit.now) (wholes-of U X Y (g.met.C.Chip.coherent c.args.card_a.now) (g.met.D.Chip.coherent c.args.card_b.now)) loaded.works c.args.journal (kept-of c.args.journal U.image loaded.found)
-    W false c.mend.ensures.moments c.mend.ensures.tells ok.cause c.mend.ensures.holds ok.first ok.second run c.args.outcome.now values refl c.mend.new.journal ok.agrees mid begun (g.met.M.Medium.coherent c.mend.new.unit) stay kept_now spans are off) in
-    let recorded_one = c.accept_anew.ensures.recorded (omega (arith, room, few)) in
-    let one_ringed : RingsGoOn (is_err c.accept_anew.result) o done s woke.0 [] one (log_of out1) spans t (devices V1 X1 Y1) =
-    driver-ringed o done s woke.0 first_card others mid out (devices W X Y) spans t starts (woke.1.waking.none CoDriver (in-both CoDriver)) once refl bare c.moment-at.result now c.args.speed (is_err c.accept_anew.result) one out1 c.accept_anew.ensures.accepted (devices V1 X1 Y1)
-    (λ none P. same-devices P g.M.Medium.state g.C.Chip.state g.D.Chip.state c.mend.new.unit c.accept_anew.new.unit c.args.card_a.now c.accept_anew.new.card_a c.args.card_b.now c.accept_anew.new.card_b (c.accept_anew.ensures.still none)) (time-before (devices V1 X1 Y1) (devices (g.M.Medium.state c.accept_anew-2.new.unit) (g.C.Chip.state c.accept_anew-2.new.card_a) (g.D.Chip.state c.accept_anew-2.new.card_b)) c.accept_anew-2.ensures.clock c.accept_anew-2.ensures.clock_a c.accept_anew-2.ensures.clock_b time) recorded_one
-    (c.accept_anew.ensures.ringed (omega (arith, room, few))) in
-    let first = driver-judged o done s woke.0 first_card others mid c.args.outcome.now (devices W X Y) woke.1 once refl bare c.moment-at.result now c.args.speed (is_err c.accept_anew.result) one out1 c.accept_anew.ensures.accepted (devices V1 X1 Y1)
-    (λ none P. same-devices P g.M.Medium.state g.C.Chip.state g.D.Chip.state c.mend.new.unit c.accept_anew.new.unit c.args.card_a.now c.accept_anew.new.card_a c.args.card_b.now c.accept_anew.new.card_b (c.accept_anew.ensures.still none)) (time-before (devices V1 X1 Y1) (devices (g.M.Medium.state c.accept_anew-2.new.unit) (g.C.Chip.state c.accept_anew-2.new.card_a) (g.D.Chip.state c.accept_anew-2.new.card_b)) c.accept_anew-2.ensures.clock c.accept_anew-2.ensures.clock_a c.accept_anew-2.ensures.clock_b time) recorded_one in
-    let two : Run = c.accept_anew-2.new.run in
-    let out2 : Outcome = c.accept_anew-2.new.outcome in
-    let V2 : State = g.M.Medium.state c.accept_anew-2.new.unit in
-    let X2 : State = g.C.Chip.state c.accept_anew-2.new.card_a in
-    let Y2 : State = g.D.Chip.state c.accept_anew-2.new.card_b in
-    let beside : seat_in one.keeper.cabin.slots.seats CoDriver ≡ seat_in mid.keeper.cabin.slots.seats CoDriver = c.accept_anew.ensures.beside in
-    let bare_too = subst IsBare (sym (beside ∙ ap (λ (b : Cabin). b.slots.seats.codriver) cabin)) (dark-bare 0 cards run.keeper.cabin.slots.seats.codriver dark.bare (dark.stands 0).codriver) in
-    let few_too = ap bare_count (beside ∙ ap (λ (b : Cabin). b.slots.seats.codriver) cabin) in
-    let none_waits = begun-none mid.minutes run.next begun.minutes in
-    let waits_none = ap (λ (p : Power). waiting p mid.minutes.owing) begun.power in
-    let marks = c.accept_anew.ensures.takes.marks in
-    let same_room = c.accept_anew.ensures.takes.rooms.0 in
-    let second_card = card_in one.keeper.cabin.slots.seats.codriver in
-    let behind_one : WakesRinged o done s woke.0 (waiting_in CoDriver second_card) (CoDriver ∷ []) spans t one out1 (devices V1 X1 Y1) = record {
-      waking = subst (λ (seat : Option Seat). RunWaking o done s woke.0 (waiting_in CoDriver (card_in seat)) (CoDriver ∷ []) one out1 (devices V1 X1 Y1)) (sym beside) (first.0 well);
-      rings = subst (λ (f : Bool). RingsGoOn f o done s woke.0 [] one (log_of out1) spans t (devices V1 X1 Y1)) well one_ringed;
-    } in
-    let recorded_two = c.accept_anew-2.ensures.recorded (omega (arith, room, few, few_too, none_waits, waits_none, marks, same_room)) in
-    let two_ringed : RingsGoOn (is_err c.accept_anew-2.result) o done s woke.0 [] two (log_of out2) spans t (devices V2 X2 Y2) =
-    codriver-ringed o done s woke.0 second_card one out1 (devices V1 X1 Y1) spans t behind_one refl bare_too c.moment-at.result now c.args.speed (is_err c.accept_anew-2.result) two out2 c.accept_anew-2.ensures.accepted (devices V2 X2 Y2)
-    (λ none P. same-devices P g.M.Medium.state g.C.Chip.state g.D.Chip.state c.accept_anew.new.unit c.accept_anew-2.new.unit c.accept_anew.new.card_a c.accept_anew-2.new.card_a c.accept_anew.new.card_b c.accept_anew-2.new.card_b (c.accept_anew-2.ensures.still none)) time recorded_two
-    (c.accept_anew-2.ensures.ringed (omega (arith, room, few, few_too, none_waits, waits_none, marks, same_room))) in
-    let both = codriver-on o done s woke.0 second_card one out1 (devices V1 X1 Y1) behind_one.waking refl bare_too c.moment-at.result now c.args.speed (is_err c.accept_anew-2.result) two out2 c.accept_anew-2.ensures.accepted (devices V2 X2 Y2)
-    (λ none P. same-devices P g.M.Medium.state g.C.Chip.state g.D.Chip.state c.accept_anew.new.unit c.accept_anew-2.new.unit c.accept_anew.new.card_a c.accept_anew-2.new.card_a c.accept_anew.new.card_b c.accept_anew-2.new.card_b (c.accept_anew-2.ensures.still none)) time recorded_two fine in
-    woken-rings o done s woke.0 (waiting_in Driver first_card ++ others) both_slots spans t mid out (devices W X Y) starts (log_of out) log0 stands false two out2 (devices V2 X2 Y2) (subst (λ (f : Bool). RingsGoOn f o done s woke.0 [] two (log_of out2) spans t (devices V2 X2 Y2)) fine two_ringed)
-    (λ never. absurd (never-true never)) (ap (λ (r : Run). r.power) c.accept_anew-2.ensures.only ∙ ap (λ (r : Run). r.power) c.accept_anew.ensures.only ∙ begun.power) (ap (λ (r : Run). r.unfound) c.accept_anew-2.ensures.only ∙ ap (λ (r : Run). r.unfound) c.accept_anew.ensures.only) (λ well_two. both.odometer ∙ sym woke.1.odometer)
+returns-then-is_first-clause-ringed g c = λ room o origin done s supply v r stay may number given values spans seats ringed counted off time.
+    let cards = (goal.at.returns-then-is_first-clause-ringed g c).After-accept_anew-2 in
+    let p = premises g (start g cards) room o origin done s supply v r stay may number given values in
+    let q : WithRings g (start g cards) p = record { spans = spans; seats = seats; ringed = ringed; counted = counted; off = off } in
+    subst (λ (f : Bool). RingsWoken f (log_of (out g (start g cards))) o done s spans (two g cards) (log_of (out2 g cards)) (dev2 g cards)) (fine-first g c) (rings-two g cards p time q)
 
 pub returns-clause-ringed : goal.returns-clause-ringed
-returns-clause-ringed g c =
-    let fine : is_err c.accept_anew-2.result ≡ false = search rules in
-    let well : is_err c.accept_anew.result ≡ false = search rules in
-    λ room o origin done s supply v r stay may number given values spans seats ringed counted off time.
-    let V3 : State = g.M.Medium.state c.note_gap.new.unit in
-    let X3 : State = g.C.Chip.state c.note_gap.new.card_a in
-    let Y3 : State = g.D.Chip.state c.note_gap.new.card_b in
-    let time_two = time-before (devices (g.M.Medium.state c.accept_anew-2.new.unit) (g.C.Chip.state c.accept_anew-2.new.card_a) (g.D.Chip.state c.accept_anew-2.new.card_b)) (devices V3 X3 Y3) c.note_gap.ensures.clock c.note_gap.ensures.clock_a c.note_gap.ensures.clock_b time in
-    let run = c.args.run.now in
-    let out = c.args.outcome.now in
-    let mid : Run = c.begin_span.new.self in
-    let begun = c.begin_span.ensures.begun in
-    let U : State = g.M.Medium.state c.args.unit.now in
-    let X : State = g.C.Chip.state c.args.card_a.now in
-    let Y : State = g.D.Chip.state c.args.card_b.now in
-    let W : State = g.M.Medium.state c.mend.new.unit in
-    let k : ℕ = c.args.journal.kept in
-    let ok = c.in_ok-mend.ensures in
-    let loaded = c.requires.loaded in
-    let woke = awake o origin done s supply v U X Y r may number given (g.met.M.Medium.coherent c.args.unit.now) (wholes-of U X Y (g.met.C.Chip.coherent c.args.card_a.now) (g.met.D.Chip.coherent c.args.card_b.now)) loaded.works c.args.journal (kept-of c.args.journal U.image loaded.found)
-    W false c.mend.ensures.moments c.mend.ensures.tells ok.cause c.mend.ensures.holds ok.first ok.second run c.args.outcome.now values refl c.mend.new.journal ok.agrees mid begun (g.met.M.Medium.coherent c.mend.new.unit) stay in
-    let is = awake-is o origin done s supply v U X Y r may number given (g.met.M.Medium.coherent c.args.unit.now) (wholes-of U X Y (g.met.C.Chip.coherent c.args.card_a.now) (g.met.D.Chip.coherent c.args.card_b.now)) loaded.works c.args.journal (kept-of c.args.journal U.image loaded.found)
-    W false c.mend.ensures.moments c.mend.ensures.tells ok.cause c.mend.ensures.holds ok.first ok.second run c.args.outcome.now values refl c.mend.new.journal ok.agrees mid begun (g.met.M.Medium.coherent c.mend.new.unit) stay in
-    let dark = c.requires.going.dark c.requires.dark in
-    let cards = run.keeper.cabin.cards in
-    let cabin = ap (λ (k : Keeper). k.cabin) begun.keeper in
-    let bare = subst (λ (b : Cabin). IsBare b.slots.seats.driver) (sym cabin) (dark-bare 0 cards run.keeper.cabin.slots.seats.driver dark.bare (dark.stands 0).driver) in
-    let few = ap (λ (b : Cabin). bare_count b.slots.seats.driver) cabin in
-    let now : c.moment-at.result ≡ moment_in s 0 = c.moment-at.ensures ∙ ap (λ (m : ℕ). record { second = m; begun = 0; late = false }) (begun.next ∙ ap (λ (x : Values). x.next) values ∙ sym number) in
-    let one : Run = c.accept_anew.new.run in
-    let out1 : Outcome = c.accept_anew.new.outcome in
-    let V1 : State = g.M.Medium.state c.accept_anew.new.unit in
-    let X1 : State = g.C.Chip.state c.accept_anew.new.card_a in
-    let Y1 : State = g.D.Chip.state c.accept_anew.new.card_b in
-    let first_card = card_in mid.keeper.cabin.slots.seats.driver in
-    let others = waiting_in CoDriver (card_in mid.keeper.cabin.slots.seats.codriver) in
-    let once = at-once CoDriver (card_in mid.keeper.cabin.slots.seats.codriver) in
-    let t : Told = second_told (log_of out) (went (log_of out) done).before s in
-    let log0 : woke.0.run.log ≡ log_of out = ap (λ (q : Progress). q.log) is.0 ∙ sym (ap (λ (x : Values). x.log) values) in
-    let mended = behind-stays (devices U X Y) (devices W X Y) o done (log_of out) s.number spans seats ringed (mend-leaves c.args.journal U W (g.met.M.Medium.coherent c.args.unit.now) c.mend.ensures.moments) is.2 (places-beside o U W X Y) in
-    let noted : mid.noted ≡ run.noted = begun.noted in
-    let starts : WakesRinged o done s woke.0 (waiting_in Driver first_card ++ others) both_slots spans t mid out (devices W X Y) =
-    wakes-ringed o done s woke.0 (waiting_in Driver first_card ++ others) mid out (devices W X Y) woke.1 (sym log0) spans seats mended
-    (λ card. ap (option_map (seating_of mid.noted)) (ap (λ (b : Cabin). session_of b.cards card) cabin ∙ dark.bare card)) (omega (arith, counted, noted)) in
-    let log_is : log_of out ≡ found_log v.unfound k v.log = ap (λ (x : Values). x.log) values in
-    let are = spans-before o done supply v (devices U X Y) r k (log_of out) log_is spans ringed.spans_are in
-    let kept_now : c.mend.new.journal.kept ≡ k = ap (λ (j : Notes). j.kept) c.in_ok-mend.ensures.notes in
-    let stands : StandsOn o (log_of out) mid.unfound spans mid.keeper.odometer = subst (λ (n : ℕ). StandsOn o (log_of out) n spans mid.keeper.odometer) (sym begun.unfound)
-    (awake-stands o origin done s supply v U X Y r may number given (g.met.M.Medium.coherent c.args.unit.now) (wholes-of U X Y (g.met.C.Chip.coherent c.args.card_a.now) (g.met.D.Chip.coherent c.args.card_b.now)) loaded.works c.args.journal (kept-of c.args.journal U.image loaded.found)
-    W false c.mend.ensures.moments c.mend.ensures.tells ok.cause c.mend.ensures.holds ok.first ok.second run c.args.outcome.now values refl c.mend.new.journal ok.agrees mid begun (g.met.M.Medium.coherent c.mend.new.unit) stay kept_now spans are off) in
-    let recorded_one = c.accept_anew.ensures.recorded (omega (arith, room, few)) in
-    let one_ringed : RingsGoOn (is_err c.accept_anew.result) o done s woke.0 [] one (log_of out1) spans t (devices V1 X1 Y1) =
-    driver-ringed o done s woke.0 first_card others mid out (devices W X Y) spans t starts (woke.1.waking.none CoDriver (in-both CoDriver)) once refl bare c.moment-at.result now c.args.speed (is_err c.accept_anew.result) one out1 c.accept_anew.ensures.accepted (devices V1 X1 Y1)
-    (λ none P. same-devices P g.M.Medium.state g.C.Chip.state g.D.Chip.state c.mend.new.unit c.accept_anew.new.unit c.args.card_a.now c.accept_anew.new.card_a c.args.card_b.now c.accept_anew.new.card_b (c.accept_anew.ensures.still none)) (time-before (devices V1 X1 Y1) (devices (g.M.Medium.state c.accept_anew-2.new.unit) (g.C.Chip.state c.accept_anew-2.new.card_a) (g.D.Chip.state c.accept_anew-2.new.card_b)) c.accept_anew-2.ensures.clock c.accept_anew-2.ensures.clock_a c.accept_anew-2.ensures.clock_b time_two) recorded_one
-    (c.accept_anew.ensures.ringed (omega (arith, room, few))) in
-    let first = driver-judged o done s woke.0 first_card others mid c.args.outcome.now (devices W X Y) woke.1 once refl bare c.moment-at.result now c.args.speed (is_err c.accept_anew.result) one out1 c.accept_anew.ensures.accepted (devices V1 X1 Y1)
-    (λ none P. same-devices P g.M.Medium.state g.C.Chip.state g.D.Chip.state c.mend.new.unit c.accept_anew.new.unit c.args.card_a.now c.accept_anew.new.card_a c.args.card_b.now c.accept_anew.new.card_b (c.accept_anew.ensures.still none)) (time-before (devices V1 X1 Y1) (devices (g.M.Medium.state c.accept_anew-2.new.unit) (g.C.Chip.state c.accept_anew-2.new.card_a) (g.D.Chip.state c.accept_anew-2.new.card_b)) c.accept_anew-2.ensures.clock c.accept_anew-2.ensures.clock_a c.accept_anew-2.ensures.clock_b time_two) recorded_one in
-    let two : Run = c.accept_anew-2.new.run in
-    let out2 : Outcome = c.accept_anew-2.new.outcome in
-    let V2 : State = g.M.Medium.state c.accept_anew-2.new.unit in
-    let X2 : State = g.C.Chip.state c.accept_anew-2.new.card_a in
-    let Y2 : State = g.D.Chip.state c.accept_anew-2.new.card_b in
-    let beside : seat_in one.keeper.cabin.slots.seats CoDriver ≡ seat_in mid.keeper.cabin.slots.seats CoDriver = c.accept_anew.ensures.beside in
-    let bare_too = subst IsBare (sym (beside ∙ ap (λ (b : Cabin). b.slots.seats.codriver) cabin)) (dark-bare 0 cards run.keeper.cabin.slots.seats.codriver dark.bare (dark.stands 0).codriver) in
-    let few_too = ap bare_count (beside ∙ ap (λ (b : Cabin). b.slots.seats.codriver) cabin) in
-    let none_waits = begun-none mid.minutes run.next begun.minutes in
-    let waits_none = ap (λ (p : Power). waiting p mid.minutes.owing) begun.power in
-    let marks = c.accept_anew.ensures.takes.marks in
-    let same_room = c.accept_anew.ensures.takes.rooms.0 in
-    let second_card = card_in one.keeper.cabin.slots.seats.codriver in
-    let behind_one : WakesRinged o done s woke.0 (waiting_in CoDriver second_card) (CoDriver ∷ []) spans t one out1 (devices V1 X1 Y1) = record {
-      waking = subst (λ (seat : Option Seat). RunWaking o done s woke.0 (waiting_in CoDriver (card_in seat)) (CoDriver ∷ []) one out1 (devices V1 X1 Y1)) (sym beside) (first.0 well);
-      rings = subst (λ (f : Bool). RingsGoOn f o done s woke.0 [] one (log_of out1) spans t (devices V1 X1 Y1)) well one_ringed;
-    } in
-    let recorded_two = c.accept_anew-2.ensures.recorded (omega (arith, room, few, few_too, none_waits, waits_none, marks, same_room)) in
-    let two_ringed : RingsGoOn (is_err c.accept_anew-2.result) o done s woke.0 [] two (log_of out2) spans t (devices V2 X2 Y2) =
-    codriver-ringed o done s woke.0 second_card one out1 (devices V1 X1 Y1) spans t behind_one refl bare_too c.moment-at.result now c.args.speed (is_err c.accept_anew-2.result) two out2 c.accept_anew-2.ensures.accepted (devices V2 X2 Y2)
-    (λ none P. same-devices P g.M.Medium.state g.C.Chip.state g.D.Chip.state c.accept_anew.new.unit c.accept_anew-2.new.unit c.accept_anew.new.card_a c.accept_anew-2.new.card_a c.accept_anew.new.card_b c.accept_anew-2.new.card_b (c.accept_anew-2.ensures.still none)) time_two recorded_two
-    (c.accept_anew-2.ensures.ringed (omega (arith, room, few, few_too, none_waits, waits_none, marks, same_room))) in
-    let both = codriver-on o done s woke.0 second_card one out1 (devices V1 X1 Y1) behind_one.waking refl bare_too c.moment-at.result now c.args.speed (is_err c.accept_anew-2.result) two out2 c.accept_anew-2.ensures.accepted (devices V2 X2 Y2)
-    (λ none P. same-devices P g.M.Medium.state g.C.Chip.state g.D.Chip.state c.accept_anew.new.unit c.accept_anew-2.new.unit c.accept_anew.new.card_a c.accept_anew-2.new.card_a c.accept_anew.new.card_b c.accept_anew-2.new.card_b (c.accept_anew-2.ensures.still none)) time_two recorded_two fine in
-    let x = within-of o done s woke.0 [] [] two out2 (devices V2 X2 Y2) both in
-    let comes = comes-waking o done s woke.0 [] [] two out2 (devices V2 X2 Y2) both in
-    let began = both.waking.began in
-    let rings = subst (λ (b : Beginning). RingsWithin o done s b.run.log [] two (log_of out2) spans t (devices V2 X2 Y2)) (sym began)
-    (subst (λ (f : Bool). RingsGoOn f o done s woke.0 [] two (log_of out2) spans t (devices V2 X2 Y2)) fine two_ringed) in
-    let new : Run = c.note_gap.new.run in
-    let out3 : Outcome = record out2 { breaks = c.note_gap.new.breaks } in
-    let goes = c.note_gap.ensures.recorded o done s out2 x (λ first. comes) in
-    let gone : RingsGoOn (is_err c.note_gap.result) o done s woke.0 [] new (log_of out3) spans t (devices V3 X3 Y3) =
-    subst (λ (y : Beginning). RingsGoOn (is_err c.note_gap.result) o done s y [] new (log_of out3) spans t (devices V3 X3 Y3)) began (c.note_gap.ensures.ringed o done s out2 x comes spans t rings) in
-    woken-rings o done s woke.0 (waiting_in Driver first_card ++ others) both_slots spans t mid out (devices W X Y) starts (log_of out) log0 stands (is_err c.note_gap.result) new out3 (devices V3 X3 Y3) gone (λ f. subst (λ (q : Bool). GoesOnOrFails q o done s (In 0) [] new out3 (devices V3 X3 Y3) x.within.b) f goes)
-    (ap (λ (r : Run). r.power) c.note_gap.ensures.only ∙ ap (λ (r : Run). r.power) c.accept_anew-2.ensures.only ∙ ap (λ (r : Run). r.power) c.accept_anew.ensures.only ∙ begun.power) (ap (λ (r : Run). r.unfound) c.note_gap.ensures.only ∙ ap (λ (r : Run). r.unfound) c.accept_anew-2.ensures.only ∙ ap (λ (r : Run). r.unfound) c.accept_anew.ensures.only)
-    (λ well_three. goes-odometer (is_err c.note_gap.result) o done s (In 0) [] new out3 (devices V3 X3 Y3) x.within.b goes well_three ∙ ap (λ (b : Beginning). odometer_after (odometer_at o.recording.unit) b.travel.before) began ∙ sym woke.1.odometer)
+returns-clause-ringed g c = λ room o origin done s supply v r stay may number given values spans seats ringed counted off time.
+    let cards = both g c in
+    let at = begin g c in
+    let p = premises g at room o origin done s supply v r stay may number given values in
+    let q : WithRings g at p = record { spans = spans; seats = seats; ringed = ringed; counted = counted; off = off } in
+    let past = time-two g c p time in
+    let began_so = began g cards p past (fine g c) in
+    let rings = subst (λ (b : Beginning). RingsWithin o done s b.run.log [] (two g cards) (log_of (out2 g cards)) spans (told g at p q) (dev2 g cards)) (sym began_so)
+    (subst (λ (f : Bool). RingsGoOn f o done s (woke g at p).0 [] (two g cards) (log_of (out2 g cards)) spans (told g at p q) (dev2 g cards)) (fine g c) (ringed-two g cards p past q)) in
+    let gone : RingsGoOn (is_err c.note_gap.result) o done s (woke g at p).0 [] (new g c) (log_of (out3 g c)) spans (told g at p q) (dev3 g c) =
+    subst (λ (b : Beginning). RingsGoOn (is_err c.note_gap.result) o done s b [] (new g c) (log_of (out3 g c)) spans (told g at p q) (dev3 g c)) began_so
+    (c.note_gap.ensures.ringed o done s (out2 g cards) (here g c p time) (comes g cards p past (fine g c)) spans (told g at p q) rings) in
+    rings-then g at p q (is_err c.note_gap.result) (new g c) (out3 g c) (dev3 g c) gone (λ fails. subst (λ (f : Bool). GoesOnOrFails f o done s (In 0) [] (new g c) (out3 g c) (dev3 g c) (here g c p time).within.b) fails (goes g c p time))
+    (ap (λ (r : Run). r.power) c.note_gap.ensures.only ∙ power-two g cards) (ap (λ (r : Run). r.unfound) c.note_gap.ensures.only ∙ unfound-two g cards)
+    (λ well_three. goes-odometer (is_err c.note_gap.result) o done s (In 0) [] (new g c) (out3 g c) (dev3 g c) (here g c p time).within.b (goes g c p time) well_three ∙ ap (λ (b : Beginning). odometer_after (odometer_at o.recording.unit) b.travel.before) began_so ∙ sym (woke g at p).1.odometer)
 
 -- ---- the events on the cards
 
 pub returns-in_err-mend-clause-cards : goal.returns-in_err-mend-clause-cards
 returns-in_err-mend-clause-cards g c = λ room o origin done s supply v r stay may number given speed_is values evented limit vehicle shown time.
-    let U : State = g.M.Medium.state c.args.unit.now in
-    let X : State = g.C.Chip.state c.args.card_a.now in
-    let Y : State = g.D.Chip.state c.args.card_b.now in
-    let W : State = g.M.Medium.state c.mend.new.unit in
-    let run = c.args.run.now in
-    let out = c.args.outcome.now in
-    let bad = c.in_err-mend.ensures in
-    let loaded = c.requires.loaded in
-    let read = unmended-read o origin done s supply v U X Y r may number given (g.met.M.Medium.coherent c.args.unit.now) (wholes-of U X Y (g.met.C.Chip.coherent c.args.card_a.now) (g.met.D.Chip.coherent c.args.card_b.now)) loaded.works c.args.journal (kept-of c.args.journal U.image loaded.found)
-    W true c.mend.ensures.moments c.mend.ensures.tells bad.cause c.mend.ensures.holds bad.first bad.second run out values refl in
-    let failed : true ≡ is_err c.from_residual.result = search rules in
+    let p : Behind c.args.journal.kept c.args.run.now c.args.outcome.now (as_found g c) = record { room = room; o = o; origin = origin; done = done; s = s; supply = supply; v = v; r = r; stay = stay; may = may; number = number; given = given; values = values } in
     let q : Progress = found_again c.args.journal.kept (progress v supply r.book) in
-    let log : log_of out ≡ q.log = ap (λ (x : Values). x.log) values in
-    let next_is = ap (λ (x : Values). x.next) values in
+    let here_is : c.args.run.now.next ≡ v.next = ap (λ (x : Values). x.next) values in
     let low = c.requires.going.low in
-    let positive : 0 < s.number = omega (arith, number, next_is, low) in
-    let cut = unpowered-cards o done s q read.followed read.followed.power number given positive (devices W X Y) (subst (λ (l : RunLog). CardsBehind o done l (devices W X Y)) log (unit-alone o done (log_of out) U W X Y shown)) in
-    subst (λ (f : Bool). CardsWoken f (log_of out) o done s run (log_of out) (devices W X Y)) failed (vehicle, subst (λ (l : RunLog). CardsBehind o (done ++ s ∷ []) (with_cut l s []) (devices W X Y)) (sym log) cut)
+    let some_so : 0 < s.number = omega (arith, number, here_is, low) in
+    let alone = unit-alone o done (log_of c.args.outcome.now) (g.M.Medium.state c.args.unit.now) (g.M.Medium.state c.mend.new.unit) (g.C.Chip.state c.args.card_a.now) (g.D.Chip.state c.args.card_b.now) shown in
+    let cut = unpowered-cards o done s q (read g c p).followed (read g c p).followed.power number given some_so (as_left g c) (subst (λ (l : RunLog). CardsBehind o done l (as_left g c)) (log-found g c p) alone) in
+    subst (λ (f : Bool). CardsWoken f (log_of c.args.outcome.now) o done s c.args.run.now (log_of c.args.outcome.now) (as_left g c)) (failed-mend g c) (vehicle, subst (λ (l : RunLog). CardsBehind o (done ++ s ∷ []) (with_cut l s []) (as_left g c)) (sym (log-found g c p)) cut)
 
 pub returns-in_err-accept_anew-clause-cards : goal.returns-in_err-accept_anew-clause-cards
 returns-in_err-accept_anew-clause-cards g c = λ room o origin done s supply v r stay may number given speed_is values evented limit vehicle shown time.
-    let run = c.args.run.now in
-    let mid : Run = c.begin_span.new.self in
-    let begun = c.begin_span.ensures.begun in
-    let U : State = g.M.Medium.state c.args.unit.now in
-    let X : State = g.C.Chip.state c.args.card_a.now in
-    let Y : State = g.D.Chip.state c.args.card_b.now in
-    let W : State = g.M.Medium.state c.mend.new.unit in
-    let k : ℕ = c.args.journal.kept in
-    let ok = c.in_ok-mend.ensures in
-    let loaded = c.requires.loaded in
-    let woke = awake o origin done s supply v U X Y r may number given (g.met.M.Medium.coherent c.args.unit.now) (wholes-of U X Y (g.met.C.Chip.coherent c.args.card_a.now) (g.met.D.Chip.coherent c.args.card_b.now)) loaded.works c.args.journal (kept-of c.args.journal U.image loaded.found)
-    W false c.mend.ensures.moments c.mend.ensures.tells ok.cause c.mend.ensures.holds ok.first ok.second run c.args.outcome.now values refl c.mend.new.journal ok.agrees mid begun (g.met.M.Medium.coherent c.mend.new.unit) stay in
-    let is = awake-is o origin done s supply v U X Y r may number given (g.met.M.Medium.coherent c.args.unit.now) (wholes-of U X Y (g.met.C.Chip.coherent c.args.card_a.now) (g.met.D.Chip.coherent c.args.card_b.now)) loaded.works c.args.journal (kept-of c.args.journal U.image loaded.found)
-    W false c.mend.ensures.moments c.mend.ensures.tells ok.cause c.mend.ensures.holds ok.first ok.second run c.args.outcome.now values refl c.mend.new.journal ok.agrees mid begun (g.met.M.Medium.coherent c.mend.new.unit) stay in
-    let dark = c.requires.going.dark c.requires.dark in
-    let cards = run.keeper.cabin.cards in
-    let cabin = ap (λ (k : Keeper). k.cabin) begun.keeper in
-    let bare = subst (λ (b : Cabin). IsBare b.slots.seats.driver) (sym cabin) (dark-bare 0 cards run.keeper.cabin.slots.seats.driver dark.bare (dark.stands 0).driver) in
-    let few = ap (λ (b : Cabin). bare_count b.slots.seats.driver) cabin in
-    let now : c.moment-at.result ≡ moment_in s 0 = c.moment-at.ensures ∙ ap (λ (m : ℕ). record { second = m; begun = 0; late = false }) (begun.next ∙ ap (λ (x : Values). x.next) values ∙ sym number) in
-    let one : Run = c.accept_anew.new.run in
-    let out1 : Outcome = c.accept_anew.new.outcome in
-    let V1 : State = g.M.Medium.state c.accept_anew.new.unit in
-    let X1 : State = g.C.Chip.state c.accept_anew.new.card_a in
-    let Y1 : State = g.D.Chip.state c.accept_anew.new.card_b in
-    let first_card = card_in mid.keeper.cabin.slots.seats.driver in
-    let others = waiting_in CoDriver (card_in mid.keeper.cabin.slots.seats.codriver) in
-    let once = at-once CoDriver (card_in mid.keeper.cabin.slots.seats.codriver) in
-    let recorded_one = c.accept_anew.ensures.recorded (omega (arith, room, few)) in
-    let same_one = anew-limit first_card Driver c.moment-at.result c.args.speed mid one c.args.outcome.now out1 c.accept_anew.ensures.accepted in
-    let next_is = ap (λ (x : Values). x.next) values in
-    let low = c.requires.going.low in
-    let positive : 0 < s.number = omega (arith, number, next_is, low) in
-    let log_is : log_of c.args.outcome.now ≡ woke.0.run.log = ap (λ (x : Values). x.log) values ∙ sym (ap (λ (q : Progress). q.log) is.0) in
-    let vehicle_mid : mid.keeper.memory.registration ≡ vehicle_in o = ap (λ (k : Keeper). k.memory.registration) begun.keeper ∙ vehicle in
-    let cards_begun = wakes-cards o done s woke.0 (waiting_in Driver first_card ++ others) mid c.args.outcome.now (devices W X Y) woke.1 log_is (unit-alone o done (log_of c.args.outcome.now) U W X Y shown) in
-    let cards_one = driver-woken o done s woke.0 first_card others mid c.args.outcome.now (devices W X Y) woke.1 once refl bare positive vehicle_mid cards_begun c.moment-at.result now c.args.speed speed_is (is_err c.accept_anew.result) one out1 c.accept_anew.ensures.accepted (devices V1 X1 Y1)
-    (λ none P. same-devices P g.M.Medium.state g.C.Chip.state g.D.Chip.state c.mend.new.unit c.accept_anew.new.unit c.args.card_a.now c.accept_anew.new.card_a c.args.card_b.now c.accept_anew.new.card_b (c.accept_anew.ensures.still none)) time recorded_one (c.accept_anew.ensures.cards (omega (arith, room, few))) in
-    let vehicle_one : one.keeper.memory.registration ≡ vehicle_in o = ap (λ (m : Identity). m.registration) same_one.0 ∙ vehicle_mid in
-    let fails : is_err c.accept_anew.result ≡ true = search rules in
-    let failed : true ≡ is_err c.from_residual-in_err-accept_anew.result = search rules in
-    subst (λ (f : Bool). CardsWoken f (log_of c.args.outcome.now) o done s one (log_of out1) (devices V1 X1 Y1)) failed (vehicle_one, subst (λ (f : Bool). WakesOn f o done s woke.0.run.log (log_of out1) (devices V1 X1 Y1)) fails cards_one)
+    let card = (goal.at.returns-in_err-accept_anew-clause-cards g c).After-accept_anew in
+    let at = span g card in
+    let p = premises g at room o origin done s supply v r stay may number given values in
+    subst (λ (f : Bool). CardsWoken f (log_of (out g at)) o done s (one g card) (log_of (out1 g card)) (dev1 g card)) (failed-one g c) (
+      (vehicle-one g card o vehicle).1,
+      subst (λ (f : Bool). WakesOn f o done s (woke g at p).0.run.log (log_of (out1 g card)) (dev1 g card)) (fails-one g c) (cards-one g card p time speed_is vehicle shown),
+    )
 
 pub returns-in_err-accept_anew-2-clause-cards : goal.returns-in_err-accept_anew-2-clause-cards
 returns-in_err-accept_anew-2-clause-cards g c = λ room o origin done s supply v r stay may number given speed_is values evented limit vehicle shown time.
-    let run = c.args.run.now in
-    let mid : Run = c.begin_span.new.self in
-    let begun = c.begin_span.ensures.begun in
-    let U : State = g.M.Medium.state c.args.unit.now in
-    let X : State = g.C.Chip.state c.args.card_a.now in
-    let Y : State = g.D.Chip.state c.args.card_b.now in
-    let W : State = g.M.Medium.state c.mend.new.unit in
-    let k : ℕ = c.args.journal.kept in
-    let ok = c.in_ok-mend.ensures in
-    let loaded = c.requires.loaded in
-    let woke = awake o origin done s supply v U X Y r may number given (g.met.M.Medium.coherent c.args.unit.now) (wholes-of U X Y (g.met.C.Chip.coherent c.args.card_a.now) (g.met.D.Chip.coherent c.args.card_b.now)) loaded.works c.args.journal (kept-of c.args.journal U.image loaded.found)
-    W false c.mend.ensures.moments c.mend.ensures.tells ok.cause c.mend.ensures.holds ok.first ok.second run c.args.outcome.now values refl c.mend.new.journal ok.agrees mid begun (g.met.M.Medium.coherent c.mend.new.unit) stay in
-    let is = awake-is o origin done s supply v U X Y r may number given (g.met.M.Medium.coherent c.args.unit.now) (wholes-of U X Y (g.met.C.Chip.coherent c.args.card_a.now) (g.met.D.Chip.coherent c.args.card_b.now)) loaded.works c.args.journal (kept-of c.args.journal U.image loaded.found)
-    W false c.mend.ensures.moments c.mend.ensures.tells ok.cause c.mend.ensures.holds ok.first ok.second run c.args.outcome.now values refl c.mend.new.journal ok.agrees mid begun (g.met.M.Medium.coherent c.mend.new.unit) stay in
-    let dark = c.requires.going.dark c.requires.dark in
-    let cards = run.keeper.cabin.cards in
-    let cabin = ap (λ (k : Keeper). k.cabin) begun.keeper in
-    let bare = subst (λ (b : Cabin). IsBare b.slots.seats.driver) (sym cabin) (dark-bare 0 cards run.keeper.cabin.slots.seats.driver dark.bare (dark.stands 0).driver) in
-    let few = ap (λ (b : Cabin). bare_count b.slots.seats.driver) cabin in
-    let now : c.moment-at.result ≡ moment_in s 0 = c.moment-at.ensures ∙ ap (λ (m : ℕ). record { second = m; begun = 0; late = false }) (begun.next ∙ ap (λ (x : Values). x.next) values ∙ sym number) in
-    let one : Run = c.accept_anew.new.run in
-    let out1 : Outcome = c.accept_anew.new.outcome in
-    let V1 : State = g.M.Medium.state c.accept_anew.new.unit in
-    let X1 : State = g.C.Chip.state c.accept_anew.new.card_a in
-    let Y1 : State = g.D.Chip.state c.accept_anew.new.card_b in
-    let first_card = card_in mid.keeper.cabin.slots.seats.driver in
-    let others = waiting_in CoDriver (card_in mid.keeper.cabin.slots.seats.codriver) in
-    let once = at-once CoDriver (card_in mid.keeper.cabin.slots.seats.codriver) in
-    let recorded_one = c.accept_anew.ensures.recorded (omega (arith, room, few)) in
-    let first = driver-judged o done s woke.0 first_card others mid c.args.outcome.now (devices W X Y) woke.1 once refl bare c.moment-at.result now c.args.speed (is_err c.accept_anew.result) one out1 c.accept_anew.ensures.accepted (devices V1 X1 Y1)
-    (λ none P. same-devices P g.M.Medium.state g.C.Chip.state g.D.Chip.state c.mend.new.unit c.accept_anew.new.unit c.args.card_a.now c.accept_anew.new.card_a c.args.card_b.now c.accept_anew.new.card_b (c.accept_anew.ensures.still none)) (time-before (devices V1 X1 Y1) (devices (g.M.Medium.state c.accept_anew-2.new.unit) (g.C.Chip.state c.accept_anew-2.new.card_a) (g.D.Chip.state c.accept_anew-2.new.card_b)) c.accept_anew-2.ensures.clock c.accept_anew-2.ensures.clock_a c.accept_anew-2.ensures.clock_b time) recorded_one in
-    let same_one = anew-limit first_card Driver c.moment-at.result c.args.speed mid one c.args.outcome.now out1 c.accept_anew.ensures.accepted in
-    let well : is_err c.accept_anew.result ≡ false = search rules in
-    let two : Run = c.accept_anew-2.new.run in
-    let out2 : Outcome = c.accept_anew-2.new.outcome in
-    let V2 : State = g.M.Medium.state c.accept_anew-2.new.unit in
-    let X2 : State = g.C.Chip.state c.accept_anew-2.new.card_a in
-    let Y2 : State = g.D.Chip.state c.accept_anew-2.new.card_b in
-    let beside : seat_in one.keeper.cabin.slots.seats CoDriver ≡ seat_in mid.keeper.cabin.slots.seats CoDriver = c.accept_anew.ensures.beside in
-    let bare_too = subst IsBare (sym (beside ∙ ap (λ (b : Cabin). b.slots.seats.codriver) cabin)) (dark-bare 0 cards run.keeper.cabin.slots.seats.codriver dark.bare (dark.stands 0).codriver) in
-    let few_too = ap bare_count (beside ∙ ap (λ (b : Cabin). b.slots.seats.codriver) cabin) in
-    let none_waits = begun-none mid.minutes run.next begun.minutes in
-    let waits_none = ap (λ (p : Power). waiting p mid.minutes.owing) begun.power in
-    let t = c.accept_anew.ensures.takes.marks in
-    let same_room = c.accept_anew.ensures.takes.rooms.0 in
-    let second_card = card_in one.keeper.cabin.slots.seats.codriver in
-    let behind_one : RunWaking o done s woke.0 (waiting_in CoDriver second_card) (CoDriver ∷ []) one out1 (devices V1 X1 Y1) = subst (λ (seat : Option Seat). RunWaking o done s woke.0 (waiting_in CoDriver (card_in seat)) (CoDriver ∷ []) one out1 (devices V1 X1 Y1)) (sym beside) (first.0 well) in
-    let recorded_two = c.accept_anew-2.ensures.recorded (omega (arith, room, few, few_too, none_waits, waits_none, t, same_room)) in
-    let same_two = anew-limit second_card CoDriver c.moment-at.result c.args.speed one two out1 out2 c.accept_anew-2.ensures.accepted in
-    let next_is = ap (λ (x : Values). x.next) values in
-    let low = c.requires.going.low in
-    let positive : 0 < s.number = omega (arith, number, next_is, low) in
-    let log_is : log_of c.args.outcome.now ≡ woke.0.run.log = ap (λ (x : Values). x.log) values ∙ sym (ap (λ (q : Progress). q.log) is.0) in
-    let vehicle_mid : mid.keeper.memory.registration ≡ vehicle_in o = ap (λ (k : Keeper). k.memory.registration) begun.keeper ∙ vehicle in
-    let cards_begun = wakes-cards o done s woke.0 (waiting_in Driver first_card ++ others) mid c.args.outcome.now (devices W X Y) woke.1 log_is (unit-alone o done (log_of c.args.outcome.now) U W X Y shown) in
-    let cards_one = driver-woken o done s woke.0 first_card others mid c.args.outcome.now (devices W X Y) woke.1 once refl bare positive vehicle_mid cards_begun c.moment-at.result now c.args.speed speed_is (is_err c.accept_anew.result) one out1 c.accept_anew.ensures.accepted (devices V1 X1 Y1)
-    (λ none P. same-devices P g.M.Medium.state g.C.Chip.state g.D.Chip.state c.mend.new.unit c.accept_anew.new.unit c.args.card_a.now c.accept_anew.new.card_a c.args.card_b.now c.accept_anew.new.card_b (c.accept_anew.ensures.still none)) (time-before (devices V1 X1 Y1) (devices (g.M.Medium.state c.accept_anew-2.new.unit) (g.C.Chip.state c.accept_anew-2.new.card_a) (g.D.Chip.state c.accept_anew-2.new.card_b)) c.accept_anew-2.ensures.clock c.accept_anew-2.ensures.clock_a c.accept_anew-2.ensures.clock_b time) recorded_one (c.accept_anew.ensures.cards (omega (arith, room, few))) in
-    let vehicle_one : one.keeper.memory.registration ≡ vehicle_in o = ap (λ (m : Identity). m.registration) same_one.0 ∙ vehicle_mid in
-    let cards_two = codriver-woken o done s woke.0 second_card one out1 (devices V1 X1 Y1) behind_one refl bare_too positive vehicle_one (subst (λ (f : Bool). WakesOn f o done s woke.0.run.log (log_of out1) (devices V1 X1 Y1)) well cards_one)
-    c.moment-at.result now c.args.speed speed_is (is_err c.accept_anew-2.result) two out2 c.accept_anew-2.ensures.accepted (devices V2 X2 Y2)
-    (λ none P. same-devices P g.M.Medium.state g.C.Chip.state g.D.Chip.state c.accept_anew.new.unit c.accept_anew-2.new.unit c.accept_anew.new.card_a c.accept_anew-2.new.card_a c.accept_anew.new.card_b c.accept_anew-2.new.card_b (c.accept_anew-2.ensures.still none)) time recorded_two
-    (c.accept_anew-2.ensures.cards (omega (arith, room, few, few_too, none_waits, waits_none, t, same_room))) in
-    let vehicle_two : two.keeper.memory.registration ≡ vehicle_in o = ap (λ (m : Identity). m.registration) same_two.0 ∙ vehicle_one in
-    let fails : is_err c.accept_anew-2.result ≡ true = search rules in
-    let failed : true ≡ is_err c.from_residual-in_err-accept_anew-2.result = search rules in
-    subst (λ (f : Bool). CardsWoken f (log_of c.args.outcome.now) o done s two (log_of out2) (devices V2 X2 Y2)) failed (vehicle_two, subst (λ (f : Bool). WakesOn f o done s woke.0.run.log (log_of out2) (devices V2 X2 Y2)) fails cards_two)
+    let cards = (goal.at.returns-in_err-accept_anew-2-clause-cards g c).After-accept_anew-2 in
+    let at = start g cards in
+    let p = premises g at room o origin done s supply v r stay may number given values in
+    subst (λ (f : Bool). CardsWoken f (log_of (out g at)) o done s (two g cards) (log_of (out2 g cards)) (dev2 g cards)) (failed-two g c) (
+      vehicle-two g cards o vehicle,
+      subst (λ (f : Bool). WakesOn f o done s (woke g at p).0.run.log (log_of (out2 g cards)) (dev2 g cards)) (fails-two g c) (cards-two g cards p time speed_is vehicle shown),
+    )
 
 pub returns-then-is_first-clause-cards : goal.returns-then-is_first-clause-cards
 returns-then-is_first-clause-cards g c = λ room o origin done s supply v r stay may number given speed_is values evented limit vehicle shown time.
-    let run = c.args.run.now in
-    let mid : Run = c.begin_span.new.self in
-    let begun = c.begin_span.ensures.begun in
-    let U : State = g.M.Medium.state c.args.unit.now in
-    let X : State = g.C.Chip.state c.args.card_a.now in
-    let Y : State = g.D.Chip.state c.args.card_b.now in
-    let W : State = g.M.Medium.state c.mend.new.unit in
-    let k : ℕ = c.args.journal.kept in
-    let ok = c.in_ok-mend.ensures in
-    let loaded = c.requires.loaded in
-    let woke = awake o origin done s supply v U X Y r may number given (g.met.M.Medium.coherent c.args.unit.now) (wholes-of U X Y (g.met.C.Chip.coherent c.args.card_a.now) (g.met.D.Chip.coherent c.args.card_b.now)) loaded.works c.args.journal (kept-of c.args.journal U.image loaded.found)
-    W false c.mend.ensures.moments c.mend.ensures.tells ok.cause c.mend.ensures.holds ok.first ok.second run c.args.outcome.now values refl c.mend.new.journal ok.agrees mid begun (g.met.M.Medium.coherent c.mend.new.unit) stay in
-    let is = awake-is o origin done s supply v U X Y r may number given (g.met.M.Medium.coherent c.args.unit.now) (wholes-of U X Y (g.met.C.Chip.coherent c.args.card_a.now) (g.met.D.Chip.coherent c.args.card_b.now)) loaded.works c.args.journal (kept-of c.args.journal U.image loaded.found)
-    W false c.mend.ensures.moments c.mend.ensures.tells ok.cause c.mend.ensures.holds ok.first ok.second run c.args.outcome.now values refl c.mend.new.journal ok.agrees mid begun (g.met.M.Medium.coherent c.mend.new.unit) stay in
-    let quiet = says c.args.journal U W X Y (g.met.M.Medium.coherent c.args.unit.now) c.mend.ensures.moments in
-    let dark = c.requires.going.dark c.requires.dark in
-    let cards = run.keeper.cabin.cards in
-    let cabin = ap (λ (k : Keeper). k.cabin) begun.keeper in
-    let bare = subst (λ (b : Cabin). IsBare b.slots.seats.driver) (sym cabin) (dark-bare 0 cards run.keeper.cabin.slots.seats.driver dark.bare (dark.stands 0).driver) in
-    let few = ap (λ (b : Cabin). bare_count b.slots.seats.driver) cabin in
-    let now : c.moment-at.result ≡ moment_in s 0 = c.moment-at.ensures ∙ ap (λ (m : ℕ). record { second = m; begun = 0; late = false }) (begun.next ∙ ap (λ (x : Values). x.next) values ∙ sym number) in
-    let one : Run = c.accept_anew.new.run in
-    let out1 : Outcome = c.accept_anew.new.outcome in
-    let V1 : State = g.M.Medium.state c.accept_anew.new.unit in
-    let X1 : State = g.C.Chip.state c.accept_anew.new.card_a in
-    let Y1 : State = g.D.Chip.state c.accept_anew.new.card_b in
-    let first_card = card_in mid.keeper.cabin.slots.seats.driver in
-    let others = waiting_in CoDriver (card_in mid.keeper.cabin.slots.seats.codriver) in
-    let once = at-once CoDriver (card_in mid.keeper.cabin.slots.seats.codriver) in
-    let woken = wakes-evented o done s supply v (devices U X Y) (devices W X Y) r may number given k evented quiet woke.0 (waiting_in Driver first_card ++ others) mid c.args.outcome.now woke.1 is (ap (λ (x : Values). x.log) values) in
-    let recorded_one = c.accept_anew.ensures.recorded (omega (arith, room, few)) in
-    let first = driver-judged o done s woke.0 first_card others mid c.args.outcome.now (devices W X Y) woke.1 once refl bare c.moment-at.result now c.args.speed (is_err c.accept_anew.result) one out1 c.accept_anew.ensures.accepted (devices V1 X1 Y1)
-    (λ none P. same-devices P g.M.Medium.state g.C.Chip.state g.D.Chip.state c.mend.new.unit c.accept_anew.new.unit c.args.card_a.now c.accept_anew.new.card_a c.args.card_b.now c.accept_anew.new.card_b (c.accept_anew.ensures.still none)) (time-before (devices V1 X1 Y1) (devices (g.M.Medium.state c.accept_anew-2.new.unit) (g.C.Chip.state c.accept_anew-2.new.card_a) (g.D.Chip.state c.accept_anew-2.new.card_b)) c.accept_anew-2.ensures.clock c.accept_anew-2.ensures.clock_a c.accept_anew-2.ensures.clock_b time) recorded_one in
-    let same_one = anew-limit first_card Driver c.moment-at.result c.args.speed mid one c.args.outcome.now out1 c.accept_anew.ensures.accepted in
-    let well : is_err c.accept_anew.result ≡ false = search rules in
-    let two : Run = c.accept_anew-2.new.run in
-    let out2 : Outcome = c.accept_anew-2.new.outcome in
-    let V2 : State = g.M.Medium.state c.accept_anew-2.new.unit in
-    let X2 : State = g.C.Chip.state c.accept_anew-2.new.card_a in
-    let Y2 : State = g.D.Chip.state c.accept_anew-2.new.card_b in
-    let beside : seat_in one.keeper.cabin.slots.seats CoDriver ≡ seat_in mid.keeper.cabin.slots.seats CoDriver = c.accept_anew.ensures.beside in
-    let bare_too = subst IsBare (sym (beside ∙ ap (λ (b : Cabin). b.slots.seats.codriver) cabin)) (dark-bare 0 cards run.keeper.cabin.slots.seats.codriver dark.bare (dark.stands 0).codriver) in
-    let few_too = ap bare_count (beside ∙ ap (λ (b : Cabin). b.slots.seats.codriver) cabin) in
-    let none_waits = begun-none mid.minutes run.next begun.minutes in
-    let waits_none = ap (λ (p : Power). waiting p mid.minutes.owing) begun.power in
-    let t = c.accept_anew.ensures.takes.marks in
-    let same_room = c.accept_anew.ensures.takes.rooms.0 in
-    let second_card = card_in one.keeper.cabin.slots.seats.codriver in
-    let behind_one : RunWaking o done s woke.0 (waiting_in CoDriver second_card) (CoDriver ∷ []) one out1 (devices V1 X1 Y1) = subst (λ (seat : Option Seat). RunWaking o done s woke.0 (waiting_in CoDriver (card_in seat)) (CoDriver ∷ []) one out1 (devices V1 X1 Y1)) (sym beside) (first.0 well) in
-    let recorded_two = c.accept_anew-2.ensures.recorded (omega (arith, room, few, few_too, none_waits, waits_none, t, same_room)) in
-    let same_two = anew-limit second_card CoDriver c.moment-at.result c.args.speed one two out1 out2 c.accept_anew-2.ensures.accepted in
-    let fine : is_err c.accept_anew-2.result ≡ false = search rules in
-    let both = codriver-on o done s woke.0 second_card one out1 (devices V1 X1 Y1) behind_one refl bare_too c.moment-at.result now c.args.speed (is_err c.accept_anew-2.result) two out2 c.accept_anew-2.ensures.accepted (devices V2 X2 Y2)
-    (λ none P. same-devices P g.M.Medium.state g.C.Chip.state g.D.Chip.state c.accept_anew.new.unit c.accept_anew-2.new.unit c.accept_anew.new.card_a c.accept_anew-2.new.card_a c.accept_anew.new.card_b c.accept_anew-2.new.card_b (c.accept_anew-2.ensures.still none)) time recorded_two fine in
-    let lit = ok_gives c.accept_anew-2.result c.accept_anew-2.ensures.going fine in
-    let none : (length c.args.outcome.now.breaks.items == 0) ≡ true = sym c.is_empty-is_first.ensures ∙ c.if-is_first.true in
-    let untold = none-told v.unfound k v.log.breaks c.args.outcome.now.breaks.items (ap (λ (x : Values). x.log.breaks) values) (is-none (length c.args.outcome.now.breaks.items) none) in
-    let x = within-of o done s woke.0 [] [] two out2 (devices V2 X2 Y2) both in
-    let next_is = ap (λ (x : Values). x.next) values in
-    let low = c.requires.going.low in
-    let positive : 0 < s.number = omega (arith, number, next_is, low) in
-    let log_is : log_of c.args.outcome.now ≡ woke.0.run.log = ap (λ (x : Values). x.log) values ∙ sym (ap (λ (q : Progress). q.log) is.0) in
-    let vehicle_mid : mid.keeper.memory.registration ≡ vehicle_in o = ap (λ (k : Keeper). k.memory.registration) begun.keeper ∙ vehicle in
-    let cards_begun = wakes-cards o done s woke.0 (waiting_in Driver first_card ++ others) mid c.args.outcome.now (devices W X Y) woke.1 log_is (unit-alone o done (log_of c.args.outcome.now) U W X Y shown) in
-    let cards_one = driver-woken o done s woke.0 first_card others mid c.args.outcome.now (devices W X Y) woke.1 once refl bare positive vehicle_mid cards_begun c.moment-at.result now c.args.speed speed_is (is_err c.accept_anew.result) one out1 c.accept_anew.ensures.accepted (devices V1 X1 Y1)
-    (λ none P. same-devices P g.M.Medium.state g.C.Chip.state g.D.Chip.state c.mend.new.unit c.accept_anew.new.unit c.args.card_a.now c.accept_anew.new.card_a c.args.card_b.now c.accept_anew.new.card_b (c.accept_anew.ensures.still none)) (time-before (devices V1 X1 Y1) (devices (g.M.Medium.state c.accept_anew-2.new.unit) (g.C.Chip.state c.accept_anew-2.new.card_a) (g.D.Chip.state c.accept_anew-2.new.card_b)) c.accept_anew-2.ensures.clock c.accept_anew-2.ensures.clock_a c.accept_anew-2.ensures.clock_b time) recorded_one (c.accept_anew.ensures.cards (omega (arith, room, few))) in
-    let vehicle_one : one.keeper.memory.registration ≡ vehicle_in o = ap (λ (m : Identity). m.registration) same_one.0 ∙ vehicle_mid in
-    let cards_two = codriver-woken o done s woke.0 second_card one out1 (devices V1 X1 Y1) behind_one refl bare_too positive vehicle_one (subst (λ (f : Bool). WakesOn f o done s woke.0.run.log (log_of out1) (devices V1 X1 Y1)) well cards_one)
-    c.moment-at.result now c.args.speed speed_is (is_err c.accept_anew-2.result) two out2 c.accept_anew-2.ensures.accepted (devices V2 X2 Y2)
-    (λ none P. same-devices P g.M.Medium.state g.C.Chip.state g.D.Chip.state c.accept_anew.new.unit c.accept_anew-2.new.unit c.accept_anew.new.card_a c.accept_anew-2.new.card_a c.accept_anew.new.card_b c.accept_anew-2.new.card_b (c.accept_anew-2.ensures.still none)) time recorded_two
-    (c.accept_anew-2.ensures.cards (omega (arith, room, few, few_too, none_waits, waits_none, t, same_room))) in
-    let vehicle_two : two.keeper.memory.registration ≡ vehicle_in o = ap (λ (m : Identity). m.registration) same_two.0 ∙ vehicle_one in
-    let began : x.within.b ≡ woke.0 = both.waking.began in
-    let off_x = subst (λ (y : Beginning). (went y.run.log done).before.running ≡ false) (sym began) both.waking.starts in
-    let bare_x = subst (λ (y : Beginning). AreBare (went y.run.log done).before.slots) (sym began) woken.0.bare in
-    let log_x : x.within.b.run.log ≡ (found_again k (progress v supply r.book)).log = ap (λ (b : Beginning). b.run.log) began ∙ ap (λ (q : Progress). q.log) is.0 in
-    let cards_x = subst (λ (y : Beginning). CardsWaking o done s y.run.log (log_of out2) (devices V2 X2 Y2)) (sym began) (subst (λ (f : Bool). WakesOn f o done s woke.0.run.log (log_of out2) (devices V2 X2 Y2)) fine cards_two) in
-    let began_log : x.within.b.run.log ≡ log_of c.args.outcome.now = ap (λ (b : Beginning). b.run.log) began ∙ sym log_is in
-    woken-all false o done s x.within.b.run.log (log_of c.args.outcome.now) two (log_of out2) (devices V2 X2 Y2) began_log vehicle_two
-    (gap-shown o done s two out2 (devices V2 X2 Y2) (devices V2 X2 Y2) x (ungiven_of lit.span) lit.cabin off_x bare_x positive None (none-list o done s supply v (devices U X Y) (devices W X Y) r may number given k evented quiet is.2 woken.2 x.within.b.run.log log_x untold) vehicle_two cards_x
-    false two out2.breaks NoGap (refl, refl, refl) (left-itself o (devices V2 X2 Y2)) (λ bad. none-fails bad) (none-noted two.keeper.cabin.cards two.keeper.memory.registration (devices V2 X2 Y2)))
+    let cards = (goal.at.returns-then-is_first-clause-cards g c).After-accept_anew-2 in
+    let at = start g cards in
+    let well_two = fine-first g c in
+    let p = premises g at room o origin done s supply v r stay may number given values in
+    let e : WithEvents g at p = record { speed_is = speed_is; evented = evented; limit = limit } in
+    let untold = none-told v.unfound c.args.journal.kept v.log.breaks (out g at).breaks.items (ap (λ (x : Values). x.log.breaks) values) (none-before g c) in
+    let stands_so = lit g cards p time well_two in
+    let x = within g cards p time well_two in
+    woken-all false o done s x.within.b.run.log (log_of (out g at)) (two g cards) (log_of (out2 g cards)) (dev2 g cards) (began-here g cards p time well_two) (vehicle-two g cards o vehicle)
+    (gap-shown o done s (two g cards) (out2 g cards) (dev2 g cards) (dev2 g cards) x (ungiven_of stands_so.span) stands_so.cabin (off-here g cards p time well_two) (bare-here g cards p time well_two e) (positive g at p) None
+    (none-list o done s supply v (dev0 g at) (mended g at) r may number given c.args.journal.kept evented (quiet g at) (is g at p).2 (woken g at p e).2 x.within.b.run.log (log-here g cards p time well_two) untold) (vehicle-two g cards o vehicle) (cards-here g cards p time well_two speed_is vehicle shown)
+    false (two g cards) (out2 g cards).breaks NoGap (refl, refl, refl) (left-itself o (dev2 g cards)) (λ bad. none-fails bad) (none-noted (two g cards).keeper.cabin.cards (two g cards).keeper.memory.registration (dev2 g cards)))
 
 pub returns-clause-cards : goal.returns-clause-cards
 returns-clause-cards g c = λ room o origin done s supply v r stay may number given speed_is values evented limit vehicle shown time.
-    let V3 : State = g.M.Medium.state c.note_gap.new.unit in
-    let X3 : State = g.C.Chip.state c.note_gap.new.card_a in
-    let Y3 : State = g.D.Chip.state c.note_gap.new.card_b in
-    let time_two = time-before (devices (g.M.Medium.state c.accept_anew-2.new.unit) (g.C.Chip.state c.accept_anew-2.new.card_a) (g.D.Chip.state c.accept_anew-2.new.card_b)) (devices V3 X3 Y3) c.note_gap.ensures.clock c.note_gap.ensures.clock_a c.note_gap.ensures.clock_b time in
-    let run = c.args.run.now in
-    let mid : Run = c.begin_span.new.self in
-    let begun = c.begin_span.ensures.begun in
-    let U : State = g.M.Medium.state c.args.unit.now in
-    let X : State = g.C.Chip.state c.args.card_a.now in
-    let Y : State = g.D.Chip.state c.args.card_b.now in
-    let W : State = g.M.Medium.state c.mend.new.unit in
-    let k : ℕ = c.args.journal.kept in
-    let ok = c.in_ok-mend.ensures in
-    let loaded = c.requires.loaded in
-    let woke = awake o origin done s supply v U X Y r may number given (g.met.M.Medium.coherent c.args.unit.now) (wholes-of U X Y (g.met.C.Chip.coherent c.args.card_a.now) (g.met.D.Chip.coherent c.args.card_b.now)) loaded.works c.args.journal (kept-of c.args.journal U.image loaded.found)
-    W false c.mend.ensures.moments c.mend.ensures.tells ok.cause c.mend.ensures.holds ok.first ok.second run c.args.outcome.now values refl c.mend.new.journal ok.agrees mid begun (g.met.M.Medium.coherent c.mend.new.unit) stay in
-    let is = awake-is o origin done s supply v U X Y r may number given (g.met.M.Medium.coherent c.args.unit.now) (wholes-of U X Y (g.met.C.Chip.coherent c.args.card_a.now) (g.met.D.Chip.coherent c.args.card_b.now)) loaded.works c.args.journal (kept-of c.args.journal U.image loaded.found)
-    W false c.mend.ensures.moments c.mend.ensures.tells ok.cause c.mend.ensures.holds ok.first ok.second run c.args.outcome.now values refl c.mend.new.journal ok.agrees mid begun (g.met.M.Medium.coherent c.mend.new.unit) stay in
-    let quiet = says c.args.journal U W X Y (g.met.M.Medium.coherent c.args.unit.now) c.mend.ensures.moments in
-    let dark = c.requires.going.dark c.requires.dark in
-    let cards = run.keeper.cabin.cards in
-    let cabin = ap (λ (k : Keeper). k.cabin) begun.keeper in
-    let bare = subst (λ (b : Cabin). IsBare b.slots.seats.driver) (sym cabin) (dark-bare 0 cards run.keeper.cabin.slots.seats.driver dark.bare (dark.stands 0).driver) in
-    let few = ap (λ (b : Cabin). bare_count b.slots.seats.driver) cabin in
-    let now : c.moment-at.result ≡ moment_in s 0 = c.moment-at.ensures ∙ ap (λ (m : ℕ). record { second = m; begun = 0; late = false }) (begun.next ∙ ap (λ (x : Values). x.next) values ∙ sym number) in
-    let one : Run = c.accept_anew.new.run in
-    let out1 : Outcome = c.accept_anew.new.outcome in
-    let V1 : State = g.M.Medium.state c.accept_anew.new.unit in
-    let X1 : State = g.C.Chip.state c.accept_anew.new.card_a in
-    let Y1 : State = g.D.Chip.state c.accept_anew.new.card_b in
-    let first_card = card_in mid.keeper.cabin.slots.seats.driver in
-    let others = waiting_in CoDriver (card_in mid.keeper.cabin.slots.seats.codriver) in
-    let once = at-once CoDriver (card_in mid.keeper.cabin.slots.seats.codriver) in
-    let woken = wakes-evented o done s supply v (devices U X Y) (devices W X Y) r may number given k evented quiet woke.0 (waiting_in Driver first_card ++ others) mid c.args.outcome.now woke.1 is (ap (λ (x : Values). x.log) values) in
-    let recorded_one = c.accept_anew.ensures.recorded (omega (arith, room, few)) in
-    let first = driver-judged o done s woke.0 first_card others mid c.args.outcome.now (devices W X Y) woke.1 once refl bare c.moment-at.result now c.args.speed (is_err c.accept_anew.result) one out1 c.accept_anew.ensures.accepted (devices V1 X1 Y1)
-    (λ none P. same-devices P g.M.Medium.state g.C.Chip.state g.D.Chip.state c.mend.new.unit c.accept_anew.new.unit c.args.card_a.now c.accept_anew.new.card_a c.args.card_b.now c.accept_anew.new.card_b (c.accept_anew.ensures.still none)) (time-before (devices V1 X1 Y1) (devices (g.M.Medium.state c.accept_anew-2.new.unit) (g.C.Chip.state c.accept_anew-2.new.card_a) (g.D.Chip.state c.accept_anew-2.new.card_b)) c.accept_anew-2.ensures.clock c.accept_anew-2.ensures.clock_a c.accept_anew-2.ensures.clock_b time_two) recorded_one in
-    let same_one = anew-limit first_card Driver c.moment-at.result c.args.speed mid one c.args.outcome.now out1 c.accept_anew.ensures.accepted in
-    let well : is_err c.accept_anew.result ≡ false = search rules in
-    let two : Run = c.accept_anew-2.new.run in
-    let out2 : Outcome = c.accept_anew-2.new.outcome in
-    let V2 : State = g.M.Medium.state c.accept_anew-2.new.unit in
-    let X2 : State = g.C.Chip.state c.accept_anew-2.new.card_a in
-    let Y2 : State = g.D.Chip.state c.accept_anew-2.new.card_b in
-    let beside : seat_in one.keeper.cabin.slots.seats CoDriver ≡ seat_in mid.keeper.cabin.slots.seats CoDriver = c.accept_anew.ensures.beside in
-    let bare_too = subst IsBare (sym (beside ∙ ap (λ (b : Cabin). b.slots.seats.codriver) cabin)) (dark-bare 0 cards run.keeper.cabin.slots.seats.codriver dark.bare (dark.stands 0).codriver) in
-    let few_too = ap bare_count (beside ∙ ap (λ (b : Cabin). b.slots.seats.codriver) cabin) in
-    let none_waits = begun-none mid.minutes run.next begun.minutes in
-    let waits_none = ap (λ (p : Power). waiting p mid.minutes.owing) begun.power in
-    let t = c.accept_anew.ensures.takes.marks in
-    let same_room = c.accept_anew.ensures.takes.rooms.0 in
-    let second_card = card_in one.keeper.cabin.slots.seats.codriver in
-    let behind_one : RunWaking o done s woke.0 (waiting_in CoDriver second_card) (CoDriver ∷ []) one out1 (devices V1 X1 Y1) = subst (λ (seat : Option Seat). RunWaking o done s woke.0 (waiting_in CoDriver (card_in seat)) (CoDriver ∷ []) one out1 (devices V1 X1 Y1)) (sym beside) (first.0 well) in
-    let recorded_two = c.accept_anew-2.ensures.recorded (omega (arith, room, few, few_too, none_waits, waits_none, t, same_room)) in
-    let same_two = anew-limit second_card CoDriver c.moment-at.result c.args.speed one two out1 out2 c.accept_anew-2.ensures.accepted in
-    let fine : is_err c.accept_anew-2.result ≡ false = search rules in
-    let both = codriver-on o done s woke.0 second_card one out1 (devices V1 X1 Y1) behind_one refl bare_too c.moment-at.result now c.args.speed (is_err c.accept_anew-2.result) two out2 c.accept_anew-2.ensures.accepted (devices V2 X2 Y2)
-    (λ none P. same-devices P g.M.Medium.state g.C.Chip.state g.D.Chip.state c.accept_anew.new.unit c.accept_anew-2.new.unit c.accept_anew.new.card_a c.accept_anew-2.new.card_a c.accept_anew.new.card_b c.accept_anew-2.new.card_b (c.accept_anew-2.ensures.still none)) time_two recorded_two fine in
-    let lit = ok_gives c.accept_anew-2.result c.accept_anew-2.ensures.going fine in
-    let new : Run = c.note_gap.new.run in
-    let out3 : Outcome = record out2 { breaks = c.note_gap.new.breaks } in
-    let some : (length c.args.outcome.now.breaks.items == 0) ≡ false = sym c.is_empty-is_first.ensures ∙ c.if-is_first.false in
-    let told_before = some-told v.unfound k v.log.breaks c.args.outcome.now.breaks.items (ap (λ (x : Values). x.log.breaks) values) (is-some (length c.args.outcome.now.breaks.items) some) in
-    let kept : c.last_kept-kept.result ≡ k = c.last_kept-kept.ensures.kept in
-    let x = within-of o done s woke.0 [] [] two out2 (devices V2 X2 Y2) both in
-    let comes = comes-waking o done s woke.0 [] [] two out2 (devices V2 X2 Y2) both in
-    let stays = gap-memory (gap_of c.last_kept-kept.result two.next) (now_moment two) (is_err c.note_gap.result) two new out2.breaks c.note_gap.new.breaks c.note_gap.ensures.noted.0 c.note_gap.ensures.noted.1 in
-    let next_is = ap (λ (x : Values). x.next) values in
-    let low = c.requires.going.low in
-    let positive : 0 < s.number = omega (arith, number, next_is, low) in
-    let log_is : log_of c.args.outcome.now ≡ woke.0.run.log = ap (λ (x : Values). x.log) values ∙ sym (ap (λ (q : Progress). q.log) is.0) in
-    let vehicle_mid : mid.keeper.memory.registration ≡ vehicle_in o = ap (λ (k : Keeper). k.memory.registration) begun.keeper ∙ vehicle in
-    let cards_begun = wakes-cards o done s woke.0 (waiting_in Driver first_card ++ others) mid c.args.outcome.now (devices W X Y) woke.1 log_is (unit-alone o done (log_of c.args.outcome.now) U W X Y shown) in
-    let cards_one = driver-woken o done s woke.0 first_card others mid c.args.outcome.now (devices W X Y) woke.1 once refl bare positive vehicle_mid cards_begun c.moment-at.result now c.args.speed speed_is (is_err c.accept_anew.result) one out1 c.accept_anew.ensures.accepted (devices V1 X1 Y1)
-    (λ none P. same-devices P g.M.Medium.state g.C.Chip.state g.D.Chip.state c.mend.new.unit c.accept_anew.new.unit c.args.card_a.now c.accept_anew.new.card_a c.args.card_b.now c.accept_anew.new.card_b (c.accept_anew.ensures.still none)) (time-before (devices V1 X1 Y1) (devices (g.M.Medium.state c.accept_anew-2.new.unit) (g.C.Chip.state c.accept_anew-2.new.card_a) (g.D.Chip.state c.accept_anew-2.new.card_b)) c.accept_anew-2.ensures.clock c.accept_anew-2.ensures.clock_a c.accept_anew-2.ensures.clock_b time_two) recorded_one (c.accept_anew.ensures.cards (omega (arith, room, few))) in
-    let vehicle_one : one.keeper.memory.registration ≡ vehicle_in o = ap (λ (m : Identity). m.registration) same_one.0 ∙ vehicle_mid in
-    let cards_two = codriver-woken o done s woke.0 second_card one out1 (devices V1 X1 Y1) behind_one refl bare_too positive vehicle_one (subst (λ (f : Bool). WakesOn f o done s woke.0.run.log (log_of out1) (devices V1 X1 Y1)) well cards_one)
-    c.moment-at.result now c.args.speed speed_is (is_err c.accept_anew-2.result) two out2 c.accept_anew-2.ensures.accepted (devices V2 X2 Y2)
-    (λ none P. same-devices P g.M.Medium.state g.C.Chip.state g.D.Chip.state c.accept_anew.new.unit c.accept_anew-2.new.unit c.accept_anew.new.card_a c.accept_anew-2.new.card_a c.accept_anew.new.card_b c.accept_anew-2.new.card_b (c.accept_anew-2.ensures.still none)) time_two recorded_two
-    (c.accept_anew-2.ensures.cards (omega (arith, room, few, few_too, none_waits, waits_none, t, same_room))) in
-    let vehicle_two : two.keeper.memory.registration ≡ vehicle_in o = ap (λ (m : Identity). m.registration) same_two.0 ∙ vehicle_one in
-    let began : x.within.b ≡ woke.0 = both.waking.began in
-    let off_x = subst (λ (y : Beginning). (went y.run.log done).before.running ≡ false) (sym began) both.waking.starts in
-    let bare_x = subst (λ (y : Beginning). AreBare (went y.run.log done).before.slots) (sym began) woken.0.bare in
-    let log_x : x.within.b.run.log ≡ (found_again k (progress v supply r.book)).log = ap (λ (b : Beginning). b.run.log) began ∙ ap (λ (q : Progress). q.log) is.0 in
-    let cards_x = subst (λ (y : Beginning). CardsWaking o done s y.run.log (log_of out2) (devices V2 X2 Y2)) (sym began) (subst (λ (f : Bool). WakesOn f o done s woke.0.run.log (log_of out2) (devices V2 X2 Y2)) fine cards_two) in
-    let began_log : x.within.b.run.log ≡ log_of c.args.outcome.now = ap (λ (b : Beginning). b.run.log) began ∙ sym log_is in
-    let here : two.next ≡ s.number = x.within.next ∙ sym x.within.moment.number in
-    let same_gap : gap_of k s.number ≡ gap_of c.last_kept-kept.result two.next = ap (λ (n : ℕ). gap_of n s.number) (sym kept) ∙ ap (gap_of c.last_kept-kept.result) (sym here) in
-    let goes = c.note_gap.ensures.recorded o done s out2 x (λ first. comes) in
-    let vehicle_new : new.keeper.memory.registration ≡ vehicle_in o = ap (λ (m : Identity). m.registration) stays ∙ vehicle_two in
-    woken-all (is_err c.note_gap.result) o done s x.within.b.run.log (log_of c.args.outcome.now) new (log_of out3) (devices V3 X3 Y3) began_log vehicle_new
-    (gap-shown o done s two out2 (devices V2 X2 Y2) (devices V3 X3 Y3) x (ungiven_of lit.span) lit.cabin off_x bare_x positive (gap_of c.last_kept-kept.result two.next)
-    (λ crew. some-list o done s supply v (devices U X Y) (devices W X Y) r may number given k evented quiet is.2 woken.2 x.within.b.run.log log_x told_before crew ∙ ap (λ (q : Option Span). gap_list q crew) same_gap) vehicle_two cards_x
-    (is_err c.note_gap.result) new c.note_gap.new.breaks c.note_gap.ensures.noted.0 c.note_gap.ensures.noted.1 (c.note_gap.ensures.leaves o done s out2 x comes).0
-    (λ fails. (subst (λ (q : Bool). GoesOnOrFails q o done s (In 0) [] new out3 (devices V3 X3 Y3) x.within.b) fails goes).within.moment.up_to.uncut) c.note_gap.ensures.card_events)
+    let cards = both g c in
+    let at = begin g c in
+    let p = premises g at room o origin done s supply v r stay may number given values in
+    let e : WithEvents g at p = record { speed_is = speed_is; evented = evented; limit = limit } in
+    let past = time-two g c p time in
+    let stands_so = lit g cards p past (fine g c) in
+    let x = here g c p time in
+    let here_is : (two g cards).next ≡ s.number = x.within.next ∙ sym x.within.moment.number in
+    let same_gap : gap_of c.args.journal.kept s.number ≡ gap_of c.last_kept-kept.result (two g cards).next = ap (λ (n : ℕ). gap_of n s.number) (sym c.last_kept-kept.ensures.kept) ∙ ap (gap_of c.last_kept-kept.result) (sym here_is) in
+    woken-all (is_err c.note_gap.result) o done s x.within.b.run.log (log_of (out g at)) (new g c) (log_of (out3 g c)) (dev3 g c) (began-here g cards p past (fine g c)) (ap (λ (m : Identity). m.registration) (stays g c) ∙ vehicle-two g cards o vehicle)
+    (gap-shown o done s (two g cards) (out2 g cards) (dev2 g cards) (dev3 g c) x (ungiven_of stands_so.span) stands_so.cabin (off-here g cards p past (fine g c)) (bare-here g cards p past (fine g c) e) (positive g at p) (gap_of c.last_kept-kept.result (two g cards).next)
+    (λ crew. some-list o done s supply v (dev0 g at) (mended g at) r may number given c.args.journal.kept evented (quiet g at) (is g at p).2 (woken g at p e).2 x.within.b.run.log (log-here g cards p past (fine g c)) (told-before g c p time) crew ∙ ap (λ (q : Option Span). gap_list q crew) same_gap)
+    (vehicle-two g cards o vehicle) (cards-here g cards p past (fine g c) speed_is vehicle shown)
+    (is_err c.note_gap.result) (new g c) c.note_gap.new.breaks c.note_gap.ensures.noted.0 c.note_gap.ensures.noted.1 (c.note_gap.ensures.leaves o done s (out2 g cards) x (comes g cards p past (fine g c))).0
+    (λ fails. (subst (λ (f : Bool). GoesOnOrFails f o done s (In 0) [] (new g c) (out3 g c) (dev3 g c) x.within.b) fails (goes g c p time)).within.moment.up_to.uncut) c.note_gap.ensures.card_events)
 
 -- ---- what holds of the devices after any calls
 
@@ -1631,16 +1086,16 @@ pub returns-in_err-mend-clause-later : goal.returns-in_err-mend-clause-later
 returns-in_err-mend-clause-later g c = later-of-unit (g.M.Medium.state c.args.unit.now) (g.M.Medium.state c.mend.new.unit) (g.C.Chip.state c.args.card_a.now) (g.D.Chip.state c.args.card_b.now) (state-by (g.M.Medium.state c.args.unit.now) (g.M.Medium.state c.mend.new.unit) _ c.mend.ensures.clock c.mend.ensures.cause)
 
 pub returns-in_err-accept_anew-clause-later : goal.returns-in_err-accept_anew-clause-later
-returns-in_err-accept_anew-clause-later g c = later-then (devices (g.M.Medium.state c.args.unit.now) (g.C.Chip.state c.args.card_a.now) (g.D.Chip.state c.args.card_b.now)) (devices (g.M.Medium.state c.mend.new.unit) (g.C.Chip.state c.args.card_a.now) (g.D.Chip.state c.args.card_b.now)) (devices (g.M.Medium.state c.accept_anew.new.unit) (g.C.Chip.state c.accept_anew.new.card_a) (g.D.Chip.state c.accept_anew.new.card_b)) (later-of-unit (g.M.Medium.state c.args.unit.now) (g.M.Medium.state c.mend.new.unit) (g.C.Chip.state c.args.card_a.now) (g.D.Chip.state c.args.card_b.now) (state-by (g.M.Medium.state c.args.unit.now) (g.M.Medium.state c.mend.new.unit) _ c.mend.ensures.clock c.mend.ensures.cause)) c.accept_anew.ensures.later
+returns-in_err-accept_anew-clause-later g c = later-one g (goal.at.returns-in_err-accept_anew-clause-later g c).After-accept_anew
 
 pub returns-in_err-accept_anew-2-clause-later : goal.returns-in_err-accept_anew-2-clause-later
-returns-in_err-accept_anew-2-clause-later g c = later-then (devices (g.M.Medium.state c.args.unit.now) (g.C.Chip.state c.args.card_a.now) (g.D.Chip.state c.args.card_b.now)) (devices (g.M.Medium.state c.mend.new.unit) (g.C.Chip.state c.args.card_a.now) (g.D.Chip.state c.args.card_b.now)) (devices (g.M.Medium.state c.accept_anew-2.new.unit) (g.C.Chip.state c.accept_anew-2.new.card_a) (g.D.Chip.state c.accept_anew-2.new.card_b)) (later-of-unit (g.M.Medium.state c.args.unit.now) (g.M.Medium.state c.mend.new.unit) (g.C.Chip.state c.args.card_a.now) (g.D.Chip.state c.args.card_b.now) (state-by (g.M.Medium.state c.args.unit.now) (g.M.Medium.state c.mend.new.unit) _ c.mend.ensures.clock c.mend.ensures.cause)) (later-then (devices (g.M.Medium.state c.mend.new.unit) (g.C.Chip.state c.args.card_a.now) (g.D.Chip.state c.args.card_b.now)) (devices (g.M.Medium.state c.accept_anew.new.unit) (g.C.Chip.state c.accept_anew.new.card_a) (g.D.Chip.state c.accept_anew.new.card_b)) (devices (g.M.Medium.state c.accept_anew-2.new.unit) (g.C.Chip.state c.accept_anew-2.new.card_a) (g.D.Chip.state c.accept_anew-2.new.card_b)) c.accept_anew.ensures.later c.accept_anew-2.ensures.later)
+returns-in_err-accept_anew-2-clause-later g c = later-two g (goal.at.returns-in_err-accept_anew-2-clause-later g c).After-accept_anew-2
 
 pub returns-then-is_first-clause-later : goal.returns-then-is_first-clause-later
-returns-then-is_first-clause-later g c = later-then (devices (g.M.Medium.state c.args.unit.now) (g.C.Chip.state c.args.card_a.now) (g.D.Chip.state c.args.card_b.now)) (devices (g.M.Medium.state c.mend.new.unit) (g.C.Chip.state c.args.card_a.now) (g.D.Chip.state c.args.card_b.now)) (devices (g.M.Medium.state c.accept_anew-2.new.unit) (g.C.Chip.state c.accept_anew-2.new.card_a) (g.D.Chip.state c.accept_anew-2.new.card_b)) (later-of-unit (g.M.Medium.state c.args.unit.now) (g.M.Medium.state c.mend.new.unit) (g.C.Chip.state c.args.card_a.now) (g.D.Chip.state c.args.card_b.now) (state-by (g.M.Medium.state c.args.unit.now) (g.M.Medium.state c.mend.new.unit) _ c.mend.ensures.clock c.mend.ensures.cause)) (later-then (devices (g.M.Medium.state c.mend.new.unit) (g.C.Chip.state c.args.card_a.now) (g.D.Chip.state c.args.card_b.now)) (devices (g.M.Medium.state c.accept_anew.new.unit) (g.C.Chip.state c.accept_anew.new.card_a) (g.D.Chip.state c.accept_anew.new.card_b)) (devices (g.M.Medium.state c.accept_anew-2.new.unit) (g.C.Chip.state c.accept_anew-2.new.card_a) (g.D.Chip.state c.accept_anew-2.new.card_b)) c.accept_anew.ensures.later c.accept_anew-2.ensures.later)
+returns-then-is_first-clause-later g c = later-two g (goal.at.returns-then-is_first-clause-later g c).After-accept_anew-2
 
 pub returns-clause-later : goal.returns-clause-later
-returns-clause-later g c = later-then (devices (g.M.Medium.state c.args.unit.now) (g.C.Chip.state c.args.card_a.now) (g.D.Chip.state c.args.card_b.now)) (devices (g.M.Medium.state c.mend.new.unit) (g.C.Chip.state c.args.card_a.now) (g.D.Chip.state c.args.card_b.now)) (devices (g.M.Medium.state c.note_gap.new.unit) (g.C.Chip.state c.note_gap.new.card_a) (g.D.Chip.state c.note_gap.new.card_b)) (later-of-unit (g.M.Medium.state c.args.unit.now) (g.M.Medium.state c.mend.new.unit) (g.C.Chip.state c.args.card_a.now) (g.D.Chip.state c.args.card_b.now) (state-by (g.M.Medium.state c.args.unit.now) (g.M.Medium.state c.mend.new.unit) _ c.mend.ensures.clock c.mend.ensures.cause)) (later-then (devices (g.M.Medium.state c.mend.new.unit) (g.C.Chip.state c.args.card_a.now) (g.D.Chip.state c.args.card_b.now)) (devices (g.M.Medium.state c.accept_anew.new.unit) (g.C.Chip.state c.accept_anew.new.card_a) (g.D.Chip.state c.accept_anew.new.card_b)) (devices (g.M.Medium.state c.note_gap.new.unit) (g.C.Chip.state c.note_gap.new.card_a) (g.D.Chip.state c.note_gap.new.card_b)) c.accept_anew.ensures.later (later-then (devices (g.M.Medium.state c.accept_anew.new.unit) (g.C.Chip.state c.accept_anew.new.card_a) (g.D.Chip.state c.accept_anew.new.card_b)) (devices (g.M.Medium.state c.accept_anew-2.new.unit) (g.C.Chip.state c.accept_anew-2.new.card_a) (g.D.Chip.state c.accept_anew-2.new.card_b)) (devices (g.M.Medium.state c.note_gap.new.unit) (g.C.Chip.state c.note_gap.new.card_a) (g.D.Chip.state c.note_gap.new.card_b)) c.accept_anew-2.ensures.later c.note_gap.ensures.later))
+returns-clause-later g c = later-then (dev0 g (begin g c)) (dev2 g (both g c)) (dev3 g c) (later-two g (both g c)) c.note_gap.ensures.later
 
 -- ---- how often the unit broke down
 
@@ -1651,13 +1106,13 @@ pub returns-in_err-accept_anew-clause-uncut : goal.returns-in_err-accept_anew-cl
 returns-in_err-accept_anew-clause-uncut g c = anew-uncut _ _ _ _ _ _ _ _ c.accept_anew.ensures.accepted
 
 pub returns-in_err-accept_anew-2-clause-uncut : goal.returns-in_err-accept_anew-2-clause-uncut
-returns-in_err-accept_anew-2-clause-uncut g c = anew-uncut _ _ _ _ _ _ _ _ c.accept_anew-2.ensures.accepted ∙ anew-uncut _ _ _ _ _ _ _ _ c.accept_anew.ensures.accepted
+returns-in_err-accept_anew-2-clause-uncut g c = uncut-two g (goal.at.returns-in_err-accept_anew-2-clause-uncut g c).After-accept_anew-2
 
 pub returns-then-is_first-clause-uncut : goal.returns-then-is_first-clause-uncut
-returns-then-is_first-clause-uncut g c = anew-uncut _ _ _ _ _ _ _ _ c.accept_anew-2.ensures.accepted ∙ anew-uncut _ _ _ _ _ _ _ _ c.accept_anew.ensures.accepted
+returns-then-is_first-clause-uncut g c = uncut-two g (goal.at.returns-then-is_first-clause-uncut g c).After-accept_anew-2
 
 pub returns-clause-uncut : goal.returns-clause-uncut
-returns-clause-uncut g c = gap-uncut _ _ _ _ _ _ _ c.note_gap.ensures.noted.0 c.note_gap.ensures.noted.1 ∙ anew-uncut _ _ _ _ _ _ _ _ c.accept_anew-2.ensures.accepted ∙ anew-uncut _ _ _ _ _ _ _ _ c.accept_anew.ensures.accepted
+returns-clause-uncut g c = gap-uncut _ _ _ _ _ _ _ c.note_gap.ensures.noted.0 c.note_gap.ensures.noted.1 ∙ uncut-two g (both g c)
 
 -- ---- where no tear of a failed call is told no card has broken down
 
@@ -1665,13 +1120,13 @@ pub returns-in_err-mend-clause-calm : goal.returns-in_err-mend-clause-calm
 returns-in_err-mend-clause-calm g c = calm-of-unit (g.M.Medium.state c.args.unit.now) (g.M.Medium.state c.mend.new.unit) (g.C.Chip.state c.args.card_a.now) (g.D.Chip.state c.args.card_b.now)
 
 pub returns-in_err-accept_anew-clause-calm : goal.returns-in_err-accept_anew-clause-calm
-returns-in_err-accept_anew-clause-calm g c = calm-then (devices (g.M.Medium.state c.args.unit.now) (g.C.Chip.state c.args.card_a.now) (g.D.Chip.state c.args.card_b.now)) (devices (g.M.Medium.state c.mend.new.unit) (g.C.Chip.state c.args.card_a.now) (g.D.Chip.state c.args.card_b.now)) (devices (g.M.Medium.state c.accept_anew.new.unit) (g.C.Chip.state c.accept_anew.new.card_a) (g.D.Chip.state c.accept_anew.new.card_b)) (calm-of-unit (g.M.Medium.state c.args.unit.now) (g.M.Medium.state c.mend.new.unit) (g.C.Chip.state c.args.card_a.now) (g.D.Chip.state c.args.card_b.now)) c.accept_anew.ensures.calm
+returns-in_err-accept_anew-clause-calm g c = calm-one g (goal.at.returns-in_err-accept_anew-clause-calm g c).After-accept_anew
 
 pub returns-in_err-accept_anew-2-clause-calm : goal.returns-in_err-accept_anew-2-clause-calm
-returns-in_err-accept_anew-2-clause-calm g c = calm-then (devices (g.M.Medium.state c.args.unit.now) (g.C.Chip.state c.args.card_a.now) (g.D.Chip.state c.args.card_b.now)) (devices (g.M.Medium.state c.mend.new.unit) (g.C.Chip.state c.args.card_a.now) (g.D.Chip.state c.args.card_b.now)) (devices (g.M.Medium.state c.accept_anew-2.new.unit) (g.C.Chip.state c.accept_anew-2.new.card_a) (g.D.Chip.state c.accept_anew-2.new.card_b)) (calm-of-unit (g.M.Medium.state c.args.unit.now) (g.M.Medium.state c.mend.new.unit) (g.C.Chip.state c.args.card_a.now) (g.D.Chip.state c.args.card_b.now)) (calm-then (devices (g.M.Medium.state c.mend.new.unit) (g.C.Chip.state c.args.card_a.now) (g.D.Chip.state c.args.card_b.now)) (devices (g.M.Medium.state c.accept_anew.new.unit) (g.C.Chip.state c.accept_anew.new.card_a) (g.D.Chip.state c.accept_anew.new.card_b)) (devices (g.M.Medium.state c.accept_anew-2.new.unit) (g.C.Chip.state c.accept_anew-2.new.card_a) (g.D.Chip.state c.accept_anew-2.new.card_b)) c.accept_anew.ensures.calm c.accept_anew-2.ensures.calm)
+returns-in_err-accept_anew-2-clause-calm g c = calm-two g (goal.at.returns-in_err-accept_anew-2-clause-calm g c).After-accept_anew-2
 
 pub returns-then-is_first-clause-calm : goal.returns-then-is_first-clause-calm
-returns-then-is_first-clause-calm g c = calm-then (devices (g.M.Medium.state c.args.unit.now) (g.C.Chip.state c.args.card_a.now) (g.D.Chip.state c.args.card_b.now)) (devices (g.M.Medium.state c.mend.new.unit) (g.C.Chip.state c.args.card_a.now) (g.D.Chip.state c.args.card_b.now)) (devices (g.M.Medium.state c.accept_anew-2.new.unit) (g.C.Chip.state c.accept_anew-2.new.card_a) (g.D.Chip.state c.accept_anew-2.new.card_b)) (calm-of-unit (g.M.Medium.state c.args.unit.now) (g.M.Medium.state c.mend.new.unit) (g.C.Chip.state c.args.card_a.now) (g.D.Chip.state c.args.card_b.now)) (calm-then (devices (g.M.Medium.state c.mend.new.unit) (g.C.Chip.state c.args.card_a.now) (g.D.Chip.state c.args.card_b.now)) (devices (g.M.Medium.state c.accept_anew.new.unit) (g.C.Chip.state c.accept_anew.new.card_a) (g.D.Chip.state c.accept_anew.new.card_b)) (devices (g.M.Medium.state c.accept_anew-2.new.unit) (g.C.Chip.state c.accept_anew-2.new.card_a) (g.D.Chip.state c.accept_anew-2.new.card_b)) c.accept_anew.ensures.calm c.accept_anew-2.ensures.calm)
+returns-then-is_first-clause-calm g c = calm-two g (goal.at.returns-then-is_first-clause-calm g c).After-accept_anew-2
 
 pub returns-clause-calm : goal.returns-clause-calm
-returns-clause-calm g c = calm-then (devices (g.M.Medium.state c.args.unit.now) (g.C.Chip.state c.args.card_a.now) (g.D.Chip.state c.args.card_b.now)) (devices (g.M.Medium.state c.mend.new.unit) (g.C.Chip.state c.args.card_a.now) (g.D.Chip.state c.args.card_b.now)) (devices (g.M.Medium.state c.note_gap.new.unit) (g.C.Chip.state c.note_gap.new.card_a) (g.D.Chip.state c.note_gap.new.card_b)) (calm-of-unit (g.M.Medium.state c.args.unit.now) (g.M.Medium.state c.mend.new.unit) (g.C.Chip.state c.args.card_a.now) (g.D.Chip.state c.args.card_b.now)) (calm-then (devices (g.M.Medium.state c.mend.new.unit) (g.C.Chip.state c.args.card_a.now) (g.D.Chip.state c.args.card_b.now)) (devices (g.M.Medium.state c.accept_anew.new.unit) (g.C.Chip.state c.accept_anew.new.card_a) (g.D.Chip.state c.accept_anew.new.card_b)) (devices (g.M.Medium.state c.note_gap.new.unit) (g.C.Chip.state c.note_gap.new.card_a) (g.D.Chip.state c.note_gap.new.card_b)) c.accept_anew.ensures.calm (calm-then (devices (g.M.Medium.state c.accept_anew.new.unit) (g.C.Chip.state c.accept_anew.new.card_a) (g.D.Chip.state c.accept_anew.new.card_b)) (devices (g.M.Medium.state c.accept_anew-2.new.unit) (g.C.Chip.state c.accept_anew-2.new.card_a) (g.D.Chip.state c.accept_anew-2.new.card_b)) (devices (g.M.Medium.state c.note_gap.new.unit) (g.C.Chip.state c.note_gap.new.card_a) (g.D.Chip.state c.note_gap.new.card_b)) c.accept_anew-2.ensures.calm c.note_gap.ensures.calm))
+returns-clause-calm g c = calm-then (dev0 g (begin g c)) (dev2 g (both g c)) (dev3 g c) (calm-two g (both g c)) c.note_gap.ensures.calm
