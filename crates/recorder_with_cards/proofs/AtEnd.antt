@@ -30,7 +30,7 @@ use Rattle.run_acts.specs.Stays.{Stay, Shown, after_stay, sits_in, as_noted, Are
 use Rattle.run_acts.proofs.SeatsThen.{sits-in-one}
 use Rattle.unit_model.specs.Image.{odometer_at}
 use Rattle.safety_model.specs.Recording.{Recording, brought, start_of}
-use Rattle.recorder_with_cards.specs.Stays.{IsEnteredSo, IsClosedSo, IsCountedSo, IsAcknowledgedSo}
+use Rattle.recorder_with_cards.specs.Stays.{IsClosedSo, IsCountedSo, IsAcknowledgedSo}
 use Rattle.run_acts.specs.Owed.{IsOwed}
 
 -- none is leaving then
@@ -63,23 +63,18 @@ module _ (o : Origin) (done : List TraceSecond) (run : Run) (out : Outcome) (d :
 -- ---- what is true of the stays of a run
 
 module _ (r : Recording) where
-  abbrev HoldIn : Card → List Stay → Type 0
-  HoldIn c ss = AllByRecursion (IsTrueOf (truths_by r.rule (odometer_at r.unit) (past_of r.log r.trace) (λ k. IsOwed r.rule (start_of r) r.log r.trace k (brought r k).owed)) c) ss
-
-  -- their lines
-  pub entered-so : (c : Card) (ss : List Stay) → HoldIn c ss → AllByRecursion (IsEnteredSo r c) ss
-  entered-so c [] all = tt
-  entered-so c (s ∷ ss) all = (all.0.3, entered-so c ss all.1)
+  abbrev HoldIn : List Stay → Type 0
+  HoldIn ss = AllByRecursion (IsTrueOf (truths_by r.rule (odometer_at r.unit) (past_of r.log r.trace) (λ k. IsOwed r.rule (start_of r) r.log r.trace k (brought r k).owed))) ss
 
   -- the words of their closings
-  pub words-so : (c : Card) (ss : List Stay) → HoldIn c ss → AllByRecursion (IsClosedSo r) ss
-  words-so c [] all = tt
-  words-so c (s ∷ ss) all = (all.0.2, words-so c ss all.1)
+  pub words-so : (ss : List Stay) → HoldIn ss → AllByRecursion (IsClosedSo r) ss
+  words-so [] all = tt
+  words-so (s ∷ ss) all = (all.0.2, words-so ss all.1)
 
   -- and their odometers
-  pub odometers-so : (c : Card) (ss : List Stay) → HoldIn c ss → AllByRecursion (IsCountedSo r) ss
-  odometers-so c [] all = tt
-  odometers-so c (s ∷ ss) all = ((all.0.0, all.0.1), odometers-so c ss all.1)
+  pub odometers-so : (ss : List Stay) → HoldIn ss → AllByRecursion (IsCountedSo r) ss
+  odometers-so [] all = tt
+  odometers-so (s ∷ ss) all = ((all.0.0, all.0.1), odometers-so ss all.1)
 
 -- what was owed to a card at each, and that each entry of it has its mark
 pub owes-so : (Owes : Find → (mark : ℕ) → List Entry → Type 0) (marks : List Mark) (c : Card) (vehicle : Registration) (size : ℕ) (ss : List Stay) (p : Shown) →

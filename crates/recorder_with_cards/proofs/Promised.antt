@@ -103,7 +103,7 @@ use Rattle.run_acts.specs.Closings.{spells_of}
 use Rattle.run_acts.specs.Comings.{TellsMore}
 use Rattle.run_acts.proofs.Comings.{tells-none}
 use Rattle.run_acts.specs.Stays.{Stay, Coming, comings_on, registration_in, AreMerged, spells, sits_in, HasStays, ShowsStays, start_shown, AreOwed, AreJudged, is_late}
-use Rattle.recorder_with_cards.proofs.AtEnd.{noted-at-end, sits-at-end, entered-so, words-so, odometers-so, owes-so}
+use Rattle.recorder_with_cards.proofs.AtEnd.{noted-at-end, sits-at-end, words-so, odometers-so, owes-so}
 use Rattle.run_recorded.specs.Whole.{NothingFailed}
 use Rattle.run_crew.specs.Cabin.{Stands}
 use Rattle.std.specs.Prelude.{filter}
@@ -214,9 +214,9 @@ module _ (x a b : List ℕ) (start : ℕ) (items : List Item) (began now : Devic
           verdicts = λ c valid. subst (λ (i : List ℕ). AreJudged run.keeper.memory.registration (own_sizes i).activity (all.stays c) (all.since c) (start_shown i)) (of_image c) (all.verdicts c (subst IsOwnValid (sym (of_image c)) valid));
           shows = stay_shows none;
           closed = stay_spells none;
-          entered = λ c. entered-so r c (all.stays c) (all.hold c).0;
-          words = λ c. words-so r c (all.stays c) (all.hold c).0;
-          odometers = λ c. odometers-so r c (all.stays c) (all.hold c).0;
+          entered = all.entered;
+          words = λ c. words-so r (all.stays c) (all.hold c).0;
+          odometers = λ c. odometers-so r (all.stays c) (all.hold c).0;
           owes = λ c. owes-as c (all.stays c)
               (subst (λ (i : List ℕ). AreOwed (IsOwed (rule_of o) (start_at o) (log_of out) (seconds_of start items) c (brought r0 c).owed) run.keeper.memory.registration (own_sizes i).activity (all.stays c) (start_shown i)) (of_image c)
               (owes-so (IsOwed (rule_of o) (start_at o) (log_of out) (seconds_of start items) c (brought r0 c).owed) out.marks.items c run.keeper.memory.registration (own_sizes (found_of o.found c).image).activity (all.stays c) (start_shown (found_of o.found c).image) (all.hold c).1).0);
@@ -467,6 +467,7 @@ module _ (x a b : List ℕ) (start : ℕ) (began now : Devices) (opened : Opened
         placed = λ c valid. placed-bare (notes_in (log_of out) []) run.keeper.cabin c (bare c);
         since = λ c. [];
         lone = λ c. inl refl;
+        entered = λ c. tt;
         judged = subst (λ (fs : List Find). AreMerged (filter (λ (g : Find). is_accepting g.verdict || is_late g.verdict) fs) [] []) (sym finds) (refl, refl);
         verdicts = λ c valid. tt;
         waits = λ c valid some. refl;

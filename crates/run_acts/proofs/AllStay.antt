@@ -48,7 +48,7 @@ use Rattle.run_acts.specs.Comings.{VehicleTold, told_of, TellsMore, TellMore}
 use Rattle.run_acts.proofs.Comings.{tells-none, tells-then}
 use Rattle.run_acts.specs.Truths.{Truths, Grow}
 use Rattle.run_acts.specs.Stays.{Stay, Coming, comings_on, befores_of, TellsBefores, acceptances_told, spells, sits_in, as_noted, IsPlaced, AreMerged, StaysIn, HasStays, AreStays, AllStay, AreTrue, start_shown, judged_told, judged_in, AreJudged}
-use Rattle.run_acts.proofs.Stays.{on_last, on-last-comings, on-last-none, on-last-true, with_kepts, true-kepts, all-true-grow, merged-one, merged-other, stays-still, stays-moved, stays-keep, on-last-owes, owes-grow, on-last-judged, on-last-verdicts}
+use Rattle.run_acts.proofs.Stays.{all-both, on_last, on-last-comings, on-last-none, on-last-true, with_kepts, true-kepts, all-true-grow, merged-one, merged-other, stays-still, stays-moved, stays-keep, on-last-owes, owes-grow, on-last-judged, on-last-verdicts}
 
 -- ---- the log tells of no failed call
 
@@ -128,7 +128,7 @@ kept-hold : (t : Truths) (c : Card) (r : Registration) (image : List ℕ) (s : O
 unfolding kept_stays
 kept-hold t c r image None ks ss more all = all
 kept-hold t c r image (Some a) ks ss more all = (
-  on-last-true t c (with_kepts ks) ss (λ x front are is. true-kepts t c ks more x is) all.0,
+  on-last-true t (with_kepts ks) ss (λ x front are is. true-kepts t ks more x is) all.0,
   on-last-owes (t.owed c) (with_kepts ks) (λ x. refl) (λ x. refl) r (own_sizes image).activity ss (start_shown image) all.1,
 )
 
@@ -153,8 +153,8 @@ kept-verdicts r image None ks ss since waits h = h
 kept-verdicts r image (Some a) ks ss since waits h = on-last-verdicts (with_kepts ks) (λ p x is. is) r (own_sizes image).activity ss since (start_shown image) (waits refl) h
 
 -- its lines as more are told: none is new, or one is, that is its own
-abbrev pub JudgesOne : (lines later was now : List Find) → Type 0
-JudgesOne lines later was now = ((later ≡ lines) × (now ≡ was)) ⊎ ((g : Find) × (later ≡ lines ++ g ∷ []) × (now ≡ was ++ g ∷ []))
+abbrev pub JudgesOne : (own : Find → Type 0) → (lines later was now : List Find) → Type 0
+JudgesOne own lines later was now = ((later ≡ lines) × (now ≡ was)) ⊎ ((g : Find) × (later ≡ lines ++ g ∷ []) × (now ≡ was ++ g ∷ []) × own g)
 
 -- the comings of a card as more acceptances are told: none is new, or one is, and the unit tells the vehicle before it
 abbrev pub ComesOne : CardFound → Registration → (told later : List Find) → (ss now : List Stay) → (U V : State) → Type 0
@@ -168,20 +168,24 @@ merged-as lines later one now other e k h = subst (λ (l : List Find). AreMerged
 merged-as-other : (lines later one other now : List Find) → later ≡ lines → now ≡ other → AreMerged lines one other → AreMerged later one now
 merged-as-other lines later one other now e k h = subst (λ (l : List Find). AreMerged l one now) (sym e) (subst (λ (l : List Find). AreMerged lines one l) (sym k) h)
 
-one-judged : (lines later was now other : List Find) → JudgesOne lines later was now → AreMerged lines was other → AreMerged later now other
-one-judged lines later was now other (inl t) h = merged-as lines later was now other t.0 t.1 h
-one-judged lines later was now other (inr t) h = merged-as (lines ++ t.0 ∷ []) later (was ++ t.0 ∷ []) now other t.1 t.2 (merged-one lines was other t.0 h)
+one-judged : (own : Find → Type 0) (lines later was now other : List Find) → JudgesOne own lines later was now → AreMerged lines was other → AreMerged later now other
+one-judged own lines later was now other (inl t) h = merged-as lines later was now other t.0 t.1 h
+one-judged own lines later was now other (inr t) h = merged-as (lines ++ t.0 ∷ []) later (was ++ t.0 ∷ []) now other t.1 t.2 (merged-one lines was other t.0 h)
 
-other-judged : (lines later was now one : List Find) → JudgesOne lines later was now → AreMerged lines one was → AreMerged later one now
-other-judged lines later was now one (inl t) h = merged-as-other lines later one was now t.0 t.1 h
-other-judged lines later was now one (inr t) h = merged-as-other (lines ++ t.0 ∷ []) later one (was ++ t.0 ∷ []) now t.1 t.2 (merged-other lines one was t.0 h)
+other-judged : (own : Find → Type 0) (lines later was now one : List Find) → JudgesOne own lines later was now → AreMerged lines one was → AreMerged later one now
+other-judged own lines later was now one (inl t) h = merged-as-other lines later one was now t.0 t.1 h
+other-judged own lines later was now one (inr t) h = merged-as-other (lines ++ t.0 ∷ []) later one (was ++ t.0 ∷ []) now t.1 t.2 (merged-other lines one was t.0 h)
+
+judged-own : (own : Find → Type 0) (lines later was now : List Find) → JudgesOne own lines later was now → AllByRecursion own was → AllByRecursion own now
+judged-own own lines later was now (inl t) all = subst (AllByRecursion own) (sym t.1) all
+judged-own own lines later was now (inr t) all = subst (AllByRecursion own) (sym t.2) (all-both own was (t.0 ∷ []) all (t.3, tt))
 
 -- A CALL makes of the stays of a card these, as its session and its seat become others, and its spells these
 pub record Turns (truths : Truths) (card : Card) (second : ℕ) (f : CardFound) (log later : RunLog) (r : Registration) (noted noted_now : List Spell) (sits sits_now : Bool) (s t : Option Accepted) (U V X Y : State) (ss : List Stay) (since : List Find) : Type 0 where
   pub now : List Stay
   pub left : List Find
   pub lone : (since ≡ []) ⊎ IsOwnValid f.image → (left ≡ []) ⊎ IsOwnValid f.image
-  pub judged : JudgesOne (judged_told log) (judged_told later) (judged_in ss since) (judged_in now left)
+  pub judged : JudgesOne (truths.entered card) (judged_told log) (judged_told later) (judged_in ss since) (judged_in now left)
   pub verdicts : IsOwnValid f.image → HasStays second f r noted sits ss s X → (is_some s ≡ true → since ≡ []) → AreJudged r (own_sizes f.image).activity ss since (start_shown f.image) → AreJudged r (own_sizes f.image).activity now left (start_shown f.image)
   pub waits : IsOwnValid f.image → (is_some s ≡ true → since ≡ []) → is_some t ≡ true → left ≡ []
   pub only : (ss ≡ []) ⊎ IsOwnValid f.image → (now ≡ []) ⊎ IsOwnValid f.image
@@ -360,6 +364,7 @@ module _ (o : Origin) (t : Truths) (u : ℕ) where
         since = h.since;
         lone = h.lone;
         judged = h.judged;
+        entered = h.entered;
         verdicts = h.verdicts;
         waits = h.waits;
         befores = befores-as (acceptances_told log) (acceptances_told log) r h.stays h.stays U V refl (λ c. refl) go h.befores;
@@ -392,6 +397,7 @@ module _ (o : Origin) (t : Truths) (u : ℕ) where
         placed = λ c valid. places none c (h.placed c valid);
         since = h.since;
         lone = h.lone;
+        entered = h.entered;
         judged = merged-as (judged_told log) (judged_told later) (judged_in (h.stays A) (h.since A)) (judged_in (h.stays A) (h.since A)) (judged_in (h.stays B) (h.since B)) g.judged refl h.judged;
         verdicts = h.verdicts;
         waits = λ c valid some. h.waits c valid (had (session_of cabin.cards c) (session_of after.cards c) (moves none c).session some);
@@ -442,7 +448,8 @@ module _ (o : Origin) (t : Truths) (u : ℕ) where
             placed = λ c valid. placed h c valid;
             since = with_since A x.left h.since;
             lone = λ c. lone h x c;
-            judged = one-judged (judged_told log) (judged_told later) (judged_in (h.stays A) (h.since A)) (judged_in x.now x.left) (judged_in (h.stays B) (h.since B)) x.judged h.judged;
+            entered = λ c. entered h x c;
+            judged = one-judged (t.entered A) (judged_told log) (judged_told later) (judged_in (h.stays A) (h.since A)) (judged_in x.now x.left) (judged_in (h.stays B) (h.since B)) x.judged h.judged;
             verdicts = λ c valid. verdicts h x c valid;
             waits = λ c valid some. waits h x c valid some;
             befores = befores-turned A (acceptances_told log) (acceptances_told later) r h.stays x.now U V (x.comes (h.each A)) h.befores;
@@ -469,6 +476,10 @@ module _ (o : Origin) (t : Truths) (u : ℕ) where
           waits h x A valid some = x.waits valid (h.waits A valid) some
           waits h x B valid some = h.waits B valid (sym (ap (λ (q : Option Accepted). is_some q) same) ∙ some)
 
+          entered : (h : Are log notes r cabin (arranged A U X Z)) (x : TurnsOf A log later notes now r cabin after U V X Y (h.stays A) (h.since A)) (c : Card) → AllByRecursion (t.entered c) (judged_in (with_mine A x.now h.stays c) (with_since A x.left h.since c))
+          entered h x A = judged-own (t.entered A) (judged_told log) (judged_told later) (judged_in (h.stays A) (h.since A)) (judged_in x.now x.left) x.judged (h.entered A)
+          entered h x B = h.entered B
+
           lone : (h : Are log notes r cabin (arranged A U X Z)) (x : TurnsOf A log later notes now r cabin after U V X Y (h.stays A) (h.since A)) (c : Card) → (with_since A x.left h.since c ≡ []) ⊎ IsOwnValid (f c).image
           lone h x A = x.lone (h.lone A)
           lone h x B = h.lone B
@@ -490,7 +501,8 @@ module _ (o : Origin) (t : Truths) (u : ℕ) where
             placed = λ c valid. placed h c valid;
             since = with_since B x.left h.since;
             lone = λ c. lone h x c;
-            judged = other-judged (judged_told log) (judged_told later) (judged_in (h.stays B) (h.since B)) (judged_in x.now x.left) (judged_in (h.stays A) (h.since A)) x.judged h.judged;
+            entered = λ c. entered h x c;
+            judged = other-judged (t.entered B) (judged_told log) (judged_told later) (judged_in (h.stays B) (h.since B)) (judged_in x.now x.left) (judged_in (h.stays A) (h.since A)) x.judged h.judged;
             verdicts = λ c valid. verdicts h x c valid;
             waits = λ c valid some. waits h x c valid some;
             befores = befores-turned B (acceptances_told log) (acceptances_told later) r h.stays x.now U V (x.comes (h.each B)) h.befores;
@@ -516,6 +528,10 @@ module _ (o : Origin) (t : Truths) (u : ℕ) where
           waits : (h : Are log notes r cabin (arranged B U X Z)) (x : TurnsOf B log later notes now r cabin after U V X Y (h.stays B) (h.since B)) (c : Card) → IsOwnValid (f c).image → is_some (session_of after.cards c) ≡ true → with_since B x.left h.since c ≡ []
           waits h x A valid some = h.waits A valid (sym (ap (λ (q : Option Accepted). is_some q) same) ∙ some)
           waits h x B valid some = x.waits valid (h.waits B valid) some
+
+          entered : (h : Are log notes r cabin (arranged B U X Z)) (x : TurnsOf B log later notes now r cabin after U V X Y (h.stays B) (h.since B)) (c : Card) → AllByRecursion (t.entered c) (judged_in (with_mine B x.now h.stays c) (with_since B x.left h.since c))
+          entered h x A = h.entered A
+          entered h x B = judged-own (t.entered B) (judged_told log) (judged_told later) (judged_in (h.stays B) (h.since B)) (judged_in x.now x.left) x.judged (h.entered B)
 
           lone : (h : Are log notes r cabin (arranged B U X Z)) (x : TurnsOf B log later notes now r cabin after U V X Y (h.stays B) (h.since B)) (c : Card) → (with_since B x.left h.since c ≡ []) ⊎ IsOwnValid (f c).image
           lone h x A = h.lone A
@@ -555,6 +571,7 @@ module _ (o : Origin) (t : Truths) (u : ℕ) where
             (one-kept r c (spells_of c notes) (sits_in cabin.slots.seats c) (h.stays c) (ks c) (session_of cabin.cards c) (session_of after.cards c) (card_of d c) (card_of e c) (some none c) (keep c valid) (h.each c valid));
         since = h.since;
         lone = h.lone;
+        entered = λ c. subst (AllByRecursion (t.entered c)) (sym (kept-judged (session_of cabin.cards c) (ks c) (h.stays c) (h.since c))) (h.entered c);
         judged = merged-as (judged_told log) (judged_told later) (judged_in (h.stays A) (h.since A)) (judged_in (kept_stays (session_of cabin.cards A) (ks A) (h.stays A)) (h.since A)) (judged_in (kept_stays (session_of cabin.cards B) (ks B) (h.stays B)) (h.since B)) g.judged
             (kept-judged (session_of cabin.cards A) (ks A) (h.stays A) (h.since A))
             (merged-as-other (judged_told log) (judged_told log) (judged_in (h.stays A) (h.since A)) (judged_in (h.stays B) (h.since B)) (judged_in (kept_stays (session_of cabin.cards B) (ks B) (h.stays B)) (h.since B)) refl
@@ -571,6 +588,10 @@ module _ (o : Origin) (t : Truths) (u : ℕ) where
 
 -- ---- another second
 
+lines-grow : (own now : Find → Type 0) → ((g : Find) → own g → now g) → (fs : List Find) → AllByRecursion own fs → AllByRecursion now fs
+lines-grow own now goes [] all = tt
+lines-grow own now goes (f ∷ fs) all = (goes f all.0, lines-grow own now goes fs all.1)
+
 -- WHAT IS TRUE STAYS TRUE, where no call has failed
 pub all-true : (o : Origin) (t now : Truths) (u : ℕ) (log : RunLog) (notes : List Note) (r : Registration) (cabin : Cabin) (d : Devices) → (NothingFailed log → Grow t now) → AllStay o t u log notes r cabin d → AllStay o now u log notes r cabin d
 all-true o t now u log notes r cabin d grows all none =
@@ -581,7 +602,7 @@ all-true o t now u log notes r cabin d grows all none =
       only = h.only;
       each = h.each;
       hold = λ c. (
-        all-true-grow t now (grows none) c (h.stays c) (h.hold c).0,
+        all-true-grow t now (grows none) (h.stays c) (h.hold c).0,
         owes-grow (t.owed c) (now.owed c) (λ g mark es was. (grows none).owed c g mark es was) r (own_sizes (found_of o.found c).image).activity (h.stays c) (start_shown (found_of o.found c).image) (h.hold c).1,
       );
       placed = h.placed;
@@ -589,6 +610,7 @@ all-true o t now u log notes r cabin d grows all none =
       since = h.since;
       lone = h.lone;
       judged = h.judged;
+      entered = λ c. lines-grow (t.entered c) (now.entered c) (λ g was. (grows none).entered c g was) (judged_in (h.stays c) (h.since c)) (h.entered c);
       verdicts = h.verdicts;
       waits = h.waits;
     }
@@ -611,6 +633,7 @@ all-second o t u now log notes r cabin d sits all none =
       since = h.since;
       lone = h.lone;
       judged = h.judged;
+      entered = h.entered;
       verdicts = h.verdicts;
       waits = h.waits;
     }

@@ -188,7 +188,7 @@ module _ {C : Type 0} (state : C → State) (c : Card) (slot : Slot) (at : Momen
         AreTrue (marked told.marks.items (truths_within o w.within.b.run.log done s)) c run.keeper.memory.registration (found_of o.found c).image (h.stays c) →
         AreTrue (marked told.marks.items (truths_within o w.within.b.run.log done s)) c run.keeper.memory.registration (found_of o.found c).image (on_last (with_end (shut-by shut.0)) (h.stays c))
     stays-hold shut placed sat none h only shown all = (
-      on-last-true (marked told.marks.items (truths_within o w.within.b.run.log done s)) c (with_end (shut-by shut.0)) (h.stays c) (λ x front are is. (is.0, is.1, by x front are only, is.3)) all.0,
+      on-last-true (marked told.marks.items (truths_within o w.within.b.run.log done s)) (with_end (shut-by shut.0)) (h.stays c) (λ x front are is. (is.0, is.1, by x front are only)) all.0,
       on-last-owes ((marked told.marks.items (truths_within o w.within.b.run.log done s)).owed c) (with_end (shut-by shut.0)) (λ x. refl) (λ x. refl) run.keeper.memory.registration (own_sizes (found_of o.found c).image).activity (h.stays c) (start_shown (found_of o.found c).image) all.1,
     )
       where
@@ -201,7 +201,7 @@ module _ {C : Type 0} (state : C → State) (c : Card) (slot : Slot) (at : Momen
             let order = followed-lit o done s (In n) [] None [] v d w.within in
             since-line (done ++ s ∷ []) s (log_of told).finds actions rest slot c is (only-second o.from done s order.order (w.within.moment.number ∙ order.next)) (sat actions rest is count) (found_of_all (h.stays c)) (found_of_all (h.stays (other c)))
             (acceptances-merged run.keeper.memory.registration (λ (k : Card). (own_sizes (found_of o.found k).image).activity) (λ (k : Card). start_shown (found_of o.found k).image) h.stays h.befores.comings (acceptances_told (log_of told)) h.befores.lines h.befores.merged c)
-            (lines-own (marked told.marks.items (truths_within o w.within.b.run.log done s)) (other c) (h.stays (other c)) (h.hold (other c)).0) (found_of_all front) x.found (last-found front x (h.stays c) are) there
+            (lines-own ((marked told.marks.items (truths_within o w.within.b.run.log done s)).entered (other c)) (h.stays (other c)) (h.since (other c)) (h.entered (other c))) (found_of_all front) x.found (last-found front x (h.stays c) are) there
 
         by : (x : Stay) (front : List Stay) → h.stays c ≡ front ++ x ∷ [] → (h.stays c ≡ []) ⊎ IsOwnValid (found_of o.found c).image → IsWordIn (rule_of o) (past_of w.within.b.run.log (done ++ s ∷ [])) x.found s.number shut.0
         by x front are (inl empty) = absurd (let wrong : None ≡ Some x.found.slot = sym (ap (λ (l : List Stay). last_slot (spells l)) empty) ∙ last-of x front are in cc)

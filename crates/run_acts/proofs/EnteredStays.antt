@@ -180,7 +180,7 @@ module _ (o : Origin) (e : Entering) (failed : Bool) (well : failed ≡ false) (
 
   -- a card that is turned away
   turned-away : (ending : Ending) (cabin : Cabin) → acceptances_told (log_by ending) ≡ acceptances_told (log_of out) → spells_of e.which (notes (log_by ending)) ≡ spells_of e.which (notes (log_of out)) → (IsOwnValid f.image → DoesOn (own_sizes f.image) [] X Y) → TellMore [] U W → (ss : List Stay) (since left : List Find) →
-      JudgesOne (judged_told (log_of out)) (judged_told (log_by ending)) (judged_in ss since) (judged_in ss left) →
+      JudgesOne (t.entered e.which) (judged_told (log_of out)) (judged_told (log_by ending)) (judged_in ss since) (judged_in ss left) →
       (IsOwnValid f.image → HasStays u f vehicle (spells_of e.which (notes (log_of out))) (sits_in k.cabin.slots.seats e.which) ss None X → AreJudged vehicle (own_sizes f.image).activity ss since (start_shown f.image) → AreJudged vehicle (own_sizes f.image).activity ss left (start_shown f.image)) → ((since ≡ []) ⊎ IsOwnValid f.image → (left ≡ []) ⊎ IsOwnValid f.image) → TurnsBy ending cabin None ss since
   turned-away ending cabin same spell does go ss since left judged verdicts lone = record {
     now = ss;
@@ -205,7 +205,7 @@ module _ (o : Origin) (e : Entering) (failed : Bool) (well : failed ≡ false) (
       (inl (filter-append judging (log_of out).finds (find_of e (NotValid fid place) ∷ []) ∙ append-nil (judged_told (log_of out)), refl)) (λ valid h was. was) (λ was. was)
   own-judged (Ahead stored) behind app w owes cabin is told opens tells none ss since =
       turned-away (Ahead stored) cabin (none-more (find_of e (TimeOverlap stored e.at.second)) refl) (ap (λ (l : RunLog). spells_of e.which (notes l)) (one-find (TimeOverlap stored e.at.second)) ∙ (judges (TimeOverlap stored e.at.second)).rejects refl) opens tells.0 ss since (since ++ find_of e (TimeOverlap stored e.at.second) ∷ [])
-      (inr (find_of e (TimeOverlap stored e.at.second), filter-append judging (log_of out).finds (find_of e (TimeOverlap stored e.at.second) ∷ []), judged-late ss since (find_of e (TimeOverlap stored e.at.second))))
+      (inr (find_of e (TimeOverlap stored e.at.second), filter-append judging (log_of out).finds (find_of e (TimeOverlap stored e.at.second) ∷ []), judged-late ss since (find_of e (TimeOverlap stored e.at.second)), (tells_odometer (fewer-none (log_of out) (breaks_by (Ahead stored) e) none) (TimeOverlap stored e.at.second)).1))
       (λ valid h was.
       let y = tells.1 in
       let shown = h.shows y.0 y.1 in
@@ -220,7 +220,7 @@ module _ (o : Origin) (e : Entering) (failed : Bool) (well : failed ≡ false) (
     now = ss ++ new_stay entered since ∷ [];
     left = [];
     lone = λ was. inl refl;
-    judged = inr (find_of e (AcceptedWith entered.replayed), filter-append judging (log_of out).finds (find_of e (AcceptedWith entered.replayed) ∷ []), judged-more ss (new_stay entered since));
+    judged = inr (find_of e (AcceptedWith entered.replayed), filter-append judging (log_of out).finds (find_of e (AcceptedWith entered.replayed) ∷ []), judged-more ss (new_stay entered since), (tells_odometer (fewer-none (log_of out) (breaks_by (Seated entered clock entry) e) none) (AcceptedWith entered.replayed)).1);
     verdicts = λ valid h waits was.
         let x = told.found.card_image in
         let shown = h.shows x told.found.there in
@@ -241,7 +241,7 @@ module _ (o : Origin) (e : Entering) (failed : Bool) (well : failed ≡ false) (
         let marks : after.marks.items ≡ out.marks.items ++ card_marks e.which clock entered.owed.items =
         ap (λ (p : Outcome). p.marks.items) behind ∙ marks-are e.which clock entered.owed.items entered.replayed out.marks told.whole (omega (arith, room, most)) in
         let x = owes before entered told (subst (λ (ms : List Mark). All (λ (d : Entry). IsMarked ms (device_of e.which) d.minute) entered.owed.items) (sym marks) (own-marks e.which clock out.marks.items entered.owed.items)) in (
-          (let line = tells_odometer before (AcceptedWith entered.replayed) in true-more t e.which ss (new_stay entered since) all.0 (line.0, tt, tt, line.1)),
+          true-more t ss (new_stay entered since) all.0 ((tells_odometer before (AcceptedWith entered.replayed)).0, tt, tt),
           owes-more (t.owed e.which) vehicle (own_sizes f.image).activity ss (new_stay entered since) (start_shown f.image) all.1
               (subst (λ (b : Book). t.owed e.which (find_of e (AcceptedWith entered.replayed)) (mark_of b) entered.owed.items) ((shown told.valid).shows x.0 x.1).0 x.2),
         );

@@ -29,8 +29,8 @@ use Rattle.run_within.specs.Judging.{IsNext}
 use Rattle.run_course.proofs.Logs.{all-before}
 use Rattle.run_ringed.proofs.Stored.{AtEnd, nothing, push, at-end}
 use Rattle.run_acts.specs.Words.{withdraws, begun_in}
-use Rattle.run_acts.specs.Truths.{Truths, PutsIn, IsLineOf}
-use Rattle.run_acts.specs.Stays.{Stay, Shown, Coming, comings_of, lines_of, after_stay, AreMerged, IsTrueOf}
+use Rattle.run_acts.specs.Truths.{PutsIn, IsLineOf}
+use Rattle.run_acts.specs.Stays.{Stay, Shown, Coming, comings_of, lines_of, after_stay, AreMerged, judged_in}
 use Rattle.run_acts.proofs.NotesThen.{get-at}
 use Rattle.run_acts.proofs.Since.{IsToldLast, IsPutAndTold, HasSat, slot-itself, nat-itself, line-own}
 
@@ -255,10 +255,14 @@ module _ (seconds : List TraceSecond) (s : TraceSecond) (finds : List Find) (act
 pub last-found : (front : List Stay) (x : Stay) (ss : List Stay) → ss ≡ front ++ x ∷ [] → found_of_all ss ≡ found_of_all front ++ x.found ∷ []
 last-found front x ss are = ap found_of_all are ∙ found-more front x
 
--- the lines of true stays are true
-pub lines-own : (t : Truths) (c : Card) (ss : List Stay) → AllByRecursion (IsTrueOf t c) ss → AllByRecursion (t.entered c) (found_of_all ss)
-lines-own t c [] all = tt
-lines-own t c (s ∷ ss) all = (all.0.3, lines-own t c ss all.1)
+-- what holds of each line by which a card was judged holds of those of its stays
+lines-behind : (P : Find → Type 0) (fs rest : List Find) → AllByRecursion P (fs ++ rest) → AllByRecursion P rest
+lines-behind P [] rest all = all
+lines-behind P (f ∷ fs) rest all = lines-behind P fs rest all.1
+
+pub lines-own : (P : Find → Type 0) (ss : List Stay) (since : List Find) → AllByRecursion P (judged_in ss since) → AllByRecursion P (found_of_all ss)
+lines-own P [] since all = tt
+lines-own P (s ∷ ss) since all = let own = lines-behind P s.turned (s.found ∷ judged_in ss since) all in (own.0, lines-own P ss since own.1)
 
 -- ---- ONE SECOND alone has a number
 pub only-second : (from : ℕ) (done : List TraceSecond) (s : TraceSecond) → AreInOrder from done → s.number ≡ from + length done → (x : TraceSecond) → Contains (done ++ s ∷ []) x → x.number ≡ s.number → x ≡ s

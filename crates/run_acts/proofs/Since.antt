@@ -26,7 +26,7 @@ use Rattle.run_moments.specs.Reached.{course_at, course_with, moved_at, moved_wi
 use Rattle.run_rings.proofs.Notes.{Finding, seen_of, answered-found}
 use Rattle.run_acts.specs.Words.{withdraws, begun_in}
 use Rattle.run_acts.specs.Truths.{PutsIn}
-use Rattle.run_acts.proofs.TurnSeconds.{all-both}
+use Rattle.run_acts.proofs.Stays.{all-both}
 use Rattle.run_acts.proofs.NotesThen.{Parts, split, get-at}
 
 -- ---- tests of lists

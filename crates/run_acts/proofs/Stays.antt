@@ -22,7 +22,6 @@ use Rattle.run_rule.specs.Found.{CardFound}
 use Rattle.run_keeping.specs.CardDeeds.{made_by, is_open_in, ShowsBook, DoesOn, keeps, last_odometer, opens, OpensOn, ClosesOn}
 use Rattle.run_keeping.specs.Deeds.{KeepsOn}
 use Rattle.run_keeping.proofs.CardDeeds.{made-append, keeps-append, last-append}
-use Rattle.trace_model.specs.declared.Card.{Card}
 use Rattle.log_model.specs.declared.lines.Find.{Find}
 use Rattle.log_model.specs.declared.lines.Verdict.TheVariants.{Accepted as AcceptedWith}
 use Rattle.run_acts.specs.Closings.{Spell, last_shut, with_last_shut, last_slot}
@@ -206,6 +205,11 @@ pub last-shut-slot : (u : ℕ) (ss : List Spell) → last_slot (with_last_shut u
 last-shut-slot u [] = refl
 last-shut-slot u (s ∷ ss) = shut-slot u s ss
 
+-- what holds of two lists holds of both
+pub all-both : {X : Type 0} (P : X → Type 0) (xs ys : List X) → AllByRecursion P xs → AllByRecursion P ys → AllByRecursion P (xs ++ ys)
+all-both P [] ys hx hy = hy
+all-both P (x ∷ xs) ys hx hy = (hx.0, all-both P xs ys hx.1 hy)
+
 -- the slot of the last spell is that of the last stay
 pub last-spelled : (front : List Stay) (s : Stay) → last_slot (spells (front ++ s ∷ [])) ≡ Some s.found.slot
 last-spelled [] s = refl
@@ -214,44 +218,44 @@ last-spelled (t ∷ x ∷ front) s = last-spelled (x ∷ front) s
 
 -- ---- what is true of them
 
-true-last : (t : Truths) (c : Card) (f : Stay → Stay) → (x : Stay) (ss : List Stay) → ((s : Stay) (front : List Stay) → x ∷ ss ≡ front ++ s ∷ [] → IsTrueOf t c s → IsTrueOf t c (f s)) → AllByRecursion (IsTrueOf t c) (x ∷ ss) → AllByRecursion (IsTrueOf t c) (last_as f x ss)
+true-last : (t : Truths) (f : Stay → Stay) → (x : Stay) (ss : List Stay) → ((s : Stay) (front : List Stay) → x ∷ ss ≡ front ++ s ∷ [] → IsTrueOf t s → IsTrueOf t (f s)) → AllByRecursion (IsTrueOf t) (x ∷ ss) → AllByRecursion (IsTrueOf t) (last_as f x ss)
 unfolding last_as
-true-last t c f x [] goes all = (goes x [] refl all.0, tt)
-true-last t c f x (y ∷ ss) goes all = (all.0, true-last t c f y ss (λ s front is was. goes s (x ∷ front) (ap (λ (l : List Stay). x ∷ l) is) was) all.1)
+true-last t f x [] goes all = (goes x [] refl all.0, tt)
+true-last t f x (y ∷ ss) goes all = (all.0, true-last t f y ss (λ s front is was. goes s (x ∷ front) (ap (λ (l : List Stay). x ∷ l) is) was) all.1)
 
 -- what becomes of the last stay is true
-pub on-last-true : (t : Truths) (c : Card) (f : Stay → Stay) → (ss : List Stay) → ((s : Stay) (front : List Stay) → ss ≡ front ++ s ∷ [] → IsTrueOf t c s → IsTrueOf t c (f s)) → AllByRecursion (IsTrueOf t c) ss → AllByRecursion (IsTrueOf t c) (on_last f ss)
+pub on-last-true : (t : Truths) (f : Stay → Stay) → (ss : List Stay) → ((s : Stay) (front : List Stay) → ss ≡ front ++ s ∷ [] → IsTrueOf t s → IsTrueOf t (f s)) → AllByRecursion (IsTrueOf t) ss → AllByRecursion (IsTrueOf t) (on_last f ss)
 unfolding on_last
-on-last-true t c f [] goes all = tt
-on-last-true t c f (x ∷ ss) goes all = true-last t c f x ss goes all
+on-last-true t f [] goes all = tt
+on-last-true t f (x ∷ ss) goes all = true-last t f x ss goes all
 
-pub true-more : (t : Truths) (c : Card) (ss : List Stay) (s : Stay) → AllByRecursion (IsTrueOf t c) ss → IsTrueOf t c s → AllByRecursion (IsTrueOf t c) (ss ++ s ∷ [])
-true-more t c [] s all one = (one, tt)
-true-more t c (x ∷ ss) s all one = (all.0, true-more t c ss s all.1 one)
+pub true-more : (t : Truths) (ss : List Stay) (s : Stay) → AllByRecursion (IsTrueOf t) ss → IsTrueOf t s → AllByRecursion (IsTrueOf t) (ss ++ s ∷ [])
+true-more t [] s all one = (one, tt)
+true-more t (x ∷ ss) s all one = (all.0, true-more t ss s all.1 one)
 
 kepts-more : (t : Truths) (ks more : List Kept) → AllByRecursion t.kept ks → AllByRecursion t.kept more → AllByRecursion t.kept (ks ++ more)
 kepts-more t [] more all others = others
 kepts-more t (k ∷ ks) more all others = (all.0, kepts-more t ks more all.1 others)
 
 -- with more minutes
-pub true-kepts : (t : Truths) (c : Card) (ks : List Kept) → AllByRecursion t.kept ks → (s : Stay) → IsTrueOf t c s → IsTrueOf t c (with_kepts ks s)
-true-kepts t c ks all s h = (h.0, kepts-more t s.kepts ks h.1 all, h.2, h.3)
+pub true-kepts : (t : Truths) (ks : List Kept) → AllByRecursion t.kept ks → (s : Stay) → IsTrueOf t s → IsTrueOf t (with_kepts ks s)
+true-kepts t ks all s h = (h.0, kepts-more t s.kepts ks h.1 all, h.2)
 
 -- and so it stays
 kepts-grow : (t u : Truths) → Grow t u → (ks : List Kept) → AllByRecursion t.kept ks → AllByRecursion u.kept ks
 kepts-grow t u g [] all = tt
 kepts-grow t u g (k ∷ ks) all = (g.kept k all.0, kepts-grow t u g ks all.1)
 
-true-grows : (t u : Truths) → Grow t u → (c : Card) (s : Stay) → IsTrueOf t c s → IsTrueOf u c s
-true-grows t u g c s h = (g.accepted s.found s.odometer h.0, kepts-grow t u g s.kepts h.1, by s.closed h.2, g.entered c s.found h.3)
+true-grows : (t u : Truths) → Grow t u → (s : Stay) → IsTrueOf t s → IsTrueOf u s
+true-grows t u g s h = (g.accepted s.found s.odometer h.0, kepts-grow t u g s.kepts h.1, by s.closed h.2)
   where
     by : (q : Option Shut) → IfSome q (λ x. t.closed s.found x.second x.word) → IfSome q (λ x. u.closed s.found x.second x.word)
     by None is = tt
     by (Some x) is = g.closed s.found x.second x.word is
 
-pub all-true-grow : (t u : Truths) → Grow t u → (c : Card) (ss : List Stay) → AllByRecursion (IsTrueOf t c) ss → AllByRecursion (IsTrueOf u c) ss
-all-true-grow t u g c [] all = tt
-all-true-grow t u g c (s ∷ ss) all = (true-grows t u g c s all.0, all-true-grow t u g c ss all.1)
+pub all-true-grow : (t u : Truths) → Grow t u → (ss : List Stay) → AllByRecursion (IsTrueOf t) ss → AllByRecursion (IsTrueOf u) ss
+all-true-grow t u g [] all = tt
+all-true-grow t u g (s ∷ ss) all = (true-grows t u g s all.0, all-true-grow t u g ss all.1)
 
 -- ---- the comings
 

@@ -120,7 +120,8 @@ use Rattle.run_acts.specs.Booked.{IsBookedTurn}
 use Rattle.run_acts.specs.Turning.{IsLitTurn}
 use Rattle.run_acts.specs.Evented.{EventsLitTurn, CutEvented}
 use Rattle.run_acts.proofs.TurnRecorded.{reach-is, books-is, between-is, new-is, after-is}
-use Rattle.run_acts.proofs.TurnSeconds.{one-events, all-both, well, then_, last-events, crew-x, valid-x, low-x, front-now}
+use Rattle.run_acts.proofs.Stays.{all-both}
+use Rattle.run_acts.proofs.TurnSeconds.{one-events, well, then_, last-events, crew-x, valid-x, low-x, front-now}
 
 -- ---- a span that goes on
 evented-lit : (o : Origin) (done : List TraceSecond) (log : RunLog) (unfound next : ℕ) (t u : Second) (xs ys : List Second) (d : Devices) → Evented o done log unfound next (IsLit (t ∷ xs)) d → Evented o done log unfound next (IsLit (u ∷ ys)) d

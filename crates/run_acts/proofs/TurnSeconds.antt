@@ -58,6 +58,7 @@ use Rattle.run_acts.specs.Recording.{log_of, values_of, IsOrigin}
 use Rattle.run_acts.specs.Rounds.{moment_of, keeping_of}
 use Rattle.run_acts.specs.Turning.{late_moment, told_of, cut_where, cut_breaks}
 use Rattle.run_acts.specs.Evented.{IsWatching, span_of, TurnedEvents}
+use Rattle.run_acts.proofs.Stays.{all-both}
 use Rattle.run_acts.proofs.EventCrews.{AllSitWell, crew-sits}
 use Rattle.run_acts.proofs.RoundFaults.{IsUntoldAt, HasCome}
 use Rattle.std.specs.Prelude.{◌||◌}
@@ -96,10 +97,6 @@ IsApart u b = (n : ℕ) (slot : Slot) → tears_here u (In n) slot b ≡ false
 or-false : (b : Bool) → (b || false) ≡ b
 or-false true = refl
 or-false false = refl
-
-pub all-both : {X : Type 0} (P : X → Type 0) (xs ys : List X) → AllByRecursion P xs → AllByRecursion P ys → AllByRecursion P (xs ++ ys)
-all-both P [] ys hx hy = hy
-all-both P (x ∷ xs) ys hx hy = (hx.0, all-both P xs ys hx.1 hy)
 
 more-torn : (u : ℕ) (log : RunLog) (more : List Break) → AllByRecursion (IsApart u) more → (n : ℕ) (slot : Slot) → is_torn_in (and_breaks log more) u (In n) slot ≡ is_torn_in log u (In n) slot
 more-torn u log [] all n slot = ap (λ (bs : List Break). is_torn_in (record log { breaks = bs }) u (In n) slot) (append-nil log.breaks)

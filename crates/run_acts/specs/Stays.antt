@@ -174,14 +174,13 @@ IsPlaced notes cabin c = (slot : Slot) → is_some (session_of cabin.cards c) �
 
 -- ---- what is true of them
 
--- A STAY of a card IS TRUE: its acceptance told the odometer of then, each of its minutes that of its end, it was closed with the word of its slot, and its
--- line is of the card's own entering.
-abbrev pub IsTrueOf : Truths → Card → Stay → Type 0
-IsTrueOf t c s = t.accepted s.found s.odometer × AllByRecursion t.kept s.kepts × IfSome s.closed (λ x. t.closed s.found x.second x.word) × t.entered c s.found
+-- A STAY IS TRUE: its acceptance told the odometer of then, each of its minutes that of its end, and it was closed with the word of its slot.
+abbrev pub IsTrueOf : Truths → Stay → Type 0
+IsTrueOf t s = t.accepted s.found s.odometer × AllByRecursion t.kept s.kepts × IfSome s.closed (λ x. t.closed s.found x.second x.word)
 
 -- SO IS EACH of these, of a card with this image at the start; and what was owed at it was owed so
 abbrev pub AreTrue : Truths → Card → Registration → (image : List ℕ) → List Stay → Type 0
-AreTrue t c vehicle image ss = AllByRecursion (IsTrueOf t c) ss × AreOwed (t.owed c) vehicle (own_sizes image).activity ss (start_shown image)
+AreTrue t c vehicle image ss = AllByRecursion (IsTrueOf t) ss × AreOwed (t.owed c) vehicle (own_sizes image).activity ss (start_shown image)
 
 -- ---- the vehicle before
 
@@ -259,6 +258,8 @@ pub record AreStays (o : Origin) (t : Truths) (second : ℕ) (notes : List Note)
   pub since : Card → List Find
   pub lone : (c : Card) → (since c ≡ []) ⊎ IsOwnValid (found_of o.found c).image
   pub judged : AreMerged lines (judged_in (stays A) (since A)) (judged_in (stays B) (since B))
+  -- each of these lines is of the card's own entering
+  pub entered : (c : Card) → AllByRecursion (t.entered c) (judged_in (stays c) (since c))
   pub verdicts : (c : Card) → IsOwnValid (found_of o.found c).image → AreJudged vehicle (own_sizes (found_of o.found c).image).activity (stays c) (since c) (start_shown (found_of o.found c).image)
   pub waits : (c : Card) → IsOwnValid (found_of o.found c).image → is_some (session_of cabin.cards c) ≡ true → since c ≡ []
   pub befores : TellsBefores (HasRing insertion_ring o.recording.unit) o.recording.unit acceptances vehicle (λ (c : Card). (found_of o.found c).image) stays d.unit

@@ -26,7 +26,7 @@ use Rattle.safety_model.specs.Recording.{brought}
 use Rattle.run_acts.specs.Owed.{IsOwed}
 
 -- WHAT IS TRUE of an acceptance (the odometer then), of a minute kept, of a closing (the line of the acceptance, the second and the word), of what was owed
--- to a card (the line, its end mark then, and the entries), and of the line of a card's acceptance
+-- to a card (the line, its end mark then, and the entries), and of the line by which a card was judged
 pub record Truths : Type 1 where
   pub accepted : Find → (odometer : ℕ) → Type 0
   pub kept : Kept → Type 0
