@@ -241,10 +241,13 @@ fn keep_whole(alloc: Global, unit: &mut MemMedium, kept: &KeptMinute) -> Result<
     let before = unit.calls();
     let (first, _) = keep(&mut *unit, kept)?;
     let end = unit.calls();
+    if first < before || end < before {
+        return Err(Fail::from("too many calls"));
+    }
     let new = recorded(alloc, unit)?;
     Ok(Whole {
-        first: first.saturating_sub(before),
-        end: end.saturating_sub(before),
+        first: first - before,
+        end: end - before,
         old,
         new,
     })
