@@ -1,6 +1,6 @@
 //! What is sent of a message, of which a part was read: the whole in one frame, or a piece.
 ghost use Rattle.std.specs.Prelude.{◌≡◌, ℕ, ◌+◌, ◌-◌, ◌*◌, ◌<◌, ◌≤◌, ◌++◌, List, length, take, Option};
-ghost use Rattle.link_model.specs.Answers.{refuses, number_of, sends_on};
+ghost use Rattle.link_model.specs.Answers.{refuses, sends_on};
 ghost use Rattle.answer_table.specs.Steps.{state_of, begins};
 ghost use Rattle.answer_table.specs.Sending.{reply_of, IsPart, sends_piece};
 
@@ -8,7 +8,7 @@ use crate::standing::Standing;
 use crate::table::{ACKNOWLEDGE, MESSAGE, NO_MESSAGE, TRANSFER};
 use arrayvec::ArrayVec;
 use link_frames::Frame;
-use link_model::Request;
+use link_model::{Request, number_of};
 
 /// The most bytes of a message behind 76 and its number that go in one frame.
 pub const MOST: usize = 252;
@@ -104,17 +104,4 @@ fn framed(header: &[u8], bytes: &[u8]) -> Frame
     let _ = data.try_extend_from_slice(header);
     let _ = data.try_extend_from_slice(bytes);
     Frame::new(data.as_slice())
-}
-
-// The number of a request's message.
-fn number_of(request: Request) -> u8
-    ensures { result ≡ number_of request }
-{
-    match request {
-        Request::Overview => 1,
-        Request::Day(_) => 2,
-        Request::Events => 3,
-        Request::Speed => 4,
-        Request::Technical => 5,
-    }
 }

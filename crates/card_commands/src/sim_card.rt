@@ -64,12 +64,14 @@ impl<M: Medium> SimCard<M> {
         }
     }
 
+    /// The medium of the card's memory.
     pub fn medium(&self) -> &M
         ensures { result.now ≡ self.now.medium }
     {
         &self.medium
     }
 
+    /// The medium alone; what the card has selected is forgotten.
     pub fn into_medium(self) -> M
         ensures { result ≡ self.medium }
     {

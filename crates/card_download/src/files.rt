@@ -1,7 +1,7 @@
 //! The entries of a card file, copied from a card's flat image to a sink.
 ghost use Rattle.std.specs.Prelude.{◌≡◌, ◌≤◌, ◌<◌, ◌+◌, ◌^◌, true, length, IfSome, OnOk, OnErr, IfErr, IsErrOf};
 ghost use Rattle.card_layout.specs.Application.{IsApplication};
-ghost use Rattle.card_layout.specs.Files.{image_size_of, place_of, size_of};
+ghost use Rattle.card_layout.specs.Files.{image_size_of};
 ghost use Rattle.tach_media.specs.Medium.{Reads, Rose, bytes_at};
 ghost use Rattle.card_image.specs.CardFile.{card_file};
 ghost use Rattle.card_download.specs.Copied.{Copies, CountsWrites, head_bytes, file_part};
@@ -10,7 +10,7 @@ ghost use Rattle.card_download.specs.declared.files.TheConstants.{BLOCK};
 
 use crate::fault::CopyFault;
 use byteorder::{BigEndian, ByteOrder};
-use card_files::{file_range, files};
+use card_files::{file_of, files};
 use card_layout::{Application, CardFile, Fid, Range};
 use tach_media::{Medium, Sink, put_all};
 
@@ -59,23 +59,9 @@ fn copy_file<M: Medium, K: Sink>(
     if file.fid.0 == Fid::DOWNLOAD.0 {
         return Ok(());
     }
-    let range = range_of(app, file.fid);
+    let range = file_of(app, file.fid);
     put(sink, &head(file.fid, range.len as u16))?;
     copy_range(range, medium, sink)
-}
-
-/// The range of a file, which is empty for an identifier that is not in the table.
-fn range_of(app: &Application, fid: Fid) -> Range
-    requires { IsApplication app.now }
-    ensures base { result.base ≡ place_of app.now fid }
-    ensures len { result.len ≡ size_of app.now fid }
-    ensures inside { result.base + result.len ≤ image_size_of app.now }
-    ensures short { result.base + result.len < 2 ^ 16 }
-{
-    match file_range(app, fid) {
-        Some(range) => range,
-        None => Range { base: 0, len: 0 },
-    }
 }
 
 /// The head of an entry: the file's identifier, the kind, and how many bytes follow.

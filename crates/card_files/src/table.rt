@@ -3,7 +3,8 @@ ghost use Rattle.std.specs.Prelude.{◌≡◌, ◌≢◌, ◌↔◌, ◌+◌, �
 ghost use Rattle.card_layout.specs.declared.files.Fid.{Fid};
 ghost use Rattle.card_layout.specs.declared.files.Range.{Range};
 ghost use Rattle.card_layout.specs.Files as spec;
-ghost use Rattle.card_layout.specs.Files.{files_of, range_from, total_size, range_of, image_size_of, is_listed, AreApart};
+ghost use Rattle.card_layout.specs.Application.{IsApplication};
+ghost use Rattle.card_layout.specs.Files.{files_of, range_from, total_size, range_of, place_of, size_of, image_size_of, is_listed, AreApart};
 
 use card_layout::{Application, CardFile, Fid, Range};
 
@@ -64,6 +65,19 @@ pub fn file_range(app: &Application, fid: Fid) -> Option<Range>
     ensures apart { IfSome result (λ r. (other : Fid) (b : Range) → fid.0 ≢ other.0 → range_of app.now other ≡ Some b → AreApart r b) }
 {
     range_in(&files(app), fid)
+}
+
+/// The range of a file, which is empty for an identifier that is not in the table.
+pub fn file_of(app: &Application, fid: Fid) -> Range
+    ensures base { result.base ≡ place_of app.now fid }
+    ensures len { result.len ≡ size_of app.now fid }
+    ensures inside { result.base + result.len ≤ image_size_of app.now }
+    ensures short { IsApplication app.now → result.base + result.len < 2 ^ 16 }
+{
+    match file_range(app, fid) {
+        Some(range) => range,
+        None => Range { base: 0, len: 0 },
+    }
 }
 
 /// The range of a file among files that stand one after the other.

@@ -1,7 +1,7 @@
 //! The files of a card whose image lies in memory.
 ghost use Rattle.std.specs.Prelude.{◌≡◌, ◌≤◌, ◌<◌, ◌+◌, ◌^◌, length, Some, None, IfOk, IfErr, IfSome, IfNone, IsTrue, IsFalse};
 ghost use Rattle.card_layout.specs.Application.{IsApplication};
-ghost use Rattle.card_layout.specs.Files.{image_size_of, place_of, size_of};
+ghost use Rattle.card_layout.specs.Files.{image_size_of};
 ghost use Rattle.gated_ring.specs.Ring.{pointer, PointsInside, IsNewest, entry_at};
 ghost use Rattle.card_model.specs.Checks.{first_bad};
 ghost use Rattle.card_model.specs.Image.{oldest_pointer};
@@ -15,8 +15,8 @@ use crate::BadFile;
 use crate::round::Round;
 use crate::words::first_bad_word;
 use byteorder::{BigEndian, ByteOrder};
-use card_files::file_range;
-use card_layout::{Application, Fid, Range};
+use card_files::file_of;
+use card_layout::{Application, Fid};
 use card_records::{CurrentUse, Vehicle, places, read_current_use, read_vehicle, vehicles};
 use cyclic_days::{Days, DaysFault};
 use gated_ring::{Ring, RingFault};
@@ -32,18 +32,6 @@ pub struct Judged {
     pub newest: Option<u32>,
     pub vehicle: Option<Vehicle>,
     pub current: CurrentUse,
-}
-
-// The range of a file, which is empty for an identifier that is not in the table.
-pub(crate) fn file_of(app: &Application, fid: Fid) -> Range
-    ensures base { result.base ≡ place_of app.now fid }
-    ensures len { result.len ≡ size_of app.now fid }
-    ensures inside { result.base + result.len ≤ image_size_of app.now }
-{
-    match file_range(app, fid) {
-        Some(range) => range,
-        None => Range { base: 0, len: 0 },
-    }
 }
 
 // The string of days, or the place in its file where it first fails.

@@ -11,8 +11,9 @@ ghost use Rattle.card_image.specs.Judging.{first_bad_file};
 ghost use Rattle.card_judge.specs.Faults.{IfNotValid, IfTimeOverlap, has_failed};
 ghost use Rattle.card_judge.specs.Judged.{IsCopy, TellsSizes, IsSized, IsKnown, IsJudged, IsLook};
 
-use crate::files::{file_of, last_use};
+use crate::files::last_use;
 use crate::{BadFile, InsertFault, Judged, judge_image};
+use card_files::file_of;
 use card_layout::{Application, Fid, LARGEST_IMAGE};
 use card_records::Vehicle;
 use tach_media::{Failed, Medium};

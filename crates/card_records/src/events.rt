@@ -7,8 +7,8 @@ ghost use Rattle.card_records.specs.Rings.{file, set_of, set_size, event_ring};
 ghost use Rattle.card_records.specs.Noting.{HoldsEvent, TakesPlace, IsNotingEvent, IsEventNoted};
 
 use crate::event_set::{BEGIN, earliest, holds};
-use crate::rings::file_of;
 use crate::{CardEvent, write_event};
+use card_files::file_of;
 use card_layout::{Application, Fid};
 use gated_ring::Ring;
 use tach_media::{AbsentMedium, Failed, Medium};

@@ -9,8 +9,8 @@ ghost use Rattle.card_records.specs.Rings.{file, vehicle_ring, place_ring};
 ghost use Rattle.card_records.specs.Noting.{IsNotingPlace, IsPlaceNoted};
 
 use crate::Vehicle;
-use card_files::file_range;
-use card_layout::{Application, Fid, Range};
+use card_files::file_of;
+use card_layout::{Application, Fid};
 use gated_ring::{Ring, RingFault};
 use tach_media::{Failed, Medium};
 use tacho_types::{PlaceEntry, write_place};
@@ -24,18 +24,6 @@ const VEHICLE_FIRST_USE: u32 = 6;
 const PLACE_POINTER: u8 = 1;
 
 const PLACE_TIME: u32 = 0;
-
-// The range of a file, which is empty for an identifier that is not in the table.
-pub(crate) fn file_of(app: &Application, fid: Fid) -> Range
-    ensures base { result.base ≡ place_of app.now fid }
-    ensures len { result.len ≡ size_of app.now fid }
-    ensures inside { result.base + result.len ≤ image_size_of app.now }
-{
-    match file_range(app, fid) {
-        Some(range) => range,
-        None => Range { base: 0, len: 0 },
-    }
-}
 
 /// The vehicle entries, in Vehicles_Used. It writes nothing.
 ///

@@ -3,8 +3,7 @@ ghost use Rattle.std.specs.Prelude.{◌≤◌, ◌<◌, ◌+◌, ◌*◌, length
 ghost use Rattle.gated_ring.specs.Ring.{is_pointer_width};
 
 use super::*;
-use crate::rings::file_of;
-use card_files::image_size;
+use card_files::{file_of, image_size};
 use card_layout::{Application, Fid};
 use gated_ring::{Ring, RingFault};
 use std::alloc::Global;

@@ -9,9 +9,10 @@ use card_judge::date_of;
 use cyclic_days::Tail;
 use tacho_types::Distance;
 
-/// The seconds and the minutes of a day.
+/// The seconds of a day.
 pub const DAY_SECONDS: u32 = 86400;
 
+/// The minutes of a day.
 pub const DAY_MINUTES: u32 = 1440;
 
 /// The latest minute that is kept: the closing word, a minute later, has a time in seconds still.

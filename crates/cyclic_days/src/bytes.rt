@@ -19,7 +19,7 @@ pub fn read_two<M: Medium>(medium: &mut M, place: u32) -> Result<u32, Failed>
     Ok(number_of(&bytes))
 }
 
-// The number that two bytes spell.
+/// The number that two bytes spell.
 pub fn number_of(bytes: &[u8]) -> u32
     requires { length bytes.now ≡ 2 }
     ensures value { result ≡ number bytes.now }

@@ -19,7 +19,7 @@ use card_model::lengths::DAY_MOST;
 use std::marker::Model;
 use tach_media::{Failed, Medium};
 
-// The circle of bytes of a string in a medium, and what a walk over its days meets.
+/// The circle of bytes of a string in a medium, and what a walk over its days meets.
 #[derive(Drop)]
 pub struct Circle {
     base: u32,

@@ -29,7 +29,7 @@ pub struct Tail {
     pub used: u32,
 }
 
-// The numbers in the twelve bytes before the change words.
+/// The numbers in the twelve bytes before the change words.
 #[derive(Clone, Copy)]
 pub struct RecordHead {
     pub previous: u16,
@@ -42,7 +42,7 @@ pub struct RecordHead {
 impl RecordHead {
     ghost use Rattle.cyclic_days.specs.Heads.{head_bytes, day_head_of};
 
-    // The numbers in twelve bytes.
+    /// The numbers in twelve bytes.
     pub fn new(bytes: &[u8]) -> RecordHead
         requires { length bytes.now ≡ 12 }
         ensures bytes { head_bytes result ≡ bytes.now }
@@ -57,7 +57,7 @@ impl RecordHead {
         }
     }
 
-    // The head of the day that begins there.
+    /// The head of the day that begins there.
     pub fn at(&self, place: u32) -> DayHead
         ensures { result ≡ day_head_of self.now place }
     {

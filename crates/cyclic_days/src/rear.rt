@@ -14,14 +14,14 @@ use tach_media::{Failed, Medium};
 /// How many bytes of the string are read at once: as many as a card's command gives.
 pub const BLOCK: usize = 256;
 
-// Bytes of the string that were read, from a place on.
+/// Bytes of the string that were read, from a place on.
 #[derive(Clone, Copy)]
 pub struct Block {
     pub place: u32,
     pub bytes: [u8; BLOCK],
 }
 
-// The newest end of a string as it was read: both pointers, the head of the newest day, and bytes of the string.
+/// The newest end of a string as it was read: both pointers, the head of the newest day, and bytes of the string.
 #[derive(Clone, Copy)]
 pub struct Rear {
     pub oldest: u32,
@@ -51,7 +51,7 @@ impl Block {
 }
 
 impl Rear {
-    // Whether there is a newest day, and it is later than a date.
+    /// Whether there is a newest day, and it is later than a date.
     pub fn is_later(&self, date: u64) -> bool
         ensures { result ≡ head_later date self.now.head }
     {

@@ -24,10 +24,12 @@ use Rattle.joint_rule.specs.Rules.{Standing, IsPresent, Cells}
 use Rattle.joint_rule.proofs.Viewed.{seen-run}
 use Rattle.joint_rule.proofs.KeepLaws.{owe-card, owe-dark, owe-other, owe-other_dark}
 use Rattle.unit_rule.proofs.Putting.{first_putting, second_putting, first_put, second_put}
-use Rattle.unit_rule.specs.Rule.{Started}
+use Rattle.unit_rule.specs.Rule.{Started, IsCards}
 use Rattle.unit_rule.specs.Marks.{Holds}
 use Rattle.unit_rule.proofs.Moves.{ended}
+use Rattle.unit_journal.proofs.Beside.{last_beside}
 use Rattle.unit_rule.proofs.Elsewhere.{rows-elsewhere, rows-issued, holds-elsewhere}
+use Rattle.unit_rule.proofs.RowsOn.{rows-put}
 use Rattle.device_steps.specs.Rule.{Both, opened, number_of, unit_seen, AnyString, CardHolds, IsKeptUp}
 
 -- the row of a card is that of its number
@@ -57,8 +59,9 @@ row-still (Ok t) o None number e same said r n at = tt
 row-still (Err f) o p number e same said r n at = tt
 
 -- the unit's rule, whatever the cards
-pub owed-holds : (s : Started) {U V : State} (due : ℕ) (b : Book) (marks : List Mark) (number : List ℕ) (e : Entry) → IsCoherent U → LeavesOnly U V (IsPuttingRow number e) → Holds s due b marks U → Holds s due b marks V
-owed-holds s {U} {V} due b marks number e whole run h = holds-elsewhere s due b marks h whole (IsPuttingRow number e) run (λ x c is. (rows-elsewhere x c is.outside, rows-issued x c is.outside, is.decodes))
+pub owed-holds : (s : Started) {U V : State} (due : ℕ) (b : Book) (marks : List Mark) (number : List ℕ) (e : Entry) → IsCards s number → IsCoherent U → LeavesOnly U V (IsPuttingRow number e) → Holds s due b marks U → Holds s due b marks V
+owed-holds s {U} {V} due b marks number e whose whole run h = holds-elsewhere s due b marks h whole (IsPuttingRow number e) run (λ x c is. (rows-elsewhere x c is.outside, rows-issued x c is.outside, is.decodes))
+    (λ x c is. rows-put s number whose x c (last_beside x c (rows-elsewhere x c is.outside)) e is)
 
 module _ (r : Both) (c : Card) (number : List ℕ) (named : number ≡ number_of r c) {U V : State} (e : Entry) (some : 1440 ≤ e.minute) (whole : IsCoherent U) (j : Notes) (agrees : IfSome U.image (Agrees j))
     (s : Started) (due : ℕ) (b : Book) (marks : List Mark) (h : Holds s due b marks U) (late : due ≤ e.minute) (run : LeavesOnly U V (IsPuttingRow number e)) where

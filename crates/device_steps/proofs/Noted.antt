@@ -26,6 +26,7 @@ use Rattle.unit_rule.specs.Rule.{Started}
 use Rattle.unit_rule.specs.Marks.{Holds}
 use Rattle.unit_rule.proofs.Moves.{issued-parts}
 use Rattle.unit_rule.proofs.Elsewhere.{holds-elsewhere}
+use Rattle.unit_rule.proofs.RowsOn.{rows-beside}
 use Rattle.unit_rule.proofs.Found.{left-decodes}
 use Rattle.device_steps.specs.Rule.{Both, opened, number_of, unit_seen, card_seen, AnyString, CardHolds, CardRests}
 
@@ -71,7 +72,7 @@ noted-holds s {U} {V} due b marks whole run h = holds-elsewhere s due b marks h 
   same_journal x c is.keeps,
   issued-parts x c (front_part x c is.keeps 0 LAST_KEPT.place (omega arith)) (counts_noted x c is.keeps) (spare_noted x c is.keeps) is.keeps.behind,
   is.decodes,
-))
+)) (λ x c is. rows-beside s x c (rows_noted x c is.keeps) (last_beside x c (same_journal x c is.keeps)))
 
 module _ (r : Both) (c : Card) (s : Started) (due : ℕ) (b : Book) (marks : List Mark) (z : Standing) {U V : State} (X : State) (whole : IsCoherent U) (h : Holds s due b marks U) (run : LeavesOnly U V LeavesJournal) where
   abbrev Same : UnitView → UnitView → Type 0

@@ -1,5 +1,5 @@
 -- Power is back: the cards, as the unit is found and mended; and a card that was torn out, or read.
-use Rattle.std.proofs.Common.{◌≡◌, ℕ, ◌≤◌, Bool, true, false, Some, List, [], All, IfSome, refl, ap, subst, ◌∙◌, sym}
+use Rattle.std.proofs.Common.{◌≡◌, ℕ, ◌≤◌, Bool, true, false, not, Some, List, [], All, IfSome, refl, ap, subst, ◌∙◌, sym}
 use Rattle.trace_model.specs.declared.Card.{Card}
 use Rattle.trace_model.specs.declared.Card.TheVariants.{A, B}
 use Rattle.tach_media.specs.Medium.{State, IsCoherent, LeavesOnly, Unchanged}
@@ -21,17 +21,34 @@ use Rattle.joint_rule.proofs.CardLaws.{look-dark}
 use Rattle.joint_rule.proofs.UnitLaws.{sure-found}
 use Rattle.joint_rule.proofs.EnterLaws.{tear-card, found-dark, mend-dark, mend-card}
 use Rattle.unit_rule.proofs.Mended.{mending_view, mended_view}
-use Rattle.unit_rule.specs.Rule.{Started, seen_unit}
+use Rattle.unit_rule.specs.Rule.{Started, seen_unit, HasRowsMended}
 use Rattle.unit_rule.specs.Marks.{Holds}
 use Rattle.unit_rule.proofs.Moves.{ended, shown-last}
 use Rattle.unit_rule.proofs.Found.{one-image}
-use Rattle.unit_rule.proofs.Marking.{holds-aside}
+use Rattle.unit_rule.proofs.Marking.{holds-aside, holds-mended}
 use Rattle.unit_rule.proofs.Mending.{mending-aside}
-use Rattle.device_steps.specs.Rule.{Both, opened, number_of, unit_seen, card_seen, AnyString, CardHolds, CardRests, IsTakenUp}
+use Rattle.unit_rule.proofs.RowsOn.{rows-mends, rows-low}
+use Rattle.device_steps.specs.Rule.{Both, opened, number_of, unit_seen, card_seen, AnyString, CardHolds, CardRests, IsHeldMended, IsTakenUp}
 use Rattle.device_steps.proofs.MinuteKept.{any-later}
 
-pub mended-holds : (s : Started) {U V : State} (due : ℕ) (b : Book) (marks : List Mark) (j : Notes) → IsCoherent U → LeavesOnly U V (IsMendingImage j) → Holds s due b marks U → Holds s due b marks V
-mended-holds s {U} {V} due b marks j whole run h = holds-aside s due b marks h whole (IsMendingImage j) run (λ x c is. mending-aside j x c is)
+pub mended-holds : (s : Started) {U V : State} (due : ℕ) (b : Book) (marks : List Mark) (j : Notes) → IsCoherent U → LeavesOnly U V (IsMendingImage j) → Holds s due b marks U →
+    (failed : Bool) → IsCoherent V → V.works ≡ not failed → (failed ≡ false → IfSome U.image (λ x. IfSome V.image (IsMendedImage x))) → IsHeldMended s due b marks V
+mended-holds s {U} {V} due b marks j whole run h failed after works said = record { lit = λ well. holds-mended s due b marks V dark (low well); dark = dark }
+  where
+    dark : Holds s due b marks V
+    dark = holds-aside s due b marks h whole (IsMendingImage j) run (λ x c is. mending-aside j x c is) (λ x c is. rows-mends s j x c is)
+
+    no : true ≡ false → ⊥
+    no e = cc
+
+    ended-well : (b : Bool) → V.works ≡ not b → V.works ≡ true → b ≡ false
+    ended-well false is well = refl
+    ended-well true is well = absurd (no (sym well ∙ is))
+
+    low : V.works ≡ true → (c : List ℕ) → V.may_leave c → HasRowsMended s c
+    low well c left =
+        let was = ended IsMendedImage whole after well run (said (ended-well failed works well)) c left in
+        rows-low s was.0 c was.2 (h.rows was.0 (whole.counts_now s.began was.0 (h.unit_holds [] []).later was.1))
 
 pub mends-views : {U V : State} (j : Notes) → IsCoherent U → LeavesOnly U V (IsMendingImage j) → (a b : List ℕ) → LeavesViews (of_unit a b U) (of_unit a b V) IsMending
 mends-views {U} {V} j whole run a b = seen-run (unit_view a b) (IsMendingImage j) IsMending U V whole run (λ x d k. mending_view a b x d j k)

@@ -17,7 +17,7 @@ use Rattle.history_model.specs.Book.{Book, kept, broken}
 use Rattle.joint_rule.specs.Filling.{seen_by_unit}
 use Rattle.joint_rule.specs.Views.{other}
 use Rattle.joint_rule.specs.Rules.{Standing, Out, In, Torn, IsPresent}
-use Rattle.unit_rule.specs.Rule.{Started}
+use Rattle.unit_rule.specs.Rule.{Started, once_mended, IsCards}
 use Rattle.unit_rule.specs.Marks.{Holds}
 use Rattle.device_steps.specs.Rule.{Both, opened, number_of, CardHolds, CardRests}
 use Rattle.device_steps.specs.OnCard.{IsCarried}
@@ -44,11 +44,13 @@ known_after k i clock =
 -- BETWEEN TWO MINUTES, while the unit has power: nothing is owed to a card that is accepted and in its slot, and each card stands as it
 -- does.
 pub record AreBetween (k : Known) (c d : Card) (number_c number_d : List ℕ) (y z : Standing) (unit first second : State) : Type 0 where
-  pub holds : Holds k.started k.due k.book k.marks unit
+  pub holds : Holds (once_mended k.started) k.due k.book k.marks unit
   pub none : k.book.maybe ≡ None
   pub two : d ≡ other c
   pub named_first : number_c ≡ number_of k.both c
   pub named_second : number_d ≡ number_of k.both d
+  pub first_told : IsCards k.started number_c
+  pub second_told : IsCards k.started number_d
   pub one_rule : CardHolds k.both c k.book y [] [] unit first
   pub other_rule : CardHolds k.both d k.book z [] [] unit second
 
@@ -63,7 +65,7 @@ pub record SaysBoth (k : Known) (c d : Card) (i : HistoryMinute) (m : KeptMinute
 
 -- The unit has the minute, and these entries of it are owed to the cards.
 pub record AreOwed (k : Known) (c d : Card) (e f : Option Entry) (y z : Standing) (unit first second : State) : Type 0 where
-  pub holds : Holds k.started k.due k.book k.marks unit
+  pub holds : Holds (once_mended k.started) k.due k.book k.marks unit
   pub none : k.book.maybe ≡ None
   pub one_rule : CardHolds k.both c k.book y [] (option_to_list e) unit first
   pub other_rule : CardHolds k.both d k.book z [] (option_to_list f) unit second

@@ -12,7 +12,7 @@ ghost use Rattle.joint_rule.specs.Device.{LeavesViews};
 ghost use Rattle.joint_rule.specs.Steps.{IsBeginning};
 ghost use Rattle.joint_rule.specs.Rules.{Standing, Out, IsEntered};
 ghost use Rattle.joint_rule.specs.Views.{other};
-ghost use Rattle.unit_rule.specs.Rule.{Started};
+ghost use Rattle.unit_rule.specs.Rule.{Started, IsCards};
 ghost use Rattle.unit_rule.specs.Marks.{Holds};
 ghost use Rattle.device_steps.specs.Rule.{Both, opened, number_of, unit_seen, card_seen, CardHolds, IsKeptUp, IsRowTaken};
 
@@ -48,7 +48,7 @@ pub fn begin<M: Medium, C: Chip, D: Chip>(
     ensures agrees { OnOk result (IfSome (M.state unit.new).image (Agrees journal.old)) }
     ensures row { OnOk result (IfSome (M.state unit.new).image (IsRowAt row (card_number_bytes number.now))) }
     ensures spares { (r : ℕ) (n : List ℕ) → option_map (λ s. card_number_bytes s.now) spared.entry ≡ Some n → IfSome (M.state unit.old).image (IsRowAt r n) → OnOk result (IfSome (M.state unit.new).image (IsRowAt r n)) }
-    ensures holds { (s : Started) (due : ℕ) (b : Book) (marks : List Mark) → Holds s due b marks (M.state unit.old) → Holds s due b marks (M.state unit.new) }
+    ensures holds { (s : Started) (due : ℕ) (b : Book) (marks : List Mark) → IsCards s (card_number_bytes number.now) → Holds s due b marks (M.state unit.old) → Holds s due b marks (M.state unit.new) }
     ensures mine { (r : Both) (s : Started) (due : ℕ) (b : Book) (marks : List Mark) (newest : ℕ) → card_number_bytes number.now ≡ number_of r which → Holds s due b marks (M.state unit.old) → due ≤ session / 60 → CardHolds r which b Out [] [] (M.state unit.old) (C.state mine.now) → IsEntered (opened r which).start (opened r which).began session newest (card_seen (C.state mine.now))
         → IsRowTaken r which b session newest (is_err result) (M.state unit.new) (C.state mine.now) }
     ensures other { (r : Both) (s : Started) (due : ℕ) (b : Book) (marks : List Mark) (z : Standing) (m d : List Entry) → card_number_bytes number.now ≡ number_of r which → option_map (λ s. card_number_bytes s.now) spared.entry ≡ Some (number_of r (other which))

@@ -15,7 +15,7 @@ ghost use Rattle.joint_rule.specs.Steps.{IsKeeping};
 ghost use Rattle.joint_rule.specs.Marked.{of_unit};
 ghost use Rattle.joint_rule.specs.Filling.{seen_by_unit, KeepsMinute, GivesUpDay};
 ghost use Rattle.joint_rule.specs.Rules.{Standing, Fits};
-ghost use Rattle.unit_rule.specs.Rule.{Started};
+ghost use Rattle.unit_rule.specs.Rule.{Started, once_mended};
 ghost use Rattle.unit_rule.specs.Marks.{Holds};
 ghost use Rattle.unit_course.specs.Legs.{Travel};
 ghost use Rattle.unit_rule.specs.Odometer.{HasTravelled, odometer_by, odometer_after};
@@ -47,7 +47,7 @@ pub fn commit<M: Medium, C: Chip, D: Chip>(
     ensures notes { OnOk result ((journal.new.kept ≡ kept.now.minute) × (journal.new.odometer ≡ kept.now.odometer.0)) }
     ensures same { OnErr result (journal.new ≡ journal.old) }
     ensures agrees { OnOk result (IfSome (M.state unit.new).image (Agrees journal.new)) }
-    ensures holds { (s : Started) (due : ℕ) (b : Book) (marks : List Mark) (i : HistoryMinute) → kept_minute kept.now ≡ seen_by_unit i → Holds s due b marks (M.state unit.old) → b.maybe ≡ None → due ≤ i.minute
+    ensures holds { (s : Started) (due : ℕ) (b : Book) (marks : List Mark) (i : HistoryMinute) → kept_minute kept.now ≡ seen_by_unit i → Holds (once_mended s) due b marks (M.state unit.old) → b.maybe ≡ None → due ≤ i.minute
         → IsHeldUp s b marks i (is_err result) (M.state unit.new) }
     ensures first { (r : Both) (c : Card) (s : Started) (due : ℕ) (b : Book) (marks : List Mark) (i : HistoryMinute) (z : Standing) → kept_minute kept.now ≡ seen_by_unit i → Holds s due b marks (M.state unit.old) → b.maybe ≡ None → due ≤ i.minute
         → CardHolds r c b z (on_card c i) [] (M.state unit.old) (C.state first.now) → Fits c (opened r c).start z i → IsCommitted r c b i z (is_err result) (M.state unit.new) (C.state first.now) }

@@ -13,7 +13,7 @@ ghost use Rattle.history_model.specs.Minutes.{HistoryMinute};
 ghost use Rattle.history_model.specs.Book.{Book};
 ghost use Rattle.joint_rule.specs.Rules.{Standing, IsPresent};
 ghost use Rattle.joint_rule.specs.Views.{other};
-ghost use Rattle.unit_rule.specs.Rule.{Started};
+ghost use Rattle.unit_rule.specs.Rule.{Started, IsCards};
 ghost use Rattle.unit_rule.specs.Marks.{Holds};
 ghost use Rattle.device_steps.specs.Rule.{Both, opened, number_of, CardHolds, IsKeptUp};
 ghost use Rattle.device_steps.specs.Minute.{Known, known_after, AreBetween, SaysBoth, AreOwed, AreCutOff};
@@ -43,7 +43,7 @@ fn owe_some<M: Medium, C: Chip, D: Chip>(
     ensures unit { IsUnit (M.state unit.new) }
     ensures same { journal.new ≡ journal.old }
     ensures agrees { OnOk result (IfSome (M.state unit.new).image (Agrees journal.old)) }
-    ensures holds { (s : Started) (due : ℕ) (b : Book) (marks : List Mark) → Holds s due b marks (M.state unit.old) → Holds s due b marks (M.state unit.new) }
+    ensures holds { (s : Started) (due : ℕ) (b : Book) (marks : List Mark) → IsCards s (card_number_bytes number.now) → Holds s due b marks (M.state unit.old) → Holds s due b marks (M.state unit.new) }
     ensures mine { (r : Both) (s : Started) (due : ℕ) (b : Book) (marks : List Mark) (z : Standing) → card_number_bytes number.now ≡ number_of r which → Holds s due b marks (M.state unit.old)
         → IfSome entry (λ e. (due ≤ e.minute) × (1440 ≤ e.minute) × IsPresent (opened r which).start z e.minute) → CardHolds r which b z [] [] (M.state unit.old) (C.state mine.now)
         → IsKeptUp r which b z (option_to_list entry) [] (is_err result) (M.state unit.new) (C.state mine.now) }

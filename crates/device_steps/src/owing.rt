@@ -9,7 +9,7 @@ ghost use Rattle.log_model.specs.declared.lines.Mark.{Mark};
 ghost use Rattle.history_model.specs.Book.{Book};
 ghost use Rattle.joint_rule.specs.Rules.{Standing, IsPresent};
 ghost use Rattle.joint_rule.specs.Views.{other};
-ghost use Rattle.unit_rule.specs.Rule.{Started};
+ghost use Rattle.unit_rule.specs.Rule.{Started, IsCards};
 ghost use Rattle.unit_rule.specs.Marks.{Holds};
 ghost use Rattle.joint_rule.specs.Device.{LeavesViews};
 ghost use Rattle.joint_rule.specs.Steps.{IsPutting};
@@ -46,7 +46,7 @@ pub fn owe<M: Medium, C: Chip, D: Chip>(
     ensures unit { IsUnit (M.state unit.new) }
     ensures same { journal.new ≡ journal.old }
     ensures agrees { OnOk result (IfSome (M.state unit.new).image (Agrees journal.old)) }
-    ensures holds { (s : Started) (due : ℕ) (b : Book) (marks : List Mark) → Holds s due b marks (M.state unit.old) → Holds s due b marks (M.state unit.new) }
+    ensures holds { (s : Started) (due : ℕ) (b : Book) (marks : List Mark) → IsCards s (card_number_bytes number.now) → Holds s due b marks (M.state unit.old) → Holds s due b marks (M.state unit.new) }
     ensures mine { (r : Both) (s : Started) (due : ℕ) (b : Book) (marks : List Mark) (z : Standing) → card_number_bytes number.now ≡ number_of r which → Holds s due b marks (M.state unit.old)
         → due ≤ entry.now.minute → 1440 ≤ entry.now.minute → IsPresent (opened r which).start z entry.now.minute → CardHolds r which b z [] [] (M.state unit.old) (C.state mine.now)
         → IsKeptUp r which b z (entry.now ∷ []) [] (is_err result) (M.state unit.new) (C.state mine.now) }

@@ -5,8 +5,8 @@ ghost use Rattle.unit_messages.specs.Joining.{counter_in};
 ghost use Rattle.downloader.specs.Stages.{counter_at};
 ghost use Rattle.downloader.specs.Coming.{begins_as, piece_kind, request_kind, acknowledgement_kind, answer_kind, kind_at, kind_of, IsInOrder};
 
-use crate::stage::{MESSAGE, Stage, number_of};
-use link_model::Request;
+use crate::stage::{MESSAGE, Stage};
+use link_model::{Request, number_of};
 
 /// The length of a piece that another one follows.
 pub const FULL: usize = 255;

@@ -1,7 +1,6 @@
 //! What is sent at each stage of a download, and what comes next.
 ghost use Rattle.std.specs.Prelude.{◌≡◌, ◌<◌, ◌≤◌, length, IfSome};
 ghost use Rattle.byteorder.specs.Endian.{big_bytes};
-ghost use Rattle.link_model.specs.Answers.{number_of};
 ghost use Rattle.downloader.specs.Stages.{sent_at, request_bytes, acknowledgement, first_day, next_day, behind_lack, passed_over, behind_answer, counter_at};
 
 use link_frames::Frame;
@@ -99,19 +98,6 @@ fn acknowledgement(counter: u16) -> Frame
 {
     let [high, low] = counter.to_be_bytes();
     Frame::new(&[ACKNOWLEDGE, MESSAGE, high, low])
-}
-
-/// The number of a request's message.
-pub fn number_of(request: Request) -> u8
-    ensures { result ≡ number_of request }
-{
-    match request {
-        Request::Overview => 1,
-        Request::Day(_) => 2,
-        Request::Events => 3,
-        Request::Speed => 4,
-        Request::Technical => 5,
-    }
 }
 
 /// What is asked for behind an overview that tells this period.

@@ -17,7 +17,7 @@ const LONG: u8 = 0x80;
 
 const SHORT: u8 = 0x81;
 
-// The two bytes behind the first of a frame to this side.
+/// The two bytes behind the first of a frame to this side.
 pub fn addresses(end: End) -> [u8; 2]
     ensures { result ≡ second end ∷ third end ∷ [] }
 {
@@ -70,7 +70,7 @@ fn is_last(kept: &[u8], byte: u8) -> bool
     kept.len() + 1 == size
 }
 
-// The sum of bytes, modulo 256.
+/// The sum of bytes, modulo 256.
 pub fn sum_of(bytes: &[u8]) -> u8
     requires { length bytes.now ≤ KEPT }
     ensures { result ≡ sum bytes.now % 256 }
@@ -117,7 +117,7 @@ fn hear_byte(end: End, kept: &mut ArrayVec<u8, KEPT>, byte: u8) -> Option<Seen>
     None
 }
 
-// Hears bytes up to the end of the next frame, or all of them, and says how many were taken.
+/// Hears bytes up to the end of the next frame, or all of them, and says how many were taken.
 pub fn hear(end: End, kept: &mut ArrayVec<u8, KEPT>, bytes: &[u8]) -> (usize, Option<Seen>)
     requires { is_kept end kept.old.items ≡ true }
     ensures taken { result.0 ≤ length bytes.now }

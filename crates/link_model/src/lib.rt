@@ -11,5 +11,5 @@ pub use laws::{
     answers_fit, hears_any_pieces, hears_the_frames, hears_what_is_written, one_reading,
     writes_what_is_heard,
 };
-pub use request::Request;
+pub use request::{Request, number_of};
 pub use side::End;

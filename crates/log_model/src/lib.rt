@@ -9,4 +9,4 @@ mod lines;
 pub use laws::{
     goes_on_by_seconds, later_lines_change_nothing, spans_are_numbered, trace_is_numbered,
 };
-pub use lines::{Break, Find, Mark, Refused, SlotFault, Verdict};
+pub use lines::{Break, Find, Mark, Refused, SlotFault, Verdict, device_of};

@@ -1,9 +1,22 @@
 //! The lines of a run log (profile). A second is counted from 1970-01-01 00:00 GMT, a minute is that divided by 60.
 
+ghost use Rattle.std.specs.Prelude.{◌≡◌};
+ghost use Rattle.log_model.specs.Causes.{device_of};
+
 use activity_codec::Slot;
 use card_layout::Fid;
 use run_model::Device;
 use trace_model::Card;
+
+/// A card as a device.
+pub fn device_of(card: Card) -> Device
+    ensures { result ≡ device_of card }
+{
+    match card {
+        Card::A => Device::CardA,
+        Card::B => Device::CardB,
+    }
+}
 
 /// Why an action was refused.
 #[derive(Clone, Copy, Debug, PartialEq, Eq)]

@@ -12,12 +12,9 @@ use Rattle.unit_model.specs.Decoding.{cell_minute, cell_word, cell_place}
 use Rattle.unit_model.specs.Cells.{row_head, minute_kept}
 use Rattle.unit_model.proofs.Numbers.{number_same, part_in}
 use Rattle.unit_model.proofs.Numbers as numbers
-use Rattle.owed_model.specs.Owed.{Cell, rows_in, row_in, cell_in, cell_begin, session_in, is_row_of, row_index, entry_of, holds, counts, cell_entries, in_order, owed_of, owed_to}
+use Rattle.owed_model.specs.Owed.{Cell, rows_in, row_in, cell_in, cell_begin, session_in, number_in, is_row_of, row_index, entry_of, holds, counts, cell_entries, in_order, owed_of, owed_to}
+use Rattle.owed_model.specs.Standing.{IsKept, AreKept}
 use Rattle.owed_model.proofs.Putting.{find_below, found_below}
-
--- a cell is as it was, or was later and is empty
-abbrev pub IsKept : ℕ → Cell → Cell → Type 0
-IsKept kept x c = (c.word ≡ x.word) × ((c.minute ≡ x.minute) ⊎ ((kept < x.minute) × (c.minute ≡ 0)))
 
 and_false : (a b : Bool) → b ≡ false → (a && b) ≡ false
 and_false true b is = is
@@ -73,6 +70,13 @@ module _ (wanted : Entry → Bool) (kept : ℕ) (none : (e : Entry) → kept < e
       by true = λ t. cond (none (entry_of x) late t) (entry_of x ∷ filter wanted (cell_entries (i + 1) xs)) (filter wanted (cell_entries (i + 1) xs))
       by false = refl
 
+  -- and so they are in rows whose cells are kept
+  pub all_kept : (i : ℕ) (xs cs : List Cell) → AreKept kept xs cs → filter wanted (cell_entries i cs) ≡ filter wanted (cell_entries i xs)
+  all_kept i [] [] k = refl
+  all_kept i [] (c ∷ cs) k = absurd k
+  all_kept i (x ∷ xs) [] k = absurd k
+  all_kept i (x ∷ xs) (c ∷ cs) k = one i x c xs cs k.0 (all_kept (i + 1) xs cs k.1)
+
 -- images whose rows have the same heads and words, and whose cells are kept
 pub record HasRowsKept (x c : List ℕ) : Type 0 where
   pub heads : (r : ℕ) → r < 8 → row_head c r ≡ row_head x r
@@ -107,6 +111,9 @@ module _ (x c : List ℕ) (rows : HasRowsKept x c) where
       let at : s * OWED_ROW_SIZE + 0 ≡ s * OWED_ROW_SIZE = omega arith in
       number_same (rows_in x) (rows_in c) (s * OWED_ROW_SIZE) ROW_SESSION.size (subst (λ (q : ℕ). bytes_at (rows_in c) q ROW_SESSION.size ≡ bytes_at (rows_in x) q ROW_SESSION.size) at (head s 0 ROW_SESSION.size below (omega arith)))
 
+  pub number_stays : (s : ℕ) → s < 8 → number_in (rows_in c) s ≡ number_in (rows_in x) s
+  number_stays s below = head s ROW_NUMBER.place ROW_NUMBER.size below (omega arith)
+
   pub index_same : (number : List ℕ) → row_index number (rows_in c) ≡ row_index number (rows_in x)
   index_same number = find_below (is_row_of number (rows_in c)) (is_row_of number (rows_in x)) 0 8 (λ s below. λ t. not (session_same s below t == 0) && pointwise nat_eq (head s ROW_NUMBER.place ROW_NUMBER.size below (omega arith) t) number)
 
@@ -119,17 +126,13 @@ module _ (x c : List ℕ) (rows : HasRowsKept x c) where
         ⊎_elim (λ same. inl (minute ∙ same ∙ sym was)) (λ gone. inr (omega (arith, gone.0, was), minute ∙ gone.1)) (rows.minutes (r * 4 + j) below),
       )
 
+  pub row_kept : (r : ℕ) → r < 8 → AreKept (last_kept x) (row_in (rows_in x) r).cells (row_in (rows_in c) r).cells
+  row_kept r low = (cell_kept r 0 low (omega arith), (cell_kept r 1 low (omega arith), (cell_kept r 2 low (omega arith), (cell_kept r 3 low (omega arith), tt))))
+
   -- a row has the same wanted entries
   pub cells_same : (wanted : Entry → Bool) → ((e : Entry) → last_kept x < e.minute → wanted e ≡ false) → (r : ℕ) → r < 8
       → filter wanted (cell_entries 0 (row_in (rows_in c) r).cells) ≡ filter wanted (cell_entries 0 (row_in (rows_in x) r).cells)
-  cells_same wanted none r low =
-      let k = last_kept x in
-      let at = cell_in (rows_in x) r in
-      let now = cell_in (rows_in c) r in
-      one wanted k none 0 (at 0) (now 0) (at 1 ∷ at 2 ∷ at 3 ∷ []) (now 1 ∷ now 2 ∷ now 3 ∷ []) (cell_kept r 0 low (omega arith))
-      (one wanted k none 1 (at 1) (now 1) (at 2 ∷ at 3 ∷ []) (now 2 ∷ now 3 ∷ []) (cell_kept r 1 low (omega arith))
-      (one wanted k none 2 (at 2) (now 2) (at 3 ∷ []) (now 3 ∷ []) (cell_kept r 2 low (omega arith))
-      (one wanted k none 3 (at 3) (now 3) [] [] (cell_kept r 3 low (omega arith)) refl)))
+  cells_same wanted none r low = all_kept wanted (last_kept x) none 0 (row_in (rows_in x) r).cells (row_in (rows_in c) r).cells (row_kept r low)
 
   pub owed_mended : last_kept c ≡ last_kept x → (number : List ℕ) (session after : ℕ) → owed_to c number session after ≡ owed_to x number session after
   unfolding owed_to

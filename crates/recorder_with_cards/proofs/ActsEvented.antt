@@ -30,7 +30,6 @@ use Rattle.run_outcome.specs.declared.outcome.Outcome.{Outcome}
 use Rattle.run_recorded.specs.Origin.{Origin}
 use Rattle.run_recorded.specs.Beside.{HaveLeftMore}
 use Rattle.run_keeping.specs.Keeping.{with_lines}
-use Rattle.run_within.specs.Within.{Beginning}
 use Rattle.run_evented.specs.Evented.{number_in, Evented}
 use Rattle.run_evented.specs.Noting.{Acting, NotesThese}
 use Rattle.run_evented.specs.SoFar.{EventedNow}
@@ -40,8 +39,8 @@ use Rattle.run_evented.proofs.Passing.{refusal-adds, pull-adds}
 use Rattle.run_acts.specs.declared.run.Run.{Run}
 use Rattle.run_acts.specs.Power.{is_lit, cut_run}
 use Rattle.run_acts.specs.Acting.{pulled_run, pulled_breaks}
-use Rattle.run_acts.specs.Recording.{log_of, values_of, RunCut, RunGoesOn, IsNow}
-use Rattle.run_acts.specs.Evented.{WithinEvented, CutEvented, InSecondEventedBy, InSecondEvented, EventsGoOn, EventsAction, RunWatches, IsWatching, span_seen}
+use Rattle.run_acts.specs.Recording.{log_of, values_of, RunCut, IsNow}
+use Rattle.run_acts.specs.Evented.{WithinEvented, CutEvented, InSecondEventedBy, InSecondEvented, EventsGoOn, EventsAction, RunWatches, IsWatching}
 use Rattle.run_acts.proofs.NotedEvents.{same-says}
 use Rattle.run_acts.proofs.FallEvented.{begins-now}
 use Rattle.run_acts.proofs.Asked.{pulls-one}
@@ -54,21 +53,11 @@ use Rattle.recorder_with_cards.proofs.Staying.{StaysWatched}
 -- ---- with power, or cut
 
 module _ (o : Origin) (done : List TraceSecond) (s : TraceSecond) (run : Run) (out : Outcome) (d : Devices) where
-  pub evented-cut : (n : ℕ) → is_lit run.power ≡ false → InSecondEvented o done s n run out d → CutEvented o done s run out d
-  evented-cut n dark h = subst (λ (b : Bool). InSecondEventedBy b o done s n run out d) dark h
-
   pub in-evented_cut : (n : ℕ) → CutEvented o done s run out d → InSecondEvented o done s n run out d
   in-evented_cut n h = subst (λ (b : Bool). InSecondEventedBy b o done s n run out d) (sym (ap is_lit h.cut.lost)) h
 
-  pub evented-lit : (n : ℕ) → is_lit run.power ≡ true → InSecondEvented o done s n run out d → WithinEvented o done s (In n) [] [] Acting run out d
-  evented-lit n lit h = subst (λ (b : Bool). InSecondEventedBy b o done s n run out d) lit h
-
   pub in-evented_lit : (n : ℕ) → WithinEvented o done s (In n) [] [] Acting run out d → InSecondEvented o done s n run out d
   in-evented_lit n h = subst (λ (b : Bool). InSecondEventedBy b o done s n run out d) (sym (ap is_lit h.within.lit)) h
-
-  -- where power was cut, further actions are passed over
-  pub evented-over : (n m : ℕ) → is_lit run.power ≡ false → InSecondEvented o done s n run out d → InSecondEvented o done s m run out d
-  evented-over n m dark h = in-evented_cut m (evented-cut n dark h)
 
 -- ---- one action
 
@@ -76,15 +65,6 @@ pub watches-on : (o : Origin) (span : List Seen) (run new : Run) → StaysWatche
 watches-on o span run new same h = record {
   limit = ap (λ (m : Identity). m.limit) same.memory ∙ h.limit;
   watched = subst (λ (w : Watch). IsWatching o span w) (sym same.watch) h.watched;
-}
-
--- the second goes on
-pub evented-on : (o : Origin) (done : List TraceSecond) (s : TraceSecond) (n m : ℕ) (run new : Run) (before after : Outcome) (d e : Devices) → (h : WithinEvented o done s (In n) [] [] Acting run before d) → RunGoesOn o done s (In m) [] new after e h.within.within.b →
-    EventedNow o done s h.within.within.b.run Acting (log_of after) e → StaysWatched run new → WithinEvented o done s (In m) [] [] Acting new after e
-evented-on o done s n m run new before after d e h g now same = record {
-  within = g.goes;
-  evented = subst (λ (b : Beginning). EventedNow o done s b.run Acting (log_of after) e) (sym g.began) now;
-  watches = subst (λ (b : Beginning). RunWatches o (span_seen b.run done s) new) (sym g.began) (watches-on o (span_seen h.within.within.b.run done s) run new same h.watches);
 }
 
 -- or the unit has failed: the cut is told

@@ -1,5 +1,5 @@
 -- What an action of a second leaves of the record.
-use Rattle.std.proofs.Common.{◌≡◌, ◌∙◌, ℕ, suc, ◌+◌, ◌-◌, Bool, true, false, Option, Some, None, List, [], ◌∷◌, ◌++◌, length, refl, ap, sym, subst, arith, append_assoc, length-append}
+use Rattle.std.proofs.Common.{◌≡◌, ◌∙◌, ℕ, suc, ◌+◌, ◌-◌, Bool, true, Option, Some, None, List, [], ◌∷◌, ◌++◌, length, refl, ap, sym, subst, arith, append_assoc, length-append}
 use Rattle.activity_codec.specs.declared.values.Slot.{Slot}
 use Rattle.activity_codec.specs.declared.values.Pick.{Pick}
 use Rattle.trace_model.specs.declared.Action.{Action}
@@ -42,21 +42,8 @@ use Rattle.run_acts.proofs.NotesThen.{select-now, refuse-now}
 -- ---- with power, or cut
 
 module _ (o : Origin) (done : List TraceSecond) (s : TraceSecond) (run : Run) (out : Outcome) (d : Devices) where
-  pub as-cut : (n : ℕ) → is_lit run.power ≡ false → InSecond o done s n run out d → RunCut o done s run out d
-  as-cut n dark h = subst (λ (b : Bool). InSecondBy b o done s n run out d) dark h
-
   pub cut-in : (n : ℕ) → RunCut o done s run out d → InSecond o done s n run out d
   cut-in n h = subst (λ (b : Bool). InSecondBy b o done s n run out d) (sym (ap is_lit h.lost)) h
-
-  pub as-lit : (n : ℕ) → is_lit run.power ≡ true → InSecond o done s n run out d → RunWithin o done s (In n) [] [] run out d
-  as-lit n lit h = subst (λ (b : Bool). InSecondBy b o done s n run out d) lit h
-
-  pub lit-in : (n : ℕ) → RunWithin o done s (In n) [] [] run out d → InSecond o done s n run out d
-  lit-in n h = subst (λ (b : Bool). InSecondBy b o done s n run out d) (sym (ap is_lit h.lit)) h
-
-  -- where power was cut, further actions are passed over
-  pub passed-over : (n m : ℕ) → is_lit run.power ≡ false → InSecond o done s n run out d → InSecond o done s m run out d
-  passed-over n m dark h = cut-in m (as-cut n dark h)
 
 -- ---- one action
 

@@ -3,6 +3,7 @@ use Rattle.std.proofs.Common.{◌≡◌, ◌∙◌, ⊎_elim, ℕ, Bool, true, f
 use Rattle.std.specs.List.{AllByRecursion}
 use Rattle.activity_codec.specs.declared.entries.Entry.{Entry}
 use Rattle.trace_model.specs.declared.Card.{Card}
+use Rattle.log_model.specs.declared.lines.Find.{Find}
 use Rattle.trace_model.specs.Trace.{TraceSecond}
 use Rattle.log_model.specs.Course.{Told}
 use Rattle.log_model.specs.declared.lines.Mark.{Mark}
@@ -29,7 +30,7 @@ use Rattle.run_acts.specs.Stays.{Stay, Shown, after_stay, sits_in, as_noted, Are
 use Rattle.run_acts.proofs.SeatsThen.{sits-in-one}
 use Rattle.unit_model.specs.Image.{odometer_at}
 use Rattle.safety_model.specs.Recording.{Recording, brought, start_of}
-use Rattle.recorder_with_cards.specs.Stays.{IsClosedSo, IsCountedSo, IsAcknowledgedSo}
+use Rattle.recorder_with_cards.specs.Stays.{IsEnteredSo, IsClosedSo, IsCountedSo, IsAcknowledgedSo}
 use Rattle.run_acts.specs.Owed.{IsOwed}
 
 -- none is leaving then
@@ -62,21 +63,26 @@ module _ (o : Origin) (done : List TraceSecond) (run : Run) (out : Outcome) (d :
 -- ---- what is true of the stays of a run
 
 module _ (r : Recording) where
-  abbrev HoldIn : List Stay → Type 0
-  HoldIn ss = AllByRecursion (IsTrueOf (truths_by r.rule (odometer_at r.unit) (past_of r.log r.trace) (λ c. IsOwed r.rule (start_of r) r.log r.trace c (brought r c).owed))) ss
+  abbrev HoldIn : Card → List Stay → Type 0
+  HoldIn c ss = AllByRecursion (IsTrueOf (truths_by r.rule (odometer_at r.unit) (past_of r.log r.trace) (λ k. IsOwed r.rule (start_of r) r.log r.trace k (brought r k).owed)) c) ss
+
+  -- their lines
+  pub entered-so : (c : Card) (ss : List Stay) → HoldIn c ss → AllByRecursion (IsEnteredSo r c) ss
+  entered-so c [] all = tt
+  entered-so c (s ∷ ss) all = (all.0.3, entered-so c ss all.1)
 
   -- the words of their closings
-  pub words-so : (ss : List Stay) → HoldIn ss → AllByRecursion (IsClosedSo r) ss
-  words-so [] all = tt
-  words-so (s ∷ ss) all = (all.0.2, words-so ss all.1)
+  pub words-so : (c : Card) (ss : List Stay) → HoldIn c ss → AllByRecursion (IsClosedSo r) ss
+  words-so c [] all = tt
+  words-so c (s ∷ ss) all = (all.0.2, words-so c ss all.1)
 
   -- and their odometers
-  pub odometers-so : (ss : List Stay) → HoldIn ss → AllByRecursion (IsCountedSo r) ss
-  odometers-so [] all = tt
-  odometers-so (s ∷ ss) all = ((all.0.0, all.0.1), odometers-so ss all.1)
+  pub odometers-so : (c : Card) (ss : List Stay) → HoldIn c ss → AllByRecursion (IsCountedSo r) ss
+  odometers-so c [] all = tt
+  odometers-so c (s ∷ ss) all = ((all.0.0, all.0.1), odometers-so c ss all.1)
 
 -- what was owed to a card at each, and that each entry of it has its mark
-pub owes-so : (Owes : (second mark : ℕ) → List Entry → Type 0) (marks : List Mark) (c : Card) (vehicle : Registration) (size : ℕ) (ss : List Stay) (p : Shown) →
-    AreOwed (λ second mark es. Owes second mark es × All (λ (e : Entry). IsMarked marks (device_of c) e.minute) es) vehicle size ss p → AreOwed Owes vehicle size ss p × AllByRecursion (IsAcknowledgedSo marks c) ss
+pub owes-so : (Owes : Find → (mark : ℕ) → List Entry → Type 0) (marks : List Mark) (c : Card) (vehicle : Registration) (size : ℕ) (ss : List Stay) (p : Shown) →
+    AreOwed (λ f mark es. Owes f mark es × All (λ (e : Entry). IsMarked marks (device_of c) e.minute) es) vehicle size ss p → AreOwed Owes vehicle size ss p × AllByRecursion (IsAcknowledgedSo marks c) ss
 owes-so Owes marks c vehicle size [] p h = (tt, tt)
 owes-so Owes marks c vehicle size (s ∷ ss) p h = let rest = owes-so Owes marks c vehicle size ss (after_stay vehicle size s p) h.1 in ((h.0.0, rest.0), (h.0.1, rest.1))

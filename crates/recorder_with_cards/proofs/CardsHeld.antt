@@ -33,9 +33,6 @@ use Rattle.recorder_with_cards.specs.Carded.{WithinCarded, CutCarded, InSecondCa
 -- ---- by the log as the second began, or by that of now
 
 module _ (o : Origin) (done : List TraceSecond) (s : TraceSecond) (at : Phase) (waits : List Visit) (speed : Option ℕ) (rest : List Minute) (v : Values) (d : Devices) (w : Within o done s at waits speed rest v d) (some : 0 < s.number) (front : List Action) where
-  abbrev began : RunLog
-  began = w.b.run.log
-
   abbrev log : RunLog
   log = v.log
 

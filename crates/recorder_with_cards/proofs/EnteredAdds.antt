@@ -397,17 +397,6 @@ module _ (d : Devices) (o : Origin) (done : List TraceSecond) (p : Progress) (sp
       subst (λ (l : RunLog). AddsTo l (moving_events s.speed s.number with_it ++ unclosed_events entered.look.session s.number with_it)) (found-only (find_of e (verdict.Accepted entered.replayed))) (accepted-adds entered.replayed entered.look.session opened finds)
   ending-adds (Lost entered clock entry) opened finds moves = lost-adds entered.replayed entered.look.session opened finds moves
 
-  -- and its lines are of the moment
-  pub ending-reached : (ending : Ending) → Reaches p s (In n) (log_with ending e log)
-  ending-reached (Unfit fid place) = subst (Reaches p s (In n)) (found-only (find_of e (verdict.NotValid fid place))) ((lines-reached p s (In n) log r).1 (find_of e (verdict.NotValid fid place)) (found-at (verdict.NotValid fid place)))
-  ending-reached (Ahead stored) =
-      subst (Reaches p s (In n)) (found-only (find_of e (verdict.TimeOverlap stored e.at.second))) ((lines-reached p s (In n) log r).1 (find_of e (verdict.TimeOverlap stored e.at.second)) (found-at (verdict.TimeOverlap stored e.at.second)))
-  ending-reached Fell = subst (Reaches p s (In n)) (torn-only (tear_of e.slot e.at)) ((lines-reached p s (In n) log r).0 e.slot true (tear_of e.slot e.at) torn-at)
-  ending-reached Unasked = subst (Reaches p s (In n)) no-lines r
-  ending-reached (Unnoted entered clock) = subst (Reaches p s (In n)) (found-only (find_of e (verdict.Accepted entered.replayed))) (reached entered.replayed)
-  ending-reached (Seated entered clock entry) = subst (Reaches p s (In n)) (found-only (find_of e (verdict.Accepted entered.replayed))) (reached entered.replayed)
-  ending-reached (Lost entered clock entry) = (lines-reached p s (In n) (log1 entered.replayed) (reached entered.replayed)).0 e.slot true (tear_of e.slot e.at) torn-at
-
   -- IT IS NOTED: the second goes on;
   pub judged-goes : (old : Devices) (ending : Ending) → IsOpened ending o (went p.log done).told done s e.which d → AreFound ending o p.log done s log e → (n ≡ 0 → FallsMoving ending s.speed) → EventedNow o done s p (stage_in n) log old → NotesSo false o (events_by ending s.speed s.number bare with_it bare) old d →
       events_by ending s.speed s.number bare with_it bare ≡ added_by ending s.speed s.number bare with_it bare → HaveLeftMore o old d → EventedNow o done s p (stage_in n) (log_with ending e log) d

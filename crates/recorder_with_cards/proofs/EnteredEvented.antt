@@ -32,7 +32,6 @@ use Rattle.run_crew.specs.Cabin.{Stands, with_sizes_of, number_of_seat, crew_of}
 use Rattle.run_notes.specs.Entries.{number_or_no_card, IsCrewOf}
 use Rattle.run_rule.specs.Found.{Found, found_of}
 use Rattle.run_rule.specs.Between.{Carried}
-use Rattle.run_course.specs.Followed.{Progress}
 use Rattle.run_moments.specs.Reached.{Reaches}
 use Rattle.run_moments.specs.Telling.{BrokeDown, IsLeft}
 use Rattle.run_moments.proofs.Moment.{reaches-of}
@@ -202,9 +201,6 @@ module _ (o : Origin) (done : List TraceSecond) (s : TraceSecond) (n : ℕ) (wai
   abbrev d : Devices
   d = arranged e.which U X Z
 
-  abbrev p : Progress
-  p = w.b.run
-
   abbrev c : Course
   c = course_in w.b done s (In n) v.log
 
@@ -249,9 +245,6 @@ module _ (o : Origin) (done : List TraceSecond) (s : TraceSecond) (n : ℕ) (wai
 
   module _ (failed : Bool) (k' : Keeper) (noted noted' : ℕ) (out' : Outcome) (W Y : State) (way : Way) (g : HasGone e failed k k' noted noted' out out' U W X Y Z way) (sound : AreSound U W X Y)
       (stay : AllStay o (marked v.marks (truths_within o w.b.run.log done s)) s.number v.log (notes_within w.b done s (In n) v.log) k.memory.registration k.cabin (arranged e.which U X Z)) where
-    abbrev later : Devices
-    later = arranged e.which W Y Z
-
     abbrev cabin : Cabin
     cabin = (measured way e k).cabin
 

@@ -94,12 +94,6 @@ slot-is CoDriver = refl
 module _ (o : Origin) (origin : IsOrigin o) (e : Entering) (look : CardLook) (app : Application) (y : List ℕ) (sizes : own_sizes y ≡ app) (is : IsLook app y look) (fits : FitsInsertion look) (valid : IsOwnValid (card_image o.recording e.which))
     (same : HasSameHolder (found_of o.found e.which).image y) (named : card_number_bytes look.number ≡ (found_of o.found e.which).number)
     (seconds : List Told) (trace : List TraceSecond) (u : ℕ) (first : (y ≡ card_image o.recording e.which) ⊎ HasComeBefore seconds trace e.which u) (d : Devices) (left_ : (card_of d e.which).left_since (found_of o.found e.which).began y) (second : e.at.second ≡ u) (small : u < 2 ^ 32) (spans : List SpanFrom) (odometer : e.odometer.0 ≡ odometer_at u spans) (few : e.odometer.0 < 2 ^ 24) where
-  abbrev start : List ℕ
-  start = card_image o.recording e.which
-
-  abbrev own : List ℕ
-  own = identification_of (card_image o.recording e.which)
-
   the-file : file_bytes app 0x0520 y ≡ identification_of (card_image o.recording e.which)
   the-file = ap (λ (a : Application). file_bytes a 0x0520 y) (sym sizes) ∙ same.identification ∙ ap identification_of (origin.image e.which)
 

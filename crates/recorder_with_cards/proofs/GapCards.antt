@@ -11,7 +11,7 @@ use Rattle.event_model.specs.Events.{Crew, Seen, Tearing, seen_by, seen_of, seen
 use Rattle.log_model.specs.declared.lines.Verdict.{Verdict}
 use Rattle.log_model.specs.Log.{RunLog, In, is_torn_in, found_in, is_accepting}
 use Rattle.log_model.specs.Slots.{Sitting, in_slot, same_card}
-use Rattle.log_model.specs.Course.{Course, Visit, Before, has_power, went}
+use Rattle.log_model.specs.Course.{Course, Visit, has_power, went}
 use Rattle.side_model.specs.Done.{course_powered, has_failed_in}
 use Rattle.slot_machine.specs.declared.seats.Seat.{Seat}
 use Rattle.slot_machine.specs.Calls.{seat_in, card_in, is_card as sits_card}
@@ -106,9 +106,6 @@ module _ (o : Origin) (done : List TraceSecond) (s : TraceSecond) (run : Run) (o
     (off : (went w.within.b.run.log done).before.running ≡ false) (bare : AreBare (went w.within.b.run.log done).before.slots) where
   abbrev log : RunLog
   log = log_of out
-
-  abbrev was : Before
-  was = (went w.within.b.run.log done).before
 
   abbrev x : Seen
   x = seen_by (log_of out) (went w.within.b.run.log done).before s

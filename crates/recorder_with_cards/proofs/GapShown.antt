@@ -4,7 +4,6 @@ use Rattle.std.specs.List.{AllByRecursion}
 use Rattle.std.proofs.lemmas.Bool.Decides.{nat_tests}
 use Rattle.activity_codec.specs.declared.values.Slot.{Slot}
 use Rattle.activity_codec.specs.declared.values.Slot.TheVariants.{Driver, CoDriver}
-use Rattle.activity_codec.specs.Activity.{same_slot}
 use Rattle.trace_model.specs.declared.Card.{Card}
 use Rattle.trace_model.specs.declared.Card.TheVariants.{A, B}
 use Rattle.trace_model.specs.Trace.{TraceSecond}
@@ -207,11 +206,6 @@ gap-fell (Some gap) at failed old new breaks after (BothSlots driver codriver) i
           sits = sym (ap card_in (note-beside (card_in (seat_in old.keeper.cabin.slots.seats Driver)) at old is.0.between breaks is.0.told driver refl is.0.first)) ∙ f.0;
           tear = (first-lines.0, [], ap (λ (l : Listed Break). l.items) f.1 ∙ ap (λ (bs : List Break). bs ++ tear_of CoDriver at ∷ []) first-lines.1 ∙ sym (append-nil ((breaks.items ++ first-lines.0) ++ tear_of CoDriver at ∷ [])));
         }
-
--- the line tells it
-same-slot : (slot : Slot) → same_slot slot slot ≡ true
-same-slot Driver = refl
-same-slot CoDriver = refl
 
 number-same : (u : ℕ) → nat_eq u u ≡ true
 number-same u = grind (arith, nat_tests)

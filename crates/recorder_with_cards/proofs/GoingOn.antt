@@ -134,6 +134,3 @@ module _ (o : Origin) (origin : IsOrigin o) (done : List TraceSecond) (s : Trace
 
   pub second-goes : (rec : RunRecorded o done run out d) → (w : RunWithin o done s (In 0) [] [] (minute_over run) out d) × (book : Book) × (w.within.b.run ≡ progress (values_of run out) rec.supply book) × (begins_with w.within.b.span ≡ false)
   second-goes rec = by-supply rec.supply (subst (λ (p : Power). Supplies p rec.supply) lit rec.powers) rec.recorded (rec.odometer lit) rec.stay
-
-  pub second-on : RunRecorded o done run out d → RunWithin o done s (In 0) [] [] (minute_over run) out d
-  second-on rec = (second-goes rec).0

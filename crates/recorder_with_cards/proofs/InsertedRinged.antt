@@ -46,12 +46,6 @@ module _ (o : Origin) (done : List TraceSecond) (s : TraceSecond) (front rest : 
     (spans : List SpanFrom) (t : Told) (rings : RingsWithin o done s w.within.b.run.log front old (log_of before) spans t d) (allowed : refusal (course_in w.within.b done s (In (length front)) (log_of before)).slots s.speed (Insert slot card) ≡ None)
     (mid : Run) (told : Outcome) (e : Devices) (lines : List Break) (log_is : log_of told ≡ record (log_of before) { breaks = before.breaks.items ++ lines }) (tears : AreTears (record { second = s.number; begun = suc (length front); late = false }) lines)
     (leaves : StaysInRings d e) (left : HaveLeftMore o d e) (places : PlacesStay o d e) (fewer : AreFewer (seats_of old) (seats_of mid)) (same_odometer : mid.keeper.odometer ≡ old.keeper.odometer) (same_noted : mid.noted ≡ old.noted) where
-  abbrev a : Action
-  a = Insert slot card
-
-  abbrev began : RunLog
-  began = w.within.b.run.log
-
   abbrev was : Before
   was = (went w.within.b.run.log done).before
 
@@ -149,9 +143,6 @@ module _ (o : Origin) (done : List TraceSecond) (s : TraceSecond) (front rest : 
     fine-after : refusal (course_behind (log_of after) (went w.within.b.run.log done).before s front).slots s.speed (Insert slot card) ≡ None
     fine-after = ap (λ c. refusal c.slots s.speed (Insert slot card)) (course-then (log_of told) (log_of after) s front rest (Insert slot card) are told-on.uncut more-after same-after uncut-after was) ∙ fine
 
-    abbrev log_cut : RunLog
-    log_cut = with_cut (log_of after) s (front ++ Insert slot card ∷ [])
-
     cuts : IsCutIn w.within.b.run.log (log_of told) (with_cut (log_of after) s (front ++ Insert slot card ∷ [])) done s front (Insert slot card) rest
     cuts = is-cut (log_of told) (log_of after) s front rest (Insert slot card) are told-on.uncut more-after same-after uncut-after o done (In (length front)) [] None [] (values_of old before) d w.within
         (here-then (log_of before) (log_of told) (log_of after) s.number told-on.here j.here)
@@ -161,9 +152,6 @@ module _ (o : Origin) (done : List TraceSecond) (s : TraceSecond) (front rest : 
 
     found-cut : found_in (with_cut (log_of after) s (front ++ Insert slot card ∷ [])) s.number (In (suc (length front))) slot ≡ found_in (log_of after) s.number (In (suc (length front))) slot
     found-cut = cut-found (log_of after) s.number (length (front ++ Insert slot card ∷ [])) uncut-after (In (suc (length front))) slot
-
-    abbrev Found : List Verdict
-    Found = found_in (log_of after) s.number (In (suc (length front))) slot
 
     by : (b : Bool) → JudgedInRings b (since_in o w.within.b.run.log done s) (record { second = s.number; slot = slot; card = card }) (found_in (log_of after) s.number (In (suc (length front))) slot) (with_second spans old.keeper.odometer t) (seats_of mid) (seats_of new) e f →
         RingsGoOn b o done s w.within.b (front ++ Insert slot card ∷ []) new (log_of after) spans t f

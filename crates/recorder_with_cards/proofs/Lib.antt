@@ -79,8 +79,3 @@ pub mod WakesCards
 pub mod GapShown
 pub mod OffCards
 pub mod SecondsCards
-pub mod SpanBases
-pub mod SpansWhole
-pub mod AllDue
-pub mod SpansThen
-pub mod ExactStays

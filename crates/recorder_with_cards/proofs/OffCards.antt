@@ -9,10 +9,9 @@ use Rattle.trace_model.specs.Trace.{TraceSecond}
 use Rattle.minute_model.specs.declared.Rule.{Rule}
 use Rattle.history_model.specs.Presence.{Start}
 use Rattle.event_model.specs.Events.{Seen, number_of, seen_of, seen_spans, gap_events, gaps_between, last_number, first_card}
-use Rattle.log_model.specs.declared.lines.Break.{Break}
 use Rattle.log_model.specs.Log.{RunLog, Keeping, cut_in, is_torn_in, kept_after, is_accepting}
 use Rattle.log_model.specs.Slots.{same_card}
-use Rattle.log_model.specs.Course.{Told, Before, Course, Visit, Went, has_power, second_told, went, leaves, visits, slot_told, both_told, unmoved, all_acted, cut_told, lit_course}
+use Rattle.log_model.specs.Course.{Told, Course, Visit, Went, has_power, second_told, went, leaves, visits, slot_told, both_told, unmoved, all_acted, cut_told, lit_course}
 use Rattle.side_model.specs.Done.{course_powered}
 use Rattle.unit_course.specs.Lines.{cut_at}
 use Rattle.unit_course.specs.Followed.{Lit}
@@ -68,14 +67,8 @@ or-nothing true = refl
 or-nothing false = refl
 
 module _ (rule : Rule) (start : Start) (from first : ℕ) (p : Progress) (t : Told) (span : List Told) (front : List TraceSecond) (r : TraceSecond) (f : Followed rule start from first (front ++ r ∷ []) (record p { supply = Lit (t ∷ span); waiting = [] })) (count : length r.actions ≡ p.begun) (some : 0 < r.number) where
-  abbrev cut : Break
-  cut = cut_at (p.next - 1) false p.begun
-
   abbrev later : RunLog
   later = and_break p.log (cut_at (p.next - 1) false p.begun)
-
-  abbrev was : Before
-  was = (went p.log front).before
 
   abbrev x : Seen
   x = seen_next p.log front r

@@ -103,10 +103,6 @@ or-nothing : (b : Bool) → (b || false) ≡ b
 or-nothing true = refl
 or-nothing false = refl
 
-none-is : (c : Option ℕ) → is_some c ≡ false → c ≡ None
-none-is None is = refl
-none-is (Some n) is = absurd (cc)
-
 same-all : (log : RunLog) (ss : List TraceSecond) → All (λ (x : TraceSecond). SameAt log log x.number) ss
 same-all log [] = All-nil (λ (x : TraceSecond). SameAt log log x.number)
 same-all log (s ∷ ss) = All-cons (λ (x : TraceSecond). SameAt log log x.number) s ss (record { cut = refl; torn = λ p slot. refl; found = λ p slot. refl }) (same-all log ss)

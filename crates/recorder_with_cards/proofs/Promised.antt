@@ -1,5 +1,5 @@
 -- What a run promises, from what was recorded of it; and that nothing is recorded as it begins.
-use Rattle.std.proofs.Common.{◌≡◌, ◌∙◌, ◌⊎◌, inl, inr, ⊎_elim, ℕ, ◌-◌, ◌/◌, ◌<◌, ◌≤◌, true, Option, Some, None, IfSome, option_map, is_some, List, [], length, All, refl, ap, sym, subst, arith, ◌||◌}
+use Rattle.std.proofs.Common.{◌≡◌, ◌∙◌, ◌⊎◌, inl, inr, ℕ, ◌-◌, ◌/◌, ◌<◌, ◌≤◌, true, Option, Some, None, IfSome, option_map, is_some, List, [], length, All, refl, ap, sym, subst, arith, ◌||◌}
 use Rattle.trace_model.specs.declared.Card.{Card}
 use Rattle.trace_model.specs.declared.Card.TheVariants.{A, B}
 use Rattle.tacho_types.specs.declared.texts.Registration.{Registration}
@@ -29,14 +29,17 @@ use Rattle.joint_rule.specs.Rules.{Out}
 use Rattle.unit_course.specs.Followed.{Supply, Lit as IsLit, Due as IsDue, Lost as IsLost}
 use Rattle.unit_course.specs.Legs.{not_travelled}
 use Rattle.unit_model.specs.declared.layout.TheConstants.{HIGHEST_ODOMETER}
-use Rattle.unit_model.specs.Image.{last_kept, odometer_at}
+use Rattle.unit_model.specs.Image.{recorded, last_kept, odometer_at}
 use Rattle.unit_model.specs.Decoding.{Decodes}
 use Rattle.unit_rule.specs.Odometer.{HasTravelled}
-use Rattle.unit_rule.specs.Rule.{started}
+use Rattle.unit_rule.specs.Rule.{started, IsCards}
+use Rattle.unit_rule.specs.OtherRows.{valid_number}
+use Rattle.unit_rule.proofs.OtherRows.{valid-number, keeps-rows}
 use Rattle.unit_rule.proofs.Travelling.{travelled-opened}
 use Rattle.unit_journal.proofs.Beside.{passes_beside}
 use Rattle.unit_memory.specs.declared.format.Identity.{Identity}
 use Rattle.safety_model.specs.Recording.{Recording, card_image, brought, history_of, lost_of, start_of}
+use Rattle.safety_model.specs.Unit.{UnitSafe}
 use Rattle.safety_model.specs.Safe.{Devices, card_of, breakdowns_of}
 use Rattle.slot_machine.specs.Kept.{nothing_yet}
 use Rattle.run_crew.specs.declared.cards.Accepted.{Accepted}
@@ -89,18 +92,18 @@ use Rattle.run_acts.proofs.OnCards.{start-shown}
 use Rattle.run_acts.proofs.Numbers.{own-long}
 use Rattle.recorder_with_cards.specs.Carded.{RunCarded}
 use Rattle.recorder_with_cards.specs.Ends.{BeginAs, recorded_with, recording_of, opened_with, origin_of, MayRecord, EndsTrace}
-use Rattle.recorder_with_cards.proofs.Waiting.{first-second}
-use Rattle.recorder_with_cards.specs.Sessions.{TellFirst}
+use Rattle.recorder_with_cards.specs.Side.{ShowTheSide}
 use Rattle.recorder_with_cards.proofs.SideShown.{insertions-inside, places-inside, side-shown}
 use Rattle.recorder_with_cards.proofs.Written.{are-written, keep-holders}
 use Rattle.recorder_with_cards.specs.Placed.{ShowsPlaces}
 use Rattle.recorder_with_cards.proofs.KeptAfter.{end-kept}
-use Rattle.recorder_with_cards.proofs.LastKept.{tells-last}
+use Rattle.recorder_with_cards.specs.LastKept.{TellsLast}
+use Rattle.recorder_with_cards.proofs.LastKept.{safe-last}
 use Rattle.run_acts.specs.Closings.{spells_of}
 use Rattle.run_acts.specs.Comings.{TellsMore}
 use Rattle.run_acts.proofs.Comings.{tells-none}
-use Rattle.run_acts.specs.Stays.{Stay, Coming, comings_on, registration_in, AreMerged, spells, sits_in, HasStays, ShowsStays, start_shown, AreTimely, AreOwed, AreTurnedAway, is_late}
-use Rattle.recorder_with_cards.proofs.AtEnd.{noted-at-end, sits-at-end, words-so, odometers-so, owes-so}
+use Rattle.run_acts.specs.Stays.{Stay, Coming, comings_on, registration_in, AreMerged, spells, sits_in, HasStays, ShowsStays, start_shown, AreOwed, AreJudged, is_late}
+use Rattle.recorder_with_cards.proofs.AtEnd.{noted-at-end, sits-at-end, entered-so, words-so, odometers-so, owes-so}
 use Rattle.run_recorded.specs.Whole.{NothingFailed}
 use Rattle.run_crew.specs.Cabin.{Stands}
 use Rattle.std.specs.Prelude.{filter}
@@ -162,6 +165,12 @@ own-points : (x : List ℕ) → IsOwnValid x → PointsInside (places_in x) x
 unfolding own_bad_file
 own-points x valid = pointer-passes (places_in x) x (valid-passes (own_sizes x) x valid).places
 
+-- only a valid card has some of the one, and only a valid one some of the other
+only-both : {P Q R S : Type 0} → P ⊎ R → Q ⊎ R → (R → S) → (P × Q) ⊎ S
+only-both (inl p) (inl q) same = inl (p, q)
+only-both (inl p) (inr valid) same = inr (same valid)
+only-both (inr valid) q same = inr (same valid)
+
 -- the comings of cards with these images are those with images that are the same
 merged-by : (comings : List Coming) (vehicle : Registration) (one other : List Stay) (a b now_a now_b : List ℕ) → a ≡ now_a → b ≡ now_b → AreMerged comings (comings_on vehicle a one) (comings_on vehicle b other) → AreMerged comings (comings_on vehicle now_a one) (comings_on vehicle now_b other)
 merged-by comings vehicle one other a b now_a now_b first second h =
@@ -189,13 +198,9 @@ module _ (x a b : List ℕ) (start : ℕ) (items : List Item) (began now : Devic
   pub promised : (run : Run) (out : Outcome) → RunCarded o (seconds_of start items) run out now → (run.power ≡ Lit → (low : ℕ) × Stands low None run.keeper.cabin) → IsCoherent now.unit → ((c : Card) → IsCoherent (card_of now c)) → MayRecord x a b start → IsFound r0 (found_in r0 began) began →
       EndsTrace x a b start items out began now
   promised run out carded sits unit_whole card_whole may found = record {
-    may = record {
-      decodes = may.decodes;
-      clock = λ s is. let number = first-second start items s is in let later = may.later in omega (arith, number, later);
-      numbers = may.numbers;
-    };
-    ends = ends-so (seconds_of start items) h.evented.recorded.supply (values_of run out) h.evented.recorded.recorded unit_whole card_whole found may.decodes;
-    side = record { shows = λ y left. (shows y left).shows };
+    may = may;
+    ends = let safe = run-ends.safe in record run-ends { safe = record safe { unit = unit-last.0 } };
+    side = shows;
     written = are-written o (seconds_of start items) h.evented.recorded.supply (values_of run out) began now h.evented.recorded.recorded (found-by r0 (seconds_of start items) (log_of out) (found_in r0 began) began found);
     stays = λ none.
         let all = h.evented.recorded.stay none in
@@ -203,13 +208,15 @@ module _ (x a b : List ℕ) (start : ℕ) (items : List Item) (began now : Devic
           vehicle = run.keeper.memory.registration;
           says = all.says;
           stays = all.stays;
-          told = all.told;
-          owed = all.owed;
-          only = λ c. ⊎_elim (λ none_. inl none_) (λ valid. inr (subst IsOwnValid (of_image c) valid)) (all.only c);
+          since = all.since;
+          only = λ c. only-both (all.only c) (all.lone c) (λ valid. subst IsOwnValid (of_image c) valid);
+          judged = all.judged;
+          verdicts = λ c valid. subst (λ (i : List ℕ). AreJudged run.keeper.memory.registration (own_sizes i).activity (all.stays c) (all.since c) (start_shown i)) (of_image c) (all.verdicts c (subst IsOwnValid (sym (of_image c)) valid));
           shows = stay_shows none;
           closed = stay_spells none;
-          words = λ c. words-so r (all.stays c) (all.hold c).0;
-          odometers = λ c. odometers-so r (all.stays c) (all.hold c).0;
+          entered = λ c. entered-so r c (all.stays c) (all.hold c).0;
+          words = λ c. words-so r c (all.stays c) (all.hold c).0;
+          odometers = λ c. odometers-so r c (all.stays c) (all.hold c).0;
           owes = λ c. owes-as c (all.stays c)
               (subst (λ (i : List ℕ). AreOwed (IsOwed (rule_of o) (start_at o) (log_of out) (seconds_of start items) c (brought r0 c).owed) run.keeper.memory.registration (own_sizes i).activity (all.stays c) (start_shown i)) (of_image c)
               (owes-so (IsOwed (rule_of o) (start_at o) (log_of out) (seconds_of start items) c (brought r0 c).owed) out.marks.items c run.keeper.memory.registration (own_sizes (found_of o.found c).image).activity (all.stays c) (start_shown (found_of o.found c).image) (all.hold c).1).0);
@@ -221,24 +228,18 @@ module _ (x a b : List ℕ) (start : ℕ) (items : List Item) (began now : Devic
             merged = merged-by all.befores.comings run.keeper.memory.registration (all.stays A) (all.stays B) (found_of o.found A).image (found_of o.found B).image (card_image r A) (card_image r B) (of_image A) (of_image B) all.befores.merged;
             tells = λ dense. all.befores.tells (record { points = insertions-inside x may.decodes; dense = dense });
           };
-          since = all.since;
-          lone = λ c. ⊎_elim (λ none_. inl none_) (λ valid. inr (subst IsOwnValid (of_image c) valid)) (all.lone c);
-          judged = all.judged;
-          turned = λ c valid. subst (λ (i : List ℕ). AreTurnedAway run.keeper.memory.registration (own_sizes i).activity (all.stays c) (all.since c) (start_shown i)) (of_image c) (all.turned c (subst IsOwnValid (sym (of_image c)) valid));
-          timely = λ c valid. subst (λ (i : List ℕ). AreTimely run.keeper.memory.registration (own_sizes i).activity (all.stays c) (start_shown i)) (of_image c) (own none c valid).timely;
         };
-    kept = end-kept o ss run out now h.evented.recorded h.spans h.ringed.spans_are h.stored;
-    last =
+    rows = λ y left.
         let hr = h.evented.recorded.recorded in
-        tells-last (started x began.unit.clock) (history_of r) (lost_of r) hr.due hr.book out.marks.items now.unit hr.recorded.followed.follows
-        (is-carried (seconds_of start items) (values_of run out) (carried (values_of run out) hr.due hr.book hr.standing hr.brought) h.evented.recorded.supply hr.held).unit;
+        keeps-rows x a b y ((is-carried (seconds_of start items) (values_of run out) (carried (values_of run out) hr.due hr.book hr.standing hr.brought) h.evented.recorded.supply hr.held).unit.rows y left);
+    kept = end-kept o ss run out now h.evented.recorded h.spans h.ringed.spans_are h.stored;
+    last = unit-last.1;
     dense = record {
       insertions = λ dense y left. (h.ringed.ringed.insertions (record { points = insertions-inside x may.decodes; dense = dense }) y left).shows.carries.dense;
       places = λ dense y left. (h.ringed.ringed.places (record { points = places-inside x may.decodes; dense = dense }) y left).carries.dense;
     };
     holders = keep-holders o (seconds_of start items) h.evented.recorded.supply (values_of run out) began now h.evented.recorded.recorded (found-by r0 (seconds_of start items) (log_of out) (found_in r0 began) began found);
     places = record { spans = h.spans; are_spans = record { spans_are = h.ringed.spans_are; bases = stores.0 }; shows = shows-places };
-    sessions = shows;
     cards = λ c valid.
         let one = carded.cards c (subst IsOwnValid (images c) valid) in
         record {
@@ -263,6 +264,16 @@ module _ (x a b : List ℕ) (start : ℕ) (items : List Item) (began now : Devic
 
       of_image : (c : Card) → (found_of o.found c).image ≡ card_image r c
       of_image c = found.image c ∙ sym (images c)
+
+      run-ends : EndsRun r out.marks.items began now
+      run-ends = ends-so (seconds_of start items) h.evented.recorded.supply (values_of run out) h.evented.recorded.recorded unit_whole card_whole found may.decodes
+
+      -- the unit's part of the theorem, with the last-kept minutes
+      unit-last : (s : UnitSafe (recorded x) (history_of r) (lost_of r) out.marks.items began.unit.clock now.unit) × TellsLast (last_kept x) s
+      unit-last =
+          let hr = h.evented.recorded.recorded in
+          safe-last (started x (valid_number a) (valid_number b) began.unit.clock) (history_of r) (lost_of r) hr.due hr.book out.marks.items now.unit hr.recorded.followed.follows
+          (is-carried (seconds_of start items) (values_of run out) (carried (values_of run out) hr.due hr.book hr.standing hr.brought) h.evented.recorded.supply hr.held).unit run-ends.safe.unit
 
       -- what was owed to it at the start does not hang on the seconds
       owes-as : (c : Card) (stays : List Stay) → AreOwed (IsOwed (rule_of o) (start_at o) (log_of out) (seconds_of start items) c (brought r0 c).owed) run.keeper.memory.registration (own_sizes (card_image r c)).activity stays (start_shown (card_image r c)) →
@@ -293,7 +304,7 @@ module _ (x a b : List ℕ) (start : ℕ) (items : List Item) (began now : Devic
       stores : HaveBases (rule_of o) (log_of out) (odometer_at x) (last_kept x) [] h.spans × ((y : List ℕ) → now.unit.may_leave y → MayStore (rule_of o) (odometer_at x) (last_kept x) h.spans (last_kept y) (odometer_at y))
       stores = end-stores o ss run out now h.evented.recorded h.spans h.ringed.spans_are h.stored
 
-      shows : TellFirst r began now
+      shows : ShowTheSide r began now
       shows y left =
           side-shown r began now y may.decodes
           (events-shown began now o (seconds_of start items) (log_of out) run.unfound run.next h.evented.recorded.supply h.evented.evented r refl images refl refl clocks y left)
@@ -330,9 +341,6 @@ due-supply IsDue h = refl
 due-supply IsLost h = absurd h
 
 module _ (x a b : List ℕ) (start : ℕ) (began now : Devices) (opened : Opened) (ready : IsReady (opened_with x a b) start opened began now) where
-  abbrev first-r : Recording
-  first-r = opened_with x a b
-
   abbrev first-o : Origin
   first-o = origin_of x a b start began
 
@@ -376,10 +384,15 @@ module _ (x a b : List ℕ) (start : ℕ) (began now : Devices) (opened : Opened
         two = ready.two;
         named = λ c valid. subst (λ (k : Known). IfSome k.number (λ n. card_number_bytes n ≡ (found_of f c).number)) (sym (same c)) (ready.named c);
         told = λ c valid. ap (λ (k : Known). is_some k.number) (same c) ∙ told c (valid-as c valid);
+        own = own;
         sizes = λ c valid. subst (λ (i : List ℕ). IsApplication (own_sizes i)) (sym (ready.found.image c)) (sizes c (valid-as c valid));
         entries = λ c valid. entries c;
       }
         where
+          own : (c : Card) → IsOwnValid (found_of f c).image → IsCards f.unit (found_of f c).number
+          own A valid = inl (valid-number a valid ∙ ap (λ (n : List ℕ). Some n) (sym (ready.found.number A valid)))
+          own B valid = inr (valid-number b valid ∙ ap (λ (n : List ℕ). Some n) (sym (ready.found.number B valid)))
+
           entries : (c : Card) → (found_of f c).start.entries ≡ (own_view (found_of f c).image).held.entries
           entries A = refl
           entries B = refl
@@ -443,21 +456,19 @@ module _ (x a b : List ℕ) (start : ℕ) (began now : Devices) (opened : Opened
       stay = λ none. record {
         says = registered;
         stays = λ c. [];
-        told = subst (λ (fs : List Find). AreMerged (filter (λ (g : Find). is_accepting g.verdict) fs) [] []) (sym finds) (refl, refl);
         befores = record {
           comings = [];
           lines = ap (λ (fs : List Find). filter (λ (g : Find). is_accepting g.verdict) fs) (sym finds);
           merged = (refl, refl);
           tells = λ stood y left. subst (TellsMore [] x) (sym (only_unit y left)) (tells-none x stood.points stood.dense);
         };
-        owed = λ c. tt;
         only = λ c. inl refl;
         hold = λ c. (tt, tt);
         placed = λ c valid. placed-bare (notes_in (log_of out) []) run.keeper.cabin c (bare c);
         since = λ c. [];
         lone = λ c. inl refl;
         judged = subst (λ (fs : List Find). AreMerged (filter (λ (g : Find). is_accepting g.verdict || is_late g.verdict) fs) [] []) (sym finds) (refl, refl);
-        turned = λ c valid. tt;
+        verdicts = λ c valid. tt;
         waits = λ c valid some. refl;
         each = λ c valid.
             subst (λ (ns : List Note). HasStays 0 (found_of f c) run.keeper.memory.registration (spells_of c ns) (sits_in run.keeper.cabin.slots.seats c) [] (session_of run.keeper.cabin.cards c) (card_of now c)) (sym (no-notes (log_of out)))

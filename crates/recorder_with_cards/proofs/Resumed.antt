@@ -37,7 +37,7 @@ use Rattle.unit_rule.specs.Rule.{Started}
 use Rattle.unit_rule.specs.Marks.{Holds}
 use Rattle.unit_rule.specs.Odometer.{odometer_by, odometer_after, ShowsOdometer, HasTravelled}
 use Rattle.unit_rule.proofs.Travelling.{odometer-sum}
-use Rattle.device_steps.specs.Rule.{Both, CardRests, IsTakenUp}
+use Rattle.device_steps.specs.Rule.{Both, CardRests, IsTakenUp, IsHeldMended}
 use Rattle.side_model.specs.Odometer.{SpanFrom}
 use Rattle.safety_model.specs.Safe.{Devices, card_of, breakdowns_of}
 use Rattle.slot_machine.specs.declared.seats.Seat.{Seat}
@@ -194,7 +194,7 @@ pub record IsReadAgain (o : Origin) (done : List TraceSecond) (p : Progress) (k 
 module _ (o : Origin) (origin : IsOrigin o) (done : List TraceSecond) (s : TraceSecond) (supply : Supply) (v : Values) (U X Y : State) (r : Recorded o done supply v (devices U X Y)) (may : MayPower supply v.next) (number : s.number ≡ v.next) (given : s.has_power ≡ true)
     (whole : IsCoherent U) (wholes : (c : Card) → IsCoherent (card_of (devices U X Y) c)) (works : U.works ≡ true) (j : Notes) (found_so : IfSome U.image (λ x. last_kept x ≡ j.kept))
     (W : State) (failed : Bool) (mends : LeavesOnly U W (IsMending j)) (tells : is_some W.image ≡ is_some U.image) (cause : HasCause U W failed)
-    (holds : (st : Started) (due : ℕ) (b : Book) (marks : List Mark) → Holds st due b marks U → Holds st due b marks W)
+    (holds : (st : Started) (due : ℕ) (b : Book) (marks : List Mark) → Holds st due b marks U → IsHeldMended st due b marks W)
     (taken_a : (q : Both) (c : Card) (b : Book) (z : Standing) → CardRests q c b z U X → IsTakenUp q c b z failed W X)
     (taken_b : (q : Both) (c : Card) (b : Book) (z : Standing) → CardRests q c b z U Y → IsTakenUp q c b z failed W Y)
     (old : Run) (out : Outcome) (values : values_of old out ≡ read_values j.kept v) where

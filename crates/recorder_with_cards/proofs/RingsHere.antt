@@ -55,9 +55,6 @@ here-then a b c u first next = record {
 pub here-more : (a b : RunLog) (u : ℕ) → TellsHere a b u → HasMoreBreaks a b
 here-more a b u h = (h.breaks.0, h.breaks.1)
 
-pub here-itself : (a : RunLog) (u : ℕ) → TellsHere a a u
-here-itself a u = record { breaks = ([], sym (append-nil a.breaks), tt); finds = ([], sym (append-nil a.finds), tt) }
-
 pub here-cut : (log : RunLog) (s : TraceSecond) (front : List Action) → TellsHere log (with_cut log s front) s.number
 here-cut log s front = record { breaks = (cut_at s.number true (length front) ∷ [], refl, (refl, tt)); finds = ([], sym (append-nil log.finds), tt) }
 
@@ -87,9 +84,6 @@ module _ (o : Origin) (done : List TraceSecond) (s : TraceSecond) (at : Phase) (
 
 -- ---- an action of it
 
-abbrev pub IsUncut : RunLog → (u : ℕ) → Type 0
-IsUncut log u = cut_in log u ≡ None
-
 begins-there : (o : Option ℕ) (k : ℕ) → o ≡ None → begins o k ≡ true
 begins-there o k none = ap (λ (c : Option ℕ). begins c k) none
 
@@ -111,8 +105,6 @@ module _ (log later : RunLog) (s : TraceSecond) (front rest : List Action) (a : 
   course-then before = behind-by later before (record { none = uncut; behind = inl uncut_later; torn = same.torn; found = same.found })
 
   -- ---- and where a cut is told behind it
-  abbrev log_cut : RunLog
-  log_cut = with_cut later s (front ++ a ∷ [])
 
   longer : length (front ++ a ∷ []) ≡ suc (length front)
   longer = let n = length-append front (a ∷ []) in omega (arith, n)

@@ -1,5 +1,5 @@
 -- The room of an action, and behind it.
-use Rattle.std.proofs.Common.{◌≡◌, ℕ, ◌+◌, ◌-◌, ◌*◌, ◌/◌, ◌<◌, ◌≤◌, length, ap, arith}
+use Rattle.std.proofs.Common.{◌≡◌, ℕ, ◌+◌, ◌-◌, ◌*◌, ◌/◌, ◌≤◌, length, ap, arith}
 use Rattle.run_outcome.specs.declared.outcome.TheConstants.{MOST_OWED}
 use Rattle.run_outcome.specs.declared.outcome.Outcome.{Outcome}
 use Rattle.run_acts.specs.declared.run.Run.{Run}
@@ -27,22 +27,6 @@ room-less from run o left less offs fewer insertions least actions few a b c d h
     let s = h.refused in
     record { breaks = omega (arith, a, b, c, p); finds = omega (arith, a, b, c, q); marks = omega (arith, a, b, c, r); refused = omega (arith, d, s) }
 
--- an action with power that puts in so many cards has room, and a cut behind it
-pub record ActRooms (run : Run) (o : Outcome) (k : ℕ) : Type 0 where
-  pub marks : length o.marks.items + 3 * run.minutes.owing + MOST_OWED * k ≤ o.marks.room
-  pub breaks : length o.breaks.items + falls_of run.keeper.cabin + k < o.breaks.room
-  pub finds : length o.finds.items + k + 2 ≤ o.finds.room
-
-pub act-rooms : (run : Run) (o : Outcome) (k actions : ℕ) → run.power ≡ Lit → run.minutes.owing ≤ run.next / 60 → HasRoomWithin run o 1 0 k actions → ActRooms run o k
-act-rooms run o k actions lit few h =
-    let f = ap (λ (q : Power). cuts_within q run.next) lit in
-    let w = ap (λ (q : Power). waiting q run.minutes.owing) lit in
-    let d = ap (λ (q : Power). finds_due (is_lit q) run.keeper.cabin) lit in
-    let b = h.breaks in
-    let fi = h.finds in
-    let m = h.marks in
-    record { marks = omega (arith, f, w, d, m, few); breaks = omega (arith, f, b); finds = omega (arith, f, d, fi) }
-
 -- and for the marks of what a card that is put in was owed
 pub put-room : (run : Run) (o : Outcome) (k actions : ℕ) → run.power ≡ Lit → run.minutes.owing ≤ run.next / 60 → HasRoomWithin run o 1 0 k actions → length o.marks.items + 3 * run.minutes.owing + MOST_OWED ≤ o.marks.room
 put-room run o k actions lit few h =
@@ -53,34 +37,6 @@ put-room run o k actions lit few h =
     omega (arith, f, w, d, m, few)
 
 module _ (old new : Run) (before after : Outcome) (k : ℕ) (next : new.next ≡ old.next) (lit : old.power ≡ Lit) (takes : Takes k k 0 old new before after) where
-  -- it goes on
-  pub room-on : new.power ≡ Lit → old.minutes.owing ≤ old.next / 60 → new.minutes.owing ≤ new.next / 60 → (left offs insertions actions : ℕ) → HasRoomWithin old before (1 + left) offs (k + insertions) (1 + actions) → HasRoomWithin new after (1 + left) offs insertions actions
-  room-on is few late left offs insertions actions h =
-      let f = ap (λ (q : Power). cuts_within q old.next) lit in
-      let t = ap (λ (q : Power). cuts_within q new.next) is in
-      let w = ap (λ (q : Power). waiting q old.minutes.owing) lit in
-      let v = ap (λ (q : Power). waiting q new.minutes.owing) is in
-      let d = ap (λ (q : Power). finds_due (is_lit q) old.keeper.cabin) lit in
-      let e = ap (λ (q : Power). finds_due (is_lit q) new.keeper.cabin) is in
-      let r0 = takes.rooms.0 in
-      let r1 = takes.rooms.1 in
-      let r2 = takes.rooms.2 in
-      let r3 = takes.rooms.3 in
-      let tm = takes.marks in
-      let tb = takes.breaks in
-      let tf = takes.finds in
-      let tr = takes.refused in
-      let b = h.breaks in
-      let fi = h.finds in
-      let m = h.marks in
-      let r = h.refused in
-      record {
-        breaks = omega (arith, next, f, t, r1, tb, b);
-        finds = omega (arith, next, f, t, d, e, r2, tf, fi);
-        marks = omega (arith, next, f, t, w, v, d, e, r0, tm, few, late, m);
-        refused = omega (arith, r3, tr, r);
-      }
-
   -- power was lost behind it, in the same second
   pub room-cut : (cut : Run) (told : Outcome) → cut.power ≡ Lost → cut.next ≡ new.next → old.minutes.owing ≤ old.next / 60 → falls_of cut.keeper.cabin ≤ falls_of new.keeper.cabin → length told.breaks.items ≡ length after.breaks.items + 1 → told.breaks.room ≡ after.breaks.room
       → told.marks ≡ after.marks → told.finds ≡ after.finds → told.refused ≡ after.refused

@@ -1,16 +1,15 @@
 -- The actions that wait for their second, item by item.
-use Rattle.std.proofs.Common.{◌≡◌, ◌⊎◌, inl, inr, ⊎_elim, ℕ, zero, suc, ◌+◌, ◌-◌, ◌≤◌, Some, List, [], ◌∷◌, ◌++◌, length, take, drop, true, false, refl, ap, sym, ◌∙◌, arith, length-append, append_assoc}
+use Rattle.std.proofs.Common.{◌≡◌, ◌⊎◌, inl, inr, ⊎_elim, ℕ, zero, suc, ◌+◌, ◌-◌, ◌≤◌, Some, List, [], ◌∷◌, ◌++◌, length, take, drop, refl, ap, sym, ◌∙◌, arith, length-append, append_assoc}
 use Rattle.std.specs.List.{slice_get}
 use Rattle.std.proofs.lemmas.List.{take_more, append-nil}
 use Rattle.std.proofs.lemmas.Option.{slice_get_within, get_or_from_slice_get}
 use Rattle.trace_model.specs.declared.Action.{Action}
 use Rattle.trace_model.specs.declared.Item.{Item}
 use Rattle.trace_model.specs.declared.Item.TheVariants.{Run, Off, Act}
-use Rattle.trace_model.specs.Trace.{TraceSecond, seconds_of, seconds_from, seconds_at, number_after, item_seconds, total_seconds, waiting_from, waiting_after}
+use Rattle.trace_model.specs.Trace.{seconds_of, seconds_at, number_after, item_seconds, total_seconds, waiting_from, waiting_after}
 use Rattle.std.proofs.lemmas.List.Sums.{sum_by-cons}
 use Rattle.trace_model.proofs.LeftToRight.{seconds_of-more}
 use Rattle.trace_text.specs.Trace.{RunComes, HasRuns}
-use Rattle.safety_model.specs.Safe.{first_of}
 use Rattle.recorder_with_cards.specs.Gone.{first_waiting}
 use Rattle.recorder_with_cards.specs.Items.{between}
 use Rattle.recorder_with_cards.specs.Recorded.{action_of, actions_in}
@@ -124,16 +123,3 @@ seconds-more start items i first item next here at w =
     ap (seconds_of start) (taken-more items i item here) ∙ seconds_of-more start (take i items) item
     ∙ ap (λ (n : ℕ). seconds_of start (take i items) ++ seconds_at n (waiting_after (take i items)) item) at
     ∙ ap (λ (acts : List Action). seconds_of start (take i items) ++ seconds_at next acts item) (sym w.are)
-
--- the first second of a trace is that of its start
-first-from : (items : List Item) (number : ℕ) (waiting : List Action) (s : TraceSecond) → first_of (seconds_from number waiting items) ≡ Some s → s.number ≡ number
-first-from [] number waiting s is = cc
-first-from (Run zero speed ∷ items) number waiting s is = first-from items (number + 0) [] s is ∙ (let e : number + 0 ≡ number = omega arith in e)
-first-from (Run (suc n) speed ∷ items) number waiting s is = let e : record { number = number; has_power = true; speed = speed; actions = waiting } ≡ s = cc in sym (ap (λ (x : TraceSecond). x.number) e)
-first-from (Off zero ∷ items) number waiting s is = first-from items (number + 0) waiting s is ∙ (let e : number + 0 ≡ number = omega arith in e)
-first-from (Off (suc n) ∷ items) number waiting s is = let e : record { number = number; has_power = false; speed = 0; actions = [] } ≡ s = cc in sym (ap (λ (x : TraceSecond). x.number) e)
-first-from (Act action ∷ items) number waiting s is = first-from items number (waiting ++ action ∷ []) s is
-
-pub first-second : (start : ℕ) (items : List Item) (s : TraceSecond) → first_of (seconds_of start items) ≡ Some s → s.number ≡ start
-unfolding seconds_of
-first-second start items s is = first-from items start [] s is

@@ -136,9 +136,6 @@ module _ (o : Origin) (done : List TraceSecond) (s : TraceSecond) (waits fewer :
   abbrev began : RunLog
   began = next.goes.within.b.run.log
 
-  abbrev cut_ : RunLog
-  cut_ = with_cut (log_of after) s []
-
   sat : SatThere (record { card = card; accepted = None }) (in_slot (went next.goes.within.b.run.log done).before.slots slot)
   sat = sat-both (log_of before) s.number (In 0) (unmoved (not (went next.goes.within.b.run.log done).before.running)) slot (fresh (not (went next.goes.within.b.run.log done).before.running) (went next.goes.within.b.run.log done).before.slots) (record { card = card; accepted = None }) next.next.sits_
 

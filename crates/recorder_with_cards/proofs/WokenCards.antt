@@ -126,9 +126,6 @@ module _ (o : Origin) (done : List TraceSecond) (s : TraceSecond) (began cut : R
   abbrev y : Seen
   y = seen_behind began done s [] cut
 
-  abbrev whole : Seen
-  whole = seen_by cut (went began done).before s
-
   quiet : IsQuiet (course_powered cut (went began done).before s) (lit_course cut s (not (went began done).before.running) (went began done).before.slots)
   quiet = cut-short o done s began cut l power [] s.actions refl cut_is
 

@@ -262,9 +262,6 @@ module _ (o : Origin) (done : List TraceSecond) (s : TraceSecond) (waits fewer :
       both CoDriver = none refl
   anew-by log later CoDriver vs none own others found = (others, own, found)
 
-  abbrev log_cut : RunLog
-  log_cut = with_cut (log_of after) s []
-
   cut-more : HasMoreBreaks (log_of before) (with_cut (log_of after) s [])
   cut-more = here-more (log_of before) (with_cut (log_of after) s []) s.number (here-then (log_of before) (log_of after) (with_cut (log_of after) s []) s.number j.here (here-cut (log_of after) s []))
 

@@ -4,7 +4,7 @@ use Rattle.std.proofs.lemmas.List.Elements.{Contains-append_left}
 use Rattle.trace_model.specs.Trace.{TraceSecond}
 use Rattle.minute_model.specs.Activity.{last}
 use Rattle.unit_model.specs.Image.{last_kept, odometer_at}
-use Rattle.log_model.specs.Log.{RunLog, cut_in}
+use Rattle.log_model.specs.Log.{cut_in}
 use Rattle.log_model.specs.Course.{Told, Went, has_power, went, second_told}
 use Rattle.history_model.specs.History.{cut_second}
 use Rattle.unit_course.specs.Lines.{cut_at, tells_cut}
@@ -35,9 +35,6 @@ cuts-below Lost next = omega arith
 
 module _ (o : Origin) (done : List TraceSecond) (s : TraceSecond) (p : Progress) (f : Followed (rule_of o) (start_at o) o.from (first_of o) done p) (comes : Comes (went p.log done).before p.next) (number : s.number ≡ p.next) (given : s.has_power ≡ true)
     (spans : List SpanFrom) (e : Devices) where
-  abbrev later : RunLog
-  later = with_cut p.log s []
-
   none : TellsNothing p.log s.number
   none = nothing-told (rule_of o) (start_at o) o.from (first_of o) done p f s.number (omega (arith, number))
 

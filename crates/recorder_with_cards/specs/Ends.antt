@@ -5,11 +5,11 @@ use Rattle.trace_model.specs.Trace.{TraceSecond, seconds_of}
 use Rattle.minute_model.specs.declared.Rule.TheVariants.{Original}
 use Rattle.log_model.specs.Log.{RunLog}
 use Rattle.unit_model.specs.Decoding.{Decodes}
-use Rattle.unit_model.specs.Image.{recorded, last_kept}
+use Rattle.unit_model.specs.Image.{last_kept}
 use Rattle.card_image.specs.Own.{own_number, IsOwnValid}
-use Rattle.safety_model.specs.Recording.{Recording, history_of, lost_of}
-use Rattle.safety_model.specs.Safe.{Devices, MayBegin, breakdowns_of}
-use Rattle.safety_model.specs.Side.{Side}
+use Rattle.safety_model.specs.Recording.{Recording}
+use Rattle.safety_model.specs.Safe.{Devices, breakdowns_of}
+use Rattle.unit_rule.specs.OtherRows.{KeepsRows}
 use Rattle.run_rule.specs.Opening.{BeginsAs}
 use Rattle.run_recorded.specs.Origin.{Origin}
 use Rattle.run_recorded.specs.Ends.{EndsRun}
@@ -22,7 +22,7 @@ use Rattle.run_acts.specs.Recording.{log_of}
 use Rattle.recorder_with_cards.specs.Written.{AreWritten}
 use Rattle.recorder_with_cards.specs.Stays.{HasAllStays}
 use Rattle.recorder_with_cards.specs.Still.{StayDense, KeepTheirHolders}
-use Rattle.recorder_with_cards.specs.Sessions.{TellFirst}
+use Rattle.recorder_with_cards.specs.Side.{ShowTheSide}
 use Rattle.recorder_with_cards.specs.KeptAfter.{TellsKept}
 use Rattle.recorder_with_cards.specs.LastKept.{TellsLast}
 use Rattle.recorder_with_cards.specs.Placed.{ShowTheirPlaces}
@@ -64,24 +64,25 @@ pub record MayRecord (unit card_a card_b : List ℕ) (start : ℕ) : Type 0 wher
   pub later : last_kept unit < start / 60
   pub numbers : IsOwnValid card_a → IsOwnValid card_b → own_number card_a ≢ own_number card_b
 
--- WHAT A RUN PROMISES that was recorded: it could begin, the crash-safety theorem holds of it, every image that a stop may leave of the unit
--- shows its auxiliary records, events and faults, insertions with their withdrawals, places, and the odometer, and every image of a card that was
--- valid has been written so; and where no call failed each of these shows exactly what its stays in the slots make of it. What was found kept
--- after its cuts was so, and the last-kept minute of each image of the unit is that of the last minute which it shows. Rings that were dense stay dense; each valid card stays its holder's, keeps all that no call writes, and shows the
--- places that were entered by it and its events of the run. As a card comes for the first time, the session is told as open on it that its image
--- at the start tells.
+-- WHAT A RUN PROMISES that was recorded: it could begin (`may`); the crash-safety theorem, causes and completeness hold of it (`ends`); every image that a
+-- stop may leave of the unit shows its auxiliary records: events and faults, insertions with their withdrawals, places, and the odometer (`side`); every
+-- image of a card that was valid has been written so (`written`), and where no call failed each of these shows exactly what its stays in the slots make of
+-- it (`stays`). What was found kept after its cuts was so (`kept`), and the last-kept minute of each image of the unit is that of the last minute which it
+-- shows (`last`). Rings that were dense stay dense (`dense`); each valid card stays its holder's, with all that no call writes (`holders`), and shows the
+-- places that were entered by it (`places`) and its events of the run (`cards`). The owed rows of every image of the unit since the start stand as they stood, or were taken for one
+-- of the two cards, and what is owed to any other card stays (`rows`).
 pub record EndsTrace (unit card_a card_b : List ℕ) (start : ℕ) (items : List Item) (out : Outcome) (began now : Devices) : Type 0 where
-  pub may : MayBegin (recording_of unit card_a card_b start items out)
+  pub may : MayRecord unit card_a card_b start
   pub ends : EndsRun (recording_of unit card_a card_b start items out) out.marks.items began now
-  pub side : Side (recording_of unit card_a card_b start items out) began now
+  pub side : ShowTheSide (recording_of unit card_a card_b start items out) began now
   pub written : AreWritten (recording_of unit card_a card_b start items out) now
   pub stays : HasAllStays (recording_of unit card_a card_b start items out) out.marks.items now
+  pub rows : (y : List ℕ) → now.unit.left_since began.unit.clock y → KeepsRows unit card_a card_b y
   pub kept : TellsKept (recording_of unit card_a card_b start items out) began.unit.clock now.unit
-  pub last : TellsLast (recorded unit) (last_kept unit) (history_of (recording_of unit card_a card_b start items out)) (lost_of (recording_of unit card_a card_b start items out)) out.marks.items began.unit.clock now.unit
+  pub last : TellsLast (last_kept unit) ends.safe.unit
   pub dense : StayDense (recording_of unit card_a card_b start items out) now
   pub holders : KeepTheirHolders (recording_of unit card_a card_b start items out) began now
   pub places : ShowTheirPlaces (recording_of unit card_a card_b start items out) now
-  pub sessions : TellFirst (recording_of unit card_a card_b start items out) began now
   pub cards : ShowTheirEvents (recording_of unit card_a card_b start items out) began now
 
 -- OR IT WAS KEPT FROM BEING RECORDED: by these images, or a call that has failed in the opening; each device is as it was.

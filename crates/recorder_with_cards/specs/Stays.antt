@@ -21,13 +21,17 @@ use Rattle.run_recorded.specs.Whole.{NothingFailed}
 use Rattle.unit_model.specs.Image.{odometer_at}
 use Rattle.card_session.specs.declared.session.Kept.{Kept}
 use Rattle.run_acts.specs.Closings.{spells_of}
-use Rattle.run_acts.specs.Truths.{past_of, IsOdometerBefore, IsOdometerBehind, IsWordIn}
-use Rattle.run_acts.specs.Stays.{Stay, TellsBefores, registration_in, acceptances_told, founds, spells, AreMerged, TellsOwed, ShowsStays, start_shown, AreTimely, AreOwed, judged_told, judged_in, AreTurnedAway}
+use Rattle.run_acts.specs.Truths.{past_of, IsOdometerBefore, IsOdometerBehind, IsWordIn, IsLineOf}
+use Rattle.run_acts.specs.Stays.{Stay, TellsBefores, registration_in, acceptances_told, spells, AreMerged, ShowsStays, start_shown, AreOwed, judged_told, judged_in, AreJudged}
 use Rattle.run_acts.specs.Owed.{IsOwed}
 
--- A STAY WAS CLOSED with the word of its slot, where it was, in the second of its withdrawal
+-- A STAY BEGAN with a line of its card's own entering
+abbrev pub IsEnteredSo : Recording → Card → Stay → Type 0
+IsEnteredSo r c s = IsLineOf r.trace c s.found
+
+-- IT WAS CLOSED with the word of its slot, where it was, in the second of its withdrawal
 abbrev pub IsClosedSo : Recording → Stay → Type 0
-IsClosedSo r s = IfSome s.closed (λ x. IsWordIn r.rule (past_of r.log r.trace) s.found.slot x.second x.word)
+IsClosedSo r s = IfSome s.closed (λ x. IsWordIn r.rule (past_of r.log r.trace) s.found x.second x.word)
 
 -- ITS ODOMETER is that of the run as its second begins; and of each minute that it kept, as that ends
 abbrev pub IsCountedSo : Recording → Stay → Type 0
@@ -39,40 +43,41 @@ IsCountedSo r s =
 abbrev pub IsAcknowledgedSo : List Mark → Card → Stay → Type 0
 IsAcknowledgedSo marks c s = All (λ (e : Entry). IsMarked marks (device_of c) e.minute) s.owed
 
--- THE STAYS OF A RUN's cards, in the vehicle that the unit's image says. THE ACCEPTANCES that the log tells, each in its order, are those of the one
--- card's stays and of the other's, and so many entries were owed as they tell. Only a card that was valid has some. EACH IMAGE that a stop may leave of it has exactly those days, with their
--- words and distances, and those vehicle entries, all of them, that they make of its image at the start: in each it was inserted, kept its minutes, each
--- with so many km as the odometer has grown since the one before, and was withdrawn with an activity, or was not; and a session that was left
--- open was cut at its end mark, and got the entries that the card lacked, as the next stay began. THEY ARE EXACTLY THE INSERTIONS of the card that
--- the run notes, each of that second and slot, in their order; and those were withdrawn of which the run notes a withdrawal, in its second, and no other. EACH BEGAN IN TIME: in a
--- second that is not earlier than the stored time of what the card showed by then; AND WHERE NONE BEGAN, as a card that was valid was found to tell of a later time, that is the stored
--- time of what it showed by then, which is later than the second: these lines are those before each stay, and since the last. EACH WAS CLOSED WITH THE ACTIVITY that its slot has as an action of that second withdraws its
--- card: by the seconds of the power span before it and what the actions before it select. THE ODOMETERS are those of the run: what the unit's image says at the start, with the whole
--- kilometres of each power span before, and of the span so far.
--- WHAT WAS OWED AT EACH, in order, is all that the unit had of the card, at the start and by the minutes since, that is later than the end mark of what the card showed by then, and nothing
--- else: of the minutes since, only those behind whose end a `tear` line pulled the card out before they were decided. Each entry of that has a mark of the
--- card.
+-- THE STAYS OF A RUN's cards, in the vehicle that the unit's image says.
+-- EACH LINE of the log that accepts a card, or tells that it stores a later time, is, in its order, the next of the one card's or of the other's
+-- (`judged`): of its stays, each with the lines before it, and of those since the last. Only a card that was valid has any (`only`). By each line of a
+-- stay its card was accepted, in a second that is not earlier than the stored time of what it showed by then, with as many entries owed as the line
+-- tells; and by each of the others it was turned away, in a second that is earlier than that time, which the line tells (`verdicts`).
+-- EACH IMAGE that a stop may leave of a card has exactly those days, with their words and distances, and those vehicle entries, all of them, that its
+-- stays make of its image at the start: in each it was inserted, kept its minutes, each with so many km as the odometer has grown since the one before,
+-- and was withdrawn with an activity, or was not; and a session that was left open was cut at its end mark, and got the entries that the card lacked, as
+-- the next stay began (`shows`).
 -- THE VEHICLE BEFORE of each insertion, as every image that a stop may leave of the unit tells it, is the newest vehicle entry of what the card's stays
--- before it make of its image at the start: in the order in which the log tells the acceptances, one entry each, the oldest giving way.
+-- before it make of its image at the start: in the order in which the log tells the acceptances, one entry each, the oldest giving way (`befores`).
+-- THEY ARE EXACTLY THE INSERTIONS of the card that the run notes, each of that second and slot, in their order; and those were withdrawn of which the run
+-- notes a withdrawal, in its second, and no other (`closed`). The line of each is of the action that puts the card in its slot, where it is not of a power-on
+-- (`entered`); and the card was withdrawn with the activity that the slot has as the first action behind that one withdraws from it: by the seconds of the
+-- power span before its second and what the actions before it select (`words`).
+-- THE ODOMETERS are those of the run: what the unit's image says at the start, with the whole kilometres of each power span before, and of the span so far.
+-- WHAT WAS OWED AT EACH, in order, is all that the unit had of the card, at the start and by the minutes since, that is later than the end mark of what the
+-- card showed by then, and nothing else: of the minutes since, only those behind whose end a `tear` line pulled this card out before they were decided, or,
+-- where the second of the acceptance decides them, in that second and before it (`owes`). Each entry of that has a mark of the card (`acknowledged`).
 pub record LeaveStays (r : Recording) (marks : List Mark) (now : Devices) : Type 0 where
   pub vehicle : Registration
   pub says : vehicle.0 ≡ registration_in r.unit
   pub stays : Card → List Stay
-  pub told : AreMerged (acceptances_told r.log) (founds (stays A)) (founds (stays B))
-  pub owed : (c : Card) → AllByRecursion TellsOwed (stays c)
-  pub only : (c : Card) → (stays c ≡ []) ⊎ IsOwnValid (card_image r c)
+  pub since : Card → List Find
+  pub only : (c : Card) → ((stays c ≡ []) × (since c ≡ [])) ⊎ IsOwnValid (card_image r c)
+  pub judged : AreMerged (judged_told r.log) (judged_in (stays A) (since A)) (judged_in (stays B) (since B))
+  pub verdicts : (c : Card) → IsOwnValid (card_image r c) → AreJudged vehicle (own_sizes (card_image r c)).activity (stays c) (since c) (start_shown (card_image r c))
   pub shows : (c : Card) → IsOwnValid (card_image r c) → ShowsStays vehicle (card_image r c) (stays c) (card_of now c)
   pub befores : TellsBefores (IsDense insertion_ring r.unit) r.unit (acceptances_told r.log) vehicle (card_image r) stays now.unit
   pub closed : (c : Card) → IsOwnValid (card_image r c) → spells (stays c) ≡ spells_of c (notes_of r.log (done_of r.log r.trace))
+  pub entered : (c : Card) → AllByRecursion (IsEnteredSo r c) (stays c)
   pub words : (c : Card) → AllByRecursion (IsClosedSo r) (stays c)
   pub odometers : (c : Card) → AllByRecursion (IsCountedSo r) (stays c)
   pub owes : (c : Card) → AreOwed (IsOwed r.rule (start_of r) r.log r.trace c (brought r c).owed) vehicle (own_sizes (card_image r c)).activity (stays c) (start_shown (card_image r c))
   pub acknowledged : (c : Card) → AllByRecursion (IsAcknowledgedSo marks c) (stays c)
-  pub since : Card → List Find
-  pub lone : (c : Card) → (since c ≡ []) ⊎ IsOwnValid (card_image r c)
-  pub judged : AreMerged (judged_told r.log) (judged_in (stays A) (since A)) (judged_in (stays B) (since B))
-  pub turned : (c : Card) → IsOwnValid (card_image r c) → AreTurnedAway vehicle (own_sizes (card_image r c)).activity (stays c) (since c) (start_shown (card_image r c))
-  pub timely : (c : Card) → IsOwnValid (card_image r c) → AreTimely vehicle (own_sizes (card_image r c)).activity (stays c) (start_shown (card_image r c))
 
 -- so it is where no call failed
 abbrev pub HasAllStays : Recording → List Mark → Devices → Type 0

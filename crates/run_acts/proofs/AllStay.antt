@@ -47,8 +47,8 @@ use Rattle.run_ringed.specs.OnCards.{HasRing}
 use Rattle.run_acts.specs.Comings.{VehicleTold, told_of, TellsMore, TellMore}
 use Rattle.run_acts.proofs.Comings.{tells-none, tells-then}
 use Rattle.run_acts.specs.Truths.{Truths, Grow}
-use Rattle.run_acts.specs.Stays.{Stay, Coming, comings_on, befores_of, TellsBefores, acceptances_told, founds, spells, sits_in, as_noted, IsPlaced, AreMerged, TellsOwed, StaysIn, HasStays, AreStays, AllStay, AreTrue, start_shown, judged_told, judged_in, AreTurnedAway}
-use Rattle.run_acts.proofs.Stays.{on_last, on-last-comings, on-last-founds, on-last-owed, on-last-none, on-last-true, with_kepts, true-kepts, all-true-grow, merged-one, merged-other, stays-still, stays-moved, stays-keep, on-last-owes, owes-grow, on-last-judged, on-last-turned}
+use Rattle.run_acts.specs.Stays.{Stay, Coming, comings_on, befores_of, TellsBefores, acceptances_told, spells, sits_in, as_noted, IsPlaced, AreMerged, StaysIn, HasStays, AreStays, AllStay, AreTrue, start_shown, judged_told, judged_in, AreJudged}
+use Rattle.run_acts.proofs.Stays.{on_last, on-last-comings, on-last-none, on-last-true, with_kepts, true-kepts, all-true-grow, merged-one, merged-other, stays-still, stays-moved, stays-keep, on-last-owes, owes-grow, on-last-judged, on-last-verdicts}
 
 -- ---- the log tells of no failed call
 
@@ -77,7 +77,7 @@ back-none p xs ys none = by (filter p xs) (sym (filter-append p xs ys) ∙ none)
 pub fewer-none : (log : RunLog) (more : List Break) → NothingFailed (record log { breaks = log.breaks ++ more }) → NothingFailed log
 fewer-none log more none = (front-none failed_cut log.breaks more none.0, front-none failed_tear log.breaks more none.1)
 
--- A LOG GOES ON, in which no call has failed: it tells the same acceptances
+-- A LOG GOES ON, in which no call has failed: it tells the same acceptances, and judges the same cards
 pub record Goes (log later : RunLog) : Type 0 where
   pub none : NothingFailed log
   pub finds : acceptances_told later ≡ acceptances_told log
@@ -124,21 +124,11 @@ pub kept_stays : Option Accepted → List Kept → List Stay → List Stay
 kept_stays None ks ss = ss
 kept_stays (Some a) ks ss = on_last (with_kepts ks) ss
 
-kept-founds : (s : Option Accepted) (ks : List Kept) (ss : List Stay) → founds (kept_stays s ks ss) ≡ founds ss
-unfolding kept_stays
-kept-founds None ks ss = refl
-kept-founds (Some a) ks ss = on-last-founds (with_kepts ks) (λ x. refl) ss
-
-kept-owed : (s : Option Accepted) (ks : List Kept) (ss : List Stay) → AllByRecursion TellsOwed ss → AllByRecursion TellsOwed (kept_stays s ks ss)
-unfolding kept_stays
-kept-owed None ks ss all = all
-kept-owed (Some a) ks ss all = on-last-owed (with_kepts ks) (λ x tells. tells) ss all
-
 kept-hold : (t : Truths) (c : Card) (r : Registration) (image : List ℕ) (s : Option Accepted) (ks : List Kept) (ss : List Stay) → AllByRecursion t.kept ks → AreTrue t c r image ss → AreTrue t c r image (kept_stays s ks ss)
 unfolding kept_stays
 kept-hold t c r image None ks ss more all = all
 kept-hold t c r image (Some a) ks ss more all = (
-  on-last-true t (with_kepts ks) ss (λ x last is. true-kepts t ks more x is) all.0,
+  on-last-true t c (with_kepts ks) ss (λ x front are is. true-kepts t c ks more x is) all.0,
   on-last-owes (t.owed c) (with_kepts ks) (λ x. refl) (λ x. refl) r (own_sizes image).activity ss (start_shown image) all.1,
 )
 
@@ -157,10 +147,10 @@ unfolding kept_stays
 kept-judged None ks ss since = refl
 kept-judged (Some a) ks ss since = on-last-judged (with_kepts ks) (λ x. refl) (λ x. refl) ss since
 
-kept-turned : (r : Registration) (image : List ℕ) (s : Option Accepted) (ks : List Kept) (ss : List Stay) (since : List Find) → (is_some s ≡ true → since ≡ []) → AreTurnedAway r (own_sizes image).activity ss since (start_shown image) → AreTurnedAway r (own_sizes image).activity (kept_stays s ks ss) since (start_shown image)
+kept-verdicts : (r : Registration) (image : List ℕ) (s : Option Accepted) (ks : List Kept) (ss : List Stay) (since : List Find) → (is_some s ≡ true → since ≡ []) → AreJudged r (own_sizes image).activity ss since (start_shown image) → AreJudged r (own_sizes image).activity (kept_stays s ks ss) since (start_shown image)
 unfolding kept_stays
-kept-turned r image None ks ss since waits h = h
-kept-turned r image (Some a) ks ss since waits h = on-last-turned (with_kepts ks) (λ x. refl) r (own_sizes image).activity ss since (start_shown image) (waits refl) h
+kept-verdicts r image None ks ss since waits h = h
+kept-verdicts r image (Some a) ks ss since waits h = on-last-verdicts (with_kepts ks) (λ p x is. is) r (own_sizes image).activity ss since (start_shown image) (waits refl) h
 
 -- its lines as more are told: none is new, or one is, that is its own
 abbrev pub JudgesOne : (lines later was now : List Find) → Type 0
@@ -172,23 +162,11 @@ ComesOne f r told later ss now U V =
     ((later ≡ told) × (comings_on r f.image now ≡ comings_on r f.image ss) × TellMore [] U V)
     ⊎ ((x : Coming) × (later ≡ told ++ x.found ∷ []) × (comings_on r f.image now ≡ comings_on r f.image ss ++ x ∷ []) × TellMore (told_of x.before ∷ []) U V)
 
--- the lines of its stays as more acceptances are told: none is new, or one is, that is its own
-abbrev pub TellsOne : (told later : List Find) → (ss now : List Stay) → Type 0
-TellsOne told later ss now = ((later ≡ told) × (founds now ≡ founds ss)) ⊎ ((g : Find) × (later ≡ told ++ g ∷ []) × (founds now ≡ founds ss ++ g ∷ []))
-
 merged-as : (lines later one now other : List Find) → later ≡ lines → now ≡ one → AreMerged lines one other → AreMerged later now other
 merged-as lines later one now other e k h = subst (λ (l : List Find). AreMerged l now other) (sym e) (subst (λ (l : List Find). AreMerged lines l other) (sym k) h)
 
 merged-as-other : (lines later one other now : List Find) → later ≡ lines → now ≡ other → AreMerged lines one other → AreMerged later one now
 merged-as-other lines later one other now e k h = subst (λ (l : List Find). AreMerged l one now) (sym e) (subst (λ (l : List Find). AreMerged lines one l) (sym k) h)
-
-one-told : (told later : List Find) (ss now : List Stay) (other : List Find) → TellsOne told later ss now → AreMerged told (founds ss) other → AreMerged later (founds now) other
-one-told told later ss now other (inl t) h = merged-as told later (founds ss) (founds now) other t.0 t.1 h
-one-told told later ss now other (inr t) h = merged-as (told ++ t.0 ∷ []) later (founds ss ++ t.0 ∷ []) (founds now) other t.1 t.2 (merged-one told (founds ss) other t.0 h)
-
-other-told : (told later : List Find) (ss now : List Stay) (one : List Find) → TellsOne told later ss now → AreMerged told one (founds ss) → AreMerged later one (founds now)
-other-told told later ss now one (inl t) h = merged-as-other told later one (founds ss) (founds now) t.0 t.1 h
-other-told told later ss now one (inr t) h = merged-as-other (told ++ t.0 ∷ []) later one (founds ss ++ t.0 ∷ []) (founds now) t.1 t.2 (merged-other told one (founds ss) t.0 h)
 
 one-judged : (lines later was now other : List Find) → JudgesOne lines later was now → AreMerged lines was other → AreMerged later now other
 one-judged lines later was now other (inl t) h = merged-as lines later was now other t.0 t.1 h
@@ -204,30 +182,26 @@ pub record Turns (truths : Truths) (card : Card) (second : ℕ) (f : CardFound) 
   pub left : List Find
   pub lone : (since ≡ []) ⊎ IsOwnValid f.image → (left ≡ []) ⊎ IsOwnValid f.image
   pub judged : JudgesOne (judged_told log) (judged_told later) (judged_in ss since) (judged_in now left)
-  pub turned : IsOwnValid f.image → HasStays second f r noted sits ss s X → (is_some s ≡ true → since ≡ []) → AreTurnedAway r (own_sizes f.image).activity ss since (start_shown f.image) → AreTurnedAway r (own_sizes f.image).activity now left (start_shown f.image)
+  pub verdicts : IsOwnValid f.image → HasStays second f r noted sits ss s X → (is_some s ≡ true → since ≡ []) → AreJudged r (own_sizes f.image).activity ss since (start_shown f.image) → AreJudged r (own_sizes f.image).activity now left (start_shown f.image)
   pub waits : IsOwnValid f.image → (is_some s ≡ true → since ≡ []) → is_some t ≡ true → left ≡ []
-  pub told : TellsOne (acceptances_told log) (acceptances_told later) ss now
-  pub owed : AllByRecursion TellsOwed ss → AllByRecursion TellsOwed now
   pub only : (ss ≡ []) ⊎ IsOwnValid f.image → (now ≡ []) ⊎ IsOwnValid f.image
   pub shows : IsOwnValid f.image → HasStays second f r noted sits ss s X → HasStays second f r noted_now sits_now now t Y
   pub hold : (ss ≡ []) ⊎ IsOwnValid f.image → (IsOwnValid f.image → HasStays second f r noted sits ss s X) → AreTrue truths card r f.image ss → AreTrue truths card r f.image now
   pub comes : (IsOwnValid f.image → HasStays second f r noted sits ss s X) → ComesOne f r (acceptances_told log) (acceptances_told later) ss now U V
 
 -- none begins
-pub turns-so : (truths : Truths) (card : Card) (second : ℕ) (f : CardFound) (log : RunLog) (r : Registration) (noted : List Spell) (sits : Bool) (s t : Option Accepted) (U V X Y : State) (turn : List Stay → List Stay) → ((ss : List Stay) → founds (turn ss) ≡ founds ss) → ((ss : List Stay) → AllByRecursion TellsOwed ss → AllByRecursion TellsOwed (turn ss))
+pub turns-so : (truths : Truths) (card : Card) (second : ℕ) (f : CardFound) (log : RunLog) (r : Registration) (noted : List Spell) (sits : Bool) (s t : Option Accepted) (U V X Y : State) (turn : List Stay → List Stay)
     → ((ss : List Stay) → ss ≡ [] → turn ss ≡ []) → ((ss : List Stay) → comings_on r f.image (turn ss) ≡ comings_on r f.image ss) → TellMore [] U V → ((ss : List Stay) (since : List Find) → judged_in (turn ss) since ≡ judged_in ss since)
-    → ((ss : List Stay) (since : List Find) → (is_some s ≡ true → since ≡ []) → AreTurnedAway r (own_sizes f.image).activity ss since (start_shown f.image) → AreTurnedAway r (own_sizes f.image).activity (turn ss) since (start_shown f.image)) → (IsOwnValid f.image → is_some t ≡ true → is_some s ≡ true)
+    → ((ss : List Stay) (since : List Find) → (is_some s ≡ true → since ≡ []) → AreJudged r (own_sizes f.image).activity ss since (start_shown f.image) → AreJudged r (own_sizes f.image).activity (turn ss) since (start_shown f.image)) → (IsOwnValid f.image → is_some t ≡ true → is_some s ≡ true)
     → (ss : List Stay) (since : List Find) → (IsOwnValid f.image → HasStays second f r noted sits ss s X → HasStays second f r noted sits (turn ss) t Y)
     → ((ss ≡ []) ⊎ IsOwnValid f.image → (IsOwnValid f.image → HasStays second f r noted sits ss s X) → AreTrue truths card r f.image ss → AreTrue truths card r f.image (turn ss)) → Turns truths card second f log log r noted noted sits sits s t U V X Y ss since
-turns-so truths card second f log r noted sits s t U V X Y turn same tells none comes go judged turned had ss since shows hold = record {
+turns-so truths card second f log r noted sits s t U V X Y turn none comes go judged verdicts had ss since shows hold = record {
   now = turn ss;
   left = since;
   lone = λ was. was;
   judged = inl (refl, judged ss since);
-  turned = λ valid h waits was. turned ss since waits was;
+  verdicts = λ valid h waits was. verdicts ss since waits was;
   waits = λ valid waits some. waits (had valid some);
-  told = inl (refl, same ss);
-  owed = tells ss;
   only = λ only. ⊎_elim (λ was. inl (none ss was)) (λ valid. inr valid) only;
   shows = shows;
   hold = hold;
@@ -379,8 +353,6 @@ module _ (o : Origin) (t : Truths) (u : ℕ) where
       record {
         says = h.says;
         stays = h.stays;
-        told = h.told;
-        owed = h.owed;
         only = h.only;
         each = λ c valid. by h c valid;
         hold = h.hold;
@@ -388,7 +360,7 @@ module _ (o : Origin) (t : Truths) (u : ℕ) where
         since = h.since;
         lone = h.lone;
         judged = h.judged;
-        turned = h.turned;
+        verdicts = h.verdicts;
         waits = h.waits;
         befores = befores-as (acceptances_told log) (acceptances_told log) r h.stays h.stays U V refl (λ c. refl) go h.befores;
       }
@@ -411,8 +383,6 @@ module _ (o : Origin) (t : Truths) (u : ℕ) where
       record {
         says = h.says;
         stays = h.stays;
-        told = merged-as (acceptances_told log) (acceptances_told later) (founds (h.stays A)) (founds (h.stays A)) (founds (h.stays B)) g.finds refl h.told;
-        owed = h.owed;
         only = h.only;
         each = λ c valid.
             let m = moves none c in
@@ -423,7 +393,7 @@ module _ (o : Origin) (t : Truths) (u : ℕ) where
         since = h.since;
         lone = h.lone;
         judged = merged-as (judged_told log) (judged_told later) (judged_in (h.stays A) (h.since A)) (judged_in (h.stays A) (h.since A)) (judged_in (h.stays B) (h.since B)) g.judged refl h.judged;
-        turned = h.turned;
+        verdicts = h.verdicts;
         waits = λ c valid some. h.waits c valid (had (session_of cabin.cards c) (session_of after.cards c) (moves none c).session some);
         befores = befores-as (acceptances_told log) (acceptances_told later) r h.stays h.stays d.unit d.unit g.finds (λ c. refl) (unit-still d.unit) h.befores;
       }
@@ -456,18 +426,16 @@ module _ (o : Origin) (t : Truths) (u : ℕ) where
   pub all-one : (c : Card) (log later : RunLog) (notes now : List Note) (r : Registration) (cabin after : Cabin) (U V X Y Z : State) → (NothingFailed later → NothingFailed log) → session_of after.cards (other c) ≡ session_of cabin.cards (other c) →
       sits_in after.slots.seats (other c) ≡ sits_in cabin.slots.seats (other c) →
       ((slot : Slot) → card_in (seat_in after.slots.seats slot) ≡ Some (other c) → card_in (seat_in cabin.slots.seats slot) ≡ Some (other c)) → (NothingFailed later → spells_of (other c) now ≡ spells_of (other c) notes)
-      → (NothingFailed later → IsPlaced notes cabin c → IsPlaced now after c) → (NothingFailed later → (ss : List Stay) (since : List Find) → TurnsOf c log later notes now r cabin after U V X Y ss since)
+      → (NothingFailed later → IsPlaced notes cabin c → IsPlaced now after c) → (NothingFailed later → (h : Are log notes r cabin (arranged c U X Z)) → TurnsOf c log later notes now r cabin after U V X Y (h.stays c) (h.since c))
       → AllStay o t u log notes r cabin (arranged c U X Z) → AllStay o t u later now r after (arranged c V Y Z)
   all-one A log later notes now r cabin after U V X Y Z fewer same seat beside spell place own all none = by (all (fewer none))
     where
       by : Are log notes r cabin (arranged A U X Z) → Are later now r after (arranged A V Y Z)
       by h =
-          let x = own none (h.stays A) (h.since A) in
+          let x = own none h in
           record {
             says = h.says;
             stays = with_mine A x.now h.stays;
-            told = one-told (acceptances_told log) (acceptances_told later) (h.stays A) x.now (founds (h.stays B)) x.told h.told;
-            owed = λ c. owed h x c;
             only = λ c. only h x c;
             each = λ c valid. each h x c valid;
             hold = λ c. hold h x c;
@@ -475,15 +443,11 @@ module _ (o : Origin) (t : Truths) (u : ℕ) where
             since = with_since A x.left h.since;
             lone = λ c. lone h x c;
             judged = one-judged (judged_told log) (judged_told later) (judged_in (h.stays A) (h.since A)) (judged_in x.now x.left) (judged_in (h.stays B) (h.since B)) x.judged h.judged;
-            turned = λ c valid. turned h x c valid;
+            verdicts = λ c valid. verdicts h x c valid;
             waits = λ c valid some. waits h x c valid some;
             befores = befores-turned A (acceptances_told log) (acceptances_told later) r h.stays x.now U V (x.comes (h.each A)) h.befores;
           }
         where
-          owed : (h : Are log notes r cabin (arranged A U X Z)) (x : TurnsOf A log later notes now r cabin after U V X Y (h.stays A) (h.since A)) (c : Card) → AllByRecursion TellsOwed (with_mine A x.now h.stays c)
-          owed h x A = x.owed (h.owed A)
-          owed h x B = h.owed B
-
           only : (h : Are log notes r cabin (arranged A U X Z)) (x : TurnsOf A log later notes now r cabin after U V X Y (h.stays A) (h.since A)) (c : Card) → (with_mine A x.now h.stays c ≡ []) ⊎ IsOwnValid (f c).image
           only h x A = x.only (h.only A)
           only h x B = h.only B
@@ -497,9 +461,9 @@ module _ (o : Origin) (t : Truths) (u : ℕ) where
           hold h x A = x.hold (h.only A) (h.each A) (h.hold A)
           hold h x B = h.hold B
 
-          turned : (h : Are log notes r cabin (arranged A U X Z)) (x : TurnsOf A log later notes now r cabin after U V X Y (h.stays A) (h.since A)) (c : Card) → IsOwnValid (f c).image → AreTurnedAway r (own_sizes (f c).image).activity (with_mine A x.now h.stays c) (with_since A x.left h.since c) (start_shown (f c).image)
-          turned h x A valid = x.turned valid (h.each A valid) (h.waits A valid) (h.turned A valid)
-          turned h x B valid = h.turned B valid
+          verdicts : (h : Are log notes r cabin (arranged A U X Z)) (x : TurnsOf A log later notes now r cabin after U V X Y (h.stays A) (h.since A)) (c : Card) → IsOwnValid (f c).image → AreJudged r (own_sizes (f c).image).activity (with_mine A x.now h.stays c) (with_since A x.left h.since c) (start_shown (f c).image)
+          verdicts h x A valid = x.verdicts valid (h.each A valid) (h.waits A valid) (h.verdicts A valid)
+          verdicts h x B valid = h.verdicts B valid
 
           waits : (h : Are log notes r cabin (arranged A U X Z)) (x : TurnsOf A log later notes now r cabin after U V X Y (h.stays A) (h.since A)) (c : Card) → IsOwnValid (f c).image → is_some (session_of after.cards c) ≡ true → with_since A x.left h.since c ≡ []
           waits h x A valid some = x.waits valid (h.waits A valid) some
@@ -516,12 +480,10 @@ module _ (o : Origin) (t : Truths) (u : ℕ) where
     where
       by : Are log notes r cabin (arranged B U X Z) → Are later now r after (arranged B V Y Z)
       by h =
-          let x = own none (h.stays B) (h.since B) in
+          let x = own none h in
           record {
             says = h.says;
             stays = with_mine B x.now h.stays;
-            told = other-told (acceptances_told log) (acceptances_told later) (h.stays B) x.now (founds (h.stays A)) x.told h.told;
-            owed = λ c. owed h x c;
             only = λ c. only h x c;
             each = λ c valid. each h x c valid;
             hold = λ c. hold h x c;
@@ -529,15 +491,11 @@ module _ (o : Origin) (t : Truths) (u : ℕ) where
             since = with_since B x.left h.since;
             lone = λ c. lone h x c;
             judged = other-judged (judged_told log) (judged_told later) (judged_in (h.stays B) (h.since B)) (judged_in x.now x.left) (judged_in (h.stays A) (h.since A)) x.judged h.judged;
-            turned = λ c valid. turned h x c valid;
+            verdicts = λ c valid. verdicts h x c valid;
             waits = λ c valid some. waits h x c valid some;
             befores = befores-turned B (acceptances_told log) (acceptances_told later) r h.stays x.now U V (x.comes (h.each B)) h.befores;
           }
         where
-          owed : (h : Are log notes r cabin (arranged B U X Z)) (x : TurnsOf B log later notes now r cabin after U V X Y (h.stays B) (h.since B)) (c : Card) → AllByRecursion TellsOwed (with_mine B x.now h.stays c)
-          owed h x A = h.owed A
-          owed h x B = x.owed (h.owed B)
-
           only : (h : Are log notes r cabin (arranged B U X Z)) (x : TurnsOf B log later notes now r cabin after U V X Y (h.stays B) (h.since B)) (c : Card) → (with_mine B x.now h.stays c ≡ []) ⊎ IsOwnValid (f c).image
           only h x A = h.only A
           only h x B = x.only (h.only B)
@@ -551,9 +509,9 @@ module _ (o : Origin) (t : Truths) (u : ℕ) where
           hold h x A = h.hold A
           hold h x B = x.hold (h.only B) (h.each B) (h.hold B)
 
-          turned : (h : Are log notes r cabin (arranged B U X Z)) (x : TurnsOf B log later notes now r cabin after U V X Y (h.stays B) (h.since B)) (c : Card) → IsOwnValid (f c).image → AreTurnedAway r (own_sizes (f c).image).activity (with_mine B x.now h.stays c) (with_since B x.left h.since c) (start_shown (f c).image)
-          turned h x A valid = h.turned A valid
-          turned h x B valid = x.turned valid (h.each B valid) (h.waits B valid) (h.turned B valid)
+          verdicts : (h : Are log notes r cabin (arranged B U X Z)) (x : TurnsOf B log later notes now r cabin after U V X Y (h.stays B) (h.since B)) (c : Card) → IsOwnValid (f c).image → AreJudged r (own_sizes (f c).image).activity (with_mine B x.now h.stays c) (with_since B x.left h.since c) (start_shown (f c).image)
+          verdicts h x A valid = h.verdicts A valid
+          verdicts h x B valid = x.verdicts valid (h.each B valid) (h.waits B valid) (h.verdicts B valid)
 
           waits : (h : Are log notes r cabin (arranged B U X Z)) (x : TurnsOf B log later notes now r cabin after U V X Y (h.stays B) (h.since B)) (c : Card) → IsOwnValid (f c).image → is_some (session_of after.cards c) ≡ true → with_since B x.left h.since c ≡ []
           waits h x A valid some = h.waits A valid (sym (ap (λ (q : Option Accepted). is_some q) same) ∙ some)
@@ -590,10 +548,6 @@ module _ (o : Origin) (t : Truths) (u : ℕ) where
       record {
         says = h.says;
         stays = λ c. kept_stays (session_of cabin.cards c) (ks c) (h.stays c);
-        told = merged-as (acceptances_told log) (acceptances_told later) (founds (h.stays A)) (founds (kept_stays (session_of cabin.cards A) (ks A) (h.stays A))) (founds (kept_stays (session_of cabin.cards B) (ks B) (h.stays B))) g.finds
-            (kept-founds (session_of cabin.cards A) (ks A) (h.stays A))
-            (merged-as-other (acceptances_told log) (acceptances_told log) (founds (h.stays A)) (founds (h.stays B)) (founds (kept_stays (session_of cabin.cards B) (ks B) (h.stays B))) refl (kept-founds (session_of cabin.cards B) (ks B) (h.stays B)) h.told);
-        owed = λ c. kept-owed (session_of cabin.cards c) (ks c) (h.stays c) (h.owed c);
         only = λ c. ⊎_elim (λ was. inl (kept-none (session_of cabin.cards c) (ks c) (h.stays c) was)) (λ valid. inr valid) (h.only c);
         each = λ c valid.
             as-same u (f c) r (spells_of c notes) (spells_of c now) (sits_in cabin.slots.seats c) (sits_in after.slots.seats c) (kept_stays (session_of cabin.cards c) (ks c) (h.stays c)) (session_of after.cards c) (session_of after.cards c) (card_of e c)
@@ -605,7 +559,7 @@ module _ (o : Origin) (t : Truths) (u : ℕ) where
             (kept-judged (session_of cabin.cards A) (ks A) (h.stays A) (h.since A))
             (merged-as-other (judged_told log) (judged_told log) (judged_in (h.stays A) (h.since A)) (judged_in (h.stays B) (h.since B)) (judged_in (kept_stays (session_of cabin.cards B) (ks B) (h.stays B)) (h.since B)) refl
             (kept-judged (session_of cabin.cards B) (ks B) (h.stays B) (h.since B)) h.judged);
-        turned = λ c valid. kept-turned r (f c).image (session_of cabin.cards c) (ks c) (h.stays c) (h.since c) (h.waits c valid) (h.turned c valid);
+        verdicts = λ c valid. kept-verdicts r (f c).image (session_of cabin.cards c) (ks c) (h.stays c) (h.since c) (h.waits c valid) (h.verdicts c valid);
         waits = λ c valid some. h.waits c valid (had-session c (ks c) (session_of cabin.cards c) (session_of after.cards c) (card_of d c) (card_of e c) (keep c valid) some);
         hold = λ c. kept-hold t c r (f c).image (session_of cabin.cards c) (ks c) (h.stays c) (kepts none c) (h.hold c);
         placed = λ c valid.
@@ -624,20 +578,18 @@ all-true o t now u log notes r cabin d grows all none =
     record {
       says = h.says;
       stays = h.stays;
-      told = h.told;
-      owed = h.owed;
       only = h.only;
       each = h.each;
       hold = λ c. (
-        all-true-grow t now (grows none) (h.stays c) (h.hold c).0,
-        owes-grow (t.owed c) (now.owed c) (λ second mark es was. (grows none).owed c second mark es was) r (own_sizes (found_of o.found c).image).activity (h.stays c) (start_shown (found_of o.found c).image) (h.hold c).1,
+        all-true-grow t now (grows none) c (h.stays c) (h.hold c).0,
+        owes-grow (t.owed c) (now.owed c) (λ g mark es was. (grows none).owed c g mark es was) r (own_sizes (found_of o.found c).image).activity (h.stays c) (start_shown (found_of o.found c).image) (h.hold c).1,
       );
       placed = h.placed;
       befores = h.befores;
       since = h.since;
       lone = h.lone;
       judged = h.judged;
-      turned = h.turned;
+      verdicts = h.verdicts;
       waits = h.waits;
     }
 
@@ -649,19 +601,17 @@ all-second o t u now log notes r cabin d sits all none =
     record {
       says = h.says;
       stays = h.stays;
-      told = h.told;
-      owed = h.owed;
       only = h.only;
       each = λ c valid.
           let e = h.each c valid in
-          record { shows = e.shows; goes = e.goes; spell = sitting (session_of cabin.cards c) (sits_in cabin.slots.seats c) (sits c) (spells (h.stays c)) ∙ e.spell; timely = e.timely };
+          record { shows = e.shows; goes = e.goes; spell = sitting (session_of cabin.cards c) (sits_in cabin.slots.seats c) (sits c) (spells (h.stays c)) ∙ e.spell };
       hold = h.hold;
       placed = h.placed;
       befores = h.befores;
       since = h.since;
       lone = h.lone;
       judged = h.judged;
-      turned = h.turned;
+      verdicts = h.verdicts;
       waits = h.waits;
     }
   where

@@ -129,10 +129,3 @@ accepted-session cards B n is = by cards.b.accepted is
 pub numbered-session : (cards : Cards) (seat : Option Seat) (card : Card) (n : FullCardNumber) → card_in seat ≡ Some card → number_of_seat cards seat ≡ Some n → is_some (session_of cards card) ≡ true
 numbered-session cards None card n here is = absurd (cc)
 numbered-session cards (Some seat) card n here is = let same : seat.card ≡ card = cc in accepted-session cards card n (subst (λ (c : Card). accepted_number (known_of cards c) ≡ Some n) same is)
-
-pub numbered-some : (cards : Cards) (seat : Option Seat) (card : Card) → card_in seat ≡ Some card → is_some (number_of_seat cards seat) ≡ true → is_some (session_of cards card) ≡ true
-numbered-some cards seat card here is = by (number_of_seat cards seat) refl is
-  where
-    by : (o : Option FullCardNumber) → number_of_seat cards seat ≡ o → is_some o ≡ true → is_some (session_of cards card) ≡ true
-    by None at h = absurd (cc)
-    by (Some n) at h = numbered-session cards seat card n here at

@@ -107,15 +107,6 @@ module _ (log : RunLog) (u : ℕ) (p : Phase) (moved : Moved) (slot : Slot) (c :
     torn = slot-torn.1;
   }
 
-  -- or nobody sits there
-  pub slot-empty : visits p slot c.slots ≡ [] → IsQuiet c (slot_told log u p moved slot c)
-  slot-empty none = record {
-    found = slot-found ∙ ap (λ (vs : List Visit). c.found ++ findings verdicts vs) none ∙ append-nil c.found;
-    entered = slot-entered;
-    more = slot-torn.0;
-    torn = slot-torn.1;
-  }
-
 -- what sits in the other slot is as it was
 beside-driver : (log : RunLog) (u : ℕ) (p : Phase) (moved : Moved) (c : Course) → (slot_told log u p moved Driver c).slots.codriver ≡ c.slots.codriver
 beside-driver log u p moved c = by (is_torn_in log u p Driver) (list_any is_accepting (verdicts log u p moved Driver c))

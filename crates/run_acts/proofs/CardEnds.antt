@@ -68,9 +68,6 @@ module _ (o : Origin) (done : List TraceSecond) (s : TraceSecond) (log : RunLog)
   abbrev was : Before
   was = (went log done).before
 
-  abbrev begun : Seen
-  begun = seen_behind log done s [] log
-
   -- no log tells of a find in it yet, so it finds no use
   begins-still : has_power (went log done).before s ≡ true → FoundTo log s.number 0 → notes_to log (went log done).before s [] ≡ [] → (c : Card) → FindsStill log log (uses_in o c (notes_in log done)) (uses_in o c (notes_now log done log s))
   begins-still power told none c failed = (
@@ -122,9 +119,6 @@ pub record IsLater (began later : RunLog) (done : List TraceSecond) (n : ℕ) : 
   pub some : 0 < n
 
 module _ (o : Origin) (done : List TraceSecond) (s : TraceSecond) (began later : RunLog) (l : IsLater began later done s.number) (power : has_power (went began done).before s ≡ true) where
-  abbrev before_it : Before
-  before_it = (went began done).before
-
   abbrev x : Seen
   x = seen_next later done s
 

@@ -259,15 +259,6 @@ module _ (from : ℕ) (old between new : Run) (at at2 : Moment) (breaks told aft
     (first_noted : IsNotedIn (card_in (seat_in old.keeper.cabin.slots.seats Driver)) Driver at old between breaks told fell)
     (second_noted : IsNotedIn (card_in (seat_in between.keeper.cabin.slots.seats CoDriver)) CoDriver at2 between new told after fell2)
     (event : CardEvent) (failed : Bool) (d m e : Devices) where
-  abbrev s0 : Card → Option Accepted
-  s0 card = session_of old.keeper.cabin.cards card
-
-  abbrev s1 : Card → Option Accepted
-  s1 card = session_of between.keeper.cabin.cards card
-
-  abbrev s2 : Card → Option Accepted
-  s2 card = session_of new.keeper.cabin.cards card
-
   abbrev Firsts : Type 0
   Firsts = NotesOnCards false old.keeper.cabin.cards between.keeper.cabin.cards (on_seat (seat_in old.keeper.cabin.slots.seats Driver) event) d m
 

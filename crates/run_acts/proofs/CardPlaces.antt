@@ -150,11 +150,6 @@ event-leaves c cards app event chip X Y whole ready told some run = by c some re
             let same : app ≡ a.session.application = cc in
             one a same
 
--- a card that has left no other image
-pub same-leaves : (session : Option Accepted) (X Y : State) → ((c : List ℕ) → Y.may_leave c → X.may_leave c) → LeavesPlaces session X Y
-same-leaves None X Y same = same
-same-leaves (Some a) X Y same = λ c left. (c, same c left, refl)
-
 -- one after another, where the session is as it was, or gone
 pub leaves-then : (q r : Option Accepted) (X Y Z : State) → (r ≡ q) ⊎ (r ≡ None) → LeavesPlaces q X Y → LeavesPlaces r Y Z → LeavesPlaces q X Z
 leaves-then None None X Y Z goes first next = λ c left. first c (next c left)

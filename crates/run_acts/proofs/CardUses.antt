@@ -68,9 +68,6 @@ module _ (log : RunLog) (was : Before) (s : TraceSecond) (front : List Action) (
   abbrev k : Course
   k = course_behind log was s front
 
-  abbrev more : List Note
-  more = notes_from log s (length front) (a ∷ []) (course_behind log was s front)
-
   unfound : accepted_in s.number (In (length front + 1)) (acted log s (length front) a (course_behind log was s front)).found ≡ []
   unfound = ap (accepted_in s.number (In (length front + 1))) (acted-unfound log s (length front) a (course_behind log was s front) none) ∙ none-ahead log was s front
 

@@ -1,5 +1,5 @@
 -- The session of a card that has left its slot is closed, behind the minutes that its leaving decides: what is recorded.
-use Rattle.std.proofs.Common.{◌≡◌, ◌∙◌, ◌⊎◌, inl, inr, ℕ, ◌+◌, ◌/◌, ◌^◌, ◌<◌, ◌≤◌, Bool, true, false, Option, Some, None, List, [], ◌∷◌, ◌++◌, is_some, refl, ap, sym, subst, arith}
+use Rattle.std.proofs.Common.{◌≡◌, ◌∙◌, ◌⊎◌, inl, inr, ℕ, suc, ◌+◌, ◌/◌, ◌^◌, ◌<◌, ◌≤◌, Bool, true, false, Option, Some, None, List, [], ◌∷◌, ◌++◌, length, is_some, refl, ap, sym, subst, arith}
 use Rattle.std.specs.Prelude.{IfSome}
 use Rattle.activity_codec.specs.declared.values.Activity.{Activity}
 use Rattle.activity_codec.specs.declared.values.Slot.{Slot}
@@ -58,6 +58,7 @@ use Rattle.run_acts.specs.Behind.{IsPoweredOrOff, carried_closed}
 use Rattle.run_acts.specs.Recording.{log_of, values_of, RunWithin, GoesOnOrFails}
 use Rattle.log_model.specs.Slots.{other_slot}
 use Rattle.trace_model.specs.declared.Action.{Action}
+use Rattle.trace_model.specs.declared.Action.TheVariants.{Withdraw}
 use Rattle.event_model.specs.declared.kinds.TheConstants.{CARD_FAULT}
 use Rattle.run_notes.specs.Entries.{entry_of}
 use Rattle.run_course.specs.Moments.{and_break}
@@ -85,13 +86,17 @@ use Rattle.run_keeping.proofs.CardDeeds.{does-close}
 use Rattle.side_model.specs.Noted.{Note}
 use Rattle.run_recorded.specs.Whole.{NothingFailed}
 use Rattle.run_acts.specs.Closings.{spells_of, with_last_shut, last_slot, notes_within}
+use Rattle.joint_rule.specs.Views.{other}
 use Rattle.run_acts.specs.Truths.{past_of, IsWordIn, truths_within, marked}
-use Rattle.run_acts.specs.Stays.{Shut, Stay, spells, sits_in, as_noted, ClosesOnCard, HasStays, AreTrue, start_shown}
+use Rattle.run_acts.specs.Stays.{Shut, Stay, spells, sits_in, as_noted, ClosesOnCard, HasStays, AreTrue, AreStays, start_shown, acceptances_told, judged_told}
 use Rattle.run_acts.specs.Comings.{TellMore}
-use Rattle.run_acts.proofs.Stays.{on_last, on-last-comings, on-last-founds, on-last-owed, on-last-none, on-last-true, last-shut-slot, with_end, stays-close, on-last-owes, on-last-judged, on-last-turned}
+use Rattle.run_acts.proofs.Stays.{on_last, on-last-comings, on-last-none, on-last-true, last-spelled, last-shut-slot, with_end, stays-close, on-last-owes, on-last-judged, on-last-verdicts}
 use Rattle.run_acts.proofs.AllStay.{turns-so, placed-bare, all-one, no-tear, mine-left, others-left}
 use Rattle.run_acts.proofs.SeatsThen.{sits-nowhere}
 use Rattle.run_acts.proofs.Words.{closed-now}
+use Rattle.run_acts.proofs.MinuteEnds.{followed-lit}
+use Rattle.run_acts.proofs.Since.{HasSat}
+use Rattle.run_acts.proofs.LastLine.{IsSince, since-line, only-second, acceptances-merged, lines-own, found_of_all, last-found}
 
 -- when a card was last used, behind the closing of its session
 closed-timed : (f : Found) (w : Carried) (cards : Cards) (c : Card) (U X Y Z : State) → AreFoundCards f cards → IsCoherent X → LARGEST_IMAGE ≤ X.size → (a : Accepted) (act : Activity) → session_of cards c ≡ Some a → IsPowered f w cards (arranged c U X Z) →
@@ -135,6 +140,10 @@ module _ {C : Type 0} (state : C → State) (c : Card) (slot : Slot) (at : Momen
       (rose-on (w.within.b.broken Recorder) U.breakdowns V.breakdowns (unit-of c U (state x) Z (λ (u : State). w.within.b.broken Recorder ≤ u.breakdowns) w.within.moment.unit)
       (rose-by U.breakdowns V.breakdowns (cause.breaks (parts-of o.found carries run.keeper.cabin.cards c U (state x) Z w.within.powered).unit.works bad)))
 
+  -- it has sat in its slot since it was accepted
+  abbrev SatHere : Type 0
+  SatHere = (actions rest : List Action) → s.actions ≡ actions ++ Withdraw slot ∷ rest → n ≡ suc (length actions) → HasSat slot c s.number actions (log_of told).finds
+
   second : at.second ≡ s.number
   second = ap (λ (m : Moment). m.second) moment
 
@@ -170,44 +179,56 @@ module _ {C : Type 0} (state : C → State) (c : Card) (slot : Slot) (at : Momen
         stays-close s.number (found_of o.found c) run.keeper.memory.registration (spells_of c so-far) (sits_in run.keeper.cabin.slots.seats c) (sits_in run.keeper.cabin.slots.seats c) ss shut.0 a (state x) (state y)
         (subst (λ (p : Application). ClosesOn p shut.0 (state x) (state y)) on.sizes (does-close a.session shut.0 (state x) (state y) sound whole (omega (arith, most, size)) on.session shut.2)) gone h
 
+    abbrev Held : Type 0
+    Held = AreStays o (marked told.marks.items (truths_within o w.within.b.run.log done s)) s.number so-far (acceptances_told (log_of told)) (judged_told (log_of told)) run.keeper.memory.registration run.keeper.cabin d
+
     -- what was true of its stays is so: the word is that of the slot, in which the last of them began
-    stays-hold : (shut : ClosesOnCard slot run.minutes (Some a) (state x) (state y)) → (NothingFailed (log_of told) → IsOwnValid (found_of o.found c).image → last_slot (spells_of c so-far) ≡ Some slot) → NothingFailed (log_of told) → (ss : List Stay) →
-        (ss ≡ []) ⊎ IsOwnValid (found_of o.found c).image → (IsOwnValid (found_of o.found c).image → HasStays s.number (found_of o.found c) run.keeper.memory.registration (spells_of c so-far) (sits_in run.keeper.cabin.slots.seats c) ss (Some a) (state x)) →
-        AreTrue (marked told.marks.items (truths_within o w.within.b.run.log done s)) c run.keeper.memory.registration (found_of o.found c).image ss → AreTrue (marked told.marks.items (truths_within o w.within.b.run.log done s)) c run.keeper.memory.registration (found_of o.found c).image (on_last (with_end (shut-by shut.0)) ss)
-    stays-hold shut placed none ss only shown all = (
-      on-last-true (marked told.marks.items (truths_within o w.within.b.run.log done s)) (with_end (shut-by shut.0)) ss (λ x last is. (is.0, is.1, by x last only)) all.0,
-      on-last-owes ((marked told.marks.items (truths_within o w.within.b.run.log done s)).owed c) (with_end (shut-by shut.0)) (λ x. refl) (λ x. refl) run.keeper.memory.registration (own_sizes (found_of o.found c).image).activity ss (start_shown (found_of o.found c).image) all.1,
+    stays-hold : (shut : ClosesOnCard slot run.minutes (Some a) (state x) (state y)) → (NothingFailed (log_of told) → IsOwnValid (found_of o.found c).image → last_slot (spells_of c so-far) ≡ Some slot) → SatHere → NothingFailed (log_of told) → (h : Held) →
+        (h.stays c ≡ []) ⊎ IsOwnValid (found_of o.found c).image → (IsOwnValid (found_of o.found c).image → HasStays s.number (found_of o.found c) run.keeper.memory.registration (spells_of c so-far) (sits_in run.keeper.cabin.slots.seats c) (h.stays c) (Some a) (state x)) →
+        AreTrue (marked told.marks.items (truths_within o w.within.b.run.log done s)) c run.keeper.memory.registration (found_of o.found c).image (h.stays c) →
+        AreTrue (marked told.marks.items (truths_within o w.within.b.run.log done s)) c run.keeper.memory.registration (found_of o.found c).image (on_last (with_end (shut-by shut.0)) (h.stays c))
+    stays-hold shut placed sat none h only shown all = (
+      on-last-true (marked told.marks.items (truths_within o w.within.b.run.log done s)) c (with_end (shut-by shut.0)) (h.stays c) (λ x front are is. (is.0, is.1, by x front are only, is.3)) all.0,
+      on-last-owes ((marked told.marks.items (truths_within o w.within.b.run.log done s)).owed c) (with_end (shut-by shut.0)) (λ x. refl) (λ x. refl) run.keeper.memory.registration (own_sizes (found_of o.found c).image).activity (h.stays c) (start_shown (found_of o.found c).image) all.1,
     )
       where
-        word : IsWordIn (rule_of o) (past_of w.within.b.run.log (done ++ s ∷ [])) slot s.number shut.0
-        word = closed-now o done s n [] [] v d w.within slot (record { phase = In n; slot = slot; card = c }) (leaving (ap is_some has)).leaves shut.0 (shut.1 w.within.sp w.within.minutes)
+        last-of : (x : Stay) (front : List Stay) → h.stays c ≡ front ++ x ∷ [] → last_slot (spells (h.stays c)) ≡ Some x.found.slot
+        last-of x front are = ap (λ (l : List Stay). last_slot (spells l)) are ∙ last-spelled front x
 
-        by : (x : Stay) → last_slot (spells ss) ≡ Some x.found.slot → (ss ≡ []) ⊎ IsOwnValid (found_of o.found c).image → IsWordIn (rule_of o) (past_of w.within.b.run.log (done ++ s ∷ [])) x.found.slot s.number shut.0
-        by x last (inl empty) = absurd (let wrong : None ≡ Some x.found.slot = sym (ap (λ (l : List Stay). last_slot (spells l)) empty) ∙ last in cc)
-        by x last (inr valid) =
-            let shut_then : with_last_shut s.number (spells ss) ≡ spells_of c so-far = sym (ap (λ (b : Bool). as_noted s.number (Some a) b (spells ss)) gone) ∙ (shown valid).spell in
-            let slots : Some slot ≡ Some x.found.slot = sym (placed none valid) ∙ ap last_slot (sym shut_then) ∙ last-shut-slot s.number (spells ss) ∙ last in
+        -- no action has withdrawn from the slot since that
+        since : (x : Stay) (front : List Stay) → h.stays c ≡ front ++ x ∷ [] → x.found.slot ≡ slot → (actions rest : List Action) → s.actions ≡ actions ++ Withdraw slot ∷ rest → n ≡ suc (length actions) → IsSince s.number x.found actions
+        since x front are there actions rest is count =
+            let order = followed-lit o done s (In n) [] None [] v d w.within in
+            since-line (done ++ s ∷ []) s (log_of told).finds actions rest slot c is (only-second o.from done s order.order (w.within.moment.number ∙ order.next)) (sat actions rest is count) (found_of_all (h.stays c)) (found_of_all (h.stays (other c)))
+            (acceptances-merged run.keeper.memory.registration (λ (k : Card). (own_sizes (found_of o.found k).image).activity) (λ (k : Card). start_shown (found_of o.found k).image) h.stays h.befores.comings (acceptances_told (log_of told)) h.befores.lines h.befores.merged c)
+            (lines-own (marked told.marks.items (truths_within o w.within.b.run.log done s)) (other c) (h.stays (other c)) (h.hold (other c)).0) (found_of_all front) x.found (last-found front x (h.stays c) are) there
+
+        by : (x : Stay) (front : List Stay) → h.stays c ≡ front ++ x ∷ [] → (h.stays c ≡ []) ⊎ IsOwnValid (found_of o.found c).image → IsWordIn (rule_of o) (past_of w.within.b.run.log (done ++ s ∷ [])) x.found s.number shut.0
+        by x front are (inl empty) = absurd (let wrong : None ≡ Some x.found.slot = sym (ap (λ (l : List Stay). last_slot (spells l)) empty) ∙ last-of x front are in cc)
+        by x front are (inr valid) =
+            let shut_then : with_last_shut s.number (spells (h.stays c)) ≡ spells_of c so-far = sym (ap (λ (b : Bool). as_noted s.number (Some a) b (spells (h.stays c))) gone) ∙ (shown valid).spell in
+            let slots : Some slot ≡ Some x.found.slot = sym (placed none valid) ∙ ap last_slot (sym shut_then) ∙ last-shut-slot s.number (spells (h.stays c)) ∙ last-of x front are in
             let same : slot ≡ x.found.slot = cc in
-            subst (λ (z : Slot). IsWordIn (rule_of o) (past_of w.within.b.run.log (done ++ s ∷ [])) z s.number shut.0) same word
+            closed-now o done s n [] [] v d w.within slot (record { phase = In n; slot = slot; card = c }) (leaving (ap is_some has)).leaves shut.0 (shut.1 w.within.sp w.within.minutes) x.found (sym same) (since x front are (sym same))
 
     called : IsCalledLeaving o done s (In n) v d e w.within slot c
     called = record { low = s.number / 60; leaving = leaving (ap is_some has); is_now = from; goes = goes; travels = travels }
 
     -- it is closed, and the card has not broken down
-    closed : (state y).breakdowns ≡ (state x).breakdowns → (NothingFailed (log_of told) → IsOwnValid (found_of o.found c).image → last_slot (spells_of c so-far) ≡ Some slot) → (failed ≡ false → TellMore [] U V) → ClosesOnCard slot run.minutes (Some a) (state x) (state y) → (b : Bool) → failed ≡ b → IsPoweredOrOff b o.found (carried_closed Closed c carries) (with_session c None run.keeper.cabin.cards) e → GoesOnOrFails b o done s (In n) [] (with_cabin (with_session_of c None run.keeper.cabin) run) told e w.within.b
-    closed calm placed go shut false is powered = goes-as o done s (In n) (In n) [] [] [] run (with_cabin (with_session_of c None run.keeper.cabin) run) told told d e w.within.from w refl refl (session-closed d e o done s (In n) v w.within slot c called (card-more c U V (state x) (state y) Z cause.breakdowns calm) powered)
+    closed : (state y).breakdowns ≡ (state x).breakdowns → (NothingFailed (log_of told) → IsOwnValid (found_of o.found c).image → last_slot (spells_of c so-far) ≡ Some slot) → (NothingFailed (log_of told) → SatHere) → (failed ≡ false → TellMore [] U V) → ClosesOnCard slot run.minutes (Some a) (state x) (state y) → (b : Bool) → failed ≡ b → IsPoweredOrOff b o.found (carried_closed Closed c carries) (with_session c None run.keeper.cabin.cards) e → GoesOnOrFails b o done s (In n) [] (with_cabin (with_session_of c None run.keeper.cabin) run) told e w.within.b
+    closed calm placed sat go shut false is powered = goes-as o done s (In n) (In n) [] [] [] run (with_cabin (with_session_of c None run.keeper.cabin) run) told told d e w.within.from w refl refl (session-closed d e o done s (In n) v w.within slot c called (card-more c U V (state x) (state y) Z cause.breakdowns calm) powered)
         (all-one o (marked told.marks.items (truths_within o w.within.b.run.log done s)) s.number c (log_of told) (log_of told) so-far so-far run.keeper.memory.registration run.keeper.cabin (with_session_of c None run.keeper.cabin) U V (state x) (state y) Z (λ none. none) (others-left c run.keeper.cabin.cards) refl (λ at_ there. there)
         (λ none. refl) (λ none was. placed-bare so-far (with_session_of c None run.keeper.cabin) c (mine-left c run.keeper.cabin.cards))
-        (λ none ss since. turns-so (marked told.marks.items (truths_within o w.within.b.run.log done s)) c s.number (found_of o.found c) (log_of told) run.keeper.memory.registration (spells_of c so-far) (sits_in run.keeper.cabin.slots.seats c) (session_of run.keeper.cabin.cards c) (session_of (with_session c None run.keeper.cabin.cards) c) U V (state x) (state y) (on_last (with_end (shut-by shut.0)))
-        (on-last-founds (with_end (shut-by shut.0)) (λ s. refl)) (on-last-owed (with_end (shut-by shut.0)) (λ s tells. tells)) (on-last-none (with_end (shut-by shut.0)))
+        (λ none h. turns-so (marked told.marks.items (truths_within o w.within.b.run.log done s)) c s.number (found_of o.found c) (log_of told) run.keeper.memory.registration (spells_of c so-far) (sits_in run.keeper.cabin.slots.seats c) (session_of run.keeper.cabin.cards c) (session_of (with_session c None run.keeper.cabin.cards) c) U V (state x) (state y) (on_last (with_end (shut-by shut.0)))
+        (on-last-none (with_end (shut-by shut.0)))
         (on-last-comings run.keeper.memory.registration (found_of o.found c).image (with_end (shut-by shut.0)) (λ s. refl)) (go is)
         (λ all lines. on-last-judged (with_end (shut-by shut.0)) (λ s. refl) (λ s. refl) all lines)
-        (λ all lines waits was. on-last-turned (with_end (shut-by shut.0)) (λ s. refl) run.keeper.memory.registration (own_sizes (found_of o.found c).image).activity all lines (start_shown (found_of o.found c).image) (waits (ap is_some has)) was)
-        (λ valid some. absurd (let wrong : false ≡ true = sym (ap (λ (q : Option Accepted). is_some q) (mine-left c run.keeper.cabin.cards)) ∙ some in cc)) ss since
-        (λ valid h. subst (λ (q : Option Accepted). HasStays s.number (found_of o.found c) run.keeper.memory.registration (spells_of c so-far) (sits_in run.keeper.cabin.slots.seats c) (on_last (with_end (shut-by shut.0)) ss) q (state y)) (sym (mine-left c run.keeper.cabin.cards))
-        (stays-closed shut valid ss (subst (λ (q : Option Accepted). HasStays s.number (found_of o.found c) run.keeper.memory.registration (spells_of c so-far) (sits_in run.keeper.cabin.slots.seats c) ss q (state x)) has h)))
-        (λ only shown all. stays-hold shut placed none ss only (λ valid. subst (λ (q : Option Accepted). HasStays s.number (found_of o.found c) run.keeper.memory.registration (spells_of c so-far) (sits_in run.keeper.cabin.slots.seats c) ss q (state x)) has (shown valid)) all)) w.stay)
-    closed calm placed go shut true is powerless = record {
+        (λ all lines waits was. on-last-verdicts (with_end (shut-by shut.0)) (λ p s is. is) run.keeper.memory.registration (own_sizes (found_of o.found c).image).activity all lines (start_shown (found_of o.found c).image) (waits (ap is_some has)) was)
+        (λ valid some. absurd (let wrong : false ≡ true = sym (ap (λ (q : Option Accepted). is_some q) (mine-left c run.keeper.cabin.cards)) ∙ some in cc)) (h.stays c) (h.since c)
+        (λ valid own. subst (λ (q : Option Accepted). HasStays s.number (found_of o.found c) run.keeper.memory.registration (spells_of c so-far) (sits_in run.keeper.cabin.slots.seats c) (on_last (with_end (shut-by shut.0)) (h.stays c)) q (state y)) (sym (mine-left c run.keeper.cabin.cards))
+        (stays-closed shut valid (h.stays c) (subst (λ (q : Option Accepted). HasStays s.number (found_of o.found c) run.keeper.memory.registration (spells_of c so-far) (sits_in run.keeper.cabin.slots.seats c) (h.stays c) q (state x)) has own)))
+        (λ only shown all. stays-hold shut placed (sat none) none h only (λ valid. subst (λ (q : Option Accepted). HasStays s.number (found_of o.found c) run.keeper.memory.registration (spells_of c so-far) (sits_in run.keeper.cabin.slots.seats c) (h.stays c) q (state x)) has (shown valid)) all)) w.stay)
+    closed calm placed sat go shut true is powerless = record {
       waits = [];
       cabin = with_session_of c None run.keeper.cabin;
       same = refl;
@@ -250,9 +271,9 @@ module _ {C : Type 0} (state : C → State) (c : Card) (slot : Slot) (at : Momen
       (none-told told.breaks.items after.items (closed_breaks closing slot at) (ap (λ (l : Listed Break). l.items) is) (ap (λ (k : Closing). failed_tears (closed_breaks k slot at)) shut))
 
   -- SO IT IS RECORDED, whatever became of it
-  pub closed-recorded : (is_some (session_of run.keeper.cabin.cards c) ≡ true → NothingFailed (log_of told) → IsOwnValid (found_of o.found c).image → last_slot (spells_of c (notes_within w.within.b done s (In n) (log_of told))) ≡ Some slot) → (failed ≡ false → TellMore [] U V) → (new : Run) (after : Listed Break) (closing : Closing) → (closing ≡ Closed → ClosesOnCard slot run.minutes (session_of run.keeper.cabin.cards c) (state x) (state y)) → IsClosed c slot at run new told.breaks after closing →
+  pub closed-recorded : (is_some (session_of run.keeper.cabin.cards c) ≡ true → NothingFailed (log_of told) → IsOwnValid (found_of o.found c).image → last_slot (spells_of c (notes_within w.within.b done s (In n) (log_of told))) ≡ Some slot) → (is_some (session_of run.keeper.cabin.cards c) ≡ true → NothingFailed (log_of told) → SatHere) → (failed ≡ false → TellMore [] U V) → (new : Run) (after : Listed Break) (closing : Closing) → (closing ≡ Closed → ClosesOnCard slot run.minutes (session_of run.keeper.cabin.cards c) (state x) (state y)) → IsClosed c slot at run new told.breaks after closing →
       IsCalm told.breaks.items after.items (state x) (state y) → HasBroken (state x) (state y) (closed_falls closing) → GoesOnOrFails failed o done s (In n) [] new (record told { breaks = after }) (arranged c V (state y) Z) w.within.b
-  closed-recorded placed go new after closing shut is calm broken =
+  closed-recorded placed sat go new after closing shut is calm broken =
       subst (λ (r : Run). GoesOnOrFails failed o done s (In n) [] r (record told { breaks = after }) e w.within.b) (sym is.run)
       (subst (λ (l : Listed Break). GoesOnOrFails failed o done s (In n) [] (with_cabin (closed_cabin closing c at.second run.keeper.cabin) run) (record told { breaks = l }) e w.within.b) (sym is.told)
       (by (session_of run.keeper.cabin.cards c) refl closing shut (rests-closed after closing is.told calm) is.is broken))
@@ -271,7 +292,7 @@ module _ {C : Type 0} (state : C → State) (c : Card) (slot : Slot) (at : Momen
       by (Some a) has Bare shut rests how broke_ = absurd (subst (λ (q : Option Accepted). IsClosingOf q Bare) has how)
       by (Some a) has Closed shut rests how broke_ =
           subst (λ (l : Listed Break). GoesOnOrFails failed o done s (In n) [] (with_cabin (with_session_of c None run.keeper.cabin) run) (record told { breaks = l }) e w.within.b) (no-lines told.breaks)
-          (closed a has (rests refl) (placed (ap is_some has)) go (subst (λ (q : Option Accepted). ClosesOnCard slot run.minutes q (state x) (state y)) has (shut refl)) failed refl (powered Closed how))
+          (closed a has (rests refl) (placed (ap is_some has)) (sat (ap is_some has)) go (subst (λ (q : Option Accepted). ClosesOnCard slot run.minutes q (state x) (state y)) has (shut refl)) failed refl (powered Closed how))
       by (Some a) has Fell shut rests how broke_ = fell a has broke_ failed refl (powered Fell how)
 
   -- ---- its events

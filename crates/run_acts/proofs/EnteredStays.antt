@@ -63,8 +63,8 @@ use Rattle.card_records.specs.declared.vehicle.Vehicle.{Vehicle}
 use Rattle.card_session.specs.Books.{Book, mark_of}
 use Rattle.card_session.specs.Sessions.{book_of}
 use Rattle.run_acts.specs.Comings.{told_of, TellMore}
-use Rattle.run_acts.specs.Stays.{Stay, after_stays, start_shown, acceptances_told, sits_in, IsPlaced, AllStay, is_late, judged_told, judged_in, AreTurnedAway, stored_by, HasStays}
-use Rattle.run_acts.proofs.Stays.{coming_behind, one-coming, owed-more, founds-more, true-more, last-slot-more, stays-still, stays-moved, stays-open, owes-more, judged-more, judged-late, turned-more, turned-late, stored-shown}
+use Rattle.run_acts.specs.Stays.{Stay, after_stays, start_shown, acceptances_told, sits_in, IsPlaced, AllStay, is_late, judged_told, judged_in, AreJudged, stored_by, HasStays}
+use Rattle.run_acts.proofs.Stays.{coming_behind, one-coming, true-more, last-slot-more, stays-still, stays-moved, stays-open, owes-more, judged-more, judged-late, verdicts-more, verdicts-late, stored-shown, in-time}
 use Rattle.run_acts.proofs.AllStay.{Turns, placed-bare, all-of, all-one, fewer-none, no-tear, mine-left, JudgesOne}
 use Rattle.run_acts.proofs.SeatsThen.{torn-other, put-own, put-again, torn-slot, filled-slot, filled-own}
 use Rattle.run_acts.proofs.NotesThen.{accepted-now, rejected-now, elsewhere-now}
@@ -138,7 +138,7 @@ TellsBy u (Lost entered clock entry) f U W X = Unit {0}
 module _ (o : Origin) (e : Entering) (failed : Bool) (well : failed ≡ false) (k v : Keeper) (noted noted_after : ℕ) (out after : Outcome) (U W X Y Z : State) (notes : RunLog → List Note) (judges : (verdict : Verdict) → NotesFind e (log_of out) notes verdict)
     (seat : seat_in k.cabin.slots.seats e.slot ≡ Some (record { card = e.which; newest = None })) (elsewhere : is_card (seat_in k.cabin.slots.seats (other_slot e.slot)) e.which ≡ false) (t : Truths) (u : ℕ) (room : length out.marks.items + most_owed ≤ out.marks.room)
     (sound : (y : List ℕ) → X.may_leave y → IsOwnValid y → IsOwnValid (found_of o.found e.which).image)
-    (tells_odometer : NothingFailed (log_of out) → (verdict : Verdict) → t.accepted (find_of e verdict) e.odometer.0) where
+    (tells_odometer : NothingFailed (log_of out) → (verdict : Verdict) → t.accepted (find_of e verdict) e.odometer.0 × t.entered e.which (find_of e verdict)) where
   abbrev f : CardFound
   f = found_of o.found e.which
 
@@ -172,7 +172,7 @@ module _ (o : Origin) (e : Entering) (failed : Bool) (well : failed ≡ false) (
 
   -- what was owed to it as it was looked at, by an image that it may have left, where each entry of it has its mark by now
   abbrev OwesIn : Carried → Type 0
-  OwesIn w = NothingFailed (log_of out) → (entered : Entered) → IsToldSo o.found w e entered U X → All (λ (d : Entry). IsMarked after.marks.items (device_of e.which) d.minute) entered.owed.items → (y : List ℕ) × X.may_leave y × t.owed e.which e.at.second (mark_of (book_of (own_sizes f.image) y)) entered.owed.items
+  OwesIn w = NothingFailed (log_of out) → (entered : Entered) → IsToldSo o.found w e entered U X → All (λ (d : Entry). IsMarked after.marks.items (device_of e.which) d.minute) entered.owed.items → (y : List ℕ) × X.may_leave y × t.owed e.which (find_of e (AcceptedWith entered.replayed)) (mark_of (book_of (own_sizes f.image) y)) entered.owed.items
 
   -- what becomes of its stays, as it sits in this cabin behind it
   abbrev TurnsBy : Ending → Cabin → Option Accepted → List Stay → List Find → Type 0
@@ -181,16 +181,14 @@ module _ (o : Origin) (e : Entering) (failed : Bool) (well : failed ≡ false) (
   -- a card that is turned away
   turned-away : (ending : Ending) (cabin : Cabin) → acceptances_told (log_by ending) ≡ acceptances_told (log_of out) → spells_of e.which (notes (log_by ending)) ≡ spells_of e.which (notes (log_of out)) → (IsOwnValid f.image → DoesOn (own_sizes f.image) [] X Y) → TellMore [] U W → (ss : List Stay) (since left : List Find) →
       JudgesOne (judged_told (log_of out)) (judged_told (log_by ending)) (judged_in ss since) (judged_in ss left) →
-      (IsOwnValid f.image → HasStays u f vehicle (spells_of e.which (notes (log_of out))) (sits_in k.cabin.slots.seats e.which) ss None X → AreTurnedAway vehicle (own_sizes f.image).activity ss since (start_shown f.image) → AreTurnedAway vehicle (own_sizes f.image).activity ss left (start_shown f.image)) → ((since ≡ []) ⊎ IsOwnValid f.image → (left ≡ []) ⊎ IsOwnValid f.image) → TurnsBy ending cabin None ss since
-  turned-away ending cabin same spell does go ss since left judged turned lone = record {
+      (IsOwnValid f.image → HasStays u f vehicle (spells_of e.which (notes (log_of out))) (sits_in k.cabin.slots.seats e.which) ss None X → AreJudged vehicle (own_sizes f.image).activity ss since (start_shown f.image) → AreJudged vehicle (own_sizes f.image).activity ss left (start_shown f.image)) → ((since ≡ []) ⊎ IsOwnValid f.image → (left ≡ []) ⊎ IsOwnValid f.image) → TurnsBy ending cabin None ss since
+  turned-away ending cabin same spell does go ss since left judged verdicts lone = record {
     now = ss;
     left = left;
     lone = lone;
     judged = judged;
-    turned = λ valid h waits was. turned valid h was;
+    verdicts = λ valid h waits was. verdicts valid h was;
     waits = λ valid waits some. absurd (let wrong : false ≡ true = some in cc);
-    told = inl (same, refl);
-    owed = λ all. all;
     only = λ only. only;
     shows = λ valid h.
         stays-moved u f vehicle (spells_of e.which (notes (log_of out))) (spells_of e.which (notes (log_by ending))) (sits_in k.cabin.slots.seats e.which) (sits_in cabin.slots.seats e.which) ss None None Y (λ goes. goes) (λ was. was ∙ sym spell)
@@ -213,7 +211,7 @@ module _ (o : Origin) (e : Entering) (failed : Bool) (well : failed ≡ false) (
       let shown = h.shows y.0 y.1 in
       let same : stored ≡ stored_by (after_stays vehicle (own_sizes f.image).activity ss (start_shown f.image)) =
       y.3 valid ∙ stored-shown (own_sizes f.image) y.0 (after_stays vehicle (own_sizes f.image).activity ss (start_shown f.image)) shown.0 shown.1 in
-      turned-late vehicle (own_sizes f.image).activity ss since (find_of e (TimeOverlap stored e.at.second)) (start_shown f.image) was
+      verdicts-late vehicle (own_sizes f.image).activity ss since (find_of e (TimeOverlap stored e.at.second)) (start_shown f.image) was
       (ap (λ (n : ℕ). TimeOverlap n e.at.second) same, subst (λ (n : ℕ). e.at.second < n) same y.4)) (λ was. inr (sound tells.1.0 tells.1.1 tells.1.2))
   own-judged Fell behind app w owes cabin is told opens tells none ss since = no-tear (log_of out) e.slot e.at none
   own-judged Unasked behind app w owes cabin is told opens tells none ss since = fails is
@@ -223,26 +221,29 @@ module _ (o : Origin) (e : Entering) (failed : Bool) (well : failed ≡ false) (
     left = [];
     lone = λ was. inl refl;
     judged = inr (find_of e (AcceptedWith entered.replayed), filter-append judging (log_of out).finds (find_of e (AcceptedWith entered.replayed) ∷ []), judged-more ss (new_stay entered since));
-    turned = λ valid h waits was. turned-more vehicle (own_sizes f.image).activity ss (new_stay entered since) (start_shown f.image) was;
+    verdicts = λ valid h waits was.
+        let x = told.found.card_image in
+        let shown = h.shows x told.found.there in
+        let seen = ap (λ (v : CardView). v.stored) (own-is (own_sizes f.image) x told.found.sizes) in
+        let le = told.found.early in
+        verdicts-more vehicle (own_sizes f.image).activity ss (new_stay entered since) (start_shown f.image) was (ap AcceptedWith told.whole)
+        (in-time (own_sizes f.image) x (after_stays vehicle (own_sizes f.image).activity ss (start_shown f.image)) e.at.second shown.0 shown.1 (omega (arith, seen, le)));
     waits = λ valid waits some. refl;
-    told = inr (find_of e (AcceptedWith entered.replayed), filter-append accepting (log_of out).finds (find_of e (AcceptedWith entered.replayed) ∷ []), founds-more ss (new_stay entered since));
-    owed = λ all. owed-more ss (new_stay entered since) all (ap AcceptedWith told.whole);
     only = λ only. inr told.valid;
     shows = λ valid h.
         stays-open u f vehicle (spells_of e.which (notes (log_of out))) (spells_of e.which (notes (log_by (Seated entered clock entry)))) (sits_in k.cabin.slots.seats e.which) (sits_in (cabin_by (Seated entered clock entry) e noted cabin).slots.seats e.which) ss
         (find_of e (AcceptedWith entered.replayed)) e.odometer.0 entered.owed.items since (record { session = entered.session; entry = entry; noted = and_one noted }) X Y is.1.vehicle is.1.fresh (opens valid)
         (put-own cabin.slots.seats e.slot e.which (Some entered.session.minute))
-        (ap (λ (l : RunLog). spells_of e.which (notes l)) (one-find (AcceptedWith entered.replayed)) ∙ (judges (AcceptedWith entered.replayed)).accepts refl)
-        (let x = told.found.card_image in let seen = ap (λ (v : CardView). v.stored) (own-is (own_sizes f.image) x told.found.sizes) in let le = told.found.early in (x, told.found.there, omega (arith, seen, le))) h;
+        (ap (λ (l : RunLog). spells_of e.which (notes l)) (one-find (AcceptedWith entered.replayed)) ∙ (judges (AcceptedWith entered.replayed)).accepts refl) h;
     hold = λ only shown all.
         let before = fewer-none (log_of out) (breaks_by (Seated entered clock entry) e) none in
         let most = told.most in
         let marks : after.marks.items ≡ out.marks.items ++ card_marks e.which clock entered.owed.items =
         ap (λ (p : Outcome). p.marks.items) behind ∙ marks-are e.which clock entered.owed.items entered.replayed out.marks told.whole (omega (arith, room, most)) in
         let x = owes before entered told (subst (λ (ms : List Mark). All (λ (d : Entry). IsMarked ms (device_of e.which) d.minute) entered.owed.items) (sym marks) (own-marks e.which clock out.marks.items entered.owed.items)) in (
-          true-more t ss (new_stay entered since) all.0 (tells_odometer before (AcceptedWith entered.replayed), tt, tt),
+          (let line = tells_odometer before (AcceptedWith entered.replayed) in true-more t e.which ss (new_stay entered since) all.0 (line.0, tt, tt, line.1)),
           owes-more (t.owed e.which) vehicle (own_sizes f.image).activity ss (new_stay entered since) (start_shown f.image) all.1
-              (subst (λ (b : Book). t.owed e.which e.at.second (mark_of b) entered.owed.items) ((shown told.valid).shows x.0 x.1).0 x.2),
+              (subst (λ (b : Book). t.owed e.which (find_of e (AcceptedWith entered.replayed)) (mark_of b) entered.owed.items) ((shown told.valid).shows x.0 x.1).0 x.2),
         );
     comes = λ shown.
         let seen = tells.1 told.valid in
@@ -344,7 +345,7 @@ module _ (o : Origin) (e : Entering) (failed : Bool) (well : failed ≡ false) (
       ∙ others-slot (ending_of way) (measured way e k).cabin at (sym (ap (λ (q : Cabin). card_in (seat_in q.slots.seats at)) cabin) ∙ there))
       (λ none. others-noted (ending_of way) none)
       (λ none was. own-slot (ending_of way) (measured way e k).cabin v.cabin (sized-slots way) cabin session none)
-      (λ none ss since. turned way w entered known owes tells none ss since bare cabin session) all))
+      (λ none h. turned way w entered known owes tells none (h.stays e.which) (h.since e.which) bare cabin session) all))
     where
       turned : (way : Way) (w : Carried) (entered : HasEntered e failed k v noted noted_after out after U W X Y way) → IsEnteredOn (ending_of way) e failed k v U W X Y Z o.found w → OwesIn w → TellsBy e.at.second (ending_of way) f U W X → NothingFailed (log_by (ending_of way)) → (ss : List Stay) (since : List Find) → session_of k.cabin.cards e.which ≡ None →
           v.cabin ≡ cabin_by (ending_of way) e noted (measured way e k).cabin → session_of v.cabin.cards e.which ≡ session_by (ending_of way) noted →

@@ -21,7 +21,6 @@ use Rattle.safety_model.specs.Recording.{card_image}
 use Rattle.safety_model.specs.Safe.{Devices, card_of}
 use Rattle.slot_machine.specs.declared.seats.Seat.{Seat}
 use Rattle.run_crew.specs.declared.cards.Accepted.{Accepted}
-use Rattle.run_crew.specs.declared.cabin.Cabin.{Cabin}
 use Rattle.run_crew.specs.declared.cards.Cards.{Cards}
 use Rattle.run_crew.specs.Cards.{session_of, with_sizes, with_session}
 use Rattle.run_crew.specs.Cabin.{slot_with, left_from, torn_out, with_sizes_of}
@@ -111,12 +110,6 @@ old-torn B sizes cards A some = some
 old-torn B sizes cards B some = absurd (cc)
 
 module _ (o : Origin) (done : List TraceSecond) (s : TraceSecond) (n : ℕ) (waits fewer : List Visit) (e : Entering) (k : Keeper) (out : Outcome) (unfound next_ begun : ℕ) (minutes : Kept) (U X Z : State) (w : Within o done s (In n) waits None [] (values_with k out unfound next_ begun minutes) (arranged e.which U X Z)) (m : MayJudge o done s n waits fewer e k out unfound next_ begun minutes U X Z w) (failed : Bool) (k' : Keeper) (noted noted' : ℕ) (out' : Outcome) (W Y : State) (way : Way) (g : HasGone e failed k k' noted noted' out out' U W X Y Z way) (sound : AreSound U W X Y) where
-  abbrev cabin_sized : Result Application ℕ → Cabin
-  cabin_sized sizes = with_sizes_of e.which sizes k.cabin
-
-  abbrev later : Values
-  later = values_with k' out' unfound next_ begun minutes
-
   -- ---- IT IS TURNED AWAY
 
   module _ (verdict : Verdict) (refused : is_accepting verdict ≡ false) (sizes : Result Application ℕ) (found : AreFoundCards o.found (with_sizes e.which sizes k.cabin.cards))

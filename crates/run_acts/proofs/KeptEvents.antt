@@ -1,5 +1,5 @@
 -- The faults of a keeping, and what has ended with a second, noted on the unit: what each image shows.
-use Rattle.std.proofs.Common.{◌≡◌, ◌∙◌, ◌⊎◌, inl, inr, ⊎_elim, ℕ, ◌+◌, Bool, true, false, not, Option, Some, None, IfSome, is_some, List, [], ◌∷◌, ◌++◌, length, refl, ap, sym, subst, arith}
+use Rattle.std.proofs.Common.{◌≡◌, ◌∙◌, ◌⊎◌, inl, inr, ⊎_elim, ℕ, ◌+◌, Bool, true, false, Option, Some, None, List, [], ◌∷◌, ◌++◌, length, refl, sym, subst, arith}
 use Rattle.std.specs.Prelude.{option_to_list}
 use Rattle.trace_model.specs.declared.Card.{Card}
 use Rattle.tach_media.specs.Medium.{State, IsCoherent}
@@ -14,7 +14,6 @@ use Rattle.unit_notes.specs.Entries.{fault_bytes}
 use Rattle.unit_notes.specs.Noting.{IsEventNoted}
 use Rattle.run_rule.specs.Between.{devices}
 use Rattle.run_crew.specs.declared.cabin.Cabin.{Cabin}
-use Rattle.run_crew.specs.declared.cards.Crew.{Crew}
 use Rattle.run_events.specs.Shown.{by_kind, none, ShowsMore, AreNumbers, SaysNothing, SaysNothingBut}
 use Rattle.run_events.proofs.Shows.{more-then, nothing-more, nothing-but}
 use Rattle.run_events.specs.Seconds.{bares_by, overs_by}
@@ -22,9 +21,8 @@ use Rattle.run_events.proofs.Frames.{event-more}
 use Rattle.run_recorded.specs.Origin.{Origin}
 use Rattle.run_evented.specs.Evented.{number_in}
 use Rattle.run_notes.specs.declared.watch.Ended.{Ended}
-use Rattle.run_notes.specs.declared.watch.Watch.{Watch}
 use Rattle.run_notes.specs.Watching.{BareWith, OverWith, bare_ended, over_ended}
-use Rattle.run_notes.specs.Noting.{AreNoted, AreBeingNoted, IsWatched}
+use Rattle.run_notes.specs.Noting.{AreNoted, AreBeingNoted}
 use Rattle.event_crews.specs.Watched.{number_bytes, ArePairs, IsBareOf, IsFastOf}
 use Rattle.event_crews.specs.Turned.{AreEnded, AreLow}
 use Rattle.event_crews.proofs.Turned.{turn-shown, turn-moment}
@@ -36,7 +34,7 @@ use Rattle.run_keeping.specs.Minutes.{Round, Told, Done, Reach, Whole, Short, ca
 use Rattle.run_keeping.specs.Faults.{faults_by, round_faults, last_faults, faults_of, faults_to, TellsFaults, NotesFaults}
 use Rattle.run_acts.specs.NotedEvents.{AreUnsure, AreTold, NotesSo, NotesEvents}
 use Rattle.run_acts.proofs.NotedEvents.{unsure-front, unsure-back, unsure-shown}
-use Rattle.run_acts.specs.KeptEvents.{AreFaults, AreNumbered, NotesEnds}
+use Rattle.run_acts.specs.KeptEvents.{AreFaults, AreNumbered}
 
 -- ---- what a keeping notes are faults
 
@@ -144,26 +142,6 @@ module _ (o : Origin) (long : AreNumbers (number_in o)) (number : Card → FullC
       let bares = bares-unsure (bares_by span new) (bare_ended ended) are.bares (unsure-front log now (bares_by span new) (overs_by limit span new) unsure) in
       let overs = overs-unsure (overs_by limit span new) (over_ended ended) are.overs (unsure-back log now (bares_by span new) (overs_by limit span new) unsure) in
       subst (λ (f : Card → List ℕ). ShowsMore f log now none x c) (sym same-numbers) (turn-moment number as-many log now limit span new ended are low lows x c sized (bares, overs) moment)
-
-module _ (old new : Watch) (first n speed : ℕ) (crew : Crew) (U V A B C D : State) (whole : IsCoherent U) (behind : IsCoherent V) (unit : IsUnit U) where
-  by-image : (image after : Option (List ℕ)) (c : List ℕ) → after ≡ Some c → is_some after ≡ is_some image → (x : List ℕ) × (image ≡ Some x)
-  by-image None after c is tells = absurd (let bad : true ≡ false = sym (ap (λ (q : Option (List ℕ)). is_some q) is) ∙ tells in cc)
-  by-image (Some x) after c is tells = (x, refl)
-
-  pub ends-noted : (failed : Bool) (w : IsWatched failed old new first n speed crew U V) → V.works ≡ not failed → NotesEnds w.ended failed (devices U A B) (devices V C D)
-  ends-noted false w works o long number named limit span seen are low lows = λ c at.
-      let is : V.image ≡ Some c = behind.only c works at in
-      let was = by-image U.image V.image c is w.moments.tells in
-      let one : IfSome V.image (AreNoted w.ended was.0) = subst (λ (q : Option (List ℕ)). IfSome q (λ x. IfSome V.image (AreNoted w.ended x))) was.1 (w.noted refl) in
-      let done : AreNoted w.ended was.0 c = subst (λ (q : Option (List ℕ)). IfSome q (AreNoted w.ended was.0)) is one in
-      let left : U.may_leave was.0 = whole.is_left was.0 was.1 in
-      (was.0, left, λ log now. ended-shown o long number named log now limit span seen w.ended are low lows was.0 c (as-long U whole unit was.0 left) done)
-  ends-noted true w works o long number named limit span seen are low lows = λ log now unsure c at. ⊎_elim
-      (λ old_one. (c, old_one, nothing-more (number_in o) log now c c (same-events c c refl)))
-      (λ moment.
-      let left : U.may_leave moment.0 = whole.is_left moment.0 moment.1 in
-      (moment.0, left, ended-moment o long number named log now limit span seen w.ended are low lows moment.0 c (as-long U whole unit moment.0 left) unsure moment.2))
-      (w.moments.now c at)
 
 -- ---- the faults of a turn's keeping, and then what has ended
 

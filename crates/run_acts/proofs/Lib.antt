@@ -57,6 +57,7 @@ pub mod WholeLegs
 pub mod TruthsThen
 mod TruthRows
 mod Since
+pub mod LastLine
 pub mod Words
 pub mod EnteredStays
 pub mod NoteRecorded
@@ -86,6 +87,7 @@ pub mod Stored
 pub mod StoredRun
 pub mod CardNotes
 pub mod OnCards
+pub mod OneCard
 pub mod CardCourse
 pub mod CardShown
 pub mod CardSecond
@@ -103,4 +105,3 @@ pub mod StayUses
 pub mod PulledBy
 pub mod OwedOn
 pub mod OwedNow
-pub mod HeldSoFar

@@ -317,6 +317,3 @@ module _ (o : Origin) (done : List TraceSecond) (s : TraceSecond) (at : Phase) (
       ∙ spans-one (went w.b.run.log done).told (next_told w.b.run.log done s)
       ∙ ap (λ (ss : List (List Told)). spans_with ss (next_told w.b.run.log done s)) followed-lit.spans
       ∙ spans-lit followed-lit.ended w.b.span (next_told w.b.run.log done s) this-lit.lit (this-lit.starts ∙ lit-starts w.b.span (went w.b.run.log done).before w.b.run.next followed-lit.power)
-
-  pub rides-now : (ended : List (List Told)) × (spans_of (went w.b.run.log (done ++ s ∷ [])).told ≡ ended ++ (w.b.span ++ next_told w.b.run.log done s ∷ []) ∷ [])
-  rides-now = (followed-lit.ended, spans-now)

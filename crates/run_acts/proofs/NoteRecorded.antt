@@ -249,14 +249,6 @@ module _ (o : Origin) (done : List TraceSecond) (s : TraceSecond) (at : Phase) (
   pub from-low : w.from ≤ s.number / 60
   from-low = let most = ungiven-most w.sp w.minutes.settled in let to = w.until in let n = number in let e = same-end in omega (arith, most, to, n, e, ends)
 
-  pub from-few : run.next / 60 ≤ ungiven_of span + 4 → s.number / 60 ≤ w.from + 4
-  from-few few =
-      let mine = ungiven-most w.sp w.minutes.settled in
-      let theirs = ungiven-most span stands.settled in
-      let owing = sym (ap (λ (k : Kept). k.owing) w.minutes.kept) ∙ ap (λ (k : Kept). k.owing) stands.kept in
-      let to = w.until in let n = number in let e = same-end in
-      omega (arith, mine, theirs, owing, to, n, e, ends, few)
-
 -- ---- A NOTE ON THE UNIT
 
 module _ (o : Origin) (done : List TraceSecond) (s : TraceSecond) (n : ℕ) (run : Run) (out : Outcome) (U V X Y : State) (whole : IsCoherent U) (unit : LeavesOnly U V LeavesJournal) (span : Span) (stands : StandsFor run.minutes span) (ends : end_of span ≡ run.next)
@@ -406,8 +398,8 @@ module _ (c : Card) (slot : Slot) (at : Moment) (run : Run) (breaks : Listed Bre
     still go on_card false is powered = goes-as o done s (In at.begun) (In at.begun) [] [] [] run run (record out { breaks = breaks }) (record out { breaks = breaks }) d e w.within.from w refl refl
         (call-recorded d e o done s (In at.begun) [] None [] v w.within (record { goes = goes; breakdowns = calm on_card; powered = powered; travels = travels }))
         (all-one o (marked out.marks.items (truths_within o w.within.b.run.log done s)) s.number c (log_of (record out { breaks = breaks })) (log_of (record out { breaks = breaks })) here-notes here-notes run.keeper.memory.registration run.keeper.cabin run.keeper.cabin U V X Y Z (λ none. none) refl refl (λ slot there. there) (λ none. refl) (λ none was. was)
-        (λ none ss since. turns-so (marked out.marks.items (truths_within o w.within.b.run.log done s)) c s.number (found_of o.found c) (log_of (record out { breaks = breaks })) run.keeper.memory.registration (spells_of c here-notes) (sits_in run.keeper.cabin.slots.seats c) (session_of run.keeper.cabin.cards c) (session_of run.keeper.cabin.cards c) U V X Y (λ all. all) (λ all. refl) (λ all tell. tell) (λ all is. is) (λ all. refl) (go is) (λ all lines. refl) (λ all lines waits was. was) (λ valid some. some) ss since
-        (λ valid h. stays-still s.number (found_of o.found c) run.keeper.memory.registration (spells_of c here-notes) (sits_in run.keeper.cabin.slots.seats c) ss (session_of run.keeper.cabin.cards c) X Y (noted-does o.found carries run.keeper.cabin.cards run.keeper.cabin.cards c U X Y Z w.within.found unit_whole whole later size a value has w.within.powered card valid) h) (λ only shown all. all)) w.stay)
+        (λ none held. turns-so (marked out.marks.items (truths_within o w.within.b.run.log done s)) c s.number (found_of o.found c) (log_of (record out { breaks = breaks })) run.keeper.memory.registration (spells_of c here-notes) (sits_in run.keeper.cabin.slots.seats c) (session_of run.keeper.cabin.cards c) (session_of run.keeper.cabin.cards c) U V X Y (λ all. all) (λ all is. is) (λ all. refl) (go is) (λ all lines. refl) (λ all lines waits was. was) (λ valid some. some) (held.stays c) (held.since c)
+        (λ valid h. stays-still s.number (found_of o.found c) run.keeper.memory.registration (spells_of c here-notes) (sits_in run.keeper.cabin.slots.seats c) (held.stays c) (session_of run.keeper.cabin.cards c) X Y (noted-does o.found carries run.keeper.cabin.cards run.keeper.cabin.cards c U X Y Z w.within.found unit_whole whole later size a value has w.within.powered card valid) h) (λ only shown all. all)) w.stay)
     still go on_card true is powerless = record {
       waits = [];
       cabin = run.keeper.cabin;

@@ -86,12 +86,6 @@ then-noted vs ws failed d e f first later o long es told =
     let parts = split (number_in o) vs ws es told in
     subst (λ (xs : List Event). NotesSo failed o xs d f) (sym parts.are) (so-then o failed parts.first parts.later d e f (first o long parts.first parts.first_told) (later o long parts.later parts.later_told))
 
--- it failed before others came
-pub cut-noted : (vs ws : List UnitEvent) (d e : Devices) → NotesEvents vs true d e → NotesEvents (vs ++ ws) true d e
-cut-noted vs ws d e first o long es told log now unsure =
-    let parts = split (number_in o) vs ws es told in
-    first o long parts.first parts.first_told log now (unsure-front log now parts.first parts.later (subst (AreUnsure log now) parts.are unsure))
-
 -- the other devices do not matter
 pub noted-any : (vs : List UnitEvent) (failed : Bool) (d e f g : Devices) → d.unit ≡ f.unit → e.unit ≡ g.unit → NotesEvents vs failed d e → NotesEvents vs failed f g
 noted-any vs false d e f g first later h o long es told = λ c there.

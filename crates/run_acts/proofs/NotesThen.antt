@@ -379,9 +379,6 @@ put-now o done s front rest slot card are v d w fine c =
 -- A CARD IS WITHDRAWN: the last of its spells is shut, where it has a session; and none of another card
 module _ (o : Origin) (done : List TraceSecond) (s : TraceSecond) (front rest : List Action) (slot : Slot) (are : s.actions ≡ front ++ Withdraw slot ∷ rest) (speed : ℕ) (now : s.speed ≡ speed) (card : Card) (v : Values) (d : Devices) (w : Within o done s (In (length front)) [] None [] v d)
     (seat : card_in (seat_in v.cabin.slots.seats slot) ≡ Some card) (allowed : refusal (logged v.cabin.slots.seats) speed (Withdraw slot) ≡ None) (low : ℕ) (stands : Stands low None v.cabin) where
-  abbrev then_ : Before
-  then_ = (went w.b.run.log done).before
-
   still : nat_lt 0 s.speed ≡ false
   still = ap (λ (n : ℕ). nat_lt 0 n) now ∙ stands-still (not (is_some (in_slot (logged v.cabin.slots.seats) slot))) (nat_lt 0 speed) (Empty slot) (Moving speed) allowed
 

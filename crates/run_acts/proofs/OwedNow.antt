@@ -19,6 +19,8 @@ use Rattle.card_session.specs.Sessions.{book_of}
 use Rattle.device_steps.proofs.OnCard.{own-is}
 use Rattle.log_model.specs.Log.{RunLog, In}
 use Rattle.log_model.specs.declared.lines.Break.{Break}
+use Rattle.log_model.specs.declared.lines.Find.{Find}
+use Rattle.log_model.specs.declared.lines.Verdict.TheVariants.{Accepted}
 use Rattle.log_model.specs.Causes.{device_of}
 use Rattle.log_model.specs.Course.{Told, Course, Visit, went, Went, second_told}
 use Rattle.history_model.specs.Minutes.{HistoryMinute, on_card, card_history, up_to}
@@ -51,15 +53,17 @@ use Rattle.run_outcome.specs.declared.outcome.Outcome.{Outcome}
 use Rattle.run_recorded.specs.Origin.{Origin, rule_of, start_at}
 use Rattle.run_recorded.specs.Whole.{NothingFailed}
 use Rattle.run_keeping.specs.declared.keeper.Keeper.{Keeper}
+use Rattle.run_keeping.specs.declared.keeper.Moment.{Moment}
 use Rattle.device_steps.specs.declared.entering.Entered.{Entered}
 use Rattle.run_entering.specs.declared.lines.Entering.{Entering}
+use Rattle.run_entering.specs.Entering.{find_of}
 use Rattle.run_entering.specs.Told.{IsToldSo}
 use Rattle.run_within.specs.Within.{Within, course_in}
 use Rattle.run_acts.specs.Entered.{values_with, MayJudge}
 use Rattle.run_acts.specs.Owed.{IsPulledBefore, IsPulledHere, IsOwed, runs_on}
-use Rattle.run_acts.proofs.PulledBy.{none-torn, none-torn-in, tears-none, pulled-tears}
+use Rattle.run_acts.proofs.PulledBy.{none-torn, none-torn-in, tears-none, pulled-alone}
 use Rattle.run_acts.proofs.TruthsThen.{began-none}
-use Rattle.run_acts.proofs.EnteredFacts.{mine, before, was, now-is}
+use Rattle.run_acts.proofs.EnteredFacts.{mine, before, was}
 use Rattle.run_ringed.proofs.Stored.{AtEnd, nothing, push, at-end}
 use Rattle.run_acts.proofs.EnteredNewest.{past-is}
 use Rattle.run_acts.proofs.MinuteEnds.{fresh-low, followed-lit}
@@ -224,7 +228,7 @@ module _ (o : Origin) (done : List TraceSecond) (s : TraceSecond) (n : ℕ) (wai
         omega (arith, low, same)
 
     abbrev IsBehind : ℕ → Type 0
-    IsBehind minute = IsPulledBefore (rule_of o) told_so_far s.number w.b.span e.which minute ⊎ IsPulledHere (rule_of o) s w.b.span minute
+    IsBehind minute = IsPulledBefore (rule_of o) told_so_far s.number w.b.span e.which minute ⊎ IsPulledHere (rule_of o) (went w.b.run.log done).before s w.b.span n e.which minute
 
     -- a minute that was decided before this second,
     old-behind : (i : HistoryMinute) (x : Entry) → Contains w.b.run.book.sure i → Contains (on_card e.which i) x → (IsMarked out.marks.items (device_of e.which) i.minute → ⊥) → IsBehind i.minute
@@ -273,14 +277,13 @@ module _ (o : Origin) (done : List TraceSecond) (s : TraceSecond) (n : ℕ) (wai
     none-now y torn =
         none-torn-in s.number w.moment.breaks here.torn (tears-none w.b.run.log w.moment.breaks (subst (λ (bs : List Break). NothingFailed (record w.b.run.log { breaks = bs })) w.moment.breaks_are nothing)) w.moment.failed_tears y torn
 
-    torn-now : (i : HistoryMinute) → Contains w.new i → 60 * (i.minute + 1) ≤ s.number → (y : Visit) → Contains here.torn y ⊎ Contains here.pulled y → IsBehind i.minute
-    torn-now i in_ over y out_ = ⊎_elim
+    torn-now : (i : HistoryMinute) → Contains w.new i → 60 * (i.minute + 1) ≤ s.number → (y : Visit) → y.card ≡ e.which → Contains here.torn y ⊎ Contains here.pulled y → IsBehind i.minute
+    torn-now i in_ over y own out_ = ⊎_elim
         (λ (torn : Contains here.torn y). absurd (none-now y torn))
         (λ (pulled : Contains here.pulled y). inr (record {
           behind = over;
           decides = new-low i in_;
-          slot = y.slot;
-          tears = pulled-tears (values_with k out unfound next_ begun minutes).log (went w.b.run.log done).before s n w.moment.is y pulled;
+          pulled = (y, own, pulled-alone (values_with k out unfound next_ begun minutes).log (went w.b.run.log done).before s n w.moment.is w.moment.up_to.uncut none-now y pulled);
         }))
         out_
 
@@ -289,7 +292,7 @@ module _ (o : Origin) (done : List TraceSecond) (s : TraceSecond) (n : ℕ) (wai
         (λ (is : IsMarked out.marks.items (device_of e.which) i.minute). absurd (unmarked is))
         (λ (broken : BrokenSince told_so_far here e.which (60 * (i.minute + 1)) s.number). ⊎_elim
         (λ (torn : TornBetween told_so_far e.which (60 * (i.minute + 1)) s.number). torn-before i in_ torn)
-        (λ (now : (60 * (i.minute + 1) ≤ s.number) × ((y : Visit) × (y.card ≡ e.which) × (Contains here.torn y ⊎ Contains here.pulled y))). torn-now i in_ now.0 now.1.0 now.1.2)
+        (λ (now : (60 * (i.minute + 1) ≤ s.number) × ((y : Visit) × (y.card ≡ e.which) × (Contains here.torn y ⊎ Contains here.pulled y))). torn-now i in_ now.0 now.1.0 now.1.1 now.1.2)
         broken)
         (w.marked.card i e.which x in_ on_)
 
@@ -314,8 +317,12 @@ module _ (o : Origin) (done : List TraceSecond) (s : TraceSecond) (n : ℕ) (wai
         (Contains-append_cases st.owed (card_history e.which (all book)) x
         (subst (λ (es : List Entry). Contains es x) (meets.whole ∙ ap (λ (is : List HistoryMinute). st.owed ++ card_history e.which is) up-all) (Contains-append_right meets.more (owed e.which u v) x there))))
 
+    -- the line by which it is accepted, at a moment
+    abbrev line_at : Moment → Find
+    line_at at = record { second = at.second; slot = e.slot; verdict = Accepted entered.replayed; begun = at.begun }
+
     -- THESE ARE OWED
-    owed-now : IsOwed (rule_of o) (start_at o) w.b.run.log (done ++ s ∷ []) e.which (brought o.recording e.which).owed s.number (own_view told.found.card_image).mark entered.owed.items
+    owed-now : IsOwed (rule_of o) (start_at o) w.b.run.log (done ++ s ∷ []) e.which (brought o.recording e.which).owed (line_at (record { second = s.number; begun = n; late = false })) (own_view told.found.card_image).mark entered.owed.items
     owed-now =
         let f = followed-lit o done s (In n) waits None [] (values_with k out unfound next_ begun minutes) (arranged e.which U X Z) w in
         record {
@@ -341,12 +348,12 @@ module _ (o : Origin) (done : List TraceSecond) (s : TraceSecond) (n : ℕ) (wai
         }
 
     -- by the end mark of an image that the card may have left
-    pub owed-told : (y : List ℕ) × X.may_leave y × IsOwed (rule_of o) (start_at o) w.b.run.log (done ++ s ∷ []) e.which (brought o.recording e.which).owed e.at.second (mark_of (book_of (own_sizes (found_of o.found e.which).image) y)) entered.owed.items
+    pub owed-told : (y : List ℕ) × X.may_leave y × IsOwed (rule_of o) (start_at o) w.b.run.log (done ++ s ∷ []) e.which (brought o.recording e.which).owed (find_of e (Accepted entered.replayed)) (mark_of (book_of (own_sizes (found_of o.found e.which).image) y)) entered.owed.items
     owed-told = (
       told.found.card_image,
       told.found.there,
-      subst (λ (u_ : ℕ). IsOwed (rule_of o) (start_at o) w.b.run.log (done ++ s ∷ []) e.which (brought o.recording e.which).owed u_ (mark_of (book_of (own_sizes (found_of o.found e.which).image) told.found.card_image)) entered.owed.items)
-          (sym (now-is o done s n waits fewer e k out unfound next_ begun minutes U X Z w m))
-          (subst (λ (mark : ℕ). IsOwed (rule_of o) (start_at o) w.b.run.log (done ++ s ∷ []) e.which (brought o.recording e.which).owed s.number mark entered.owed.items)
+      subst (λ (at : Moment). IsOwed (rule_of o) (start_at o) w.b.run.log (done ++ s ∷ []) e.which (brought o.recording e.which).owed (line_at at) (mark_of (book_of (own_sizes (found_of o.found e.which).image) told.found.card_image)) entered.owed.items)
+          (sym m.moment)
+          (subst (λ (mark : ℕ). IsOwed (rule_of o) (start_at o) w.b.run.log (done ++ s ∷ []) e.which (brought o.recording e.which).owed (line_at (record { second = s.number; begun = n; late = false })) mark entered.owed.items)
           (ap (λ (q : CardView). q.mark) (own-is (own_sizes (found_of o.found e.which).image) told.found.card_image told.found.sizes) ∙ mark-own (own_sizes (found_of o.found e.which).image) told.found.card_image) owed-now),
     )

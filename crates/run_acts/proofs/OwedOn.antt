@@ -1,6 +1,6 @@
 -- What was owed at an acceptance stays so, whatever is told of that second and of later ones.
 use Rattle.std.proofs.Common.{◌≡◌, ◌∙◌, ◌⊎◌, ℕ, suc, List, [], ◌∷◌, ◌++◌, All, Contains, subst, length, take, filter, refl, ap, sym, append-nil, append_assoc}
-use Rattle.std.specs.Prelude.{flat_map, nat_lt, not}
+use Rattle.std.specs.Prelude.{flat_map, nat_lt, not, fold}
 use Rattle.std.proofs.Math.Seq.{take-append_seam}
 use Rattle.std.proofs.lemmas.List.{same_from_push}
 use Rattle.activity_codec.specs.declared.entries.Entry.{Entry}
@@ -9,7 +9,8 @@ use Rattle.trace_model.specs.Trace.{TraceSecond}
 use Rattle.minute_model.specs.declared.Rule.{Rule}
 use Rattle.minute_model.specs.Span.{decided_in}
 use Rattle.log_model.specs.Log.{RunLog}
-use Rattle.log_model.specs.Course.{Told, Went, went, second_told}
+use Rattle.log_model.specs.declared.lines.Find.{Find}
+use Rattle.log_model.specs.Course.{Told, Went, Before, went, second_told, before_next, not_begun}
 use Rattle.log_model.specs.Spans.{spans_of}
 use Rattle.log_model.proofs.Growth.{went-more}
 use Rattle.history_model.specs.Minutes.{card_history}
@@ -52,10 +53,36 @@ told-front log later front rest same =
     let b = told-parts log front rest in
     fronts-same (went later front).told (went log front).told a.0 b.0 (sym a.1 ∙ ap (λ (w : Went). w.told) same ∙ b.1) (told-count later front ∙ sym (told-count log front))
 
+-- what the next second has to know is by what was told
+abbrev by-told : List Told → Before
+by-told told = fold before_next not_begun.before told
+
+told-push : (b : Before) (ts : List Told) (t : Told) → fold before_next b (ts ++ t ∷ []) ≡ before_next (fold before_next b ts) t
+told-push b [] t = refl
+told-push b (x ∷ ts) t = told-push (before_next b x) ts t
+
+none-before : (log : RunLog) → (went log []).before ≡ by-told (went log []).told
+unfolding went
+none-before log = refl
+
+before-parts : (log : RunLog) (front rest : List TraceSecond) → (went log front).before ≡ by-told (went log front).told → (went log (front ++ rest)).before ≡ by-told (went log (front ++ rest)).told
+before-parts log front [] is = subst (λ (ss : List TraceSecond). (went log ss).before ≡ by-told (went log ss).told) (sym (append-nil front)) is
+before-parts log front (s ∷ rest) is =
+    let t : Told = second_told log (went log front).before s in
+    subst (λ (ss : List TraceSecond). (went log ss).before ≡ by-told (went log ss).told) (append_assoc front (s ∷ []) rest)
+    (before-parts log (front ++ s ∷ []) rest
+    (ap (λ (w : Went). w.before) (went-more log front s) ∙ ap (λ (b : Before). before_next b t) is ∙ sym (told-push not_begun.before (went log front).told t) ∙ sym (ap (λ (w : Went). by-told w.told) (went-more log front s))))
+
+told-before : (log : RunLog) (done : List TraceSecond) → (went log done).before ≡ by-told (went log done).told
+told-before log done = before-parts log [] done (none-before log)
+
+before-same : (log later : RunLog) (front : List TraceSecond) → (went later front).told ≡ (went log front).told → (went later front).before ≡ (went log front).before
+before-same log later front same = told-before later front ∙ ap by-told same ∙ sym (told-before log front)
+
 -- ---- WHERE THE SECONDS BEFORE are told the same
-module _ (rule : Rule) (start : Start) (log later : RunLog) (done now : List TraceSecond) (c : Card) (lacks : List Entry) (u mark : ℕ) (es : List Entry) where
+module _ (rule : Rule) (start : Start) (log later : RunLog) (done now : List TraceSecond) (c : Card) (lacks : List Entry) (f : Find) (mark : ℕ) (es : List Entry) where
   goes : ((front : List TraceSecond) (s : TraceSecond) (rest : List TraceSecond) → done ≡ front ++ s ∷ rest → (more : List TraceSecond) × (now ≡ front ++ s ∷ more) × ((went later front).told ≡ (went log front).told)) →
-      IsOwed rule start log done c lacks u mark es → IsOwed rule start later now c lacks u mark es
+      IsOwed rule start log done c lacks f mark es → IsOwed rule start later now c lacks f mark es
   goes same h =
       let so = same h.at.front h.at.s h.at.later h.at.are in
       record {
@@ -75,26 +102,28 @@ module _ (rule : Rule) (start : Start) (log later : RunLog) (done now : List Tra
         are = h.are
             ∙ ap
             (λ (told : List Told). filter (λ (e : Entry). nat_lt mark e.minute) (lacks
-            ++ card_history c (minutes_after start told [] (flat_map (λ (span : List Told). decided_of rule span) h.at.earlier ++ decided_in (settled_times h.at.times (span_at rule u h.at.span))))))
+            ++ card_history c (minutes_after start told [] (flat_map (λ (span : List Told). decided_of rule span) h.at.earlier ++ decided_in (settled_times h.at.times (span_at rule f.second h.at.span))))))
             (sym so.2);
-        behind = subst (λ (told : List Told). All (λ (e : Entry). Contains lacks e ⊎ (IsPulledBefore rule told u h.at.span c e.minute ⊎ IsPulledHere rule h.at.s h.at.span e.minute)) es) (sym so.2) h.behind;
+        behind =
+            subst (λ (b : Before). All (λ (e : Entry). Contains lacks e ⊎ (IsPulledBefore rule (went later h.at.front).told f.second h.at.span c e.minute ⊎ IsPulledHere rule b h.at.s h.at.span f.begun c e.minute)) es) (sym (before-same log later h.at.front so.2))
+            (subst (λ (told : List Told). All (λ (e : Entry). Contains lacks e ⊎ (IsPulledBefore rule told f.second h.at.span c e.minute ⊎ IsPulledHere rule (went log h.at.front).before h.at.s h.at.span f.begun c e.minute)) es) (sym so.2) h.behind);
       }
 
 -- behind more seconds,
-pub owed-more : (rule : Rule) (start : Start) (log : RunLog) (done more : List TraceSecond) (c : Card) (lacks : List Entry) (u mark : ℕ) (es : List Entry) → IsOwed rule start log done c lacks u mark es → IsOwed rule start log (done ++ more) c lacks u mark es
-owed-more rule start log done more c lacks u mark es h =
-    goes rule start log log done (done ++ more) c lacks u mark es (λ front s rest are. (rest ++ more, ap (λ (ss : List TraceSecond). ss ++ more) are ∙ append_assoc front (s ∷ rest) more, refl)) h
+pub owed-more : (rule : Rule) (start : Start) (log : RunLog) (done more : List TraceSecond) (c : Card) (lacks : List Entry) (f : Find) (mark : ℕ) (es : List Entry) → IsOwed rule start log done c lacks f mark es → IsOwed rule start log (done ++ more) c lacks f mark es
+owed-more rule start log done more c lacks f mark es h =
+    goes rule start log log done (done ++ more) c lacks f mark es (λ front s rest are. (rest ++ more, ap (λ (ss : List TraceSecond). ss ++ more) are ∙ append_assoc front (s ∷ rest) more, refl)) h
 
 -- by a log that tells the same of them,
-pub owed-same : (rule : Rule) (start : Start) (log later : RunLog) (done : List TraceSecond) → went later done ≡ went log done → (c : Card) (lacks : List Entry) (u mark : ℕ) (es : List Entry) → IsOwed rule start log done c lacks u mark es → IsOwed rule start later done c lacks u mark es
-owed-same rule start log later done same c lacks u mark es h =
-    goes rule start log later done done c lacks u mark es
+pub owed-same : (rule : Rule) (start : Start) (log later : RunLog) (done : List TraceSecond) → went later done ≡ went log done → (c : Card) (lacks : List Entry) (f : Find) (mark : ℕ) (es : List Entry) → IsOwed rule start log done c lacks f mark es → IsOwed rule start later done c lacks f mark es
+owed-same rule start log later done same c lacks f mark es h =
+    goes rule start log later done done c lacks f mark es
     (λ front s rest are. (rest, are, told-front log later front (s ∷ rest) (ap (went later) (sym are) ∙ same ∙ ap (went log) are))) h
 
 -- and by one that does of all but the last
-pub owed-end : (rule : Rule) (start : Start) (log later : RunLog) (done : List TraceSecond) (x : TraceSecond) → went later done ≡ went log done → (c : Card) (lacks : List Entry) (u mark : ℕ) (es : List Entry) →
-    IsOwed rule start log (done ++ x ∷ []) c lacks u mark es → IsOwed rule start later (done ++ x ∷ []) c lacks u mark es
-owed-end rule start log later done x same c lacks u mark es h = goes rule start log later (done ++ x ∷ []) (done ++ x ∷ []) c lacks u mark es (λ front s rest are. (rest, are, by front s rest (at-end rest) are)) h
+pub owed-end : (rule : Rule) (start : Start) (log later : RunLog) (done : List TraceSecond) (x : TraceSecond) → went later done ≡ went log done → (c : Card) (lacks : List Entry) (f : Find) (mark : ℕ) (es : List Entry) →
+    IsOwed rule start log (done ++ x ∷ []) c lacks f mark es → IsOwed rule start later (done ++ x ∷ []) c lacks f mark es
+owed-end rule start log later done x same c lacks f mark es h = goes rule start log later (done ++ x ∷ []) (done ++ x ∷ []) c lacks f mark es (λ front s rest are. (rest, are, by front s rest (at-end rest) are)) h
   where
     by : (front : List TraceSecond) (s : TraceSecond) (rest : List TraceSecond) → AtEnd rest → done ++ x ∷ [] ≡ front ++ s ∷ rest → (went later front).told ≡ (went log front).told
     by front s _ nothing are =

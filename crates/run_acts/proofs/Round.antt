@@ -50,9 +50,6 @@ ext f g same = λ i c. same c i
 
 -- ---- two cards
 
-some-is : {T : Type 0} (x y : T) → Some x ≡ Some y → x ≡ y
-some-is x y same = cc
-
 -- a card that was present in one slot was not in the other
 apart-both : (driver codriver : Option Card) → AreTwo driver codriver → (c : Card) → is_this driver c ≡ true → is_this codriver c ≡ false
 apart-both None codriver two c is = no-both true refl (sym is)

@@ -13,7 +13,7 @@ use Rattle.log_model.specs.Course.{Course}
 use Rattle.history_model.specs.Minutes.{HistoryMinute}
 use Rattle.history_model.specs.History.{seated}
 use Rattle.history_model.specs.Book.{Book, kept}
-use Rattle.unit_course.specs.Legs.{travelled, all_travelled}
+use Rattle.unit_course.specs.Legs.{all_travelled}
 use Rattle.slot_machine.specs.declared.seats.Present.{Present}
 use Rattle.run_crew.specs.Cabin.{AreTwo}
 use Rattle.run_rule.specs.Between.{Carried}
@@ -124,9 +124,6 @@ module _ (o : Origin) (done : List TraceSecond) (s : TraceSecond) (q : Point) (b
       early = λ card n at. let lt = h.early card n at in let due = h.due in omega (arith, lt, due, here);
       found = found-after o.found p s.number round t.keeper.cabin h.found;
     }
-
-    pub travel-on : all_travelled (ds ++ m ∷ []) b.travel ≡ travelled m.minute m.travelled (all_travelled ds b.travel)
-    travel-on = one-travelled ds m b.travel
 
     pub marked-on : IsFateOf (session_at (cabin_by round.driver p.driver s.number t.keeper.cabin).cards p.codriver) (kept_in (minute_of m k) CoDriver) round.codriver → AreMarkedSoFar t.marks.items (told_before b done) c s.number new →
         AreMarkedSoFar u.marks.items (told_before b done) d s.number (new ++ decided_minute k m ∷ [])

@@ -163,11 +163,12 @@ module _ {U A0 B0 : State} {chip_a chip_b : CardState} (old : Run) (before : Out
         (λ none. marked-grow before.marks.items after.marks.items (truths_within o w.b.run.log done s) (truths_within o w.b.run.log done s) how.marks (grow-self (truths_within o w.b.run.log done s))) r.stay))
 
     -- nothing is noted of them
-    quiet-so : failed ≡ false → NothingFailed (log_of after) → NothingFailed (log_of before) × ((c : Card) → spells_of c (notes_within w.b done s (In n) (log_of after)) ≡ spells_of c (notes_within w.b done s (In n) (log_of before)))
+    quiet-so : failed ≡ false → NothingFailed (log_of after) → NothingFailed (log_of before) × ((c : Card) → spells_of c (notes_within w.b done s (In n) (log_of after)) ≡ spells_of c (notes_within w.b done s (In n) (log_of before))) × ((log_of after).finds ≡ (log_of before).finds)
     quiet-so well none =
         let how = reach-told decided at (told_of old before) (told_of new after) reach (subst (λ (b : Bool). IsReach decided at b (told_of old before) (told_of new after) reach) well is) in (
           (lines-on (log_of before) breaks.items how.more how.lines none).none,
           λ c. ap (λ (bs : List Break). spells_of c (notes_within w.b done s (In n) (record (log_of before) { breaks = bs }))) (how.same none.1).0,
+          refl,
         )
 
     so : TellMore [] d.unit e.unit → (f : Bool) → failed ≡ f → IsKeptTo f o done s q decided (told_of old before) (told_of new after) v d e w → SettlesTo f o done s (In n) waits w.b w.from (w.from + length decided) old new before after e

@@ -1,6 +1,6 @@
 -- The stays of a card, over what each call makes of it.
 use Rattle.std.proofs.Common.{◌≡◌, ◌≤◌, ◌∙◌, inl, inr, ℕ, Bool, true, false, List, [], ◌∷◌, ◌++◌, append_assoc, Option, Some, None, refl, ap, sym, subst, arith}
-use Rattle.std.specs.Prelude.{IfSome}
+use Rattle.std.specs.Prelude.{IfSome, length}
 use Rattle.std.specs.List.{AllByRecursion}
 use Rattle.activity_codec.specs.declared.values.Activity.{Activity}
 use Rattle.activity_codec.specs.declared.entries.Entry.{Entry}
@@ -22,10 +22,12 @@ use Rattle.run_rule.specs.Found.{CardFound}
 use Rattle.run_keeping.specs.CardDeeds.{made_by, is_open_in, ShowsBook, DoesOn, keeps, last_odometer, opens, OpensOn, ClosesOn}
 use Rattle.run_keeping.specs.Deeds.{KeepsOn}
 use Rattle.run_keeping.proofs.CardDeeds.{made-append, keeps-append, last-append}
+use Rattle.trace_model.specs.declared.Card.{Card}
 use Rattle.log_model.specs.declared.lines.Find.{Find}
+use Rattle.log_model.specs.declared.lines.Verdict.TheVariants.{Accepted as AcceptedWith}
 use Rattle.run_acts.specs.Closings.{Spell, last_shut, with_last_shut, last_slot}
 use Rattle.run_acts.specs.Truths.{Truths, Grow}
-use Rattle.run_acts.specs.Stays.{Shut, Stay, Shown, Coming, comings_of, comings_on, closes, deeds_of, use_after, after_stay, after_stays, start_shown, founds, stay_spell, spells, as_noted, AreMerged, TellsOwed, IsTrueOf, GoesIn, StaysIn, HasStays, stored_by, AreTimely, AreOwed, judged_in, IsTurnedAway, AreTurnedAway}
+use Rattle.run_acts.specs.Stays.{Shut, Stay, Shown, Coming, comings_of, comings_on, closes, deeds_of, use_after, after_stay, after_stays, start_shown, stay_spell, spells, as_noted, AreMerged, IsTrueOf, GoesIn, StaysIn, HasStays, stored_by, AreOwed, judged_in, IsTurnedAway, IsJudged, AreJudged}
 
 -- ---- the last of some stays
 
@@ -48,47 +50,7 @@ unfolding on_last last_as
 on-last f [] s = refl
 on-last f (t ∷ front) s = last-as f t front s
 
-last-founds : (f : Stay → Stay) → ((s : Stay) → (f s).found ≡ s.found) → (t : Stay) (ss : List Stay) → founds (last_as f t ss) ≡ founds (t ∷ ss)
-unfolding last_as
-last-founds f same t [] = ap (λ (k : Find). k ∷ []) (same t)
-last-founds f same t (x ∷ ss) = ap (λ (l : List Find). t.found ∷ l) (last-founds f same x ss)
-
--- with the same line
-pub on-last-founds : (f : Stay → Stay) → ((s : Stay) → (f s).found ≡ s.found) → (ss : List Stay) → founds (on_last f ss) ≡ founds ss
-unfolding on_last
-on-last-founds f same [] = refl
-on-last-founds f same (t ∷ ss) = last-founds f same t ss
-
-last-owed : (f : Stay → Stay) → ((s : Stay) → TellsOwed s → TellsOwed (f s)) → (t : Stay) (ss : List Stay) → AllByRecursion TellsOwed (t ∷ ss) → AllByRecursion TellsOwed (last_as f t ss)
-unfolding last_as
-last-owed f goes t [] all = (goes t all.0, tt)
-last-owed f goes t (x ∷ ss) all = (all.0, last-owed f goes x ss all.1)
-
-pub on-last-owed : (f : Stay → Stay) → ((s : Stay) → TellsOwed s → TellsOwed (f s)) → (ss : List Stay) → AllByRecursion TellsOwed ss → AllByRecursion TellsOwed (on_last f ss)
-unfolding on_last
-on-last-owed f goes [] all = tt
-on-last-owed f goes (t ∷ ss) all = last-owed f goes t ss all
-
-pub owed-more : (ss : List Stay) (s : Stay) → AllByRecursion TellsOwed ss → TellsOwed s → AllByRecursion TellsOwed (ss ++ s ∷ [])
-owed-more [] s all one = (one, tt)
-owed-more (t ∷ ss) s all one = (all.0, owed-more ss s all.1 one)
-
--- which began when it did
-last-timely : (f : Stay → Stay) → ((s : Stay) → (f s).found ≡ s.found) → (vehicle : Registration) (size : ℕ) (t : Stay) (ss : List Stay) (p : Shown) → AreTimely vehicle size (t ∷ ss) p → AreTimely vehicle size (last_as f t ss) p
-unfolding last_as
-last-timely f same vehicle size t [] p h = (subst (λ (g : Find). stored_by p ≤ g.second) (sym (same t)) h.0, tt)
-last-timely f same vehicle size t (x ∷ ss) p h = (h.0, last-timely f same vehicle size x ss (after_stay vehicle size t p) h.1)
-
-on-last-timely : (f : Stay → Stay) → ((s : Stay) → (f s).found ≡ s.found) → (vehicle : Registration) (size : ℕ) (ss : List Stay) (p : Shown) → AreTimely vehicle size ss p → AreTimely vehicle size (on_last f ss) p
-unfolding on_last
-on-last-timely f same vehicle size [] p h = tt
-on-last-timely f same vehicle size (t ∷ ss) p h = last-timely f same vehicle size t ss p h
-
-timely-more : (vehicle : Registration) (size : ℕ) (ss : List Stay) (s : Stay) (p : Shown) → AreTimely vehicle size ss p → stored_by (after_stays vehicle size ss p) ≤ s.found.second → AreTimely vehicle size (ss ++ s ∷ []) p
-timely-more vehicle size [] s p h le = (le, tt)
-timely-more vehicle size (t ∷ ss) s p h le = (h.0, timely-more vehicle size ss s (after_stay vehicle size t p) h.1 le)
-
--- with the same lines by which it was turned away before
+-- with the same lines by which its card was judged
 last-judged : (f : Stay → Stay) → ((s : Stay) → (f s).found ≡ s.found) → ((s : Stay) → (f s).turned ≡ s.turned) → (t : Stay) (ss : List Stay) (since : List Find) → judged_in (last_as f t ss) since ≡ judged_in (t ∷ ss) since
 unfolding last_as
 last-judged f same as_ t [] since = λ i. as_ t i ++ same t i ∷ since
@@ -99,17 +61,17 @@ unfolding on_last
 on-last-judged f same as_ [] since = refl
 on-last-judged f same as_ (t ∷ ss) since = last-judged f same as_ t ss since
 
-last-turned : (f : Stay → Stay) → ((s : Stay) → (f s).turned ≡ s.turned) → (vehicle : Registration) (size : ℕ) (t : Stay) (ss : List Stay) (p : Shown) → AreTurnedAway vehicle size (t ∷ ss) [] p → AreTurnedAway vehicle size (last_as f t ss) [] p
+last-verdicts : (f : Stay → Stay) → ((p : Shown) (s : Stay) → IsJudged p s → IsJudged p (f s)) → (vehicle : Registration) (size : ℕ) (t : Stay) (ss : List Stay) (p : Shown) → AreJudged vehicle size (t ∷ ss) [] p → AreJudged vehicle size (last_as f t ss) [] p
 unfolding last_as
-last-turned f as_ vehicle size t [] p h = (subst (λ (l : List Find). AllByRecursion (IsTurnedAway p) l) (sym (as_ t)) h.0, tt)
-last-turned f as_ vehicle size t (x ∷ ss) p h = (h.0, last-turned f as_ vehicle size x ss (after_stay vehicle size t p) h.1)
+last-verdicts f goes vehicle size t [] p h = (goes p t h.0, tt)
+last-verdicts f goes vehicle size t (x ∷ ss) p h = (h.0, last-verdicts f goes vehicle size x ss (after_stay vehicle size t p) h.1)
 
--- where none did since
-pub on-last-turned : (f : Stay → Stay) → ((s : Stay) → (f s).turned ≡ s.turned) → (vehicle : Registration) (size : ℕ) (ss : List Stay) (since : List Find) (p : Shown) → since ≡ [] → AreTurnedAway vehicle size ss since p → AreTurnedAway vehicle size (on_last f ss) since p
+-- which judged it so, where none did since
+pub on-last-verdicts : (f : Stay → Stay) → ((p : Shown) (s : Stay) → IsJudged p s → IsJudged p (f s)) → (vehicle : Registration) (size : ℕ) (ss : List Stay) (since : List Find) (p : Shown) → since ≡ [] → AreJudged vehicle size ss since p → AreJudged vehicle size (on_last f ss) since p
 unfolding on_last
-on-last-turned f as_ vehicle size [] since p none h = h
-on-last-turned f as_ vehicle size (t ∷ ss) since p none h =
-    subst (λ (l : List Find). AreTurnedAway vehicle size (last_as f t ss) l p) (sym none) (last-turned f as_ vehicle size t ss p (subst (λ (l : List Find). AreTurnedAway vehicle size (t ∷ ss) l p) none h))
+on-last-verdicts f goes vehicle size [] since p none h = h
+on-last-verdicts f goes vehicle size (t ∷ ss) since p none h =
+    subst (λ (l : List Find). AreJudged vehicle size (last_as f t ss) l p) (sym none) (last-verdicts f goes vehicle size t ss p (subst (λ (l : List Find). AreJudged vehicle size (t ∷ ss) l p) none h))
 
 -- one stay more, and one line more
 pub judged-more : (ss : List Stay) (s : Stay) → judged_in (ss ++ s ∷ []) [] ≡ judged_in ss s.turned ++ s.found ∷ []
@@ -120,41 +82,41 @@ pub judged-late : (ss : List Stay) (since : List Find) (g : Find) → judged_in 
 judged-late [] since g = refl
 judged-late (t ∷ ss) since g = ap (λ (l : List Find). t.turned ++ t.found ∷ l) (judged-late ss since g) ∙ sym (append_assoc t.turned (t.found ∷ judged_in ss since) (g ∷ []))
 
-pub turned-more : (vehicle : Registration) (size : ℕ) (ss : List Stay) (s : Stay) (p : Shown) → AreTurnedAway vehicle size ss s.turned p → AreTurnedAway vehicle size (ss ++ s ∷ []) [] p
-turned-more vehicle size [] s p h = (h, tt)
-turned-more vehicle size (t ∷ ss) s p h = (h.0, turned-more vehicle size ss s (after_stay vehicle size t p) h.1)
+pub verdicts-more : (vehicle : Registration) (size : ℕ) (ss : List Stay) (s : Stay) (p : Shown) → AreJudged vehicle size ss s.turned p → s.found.verdict ≡ AcceptedWith (length s.owed) → stored_by (after_stays vehicle size ss p) ≤ s.found.second → AreJudged vehicle size (ss ++ s ∷ []) [] p
+verdicts-more vehicle size [] s p h tells early = ((h, tells, early), tt)
+verdicts-more vehicle size (t ∷ ss) s p h tells early = (h.0, verdicts-more vehicle size ss s (after_stay vehicle size t p) h.1 tells early)
 
 lines-more : (p : Shown) (fs : List Find) (g : Find) → AllByRecursion (IsTurnedAway p) fs → IsTurnedAway p g → AllByRecursion (IsTurnedAway p) (fs ++ g ∷ [])
 lines-more p [] g h is = (is, tt)
 lines-more p (x ∷ fs) g h is = (h.0, lines-more p fs g h.1 is)
 
-pub turned-late : (vehicle : Registration) (size : ℕ) (ss : List Stay) (since : List Find) (g : Find) (p : Shown) → AreTurnedAway vehicle size ss since p → IsTurnedAway (after_stays vehicle size ss p) g → AreTurnedAway vehicle size ss (since ++ g ∷ []) p
-turned-late vehicle size [] since g p h is = lines-more p since g h is
-turned-late vehicle size (t ∷ ss) since g p h is = (h.0, turned-late vehicle size ss since g (after_stay vehicle size t p) h.1 is)
+pub verdicts-late : (vehicle : Registration) (size : ℕ) (ss : List Stay) (since : List Find) (g : Find) (p : Shown) → AreJudged vehicle size ss since p → IsTurnedAway (after_stays vehicle size ss p) g → AreJudged vehicle size ss (since ++ g ∷ []) p
+verdicts-late vehicle size [] since g p h is = lines-more p since g h is
+verdicts-late vehicle size (t ∷ ss) since g p h is = (h.0, verdicts-late vehicle size ss since g (after_stay vehicle size t p) h.1 is)
 
 -- to which so much was owed
-last-owes : (Owes : (second mark : ℕ) → List Entry → Type 0) (f : Stay → Stay) → ((s : Stay) → (f s).found ≡ s.found) → ((s : Stay) → (f s).owed ≡ s.owed) → (vehicle : Registration) (size : ℕ) (t : Stay) (ss : List Stay) (p : Shown) →
+last-owes : (Owes : Find → (mark : ℕ) → List Entry → Type 0) (f : Stay → Stay) → ((s : Stay) → (f s).found ≡ s.found) → ((s : Stay) → (f s).owed ≡ s.owed) → (vehicle : Registration) (size : ℕ) (t : Stay) (ss : List Stay) (p : Shown) →
     AreOwed Owes vehicle size (t ∷ ss) p → AreOwed Owes vehicle size (last_as f t ss) p
 unfolding last_as
 last-owes Owes f same owes vehicle size t [] p h =
-    (subst (λ (g : Find). Owes g.second (mark_of p.book) (f t).owed) (sym (same t)) (subst (λ (es : List Entry). Owes t.found.second (mark_of p.book) es) (sym (owes t)) h.0), tt)
+    (subst (λ (g : Find). Owes g (mark_of p.book) (f t).owed) (sym (same t)) (subst (λ (es : List Entry). Owes t.found (mark_of p.book) es) (sym (owes t)) h.0), tt)
 last-owes Owes f same owes vehicle size t (x ∷ ss) p h = (h.0, last-owes Owes f same owes vehicle size x ss (after_stay vehicle size t p) h.1)
 
-pub on-last-owes : (Owes : (second mark : ℕ) → List Entry → Type 0) (f : Stay → Stay) → ((s : Stay) → (f s).found ≡ s.found) → ((s : Stay) → (f s).owed ≡ s.owed) → (vehicle : Registration) (size : ℕ) (ss : List Stay) (p : Shown) →
+pub on-last-owes : (Owes : Find → (mark : ℕ) → List Entry → Type 0) (f : Stay → Stay) → ((s : Stay) → (f s).found ≡ s.found) → ((s : Stay) → (f s).owed ≡ s.owed) → (vehicle : Registration) (size : ℕ) (ss : List Stay) (p : Shown) →
     AreOwed Owes vehicle size ss p → AreOwed Owes vehicle size (on_last f ss) p
 unfolding on_last
 on-last-owes Owes f same owes vehicle size [] p h = tt
 on-last-owes Owes f same owes vehicle size (t ∷ ss) p h = last-owes Owes f same owes vehicle size t ss p h
 
-pub owes-more : (Owes : (second mark : ℕ) → List Entry → Type 0) (vehicle : Registration) (size : ℕ) (ss : List Stay) (s : Stay) (p : Shown) → AreOwed Owes vehicle size ss p → Owes s.found.second (mark_of (after_stays vehicle size ss p).book) s.owed →
+pub owes-more : (Owes : Find → (mark : ℕ) → List Entry → Type 0) (vehicle : Registration) (size : ℕ) (ss : List Stay) (s : Stay) (p : Shown) → AreOwed Owes vehicle size ss p → Owes s.found (mark_of (after_stays vehicle size ss p).book) s.owed →
     AreOwed Owes vehicle size (ss ++ s ∷ []) p
 owes-more Owes vehicle size [] s p h is = (is, tt)
 owes-more Owes vehicle size (t ∷ ss) s p h is = (h.0, owes-more Owes vehicle size ss s (after_stay vehicle size t p) h.1 is)
 
-pub owes-grow : (Owes now : (second mark : ℕ) → List Entry → Type 0) → ((second mark : ℕ) (es : List Entry) → Owes second mark es → now second mark es) → (vehicle : Registration) (size : ℕ) (ss : List Stay) (p : Shown) →
+pub owes-grow : (Owes now : Find → (mark : ℕ) → List Entry → Type 0) → ((f : Find) (mark : ℕ) (es : List Entry) → Owes f mark es → now f mark es) → (vehicle : Registration) (size : ℕ) (ss : List Stay) (p : Shown) →
     AreOwed Owes vehicle size ss p → AreOwed now vehicle size ss p
 owes-grow Owes now goes vehicle size [] p h = tt
-owes-grow Owes now goes vehicle size (s ∷ ss) p h = (goes s.found.second (mark_of p.book) s.owed h.0, owes-grow Owes now goes vehicle size ss (after_stay vehicle size s p) h.1)
+owes-grow Owes now goes vehicle size (s ∷ ss) p h = (goes s.found (mark_of p.book) s.owed h.0, owes-grow Owes now goes vehicle size ss (after_stay vehicle size s p) h.1)
 
 -- an image has the stored time of what it shows
 stored-own : (app : Application) (x : List ℕ) → (card_view app x).stored ≡ stored_by (record { book = book_of app x; held = current_use app x })
@@ -164,16 +126,16 @@ stored-own app x = refl
 pub stored-shown : (app : Application) (x : List ℕ) (p : Shown) → book_of app x ≡ p.book → current_use app x ≡ p.held → (card_view app x).stored ≡ stored_by p
 stored-shown app x p is on = stored-own app x ∙ ap (λ (b : Book). stored_by (record { book = b; held = current_use app x })) is ∙ ap (λ (u : CurrentUse). stored_by (record { book = p.book; held = u })) on
 
+-- where an image shows this, and has an earlier time
+pub in-time : (app : Application) (x : List ℕ) (p : Shown) (u : ℕ) → book_of app x ≡ p.book → current_use app x ≡ p.held → (card_view app x).stored ≤ u → stored_by p ≤ u
+in-time app x p u is on le = let same = stored-shown app x p is on in omega (arith, same, le)
+
 -- with none there is none
 pub on-last-none : (f : Stay → Stay) (ss : List Stay) → ss ≡ [] → on_last f ss ≡ []
 unfolding on_last
 on-last-none f ss none = ap (on_last f) none
 
 -- ---- how many
-
-pub founds-more : (ss : List Stay) (s : Stay) → founds (ss ++ s ∷ []) ≡ founds ss ++ s.found ∷ []
-founds-more [] s = refl
-founds-more (t ∷ ss) s = ap (λ (l : List Find). t.found ∷ l) (founds-more ss s)
 
 -- a line more is that of one stay more, of the one card or of the other
 pub merged-one : {L : Type 0} (lines one other : List L) (f : L) → AreMerged lines one other → AreMerged (lines ++ f ∷ []) (one ++ f ∷ []) other
@@ -244,46 +206,52 @@ pub last-shut-slot : (u : ℕ) (ss : List Spell) → last_slot (with_last_shut u
 last-shut-slot u [] = refl
 last-shut-slot u (s ∷ ss) = shut-slot u s ss
 
+-- the slot of the last spell is that of the last stay
+pub last-spelled : (front : List Stay) (s : Stay) → last_slot (spells (front ++ s ∷ [])) ≡ Some s.found.slot
+last-spelled [] s = refl
+last-spelled (t ∷ []) s = refl
+last-spelled (t ∷ x ∷ front) s = last-spelled (x ∷ front) s
+
 -- ---- what is true of them
 
-true-last : (t : Truths) (f : Stay → Stay) → (x : Stay) (ss : List Stay) → ((s : Stay) → last_slot (spells (x ∷ ss)) ≡ Some s.found.slot → IsTrueOf t s → IsTrueOf t (f s)) → AllByRecursion (IsTrueOf t) (x ∷ ss) → AllByRecursion (IsTrueOf t) (last_as f x ss)
+true-last : (t : Truths) (c : Card) (f : Stay → Stay) → (x : Stay) (ss : List Stay) → ((s : Stay) (front : List Stay) → x ∷ ss ≡ front ++ s ∷ [] → IsTrueOf t c s → IsTrueOf t c (f s)) → AllByRecursion (IsTrueOf t c) (x ∷ ss) → AllByRecursion (IsTrueOf t c) (last_as f x ss)
 unfolding last_as
-true-last t f x [] goes all = (goes x refl all.0, tt)
-true-last t f x (y ∷ ss) goes all = (all.0, true-last t f y ss goes all.1)
+true-last t c f x [] goes all = (goes x [] refl all.0, tt)
+true-last t c f x (y ∷ ss) goes all = (all.0, true-last t c f y ss (λ s front is was. goes s (x ∷ front) (ap (λ (l : List Stay). x ∷ l) is) was) all.1)
 
--- what becomes of the last stay, which is of the slot of the last spell, is true
-pub on-last-true : (t : Truths) (f : Stay → Stay) → (ss : List Stay) → ((s : Stay) → last_slot (spells ss) ≡ Some s.found.slot → IsTrueOf t s → IsTrueOf t (f s)) → AllByRecursion (IsTrueOf t) ss → AllByRecursion (IsTrueOf t) (on_last f ss)
+-- what becomes of the last stay is true
+pub on-last-true : (t : Truths) (c : Card) (f : Stay → Stay) → (ss : List Stay) → ((s : Stay) (front : List Stay) → ss ≡ front ++ s ∷ [] → IsTrueOf t c s → IsTrueOf t c (f s)) → AllByRecursion (IsTrueOf t c) ss → AllByRecursion (IsTrueOf t c) (on_last f ss)
 unfolding on_last
-on-last-true t f [] goes all = tt
-on-last-true t f (x ∷ ss) goes all = true-last t f x ss goes all
+on-last-true t c f [] goes all = tt
+on-last-true t c f (x ∷ ss) goes all = true-last t c f x ss goes all
 
-pub true-more : (t : Truths) (ss : List Stay) (s : Stay) → AllByRecursion (IsTrueOf t) ss → IsTrueOf t s → AllByRecursion (IsTrueOf t) (ss ++ s ∷ [])
-true-more t [] s all one = (one, tt)
-true-more t (x ∷ ss) s all one = (all.0, true-more t ss s all.1 one)
+pub true-more : (t : Truths) (c : Card) (ss : List Stay) (s : Stay) → AllByRecursion (IsTrueOf t c) ss → IsTrueOf t c s → AllByRecursion (IsTrueOf t c) (ss ++ s ∷ [])
+true-more t c [] s all one = (one, tt)
+true-more t c (x ∷ ss) s all one = (all.0, true-more t c ss s all.1 one)
 
 kepts-more : (t : Truths) (ks more : List Kept) → AllByRecursion t.kept ks → AllByRecursion t.kept more → AllByRecursion t.kept (ks ++ more)
 kepts-more t [] more all others = others
 kepts-more t (k ∷ ks) more all others = (all.0, kepts-more t ks more all.1 others)
 
 -- with more minutes
-pub true-kepts : (t : Truths) (ks : List Kept) → AllByRecursion t.kept ks → (s : Stay) → IsTrueOf t s → IsTrueOf t (with_kepts ks s)
-true-kepts t ks all s h = (h.0, kepts-more t s.kepts ks h.1 all, h.2)
+pub true-kepts : (t : Truths) (c : Card) (ks : List Kept) → AllByRecursion t.kept ks → (s : Stay) → IsTrueOf t c s → IsTrueOf t c (with_kepts ks s)
+true-kepts t c ks all s h = (h.0, kepts-more t s.kepts ks h.1 all, h.2, h.3)
 
 -- and so it stays
 kepts-grow : (t u : Truths) → Grow t u → (ks : List Kept) → AllByRecursion t.kept ks → AllByRecursion u.kept ks
 kepts-grow t u g [] all = tt
 kepts-grow t u g (k ∷ ks) all = (g.kept k all.0, kepts-grow t u g ks all.1)
 
-true-grows : (t u : Truths) → Grow t u → (s : Stay) → IsTrueOf t s → IsTrueOf u s
-true-grows t u g s h = (g.accepted s.found s.odometer h.0, kepts-grow t u g s.kepts h.1, by s.closed h.2)
+true-grows : (t u : Truths) → Grow t u → (c : Card) (s : Stay) → IsTrueOf t c s → IsTrueOf u c s
+true-grows t u g c s h = (g.accepted s.found s.odometer h.0, kepts-grow t u g s.kepts h.1, by s.closed h.2, g.entered c s.found h.3)
   where
-    by : (q : Option Shut) → IfSome q (λ x. t.closed s.found.slot x.second x.word) → IfSome q (λ x. u.closed s.found.slot x.second x.word)
+    by : (q : Option Shut) → IfSome q (λ x. t.closed s.found x.second x.word) → IfSome q (λ x. u.closed s.found x.second x.word)
     by None is = tt
-    by (Some x) is = g.closed s.found.slot x.second x.word is
+    by (Some x) is = g.closed s.found x.second x.word is
 
-pub all-true-grow : (t u : Truths) → Grow t u → (ss : List Stay) → AllByRecursion (IsTrueOf t) ss → AllByRecursion (IsTrueOf u) ss
-all-true-grow t u g [] all = tt
-all-true-grow t u g (s ∷ ss) all = (true-grows t u g s all.0, all-true-grow t u g ss all.1)
+pub all-true-grow : (t u : Truths) → Grow t u → (c : Card) (ss : List Stay) → AllByRecursion (IsTrueOf t c) ss → AllByRecursion (IsTrueOf u c) ss
+all-true-grow t u g c [] all = tt
+all-true-grow t u g c (s ∷ ss) all = (true-grows t u g c s all.0, all-true-grow t u g c ss all.1)
 
 -- ---- the comings
 
@@ -339,16 +307,16 @@ module _ (u : ℕ) (f : CardFound) (vehicle : Registration) where
 
   -- at the start
   pub stays-start : (sits : Bool) (X : State) → ((y : List ℕ) → X.may_leave y → y ≡ f.image) → HasStays u f vehicle [] sits [] None X
-  stays-start sits X only = record { shows = λ y left. (ap (book_of app) (only y left), ap (current_use app) (only y left)); goes = tt; spell = refl; timely = tt }
+  stays-start sits X only = record { shows = λ y left. (ap (book_of app) (only y left), ap (current_use app) (only y left)); goes = tt; spell = refl }
 
   -- nothing is done on it
   pub stays-still : (noted : List Spell) (sits : Bool) (ss : List Stay) (s : Option Accepted) (X Y : State) → DoesOn app [] X Y → HasStays u f vehicle noted sits ss s X → HasStays u f vehicle noted sits ss s Y
-  stays-still noted sits ss s X Y does h = record { shows = does (shown_by ss).book (shown_by ss).held h.shows; goes = h.goes; spell = h.spell; timely = h.timely }
+  stays-still noted sits ss s X Y does h = record { shows = does (shown_by ss).book (shown_by ss).held h.shows; goes = h.goes; spell = h.spell }
 
   -- its session and its seat become others, as it is noted, or its session is gone
   pub stays-moved : (noted now : List Spell) (sits sits_now : Bool) (ss : List Stay) (s t : Option Accepted) (X : State) → (StaysIn vehicle ss s → StaysIn vehicle ss t) → (as_noted u s sits (spells ss) ≡ noted → as_noted u t sits_now (spells ss) ≡ now) →
       HasStays u f vehicle noted sits ss s X → HasStays u f vehicle now sits_now ss t X
-  stays-moved noted now sits sits_now ss s t X goes spell h = record { shows = h.shows; goes = goes h.goes; spell = spell h.spell; timely = h.timely }
+  stays-moved noted now sits sits_now ss s t X goes spell h = record { shows = h.shows; goes = goes h.goes; spell = spell h.spell }
 
   -- it keeps some minutes
   module _ (noted : List Spell) (sits : Bool) (ss : List Stay) (ks : List Kept) (a b : Accepted) (X Y : State) (on : KeepsOn f ks (Some a) (Some b) X Y) (h : HasStays u f vehicle noted sits ss (Some a) X) where
@@ -401,26 +369,17 @@ module _ (u : ℕ) (f : CardFound) (vehicle : Registration) where
         odometer = on.1 ∙ ap (λ (o : Option Odometer). last_odometer o ks) g.odometer ∙ sym (last-append None g.stay.kepts ks);
       };
       spell = noted-alike u a b sits (spells (on_last (with_kepts ks) ss)) ∙ ap (λ (l : List Spell). as_noted u (Some a) sits l) (on-last-kept ks ss) ∙ h.spell;
-      timely = on-last-timely (with_kepts ks) (λ s. refl) vehicle size ss (start_shown f.image) h.timely;
     }
 
   -- it is put in, and accepted
   module _ (noted now : List Spell) (sits sits_now : Bool) (ss : List Stay) (found : Find) (odometer : ℕ) (owed : List Entry) (turned : List Find) (a : Accepted) (X Y : State) (is : a.session.registration ≡ vehicle) (fresh : a.session.odometer ≡ None) (on : OpensOn app vehicle found.second odometer owed X Y)
-      (there : sits_now ≡ true) (more : now ≡ noted ++ record { second = found.second; slot = found.slot; withdrawn = None } ∷ []) (early : (x : List ℕ) × X.may_leave x × ((card_view app x).stored ≤ found.second)) (h : HasStays u f vehicle noted sits ss None X) where
+      (there : sits_now ≡ true) (more : now ≡ noted ++ record { second = found.second; slot = found.slot; withdrawn = None } ∷ []) (h : HasStays u f vehicle noted sits ss None X) where
     abbrev new_stay : Stay
     new_stay = record { found = found; odometer = odometer; owed = owed; kepts = []; closed = None; turned = turned }
 
     new-book : made_by size (deeds_of vehicle (is_open_in (shown_by ss).held) (shown_by ss).book new_stay) (shown_by ss).book
         ≡ made_by size (opens (is_open_in (shown_by ss).held) vehicle odometer (lacked (mark_of (shown_by ss).book) owed)) (shown_by ss).book
     new-book = parts new_stay (shown_by ss)
-
-    -- it begins in time
-    in-time : stored_by (shown_by ss) ≤ found.second
-    in-time =
-        let shown = h.shows early.0 early.1 in
-        let same = stored-shown app early.0 (shown_by ss) shown.0 shown.1 in
-        let le = early.2 in
-        omega (arith, same, le)
 
     pub stays-open : HasStays u f vehicle now sits_now (ss ++ new_stay ∷ []) (Some a) Y
     stays-open = record {
@@ -430,7 +389,6 @@ module _ (u : ℕ) (f : CardFound) (vehicle : Registration) where
       spell =
           ap (λ (b : Bool). as_noted u (Some a) b (spells (ss ++ new_stay ∷ []))) there ∙ spells-more ss new_stay
           ∙ ap (λ (l : List Spell). l ++ stay_spell new_stay ∷ []) h.spell ∙ sym more;
-      timely = timely-more vehicle size ss new_stay (start_shown f.image) h.timely in-time;
     }
 
   -- it is withdrawn
@@ -468,5 +426,4 @@ module _ (u : ℕ) (f : CardFound) (vehicle : Registration) where
           (on (after_stay vehicle size last_stay earlier).book (after_stay vehicle size last_stay earlier).held stood));
       goes = tt;
       spell = on-last-shut shut ss ∙ sym (ap (λ (b : Bool). as_noted u (Some a) b (spells ss)) gone) ∙ h.spell;
-      timely = on-last-timely (with_end shut) (λ s. refl) vehicle size ss (start_shown f.image) h.timely;
     }

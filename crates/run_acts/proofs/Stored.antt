@@ -40,6 +40,7 @@ use Rattle.unit_course.proofs.Legs.{travelled-all, travelled-none, travelled-ear
 use Rattle.unit_course.proofs.Lines.{tells-here}
 use Rattle.unit_course.proofs.Alike.{decided-empty}
 use Rattle.unit_course.proofs.Spans.{decided-cut}
+use Rattle.unit_rule.proofs.Marking.{holds-dark}
 use Rattle.unit_rule.specs.Marks.{Holds}
 use Rattle.unit_rule.specs.Odometer.{odometer_by, odometer_after, ShowsOdometer, HasTravelled}
 use Rattle.unit_rule.proofs.Moves.{shown-last}
@@ -135,13 +136,13 @@ module _ (o : Origin) (first : o.found.unit.first ≡ first_of o) (done : List T
   pub lit-stores : (other : List Told) → decided_of (rule_of o) other ≡ decided_of (rule_of o) (t ∷ span) → (x : List ℕ) → d.unit.may_leave x →
       MayStore (rule_of o) (odometer_at o.recording.unit) (first_of o) (earlier ++ record { base = v.odometer; span = other } ∷ []) (last_kept x) (odometer_at x)
   lit-stores other same x left =
-      image-stores o first r.due r.book v.marks d.unit on.powered.lit.unit r.travel r.beside.travels v.odometer counted-from (earlier ++ record { base = v.odometer; span = other } ∷ [])
+      image-stores o first r.due r.book v.marks d.unit (holds-dark o.found.unit r.due r.book v.marks d.unit on.powered.lit.unit) r.travel r.beside.travels v.odometer counted-from (earlier ++ record { base = v.odometer; span = other } ∷ [])
       (may-store (rule_of o) (odometer_at o.recording.unit) (first_of o) earlier v.odometer other
       (subst (λ (n : ℕ). n ≤ HIGHEST_ODOMETER) (sym counted-from) (odometer-low (odometer_at o.recording.unit) r.travel.before r.beside.travels.begins))
       (decided_of (rule_of o) (t ∷ span)) None [] (same ∙ sym (append-nil (decided_of (rule_of o) (t ∷ span)))) (λ m is. none-left m is)
       (minutes_kept (rule_of o) v.log earlier) stands.kept stands.newest stands.stored r.book r.travel
       (book-numbers (rule_of o) (start_at o) o.from (first_of o) done so_far r.recorded.followed (t ∷ span) refl refl earlier are)
-      (rises o first r.due r.book v.marks d.unit on.powered.lit.unit r.travel) (λ m is. none-left m is)
+      (rises o first r.due r.book v.marks d.unit (holds-dark o.found.unit r.due r.book v.marks d.unit on.powered.lit.unit) r.travel) (λ m is. none-left m is)
       (λ i is. none-left i (sym (book-none (rule_of o) (start_at o) o.from (first_of o) done so_far r.recorded.followed (t ∷ span) refl refl earlier are) ∙ is))
       legs.sure
       (λ leg is. none-left leg (sym legs.none ∙ is)))

@@ -1,5 +1,5 @@
 -- Slots and sessions behind a card that is torn out.
-use Rattle.std.proofs.Common.{◌≡◌, ◌∙◌, ◌⊎◌, inl, inr, ℕ, ◌+◌, ◌-◌, ◌/◌, ◌≤◌, Bool, true, false, cond, Option, Some, None, is_some, refl, ap, sym, subst, arith}
+use Rattle.std.proofs.Common.{◌≡◌, ◌∙◌, ◌⊎◌, inl, inr, ℕ, ◌+◌, ◌-◌, ◌/◌, ◌≤◌, Bool, true, false, cond, Option, Some, None, refl, ap, sym, subst, arith}
 use Rattle.activity_codec.specs.declared.values.Slot.{Slot}
 use Rattle.activity_codec.specs.declared.values.Slot.TheVariants.{Driver, CoDriver}
 use Rattle.trace_model.specs.declared.Card.{Card}
@@ -74,10 +74,6 @@ bare-here from cards card None is h none = absurd (cc)
 bare-here from cards card (Some seat) is h none =
     let same : seat.card ≡ card = same-is seat.card card is in
     bare-newest seat.newest seat.card from (subst (λ (o : Option Accepted). AnswersTo from seat.newest o) (ap (session_of cards) same ∙ none) h)
-
-none-more : (n : Option Accepted) → is_some n ≡ false → n ≡ None
-none-more None is = refl
-none-more (Some a) is = absurd (cc)
 
 never : (false ≡ true) ⊎ (false ≡ true) → ⊥
 never (inl h) = cc

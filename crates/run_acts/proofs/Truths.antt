@@ -16,6 +16,7 @@ use Rattle.run_ringed.proofs.Stored.{AtEnd, nothing, push, at-end}
 use Rattle.run_acts.specs.Truths.{Truths, Grow, marked, Past, Rides, driven_in, IsOdometerBefore, IsOdometerBehind, truths_by, SpansGoOn, PastGoesOn}
 use Rattle.activity_codec.specs.declared.entries.Entry.{Entry}
 use Rattle.trace_model.specs.declared.Card.{Card}
+use Rattle.log_model.specs.declared.lines.Find.{Find}
 
 -- ---- what was driven
 
@@ -153,14 +154,15 @@ spans-alike told t x alike =
 -- ---- truths that stay
 
 pub grow-self : (t : Truths) → Grow t t
-grow-self t = record { accepted = λ f odometer h. h; kept = λ k h. h; closed = λ slot second word h. h; owed = λ c second mark es h. h }
+grow-self t = record { accepted = λ f odometer h. h; kept = λ k h. h; closed = λ f second word h. h; owed = λ c f mark es h. h; entered = λ c f h. h }
 
 pub grow-on : (t u v : Truths) → Grow t u → Grow u v → Grow t v
 grow-on t u v first next = record {
   accepted = λ f odometer h. next.accepted f odometer (first.accepted f odometer h);
   kept = λ k h. next.kept k (first.kept k h);
-  closed = λ slot second word h. next.closed slot second word (first.closed slot second word h);
-  owed = λ c second mark es h. next.owed c second mark es (first.owed c second mark es h);
+  closed = λ f second word h. next.closed f second word (first.closed f second word h);
+  owed = λ c f mark es h. next.owed c f mark es (first.owed c f mark es h);
+  entered = λ c f h. next.entered c f (first.entered c f h);
 }
 
 -- with more marks,
@@ -169,7 +171,8 @@ marked-grow marks now t u stay on = record {
   accepted = on.accepted;
   kept = on.kept;
   closed = on.closed;
-  owed = λ c second mark es h. (on.owed c second mark es h.0, marked-on marks now stay c es h.1);
+  owed = λ c f mark es h. (on.owed c f mark es h.0, marked-on marks now stay c es h.1);
+  entered = on.entered;
 }
 
 -- or with the same
@@ -193,12 +196,12 @@ behind-on rule start a b on u odometer h =
     }
 
 -- A RUN THAT GOES ON takes nothing back
-pub past-grows : (rule : Rule) (start : ℕ) (p q : Past) (owed now : Card → (second mark : ℕ) → List Entry → Type 0) → PastGoesOn p q → ((c : Card) (second mark : ℕ) (es : List Entry) → owed c second mark es → now c second mark es) →
+pub past-grows : (rule : Rule) (start : ℕ) (p q : Past) (owed now : Card → Find → (mark : ℕ) → List Entry → Type 0) → PastGoesOn p q → ((c : Card) (f : Find) (mark : ℕ) (es : List Entry) → owed c f mark es → now c f mark es) →
     Grow (truths_by rule start p owed) (truths_by rule start q now)
 past-grows rule start p q owed now on goes = record {
   accepted = λ f odometer h. before-on rule start p.spans q.spans on.spans f.second odometer h;
   kept = λ k h. behind-on rule start p.spans q.spans on.spans (60 * k.entry.minute + 59) k.odometer.0 h;
-  closed = λ slot second word h.
+  closed = λ f second word h.
       let m = on.spans second h.at in
       record {
         at = record { earlier = h.at.earlier; span = h.at.span; t = m.0; behind = m.1; later = m.2; are = m.3; number = m.4 ∙ h.at.number };
@@ -208,4 +211,5 @@ past-grows rule start p q owed now on goes = record {
         is = h.is;
       };
   owed = goes;
+  entered = λ c f h. record { s = h.s; among = on.seconds h.s h.among; number = h.number; puts = h.puts };
 }

@@ -81,25 +81,25 @@ module _ (o : Origin) where
   pub truths-begin : (log : RunLog) (done : List TraceSecond) (s : TraceSecond) → Grow (truths_of o log done) (truths_within o log done s)
   truths-begin log done s = past-grows (rule_of o) (odometer_at o.recording.unit) (past_of log done) (past_of log (done ++ s ∷ []))
       (λ c. IsOwed (rule_of o) (start_at o) log done c (brought o.recording c).owed) (λ c. IsOwed (rule_of o) (start_at o) log (done ++ s ∷ []) c (brought o.recording c).owed) (past-then log done (s ∷ []))
-      (λ c second mark es h. owed-more (rule_of o) (start_at o) log done (s ∷ []) c (brought o.recording c).owed second mark es h)
+      (λ c f mark es h. owed-more (rule_of o) (start_at o) log done (s ∷ []) c (brought o.recording c).owed f mark es h)
 
   -- as it ends,
   pub truths-end : (began later : RunLog) (done : List TraceSecond) (s : TraceSecond) → went later done ≡ went began done → Grow (truths_within o began done s) (truths_of o later (done ++ s ∷ []))
   truths-end began later done s same = past-grows (rule_of o) (odometer_at o.recording.unit) (past_of began (done ++ s ∷ [])) (past_of later (done ++ s ∷ []))
       (λ c. IsOwed (rule_of o) (start_at o) began (done ++ s ∷ []) c (brought o.recording c).owed) (λ c. IsOwed (rule_of o) (start_at o) later (done ++ s ∷ []) c (brought o.recording c).owed) (past-later began later done s same)
-      (λ c second mark es h. owed-end (rule_of o) (start_at o) began later done s same c (brought o.recording c).owed second mark es h)
+      (λ c f mark es h. owed-end (rule_of o) (start_at o) began later done s same c (brought o.recording c).owed f mark es h)
 
   -- behind more seconds,
   pub truths-more : (log : RunLog) (done more : List TraceSecond) → Grow (truths_of o log done) (truths_of o log (done ++ more))
   truths-more log done more = past-grows (rule_of o) (odometer_at o.recording.unit) (past_of log done) (past_of log (done ++ more))
       (λ c. IsOwed (rule_of o) (start_at o) log done c (brought o.recording c).owed) (λ c. IsOwed (rule_of o) (start_at o) log (done ++ more) c (brought o.recording c).owed) (past-then log done more)
-      (λ c second mark es h. owed-more (rule_of o) (start_at o) log done more c (brought o.recording c).owed second mark es h)
+      (λ c f mark es h. owed-more (rule_of o) (start_at o) log done more c (brought o.recording c).owed f mark es h)
 
   -- and by a log that tells the same of them
   pub truths-same : (log later : RunLog) (done : List TraceSecond) → went later done ≡ went log done → Grow (truths_of o log done) (truths_of o later done)
   truths-same log later done same = past-grows (rule_of o) (odometer_at o.recording.unit) (past_of log done) (past_of later done)
       (λ c. IsOwed (rule_of o) (start_at o) log done c (brought o.recording c).owed) (λ c. IsOwed (rule_of o) (start_at o) later done c (brought o.recording c).owed) (past-same log later done same)
-      (λ c second mark es h. owed-same (rule_of o) (start_at o) log later done same c (brought o.recording c).owed second mark es h)
+      (λ c f mark es h. owed-same (rule_of o) (start_at o) log later done same c (brought o.recording c).owed f mark es h)
 
   -- IN THE LAST of several seconds what the first has made true is true
   pub truths-last : (began log : RunLog) (done : List TraceSecond) (s : TraceSecond) (c : ℕ) → went log done ≡ went began done → (last : RunLog) → last ≡ log →

@@ -262,9 +262,6 @@ module _ {U A0 B0 : State} {chip_a chip_b : CardState} (n speed begun : ℕ) (ol
   abbrev D : List TraceSecond
   D = before_last (suc c) s done
 
-  counted : n ≡ suc (suc c)
-  counted = many
-
   feeds-all : (sp : Span) → StandsFor old.minutes sp → StandsFor minutes (fed_many sp s.speed (suc (suc c)))
   feeds-all sp h = subst (λ (k : ℕ). StandsFor minutes (fed_many sp s.speed k)) many (subst (λ (k : ℕ). StandsFor minutes (fed_many sp k n)) (sym now.speed_is) (stands sp h))
 

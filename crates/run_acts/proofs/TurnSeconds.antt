@@ -177,9 +177,6 @@ module _ (o : Origin) (origin : IsOrigin o) (done : List TraceSecond) (s : Trace
   power : has_power bef s ≡ true
   power = lit-power w.b.span bef s p.next (with-supply (rule_of o) (start_at o) o.from (first_of o) done p (IsLit w.b.span) w.lit w.began.followed).power w.moment.number w.moment.given
 
-  pub x-number : number_of x ≡ s.number
-  x-number = told-number later (went later done).before s
-
   pub x-lit : x.told.lit ≡ true
   x-lit = ap (λ (y : Seen). y.told.lit) seen-is ∙ (lit-told later bef s power).lit
 

@@ -36,6 +36,7 @@ use Rattle.unit_course.specs.Legs.{kilometres_of, AreLegs, AreWhole, whole_legs}
 use Rattle.unit_course.specs.Turn.{span_at}
 use Rattle.unit_course.proofs.Alike.{decided-empty}
 use Rattle.unit_course.proofs.Legs.{legs-whole}
+use Rattle.unit_rule.specs.Rule.{once_mended}
 use Rattle.unit_rule.specs.Marks.{IsHeld}
 use Rattle.unit_rule.specs.Odometer.{odometer_by, odometer_after}
 use Rattle.unit_rule.proofs.Travelling.{odometer-sum}
@@ -201,7 +202,7 @@ module _ (o : Origin) (done : List TraceSecond) (s : TraceSecond) (at : Phase) (
   held-minute : (m : ℕ) → IsMarked w.b.marks Recorder m → (i : HistoryMinute) × Contains (w.b.run.book.sure ++ w.new) i × (i.minute ≡ m)
   held-minute m k =
       let mark = mark-of Recorder v.marks m (k.0, w.stay k.0 k.1, k.2, k.3) in
-      let h = All-contains (IsHeld o.found.unit (kept_all w.new w.b.run.book) d.unit) (marks_of Recorder v.marks) mark.0 w.powered.lit.unit.marks_hold mark.1 in
+      let h = All-contains (IsHeld (once_mended o.found.unit) (kept_all w.new w.b.run.book) d.unit) (marks_of Recorder v.marks) mark.0 w.powered.lit.unit.marks_hold mark.1 in
       (h.sure.0, subst (λ (is : List HistoryMinute). Contains is h.sure.0) (sure-kept w.new None w.b.run.book) h.sure.1, h.sure.2 ∙ mark.2)
 
   held-ended : (e : List Told) (m : Minute) → Contains ended_so_far e → Contains (decided_of (rule_of o) e) m → (i : HistoryMinute) × Contains (w.b.run.book.sure ++ w.new) i × (i.minute ≡ m.minute)
@@ -241,9 +242,6 @@ module _ (o : Origin) (done : List TraceSecond) (s : TraceSecond) (at : Phase) (
       let closed : AreLegs (rule_of o) (closed_limit w.b.run.log) 0 ended_so_far e.legs = subst (λ (ss : List (List Told)). AreLegs (rule_of o) (closed_limit w.b.run.log) 0 ss e.legs) same-ended e.closed in
       let are = legs-whole (rule_of o) (closed_limit w.b.run.log) 0 ended_so_far e.legs whole-before closed in
       w.odometer ∙ same-odometer odometer_first w.b.travel.before (whole_legs (rule_of o) ended_so_far) w.travels.begins (sym e.sums ∙ ap kilometres_of are)
-
-  pub legs-now : (ended : List (List Told)) × (spans_of (went w.b.run.log done).told ≡ ended ++ as_spans w.b.span) × (v.odometer ≡ odometer_after (odometer_at o.recording.unit) (whole_legs (rule_of o) ended))
-  legs-now = (ended_so_far, (followed-lit o done s at waits speed rest v d w).spans, base-is)
 
   -- ---- with this second
 

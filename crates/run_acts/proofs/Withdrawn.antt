@@ -54,14 +54,6 @@ module _ (f : Found) (w : Carried) (cards after : Cards) (c : Card) (U V X Y Z :
   left : IsPowered f (with_standing c Out w) after (arranged c U Y Z)
   left = left-powered f w cards c U X Y Z found unit_whole whole a act has room p card after found_after none same
 
-  -- the card is not accepted any more, however the call on it ended
-  pub closed-powered : V.works ≡ true → IsPowered f (with_standing c Out w) after (arranged c V Y Z)
-  closed-powered works = noted-here c f (with_standing c Out w) after U V Y Z found_after unit_whole left unit works
-
-  -- nor where the unit failed in the note
-  pub closed-powerless : IsPowerless f (with_standing c Out w) (arranged c V Y Z)
-  closed-powerless = noted-cut c f (with_standing c Out w) after U V Y Z found_after unit_whole left unit
-
 -- ---- a card of any image, which has room for the largest
 
 module _ (f : Found) (w : Carried) (cards after : Cards) (c : Card) (U V X Y Z : State) (found : AreFoundCards f cards) (unit_whole : IsCoherent U) (whole : IsCoherent X) (size : LARGEST_IMAGE ≤ X.size) (a : Accepted) (act : Activity) (has : session_of cards c ≡ Some a)

@@ -1,6 +1,6 @@
 -- A card is withdrawn: what is recorded, behind the minutes that its leaving decides and the closing of its session.
-use Rattle.std.proofs.Common.{◌≡◌, ◌∙◌, ℕ, suc, ◌+◌, ◌/◌, ◌^◌, ◌<◌, ◌≤◌, Bool, true, false, Option, Some, None, List, [], ◌∷◌, ◌++◌, length, is_some, refl, ap, sym, subst, arith}
-use Rattle.std.specs.Prelude.{IfSome, slice_get}
+use Rattle.std.proofs.Common.{◌≡◌, ◌∙◌, ℕ, suc, ◌+◌, ◌/◌, ◌^◌, ◌<◌, ◌≤◌, Bool, true, false, Option, Some, None, List, [], ◌∷◌, ◌++◌, length, map, take, is_some, refl, ap, sym, subst, arith}
+use Rattle.std.specs.Prelude.{IfSome, nat_lt, slice_get}
 use Rattle.activity_codec.specs.declared.values.Activity.{Activity}
 use Rattle.activity_codec.specs.declared.values.Slot.{Slot}
 use Rattle.trace_model.specs.declared.Card.{Card}
@@ -16,8 +16,12 @@ use Rattle.minute_model.specs.Span.{Span, settled, decided_in, end_of}
 use Rattle.minute_rules.specs.Kept.{StandsFor}
 use Rattle.log_model.specs.declared.lines.Break.{Break}
 use Rattle.log_model.specs.Log.{In, RunLog, Phase, is_torn_in, found_in}
-use Rattle.log_model.specs.Slots.{refusal, other_slot}
-use Rattle.log_model.specs.Course.{went}
+use Rattle.log_model.specs.Slots.{in_slot, refusal, other_slot}
+use Rattle.log_model.specs.Course.{Course, Before, went}
+use Rattle.event_model.specs.Events.{course_by}
+use Rattle.run_moments.specs.Moment.{found_at}
+use Rattle.run_moments.specs.Reached.{course_at}
+use Rattle.run_moments.proofs.Reached.{at-by}
 use Rattle.unit_model.specs.Image.{odometer_at}
 use Rattle.unit_rule.specs.Odometer.{odometer_after}
 use Rattle.unit_notes.specs.Journal.{LeavesJournal}
@@ -36,6 +40,7 @@ use Rattle.run_within.specs.Recorded.{Values}
 use Rattle.run_within.specs.Within.{Beginning, IsLeaving}
 use Rattle.run_within.specs.Taking.{IsLeft}
 use Rattle.run_within.proofs.Leaving.{card-leaves}
+use Rattle.run_within.proofs.Pulling.{sitting-now}
 use Rattle.run_acts.specs.declared.run.Run.{Run}
 use Rattle.run_acts.specs.Acting.{Closing, Closed, IsClosed, closed_falls, told_of, left_run}
 use Rattle.run_acts.specs.Recording.{log_of, values_of, RunWithin, RunFails, GoesOnOrFails}
@@ -71,7 +76,8 @@ use Rattle.run_acts.proofs.Stays.{last-shut-slot}
 use Rattle.run_acts.proofs.Closings.{same-turned}
 use Rattle.run_acts.proofs.AllStay.{Moves, moves-same, moves-bare, moves-leaves, placed-same, placed-bare, placed-nowhere, all-moved, log-self}
 use Rattle.run_acts.proofs.SeatsThen.{same-as, sits-there, sits-nowhere, left-other, emptied-slot}
-use Rattle.run_acts.proofs.NotesThen.{withdrawn-now, bare-now, others-now}
+use Rattle.run_acts.proofs.NotesThen.{withdrawn-now, bare-now, others-now, actions-at}
+use Rattle.run_acts.proofs.Since.{HasSat, has-sat, allowed-still}
 
 -- the moment of an action
 abbrev pub acting_at : ℕ → ℕ → Moment
@@ -154,6 +160,19 @@ module _ (o : Origin) (done : List TraceSecond) (s : TraceSecond) (front rest : 
   slot-left none valid some =
       ap last_slot (withdrawn-now o done s front rest slot are speed now c v d w.within seat allowed from_ seated some) ∙ last-shut-slot s.number (spells_of c notes-before) ∙ (w.stay none).placed c valid slot some seat
 
+  -- it has sat in its slot since it was accepted
+  sat-left : is_some (session_of run.keeper.cabin.cards c) ≡ true → (actions behind : List Action) → s.actions ≡ actions ++ Withdraw slot ∷ behind → length front ≡ length actions → HasSat slot c s.number actions (log_of before).finds
+  sat-left some actions behind is count =
+      let log : RunLog = log_of before in
+      let then_ : Before = (went w.within.b.run.log done).before in
+      let m = w.within.moment in
+      let sits = sitting-now o done s (In (length front)) v d w.within slot c seat from_ seated some in
+      let by : course_by log then_ s (length front) ≡ course_at log then_ s (In (length front)) = at-by log then_ s m.up_to.uncut (length front) m.is in
+      let still : nat_lt 0 s.speed ≡ false = ap (λ (k : ℕ). nat_lt 0 k) now ∙ allowed-still (logged run.keeper.cabin.slots.seats) speed slot allowed in
+      subst (λ (as_ : List Action). HasSat slot c s.number as_ log.finds) (ap (λ (k : ℕ). take k s.actions) count ∙ actions-at actions (Withdraw slot ∷ behind) s.actions is)
+      (has-sat log then_ s (length front) m.is m.up_to.uncut still (λ k y lt. m.up_to.found (In k) y lt) w.within.b.run.log.finds m.finds m.finds_are (m.told_finds ∙ ap (λ (k : Course). map (found_at s.number) k.found) (sym by)) slot c sits.0
+      (ap (λ (k : Course). in_slot k.slots slot) by ∙ sits.1))
+
   stays-left : AllStay o (marked before.marks.items (truths_within o w.within.b.run.log done s)) s.number (log_of before) notes-left run.keeper.memory.registration (with_slot_left slot s.number run.keeper.cabin) d
   stays-left =
       all-moved o (marked before.marks.items (truths_within o w.within.b.run.log done s)) s.number (log_of before) (log_of before) notes-before notes-left run.keeper.memory.registration run.keeper.cabin (with_slot_left slot s.number run.keeper.cabin) d (log-self (log_of before)) (λ none k. each-leaves k) (λ none k. places-left k) w.stay
@@ -192,7 +211,8 @@ module _ (o : Origin) (done : List TraceSecond) (s : TraceSecond) (front rest : 
       ap last_slot
       (ap (λ (b : Beginning). spells_of c (notes_within b done s (In (suc (length front))) (log_of told))) kept_all.began ∙ noted.1 c
       ∙ ap (λ (b : Beginning). spells_of c (notes_within b done s (In (suc (length front))) (log_of before))) left.goes.began)
-      ∙ slot-left noted.0 valid (had (session_of run.keeper.cabin.cards c) refl some)) go new after closing shut is calm broken)
+      ∙ slot-left noted.0 valid (had (session_of run.keeper.cabin.cards c) refl some))
+      (λ some none actions behind is count. subst (λ (fs : List Find). HasSat slot c s.number actions fs) (sym (kept_all.quiet none).2) (sat-left (had (session_of run.keeper.cabin.cards c) refl some) actions behind is (omega (arith, count)))) go new after closing shut is calm broken)
     where
       had : (q : Option Accepted) → session_of run.keeper.cabin.cards c ≡ q → is_some (session_of between.keeper.cabin.cards c) ≡ true → is_some (session_of run.keeper.cabin.cards c) ≡ true
       had None is some = absurd (not-both (session_of between.keeper.cabin.cards c) some (none-comes c at ms t (told_of between told) kept (same ∙ is)))

@@ -13,6 +13,7 @@ use Rattle.trace_model.specs.declared.Action.TheVariants.{Select, Insert, Withdr
 use Rattle.trace_model.specs.Trace.{TraceSecond}
 use Rattle.minute_model.specs.declared.Minute.{Minute}
 use Rattle.minute_model.specs.Span.{Span, activity_next}
+use Rattle.log_model.specs.declared.lines.Find.{Find}
 use Rattle.log_model.specs.declared.lines.SlotFault.{SlotFault}
 use Rattle.log_model.specs.declared.lines.Verdict.{Verdict}
 use Rattle.log_model.specs.Log.{RunLog, Phase, In, cut_in, is_torn_in, found_in, is_accepting}
@@ -29,10 +30,10 @@ use Rattle.run_recorded.specs.Origin.{Origin, rule_of}
 use Rattle.run_within.specs.Recorded.{Values}
 use Rattle.run_within.specs.Within.{Within, course_in}
 use Rattle.run_course.specs.Seconds.{next_told}
-use Rattle.run_acts.specs.Words.{picks_of, tried, IsWordOf}
+use Rattle.run_acts.specs.Words.{picks_of, IsWordOf}
 use Rattle.run_acts.specs.Truths.{past_of, IsWordIn}
 use Rattle.run_acts.proofs.NotesThen.{Parts, split, get-at, actions-at}
-use Rattle.run_acts.proofs.Since.{by-untried, allowed-sits, allowed-still}
+use Rattle.run_acts.proofs.LastLine.{IsSince}
 use Rattle.run_acts.proofs.MinuteEnds.{followed-lit, this-lit, spans-now}
 
 -- ---- settlings are no part of it
@@ -118,15 +119,11 @@ takes-one n (Withdraw y) None slots slot x is = withdraw-own y slot (visits (In 
 takes-one n (Tear y) None slots slot x is = absurd (let wrong : [] ≡ x ∷ [] = is in cc)
 takes-one n (Place y ending country region) None slots slot x is = absurd (let wrong : [] ≡ x ∷ [] = is in cc)
 
--- and it is not refused
-takes-allowed : (n : ℕ) (a : Action) (r : Option SlotFault) (slots : Slots) (slot : Slot) (x : Visit) → (moved_by n r a slots).leaving slot ≡ x ∷ [] → r ≡ None
-takes-allowed n a None slots slot x is = refl
-takes-allowed n a (Some fault) slots slot x is = absurd (let wrong : [] ≡ x ∷ [] = is in cc)
-
 -- ---- THE WORD
 
 module _ (o : Origin) (done : List TraceSecond) (s : TraceSecond) (n : ℕ) (waits : List Visit) (rest : List Minute) (v : Values) (d : Devices) (w : Within o done s (In n) waits None rest v d) (slot : Slot) (x : Visit)
-    (leaves_ : (moved_at v.log (went w.b.run.log done).before s (In n)).leaving slot ≡ x ∷ []) (word : Activity) (is : word ≡ activity_next slot w.sp) where
+    (leaves_ : (moved_at v.log (went w.b.run.log done).before s (In n)).leaving slot ≡ x ∷ []) (word : Activity) (is : word ≡ activity_next slot w.sp) (f : Find) (there : f.slot ≡ slot)
+    (since : (actions rest : List Action) → s.actions ≡ actions ++ Withdraw slot ∷ rest → n ≡ suc (length actions) → IsSince s.number f actions) where
   abbrev was : Before
   was = (went w.b.run.log done).before
 
@@ -144,20 +141,15 @@ module _ (o : Origin) (done : List TraceSecond) (s : TraceSecond) (n : ℕ) (wai
     is-withdraw : p.a ≡ Withdraw slot
     is-withdraw = takes-one m p.a (refusal (course_by v.log was s m).slots s.speed p.a) (course_by v.log was s m).slots slot x taken
 
-    allowed : refusal (course_by v.log was s m).slots s.speed (Withdraw slot) ≡ None
-    allowed =
-        sym (ap (λ (a : Action). refusal (course_by v.log was s m).slots s.speed a) is-withdraw)
-        ∙ takes-allowed m p.a (refusal (course_by v.log was s m).slots s.speed p.a) (course_by v.log was s m).slots slot x taken
-
     front-is : take m s.actions ≡ p.front
     front-is = ap (λ (k : ℕ). take k s.actions) (sym p.count) ∙ actions-at p.front (p.a ∷ p.rest) s.actions p.are
 
-    -- none was withdrawn from the slot since a card was put in it
-    first-here : tried slot false p.front ≡ false
-    first-here =
-        let slots : Slots = (course_by v.log was s m).slots in
-        ap (λ (as_ : List Action). tried slot false as_) (sym front-is)
-        ∙ by-untried v.log was s w.moment.up_to.uncut (allowed-still slots s.speed slot allowed) slot m (allowed-sits slots s.speed slot allowed)
+    are-here : s.actions ≡ p.front ++ Withdraw slot ∷ p.rest
+    are-here = p.are ∙ ap (λ (a : Action). p.front ++ a ∷ p.rest) is-withdraw
+
+    -- none was withdrawn from the slot since its card was accepted
+    since-here : IsSince s.number f p.front
+    since-here = since p.front p.rest are-here (here ∙ ap suc (sym p.count))
 
     -- what was selected by then
     picks-here : (course_in w.b done s (In n) v.log).picks ≡ picks_of p.front
@@ -170,29 +162,33 @@ module _ (o : Origin) (done : List TraceSecond) (s : TraceSecond) (n : ℕ) (wai
         ∙ ap (λ (a : Action). c.picks ++ picks_of (a ∷ [])) is-withdraw ∙ append-nil c.picks
         ∙ by-picks v.log was s w.moment.up_to.uncut m ∙ ap picks_of front-is
 
-    word-by : IsWordOf (rule_of o) w.b.span s slot word
+    word-by : IsWordOf (rule_of o) w.b.span s f word
     word-by = record {
-      front = p.front;
+      front = since-here.front;
+      since = since-here.since;
       rest = p.rest;
-      are = p.are ∙ ap (λ (a : Action). p.front ++ a ∷ p.rest) is-withdraw;
-      first = first-here;
+      are = are-here ∙ ap (λ (as_ : List Action). as_ ++ Withdraw slot ∷ p.rest) since-here.are ∙ ap (λ (z : Slot). (since-here.front ++ since-here.since) ++ Withdraw z ∷ p.rest) (sym there) ∙ append_assoc since-here.front since-here.since (Withdraw f.slot ∷ p.rest);
+      begun = since-here.begun;
+      first = since-here.first;
       is =
           is ∙ ap (λ (sp : Span). activity_next slot sp) w.decided.span_is
           ∙ activity-settled w.decided.times slot (course_in w.b done s (In n) v.log).picks (span_at (rule_of o) w.b.run.next w.b.span)
           ∙ ap (λ (picks : List (Slot × Pick)). activity_next slot (picking picks (span_at (rule_of o) w.b.run.next w.b.span))) picks-here
-          ∙ ap (λ (u : ℕ). activity_next slot (picking (picks_of p.front) (span_at (rule_of o) u w.b.span))) (sym w.moment.number);
+          ∙ ap (λ (u : ℕ). activity_next slot (picking (picks_of p.front) (span_at (rule_of o) u w.b.span))) (sym w.moment.number)
+          ∙ ap (λ (as_ : List Action). activity_next slot (picking (picks_of as_) (span_at (rule_of o) s.number w.b.span))) since-here.are
+          ∙ ap (λ (z : Slot). activity_next z (picking (picks_of (since-here.front ++ since-here.since)) (span_at (rule_of o) s.number w.b.span))) (sym there);
     }
 
   -- IT IS THAT OF THE SLOT as the action of the moment withdraws its card
-  pub word-here : IsWordOf (rule_of o) w.b.span s slot word
+  pub word-here : IsWordOf (rule_of o) w.b.span s f word
   word-here = by n refl
     where
-      by : (k : ℕ) → n ≡ k → IsWordOf (rule_of o) w.b.span s slot word
+      by : (k : ℕ) → n ≡ k → IsWordOf (rule_of o) w.b.span s f word
       by zero first = absurd (let wrong = nothing-first first in cc)
       by (suc m) here = word-by m here (split s.actions m (let few : n ≤ length s.actions = w.moment.is in omega (arith, few, here)))
 
   -- so it is the word of a closing in this second
-  pub closed-now : IsWordIn (rule_of o) (past_of w.b.run.log (done ++ s ∷ [])) slot s.number word
+  pub closed-now : IsWordIn (rule_of o) (past_of w.b.run.log (done ++ s ∷ [])) f s.number word
   closed-now = record {
     at = record {
       earlier = (followed-lit o done s (In n) waits None rest v d w).ended;

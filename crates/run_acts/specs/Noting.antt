@@ -148,11 +148,6 @@ carried_noted true card floor w = with_standing card (fallen floor (w.standing c
 abbrev pub BooksNoted : Card → (failed fell : Bool) → (cards after : Cards) → (d e : Devices) → Type 0
 BooksNoted card failed fell cards after d e = (f : Found) (w : Carried) (floor : ℕ) → AreFoundCards f cards → IsPowered f w cards d → IsPoweredOrOff failed f (carried_noted fell card floor w) after e
 
--- or on that of a slot, where there is one
-abbrev pub BooksNotedIn : Option Card → (failed fell : Bool) → (cards after : Cards) → (d e : Devices) → Type 0
-BooksNotedIn None failed fell cards after d e = (f : Found) (w : Carried) → AreFoundCards f cards → IsPowered f w cards d → IsPoweredOrOff failed f w after e
-BooksNotedIn (Some card) failed fell cards after d e = BooksNoted card failed fell cards after d e
-
 -- ---- of the record
 
 -- A NOTE IS RECORDED at a moment of a second at which no card waits, before any action only where power comes with the second: the second goes

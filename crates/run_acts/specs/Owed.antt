@@ -1,16 +1,16 @@
 -- What a card is owed as it is accepted (profile): by the seconds before that, in a run in which no call has failed.
 use Rattle.std.specs.Prelude.{◌≡◌, ◌⊎◌, ℕ, ◌+◌, ◌*◌, ◌/◌, ◌≤◌, ◌++◌, ◌∷◌, List, [], All, Contains, filter, flat_map, nat_lt, Bool, false, not, ◌&&◌}
 use Rattle.activity_codec.specs.declared.entries.Entry.{Entry}
-use Rattle.activity_codec.specs.declared.values.Slot.{Slot}
-use Rattle.trace_model.specs.declared.Action.TheVariants.{Tear}
 use Rattle.trace_model.specs.declared.Card.{Card}
 use Rattle.trace_model.specs.Trace.{TraceSecond}
 use Rattle.minute_model.specs.declared.Minute.{Minute}
 use Rattle.minute_model.specs.declared.Rule.{Rule}
 use Rattle.minute_model.specs.Span.{decided_in, ungiven_of}
 use Rattle.log_model.specs.Log.{RunLog}
-use Rattle.log_model.specs.Course.{Told, Visit, went}
+use Rattle.log_model.specs.declared.lines.Find.{Find}
+use Rattle.log_model.specs.Course.{Told, Visit, Before, went}
 use Rattle.log_model.specs.Spans.{spans_of}
+use Rattle.event_model.specs.Events.{course_by}
 use Rattle.history_model.specs.Minutes.{HistoryMinute, card_history}
 use Rattle.history_model.specs.Presence.{Start}
 use Rattle.history_model.specs.History.{settlings_of, minutes_after, decided_of}
@@ -65,16 +65,20 @@ pub record IsPulledBefore (rule : Rule) (told : List Told) (u : ℕ) (span : Lis
   pub before : IsDecidedBy rule (spans_of told) t.second.number m ⊎ (ungiven_of (span_at rule u span) ≤ m)
   pub pulled : (v : Visit) × (v.card ≡ c) × Contains t.course.pulled v
 
--- or one did in this second, which is behind the minute's end, too, and decides it
-pub record IsPulledHere (rule : Rule) (s : TraceSecond) (span : List Told) (m : ℕ) : Type 0 where
+-- a log without a line
+abbrev pub unlogged : RunLog
+unlogged = record { breaks = []; refused = []; finds = [] }
+
+-- or one did in this second, among the first actions of it: by the cards in the slots as it began and by these actions, since no line of a second in which
+-- no call failed takes a card out. It is behind the minute's end, too, and decides it.
+pub record IsPulledHere (rule : Rule) (before : Before) (s : TraceSecond) (span : List Told) (begun : ℕ) (c : Card) (m : ℕ) : Type 0 where
   pub behind : 60 * (m + 1) ≤ s.number
   pub decides : ungiven_of (span_at rule s.number span) ≤ m
-  pub slot : Slot
-  pub tears : Contains s.actions (Tear slot)
+  pub pulled : (v : Visit) × (v.card ≡ c) × Contains (course_by unlogged before s begun).pulled v
 
--- THESE ENTRIES ARE OWED to a card with this end mark, as it is accepted in a second: of what was owed to it at the start, and of what the minutes by
+-- THESE ENTRIES ARE OWED to a card with this end mark, as it is accepted by this line: of what was owed to it at the start, and of what the minutes by
 -- then say on it, all that is later than the mark, and nothing else, in order. What was not owed at the start is of minutes behind which it was pulled out.
-pub record IsOwed (rule : Rule) (start : Start) (log : RunLog) (done : List TraceSecond) (c : Card) (lacks : List Entry) (u mark : ℕ) (es : List Entry) : Type 0 where
-  pub at : ReachedAt rule log done u
-  pub are : es ≡ filter (λ (e : Entry). nat_lt mark e.minute) (lacks ++ card_history c (minutes_before rule start log done u at))
-  pub behind : All (λ e. Contains lacks e ⊎ (IsPulledBefore rule (went log at.front).told u at.span c e.minute ⊎ IsPulledHere rule at.s at.span e.minute)) es
+pub record IsOwed (rule : Rule) (start : Start) (log : RunLog) (done : List TraceSecond) (c : Card) (lacks : List Entry) (f : Find) (mark : ℕ) (es : List Entry) : Type 0 where
+  pub at : ReachedAt rule log done f.second
+  pub are : es ≡ filter (λ (e : Entry). nat_lt mark e.minute) (lacks ++ card_history c (minutes_before rule start log done f.second at))
+  pub behind : All (λ e. Contains lacks e ⊎ (IsPulledBefore rule (went log at.front).told f.second at.span c e.minute ⊎ IsPulledHere rule (went log at.front).before at.s at.span f.begun c e.minute)) es

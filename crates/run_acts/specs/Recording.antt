@@ -61,7 +61,7 @@ Supplies Lost IsLost = Unit {0}
 pub record IsOrigin (o : Origin) : Type 0 where
   pub rule : o.recording.rule ≡ Original
   pub decodes : Decodes o.recording.unit
-  pub unit : o.found.unit ≡ started o.recording.unit o.found.unit.began
+  pub unit : o.found.unit ≡ started o.recording.unit o.found.unit.number_a o.found.unit.number_b o.found.unit.began
   pub image : (c : Card) → (found_of o.found c).image ≡ card_image o.recording c
   pub start : (c : Card) → (found_of o.found c).start ≡ brought o.recording c
   pub number : (c : Card) → IsOwnValid (card_image o.recording c) → (found_of o.found c).number ≡ own_number (card_image o.recording c)

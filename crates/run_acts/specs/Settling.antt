@@ -24,12 +24,12 @@ abbrev pub settled_run : Kept → Run → Run
 settled_run minutes run = record run { minutes = minutes }
 
 -- BEHIND A SETTLING the second goes on as it began, and all minutes before its own are kept. A card that was leaving its slot, in the minutes
--- from `low` on before `high`, leaves it still, if it has its session. Where no call failed nothing is noted of the cards.
+-- from `low` on before `high`, leaves it still, if it has its session. Where no call failed nothing is noted of the cards, and nothing is found.
 pub record IsSettledIn (o : Origin) (done : List TraceSecond) (s : TraceSecond) (at : Phase) (waits : List Visit) (b : Beginning) (low high : ℕ) (old new : Run) (before after : Outcome) (d : Devices) : Type 0 where
   pub goes : RunWithin o done s at waits [] new after d
   pub began : goes.within.b ≡ b
   pub from : goes.within.from ≡ s.number / 60
-  pub quiet : NothingFailed (log_of after) → NothingFailed (log_of before) × ((c : Card) → spells_of c (notes_within b done s at (log_of after)) ≡ spells_of c (notes_within b done s at (log_of before)))
+  pub quiet : NothingFailed (log_of after) → NothingFailed (log_of before) × ((c : Card) → spells_of c (notes_within b done s at (log_of after)) ≡ spells_of c (notes_within b done s at (log_of before))) × ((log_of after).finds ≡ (log_of before).finds)
   pub leave : (slot : Slot) (card : Card) → IsLeaving (log_of before) (went b.run.log done).before s at low high old.keeper.cabin slot card → is_some (session_of new.keeper.cabin.cards card) ≡ true →
       IsLeaving (log_of after) (went b.run.log done).before s at (s.number / 60) (s.number / 60) new.keeper.cabin slot card
 

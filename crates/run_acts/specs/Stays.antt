@@ -97,18 +97,11 @@ after_stays vehicle size (s ∷ ss) p = after_stays vehicle size ss (after_stay 
 abbrev pub start_shown : List ℕ → Shown
 start_shown image = record { book = book_of (own_sizes image) image; held = current_use (own_sizes image) image }
 
--- ---- when they began
+-- ---- when they began, and when none did
 
 -- the stored time of a card that shows this: no earlier second may be recorded on it
 abbrev pub stored_by : Shown → ℕ
 stored_by p = stored_of (last_use_of p.book.vehicles.newest) p.held.session.0 p.book.days
-
--- EACH STAY BEGAN IN TIME: it is told as accepted in a second that is not earlier than the stored time of what the card showed by then.
-abbrev pub AreTimely : Registration → (size : ℕ) → List Stay → Shown → Type 0
-AreTimely vehicle size [] p = Unit {0}
-AreTimely vehicle size (s ∷ ss) p = (stored_by p ≤ s.found.second) × AreTimely vehicle size ss (after_stay vehicle size s p)
-
--- ---- where none began
 
 -- a find of a card that tells of a later time
 abbrev pub is_late : Verdict → Bool
@@ -129,26 +122,28 @@ judged_in (s ∷ ss) since = s.turned ++ s.found ∷ judged_in ss since
 abbrev pub IsTurnedAway : Shown → Find → Type 0
 IsTurnedAway p f = (f.verdict ≡ TimeOverlap (stored_by p) f.second) × (f.second < stored_by p)
 
-abbrev pub AreTurnedAway : Registration → (size : ℕ) → List Stay → (since : List Find) → Shown → Type 0
-AreTurnedAway vehicle size [] since p = AllByRecursion (IsTurnedAway p) since
-AreTurnedAway vehicle size (s ∷ ss) since p = AllByRecursion (IsTurnedAway p) s.turned × AreTurnedAway vehicle size ss since (after_stay vehicle size s p)
+-- and accepted by that of a stay, behind such ones: that tells how many entries were owed to it, in a second that is not earlier than the time
+-- which it stored by then
+abbrev pub IsJudged : Shown → Stay → Type 0
+IsJudged p s = AllByRecursion (IsTurnedAway p) s.turned × (s.found.verdict ≡ AcceptedWith (length s.owed)) × (stored_by p ≤ s.found.second)
+
+-- SO IT WAS JUDGED by the lines of each of its stays, by what it showed then; and since the last it was turned away
+abbrev pub AreJudged : Registration → (size : ℕ) → List Stay → (since : List Find) → Shown → Type 0
+AreJudged vehicle size [] since p = AllByRecursion (IsTurnedAway p) since
+AreJudged vehicle size (s ∷ ss) since p = IsJudged p s × AreJudged vehicle size ss since (after_stay vehicle size s p)
 
 -- ---- what was owed to their card
 
--- WHAT WAS OWED AT EACH OF THEM is that which is owed so, by its second and the end mark of what the card showed by then.
-abbrev pub AreOwed : (Owes : (second mark : ℕ) → List Entry → Type 0) → Registration → (size : ℕ) → List Stay → Shown → Type 0
+-- WHAT WAS OWED AT EACH OF THEM is that which is owed so, by its line and the end mark of what the card showed by then.
+abbrev pub AreOwed : (Owes : Find → (mark : ℕ) → List Entry → Type 0) → Registration → (size : ℕ) → List Stay → Shown → Type 0
 AreOwed Owes vehicle size [] p = Unit {0}
-AreOwed Owes vehicle size (s ∷ ss) p = Owes s.found.second (mark_of p.book) s.owed × AreOwed Owes vehicle size ss (after_stay vehicle size s p)
+AreOwed Owes vehicle size (s ∷ ss) p = Owes s.found (mark_of p.book) s.owed × AreOwed Owes vehicle size ss (after_stay vehicle size s p)
 
 -- ---- how many
 
 -- the lines of a log that tell of an acceptance
 abbrev pub acceptances_told : RunLog → List Find
 acceptances_told log = filter (λ (f : Find). is_accepting f.verdict) log.finds
-
--- those of stays
-abbrev pub founds : List Stay → List Find
-founds ss = map (λ (s : Stay). s.found) ss
 
 -- each line is the next of the one list, or of the other
 abbrev pub AreMerged : {L : Type 0} (lines one other : List L) → Type 0
@@ -177,19 +172,16 @@ as_noted u (Some a) false ss = with_last_shut u ss
 abbrev pub IsPlaced : List Note → Cabin → Card → Type 0
 IsPlaced notes cabin c = (slot : Slot) → is_some (session_of cabin.cards c) ≡ true → card_in (seat_in cabin.slots.seats slot) ≡ Some c → last_slot (spells_of c notes) ≡ Some slot
 
--- the line of a stay tells how many entries were owed to its card
-abbrev pub TellsOwed : Stay → Type 0
-TellsOwed s = s.found.verdict ≡ AcceptedWith (length s.owed)
-
 -- ---- what is true of them
 
--- A STAY IS TRUE: its acceptance told the odometer of then, each of its minutes that of its end, and it was closed with the word of its slot.
-abbrev pub IsTrueOf : Truths → Stay → Type 0
-IsTrueOf t s = t.accepted s.found s.odometer × AllByRecursion t.kept s.kepts × IfSome s.closed (λ x. t.closed s.found.slot x.second x.word)
+-- A STAY of a card IS TRUE: its acceptance told the odometer of then, each of its minutes that of its end, it was closed with the word of its slot, and its
+-- line is of the card's own entering.
+abbrev pub IsTrueOf : Truths → Card → Stay → Type 0
+IsTrueOf t c s = t.accepted s.found s.odometer × AllByRecursion t.kept s.kepts × IfSome s.closed (λ x. t.closed s.found x.second x.word) × t.entered c s.found
 
 -- SO IS EACH of these, of a card with this image at the start; and what was owed at it was owed so
 abbrev pub AreTrue : Truths → Card → Registration → (image : List ℕ) → List Stay → Type 0
-AreTrue t c vehicle image ss = AllByRecursion (IsTrueOf t) ss × AreOwed (t.owed c) vehicle (own_sizes image).activity ss (start_shown image)
+AreTrue t c vehicle image ss = AllByRecursion (IsTrueOf t c) ss × AreOwed (t.owed c) vehicle (own_sizes image).activity ss (start_shown image)
 
 -- ---- the vehicle before
 
@@ -238,13 +230,12 @@ StaysIn vehicle stays None = Unit {0}
 StaysIn vehicle stays (Some a) = GoesIn vehicle stays a
 
 -- EACH IMAGE THAT A CARD MAY LEAVE shows exactly what these stays in the vehicle make of the image at the start; and by when and where they began,
--- and when they were withdrawn, they are the noted ones, in this second; each began in time.
+-- and when they were withdrawn, they are the noted ones, in this second.
 pub record HasStays (second : ℕ) (f : CardFound) (vehicle : Registration) (noted : List Spell) (sits : Bool) (stays : List Stay) (session : Option Accepted) (card : State) : Type 0 where
   pub shows : ShowsBook (own_sizes f.image) (after_stays vehicle (own_sizes f.image).activity stays (start_shown f.image)).book
       (after_stays vehicle (own_sizes f.image).activity stays (start_shown f.image)).held card
   pub goes : StaysIn vehicle stays session
   pub spell : as_noted second session sits (spells stays) ≡ noted
-  pub timely : AreTimely vehicle (own_sizes f.image).activity stays (start_shown f.image)
 
 -- so it is once the run is over, of a card with this image at the start, in this vehicle
 abbrev pub ShowsStays : Registration → (image : List ℕ) → List Stay → (card : State) → Type 0
@@ -253,14 +244,12 @@ ShowsStays vehicle image stays card = ShowsBook (own_sizes image) (after_stays v
 
 -- ---- both cards
 
--- THE STAYS OF BOTH CARDS in the vehicle of the run, by these notes so far, by these lines that tell of an acceptance, and these with those that tell of a later time: each of these is that of
--- one stay, in their order; only a card that was valid has some, each of them true, and it shows exactly them, as they are noted in this second; and it
--- sits in the slot of the last of them. The unit tells the vehicle before each.
+-- THE STAYS OF BOTH CARDS in the vehicle of the run, by these notes so far, by these lines that tell of an acceptance, and these with those that tell of a later time: each of
+-- these is, in its order, the next of the one card's stays or of the other's; only a card that was valid has some, each of them true, and it shows exactly them, as they are
+-- noted in this second; and it sits in the slot of the last of them. The unit tells the vehicle before each.
 pub record AreStays (o : Origin) (t : Truths) (second : ℕ) (notes : List Note) (acceptances lines : List Find) (vehicle : Registration) (cabin : Cabin) (d : Devices) : Type 0 where
   pub says : vehicle.0 ≡ registration_in o.recording.unit
   pub stays : Card → List Stay
-  pub told : AreMerged acceptances (founds (stays A)) (founds (stays B))
-  pub owed : (c : Card) → AllByRecursion TellsOwed (stays c)
   pub only : (c : Card) → (stays c ≡ []) ⊎ IsOwnValid (found_of o.found c).image
   pub each : (c : Card) → IsOwnValid (found_of o.found c).image →
       HasStays second (found_of o.found c) vehicle (spells_of c notes) (sits_in cabin.slots.seats c) (stays c) (session_of cabin.cards c) (card_of d c)
@@ -270,7 +259,7 @@ pub record AreStays (o : Origin) (t : Truths) (second : ℕ) (notes : List Note)
   pub since : Card → List Find
   pub lone : (c : Card) → (since c ≡ []) ⊎ IsOwnValid (found_of o.found c).image
   pub judged : AreMerged lines (judged_in (stays A) (since A)) (judged_in (stays B) (since B))
-  pub turned : (c : Card) → IsOwnValid (found_of o.found c).image → AreTurnedAway vehicle (own_sizes (found_of o.found c).image).activity (stays c) (since c) (start_shown (found_of o.found c).image)
+  pub verdicts : (c : Card) → IsOwnValid (found_of o.found c).image → AreJudged vehicle (own_sizes (found_of o.found c).image).activity (stays c) (since c) (start_shown (found_of o.found c).image)
   pub waits : (c : Card) → IsOwnValid (found_of o.found c).image → is_some (session_of cabin.cards c) ≡ true → since c ≡ []
   pub befores : TellsBefores (HasRing insertion_ring o.recording.unit) o.recording.unit acceptances vehicle (λ (c : Card). (found_of o.found c).image) stays d.unit
 

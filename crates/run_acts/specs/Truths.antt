@@ -1,7 +1,9 @@
 -- What is true of the stays of a card (profile): of each acceptance, of each minute that is kept, and of each closing; and what of a run so far says so.
-use Rattle.std.specs.Prelude.{◌≡◌, ℕ, ◌+◌, ◌*◌, List, ◌∷◌, [], ◌++◌, Contains, All, sum_by}
+use Rattle.std.specs.Prelude.{◌≡◌, ◌⊎◌, ℕ, suc, ◌+◌, ◌*◌, List, ◌∷◌, [], ◌++◌, Contains, All, length, sum_by}
 use Rattle.activity_codec.specs.declared.values.Activity.{Activity}
 use Rattle.activity_codec.specs.declared.values.Slot.{Slot}
+use Rattle.trace_model.specs.declared.Action.{Action}
+use Rattle.trace_model.specs.declared.Action.TheVariants.{Insert}
 use Rattle.trace_model.specs.Trace.{TraceSecond}
 use Rattle.minute_model.specs.declared.Rule.{Rule}
 use Rattle.minute_model.specs.Second.{Second}
@@ -23,24 +25,26 @@ use Rattle.trace_model.specs.declared.Card.{Card}
 use Rattle.safety_model.specs.Recording.{brought}
 use Rattle.run_acts.specs.Owed.{IsOwed}
 
--- WHAT IS TRUE of an acceptance (the odometer then), of a minute kept, of a closing (the slot, the second and the word), and of what was owed to a card (the
--- second, its end mark then, and the entries)
+-- WHAT IS TRUE of an acceptance (the odometer then), of a minute kept, of a closing (the line of the acceptance, the second and the word), of what was owed
+-- to a card (the line, its end mark then, and the entries), and of the line of a card's acceptance
 pub record Truths : Type 1 where
   pub accepted : Find → (odometer : ℕ) → Type 0
   pub kept : Kept → Type 0
-  pub closed : Slot → (second : ℕ) → Activity → Type 0
-  pub owed : Card → (second mark : ℕ) → List Entry → Type 0
+  pub closed : Find → (second : ℕ) → Activity → Type 0
+  pub owed : Card → Find → (mark : ℕ) → List Entry → Type 0
+  pub entered : Card → Find → Type 0
 
 -- what is true stays so
 pub record Grow (t u : Truths) : Type 0 where
   pub accepted : (f : Find) (odometer : ℕ) → t.accepted f odometer → u.accepted f odometer
   pub kept : (k : Kept) → t.kept k → u.kept k
-  pub closed : (slot : Slot) (second : ℕ) (word : Activity) → t.closed slot second word → u.closed slot second word
-  pub owed : (c : Card) (second mark : ℕ) (es : List Entry) → t.owed c second mark es → u.owed c second mark es
+  pub closed : (f : Find) (second : ℕ) (word : Activity) → t.closed f second word → u.closed f second word
+  pub owed : (c : Card) (f : Find) (mark : ℕ) (es : List Entry) → t.owed c f mark es → u.owed c f mark es
+  pub entered : (c : Card) (f : Find) → t.entered c f → u.entered c f
 
 -- WITH THESE MARKS each entry that was owed to a card has one of the card's
 abbrev pub marked : List Mark → Truths → Truths
-marked marks t = record t { owed = λ c second mark es. t.owed c second mark es × All (λ (e : Entry). IsMarked marks (device_of c) e.minute) es }
+marked marks t = record t { owed = λ c f mark es. t.owed c f mark es × All (λ (e : Entry). IsMarked marks (device_of c) e.minute) es }
 
 -- ---- a run so far
 
@@ -75,24 +79,40 @@ pub record IsOdometerBehind (rule : Rule) (start : ℕ) (spans : List (List Told
   pub at : Rides spans second
   pub is : odometer ≡ odometer_after start (whole_legs rule at.earlier ++ driven_in (at.span ++ at.t ∷ []) ∷ [])
 
--- THE WORD of a closing in a second: that of the slot, as an action of it withdraws the card, by the seconds of its power span before it
-pub record IsWordIn (rule : Rule) (p : Past) (slot : Slot) (second : ℕ) (word : Activity) : Type 0 where
+-- THE WORD of a closing in a second: that of the slot in which the card was accepted, as an action of it withdraws the card, by the seconds of its power
+-- span before it
+pub record IsWordIn (rule : Rule) (p : Past) (f : Find) (second : ℕ) (word : Activity) : Type 0 where
   pub at : Rides p.spans second
   pub s : TraceSecond
   pub among : Contains p.seconds s
   pub number : s.number ≡ second
-  pub is : IsWordOf rule at.span s slot word
+  pub is : IsWordOf rule at.span s f word
+
+-- the last of so many actions of a second puts a card in a slot
+pub record PutsIn (actions : List Action) (begun : ℕ) (slot : Slot) (c : Card) : Type 0 where
+  pub front : List Action
+  pub rest : List Action
+  pub are : actions ≡ front ++ Insert slot c ∷ rest
+  pub count : begun ≡ suc (length front)
+
+-- A LINE IS OF A CARD's own entering: the last action that had begun puts it in the slot; or none had, as power came
+pub record IsLineOf (seconds : List TraceSecond) (c : Card) (f : Find) : Type 0 where
+  pub s : TraceSecond
+  pub among : Contains seconds s
+  pub number : s.number ≡ f.second
+  pub puts : (f.begun ≡ 0) ⊎ PutsIn s.actions f.begun f.slot c
 
 -- ---- the truths of a run
 
--- where the odometer stood so at the start: an acceptance tells the odometer of its second, a kept minute that of its end, and a closing has the word
--- of its slot
-abbrev pub truths_by : Rule → (start : ℕ) → Past → (owed : Card → (second mark : ℕ) → List Entry → Type 0) → Truths
+-- where the odometer stood so at the start: an acceptance tells the odometer of its second, a kept minute that of its end, a closing has the word
+-- of its slot, and each line is of its card's own entering
+abbrev pub truths_by : Rule → (start : ℕ) → Past → (owed : Card → Find → (mark : ℕ) → List Entry → Type 0) → Truths
 truths_by rule start p owed = record {
   accepted = λ f odometer. IsOdometerBefore rule start p.spans f.second odometer;
   kept = λ k. IsOdometerBehind rule start p.spans (60 * k.entry.minute + 59) k.odometer.0;
-  closed = λ slot second word. IsWordIn rule p slot second word;
+  closed = λ f second word. IsWordIn rule p f second word;
   owed = owed;
+  entered = λ c f. IsLineOf p.seconds c f;
 }
 
 -- behind these seconds, by this log

@@ -44,10 +44,11 @@ use run_outcome::{Lines, Outcome};
 use tach_media::{Chip, Failed, Medium};
 use tacho_types::TimeReal;
 use trace_model::Card;
+use unit_model::layout::INSERTION_SLOTS;
 use unit_notes::UnitNotes;
 
 /// So many insertions are kept in the unit: behind as many more, the entry of one has made room for another.
-const INSERTIONS: u64 = 2048;
+const INSERTIONS: u64 = INSERTION_SLOTS as u64;
 
 /// The card of a slot is withdrawn: what that settles is kept first, and then its session is closed.
 ///

@@ -299,9 +299,6 @@ module _ (app : Application) (e : Entering) (k : Keeper) (U V X M Z : State) (un
 -- ---- A CARD ENTERS: it is revived, and its sizes are known
 
 module _ (e : Entering) (k : Keeper) (sizes : Result Application ℕ) (U X M Z : State) (unit_whole : IsCoherent U) (whole : IsCoherent X) (run : LeavesOnly X M Unchanged) (clock : M.clock ≡ X.clock) (bare : session_of k.cabin.cards e.which ≡ None) where
-  abbrev known : Cards
-  known = with_sizes e.which sizes k.cabin.cards
-
   pub still-bare : session_of (with_sizes e.which sizes k.cabin.cards) e.which ≡ None
   still-bare = session-sized e.which e.which sizes k.cabin.cards ∙ bare
 

@@ -85,9 +85,6 @@ module _ (app : Application) (registration : Registration) (e : Entering) (u y :
   room : place_of app (file 0x0507) + 19 ≤ length y
   room = omega (arith, fits, use_inside app)
 
-  abbrev Told : List CardEvent
-  Told = unclosed_on app e.at.second y
-
   moving-kind : INSERTION_WHILE_DRIVING ≢ SESSION_NOT_CLOSED
   moving-kind is = omega (arith, is)
 

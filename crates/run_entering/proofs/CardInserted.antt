@@ -193,9 +193,6 @@ module _ (app : Application) (now : ℕ) (x : List ℕ) (left_open : session_tim
 -- ---- an insertion
 
 module _ (app : Application) (registration : Registration) (odometer : ℕ) (owed : List Entry) (now : ℕ) (x : List ℕ) (fits : place_of app (file 0x0507) + 19 ≤ length x) where
-  abbrev Still : List ℕ → Type 0
-  Still c = SameEvents app x c
-
   still : (x1 : List ℕ) → IsStill app x x1 → SameEvents app x x1
   still x1 is = card-same app (IsBook (book_of app x)) x x1 is
 
@@ -241,9 +238,6 @@ module _ (app : Application) (registration : Registration) (odometer : ℕ) (owe
 
       shut-whole : ShowsMore app (unclosed (current_use app x) now ∷ []) false x x4
       shut-whole = shows-still app (unclosed (current_use app x) now ∷ []) false x x3 x4 (noted-whole x3 noted) (card-same app (IsBook (closed app.activity Rest (book_of app x3))) x3 x4 shut)
-
-  abbrev Told : List CardEvent
-  Told = unclosed (current_use app x) now ∷ []
 
   open-shown : session_time app x ≢ 0 → (y : List ℕ) → InsertsOpen app registration odometer owed now x y → ShowsMore app (unclosed (current_use app x) now ∷ []) false x y
   open-shown left_open y (x1, first, (x2, mended, (x3, noted, (x4, shut, (x5, ended, opened))))) =

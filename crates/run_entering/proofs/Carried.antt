@@ -25,7 +25,7 @@ use Rattle.joint_rule.specs.Views.{other, row, owed_in}
 use Rattle.joint_rule.specs.Marked.{of_card, HasBrought}
 use Rattle.joint_rule.proofs.Owing.{owed-new}
 use Rattle.joint_rule.specs.Rules.{Standing, Out, In, IsEntered}
-use Rattle.unit_rule.specs.Rule.{Started}
+use Rattle.unit_rule.specs.Rule.{Started, IsCards}
 use Rattle.unit_rule.specs.Marks.{Holds}
 use Rattle.unit_notes.specs.Journal.{LeavesJournal}
 use Rattle.device_steps.specs.Rule.{Both, opened, number_of, card_seen, CardHolds, IsKeptUp, IsRowTaken}
@@ -69,13 +69,14 @@ found-same f cards after same found = record {
   two = found.two;
   named = λ c valid. subst (λ (o : Option FullCardNumber). IfSome o (λ n. card_number_bytes n ≡ (found_of f c).number)) (sym (same c)) (found.named c valid);
   told = λ c valid. subst (λ (o : Option FullCardNumber). is_some o ≡ true) (sym (same c)) (found.told c valid);
+  own = found.own;
   sizes = found.sizes;
   entries = found.entries;
 }
 
 -- a card that is accepted told the number that it had
 pub found-seated : (f : Found) (slot : Slot) (which : Card) (number : FullCardNumber) (row : ℕ) (accepted : Accepted) (cabin : Cabin) → card_number_bytes number ≡ (found_of f which).number → AreFoundCards f cabin.cards → AreFoundCards f (with_accepted slot which number row accepted cabin).cards
-found-seated f slot A number row accepted cabin is found = record { two = found.two; named = named; told = told; sizes = found.sizes; entries = found.entries }
+found-seated f slot A number row accepted cabin is found = record { two = found.two; named = named; told = told; own = found.own; sizes = found.sizes; entries = found.entries }
   where
     named : (c : Card) → IsOwnValid (found_of f c).image → IfSome (known_of (with_accepted slot A number row accepted cabin).cards c).number (λ n. card_number_bytes n ≡ (found_of f c).number)
     named A valid = is
@@ -84,7 +85,7 @@ found-seated f slot A number row accepted cabin is found = record { two = found.
     told : (c : Card) → IsOwnValid (found_of f c).image → is_some (known_of (with_accepted slot A number row accepted cabin).cards c).number ≡ true
     told A valid = refl
     told B valid = found.told B valid
-found-seated f slot B number row accepted cabin is found = record { two = found.two; named = named; told = told; sizes = found.sizes; entries = found.entries }
+found-seated f slot B number row accepted cabin is found = record { two = found.two; named = named; told = told; own = found.own; sizes = found.sizes; entries = found.entries }
   where
     named : (c : Card) → IsOwnValid (found_of f c).image → IfSome (known_of (with_accepted slot B number row accepted cabin).cards c).number (λ n. card_number_bytes n ≡ (found_of f c).number)
     named A valid = found.named A valid
@@ -140,7 +141,7 @@ module _ (f : Found) (w : Carried) (cards : Cards) (c : Card) (U X Z : State) (f
 
 module _ (f : Found) (w : Carried) (k : Keeper) (e : Entering) (look : CardLook) (session : Session) (row entry noted : ℕ) (U V W X Z : State) (m : MaySeat f w k e look session U X Z) (whole : IsCoherent U) (middle : IsCoherent V) (run : LeavesOnly U V LeavesJournal) (cause : HasCause U V false)
     (spared : Option (List ℕ)) (same : spared ≡ option_map (λ (s : FullCardNumber). card_number_bytes s) (known_of k.cabin.cards (other e.which)).number) (failed : Bool) (began : HasCause V W failed) (tells : is_some W.image ≡ is_some V.image)
-    (holds : (s : Started) (due : ℕ) (b : Book) (marks : List Mark) → Holds s due b marks V → Holds s due b marks W)
+    (holds : (s : Started) (due : ℕ) (b : Book) (marks : List Mark) → IsCards s (card_number_bytes look.number) → Holds s due b marks V → Holds s due b marks W)
     (mine : (r : Both) (s : Started) (due : ℕ) (b : Book) (marks : List Mark) (newest : ℕ) → card_number_bytes look.number ≡ number_of r e.which → Holds s due b marks V → due ≤ e.at.second / 60 → CardHolds r e.which b Out [] [] V X → IsEntered (opened r e.which).start (opened r e.which).began e.at.second newest (card_seen X)
     → IsRowTaken r e.which b e.at.second newest failed W X)
     (others : (r : Both) (s : Started) (due : ℕ) (b : Book) (marks : List Mark) (z : Standing) (n d : List Entry) → card_number_bytes look.number ≡ number_of r e.which → spared ≡ Some (number_of r (other e.which)) → CardHolds r (other e.which) b z n d V Z → IsKeptUp r (other e.which) b z n d failed W Z) where

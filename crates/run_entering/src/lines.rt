@@ -7,9 +7,8 @@ ghost use Rattle.run_entering.specs.Entering.{find_of, and_mark, and_marks, last
 
 use activity_codec::{Entry, Owed, Slot};
 use card_judge::CardLook;
-use log_model::{Find, Mark, Verdict};
+use log_model::{Find, Mark, Verdict, device_of};
 use run_keeping::Moment;
-use run_model::Device;
 use run_outcome::Lines;
 use tacho_types::{Odometer, Registration, TimeReal};
 use trace_model::Card;
@@ -32,16 +31,6 @@ pub(crate) fn other_card(card: Card) -> Card
     match card {
         Card::A => Card::B,
         Card::B => Card::A,
-    }
-}
-
-// A card as a device.
-pub(crate) fn device_of(card: Card) -> Device
-    ensures { result ≡ device_of card }
-{
-    match card {
-        Card::A => Device::CardA,
-        Card::B => Device::CardB,
     }
 }
 

@@ -13,8 +13,9 @@ use Rattle.unit_notes.specs.Journal.{LeavesJournal}
 use Rattle.joint_rule.specs.Rules.{CardDark, CardRule}
 use Rattle.joint_rule.specs.Marked.{of_card, HasBrought}
 use Rattle.safety_model.specs.Safe.{Devices, card_of}
+use Rattle.unit_rule.specs.Rule.{once_mended}
 use Rattle.unit_rule.specs.Marks.{Holds}
-use Rattle.unit_rule.proofs.Marking.{holds-beside}
+use Rattle.unit_rule.proofs.Marking.{holds-beside, holds-dark}
 use Rattle.device_steps.proofs.Noted.{noted-holds, noted-rests}
 use Rattle.run_crew.specs.declared.cards.Accepted.{Accepted}
 use Rattle.run_crew.specs.declared.cards.Cards.{Cards}
@@ -54,7 +55,7 @@ brought-lit : (f : Found) (w : Carried) (owes : Card → List Entry) (cards : Ca
 brought-lit f w owes cards A fate m session U X Y Z lit one = record {
   tells = lit.tells;
   works = lit.works;
-  unit = holds-beside f.unit w.due w.book w.marks (marks_by fate (Some A) m) U (unit-none fate A m) lit.unit;
+  unit = holds-beside (once_mended f.unit) w.due w.book w.marks (marks_by fate (Some A) m) U (unit-none fate A m) lit.unit;
   none = lit.none;
   rules = rules;
   valid = valid;
@@ -81,7 +82,7 @@ brought-lit f w owes cards A fate m session U X Y Z lit one = record {
 brought-lit f w owes cards B fate m session U X Y Z lit one = record {
   tells = lit.tells;
   works = lit.works;
-  unit = holds-beside f.unit w.due w.book w.marks (marks_by fate (Some B) m) U (unit-none fate B m) lit.unit;
+  unit = holds-beside (once_mended f.unit) w.due w.book w.marks (marks_by fate (Some B) m) U (unit-none fate B m) lit.unit;
   none = lit.none;
   rules = rules;
   valid = valid;
@@ -136,21 +137,21 @@ brought-go f w owes cards B fate m session U X Y Z go one = record { held = held
 module _ (f : Found) (w : Carried) (owes : Card → List Entry) (cards : Cards) (U V X Y : State) (found : AreFoundCards f cards) (whole : IsCoherent U) (lit : IsLitOwing f w owes (devices U X Y)) (go : AllGo f w owes cards (devices U X Y)) (run : LeavesOnly U V LeavesJournal) where
   rests-on : (c : Card) (Z : State) (due : List Entry) → CardRule c (found_of f c).start AnyKept (found_of f c).began w.book (w.standing c) [] due (unit_seen f U) (of_card Z) → CardDark c (found_of f c).start AnyKept (found_of f c).began w.book (w.standing c) (unit_seen f V) (of_card Z)
   rests-on c Z due rule =
-      of-rests f found.two c w.book (w.standing c) V Z (noted-rests (both_of f found.two) c f.unit w.due w.book w.marks (w.standing c) Z whole lit.unit run (as-rests f found.two c w.book (w.standing c) U Z rule.dark))
+      of-rests f found.two c w.book (w.standing c) V Z (noted-rests (both_of f found.two) c (once_mended f.unit) w.due w.book w.marks (w.standing c) Z whole lit.unit run (as-rests f found.two c w.book (w.standing c) U Z rule.dark))
 
   off-on : (c : Card) (Z : State) → CardOwing f c w.book (w.standing c) (w.brought c) w.marks (owes c) (session_of cards c) U Z → IsOwnValid (found_of f c).image → CardOff f w.book (w.standing c) (w.brought c) c V Z
   off-on c Z one valid = record {
     rests = rests-on c Z (owes c) one.rule;
     valid = one.valid;
     rises = lit.rises c valid;
-    brought = λ k at. brought-on f c k w.book (w.standing c) (w.standing c) f.unit w.due w.marks U V Z whole lit.tells lit.unit lit.none one.rule.dark (rests-on c Z (owes c) one.rule) (one.brought k at);
+    brought = λ k at. brought-on f c k w.book (w.standing c) (w.standing c) (once_mended f.unit) w.due w.marks U V Z whole lit.tells lit.unit lit.none one.rule.dark (rests-on c Z (owes c) one.rule) (one.brought k at);
     held = one.held;
   }
 
   pub noted-off : IsPowerless f w (devices V X Y)
   noted-off = powerless-of f w cards A V X Y found (record {
     tells = run.tells ∙ lit.tells;
-    unit = noted-holds f.unit w.due w.book w.marks whole run lit.unit;
+    unit = holds-dark f.unit w.due w.book w.marks V (noted-holds (once_mended f.unit) w.due w.book w.marks whole run lit.unit);
     none = lit.none;
     mine = λ valid. off-on A X (of-card f w owes cards (devices U X Y) A lit go valid) valid;
     others = λ valid. off-on B Y (of-card f w owes cards (devices U X Y) B lit go valid) valid;
@@ -183,7 +184,7 @@ cards-by Fell c second cabin = refl
 
 -- the cards that were found are those
 pub found-session : (f : Found) (c : Card) (s : Option Accepted) (cards : Cards) → AreFoundCards f cards → AreFoundCards f (with_session c s cards)
-found-session f A s cards found = record { two = found.two; named = named; told = told; sizes = found.sizes; entries = found.entries }
+found-session f A s cards found = record { two = found.two; named = named; told = told; own = found.own; sizes = found.sizes; entries = found.entries }
   where
     named : (c : Card) → IsOwnValid (found_of f c).image → IfSome (known_of (with_session A s cards) c).number (λ n. card_number_bytes n ≡ (found_of f c).number)
     named A = found.named A
@@ -192,7 +193,7 @@ found-session f A s cards found = record { two = found.two; named = named; told 
     told : (c : Card) → IsOwnValid (found_of f c).image → is_some (known_of (with_session A s cards) c).number ≡ true
     told A = found.told A
     told B = found.told B
-found-session f B s cards found = record { two = found.two; named = named; told = told; sizes = found.sizes; entries = found.entries }
+found-session f B s cards found = record { two = found.two; named = named; told = told; own = found.own; sizes = found.sizes; entries = found.entries }
   where
     named : (c : Card) → IsOwnValid (found_of f c).image → IfSome (known_of (with_session B s cards) c).number (λ n. card_number_bytes n ≡ (found_of f c).number)
     named A = found.named A
@@ -224,7 +225,7 @@ unit-tells : (f : Found) (w : Carried) (owes : Card → List Entry) (c : Card) (
 unit-tells f w owes A U X Z lit = lit.tells
 unit-tells f w owes B U X Z lit = lit.tells
 
-unit-holds : (f : Found) (w : Carried) (owes : Card → List Entry) (c : Card) (U X Z : State) → IsLitOwing f w owes (arranged c U X Z) → Holds f.unit w.due w.book w.marks U
+unit-holds : (f : Found) (w : Carried) (owes : Card → List Entry) (c : Card) (U X Z : State) → IsLitOwing f w owes (arranged c U X Z) → Holds (once_mended f.unit) w.due w.book w.marks U
 unit-holds f w owes A U X Z lit = lit.unit
 unit-holds f w owes B U X Z lit = lit.unit
 

@@ -36,6 +36,7 @@ use Rattle.joint_rule.specs.Rules.{Standing, Out, In, Torn, IsPresent, CardRule}
 use Rattle.joint_rule.specs.Marked.{of_card, AnyAdded, HasBrought}
 use Rattle.joint_rule.proofs.Staying.{keep-stays}
 use Rattle.joint_rule.proofs.Viewed.{seen-run}
+use Rattle.unit_rule.specs.Rule.{once_mended}
 use Rattle.unit_rule.specs.Marks.{Holds}
 use Rattle.device_steps.specs.Rule.{opened, CardHolds}
 use Rattle.device_steps.specs.OnCard.{IsReady, IsOnItsCard}
@@ -92,7 +93,7 @@ present-in : (f : CardFound) (z : Standing) (time newest m : ℕ) → z ≡ In t
 present-in f z time newest m is present = (subst (λ (s : Standing). IsPresent f.start s m) is present).0
 
 module _ (f : Found) (cards : Cards) (found : AreFoundCards f cards) (c : Card) (due : ℕ) (b : Book) (z : Standing) (ks : List ℕ) (marks : List Mark) (a : Accepted) (e : Entry) (odometer : ℕ) (U X Y : State) (unit : IsCoherent U) (whole : IsCoherent X) (after : IsCoherent Y)
-    (tells : is_some U.image ≡ true) (h : Holds f.unit due b marks U) (none : b.maybe ≡ None) (valid : IsOwnValid (found_of f c).image) (present : IsPresent (found_of f c).start z e.minute) (one : CardOwing f c b z ks marks (e ∷ []) (Some a) U X)
+    (tells : is_some U.image ≡ true) (h : Holds (once_mended f.unit) due b marks U) (none : b.maybe ≡ None) (valid : IsOwnValid (found_of f c).image) (present : IsPresent (found_of f c).start z e.minute) (one : CardOwing f c b z ks marks (e ∷ []) (Some a) U X)
     (fits : (x : List ℕ) → X.image ≡ Some x → image_size_of a.session.application ≤ length x) (late : a.session.minute < e.minute) (run : LeavesOnly X Y (λ x y. IsSession a.session x → IsCardKeeping a.session e odometer x y)) where
   abbrev g : CardFound
   g = found_of f c
@@ -183,7 +184,7 @@ module _ (f : Found) (cards : Cards) (found : AreFoundCards f cards) (c : Card) 
   steps = as-steps f found.two c b (In on.time s.minute) [] (e ∷ []) U X rule
 
   at-the-end : (failed : Bool) → (failed ≡ false → EndsWith (of_card X) (of_card Y) (IsNowOnCard AnyAdded e)) → IsOnItsCard (both_of f found.two) c b on.time e failed U Y
-  at-the-end failed ends = kept-torn (both_of f found.two) c f.unit due b marks on.time s (bound_since g.image one.goes.has) (own_covered g.image) ready.0 (counted_since g.image one.goes.has) (all_since g.image one.goes.has) e odometer late unit tells whole h none steps
+  at-the-end failed ends = kept-torn (both_of f found.two) c (once_mended f.unit) due b marks on.time s (bound_since g.image one.goes.has) (own_covered g.image) ready.0 (counted_since g.image one.goes.has) (all_since g.image one.goes.has) e odometer late unit tells whole h none steps
       (fresh-steps f found.two c e.minute fresh) ready.1 run failed ends
 
   -- THE CALL FAILED
@@ -204,7 +205,7 @@ module _ (f : Found) (cards : Cards) (found : AreFoundCards f cards) (c : Card) 
   module _ (t : Accepted) (works : Y.works ≡ true) (sizes : t.session.application ≡ s.application) (at : t.session.minute ≡ e.minute) (kept : IfSome X.image (λ x. IfSome Y.image (λ y. IsSession s x → IsCardKept s t.session e odometer x y)))
       (settled : IsSettled Y) where
     ends : EndsWith (of_card X) (of_card Y) (IsNowOnCard AnyAdded e)
-    ends = ends-on_card (both_of f found.two) c f.unit due b marks on.time s (bound_since g.image one.goes.has) (own_covered g.image) ready.0 (counted_since g.image one.goes.has) (all_since g.image one.goes.has) e odometer late unit tells whole h none steps
+    ends = ends-on_card (both_of f found.two) c (once_mended f.unit) due b marks on.time s (bound_since g.image one.goes.has) (own_covered g.image) ready.0 (counted_since g.image one.goes.has) (all_since g.image one.goes.has) e odometer late unit tells whole h none steps
         (fresh-steps f found.two c e.minute fresh) ready.1 run t.session after works rule.stands.0 sizes at kept
 
     goes-all : IfSome Y.image (GoesSince t.session.application g.image (brought_by c g.start b) (suc (max g.start.word t.session.minute)))

@@ -14,14 +14,11 @@ use Rattle.card_records.specs.Rings.{event_ring}
 use Rattle.card_records.proofs.Sets.{set_inside}
 use Rattle.card_image.specs.Fields.{file, place_ring, current_use}
 use Rattle.card_session.specs.Cards.{ended}
-use Rattle.card_session.specs.Inserting.{timed, registered, IsOpened, IsNoted}
+use Rattle.card_session.specs.Inserting.{timed, registered, IsOpened}
 use Rattle.device_steps.specs.CardNotes.{IsNote}
 use Rattle.run_keeping.specs.CardDeeds.{begun_use, ended_use}
 
 module _ (app : Application) where
-  abbrev there : ℕ
-  there = place_of app (file 0x0507)
-
   -- what its nineteen bytes tell
   pub use-told : (y : List ℕ) → current_use app y
       ≡ record { session = record { 0 = big_number 4 (bytes_at y (place_of app (file 0x0507)) 4) }; registration = record { 0 = bytes_at y (place_of app (file 0x0507) + 4) 15 } }
@@ -51,11 +48,6 @@ module _ (app : Application) where
   event-use kind i x c below outside =
       use-same x c (part_after (entry_place (event_ring app kind) i) (event_ring app kind).width (place_of app (file 0x0507)) 19 x c outside (omega (arith, place_high (event_ring app kind) i below, set_inside app kind, events-low)))
 
-  -- a session that was not closed is noted
-  pub noted-use : (now : ℕ) (x c : List ℕ) → IsNoted app now x c → current_use app c ≡ current_use app x
-  noted-use now x c (inl held) = ap (λ (l : List ℕ). current_use app l) held.1
-  noted-use now x c (inr noted) = event-use 6 noted.1.place x c noted.1.takes.below noted.1.entry.outside
-
   -- an event or a place is
   pub note-use : (x c : List ℕ) → IsNote app x c → current_use app c ≡ current_use app x
   note-use x c (inl noting) = ⊎_elim
@@ -68,9 +60,6 @@ module _ (app : Application) where
 
   -- ---- it is written
   module _ (vehicle : Registration) (now : ℕ) (long : length vehicle.0 ≡ 15) (few : now < 2 ^ 32) (x : List ℕ) (fits : place_of app (file 0x0507) + 19 ≤ length x) where
-    abbrev named : List ℕ
-    named = registered app vehicle x
-
     named-outside : SameOutside (place_of app (file 0x0507) + 4) (length vehicle.0) x (registered app vehicle x)
     named-outside = put_outside (place_of app (file 0x0507) + 4) vehicle.0 x (omega (arith, fits, long))
 

@@ -10,11 +10,10 @@ use Rattle.run_crew.specs.declared.cards.Accepted.{Accepted}
 use Rattle.run_crew.specs.declared.cards.Cards.{Cards}
 use Rattle.run_crew.specs.declared.cabin.Cabin.{Cabin}
 use Rattle.run_crew.specs.Cards.{session_of}
-use Rattle.run_crew.specs.Cabin.{IsBehind, AreTwo, left_from, slot_with}
+use Rattle.run_crew.specs.Cabin.{AreTwo, left_from, slot_with}
 use Rattle.run_outcome.specs.Lines.{Listed}
 use Rattle.run_keeping.specs.declared.keeper.Moment.{Moment}
 use Rattle.run_keeping.specs.Keeping.{Fate, Still, Has, Fell, IsFateOf, IsOnCard, cabin_by, marks_by, breaks_by, session_at, state_at, is_this, tears_of, most_tears, with_lines}
-use Rattle.run_keeping.proofs.Sessions.{behind-other}
 
 -- ---- the slots
 
@@ -43,14 +42,6 @@ minute-by (Has a n) (Some c) second cabin low = low
 minute-by Fell (Some c) second cabin low = left-minute (slot_with cabin.slots.seats c) second cabin.slots low
 
 -- ---- the sessions
-
-pub behind-by : (fate : Fate) (present o : Option Card) (second : ℕ) (cabin : Cabin) (minute : ℕ) → AreTwo present o → IsBehind cabin.cards minute o → IsBehind (cabin_by fate present second cabin).cards minute o
-behind-by Still None o second cabin minute two behind = behind
-behind-by (Has a n) None o second cabin minute two behind = behind
-behind-by Fell None o second cabin minute two behind = behind
-behind-by Still (Some c) o second cabin minute two behind = behind
-behind-by (Has a n) (Some c) o second cabin minute two behind = behind-other c o (Some a) cabin.cards minute two behind
-behind-by Fell (Some c) o second cabin minute two behind = behind-other c o None cabin.cards minute two behind
 
 -- each tear has its session
 tears-card : (fate : Fate) (c : Card) (second : ℕ) (kept : Kept) (slot : Slot) (at : Moment) (cabin : Cabin) (s : Option Accepted) → session_of cabin.cards c ≡ s → IsFateOf s kept fate

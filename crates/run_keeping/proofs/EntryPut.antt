@@ -15,8 +15,9 @@ use Rattle.joint_rule.specs.Views.{other}
 use Rattle.joint_rule.specs.Rules.{Standing, IsPresent, CardDark, CardRule}
 use Rattle.joint_rule.specs.Marked.{of_card, HasBrought}
 use Rattle.safety_model.specs.Safe.{card_of}
-use Rattle.unit_rule.specs.Rule.{Started}
+use Rattle.unit_rule.specs.Rule.{Started, once_mended, IsCards}
 use Rattle.unit_rule.specs.Marks.{Holds}
+use Rattle.unit_rule.proofs.Marking.{holds-dark}
 use Rattle.device_steps.specs.Rule.{Both, opened, number_of, CardHolds, IsKeptUp}
 use Rattle.device_steps.proofs.EntryOwed.{worked}
 use Rattle.run_notes.specs.Entries.{number_or_no_card}
@@ -82,7 +83,7 @@ OwesOther number e failed c U V X Y = (r : Both) (s : Started) (due : ℕ) (b : 
 
 module _ (f : Found) (cards : Cards) (found : AreFoundCards f cards) (w : Carried) (puts : Card → List Entry) (c : Card) (e : Entry) (number : List ℕ) (named : number ≡ (found_of f c).number) (failed : Bool) (U V X Y : State) (whole : IsCoherent U)
     (h : IsLitWith f w puts owes_nothing (devices U X Y)) (go : AllGo f w owes_nothing cards (devices U X Y)) (may : MayPut f (Some c) e w puts) (tells : is_some V.image ≡ is_some U.image) (cause : HasCause U V failed)
-    (holds : (s : Started) (due : ℕ) (b : Book) (marks : List Mark) → Holds s due b marks U → Holds s due b marks V)
+    (holds : (s : Started) (due : ℕ) (b : Book) (marks : List Mark) → IsCards s number → Holds s due b marks U → Holds s due b marks V)
     (mine : OwesMine number e failed c U V (card_of (devices U X Y) c)) (others : OwesOther number e failed c U V (card_of (devices U X Y) c) (card_of (devices U X Y) (other c))) where
   abbrev r : Both
   r = both_of f found.two
@@ -93,15 +94,18 @@ module _ (f : Found) (cards : Cards) (found : AreFoundCards f cards) (w : Carrie
   is : number ≡ number_of r c
   is = named ∙ number-same f found.two c
 
+  unit-after : Holds (once_mended f.unit) w.due w.book w.marks V
+  unit-after = holds (once_mended f.unit) w.due w.book w.marks (subst (IsCards f.unit) (sym named) (found.own c may.0)) h.unit
+
   here : CardHolds r c w.book (w.standing c) [] [] U (card c)
   here = as-steps f found.two c w.book (w.standing c) [] [] U (card c)
       (subst (λ (es : List Entry). CardRule c (found_of f c).start AnyKept (found_of f c).began w.book (w.standing c) es [] (unit_seen f U) (of_card (card c))) may.1 (h.rules c may.0))
 
   own : IsKeptUp r c w.book (w.standing c) (e ∷ []) [] failed V (card c)
-  own = mine r f.unit w.due w.book w.marks (w.standing c) is h.unit may.2 may.3 (subst (λ (s : CardStart). IsPresent s (w.standing c) e.minute) (start-same f found.two c) may.4) here
+  own = mine r (once_mended f.unit) w.due w.book w.marks (w.standing c) is h.unit may.2 may.3 (subst (λ (s : CardStart). IsPresent s (w.standing c) e.minute) (start-same f found.two c) may.4) here
 
   rest : IsOwnValid (found_of f (other c)).image → IsKeptUp r (other c) w.book (w.standing (other c)) (puts (other c)) [] failed V (card (other c))
-  rest valid = others r f.unit w.due w.book w.marks (w.standing c) (w.standing (other c)) (puts (other c)) [] is h.unit may.2 may.3 here
+  rest valid = others r (once_mended f.unit) w.due w.book w.marks (w.standing c) (w.standing (other c)) (puts (other c)) [] is h.unit may.2 may.3 here
       (as-steps f found.two (other c) w.book (w.standing (other c)) (puts (other c)) [] U (card (other c)) (h.rules (other c) valid))
 
   dark : (k : Card) → IsOwnValid (found_of f k).image → CardDark k (found_of f k).start AnyKept (found_of f k).began w.book (w.standing k) (unit_seen f V) (of_card (card k))
@@ -110,7 +114,7 @@ module _ (f : Found) (cards : Cards) (found : AreFoundCards f cards) (w : Carrie
       (λ valid. of-rests f found.two (other c) w.book (w.standing (other c)) V (card (other c)) (rest valid).dark)
 
   brought : (k : Card) → IsOwnValid (found_of f k).image → (m : ℕ) → Contains (w.brought k) m → HasBrought f.card_a.number f.card_b.number k m V (card k)
-  brought k valid m in_ = brought-on f k m w.book (w.standing k) (w.standing k) f.unit w.due w.marks U V (card k) whole h.tells h.unit h.none (h.rules k valid).dark (dark k valid) (h.brought k valid m in_)
+  brought k valid m in_ = brought-on f k m w.book (w.standing k) (w.standing k) (once_mended f.unit) w.due w.marks U V (card k) whole h.tells h.unit h.none (h.rules k valid).dark (dark k valid) (h.brought k valid m in_)
 
   rules : failed ≡ false → (k : Card) → IsOwnValid (found_of f k).image → CardRule k (found_of f k).start AnyKept (found_of f k).began w.book (w.standing k) (and_put (Some c) e puts k) [] (unit_seen f V) (of_card (card k))
   rules well = each-card (λ k. IsOwnValid (found_of f k).image → CardRule k (found_of f k).start AnyKept (found_of f k).began w.book (w.standing k) (and_put (Some c) e puts k) [] (unit_seen f V) (of_card (card k))) c
@@ -123,7 +127,7 @@ module _ (f : Found) (cards : Cards) (found : AreFoundCards f cards) (w : Carrie
   lit well = record {
     tells = tells ∙ h.tells;
     works = (worked well cause).0;
-    unit = holds f.unit w.due w.book w.marks h.unit;
+    unit = unit-after;
     none = h.none;
     rules = rules well;
     valid = h.valid;
@@ -138,7 +142,7 @@ module _ (f : Found) (cards : Cards) (found : AreFoundCards f cards) (w : Carrie
   cut : IsPowerless f w (devices V X Y)
   cut = powerless-of f w cards A V X Y found (record {
     tells = tells ∙ h.tells;
-    unit = holds f.unit w.due w.book w.marks h.unit;
+    unit = holds-dark f.unit w.due w.book w.marks V unit-after;
     none = h.none;
     mine = off A;
     others = off B;
@@ -154,7 +158,7 @@ module _ (f : Found) (cards : Cards) (found : AreFoundCards f cards) (w : Carrie
       by true bad = cut
 
 module _ (present : Option Card) (cards : Cards) (e : Entry) (number : List ℕ) (failed : Bool) (U V X Y : State) (whole : IsCoherent U) (row : IfSome present (HasItsRow cards U)) (tells : is_some V.image ≡ is_some U.image) (cause : HasCause U V failed)
-    (holds : (s : Started) (due : ℕ) (b : Book) (marks : List Mark) → Holds s due b marks U → Holds s due b marks V) where
+    (holds : (s : Started) (due : ℕ) (b : Book) (marks : List Mark) → IsCards s number → Holds s due b marks U → Holds s due b marks V) where
   books : (c : Card) → present ≡ Some c → number ≡ card_number_bytes (number_or_no_card (known_of cards c).number) → OwesMine number e failed c U V (card_of (devices U X Y) c)
       → OwesOther number e failed c U V (card_of (devices U X Y) c) (card_of (devices U X Y) (other c)) → BooksPut present e failed cards (devices U X Y) (devices V X Y)
   books c is told mine others = subst (λ (o : Option Card). BooksPut o e failed cards (devices U X Y) (devices V X Y)) (sym is) (λ f w puts found may lit go.

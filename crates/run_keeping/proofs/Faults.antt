@@ -125,9 +125,6 @@ notes-nothing failed U V R whole behind run none = λ c at. ⊎_elim
 pub notes-none : (failed : Bool) (U : State) → NotesFaults failed [] U U
 notes-none failed U = λ c at. (c, at, says-to failed c c (the-same c))
 
-pub notes-failed : (U V : State) → NotesFaults false [] U V → NotesFaults true [] U V
-notes-failed U V h = λ c at. let x = h c at in (x.0, x.1, ((λ none. x.2.0), but-of CARD_FAULT x.0 c x.2.0, x.2.2))
-
 pub putting-nothing : (number : List ℕ) (e : Entry) (x c : List ℕ) → IsPutting number e x c → SaysNothing x c × HasSameRings x c
 putting-nothing number e x c h = (between-nothing OWED.place OWED.size x c h.outside (omega arith) (omega arith), outside-both OWED.place OWED.size x c (inl (omega arith)) h.outside)
 

@@ -1,12 +1,12 @@
 -- The marks that are carried behind decided minutes are those that are told, also where the unit failed in one of them.
-use Rattle.std.proofs.Common.{◌≡◌, ◌∙◌, Some, None, List, [], ◌∷◌, ap, sym}
+use Rattle.std.proofs.Common.{◌≡◌, List, [], ◌∷◌, ap}
 use Rattle.log_model.specs.declared.lines.Mark.{Mark}
 use Rattle.minute_model.specs.declared.Minute.{Minute}
 use Rattle.run_rule.specs.Between.{Carried}
 use Rattle.run_keeping.specs.declared.keeper.Keeper.{Keeper}
 use Rattle.run_keeping.specs.declared.keeper.Moment.{Moment}
-use Rattle.run_keeping.specs.Minutes.{Round, Told, Done, IsLast, told_after, told_by, marks_after, present_at}
-use Rattle.run_keeping.specs.Books.{carried_after, carried_broken}
+use Rattle.run_keeping.specs.Minutes.{Round, Told, Done, told_after, told_by, marks_after, present_at}
+use Rattle.run_keeping.specs.Books.{carried_after}
 use Rattle.run_keeping.specs.Decided.{carried_by, decided_minute}
 
 -- behind one
@@ -18,11 +18,3 @@ marks-one k at m round t w same = ap (λ (ms : List Mark). (marks_after (present
 pub marks-by : (k : Keeper) (at : Moment) (xs : List Done) (t : Told) (w : Carried) → w.marks ≡ t.marks.items → (carried_by k xs w).marks ≡ (told_by k at xs t).marks.items
 marks-by k at [] t w same = same
 marks-by k at (x ∷ xs) t w same = marks-by k at xs (told_after (present_at k.cabin x.minute.minute) x.minute.minute at x.round t) (carried_after (present_at k.cabin x.minute.minute) (decided_minute k x.minute) x.round w) (marks-one k at x.minute x.round t w same)
-
--- and behind the one in which the unit failed: where that is not kept, or was only begun, no mark has come
-pub marks-none : (k : Keeper) (at : Moment) (xs : List Done) (m : Minute) (t u : Told) (w : Carried) → w.marks ≡ t.marks.items → IsLast k m at (told_by k at xs t) u None → (carried_broken (decided_minute k m) (carried_by k xs w)).marks ≡ u.marks.items
-marks-none k at xs m t u w same last = marks-by k at xs t w same ∙ sym (ap (λ (v : Told). v.marks.items) last)
-
-pub marks-some : (k : Keeper) (at : Moment) (xs : List Done) (m : Minute) (round : Round) (t u : Told) (w : Carried) → w.marks ≡ t.marks.items → IsLast k m at (told_by k at xs t) u (Some round)
-    → (carried_after (present_at k.cabin m.minute) (decided_minute k m) round (carried_by k xs w)).marks ≡ u.marks.items
-marks-some k at xs m round t u w same last = marks-one k at m round (told_by k at xs t) (carried_by k xs w) (marks-by k at xs t w same) ∙ sym (ap (λ (v : Told). v.marks.items) last.1)

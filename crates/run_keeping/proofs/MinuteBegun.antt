@@ -21,7 +21,7 @@ use Rattle.joint_rule.specs.Marked.{of_card, of_unit}
 use Rattle.joint_rule.specs.Steps.{IsKeeping}
 use Rattle.joint_rule.specs.Rules.{Standing, Fits, IsPresent, CardRule}
 use Rattle.safety_model.specs.Safe.{card_of}
-use Rattle.unit_rule.specs.Rule.{Started}
+use Rattle.unit_rule.specs.Rule.{Started, once_mended}
 use Rattle.unit_rule.specs.Marks.{Holds}
 use Rattle.unit_course.specs.Legs.{Travel}
 use Rattle.unit_rule.specs.Odometer.{HasTravelled, odometer_by, odometer_after}
@@ -198,7 +198,7 @@ module _ (m : KeptMinute) (present : Present) (says : TellsPresent m present) (t
 
       module _ (second : BooksPut present.codriver d false t.keeper.cabin.cards (devices U1 X Y) (devices U2 X Y)) (next : TravelsOn U1 U2) (V : State) (failed : Bool) (whole : IsCoherent U2) (whole_a : IsCoherent X) (whole_b : IsCoherent Y)
           (tells : is_some V.image ≡ is_some U2.image) (cause : HasCause U2 V failed)
-          (holds : (s : Started) (due : ℕ) (b : Book) (marks : List Mark) (i : HistoryMinute) → kept_minute m ≡ seen_by_unit i → Holds s due b marks U2 → b.maybe ≡ None → due ≤ i.minute → IsHeldUp s b marks i failed V)
+          (holds : (s : Started) (due : ℕ) (b : Book) (marks : List Mark) (i : HistoryMinute) → kept_minute m ≡ seen_by_unit i → Holds (once_mended s) due b marks U2 → b.maybe ≡ None → due ≤ i.minute → IsHeldUp s b marks i failed V)
           (on_a : Commits m failed U2 V X) (on_b : Commits m failed U2 V Y)
           (views : (a b : List ℕ) (i : HistoryMinute) → kept_minute m ≡ seen_by_unit i → LeavesViews (of_unit a b U2) (of_unit a b V) (IsKeeping KeepsMinute GivesUpDay i))
           (goes : (start : ℕ) (g : Travel) (leg : ℕ) (s : Started) (due : ℕ) (b : Book) (marks : List Mark) (i : HistoryMinute) → kept_minute m ≡ seen_by_unit i → Holds s due b marks U2 → b.maybe ≡ None → due ≤ i.minute
@@ -206,9 +206,9 @@ module _ (m : KeptMinute) (present : Present) (says : TellsPresent m present) (t
           (same : u.keeper.cabin.cards ≡ t.keeper.cabin.cards) where
         committed : (f : Found) (w : Carried) (two : f.card_a.number ≢ f.card_b.number) → MayCome f w i → IsLitWith f w (owes_minute i) owes_nothing (devices U2 X Y) → (c : Card) → IsOwnValid (found_of f c).image
             → IsCommitted (both_of f two) c w.book i (w.standing c) failed V (card_of (devices U2 X Y) c)
-        committed f w two comes h A valid = on_a (both_of f two) A f.unit w.due w.book w.marks i (w.standing A) (kept-seen m present says) h.unit h.none comes.late (as-steps f two A w.book (w.standing A) (on_card A i) [] U2 X (h.rules A valid))
+        committed f w two comes h A valid = on_a (both_of f two) A (once_mended f.unit) w.due w.book w.marks i (w.standing A) (kept-seen m present says) h.unit h.none comes.late (as-steps f two A w.book (w.standing A) (on_card A i) [] U2 X (h.rules A valid))
             (⊎_elim (λ none. inl none) (λ here. inr here.1) (comes.fits A))
-        committed f w two comes h B valid = on_b (both_of f two) B f.unit w.due w.book w.marks i (w.standing B) (kept-seen m present says) h.unit h.none comes.late (as-steps f two B w.book (w.standing B) (on_card B i) [] U2 Y (h.rules B valid))
+        committed f w two comes h B valid = on_b (both_of f two) B (once_mended f.unit) w.due w.book w.marks i (w.standing B) (kept-seen m present says) h.unit h.none comes.late (as-steps f two B w.book (w.standing B) (on_card B i) [] U2 Y (h.rules B valid))
             (⊎_elim (λ none. inl none) (λ here. inr here.1) (comes.fits B))
 
         wholes : (c : Card) → IsCoherent (card_of (devices U2 X Y) c)
@@ -223,4 +223,4 @@ module _ (m : KeptMinute) (present : Present) (says : TellsPresent m present) (t
             subst (λ (cards : Cards). IsOwedOrCut failed f start w i g leg cards (devices V X Y)) (sym same)
             (owed-or-cut f t.keeper.cabin.cards b.found w i U2 V X Y whole wholes h (go-on f w t.keeper.cabin.cards U U2 X Y b.powered.go) may.comes one b.early failed tells cause (holds f.unit w.due w.book w.marks i (kept-seen m present says) h.unit h.none may.comes.late)
             (committed f w b.found.two may.comes h) (views f.card_a.number f.card_b.number i (kept-seen m present says))
-            start g leg (goes start g leg f.unit w.due w.book w.marks i (kept-seen m present says) h.unit h.none may.comes.late (next start w.book g (on start w.book g gone)) odometer) time)
+            start g leg (goes start g leg (once_mended f.unit) w.due w.book w.marks i (kept-seen m present says) h.unit h.none may.comes.late (next start w.book g (on start w.book g gone)) odometer) time)

@@ -38,20 +38,6 @@ fate-seats Still (Some card) second cabin = emptied-none cabin.slots.seats
 fate-seats (Has accepted clock) (Some card) second cabin = emptied-none cabin.slots.seats
 fate-seats Fell (Some card) second cabin = left-seats (slot_with cabin.slots.seats card) second cabin.slots
 
-pub brought-seats : (fate : Fate) (present : Option Card) (second : ℕ) (k v : Keeper) → v ≡ record k { cabin = cabin_by fate present second k.cabin } → AreEmptied k.cabin.slots.seats v.cabin.slots.seats
-brought-seats fate present second k v is = subst (λ (q : Keeper). AreEmptied k.cabin.slots.seats q.cabin.slots.seats) (sym is) (fate-seats fate present second k.cabin)
-
--- what is known of the other card
-pub fate-a : (fate : Fate) (second : ℕ) (cabin : Cabin) → (cabin_by fate (Some B) second cabin).cards.a ≡ cabin.cards.a
-fate-a Still second cabin = refl
-fate-a (Has accepted clock) second cabin = refl
-fate-a Fell second cabin = refl
-
-pub fate-b : (fate : Fate) (second : ℕ) (cabin : Cabin) → (cabin_by fate (Some A) second cabin).cards.b ≡ cabin.cards.b
-fate-b Still second cabin = refl
-fate-b (Has accepted clock) second cabin = refl
-fate-b Fell second cabin = refl
-
 -- ---- sessions
 
 goes-same : (o : Option Accepted) → GoesOnFrom o o

@@ -12,7 +12,7 @@ use Rattle.run_crew.specs.declared.cards.Accepted.{Accepted}
 use Rattle.run_crew.specs.declared.cards.Cards.{Cards}
 use Rattle.run_crew.specs.declared.cabin.Cabin.{Cabin}
 use Rattle.run_crew.specs.Cards.{known_of, session_of, with_session}
-use Rattle.run_crew.specs.Cabin.{Stands, AnswersTo, SeatAnswers, EndedStands, IsBehind, AreTwo, torn_out, left_from, slot_with}
+use Rattle.run_crew.specs.Cabin.{Stands, AnswersTo, SeatAnswers, EndedStands, torn_out, left_from, slot_with}
 use Rattle.run_crew.proofs.Moves.{tear-stands}
 
 -- a session behind another
@@ -68,14 +68,6 @@ module _ (from n : ℕ) (le : from ≤ n) where
   }
 
 -- ---- the other card
-
--- a card that is another than the one whose session has changed can keep what it could
-pub behind-other : (c : Card) (o : Option Card) (s : Option Accepted) (cards : Cards) (minute : ℕ) → AreTwo (Some c) o → IsBehind cards minute o → IsBehind (with_session c s cards) minute o
-behind-other c None s cards minute two behind = tt
-behind-other A (Some A) s cards minute two behind = absurd (cc)
-behind-other B (Some B) s cards minute two behind = absurd (cc)
-behind-other A (Some B) s cards minute two behind = behind
-behind-other B (Some A) s cards minute two behind = behind
 
 -- a card that is torn out
 

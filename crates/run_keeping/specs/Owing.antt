@@ -14,6 +14,7 @@ use Rattle.joint_rule.specs.Marked.{of_card, HasBrought}
 use Rattle.safety_model.specs.Safe.{Devices, card_of}
 use Rattle.unit_course.specs.Legs.{Travel, travelled}
 use Rattle.unit_rule.specs.Odometer.{HasTravelled, odometer_by, odometer_after}
+use Rattle.unit_rule.specs.Rule.{once_mended}
 use Rattle.unit_rule.specs.Marks.{Holds}
 use Rattle.slot_machine.specs.declared.seats.Present.{Present}
 use Rattle.run_crew.specs.declared.cards.Accepted.{Accepted}
@@ -100,7 +101,7 @@ pub record CardOwing (f : Found) (c : Card) (b : Book) (z : Standing) (ks : List
 
 -- AN ENTRY WAS TO BE BROUGHT to this card, of which this became (`bring_to`): so it is with it, by the unit as it was before.
 abbrev pub BooksCard : Card → Kept → Fate → (cards cards_after : Cards) → (unit card card_after : State) → Type 0
-BooksCard c said fate cards cards_after unit card card_after = (f : Found) (w : Carried) → AreFoundCards f cards → is_some unit.image ≡ true → Holds f.unit w.due w.book w.marks unit → w.book.maybe ≡ None → card_after.clock < last_count
+BooksCard c said fate cards cards_after unit card card_after = (f : Found) (w : Carried) → AreFoundCards f cards → is_some unit.image ≡ true → Holds (once_mended f.unit) w.due w.book w.marks unit → w.book.maybe ≡ None → card_after.clock < last_count
     → IsOwnValid (found_of f c).image → IsPresent (found_of f c).start (w.standing c) said.entry.minute
     → CardOwing f c w.book (w.standing c) (w.brought c) w.marks (said.entry ∷ []) (session_of cards c) unit card
     → CardOwing f c w.book (standing_by fate said.entry.minute (w.standing c)) (w.brought c) (w.marks ++ marks_by fate (Some c) said.entry.minute) [] (session_of cards_after c) unit card_after × StaysOn (found_of f c) card card_after

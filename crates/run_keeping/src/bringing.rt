@@ -3,7 +3,6 @@ ghost use Rattle.std.specs.Prelude.{◌≡◌, ◌≢◌, ℕ, ◌+◌, ◌-◌,
 ghost use Rattle.trace_model.specs.declared.Card.{Card};
 ghost use Rattle.trace_model.specs.declared.Card.TheVariants.{A, B};
 ghost use Rattle.tach_media.specs.Medium.{LeavesOnly, HasCause, HasBroken};
-ghost use Rattle.log_model.specs.Causes.{device_of};
 ghost use Rattle.card_session.specs.declared.words.TheConstants.{LATEST_MINUTE};
 ghost use Rattle.unit_notes.specs.Journal.{LeavesJournal};
 ghost use Rattle.run_crew.specs.Cards.{known_of, session_of};
@@ -16,21 +15,10 @@ ghost use Rattle.run_keeping.specs.Keeping.{UnitReady, CardReady, HasItsRow, Has
 use crate::keeper::{Keeper, Moment};
 use card_session::Kept;
 use device_steps::keep_on_card;
-use log_model::{Break, Mark};
-use run_model::Device;
+use log_model::{Break, Mark, device_of};
 use run_outcome::Lines;
 use tach_media::{Chip, Failed, Medium};
 use trace_model::Card;
-
-// A card as a device.
-fn device_of(card: Card) -> Device
-    ensures { result ≡ device_of card }
-{
-    match card {
-        Card::A => Device::CardA,
-        Card::B => Device::CardB,
-    }
-}
 
 impl Keeper {
     // This card keeps an entry, unless it was torn out since: then it has no session.

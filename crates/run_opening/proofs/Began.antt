@@ -21,6 +21,7 @@ use Rattle.unit_rule.specs.Rule.{started}
 use Rattle.safety_model.specs.Recording.{Recording, card_image, unit_seen}
 use Rattle.safety_model.specs.Safe.{Devices, card_of}
 use Rattle.run_crew.specs.declared.cards.Known.{Known}
+use Rattle.unit_rule.specs.OtherRows.{valid_number}
 use Rattle.run_rule.specs.Found.{found_of}
 use Rattle.run_rule.specs.Between.{IsCarried, IsFound, devices}
 use Rattle.run_rule.specs.Opening.{BeginsAs, as_found, IsLookedAt, carried_first}
@@ -174,7 +175,7 @@ module _ (r : Recording) (start : ℕ) (old new : Devices) (unit_before : IsCohe
     looked c valid = record { image = image-found c; start = looked-start c valid; began = began-found c ∙ sym (cards_were c).clock; days = days c valid }
 
     carried : (due : ℕ) → last_kept r.unit < due → IsCarried (found_in r old) (carried_first due) new
-    carried due late = first-carried (found_in r old) r.unit due (card_image r) new unit_after cards_after begin-still.unit begin-still.card decodes late (ap (started r.unit) (sym unit_was.clock)) image-found looked
+    carried due late = first-carried (found_in r old) r.unit due (card_image r) new unit_after cards_after begin-still.unit begin-still.card decodes late (ap (started r.unit (valid_number r.card_a) (valid_number r.card_b)) (sym unit_was.clock)) image-found looked
 
     numbers : IsOwnValid r.card_a → IsOwnValid r.card_b → own_number r.card_a ≢ own_number r.card_b
     numbers a_valid b_valid same = names (name-valid A r.card_a a_valid ∙ same ∙ sym (name-valid B r.card_b b_valid))

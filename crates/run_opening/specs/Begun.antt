@@ -15,6 +15,7 @@ use Rattle.safety_model.specs.Recording.{Recording, card_image, unit_seen}
 use Rattle.safety_model.specs.Safe.{Devices, card_of, MayBegin, first_of}
 use Rattle.unit_rule.specs.Rule.{started}
 use Rattle.run_crew.specs.declared.cards.Known.{Known}
+use Rattle.unit_rule.specs.OtherRows.{valid_number}
 use Rattle.run_rule.specs.Found.{CardFound, Found, found_of}
 use Rattle.run_rule.specs.Between.{IsCarried, IsFound}
 use Rattle.run_rule.specs.Opening.{BeginsAs, as_found, IsLookedAt, carried_first}
@@ -54,7 +55,7 @@ card_found r c clock = record {
 -- WHAT THE OPENING FINDS of these devices
 abbrev pub found_in : Recording → Devices → Found
 found_in r d = record {
-  unit = started r.unit d.unit.clock;
+  unit = started r.unit (valid_number r.card_a) (valid_number r.card_b) d.unit.clock;
   card_a = card_found r A d.card_a.clock;
   card_b = card_found r B d.card_b.clock;
 }

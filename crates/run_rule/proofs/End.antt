@@ -27,6 +27,7 @@ use Rattle.unit_rule.specs.Unit.{UnitSafe, marks_of, issued_bytes}
 use Rattle.unit_rule.specs.Cards.{CardSafe, IsRepaired, Agree, StandsInUnit, HasDay, expected_to}
 use Rattle.unit_rule.specs.Safe.{Devices, card_of, IsSafe}
 use Rattle.unit_rule.specs.Rule.{Started}
+use Rattle.unit_rule.proofs.Marking.{holds-dark}
 use Rattle.unit_rule.proofs.Safety.{unit-safe}
 use Rattle.run_rule.specs.Found.{CardFound, Found, found_of, unit_seen, AnyKept}
 use Rattle.run_rule.specs.Cards.{StringHolds, StringGoesOn, CardWaits, IsCardHeld, counted_to, brought_by}
@@ -247,7 +248,7 @@ safe-followed r f w began now unit_whole card_whole decodes from order early fou
 pub lit-carried : (f : Found) (w : Carried) (d : Devices) → IsLit f w d → IsCarried f w d
 lit-carried f w d lit = record {
   tells = lit.tells;
-  unit = lit.unit;
+  unit = holds-dark f.unit w.due w.book w.marks d.unit lit.unit;
   cards = λ c valid. let s = lit.cards c valid in record { rests = s.holds.dark; string = s.string; comes = s.comes; brought = s.brought };
   marks = lit.marks;
 }

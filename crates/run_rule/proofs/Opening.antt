@@ -187,11 +187,11 @@ module _ (f : Found) (c : Card) (u x : List ℕ) (unit card : State) (unit_whole
   }
 
 -- THE OPENING
-started-holds : (f : Found) (u : List ℕ) (due : ℕ) (unit : State) → IsCoherent unit → BeginsAs u unit → Decodes u → last_kept u < due → f.unit ≡ started u unit.clock → Holds f.unit due not_begun [] unit
-started-holds f u due unit whole begins decodes late is = subst (λ (s : Started). Holds s due not_begun [] unit) (sym is) (holds-started unit u due whole begins.only decodes late)
+started-holds : (f : Found) (u : List ℕ) (due : ℕ) (unit : State) → IsCoherent unit → BeginsAs u unit → Decodes u → last_kept u < due → f.unit ≡ started u f.unit.number_a f.unit.number_b unit.clock → Holds f.unit due not_begun [] unit
+started-holds f u due unit whole begins decodes late is = subst (λ (s : Started). Holds s due not_begun [] unit) (sym is) (holds-started unit u f.unit.number_a f.unit.number_b due whole begins.only decodes late)
 
 pub first-carried : (f : Found) (u : List ℕ) (due : ℕ) (image : Card → List ℕ) (d : Devices) → IsCoherent d.unit → ((c : Card) → IsCoherent (card_of d c)) → BeginsAs u d.unit → ((c : Card) → BeginsAs (image c) (card_of d c)) → Decodes u → last_kept u < due →
-    f.unit ≡ started u d.unit.clock → ((c : Card) → (found_of f c).image ≡ image c) → ((c : Card) → IsOwnValid (image c) → IsLookedAt f c u (image c) (card_of d c).clock) → IsCarried f (carried_first due) d
+    f.unit ≡ started u f.unit.number_a f.unit.number_b d.unit.clock → ((c : Card) → (found_of f c).image ≡ image c) → ((c : Card) → IsOwnValid (image c) → IsLookedAt f c u (image c) (card_of d c).clock) → IsCarried f (carried_first due) d
 first-carried f u due image d unit_whole card_whole unit_begins card_begins decodes late unit_is image_is looked = record {
   tells = ap is_some unit_begins.tells;
   unit = started-holds f u due d.unit unit_whole unit_begins decodes late unit_is;

@@ -14,8 +14,9 @@ use Rattle.joint_rule.specs.Rules.{Standing}
 use Rattle.unit_rule.specs.Recording.{Recording, card_image, brought, history_of, lost_of}
 use Rattle.unit_rule.specs.Cards.{acceptances, was_kept, MayNotWrite}
 use Rattle.unit_rule.specs.Safe.{Devices, card_of}
-use Rattle.unit_rule.specs.Rule.{started}
+use Rattle.unit_rule.specs.Rule.{started, once_mended}
 use Rattle.unit_rule.specs.Marks.{Holds}
+use Rattle.unit_rule.specs.OtherRows.{valid_number}
 use Rattle.run_rule.specs.Found.{Found, found_of}
 use Rattle.run_rule.specs.Cards.{CardStands, CardWaits, CardMarksHold, IsUntouched}
 
@@ -28,11 +29,11 @@ pub record Carried : Type 0 where
   pub standing : Card → Standing
   pub brought : Card → List ℕ
 
--- WHILE THE UNIT HAS POWER: no minute is begun that may not be there, and each card that was valid stands
+-- WHILE THE UNIT HAS POWER: it was mended, no minute is begun that may not be there, and each card that was valid stands
 pub record IsLit (f : Found) (w : Carried) (d : Devices) : Type 0 where
   pub tells : is_some d.unit.image ≡ true
   pub works : d.unit.works ≡ true
-  pub unit : Holds f.unit w.due w.book w.marks d.unit
+  pub unit : Holds (once_mended f.unit) w.due w.book w.marks d.unit
   pub none : w.book.maybe ≡ None
   pub cards : (c : Card) → IsOwnValid (found_of f c).image → CardStands f c w.book (w.standing c) (w.brought c) d.unit (card_of d c)
   pub marks : (c : Card) → CardMarksHold (found_of f c) c w.book w.marks (card_of d c)
@@ -46,7 +47,7 @@ pub record IsCarried (f : Found) (w : Carried) (d : Devices) : Type 0 where
 
 -- what the opening found is the run's
 pub record IsFound (r : Recording) (f : Found) (began : Devices) : Type 0 where
-  pub unit : f.unit ≡ started r.unit began.unit.clock
+  pub unit : f.unit ≡ started r.unit (valid_number r.card_a) (valid_number r.card_b) began.unit.clock
   pub image : (c : Card) → (found_of f c).image ≡ card_image r c
   pub start : (c : Card) → (found_of f c).start ≡ brought r c
   pub clock : (c : Card) → (found_of f c).began ≡ (card_of began c).clock

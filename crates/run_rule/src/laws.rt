@@ -41,7 +41,7 @@ pub fn what_the_opening_finds_is_carried<M: Medium, C: Chip, D: Chip>(
 )
     ensures { (f : Found) (u a b : List ℕ) (due : ℕ) → Decodes u → last_kept u < due →
         BeginsAs u (M.state unit.now) → BeginsAs a (C.state card_a.now) → BeginsAs b (D.state card_b.now) →
-        f.unit ≡ started u (M.state unit.now).clock → (found_of f A).image ≡ a → (found_of f B).image ≡ b →
+        f.unit ≡ started u f.unit.number_a f.unit.number_b (M.state unit.now).clock → (found_of f A).image ≡ a → (found_of f B).image ≡ b →
         (IsOwnValid a → IsLookedAt f A u a (C.state card_a.now).clock) → (IsOwnValid b → IsLookedAt f B u b (D.state card_b.now).clock) →
         IsCarried f (carried_first due) (devices (M.state unit.now) (C.state card_a.now) (D.state card_b.now)) }
 {}

@@ -6,7 +6,7 @@ use Rattle.unit_model.specs.Image.{last_kept}
 use Rattle.history_model.specs.Minutes.{HistoryMinute}
 use Rattle.history_model.specs.Book.{Book}
 use Rattle.history_model.proofs.Books.{mark-earlier}
-use Rattle.unit_rule.specs.Rule.{Started}
+use Rattle.unit_rule.specs.Rule.{Started, once_mended}
 use Rattle.unit_rule.specs.Marks.{Holds}
 use Rattle.unit_rule.proofs.Moves.{shown-last}
 use Rattle.joint_rule.specs.Views.{unit_view}
@@ -25,4 +25,4 @@ last-early s due b marks unit h u on =
 -- And it is what an acceptance is taken at: where the book that is carried then has all that was sure before the second (`p`) and what the
 -- second has decided (`new`), and what is sure behind the second (`q`) goes on with it.
 pub taken-lit : (f : Found) (w : Carried) (d : Devices) (p q : Book) (new more : List HistoryMinute) → IsLit f w d → w.book.sure ≡ p.sure ++ new → q.sure ≡ w.book.sure ++ more → (u : List ℕ) → d.unit.may_leave u → IsTakenAt f.unit.first p q new (last_kept u)
-taken-lit f w d p q new more lit kept later u on = taken-last f.unit w.due p w.book q w.marks new more d.unit kept later lit.none lit.unit u on
+taken-lit f w d p q new more lit kept later u on = taken-last (once_mended f.unit) w.due p w.book q w.marks new more d.unit kept later lit.none lit.unit u on

@@ -13,7 +13,7 @@ use Rattle.joint_rule.specs.Views.{other}
 use Rattle.joint_rule.specs.Rules.{Standing, In, Out, Torn, since, CardRule, IsEntered}
 use Rattle.joint_rule.specs.Marked.{of_card, HasBrought}
 use Rattle.joint_rule.proofs.Repairing.{repaired-in}
-use Rattle.unit_rule.specs.Rule.{Started}
+use Rattle.unit_rule.specs.Rule.{Started, once_mended, IsCards}
 use Rattle.unit_rule.specs.Marks.{Holds}
 use Rattle.device_steps.specs.Rule.{Both, opened, number_of, card_seen, CardHolds, IsKeptUp, IsRowTaken}
 use Rattle.device_steps.proofs.PowerBack.{torn}
@@ -21,6 +21,7 @@ use Rattle.device_steps.proofs.TornOut.{torn-out}
 use Rattle.run_crew.specs.declared.cards.Accepted.{Accepted}
 use Rattle.run_crew.specs.declared.cards.Cards.{Cards}
 use Rattle.run_crew.specs.Cards.{session_of}
+use Rattle.unit_rule.proofs.Marking.{holds-dark}
 use Rattle.run_rule.specs.Found.{CardFound, Found, found_of, unit_seen, AnyKept}
 use Rattle.run_rule.specs.Cards.{brought_by}
 use Rattle.run_rule.specs.Between.{Carried}
@@ -53,7 +54,7 @@ held-later f c b y z X later h = record {
 
 module _ (f : Found) (w : Carried) (cards : Cards) (c : Card) (U V X Y : State) (found : AreFoundCards f cards) (whole : IsCoherent U) (now : ℕ) (a : Accepted) (valid : IsOwnValid (found_of f c).image) (out : w.standing c ≡ Out) (put : IsPutIn (found_of f c) c w.book now a.session X)
     (p : IsPowered f w cards (arranged c U X Y)) (late : w.due ≤ now / 60) (number : List ℕ) (spared : Option (List ℕ)) (failed : Bool)
-    (holds : (s : Started) (due : ℕ) (b : Book) (marks : List Mark) → Holds s due b marks U → Holds s due b marks V)
+    (holds : (s : Started) (due : ℕ) (b : Book) (marks : List Mark) → IsCards s number → Holds s due b marks U → Holds s due b marks V)
     (mine : (r : Both) (s : Started) (due : ℕ) (b : Book) (marks : List Mark) (newest : ℕ) → number ≡ number_of r c → Holds s due b marks U → due ≤ now / 60 → CardHolds r c b Out [] [] U X → IsEntered (opened r c).start (opened r c).began now newest (card_seen X) → IsRowTaken r c b now newest failed V X)
     (others : (r : Both) (s : Started) (due : ℕ) (b : Book) (marks : List Mark) (z : Standing) (m d : List Entry) → number ≡ number_of r c → spared ≡ Some (number_of r (other c)) → CardHolds r (other c) b z m d U Y → IsKeptUp r (other c) b z m d failed V Y)
     (tells : is_some V.image ≡ is_some U.image) (named : number ≡ (found_of f c).number) (spares : IsOwnValid (found_of f (other c)).image → spared ≡ Some (found_of f (other c)).number) where
@@ -63,18 +64,18 @@ module _ (f : Found) (w : Carried) (cards : Cards) (c : Card) (U V X Y : State) 
   one : CardLit f w.book Out (w.brought c) (session_of cards c) c U X
   one = subst (λ (z : Standing). CardLit f w.book z (w.brought c) (session_of cards c) c U X) out (parts.mine valid)
 
-  unit-after : Holds f.unit w.due w.book w.marks V
-  unit-after = holds f.unit w.due w.book w.marks parts.unit.unit
+  unit-after : Holds (once_mended f.unit) w.due w.book w.marks V
+  unit-after = holds (once_mended f.unit) w.due w.book w.marks (subst (IsCards f.unit) (sym named) (found.own c valid)) parts.unit.unit
 
   taken : IsRowTaken (both_of f found.two) c w.book now a.session.minute failed V X
-  taken = mine (both_of f found.two) f.unit w.due w.book w.marks a.session.minute (named ∙ number-as f found.two c) parts.unit.unit late (as-steps f found.two c w.book Out [] [] U X one.rule) (entered-as f found.two c now a.session.minute X put.entered)
+  taken = mine (both_of f found.two) (once_mended f.unit) w.due w.book w.marks a.session.minute (named ∙ number-as f found.two c) parts.unit.unit late (as-steps f found.two c w.book Out [] [] U X one.rule) (entered-as f found.two c now a.session.minute X put.entered)
 
   kept-up : IsOwnValid (found_of f (other c)).image → IsKeptUp (both_of f found.two) (other c) w.book (w.standing (other c)) [] [] failed V Y
-  kept-up there = others (both_of f found.two) f.unit w.due w.book w.marks (w.standing (other c)) [] [] (named ∙ number-as f found.two c) (spares there ∙ ap (λ (n : List ℕ). Some n) (number-as f found.two (other c)))
+  kept-up there = others (both_of f found.two) (once_mended f.unit) w.due w.book w.marks (w.standing (other c)) [] [] (named ∙ number-as f found.two c) (spares there ∙ ap (λ (n : List ℕ). Some n) (number-as f found.two (other c)))
       (as-steps f found.two (other c) w.book (w.standing (other c)) [] [] U Y (parts.others there).rule)
 
   other-brought : (there : IsOwnValid (found_of f (other c)).image) → (k : ℕ) → Contains (w.brought (other c)) k → HasBrought f.card_a.number f.card_b.number (other c) k V Y
-  other-brought there k in_ = brought-on f (other c) k w.book (w.standing (other c)) (w.standing (other c)) f.unit w.due w.marks U V Y whole parts.unit.tells parts.unit.unit parts.unit.none (parts.others there).rule.dark
+  other-brought there k in_ = brought-on f (other c) k w.book (w.standing (other c)) (w.standing (other c)) (once_mended f.unit) w.due w.marks U V Y whole parts.unit.tells parts.unit.unit parts.unit.none (parts.others there).rule.dark
       (of-rests f found.two (other c) w.book (w.standing (other c)) V Y (kept-up there).dark) ((parts.others there).brought k in_)
 
   -- the card is accepted
@@ -123,7 +124,7 @@ module _ (f : Found) (w : Carried) (cards : Cards) (c : Card) (U V X Y : State) 
   pub begun-powerless : IsPowerless f w (arranged c V X Y)
   begun-powerless = powerless-of f w cards c V X Y found (record {
     tells = tells ∙ parts.unit.tells;
-    unit = unit-after;
+    unit = holds-dark f.unit w.due w.book w.marks V unit-after;
     none = parts.unit.none;
     mine = λ there. subst (λ (z : Standing). CardOff f w.book z (w.brought c) c V X) (sym out)
         (let rests = of-rests f found.two c w.book Out V X taken.dark in
@@ -131,7 +132,7 @@ module _ (f : Found) (w : Carried) (cards : Cards) (c : Card) (U V X Y : State) 
           rests = rests;
           valid = one.valid;
           rises = one.rises;
-          brought = λ k in_. brought-on f c k w.book Out Out f.unit w.due w.marks U V X whole parts.unit.tells parts.unit.unit parts.unit.none one.rule.dark rests (one.brought k in_);
+          brought = λ k in_. brought-on f c k w.book Out Out (once_mended f.unit) w.due w.marks U V X whole parts.unit.tells parts.unit.unit parts.unit.none one.rule.dark rests (one.brought k in_);
           held = one.held;
         });
     others = λ there. record {

@@ -55,7 +55,7 @@ use Rattle.joint_rule.proofs.Pairs.{owed-above}
 use Rattle.joint_rule.proofs.Brought.{all-up_to}
 use Rattle.unit_rule.specs.Unit.{marks_of}
 use Rattle.unit_rule.specs.Marks.{Holds}
-use Rattle.unit_rule.proofs.Marking.{holds-read}
+use Rattle.unit_rule.proofs.Marking.{holds-read, holds-dark}
 use Rattle.unit_rule.proofs.Moves.{shown-last}
 use Rattle.device_steps.specs.declared.entering.Entered.{Entered}
 use Rattle.device_steps.specs.declared.entering.NotEntered.{NotEntered}
@@ -71,6 +71,7 @@ use Rattle.tacho_types.specs.CardNumber.{card_number_bytes}
 use Rattle.run_crew.specs.declared.cards.Accepted.{Accepted}
 use Rattle.run_crew.specs.declared.cards.Cards.{Cards}
 use Rattle.run_crew.specs.Cards.{session_of}
+use Rattle.unit_rule.specs.Rule.{once_mended}
 use Rattle.run_rule.specs.Found.{CardFound, Found, found_of, unit_seen, AnyKept}
 use Rattle.run_rule.specs.Cards.{brought_by, IsCardHeld}
 use Rattle.run_rule.specs.Between.{Carried}
@@ -292,7 +293,7 @@ module _ (f : Found) (w : Carried) (c : Card) (U V X Y : State) (two : f.card_a.
   is-asked = if_told X.image (IsAsked (both_of f two) c (own_sizes (found_of f c).image)) (λ x is. record { sizes = (one.held.now x (whole.is_left x is)).0; number = one.held.number x (whole.is_left x is) ∙ number-as f two c })
 
   rule-after : CardRule c (found_of f c).start AnyKept (found_of f c).began w.book Out [] [] (unit_seen f V) (of_card Y)
-  rule-after = of-steps f two c w.book Out [] [] V Y (entering-rule (both_of f two) c f.unit w.due w.book w.marks (own_sizes (found_of f c).image) sound registration long odometer now few unit.unit unit.none late unit_whole unit_after whole room unit.tells one.held.tells
+  rule-after = of-steps f two c w.book Out [] [] V Y (entering-rule (both_of f two) c (once_mended f.unit) w.due w.book w.marks (own_sizes (found_of f c).image) sound registration long odometer now few unit.unit unit.none late unit_whole unit_after whole room unit.tells one.held.tells
       is-asked (as-steps f two c w.book Out [] [] U X one.rule) answer enters)
 
   module _ (u x : List ℕ) (told : U.image ≡ Some u) (is : X.image ≡ Some x) where
@@ -386,7 +387,7 @@ module _ (f : Found) (w : Carried) (c : Card) (U V X Y : State) (two : f.card_a.
       entered-now : IsEntered (found_of f c).start (found_of f c).began now e.session.minute (of_card Y)
       entered-now = entered-back f two c now e.session.minute Y
           (subst (λ (r : Result Entered NotEntered). IfOk r (λ e. IsEntered (opened (both_of f two) c).start (opened (both_of f two) c).began now e.session.minute (card_seen Y))) ok
-          (entered-answer (both_of f two) c f.unit w.due w.book w.marks (own_sizes (found_of f c).image) sound registration long odometer now few unit.unit unit.none late unit_whole unit_after whole after room unit.tells one.held.tells
+          (entered-answer (both_of f two) c (once_mended f.unit) w.due w.book w.marks (own_sizes (found_of f c).image) sound registration long odometer now few unit.unit unit.none late unit_whole unit_after whole after room unit.tells one.held.tells
           is-asked (as-steps f two c w.book Out [] [] U X one.rule) answer enters))
 
       -- a card without a session kept its newest minute
@@ -470,7 +471,7 @@ module _ (f : Found) (w : Carried) (c : Card) (U V X Y : State) (two : f.card_a.
     rule = rule-after;
     valid = so.valid;
     rises = one.rises;
-    brought = λ k in_. brought-card f c k w.book Out Out f.unit w.due w.marks U V X Y unit_whole unit.tells unit.unit unit.none one.rule.dark rule-after.dark (none-falls X Y so.views) (one.brought k in_);
+    brought = λ k in_. brought-card f c k w.book Out Out (once_mended f.unit) w.due w.marks U V X Y unit_whole unit.tells unit.unit unit.none one.rule.dark rule-after.dark (none-falls X Y so.views) (one.brought k in_);
     held = so.held;
     goes = record { has = brought_by c (found_of f c).start w.book; all = append-nil (brought_by c (found_of f c).start w.book); goes = tt };
   }
@@ -573,7 +574,7 @@ module _ (f : Found) (w : Carried) (cards : Cards) (c : Card) (U V X Y Z : State
         rule = rule;
         valid = was.valid;
         rises = was.rises;
-        brought = λ k in_. brought-on f (other c) k w.book (w.standing (other c)) (w.standing (other c)) f.unit w.due w.marks U V Z unit_whole parts.unit.tells parts.unit.unit parts.unit.none was.rule.dark rule.dark (was.brought k in_);
+        brought = λ k in_. brought-on f (other c) k w.book (w.standing (other c)) (w.standing (other c)) (once_mended f.unit) w.due w.marks U V Z unit_whole parts.unit.tells parts.unit.unit parts.unit.none was.rule.dark rule.dark (was.brought k in_);
         held = was.held;
         goes = was.goes;
       }
@@ -585,8 +586,8 @@ module _ (f : Found) (w : Carried) (cards : Cards) (c : Card) (U V X Y Z : State
       by (inl valid) = entered-marks f w c U V X Y found.two (found.sizes c valid) unit_whole unit_after whole after registration long odometer now few answer parts.unit (w.brought c) (one-before valid) late (room valid) (enters valid) parts.marks_mine
       by (inr bad) = no-marks f c w.book w.marks X Y bad parts.marks_mine
 
-  unit-after : Holds f.unit w.due w.book w.marks V
-  unit-after = holds-read f.unit w.due w.book w.marks parts.unit.unit unit_whole told.unit.leaves
+  unit-after : Holds (once_mended f.unit) w.due w.book w.marks V
+  unit-after = holds-read (once_mended f.unit) w.due w.book w.marks parts.unit.unit unit_whole told.unit.leaves
 
   -- however it was answered, where the unit works
   pub entered-powered-by : V.works ≡ true → IsPowered f w cards (arranged c V Y Z)
@@ -602,7 +603,7 @@ module _ (f : Found) (w : Carried) (cards : Cards) (c : Card) (U V X Y Z : State
   pub entered-powerless-by : IsPowerless f w (arranged c V Y Z)
   entered-powerless-by = powerless-of f w cards c V Y Z found (record {
     tells = told.unit.leaves.tells ∙ parts.unit.tells;
-    unit = unit-after;
+    unit = holds-dark f.unit w.due w.book w.marks V unit-after;
     none = parts.unit.none;
     mine = λ valid. off-of f w.book (w.standing c) (w.brought c) (session_of cards c) c V Y (one-after valid);
     others = λ valid. off-of f w.book (w.standing (other c)) (w.brought (other c)) (session_of cards (other c)) (other c) V Z (others-after valid);

@@ -46,6 +46,7 @@ found-still f cards after same found = record {
   two = found.two;
   named = λ c valid. subst (λ (o : Option FullCardNumber). IfSome o (λ n. card_number_bytes n ≡ (found_of f c).number)) (sym (same c)) (found.named c valid);
   told = λ c valid. ap is_some (same c) ∙ found.told c valid;
+  own = found.own;
   sizes = found.sizes;
   entries = found.entries;
 }
@@ -70,7 +71,7 @@ found-sizes f c sizes cards = found-still f cards (with_sizes c sizes cards) (sa
 
 -- and where one tells its own
 pub found-number : (f : Found) (c : Card) (n : FullCardNumber) (row : ℕ) (cards : Cards) → (IsOwnValid (found_of f c).image → card_number_bytes n ≡ (found_of f c).number) → AreFoundCards f cards → AreFoundCards f (with_number c n row cards)
-found-number f A n row cards own found = record { two = found.two; named = named; told = told; sizes = found.sizes; entries = found.entries }
+found-number f A n row cards own found = record { two = found.two; named = named; told = told; own = found.own; sizes = found.sizes; entries = found.entries }
   where
     named : (c : Card) → IsOwnValid (found_of f c).image → IfSome (known_of (with_number A n row cards) c).number (λ n. card_number_bytes n ≡ (found_of f c).number)
     named A valid = own valid
@@ -79,7 +80,7 @@ found-number f A n row cards own found = record { two = found.two; named = named
     told : (c : Card) → IsOwnValid (found_of f c).image → is_some (known_of (with_number A n row cards) c).number ≡ true
     told A valid = refl
     told B valid = found.told B valid
-found-number f B n row cards own found = record { two = found.two; named = named; told = told; sizes = found.sizes; entries = found.entries }
+found-number f B n row cards own found = record { two = found.two; named = named; told = told; own = found.own; sizes = found.sizes; entries = found.entries }
   where
     named : (c : Card) → IsOwnValid (found_of f c).image → IfSome (known_of (with_number B n row cards) c).number (λ n. card_number_bytes n ≡ (found_of f c).number)
     named A valid = found.named A valid

@@ -44,6 +44,7 @@ use Rattle.device_steps.proofs.Enters.{take-out, closing-step}
 use Rattle.run_crew.specs.declared.cards.Accepted.{Accepted}
 use Rattle.run_crew.specs.declared.cards.Cards.{Cards}
 use Rattle.run_crew.specs.Cards.{session_of}
+use Rattle.unit_rule.specs.Rule.{once_mended}
 use Rattle.run_rule.specs.Found.{Found, found_of, unit_seen, AnyKept}
 use Rattle.run_rule.specs.Cards.{brought_by}
 use Rattle.run_rule.specs.Between.{Carried}
@@ -186,7 +187,7 @@ module _ (f : Found) (w : Carried) (c : Card) (U X Y : State) (two : f.card_a.nu
   views = rises-run (IsCardClosing a.session act) X Y whole closes (λ x y is k. (step x is y k).mark)
 
   rule-after : CardRule c (found_of f c).start AnyKept (found_of f c).began w.book Out [] [] (unit_seen f U) (of_card Y)
-  rule-after = of-steps f two c w.book Out [] [] U Y (take-out (both_of f two) c f.unit w.due w.book w.marks a.session act on.time a.session.minute sound-s unit_whole unit.tells unit.unit unit.none whole room-s
+  rule-after = of-steps f two c w.book Out [] [] U Y (take-out (both_of f two) c (once_mended f.unit) w.due w.book w.marks a.session act on.time a.session.minute sound-s unit_whole unit.tells unit.unit unit.none whole room-s
       (if_told X.image (λ x. (own_sizes x ≡ a.session.application) × IsSession a.session x) (λ x is. (own x is, knows x is))) run
       (as-steps f two c w.book (In on.time a.session.minute) [] [] U X rule))
 
@@ -195,7 +196,7 @@ module _ (f : Found) (w : Carried) (c : Card) (U X Y : State) (two : f.card_a.nu
     rule = rule-after;
     valid = valid-on (found_of f c).began (IsCardClosing a.session act) X Y one.rule.dark.later closes (λ x y is k. valid-own a.session.application y (same-sizes x is y k ∙ own x is) (is-valid x is y k)) one.valid;
     rises = one.rises;
-    brought = λ k in_. brought-card f c k w.book (w.standing c) Out f.unit w.due w.marks U U X Y unit_whole unit.tells unit.unit unit.none one.rule.dark rule-after.dark (none-falls X Y views) (one.brought k in_);
+    brought = λ k in_. brought-card f c k w.book (w.standing c) Out (once_mended f.unit) w.due w.marks U U X Y unit_whole unit.tells unit.unit unit.none one.rule.dark rule-after.dark (none-falls X Y views) (one.brought k in_);
     held = held-on (found_of f c) c w.book sound (w.standing c) Out (IsCardClosing a.session act) X Y one.rule.dark.later closes
         (λ x there h. (
           h.0,

@@ -21,7 +21,7 @@ use Rattle.joint_rule.specs.Device.{SettledViews}
 use Rattle.joint_rule.specs.Marked.{of_card, HasMarked}
 use Rattle.joint_rule.proofs.Holding.{acknowledged}
 use Rattle.unit_rule.specs.Unit.{is_of, marks_of, Increase}
-use Rattle.unit_rule.specs.Rule.{Started}
+use Rattle.unit_rule.specs.Rule.{Started, once_mended}
 use Rattle.unit_rule.specs.Marks.{Holds, IsHeld as IsUnitHeld}
 use Rattle.run_crew.specs.declared.cards.Cards.{Cards}
 use Rattle.run_rule.specs.Found.{CardFound, Found, found_of}
@@ -88,6 +88,8 @@ unit-still s due b marks ms unit same h = record {
   unit_holds = h.unit_holds;
   decodes = h.decodes;
   issued = h.issued;
+  rows = h.rows;
+  low = h.low;
   marks_hold = subst (All (IsUnitHeld s b unit)) (sym same) h.marks_hold;
   marks_rise = subst Increase (sym same) h.marks_rise;
   marks_until = subst (All (λ (m : Mark). m.minute < due)) (sym same) h.marks_until;
@@ -128,7 +130,7 @@ module _ (f : Found) (w : Carried) (cards : Cards) (c : Card) (V Y Z : State) (f
 
   pub marked-powered : IsPowered f (with_marks (card_marks c Y.clock es) w) cards (arranged c V Y Z)
   marked-powered = powered-of f (with_marks (card_marks c Y.clock es) w) cards c V Y Z found (record {
-    unit = record { tells = parts.unit.tells; works = parts.unit.works; unit = unit-still f.unit w.due w.book w.marks (card_marks c Y.clock es) V (unit-marks c Y.clock es w.marks) parts.unit.unit; none = parts.unit.none };
+    unit = record { tells = parts.unit.tells; works = parts.unit.works; unit = unit-still (once_mended f.unit) w.due w.book w.marks (card_marks c Y.clock es) V (unit-marks c Y.clock es w.marks) parts.unit.unit; none = parts.unit.none };
     mine = parts.mine;
     others = parts.others;
     marks_mine = marks-more parts.marks_mine;

@@ -29,6 +29,8 @@ use Rattle.device_steps.proofs.CardNoted.{noted-valid, noted-sizes, noted-own, n
 use Rattle.run_crew.specs.declared.cards.Accepted.{Accepted}
 use Rattle.run_crew.specs.declared.cards.Cards.{Cards}
 use Rattle.run_crew.specs.Cards.{session_of}
+use Rattle.unit_rule.specs.Rule.{once_mended}
+use Rattle.unit_rule.proofs.Marking.{holds-dark}
 use Rattle.run_rule.specs.Found.{Found, found_of, unit_seen, AnyKept}
 use Rattle.run_rule.specs.Cards.{brought_by, CardMarksHold}
 use Rattle.run_rule.specs.Between.{Carried, devices}
@@ -44,15 +46,15 @@ use Rattle.run_told.proofs.NotedCard.{note-ends, note-number, note-book, note-se
 module _ (f : Found) (two : f.card_a.number ≢ f.card_b.number) (w : Carried) (puts owes : Card → List Entry) (U V X Y : State) (whole : IsCoherent U) (h : IsLitWith f w puts owes (devices U X Y)) (run : LeavesOnly U V LeavesJournal) where
   rule-on : (c : Card) (Z : State) (m d : List Entry) → CardRule c (found_of f c).start AnyKept (found_of f c).began w.book (w.standing c) m d (unit_seen f U) (of_card Z) → CardRule c (found_of f c).start AnyKept (found_of f c).began w.book (w.standing c) m d (unit_seen f V) (of_card Z)
   rule-on c Z m d rule =
-      of-steps f two c w.book (w.standing c) m d V Z (noted-card (both_of f two) c f.unit w.due w.book w.marks (w.standing c) Z whole h.unit run m d (as-steps f two c w.book (w.standing c) m d U Z rule))
+      of-steps f two c w.book (w.standing c) m d V Z (noted-card (both_of f two) c (once_mended f.unit) w.due w.book w.marks (w.standing c) Z whole h.unit run m d (as-steps f two c w.book (w.standing c) m d U Z rule))
 
   rules : (c : Card) → IsOwnValid (found_of f c).image → CardRule c (found_of f c).start AnyKept (found_of f c).began w.book (w.standing c) (puts c) (owes c) (unit_seen f V) (of_card (card_of (devices V X Y) c))
   rules A valid = rule-on A X (puts A) (owes A) (h.rules A valid)
   rules B valid = rule-on B Y (puts B) (owes B) (h.rules B valid)
 
   brought : (c : Card) → IsOwnValid (found_of f c).image → (k : ℕ) → Contains (w.brought c) k → HasBrought f.card_a.number f.card_b.number c k V (card_of (devices V X Y) c)
-  brought A valid k in_ = brought-on f A k w.book (w.standing A) (w.standing A) f.unit w.due w.marks U V X whole h.tells h.unit h.none (h.rules A valid).dark (rules A valid).dark (h.brought A valid k in_)
-  brought B valid k in_ = brought-on f B k w.book (w.standing B) (w.standing B) f.unit w.due w.marks U V Y whole h.tells h.unit h.none (h.rules B valid).dark (rules B valid).dark (h.brought B valid k in_)
+  brought A valid k in_ = brought-on f A k w.book (w.standing A) (w.standing A) (once_mended f.unit) w.due w.marks U V X whole h.tells h.unit h.none (h.rules A valid).dark (rules A valid).dark (h.brought A valid k in_)
+  brought B valid k in_ = brought-on f B k w.book (w.standing B) (w.standing B) (once_mended f.unit) w.due w.marks U V Y whole h.tells h.unit h.none (h.rules B valid).dark (rules B valid).dark (h.brought B valid k in_)
 
   valid-still : (c : Card) → IsOwnValid (found_of f c).image → (x : List ℕ) → (card_of (devices V X Y) c).left_since (found_of f c).began x → IsOwnValid x
   valid-still A valid = h.valid A valid
@@ -66,7 +68,7 @@ module _ (f : Found) (two : f.card_a.number ≢ f.card_b.number) (w : Carried) (
   noted-with works = record {
     tells = run.tells ∙ h.tells;
     works = works;
-    unit = noted-holds f.unit w.due w.book w.marks whole run h.unit;
+    unit = noted-holds (once_mended f.unit) w.due w.book w.marks whole run h.unit;
     none = h.none;
     rules = rules;
     valid = valid-still;
@@ -98,13 +100,13 @@ module _ (f : Found) (w : Carried) (cards : Cards) (U V X Y : State) (found : Ar
         rule = rule;
         valid = one.valid;
         rises = one.rises;
-        brought = λ k in_. brought-on f c k w.book (w.standing c) (w.standing c) f.unit w.due w.marks U V Z whole p.lit.tells p.lit.unit p.lit.none one.rule.dark rule.dark (one.brought k in_);
+        brought = λ k in_. brought-on f c k w.book (w.standing c) (w.standing c) (once_mended f.unit) w.due w.marks U V Z whole p.lit.tells p.lit.unit p.lit.none one.rule.dark rule.dark (one.brought k in_);
         held = one.held;
         goes = one.goes;
       }
 
   unit-on : (works : V.works ≡ true) → UnitLit f w V
-  unit-on works = record { tells = run.tells ∙ p.lit.tells; works = works; unit = noted-holds f.unit w.due w.book w.marks whole run p.lit.unit; none = p.lit.none }
+  unit-on works = record { tells = run.tells ∙ p.lit.tells; works = works; unit = noted-holds (once_mended f.unit) w.due w.book w.marks whole run p.lit.unit; none = p.lit.none }
 
   -- NOTED
   pub noted-powered : V.works ≡ true → IsPowered f w cards (devices V X Y)
@@ -120,7 +122,7 @@ module _ (f : Found) (w : Carried) (cards : Cards) (U V X Y : State) (found : Ar
   pub noted-powerless : IsPowerless f w (devices V X Y)
   noted-powerless = powerless-of f w cards A V X Y found (record {
     tells = run.tells ∙ p.lit.tells;
-    unit = noted-holds f.unit w.due w.book w.marks whole run p.lit.unit;
+    unit = holds-dark f.unit w.due w.book w.marks V (noted-holds (once_mended f.unit) w.due w.book w.marks whole run p.lit.unit);
     none = p.lit.none;
     mine = λ valid. off-of f w.book (w.standing A) (w.brought A) (session_of cards A) A V X (lit-card A (session_of cards A) X (before.mine valid));
     others = λ valid. off-of f w.book (w.standing B) (w.brought B) (session_of cards B) B V Y (lit-card B (session_of cards B) Y (before.others valid));
@@ -179,7 +181,7 @@ module _ (f : Found) (w : Carried) (c : Card) (U X Y : State) (two : f.card_a.nu
   holds = as-steps f two c w.book (w.standing c) [] [] U X one.rule
 
   behind : (z : Standing) → CardDark c (found_of f c).start AnyKept (found_of f c).began w.book z (unit_seen f U) (of_card Y) → (k : ℕ) → Contains (w.brought c) k → HasBrought f.card_a.number f.card_b.number c k U Y
-  behind z dark k in_ = brought-card f c k w.book (w.standing c) z f.unit w.due w.marks U U X Y unit_whole unit.tells unit.unit unit.none one.rule.dark dark (none-falls X Y views) (one.brought k in_)
+  behind z dark k in_ = brought-card f c k w.book (w.standing c) z (once_mended f.unit) w.due w.marks U U X Y unit_whole unit.tells unit.unit unit.none one.rule.dark dark (none-falls X Y views) (one.brought k in_)
 
   pub note-marks : MarksLit f w c X → MarksLit f w c Y
   note-marks h = marks-on (found_of f c) c w.book w.marks X Y whole views h

@@ -19,12 +19,13 @@ use Rattle.joint_rule.specs.Views.{UnitView, other}
 use Rattle.joint_rule.specs.Rules.{Standing, since, CardDark, CardRule}
 use Rattle.joint_rule.specs.Marked.{of_card, HasBrought}
 use Rattle.unit_rule.specs.Safe.{Devices, card_of}
-use Rattle.unit_rule.specs.Rule.{Started}
+use Rattle.unit_rule.specs.Rule.{Started, once_mended}
 use Rattle.unit_rule.specs.Marks.{Holds}
 use Rattle.device_steps.specs.Rule.{Both, CardHolds, CardRests}
 use Rattle.run_crew.specs.declared.cards.Accepted.{Accepted}
 use Rattle.run_crew.specs.declared.cards.Cards.{Cards}
 use Rattle.run_crew.specs.Cards.{session_of}
+use Rattle.unit_rule.proofs.Marking.{holds-dark}
 use Rattle.run_rule.specs.Found.{CardFound, Found, found_of, unit_seen, AnyKept}
 use Rattle.run_rule.specs.Cards.{brought_by, CardMarksHold, IsStrung}
 use Rattle.run_rule.specs.Between.{Carried, IsLit, IsCarried, devices}
@@ -126,7 +127,7 @@ module _ (f : Found) (w : Carried) (cards : Cards) (d : Devices) (found : AreFou
   -- whatever is put or owed
   pub strung-with : (puts owes : Card → List Entry) → IsLitWith f w puts owes d → (c : Card) → IsOwnValid (found_of f c).image → IsHeld (found_of f c) c w.book (w.standing c) (card_of d c) → IsStrung f c w.book (w.standing c) d.unit (card_of d c)
   strung-with puts owes lit c valid held =
-      strung f c w.book (w.standing c) d.unit (card_of d c) (strung-of lit.none lit.unit c (w.standing c) (card_of d c) valid held (lit.valid c valid) (lit.rises c valid) (lit.rules c valid).dark)
+      strung f c w.book (w.standing c) d.unit (card_of d c) (strung-of lit.none (holds-dark f.unit w.due w.book w.marks d.unit lit.unit) c (w.standing c) (card_of d c) valid held (lit.valid c valid) (lit.rises c valid) (lit.rules c valid).dark)
 
   -- while nothing is put and nothing owed
   pub lit-of : IsLitOwing f w owes_nothing d → AllGo f w owes_nothing cards d → IsLit f w d
@@ -145,7 +146,7 @@ module _ (f : Found) (w : Carried) (cards : Cards) (d : Devices) (found : AreFou
   pub carried-of : (puts owes : Card → List Entry) → IsLitWith f w puts owes d → AllGo f w owes cards d → IsCarried f w d
   carried-of puts owes lit go = record {
     tells = lit.tells;
-    unit = lit.unit;
+    unit = holds-dark f.unit w.due w.book w.marks d.unit lit.unit;
     cards = λ c valid.
         let s = strung-with puts owes lit c valid (go.held c valid) in
         record { rests = (lit.rules c valid).dark; string = s.string; comes = s.comes; brought = lit.brought c valid };
@@ -181,7 +182,7 @@ power-lost f w cards d found powered = record {
 pub record UnitLit (f : Found) (w : Carried) (U : State) : Type 0 where
   pub tells : is_some U.image ≡ true
   pub works : U.works ≡ true
-  pub unit : Holds f.unit w.due w.book w.marks U
+  pub unit : Holds (once_mended f.unit) w.due w.book w.marks U
   pub none : w.book.maybe ≡ None
 
 -- of a card that was valid, as it stands and with what was brought, while the unit has power and nothing is owed

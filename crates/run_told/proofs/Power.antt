@@ -35,7 +35,7 @@ use Rattle.unit_rule.specs.Marks.{Holds}
 use Rattle.unit_rule.proofs.Found.{one-image}
 use Rattle.unit_rule.proofs.Marking.{holds-found, holds-read}
 use Rattle.unit_rule.proofs.Moves.{shown-last}
-use Rattle.device_steps.specs.Rule.{Both, CardRests, IsTakenUp}
+use Rattle.device_steps.specs.Rule.{Both, CardRests, IsTakenUp, IsHeldMended}
 use Rattle.device_steps.proofs.PowerBack.{found-rests}
 use Rattle.run_crew.specs.declared.cards.Accepted.{Accepted}
 use Rattle.run_crew.specs.declared.cards.Cards.{Cards}
@@ -204,10 +204,10 @@ module _ (f : Found) (w : Carried) (d : Devices) (V : State) (two : f.card_a.num
 -- ---- THE UNIT IS MENDED, where the calls say this: no card is accepted any more
 
 module _ (f : Found) (w : Carried) (cards : Cards) (U V X Y : State) (found_cards : AreFoundCards f cards) (whole : IsCoherent U) (none : w.book.maybe ≡ None) (p : IsPowerless f w (devices U X Y)) (failed : Bool)
-    (holds : (s : Started) (due : ℕ) (b : Book) (marks : List Mark) → Holds s due b marks U → Holds s due b marks V)
+    (holds : (s : Started) (due : ℕ) (b : Book) (marks : List Mark) → Holds s due b marks U → IsHeldMended s due b marks V)
     (first : (r : Both) (c : Card) (b : Book) (z : Standing) → CardRests r c b z U X → IsTakenUp r c b z failed V X)
     (second : (r : Both) (c : Card) (b : Book) (z : Standing) → CardRests r c b z U Y → IsTakenUp r c b z failed V Y) (tells : is_some V.image ≡ is_some U.image) where
-  mended-unit : Holds f.unit w.due w.book w.marks V
+  mended-unit : IsHeldMended f.unit w.due w.book w.marks V
   mended-unit = holds f.unit w.due w.book w.marks p.carried.unit
 
   -- a card behind it, as the call says of it
@@ -256,7 +256,7 @@ module _ (f : Found) (w : Carried) (cards : Cards) (U V X Y : State) (found_card
 
   pub mended-powered : failed ≡ false → V.works ≡ true → ((c : Card) → session_of cards c ≡ None) → IsPowered f (all_out w) cards (devices V X Y)
   mended-powered well works bare = powered-of f (all_out w) cards A V X Y found_cards (record {
-    unit = record { tells = tells ∙ p.carried.tells; works = works; unit = mended-unit; none = none };
+    unit = record { tells = tells ∙ p.carried.tells; works = works; unit = mended-unit.lit works; none = none };
     mine = λ valid. subst (λ (o : Option Accepted). CardLit f w.book Out (w.brought A) o A V X) (sym (bare A)) (mended-lit A X valid (p.carried.cards A valid) (p.wait A valid) (taken_a valid) well);
     others = λ valid. subst (λ (o : Option Accepted). CardLit f w.book Out (w.brought B) o B V Y) (sym (bare B)) (mended-lit B Y valid (p.carried.cards B valid) (p.wait B valid) (taken_b valid) well);
     marks_mine = p.carried.marks A;
@@ -267,7 +267,7 @@ module _ (f : Found) (w : Carried) (cards : Cards) (U V X Y : State) (found_card
   pub mended-powerless : IsPowerless f w (devices V X Y)
   mended-powerless = powerless-of f w cards A V X Y found_cards (record {
     tells = tells ∙ p.carried.tells;
-    unit = mended-unit;
+    unit = mended-unit.dark;
     none = none;
     mine = λ valid. mended-off A X valid (p.carried.cards A valid) (p.wait A valid) (taken_a valid);
     others = λ valid. mended-off B Y valid (p.carried.cards B valid) (p.wait B valid) (taken_b valid);

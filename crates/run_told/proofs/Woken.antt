@@ -10,7 +10,7 @@ use Rattle.card_image.specs.Own.{own_sizes, IsOwnValid}
 use Rattle.joint_rule.specs.Views.{other}
 use Rattle.joint_rule.specs.Rules.{Standing, Out}
 use Rattle.unit_rule.specs.Marks.{Holds}
-use Rattle.unit_rule.proofs.Marking.{holds-read}
+use Rattle.unit_rule.proofs.Marking.{holds-read, holds-dark}
 use Rattle.device_steps.specs.declared.entering.Entered.{Entered}
 use Rattle.device_steps.specs.declared.entering.NotEntered.{NotEntered}
 use Rattle.device_steps.specs.declared.entering.NotEntered.TheVariants.{UnitFailed, CardFailed, NotValid, TimeOverlap}
@@ -19,6 +19,7 @@ use Rattle.device_steps.proofs.Enters.{unit-read, card-read, entering-moments}
 use Rattle.run_crew.specs.declared.cards.Accepted.{Accepted}
 use Rattle.run_crew.specs.declared.cards.Cards.{Cards}
 use Rattle.run_crew.specs.Cards.{session_of}
+use Rattle.unit_rule.specs.Rule.{once_mended}
 use Rattle.run_rule.specs.Found.{CardFound, Found, found_of}
 use Rattle.run_rule.specs.Cards.{brought_by, IsUntouched}
 use Rattle.run_rule.specs.Between.{Carried}
@@ -40,7 +41,7 @@ module _ (f : Found) (w : Carried) (cards : Cards) (c : Card) (U X Y Z : State) 
         rule = rule;
         valid = valid-on (found_of f c).began Unchanged X Y one.rule.dark.later run (λ a b t never. absurd never) one.valid;
         rises = one.rises;
-        brought = λ k in_. brought-card f c k w.book Out Out f.unit w.due w.marks U U X Y unit_whole parts.unit.tells parts.unit.unit parts.unit.none one.rule.dark rule.dark
+        brought = λ k in_. brought-card f c k w.book Out Out (once_mended f.unit) w.due w.marks U U X Y unit_whole parts.unit.tells parts.unit.unit parts.unit.none one.rule.dark rule.dark
             (none-falls X Y (rises-run Unchanged X Y whole run (λ a b t never. absurd never))) (one.brought k in_);
         held = held-read (found_of f c) c w.book Out X Y one.rule.dark.later run one.held;
         goes = record { has = brought_by c (found_of f c).start w.book; all = append-nil (brought_by c (found_of f c).start w.book); goes = tt };
@@ -71,13 +72,13 @@ module _ (f : Found) (w : Carried) (cards : Cards) (c : Card) (U V X Z : State) 
         rule = rule;
         valid = one.valid;
         rises = one.rises;
-        brought = λ k in_. brought-on f d k w.book (w.standing d) (w.standing d) f.unit w.due w.marks U V Y unit_whole before.unit.tells before.unit.unit before.unit.none one.rule.dark rule.dark (one.brought k in_);
+        brought = λ k in_. brought-on f d k w.book (w.standing d) (w.standing d) (once_mended f.unit) w.due w.marks U V Y unit_whole before.unit.tells before.unit.unit before.unit.none one.rule.dark rule.dark (one.brought k in_);
         held = one.held;
         goes = one.goes;
       }
 
-  unit-after : Holds f.unit w.due w.book w.marks V
-  unit-after = holds-read f.unit w.due w.book w.marks before.unit.unit unit_whole run
+  unit-after : Holds (once_mended f.unit) w.due w.book w.marks V
+  unit-after = holds-read (once_mended f.unit) w.due w.book w.marks before.unit.unit unit_whole run
 
   pub unit-read-powered : V.works ≡ true → IsPowered f w cards (arranged c V X Z)
   unit-read-powered works = powered-of f w cards c V X Z found (record {
@@ -91,7 +92,7 @@ module _ (f : Found) (w : Carried) (cards : Cards) (c : Card) (U V X Z : State) 
   pub unit-read-powerless : IsPowerless f w (arranged c V X Z)
   unit-read-powerless = powerless-of f w cards c V X Z found (record {
     tells = run.tells ∙ before.unit.tells;
-    unit = unit-after;
+    unit = holds-dark f.unit w.due w.book w.marks V unit-after;
     none = before.unit.none;
     mine = λ valid. off-of f w.book (w.standing c) (w.brought c) (session_of cards c) c V X (card-lit c (session_of cards c) X (before.mine valid));
     others = λ valid. off-of f w.book (w.standing (other c)) (w.brought (other c)) (session_of cards (other c)) (other c) V Z (card-lit (other c) (session_of cards (other c)) Z (before.others valid));

@@ -20,6 +20,7 @@ use Rattle.joint_rule.specs.Views.{unit_view, owed}
 use Rattle.joint_rule.specs.Rules.{Standing, In, Out, since, CardRule, IsEntered}
 use Rattle.joint_rule.specs.Marked.{of_card, HasBrought}
 use Rattle.unit_rule.specs.Safe.{Devices, card_of}
+use Rattle.unit_rule.specs.Rule.{once_mended, IsCards}
 use Rattle.unit_rule.specs.Marks.{Holds}
 use Rattle.device_steps.specs.Minute.{IsNotIn}
 use Rattle.run_crew.specs.declared.cards.Accepted.{Accepted}
@@ -32,12 +33,13 @@ use Rattle.run_strung.specs.Strung.{IsHeld}
 
 -- ---- what was found
 
--- What was found of the cards: two numbers, which are those that the valid ones have told; and of each valid card sizes, and the entries of
--- its image.
+-- What was found of the cards: two numbers, which are those that the valid ones have told, and for which owed rows are begun; and of each valid
+-- card sizes, and the entries of its image.
 pub record AreFoundCards (f : Found) (cards : Cards) : Type 0 where
   pub two : f.card_a.number ≢ f.card_b.number
   pub named : (c : Card) → IsOwnValid (found_of f c).image → IfSome (known_of cards c).number (λ n. card_number_bytes n ≡ (found_of f c).number)
   pub told : (c : Card) → IsOwnValid (found_of f c).image → is_some (known_of cards c).number ≡ true
+  pub own : (c : Card) → IsOwnValid (found_of f c).image → IsCards f.unit (found_of f c).number
   pub sizes : (c : Card) → IsOwnValid (found_of f c).image → IsApplication (own_sizes (found_of f c).image)
   pub entries : (c : Card) → IsOwnValid (found_of f c).image → (found_of f c).start.entries ≡ (own_view (found_of f c).image).held.entries
 
@@ -105,7 +107,7 @@ pub record IsPutIn (f : CardFound) (c : Card) (b : Book) (now : ℕ) (s : Sessio
 pub record IsLitWith (f : Found) (w : Carried) (puts owes : Card → List Entry) (d : Devices) : Type 0 where
   pub tells : is_some d.unit.image ≡ true
   pub works : d.unit.works ≡ true
-  pub unit : Holds f.unit w.due w.book w.marks d.unit
+  pub unit : Holds (once_mended f.unit) w.due w.book w.marks d.unit
   pub none : w.book.maybe ≡ None
   pub rules : (c : Card) → IsOwnValid (found_of f c).image →
       CardRule c (found_of f c).start AnyKept (found_of f c).began w.book (w.standing c) (puts c) (owes c) (unit_seen f d.unit) (of_card (card_of d c))

@@ -1,10 +1,10 @@
 -- The cards with sessions left a slot last no later than in the first minute that is still to be kept.
-use Rattle.std.proofs.Common.{◌≡◌, ◌⊎◌, inl, ⊎_elim, ℕ, ◌+◌, ◌/◌, ◌≤◌, true, Option, Some, None, IfSome, nat_eq, List, [], ◌∷◌, ◌++◌, refl, ap, subst, ◌∙◌, arith}
+use Rattle.std.proofs.Common.{◌≡◌, ◌⊎◌, inl, ⊎_elim, ℕ, ◌+◌, ◌/◌, ◌≤◌, true, Option, Some, None, IfSome, nat_eq, List, [], ◌++◌, refl, ap, subst, ◌∙◌, arith}
 use Rattle.std.proofs.lemmas.Bool.Decides.{nat_tests}
 use Rattle.trace_model.specs.declared.Card.{Card}
 use Rattle.trace_model.specs.declared.Card.TheVariants.{A, B}
 use Rattle.trace_model.specs.Trace.{TraceSecond}
-use Rattle.log_model.specs.Log.{RunLog, Phase, Keeping}
+use Rattle.log_model.specs.Log.{RunLog, Phase}
 use Rattle.log_model.specs.Slots.{Slots}
 use Rattle.log_model.specs.Course.{Told, Before, Visit}
 use Rattle.history_model.specs.Minutes.{HistoryMinute}
@@ -41,10 +41,6 @@ pub low-too : (low m : ℕ) (o : Option ℕ) → low ≤ m → IfSome o (λ left
 low-too low m None le h = tt
 low-too low m (Some left) le h = omega (arith, le, h)
 
--- so it is later on
-pub back-later : (low next : ℕ) (cabin : Cabin) → low ≤ next → AreBack low cabin → AreBack next cabin
-back-later low next cabin le h = λ card some. low-too low next (left_of cabin.slots.left card) le (h card some)
-
 -- nobody is leaving
 pub back-at : (log : RunLog) (before : Before) (s : TraceSecond) (at : Phase) (low high : ℕ) (cabin : Cabin) → AreBack low cabin → AreBackAt log before s at low high cabin
 back-at log before s at low high cabin h = λ card some. inl (h card some)
@@ -59,7 +55,3 @@ module _ (o : Origin) (done : List TraceSecond) (s : TraceSecond) (at : Phase) (
       subst (λ (n : ℕ). IfSome (left_of v.cabin.slots.left card) (λ left. left ≤ n)) (let e : s.number / 60 ≡ w.from = omega (arith, to) in e)
       (left-by_now (start_at o) (told_before w.b done) (w.b.run.book.sure ++ w.new) (course_in w.b done s at v.log).left s.number w.from (course_in w.b done s at v.log).slots v.cabin.slots w.tells card))
       (w.back card some)
-
--- and in the keeping nobody is leaving
-pub back-keeping : (log : RunLog) (before : Before) (s : TraceSecond) (low high : ℕ) (cabin : Cabin) → AreBackAt log before s Keeping low high cabin → AreBack low cabin
-back-keeping log before s low high cabin h = λ card some. ⊎_elim (λ plain. plain) (λ leaving. absurd (let none : [] ≡ record { phase = Keeping; slot = leaving.0; card = card } ∷ [] = leaving.1.leaves in cc)) (h card some)

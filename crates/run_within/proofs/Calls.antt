@@ -20,6 +20,7 @@ use Rattle.unit_course.specs.Legs.{resumed}
 use Rattle.unit_course.specs.Travelled.{MayShow}
 use Rattle.unit_course.specs.Turn.{span_at}
 use Rattle.unit_rule.specs.Rule.{Started}
+use Rattle.device_steps.specs.Rule.{IsHeldMended}
 use Rattle.unit_rule.specs.Marks.{Holds}
 use Rattle.unit_rule.specs.Odometer.{ShowsOdometer, HasTravelled}
 use Rattle.unit_rule.proofs.Moves.{shown-last}
@@ -126,7 +127,7 @@ module _ (o : Origin) (done : List TraceSecond) (supply : Supply) (v : Values) (
 
     -- and its mending wrote this
     module _ (j : Notes) (W : State) (failed : Bool) (mends : LeavesOnly V W (IsMending j)) (tells : is_some W.image ≡ is_some V.image) (cause : HasCause V W failed)
-        (holds : (s : Started) (due : ℕ) (b : Book) (marks : List Mark) → Holds s due b marks V → Holds s due b marks W)
+        (holds : (s : Started) (due : ℕ) (b : Book) (marks : List Mark) → Holds s due b marks V → IsHeldMended s due b marks W)
         (taken_a : (q : Both) (c : Card) (b : Book) (z : Standing) → CardRests q c b z V d.card_a → IsTakenUp q c b z failed W d.card_a)
         (taken_b : (q : Both) (c : Card) (b : Book) (z : Standing) → CardRests q c b z V d.card_b → IsTakenUp q c b z failed W d.card_b) where
       goes : GoOn o d (devices W d.card_a d.card_b)

@@ -93,7 +93,7 @@ option-same start told t past n (Some d) is lt = ap (λ (i : HistoryMinute). Som
 
 -- CARDS keep what they have told
 pub found-cut : (f : Found) (cards : Cards) (s : ℕ) → AreFoundCards f cards → AreFoundCards f (with_session B None (with_session A None cards))
-found-cut f cards s h = record { two = h.two; named = named; told = told_; sizes = h.sizes; entries = h.entries }
+found-cut f cards s h = record { two = h.two; named = named; told = told_; own = h.own; sizes = h.sizes; entries = h.entries }
   where
     told_ : (c : Card) → IsOwnValid (found_of f c).image → is_some (known_of (with_session B None (with_session A None cards)) c).number ≡ true
     told_ A valid = h.told A valid

@@ -101,10 +101,6 @@ module _ (o : Origin) (done : List TraceSecond) (v : Values) (d : Devices) (supp
     entered_then = entered-go o done now v.log w.log d more v.next tells idle card h.time (let past = h.since.past in let some = after-first (rule_of o) (start_at o) o.from (first_of o) done (progress v supply r.book) f in omega (arith, past, some)) h.entered_then;
   }
 
--- the second of no power has a first one
-driven-split : (n number speed : ℕ) (actions : List Action) → driven (suc n) number speed actions ≡ record { number = number; has_power = true; speed = speed; actions = actions } ∷ driven n (number + 1) speed []
-driven-split n number speed actions = refl
-
 module _ (o : Origin) (done : List TraceSecond) (v : Values) (d : Devices) (r : Recorded o done Lost v d) (n speed : ℕ) (actions : List Action) (refused : List Refused) (begun : ℕ)
     (low : 0 < v.next % 60) (high : v.next % 60 + suc n ≤ 60) (told : map fault_of refused ≡ refused_for v.next actions) where
   abbrev p : Progress

@@ -15,6 +15,7 @@ use Rattle.history_model.specs.Book.{Book, all, IsMark, Ordered}
 use Rattle.joint_rule.specs.Views.{unit_view}
 use Rattle.minute_model.specs.declared.Minute.{Minute}
 use Rattle.unit_model.specs.Image.{last_kept}
+use Rattle.unit_rule.specs.Rule.{once_mended}
 use Rattle.unit_rule.specs.Marks.{Holds}
 use Rattle.unit_rule.proofs.Moves.{shown-last}
 use Rattle.safety_model.specs.Safe.{Devices}
@@ -76,7 +77,7 @@ module _ (o : Origin) (done : List TraceSecond) (s : TraceSecond) (at : Phase) (
   abbrev book : Book
   book = kept_all w.new w.b.run.book
 
-  unit : Holds o.found.unit w.due book v.marks d.unit
+  unit : Holds (once_mended o.found.unit) w.due book v.marks d.unit
   unit = w.powered.lit.unit
 
   marks : IsMark o.found.unit.first (all book) (last_kept y)

@@ -1,5 +1,5 @@
 -- What was found stays found as more was left; minutes that follow one another, and one more in the book.
-use Rattle.std.proofs.Common.{◌≡◌, ◌⊎◌, inl, inr, ⊎_elim, ℕ, suc, ◌+◌, List, [], ◌∷◌, ◌++◌, Contains, length, map, refl, ap, ◌∙◌, arith}
+use Rattle.std.proofs.Common.{◌≡◌, ◌⊎◌, inl, inr, ⊎_elim, ℕ, suc, ◌+◌, List, [], ◌∷◌, ◌++◌, Contains, length, map, ap, ◌∙◌, arith}
 use Rattle.trace_model.specs.declared.Card.{Card}
 use Rattle.trace_model.specs.Trace.{TraceSecond}
 use Rattle.minute_model.specs.declared.Minute.{Minute}
@@ -8,11 +8,8 @@ use Rattle.log_model.specs.declared.lines.Mark.{Mark}
 use Rattle.log_model.specs.declared.lines.Verdict.{Verdict}
 use Rattle.log_model.specs.declared.lines.Verdict.TheVariants.{Accepted, NotValid, TimeOverlap}
 use Rattle.log_model.specs.Log.{RunLog}
-use Rattle.history_model.specs.Minutes.{HistoryMinute}
-use Rattle.history_model.specs.Book.{Book, kept}
 use Rattle.safety_model.specs.Recording.{brought}
 use Rattle.safety_model.specs.Safe.{IsVerdict}
-use Rattle.run_course.specs.Seconds.{kept_all}
 use Rattle.run_recorded.specs.Origin.{Origin}
 use Rattle.run_recorded.specs.Ends.{recording_by, BringsAll}
 use Rattle.run_recorded.proofs.Beside.{marked-on}
@@ -47,11 +44,6 @@ verdict-so o done log unit card more_unit more_card on_unit on_card c u (TimeOve
 pub seen-left : (o : Origin) (done : List TraceSecond) (log : RunLog) (marks : List Mark) (unit card more_unit more_card : List ℕ → Type 0) → ((x : List ℕ) → unit x → more_unit x) → ((x : List ℕ) → card x → more_card x) → (c : Card) (u : ℕ) (v : Verdict) →
     IsVerdict (recording_by o done log) unit card c u v × BringsAll (recording_by o done log) marks c u v → IsVerdict (recording_by o done log) more_unit more_card c u v × BringsAll (recording_by o done log) marks c u v
 seen-left o done log marks unit card more_unit more_card on_unit on_card c u v h = (verdict-so o done log unit card more_unit more_card on_unit on_card c u v h.0, h.1)
-
--- one minute more in the book
-pub kept-more : (new : List HistoryMinute) (i : HistoryMinute) (b : Book) → kept_all (new ++ i ∷ []) b ≡ kept i (kept_all new b)
-kept-more [] i b = refl
-kept-more (j ∷ new) i b = kept-more new i (kept j b)
 
 -- minutes that follow one another, behind some of them
 pub counted-part : (xs ys : List Minute) (a : ℕ) → map (λ (m : Minute). m.minute) (xs ++ ys) ≡ count_from a (length (xs ++ ys)) → map (λ (m : Minute). m.minute) ys ≡ count_from (a + length xs) (length ys)

@@ -1,5 +1,5 @@
 -- Who sits in which slot, by the slots and by the log, as a card is put in, leaves or is torn out.
-use Rattle.std.proofs.Common.{◌≡◌, ◌⊎◌, inl, inr, ⊎_elim, ℕ, ◌+◌, ◌/◌, Bool, true, false, ◌||◌, Option, Some, None, IfSome, is_some, List, [], ◌++◌, refl, ap, sym, subst, ◌∙◌, append-nil}
+use Rattle.std.proofs.Common.{◌≡◌, ◌⊎◌, inl, inr, ℕ, ◌+◌, ◌/◌, Bool, true, false, ◌||◌, Option, Some, None, IfSome, is_some, List, [], ◌++◌, refl, ap, sym, subst, ◌∙◌, append-nil}
 use Rattle.std.specs.Prelude.{if◌then◌else◌}
 use Rattle.std.specs.List.{list_any}
 use Rattle.activity_codec.specs.declared.values.Slot.{Slot}
@@ -103,6 +103,7 @@ found-less f card cards h = record {
   two = h.two;
   named = λ d valid. subst (λ (o : Option FullCardNumber). IfSome o (λ n. card_number_bytes n ≡ (found_of f d).number)) (sym (number-same card d cards)) (h.named d valid);
   told = λ d valid. subst (λ (o : Option FullCardNumber). is_some o ≡ true) (sym (number-same card d cards)) (h.told d valid);
+  own = h.own;
   sizes = h.sizes;
   entries = h.entries;
 }
@@ -198,20 +199,6 @@ module _ (start : Start) (told : List Told) (past : List HistoryMinute) (left : 
       by false true h = absurd (cc)
       by false false h = (refl, refl)
 
-  pub free-nowhere : (slot : Slot) (card : Card) (speed : ℕ) → refusal slots speed (Insert slot card) ≡ None → SitsNowhere k.seats card
-  free-nowhere slot card speed is = by slot (free-for slot card speed is) (⊎_elim (λ none. none) (λ some. by-refusal some) (free-for slot card speed is).here)
-    where
-      by-refusal : seat_in k.seats slot ≡ Some (record { card = card; newest = None }) → seat_in k.seats slot ≡ None
-      by-refusal some = seat-none start past from k (seat_in k.seats slot) (in_slot slots slot) (seat-tells slot) (first (is_some (in_slot slots slot)) (holds (in_slot slots (other_slot slot)) card) is)
-        where
-          first : (a b : Bool) → (if a then Some (Occupied slot) else (if b then Some (Elsewhere card) else None)) ≡ None → a ≡ false
-          first true b h = absurd (cc)
-          first false b h = refl
-
-      by : (at : Slot) → IsFree k.seats at card → seat_in k.seats at ≡ None → SitsNowhere k.seats card
-      by Driver f none = record { driver = ap (λ (o : Option Seat). is_card o card) none; codriver = f.elsewhere }
-      by CoDriver f none = record { driver = f.elsewhere; codriver = ap (λ (o : Option Seat). is_card o card) none }
-
 pub none-there : (seats : Seats) (slot : Slot) → seat_in (with_seat seats slot None) slot ≡ None
 none-there seats Driver = refl
 none-there seats CoDriver = refl
@@ -261,13 +248,6 @@ accepted-seat low cards card (Some seat) h is some =
     by None e None h some = absurd (cc)
     by None e (Some a) h some = absurd h
     by (Some n) e s h some = let own : seat.card ≡ card = cc in (n, ap (λ (o : Option ℕ). Some (record { card = seat.card; newest = o })) e ∙ ap (λ (c : Card). Some (record { card = c; newest = Some n })) own)
-
--- a card that sits nowhere, and is not leaving, has no session
-pub none-standing : (low : ℕ) (cabin : Cabin) → Stands low None cabin → (card : Card) → SitsNowhere cabin.slots.seats card → is_some (session_of cabin.cards card) ≡ true → ⊥
-none-standing low cabin h card nowhere some = ⊎_elim
-    (λ there. ⊎_elim (λ first. no-both (is_card cabin.slots.seats.driver card) first nowhere.driver) (λ second. no-both (is_card cabin.slots.seats.codriver card) second nowhere.codriver) there)
-    (λ leaving. absurd (cc))
-    (h.only card some)
 
 -- ---- where nobody sat a tear leaves the slots as they were
 

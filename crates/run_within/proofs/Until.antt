@@ -1,28 +1,26 @@
 -- Up to which minute a second has decided: none that is later than its own, all before that one behind a settling, and all but a few of them.
-use Rattle.std.proofs.Common.{◌≡◌, ℕ, zero, suc, ◌+◌, ◌-◌, ◌/◌, ◌≤◌, true, nat_lt, None, List, [], ◌∷◌, ◌++◌, length, refl, ap, sym, subst, ◌∙◌, arith, length-append}
+use Rattle.std.proofs.Common.{◌≡◌, ℕ, ◌+◌, ◌-◌, ◌/◌, ◌≤◌, None, List, [], ◌∷◌, ◌++◌, length, ap, sym, subst, ◌∙◌, arith, length-append}
 use Rattle.trace_model.specs.Trace.{TraceSecond}
 use Rattle.minute_model.specs.declared.Rule.{Rule}
 use Rattle.minute_model.specs.declared.Rule.TheVariants.{Original, Amended}
 use Rattle.minute_model.specs.declared.Minute.{Minute}
 use Rattle.minute_model.specs.Minute.{minutes_ahead}
-use Rattle.minute_model.specs.Span.{Span, end_of, settled, decided_in, latest, ungiven_of}
+use Rattle.minute_model.specs.Span.{Span, end_of, settled, decided_in, ungiven_of}
 use Rattle.minute_model.proofs.Counted.{ungiven-most, ungiven-settled}
 use Rattle.minute_rules.specs.Kept.{Kept, StandsFor}
 use Rattle.log_model.specs.Log.{Phase}
-use Rattle.log_model.specs.Course.{Told, Course, Visit}
+use Rattle.log_model.specs.Course.{Told, Visit}
 use Rattle.history_model.specs.Presence.{Start}
-use Rattle.history_model.specs.Growth.{picking}
 use Rattle.history_model.proofs.Deciding.{counted}
 use Rattle.unit_course.specs.Followed.{Supply, Lit}
 use Rattle.unit_course.specs.Turn.{span_at}
 use Rattle.safety_model.specs.Safe.{Devices}
 use Rattle.run_course.specs.Followed.{Progress, Followed}
 use Rattle.run_course.proofs.Steps.{span-end}
-use Rattle.run_moments.specs.Kept.{settled_times}
 use Rattle.run_moments.proofs.Kept.{times-end}
 use Rattle.run_recorded.specs.Origin.{Origin, rule_of, start_at, first_of}
 use Rattle.run_within.specs.Recorded.{Values}
-use Rattle.run_within.specs.Within.{course_in, Within}
+use Rattle.run_within.specs.Within.{Within}
 use Rattle.run_within.proofs.Feeding.{decided-many}
 
 -- a span so far ends with the next second
@@ -41,16 +39,9 @@ ahead-few Amended = omega arith
 span-few : (span : Span) → end_of span / 60 ≤ ungiven_of span + 3
 span-few span = let few = ahead-few span.rule in omega (arith, few)
 
-latest-has : (xs : List ℕ) (e : ℕ) → e ≤ latest (xs ++ e ∷ [])
-latest-has [] e = omega arith
-latest-has (x ∷ xs) e = let rest = latest-has xs e in omega (arith, rest)
-
 module _ (o : Origin) (done : List TraceSecond) (s : TraceSecond) (at : Phase) (waits : List Visit) (rest : List Minute) (v : Values) (d : Devices) (w : Within o done s at waits None rest v d) where
   abbrev base : Span
   base = span_at (rule_of o) w.b.run.next w.b.span
-
-  abbrev c : Course
-  c = course_in w.b done s at v.log
 
   pub now-end : end_of w.sp ≡ s.number
   now-end =
@@ -67,19 +58,6 @@ module _ (o : Origin) (done : List TraceSecond) (s : TraceSecond) (at : Phase) (
   few-left =
       subst (λ (n : ℕ). n / 60 ≤ w.from + length rest + 3) now-end
       (subst (λ (n : ℕ). end_of w.sp / 60 ≤ n + 3) (sym w.until) (span-few w.sp))
-
-  -- all before now are decided, where this was a settling
-  late : (times : ℕ) → w.decided.times ≡ times → nat_lt 0 times ≡ true → end_of w.sp / 60 ≤ ungiven_of w.sp
-  late zero same some = absurd (cc)
-  late (suc k) same some =
-      subst (λ (x : Span). end_of x / 60 ≤ ungiven_of x) (sym (w.decided.span_is ∙ ap (λ (n : ℕ). picking c.picks (settled_times n base)) same))
-      (let has = latest-has (settled_times k base).settlings (end_of (settled_times k base)) in omega (arith, has))
-
-  pub to-now : c.settled ≡ true → w.from + length rest ≡ s.number / 60
-  to-now settles =
-      let low = subst (λ (n : ℕ). n / 60 ≤ w.from + length rest) now-end (subst (λ (n : ℕ). end_of w.sp / 60 ≤ n) (sym w.until) (late w.decided.times refl (w.decided.settles ∙ settles))) in
-      let high = up-to in
-      omega (arith, low, high)
 
   -- what a settling decides, where nothing was left
   pub settles-to : (minutes : Kept) → StandsFor minutes (settled w.sp) → (decided : List Minute) → decided_in (settled w.sp) ≡ decided_in w.sp ++ decided → rest ≡ [] → w.from + length decided ≡ ungiven_of (settled w.sp)

@@ -1,30 +1,27 @@
 -- The cards that wait at a power-on, one after the other.
-use Rattle.std.proofs.Common.{◌≡◌, inl, inr, ⊎_elim, ℕ, Bool, true, false, cond, not, ◌&&◌, nat_eq, Some, None, List, [], ◌∷◌, ◌++◌, Contains, refl, ap, sym, subst, ◌∙◌, arith, append-nil}
+use Rattle.std.proofs.Common.{◌≡◌, inl, inr, ⊎_elim, ℕ, Bool, true, false, cond, not, ◌&&◌, nat_eq, Some, None, List, [], ◌∷◌, ◌++◌, refl, ap, sym, ◌∙◌, arith, append-nil}
 use Rattle.std.specs.List.{AllByRecursion}
-use Rattle.std.proofs.lemmas.List.Elements.{Contains-push, Contains-push_cases, Contains-append_cases}
+use Rattle.std.proofs.lemmas.List.Elements.{Contains-push_cases, Contains-append_cases}
 use Rattle.activity_codec.specs.declared.values.Slot.{Slot}
 use Rattle.activity_codec.specs.declared.values.Slot.TheVariants.{Driver, CoDriver}
 use Rattle.activity_codec.specs.Activity.{same_slot}
 use Rattle.trace_model.specs.declared.Card.{Card}
 use Rattle.trace_model.specs.Trace.{TraceSecond}
-use Rattle.log_model.specs.declared.lines.Break.{Break}
 use Rattle.log_model.specs.declared.lines.Find.{Find}
-use Rattle.log_model.specs.declared.lines.Mark.{Mark}
 use Rattle.log_model.specs.Log.{RunLog, Phase, In, same_phase, found_in}
 use Rattle.log_model.specs.Course.{Visit, went}
 use Rattle.safety_model.specs.Safe.{Devices}
 use Rattle.slot_machine.specs.Calls.{seat_in}
-use Rattle.run_crew.specs.declared.cabin.Cabin.{Cabin}
 use Rattle.run_course.specs.Moments.{and_find}
-use Rattle.run_course.proofs.Lookups.{break-more, find-more}
+use Rattle.run_course.proofs.Lookups.{find-more}
 use Rattle.run_moments.specs.Telling.{WaitBut}
 use Rattle.run_moments.proofs.Lines.{times-append}
 use Rattle.run_recorded.specs.Origin.{Origin, start_at}
 use Rattle.run_within.specs.Recorded.{Values}
 use Rattle.run_within.specs.Within.{Beginning, told_before, course_in}
-use Rattle.run_within.specs.Judging.{IsNext, Behind, judged_values, torn_values}
+use Rattle.run_within.specs.Judging.{IsNext}
 use Rattle.run_within.proofs.Known.{waits-there}
-use Rattle.run_within.specs.Waking.{IsWaking, both_slots}
+use Rattle.run_within.specs.Waking.{IsWaking}
 
 -- the first of the cards that wait waits no more
 pub but-first : (at : Phase) (slot : Slot) (card : Card) (rest : List Visit) → WaitBut at slot card (record { phase = at; slot = slot; card = card } ∷ rest) rest
@@ -52,16 +49,6 @@ module _ (o : Origin) (done : List TraceSecond) (s : TraceSecond) (a : Beginning
     is_now = k.is_now;
   }
 
-  -- behind a tear of one of them
-  pub torn-waking : (b : Break) (cabin : Cabin) (e : Devices) (fewer : List Visit) → Behind o done s (In 0) waits fewer v (torn_values b cabin v) d e k.within → IsWaking o done s a (torn_values b cabin v) e fewer untold
-  torn-waking b cabin e fewer w = record {
-    within = w.within;
-    began = w.began ∙ k.began;
-    starts = k.starts;
-    is_now = w.from ∙ k.is_now;
-    none = λ slot there. (break-more v.log b s.number).found (In 0) slot ∙ k.none slot there;
-  }
-
 -- behind a find of the driver's card the co-driver's is still to be told of
 and-not : (x : Bool) → (x && false) ≡ false
 and-not true = refl
@@ -73,23 +60,3 @@ find-other log f u at driver =
     ∙ ap (λ (b : Bool). found_in log u at CoDriver ++ cond b (f.verdict ∷ []) [])
     (ap (λ (sl : Slot). nat_eq f.second u && same_phase (In f.begun) at && same_slot sl CoDriver) driver ∙ and-not (nat_eq f.second u && same_phase (In f.begun) at))
     ∙ append-nil (found_in log u at CoDriver)
-
-module _ (o : Origin) (done : List TraceSecond) (s : TraceSecond) (a : Beginning) (v : Values) (d : Devices) (waits : List Visit) (k : IsWaking o done s a v d waits both_slots) where
-  pub driver-told : (f : Find) → f.slot ≡ Driver → (marks : List Mark) (cabin : Cabin) (e : Devices) (fewer : List Visit) → Behind o done s (In 0) waits fewer v (judged_values f marks cabin v) d e k.within →
-      IsWaking o done s a (judged_values f marks cabin v) e fewer (CoDriver ∷ [])
-  driver-told f driver marks cabin e fewer w = record {
-    within = w.within;
-    began = w.began ∙ k.began;
-    starts = k.starts;
-    is_now = w.from ∙ k.is_now;
-    none = λ slot there. only slot there;
-  }
-    where
-      second : found_in (and_find v.log f) s.number (In 0) CoDriver ≡ []
-      second = find-other v.log f s.number (In 0) driver ∙ k.none CoDriver (Contains-push (Driver ∷ []) CoDriver)
-
-      only : (slot : Slot) → Contains (CoDriver ∷ []) slot → found_in (and_find v.log f) s.number (In 0) slot ≡ []
-      only slot there = ⊎_elim
-          (λ none. absurd (omega (arith, none.1)))
-          (λ (same : CoDriver ≡ slot). subst (λ (sl : Slot). found_in (and_find v.log f) s.number (In 0) sl ≡ []) same second)
-          (Contains-push_cases [] CoDriver slot there)

@@ -1,5 +1,5 @@
 -- What a run promises of its unit (profile).
-use Rattle.std.specs.Prelude.{◌≡◌, ℕ, ◌<◌, ◌≤◌, Option, List, [], ◌∷◌, ◌++◌, Contains, drop, filter, Bool, true, false}
+use Rattle.std.specs.Prelude.{◌≡◌, ℕ, ◌-◌, ◌<◌, ◌≤◌, Option, is_some, List, [], ◌∷◌, ◌++◌, Contains, drop, filter, Bool, true, false}
 use Rattle.minute_model.specs.declared.Rule.{Rule}
 use Rattle.minute_model.specs.declared.Minute.{Minute}
 use Rattle.run_model.specs.declared.Device.{Device}
@@ -7,7 +7,7 @@ use Rattle.run_model.specs.declared.Device.TheVariants.{Unit as Recorder, CardA,
 use Rattle.tach_media.specs.Medium.{State, bytes_at}
 use Rattle.unit_model.specs.declared.layout.TheConstants.{DAY_SLOTS, LAST_KEPT, SPARE_COUNTS, SPARE_ROWS, SPARE_FAULTS}
 use Rattle.unit_model.specs.Days.{ShownDay, newest_days}
-use Rattle.unit_model.specs.Image.{recorded}
+use Rattle.unit_model.specs.Image.{recorded, last_kept}
 use Rattle.unit_model.specs.Decoding.{Decodes}
 use Rattle.log_model.specs.declared.lines.Mark.{Mark}
 use Rattle.log_model.specs.Course.{Told}
@@ -54,6 +54,11 @@ Increase [] = Unit {0}
 Increase (m ∷ []) = Unit {0}
 Increase (m ∷ n ∷ marks) = (m.minute < n.minute) × Increase (n ∷ marks)
 
+-- A mark is told at once: twelve writes before its clock, as many as a keep begins at most, a stop might have left an image that had not come to
+-- its minute yet.
+abbrev pub IsPrompt : State → Mark → Type 0
+IsPrompt unit m = is_some unit.image ≡ true → (x : List ℕ) × unit.left_since (m.clock - 12) x × (last_kept x < m.minute)
+
 -- an acknowledged minute stands in the history, and every image since shows that very one, unless its day was given up as the oldest
 pub record UnitMarkHolds
     (start : List ShownDay) (past : List HistoryMinute) (lost : List (List HistoryMinute)) (unit : State) (m : Mark) : Type 0 where
@@ -61,6 +66,7 @@ pub record UnitMarkHolds
   pub minute : i.minute ≡ m.minute
   pub stands : Contains past i
   pub clock : m.clock ≤ unit.clock
+  pub prompt : IsPrompt unit m
   pub shown : (x : List ℕ) → unit.left_since m.clock x → (s : UnitShows start past lost x) × Contains s.some i
 
 -- THE UNIT: every image that a stop might have left since a clock shows the start and a part of the history from its front, and

@@ -12,6 +12,7 @@ pub struct AbsentMedium {
 }
 
 impl AbsentMedium {
+    /// One of so many bytes, none of which is told.
     pub fn new(size: u32) -> AbsentMedium
         ensures untouched { IsUntouched size (⟦<AbsentMedium as Medium>⟧.state result) }
         ensures absent { (⟦<AbsentMedium as Medium>⟧.state result).works ≡ false }

@@ -12,6 +12,7 @@ pub struct AbsentChip {
 }
 
 impl AbsentChip {
+    /// One whose memory has so many bytes, none of which is told.
     pub fn new(size: u32) -> AbsentChip
         ensures untouched { IsUntouched size (⟦<AbsentChip as Chip>⟧.state result) }
         ensures absent { (⟦<AbsentChip as Chip>⟧.state result).works ≡ false }

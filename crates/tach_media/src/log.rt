@@ -72,6 +72,7 @@ impl Log {
         })
     }
 
+    /// How many bytes the image has.
     pub fn size(&self) -> u32
         ensures { result ≡ length (image_of self.now) }
     {
@@ -85,6 +86,7 @@ impl Log {
         self.entries.len() as u64
     }
 
+    /// Reads bytes of the image, from a place on.
     pub fn read(&self, place: u32, out: &mut [u8])
         requires { place + length out.old ≤ length (image_of self.now) }
         ensures { out.new ≡ bytes_at (image_of self.now) place (length out.old) }

@@ -28,6 +28,7 @@ impl Model for MemSource {
 }
 
 impl MemSource {
+    /// A source of these bytes, of which the calls of these numbers fail, counted from 0.
     pub fn new(bytes: Vec<u8>, fails: Vec<u64>) -> MemSource
         ensures { result ≡ record { left = bytes.items; fails = fails.items; calls = 0; faults = 0 } }
     {
@@ -105,6 +106,7 @@ impl Model for MemSink {
 }
 
 impl MemSink {
+    /// A sink behind these bytes, which takes as many as there is room for. The calls of these numbers fail, counted from 0.
     pub fn new(room: Vec<u8>, fails: Vec<u64>) -> MemSink
         ensures { result ≡ record { held = room.items; room = vec_capacity room; fails = fails.items; calls = 0; faults = 0 } }
     {

@@ -22,6 +22,7 @@ impl<'a> Model for SliceMedium<'a> {
 }
 
 impl<'a> SliceMedium<'a> {
+    /// A medium with this image, below 2^32 bytes.
     pub fn new(bytes: &'a [u8]) -> SliceMedium<'a>
         requires { length bytes.now < 2 ^ 32 }
         ensures { result ≡ bytes.now }

@@ -31,6 +31,7 @@ use Rattle.event_course.specs.Plain.{IsWithoutCards, OnlySelect}
 use Rattle.event_course.specs.Noted.{are_sure}
 use Rattle.event_course.specs.Shown.{first_begin, first_on, count_on, ShowsRun}
 use Rattle.event_course.proofs.Bridge.{events-plain}
+use Rattle.unit_rule.proofs.OtherRows.{owes-still}
 use Rattle.run_rule.specs.Between.{devices}
 use Rattle.run_outcome.specs.declared.outcome.Outcome.{Outcome}
 use Rattle.recorder_with_cards.specs.Words.{log_of}
@@ -79,18 +80,18 @@ module _ (x : List ℕ) (start : ℕ) (items : List Item) (out : Outcome) (U V A
   -- the events are those of nobody, whatever was found open and torn
   module _ (sessions : ℕ → Visit → ℕ) (t : Tearing) (number : Card → List ℕ) (y : List ℕ) (left : V.may_leave y) where
     abbrev s-events : (kind : ℕ) → List Event
-    s-events kind = events_of kind (number_of x SPEED_LIMIT) (h.side.shows y left).sessions (h.side.shows y left).tearing log ss
+    s-events kind = events_of kind (number_of x SPEED_LIMIT) (h.side y left).events.sessions (h.side y left).events.tearing log ss
 
     same : (kind : ℕ) → s-events kind ≡ events_of kind (number_of x SPEED_LIMIT) sessions t log ss
-    same kind = events-plain log bare ss selects kind (number_of x SPEED_LIMIT) (h.side.shows y left).sessions (h.side.shows y left).tearing
+    same kind = events-plain log bare ss selects kind (number_of x SPEED_LIMIT) (h.side y left).events.sessions (h.side y left).events.tearing
         ∙ sym (events-plain log bare ss selects kind (number_of x SPEED_LIMIT) sessions t)
 
     nobodys : (kind : ℕ) → AreNobodys (s-events kind)
-    nobodys kind = subst AreNobodys (sym (events-plain log bare ss selects kind (number_of x SPEED_LIMIT) (h.side.shows y left).sessions (h.side.shows y left).tearing)) (nobodys-events kind (number_of x SPEED_LIMIT) log (spans_of told))
+    nobodys kind = subst AreNobodys (sym (events-plain log bare ss selects kind (number_of x SPEED_LIMIT) (h.side y left).events.sessions (h.side y left).events.tearing)) (nobodys-events kind (number_of x SPEED_LIMIT) log (spans_of told))
 
     events-alone : ShowsRun number x log ss sessions t y
     events-alone =
-        let s = h.side.shows y left in
+        let s = (h.side y left).events in
         record {
           events = λ kind there sure.
               subst (λ (es : List Event). AreNoted number (table_in kind x) es (table_in kind y)) (same kind)
@@ -109,22 +110,26 @@ module _ (x : List ℕ) (start : ℕ) (items : List Item) (out : Outcome) (U V A
     lost-same : lost_in r ≡ lost_of cards out start items
     lost-same = with-lost-any Original (start_of r) cards log told (plain-told told none-in)
 
+    -- its part of the theorem, with the last-kept minutes
+    safe-same : (s : UnitSafe (recorded x) (history_of cards out start items) (lost_of cards out start items) out.marks.items U.clock V) × TellsLast (last_kept x) s
+    safe-same = subst (λ (is : List HistoryMinute). (s : UnitSafe (recorded x) is (lost_of cards out start items) out.marks.items U.clock V) × TellsLast (last_kept x) s) history-same
+        (subst (λ (ls : List (List HistoryMinute)). (s : UnitSafe (recorded x) (history_in r) ls out.marks.items U.clock V) × TellsLast (last_kept x) s) lost-same (h.ends.safe.unit, h.last))
+
     -- THE RUN ON THE UNIT ALONE
     pub is-alone : IsAlone cards x start items U.clock out V
     is-alone = record {
-      safe = subst (λ (is : List HistoryMinute). UnitSafe (recorded x) is (lost_of cards out start items) out.marks.items U.clock V) history-same
-          (subst (λ (ls : List (List HistoryMinute)). UnitSafe (recorded x) (history_in r) ls out.marks.items U.clock V) lost-same h.ends.safe.unit);
+      safe = safe-same.0;
       none = λ c. (h.ends.safe.card c).unmarked (none-valid c);
       issued = h.ends.safe.issued;
+      owed = λ y left. owes-still x no_image no_image y no-valid no-valid (h.rows y left);
       odometer = h.ends.odometer;
       days = h.ends.days;
-      stored = λ y left. let s = h.side.shows y left in record { spans = s.spans; are_spans = s.are_spans; odometer = s.odometer };
+      stored = λ y left. let s = h.side y left in record { spans = s.spans; are_spans = s.are_spans; odometer = s.odometer };
       events = λ number sessions t y left. events-alone sessions t number y left;
-      insertions = λ dense y left. shows-old insertion_ring _ _ _ x y (ap insertions_of (notes-nothing log ss selects)) ((h.side.shows y left).insertions dense) (h.dense.insertions dense y left);
-      places = λ dense y left. shows-old unit_place_ring _ _ _ x y (ap places_of (notes-nothing log ss selects)) ((h.side.shows y left).places dense) (h.dense.places dense y left);
+      insertions = λ dense y left. shows-old insertion_ring _ _ _ x y (ap insertions_of (notes-nothing log ss selects)) ((h.side y left).insertions dense) (h.dense.insertions dense y left);
+      places = λ dense y left. shows-old unit_place_ring _ _ _ x y (ap places_of (notes-nothing log ss selects)) ((h.side y left).places dense) (h.dense.places dense y left);
       kept = h.kept;
-      last = subst (λ (is : List HistoryMinute). TellsLast (recorded x) (last_kept x) is (lost_of cards out start items) out.marks.items U.clock V) history-same
-          (subst (λ (ls : List (List HistoryMinute)). TellsLast (recorded x) (last_kept x) (history_in r) ls out.marks.items U.clock V) lost-same h.last);
+      last = safe-same.1;
       complete = h.ends.caused.complete.unit;
       whole = λ none.
           let w = h.ends.whole (none, no-failed-tears _ _ _ ss log selects h.ends.caused.causes) in (

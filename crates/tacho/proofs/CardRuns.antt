@@ -23,7 +23,7 @@ use Rattle.tacho.specs.declared.end.Fault.TheVariants.{WriteFault, MediumFault}
 use Rattle.tacho.specs.Outside.{Outside, memory_of}
 use Rattle.tacho.specs.Program.{HasCauses}
 use Rattle.tacho.specs.Outcomes.{IsEmpty, IsRun, IsRefusal, IsTold, refusal_of_run}
-use Rattle.tacho.specs.CardsRecorded.{devices_of, StartWith, AreSound, HaveCounts, IsTurnedAway, EndsWithCards}
+use Rattle.tacho.specs.CardsRecorded.{devices_of, StartWith, AreSound, HaveCounts, IsRefusedInOpening, EndsWithCards}
 use Rattle.tacho.proofs.Recordings.{none-bad, run-refusal, refused-no-run}
 use Rattle.tacho.proofs.UnitRuns.{run-done}
 use Rattle.tacho.proofs.Unbroken.{none-failed, unbroken-log}
@@ -67,7 +67,7 @@ refused-causes old new start before after fault h source sink = record {
 
 -- when a trace was refused, where the outcome had no line
 pub refused-when : (start : ℕ) (before after : Outcome) (U V X Y Z W : State) (by : RunFault) → IsEmpty before → IsRefusedAt start before after U V X Y Z W by
-    → IsTurnedAway start (devices U X Z) (devices V Y W) after by ⊎ IsFoundLater by
+    → IsRefusedInOpening start (devices U X Z) (devices V Y W) after by ⊎ IsFoundLater by
 refused-when start before after U V X Y Z W by empty refused =
     ⊎_elim (λ h. inl (record { cause = h.0; same_unit = h.1; same_a = h.2; same_b = h.3; empty = subst IsEmpty (sym h.4) empty })) (λ late. inr late) refused
 
@@ -87,7 +87,7 @@ module _ (old new : Outside) (outcome : Outcome) (start : ℕ) (items : List Ite
   not-unit s is told for = not_unit (subst IsForUnit (sym (same-trace s is told).1) for)
 
   -- THE RUN WAS REFUSED
-  pub cards-refused : (fault : RunFault) → IsTurnedAway start (devices_of old) (devices_of new) outcome fault ⊎ IsFoundLater fault
+  pub cards-refused : (fault : RunFault) → IsRefusedInOpening start (devices_of old) (devices_of new) outcome fault ⊎ IsFoundLater fault
       → ((x a b : List ℕ) → BeginAs x a b (devices_of old) → HaveTime (devices_of new) → IsKeptFrom x a b start (devices_of old) (devices_of new) fault × IsEmpty outcome)
       → EndsWithCards old new outcome (refusal_of_run fault)
   cards-refused fault when refused = record {
@@ -103,7 +103,7 @@ module _ (old new : Outside) (outcome : Outcome) (start : ℕ) (items : List Ite
     early = λ s is told ref. record {
       by = fault;
       is = refl;
-      when = subst (λ (t : ℕ). IsTurnedAway t (devices_of old) (devices_of new) outcome fault ⊎ IsFoundLater fault) (same-trace s is told).0 when;
+      when = subst (λ (t : ℕ). IsRefusedInOpening t (devices_of old) (devices_of new) outcome fault ⊎ IsFoundLater fault) (same-trace s is told).0 when;
     };
     unbroken = λ s is x a b starts sound counts. unbroken-log (log_of outcome) (refused x a b starts.begins starts.clocks).1.breaks;
     whole = λ s is x a b starts sound counts ran. absurd (refused-no-run (refusal_of_run fault) (run-refusal fault) ran);

@@ -279,10 +279,6 @@ anew-causes old new fault failed source sink = record {
   writes = sink;
 }
 
--- there was no memory
-pub memory-causes : (old new : Outside) → old.source.faults ≤ new.source.faults → old.sink.faults ≤ new.sink.faults → HasCauses old new Memory
-memory-causes old new source sink = record { read_fault = λ is. absurd (cc); write_fault = λ is. absurd (cc); medium_fault = λ device is. absurd (cc); reads = source; writes = sink }
-
 -- the lines were printed, or the sink failed
 pub printed-causes : {T : Type 0} (old new : Outside) (r : Result T Fault) → IfErr r (λ fault. fault ≡ WriteFault) → IfErr r (λ fault. Rose old.sink.faults new.sink.faults) → old.source.faults ≤ new.source.faults → old.sink.faults ≤ new.sink.faults → HasCauses old new (end_of r)
 printed-causes old new (Ok u) write rose source sink = record { read_fault = λ is. absurd (cc); write_fault = λ is. absurd (cc); medium_fault = λ device is. absurd (cc); reads = source; writes = sink }

@@ -44,14 +44,15 @@ card-new image old new whole size behind is tells settled =
     one-only image new (some-tells image old.image new.image (put 0 image) is tells (λ x at. let long = whole.sized x at in put-whole image x (omega (arith, long, size, behind)))) settled
 
 -- so the run promises what it does from then on
-pub ends-anew : (x a b : List ℕ) (start : ℕ) (items : List Item) (out : Outcome) (U V X Y Z : State) (now : Devices) → U.clock ≤ V.clock → X.clock ≤ Y.clock → V.breakdowns ≡ U.breakdowns → Y.breakdowns ≡ X.breakdowns → V.clock ≤ now.unit.clock →
+pub ends-anew : (x a b : List ℕ) (start : ℕ) (items : List Item) (out : Outcome) (U V X Y Z : State) (now : Devices) → U.clock ≤ V.clock → X.clock ≤ Y.clock → V.breakdowns ≡ U.breakdowns → Y.breakdowns ≡ X.breakdowns → V.clock ≤ now.unit.clock → Y.clock ≤ now.card_a.clock →
     EndsTrace x a b start items out (devices V Y Z) now → EndsAnew x a b start items out (devices U X Z) now
-ends-anew x a b start items out U V X Y Z now unit card unit_same card_same before h = record {
+ends-anew x a b start items out U V X Y Z now unit card unit_same card_same before before_card h = record {
   unit_clock = V.clock;
   card_clock = Y.clock;
   unit_later = unit;
   card_later = card;
   unit_before = before;
+  card_before = before_card;
   ends = ends-by x a b start items out (devices V Y Z) (began_at V.clock Y.clock (devices U X Z)) now refl clocks broken h;
 }
   where

@@ -9,6 +9,7 @@ use Rattle.side_model.specs.Noted.{insertions_of}
 use Rattle.side_model.specs.Rings.{RingShows, IsInsertion, is_sure_insertion}
 use Rattle.safety_model.specs.Recording.{Recording, history_of, lost_of, told_of}
 use Rattle.safety_model.specs.Unit.{UnitSafe, issued_bytes}
+use Rattle.unit_rule.specs.OtherRows.{KeepsRows}
 use Rattle.safety_model.specs.Cards.{CardSafe}
 use Rattle.safety_model.specs.Safe.{Devices, card_of, breakdowns_of, IsVerdict, WasFound}
 use Rattle.safety_model.specs.Side.{holder_of, notes_in, IsPrevious}
@@ -16,7 +17,7 @@ use Rattle.unit_model.specs.Image.{recorded, last_kept}
 use Rattle.run_outcome.specs.declared.outcome.Outcome.{Outcome}
 use Rattle.recorder_with_cards.specs.Ends.{recording_of, EndsTrace}
 use Rattle.recorder_with_cards.specs.Still.{KeepsHolder}
-use Rattle.recorder_with_cards.specs.Sessions.{TellsFirst, HasComeBefore, TellsAtStart}
+use Rattle.recorder_with_cards.specs.Side.{ShowsSide, HasComeBefore, TellsAtStart}
 use Rattle.recorder_with_cards.specs.KeptAfter.{TellsKept}
 use Rattle.recorder_with_cards.specs.LastKept.{TellsLast}
 use Rattle.recorder_with_cards.specs.CardEvents.{ShowsItsEvents}
@@ -28,37 +29,41 @@ module _ (x a b : List ℕ) (start : ℕ) (items : List Item) (out : Outcome) (p
   abbrev Caused : ℕ → (Card → ℕ) → (Device → ℕ) → Type 0
   Caused n k m = HasCauses (λ c u v. IsVerdict r (now.unit.left_since n) ((card_of now c).left_since (k c)) c u v) m (breakdowns_of now) r.trace r.log
 
-  first-by : (y : List ℕ) → TellsFirst r p now y → TellsFirst r q now y
-  first-by y h = record {
-    shows = record {
-      spans = h.shows.spans;
-      are_spans = h.shows.are_spans;
-      odometer = h.shows.odometer;
-      insertions = λ dense.
-          subst (λ (k : Card → ℕ). RingShows insertion_ring (is_sure_insertion r.log h.shows.spans (holder_of r)) (IsInsertion r.log h.shows.spans (holder_of r) (λ c. IsPrevious r (k c) (card_of now c))) (insertions_of (notes_in r)) r.unit y)
-          (λ i c. cards c i) (h.shows.insertions dense);
-      places = h.shows.places;
-      sessions = h.shows.sessions;
-      are_sessions = λ t f among found accepts. let one = h.shows.are_sessions t f among found accepts in (one.0, subst (λ (n : ℕ). (card_of now f.0.card).left_since n one.0) (cards f.0.card) one.1, one.2);
-      tearing = h.shows.tearing;
-      are_torn = h.shows.are_torn;
-      events = h.shows.events;
-      first_over = h.shows.first_over;
-      over_count = h.shows.over_count;
-    };
-    first = h.first;
-    exact = h.exact;
-    insertions = λ dense. subst (λ (k : Card → ℕ). RingShows insertion_ring (is_sure_insertion r.log h.shows.spans (holder_of r)) (λ n e. IsInsertion r.log h.shows.spans (holder_of r)
+  side-by : (y : List ℕ) → ShowsSide r p now y → ShowsSide r q now y
+  side-by y h = record {
+    spans = h.spans;
+    are_spans = h.are_spans;
+    odometer = h.odometer;
+    insertions = λ dense. subst (λ (k : Card → ℕ). RingShows insertion_ring (is_sure_insertion r.log h.spans (holder_of r)) (λ n e. IsInsertion r.log h.spans (holder_of r)
         (λ c registration time. IsPrevious r (k c) (card_of now c) registration time × (TellsAtStart r c registration time ⊎ HasComeBefore (told_of r) r.trace c n.accepted.second)) n e) (insertions_of (notes_in r)) r.unit y)
         (λ i c. cards c i) (h.insertions dense);
+    places = h.places;
+    events =
+        let was = h.events in
+        record {
+          sessions = was.sessions;
+          are_sessions = λ t f among found accepts. let one = was.are_sessions t f among found accepts in (one.0, subst (λ (n : ℕ). (card_of now f.0.card).left_since n one.0) (cards f.0.card) one.1, one.2);
+          are_first = was.are_first;
+          exact = was.exact;
+          tearing = was.tearing;
+          are_torn = was.are_torn;
+          events = was.events;
+          first_over = was.first_over;
+          over_count = was.over_count;
+        };
   }
+
+  -- the unit's part of the theorem, with the last-kept minutes
+  safe-by : (s : UnitSafe (recorded r.unit) (history_of r) (lost_of r) out.marks.items p.unit.clock now.unit) → TellsLast (last_kept r.unit) s →
+      (t : UnitSafe (recorded r.unit) (history_of r) (lost_of r) out.marks.items q.unit.clock now.unit) × TellsLast (last_kept r.unit) t
+  safe-by s last = subst (λ (n : ℕ). (t : UnitSafe (recorded r.unit) (history_of r) (lost_of r) out.marks.items n now.unit) × TellsLast (last_kept r.unit) t) unit (s, last)
 
   pub ends-by : EndsTrace x a b start items out p now → EndsTrace x a b start items out q now
   ends-by h = record {
     may = h.may;
     ends = record {
       safe = record {
-        unit = subst (λ (n : ℕ). UnitSafe (recorded r.unit) (history_of r) (lost_of r) out.marks.items n now.unit) unit h.ends.safe.unit;
+        unit = (safe-by h.ends.safe.unit h.last).0;
         issued = subst (λ (n : ℕ). (y : List ℕ) → now.unit.left_since n y → issued_bytes y ≡ issued_bytes r.unit) unit h.ends.safe.issued;
         card = λ c. subst (λ (n : ℕ). CardSafe r c out.marks.items n (card_of now c)) (cards c) (h.ends.safe.card c);
         both = h.ends.safe.both;
@@ -76,14 +81,14 @@ module _ (x a b : List ℕ) (start : ℕ) (items : List Item) (out : Outcome) (p
       days = h.ends.days;
       whole = h.ends.whole;
     };
-    side = record { shows = λ y left. (first-by y (h.sessions y left)).shows };
+    side = λ y left. side-by y (h.side y left);
     written = h.written;
     stays = h.stays;
     kept = subst (λ (n : ℕ). TellsKept r n now.unit) unit h.kept;
-    last = subst (λ (n : ℕ). TellsLast (recorded r.unit) (last_kept r.unit) (history_of r) (lost_of r) out.marks.items n now.unit) unit h.last;
+    last = (safe-by h.ends.safe.unit h.last).1;
     dense = h.dense;
     holders = λ c. subst (λ (n : ℕ). KeepsHolder r c n (card_of now c)) (cards c) (h.holders c);
     places = h.places;
-    sessions = λ y left. first-by y (h.sessions y left);
     cards = λ c. subst (λ (n : ℕ). ShowsItsEvents r c n (card_of now c)) (cards c) (h.cards c);
+    rows = subst (λ (n : ℕ). (y : List ℕ) → now.unit.left_since n y → KeepsRows r.unit r.card_a r.card_b y) unit h.rows;
   }

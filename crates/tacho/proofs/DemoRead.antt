@@ -1,5 +1,5 @@
 -- What was recorded stands where the unit is only read behind the run.
-use Rattle.std.proofs.Common.{◌≡◌, ◌≤◌, ◌-◌, ℕ, List, inl, inr, ⊎_elim, ◌⊎◌, arith, Bool, refl, subst}
+use Rattle.std.proofs.Common.{◌≡◌, ◌≤◌, ◌-◌, ℕ, List, inl, inr, ⊎_elim, ◌⊎◌, arith, Bool, refl, sym, ◌∙◌, subst}
 use Rattle.trace_model.specs.declared.Card.{Card}
 use Rattle.trace_model.specs.declared.Card.TheVariants.{A, B}
 use Rattle.trace_model.specs.declared.Item.{Item}
@@ -12,7 +12,7 @@ use Rattle.history_model.specs.Minutes.{HistoryMinute}
 use Rattle.tach_media.specs.Medium.{State, LeavesOnly, Unchanged}
 use Rattle.unit_journal.specs.Reading.{ReadsIfAny}
 use Rattle.unit_model.specs.Days.{ShownDay}
-use Rattle.unit_model.specs.Image.{recorded}
+use Rattle.unit_model.specs.Image.{recorded, last_kept}
 use Rattle.message_model.specs.Records.{insertion_ring}
 use Rattle.side_model.specs.Noted.{insertions_of}
 use Rattle.side_model.specs.Rings.{RingShows, IsInsertion, is_sure_insertion}
@@ -29,8 +29,9 @@ use Rattle.log_model.specs.declared.lines.Break.TheVariants.{Cut, Tear}
 use Rattle.run_outcome.specs.declared.outcome.Outcome.{Outcome}
 use Rattle.recorder_with_cards.specs.Words.{ShowsStays}
 use Rattle.recorder_with_cards.specs.Ends.{recording_of, EndsTrace}
-use Rattle.recorder_with_cards.specs.Sessions.{TellsFirst, HasComeBefore, TellsAtStart}
+use Rattle.recorder_with_cards.specs.Side.{ShowsSide, HasComeBefore, TellsAtStart}
 use Rattle.recorder_with_cards.specs.CardEvents.{ShowsItsEvents}
+use Rattle.recorder_with_cards.specs.LastKept.{TellsLast}
 use Rattle.recorder_with_cards.proofs.KeptAfter.{more-found}
 use Rattle.tacho.specs.Anew.{EndsAnew, began_at}
 
@@ -58,6 +59,7 @@ module _ (U V : State) (is : IsRead U V) where
     minute = h.minute;
     stands = h.stands;
     clock = omega (arith, h.clock, is.clock);
+    prompt = λ told. let x = h.prompt (sym is.leaves.tells ∙ told) in (x.0, is.leaves.keeps _ x.0 (omega (arith, h.clock)) x.1, x.2);
     shown = λ x left. h.shown x (back m.clock x h.clock left);
   }
 
@@ -67,6 +69,15 @@ module _ (U V : State) (is : IsRead U V) where
     decodes = λ x left. h.decodes x (back since x low left);
     in_order = h.in_order;
     marked = λ m there. mark-read start past lost m (h.marked m there);
+  }
+
+  last-read : (start : List ShownDay) (past : List HistoryMinute) (lost : List (List HistoryMinute)) (marks : List Mark) (since first : ℕ) (low : since ≤ U.clock) (s : UnitSafe start past lost marks since U) → TellsLast first s → TellsLast first (unit-read start past lost marks since low s)
+  unfolding unit-read
+  last-read start past lost marks since first low s h = record {
+    last = λ x left. h.last x (back since x low left);
+    until = λ x left. h.until x (back since x low left);
+    began = h.began;
+    held = λ m at x left. h.held m at x (back m.clock x (s.marked m at).clock left);
   }
 
   module _ (x a b : List ℕ) (start : ℕ) (items : List Item) (out : Outcome) (p : Devices) (Y Z : State) (before : p.unit.clock ≤ U.clock) where
@@ -125,29 +136,28 @@ module _ (U V : State) (is : IsRead U V) where
     same-card A = refl
     same-card B = refl
 
-    first-read : (y : List ℕ) → TellsFirst r p (devices U Y Z) y → TellsFirst r p (devices V Y Z) y
-    first-read y h = record {
-      shows = record {
-        spans = h.shows.spans;
-        are_spans = h.shows.are_spans;
-        odometer = h.shows.odometer;
-        insertions = λ dense.
-            subst (λ (k : Card → State). RingShows insertion_ring (is_sure_insertion r.log h.shows.spans (holder_of r)) (IsInsertion r.log h.shows.spans (holder_of r) (λ c. IsPrevious r (card_of p c).clock (k c))) (insertions_of (notes_in r)) r.unit y)
-            (λ i c. same-card c i) (h.shows.insertions dense);
-        places = h.shows.places;
-        sessions = h.shows.sessions;
-        are_sessions = λ t f among found accepts. let one = h.shows.are_sessions t f among found accepts in (one.0, told-read f.0.card one.0 one.1, one.2);
-        tearing = h.shows.tearing;
-        are_torn = h.shows.are_torn;
-        events = h.shows.events;
-        first_over = h.shows.first_over;
-        over_count = h.shows.over_count;
-      };
-      first = h.first;
-      exact = h.exact;
-      insertions = λ dense. subst (λ (k : Card → State). RingShows insertion_ring (is_sure_insertion r.log h.shows.spans (holder_of r)) (λ n e. IsInsertion r.log h.shows.spans (holder_of r)
+    side-read : (y : List ℕ) → ShowsSide r p (devices U Y Z) y → ShowsSide r p (devices V Y Z) y
+    side-read y h = record {
+      spans = h.spans;
+      are_spans = h.are_spans;
+      odometer = h.odometer;
+      insertions = λ dense. subst (λ (k : Card → State). RingShows insertion_ring (is_sure_insertion r.log h.spans (holder_of r)) (λ n e. IsInsertion r.log h.spans (holder_of r)
           (λ c registration time. IsPrevious r (card_of p c).clock (k c) registration time × (TellsAtStart r c registration time ⊎ HasComeBefore (told_of r) r.trace c n.accepted.second)) n e) (insertions_of (notes_in r)) r.unit y)
           (λ i c. same-card c i) (h.insertions dense);
+      places = h.places;
+      events =
+          let was = h.events in
+          record {
+            sessions = was.sessions;
+            are_sessions = λ t f among found accepts. let one = was.are_sessions t f among found accepts in (one.0, told-read f.0.card one.0 one.1, one.2);
+            are_first = was.are_first;
+            exact = was.exact;
+            tearing = was.tearing;
+            are_torn = was.are_torn;
+            events = was.events;
+            first_over = was.first_over;
+            over_count = was.over_count;
+          };
     }
 
     pub ends-read : EndsTrace x a b start items out p (devices U Y Z) → EndsTrace x a b start items out p (devices V Y Z)
@@ -188,7 +198,7 @@ module _ (U V : State) (is : IsRead U V) where
             whole = λ nothing. let w = h.ends.whole nothing in
                 record { decided = w.decided; unit = λ y left. w.unit y (now-back y left); card = λ c u valid accepted y left. full-read c y (λ on. w.card c u valid accepted y on) left };
           };
-          side = record { shows = λ y left. (first-read y (h.sessions y (now-back y left))).shows };
+          side = λ y left. side-read y (h.side y (now-back y left));
           written = λ c valid y left. h.written c valid y (card-back c y left);
           stays = λ none.
               let s = h.stays none in
@@ -196,32 +206,25 @@ module _ (U V : State) (is : IsRead U V) where
                 vehicle = s.vehicle;
                 says = s.says;
                 stays = s.stays;
-                told = s.told;
-                owed = s.owed;
                 only = s.only;
                 shows = λ c valid. subst (λ (x : State). ShowsStays s.vehicle (card_image r c) (s.stays c) x) (same-card c) (s.shows c valid);
                 closed = s.closed;
+                entered = s.entered;
                 words = s.words;
                 odometers = s.odometers;
                 owes = s.owes;
                 acknowledged = s.acknowledged;
                 since = s.since;
-                lone = s.lone;
                 judged = s.judged;
-                turned = s.turned;
-                timely = s.timely;
+                verdicts = s.verdicts;
                 befores = record { comings = s.befores.comings; lines = s.befores.lines; merged = s.befores.merged; tells = λ dense y left. s.befores.tells dense y (now-back y left) };
               };
+          rows = λ y left. h.rows y (back p.unit.clock y before left);
           kept = more-found (U.left_since p.unit.clock) (V.left_since p.unit.clock) (λ y left. is.leaves.keeps p.unit.clock y before left) r.log (spans_of (told_of r)) h.kept;
-          last = record {
-            shown = λ y left. h.last.shown y (back p.unit.clock y before left);
-            began = h.last.began;
-            held = λ m at y left. h.last.held m at y (back m.clock y (h.ends.safe.unit.marked m at).clock left);
-          };
+          last = last-read (recorded r.unit) (history_of r) (lost_of r) out.marks.items p.unit.clock (last_kept r.unit) before h.ends.safe.unit h.last;
           dense = record { insertions = λ dense y left. h.dense.insertions dense y (now-back y left); places = λ dense y left. h.dense.places dense y (now-back y left) };
           holders = λ c valid y left. h.holders c valid y (told-back c y left);
           places = record { spans = h.places.spans; are_spans = h.places.are_spans; shows = λ c valid dense y left. h.places.shows c valid dense y (card-back c y left) };
-          sessions = λ y left. first-read y (h.sessions y (now-back y left));
           cards = λ c. subst (λ (s : State). ShowsItsEvents r c (card_of p c).clock s) (same-card c) (h.cards c);
         }
 
@@ -233,5 +236,6 @@ anew-read x a b start items out old U V Y Z is h = record {
   unit_later = h.unit_later;
   card_later = h.card_later;
   unit_before = omega (arith, h.unit_before, is.clock);
+  card_before = h.card_before;
   ends = ends-read U V is x a b start items out (began_at h.unit_clock h.card_clock old) Y Z h.unit_before h.ends;
 }

@@ -73,26 +73,3 @@ judges-trace old new (Err fault) bad long read_fault finds_bad finds_long = reco
   finds_bad_trace = λ text n told is no_read. wanted-end fault (BadTrace n) (finds_bad text n told is) (λ e. no_read (read_fault (ap Err e)));
   finds_too_long = λ text n told is no_read. wanted-end fault (TooLong n) (finds_long text n told is) (λ e. no_read (read_fault (ap Err e)));
 }
-
-refusal-long : (fault : TraceFault) (n : ℕ) → refusal_of fault ≡ TooLong n → fault ≡ trace.TooLong n
-refusal-long (trace.TooLong m) n is = let e : m ≡ n = cc in ap trace.TooLong e
-refusal-long _ n is = cc
-
-refusal-read : (fault : TraceFault) → refusal_of fault ≡ ReadFault → fault ≡ trace.ReadFault
-refusal-read trace.ReadFault is = refl
-refusal-read _ is = cc
-
--- a trace that was not read is judged by the fault that tells why
-pub judges-unread : {form : Form} (old new : SourceTold) (fault : TraceFault)
-    → ((text : List ℕ) (n : ℕ) → old.left ≡ Some text → fault ≡ trace.BadLine n → IsBadText form text n)
-    → ((text : List ℕ) (n : ℕ) → old.left ≡ Some text → fault ≡ trace.TooLong n → IsLongText form text n)
-    → ((text : List ℕ) (n : ℕ) → old.left ≡ Some text → IsBadText form text n → (fault ≡ trace.BadLine n) ⊎ IsFailure fault)
-    → ((text : List ℕ) (n : ℕ) → old.left ≡ Some text → IsLongText form text n → (fault ≡ trace.TooLong n) ⊎ IsFailure fault)
-    → (fault ≡ trace.ReadFault → Rose old.faults new.faults)
-    → JudgesTrace form old new (refusal_of fault)
-judges-unread old new fault bad long finds_bad finds_long rose = record {
-  bad_trace = λ text n told is. bad text n told (refusal-bad fault n is);
-  too_long = λ text n told is. long text n told (refusal-long fault n is);
-  finds_bad_trace = λ text n told is no_read. wanted-end (refusal_of fault) (BadTrace n) (refused fault (trace.BadLine n) (finds_bad text n told is)) (λ e. no_read (rose (refusal-read fault e)));
-  finds_too_long = λ text n told is no_read. wanted-end (refusal_of fault) (TooLong n) (refused fault (trace.TooLong n) (finds_long text n told is)) (λ e. no_read (rose (refusal-read fault e)));
-}

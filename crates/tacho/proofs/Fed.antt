@@ -43,9 +43,6 @@ fed_many-seconds span waiting speed (suc n) is =
     ∙ ap (λ (xs : List Second). xs ++ span_of (driven n (end_of span + 1) speed [])) same
     ∙ one-more span.seconds first (span_of (driven n (end_of span + 1) speed []))
 
-fed_many-pending : (span : Span) (speed n : ℕ) → (fed_many span speed (suc n)).pending ≡ []
-fed_many-pending span speed n = refl
-
 pub untrue : false ≡ true → ⊥
 untrue e = cc
 

@@ -10,7 +10,6 @@ pub mod Endings
 pub mod Views
 pub mod Formats
 pub mod WordRows
-pub mod Lines
 pub mod Recordings
 pub mod Unbroken
 pub mod UnitRuns

@@ -1,5 +1,5 @@
 -- How `record` ends, by what its calls answered: whatever the trace was recorded on.
-use Rattle.std.proofs.Common.{◌≡◌, ℕ, inl, refl, sym, subst, List, [], ◌∷◌, Some}
+use Rattle.std.proofs.Common.{◌≡◌, ℕ, refl, sym, subst, List, [], ◌∷◌, Some}
 use Rattle.std.specs.Prelude.{Result, Ok, Err, OnOk, IfErr, IsTrue}
 use Rattle.std.specs.List.{list_all}
 use Rattle.std.specs.Io.KnownBytes.{Appends, IsAtEnd}
@@ -8,9 +8,7 @@ use Rattle.tach_media.specs.Medium.{Rose}
 use Rattle.tach_media.specs.Streams.{AppendsFront}
 use Rattle.trace_model.specs.declared.Item.{Item}
 use Rattle.trace_text.specs.declared.trace.Form.TheVariants.{Whole}
-use Rattle.trace_text.specs.declared.trace.TraceFault.{TraceFault}
-use Rattle.trace_text.specs.declared.trace.TraceFault.TheVariants as trace
-use Rattle.trace_text.specs.Judged.{IsTraceText, IsBadText, IsLongText, IsFailure}
+use Rattle.trace_text.specs.Judged.{IsBadText, IsLongText}
 use Rattle.unit_model.specs.Decoding.{Decodes, Check, first_failing, first_bad_place, checks}
 use Rattle.run_opening.specs.declared.fault.RunFault.{RunFault}
 use Rattle.run_opening.specs.declared.fault.RunFault.TheVariants as run
@@ -19,11 +17,11 @@ use Rattle.run_outcome.specs.Room.{IsReserved}
 use Rattle.tacho.specs.declared.end.Fault.{Fault}
 use Rattle.tacho.specs.declared.end.Fault.TheVariants.{Done, Usage, BadTrace, TooLong, BadUnit, ClockBack, SameCard, ReadFault, WriteFault, MediumFault, Memory, BadFile, BadCard, Changed}
 use Rattle.tacho.specs.declared.forms.Form.TheVariants.{Record}
-use Rattle.tacho.specs.End.{end_of, ended_by, refusal_of, IsBeforeDevices}
+use Rattle.tacho.specs.End.{end_of, ended_by, IsBeforeDevices}
 use Rattle.tacho.specs.Outside.{Outside, SourceTold}
 use Rattle.tacho.specs.Program.{Ends, HasCauses}
 use Rattle.tacho.specs.Reading.{JudgesTrace}
-use Rattle.tacho.specs.Outcomes.{IsEmpty, outcome_text, IsRecordEnd, IsRun, IsRefusal, IsTold, refusal_of_run}
+use Rattle.tacho.specs.Outcomes.{IsEmpty, outcome_text, IsRecordEnd, IsRun, IsRefusal, refusal_of_run}
 use Rattle.tacho.specs.Recorded.{EndsOn, EndsRecord}
 
 -- an outcome that was reserved has no line
@@ -110,45 +108,6 @@ refused-ends Memory refused = tt
 refused-ends (BadFile place) refused = refused
 refused-ends (BadCard field) refused = refused
 refused-ends Changed refused = refused
-
--- NO DEVICE WAS USED: no trace was read, or memory ran out
-ends-before : (old new : Outside) (outcome : Outcome) (fault : Fault)
-    → IsRecordEnd fault → IsBeforeDevices fault → (IsRun fault → ⊥)
-    → JudgesTrace Whole old.source new.source fault → IsEmpty outcome
-    → ((start : ℕ) (items : List Item) → IsTold old start items → (Rose old.source.faults new.source.faults → ⊥) → fault ≡ Memory)
-    → EndsRecord old new outcome fault
-ends-before old new outcome fault ends early no_run judges empty memory = record {
-  ends = ends;
-  judges = judges;
-  read = λ is. absurd (no_run is);
-  unread = λ is. empty;
-  memory = λ start items told no_read is. memory start items told no_read;
-  on = inl early;
-  printed = λ is. absurd (no_run (subst IsRun (sym is) tt));
-  front = λ is. absurd (no_run (subst IsRun (sym is) tt));
-}
-
-pub ends-unread : (old new : Outside) (outcome : Outcome) (fault : TraceFault)
-    → JudgesTrace Whole old.source new.source (refusal_of fault) → IsEmpty outcome
-    → ((text : List ℕ) (start : ℕ) (items : List Item) → old.source.left ≡ Some text → IsTraceText Whole text start items → IsFailure fault)
-    → (fault ≡ trace.ReadFault → Rose old.source.faults new.source.faults)
-    → EndsRecord old new outcome (refusal_of fault)
-ends-unread old new outcome trace.ReadFault judges empty failure rose =
-    ends-before old new outcome ReadFault tt tt (λ is. is) judges empty (λ start items told no_read. absurd (no_read (rose refl)))
-ends-unread old new outcome (trace.BadLine n) judges empty failure rose =
-    ends-before old new outcome (BadTrace n) tt tt (λ is. is) judges empty (λ start items told no_read. absurd (failure told.text start items told.told told.trace))
-ends-unread old new outcome (trace.TooLong n) judges empty failure rose =
-    ends-before old new outcome (TooLong n) tt tt (λ is. is) judges empty (λ start items told no_read. absurd (failure told.text start items told.told told.trace))
-ends-unread old new outcome trace.Memory judges empty failure rose =
-    ends-before old new outcome Memory tt tt (λ is. is) judges empty (λ start items told no_read. refl)
-
--- there was no memory for the outcome
-pub ends-reserving : (old new : Outside) (outcome : Outcome)
-    → ((text : List ℕ) (n : ℕ) → old.source.left ≡ Some text → IsBadText Whole text n → ⊥)
-    → ((text : List ℕ) (n : ℕ) → old.source.left ≡ Some text → IsLongText Whole text n → ⊥)
-    → IsEmpty outcome → EndsRecord old new outcome Memory
-ends-reserving old new outcome no_bad no_long empty =
-    ends-before old new outcome Memory tt tt (λ is. is) (judges-well old.source new.source Memory (λ n is. cc) (λ n is. cc) no_bad no_long) empty (λ start items told no_read. refl)
 
 -- THE RUN WAS REFUSED
 pub ends-refused : (old new : Outside) (outcome : Outcome) (fault : Fault)

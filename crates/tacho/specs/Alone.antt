@@ -24,6 +24,7 @@ use Rattle.safety_model.specs.Unit.{UnitSafe, HasEachDecided, IsFilled, issued_b
 use Rattle.side_model.specs.Odometer.{SpanFrom, AreSpansFrom, MayStore}
 use Rattle.unit_course.specs.Complete.{AreMarked}
 use Rattle.unit_rule.specs.Odometer.{OdometerSafe}
+use Rattle.unit_rule.specs.OtherRows.{OwesStill}
 use Rattle.unit_journal.specs.DayOdometers.{RecordsDay}
 use Rattle.run_recorded.specs.Days.{IsBegunIn}
 use Rattle.event_course.specs.Shown.{ShowsRun}
@@ -102,6 +103,8 @@ pub record IsAlone (cards : Start) (x : List ℕ) (start : ℕ) (items : List It
   pub none : (c : Card) → marks_of (device_of c) o.marks.items ≡ []
   -- what the unit was issued with stays, in every image that a stop might have left since
   pub issued : (y : List ℕ) → unit.left_since clock y → issued_bytes y ≡ issued_bytes x
+  -- and what is owed to any card, in each of them
+  pub owed : (y : List ℕ) → unit.left_since clock y → OwesStill x y
   -- the odometer of each image that a stop may leave is the start's and the whole kilometres of each span; and so it is stored
   pub odometer : (y : List ℕ) → unit.may_leave y → OdometerSafe Original (log_of o) (told_of o start items) (odometer_at x) y
   pub stored : (y : List ℕ) → unit.may_leave y → ShowsStored x start items o y
@@ -116,7 +119,7 @@ pub record IsAlone (cards : Start) (x : List ℕ) (start : ℕ) (items : List It
   -- what was found kept after its cuts was so
   pub kept : TellsKept (recording_of x no_image no_image start items o) clock unit
   -- the last-kept minute of each image that a stop might have left since the start is that of the last minute which it shows
-  pub last : TellsLast (recorded x) (last_kept x) (history_of cards o start items) (lost_of cards o start items) o.marks.items clock unit
+  pub last : TellsLast (last_kept x) safe
   -- each decided minute is acknowledged, but where a call failed in the second that decided it
   pub complete : AreMarked Original (log_of o) (seconds_of start items) o.marks.items
   -- where no call on the unit failed, each decided minute stands in the history, and each image that a stop may leave has all of it

@@ -40,6 +40,7 @@ pub record EndsAnew (unit card_a card_b : List ℕ) (start : ℕ) (items : List 
   pub unit_later : old.unit.clock ≤ unit_clock
   pub card_later : old.card_a.clock ≤ card_clock
   pub unit_before : unit_clock ≤ now.unit.clock
+  pub card_before : card_clock ≤ now.card_a.clock
   pub ends : EndsTrace unit card_a card_b start items out (began_at unit_clock card_clock old) now
 
 -- a device that is told to have failed has failed

@@ -5,6 +5,7 @@ use Rattle.run_model.specs.declared.Device.{Device}
 use Rattle.log_model.specs.Causes.{cuts, tears}
 use Rattle.safety_model.specs.Safe.{Devices, breakdowns_of}
 use Rattle.run_rule.specs.Between.{devices}
+use Rattle.run_recorded.specs.Whole.{NothingFailed}
 use Rattle.recorder_with_cards.specs.Words.{HaveTime, AreLater, log_of, IsFoundLater}
 use Rattle.run_opening.specs.Opening.{IsRefused, IsAsItWas}
 use Rattle.run_opening.specs.declared.fault.RunFault.{RunFault}
@@ -41,7 +42,7 @@ abbrev pub HaveCounts : Devices → Type 0
 HaveCounts d = (device : Device) → breakdowns_of d device < last_count
 
 -- IT WAS REFUSED IN THE OPENING, whatever the devices tell: for the cause that this names, with each device as it was and no outcome.
-pub record IsTurnedAway (start : ℕ) (old new : Devices) (outcome : Outcome) (by : RunFault) : Type 0 where
+pub record IsRefusedInOpening (start : ℕ) (old new : Devices) (outcome : Outcome) (by : RunFault) : Type 0 where
   pub cause : IsRefused start old new by
   pub same_unit : IsAsItWas old.unit new.unit
   pub same_a : IsAsItWas old.card_a new.card_a
@@ -52,7 +53,7 @@ pub record IsTurnedAway (start : ℕ) (old new : Devices) (outcome : Outcome) (b
 pub record IsNotRecorded (start : ℕ) (old new : Devices) (outcome : Outcome) (fault : Fault) : Type 0 where
   pub by : RunFault
   pub is : fault ≡ refusal_of_run by
-  pub when : IsTurnedAway start old new outcome by ⊎ IsFoundLater by
+  pub when : IsRefusedInOpening start old new outcome by ⊎ IsFoundLater by
 
 -- THE TRACE WAS KEPT FROM BEING RECORDED, for the cause that this end names: a call failed in the opening; or by these images the unit's does
 -- not decode, the clock is back, or both cards have one number. Each device is as it was.
@@ -88,7 +89,7 @@ pub record EndsWithCards (old new : Outside) (outcome : Outcome) (fault : Fault)
   pub still : IsRun fault → tears true (log_of outcome) ≡ [] → (new.card_a.memory.breakdowns ≡ old.card_a.memory.breakdowns) × (new.card_b.memory.breakdowns ≡ old.card_b.memory.breakdowns)
   -- Where nothing failed, no call has cut the power or torn out a card.
   pub unbroken : (start : ℕ) (items : List Item) (unit card_a card_b : List ℕ) → StartWith unit card_a card_b start items old new → AreSound old new
-      → HaveCounts (devices_of old) → (cuts true (log_of outcome) ≡ []) × (tears true (log_of outcome) ≡ [])
+      → HaveCounts (devices_of old) → NothingFailed (log_of outcome)
   -- WHERE NOTHING FAILED, EVERY MINUTE IS THERE: each decided one stands in the history, the unit has all of it in its newest days, with each whole
   -- kilometre, and a card that was accepted all of its entries, retained, but those behind whose minute a `tear` line pulled it out.
   pub whole : (start : ℕ) (items : List Item) (unit card_a card_b : List ℕ) → StartWith unit card_a card_b start items old new → AreSound old new

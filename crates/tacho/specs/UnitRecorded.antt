@@ -3,12 +3,13 @@ use Rattle.std.specs.Prelude.{◌≡◌, ◌⊎◌, ℕ, ◌/◌, ◌<◌, ◌�
 use Rattle.tach_media.specs.Medium.{State, Rose, HasBroken, LeavesOnly, Unchanged, last_count}
 use Rattle.run_model.specs.declared.Device.{Device}
 use Rattle.run_model.specs.declared.Device.TheVariants.{Unit as OfUnit}
-use Rattle.log_model.specs.Causes.{HasCauses, cuts, tears}
+use Rattle.log_model.specs.Causes.{HasCauses, cuts}
 use Rattle.minute_model.specs.declared.Rule.TheVariants.{Original}
 use Rattle.history_model.specs.Presence.{Start}
 use Rattle.safety_model.specs.Unit.{HasEachDecided, IsFilled}
 use Rattle.recorder_with_cards.specs.Whole.{HasWholeOdometer, HasDayOdometer}
 use Rattle.recorder_with_cards.specs.Ends.{recording_of}
+use Rattle.run_recorded.specs.Whole.{NothingFailed}
 use Rattle.run_opening.specs.Units.{IsUnitRefused}
 use Rattle.run_opening.specs.declared.fault.RunFault.{RunFault}
 use Rattle.recorder_with_cards.specs.Words.{log_of}
@@ -99,7 +100,7 @@ pub record EndsOnUnit (old new : Outside) (outcome : Outcome) (fault : Fault) : 
   pub calm : IsRun fault → cuts true (log_of outcome) ≡ [] → new.unit.breakdowns ≡ old.unit.breakdowns
   -- Where nothing failed, no call has cut the power.
   pub unbroken : (start : ℕ) (items : List Item) (x : List ℕ) → IsTold old start items → Starts x old.unit new.unit → IsSound old new → HaveCounts old
-      → (cuts true (log_of outcome) ≡ []) × (tears true (log_of outcome) ≡ [])
+      → NothingFailed (log_of outcome)
   -- WHERE NOTHING FAILED, EVERY MINUTE IS THERE: each decided one stands in the history, and the unit has all of it in its newest days.
   pub whole : (start : ℕ) (items : List Item) (x : List ℕ) → IsTold old start items → Starts x old.unit new.unit → IsSound old new → HaveCounts old
       → IsRun fault → IsAllThere x start items outcome new.unit

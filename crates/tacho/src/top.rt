@@ -2,7 +2,7 @@
 ghost use Rattle.std.specs.Prelude.{◌≡◌, Some};
 ghost use Rattle.tacho.specs.Forms.{form_of};
 ghost use Rattle.tacho.specs.Outside.{outside};
-ghost use Rattle.tacho.specs.declared.forms.Form.TheVariants.{Record as FormOfRecord, CardFile as FormOfCard, Demo as FormOfDemo};
+ghost use Rattle.tacho.specs.declared.forms.Form.TheVariants.{Record as FormOfRecord, FormatCard as FormOfFormat, CardFile as FormOfCard, Demo as FormOfDemo};
 ghost use Rattle.tacho.specs.Outcomes.{IsEmpty, IsToldForUnit};
 ghost use Rattle.tacho.specs.Program.{AreDevices, Ends, Spares};
 
@@ -18,6 +18,7 @@ use crate::serve_command::{lines_end, service_end};
 use crate::view_command::print_view;
 use crate::words::Words;
 use card_download::write_card_file;
+use card_files::CardIdentity;
 use link_service::{serve, serve_lines};
 use run_model::{Card, Device};
 use run_outcome::Outcome;
@@ -90,22 +91,9 @@ fn perform<S: Source, K: Sink, U: Medium, C: Chip>(
     match form {
         Form::Minutes => Ended::after(alloc, nothing, print_minutes(alloc, source, sink)),
         Form::Record => perform_record(alloc, source, sink, unit, card_a, card_b),
-        Form::FormatCard {
-            card: Card::A,
-            identity,
-        } => Ended::after(
-            alloc,
-            nothing,
-            format_card(alloc, &identity, Device::CardA, card_a, sink),
-        ),
-        Form::FormatCard {
-            card: Card::B,
-            identity,
-        } => Ended::after(
-            alloc,
-            nothing,
-            format_card(alloc, &identity, Device::CardB, card_b, sink),
-        ),
+        Form::FormatCard { card, identity } => {
+            perform_format(alloc, card, &identity, source, sink, unit, card_a, card_b)
+        }
         Form::FormatUnit { identity } => Ended::after(
             alloc,
             nothing,
@@ -149,6 +137,39 @@ fn perform_record<S: Source, K: Sink, U: Medium, C: Chip>(
     let mut outcome = nothing(alloc);
     let done = record(alloc, source, sink, unit, card_a, card_b, &mut outcome);
     Ended::after(alloc, outcome, done)
+}
+
+/// Does what `format a` or `format b` asks for; it uses the card and the sink alone.
+fn perform_format<S: Source, K: Sink, U: Medium, C: Chip>(
+    alloc: Global,
+    card: Card,
+    identity: &CardIdentity,
+    source: &mut S,
+    sink: &mut K,
+    unit: &mut U,
+    card_a: &mut C,
+    card_b: &mut C,
+) -> Ended
+    requires { AreDevices (U.state unit.old) (C.state card_a.old) (C.state card_b.old) }
+    ensures ends { Ends (Some (FormOfFormat card identity.now))
+        (outside S.left S.faults K.held K.faults U.state C.state C.card source.old sink.old unit.old card_a.old card_b.old)
+        (outside S.left S.faults K.held K.faults U.state C.state C.card source.new sink.new unit.new card_a.new card_b.new) result }
+    ensures spares { Spares (Some (FormOfFormat card identity.now)) result.fault (IsToldForUnit (S.left source.old))
+        (source.new ≡ source.old) (sink.new ≡ sink.old) (unit.new ≡ unit.old) (card_a.new ≡ card_a.old) (card_b.new ≡ card_b.old) }
+{
+    let outcome = nothing(alloc);
+    match card {
+        Card::A => Ended::after(
+            alloc,
+            outcome,
+            format_card(alloc, identity, Device::CardA, card_a, sink),
+        ),
+        Card::B => Ended::after(
+            alloc,
+            outcome,
+            format_card(alloc, identity, Device::CardB, card_b, sink),
+        ),
+    }
 }
 
 /// Does what `card a` or `card b` asks for; it uses the card and the sink alone.

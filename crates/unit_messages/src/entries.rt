@@ -34,6 +34,16 @@ pub struct Entries {
     pub choice: Choice,
 }
 
+/// Where an insertion has its time, and the time of its withdrawal.
+pub(crate) const INSERTION_TIME: u32 = 94;
+
+const WITHDRAWAL_TIME: usize = 102;
+
+/// Where a place has its time, behind the card's number.
+pub(crate) const PLACE_TIME: u32 = 18;
+
+const DAY_SECONDS: u32 = 86400;
+
 // How many entries are read at once.
 const AT_ONCE: u32 = 31;
 
@@ -44,7 +54,7 @@ const BLOCK: usize = 3999;
 fn is_in_day(date: u32, second: u32) -> bool
     ensures { result ≡ is_in_day date second }
 {
-    second / 86400 * 86400 == date
+    second / DAY_SECONDS * DAY_SECONDS == date
 }
 
 // How many of the entries that are left are read at once.
@@ -66,9 +76,10 @@ impl Choice {
         match self {
             Choice::Each => true,
             Choice::Touching(date) => {
-                is_in_day(*date, four_in(entry, 94)) || is_in_day(*date, four_in(entry, 102))
+                is_in_day(*date, four_in(entry, INSERTION_TIME as usize))
+                    || is_in_day(*date, four_in(entry, WITHDRAWAL_TIME))
             }
-            Choice::PlaceOn(date) => is_in_day(*date, four_in(entry, 18)),
+            Choice::PlaceOn(date) => is_in_day(*date, four_in(entry, PLACE_TIME as usize)),
         }
     }
 }

@@ -20,16 +20,16 @@ use message_model::sizes::{EVENT, FAULT, INSERTION, OVER, PLACE};
 use std::marker::Model;
 use tach_media::{Failed, Medium};
 
-/// How many bytes the message of an overview has, and that of technical data: a unit that has no locks, controls and calibrations
-/// sends these always.
+/// How many bytes the message of an overview has: a unit that has no locks and controls sends these always.
 pub const OVERVIEW_LENGTH: u32 = 623;
 
+/// How many bytes the message of technical data has, of a unit that has no calibrations.
 pub const TECHNICAL_LENGTH: u32 = 267;
 
-/// How many bytes the message of a day has beside its insertions, words and places, and that of events and faults beside these
-/// and the over speedings.
+/// How many bytes the message of a day has beside its insertions, words and places.
 pub const DAY_LENGTH: u32 = 144;
 
+/// How many bytes the message of events and faults has beside these and the over speedings.
 pub const EVENTS_LENGTH: u32 = 143;
 
 /// What an overview tells beside fields of the image: the unit's time, and the period's begin and end.

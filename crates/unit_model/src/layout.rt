@@ -18,30 +18,37 @@ pub const IMAGE_SIZE: u32 = 2_485_808;
 /// 1; 0 while the unit is formatted.
 pub const VERSION: Field = Field { place: 0, size: 4 };
 
+/// The vehicle identification number.
 pub const VIN: Field = Field { place: 4, size: 17 };
 
+/// The nation and the number of the vehicle's registration.
 pub const REGISTRATION: Field = Field {
     place: 21,
     size: 15,
 };
 
+/// The authorised speed in km/h.
 pub const SPEED_LIMIT: Field = Field { place: 36, size: 1 };
 
+/// The unit's identification (Annex IB, Appendix 1, VuIdentification).
 pub const IDENTIFICATION: Field = Field {
     place: 37,
     size: 116,
 };
 
+/// The sensor that is paired (Annex IB, Appendix 1, SensorPaired).
 pub const SENSOR: Field = Field {
     place: 153,
     size: 20,
 };
 
+/// The certificate of the member state.
 pub const STATE_CERTIFICATE: Field = Field {
     place: 173,
     size: 194,
 };
 
+/// The certificate of the unit.
 pub const UNIT_CERTIFICATE: Field = Field {
     place: 367,
     size: 194,
@@ -127,16 +134,18 @@ pub const SPEEDS: Field = Field {
     size: 92_164,
 };
 
-/// How many insertions and how many places there is room for.
+/// How many insertions there is room for.
 pub const INSERTION_SLOTS: u32 = 2048;
 
+/// How many places there is room for.
 pub const PLACE_SLOTS: u32 = 255;
 /// The most over speedings that are counted.
 pub const MOST_OVERS: u32 = 255;
 
-/// How many day slots there are, and how many bytes each has.
+/// How many day slots there are.
 pub const DAY_SLOTS: u32 = 366;
 
+/// How many bytes a day slot has.
 pub const DAY_SLOT_SIZE: u32 = 5776;
 /// How many words a day slot has room for.
 pub const DAY_WORD_LIMIT: u32 = 2880;
@@ -155,13 +164,15 @@ pub const DAY_WORDS: Field = Field {
     size: 5760,
 };
 
-/// How many owed rows there are, and how many bytes each has.
+/// How many owed rows there are.
 pub const OWED_ROWS: u32 = 8;
 
+/// How many bytes an owed row has.
 pub const OWED_ROW_SIZE: u32 = 48;
-/// How many cells an owed row has, and how many bytes each has.
+/// How many cells an owed row has.
 pub const CELLS: u32 = 4;
 
+/// How many bytes a cell has.
 pub const CELL_SIZE: u32 = 6;
 
 /// In an owed row: the session time of its card; 0 in an empty row.
@@ -180,9 +191,10 @@ pub const CELL_MINUTE: Field = Field { place: 0, size: 4 };
 /// In a cell: the word.
 pub const CELL_WORD: Field = Field { place: 4, size: 2 };
 
-/// The last minute that the unit may keep, and the highest odometer that it may hold.
+/// The last minute since 1970-01-01 that the unit may keep.
 pub const LAST_MINUTE: u32 = 71_582_788;
 
+/// The highest odometer in km that it may hold.
 pub const HIGHEST_ODOMETER: u32 = 9_999_999;
 
 /// Where the day slot of an index begins.

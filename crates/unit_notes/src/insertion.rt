@@ -39,7 +39,7 @@ impl Insertion {
 /// What is known of the card's holder: names, card number and expiry.
 const HOLDER: usize = 94;
 
-// Writes an insertion.
+/// Writes an insertion.
 #[tactic(auto, unfolding(crate::specs::Entries::insertion_bytes))]
 pub fn write_insertion(v: &Insertion, out: &mut [u8])
     requires size { length out.old ≡ Insertion.SIZE }

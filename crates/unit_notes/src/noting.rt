@@ -111,7 +111,7 @@ fn count_similar<M: Medium>(unit: &mut M, kind: u8, place: u8, similar: u8) -> R
     table_of(kind).set_small(unit, place as u32, last, &[similar])
 }
 
-// Notes the event of a type whose entry has this front.
+/// Notes the event of a type whose entry has this front.
 pub fn note<M: Medium>(unit: &mut M, kind: u8, front: &[u8]) -> Result<(), Failed>
     requires unit { IsUnit (M.state unit.old) }
     requires front { length front.now ≡ front_size kind }

@@ -15,7 +15,7 @@ use unit_model::layout::{FIRST_OVER, MOST_OVERS, OVER_COUNT};
 /// EventFaultRecordPurpose).
 const PURPOSE: u8 = 4;
 
-// Writes an over speeding but its number of similar events into 30 bytes.
+/// Writes an over speeding but its number of similar events into 30 bytes.
 #[tactic(auto, unfolding(crate::specs::Entries::over_bytes))]
 pub fn write_over(over: &Over, driver: &FullCardNumber, out: &mut [u8])
     requires size { length out.old ≡ 30 }
@@ -33,7 +33,7 @@ pub fn write_over(over: &Over, driver: &FullCardNumber, out: &mut [u8])
     write_card_number(driver, number);
 }
 
-// Notes the begin of the first over speeding where none is held.
+/// Notes the begin of the first over speeding where none is held.
 pub fn note_first<M: Medium>(unit: &mut M, begin: u32) -> Result<(), Failed>
     requires unit { IsUnit (M.state unit.old) }
     ensures written { OnOk result ((M.state unit.new).image ≡ option_map (with_first begin) (M.state unit.old).image) }
@@ -49,7 +49,7 @@ pub fn note_first<M: Medium>(unit: &mut M, begin: u32) -> Result<(), Failed>
     Ok(())
 }
 
-// Counts one over speeding more, at most 255.
+/// Counts one over speeding more, at most 255.
 pub fn count_one<M: Medium>(unit: &mut M) -> Result<(), Failed>
     requires unit { IsUnit (M.state unit.old) }
     ensures written { OnOk result ((M.state unit.new).image ≡ option_map with_one_more (M.state unit.old).image) }

@@ -18,11 +18,13 @@ use unit_model::layout::{IMAGE_SIZE, INSERTION_SLOTS, INSERTIONS, PLACE_SLOTS, P
 /// The width of the pointers before the insertions and the places.
 const POINTER: u8 = 4;
 
-/// Where an insertion has its time, the time of its withdrawal, and the odometer then.
+/// Where an insertion has its time.
 const TIME: u32 = 94;
 
+/// Where it has the time of its withdrawal.
 pub const OUT_TIME: u32 = 102;
 
+/// Where it has the odometer then.
 pub const OUT_ODOMETER: u32 = 106;
 
 /// The size of a place of a card's holder, which begins with the card's number.
@@ -64,7 +66,7 @@ pub fn places() -> Ring
     )
 }
 
-// Writes a few bytes of an insertion behind its time.
+/// Writes a few bytes of an insertion behind its time.
 pub fn set_part<M: Medium>(
     unit: &mut M,
     index: u32,
@@ -87,7 +89,7 @@ pub fn set_part<M: Medium>(
     insertions().set_small(unit, index, offset, bytes)
 }
 
-// Writes a place of a card's holder.
+/// Writes a place of a card's holder.
 pub fn write_unit_place(number: &FullCardNumber, entry: &PlaceEntry, out: &mut [u8])
     requires size { length out.old ≡ PLACE_SIZE }
     requires odometer { entry.now.odometer.0 < 2 ^ 24 }

@@ -18,9 +18,10 @@ use gated_ring::Ring;
 use tach_media::AbsentMedium;
 use unit_model::layout::{EVENTS, FAULTS, IMAGE_SIZE, OVERS};
 
-/// The sizes of an entry of a fault, and of an over speeding.
+/// The size of an entry of a fault in bytes.
 pub const FAULT_SIZE: usize = UnitEvent::SIZE - 1;
 
+/// The size of an entry of an over speeding in bytes.
 pub const OVER_SIZE: usize = 31;
 
 /// The most bytes that the places of a type have: those of the faults.
@@ -36,7 +37,7 @@ const AVERAGE: usize = 11;
 /// How many types have events of 83 bytes.
 const EVENT_KINDS: usize = 6;
 
-// The size of an entry of a type in bytes.
+/// The size of an entry of a type in bytes.
 pub fn width_of(kind: u8) -> usize
     ensures width { result ≡ total_width (widths_of kind) }
     ensures most { result ≤ 83 }
@@ -49,7 +50,7 @@ pub fn width_of(kind: u8) -> usize
     }
 }
 
-// How many places a type has.
+/// How many places a type has.
 pub fn count_of(kind: u8) -> usize
     ensures count { result ≡ places_of kind }
     ensures most { result ≤ 24 }
@@ -77,7 +78,7 @@ fn order_of(kind: u8) -> u32
     }
 }
 
-// Where the places of a type begin.
+/// Where the places of a type begin.
 pub fn base_of(kind: u8) -> u32
     ensures base { result ≡ side.base_of kind }
     ensures inside { result + places_of kind * total_width (widths_of kind) ≤ FAULTS.place + FAULTS.size }
@@ -103,7 +104,7 @@ fn places_at(base: u32, width: usize, count: usize) -> Ring
     Ring::load(&mut none, base, width as u32, count as u32, 0, BEGIN as u32).unwrap()
 }
 
-// The places of the events of a type.
+/// The places of the events of a type.
 pub fn table_of(kind: u8) -> Ring
     ensures { result ≡ side.table_of kind }
 {
@@ -132,7 +133,7 @@ pub fn faults() -> Ring
     table_of(CARD_FAULT)
 }
 
-// What an entry of a type tells of the event's place.
+/// What an entry of a type tells of the event's place.
 pub fn held_in(kind: u8, entry: &[u8]) -> Held
     requires { 12 ≤ length entry.now }
     ensures { result ≡ side.held_in kind entry.now }
@@ -148,7 +149,7 @@ pub fn held_in(kind: u8, entry: &[u8]) -> Held
     }
 }
 
-// The events in the bytes of the places of a type.
+/// The events in the bytes of the places of a type.
 pub fn held_table(kind: u8, table: &[u8]) -> ArrayVec<Held, FAULT_PLACES>
     requires { length table.now ≡ places_of kind * total_width (widths_of kind) }
     ensures held { result.items ≡ map (side.held_in kind) (rows_in kind table.now) }
@@ -162,7 +163,7 @@ pub fn held_table(kind: u8, table: &[u8]) -> ArrayVec<Held, FAULT_PLACES>
     held
 }
 
-// How many similar events the entry at a place counts, where entries of the type count them.
+/// How many similar events the entry at a place counts, where entries of the type count them.
 pub fn similar_at(kind: u8, table: &[u8], place: Option<u8>) -> Option<u8>
     requires len { length table.now ≡ places_of kind * total_width (widths_of kind) }
     requires below { IfSome place (λ i. i < places_of kind) }

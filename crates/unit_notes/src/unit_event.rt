@@ -31,7 +31,7 @@ impl UnitEvent {
     pub const SIZE: usize = 83;
 }
 
-// Writes an event but its number of similar events into 82 bytes.
+/// Writes an event but its number of similar events into 82 bytes.
 #[tactic(auto, unfolding(crate::specs::Entries::fault_bytes))]
 pub fn write_fault(v: &UnitEvent, out: &mut [u8])
     requires size { length out.old ≡ 82 }

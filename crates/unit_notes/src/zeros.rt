@@ -14,6 +14,7 @@ pub struct Zeros {
 }
 
 impl Zeros {
+    /// A memory of so many bytes.
     pub fn new(size: u32) -> Zeros
         ensures { IsZeros size (⟦<Zeros as Medium>⟧.state result) }
     {

@@ -18,6 +18,7 @@ use Rattle.unit_rule.specs.Odometer.{HasTravelled, IsBesideTravel}
 use Rattle.unit_rule.proofs.Moves.{behind-same, issued-parts}
 use Rattle.unit_rule.proofs.Found.{left-decodes}
 use Rattle.unit_rule.proofs.Marking.{holds-aside}
+use Rattle.unit_rule.proofs.RowsOn.{AreRowsOn}
 use Rattle.unit_rule.proofs.Travelling.{travelled-aside}
 
 -- a write in the owed rows is not read by the journal
@@ -31,8 +32,8 @@ rows-issued x c same =
 
 -- the unit's rule and its marks
 pub holds-elsewhere : (s : Started) {U V : State} (due : ℕ) (b : Book) (marks : List Mark) → Holds s due b marks U → IsCoherent U → (R : List ℕ → List ℕ → Type 0) → LeavesOnly U V R →
-    ((x c : List ℕ) → R x c → SameJournal x c × (issued_bytes c ≡ issued_bytes x) × (Decodes x → Decodes c)) → Holds s due b marks V
-holds-elsewhere s {U} {V} due b marks h before R run same = holds-aside s due b marks h before (λ x c. Decodes x × R x c)
+    ((x c : List ℕ) → R x c → SameJournal x c × (issued_bytes c ≡ issued_bytes x) × (Decodes x → Decodes c)) → ((x c : List ℕ) → R x c → AreRowsOn s x c) → Holds s due b marks V
+holds-elsewhere s {U} {V} due b marks h before R run same steps = holds-aside s due b marks h before (λ x c. Decodes x × R x c)
     (record {
       size = run.size;
       behind = run.behind;
@@ -47,6 +48,7 @@ holds-elsewhere s {U} {V} due b marks h before R run same = holds-aside s due b 
     (λ x c both.
     let is = same x c both.1 in
     (recorded_beside x c is.0 (decoded_of x both.0).known, last_beside x c is.0, is.1, is.2))
+    (λ x c both. steps x c both.1)
 
 -- and what an image shows of the odometer
 pub beside-travel : (x c : List ℕ) → SameJournal x c → IsBesideTravel x c

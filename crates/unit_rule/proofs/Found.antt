@@ -58,6 +58,8 @@ holds-later s due later b marks unit le h = record {
       record { later = rule.later; order = ordered-later s.first due later b le rule.order; now = rule.now; since = rule.since };
   decodes = h.decodes;
   issued = h.issued;
+  rows = h.rows;
+  low = h.low;
   marks_hold = h.marks_hold;
   marks_rise = h.marks_rise;
   marks_until = All-weaker (λ (m : Mark). m.minute < due) (λ m. m.minute < later) (λ m lt. omega (arith, lt, le)) (marks_of Recorder marks) h.marks_until;

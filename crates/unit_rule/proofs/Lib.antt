@@ -14,4 +14,5 @@ pub mod Elsewhere
 pub mod Completing
 pub mod Safety
 pub mod Worked
-pub mod RowsStand
+pub mod RowsOn
+pub mod OtherRows

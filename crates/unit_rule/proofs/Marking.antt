@@ -1,5 +1,5 @@
 -- The unit and its marks, kept by each kind of step.
-use Rattle.std.proofs.Common.{◌≡◌, inl, ⊎_elim, ℕ, suc, ◌-◌, ◌<◌, ◌≤◌, cond, true, None, List, [], ◌∷◌, ◌++◌, All, Contains, refl, ap, sym, subst, ◌∙◌, arith, length, drop}
+use Rattle.std.proofs.Common.{◌≡◌, inl, ⊎_elim, ℕ, suc, ◌+◌, ◌-◌, ◌<◌, ◌≤◌, cond, true, false, Option, Some, None, is_some, List, [], ◌∷◌, ◌++◌, All, Contains, refl, ap, sym, subst, ◌∙◌, arith, length, drop}
 use Rattle.std.specs.Prelude.{option_to_list}
 use Rattle.std.proofs.lemmas.List.{append-nil}
 use Rattle.std.proofs.lemmas.List.Elements.{filter-append, All-weaker, All-append, All-nil, All-tail, All-head, All-contains, Contains-push, Contains-append_left}
@@ -27,11 +27,12 @@ use Rattle.joint_rule.proofs.UnitLaws.{unit-aside, keep-unit, keep-unit_dark, la
 use Rattle.joint_rule.proofs.Opening.{opened-unit}
 use Rattle.joint_rule.proofs.Holding.{acknowledges-on}
 use Rattle.joint_rule.proofs.Viewed.{seen-coherent, seen-run}
-use Rattle.safety_model.specs.Unit.{marks_of, is_of, Increase, issued_bytes}
-use Rattle.unit_rule.specs.Rule.{Started, started, seen_unit, IsRuled}
+use Rattle.safety_model.specs.Unit.{marks_of, is_of, IsPrompt, Increase, issued_bytes}
+use Rattle.unit_rule.specs.Rule.{Started, started, once_mended, seen_unit, IsRuled, HasRowsOn, HasRowsMended}
 use Rattle.unit_rule.specs.Marks.{IsHeld, Holds}
 use Rattle.unit_rule.proofs.Keeping.{keeping_view, kept_view}
 use Rattle.unit_rule.proofs.Moves.{shown-last, shown-days, issued-besides}
+use Rattle.unit_rule.proofs.RowsOn.{AreRowsOn, rows-besides, rows-start, rows-kept, low-kept}
 
 -- the rule does not ask whether the unit works
 abbrev working : Seen UnitView → Seen UnitView
@@ -50,18 +51,31 @@ rise-push [] m rise each = tt
 rise-push (n ∷ []) m rise each = (All-head (λ (k : Mark). k.minute < m.minute) n [] each, tt)
 rise-push (n ∷ k ∷ marks) m rise each = (rise.0, rise-push (k ∷ marks) m rise.1 (All-tail (λ (l : Mark). l.minute < m.minute) n (k ∷ marks) each))
 
--- THE OPENING: a unit that leaves one image only, with these days, this last-kept minute, and issued so
-pub holds-opened : (s : Started) (unit : State) (x : List ℕ) (due : ℕ) → s.days ≡ recorded x → s.first ≡ last_kept x → s.issued ≡ issued_bytes x → s.began ≤ unit.clock → ((c : List ℕ) → unit.may_leave c → c ≡ x) → ((c : List ℕ) → unit.left_since s.began c → c ≡ x) →
+-- a mark stays one that was told at once
+prompt-on : {U V : State} (R : List ℕ → List ℕ → Type 0) (m : Mark) → LeavesOnly U V R → m.clock ≤ U.clock → IsPrompt U m → IsPrompt V m
+prompt-on R m run within was told = let x = was (sym run.tells ∙ told) in (x.0, run.keeps _ x.0 (omega (arith, within)) x.1, x.2)
+
+told-image : (o : Option (List ℕ)) → is_some o ≡ true → (x : List ℕ) × (o ≡ Some x)
+told-image None told = absurd (cc)
+told-image (Some x) told = (x, refl)
+
+-- THE OPENING: a unit that leaves one image only, with these days, this last-kept minute, and issued so; it was not mended yet
+pub holds-opened : (s : Started) (unit : State) (x : List ℕ) (due : ℕ) → s.days ≡ recorded x → s.first ≡ last_kept x → s.issued ≡ issued_bytes x → s.image ≡ x → s.mended ≡ false → s.began ≤ unit.clock → ((c : List ℕ) → unit.may_leave c → c ≡ x) → ((c : List ℕ) → unit.left_since s.began c → c ≡ x) →
     FillsDays s.days None [] (recorded x) → Decodes x → last_kept x < due → Holds s due not_begun [] unit
-holds-opened s unit x due days first issued later now since fills decodes late = record {
+holds-opened s unit x due days first issued image dark later now since fills decodes late = record {
   unit_holds = λ number_a number_b. opened number_a number_b;
   decodes = λ c on. subst Decodes (sym (since c on)) decodes;
   issued = λ c on. ap issued_bytes (since c on) ∙ sym issued;
+  rows = λ c on. subst (HasRowsOn s) (sym (since c on)) (rows-start s x image);
+  low = λ is c on. absurd (no (sym is ∙ dark));
   marks_hold = All-nil (IsHeld s not_begun unit);
   marks_rise = tt;
   marks_until = All-nil (λ (m : Mark). m.minute < due);
 }
   where
+    no : true ≡ false → ⊥
+    no e = cc
+
     opened : (number_a number_b : List ℕ) → IsRuled s due not_begun (seen_unit number_a number_b unit)
     opened number_a number_b =
         let view = unit_view number_a number_b in
@@ -74,9 +88,9 @@ holds-opened s unit x due days first issued later now since fills decodes late =
         (record { later = later; order = rule.order; now = rule.now; since = rule.since })
 
 -- a unit that has this image alone, which decodes, is a start: so is each image that a run leaves
-pub holds-started : (unit : State) (x : List ℕ) (due : ℕ) → IsCoherent unit → ((c : List ℕ) → unit.left_since unit.clock c → c ≡ x) → Decodes x → last_kept x < due → Holds (started x unit.clock) due not_begun [] unit
-holds-started unit x due whole since decodes late =
-    holds-opened (started x unit.clock) unit x due refl refl refl (omega arith) (λ c on. since c (whole.counts_now unit.clock c (omega arith) on)) since
+pub holds-started : (unit : State) (x : List ℕ) (number_a number_b : Option (List ℕ)) (due : ℕ) → IsCoherent unit → ((c : List ℕ) → unit.left_since unit.clock c → c ≡ x) → Decodes x → last_kept x < due → Holds (started x number_a number_b unit.clock) due not_begun [] unit
+holds-started unit x number_a number_b due whole since decodes late =
+    holds-opened (started x number_a number_b unit.clock) unit x due refl refl refl refl refl (omega arith) (λ c on. since c (whole.counts_now unit.clock c (omega arith) on)) since
     (inl (retained-whole (recorded x) (few_days x (decoded_of x decodes).known))) decodes late
   where
     retained-whole : (days : List ShownDay) → length days ≤ 366 → days ≡ newest_days 366 days
@@ -88,6 +102,8 @@ holds-beside s due b marks more unit none h = record {
   unit_holds = h.unit_holds;
   decodes = h.decodes;
   issued = h.issued;
+  rows = h.rows;
+  low = h.low;
   marks_hold = subst (All (IsHeld s b unit)) (sym same) h.marks_hold;
   marks_rise = subst Increase (sym same) h.marks_rise;
   marks_until = subst (All (λ (m : Mark). m.minute < due)) (sym same) h.marks_until;
@@ -95,6 +111,31 @@ holds-beside s due b marks more unit none h = record {
   where
     same : marks_of Recorder (marks ++ more) ≡ marks_of Recorder marks
     same = filter-append (λ (n : Mark). is_of Recorder n.device) marks more ∙ ap (λ (ms : List Mark). marks_of Recorder marks ++ ms) none ∙ append-nil (marks_of Recorder marks)
+
+-- once it was mended, and without that
+pub holds-mended : (s : Started) (due : ℕ) (b : Book) (marks : List Mark) (unit : State) → Holds s due b marks unit → ((x : List ℕ) → unit.may_leave x → HasRowsMended s x) → Holds (once_mended s) due b marks unit
+holds-mended s due b marks unit h low = record {
+  unit_holds = h.unit_holds;
+  decodes = h.decodes;
+  issued = h.issued;
+  rows = h.rows;
+  low = λ is. low;
+  marks_hold = All-weaker (IsHeld s b unit) (IsHeld (once_mended s) b unit) (λ m held. record { began = held.began; prompt = held.prompt; holds = held.holds; sure = held.sure }) (marks_of Recorder marks) h.marks_hold;
+  marks_rise = h.marks_rise;
+  marks_until = h.marks_until;
+}
+
+pub holds-dark : (s : Started) (due : ℕ) (b : Book) (marks : List Mark) (unit : State) → Holds (once_mended s) due b marks unit → Holds s due b marks unit
+holds-dark s due b marks unit h = record {
+  unit_holds = h.unit_holds;
+  decodes = h.decodes;
+  issued = h.issued;
+  rows = h.rows;
+  low = λ is. h.low refl;
+  marks_hold = All-weaker (IsHeld (once_mended s) b unit) (IsHeld s b unit) (λ m held. record { began = held.began; prompt = held.prompt; holds = held.holds; sure = held.sure }) (marks_of Recorder marks) h.marks_hold;
+  marks_rise = h.marks_rise;
+  marks_until = h.marks_until;
+}
 
 module _ (s : Started) {U V : State} (due : ℕ) (b : Book) (marks : List Mark) (h : Holds s due b marks U) (before : IsCoherent U) where
   -- every image goes on to decode
@@ -109,24 +150,40 @@ module _ (s : Started) {U V : State} (due : ℕ) (b : Book) (marks : List Mark) 
       let later : s.began ≤ U.clock = (h.unit_holds [] []).later in
       ⊎_elim (λ was. h.issued c was) (λ here. goes here.0 c here.2 ∙ h.issued here.0 (before.counts_now s.began here.0 later (before.is_left here.0 here.1))) (run.since s.began c later on)
 
+  -- its owed rows go on, and stay mended
+  rows-on : (R : List ℕ → List ℕ → Type 0) → LeavesOnly U V R → ((x c : List ℕ) → U.may_leave x → R x c → HasRowsOn s x → HasRowsOn s c) → (c : List ℕ) → V.left_since s.began c → HasRowsOn s c
+  rows-on R run goes c on =
+      let later : s.began ≤ U.clock = (h.unit_holds [] []).later in
+      ⊎_elim (λ was. h.rows c was)
+      (λ here. goes here.0 c (before.is_left here.0 here.1) here.2 (h.rows here.0 (before.counts_now s.began here.0 later (before.is_left here.0 here.1)))) (run.since s.began c later on)
+
+  low-on : (R : List ℕ → List ℕ → Type 0) → LeavesOnly U V R → ((x c : List ℕ) → R x c → HasRowsOn s x → HasRowsMended s x → HasRowsMended s c) → s.mended ≡ true → (c : List ℕ) → V.may_leave c → HasRowsMended s c
+  low-on R run goes is c on =
+      let later : s.began ≤ U.clock = (h.unit_holds [] []).later in
+      ⊎_elim (λ was. h.low is c was)
+      (λ here. goes here.0 c here.2 (h.rows here.0 (before.counts_now s.began here.0 later (before.is_left here.0 here.1))) (h.low is here.0 (before.is_left here.0 here.1))) (run.now c on)
+
   -- marks go on to hold where no step falls behind
-  held-all : (S : UnitView → UnitView → Type 0) (d : Book) → ((number_a number_b : List ℕ) → LeavesViews (seen_unit number_a number_b U) (seen_unit number_a number_b V) S) →
+  held-all : (R : List ℕ → List ℕ → Type 0) → LeavesOnly U V R → (S : UnitView → UnitView → Type 0) (d : Book) → ((number_a number_b : List ℕ) → LeavesViews (seen_unit number_a number_b U) (seen_unit number_a number_b V) S) →
       ((number_a number_b : List ℕ) (u v : UnitView) → (seen_unit number_a number_b U).may_leave u → S u v → u.last ≤ v.last) → ((i : HistoryMinute) → Contains b.sure i → Contains d.sure i) → All (IsHeld s d V) (marks_of Recorder marks)
-  held-all S d run rises sure = All-weaker (IsHeld s b U) (IsHeld s d V)
+  held-all R left S d run rises sure = All-weaker (IsHeld s b U) (IsHeld s d V)
       (λ m held. record {
         began = held.began;
+        prompt = prompt-on R m left (held.holds [] []).0 held.prompt;
         holds = λ number_a number_b. acknowledges-on (λ (u : UnitView). u.last) m.minute m.clock (seen_unit number_a number_b U) (seen_unit number_a number_b V) S
             (seen-coherent (unit_view number_a number_b) U before) (run number_a number_b) (rises number_a number_b) (held.holds number_a number_b);
         sure = (held.sure.0, sure held.sure.0 held.sure.1, held.sure.2);
       }) (marks_of Recorder marks) h.marks_hold
 
   -- a step beside the minutes
-  pub holds-aside : (R : List ℕ → List ℕ → Type 0) → LeavesOnly U V R → ((x c : List ℕ) → R x c → (recorded c ≡ recorded x) × (last_kept c ≡ last_kept x) × (issued_bytes c ≡ issued_bytes x) × (Decodes x → Decodes c)) → Holds s due b marks V
-  holds-aside R run aside = record {
+  pub holds-aside : (R : List ℕ → List ℕ → Type 0) → LeavesOnly U V R → ((x c : List ℕ) → R x c → (recorded c ≡ recorded x) × (last_kept c ≡ last_kept x) × (issued_bytes c ≡ issued_bytes x) × (Decodes x → Decodes c)) → ((x c : List ℕ) → R x c → AreRowsOn s x c) → Holds s due b marks V
+  holds-aside R run aside steps = record {
     unit_holds = λ number_a number_b. unit-aside (FillsDays s.days) s.first IsAside s.began due b (h.unit_holds number_a number_b) (goes number_a number_b) (λ u v is. is);
     decodes = decodes-on R run (λ x c here. (aside x c here).3);
     issued = issued-on R run (λ x c here. (aside x c here).2);
-    marks_hold = held-all IsAside b goes (λ number_a number_b u v on is. omega (arith, is.1)) (λ i at. at);
+    rows = rows-on R run (λ x c there here. (steps x c here).0);
+    low = low-on R run (λ x c here. (steps x c here).1);
+    marks_hold = held-all R run IsAside b goes (λ number_a number_b u v on is. omega (arith, is.1)) (λ i at. at);
     marks_rise = h.marks_rise;
     marks_until = h.marks_until;
   }
@@ -137,10 +194,10 @@ module _ (s : Started) {U V : State} (due : ℕ) (b : Book) (marks : List Mark) 
 
   -- calls that only read
   pub holds-read : LeavesOnly U V Unchanged → Holds s due b marks V
-  holds-read run = holds-aside Unchanged run (λ x c none. absurd none)
+  holds-read run = holds-aside Unchanged run (λ x c none. absurd none) (λ x c none. absurd none)
 
-  -- KEEP
-  module _ (i : HistoryMinute) (odometer : ℕ) (none : b.maybe ≡ None) (late : due ≤ i.minute) (run : LeavesOnly U V (journal.IsKeeping (seen_by_unit i) odometer)) where
+  -- KEEP, once it was mended
+  module _ (is_mended : s.mended ≡ true) (i : HistoryMinute) (odometer : ℕ) (none : b.maybe ≡ None) (late : due ≤ i.minute) (run : LeavesOnly U V (journal.IsKeeping (seen_by_unit i) odometer)) where
     keeps : (number_a number_b : List ℕ) → LeavesViews (seen_unit number_a number_b U) (seen_unit number_a number_b V) (IsKeeping KeepsMinute GivesUpDay i)
     keeps number_a number_b = seen-run (unit_view number_a number_b) (journal.IsKeeping (seen_by_unit i) odometer) (IsKeeping KeepsMinute GivesUpDay i) U V before run (keeping_view number_a number_b i odometer)
 
@@ -159,13 +216,22 @@ module _ (s : Started) {U V : State} (due : ℕ) (b : Book) (marks : List Mark) 
     keeps-up : (number_a number_b : List ℕ) (u v : UnitView) → (seen_unit number_a number_b U).may_leave u → IsKeeping KeepsMinute GivesUpDay i u v → u.last ≤ v.last
     keeps-up number_a number_b u v on k = ⊎_elim (λ old. omega (arith, old.last)) (λ new. omega (arith, new.last, early number_a number_b u on)) k
 
+    kept-rows : (x c : List ℕ) → U.may_leave x → journal.IsKeeping (seen_by_unit i) odometer x c → HasRowsOn s x → HasRowsOn s c
+    kept-rows x c there is goes =
+        let before_i : (unit_view [] [] x).last < i.minute = early [] [] (unit_view [] [] x) (x, there, refl) in
+        let later : last_kept x ≤ last_kept c = ⊎_elim (λ old. omega (arith, old.last)) (λ new. let now : last_kept c ≡ i.minute = new.last in omega (arith, now, before_i, shown-last [] [] x)) is.side in
+        rows-kept s x c (rows-besides x c is.outside) later goes (h.low is_mended x there)
+
+    kept-low : (x c : List ℕ) → journal.IsKeeping (seen_by_unit i) odometer x c → HasRowsOn s x → HasRowsMended s x → HasRowsMended s c
+    kept-low x c is goes low = low-kept s x c (rows-besides x c is.outside) low
+
     until-more : All (λ m. m.minute < suc i.minute) (marks_of Recorder marks)
     until-more = All-weaker (λ (m : Mark). m.minute < due) (λ m. m.minute < suc i.minute) (λ m lt. omega (arith, lt, late)) (marks_of Recorder marks) h.marks_until
 
     -- a minute was kept, and is marked
-    pub holds-kept : (m : Mark) → m.device ≡ Recorder → m.minute ≡ i.minute → m.clock ≡ V.clock → IsCoherent V → IsSettled V →
+    pub holds-kept : (m : Mark) → m.device ≡ Recorder → m.minute ≡ i.minute → m.clock ≡ V.clock → V.clock ≤ U.clock + 12 → IsCoherent V → IsSettled V →
         ((c : List ℕ) → V.may_leave c → (x : List ℕ) × U.may_leave x × journal.IsKept (seen_by_unit i) x c) → Holds s (suc i.minute) (kept i b) (marks ++ m ∷ []) V
-    holds-kept m device is clock whole settled ends = record {
+    holds-kept m device is clock most whole settled ends = record {
       unit_holds = λ number_a number_b.
           let rule = (keep-unit (FillsDays s.days) s.first KeepsMinute GivesUpDay (days-go-on s.days) s.began due b i (ruled number_a number_b) late (lit number_a number_b)
           (record {
@@ -175,11 +241,18 @@ module _ (s : Started) {U V : State} (due : ℕ) (b : Book) (marks : List Mark) 
           record { later = rule.later; order = rule.order; now = rule.now; since = rule.since };
       decodes = decodes-on (journal.IsKeeping (seen_by_unit i) odometer) run (λ x c here. here.decodes);
       issued = issued-on (journal.IsKeeping (seen_by_unit i) odometer) run (λ x c here. issued-besides x c here.outside);
+      rows = rows-on (journal.IsKeeping (seen_by_unit i) odometer) run kept-rows;
+      low = low-on (journal.IsKeeping (seen_by_unit i) odometer) run kept-low;
       marks_hold = subst (All (IsHeld s (kept i b) V)) (sym (marks-more marks m device))
           (All-append (IsHeld s (kept i b) V) (marks_of Recorder marks) (m ∷ [])
-          (held-all (IsKeeping KeepsMinute GivesUpDay i) (kept i b) keeps keeps-up (λ j at. Contains-append_left b.sure (i ∷ []) j at))
+          (held-all (journal.IsKeeping (seen_by_unit i) odometer) run (IsKeeping KeepsMinute GivesUpDay i) (kept i b) keeps keeps-up (λ j at. Contains-append_left b.sure (i ∷ []) j at))
           (all-one (IsHeld s (kept i b) V) m (record {
             began = let began : s.began ≤ U.clock = (h.unit_holds [] []).later in omega (arith, began, run.later, clock);
+            prompt = λ told.
+                let x = told-image U.image (sym run.tells ∙ told) in
+                let left = before.is_left x.0 x.1 in
+                let soon : m.clock - 12 ≤ U.clock = omega (arith, clock, most) in
+                (x.0, run.keeps _ x.0 soon (before.counts_now _ x.0 soon left), omega (arith, early [] [] (unit_view [] [] x.0) (x.0, left, refl), shown-last [] [] x.0, is));
             holds = λ number_a number_b. (
               omega (arith, clock),
               λ v on.
@@ -204,7 +277,9 @@ module _ (s : Started) {U V : State} (due : ℕ) (b : Book) (marks : List Mark) 
           record { later = rule.later; order = rule.order; now = rule.now; since = rule.since };
       decodes = decodes-on (journal.IsKeeping (seen_by_unit i) odometer) run (λ x c here. here.decodes);
       issued = issued-on (journal.IsKeeping (seen_by_unit i) odometer) run (λ x c here. issued-besides x c here.outside);
-      marks_hold = held-all (IsKeeping KeepsMinute GivesUpDay i) (broken i b) keeps keeps-up (λ j at. at);
+      rows = rows-on (journal.IsKeeping (seen_by_unit i) odometer) run kept-rows;
+      low = low-on (journal.IsKeeping (seen_by_unit i) odometer) run kept-low;
+      marks_hold = held-all (journal.IsKeeping (seen_by_unit i) odometer) run (IsKeeping KeepsMinute GivesUpDay i) (broken i b) keeps keeps-up (λ j at. at);
       marks_rise = h.marks_rise;
       marks_until = until-more;
     }
@@ -221,7 +296,9 @@ module _ (s : Started) {U V : State} (due : ℕ) (b : Book) (marks : List Mark) 
         record { later = rule.later; order = rule.order; now = rule.now; since = rule.since };
     decodes = decodes-on Unchanged run (λ x c never. absurd never);
     issued = issued-on Unchanged run (λ x c never. absurd never);
-    marks_hold = held-all Nothing (found k b) rests (λ number_a number_b u v on never. absurd never)
+    rows = rows-on Unchanged run (λ x c there never. absurd never);
+    low = low-on Unchanged run (λ x c never. absurd never);
+    marks_hold = held-all Unchanged run Nothing (found k b) rests (λ number_a number_b u v on never. absurd never)
         (λ i at. contains-up_to k (all b) i (All-contains (λ (j : HistoryMinute). j.minute ≤ k) b.sure i sure at) (Contains-append_left b.sure (option_to_list b.maybe) i at));
     marks_rise = h.marks_rise;
     marks_until = h.marks_until;

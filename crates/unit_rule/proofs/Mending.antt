@@ -19,7 +19,7 @@ number-kept p low x c before = number_same x c p 4
     ∙ ap (λ (l : List ℕ). drop p l) (sym (take-take (p + 4) 624 c low) ∙ ap (λ (l : List ℕ). take (p + 4) l) before ∙ take-take (p + 4) 624 x low)
     ∙ drop-take p 4 x)
 
-mark-kept : (x c : List ℕ) → take 624 c ≡ take 624 x → last_kept c ≡ last_kept x
+pub mark-kept : (x c : List ℕ) → take 624 c ≡ take 624 x → last_kept c ≡ last_kept x
 unfolding last_kept
 mark-kept x c before = number-kept 564 (omega arith) x c before
 

@@ -22,6 +22,7 @@ module _ (s : Started) (past : List HistoryMinute) (lost : List (List HistoryMin
     minute = held.sure.2;
     stands = subst (λ (zs : List HistoryMinute). Contains zs held.sure.0) (sym follows.front.1) (Contains-append_left (all b) follows.front.0 held.sure.0 (Contains-append_left b.sure (option_to_list b.maybe) held.sure.0 held.sure.1));
     clock = (held.holds [] []).0;
+    prompt = held.prompt;
     shown = unit-marked s.days past lost [] [] b follows s.first s.began due unit held.sure.0 m.clock (seen-coherent (unit_view [] []) unit whole) (h.unit_holds [] []) held.began
         (subst (λ (n : ℕ). Acknowledges (λ (u : UnitView). u.last) n m.clock (seen_unit [] [] unit)) (sym held.sure.2) (held.holds [] [])) held.sure.1;
   }

@@ -2,6 +2,7 @@ pub mod Rule
 pub mod Marks
 pub mod Odometer
 pub mod Complete
+pub mod OtherRows
 pub use Rattle.safety_model.specs.Cards
 pub use Rattle.safety_model.specs.Recording
 pub use Rattle.safety_model.specs.Safe

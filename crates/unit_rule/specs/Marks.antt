@@ -1,5 +1,5 @@
 -- The unit and the minutes that it has acknowledged, between two calls (profile).
-use Rattle.std.specs.Prelude.{◌≡◌, ℕ, ◌<◌, ◌≤◌, List, All, Contains}
+use Rattle.std.specs.Prelude.{◌≡◌, ℕ, ◌<◌, ◌≤◌, true, List, All, Contains}
 use Rattle.run_model.specs.declared.Device.TheVariants.{Unit as Recorder}
 use Rattle.tach_media.specs.Medium.{State}
 use Rattle.unit_model.specs.Decoding.{Decodes}
@@ -7,22 +7,26 @@ use Rattle.log_model.specs.declared.lines.Mark.{Mark}
 use Rattle.history_model.specs.Minutes.{HistoryMinute}
 use Rattle.history_model.specs.Book.{Book}
 use Rattle.joint_rule.specs.Rules.{Acknowledges}
-use Rattle.safety_model.specs.Unit.{marks_of, Increase, issued_bytes}
-use Rattle.unit_rule.specs.Rule.{Started, seen_unit, IsRuled}
+use Rattle.safety_model.specs.Unit.{marks_of, IsPrompt, Increase, issued_bytes}
+use Rattle.unit_rule.specs.Rule.{Started, seen_unit, IsRuled, HasRowsOn, HasRowsMended}
 
--- a mark's minute is a sure one, and every image since its clock is not behind it
+-- a mark's minute is a sure one, it is told at once, and every image since its clock is not behind it
 pub record IsHeld (s : Started) (b : Book) (unit : State) (m : Mark) : Type 0 where
   pub began : s.began ≤ m.clock
+  pub prompt : IsPrompt unit m
   pub holds : (number_a number_b : List ℕ) → Acknowledges (λ u. u.last) m.minute m.clock (seen_unit number_a number_b unit)
   pub sure : (i : HistoryMinute) × Contains b.sure i × (i.minute ≡ m.minute)
 
 -- Between two calls: the unit's rule, whatever numbers the cards have; every image that a stop might have left since the start
--- decodes, and has what the unit was issued with; and of the marks those of the unit are held, increase, and are earlier than what
--- is decided next.
+-- decodes, has what the unit was issued with, and owed rows that go on from the start's; once the unit was mended, each that it may leave
+-- now has no later cell in the rows that stand; and of the marks those of the unit are held, increase, and are earlier than what is decided
+-- next.
 pub record Holds (s : Started) (due : ℕ) (b : Book) (marks : List Mark) (unit : State) : Type 0 where
   pub unit_holds : (number_a number_b : List ℕ) → IsRuled s due b (seen_unit number_a number_b unit)
   pub decodes : (x : List ℕ) → unit.left_since s.began x → Decodes x
   pub issued : (x : List ℕ) → unit.left_since s.began x → issued_bytes x ≡ s.issued
+  pub rows : (x : List ℕ) → unit.left_since s.began x → HasRowsOn s x
+  pub low : s.mended ≡ true → (x : List ℕ) → unit.may_leave x → HasRowsMended s x
   pub marks_hold : All (IsHeld s b unit) (marks_of Recorder marks)
   pub marks_rise : Increase (marks_of Recorder marks)
   pub marks_until : All (λ m. m.minute < due) (marks_of Recorder marks)

@@ -1,4 +1,4 @@
-ghost use Rattle.std.specs.Prelude.{◌≡◌, ◌⊎◌, ◌+◌, ◌<◌, ◌++◌, ◌∷◌, [], min, map, Some, None, ℕ, List};
+ghost use Rattle.std.specs.Prelude.{◌≡◌, ◌⊎◌, ◌+◌, ◌<◌, ◌++◌, ◌∷◌, [], min, map, Option, Some, None, ℕ, List};
 ghost use Rattle.unit_model.specs.declared.layout.TheConstants.{HIGHEST_ODOMETER};
 ghost use Rattle.run_model.specs.declared.Device.TheVariants.{Unit as Recorder};
 ghost use Rattle.unit_model.specs.Days.{newest_days};
@@ -51,8 +51,8 @@ pub fn a_whole_odometer()
 
 /// A unit that has an image which decodes, and no other, is a start: so is each image that a run may leave.
 pub fn an_image_that_decodes_is_a_start<M: Medium>(unit: &M)
-    ensures { (x : List ℕ) (due : ℕ) → ((c : List ℕ) → (M.state unit.now).left_since (M.state unit.now).clock c → c ≡ x) → Decodes x → last_kept x < due →
-        Holds (started x (M.state unit.now).clock) due not_begun [] (M.state unit.now) }
+    ensures { (x : List ℕ) (number_a number_b : Option (List ℕ)) (due : ℕ) → ((c : List ℕ) → (M.state unit.now).left_since (M.state unit.now).clock c → c ≡ x) → Decodes x → last_kept x < due →
+        Holds (started x number_a number_b (M.state unit.now).clock) due not_begun [] (M.state unit.now) }
 {}
 
 /// Where nothing was lost and no minute is begun, each image that a stop may leave has the start and all sure minutes, of which the

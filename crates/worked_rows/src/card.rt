@@ -1,8 +1,14 @@
 //! Keeps minutes on worked cards, and prints how many commands each takes, and how many writes: on a card with room, and on
 //! cards that are full, where days go. Its tests keep days and vehicles through a port.
 mod counted;
-mod images;
+#[cfg(test)]
+mod days;
+pub mod images;
+#[cfg(test)]
+mod judging;
 mod keeping;
+#[cfg(test)]
+mod steps;
 #[cfg(test)]
 mod tests;
 

@@ -5,8 +5,10 @@ ghost use Rattle.std.specs.Prelude.{IfOk};
 ghost use Rattle.tach_media.specs.MemMedium.{memory_state};
 ghost use Rattle.unit_model.specs.Image.{IsUnit};
 
+#[cfg(test)]
+mod formats;
 mod full;
-mod image;
+pub mod image;
 mod keeping;
 #[cfg(test)]
 mod owed_tests;
@@ -14,6 +16,7 @@ mod owed_tests;
 mod stop_tests;
 mod stops;
 
+use crate::media::{Room, unit_with};
 use crate::unit::keeping::KEPT;
 use crate::unit::stops::{show_mends, show_stops};
 use std::alloc::Global;
@@ -128,14 +131,17 @@ fn small(alloc: Global, calls: &[u64]) -> Result<MemMedium, Memory> {
     unit(alloc, image::small(alloc)?, stops)
 }
 
-/// A unit with this image, and room for the writes of all rows.
+/// Room for the writes of all rows.
+const ROOM: Room = Room {
+    writes: 100,
+    bytes: 400,
+};
+
+/// A unit with this image, whose calls stop so.
 fn unit(alloc: Global, image: Vec<u8>, stops: Vec<Stop>) -> Result<MemMedium, Memory>
     ensures { IfOk result (λ unit. IsUnit (memory_state unit.log unit.counts)) }
 {
-    if image.len() != IMAGE_SIZE as usize {
-        return Err(Memory);
-    }
-    MemMedium::new(alloc, image, 100, 400, stops)
+    unit_with(alloc, image, ROOM, stops)
 }
 
 /// What the load of `unit.img` answers.

@@ -14,10 +14,10 @@ use crate::bytes::{counter_after, read_two};
 use tach_media::{Failed, Medium};
 use write_plan::Plan;
 
-// The writes of a call: two drops of two, and a day of five.
+/// The writes of a call: two drops of two, and a day of five.
 pub type Writing = Plan<9, 12>;
 
-// The two bytes of a number.
+/// The two bytes of a number.
 pub fn two_bytes(n: u32) -> [u8; 2]
     requires { n < 65536 }
     ensures { result ≡ two_bytes n }

@@ -53,6 +53,11 @@ fn pass_fields<M: Medium>(
     Ok(())
 }
 
+/// The message of an overview passes by: both certificates, the vehicle, the times, and zeros.
+///
+/// # Errors
+///
+/// `Failed` where the unit failed.
 pub fn pass_overview<M: Medium>(
     unit: &mut M,
     times: Times,
@@ -72,6 +77,11 @@ pub fn pass_overview<M: Medium>(
     Ok(())
 }
 
+/// The message of technical data passes by: the unit's identification, its sensor, and zeros.
+///
+/// # Errors
+///
+/// `Failed` where the unit failed.
 pub fn pass_technical<M: Medium>(unit: &mut M, window: &mut Window) -> Result<(), Failed>
     requires unit { (M.state unit.old).size ≡ IMAGE_SIZE }
     ensures passed { OnOk result (IfSome (M.state unit.old).image (λ x. HasPassed Plan.Technical x window.old window.new)) }
@@ -83,6 +93,11 @@ pub fn pass_technical<M: Medium>(unit: &mut M, window: &mut Window) -> Result<()
     Ok(())
 }
 
+/// The message of events and faults passes by: the tables of the memory, each behind its count, and zeros.
+///
+/// # Errors
+///
+/// `Failed` where the unit failed.
 pub fn pass_events<M: Medium>(
     unit: &mut M,
     events: EventOutline,
@@ -104,6 +119,11 @@ pub fn pass_events<M: Medium>(
     Ok(())
 }
 
+/// The message of a day passes by: its date in seconds, its odometer in km, its insertions, words and places, and zeros.
+///
+/// # Errors
+///
+/// `Failed` where the unit failed.
 pub fn pass_day<M: Medium>(unit: &mut M, day: DayOutline, window: &mut Window) -> Result<(), Failed>
     requires unit { (M.state unit.old).size ≡ IMAGE_SIZE }
     requires range { IsDayInRange day }

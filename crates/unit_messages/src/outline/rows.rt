@@ -14,11 +14,22 @@ ghost use Rattle.unit_messages.specs.Windows.{passed};
 ghost use Rattle.unit_messages.specs.Chosen.{AreEntries, shape_of, insertions_on, places_on, entries_of, chosen_in_ring};
 ghost use Rattle.unit_messages.specs.Outlines.{IsDayInRange};
 
-use crate::entries::{Choice, Entries};
+use crate::entries::{Choice, Entries, INSERTION_TIME, PLACE_TIME};
 use crate::outline::DayOutline;
 use crate::window::Window;
+use message_model::sizes;
 use tach_media::{Failed, Medium, read_number};
 use unit_model::layout::{EVENTS, FAULTS, INSERTION_SLOTS, INSERTIONS, OVERS, PLACE_SLOTS, PLACES};
+
+/// How many places there are for faults, events and over speedings.
+const FAULT_PLACES: u32 = 24;
+
+const EVENT_PLACES: u32 = 60;
+
+const OVER_PLACES: u32 = 10;
+
+/// Where a fault, an event and an over speeding have their begin, behind their type and their purpose.
+const BEGIN: u32 = 2;
 
 /// The insertions that touch a day.
 pub fn insertions_on(date: u32) -> Entries
@@ -28,9 +39,9 @@ pub fn insertions_on(date: u32) -> Entries
 {
     Entries {
         base: INSERTIONS.place + 4,
-        width: 129,
+        width: sizes::INSERTION,
         count: INSERTION_SLOTS,
-        gate: 94,
+        gate: INSERTION_TIME,
         choice: Choice::Touching(date),
     }
 }
@@ -43,9 +54,9 @@ pub fn places_on(date: u32) -> Entries
 {
     Entries {
         base: PLACES.place + 4,
-        width: 28,
+        width: sizes::PLACE,
         count: PLACE_SLOTS,
-        gate: 18,
+        gate: PLACE_TIME,
         choice: Choice::PlaceOn(date),
     }
 }
@@ -58,7 +69,7 @@ fn table(base: u32, width: u32, count: u32) -> Entries
         base,
         width,
         count,
-        gate: 2,
+        gate: BEGIN,
         choice: Choice::Each,
     }
 }
@@ -69,7 +80,7 @@ pub fn fault_entries() -> Entries
     ensures each { result.choice ≡ Choice.Each }
     ensures entries { AreEntries result }
 {
-    table(FAULTS.place, 82, 24)
+    table(FAULTS.place, sizes::FAULT, FAULT_PLACES)
 }
 
 /// The events.
@@ -78,7 +89,7 @@ pub fn event_entries() -> Entries
     ensures each { result.choice ≡ Choice.Each }
     ensures entries { AreEntries result }
 {
-    table(EVENTS.place, 83, 60)
+    table(EVENTS.place, sizes::EVENT, EVENT_PLACES)
 }
 
 /// The over speedings.
@@ -87,7 +98,7 @@ pub fn over_entries() -> Entries
     ensures each { result.choice ≡ Choice.Each }
     ensures entries { AreEntries result }
 {
-    table(OVERS.place, 31, 10)
+    table(OVERS.place, sizes::OVER, OVER_PLACES)
 }
 
 /// A number of one byte passes by.

@@ -6,7 +6,7 @@ use std::alloc::Global;
 use tach_media::Memory;
 
 /// The size of the flat image of these cards, as long as the largest card's.
-pub const SIZE: usize = LARGEST_IMAGE as usize;
+const SIZE: usize = LARGEST_IMAGE as usize;
 
 // Application_Identification of a card of 6 events and 12 faults of each type, a string of 5544 bytes, 84 vehicles and
 // 84 places.
@@ -14,11 +14,11 @@ const SMALLEST: [u8; 10] = [0x01, 0x00, 0x00, 0x06, 0x0C, 0x15, 0xA8, 0x00, 0x54
 
 /// Where the file of days begins on such a card, the file of vehicles behind it, and that of the current use, which begins with
 /// the session time.
-const DAYS: usize = 43 + 6 * 6 * 24 + 2 * 12 * 24;
+pub const DAYS: usize = 43 + 6 * 6 * 24 + 2 * 12 * 24;
 
-const VEHICLES: usize = DAYS + 5548;
+pub const VEHICLES: usize = DAYS + 5548;
 
-const CURRENT_USE: usize = VEHICLES + 2 + 31 * 84 + 1 + 10 * 84;
+pub const CURRENT_USE: usize = VEHICLES + 2 + 31 * 84 + 1 + 10 * 84;
 
 // The same of a card of 12 events and 24 faults of each type, a string of 13776 bytes, 200 vehicles and 112 places.
 const LARGEST: [u8; 10] = [0x01, 0x00, 0x00, 0x0C, 0x18, 0x35, 0xD0, 0x00, 0xC8, 0x70];
@@ -30,7 +30,7 @@ const LARGEST_VEHICLES: usize = LARGEST_DAYS + 13780;
 const LARGEST_CURRENT_USE: usize = LARGEST_VEHICLES + 2 + 31 * 200 + 1 + 10 * 112;
 
 /// Two days: one of three words at 0, one of one word at 18.
-const TWO_DAYS: [u8; 36] = [
+pub const TWO_DAYS: [u8; 36] = [
     0, 0, 0, 18, 0, 0, 0, 18, 0, 1, 0x51, 0x80, 0, 1, 0, 0, 0, 0, 0x18, 5, 0x28, 5, 0, 18, 0, 14,
     0, 2, 0xA3, 0, 0, 2, 0, 0, 0, 0,
 ];
@@ -82,8 +82,8 @@ fn record(day: u32) -> [u8; 14] {
     ]
 }
 
-// The string of 396 days of one word, from the oldest on.
-fn full_string(alloc: Global) -> Result<Vec<u8>, Memory> {
+/// The string of 396 days of one word, from the oldest on.
+pub fn full_string(alloc: Global) -> Result<Vec<u8>, Memory> {
     let mut bytes = Vec::new(alloc);
     for day in 1..397 {
         bytes.extend_from_slice(&record(day))?;

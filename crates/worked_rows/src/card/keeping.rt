@@ -7,7 +7,7 @@ ghost use Rattle.card_session.specs.Inserting.{AreOwed};
 ghost use Rattle.card_session.specs.declared.words.TheConstants.{LATEST_MINUTE};
 
 use crate::card::counted::Counted;
-use crate::card::images::SIZE;
+use crate::media::{Room, card_with};
 use activity_codec::{Activity, Entry, Owed, Slot};
 use card_commands::{Port, PortFault, SimCard, read_sizes};
 use card_judge::{InsertFault, Judged, judge};
@@ -92,13 +92,16 @@ impl Figures {
     }
 }
 
+/// Room for the writes of an insertion.
+const ROOM: Room = Room {
+    writes: 2048,
+    bytes: 16384,
+};
+
 /// A card in memory with this image.
 pub fn card(alloc: Global, image: Vec<u8>) -> Result<Counted<SimCard<MemMedium>>, Memory> {
-    if image.len() != SIZE {
-        return Err(Memory);
-    }
-    let medium = MemMedium::new(alloc, image, 2048, 16384, Vec::new(alloc))?;
-    Ok(Counted::new(SimCard::new(medium)))
+    let card = card_with(alloc, image, ROOM, Vec::new(alloc))?;
+    Ok(Counted::new(card))
 }
 
 // Judges a card through a port of its own. It gives the sizes too.

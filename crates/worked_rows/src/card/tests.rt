@@ -1,4 +1,4 @@
-ghost use Rattle.std.specs.Prelude.{◌≡◌, ℕ, ◌<◌, ◌≤◌, ◌+◌, ◌*◌, ◌/◌, ◌%◌, IfOk, IfSome, vec_len};
+ghost use Rattle.std.specs.Prelude.{◌≡◌, ℕ, ◌<◌, ◌≤◌, ◌+◌, ◌*◌, ◌/◌, ◌%◌, IfSome};
 ghost use Rattle.card_session.specs.Inserting.{AreOwed};
 ghost use Rattle.card_layout.specs.Application.{IsApplication};
 ghost use Rattle.card_layout.specs.Files.{image_size_of};
@@ -7,19 +7,25 @@ ghost use Rattle.tach_media.specs.Medium.{LiesInside};
 
 use crate::card::images::{blank, full, largest, most_days, two_days};
 use crate::card::keeping::{Figures, Stopped, VEHICLE, card, insertion, new_day, word};
+use crate::devices::T0;
+use crate::media::{Room, card_with};
 use activity_codec::{Activity, Entry, Owed, Slot};
-use card_commands::{Port, SimCard};
+use card_commands::Port;
 use card_files::file_range;
 use card_layout::{Application, Fid, LARGEST_IMAGE, Range};
 use cyclic_days::{Days, DaysFault};
 use gated_ring::{Ring, RingFault};
 use std::alloc::Global;
+use std::process::Abort;
 use std::test::Fail;
-use tach_media::{Chip, Medium, MemMedium};
+use tach_media::{Chip, Medium};
 use tacho_types::TimeReal;
 
-// 2010-03-01
-const MARCH: u32 = 1267401600;
+// The room of a card's log.
+const ROOM: Room = Room {
+    writes: 64,
+    bytes: 1024,
+};
 
 // Begins a day, and adds a word: where the newest day stands, and how many words it has.
 fn day_in<M: Medium>(medium: &mut M, range: Range) -> Result<Option<(u32, u16)>, DaysFault>
@@ -30,7 +36,7 @@ fn day_in<M: Medium>(medium: &mut M, range: Range) -> Result<Option<(u32, u16)>,
     requires high { range.len ≤ 13780 }
 {
     let mut days = Days::load(medium, range)?;
-    days.begin_day(medium, TimeReal(MARCH), &[0])?;
+    days.begin_day(medium, TimeReal(T0), &[0])?;
     days.add_change(medium, 0x1805)?;
     let last = days.last(medium)?;
     Ok(last.map(|day| (day.place, day.words)))
@@ -62,8 +68,7 @@ fn day_on<C: Chip>(card: &mut C) -> Result<Option<(u32, u16)>, Fail>
 #[test]
 fn a_day_through_a_port(rt: HostRuntime) -> Result<(), Fail> {
     let alloc = rt.alloc();
-    let medium = MemMedium::new(alloc, blank(alloc)?, 64, 1024, Vec::new(alloc))?;
-    let mut card = SimCard::new(medium);
+    let mut card = card_with(alloc, blank(alloc)?, ROOM, Vec::new(alloc))?;
     assert_eq!(rt; day_on(&mut card)?, Some((0, 2)));
     Ok(())
 }
@@ -113,8 +118,7 @@ fn entry_on<C: Chip>(card: &mut C) -> Result<(Option<u32>, u8), Fail>
 #[test]
 fn an_entry_through_a_port(rt: HostRuntime) -> Result<(), Fail> {
     let alloc = rt.alloc();
-    let medium = MemMedium::new(alloc, blank(alloc)?, 64, 1024, Vec::new(alloc))?;
-    let mut card = SimCard::new(medium);
+    let mut card = card_with(alloc, blank(alloc)?, ROOM, Vec::new(alloc))?;
     assert_eq!(rt; entry_on(&mut card)?, (Some(0), 9));
     Ok(())
 }
@@ -127,7 +131,7 @@ const MOST_WRITES: u64 = 17;
 // What a minute that begins a day takes of a card with this image.
 fn figures(alloc: Global, image: Vec<u8>) -> Result<Figures, Fail> {
     let mut card = card(alloc, image)?;
-    if card.size() < 24959 {
+    if card.size() < LARGEST_IMAGE {
         return Err(Fail::from("no card"));
     }
     match new_day(&mut card) {
@@ -136,31 +140,40 @@ fn figures(alloc: Global, image: Vec<u8>) -> Result<Figures, Fail> {
     }
 }
 
+// That it takes few.
+fn takes_few(rt: &(impl Abort + AllocGlobal), image: Vec<u8>) -> Result<(), Fail> {
+    let figures = figures(rt.alloc(), image)?;
+    assert!(rt; figures.commands <= MOST_COMMANDS, "{figures:?}");
+    assert!(rt; figures.writes <= MOST_WRITES, "{figures:?}");
+    Ok(())
+}
+
 #[test]
 fn a_minute_takes_few_commands(rt: HostRuntime) -> Result<(), Fail> {
     let alloc = rt.alloc();
-    let room = figures(alloc, two_days(alloc)?)?;
-    let full_one = figures(alloc, full(alloc, 0)?)?;
-    let round = figures(alloc, full(alloc, 12)?)?;
-    for figures in [room, full_one, round] {
-        assert!(rt; figures.commands <= MOST_COMMANDS, "{figures:?}");
-        assert!(rt; figures.writes <= MOST_WRITES, "{figures:?}");
+    takes_few(&rt, two_days(alloc)?)?;
+    takes_few(&rt, full(alloc, 0)?)?;
+    takes_few(&rt, full(alloc, 12)?)
+}
+
+// What a word takes of a card with this image.
+fn figures_of_a_word(alloc: Global, image: Vec<u8>) -> Result<Figures, Fail> {
+    let mut card = card(alloc, image)?;
+    if card.size() < LARGEST_IMAGE {
+        return Err(Fail::from("no card"));
     }
-    Ok(())
+    match word(&mut card) {
+        Ok(figures) => Ok(figures),
+        Err(Stopped) => Err(Fail::from("stopped")),
+    }
 }
 
 #[test]
 fn a_word_reads_nothing_where_there_is_room(rt: HostRuntime) -> Result<(), Fail> {
     let alloc = rt.alloc();
-    let mut card = card(alloc, two_days(alloc)?)?;
-    if card.size() < 24959 {
-        return Err(Fail::from("no card"));
-    }
+    let figures = figures_of_a_word(alloc, two_days(alloc)?)?;
     // the directory and the file are selected, and two writes
-    match word(&mut card) {
-        Ok(figures) => assert_eq!(rt; (figures.commands, figures.writes), (4, 2)),
-        Err(Stopped) => return Err(Fail::from("stopped")),
-    }
+    assert_eq!(rt; (figures.commands, figures.writes), (4, 2));
     Ok(())
 }
 
@@ -202,7 +215,7 @@ fn four() -> Owed
 // What an insertion takes of a card with this image, with four owed entries.
 fn inserted(alloc: Global, image: Vec<u8>) -> Result<Figures, Fail> {
     let mut card = card(alloc, image)?;
-    if card.size() < 24959 {
+    if card.size() < LARGEST_IMAGE {
         return Err(Fail::from("no card"));
     }
     let owed = four();
@@ -213,18 +226,21 @@ fn inserted(alloc: Global, image: Vec<u8>) -> Result<Figures, Fail> {
     }
 }
 
+// That it takes few commands.
+fn is_inserted_by_few(rt: &(impl Abort + AllocGlobal), image: Vec<u8>) -> Result<(), Fail> {
+    let figures = inserted(rt.alloc(), image)?;
+    assert!(rt; figures.commands <= MOST_AT_INSERTION, "{figures:?}");
+    Ok(())
+}
+
 #[test]
 fn an_insertion_takes_few_commands(rt: HostRuntime) -> Result<(), Fail> {
     let alloc = rt.alloc();
     // in the first minute of its newest day, in its middle, and in the last one, up to which each minute has a word
     let newest = AFTER - 1440;
-    let early = inserted(alloc, largest(alloc, 60 * newest)?)?;
-    let middle = inserted(alloc, largest(alloc, 60 * (newest + 720))?)?;
-    let late = inserted(alloc, largest(alloc, 60 * (newest + 1439))?)?;
-    for figures in [early, middle, late] {
-        assert!(rt; figures.commands <= MOST_AT_INSERTION, "{figures:?}");
-    }
-    Ok(())
+    is_inserted_by_few(&rt, largest(alloc, 60 * newest)?)?;
+    is_inserted_by_few(&rt, largest(alloc, 60 * (newest + 720))?)?;
+    is_inserted_by_few(&rt, largest(alloc, 60 * (newest + 1439))?)
 }
 
 #[test]
@@ -232,11 +248,7 @@ fn an_insertion_reads_the_days_that_go_in_blocks(rt: HostRuntime) -> Result<(), 
     let alloc = rt.alloc();
     // 400 days go, all 778 of them, and 984, the most that a string holds
     let newest = AFTER - 1440;
-    let some = inserted(alloc, largest(alloc, 60 * (newest - 400 * 1440))?)?;
-    let all = inserted(alloc, largest(alloc, 60 * 1439)?)?;
-    let most = inserted(alloc, most_days(alloc, 60 * 1439)?)?;
-    for figures in [some, all, most] {
-        assert!(rt; figures.commands <= MOST_AT_INSERTION, "{figures:?}");
-    }
-    Ok(())
+    is_inserted_by_few(&rt, largest(alloc, 60 * (newest - 400 * 1440))?)?;
+    is_inserted_by_few(&rt, largest(alloc, 60 * 1439)?)?;
+    is_inserted_by_few(&rt, most_days(alloc, 60 * 1439)?)
 }

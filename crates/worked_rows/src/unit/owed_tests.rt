@@ -1,17 +1,18 @@
 //! Rows are begun for cards, entries are put and read, and each call of a `put_owed` and of a `begin_owed` fails in turn, in
 //! each manner; the unit goes on after it.
-ghost use Rattle.std.specs.Prelude.{IfOk, OnOk, IfSome};
+ghost use Rattle.std.specs.Prelude.{OnOk, IfSome};
 ghost use Rattle.unit_model.specs.Image.{IsUnit};
 ghost use Rattle.unit_journal.specs.Image.{Agrees};
 
+use crate::devices::card_number;
 use crate::unit::keeping::open;
 use crate::unit::stop_tests::{FIRST, one_day, unit};
 use activity_codec::{Activity, Entry, Slot};
-use std::alloc::{AllocError, Global};
+use std::alloc::Global;
 use std::process::Abort;
 use std::test::Fail;
 use tach_media::{Failed, Left, Medium};
-use tacho_types::{FullCardNumber, Nation};
+use tacho_types::FullCardNumber;
 use unit_journal::Journal;
 
 const LEFT: [Left; 3] = [Left::Before, Left::After, Left::Torn(0xFF)];
@@ -64,11 +65,7 @@ const ROWS: [(u32, u32, u32, u32, u32, u32); 6] = [
 fn card(digit: u8) -> FullCardNumber {
     let mut number = *b"DF00000000000000";
     number[15] = digit;
-    FullCardNumber {
-        kind: 1,
-        state: Nation(13),
-        number,
-    }
+    card_number(&number)
 }
 
 /// An entry of a driving driver.
@@ -130,15 +127,28 @@ fn put_four<M: Medium>(journal: &mut Journal, unit: &mut M, digit: u8) -> Result
     put(journal, unit, digit, FIRST + 100)
 }
 
-/// The minutes of the entries that are owed to a card.
-fn owed<M: Medium>(
-    alloc: Global,
+/// Whether these are the entries of the minutes from one up to another.
+fn are_of(entries: &[Entry], first: u32, end: u32) -> bool {
+    let mut next = first;
+    for entry in entries {
+        if entry.minute != next {
+            return false;
+        }
+        next = next.saturating_add(1);
+    }
+    next == end
+}
+
+/// Whether a card is owed the minutes from one up to another, and no others.
+fn owes<M: Medium>(
     journal: &Journal,
     unit: &mut M,
     digit: u8,
     session: u32,
     after: u32,
-) -> Result<Vec<u32>, Fail>
+    first: u32,
+    end: u32,
+) -> Result<bool, Failed>
     requires unit { IsUnit (M.state unit.old) }
     requires agrees { IfSome (M.state unit.old).image (Agrees journal.now) }
     ensures unit { IsUnit (M.state unit.new) }
@@ -146,150 +156,200 @@ fn owed<M: Medium>(
 {
     let number = card(digit);
     let entries = journal.owed(unit, &number, session, after)?;
-    Ok(minutes_of(alloc, entries.as_slice())?)
+    Ok(are_of(entries.as_slice(), first, end))
 }
 
-fn minutes_of(alloc: Global, entries: &[Entry]) -> Result<Vec<u32>, AllocError> {
-    let mut list = Vec::new(alloc);
-    for entry in entries {
-        list.push(entry.minute)?;
-    }
-    Ok(list)
+/// Whether four minutes of a card are owed so, by a row of the table.
+fn owed_of_four<M: Medium>(
+    unit: &mut M,
+    begun: u32,
+    session: u32,
+    after: u32,
+    first: u32,
+    end: u32,
+) -> Result<bool, Failed>
+    requires { IsUnit (M.state unit.old) }
+{
+    let mut journal = open(unit)?;
+    begin(&mut journal, unit, 1, begun, None)?;
+    put_four(&mut journal, unit, 1)?;
+    owes(&journal, unit, 1, session, after, first, end)
 }
 
-/// The minutes from one up to another.
-fn range(alloc: Global, from: u32, to: u32) -> Result<Vec<u32>, AllocError> {
-    let mut list = Vec::new(alloc);
-    for minute in from..to {
-        list.push(minute)?;
-    }
-    Ok(list)
-}
-
-/// Whether a list has this minute alone.
-fn is_only(list: &[u32], minute: u32) -> bool {
-    list.len() == 1 && list[0] == minute
-}
-
-/// What is owed of four minutes, by a row of the table.
-fn owed_of_four(
-    alloc: Global,
+/// That it is so on a unit that has kept this minute.
+fn check_owed(
+    rt: &(impl Abort + AllocGlobal),
     kept: u32,
     begun: u32,
     session: u32,
     after: u32,
-) -> Result<Vec<u32>, Fail> {
+    first: u32,
+    end: u32,
+) -> Result<(), Fail> {
+    let alloc = rt.alloc();
     let mut unit = unit(alloc, one_day(alloc, kept)?, u64::MAX, Left::Before)?;
-    let mut journal = open(&mut unit)?;
-    begin(&mut journal, &mut unit, 1, begun, None)?;
-    put_four(&mut journal, &mut unit, 1)?;
-    owed(alloc, &journal, &mut unit, 1, session, after)
+    let is_owed = owed_of_four(&mut unit, begun, session, after, first, end)?;
+    assert!(rt; is_owed);
+    Ok(())
 }
 
 #[test]
 fn entries_of_the_session_behind_the_mark(rt: HostRuntime) -> Result<(), Fail> {
-    let alloc = rt.alloc();
     for (kept, begun, session, after, first, end) in ROWS {
-        let found = owed_of_four(alloc, kept, begun, session, after)?;
-        let wanted = range(alloc, first, end)?;
-        assert!(rt; found.as_slice() == wanted.as_slice());
+        check_owed(&rt, kept, begun, session, after, first, end)?;
     }
     Ok(())
 }
 
-/// Begins eight rows, each with a later session than those before, and puts a minute into that of each card.
+/// Begins two rows, the second with a later session.
+fn begin_two<M: Medium>(
+    journal: &mut Journal,
+    unit: &mut M,
+    digit: u8,
+    session: u32,
+) -> Result<(), Failed>
+    requires unit { IsUnit (M.state unit.old) }
+    requires agrees { IfSome (M.state unit.old).image (Agrees journal.old) }
+    ensures unit { IsUnit (M.state unit.new) }
+    ensures agrees { OnOk result (IfSome (M.state unit.new).image (Agrees journal.new)) }
+{
+    begin(journal, unit, digit, session, None)?;
+    begin(
+        journal,
+        unit,
+        digit.saturating_add(1),
+        session.saturating_add(1),
+        None,
+    )
+}
+
+/// Begins eight rows, each with a later session than those before.
 fn begin_eight<M: Medium>(journal: &mut Journal, unit: &mut M) -> Result<(), Failed>
     requires unit { IsUnit (M.state unit.old) }
     requires agrees { IfSome (M.state unit.old).image (Agrees journal.old) }
     ensures unit { IsUnit (M.state unit.new) }
     ensures agrees { OnOk result (IfSome (M.state unit.new).image (Agrees journal.new)) }
 {
-    begin(journal, unit, 1, SESSION, None)?;
-    begin(journal, unit, 2, SESSION + 1, None)?;
-    begin(journal, unit, 3, SESSION + 2, None)?;
-    begin(journal, unit, 4, SESSION + 3, None)?;
-    begin(journal, unit, 5, SESSION + 4, None)?;
-    begin(journal, unit, 6, SESSION + 5, None)?;
-    begin(journal, unit, 7, SESSION + 6, None)?;
-    begin(journal, unit, 8, SESSION + 7, None)?;
+    begin_two(journal, unit, 1, SESSION)?;
+    begin_two(journal, unit, 3, SESSION + 2)?;
+    begin_two(journal, unit, 5, SESSION + 4)?;
+    begin_two(journal, unit, 7, SESSION + 6)
+}
+
+/// Puts a minute into the row of each of the first three cards.
+fn put_three<M: Medium>(journal: &mut Journal, unit: &mut M) -> Result<(), Failed>
+    requires unit { IsUnit (M.state unit.old) }
+    requires agrees { IfSome (M.state unit.old).image (Agrees journal.old) }
+    ensures unit { IsUnit (M.state unit.new) }
+    ensures agrees { OnOk result (IfSome (M.state unit.new).image (Agrees journal.new)) }
+{
     put(journal, unit, 1, FIRST + 97)?;
     put(journal, unit, 2, FIRST + 98)?;
     put(journal, unit, 3, FIRST + 99)
 }
 
-/// What is owed to the first three of nine cards and to the ninth, whose row was begun while that of the first was spared.
-fn owed_to_nine(alloc: Global) -> Result<(Vec<u32>, Vec<u32>, Vec<u32>, Vec<u32>), Fail> {
-    let mut unit = unit(alloc, one_day(alloc, FIRST + 100)?, u64::MAX, Left::Before)?;
-    let mut journal = open(&mut unit)?;
-    begin_eight(&mut journal, &mut unit)?;
+/// Begins a ninth row while that of the first card is spared, and puts a minute into it.
+fn begin_ninth<M: Medium>(journal: &mut Journal, unit: &mut M) -> Result<(), Failed>
+    requires unit { IsUnit (M.state unit.old) }
+    requires agrees { IfSome (M.state unit.old).image (Agrees journal.old) }
+    ensures unit { IsUnit (M.state unit.new) }
+    ensures agrees { OnOk result (IfSome (M.state unit.new).image (Agrees journal.new)) }
+{
     let spared = card(1);
-    begin(&mut journal, &mut unit, 9, SESSION + 8, Some(&spared))?;
-    put(&mut journal, &mut unit, 9, FIRST + 100)?;
-    let first = owed(alloc, &journal, &mut unit, 1, SESSION, 0)?;
-    let second = owed(alloc, &journal, &mut unit, 2, SESSION + 1, 0)?;
-    let third = owed(alloc, &journal, &mut unit, 3, SESSION + 2, 0)?;
-    let ninth = owed(alloc, &journal, &mut unit, 9, SESSION + 8, 0)?;
-    Ok((first, second, third, ninth))
+    begin(journal, unit, 9, SESSION + 8, Some(&spared))?;
+    put(journal, unit, 9, FIRST + 100)
+}
+
+/// Whether the first card is then owed its minute alone, the second one nothing, the third and the ninth their minutes alone.
+fn owes_nine<M: Medium>(journal: &Journal, unit: &mut M) -> Result<[bool; 4], Failed>
+    requires unit { IsUnit (M.state unit.old) }
+    requires agrees { IfSome (M.state unit.old).image (Agrees journal.now) }
+{
+    let first = owes(journal, unit, 1, SESSION, 0, FIRST + 97, FIRST + 98)?;
+    let second = owes(journal, unit, 2, SESSION + 1, 0, FIRST, FIRST)?;
+    let third = owes(journal, unit, 3, SESSION + 2, 0, FIRST + 99, FIRST + 100)?;
+    let ninth = owes(journal, unit, 9, SESSION + 8, 0, FIRST + 100, FIRST + 101)?;
+    Ok([first, second, third, ninth])
+}
+
+/// The same of a unit on which the nine rows are begun.
+fn owed_to_nine<M: Medium>(unit: &mut M) -> Result<[bool; 4], Failed>
+    requires { IsUnit (M.state unit.old) }
+{
+    let mut journal = open(unit)?;
+    begin_eight(&mut journal, unit)?;
+    put_three(&mut journal, unit)?;
+    begin_ninth(&mut journal, unit)?;
+    owes_nine(&journal, unit)
 }
 
 #[test]
 fn a_ninth_card_takes_the_row_of_the_least_session_but_the_spared_one(
     rt: HostRuntime,
 ) -> Result<(), Fail> {
-    let (first, second, third, ninth) = owed_to_nine(rt.alloc())?;
-    assert!(rt; is_only(first.as_slice(), FIRST + 97));
-    assert!(rt; second.is_empty());
-    assert!(rt; is_only(third.as_slice(), FIRST + 99));
-    assert!(rt; is_only(ninth.as_slice(), FIRST + 100));
+    let alloc = rt.alloc();
+    let mut unit = unit(alloc, one_day(alloc, FIRST + 100)?, u64::MAX, Left::Before)?;
+    assert_eq!(rt; owed_to_nine(&mut unit)?, [true; 4]);
     Ok(())
 }
 
-/// A `put_owed` of 01:41 into the cell of 01:37, stopped at a call that is counted from its first: how many calls it made,
-/// whether it was `Ok`, what is owed after it, and what is owed once the minute was put again.
+/// Puts the entries of 01:37 to 01:40, and then that of 01:41 into the cell of the first: whether that was `Ok`.
+fn put_fifth<M: Medium>(unit: &mut M) -> Result<bool, Failed>
+    requires { IsUnit (M.state unit.old) }
+    ensures { IsUnit (M.state unit.new) }
+{
+    let mut journal = open(unit)?;
+    begin(&mut journal, unit, 1, SESSION, None)?;
+    put_four(&mut journal, unit, 1)?;
+    Ok(put(&mut journal, unit, 1, FIRST + 101).is_ok())
+}
+
+/// Whether the minutes from one up to another are owed then, and 01:38 to 01:41 once that entry was put again.
+fn put_again<M: Medium>(unit: &mut M, first: u32, end: u32) -> Result<(bool, bool), Failed>
+    requires { IsUnit (M.state unit.old) }
+{
+    let mut journal = open(unit)?;
+    let found = owes(&journal, unit, 1, SESSION, 0, first, end)?;
+    put(&mut journal, unit, 1, FIRST + 101)?;
+    let again = owes(&journal, unit, 1, SESSION, 0, FIRST + 98, FIRST + 102)?;
+    Ok((found, again))
+}
+
+/// Both, where a call fails so: how many calls there were up to the end of the put, and the three answers.
 fn put_stopped(
     alloc: Global,
     call: u64,
     left: Left,
-) -> Result<(u64, bool, Vec<u32>, Vec<u32>), Fail> {
+    first: u32,
+    end: u32,
+) -> Result<(u64, [bool; 3]), Fail> {
     let mut unit = unit(alloc, one_day(alloc, FIRST + 101)?, call, left)?;
-    let mut journal = open(&mut unit)?;
-    begin(&mut journal, &mut unit, 1, SESSION, None)?;
-    put_four(&mut journal, &mut unit, 1)?;
-    let is_ok = put(&mut journal, &mut unit, 1, FIRST + 101).is_ok();
-    let end = unit.calls();
+    let is_ok = put_fifth(&mut unit)?;
+    let calls = unit.calls();
     unit.revive()?;
-    let mut journal = open(&mut unit)?;
-    let found = owed(alloc, &journal, &mut unit, 1, SESSION, 0)?;
-    put(&mut journal, &mut unit, 1, FIRST + 101)?;
-    let again = owed(alloc, &journal, &mut unit, 1, SESSION, 0)?;
-    Ok((end, is_ok, found, again))
+    let (found, again) = put_again(&mut unit, first, end)?;
+    Ok((calls, [is_ok, found, again]))
 }
 
 /// That a stop at a write of the minute's 0, the word, or the minute leaves the minute before, none, or the new one.
 fn check_put(rt: &(impl Abort + AllocGlobal), end: u64, back: u64, left: Left) -> Result<(), Fail> {
-    let alloc = rt.alloc();
     if end < back {
         return Err(Fail::from("too few calls"));
     }
-    let (_, is_ok, found, again) = put_stopped(alloc, end - back, left)?;
     let emptied = back < 3 || (back == 3 && left == Left::After);
     let entered = back == 1 && left == Left::After;
     let first = if emptied { FIRST + 98 } else { FIRST + 97 };
     let last = if entered { FIRST + 102 } else { FIRST + 101 };
-    let wanted = range(alloc, first, last)?;
-    let whole = range(alloc, FIRST + 98, FIRST + 102)?;
-    assert!(rt; !is_ok);
-    assert!(rt; found.as_slice() == wanted.as_slice());
-    assert!(rt; again.as_slice() == whole.as_slice());
+    let (_, told) = put_stopped(rt.alloc(), end - back, left, first, last)?;
+    assert_eq!(rt; told, [false, true, true]);
     Ok(())
 }
 
 #[test]
 fn an_entry_that_is_put_over_another(rt: HostRuntime) -> Result<(), Fail> {
-    let (end, is_ok, found, _) = put_stopped(rt.alloc(), u64::MAX, Left::Before)?;
-    let whole = range(rt.alloc(), FIRST + 98, FIRST + 102)?;
-    assert!(rt; is_ok);
-    assert!(rt; found.as_slice() == whole.as_slice());
+    let alloc = rt.alloc();
+    let (end, told) = put_stopped(alloc, u64::MAX, Left::Before, FIRST + 98, FIRST + 102)?;
+    assert_eq!(rt; (told[0], told[1]), (true, true));
     // the call reads once and writes three times; the last write is the call before the end
     for back in 1..5 {
         for left in LEFT {
@@ -299,47 +359,62 @@ fn an_entry_that_is_put_over_another(rt: HostRuntime) -> Result<(), Fail> {
     Ok(())
 }
 
-/// What a `begin_owed` for a card leaves that has a row, while another card's row is spared.
-#[derive(Drop)]
-struct Begun {
-    /// How many calls there were up to its end, and whether it was `Ok`.
-    end: u64,
-    is_ok: bool,
-    /// What is owed to the card in its old session, in the new one, and to the other card.
-    old: Vec<u32>,
-    new: Vec<u32>,
-    other: Vec<u32>,
-    /// What is owed to the card once the row was begun again, with a minute.
-    again: Vec<u32>,
+/// Begins a card's row again, with four minutes in it, while another card's row is spared: whether that was `Ok`.
+fn begin_again<M: Medium>(unit: &mut M) -> Result<bool, Failed>
+    requires { IsUnit (M.state unit.old) }
+    ensures { IsUnit (M.state unit.new) }
+{
+    let mut journal = open(unit)?;
+    begin(&mut journal, unit, 1, SESSION, None)?;
+    put_four(&mut journal, unit, 1)?;
+    begin(&mut journal, unit, 2, SESSION + 1, None)?;
+    put(&mut journal, unit, 2, FIRST + 97)?;
+    let other = card(2);
+    Ok(begin(&mut journal, unit, 1, SESSION + 60, Some(&other)).is_ok())
 }
 
-/// A `begin_owed` whose call of that number fails so.
-fn begin_stopped(alloc: Global, call: u64, left: Left) -> Result<Begun, Fail> {
-    let mut unit = unit(alloc, one_day(alloc, FIRST + 101)?, call, left)?;
-    let mut journal = open(&mut unit)?;
-    let other_card = card(2);
-    begin(&mut journal, &mut unit, 1, SESSION, None)?;
-    put_four(&mut journal, &mut unit, 1)?;
-    begin(&mut journal, &mut unit, 2, SESSION + 1, None)?;
-    put(&mut journal, &mut unit, 2, FIRST + 97)?;
-    let is_ok = begin(&mut journal, &mut unit, 1, SESSION + 60, Some(&other_card)).is_ok();
-    let end = unit.calls();
-    unit.revive()?;
-    let mut journal = open(&mut unit)?;
-    let old = owed(alloc, &journal, &mut unit, 1, SESSION, 0)?;
-    let new = owed(alloc, &journal, &mut unit, 1, SESSION + 60, 0)?;
-    let other = owed(alloc, &journal, &mut unit, 2, SESSION + 1, 0)?;
-    begin(&mut journal, &mut unit, 1, SESSION + 60, Some(&other_card))?;
-    put(&mut journal, &mut unit, 1, FIRST + 101)?;
-    let again = owed(alloc, &journal, &mut unit, 1, SESSION + 60, 0)?;
+/// What it leaves, where the old row has the minutes from one up to 01:41.
+#[derive(Clone, Copy)]
+struct Begun {
+    /// Whether those are owed to the card in its old session, nothing in the new one, and its minute alone to the other card.
+    old: bool,
+    new: bool,
+    other: bool,
+    /// Whether a minute that is put is owed alone, once the row was begun again.
+    again: bool,
+}
+
+fn begun_again<M: Medium>(unit: &mut M, first: u32) -> Result<Begun, Failed>
+    requires { IsUnit (M.state unit.old) }
+{
+    let mut journal = open(unit)?;
+    let old = owes(&journal, unit, 1, SESSION, 0, first, FIRST + 101)?;
+    let new = owes(&journal, unit, 1, SESSION + 60, 0, FIRST, FIRST)?;
+    let other = owes(&journal, unit, 2, SESSION + 1, 0, FIRST + 97, FIRST + 98)?;
+    let spared = card(2);
+    begin(&mut journal, unit, 1, SESSION + 60, Some(&spared))?;
+    put(&mut journal, unit, 1, FIRST + 101)?;
+    let again = owes(&journal, unit, 1, SESSION + 60, 0, FIRST + 101, FIRST + 102)?;
     Ok(Begun {
-        end,
-        is_ok,
         old,
         new,
         other,
         again,
     })
+}
+
+/// Both, where a call fails so: how many calls there were up to the end of that begin, whether it was `Ok`, and what it leaves.
+fn begin_stopped(
+    alloc: Global,
+    call: u64,
+    left: Left,
+    first: u32,
+) -> Result<(u64, bool, Begun), Fail> {
+    let mut unit = unit(alloc, one_day(alloc, FIRST + 101)?, call, left)?;
+    let is_ok = begin_again(&mut unit)?;
+    let end = unit.calls();
+    unit.revive()?;
+    Ok((end, is_ok, begun_again(&mut unit, first)?))
 }
 
 /// That a stop leaves the old row or one that is nobody's, and the other card's row as it was.
@@ -349,32 +424,26 @@ fn check_begin(
     back: u64,
     left: Left,
 ) -> Result<(), Fail> {
-    let alloc = rt.alloc();
     if end < back {
         return Err(Fail::from("too few calls"));
     }
-    let begun = begin_stopped(alloc, end - back, left)?;
     let is_whole = back == 8 || (back == 7 && left != Left::After);
     let first = if is_whole { FIRST + 97 } else { FIRST + 101 };
-    let old = range(alloc, first, FIRST + 101)?;
-    assert!(rt; !begun.is_ok);
-    assert!(rt; begun.old.as_slice() == old.as_slice());
-    assert!(rt; begun.new.is_empty());
-    assert!(rt; is_only(begun.other.as_slice(), FIRST + 97));
-    assert!(rt; is_only(begun.again.as_slice(), FIRST + 101));
+    let (_, is_ok, begun) = begin_stopped(rt.alloc(), end - back, left, first)?;
+    assert!(rt; !is_ok);
+    assert!(rt; begun.old && begun.new && begun.other && begun.again);
     Ok(())
 }
 
 #[test]
 fn a_row_that_is_begun_again(rt: HostRuntime) -> Result<(), Fail> {
-    let whole = begin_stopped(rt.alloc(), u64::MAX, Left::Before)?;
-    assert!(rt; whole.is_ok);
-    assert!(rt; whole.old.is_empty());
-    assert!(rt; is_only(whole.other.as_slice(), FIRST + 97));
+    let (end, is_ok, begun) = begin_stopped(rt.alloc(), u64::MAX, Left::Before, FIRST + 101)?;
+    assert!(rt; is_ok);
+    assert!(rt; begun.old && begun.other);
     // the call reads once and writes seven times
     for back in 1..9 {
         for left in LEFT {
-            check_begin(&rt, whole.end, back, left)?;
+            check_begin(&rt, end, back, left)?;
         }
     }
     Ok(())

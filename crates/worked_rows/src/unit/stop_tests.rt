@@ -4,12 +4,14 @@ ghost use Rattle.tach_media.specs.MemMedium.{memory_state};
 ghost use Rattle.unit_model.specs.Image.{IsUnit};
 ghost use Rattle.unit_journal.specs.Reading.{IsSlotPlace};
 
+use crate::devices::one_stop;
+use crate::media::{Room, unit_with};
 use crate::unit::image::{DAY, empty, put, put_head, put_word};
 use activity_codec::Activity;
 use std::alloc::{AllocError, Global};
 use std::process::Abort;
 use std::test::Fail;
-use tach_media::{Left, Medium, MemMedium, Memory, Stop};
+use tach_media::{Left, Medium, MemMedium, Memory};
 use tacho_types::{DAYS, Odometer};
 use unit_journal::{Journal, KeptMinute, State, UnitDay};
 use unit_model::layout::IMAGE_SIZE;
@@ -139,16 +141,17 @@ fn with_later(alloc: Global) -> Result<Vec<u8>, AllocError> {
     Ok(image)
 }
 
+/// Room for the writes of a row.
+const ROOM: Room = Room {
+    writes: 200,
+    bytes: 1000,
+};
+
 /// A unit with this image, whose call of that number fails so.
 pub fn unit(alloc: Global, image: Vec<u8>, call: u64, left: Left) -> Result<MemMedium, Memory>
     ensures { IfOk result (λ unit. IsUnit (memory_state unit.log unit.counts)) }
 {
-    if image.len() != IMAGE_SIZE as usize {
-        return Err(Memory);
-    }
-    let mut stops = Vec::new(alloc);
-    stops.push(Stop { call, left }).map_err(|_| Memory)?;
-    MemMedium::new(alloc, image, 200, 1000, stops)
+    unit_with(alloc, image, ROOM, one_stop(alloc, call, left)?)
 }
 
 /// A word of a recorded day.
@@ -225,20 +228,48 @@ fn keep(unit: &mut MemMedium, kept: &KeptMinute) -> Result<(u64, bool), Fail> {
 }
 
 /// What a `keep` that is not stopped does: its first call, the one behind its last, and the days before and after it.
-fn kept_whole(alloc: Global, row: Row) -> Result<(u64, u64, Vec<u32>, Vec<u32>), Fail> {
-    let mut unit = unit(alloc, row.image(alloc)?, u64::MAX, Left::Before)?;
-    let old = recorded(alloc, &mut unit)?;
-    let before = unit.calls();
-    let (first, _) = keep(&mut unit, &row.minute())?;
-    let end = unit.calls();
-    let new = recorded(alloc, &mut unit)?;
-    if first < before || end < before {
-        return Err(Fail::from("too many calls"));
-    }
-    Ok((first - before, end - before, old, new))
+#[derive(Drop)]
+struct Whole {
+    first: u64,
+    end: u64,
+    old: Vec<u32>,
+    new: Vec<u32>,
 }
 
-/// The same `keep` stopped at a call: whether it was `Ok`, the days that the stop leaves, and those once it was kept again.
+fn keep_whole(alloc: Global, unit: &mut MemMedium, kept: &KeptMinute) -> Result<Whole, Fail> {
+    let old = recorded(alloc, &mut *unit)?;
+    let before = unit.calls();
+    let (first, _) = keep(&mut *unit, kept)?;
+    let end = unit.calls();
+    let new = recorded(alloc, unit)?;
+    Ok(Whole {
+        first: first.saturating_sub(before),
+        end: end.saturating_sub(before),
+        old,
+        new,
+    })
+}
+
+fn kept_whole(alloc: Global, row: Row) -> Result<Whole, Fail> {
+    let mut unit = unit(alloc, row.image(alloc)?, u64::MAX, Left::Before)?;
+    keep_whole(alloc, &mut unit, &row.minute())
+}
+
+/// A `keep` of which a call may stop, and what is found behind it: whether it was `Ok`, the days that the stop leaves, and those once it was kept again.
+fn keep_again(
+    alloc: Global,
+    unit: &mut MemMedium,
+    kept: &KeptMinute,
+) -> Result<(bool, Vec<u32>, Vec<u32>), Fail> {
+    let (_, is_ok) = keep(&mut *unit, kept)?;
+    unit.revive()?;
+    let found = recorded(alloc, &mut *unit)?;
+    keep(&mut *unit, kept)?;
+    let again = recorded(alloc, unit)?;
+    Ok((is_ok, found, again))
+}
+
+/// The same of a row, stopped at this call.
 fn kept_again(
     alloc: Global,
     row: Row,
@@ -246,12 +277,7 @@ fn kept_again(
     left: Left,
 ) -> Result<(bool, Vec<u32>, Vec<u32>), Fail> {
     let mut unit = unit(alloc, row.image(alloc)?, call, left)?;
-    let (_, is_ok) = keep(&mut unit, &row.minute())?;
-    unit.revive()?;
-    let found = recorded(alloc, &mut unit)?;
-    keep(&mut unit, &row.minute())?;
-    let again = recorded(alloc, &mut unit)?;
-    Ok((is_ok, found, again))
+    keep_again(alloc, &mut unit, &row.minute())
 }
 
 /// The days without the oldest, where the next one takes its place; it has a date and four words.
@@ -273,31 +299,39 @@ fn check_stop(
     counts: bool,
 ) -> Result<(), Fail> {
     let (is_ok, found, again) = kept_again(rt.alloc(), row, call, left)?;
-    assert!(rt; !is_ok);
-    if counts {
-        assert!(rt; found.as_slice() == new);
-    } else {
-        let without_oldest = given_up(row, old);
-        assert!(rt; found.as_slice() == old || found.as_slice() == without_oldest);
-    }
-    assert!(rt; again.as_slice() == new);
+    let is_left = is_left(row, found.as_slice(), old, new, counts);
+    let is_new = again.as_slice() == new;
+    assert_eq!(rt; (is_ok, is_left, is_new), (false, true, true));
     Ok(())
 }
 
+/// Whether a stop may leave these days.
+fn is_left(row: Row, found: &[u32], old: &[u32], new: &[u32], counts: bool) -> bool {
+    if counts {
+        return found == new;
+    }
+    found == old || found == given_up(row, old)
+}
+
 /// Stops a `keep` at each of its calls in each manner; its last call is the write of the last-kept minute.
-fn check_row(rt: &(impl Abort + AllocGlobal), row: Row, calls: u64) -> Result<(), Fail> {
-    let (first, end, old, new) = kept_whole(rt.alloc(), row)?;
-    assert!(rt; old.as_slice() != new.as_slice());
-    assert!(rt; first <= end);
-    assert_eq!(rt; end - first, calls);
-    let (old, new) = (old.as_slice(), new.as_slice());
-    for call in first..end {
-        let last = call + 1 == end;
+fn check_stops(rt: &(impl Abort + AllocGlobal), row: Row, whole: &Whole) -> Result<(), Fail> {
+    let (old, new) = (whole.old.as_slice(), whole.new.as_slice());
+    for call in whole.first..whole.end {
+        let last = call + 1 == whole.end;
         check_stop(rt, row, call, Left::Before, old, new, false)?;
         check_stop(rt, row, call, Left::After, old, new, last)?;
         check_stop(rt, row, call, Left::Torn(0xFF), old, new, false)?;
     }
     Ok(())
+}
+
+/// The same of a row, whose `keep` makes so many calls.
+fn check_row(rt: &(impl Abort + AllocGlobal), row: Row, calls: u64) -> Result<(), Fail> {
+    let whole = kept_whole(rt.alloc(), row)?;
+    let differs = whole.old.as_slice() != whole.new.as_slice();
+    let made = whole.end.checked_sub(whole.first);
+    assert_eq!(rt; (differs, made), (true, Some(calls)));
+    check_stops(rt, row, &whole)
 }
 
 /// Loads a unit and mends it: the number of the first call of the `mend`, and whether it was `Ok`.
@@ -320,20 +354,25 @@ fn four(unit: &mut MemMedium, place: u32) -> Result<[u8; 4], Fail> {
     Ok(bytes)
 }
 
-/// A `mend` stopped at a call: whether it was `Ok`, the days that the stop leaves, and those once it was mended again and
+/// A `mend` of which a call may stop: whether it was `Ok`, the days that the stop leaves, and those once it was mended again and
 /// 00:30 was kept.
-fn mended_again(alloc: Global, call: u64, left: Left) -> Result<(bool, Vec<u32>, Vec<u32>), Fail> {
-    let mut unit = unit(alloc, with_later(alloc)?, call, left)?;
-    let (_, is_ok) = mend(&mut unit)?;
+fn mend_again(alloc: Global, unit: &mut MemMedium) -> Result<(bool, Vec<u32>, Vec<u32>), Fail> {
+    let (_, is_ok) = mend(&mut *unit)?;
     unit.revive()?;
-    let found = recorded(alloc, &mut unit)?;
+    let found = recorded(alloc, &mut *unit)?;
     let next = KeptMinute {
         minute: FIRST + 30,
         ..Row::SameDay.minute()
     };
-    keep(&mut unit, &next)?;
-    let again = recorded(alloc, &mut unit)?;
+    keep(&mut *unit, &next)?;
+    let again = recorded(alloc, unit)?;
     Ok((is_ok, found, again))
+}
+
+/// The same, stopped at this call.
+fn mended_again(alloc: Global, call: u64, left: Left) -> Result<(bool, Vec<u32>, Vec<u32>), Fail> {
+    let mut unit = unit(alloc, with_later(alloc)?, call, left)?;
+    mend_again(alloc, &mut unit)
 }
 
 /// That this stop leaves the days before, and that it can be mended again.
@@ -345,42 +384,75 @@ fn check_mend(
     new: &[u32],
 ) -> Result<(), Fail> {
     let (is_ok, found, again) = mended_again(rt.alloc(), call, left)?;
-    assert!(rt; !is_ok);
-    assert!(rt; found.as_slice() == old);
-    assert!(rt; again.as_slice() == new);
+    let is_old = found.as_slice() == old;
+    let is_new = again.as_slice() == new;
+    assert_eq!(rt; (is_ok, is_old, is_new), (false, true, true));
     Ok(())
 }
 
 /// Stops a `mend` at each of its calls in each manner.
-fn check_mends(rt: &(impl Abort + AllocGlobal), first: u64, end: u64) -> Result<(), Fail> {
-    let (is_ok, old, new) = mended_again(rt.alloc(), u64::MAX, Left::Before)?;
-    assert!(rt; is_ok);
-    assert_eq!(rt; old.len(), 5);
-    assert!(rt; old.as_slice() != new.as_slice());
+fn check_each_mend(
+    rt: &(impl Abort + AllocGlobal),
+    first: u64,
+    end: u64,
+    old: &[u32],
+    new: &[u32],
+) -> Result<(), Fail> {
     for call in first..end {
-        check_mend(rt, call, Left::Before, old.as_slice(), new.as_slice())?;
-        check_mend(rt, call, Left::After, old.as_slice(), new.as_slice())?;
-        check_mend(rt, call, Left::Torn(0xFF), old.as_slice(), new.as_slice())?;
+        check_mend(rt, call, Left::Before, old, new)?;
+        check_mend(rt, call, Left::After, old, new)?;
+        check_mend(rt, call, Left::Torn(0xFF), old, new)?;
     }
     Ok(())
 }
 
-#[test]
-fn a_unit_with_later_words_days_and_cells(rt: HostRuntime) -> Result<(), Fail> {
-    let alloc = rt.alloc();
+fn check_mends(rt: &(impl Abort + AllocGlobal), first: u64, end: u64) -> Result<(), Fail> {
+    let (is_ok, old, new) = mended_again(rt.alloc(), u64::MAX, Left::Before)?;
+    let differs = old.as_slice() != new.as_slice();
+    assert_eq!(rt; (is_ok, old.len(), differs), (true, 5, true));
+    check_each_mend(rt, first, end, old.as_slice(), new.as_slice())
+}
+
+/// What a `mend` that is not stopped does: its first call, the one behind its last, whether it was `Ok`, and what stands then at the places of
+/// three cells, a gate and a count.
+#[derive(Clone, Copy)]
+struct Mended {
+    first: u64,
+    end: u64,
+    is_ok: bool,
+    places: [[u8; 4]; 5],
+}
+
+fn mended_places(unit: &mut MemMedium) -> Result<[[u8; 4]; 5], Fail> {
+    let kept = four(&mut *unit, 648)?;
+    let later = four(&mut *unit, 654)?;
+    let last = four(&mut *unit, 1002)?;
+    let count = four(&mut *unit, 1036)?;
+    let date = four(unit, 6804)?;
+    Ok([kept, later, last, count, date])
+}
+
+fn mend_whole(alloc: Global) -> Result<Mended, Fail> {
     let mut unit = unit(alloc, with_later(alloc)?, u64::MAX, Left::Before)?;
     let (first, is_ok) = mend(&mut unit)?;
-    assert!(rt; is_ok);
     let end = unit.calls();
-    assert!(rt; first <= end);
+    Ok(Mended {
+        first,
+        end,
+        is_ok,
+        places: mended_places(&mut unit)?,
+    })
+}
+
+#[test]
+fn a_unit_with_later_words_days_and_cells(rt: HostRuntime) -> Result<(), Fail> {
+    let mended = mend_whole(rt.alloc())?;
+    assert!(rt; mended.is_ok);
     // 32 cells are read, two of them emptied; a gate, a count
-    assert_eq!(rt; end - first, 36);
-    assert_eq!(rt; four(&mut unit, 648)?, (FIRST + 20).to_be_bytes());
-    assert_eq!(rt; four(&mut unit, 654)?, [0; 4]);
-    assert_eq!(rt; four(&mut unit, 1002)?, [0; 4]);
-    assert_eq!(rt; four(&mut unit, 1036)?, [0, 4, 0, 0]);
-    assert_eq!(rt; four(&mut unit, 6804)?, [0; 4]);
-    check_mends(&rt, first, end)
+    assert_eq!(rt; mended.end.checked_sub(mended.first), Some(36));
+    let kept = (FIRST + 20).to_be_bytes();
+    assert_eq!(rt; mended.places, [kept, [0; 4], [0; 4], [0, 4, 0, 0], [0; 4]]);
+    check_mends(&rt, mended.first, mended.end)
 }
 
 #[test]

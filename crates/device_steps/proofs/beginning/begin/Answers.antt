@@ -7,7 +7,7 @@ use Rattle.device_steps.proofs.RowAlone.{ends-alone, taken-alone}
 use Rattle.device_steps.proofs.beginning.begin.Goals as goal
 
 pub returns-clause-holds : goal.returns-clause-holds
-returns-clause-holds g c = λ s due b marks h. begun-holds s due b marks _ _ _ (g.met.M.Medium.coherent c.args.unit.now) (c.begin_owed_at.ensures.moments (option_map (λ s. card_number_bytes s.now) c.args.spared) c.requires.row) h
+returns-clause-holds g c = λ s due b marks whose h. begun-holds s due b marks _ _ _ whose (g.met.M.Medium.coherent c.args.unit.now) (c.begin_owed_at.ensures.moments (option_map (λ s. card_number_bytes s.now) c.args.spared) c.requires.row) h
 
 pub returns-clause-spares : goal.returns-clause-spares
 returns-clause-spares g c = row-spared c.begin_owed_at.result _ _ _ _ _ c.begin_owed_at.ensures.puts.leaves.tells (c.begin_owed_at.ensures.begun (option_map (λ s. card_number_bytes s.now) c.args.spared) c.requires.row)

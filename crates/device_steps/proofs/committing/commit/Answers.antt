@@ -1,13 +1,13 @@
 use Rattle.tach_media.proofs.Runs.{ok_gives}
 use Rattle.device_steps.proofs.EntryOwed.{worked}
-use Rattle.device_steps.proofs.MinuteKept.{committed-unit, committed-card, keeps-views, same_minute, rows-kept}
+use Rattle.device_steps.proofs.MinuteKept.{committed-unit, committed-card, keeps-views, same_minute, rows-kept, most-begun}
 use Rattle.unit_rule.proofs.KeptDays.{keeping-run}
 use Rattle.device_steps.proofs.Travel.{keep-gone}
 use Rattle.device_steps.proofs.committing.commit.Goals as goal
 
 pub returns-clause-holds : goal.returns-clause-holds
 returns-clause-holds g c = λ s due b marks i is h none late.
-    committed-unit _ c.args.kept.now.odometer.0 i is (g.met.M.Medium.coherent c.args.unit.now) c.keep.ensures.moments s due b marks h none late _ (g.met.M.Medium.coherent c.keep.new.unit)
+    committed-unit _ c.args.kept.now.odometer.0 i is (g.met.M.Medium.coherent c.args.unit.now) c.keep.ensures.moments s due b marks h none late _ (most-begun _ _ _ _ c.keep.ensures.puts.clock) (g.met.M.Medium.coherent c.keep.new.unit)
     (λ well. (worked well c.keep.ensures.cause).0) (λ well. ok_gives _ c.keep.ensures.kept well) (λ well. ok_gives _ c.keep.ensures.settled well)
 
 pub returns-clause-first : goal.returns-clause-first

@@ -4,7 +4,8 @@ use Rattle.device_steps.proofs.PowerBack.{mended-holds, mends-views, taken-up}
 use Rattle.device_steps.proofs.mending.mend.Goals as goal
 
 pub returns-clause-holds : goal.returns-clause-holds
-returns-clause-holds g c = λ s due b marks h. mended-holds s due b marks _ (g.met.M.Medium.coherent c.args.unit.now) c.mend.ensures.moments h
+returns-clause-holds g c = λ s due b marks h. mended-holds s due b marks _ (g.met.M.Medium.coherent c.args.unit.now) c.mend.ensures.moments h _ (g.met.M.Medium.coherent c.mend.new.unit)
+    c.mend.ensures.cause.works (λ well. ok_gives _ c.mend.ensures.mended well)
 
 pub returns-clause-first : goal.returns-clause-first
 returns-clause-first g c = λ r card b z rests.

@@ -7,6 +7,8 @@ use Rattle.unit_journal.specs.declared.notes.Notes.{Notes}
 use Rattle.unit_journal.specs.Image.{Agrees}
 use Rattle.history_model.specs.Book.{kept}
 use Rattle.joint_rule.specs.Views.{other}
+use Rattle.unit_rule.specs.Rule.{once_mended}
+use Rattle.unit_rule.proofs.Marking.{holds-dark}
 use Rattle.device_steps.specs.Rule.{opened, CardHolds}
 use Rattle.device_steps.proofs.MinuteSaid.{on_err, on_err_if, same_after, other_twice, due_some, due_alone, fits_some, as_card, as_rests, dark_before, dark_after, row_on, cause_twice}
 use Rattle.device_steps.proofs.on_unit.keep_on_unit.Goals as goal
@@ -25,9 +27,9 @@ returns-in_err-owe_some-clause-cut g c = λ k y z i a e f n.
     let alone_one = due_alone one i k.due c.args.one_entry n.first n.late e in
     let two_rule = as_card r (other one) two k.book z [] [] U Z a.two a.other_rule in
     on_err c.from_residual.result
-    (dark_before k one two i y z V X Z (c.in_err-owe_some.ensures.holds k.started k.due k.book k.marks a.holds)
-    (c.in_err-owe_some.ensures.mine r k.started k.due k.book k.marks y a.named_first a.holds due_one a.one_rule).dark
-    (as_rests r two (other one) k.book z V Z (sym a.two) (c.in_err-owe_some.ensures.other r k.started k.due k.book k.marks y z [] [] a.named_first a.holds alone_one a.one_rule two_rule).dark))
+    (dark_before k one two i y z V X Z (holds-dark k.started k.due k.book k.marks V (c.in_err-owe_some.ensures.holds (once_mended k.started) k.due k.book k.marks a.first_told a.holds))
+    (c.in_err-owe_some.ensures.mine r (once_mended k.started) k.due k.book k.marks y a.named_first a.holds due_one a.one_rule).dark
+    (as_rests r two (other one) k.book z V Z (sym a.two) (c.in_err-owe_some.ensures.other r (once_mended k.started) k.due k.book k.marks y z [] [] a.named_first a.holds alone_one a.one_rule two_rule).dark))
 
 -- the second could not be put
 pub returns-in_err-owe_some-2-clause-cut : goal.returns-in_err-owe_some-2-clause-cut
@@ -42,18 +44,18 @@ returns-in_err-owe_some-2-clause-cut g c = λ k y z i a e f n.
     let due_one = due_some one i k.due (opened r one).start y c.args.one_entry n.first n.late e n.first_present in
     let alone_one = due_alone one i k.due c.args.one_entry n.first n.late e in
     let two_rule = as_card r (other one) two k.book z [] [] U Z a.two a.other_rule in
-    let mine_one = (c.in_ok-owe_some.ensures.mine r k.started k.due k.book k.marks y a.named_first a.holds due_one a.one_rule).lit refl in
-    let beside = as_card r two (other one) k.book z [] [] V Z (sym a.two) ((c.in_ok-owe_some.ensures.other r k.started k.due k.book k.marks y z [] [] a.named_first a.holds alone_one a.one_rule two_rule).lit refl) in
-    let holds = c.in_ok-owe_some.ensures.holds k.started k.due k.book k.marks a.holds in
+    let mine_one = (c.in_ok-owe_some.ensures.mine r (once_mended k.started) k.due k.book k.marks y a.named_first a.holds due_one a.one_rule).lit refl in
+    let beside = as_card r two (other one) k.book z [] [] V Z (sym a.two) ((c.in_ok-owe_some.ensures.other r (once_mended k.started) k.due k.book k.marks y z [] [] a.named_first a.holds alone_one a.one_rule two_rule).lit refl) in
+    let holds = c.in_ok-owe_some.ensures.holds (once_mended k.started) k.due k.book k.marks a.first_told a.holds in
     let due_two = due_some two i k.due (opened r two).start z c.args.two_entry n.second n.late f n.second_present in
     let alone_two = due_alone two i k.due c.args.two_entry n.second n.late f in
     let back = ap other a.two ∙ other_twice one in
     let one_beside = as_card r (other two) one k.book y (option_to_list c.args.one_entry) [] V X (sym back) mine_one in
     let W = g.M.Medium.state c.owe_some-2.new.unit in
     on_err c.from_residual-in_err-owe_some-2.result
-    (dark_before k one two i y z W X Z (c.in_err-owe_some-2.ensures.holds k.started k.due k.book k.marks holds)
-    (as_rests r one (other two) k.book y W X back (c.in_err-owe_some-2.ensures.other r k.started k.due k.book k.marks z y (option_to_list c.args.one_entry) [] a.named_second holds alone_two beside one_beside).dark)
-    (c.in_err-owe_some-2.ensures.mine r k.started k.due k.book k.marks z a.named_second holds due_two beside).dark)
+    (dark_before k one two i y z W X Z (holds-dark k.started k.due k.book k.marks W (c.in_err-owe_some-2.ensures.holds (once_mended k.started) k.due k.book k.marks a.second_told holds))
+    (as_rests r one (other two) k.book y W X back (c.in_err-owe_some-2.ensures.other r (once_mended k.started) k.due k.book k.marks z y (option_to_list c.args.one_entry) [] a.named_second holds alone_two beside one_beside).dark)
+    (c.in_err-owe_some-2.ensures.mine r (once_mended k.started) k.due k.book k.marks z a.named_second holds due_two beside).dark)
 
 -- the minute could not be kept
 pub returns-clause-cut : goal.returns-clause-cut
@@ -68,20 +70,20 @@ returns-clause-cut g c = λ k y z i a e f n.
     let due_one = due_some one i k.due (opened r one).start y c.args.one_entry n.first n.late e n.first_present in
     let alone_one = due_alone one i k.due c.args.one_entry n.first n.late e in
     let two_rule = as_card r (other one) two k.book z [] [] U Z a.two a.other_rule in
-    let mine_one = (c.in_ok-owe_some.ensures.mine r k.started k.due k.book k.marks y a.named_first a.holds due_one a.one_rule).lit refl in
-    let beside = as_card r two (other one) k.book z [] [] V Z (sym a.two) ((c.in_ok-owe_some.ensures.other r k.started k.due k.book k.marks y z [] [] a.named_first a.holds alone_one a.one_rule two_rule).lit refl) in
-    let holds = c.in_ok-owe_some.ensures.holds k.started k.due k.book k.marks a.holds in
+    let mine_one = (c.in_ok-owe_some.ensures.mine r (once_mended k.started) k.due k.book k.marks y a.named_first a.holds due_one a.one_rule).lit refl in
+    let beside = as_card r two (other one) k.book z [] [] V Z (sym a.two) ((c.in_ok-owe_some.ensures.other r (once_mended k.started) k.due k.book k.marks y z [] [] a.named_first a.holds alone_one a.one_rule two_rule).lit refl) in
+    let holds = c.in_ok-owe_some.ensures.holds (once_mended k.started) k.due k.book k.marks a.first_told a.holds in
     let due_two = due_some two i k.due (opened r two).start z c.args.two_entry n.second n.late f n.second_present in
     let alone_two = due_alone two i k.due c.args.two_entry n.second n.late f in
     let back = ap other a.two ∙ other_twice one in
     let one_beside = as_card r (other two) one k.book y (option_to_list c.args.one_entry) [] V X (sym back) mine_one in
     let W = g.M.Medium.state c.owe_some-2.new.unit in
     let N = g.M.Medium.state c.commit.new.unit in
-    let holds_two = c.in_ok-owe_some-2.ensures.holds k.started k.due k.book k.marks holds in
-    let mine_two = (c.in_ok-owe_some-2.ensures.mine r k.started k.due k.book k.marks z a.named_second holds due_two beside).lit refl in
-    let one_put = as_card r one (other two) k.book y (option_to_list c.args.one_entry) [] W X back ((c.in_ok-owe_some-2.ensures.other r k.started k.due k.book k.marks z y (option_to_list c.args.one_entry) [] a.named_second holds alone_two beside one_beside).lit refl) in
-    let first = c.commit.ensures.first r one k.started k.due k.book k.marks i y n.same holds_two a.none n.late (subst (λ (m : List Entry). CardHolds r one k.book y m [] W X) (sym n.first) one_put) (fits_some one i (opened r one).start y c.args.one_entry n.first n.first_present) in
-    let second = c.commit.ensures.second r two k.started k.due k.book k.marks i z n.same holds_two a.none n.late (subst (λ (m : List Entry). CardHolds r two k.book z m [] W Z) (sym n.second) mine_two) (fits_some two i (opened r two).start z c.args.two_entry n.second n.second_present) in
+    let holds_two = c.in_ok-owe_some-2.ensures.holds (once_mended k.started) k.due k.book k.marks a.second_told holds in
+    let mine_two = (c.in_ok-owe_some-2.ensures.mine r (once_mended k.started) k.due k.book k.marks z a.named_second holds due_two beside).lit refl in
+    let one_put = as_card r one (other two) k.book y (option_to_list c.args.one_entry) [] W X back ((c.in_ok-owe_some-2.ensures.other r (once_mended k.started) k.due k.book k.marks z y (option_to_list c.args.one_entry) [] a.named_second holds alone_two beside one_beside).lit refl) in
+    let first = c.commit.ensures.first r one (once_mended k.started) k.due k.book k.marks i y n.same holds_two a.none n.late (subst (λ (m : List Entry). CardHolds r one k.book y m [] W X) (sym n.first) one_put) (fits_some one i (opened r one).start y c.args.one_entry n.first n.first_present) in
+    let second = c.commit.ensures.second r two (once_mended k.started) k.due k.book k.marks i z n.same holds_two a.none n.late (subst (λ (m : List Entry). CardHolds r two k.book z m [] W Z) (sym n.second) mine_two) (fits_some two i (opened r two).start z c.args.two_entry n.second n.second_present) in
     let held = c.commit.ensures.holds k.started k.due k.book k.marks i n.same holds_two a.none n.late in
     on_err_if c.commit.result (λ bad. dark_after k one two i y z N X Z held.dark first.dark second.dark)
 
@@ -98,20 +100,20 @@ returns-clause-kept g c = λ k y z i a e f n below.
     let due_one = due_some one i k.due (opened r one).start y c.args.one_entry n.first n.late e n.first_present in
     let alone_one = due_alone one i k.due c.args.one_entry n.first n.late e in
     let two_rule = as_card r (other one) two k.book z [] [] U Z a.two a.other_rule in
-    let mine_one = (c.in_ok-owe_some.ensures.mine r k.started k.due k.book k.marks y a.named_first a.holds due_one a.one_rule).lit refl in
-    let beside = as_card r two (other one) k.book z [] [] V Z (sym a.two) ((c.in_ok-owe_some.ensures.other r k.started k.due k.book k.marks y z [] [] a.named_first a.holds alone_one a.one_rule two_rule).lit refl) in
-    let holds = c.in_ok-owe_some.ensures.holds k.started k.due k.book k.marks a.holds in
+    let mine_one = (c.in_ok-owe_some.ensures.mine r (once_mended k.started) k.due k.book k.marks y a.named_first a.holds due_one a.one_rule).lit refl in
+    let beside = as_card r two (other one) k.book z [] [] V Z (sym a.two) ((c.in_ok-owe_some.ensures.other r (once_mended k.started) k.due k.book k.marks y z [] [] a.named_first a.holds alone_one a.one_rule two_rule).lit refl) in
+    let holds = c.in_ok-owe_some.ensures.holds (once_mended k.started) k.due k.book k.marks a.first_told a.holds in
     let due_two = due_some two i k.due (opened r two).start z c.args.two_entry n.second n.late f n.second_present in
     let alone_two = due_alone two i k.due c.args.two_entry n.second n.late f in
     let back = ap other a.two ∙ other_twice one in
     let one_beside = as_card r (other two) one k.book y (option_to_list c.args.one_entry) [] V X (sym back) mine_one in
     let W = g.M.Medium.state c.owe_some-2.new.unit in
     let N = g.M.Medium.state c.commit.new.unit in
-    let holds_two = c.in_ok-owe_some-2.ensures.holds k.started k.due k.book k.marks holds in
-    let mine_two = (c.in_ok-owe_some-2.ensures.mine r k.started k.due k.book k.marks z a.named_second holds due_two beside).lit refl in
-    let one_put = as_card r one (other two) k.book y (option_to_list c.args.one_entry) [] W X back ((c.in_ok-owe_some-2.ensures.other r k.started k.due k.book k.marks z y (option_to_list c.args.one_entry) [] a.named_second holds alone_two beside one_beside).lit refl) in
-    let first = c.commit.ensures.first r one k.started k.due k.book k.marks i y n.same holds_two a.none n.late (subst (λ (m : List Entry). CardHolds r one k.book y m [] W X) (sym n.first) one_put) (fits_some one i (opened r one).start y c.args.one_entry n.first n.first_present) in
-    let second = c.commit.ensures.second r two k.started k.due k.book k.marks i z n.same holds_two a.none n.late (subst (λ (m : List Entry). CardHolds r two k.book z m [] W Z) (sym n.second) mine_two) (fits_some two i (opened r two).start z c.args.two_entry n.second n.second_present) in
+    let holds_two = c.in_ok-owe_some-2.ensures.holds (once_mended k.started) k.due k.book k.marks a.second_told holds in
+    let mine_two = (c.in_ok-owe_some-2.ensures.mine r (once_mended k.started) k.due k.book k.marks z a.named_second holds due_two beside).lit refl in
+    let one_put = as_card r one (other two) k.book y (option_to_list c.args.one_entry) [] W X back ((c.in_ok-owe_some-2.ensures.other r (once_mended k.started) k.due k.book k.marks z y (option_to_list c.args.one_entry) [] a.named_second holds alone_two beside one_beside).lit refl) in
+    let first = c.commit.ensures.first r one (once_mended k.started) k.due k.book k.marks i y n.same holds_two a.none n.late (subst (λ (m : List Entry). CardHolds r one k.book y m [] W X) (sym n.first) one_put) (fits_some one i (opened r one).start y c.args.one_entry n.first n.first_present) in
+    let second = c.commit.ensures.second r two (once_mended k.started) k.due k.book k.marks i z n.same holds_two a.none n.late (subst (λ (m : List Entry). CardHolds r two k.book z m [] W Z) (sym n.second) mine_two) (fits_some two i (opened r two).start z c.args.two_entry n.second n.second_present) in
     let held = c.commit.ensures.holds k.started k.due k.book k.marks i n.same holds_two a.none n.late in
     on_ok c.commit.result (λ well. record {
       holds = held.lit well below;

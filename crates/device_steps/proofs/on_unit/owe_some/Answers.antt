@@ -10,6 +10,12 @@ use Rattle.device_steps.specs.Rule.{opened, IsKeptUp}
 use Rattle.device_steps.proofs.MinuteSaid.{held_up}
 use Rattle.device_steps.proofs.on_unit.owe_some.Goals as goal
 
+pub returns-in-None-clause-holds : goal.returns-in-None-clause-holds
+returns-in-None-clause-holds g c = λ s due b marks whose h. h
+
+pub returns-in-Some-clause-holds : goal.returns-in-Some-clause-holds
+returns-in-Some-clause-holds g c = c.owe.ensures.holds
+
 pub returns-in-None-clause-mine : goal.returns-in-None-clause-mine
 returns-in-None-clause-mine g c = λ r s due b marks z named h says rule.
     subst (λ (o : Option Entry). IsKeptUp r c.args.which b z (option_to_list o) [] false (g.M.Medium.state c.args.unit.now) (g.C.Chip.state c.args.mine.now)) (sym c.in-None.is)

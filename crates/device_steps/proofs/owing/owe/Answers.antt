@@ -5,7 +5,7 @@ use Rattle.device_steps.proofs.Travel.{put-travelled}
 use Rattle.device_steps.proofs.owing.owe.Goals as goal
 
 pub returns-clause-holds : goal.returns-clause-holds
-returns-clause-holds g c = λ s due b marks h. owed-holds s due b marks _ _ (g.met.M.Medium.coherent c.args.unit.now) (c.put_owed_at.ensures.moments (card_number_bytes c.args.number.now) c.requires.row) h
+returns-clause-holds g c = λ s due b marks whose h. owed-holds s due b marks _ _ whose (g.met.M.Medium.coherent c.args.unit.now) (c.put_owed_at.ensures.moments (card_number_bytes c.args.number.now) c.requires.row) h
 
 pub returns-clause-mine : goal.returns-clause-mine
 returns-clause-mine g c = λ r s due b marks z named h late some present rule.

@@ -40,6 +40,7 @@ use Rattle.run_recorded.specs.Origin.{rule_of, Origin}
 use Rattle.run_acts.specs.Closings.{notes_within}
 use Rattle.run_acts.specs.Truths.{past_of, IsOdometerBefore, truths_within, marked}
 use Rattle.run_acts.proofs.WholeLegs.{accepted-now}
+use Rattle.run_acts.proofs.LastLine.{entered-now}
 use Rattle.run_acts.proofs.TruthsThen.{began-none}
 use Rattle.run_acts.proofs.EnteredStays.{finds-noted, entered-stays}
 use Rattle.run_acts.proofs.EnteredLines.{marks-behind}
@@ -249,10 +250,12 @@ returns-clause-recorded g c = λ room odometer o done s n waits fewer at next ti
     (λ well. entered-stays o e failed well run.keeper c.accept-answer.new.keeper run.noted c.accept-answer.new.noted c.args.outcome.now c.accept-answer.new.outcome U V X Z Y (λ log. notes_within next.goes.within.b done s (In n) log)
     (finds-noted o done s n waits fewer (values_of run c.args.outcome.now) (arranged e.which U X Y) next.goes.within e at next.next next.none next.order) c.requires.seat sits.0 (marked c.accept-answer.new.outcome.marks.items (truths_within o next.goes.within.b.run.log done s)) s.number room
     (λ y at_ valid. subst IsOwnValid (sym (may.origin.image e.which)) (was-valid o done s n waits fewer e run.keeper c.args.outcome.now run.unfound run.next run.begun run.minutes U X Y next.goes.within may sound.card_before y at_ valid))
-    (λ none_ verdict.
-    subst (λ (k : ℕ). IsOdometerBefore (rule_of o) (odometer_at o.recording.unit) (past_of next.goes.within.b.run.log (done ++ s ∷ [])).spans k e.odometer.0) (sym (ap (λ (m : Moment). m.second) at))
-    (accepted-now o done s (In n) waits [] (values_of run c.args.outcome.now) (arranged e.which U X Y) next.goes.within (began-none o done s (In n) waits None [] (values_of run c.args.outcome.now) (arranged e.which U X Y) next.goes.within none_)
-    e.odometer.0 (odometer next.goes.within.sp next.goes.within.minutes))) w.0 _ w.1
+    (λ none_ verdict. (
+      subst (λ (k : ℕ). IsOdometerBefore (rule_of o) (odometer_at o.recording.unit) (past_of next.goes.within.b.run.log (done ++ s ∷ [])).spans k e.odometer.0) (sym (ap (λ (m : Moment). m.second) at))
+          (accepted-now o done s (In n) waits [] (values_of run c.args.outcome.now) (arranged e.which U X Y) next.goes.within (began-none o done s (In n) waits None [] (values_of run c.args.outcome.now) (arranged e.which U X Y) next.goes.within none_)
+          e.odometer.0 (odometer next.goes.within.sp next.goes.within.minutes)),
+      entered-now o done s n waits fewer (values_of run c.args.outcome.now) (arranged e.which U X Y) next.goes.within e at next.next verdict,
+    )) w.0 _ w.1
     (known o done s n waits fewer e run.keeper c.args.outcome.now run.unfound run.next run.begun run.minutes U X Y next.goes.within may failed c.accept-answer.new.keeper run.noted c.accept-answer.new.noted c.accept-answer.new.outcome V Z w.0 gone sound)
     (λ none_ entered told marks.
     let x =

@@ -52,6 +52,7 @@ use Rattle.run_acts.specs.CardNotes.{NotesOn, NotesOnCards, LeavesPlaces, on_sea
 use Rattle.run_acts.proofs.CardNotes.{both-cards, on-none, on-unbegun, session-noted, both-noted, first-noted}
 use Rattle.run_acts.proofs.CardPlaces.{places-self, leaves-then}
 use Rattle.run_keeping.proofs.Calm.{calm-of-unit, calm-same, calm-then}
+use Rattle.run_acts.proofs.OneCard.{none-there}
 use Rattle.run_acts.proofs.gap.note_gap.Goals as goal
 
 pub note_in-requires-clause-going : goal.note_in-requires-clause-going
@@ -89,10 +90,6 @@ note_in-requires-2-clause-begin g c = λ none.
     gap-begins c.args.kept c.args.run.now.next c.in-Some.span there (sym at ∙ none)
 
 -- ---- how far it came
-
-none-there : (o : Option Span) → ((span : Span) → o ≡ Some span → ⊥) → o ≡ None
-none-there None never = refl
-none-there (Some span) never = absurd (never span refl)
 
 pub returns-in_default-clause-noted : goal.returns-in_default-clause-noted
 returns-in_default-clause-noted g c =

@@ -1,207 +1,305 @@
-use Rattle.std.proofs.Common.{◌≡◌, ◌∙◌, ℕ, ◌+◌, ◌-◌, ◌/◌, Bool, true, false, Option, Some, None, [], ◌∷◌, length, refl, ap, sym, subst, arith}
+use Rattle.std.proofs.Common.{◌≡◌, ◌∙◌, ℕ, Bool, true, false, Option, Some, None, [], ◌∷◌, refl, ap, sym, subst, IfSome, is_some, ◌≤◌}
 use Rattle.activity_codec.specs.declared.values.Slot.{Slot}
 use Rattle.trace_model.specs.declared.Card.{Card}
 use Rattle.trace_model.specs.declared.Card.TheVariants.{A, B}
 use Rattle.tach_media.proofs.Runs.{on_ok, ok_gives}
-use Rattle.minute_model.specs.Span.{ungiven_of}
 use Rattle.slot_machine.specs.Calls.{seat_in, card_in}
 use Rattle.run_crew.specs.declared.cards.Known.{Known}
-use Rattle.run_crew.specs.Cards.{session_of}
-use Rattle.run_crew.specs.Cabin.{number_of_seat}
+use Rattle.run_crew.specs.Cards.{session_of, known_of}
+use Rattle.run_crew.specs.Cabin.{number_of_seat, Stands}
 use Rattle.log_model.specs.declared.lines.Break.{Break}
 use Rattle.run_outcome.specs.Lines.{Listed}
-use Rattle.run_keeping.proofs.Counts.{lines-length}
 use Rattle.run_acts.specs.declared.run.Run.{Run}
-use Rattle.run_acts.specs.Power.{with_cabin}
-use Rattle.run_acts.specs.Going.{IsHeld, IsLit}
-use Rattle.run_acts.specs.Room.{falls_of}
 use Rattle.run_keeping.specs.declared.keeper.Moment.{Moment}
 use Rattle.run_keeping.proofs.Fates.{no-lines}
-use Rattle.run_acts.specs.Acting.{noted_breaks, now_moment, IsNotedIn}
-use Rattle.run_acts.proofs.Cabins.{keeper-only, cabin-going, cabin-held, ready-same, at-same, noted_cabin, noted-is, noted-past, noted-minute, noted-sessions, noted-falls, noted-a, noted-b, numbered-session}
-use Rattle.std.specs.Prelude.{is_err}
+use Rattle.run_acts.specs.Acting.{now_moment, IsNotedIn, IsNotedOn, falls_by}
+use Rattle.run_acts.proofs.Cabins.{numbered-session}
+use Rattle.std.specs.Prelude.{is_err, OnOk, Result}
 use Rattle.run_acts.proofs.Comings.{leaves-more}
 use Rattle.run_acts.proofs.NoteRecorded.{noted-some, some-leaves}
 use Rattle.run_rule.specs.Between.{devices}
-use Rattle.run_acts.specs.Noting.{fall_events}
+use Rattle.run_acts.specs.Noting.{fall_events, IsNoteRecorded, NotesFall}
 use Rattle.run_acts.proofs.NotedEvents.{same-noted, noted-any}
 use Rattle.run_rings.proofs.Same.{rings-left}
-use Rattle.run_keeping.proofs.Later.{state-by, later-same, later-of-a, later-of-b}
+use Rattle.run_keeping.proofs.Later.{state-by, later-same}
 use Rattle.card_records.specs.declared.card_event.CardEvent.{CardEvent}
-use Rattle.tacho_types.specs.declared.card_number.FullCardNumber.{FullCardNumber}
-use Rattle.safety_model.specs.Safe.{card_of}
+use Rattle.safety_model.specs.Safe.{card_of, Devices}
 use Rattle.run_notes.specs.Entries.{card_entry}
-use Rattle.run_acts.specs.CardNotes.{NotesOn, LeavesPlaces, on_seat}
+use Rattle.run_acts.specs.CardNotes.{NotesOn, LeavesPlaces, on_seat, LeavePlaces, NotesOnCards}
 use Rattle.run_acts.proofs.CardNotes.{both-cards, seat-is, seat-other, seat-none, on-seat, on-as, on-other, bare-seat}
 use Rattle.run_acts.proofs.CardPlaces.{places-self}
-use Rattle.run_keeping.proofs.Calm.{calm-of-a, calm-of-b, calm-same, card-by}
+use Rattle.run_keeping.proofs.Calm.{calm-same}
+use Rattle.run_acts.proofs.OneCard.{OneCard, unit-is, later-by, calm-by, known-noted, only-noted, more-noted, room-noted, calm-noted, held-noted, going-noted, none-there}
+use Rattle.run_keeping.specs.Later.{AreCalm, AreLater}
+use Rattle.run_keeping.specs.Keeping.{CardReady, HasItsRow, UnitReady}
+use Rattle.card_layout.specs.declared.command.CardState.{CardState}
+use Rattle.run_crew.specs.declared.cards.Cards.{Cards}
+use Rattle.tach_media.specs.declared.fault.Failed.{Failed}
+use Rattle.tach_media.specs.Medium.{HasBroken, HasCause, LeavesOnly, State}
+use Rattle.log_model.specs.Log.{In}
+use Rattle.device_steps.specs.CardNotes.{IsNote}
+use Rattle.unit_model.specs.Image.{IsUnit}
+use Rattle.card_session.specs.Sessions.{IsValue}
+use Rattle.unit_notes.specs.Journal.{LeavesJournal}
+use Rattle.run_acts.specs.ActsEvented.{NoteLeaves}
+use Rattle.run_acts.specs.NotedEvents.{NotesEvents}
+use Rattle.slot_machine.specs.declared.seats.Seat.{Seat}
+use Rattle.run_told.specs.Told.{arranged}
+use Rattle.joint_rule.specs.Views.{other}
+use Rattle.run_rings.specs.Same.{LeavesRings}
+use Rattle.run_acts.proofs.gap.note_in.Given.{Over}
+use Rattle.run_acts.proofs.gap.note_in.Goals.{In-Some-number_in, After-note_on, After-note_on-in-B}
 use Rattle.run_acts.proofs.gap.note_in.Goals as goal
 
--- ---- card a
+-- ---- what is known of the note on a card
+
+abbrev NotesThere : {S : Type 0} (state : S → State) (chip : S → CardState) (which : Card) (slot : Slot) (event : CardEvent) (result : Result (Unit {0}) Failed) (old new : Run) (breaks after : Listed Break) (U V : State) (x y : S) → Type 0
+NotesThere state chip which slot event result old new breaks after U V x y = record {
+  noted : (fell : Bool) × IsNotedOn which slot (now_moment old) old new breaks after fell × HasBroken (state x) (state y) (falls_by fell) × HasCause (state x) (state y) fell × (is_err result ≡ true → fell ≡ true);
+  card_events : NotesOn false (session_of old.keeper.cabin.cards which) (session_of new.keeper.cabin.cards which) (event ∷ []) (state x) (state y);
+  places : LeavesPlaces (session_of old.keeper.cabin.cards which) (state x) (state y);
+  events : NotesFall (λ fell. IsNotedOn which slot (now_moment old) old new breaks after fell) old.next (is_err result) new (devices U (state x) (state x)) (devices V (state y) (state y));
+  rings : LeavesRings U V;
+  journal : LeavesOnly U V LeavesJournal;
+  moments : IfSome (session_of old.keeper.cabin.cards which) (λ a. LeavesOnly (state x) (state y) (IsNote a.session.application));
+  value : IfSome (session_of old.keeper.cabin.cards which) (λ a. IsValue a.session);
+  unit : IsUnit V;
+  ready : OnOk result (UnitReady new.keeper V);
+  rows : (card : Card) → HasItsRow old.keeper.cabin.cards U card → OnOk result (HasItsRow new.keeper.cabin.cards V card);
+  stands : (from : ℕ) (leaving : Option Card) → Stands from leaving old.keeper.cabin → Stands from leaving new.keeper.cabin;
+  card : CardReady (known_of new.keeper.cabin.cards which) (chip y) (state y);
+  size : (state y).size ≡ (state x).size;
+  clock_card : (state x).clock ≤ (state y).clock;
+  cause : HasCause U V (is_err result);
+}
+
+-- one event is noted on it, and none on the other
+event-by : (card : Card) (seat : Option Seat) (event : CardEvent) (old new : Cards) (U V X Y Z : State) → card_in seat ≡ Some card → NotesOn false (session_of old card) (session_of new card) (event ∷ []) X Y → known_of new (other card) ≡ known_of old (other card)
+    → NotesOnCards false old new (on_seat seat event) (arranged card U X Z) (arranged card V Y Z)
+event-by A seat event old new U V X Y Z there mine known =
+    both-cards (λ k. NotesOn false (session_of old k) (session_of new k) (on_seat seat event k) (card_of (devices U X Z) k) (card_of (devices V Y Z) k))
+    (on-as false (session_of old A) (session_of new A) (event ∷ []) (on_seat seat event A) X Y (sym (on-seat seat event A (seat-is seat A there))) mine)
+    (on-other false seat event B (session_of old B) (session_of new B) Z (seat-other seat A B there refl) (ap (λ (k : Known). k.accepted) known))
+event-by B seat event old new U V X Y Z there mine known =
+    both-cards (λ k. NotesOn false (session_of old k) (session_of new k) (on_seat seat event k) (card_of (devices U Z X) k) (card_of (devices V Z Y) k))
+    (on-other false seat event A (session_of old A) (session_of new A) Z (seat-other seat B A there refl) (ap (λ (k : Known). k.accepted) known))
+    (on-as false (session_of old B) (session_of new B) (event ∷ []) (on_seat seat event B) X Y (sym (on-seat seat event B (seat-is seat B there))) mine)
+
+-- and no place on either
+places-by : (card : Card) (cards : Cards) (U V X Y Z : State) → LeavesPlaces (session_of cards card) X Y → LeavePlaces cards (arranged card U X Z) (arranged card V Y Z)
+places-by A cards U V X Y Z mine = both-cards (λ k. LeavesPlaces (session_of cards k) (card_of (devices U X Z) k) (card_of (devices V Y Z) k)) mine (places-self (session_of cards B) Z)
+places-by B cards U V X Y Z mine = both-cards (λ k. LeavesPlaces (session_of cards k) (card_of (devices U Z X) k) (card_of (devices V Z Y) k)) (places-self (session_of cards A) Z) mine
+
+module _ (g : Over) (c : In-Some-number_in g) (k : OneCard c.in-Some.card (g.C.Chip.state c.args.card_a.now) (g.D.Chip.state c.args.card_b.now)) (e : NotesThere k.state k.chip k.which c.args.slot (card_entry c.args.event.now c.args.run.now.keeper.memory.registration) k.result c.args.run.now k.new c.args.breaks.now k.breaks (g.M.Medium.state c.args.unit.now) k.unit k.before k.after) where
+  abbrev first : Devices
+  first = devices (g.M.Medium.state c.args.unit.now) (g.C.Chip.state c.args.card_a.now) (g.D.Chip.state c.args.card_b.now)
+
+  abbrev last : Devices
+  last = arranged k.which k.unit (k.state k.after) k.beside
+
+  seat : card_in (seat_in c.args.run.now.keeper.cabin.slots.seats c.args.slot) ≡ Some k.which
+  seat = let is : c.in-Some.card ≡ k.which = k.is in cc
+
+  some : is_some (session_of c.args.run.now.keeper.cabin.cards k.which) ≡ true
+  some =
+      let told : number_of_seat c.args.run.now.keeper.cabin.cards (seat_in c.args.run.now.keeper.cabin.slots.seats c.args.slot) ≡ Some c.in-Some-number_in.field-0 = cc in
+      numbered-session c.args.run.now.keeper.cabin.cards (seat_in c.args.run.now.keeper.cabin.slots.seats c.args.slot) k.which c.in-Some-number_in.field-0 seat told
+
+  recorded : IsNoteRecorded (In 0) (is_err k.result) c.args.run.now k.new c.args.breaks.now k.breaks first last
+  recorded =
+      let lit = c.requires.going in
+      subst (λ (m : Devices). IsNoteRecorded (In 0) (is_err k.result) c.args.run.now k.new c.args.breaks.now k.breaks m last) (sym (k.beside_it (g.M.Medium.state c.args.unit.now)))
+      (noted-some k.which c.args.slot (now_moment c.args.run.now) c.args.run.now c.args.breaks.now (g.M.Medium.state c.args.unit.now) k.unit (k.state k.before) (k.state k.after) k.beside
+      (g.met.M.Medium.coherent c.args.unit.now) k.whole k.whole_after k.size some e.value seat refl refl lit.span lit.stands lit.next lit.cabin e.moments e.journal
+      (is_err k.result) e.cause (λ fine. leaves-more (g.M.Medium.state c.args.unit.now) k.unit e.rings) k.new k.breaks e.noted.0 e.noted.1 e.noted.2 e.noted.3)
+
+  leaves : NoteLeaves (is_err k.result) c.args.run.now c.args.breaks.now k.breaks first last
+  leaves =
+      let lit = c.requires.going in
+      subst (λ (m : Devices). NoteLeaves (is_err k.result) c.args.run.now c.args.breaks.now k.breaks m last) (sym (k.beside_it (g.M.Medium.state c.args.unit.now)))
+      (λ o done s out w power. some-leaves k.which c.args.slot (now_moment c.args.run.now) c.args.run.now c.args.breaks.now (g.M.Medium.state c.args.unit.now) k.unit (k.state k.before) (k.state k.after) k.beside
+      (g.met.M.Medium.coherent c.args.unit.now) k.whole k.whole_after k.size some e.value seat refl refl lit.span lit.stands lit.next lit.cabin e.moments e.journal
+      (is_err k.result) e.cause o done s out w (λ begins. power) s.actions ([], refl, refl) e.noted.0 k.new k.breaks e.noted.1 e.noted.2 e.noted.3)
+
+  noted-then : IsNotedIn (card_in (seat_in c.args.run.now.keeper.cabin.slots.seats c.args.slot)) c.args.slot (now_moment c.args.run.now) c.args.run.now k.new c.args.breaks.now k.breaks e.events.fell
+  noted-then = subst (λ (o : Option Card). IsNotedIn o c.args.slot (now_moment c.args.run.now) c.args.run.now k.new c.args.breaks.now k.breaks e.events.fell) (sym seat) (e.events.noted, λ fell. some)
+
+  notes : NotesFall (λ fell. IsNotedIn (card_in (seat_in c.args.run.now.keeper.cabin.slots.seats c.args.slot)) c.args.slot (now_moment c.args.run.now) c.args.run.now k.new c.args.breaks.now k.breaks fell) c.args.run.now.next (is_err k.result) k.new first last
+  notes = record {
+    fell = e.events.fell;
+    noted = noted-then;
+    failing = e.events.failing;
+    notes = subst (λ (m : Devices). NotesEvents (fall_events e.events.fell c.args.run.now.next k.new) (is_err k.result) m last) (sym (k.beside_it (g.M.Medium.state c.args.unit.now)))
+        (noted-any (fall_events e.events.fell c.args.run.now.next k.new) (is_err k.result) (devices (g.M.Medium.state c.args.unit.now) (k.state k.before) (k.state k.before)) (devices k.unit (k.state k.after) (k.state k.after)) (arranged k.which (g.M.Medium.state c.args.unit.now) (k.state k.before) k.beside) last (unit-is k.which (g.M.Medium.state c.args.unit.now) (k.state k.before) k.beside) (unit-is k.which k.unit (k.state k.after) k.beside) e.events.notes);
+  }
+
+  later : AreLater first last
+  later =
+      subst (λ (m : Devices). AreLater m last) (sym (k.beside_it (g.M.Medium.state c.args.unit.now)))
+      (later-by k.which (g.M.Medium.state c.args.unit.now) k.unit (k.state k.before) (k.state k.after) k.beside (state-by (g.M.Medium.state c.args.unit.now) k.unit _ e.journal.later e.cause) (state-by (k.state k.before) (k.state k.after) e.noted.0 e.clock_card e.noted.3))
+
+  calm : AreCalm c.args.breaks.now.items k.breaks.items first last
+  calm =
+      subst (λ (m : Devices). AreCalm c.args.breaks.now.items k.breaks.items m last) (sym (k.beside_it (g.M.Medium.state c.args.unit.now)))
+      (calm-by k.which (g.M.Medium.state c.args.unit.now) k.unit (k.state k.before) (k.state k.after) k.beside (calm-noted k.which c.args.slot (now_moment c.args.run.now) c.args.run.now k.new c.args.breaks.now k.breaks e.noted.0 e.noted.1 (k.state k.before) (k.state k.after) e.noted.3))
+
+  card-events : NotesOnCards false c.args.run.now.keeper.cabin.cards k.new.keeper.cabin.cards (on_seat (seat_in c.args.run.now.keeper.cabin.slots.seats c.args.slot) (card_entry c.args.event.now c.args.run.now.keeper.memory.registration)) first last
+  card-events =
+      subst (λ (m : Devices). NotesOnCards false c.args.run.now.keeper.cabin.cards k.new.keeper.cabin.cards (on_seat (seat_in c.args.run.now.keeper.cabin.slots.seats c.args.slot) (card_entry c.args.event.now c.args.run.now.keeper.memory.registration)) m last) (sym (k.beside_it (g.M.Medium.state c.args.unit.now)))
+      (event-by k.which (seat_in c.args.run.now.keeper.cabin.slots.seats c.args.slot) (card_entry c.args.event.now c.args.run.now.keeper.memory.registration) c.args.run.now.keeper.cabin.cards k.new.keeper.cabin.cards (g.M.Medium.state c.args.unit.now) k.unit (k.state k.before) (k.state k.after) k.beside seat e.card_events (known-noted k.which c.args.slot (now_moment c.args.run.now) c.args.run.now k.new c.args.breaks.now k.breaks e.noted.0 e.noted.1))
+
+  places : LeavePlaces c.args.run.now.keeper.cabin.cards first last
+  places = subst (λ (m : Devices). LeavePlaces c.args.run.now.keeper.cabin.cards m last) (sym (k.beside_it (g.M.Medium.state c.args.unit.now))) (places-by k.which c.args.run.now.keeper.cabin.cards (g.M.Medium.state c.args.unit.now) k.unit (k.state k.before) (k.state k.after) k.beside e.places)
+
+module _ (g : Over) (c : After-note_on g) where
+  abbrev there-a : In-Some-number_in g
+  there-a = (goal.at.returns-in-A-clause-cause g c).In-Some-number_in
+
+  abbrev side-a : OneCard there-a.in-Some.card (g.C.Chip.state c.args.card_a.now) (g.D.Chip.state c.args.card_b.now)
+  side-a = record {
+    which = A;
+    is = c.in-A.is;
+    S = _;
+    state = g.C.Chip.state;
+    chip = g.C.Chip.card;
+    before = c.args.card_a.now;
+    after = c.note_on.new.card;
+    whole = g.met.C.Chip.coherent c.args.card_a.now;
+    whole_after = g.met.C.Chip.coherent c.note_on.new.card;
+    size = c.requires.held.card_a.size;
+    beside = g.D.Chip.state c.args.card_b.now;
+    beside_it = λ unit. refl;
+    unit = g.M.Medium.state c.note_on.new.unit;
+    unit_whole = g.met.M.Medium.coherent c.note_on.new.unit;
+    new = c.note_on.new.run;
+    breaks = c.note_on.new.breaks;
+    result = c.note_on.result;
+  }
+
+module _ (g : Over) (c : After-note_on-in-B g) where
+  abbrev there-b : In-Some-number_in g
+  there-b = (goal.at.returns-in-B-clause-cause g c).In-Some-number_in
+
+  abbrev side-b : OneCard there-b.in-Some.card (g.C.Chip.state c.args.card_a.now) (g.D.Chip.state c.args.card_b.now)
+  side-b = record {
+    which = B;
+    is = c.in-B.is;
+    S = _;
+    state = g.D.Chip.state;
+    chip = g.D.Chip.card;
+    before = c.args.card_b.now;
+    after = c.note_on-in-B.new.card;
+    whole = g.met.D.Chip.coherent c.args.card_b.now;
+    whole_after = g.met.D.Chip.coherent c.note_on-in-B.new.card;
+    size = c.requires.held.card_b.size;
+    beside = g.C.Chip.state c.args.card_a.now;
+    beside_it = λ unit. refl;
+    unit = g.M.Medium.state c.note_on-in-B.new.unit;
+    unit_whole = g.met.M.Medium.coherent c.note_on-in-B.new.unit;
+    new = c.note_on-in-B.new.run;
+    breaks = c.note_on-in-B.new.breaks;
+    result = c.note_on-in-B.result;
+  }
+
+-- ---- card a, and card b
 
 pub returns-in-A-clause-held : goal.returns-in-A-clause-held
 returns-in-A-clause-held g c =
-    let run = c.args.run.now in
-    let new : Run = c.note_on.new.run in
     let e = c.note_on.ensures in
-    let n = e.noted in
-    let second : ℕ = c.args.run.now.next in
-    let cabin = noted_cabin n.0 A second run in
-    let is : new ≡ with_cabin cabin run = n.1.run ∙ noted-is n.0 A second run in
-    let known : new.keeper.cabin.cards.b ≡ run.keeper.cabin.cards.b = ap (λ (r : Run). r.keeper.cabin.cards.b) is ∙ noted-b n.0 second run in
-    let next : new.next ≡ run.next = ap (λ (r : Run). r.next) is in
-    let stand = c.requires.held.stand in
-    subst (λ (m : ℕ). IsHeld (m / 60) new (g.M.Medium.state c.note_on.new.unit) (g.C.Chip.card c.note_on.new.card) (g.D.Chip.card c.args.card_b.now) (g.C.Chip.state c.note_on.new.card) (g.D.Chip.state c.args.card_b.now)) (sym next)
-    (cabin-held (run.next / 60) run new cabin is c.requires.held e.unit (noted-minute A second run n.0 (run.next / 60) c.requires.held.minute (omega arith))
-    (record { port = e.card.port; size = let same = e.size in let size = c.requires.held.card_a.size in omega (arith, same, size) }) (at-same run.keeper.cabin.cards new.keeper.cabin.cards B known c.requires.held.card_b) (stand.0, stand.1, e.stands stand.0 stand.1 stand.2))
+    held-noted A c.args.slot (now_moment c.args.run.now) c.args.run.now c.note_on.new.run c.args.breaks.now c.note_on.new.breaks c.note_on.ensures.noted.0 c.note_on.ensures.noted.1 (g.M.Medium.state c.args.unit.now) (g.M.Medium.state c.note_on.new.unit) (g.C.Chip.state c.args.card_a.now) (g.C.Chip.state c.note_on.new.card) (g.D.Chip.state c.args.card_b.now) (g.C.Chip.card c.args.card_a.now) (g.C.Chip.card c.note_on.new.card) (g.D.Chip.card c.args.card_b.now) refl c.requires.held e.unit e.card e.size e.stands
 
 pub returns-in-A-clause-going : goal.returns-in-A-clause-going
 returns-in-A-clause-going g c =
-    let run = c.args.run.now in
-    let new : Run = c.note_on.new.run in
     let e = c.note_on.ensures in
-    let n = e.noted in
-    let second : ℕ = c.args.run.now.next in
-    let cabin = noted_cabin n.0 A second run in
-    let is : new ≡ with_cabin cabin run = n.1.run ∙ noted-is n.0 A second run in
-    let known : new.keeper.cabin.cards.b ≡ run.keeper.cabin.cards.b = ap (λ (r : Run). r.keeper.cabin.cards.b) is ∙ noted-b n.0 second run in
-    let next : new.next ≡ run.next = ap (λ (r : Run). r.next) is in
-    on_ok c.note_on.result (λ well.
-    subst (λ (m : ℕ). IsLit (m / 60) new (g.M.Medium.state c.note_on.new.unit) (g.C.Chip.card c.note_on.new.card) (g.D.Chip.card c.args.card_b.now) (g.C.Chip.state c.note_on.new.card) (g.D.Chip.state c.args.card_b.now)) (sym next)
-    (cabin-going (run.next / 60) run new cabin is None None c.requires.going (ok_gives c.note_on.result e.ready well) (e.card) (ready-same run.keeper.cabin.cards new.keeper.cabin.cards B known c.requires.going.ready.card_b)
-    (λ card h. ok_gives c.note_on.result (e.rows card h) well)
-    (noted-past A second run n.0) (e.stands (ungiven_of c.requires.going.span) None c.requires.going.cabin) (noted-sessions A second run n.0)))
+    on_ok c.note_on.result (λ well. going-noted A c.args.slot (now_moment c.args.run.now) c.args.run.now c.note_on.new.run c.args.breaks.now c.note_on.new.breaks c.note_on.ensures.noted.0 c.note_on.ensures.noted.1 (g.M.Medium.state c.args.unit.now) (g.M.Medium.state c.note_on.new.unit) (g.C.Chip.state c.args.card_a.now) (g.C.Chip.state c.note_on.new.card) (g.D.Chip.state c.args.card_b.now) (g.C.Chip.card c.args.card_a.now) (g.C.Chip.card c.note_on.new.card) (g.D.Chip.card c.args.card_b.now) c.requires.going (ok_gives c.note_on.result e.ready well) e.card (λ card h. ok_gives c.note_on.result (e.rows card h) well) e.stands)
+
+pub returns-in-A-clause-only : goal.returns-in-A-clause-only
+returns-in-A-clause-only g c = only-noted A c.args.slot (now_moment c.args.run.now) c.args.run.now c.note_on.new.run c.args.breaks.now c.note_on.new.breaks c.note_on.ensures.noted.0 c.note_on.ensures.noted.1
 
 pub returns-in-A-clause-room : goal.returns-in-A-clause-room
-returns-in-A-clause-room g c =
-    let run = c.args.run.now in
-    let new : Run = c.note_on.new.run in
-    let e = c.note_on.ensures in
-    let n = e.noted in
-    let second : ℕ = c.args.run.now.next in
-    let cabin = noted_cabin n.0 A second run in
-    let is : new ≡ with_cabin cabin run = n.1.run ∙ noted-is n.0 A second run in
-    let known : new.keeper.cabin.cards.b ≡ run.keeper.cabin.cards.b = ap (λ (r : Run). r.keeper.cabin.cards.b) is ∙ noted-b n.0 second run in
-    let next : new.next ≡ run.next = ap (λ (r : Run). r.next) is in
-    let breaks = c.args.breaks.now in
-    let there : card_in (seat_in run.keeper.cabin.slots.seats c.args.slot) ≡ Some A = cc in
-    let told : number_of_seat run.keeper.cabin.cards (seat_in run.keeper.cabin.slots.seats c.args.slot) ≡ Some c.in-Some-number_in.field-0 = cc in
-    let some = numbered-session run.keeper.cabin.cards (seat_in run.keeper.cabin.slots.seats c.args.slot) A c.in-Some-number_in.field-0 there told in
-    let falls = noted-falls A second run n.0 c.args.slot (now_moment c.args.run.now) some in
-    let same : falls_of new.keeper.cabin ≡ falls_of cabin = ap (λ (r : Run). falls_of r.keeper.cabin) is in
-    let length_is : length c.note_on.new.breaks.items ≡ length breaks.items + length (noted_breaks n.0 c.args.slot (now_moment c.args.run.now)) = ap (λ (l : Listed Break). length l.items) n.1.told ∙ lines-length (noted_breaks n.0 c.args.slot (now_moment c.args.run.now)) breaks in
-    (ap (λ (l : Listed Break). l.room) n.1.told, omega (arith, falls, same, length_is))
+returns-in-A-clause-room g c = room-noted A c.args.slot (now_moment c.args.run.now) c.args.run.now c.note_on.new.run c.args.breaks.now c.note_on.new.breaks c.note_on.ensures.noted.0 c.note_on.ensures.noted.1 (some g (there-a g c) (side-a g c) c.note_on.ensures)
+
+pub returns-in-A-clause-more : goal.returns-in-A-clause-more
+returns-in-A-clause-more g c = more-noted A c.args.slot (now_moment c.args.run.now) c.args.run.now c.note_on.new.run c.args.breaks.now c.note_on.new.breaks c.note_on.ensures.noted.0 c.note_on.ensures.noted.1
 
 pub returns-in-A-clause-cause : goal.returns-in-A-clause-cause
 returns-in-A-clause-cause g c = c.note_on.ensures.cause
 
--- ---- card b
+pub returns-in-A-clause-recorded : goal.returns-in-A-clause-recorded
+returns-in-A-clause-recorded g c = recorded g (there-a g c) (side-a g c) c.note_on.ensures
+
+pub returns-in-A-clause-leaves : goal.returns-in-A-clause-leaves
+returns-in-A-clause-leaves g c = leaves g (there-a g c) (side-a g c) c.note_on.ensures
+
+pub returns-in-A-clause-events : goal.returns-in-A-clause-events
+returns-in-A-clause-events g c = notes g (there-a g c) (side-a g c) c.note_on.ensures
+
+pub returns-in-A-clause-later : goal.returns-in-A-clause-later
+returns-in-A-clause-later g c = later g (there-a g c) (side-a g c) c.note_on.ensures
+
+pub returns-in-A-clause-card_events : goal.returns-in-A-clause-card_events
+returns-in-A-clause-card_events g c = card-events g (there-a g c) (side-a g c) c.note_on.ensures
+
+pub returns-in-A-clause-places : goal.returns-in-A-clause-places
+returns-in-A-clause-places g c = places g (there-a g c) (side-a g c) c.note_on.ensures
+
+pub returns-in-A-clause-calm : goal.returns-in-A-clause-calm
+returns-in-A-clause-calm g c = calm g (there-a g c) (side-a g c) c.note_on.ensures
+
+pub returns-in-A-clause-noted : goal.returns-in-A-clause-noted
+returns-in-A-clause-noted g c = (c.note_on.ensures.events.fell, noted-then g (there-a g c) (side-a g c) c.note_on.ensures, c.note_on.ensures.events.failing)
 
 pub returns-in-B-clause-held : goal.returns-in-B-clause-held
 returns-in-B-clause-held g c =
-    let run = c.args.run.now in
-    let new : Run = c.note_on-in-B.new.run in
     let e = c.note_on-in-B.ensures in
-    let n = e.noted in
-    let second : ℕ = c.args.run.now.next in
-    let cabin = noted_cabin n.0 B second run in
-    let is : new ≡ with_cabin cabin run = n.1.run ∙ noted-is n.0 B second run in
-    let known : new.keeper.cabin.cards.a ≡ run.keeper.cabin.cards.a = ap (λ (r : Run). r.keeper.cabin.cards.a) is ∙ noted-a n.0 second run in
-    let next : new.next ≡ run.next = ap (λ (r : Run). r.next) is in
-    let stand = c.requires.held.stand in
-    subst (λ (m : ℕ). IsHeld (m / 60) new (g.M.Medium.state c.note_on-in-B.new.unit) (g.C.Chip.card c.args.card_a.now) (g.D.Chip.card c.note_on-in-B.new.card) (g.C.Chip.state c.args.card_a.now) (g.D.Chip.state c.note_on-in-B.new.card)) (sym next)
-    (cabin-held (run.next / 60) run new cabin is c.requires.held e.unit (noted-minute B second run n.0 (run.next / 60) c.requires.held.minute (omega arith))
-    (at-same run.keeper.cabin.cards new.keeper.cabin.cards A known c.requires.held.card_a) (record { port = e.card.port; size = let same = e.size in let size = c.requires.held.card_b.size in omega (arith, same, size) }) (stand.0, stand.1, e.stands stand.0 stand.1 stand.2))
+    held-noted B c.args.slot (now_moment c.args.run.now) c.args.run.now c.note_on-in-B.new.run c.args.breaks.now c.note_on-in-B.new.breaks c.note_on-in-B.ensures.noted.0 c.note_on-in-B.ensures.noted.1 (g.M.Medium.state c.args.unit.now) (g.M.Medium.state c.note_on-in-B.new.unit) (g.D.Chip.state c.args.card_b.now) (g.D.Chip.state c.note_on-in-B.new.card) (g.C.Chip.state c.args.card_a.now) (g.D.Chip.card c.args.card_b.now) (g.D.Chip.card c.note_on-in-B.new.card) (g.C.Chip.card c.args.card_a.now) refl c.requires.held e.unit e.card e.size e.stands
 
 pub returns-in-B-clause-going : goal.returns-in-B-clause-going
 returns-in-B-clause-going g c =
-    let run = c.args.run.now in
-    let new : Run = c.note_on-in-B.new.run in
     let e = c.note_on-in-B.ensures in
-    let n = e.noted in
-    let second : ℕ = c.args.run.now.next in
-    let cabin = noted_cabin n.0 B second run in
-    let is : new ≡ with_cabin cabin run = n.1.run ∙ noted-is n.0 B second run in
-    let known : new.keeper.cabin.cards.a ≡ run.keeper.cabin.cards.a = ap (λ (r : Run). r.keeper.cabin.cards.a) is ∙ noted-a n.0 second run in
-    let next : new.next ≡ run.next = ap (λ (r : Run). r.next) is in
-    on_ok c.note_on-in-B.result (λ well.
-    subst (λ (m : ℕ). IsLit (m / 60) new (g.M.Medium.state c.note_on-in-B.new.unit) (g.C.Chip.card c.args.card_a.now) (g.D.Chip.card c.note_on-in-B.new.card) (g.C.Chip.state c.args.card_a.now) (g.D.Chip.state c.note_on-in-B.new.card)) (sym next)
-    (cabin-going (run.next / 60) run new cabin is None None c.requires.going (ok_gives c.note_on-in-B.result e.ready well) (ready-same run.keeper.cabin.cards new.keeper.cabin.cards A known c.requires.going.ready.card_a) (e.card)
-    (λ card h. ok_gives c.note_on-in-B.result (e.rows card h) well)
-    (noted-past B second run n.0) (e.stands (ungiven_of c.requires.going.span) None c.requires.going.cabin) (noted-sessions B second run n.0)))
+    on_ok c.note_on-in-B.result (λ well. going-noted B c.args.slot (now_moment c.args.run.now) c.args.run.now c.note_on-in-B.new.run c.args.breaks.now c.note_on-in-B.new.breaks c.note_on-in-B.ensures.noted.0 c.note_on-in-B.ensures.noted.1 (g.M.Medium.state c.args.unit.now) (g.M.Medium.state c.note_on-in-B.new.unit) (g.D.Chip.state c.args.card_b.now) (g.D.Chip.state c.note_on-in-B.new.card) (g.C.Chip.state c.args.card_a.now) (g.D.Chip.card c.args.card_b.now) (g.D.Chip.card c.note_on-in-B.new.card) (g.C.Chip.card c.args.card_a.now) c.requires.going (ok_gives c.note_on-in-B.result e.ready well) e.card (λ card h. ok_gives c.note_on-in-B.result (e.rows card h) well) e.stands)
+
+pub returns-in-B-clause-only : goal.returns-in-B-clause-only
+returns-in-B-clause-only g c = only-noted B c.args.slot (now_moment c.args.run.now) c.args.run.now c.note_on-in-B.new.run c.args.breaks.now c.note_on-in-B.new.breaks c.note_on-in-B.ensures.noted.0 c.note_on-in-B.ensures.noted.1
 
 pub returns-in-B-clause-room : goal.returns-in-B-clause-room
-returns-in-B-clause-room g c =
-    let run = c.args.run.now in
-    let new : Run = c.note_on-in-B.new.run in
-    let e = c.note_on-in-B.ensures in
-    let n = e.noted in
-    let second : ℕ = c.args.run.now.next in
-    let cabin = noted_cabin n.0 B second run in
-    let is : new ≡ with_cabin cabin run = n.1.run ∙ noted-is n.0 B second run in
-    let known : new.keeper.cabin.cards.a ≡ run.keeper.cabin.cards.a = ap (λ (r : Run). r.keeper.cabin.cards.a) is ∙ noted-a n.0 second run in
-    let next : new.next ≡ run.next = ap (λ (r : Run). r.next) is in
-    let breaks = c.args.breaks.now in
-    let there : card_in (seat_in run.keeper.cabin.slots.seats c.args.slot) ≡ Some B = cc in
-    let told : number_of_seat run.keeper.cabin.cards (seat_in run.keeper.cabin.slots.seats c.args.slot) ≡ Some c.in-Some-number_in.field-0 = cc in
-    let some = numbered-session run.keeper.cabin.cards (seat_in run.keeper.cabin.slots.seats c.args.slot) B c.in-Some-number_in.field-0 there told in
-    let falls = noted-falls B second run n.0 c.args.slot (now_moment c.args.run.now) some in
-    let same : falls_of new.keeper.cabin ≡ falls_of cabin = ap (λ (r : Run). falls_of r.keeper.cabin) is in
-    let length_is : length c.note_on-in-B.new.breaks.items ≡ length breaks.items + length (noted_breaks n.0 c.args.slot (now_moment c.args.run.now)) = ap (λ (l : Listed Break). length l.items) n.1.told ∙ lines-length (noted_breaks n.0 c.args.slot (now_moment c.args.run.now)) breaks in
-    (ap (λ (l : Listed Break). l.room) n.1.told, omega (arith, falls, same, length_is))
+returns-in-B-clause-room g c = room-noted B c.args.slot (now_moment c.args.run.now) c.args.run.now c.note_on-in-B.new.run c.args.breaks.now c.note_on-in-B.new.breaks c.note_on-in-B.ensures.noted.0 c.note_on-in-B.ensures.noted.1 (some g (there-b g c) (side-b g c) c.note_on-in-B.ensures)
+
+pub returns-in-B-clause-more : goal.returns-in-B-clause-more
+returns-in-B-clause-more g c = more-noted B c.args.slot (now_moment c.args.run.now) c.args.run.now c.note_on-in-B.new.run c.args.breaks.now c.note_on-in-B.new.breaks c.note_on-in-B.ensures.noted.0 c.note_on-in-B.ensures.noted.1
 
 pub returns-in-B-clause-cause : goal.returns-in-B-clause-cause
 returns-in-B-clause-cause g c = c.note_on-in-B.ensures.cause
 
-pub returns-in-A-clause-only : goal.returns-in-A-clause-only
-returns-in-A-clause-only g c =
-    let n = c.note_on.ensures.noted in
-    let cabin = noted_cabin n.0 A c.args.run.now.next c.args.run.now in
-    keeper-only c.args.run.now c.note_on.new.run cabin (n.1.run ∙ noted-is n.0 A c.args.run.now.next c.args.run.now)
-
-pub returns-in-B-clause-only : goal.returns-in-B-clause-only
-returns-in-B-clause-only g c =
-    let n = c.note_on-in-B.ensures.noted in
-    let cabin = noted_cabin n.0 B c.args.run.now.next c.args.run.now in
-    keeper-only c.args.run.now c.note_on-in-B.new.run cabin (n.1.run ∙ noted-is n.0 B c.args.run.now.next c.args.run.now)
-
-pub returns-in-A-clause-more : goal.returns-in-A-clause-more
-returns-in-A-clause-more g c =
-    let n = c.note_on.ensures.noted in
-    let length_is : length c.note_on.new.breaks.items ≡ length c.args.breaks.now.items + length (noted_breaks n.0 c.args.slot (now_moment c.args.run.now)) = ap (λ (l : Listed Break). length l.items) n.1.told ∙ lines-length (noted_breaks n.0 c.args.slot (now_moment c.args.run.now)) c.args.breaks.now in
-    omega (arith, length_is)
-
-pub returns-in-B-clause-more : goal.returns-in-B-clause-more
-returns-in-B-clause-more g c =
-    let n = c.note_on-in-B.ensures.noted in
-    let length_is : length c.note_on-in-B.new.breaks.items ≡ length c.args.breaks.now.items + length (noted_breaks n.0 c.args.slot (now_moment c.args.run.now)) = ap (λ (l : Listed Break). length l.items) n.1.told ∙ lines-length (noted_breaks n.0 c.args.slot (now_moment c.args.run.now)) c.args.breaks.now in
-    omega (arith, length_is)
-
-pub returns-in-A-clause-recorded : goal.returns-in-A-clause-recorded
-returns-in-A-clause-recorded g c =
-    let run = c.args.run.now in
-    let e = c.note_on.ensures in
-    let n = e.noted in
-    let lit = c.requires.going in
-    let there : card_in (seat_in run.keeper.cabin.slots.seats c.args.slot) ≡ Some A = cc in
-    let told : number_of_seat run.keeper.cabin.cards (seat_in run.keeper.cabin.slots.seats c.args.slot) ≡ Some c.in-Some-number_in.field-0 = cc in
-    let some = numbered-session run.keeper.cabin.cards (seat_in run.keeper.cabin.slots.seats c.args.slot) A c.in-Some-number_in.field-0 there told in
-    noted-some A c.args.slot (now_moment run) run c.args.breaks.now (g.M.Medium.state c.args.unit.now) (g.M.Medium.state c.note_on.new.unit) (g.C.Chip.state c.args.card_a.now) (g.C.Chip.state c.note_on.new.card) (g.D.Chip.state c.args.card_b.now)
-    (g.met.M.Medium.coherent c.args.unit.now) (g.met.C.Chip.coherent c.args.card_a.now) (g.met.C.Chip.coherent c.note_on.new.card) c.requires.held.card_a.size some e.value there refl refl lit.span lit.stands lit.next lit.cabin e.moments e.journal
-    (is_err c.note_on.result) e.cause (λ fine. leaves-more (g.M.Medium.state c.args.unit.now) (g.M.Medium.state c.note_on.new.unit) e.rings) c.note_on.new.run c.note_on.new.breaks n.0 n.1 n.2 n.3
-
 pub returns-in-B-clause-recorded : goal.returns-in-B-clause-recorded
-returns-in-B-clause-recorded g c =
-    let run = c.args.run.now in
-    let e = c.note_on-in-B.ensures in
-    let n = e.noted in
-    let lit = c.requires.going in
-    let there : card_in (seat_in run.keeper.cabin.slots.seats c.args.slot) ≡ Some B = cc in
-    let told : number_of_seat run.keeper.cabin.cards (seat_in run.keeper.cabin.slots.seats c.args.slot) ≡ Some c.in-Some-number_in.field-0 = cc in
-    let some = numbered-session run.keeper.cabin.cards (seat_in run.keeper.cabin.slots.seats c.args.slot) B c.in-Some-number_in.field-0 there told in
-    noted-some B c.args.slot (now_moment run) run c.args.breaks.now (g.M.Medium.state c.args.unit.now) (g.M.Medium.state c.note_on-in-B.new.unit) (g.D.Chip.state c.args.card_b.now) (g.D.Chip.state c.note_on-in-B.new.card) (g.C.Chip.state c.args.card_a.now)
-    (g.met.M.Medium.coherent c.args.unit.now) (g.met.D.Chip.coherent c.args.card_b.now) (g.met.D.Chip.coherent c.note_on-in-B.new.card) c.requires.held.card_b.size some e.value there refl refl lit.span lit.stands lit.next lit.cabin e.moments e.journal
-    (is_err c.note_on-in-B.result) e.cause (λ fine. leaves-more (g.M.Medium.state c.args.unit.now) (g.M.Medium.state c.note_on-in-B.new.unit) e.rings) c.note_on-in-B.new.run c.note_on-in-B.new.breaks n.0 n.1 n.2 n.3
+returns-in-B-clause-recorded g c = recorded g (there-b g c) (side-b g c) c.note_on-in-B.ensures
+
+pub returns-in-B-clause-leaves : goal.returns-in-B-clause-leaves
+returns-in-B-clause-leaves g c = leaves g (there-b g c) (side-b g c) c.note_on-in-B.ensures
+
+pub returns-in-B-clause-events : goal.returns-in-B-clause-events
+returns-in-B-clause-events g c = notes g (there-b g c) (side-b g c) c.note_on-in-B.ensures
+
+pub returns-in-B-clause-later : goal.returns-in-B-clause-later
+returns-in-B-clause-later g c = later g (there-b g c) (side-b g c) c.note_on-in-B.ensures
+
+pub returns-in-B-clause-card_events : goal.returns-in-B-clause-card_events
+returns-in-B-clause-card_events g c = card-events g (there-b g c) (side-b g c) c.note_on-in-B.ensures
+
+pub returns-in-B-clause-places : goal.returns-in-B-clause-places
+returns-in-B-clause-places g c = places g (there-b g c) (side-b g c) c.note_on-in-B.ensures
+
+pub returns-in-B-clause-calm : goal.returns-in-B-clause-calm
+returns-in-B-clause-calm g c = calm g (there-b g c) (side-b g c) c.note_on-in-B.ensures
+
+pub returns-in-B-clause-noted : goal.returns-in-B-clause-noted
+returns-in-B-clause-noted g c = (c.note_on-in-B.ensures.events.fell, noted-then g (there-b g c) (side-b g c) c.note_on-in-B.ensures, c.note_on-in-B.ensures.events.failing)
+
+-- ---- there is nobody to note it for
+
+noted-not : (o : Option Card) (slot : Slot) (at : Moment) (run : Run) (breaks : Listed Break) → IsNotedIn o slot at run run breaks breaks false
+noted-not None slot at run breaks = (refl, refl, refl)
+noted-not (Some card) slot at run breaks = (record { run = refl; told = no-lines breaks }, λ fell. absurd (let bad : false ≡ true = fell in cc))
 
 pub returns-in_default-clause-recorded : goal.returns-in_default-clause-recorded
 returns-in_default-clause-recorded g c = λ o done s out w power. record { goes = w; began = refl }
@@ -209,99 +307,11 @@ returns-in_default-clause-recorded g c = λ o done s out w power. record { goes 
 pub returns-in_default-number_in-clause-recorded : goal.returns-in_default-number_in-clause-recorded
 returns-in_default-number_in-clause-recorded g c = λ o done s out w power. record { goes = w; began = refl }
 
--- ---- what was left before, and a failure
-
-pub returns-in-A-clause-leaves : goal.returns-in-A-clause-leaves
-returns-in-A-clause-leaves g c = λ o done s out w power.
-    let run = c.args.run.now in
-    let e = c.note_on.ensures in
-    let n = e.noted in
-    let lit = c.requires.going in
-    let there : card_in (seat_in run.keeper.cabin.slots.seats c.args.slot) ≡ Some A = cc in
-    let told : number_of_seat run.keeper.cabin.cards (seat_in run.keeper.cabin.slots.seats c.args.slot) ≡ Some c.in-Some-number_in.field-0 = cc in
-    let some = numbered-session run.keeper.cabin.cards (seat_in run.keeper.cabin.slots.seats c.args.slot) A c.in-Some-number_in.field-0 there told in
-    some-leaves A c.args.slot (now_moment run) run c.args.breaks.now (g.M.Medium.state c.args.unit.now) (g.M.Medium.state c.note_on.new.unit) (g.C.Chip.state c.args.card_a.now) (g.C.Chip.state c.note_on.new.card) (g.D.Chip.state c.args.card_b.now)
-    (g.met.M.Medium.coherent c.args.unit.now) (g.met.C.Chip.coherent c.args.card_a.now) (g.met.C.Chip.coherent c.note_on.new.card) c.requires.held.card_a.size some e.value there refl refl lit.span lit.stands lit.next lit.cabin e.moments e.journal
-    (is_err c.note_on.result) e.cause o done s out w (λ begins. power) s.actions ([], refl, refl) n.0 c.note_on.new.run c.note_on.new.breaks n.1 n.2 n.3
-
-pub returns-in-B-clause-leaves : goal.returns-in-B-clause-leaves
-returns-in-B-clause-leaves g c = λ o done s out w power.
-    let run = c.args.run.now in
-    let e = c.note_on-in-B.ensures in
-    let n = e.noted in
-    let lit = c.requires.going in
-    let there : card_in (seat_in run.keeper.cabin.slots.seats c.args.slot) ≡ Some B = cc in
-    let told : number_of_seat run.keeper.cabin.cards (seat_in run.keeper.cabin.slots.seats c.args.slot) ≡ Some c.in-Some-number_in.field-0 = cc in
-    let some = numbered-session run.keeper.cabin.cards (seat_in run.keeper.cabin.slots.seats c.args.slot) B c.in-Some-number_in.field-0 there told in
-    some-leaves B c.args.slot (now_moment run) run c.args.breaks.now (g.M.Medium.state c.args.unit.now) (g.M.Medium.state c.note_on-in-B.new.unit) (g.D.Chip.state c.args.card_b.now) (g.D.Chip.state c.note_on-in-B.new.card) (g.C.Chip.state c.args.card_a.now)
-    (g.met.M.Medium.coherent c.args.unit.now) (g.met.D.Chip.coherent c.args.card_b.now) (g.met.D.Chip.coherent c.note_on-in-B.new.card) c.requires.held.card_b.size some e.value there refl refl lit.span lit.stands lit.next lit.cabin e.moments e.journal
-    (is_err c.note_on-in-B.result) e.cause o done s out w (λ begins. power) s.actions ([], refl, refl) n.0 c.note_on-in-B.new.run c.note_on-in-B.new.breaks n.1 n.2 n.3
-
 pub returns-in_default-clause-leaves : goal.returns-in_default-clause-leaves
 returns-in_default-clause-leaves g c = λ o done s out w power. (record { unit = λ x h. h; card = λ card x h. h }, λ bad. absurd (let wrong : false ≡ true = bad in cc))
 
 pub returns-in_default-number_in-clause-leaves : goal.returns-in_default-number_in-clause-leaves
 returns-in_default-number_in-clause-leaves g c = λ o done s out w power. (record { unit = λ x h. h; card = λ card x h. h }, λ bad. absurd (let wrong : false ≡ true = bad in cc))
-
--- ---- what is noted on the unit
-
-pub returns-in-A-clause-events : goal.returns-in-A-clause-events
-returns-in-A-clause-events g c =
-    let run = c.args.run.now in
-    let n = c.note_on.ensures.events in
-    let there : card_in (seat_in run.keeper.cabin.slots.seats c.args.slot) ≡ Some A = cc in
-    let told : number_of_seat run.keeper.cabin.cards (seat_in run.keeper.cabin.slots.seats c.args.slot) ≡ Some c.in-Some-number_in.field-0 = cc in
-    let some = numbered-session run.keeper.cabin.cards (seat_in run.keeper.cabin.slots.seats c.args.slot) A c.in-Some-number_in.field-0 there told in
-    record {
-      fell = n.fell;
-      noted = subst (λ (o : Option Card). IsNotedIn o c.args.slot (now_moment run) run c.note_on.new.run c.args.breaks.now c.note_on.new.breaks n.fell) (sym there) (n.noted, λ fell. some);
-      failing = n.failing;
-      notes = noted-any (fall_events n.fell run.next c.note_on.new.run) (is_err c.note_on.result) (devices (g.M.Medium.state c.args.unit.now) (g.C.Chip.state c.args.card_a.now) (g.C.Chip.state c.args.card_a.now)) (devices (g.M.Medium.state c.note_on.new.unit) (g.C.Chip.state c.note_on.new.card) (g.C.Chip.state c.note_on.new.card)) (devices (g.M.Medium.state c.args.unit.now) (g.C.Chip.state c.args.card_a.now) (g.D.Chip.state c.args.card_b.now)) (devices (g.M.Medium.state c.note_on.new.unit) (g.C.Chip.state c.note_on.new.card) (g.D.Chip.state c.args.card_b.now)) refl refl n.notes;
-    }
-
-pub returns-in-B-clause-events : goal.returns-in-B-clause-events
-returns-in-B-clause-events g c =
-    let run = c.args.run.now in
-    let n = c.note_on-in-B.ensures.events in
-    let there : card_in (seat_in run.keeper.cabin.slots.seats c.args.slot) ≡ Some B = cc in
-    let told : number_of_seat run.keeper.cabin.cards (seat_in run.keeper.cabin.slots.seats c.args.slot) ≡ Some c.in-Some-number_in.field-0 = cc in
-    let some = numbered-session run.keeper.cabin.cards (seat_in run.keeper.cabin.slots.seats c.args.slot) B c.in-Some-number_in.field-0 there told in
-    record {
-      fell = n.fell;
-      noted = subst (λ (o : Option Card). IsNotedIn o c.args.slot (now_moment run) run c.note_on-in-B.new.run c.args.breaks.now c.note_on-in-B.new.breaks n.fell) (sym there) (n.noted, λ fell. some);
-      failing = n.failing;
-      notes = noted-any (fall_events n.fell run.next c.note_on-in-B.new.run) (is_err c.note_on-in-B.result) (devices (g.M.Medium.state c.args.unit.now) (g.D.Chip.state c.args.card_b.now) (g.D.Chip.state c.args.card_b.now)) (devices (g.M.Medium.state c.note_on-in-B.new.unit) (g.D.Chip.state c.note_on-in-B.new.card) (g.D.Chip.state c.note_on-in-B.new.card)) (devices (g.M.Medium.state c.args.unit.now) (g.C.Chip.state c.args.card_a.now) (g.D.Chip.state c.args.card_b.now)) (devices (g.M.Medium.state c.note_on-in-B.new.unit) (g.C.Chip.state c.args.card_a.now) (g.D.Chip.state c.note_on-in-B.new.card)) refl refl n.notes;
-    }
-
-noted-not : (o : Option Card) (slot : Slot) (at : Moment) (run : Run) (breaks : Listed Break) → IsNotedIn o slot at run run breaks breaks false
-noted-not None slot at run breaks = (refl, refl, refl)
-noted-not (Some card) slot at run breaks = (record { run = refl; told = no-lines breaks }, λ fell. absurd (let bad : false ≡ true = fell in cc))
-
--- ---- by value
-
-pub returns-in-A-clause-noted : goal.returns-in-A-clause-noted
-returns-in-A-clause-noted g c =
-    let run = c.args.run.now in
-    let n = c.note_on.ensures.events in
-    let there : card_in (seat_in run.keeper.cabin.slots.seats c.args.slot) ≡ Some A = cc in
-    let told : number_of_seat run.keeper.cabin.cards (seat_in run.keeper.cabin.slots.seats c.args.slot) ≡ Some c.in-Some-number_in.field-0 = cc in
-    let some = numbered-session run.keeper.cabin.cards (seat_in run.keeper.cabin.slots.seats c.args.slot) A c.in-Some-number_in.field-0 there told in (
-      n.fell,
-      subst (λ (o : Option Card). IsNotedIn o c.args.slot (now_moment run) run c.note_on.new.run c.args.breaks.now c.note_on.new.breaks n.fell) (sym there) (n.noted, λ fell. some),
-      n.failing,
-    )
-
-pub returns-in-B-clause-noted : goal.returns-in-B-clause-noted
-returns-in-B-clause-noted g c =
-    let run = c.args.run.now in
-    let n = c.note_on-in-B.ensures.events in
-    let there : card_in (seat_in run.keeper.cabin.slots.seats c.args.slot) ≡ Some B = cc in
-    let told : number_of_seat run.keeper.cabin.cards (seat_in run.keeper.cabin.slots.seats c.args.slot) ≡ Some c.in-Some-number_in.field-0 = cc in
-    let some = numbered-session run.keeper.cabin.cards (seat_in run.keeper.cabin.slots.seats c.args.slot) B c.in-Some-number_in.field-0 there told in (
-      n.fell,
-      subst (λ (o : Option Card). IsNotedIn o c.args.slot (now_moment run) run c.note_on-in-B.new.run c.args.breaks.now c.note_on-in-B.new.breaks n.fell) (sym there) (n.noted, λ fell. some),
-      n.failing,
-    )
 
 pub returns-in_default-clause-noted : goal.returns-in_default-clause-noted
 returns-in_default-clause-noted g c =
@@ -333,71 +343,17 @@ returns-in_default-number_in-clause-events g c =
       notes = same-noted (g.M.Medium.state c.args.unit.now) (g.C.Chip.state c.args.card_a.now) (g.D.Chip.state c.args.card_b.now);
     }
 
--- ---- the rings
-
 pub returns-in_default-clause-rings : goal.returns-in_default-clause-rings
 returns-in_default-clause-rings g c = rings-left (g.M.Medium.state c.args.unit.now)
 
 pub returns-in_default-number_in-clause-rings : goal.returns-in_default-number_in-clause-rings
 returns-in_default-number_in-clause-rings g c = rings-left (g.M.Medium.state c.args.unit.now)
 
--- ---- what holds of the devices after any calls
-
 pub returns-in_default-clause-later : goal.returns-in_default-clause-later
 returns-in_default-clause-later g c = later-same (devices (g.M.Medium.state c.args.unit.now) (g.C.Chip.state c.args.card_a.now) (g.D.Chip.state c.args.card_b.now))
 
 pub returns-in_default-number_in-clause-later : goal.returns-in_default-number_in-clause-later
 returns-in_default-number_in-clause-later g c = later-same (devices (g.M.Medium.state c.args.unit.now) (g.C.Chip.state c.args.card_a.now) (g.D.Chip.state c.args.card_b.now))
-
-pub returns-in-A-clause-later : goal.returns-in-A-clause-later
-returns-in-A-clause-later g c = later-of-a (g.M.Medium.state c.args.unit.now) (g.M.Medium.state c.note_on.new.unit) (g.C.Chip.state c.args.card_a.now) (g.C.Chip.state c.note_on.new.card) (g.D.Chip.state c.args.card_b.now) (state-by (g.M.Medium.state c.args.unit.now) (g.M.Medium.state c.note_on.new.unit) _ c.note_on.ensures.journal.later c.note_on.ensures.cause) (state-by (g.C.Chip.state c.args.card_a.now) (g.C.Chip.state c.note_on.new.card) c.note_on.ensures.noted.0 c.note_on.ensures.clock_card c.note_on.ensures.noted.3)
-
-pub returns-in-B-clause-later : goal.returns-in-B-clause-later
-returns-in-B-clause-later g c = later-of-b (g.M.Medium.state c.args.unit.now) (g.M.Medium.state c.note_on-in-B.new.unit) (g.C.Chip.state c.args.card_a.now) (g.D.Chip.state c.args.card_b.now) (g.D.Chip.state c.note_on-in-B.new.card) (state-by (g.M.Medium.state c.args.unit.now) (g.M.Medium.state c.note_on-in-B.new.unit) _ c.note_on-in-B.ensures.journal.later c.note_on-in-B.ensures.cause) (state-by (g.D.Chip.state c.args.card_b.now) (g.D.Chip.state c.note_on-in-B.new.card) c.note_on-in-B.ensures.noted.0 c.note_on-in-B.ensures.clock_card c.note_on-in-B.ensures.noted.3)
-
--- ---- the events that the cards show
-
-pub returns-in-A-clause-card_events : goal.returns-in-A-clause-card_events
-returns-in-A-clause-card_events g c =
-    let run = c.args.run.now in
-    let new : Run = c.note_on.new.run in
-    let n = c.note_on.ensures.noted in
-    let second : ℕ = c.args.run.now.next in
-    let seat = seat_in run.keeper.cabin.slots.seats c.args.slot in
-    let event : CardEvent = card_entry c.args.event.now run.keeper.memory.registration in
-    let is : new ≡ with_cabin (noted_cabin n.0 A second run) run = n.1.run ∙ noted-is n.0 A second run in
-    let known : new.keeper.cabin.cards.b ≡ run.keeper.cabin.cards.b = ap (λ (r : Run). r.keeper.cabin.cards.b) is ∙ noted-b n.0 second run in
-    let there : card_in (seat_in run.keeper.cabin.slots.seats c.args.slot) ≡ Some A = cc in
-    let d = devices (g.M.Medium.state c.args.unit.now) (g.C.Chip.state c.args.card_a.now) (g.D.Chip.state c.args.card_b.now) in
-    let e = devices (g.M.Medium.state c.note_on.new.unit) (g.C.Chip.state c.note_on.new.card) (g.D.Chip.state c.args.card_b.now) in
-    both-cards (λ card. NotesOn false (session_of run.keeper.cabin.cards card) (session_of new.keeper.cabin.cards card) (on_seat seat event card) (card_of d card) (card_of e card))
-    (on-as false (session_of run.keeper.cabin.cards A) (session_of new.keeper.cabin.cards A) (event ∷ []) (on_seat seat event A) (g.C.Chip.state c.args.card_a.now) (g.C.Chip.state c.note_on.new.card) (sym (on-seat seat event A (seat-is seat A there))) c.note_on.ensures.card_events)
-    (on-other false seat event B (session_of run.keeper.cabin.cards B) (session_of new.keeper.cabin.cards B) (g.D.Chip.state c.args.card_b.now) (seat-other seat A B there refl) (ap (λ (k : Known). k.accepted) known))
-
-pub returns-in-B-clause-card_events : goal.returns-in-B-clause-card_events
-returns-in-B-clause-card_events g c =
-    let run = c.args.run.now in
-    let new : Run = c.note_on-in-B.new.run in
-    let n = c.note_on-in-B.ensures.noted in
-    let second : ℕ = c.args.run.now.next in
-    let seat = seat_in run.keeper.cabin.slots.seats c.args.slot in
-    let event : CardEvent = card_entry c.args.event.now run.keeper.memory.registration in
-    let is : new ≡ with_cabin (noted_cabin n.0 B second run) run = n.1.run ∙ noted-is n.0 B second run in
-    let known : new.keeper.cabin.cards.a ≡ run.keeper.cabin.cards.a = ap (λ (r : Run). r.keeper.cabin.cards.a) is ∙ noted-a n.0 second run in
-    let there : card_in (seat_in run.keeper.cabin.slots.seats c.args.slot) ≡ Some B = cc in
-    let d = devices (g.M.Medium.state c.args.unit.now) (g.C.Chip.state c.args.card_a.now) (g.D.Chip.state c.args.card_b.now) in
-    let e = devices (g.M.Medium.state c.note_on-in-B.new.unit) (g.C.Chip.state c.args.card_a.now) (g.D.Chip.state c.note_on-in-B.new.card) in
-    both-cards (λ card. NotesOn false (session_of run.keeper.cabin.cards card) (session_of new.keeper.cabin.cards card) (on_seat seat event card) (card_of d card) (card_of e card))
-    (on-other false seat event A (session_of run.keeper.cabin.cards A) (session_of new.keeper.cabin.cards A) (g.C.Chip.state c.args.card_a.now) (seat-other seat B A there refl) (ap (λ (k : Known). k.accepted) known))
-    (on-as false (session_of run.keeper.cabin.cards B) (session_of new.keeper.cabin.cards B) (event ∷ []) (on_seat seat event B) (g.D.Chip.state c.args.card_b.now) (g.D.Chip.state c.note_on-in-B.new.card) (sym (on-seat seat event B (seat-is seat B there))) c.note_on-in-B.ensures.card_events)
-
-none-there : (o : Option Card) → ((card : Card) → o ≡ Some card → ⊥) → o ≡ None
-none-there None never = refl
-none-there (Some card) never = absurd (never card refl)
-
-none-given : (o : Option FullCardNumber) → ((number : FullCardNumber) → o ≡ Some number → ⊥) → o ≡ None
-none-given None never = refl
-none-given (Some number) never = absurd (never number refl)
 
 pub returns-in_default-clause-card_events : goal.returns-in_default-clause-card_events
 returns-in_default-clause-card_events g c =
@@ -413,26 +369,10 @@ returns-in_default-number_in-clause-card_events g c =
     let run = c.args.run.now in
     let seat = seat_in run.keeper.cabin.slots.seats c.args.slot in
     let event : CardEvent = card_entry c.args.event.now run.keeper.memory.registration in
-    let none : number_of_seat run.keeper.cabin.cards (seat_in run.keeper.cabin.slots.seats c.args.slot) ≡ None = sym c.number_in.ensures ∙ none-given c.number_in.result c.in_default-number_in.not-Some in
+    let none : number_of_seat run.keeper.cabin.cards (seat_in run.keeper.cabin.slots.seats c.args.slot) ≡ None = sym c.number_in.ensures ∙ none-there c.number_in.result c.in_default-number_in.not-Some in
     let d = devices (g.M.Medium.state c.args.unit.now) (g.C.Chip.state c.args.card_a.now) (g.D.Chip.state c.args.card_b.now) in
     let ready = c.requires.going.ready in
     λ card. bare-seat run.keeper.cabin.cards seat event ready.card_a.is_known ready.card_b.is_known none card (card_of d card)
-
--- ---- the places of the cards
-
-pub returns-in-A-clause-places : goal.returns-in-A-clause-places
-returns-in-A-clause-places g c =
-    let run = c.args.run.now in
-    let d = devices (g.M.Medium.state c.args.unit.now) (g.C.Chip.state c.args.card_a.now) (g.D.Chip.state c.args.card_b.now) in
-    let e = devices (g.M.Medium.state c.note_on.new.unit) (g.C.Chip.state c.note_on.new.card) (g.D.Chip.state c.args.card_b.now) in
-    both-cards (λ card. LeavesPlaces (session_of run.keeper.cabin.cards card) (card_of d card) (card_of e card)) c.note_on.ensures.places (places-self (session_of run.keeper.cabin.cards B) (g.D.Chip.state c.args.card_b.now))
-
-pub returns-in-B-clause-places : goal.returns-in-B-clause-places
-returns-in-B-clause-places g c =
-    let run = c.args.run.now in
-    let d = devices (g.M.Medium.state c.args.unit.now) (g.C.Chip.state c.args.card_a.now) (g.D.Chip.state c.args.card_b.now) in
-    let e = devices (g.M.Medium.state c.note_on-in-B.new.unit) (g.C.Chip.state c.args.card_a.now) (g.D.Chip.state c.note_on-in-B.new.card) in
-    both-cards (λ card. LeavesPlaces (session_of run.keeper.cabin.cards card) (card_of d card) (card_of e card)) (places-self (session_of run.keeper.cabin.cards A) (g.C.Chip.state c.args.card_a.now)) c.note_on-in-B.ensures.places
 
 pub returns-in_default-clause-places : goal.returns-in_default-clause-places
 returns-in_default-clause-places g c =
@@ -444,16 +384,8 @@ returns-in_default-number_in-clause-places g c =
     let d = devices (g.M.Medium.state c.args.unit.now) (g.C.Chip.state c.args.card_a.now) (g.D.Chip.state c.args.card_b.now) in
     λ card. places-self (session_of c.args.run.now.keeper.cabin.cards card) (card_of d card)
 
--- ---- where no tear of a failed call is told no card has broken down
-
 pub returns-in_default-clause-calm : goal.returns-in_default-clause-calm
 returns-in_default-clause-calm g c = calm-same (devices (g.M.Medium.state c.args.unit.now) (g.C.Chip.state c.args.card_a.now) (g.D.Chip.state c.args.card_b.now))
 
 pub returns-in_default-number_in-clause-calm : goal.returns-in_default-number_in-clause-calm
 returns-in_default-number_in-clause-calm g c = calm-same (devices (g.M.Medium.state c.args.unit.now) (g.C.Chip.state c.args.card_a.now) (g.D.Chip.state c.args.card_b.now))
-
-pub returns-in-A-clause-calm : goal.returns-in-A-clause-calm
-returns-in-A-clause-calm g c = calm-of-a (g.M.Medium.state c.args.unit.now) (g.M.Medium.state c.note_on.new.unit) (g.C.Chip.state c.args.card_a.now) (g.C.Chip.state c.note_on.new.card) (g.D.Chip.state c.args.card_b.now) (card-by c.note_on.ensures.noted.0 c.args.slot (now_moment c.args.run.now) (λ (fell : Bool). noted_breaks fell c.args.slot (now_moment c.args.run.now)) refl refl (ap (λ (l : Listed Break). l.items) c.note_on.ensures.noted.1.told) c.note_on.ensures.noted.3)
-
-pub returns-in-B-clause-calm : goal.returns-in-B-clause-calm
-returns-in-B-clause-calm g c = calm-of-b (g.M.Medium.state c.args.unit.now) (g.M.Medium.state c.note_on-in-B.new.unit) (g.C.Chip.state c.args.card_a.now) (g.D.Chip.state c.args.card_b.now) (g.D.Chip.state c.note_on-in-B.new.card) (card-by c.note_on-in-B.ensures.noted.0 c.args.slot (now_moment c.args.run.now) (λ (fell : Bool). noted_breaks fell c.args.slot (now_moment c.args.run.now)) refl refl (ap (λ (l : Listed Break). l.items) c.note_on-in-B.ensures.noted.1.told) c.note_on-in-B.ensures.noted.3)

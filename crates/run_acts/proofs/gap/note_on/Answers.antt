@@ -32,6 +32,10 @@ use Rattle.run_entering.specs.CardEvents.{NotesOnCard}
 use Rattle.run_acts.specs.CardNotes.{NotesOn}
 use Rattle.run_acts.proofs.CardNotes.{plain-gap, entry-is, noted-well, noted-cut, on-session}
 use Rattle.run_acts.proofs.CardPlaces.{event-leaves}
+use Rattle.run_acts.specs.Acting.{IsNotedOn, now_moment}
+use Rattle.run_acts.specs.Power.{with_cabin}
+use Rattle.run_acts.proofs.gap.note_on.Given.{Over}
+use Rattle.run_acts.proofs.gap.note_on.Goals.{After-tear, After-set_session}
 use Rattle.run_acts.proofs.gap.note_on.Goals as goal
 
 pub note_event_on-requires-clause-port : goal.note_event_on-requires-clause-port
@@ -53,22 +57,51 @@ returns-in_default-take g c =
     let gone : session_of cards c.args.which ≡ None = sym c.take.ensures.taken ∙ none-there c.take.result c.in_default-take.not-Some in
     absurd (not-both (session_of cards c.args.which) c.requires.session gone)
 
--- ---- the call failed
+-- ---- the call failed, and the card was torn out
+
+module _ (g : Over) (c : After-tear g) where
+  sizes-fell : (known_of c.args.run.now.keeper.cabin.cards c.args.which).sizes ≡ Ok c.in-Ok.app
+  sizes-fell = cc
+
+  cabin-fell : c.tear.new.self.cabin ≡ torn_out c.args.which c.moment-at.result.second c.args.run.now.keeper.cabin
+  cabin-fell = ap (λ (k : Keeper). k.cabin) c.tear.ensures.keeper ∙ torn-apart c.args.which c.moment-at.result.second c.args.run.now.keeper.cabin c.take.new.self c.take.ensures.left
+
+  cause-bad : HasCause (g.C.Chip.state c.args.card.now) (g.C.Chip.state c.note_event_on.new.card) true
+  cause-bad = subst (λ (b : Bool). HasCause (g.C.Chip.state c.args.card.now) (g.C.Chip.state c.note_event_on.new.card) b) (sym c.is_err.ensures.value ∙ c.if-is_err.true) c.note_event_on.ensures.cause
+
+  noted-fell : IsNotedOn c.args.which c.args.slot (now_moment c.args.run.now) c.args.run.now (record c.args.run.now { keeper = c.tear.new.self }) c.args.breaks.now c.tear.new.breaks true
+  noted-fell = record {
+    run = ap (λ (k : Keeper). record c.args.run.now { keeper = k })
+        (subst (λ (m : Moment). c.tear.new.self ≡ record c.args.run.now.keeper { cabin = torn_out c.args.which m.second c.args.run.now.keeper.cabin }) c.moment-at.ensures (c.tear.ensures.keeper ∙ ap (λ (b : Cabin). record c.args.run.now.keeper { cabin = b }) (torn-apart c.args.which c.moment-at.result.second c.args.run.now.keeper.cabin c.take.new.self c.take.ensures.left)));
+    told = subst (λ (m : Moment). c.tear.new.breaks ≡ with_lines (tear_of c.args.slot m ∷ []) c.args.breaks.now) c.moment-at.ensures c.tear.ensures.told;
+  }
+
+-- ---- it is noted, and the session given back
+
+module _ (g : Over) (c : After-set_session g) where
+  sizes-back : (known_of c.args.run.now.keeper.cabin.cards c.args.which).sizes ≡ Ok c.in-Ok.app
+  sizes-back = cc
+
+  cards-back : c.set_session.new.self ≡ c.args.run.now.keeper.cabin.cards
+  cards-back = c.set_session.ensures ∙ ap (λ (q : Cards). with_session c.args.which (Some c.in-Some.accepted) q) c.take.ensures.left ∙ session-back c.args.which c.in-Some.accepted c.args.run.now.keeper.cabin.cards (sym c.in-Some.ensures.taken)
+
+  went-well : is_err c.note_event_on.result ≡ false
+  went-well = sym c.is_err.ensures.value ∙ c.if-is_err.false
+
+  cause-well : HasCause (g.C.Chip.state c.args.card.now) (g.C.Chip.state c.note_event_on.new.card) false
+  cause-well = subst (λ (b : Bool). HasCause (g.C.Chip.state c.args.card.now) (g.C.Chip.state c.note_event_on.new.card) b) went-well c.note_event_on.ensures.cause
+
+  noted-whole : IsNotedOn c.args.which c.args.slot (now_moment c.args.run.now) c.args.run.now (with_cabin (record c.args.run.now.keeper.cabin { cards = c.set_session.new.self }) c.args.run.now) c.args.breaks.now c.args.breaks.now false
+  noted-whole = record { run = ap (λ (q : Cards). with_cabin (record c.args.run.now.keeper.cabin { cards = q }) c.args.run.now) cards-back; told = no-lines c.args.breaks.now }
 
 pub returns-then-is_err-clause-noted : goal.returns-then-is_err-clause-noted
 returns-then-is_err-clause-noted g c =
     let run = c.args.run.now in
     let X = g.C.Chip.state c.args.card.now in
     let Y = g.C.Chip.state c.note_event_on.new.card in
-    let bad : is_err c.note_event_on.result ≡ true = sym c.is_err.ensures.value ∙ c.if-is_err.true in
-    let cause = subst (λ (b : Bool). HasCause X Y b) bad c.note_event_on.ensures.cause in
-    let keeper =
-    c.tear.ensures.keeper ∙ ap (λ (b : Cabin). record run.keeper { cabin = b }) (torn-apart c.args.which c.moment-at.result.second run.keeper.cabin c.take.new.self c.take.ensures.left) in (
+    let cause = cause-bad g c in (
       true,
-      record {
-        run = ap (λ (k : Keeper). record run { keeper = k }) (subst (λ (m : Moment). c.tear.new.self ≡ record run.keeper { cabin = torn_out c.args.which m.second run.keeper.cabin }) c.moment-at.ensures keeper);
-        told = subst (λ (m : Moment). c.tear.new.breaks ≡ with_lines (tear_of c.args.slot m ∷ []) c.args.breaks.now) c.moment-at.ensures c.tear.ensures.told;
-      },
+      noted-fell g c,
       fell-broken X Y (session-works c.args.which run.keeper.cabin.cards (g.C.Chip.card c.args.card.now) X c.requires.card c.requires.session) cause,
       cause,
       λ _. refl,
@@ -77,7 +110,7 @@ returns-then-is_err-clause-noted g c =
 pub returns-then-is_err-clause-moments : goal.returns-then-is_err-clause-moments
 returns-then-is_err-clause-moments g c =
     let cards = c.args.run.now.keeper.cabin.cards in
-    let is : (known_of cards c.args.which).sizes ≡ Ok c.in-Ok.app = cc in
+    let is = sizes-fell g c in
     noted-sizes c.args.which cards c.in-Ok.app (g.C.Chip.card c.args.card.now) (g.C.Chip.state c.args.card.now) (g.C.Chip.state c.note_event_on.new.card) c.requires.card is (weaken c.note_event_on.ensures.moments (λ x n told note. inl (c.on_card-noted.result, note)))
 
 pub returns-then-is_err-clause-rows : goal.returns-then-is_err-clause-rows
@@ -91,26 +124,17 @@ pub returns-then-is_err-clause-stands : goal.returns-then-is_err-clause-stands
 returns-then-is_err-clause-stands g c = λ from leaving h.
     let run = c.args.run.now in
     let at = c.moment-at.ensures in
-    let cabin =
-    ap (λ (k : Keeper). k.cabin) c.tear.ensures.keeper ∙ torn-apart c.args.which c.moment-at.result.second run.keeper.cabin c.take.new.self c.take.ensures.left in
+    let cabin = cabin-fell g c in
     subst (λ (b : Cabin). Stands from leaving b) (sym cabin)
     (torn-stands run.keeper.cabin c.args.which c.moment-at.result.second from leaving (subst (λ (m : Moment). run.keeper.cabin.slots.minute ≤ m.second / 60) (sym at) c.requires.minute) h)
 
--- ---- it is noted
-
 pub returns-clause-noted : goal.returns-clause-noted
 returns-clause-noted g c =
-    let run = c.args.run.now in
     let X = g.C.Chip.state c.args.card.now in
     let Y = g.C.Chip.state c.note_event_on.new.card in
-    let well : is_err c.note_event_on.result ≡ false = sym c.is_err.ensures.value ∙ c.if-is_err.false in
-    let cause = subst (λ (b : Bool). HasCause X Y b) well c.note_event_on.ensures.cause in
-    let cards = c.set_session.ensures ∙ ap (λ (q : Cards). with_session c.args.which (Some c.in-Some.accepted) q) c.take.ensures.left ∙ session-back c.args.which c.in-Some.accepted run.keeper.cabin.cards (sym c.in-Some.ensures.taken) in (
+    let cause = cause-well g c in (
       false,
-      record {
-        run = ap (λ (q : Cards). record run { keeper = record run.keeper { cabin = record run.keeper.cabin { cards = q } } }) cards;
-        told = no-lines c.args.breaks.now;
-      },
+      noted-whole g c,
       well-broken X Y cause,
       cause,
       λ bad. bad,
@@ -119,19 +143,18 @@ returns-clause-noted g c =
 pub returns-clause-moments : goal.returns-clause-moments
 returns-clause-moments g c =
     let cards = c.args.run.now.keeper.cabin.cards in
-    let is : (known_of cards c.args.which).sizes ≡ Ok c.in-Ok.app = cc in
+    let is = sizes-back g c in
     noted-sizes c.args.which cards c.in-Ok.app (g.C.Chip.card c.args.card.now) (g.C.Chip.state c.args.card.now) (g.C.Chip.state c.note_event_on.new.card) c.requires.card is (weaken c.note_event_on.ensures.moments (λ x n told note. inl (c.on_card-noted.result, note)))
 
 pub returns-clause-rows : goal.returns-clause-rows
 returns-clause-rows g c = λ card h.
-    let run = c.args.run.now in
-    let cards = c.set_session.ensures ∙ ap (λ (q : Cards). with_session c.args.which (Some c.in-Some.accepted) q) c.take.ensures.left ∙ session-back c.args.which c.in-Some.accepted run.keeper.cabin.cards (sym c.in-Some.ensures.taken) in
+    let cards = cards-back g c in
     subst (λ (q : Cards). HasItsRow q (g.M.Medium.state c.args.unit.now) card) (sym cards) h
 
 pub returns-clause-stands : goal.returns-clause-stands
 returns-clause-stands g c = λ from leaving h.
     let run = c.args.run.now in
-    let cards = c.set_session.ensures ∙ ap (λ (q : Cards). with_session c.args.which (Some c.in-Some.accepted) q) c.take.ensures.left ∙ session-back c.args.which c.in-Some.accepted run.keeper.cabin.cards (sym c.in-Some.ensures.taken) in
+    let cards = cards-back g c in
     subst (λ (q : Cards). Stands from leaving (record run.keeper.cabin { cards = q })) (sym cards) h
 
 pub returns-clause-card : goal.returns-clause-card
@@ -140,10 +163,9 @@ returns-clause-card g c =
     let next = g.C.Chip.card c.note_event_on.new.card in
     let X = g.C.Chip.state c.args.card.now in
     let Y = g.C.Chip.state c.note_event_on.new.card in
-    let well : is_err c.note_event_on.result ≡ false = sym c.is_err.ensures.value ∙ c.if-is_err.false in
-    let cause = subst (λ (b : Bool). HasCause X Y b) well c.note_event_on.ensures.cause in
-    let is : (known_of run.keeper.cabin.cards c.args.which).sizes ≡ Ok c.in-Ok.app = cc in
-    let cards = c.set_session.ensures ∙ ap (λ (q : Cards). with_session c.args.which (Some c.in-Some.accepted) q) c.take.ensures.left ∙ session-back c.args.which c.in-Some.accepted run.keeper.cabin.cards (sym c.in-Some.ensures.taken) in
+    let cause = cause-well g c in
+    let is = sizes-back g c in
+    let cards = cards-back g c in
     subst (λ (q : Cards). CardReady (known_of q c.args.which) next Y) (sym cards)
     (ready-again (known_of run.keeper.cabin.cards c.args.which) c.in-Ok.app (g.C.Chip.card c.args.card.now) next X Y c.requires.card is c.note_event_on.ensures.port cause.works)
 
@@ -158,14 +180,9 @@ returns-then-is_err-clause-events g c =
     let Y = g.C.Chip.state c.note_event_on.new.card in
     let crew = crew_of c.tear.new.self.cabin in
     let second : c.moment-at.result.second ≡ run.next = ap (λ (m : Moment). m.second) c.moment-at.ensures in
-    let keeper =
-    c.tear.ensures.keeper ∙ ap (λ (b : Cabin). record run.keeper { cabin = b }) (torn-apart c.args.which c.moment-at.result.second run.keeper.cabin c.take.new.self c.take.ensures.left) in
     record {
       fell = true;
-      noted = record {
-        run = ap (λ (k : Keeper). record run { keeper = k }) (subst (λ (m : Moment). c.tear.new.self ≡ record run.keeper { cabin = torn_out c.args.which m.second run.keeper.cabin }) c.moment-at.ensures keeper);
-        told = subst (λ (m : Moment). c.tear.new.breaks ≡ with_lines (tear_of c.args.slot m ∷ []) c.args.breaks.now) c.moment-at.ensures c.tear.ensures.told;
-      };
+      noted = noted-fell g c;
       failing = λ _. refl;
       notes = one-noted U V X X Y Y (g.met.M.Medium.coherent c.args.unit.now) (g.met.M.Medium.coherent c.tear.new.unit) c.requires.ready.is_unit (entry_of CARD_FAULT run.next run.next crew crew) (is_err c.tear.result)
           (λ well. subst (λ (n : ℕ). IfSome U.image (λ x. IfSome V.image (IsEventNoted CARD_FAULT (fault_of n crew) x))) second (ok_gives c.tear.result c.tear.ensures.noted well))
@@ -174,17 +191,12 @@ returns-then-is_err-clause-events g c =
 
 pub returns-clause-events : goal.returns-clause-events
 returns-clause-events g c =
-    let run = c.args.run.now in
     let X = g.C.Chip.state c.args.card.now in
     let Y = g.C.Chip.state c.note_event_on.new.card in
     let U = g.M.Medium.state c.args.unit.now in
-    let cards = c.set_session.ensures ∙ ap (λ (q : Cards). with_session c.args.which (Some c.in-Some.accepted) q) c.take.ensures.left ∙ session-back c.args.which c.in-Some.accepted run.keeper.cabin.cards (sym c.in-Some.ensures.taken) in
     record {
       fell = false;
-      noted = record {
-        run = ap (λ (q : Cards). record run { keeper = record run.keeper { cabin = record run.keeper.cabin { cards = q } } }) cards;
-        told = no-lines c.args.breaks.now;
-      };
+      noted = noted-whole g c;
       failing = λ bad. bad;
       notes = noted-any [] false (devices U X X) (devices U X X) (devices U X X) (devices U Y Y) refl refl (same-noted U X X);
     }
@@ -207,10 +219,10 @@ returns-then-is_err-clause-card_events g c =
     let cards = run.keeper.cabin.cards in
     let X = g.C.Chip.state c.args.card.now in
     let Y = g.C.Chip.state c.note_event_on.new.card in
-    let sizes : (known_of cards c.args.which).sizes ≡ Ok c.in-Ok.app = cc in
+    let sizes = sizes-fell g c in
     let event : CardEvent = card_entry c.args.event.now run.keeper.memory.registration in
     let same = entry-is c.args.event.now c.on_card-noted.result c.identity.result run.keeper.memory c.on_card-noted.ensures c.identity.ensures in
-    let cabin = ap (λ (k : Keeper). k.cabin) c.tear.ensures.keeper ∙ torn-apart c.args.which c.moment-at.result.second run.keeper.cabin c.take.new.self c.take.ensures.left in
+    let cabin = cabin-fell g c in
     let gone : session_of c.tear.new.self.cabin.cards c.args.which ≡ None = ap (λ (b : Cabin). session_of b.cards c.args.which) cabin ∙ session-set c.args.which None cards in
     let moments = subst (λ (v : CardEvent). LeavesOnly X Y (on.IsNotingEvent c.in-Ok.app v)) same c.note_event_on.ensures.moments in
     subst (λ (o : Option Accepted). NotesOn false (session_of cards c.args.which) o (event ∷ []) X Y) (sym gone)
@@ -223,14 +235,13 @@ returns-clause-card_events g c =
     let before = run.keeper.cabin.cards in
     let X = g.C.Chip.state c.args.card.now in
     let Y = g.C.Chip.state c.note_event_on.new.card in
-    let sizes : (known_of before c.args.which).sizes ≡ Ok c.in-Ok.app = cc in
+    let sizes = sizes-back g c in
     let event : CardEvent = card_entry c.args.event.now run.keeper.memory.registration in
     let same = entry-is c.args.event.now c.on_card-noted.result c.identity.result run.keeper.memory c.on_card-noted.ensures c.identity.ensures in
-    let well : is_err c.note_event_on.result ≡ false = sym c.is_err.ensures.value ∙ c.if-is_err.false in
-    let cause = subst (λ (b : Bool). HasCause X Y b) well c.note_event_on.ensures.cause in
-    let cards = c.set_session.ensures ∙ ap (λ (q : Cards). with_session c.args.which (Some c.in-Some.accepted) q) c.take.ensures.left ∙ session-back c.args.which c.in-Some.accepted run.keeper.cabin.cards (sym c.in-Some.ensures.taken) in
+    let cause = cause-well g c in
+    let cards = cards-back g c in
     let moments = subst (λ (v : CardEvent). LeavesOnly X Y (on.IsNotingEvent c.in-Ok.app v)) same c.note_event_on.ensures.moments in
-    let noted = subst (λ (v : CardEvent). IfSome X.image (λ x. IfSome Y.image (on.IsEventNoted c.in-Ok.app v x))) same (ok_gives c.note_event_on.result c.note_event_on.ensures.noted well) in
+    let noted = subst (λ (v : CardEvent). IfSome X.image (λ x. IfSome Y.image (on.IsEventNoted c.in-Ok.app v x))) same (ok_gives c.note_event_on.result c.note_event_on.ensures.noted (went-well g c)) in
     let works = session-works c.args.which before (g.C.Chip.card c.args.card.now) X c.requires.card c.requires.session in
     subst (λ (q : Cards). NotesOn false (session_of before c.args.which) (session_of q c.args.which) (event ∷ []) X Y) (sym cards)
     (on-session c.args.which before c.in-Ok.app (g.C.Chip.card c.args.card.now) X Y (session_of before c.args.which) (event ∷ []) c.requires.card sizes c.requires.session
@@ -242,11 +253,11 @@ returns-clause-card_events g c =
 pub returns-then-is_err-clause-places : goal.returns-then-is_err-clause-places
 returns-then-is_err-clause-places g c =
     let cards = c.args.run.now.keeper.cabin.cards in
-    let sizes : (known_of cards c.args.which).sizes ≡ Ok c.in-Ok.app = cc in
+    let sizes = sizes-fell g c in
     event-leaves c.args.which cards c.in-Ok.app c.on_card-noted.result (g.C.Chip.card c.args.card.now) (g.C.Chip.state c.args.card.now) (g.C.Chip.state c.note_event_on.new.card) (g.met.C.Chip.coherent c.args.card.now) c.requires.card sizes c.requires.session c.note_event_on.ensures.moments
 
 pub returns-clause-places : goal.returns-clause-places
 returns-clause-places g c =
     let cards = c.args.run.now.keeper.cabin.cards in
-    let sizes : (known_of cards c.args.which).sizes ≡ Ok c.in-Ok.app = cc in
+    let sizes = sizes-back g c in
     event-leaves c.args.which cards c.in-Ok.app c.on_card-noted.result (g.C.Chip.card c.args.card.now) (g.C.Chip.state c.args.card.now) (g.C.Chip.state c.note_event_on.new.card) (g.met.C.Chip.coherent c.args.card.now) c.requires.card sizes c.requires.session c.note_event_on.ensures.moments

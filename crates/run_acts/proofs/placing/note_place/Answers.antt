@@ -1,23 +1,18 @@
-use Rattle.std.proofs.Common.{rules, ◌≡◌, ◌∙◌, ℕ, ◌+◌, ◌-◌, ◌/◌, Bool, true, false, Option, Some, None, is_some, length, refl, ap, sym, subst, arith, inl, inr, ◌^◌, ◌<◌}
+use Rattle.std.proofs.Common.{rules, ◌≡◌, ◌∙◌, ℕ, Bool, true, false, Option, Some, None, is_some, length, refl, ap, sym, subst, arith, inl, inr, ◌^◌, ◌<◌, ◌≤◌}
 use Rattle.trace_model.specs.declared.Card.TheVariants.{A, B}
 use Rattle.tach_media.proofs.Runs.{on_ok, ok_gives, cause_after}
 use Rattle.minute_model.specs.Span.{ungiven_of}
 use Rattle.slot_machine.specs.Calls.{seat_in, card_in, logged}
-use Rattle.run_crew.specs.declared.cards.Known.{Known}
-use Rattle.run_crew.specs.Cards.{session_of}
-use Rattle.run_crew.specs.Cabin.{number_of_seat}
+use Rattle.run_crew.specs.Cards.{session_of, known_of}
+use Rattle.run_crew.specs.Cabin.{number_of_seat, Stands}
 use Rattle.log_model.specs.declared.lines.Break.{Break}
 use Rattle.run_outcome.specs.Lines.{Listed}
-use Rattle.run_keeping.specs.Keeping.{HasLeftMore, with_lines}
-use Rattle.run_keeping.proofs.Counts.{lines-length}
+use Rattle.run_keeping.specs.Keeping.{HasLeftMore, with_lines, CardReady, HasItsRow, UnitReady}
 use Rattle.run_acts.specs.declared.run.Run.{Run}
-use Rattle.run_acts.specs.Power.{with_cabin}
-use Rattle.run_acts.specs.Going.{IsHeld, IsLit}
-use Rattle.run_acts.specs.Room.{falls_of}
 use Rattle.run_acts.proofs.Noted.{noted-ready, noted-row}
-use Rattle.run_acts.specs.Acting.{noted_breaks, noted_run, IsNotedOn}
-use Rattle.run_acts.proofs.Cabins.{keeper-only, cabin-going, cabin-held, ready-same, at-same, noted_cabin, noted-is, noted-past, noted-minute, noted-sessions, noted-falls, noted-a, noted-b, numbered-session}
-use Rattle.std.specs.Prelude.{is_err, suc, IfSome, List, [], ◌∷◌, ◌++◌}
+use Rattle.run_acts.specs.Acting.{noted_run, IsNotedOn, falls_by}
+use Rattle.run_acts.proofs.Cabins.{numbered-session}
+use Rattle.std.specs.Prelude.{is_err, suc, IfSome, List, [], ◌∷◌, ◌++◌, OnOk, Result}
 use Rattle.std.proofs.lemmas.List.{append-nil}
 use Rattle.activity_codec.specs.declared.values.Slot.{Slot}
 use Rattle.trace_model.specs.declared.Action.{Action}
@@ -30,25 +25,25 @@ use Rattle.run_rule.specs.Between.{devices}
 use Rattle.run_outcome.specs.declared.outcome.Outcome.{Outcome}
 use Rattle.run_recorded.specs.Origin.{Origin}
 use Rattle.run_within.specs.Within.{Beginning}
-use Rattle.run_acts.specs.Recording.{RunWithin, RunGoesOn, GoesOnOrFails, IsNow, log_of, values_of}
+use Rattle.run_acts.specs.Recording.{RunWithin, RunGoesOn, GoesOnOrFails, IsNow, log_of, values_of, ComesPower}
 use Rattle.run_acts.proofs.Comings.{leaves-more, place-more}
 use Rattle.run_acts.proofs.NoteRecorded.{noted-some, place-told, unit-recorded, unit-evented, some-evented}
 use Rattle.trace_model.specs.declared.Card.{Card}
 use Rattle.gated_ring.specs.Change.{IsAdding}
 use Rattle.message_model.specs.Records.{unit_place_ring}
 use Rattle.run_acts.specs.NotedEvents.{NotesEvents}
-use Rattle.run_acts.specs.Noting.{NotesPlace, fall_events}
+use Rattle.run_acts.specs.Noting.{NotesPlace, fall_events, IsNoteRecorded, NotesFall}
 use Rattle.run_acts.proofs.NotedEvents.{same-noted, noted-any, then-noted}
 use Rattle.run_acts.proofs.ActsNoted.{says-of, quiet-any, adding-nothing, no-place, same-fell}
 use Rattle.tacho_types.specs.declared.card_number.FullCardNumber.{FullCardNumber}
-use Rattle.tach_media.specs.Medium.{State, LeavesOnly}
+use Rattle.tach_media.specs.Medium.{State, LeavesOnly, HasBroken, HasCause}
 use Rattle.unit_notes.specs.Entries.{unit_place_bytes}
 use Rattle.slot_machine.specs.declared.seats.Seat.{Seat}
 use Rattle.run_crew.specs.declared.cards.Cards.{Cards}
 use Rattle.run_rings.proofs.Same.{rings-left}
 use Rattle.run_acts.specs.Ringing.{WritesPlace}
 use Rattle.run_acts.proofs.Ringing.{place-broken, place-then}
-use Rattle.run_keeping.proofs.Later.{state-by, later-same, later-then, later-of-unit, later-of-a, later-of-b}
+use Rattle.run_keeping.proofs.Later.{state-by, later-same, later-then, later-of-unit}
 use Rattle.run_evented.specs.Noting.{Acting}
 use Rattle.run_evented.specs.Bringing.{NotFound}
 use Rattle.run_evented.specs.SoFar.{EventedNow, MayFollow}
@@ -57,177 +52,306 @@ use Rattle.run_acts.proofs.FallEvented.{left-over, none-yet}
 use Rattle.run_crew.specs.declared.cards.Accepted.{Accepted}
 use Rattle.device_steps.specs.CardNotes.{IsNote}
 use Rattle.run_acts.proofs.RingedPlace.{IsThere, who-enters, place-goes}
-use Rattle.run_acts.proofs.RingedSecond.{left-after}
-use Rattle.run_acts.specs.CardNotes.{NotesOn}
+use Rattle.run_acts.specs.CardNotes.{NotesOn, NotesOnCards}
 use Rattle.run_acts.proofs.CardNotes.{on-none, both-cards}
 use Rattle.run_acts.proofs.CardActs.{place-cards}
 use Rattle.run_acts.specs.CardWrites.{MayTakePlace, PlaceOn}
 use Rattle.tacho_types.specs.declared.places.PlaceEntry.{PlaceEntry}
-use Rattle.log_model.specs.Slots.{same_card}
 use Rattle.run_keeping.specs.declared.keeper.Moment.{Moment}
 use Rattle.run_acts.proofs.CardPlaces.{PlaceCall, call-unbegun, call-made}
 use Rattle.run_acts.proofs.CardWrites.{place-unit, place-bare, place-any, seat-bare}
-use Rattle.run_keeping.proofs.Calm.{calm-of-a, calm-of-b, calm-of-unit, calm-same, calm-then, card-by}
+use Rattle.run_keeping.proofs.Calm.{calm-of-unit, calm-same, calm-then}
+use Rattle.run_acts.proofs.OneCard.{OneCard, unit-is, card-is, later-by, calm-by, keeps-by, apart-by, notes-by, known-noted, only-noted, more-noted, room-noted, calm-noted, held-noted, going-noted, none-there}
+use Rattle.run_keeping.specs.Later.{AreCalm, AreLater}
+use Rattle.run_acts.specs.Devices.{AreLeftMore}
+use Rattle.card_layout.specs.declared.command.CardState.{CardState}
+use Rattle.run_acts.specs.RunCards.{CardsPlace}
+use Rattle.tach_media.specs.declared.fault.Failed.{Failed}
+use Rattle.unit_model.specs.Image.{IsUnit}
+use Rattle.card_session.specs.Sessions.{IsValue}
+use Rattle.unit_notes.specs.Journal.{LeavesJournal}
+use Rattle.run_acts.specs.RunRinged.{RingsPlace}
+use Rattle.run_told.specs.Told.{arranged}
+use Rattle.run_rings.specs.Same.{LeavesRings}
+use Rattle.run_acts.proofs.placing.note_place.Given.{Over}
+use Rattle.run_acts.proofs.placing.note_place.Goals.{In_ok-note_place, After-note_place_in, After-note_place_in-in-B}
 use Rattle.run_acts.proofs.placing.note_place.Goals as goal
 
+-- ---- what is known of a place that was noted on the unit
+
+module _ (g : Over) (c : In_ok-note_place g) where
+  abbrev first : Devices
+  first = devices (g.M.Medium.state c.args.unit.now) (g.C.Chip.state c.args.card_a.now) (g.D.Chip.state c.args.card_b.now)
+
+  abbrev middle : Devices
+  middle = devices (g.M.Medium.state c.note_place.new.unit) (g.C.Chip.state c.args.card_a.now) (g.D.Chip.state c.args.card_b.now)
+
+  seat-of : (card : Card) → c.in-Some.card ≡ card → card_in (seat_in c.args.run.now.keeper.cabin.slots.seats c.args.slot) ≡ Some card
+  seat-of card is = cc
+
+  numbered : number_of_seat c.args.run.now.keeper.cabin.cards (seat_in c.args.run.now.keeper.cabin.slots.seats c.args.slot) ≡ Some c.in-Some-number_in.number
+  numbered = cc
+
+  some-of : (card : Card) → c.in-Some.card ≡ card → is_some (session_of c.args.run.now.keeper.cabin.cards card) ≡ true
+  some-of card is = numbered-session c.args.run.now.keeper.cabin.cards (seat_in c.args.run.now.keeper.cabin.slots.seats c.args.slot) card c.in-Some-number_in.number (seat-of card is) numbered
+
+  ready-then : UnitReady c.args.run.now.keeper (g.M.Medium.state c.note_place.new.unit)
+  ready-then = noted-ready (g.met.M.Medium.coherent c.args.unit.now) (g.met.M.Medium.coherent c.note_place.new.unit) c.note_place.ensures.journal c.args.run.now.keeper c.requires.going.ready.unit_ready c.in_ok-note_place.ensures.cause.works
+
+  quiet : NotesEvents [] false first middle
+  quiet = quiet-any (g.M.Medium.state c.args.unit.now) (g.M.Medium.state c.note_place.new.unit) (g.C.Chip.state c.args.card_a.now) (g.D.Chip.state c.args.card_b.now) (g.C.Chip.state c.args.card_a.now) (g.D.Chip.state c.args.card_b.now) false (says-of (g.M.Medium.state c.args.unit.now) (g.M.Medium.state c.note_place.new.unit) (g.met.M.Medium.coherent c.args.unit.now) (IsAdding unit_place_ring (unit_place_bytes c.in-Some-number_in.number c.args.entry.now)) (adding-nothing (unit_place_bytes c.in-Some-number_in.number c.args.entry.now)) c.in_ok-note_place.ensures.moments)
+
+  later-noted : AreLater first middle
+  later-noted = later-of-unit (g.M.Medium.state c.args.unit.now) (g.M.Medium.state c.note_place.new.unit) (g.C.Chip.state c.args.card_a.now) (g.D.Chip.state c.args.card_b.now) (state-by (g.M.Medium.state c.args.unit.now) (g.M.Medium.state c.note_place.new.unit) _ c.note_place.ensures.journal.later c.note_place.ensures.cause)
+
 pub note_place_in-requires-clause-ready : goal.note_place_in-requires-clause-ready
-note_place_in-requires-clause-ready g c =
-    noted-ready (g.met.M.Medium.coherent c.args.unit.now) (g.met.M.Medium.coherent c.note_place.new.unit) c.note_place.ensures.journal c.args.run.now.keeper c.requires.going.ready.unit_ready c.in_ok-note_place.ensures.cause.works
+note_place_in-requires-clause-ready g c = ready-then g (goal.at.note_place_in-requires-clause-ready g c).In_ok-note_place
 
 pub note_place_in-requires-in-B-clause-ready : goal.note_place_in-requires-in-B-clause-ready
-note_place_in-requires-in-B-clause-ready g c =
-    noted-ready (g.met.M.Medium.coherent c.args.unit.now) (g.met.M.Medium.coherent c.note_place.new.unit) c.note_place.ensures.journal c.args.run.now.keeper c.requires.going.ready.unit_ready c.in_ok-note_place.ensures.cause.works
+note_place_in-requires-in-B-clause-ready g c = ready-then g (goal.at.note_place_in-requires-in-B-clause-ready g c).In_ok-note_place
 
--- ---- card a
+-- ---- and on a card
 
-pub returns-in-A-clause-held : goal.returns-in-A-clause-held
-returns-in-A-clause-held g c =
-    let run = c.args.run.now in
-    let new : Run = c.note_place_in.new.run in
-    let e = c.note_place_in.ensures in
-    let n = e.noted in
-    let second : ℕ = c.args.at.second in
-    let cabin = noted_cabin n.0 A second run in
-    let is : new ≡ with_cabin cabin run = n.1.run ∙ noted-is n.0 A second run in
-    let known : new.keeper.cabin.cards.b ≡ run.keeper.cabin.cards.b = ap (λ (r : Run). r.keeper.cabin.cards.b) is ∙ noted-b n.0 second run in
-    let next : new.next ≡ run.next = ap (λ (r : Run). r.next) is in
-    let here = c.requires.at in
-    let stand = c.requires.held.stand in
-    subst (λ (m : ℕ). IsHeld (m / 60) new (g.M.Medium.state c.note_place_in.new.unit) (g.C.Chip.card c.note_place_in.new.card) (g.D.Chip.card c.args.card_b.now) (g.C.Chip.state c.note_place_in.new.card) (g.D.Chip.state c.args.card_b.now)) (sym next)
-    (cabin-held (run.next / 60) run new cabin is c.requires.held e.unit (noted-minute A second run n.0 (run.next / 60) c.requires.held.minute (omega (arith, here)))
-    (record { port = e.card.port; size = let same = e.size in let size = c.requires.held.card_a.size in omega (arith, same, size) }) (at-same run.keeper.cabin.cards new.keeper.cabin.cards B known c.requires.held.card_b) (stand.0, stand.1, e.stands stand.0 stand.1 stand.2))
+-- what is known of the note on a card
+abbrev NotesThere : {S : Type 0} (state : S → State) (chip : S → CardState) (which : Card) (slot : Slot) (entry : PlaceEntry) (at : Moment) (result : Result (Unit {0}) Failed) (old new : Run) (breaks after : Listed Break) (U V : State) (x y : S) → Type 0
+NotesThere state chip which slot entry at result old new breaks after U V x y = record {
+  noted : (fell : Bool) × IsNotedOn which slot at old new breaks after fell × HasBroken (state x) (state y) (falls_by fell) × HasCause (state x) (state y) fell;
+  card_events : NotesOn false (session_of old.keeper.cabin.cards which) (session_of new.keeper.cabin.cards which) [] (state x) (state y);
+  on_card : PlaceOn (session_of old.keeper.cabin.cards which) (session_of new.keeper.cabin.cards which) false entry (state x) (state y);
+  places : MayTakePlace (session_of old.keeper.cabin.cards which) entry (state x) (state y);
+  events : NotesFall (λ fell. IsNotedOn which slot at old new breaks after fell) at.second (is_err result) new (devices U (state x) (state x)) (devices V (state y) (state y));
+  rings : LeavesRings U V;
+  journal : LeavesOnly U V LeavesJournal;
+  moments : IfSome (session_of old.keeper.cabin.cards which) (λ a. LeavesOnly (state x) (state y) (IsNote a.session.application));
+  value : IfSome (session_of old.keeper.cabin.cards which) (λ a. IsValue a.session);
+  unit : IsUnit V;
+  ready : OnOk result (UnitReady new.keeper V);
+  rows : (card : Card) → HasItsRow old.keeper.cabin.cards U card → OnOk result (HasItsRow new.keeper.cabin.cards V card);
+  stands : (from : ℕ) (leaving : Option Card) → Stands from leaving old.keeper.cabin → Stands from leaving new.keeper.cabin;
+  card : CardReady (known_of new.keeper.cabin.cards which) (chip y) (state y);
+  size : (state y).size ≡ (state x).size;
+  clock_card : (state x).clock ≤ (state y).clock;
+  cause : HasCause U V (is_err result);
+}
 
-pub returns-in-A-clause-going : goal.returns-in-A-clause-going
-returns-in-A-clause-going g c =
-    let run = c.args.run.now in
-    let new : Run = c.note_place_in.new.run in
-    let e = c.note_place_in.ensures in
-    let n = e.noted in
-    let second : ℕ = c.args.at.second in
-    let cabin = noted_cabin n.0 A second run in
-    let is : new ≡ with_cabin cabin run = n.1.run ∙ noted-is n.0 A second run in
-    let known : new.keeper.cabin.cards.b ≡ run.keeper.cabin.cards.b = ap (λ (r : Run). r.keeper.cabin.cards.b) is ∙ noted-b n.0 second run in
-    let next : new.next ≡ run.next = ap (λ (r : Run). r.next) is in
-    on_ok c.note_place_in.result (λ well.
-    subst (λ (m : ℕ). IsLit (m / 60) new (g.M.Medium.state c.note_place_in.new.unit) (g.C.Chip.card c.note_place_in.new.card) (g.D.Chip.card c.args.card_b.now) (g.C.Chip.state c.note_place_in.new.card) (g.D.Chip.state c.args.card_b.now)) (sym next)
-    (cabin-going (run.next / 60) run new cabin is None None c.requires.going (ok_gives c.note_place_in.result e.ready well) (e.card) (ready-same run.keeper.cabin.cards new.keeper.cabin.cards B known c.requires.going.ready.card_b)
-    (λ card h. ok_gives c.note_place_in.result
-    (e.rows card (noted-row (g.met.M.Medium.coherent c.args.unit.now) (g.met.M.Medium.coherent c.note_place.new.unit) c.note_place.ensures.journal run.keeper c.requires.going.ready.unit_ready run.keeper.cabin.cards card h)) well)
-    (noted-past A second run n.0) (e.stands (ungiven_of c.requires.going.span) None c.requires.going.cabin) (noted-sessions A second run n.0)))
+-- a card with a session was called alone
+some-left : (q : Option Accepted) (R : Accepted → List ℕ → List ℕ → Type 0) (X Y : State) → is_some q ≡ true → IfSome q (λ a. LeavesOnly X Y (R a)) → HasLeftMore X Y
+some-left None R X Y some h = absurd (cc)
+some-left (Some a) R X Y some h = h.keeps
 
-pub returns-in-A-clause-room : goal.returns-in-A-clause-room
-returns-in-A-clause-room g c =
-    let run = c.args.run.now in
-    let new : Run = c.note_place_in.new.run in
-    let e = c.note_place_in.ensures in
-    let n = e.noted in
-    let second : ℕ = c.args.at.second in
-    let cabin = noted_cabin n.0 A second run in
-    let is : new ≡ with_cabin cabin run = n.1.run ∙ noted-is n.0 A second run in
-    let known : new.keeper.cabin.cards.b ≡ run.keeper.cabin.cards.b = ap (λ (r : Run). r.keeper.cabin.cards.b) is ∙ noted-b n.0 second run in
-    let next : new.next ≡ run.next = ap (λ (r : Run). r.next) is in
-    let breaks = c.args.breaks.now in
-    let there : card_in (seat_in run.keeper.cabin.slots.seats c.args.slot) ≡ Some A = cc in
-    let told : number_of_seat run.keeper.cabin.cards (seat_in run.keeper.cabin.slots.seats c.args.slot) ≡ Some c.in-Some-number_in.number = cc in
-    let some = numbered-session run.keeper.cabin.cards (seat_in run.keeper.cabin.slots.seats c.args.slot) A c.in-Some-number_in.number there told in
-    let falls = noted-falls A second run n.0 c.args.slot c.args.at some in
-    let same : falls_of new.keeper.cabin ≡ falls_of cabin = ap (λ (r : Run). falls_of r.keeper.cabin) is in
-    let length_is : length c.note_place_in.new.breaks.items ≡ length breaks.items + length (noted_breaks n.0 c.args.slot c.args.at) = ap (λ (l : Listed Break). length l.items) n.1.told ∙ lines-length (noted_breaks n.0 c.args.slot c.args.at) breaks in
-    (ap (λ (l : Listed Break). l.room) n.1.told, omega (arith, falls, same, length_is))
-
-pub returns-in-A-clause-cause : goal.returns-in-A-clause-cause
-returns-in-A-clause-cause g c = cause_after c.in_ok-note_place.ensures.cause c.note_place_in.ensures.cause
-
--- ---- card b
-
-pub returns-in-B-clause-held : goal.returns-in-B-clause-held
-returns-in-B-clause-held g c =
-    let run = c.args.run.now in
-    let new : Run = c.note_place_in-in-B.new.run in
-    let e = c.note_place_in-in-B.ensures in
-    let n = e.noted in
-    let second : ℕ = c.args.at.second in
-    let cabin = noted_cabin n.0 B second run in
-    let is : new ≡ with_cabin cabin run = n.1.run ∙ noted-is n.0 B second run in
-    let known : new.keeper.cabin.cards.a ≡ run.keeper.cabin.cards.a = ap (λ (r : Run). r.keeper.cabin.cards.a) is ∙ noted-a n.0 second run in
-    let next : new.next ≡ run.next = ap (λ (r : Run). r.next) is in
-    let here = c.requires.at in
-    let stand = c.requires.held.stand in
-    subst (λ (m : ℕ). IsHeld (m / 60) new (g.M.Medium.state c.note_place_in-in-B.new.unit) (g.C.Chip.card c.args.card_a.now) (g.D.Chip.card c.note_place_in-in-B.new.card) (g.C.Chip.state c.args.card_a.now) (g.D.Chip.state c.note_place_in-in-B.new.card)) (sym next)
-    (cabin-held (run.next / 60) run new cabin is c.requires.held e.unit (noted-minute B second run n.0 (run.next / 60) c.requires.held.minute (omega (arith, here)))
-    (at-same run.keeper.cabin.cards new.keeper.cabin.cards A known c.requires.held.card_a) (record { port = e.card.port; size = let same = e.size in let size = c.requires.held.card_b.size in omega (arith, same, size) }) (stand.0, stand.1, e.stands stand.0 stand.1 stand.2))
-
-pub returns-in-B-clause-going : goal.returns-in-B-clause-going
-returns-in-B-clause-going g c =
-    let run = c.args.run.now in
-    let new : Run = c.note_place_in-in-B.new.run in
-    let e = c.note_place_in-in-B.ensures in
-    let n = e.noted in
-    let second : ℕ = c.args.at.second in
-    let cabin = noted_cabin n.0 B second run in
-    let is : new ≡ with_cabin cabin run = n.1.run ∙ noted-is n.0 B second run in
-    let known : new.keeper.cabin.cards.a ≡ run.keeper.cabin.cards.a = ap (λ (r : Run). r.keeper.cabin.cards.a) is ∙ noted-a n.0 second run in
-    let next : new.next ≡ run.next = ap (λ (r : Run). r.next) is in
-    on_ok c.note_place_in-in-B.result (λ well.
-    subst (λ (m : ℕ). IsLit (m / 60) new (g.M.Medium.state c.note_place_in-in-B.new.unit) (g.C.Chip.card c.args.card_a.now) (g.D.Chip.card c.note_place_in-in-B.new.card) (g.C.Chip.state c.args.card_a.now) (g.D.Chip.state c.note_place_in-in-B.new.card)) (sym next)
-    (cabin-going (run.next / 60) run new cabin is None None c.requires.going (ok_gives c.note_place_in-in-B.result e.ready well) (ready-same run.keeper.cabin.cards new.keeper.cabin.cards A known c.requires.going.ready.card_a) (e.card)
-    (λ card h. ok_gives c.note_place_in-in-B.result
-    (e.rows card (noted-row (g.met.M.Medium.coherent c.args.unit.now) (g.met.M.Medium.coherent c.note_place.new.unit) c.note_place.ensures.journal run.keeper c.requires.going.ready.unit_ready run.keeper.cabin.cards card h)) well)
-    (noted-past B second run n.0) (e.stands (ungiven_of c.requires.going.span) None c.requires.going.cabin) (noted-sessions B second run n.0)))
-
-pub returns-in-B-clause-room : goal.returns-in-B-clause-room
-returns-in-B-clause-room g c =
-    let run = c.args.run.now in
-    let new : Run = c.note_place_in-in-B.new.run in
-    let e = c.note_place_in-in-B.ensures in
-    let n = e.noted in
-    let second : ℕ = c.args.at.second in
-    let cabin = noted_cabin n.0 B second run in
-    let is : new ≡ with_cabin cabin run = n.1.run ∙ noted-is n.0 B second run in
-    let known : new.keeper.cabin.cards.a ≡ run.keeper.cabin.cards.a = ap (λ (r : Run). r.keeper.cabin.cards.a) is ∙ noted-a n.0 second run in
-    let next : new.next ≡ run.next = ap (λ (r : Run). r.next) is in
-    let breaks = c.args.breaks.now in
-    let there : card_in (seat_in run.keeper.cabin.slots.seats c.args.slot) ≡ Some B = cc in
-    let told : number_of_seat run.keeper.cabin.cards (seat_in run.keeper.cabin.slots.seats c.args.slot) ≡ Some c.in-Some-number_in.number = cc in
-    let some = numbered-session run.keeper.cabin.cards (seat_in run.keeper.cabin.slots.seats c.args.slot) B c.in-Some-number_in.number there told in
-    let falls = noted-falls B second run n.0 c.args.slot c.args.at some in
-    let same : falls_of new.keeper.cabin ≡ falls_of cabin = ap (λ (r : Run). falls_of r.keeper.cabin) is in
-    let length_is : length c.note_place_in-in-B.new.breaks.items ≡ length breaks.items + length (noted_breaks n.0 c.args.slot c.args.at) = ap (λ (l : Listed Break). length l.items) n.1.told ∙ lines-length (noted_breaks n.0 c.args.slot c.args.at) breaks in
-    (ap (λ (l : Listed Break). l.room) n.1.told, omega (arith, falls, same, length_is))
-
-pub returns-in-B-clause-cause : goal.returns-in-B-clause-cause
-returns-in-B-clause-cause g c = cause_after c.in_ok-note_place.ensures.cause c.note_place_in-in-B.ensures.cause
-
-pub returns-in-A-clause-only : goal.returns-in-A-clause-only
-returns-in-A-clause-only g c =
-    let n = c.note_place_in.ensures.noted in
-    let cabin = noted_cabin n.0 A c.args.at.second c.args.run.now in
-    keeper-only c.args.run.now c.note_place_in.new.run cabin (n.1.run ∙ noted-is n.0 A c.args.at.second c.args.run.now)
-
-pub returns-in-B-clause-only : goal.returns-in-B-clause-only
-returns-in-B-clause-only g c =
-    let n = c.note_place_in-in-B.ensures.noted in
-    let cabin = noted_cabin n.0 B c.args.at.second c.args.run.now in
-    keeper-only c.args.run.now c.note_place_in-in-B.new.run cabin (n.1.run ∙ noted-is n.0 B c.args.at.second c.args.run.now)
-
-pub returns-in-A-clause-more : goal.returns-in-A-clause-more
-returns-in-A-clause-more g c =
-    let n = c.note_place_in.ensures.noted in
-    let length_is : length c.note_place_in.new.breaks.items ≡ length c.args.breaks.now.items + length (noted_breaks n.0 c.args.slot c.args.at) = ap (λ (l : Listed Break). length l.items) n.1.told ∙ lines-length (noted_breaks n.0 c.args.slot c.args.at) c.args.breaks.now in
-    omega (arith, length_is)
-
-pub returns-in-B-clause-more : goal.returns-in-B-clause-more
-returns-in-B-clause-more g c =
-    let n = c.note_place_in-in-B.ensures.noted in
-    let length_is : length c.note_place_in-in-B.new.breaks.items ≡ length c.args.breaks.now.items + length (noted_breaks n.0 c.args.slot c.args.at) = ap (λ (l : Listed Break). length l.items) n.1.told ∙ lines-length (noted_breaks n.0 c.args.slot c.args.at) c.args.breaks.now in
-    omega (arith, length_is)
-
--- ---- what is recorded
+-- what the call makes of the places of its card
+call-of : (fell failed : Bool) (card : Card) (old new : Run) (slot : Slot) (at : Moment) (breaks after : Listed Break) (a : Accepted) (entry : PlaceEntry) (X Y : State) → IsNotedOn card slot at old new breaks after fell → session_of old.keeper.cabin.cards card ≡ Some a
+    → PlaceOn (session_of old.keeper.cabin.cards card) (session_of new.keeper.cabin.cards card) false entry X Y → MayTakePlace (session_of old.keeper.cabin.cards card) entry X Y → PlaceCall fell failed a.session.application entry X Y
+call-of fell failed card old new slot at breaks after a entry X Y noted is on may =
+    call-made fell failed a (session_of new.keeper.cabin.cards card) entry X Y (λ stays. ap (λ (r : Run). session_of r.keeper.cabin.cards card) (subst (λ (b : Bool). new ≡ noted_run b card at.second old) stays noted.run) ∙ is)
+    (subst (λ (q : Option Accepted). PlaceOn q (session_of new.keeper.cabin.cards card) false entry X Y) is on) (subst (λ (q : Option Accepted). MayTakePlace q entry X Y) is may)
 
 place-first : (o : Origin) (done : List TraceSecond) (s : TraceSecond) (slot : Slot) (ending : Bool) (country region begun speed : ℕ) (run : Run) (before : Outcome) (breaks : Listed Break) (d : Devices) → before.breaks ≡ breaks → IsNow s speed run → (front rest : List Action) → s.actions ≡ front ++ Place slot ending country region ∷ rest →
     begun ≡ suc (length front) → refusal (logged run.keeper.cabin.slots.seats) speed (Place slot ending country region) ≡ None → (w : RunWithin o done s (In (length front)) [] [] run before d) → RunGoesOn o done s (In begun) [] run (record before { breaks = breaks }) d w.within.b
 place-first o done s slot ending country region begun speed run before breaks d is now front rest are n allowed w =
     subst (λ (l : Listed Break). RunGoesOn o done s (In begun) [] run (record before { breaks = l }) d w.within.b) is (place-told o done s slot ending country region begun speed run before d now front rest are n allowed w)
+
+module _ (g : Over) (c : In_ok-note_place g) (k : OneCard c.in-Some.card (g.C.Chip.state c.args.card_a.now) (g.D.Chip.state c.args.card_b.now)) (e : NotesThere k.state k.chip k.which c.args.slot c.args.entry.now c.args.at k.result c.args.run.now k.new c.args.breaks.now k.breaks (g.M.Medium.state c.note_place.new.unit) k.unit k.before k.after) where
+  abbrev start : Devices
+  start = arranged k.which (g.M.Medium.state c.args.unit.now) (k.state k.before) k.beside
+
+  abbrev between : Devices
+  between = arranged k.which (g.M.Medium.state c.note_place.new.unit) (k.state k.before) k.beside
+
+  abbrev last : Devices
+  last = arranged k.which k.unit (k.state k.after) k.beside
+
+  seat : card_in (seat_in c.args.run.now.keeper.cabin.slots.seats c.args.slot) ≡ Some k.which
+  seat = seat-of g c k.which k.is
+
+  some : is_some (session_of c.args.run.now.keeper.cabin.cards k.which) ≡ true
+  some = some-of g c k.which k.is
+
+  rows-then : is_err k.result ≡ false → (card : Card) → HasItsRow c.args.run.now.keeper.cabin.cards (g.M.Medium.state c.args.unit.now) card → HasItsRow k.new.keeper.cabin.cards k.unit card
+  rows-then well card h = ok_gives k.result (e.rows card (noted-row (g.met.M.Medium.coherent c.args.unit.now) (g.met.M.Medium.coherent c.note_place.new.unit) c.note_place.ensures.journal c.args.run.now.keeper c.requires.going.ready.unit_ready c.args.run.now.keeper.cabin.cards card h)) well
+
+  -- what is noted on the unit
+  notes-fall : (fell : Bool) → NotesEvents (fall_events fell c.args.at.second k.new) (is_err k.result) (devices (g.M.Medium.state c.note_place.new.unit) (k.state k.before) (k.state k.before)) (devices k.unit (k.state k.after) (k.state k.after)) → NotesEvents (fall_events fell c.args.at.second k.new) (is_err k.result) (middle g c) last
+  notes-fall fell notes =
+      subst (λ (m : Devices). NotesEvents (fall_events fell c.args.at.second k.new) (is_err k.result) m last) (sym (k.beside_it (g.M.Medium.state c.note_place.new.unit)))
+      (noted-any (fall_events fell c.args.at.second k.new) (is_err k.result) (devices (g.M.Medium.state c.note_place.new.unit) (k.state k.before) (k.state k.before)) (devices k.unit (k.state k.after) (k.state k.after)) between last (unit-is k.which (g.M.Medium.state c.note_place.new.unit) (k.state k.before) k.beside) (unit-is k.which k.unit (k.state k.after) k.beside) notes)
+
+  events : NotesPlace (card_in (seat_in c.args.run.now.keeper.cabin.slots.seats c.args.slot)) c.args.slot c.args.at (is_err k.result) c.args.run.now k.new c.args.breaks.now k.breaks (first g c) last
+  events =
+      let n = e.events in
+      subst (λ (q : Option Card). NotesPlace q c.args.slot c.args.at (is_err k.result) c.args.run.now k.new c.args.breaks.now k.breaks (first g c) last) (sym seat)
+      (inr (record { fell = n.fell; noted = n.noted; failing = n.failing; notes = then-noted [] (fall_events n.fell c.args.at.second k.new) (is_err k.result) (first g c) (middle g c) last (quiet g c) (notes-fall n.fell n.notes) }))
+
+  writes : is_some (g.M.Medium.state c.args.unit.now).image ≡ true → WritesPlace (number_of_seat c.args.run.now.keeper.cabin.cards (seat_in c.args.run.now.keeper.cabin.slots.seats c.args.slot)) c.args.entry.now (is_err k.result) (g.M.Medium.state c.args.unit.now) k.unit
+  writes tells =
+      let n = c.in_ok-note_place.ensures in
+      subst (λ (o : Option FullCardNumber). WritesPlace o c.args.entry.now (is_err k.result) (g.M.Medium.state c.args.unit.now) k.unit) (sym (numbered g c))
+      (place-then (unit_place_bytes c.in-Some-number_in.number c.args.entry.now) (g.M.Medium.state c.args.unit.now) (g.M.Medium.state c.note_place.new.unit) k.unit (g.met.M.Medium.coherent c.args.unit.now) (g.met.M.Medium.coherent c.note_place.new.unit) tells c.note_place.ensures.moments (is_err k.result) n.noted n.cause.works e.rings)
+
+  later : AreLater (first g c) last
+  later =
+      later-then (first g c) (middle g c) last (later-noted g c)
+      (subst (λ (m : Devices). AreLater m last) (sym (k.beside_it (g.M.Medium.state c.note_place.new.unit)))
+      (later-by k.which (g.M.Medium.state c.note_place.new.unit) k.unit (k.state k.before) (k.state k.after) k.beside (state-by (g.M.Medium.state c.note_place.new.unit) k.unit _ e.journal.later e.cause) (state-by (k.state k.before) (k.state k.after) e.noted.0 e.clock_card e.noted.3)))
+
+  calm : AreCalm c.args.breaks.now.items k.breaks.items (first g c) last
+  calm =
+      calm-then (first g c) (middle g c) last (calm-of-unit (g.M.Medium.state c.args.unit.now) (g.M.Medium.state c.note_place.new.unit) (g.C.Chip.state c.args.card_a.now) (g.D.Chip.state c.args.card_b.now))
+      (subst (λ (m : Devices). AreCalm c.args.breaks.now.items k.breaks.items m last) (sym (k.beside_it (g.M.Medium.state c.note_place.new.unit)))
+      (calm-by k.which (g.M.Medium.state c.note_place.new.unit) k.unit (k.state k.before) (k.state k.after) k.beside (calm-noted k.which c.args.slot c.args.at c.args.run.now k.new c.args.breaks.now k.breaks e.noted.0 e.noted.1 (k.state k.before) (k.state k.after) e.noted.3)))
+
+  -- on the cards
+  card-events : NotesOnCards false c.args.run.now.keeper.cabin.cards k.new.keeper.cabin.cards (λ card. []) (first g c) last
+  card-events =
+      subst (λ (m : Devices). NotesOnCards false c.args.run.now.keeper.cabin.cards k.new.keeper.cabin.cards (λ card. []) m last) (sym (k.beside_it (g.M.Medium.state c.args.unit.now)))
+      (notes-by k.which c.args.run.now.keeper.cabin.cards k.new.keeper.cabin.cards (g.M.Medium.state c.args.unit.now) k.unit (k.state k.before) (k.state k.after) k.beside e.card_events (known-noted k.which c.args.slot c.args.at c.args.run.now k.new c.args.breaks.now k.breaks e.noted.0 e.noted.1))
+
+  keeps : AreLeftMore (first g c) last
+  keeps =
+      keeps-by k.which (first g c) (g.M.Medium.state c.note_place.new.unit) k.unit (k.state k.before) (k.state k.after) k.beside (subst (λ (m : Devices). AreLeftMore (first g c) m) (k.beside_it (g.M.Medium.state c.note_place.new.unit)) (record { unit = c.note_place.ensures.journal.keeps; card_a = λ t x le at. at; card_b = λ t x le at. at }))
+      (subst (λ (m : Devices). AreLater (first g c) m) (k.beside_it (g.M.Medium.state c.note_place.new.unit)) (later-noted g c)) e.journal.keeps
+      (some-left (session_of c.args.run.now.keeper.cabin.cards k.which) (λ a. IsNote a.session.application) (k.state k.before) (k.state k.after) some e.moments)
+
+  shown : CardsPlace c.args.slot c.args.at (is_err k.result) c.args.run.now c.args.breaks.now k.breaks (first g c) last
+  shown = place-cards c.args.slot c.args.at (is_err k.result) e.noted.0 c.args.run.now k.new c.args.breaks.now k.breaks (first g c) last c.requires.at e.noted.1.told card-events keeps
+
+  ringed : RingsPlace c.args.slot c.args.entry.now c.args.at (is_err k.result) c.args.run.now k.new c.args.breaks.now k.breaks (first g c) last
+  ringed =
+      let lit = c.requires.going in
+      subst (λ (m : Devices). RingsPlace c.args.slot c.args.entry.now c.args.at (is_err k.result) c.args.run.now k.new c.args.breaks.now k.breaks m last) (sym (k.beside_it (g.M.Medium.state c.args.unit.now)))
+      (place-goes c.args.slot c.args.entry.now c.args.at (is_err k.result) c.args.run.now k.new c.args.breaks.now k.breaks start last k.which c.in-Some-number_in.number e.noted.0 seat (numbered g c)
+      some (ungiven_of lit.span) lit.cabin c.requires.at c.requires.small e.noted.1
+      (λ tells. subst (λ (x : State). WritesPlace (Some c.in-Some-number_in.number) c.args.entry.now (is_err k.result) start.unit x) (unit-is k.which k.unit (k.state k.after) k.beside)
+      (subst (λ (x : State). WritesPlace (Some c.in-Some-number_in.number) c.args.entry.now (is_err k.result) x k.unit) (unit-is k.which (g.M.Medium.state c.args.unit.now) (k.state k.before) k.beside)
+      (subst (λ (o : Option FullCardNumber). WritesPlace o c.args.entry.now (is_err k.result) (g.M.Medium.state c.args.unit.now) k.unit) (numbered g c) (writes (subst (λ (x : State). is_some x.image ≡ true) (sym (unit-is k.which (g.M.Medium.state c.args.unit.now) (k.state k.before) k.beside)) tells)))))
+      (subst (λ (m : Devices). AreLeftMore m last) (k.beside_it (g.M.Medium.state c.args.unit.now)) keeps)
+      (λ a at_. subst (λ (x : State). PlaceCall e.noted.0 (is_err k.result) a.session.application c.args.entry.now (card_of start k.which) x) (card-is k.which k.unit (k.state k.after) k.beside)
+      (subst (λ (x : State). PlaceCall e.noted.0 (is_err k.result) a.session.application c.args.entry.now x (k.state k.after)) (card-is k.which (g.M.Medium.state c.args.unit.now) (k.state k.before) k.beside)
+      (call-of e.noted.0 (is_err k.result) k.which c.args.run.now k.new c.args.slot c.args.at c.args.breaks.now k.breaks a c.args.entry.now (k.state k.before) (k.state k.after) e.noted.1 at_ e.on_card e.places)))
+      (λ j apart. apart-by k.which (g.M.Medium.state c.args.unit.now) k.unit (k.state k.before) (k.state k.after) k.beside j apart))
+
+  on-card : (card : Card) → card_in (seat_in c.args.run.now.keeper.cabin.slots.seats c.args.slot) ≡ Some card → PlaceOn (session_of c.args.run.now.keeper.cabin.cards card) (session_of k.new.keeper.cabin.cards card) (is_err k.result) c.args.entry.now (card_of (first g c) card) (card_of last card)
+  on-card card there =
+      let is : k.which ≡ card = (let mine = seat in cc) in
+      subst (λ (j : Card). PlaceOn (session_of c.args.run.now.keeper.cabin.cards j) (session_of k.new.keeper.cabin.cards j) (is_err k.result) c.args.entry.now (card_of (first g c) j) (card_of last j)) is
+      (subst (λ (m : Devices). PlaceOn (session_of c.args.run.now.keeper.cabin.cards k.which) (session_of k.new.keeper.cabin.cards k.which) (is_err k.result) c.args.entry.now (card_of m k.which) (card_of last k.which)) (sym (k.beside_it (g.M.Medium.state c.args.unit.now)))
+      (subst (λ (x : State). PlaceOn (session_of c.args.run.now.keeper.cabin.cards k.which) (session_of k.new.keeper.cabin.cards k.which) (is_err k.result) c.args.entry.now (card_of start k.which) x) (card-is k.which k.unit (k.state k.after) k.beside)
+      (subst (λ (x : State). PlaceOn (session_of c.args.run.now.keeper.cabin.cards k.which) (session_of k.new.keeper.cabin.cards k.which) (is_err k.result) c.args.entry.now x (k.state k.after)) (card-is k.which (g.M.Medium.state c.args.unit.now) (k.state k.before) k.beside)
+      (place-any c.args.entry.now (k.state k.before) (k.state k.after) (session_of c.args.run.now.keeper.cabin.cards k.which) (session_of k.new.keeper.cabin.cards k.which) (is_err k.result) e.on_card))))
+
+  -- in a second of a trace, behind the actions before it
+  module _ (late : c.args.at.late ≡ false) (ending : Bool) (country region speed : ℕ) (before : Outcome) (is : before.breaks ≡ c.args.breaks.now) (o : Origin) (done : List TraceSecond) (s : TraceSecond) (now : IsNow s speed c.args.run.now) (front rest : List Action)
+      (are : s.actions ≡ front ++ Place c.args.slot ending country region ∷ rest) (n : c.args.at.begun ≡ suc (length front)) (allowed : refusal (logged c.args.run.now.keeper.cabin.slots.seats) speed (Place c.args.slot ending country region) ≡ None)
+      (w : RunWithin o done s (In (length front)) [] [] c.args.run.now before (first g c)) where
+    on-unit : RunGoesOn o done s (In c.args.at.begun) [] c.args.run.now (record before { breaks = c.args.breaks.now }) (first g c) w.within.b
+    on-unit = place-first o done s c.args.slot ending country region c.args.at.begun speed c.args.run.now before c.args.breaks.now (first g c) is now front rest are n allowed w
+
+    behind-unit : RunGoesOn o done s (In c.args.at.begun) [] c.args.run.now (record before { breaks = c.args.breaks.now }) (middle g c) on-unit.goes.within.b
+    behind-unit =
+        let lit = c.requires.going in
+        unit-recorded o done s c.args.at.begun c.args.run.now (record before { breaks = c.args.breaks.now }) (g.M.Medium.state c.args.unit.now) (g.M.Medium.state c.note_place.new.unit) (g.C.Chip.state c.args.card_a.now) (g.D.Chip.state c.args.card_b.now) (g.met.M.Medium.coherent c.args.unit.now) c.note_place.ensures.journal lit.span lit.stands lit.next on-unit.goes false c.in_ok-note_place.ensures.cause
+        (λ fine. place-more (unit_place_bytes c.in-Some-number_in.number c.args.entry.now) (g.M.Medium.state c.args.unit.now) (g.M.Medium.state c.note_place.new.unit) (g.met.M.Medium.coherent c.args.unit.now) c.note_place.ensures.moments)
+
+    not-first : In c.args.at.begun ≡ In 0 → ComesPower done (record before { breaks = c.args.breaks.now })
+    not-first zeroth = absurd (let none : c.args.at.begun ≡ 0 = cc in omega (arith, none, n))
+
+    recorded : GoesOnOrFails (is_err k.result) o done s (In c.args.at.begun) [] k.new (record before { breaks = k.breaks }) last w.within.b
+    recorded =
+        let lit = c.requires.going in
+        subst (λ (b : Beginning). GoesOnOrFails (is_err k.result) o done s (In c.args.at.begun) [] k.new (record before { breaks = k.breaks }) last b) (behind-unit.began ∙ on-unit.began)
+        (subst (λ (m : Devices). IsNoteRecorded (In c.args.at.begun) (is_err k.result) c.args.run.now k.new c.args.breaks.now k.breaks m last) (sym (k.beside_it (g.M.Medium.state c.note_place.new.unit)))
+        (noted-some k.which c.args.slot c.args.at c.args.run.now c.args.breaks.now (g.M.Medium.state c.note_place.new.unit) k.unit (k.state k.before) (k.state k.after) k.beside
+        (g.met.M.Medium.coherent c.note_place.new.unit) k.whole k.whole_after k.size some e.value seat c.requires.at late lit.span lit.stands lit.next lit.cabin e.moments e.journal
+        (is_err k.result) e.cause (λ fine. leaves-more (g.M.Medium.state c.note_place.new.unit) k.unit e.rings) k.new k.breaks e.noted.0 e.noted.1 e.noted.2 e.noted.3)
+        o done s before behind-unit.goes not-first)
+
+    small : s.number < 2 ^ 32
+    small = let low = c.requires.small in let same = now.number in omega (arith, low, same)
+
+    -- where its second noted what is told so far
+    abbrev Goes : Devices → Type 0
+    Goes m = (v : RunWithin o done s (In c.args.at.begun) [] [] c.args.run.now (record before { breaks = c.args.breaks.now }) m) → NotesEvents (fall_events e.noted.0 c.args.at.second k.new) (is_err k.result) m last
+        → EventedNow o done s v.within.b.run Acting (log_of (record before { breaks = c.args.breaks.now })) m → EventsGoOn (is_err k.result) o done s v.within.b.run (In c.args.at.begun) Acting (log_of (record before { breaks = k.breaks })) last
+
+    evented : EventedNow o done s w.within.b.run Acting (log_of before) (first g c) → EventsGoOn (is_err k.result) o done s w.within.b.run (In c.args.at.begun) Acting (log_of (record before { breaks = k.breaks })) last
+    evented events_ =
+        let lit = c.requires.going in
+        let f = e.events in
+        let begun : ℕ = c.args.at.begun in
+        let left = left-over front rest (Place c.args.slot ending country region) s begun n are in
+        let yet = subst (λ (l : Listed Break). NotFound (In begun) (other_slot c.args.slot) (log_of (record before { breaks = l })) s.number) is (none-yet o done s (length front) begun (values_of c.args.run.now before) (first g c) w.within n (other_slot c.args.slot)).0 in
+        let follows = subst (λ (l : Listed Break). MayFollow (In begun) c.args.slot (log_of (record before { breaks = l })) s) is (none-yet o done s (length front) begun (values_of c.args.run.now before) (first g c) w.within n c.args.slot).1 in
+        let now_first : EventedNow o done s on-unit.goes.within.b.run Acting (log_of (record before { breaks = c.args.breaks.now })) (first g c) = subst (λ (b : Beginning). EventedNow o done s b.run Acting (log_of (record before { breaks = c.args.breaks.now })) (first g c)) (sym on-unit.began)
+        (subst (λ (l : Listed Break). EventedNow o done s w.within.b.run Acting (log_of (record before { breaks = l })) (first g c)) is events_) in
+        let now_second : EventedNow o done s behind-unit.goes.within.b.run Acting (log_of (record before { breaks = c.args.breaks.now })) (middle g c) = subst (λ (b : Beginning). EventedNow o done s b.run Acting (log_of (record before { breaks = c.args.breaks.now })) (middle g c)) (sym behind-unit.began)
+        (unit-evented o done s begun c.args.run.now (record before { breaks = c.args.breaks.now }) (g.M.Medium.state c.args.unit.now) (g.M.Medium.state c.note_place.new.unit) (g.C.Chip.state c.args.card_a.now) (g.D.Chip.state c.args.card_b.now) (g.met.M.Medium.coherent c.args.unit.now) c.note_place.ensures.journal lit.span lit.stands lit.next on-unit.goes rest left false c.in_ok-note_place.ensures.cause (quiet g c) now_first) in
+        let fell : f.fell ≡ e.noted.0 = same-fell k.which c.args.slot c.args.at c.args.run.now k.new c.args.breaks.now k.breaks f.fell e.noted.0 f.noted e.noted.1 in
+        let notes : NotesEvents (fall_events e.noted.0 c.args.at.second k.new) (is_err k.result) (middle g c) last = subst (λ (b : Bool). NotesEvents (fall_events b c.args.at.second k.new) (is_err k.result) (middle g c) last) fell (notes-fall f.fell f.notes) in
+        let goes : Goes (middle g c) = subst Goes (sym (k.beside_it (g.M.Medium.state c.note_place.new.unit)))
+        (λ v notes_ now_. some-evented k.which c.args.slot c.args.at c.args.run.now c.args.breaks.now (g.M.Medium.state c.note_place.new.unit) k.unit (k.state k.before) (k.state k.after) k.beside
+        (g.met.M.Medium.coherent c.note_place.new.unit) k.whole k.whole_after k.size some e.value seat c.requires.at late lit.span lit.stands lit.next lit.cabin e.moments e.journal
+        (is_err k.result) e.cause o done s before v not-first small yet follows rest left e.noted.0 k.new k.breaks e.noted.1 e.noted.2 e.noted.3 notes_ now_) in
+        subst (λ (b : Beginning). EventsGoOn (is_err k.result) o done s b.run (In begun) Acting (log_of (record before { breaks = k.breaks })) last) (behind-unit.began ∙ on-unit.began) (goes behind-unit.goes notes now_second)
+
+module _ (g : Over) (c : After-note_place_in g) where
+  abbrev noted-first-a : In_ok-note_place g
+  noted-first-a = (goal.at.returns-in-A-clause-cause g c).In_ok-note_place
+
+  abbrev side-a : OneCard noted-first-a.in-Some.card (g.C.Chip.state c.args.card_a.now) (g.D.Chip.state c.args.card_b.now)
+  side-a = record {
+    which = A;
+    is = c.in-A.is;
+    S = _;
+    state = g.C.Chip.state;
+    chip = g.C.Chip.card;
+    before = c.args.card_a.now;
+    after = c.note_place_in.new.card;
+    whole = g.met.C.Chip.coherent c.args.card_a.now;
+    whole_after = g.met.C.Chip.coherent c.note_place_in.new.card;
+    size = c.requires.held.card_a.size;
+    beside = g.D.Chip.state c.args.card_b.now;
+    beside_it = λ unit. refl;
+    unit = g.M.Medium.state c.note_place_in.new.unit;
+    unit_whole = g.met.M.Medium.coherent c.note_place_in.new.unit;
+    new = c.note_place_in.new.run;
+    breaks = c.note_place_in.new.breaks;
+    result = c.note_place_in.result;
+  }
+
+module _ (g : Over) (c : After-note_place_in-in-B g) where
+  abbrev noted-first-b : In_ok-note_place g
+  noted-first-b = (goal.at.returns-in-B-clause-cause g c).In_ok-note_place
+
+  abbrev side-b : OneCard noted-first-b.in-Some.card (g.C.Chip.state c.args.card_a.now) (g.D.Chip.state c.args.card_b.now)
+  side-b = record {
+    which = B;
+    is = c.in-B.is;
+    S = _;
+    state = g.D.Chip.state;
+    chip = g.D.Chip.card;
+    before = c.args.card_b.now;
+    after = c.note_place_in-in-B.new.card;
+    whole = g.met.D.Chip.coherent c.args.card_b.now;
+    whole_after = g.met.D.Chip.coherent c.note_place_in-in-B.new.card;
+    size = c.requires.held.card_b.size;
+    beside = g.C.Chip.state c.args.card_a.now;
+    beside_it = λ unit. refl;
+    unit = g.M.Medium.state c.note_place_in-in-B.new.unit;
+    unit_whole = g.met.M.Medium.coherent c.note_place_in-in-B.new.unit;
+    new = c.note_place_in-in-B.new.run;
+    breaks = c.note_place_in-in-B.new.breaks;
+    result = c.note_place_in-in-B.result;
+  }
+
+-- ---- nobody is there to enter it for
+
+no-number : (cards : Cards) (seat : Option Seat) (o : Option Card) → o ≡ card_in seat → ((card : Card) → o ≡ Some card → ⊥) → number_of_seat cards seat ≡ None
+no-number cards None o is never = refl
+no-number cards (Some s) o is never = absurd (never s.card is)
+
+-- nobody is refused who has none to enter for
+no-entering : {T : Type 0} (cards : Cards) (seat : Option Seat) (there : IsThere cards seat) → number_of_seat cards seat ≡ None → T
+no-entering {T} cards seat there none = absurd (let clash : Some there.number ≡ None = sym there.numbered ∙ none in cc)
 
 pub returns-in_default-clause-recorded : goal.returns-in_default-clause-recorded
 returns-in_default-clause-recorded g c = λ late ending country region speed before is o done s now front rest are n allowed w time.
@@ -236,70 +360,6 @@ returns-in_default-clause-recorded g c = λ late ending country region speed bef
 pub returns-in_default-number_in-clause-recorded : goal.returns-in_default-number_in-clause-recorded
 returns-in_default-number_in-clause-recorded g c = λ late ending country region speed before is o done s now front rest are n allowed w time.
     place-first o done s c.args.slot ending country region c.args.at.begun speed c.args.run.now before c.args.breaks.now (devices (g.M.Medium.state c.args.unit.now) (g.C.Chip.state c.args.card_a.now) (g.D.Chip.state c.args.card_b.now)) is now front rest are n allowed w
-
-pub returns-in_err-note_place-clause-recorded : goal.returns-in_err-note_place-clause-recorded
-returns-in_err-note_place-clause-recorded g c = λ late ending country region speed before is o done s now front rest are n allowed w time.
-    let run = c.args.run.now in
-    let lit = c.requires.going in
-    let U = g.M.Medium.state c.args.unit.now in
-    let V = g.M.Medium.state c.note_place.new.unit in
-    let A0 = g.C.Chip.state c.args.card_a.now in
-    let B0 = g.D.Chip.state c.args.card_b.now in
-    let failed : true ≡ is_err c.from_residual.result = search rules in
-    let w1 = place-first o done s c.args.slot ending country region c.args.at.begun speed run before c.args.breaks.now (devices U A0 B0) is now front rest are n allowed w in
-    subst (λ (q : Bool). GoesOnOrFails q o done s (In c.args.at.begun) [] run (record before { breaks = c.args.breaks.now }) (devices V A0 B0) w.within.b) failed
-    (unit-recorded o done s c.args.at.begun run (record before { breaks = c.args.breaks.now }) U V A0 B0 (g.met.M.Medium.coherent c.args.unit.now) c.note_place.ensures.journal lit.span lit.stands lit.next w1.goes true c.in_err-note_place.ensures.cause
-    (λ fine. place-more (unit_place_bytes c.in-Some-number_in.number c.args.entry.now) (g.M.Medium.state c.args.unit.now) (g.M.Medium.state c.note_place.new.unit) (g.met.M.Medium.coherent c.args.unit.now) c.note_place.ensures.moments))
-
-pub returns-in-A-clause-recorded : goal.returns-in-A-clause-recorded
-returns-in-A-clause-recorded g c = λ late ending country region speed before is o done s now front rest are n allowed w time.
-    let run = c.args.run.now in
-    let e = c.note_place_in.ensures in
-    let k = e.noted in
-    let lit = c.requires.going in
-    let U = g.M.Medium.state c.args.unit.now in
-    let V = g.M.Medium.state c.note_place.new.unit in
-    let A0 = g.C.Chip.state c.args.card_a.now in
-    let B0 = g.D.Chip.state c.args.card_b.now in
-    let there : card_in (seat_in run.keeper.cabin.slots.seats c.args.slot) ≡ Some A = cc in
-    let told : number_of_seat run.keeper.cabin.cards (seat_in run.keeper.cabin.slots.seats c.args.slot) ≡ Some c.in-Some-number_in.number = cc in
-    let some = numbered-session run.keeper.cabin.cards (seat_in run.keeper.cabin.slots.seats c.args.slot) A c.in-Some-number_in.number there told in
-    let w1 = place-first o done s c.args.slot ending country region c.args.at.begun speed run before c.args.breaks.now (devices U A0 B0) is now front rest are n allowed w in
-    let w2 = unit-recorded o done s c.args.at.begun run (record before { breaks = c.args.breaks.now }) U V A0 B0 (g.met.M.Medium.coherent c.args.unit.now) c.note_place.ensures.journal lit.span lit.stands lit.next w1.goes false c.in_ok-note_place.ensures.cause
-    (λ fine. place-more (unit_place_bytes c.in-Some-number_in.number c.args.entry.now) (g.M.Medium.state c.args.unit.now) (g.M.Medium.state c.note_place.new.unit) (g.met.M.Medium.coherent c.args.unit.now) c.note_place.ensures.moments) in
-    subst (λ (b : Beginning). GoesOnOrFails (is_err c.note_place_in.result) o done s (In c.args.at.begun) [] c.note_place_in.new.run (record before { breaks = c.note_place_in.new.breaks }) (devices (g.M.Medium.state c.note_place_in.new.unit) (g.C.Chip.state c.note_place_in.new.card) B0) b) (w2.began ∙ w1.began)
-    (noted-some A c.args.slot c.args.at run c.args.breaks.now V (g.M.Medium.state c.note_place_in.new.unit) (g.C.Chip.state c.args.card_a.now) (g.C.Chip.state c.note_place_in.new.card) (g.D.Chip.state c.args.card_b.now)
-    (g.met.M.Medium.coherent c.note_place.new.unit) (g.met.C.Chip.coherent c.args.card_a.now) (g.met.C.Chip.coherent c.note_place_in.new.card) c.requires.held.card_a.size some e.value there c.requires.at late lit.span lit.stands lit.next lit.cabin e.moments e.journal
-    (is_err c.note_place_in.result) e.cause (λ fine. leaves-more (g.M.Medium.state c.note_place.new.unit) (g.M.Medium.state c.note_place_in.new.unit) e.rings) c.note_place_in.new.run c.note_place_in.new.breaks k.0 k.1 k.2 k.3 o done s before w2.goes (λ first. absurd (let none : c.args.at.begun ≡ 0 = cc in omega (arith, none, n))))
-
-pub returns-in-B-clause-recorded : goal.returns-in-B-clause-recorded
-returns-in-B-clause-recorded g c = λ late ending country region speed before is o done s now front rest are n allowed w time.
-    let run = c.args.run.now in
-    let e = c.note_place_in-in-B.ensures in
-    let k = e.noted in
-    let lit = c.requires.going in
-    let U = g.M.Medium.state c.args.unit.now in
-    let V = g.M.Medium.state c.note_place.new.unit in
-    let A0 = g.C.Chip.state c.args.card_a.now in
-    let B0 = g.D.Chip.state c.args.card_b.now in
-    let there : card_in (seat_in run.keeper.cabin.slots.seats c.args.slot) ≡ Some B = cc in
-    let told : number_of_seat run.keeper.cabin.cards (seat_in run.keeper.cabin.slots.seats c.args.slot) ≡ Some c.in-Some-number_in.number = cc in
-    let some = numbered-session run.keeper.cabin.cards (seat_in run.keeper.cabin.slots.seats c.args.slot) B c.in-Some-number_in.number there told in
-    let w1 = place-first o done s c.args.slot ending country region c.args.at.begun speed run before c.args.breaks.now (devices U A0 B0) is now front rest are n allowed w in
-    let w2 = unit-recorded o done s c.args.at.begun run (record before { breaks = c.args.breaks.now }) U V A0 B0 (g.met.M.Medium.coherent c.args.unit.now) c.note_place.ensures.journal lit.span lit.stands lit.next w1.goes false c.in_ok-note_place.ensures.cause
-    (λ fine. place-more (unit_place_bytes c.in-Some-number_in.number c.args.entry.now) (g.M.Medium.state c.args.unit.now) (g.M.Medium.state c.note_place.new.unit) (g.met.M.Medium.coherent c.args.unit.now) c.note_place.ensures.moments) in
-    subst (λ (b : Beginning). GoesOnOrFails (is_err c.note_place_in-in-B.result) o done s (In c.args.at.begun) [] c.note_place_in-in-B.new.run (record before { breaks = c.note_place_in-in-B.new.breaks }) (devices (g.M.Medium.state c.note_place_in-in-B.new.unit) A0 (g.D.Chip.state c.note_place_in-in-B.new.card)) b) (w2.began ∙ w1.began)
-    (noted-some B c.args.slot c.args.at run c.args.breaks.now V (g.M.Medium.state c.note_place_in-in-B.new.unit) (g.D.Chip.state c.args.card_b.now) (g.D.Chip.state c.note_place_in-in-B.new.card) (g.C.Chip.state c.args.card_a.now)
-    (g.met.M.Medium.coherent c.note_place.new.unit) (g.met.D.Chip.coherent c.args.card_b.now) (g.met.D.Chip.coherent c.note_place_in-in-B.new.card) c.requires.held.card_b.size some e.value there c.requires.at late lit.span lit.stands lit.next lit.cabin e.moments e.journal
-    (is_err c.note_place_in-in-B.result) e.cause (λ fine. leaves-more (g.M.Medium.state c.note_place.new.unit) (g.M.Medium.state c.note_place_in-in-B.new.unit) e.rings) c.note_place_in-in-B.new.run c.note_place_in-in-B.new.breaks k.0 k.1 k.2 k.3 o done s before w2.goes (λ first. absurd (let none : c.args.at.begun ≡ 0 = cc in omega (arith, none, n))))
-
-pub returns-in-A-clause-clock_a : goal.returns-in-A-clause-clock_a
-returns-in-A-clause-clock_a g c = c.note_place_in.ensures.clock_card
-
-pub returns-in-B-clause-clock_b : goal.returns-in-B-clause-clock_b
-returns-in-B-clause-clock_b g c = c.note_place_in-in-B.ensures.clock_card
-
--- ---- what is noted on the unit
 
 pub returns-in_default-clause-events : goal.returns-in_default-clause-events
 returns-in_default-clause-events g c =
@@ -317,6 +377,110 @@ returns-in_default-number_in-clause-events g c =
     let B0 = g.D.Chip.state c.args.card_b.now in
     no-place (card_in (seat_in run.keeper.cabin.slots.seats c.args.slot)) c.args.slot c.args.at run c.args.breaks.now (devices U A0 B0) (same-noted U A0 B0)
 
+pub returns-in_default-clause-rings : goal.returns-in_default-clause-rings
+returns-in_default-clause-rings g c = λ tells.
+    let run = c.args.run.now in
+    let U = g.M.Medium.state c.args.unit.now in
+    let none = no-number run.keeper.cabin.cards (seat_in run.keeper.cabin.slots.seats c.args.slot) c.card.result c.card.ensures c.in_default.not-Some in
+    subst (λ (o : Option FullCardNumber). WritesPlace o c.args.entry.now false U U) (sym none) (rings-left U)
+
+pub returns-in_default-number_in-clause-rings : goal.returns-in_default-number_in-clause-rings
+returns-in_default-number_in-clause-rings g c = λ tells.
+    let run = c.args.run.now in
+    let U = g.M.Medium.state c.args.unit.now in
+    let none : number_of_seat run.keeper.cabin.cards (seat_in run.keeper.cabin.slots.seats c.args.slot) ≡ None = sym c.number_in.ensures ∙ none-there c.number_in.result c.in_default-number_in.not-Some in
+    subst (λ (o : Option FullCardNumber). WritesPlace o c.args.entry.now false U U) (sym none) (rings-left U)
+
+pub returns-in_default-clause-later : goal.returns-in_default-clause-later
+returns-in_default-clause-later g c = later-same (devices (g.M.Medium.state c.args.unit.now) (g.C.Chip.state c.args.card_a.now) (g.D.Chip.state c.args.card_b.now))
+
+pub returns-in_default-number_in-clause-later : goal.returns-in_default-number_in-clause-later
+returns-in_default-number_in-clause-later g c = later-same (devices (g.M.Medium.state c.args.unit.now) (g.C.Chip.state c.args.card_a.now) (g.D.Chip.state c.args.card_b.now))
+
+pub returns-in_default-clause-evented : goal.returns-in_default-clause-evented
+returns-in_default-clause-evented g c = λ late ending country region speed before is o done s now front rest are n allowed w events time.
+    let d : Devices = devices (g.M.Medium.state c.args.unit.now) (g.C.Chip.state c.args.card_a.now) (g.D.Chip.state c.args.card_b.now) in
+    subst (λ (l : Listed Break). EventedNow o done s w.within.b.run Acting (log_of (record before { breaks = l })) d) is events
+
+pub returns-in_default-number_in-clause-evented : goal.returns-in_default-number_in-clause-evented
+returns-in_default-number_in-clause-evented g c = λ late ending country region speed before is o done s now front rest are n allowed w events time.
+    let d : Devices = devices (g.M.Medium.state c.args.unit.now) (g.C.Chip.state c.args.card_a.now) (g.D.Chip.state c.args.card_b.now) in
+    subst (λ (l : Listed Break). EventedNow o done s w.within.b.run Acting (log_of (record before { breaks = l })) d) is events
+
+pub returns-in_default-clause-ringed : goal.returns-in_default-clause-ringed
+returns-in_default-clause-ringed g c = λ ending country region now late speed before is o done s here front rest are n allowed w spans t rings time.
+    let cabin = c.args.run.now.keeper.cabin in
+    let lit = c.requires.going in
+    no-entering cabin.cards (seat_in cabin.slots.seats c.args.slot) (who-enters (ungiven_of lit.span) cabin lit.cabin c.args.slot speed ending country region allowed)
+    (no-number cabin.cards (seat_in cabin.slots.seats c.args.slot) c.card.result c.card.ensures c.in_default.not-Some)
+
+pub returns-in_default-number_in-clause-ringed : goal.returns-in_default-number_in-clause-ringed
+returns-in_default-number_in-clause-ringed g c = λ ending country region now late speed before is o done s here front rest are n allowed w spans t rings time.
+    let cabin = c.args.run.now.keeper.cabin in
+    let lit = c.requires.going in
+    no-entering cabin.cards (seat_in cabin.slots.seats c.args.slot) (who-enters (ungiven_of lit.span) cabin lit.cabin c.args.slot speed ending country region allowed)
+    (sym c.number_in.ensures ∙ none-there c.number_in.result c.in_default-number_in.not-Some)
+
+pub returns-in_default-clause-card_events : goal.returns-in_default-clause-card_events
+returns-in_default-clause-card_events g c =
+    let d = devices (g.M.Medium.state c.args.unit.now) (g.C.Chip.state c.args.card_a.now) (g.D.Chip.state c.args.card_b.now) in
+    λ card. on-none false (session_of c.args.run.now.keeper.cabin.cards card) (card_of d card)
+
+pub returns-in_default-number_in-clause-card_events : goal.returns-in_default-number_in-clause-card_events
+returns-in_default-number_in-clause-card_events g c =
+    let d = devices (g.M.Medium.state c.args.unit.now) (g.C.Chip.state c.args.card_a.now) (g.D.Chip.state c.args.card_b.now) in
+    λ card. on-none false (session_of c.args.run.now.keeper.cabin.cards card) (card_of d card)
+
+pub returns-in_default-clause-cards : goal.returns-in_default-clause-cards
+returns-in_default-clause-cards g c = λ late ending country region speed before is o done s here front rest are n allowed vehicle w cards time.
+    let cabin = c.args.run.now.keeper.cabin in
+    let lit = c.requires.going in
+    no-entering cabin.cards (seat_in cabin.slots.seats c.args.slot) (who-enters (ungiven_of lit.span) cabin lit.cabin c.args.slot speed ending country region allowed)
+    (no-number cabin.cards (seat_in cabin.slots.seats c.args.slot) c.card.result c.card.ensures c.in_default.not-Some)
+
+pub returns-in_default-number_in-clause-cards : goal.returns-in_default-number_in-clause-cards
+returns-in_default-number_in-clause-cards g c = λ late ending country region speed before is o done s here front rest are n allowed vehicle w cards time.
+    let cabin = c.args.run.now.keeper.cabin in
+    let lit = c.requires.going in
+    no-entering cabin.cards (seat_in cabin.slots.seats c.args.slot) (who-enters (ungiven_of lit.span) cabin lit.cabin c.args.slot speed ending country region allowed)
+    (sym c.number_in.ensures ∙ none-there c.number_in.result c.in_default-number_in.not-Some)
+
+pub returns-in_default-clause-on_card : goal.returns-in_default-clause-on_card
+returns-in_default-clause-on_card g c = λ card there.
+    let none : card_in (seat_in c.args.run.now.keeper.cabin.slots.seats c.args.slot) ≡ None = sym c.card.ensures ∙ none-there c.card.result c.in_default.not-Some in
+    absurd (let wrong : None ≡ Some card = sym none ∙ there in cc)
+
+pub returns-in_default-number_in-clause-on_card : goal.returns-in_default-number_in-clause-on_card
+returns-in_default-number_in-clause-on_card g c = λ card there.
+    let run = c.args.run.now in
+    let cards = run.keeper.cabin.cards in
+    let d = devices (g.M.Medium.state c.args.unit.now) (g.C.Chip.state c.args.card_a.now) (g.D.Chip.state c.args.card_b.now) in
+    let unnamed : number_of_seat cards (seat_in run.keeper.cabin.slots.seats c.args.slot) ≡ None = sym c.number_in.ensures ∙ none-there c.number_in.result c.in_default-number_in.not-Some in
+    place-bare c.args.entry.now (card_of d card) (card_of d card) (session_of cards card) (session_of cards card) false
+    (seat-bare cards (seat_in run.keeper.cabin.slots.seats c.args.slot) card c.requires.going.ready.card_a.is_known c.requires.going.ready.card_b.is_known unnamed there)
+
+pub returns-in_default-clause-calm : goal.returns-in_default-clause-calm
+returns-in_default-clause-calm g c = calm-same (devices (g.M.Medium.state c.args.unit.now) (g.C.Chip.state c.args.card_a.now) (g.D.Chip.state c.args.card_b.now))
+
+pub returns-in_default-number_in-clause-calm : goal.returns-in_default-number_in-clause-calm
+returns-in_default-number_in-clause-calm g c = calm-same (devices (g.M.Medium.state c.args.unit.now) (g.C.Chip.state c.args.card_a.now) (g.D.Chip.state c.args.card_b.now))
+
+-- ---- the note on the unit fails
+
+pub returns-in_err-note_place-clause-recorded : goal.returns-in_err-note_place-clause-recorded
+returns-in_err-note_place-clause-recorded g c = λ late ending country region speed before is o done s now front rest are n allowed w time.
+    let run = c.args.run.now in
+    let lit = c.requires.going in
+    let U = g.M.Medium.state c.args.unit.now in
+    let V = g.M.Medium.state c.note_place.new.unit in
+    let A0 = g.C.Chip.state c.args.card_a.now in
+    let B0 = g.D.Chip.state c.args.card_b.now in
+    let failed : true ≡ is_err c.from_residual.result = search rules in
+    let w1 = place-first o done s c.args.slot ending country region c.args.at.begun speed run before c.args.breaks.now (devices U A0 B0) is now front rest are n allowed w in
+    subst (λ (q : Bool). GoesOnOrFails q o done s (In c.args.at.begun) [] run (record before { breaks = c.args.breaks.now }) (devices V A0 B0) w.within.b) failed
+    (unit-recorded o done s c.args.at.begun run (record before { breaks = c.args.breaks.now }) U V A0 B0 (g.met.M.Medium.coherent c.args.unit.now) c.note_place.ensures.journal lit.span lit.stands lit.next w1.goes true c.in_err-note_place.ensures.cause
+    (λ fine. place-more (unit_place_bytes c.in-Some-number_in.number c.args.entry.now) (g.M.Medium.state c.args.unit.now) (g.M.Medium.state c.note_place.new.unit) (g.met.M.Medium.coherent c.args.unit.now) c.note_place.ensures.moments))
+
 pub returns-in_err-note_place-clause-events : goal.returns-in_err-note_place-clause-events
 returns-in_err-note_place-clause-events g c =
     let run = c.args.run.now in
@@ -330,66 +494,6 @@ returns-in_err-note_place-clause-events g c =
     subst (λ (b : Bool). NotesPlace (card_in (seat_in run.keeper.cabin.slots.seats c.args.slot)) c.args.slot c.args.at b run run c.args.breaks.now c.args.breaks.now (devices U A0 B0) (devices V A0 B0)) failed
     (subst (λ (q : Option Card). NotesPlace q c.args.slot c.args.at true run run c.args.breaks.now c.args.breaks.now (devices U A0 B0) (devices V A0 B0)) (sym there) (inl (refl, refl, refl, quiet-any U V A0 B0 A0 B0 true ring)))
 
-pub returns-in-A-clause-events : goal.returns-in-A-clause-events
-returns-in-A-clause-events g c =
-    let run = c.args.run.now in
-    let U = g.M.Medium.state c.args.unit.now in
-    let V = g.M.Medium.state c.note_place.new.unit in
-    let W = g.M.Medium.state c.note_place_in.new.unit in
-    let A0 = g.C.Chip.state c.args.card_a.now in
-    let B0 = g.D.Chip.state c.args.card_b.now in
-    let Y = g.C.Chip.state c.note_place_in.new.card in
-    let n = c.note_place_in.ensures.events in
-    let failed = is_err c.note_place_in.result in
-    let there : card_in (seat_in run.keeper.cabin.slots.seats c.args.slot) ≡ Some A = cc in
-    let ring = says-of U V (g.met.M.Medium.coherent c.args.unit.now) (IsAdding unit_place_ring (unit_place_bytes c.in-Some-number_in.number c.args.entry.now)) (adding-nothing (unit_place_bytes c.in-Some-number_in.number c.args.entry.now)) c.in_ok-note_place.ensures.moments in
-    let falls = fall_events n.fell c.args.at.second c.note_place_in.new.run in
-    let later : NotesEvents falls failed (devices V A0 B0) (devices W Y B0) = noted-any falls failed (devices V A0 A0) (devices W Y Y) (devices V A0 B0) (devices W Y B0) refl refl n.notes in
-    subst (λ (q : Option Card). NotesPlace q c.args.slot c.args.at failed run c.note_place_in.new.run c.args.breaks.now c.note_place_in.new.breaks (devices U A0 B0) (devices W Y B0)) (sym there)
-    (inr (record { fell = n.fell; noted = n.noted; failing = n.failing; notes = then-noted [] falls failed (devices U A0 B0) (devices V A0 B0) (devices W Y B0) (quiet-any U V A0 B0 A0 B0 false ring) later }))
-
-pub returns-in-B-clause-events : goal.returns-in-B-clause-events
-returns-in-B-clause-events g c =
-    let run = c.args.run.now in
-    let U = g.M.Medium.state c.args.unit.now in
-    let V = g.M.Medium.state c.note_place.new.unit in
-    let W = g.M.Medium.state c.note_place_in-in-B.new.unit in
-    let A0 = g.C.Chip.state c.args.card_a.now in
-    let B0 = g.D.Chip.state c.args.card_b.now in
-    let Y = g.D.Chip.state c.note_place_in-in-B.new.card in
-    let n = c.note_place_in-in-B.ensures.events in
-    let failed = is_err c.note_place_in-in-B.result in
-    let there : card_in (seat_in run.keeper.cabin.slots.seats c.args.slot) ≡ Some B = cc in
-    let ring = says-of U V (g.met.M.Medium.coherent c.args.unit.now) (IsAdding unit_place_ring (unit_place_bytes c.in-Some-number_in.number c.args.entry.now)) (adding-nothing (unit_place_bytes c.in-Some-number_in.number c.args.entry.now)) c.in_ok-note_place.ensures.moments in
-    let falls = fall_events n.fell c.args.at.second c.note_place_in-in-B.new.run in
-    let later : NotesEvents falls failed (devices V A0 B0) (devices W A0 Y) = noted-any falls failed (devices V B0 B0) (devices W Y Y) (devices V A0 B0) (devices W A0 Y) refl refl n.notes in
-    subst (λ (q : Option Card). NotesPlace q c.args.slot c.args.at failed run c.note_place_in-in-B.new.run c.args.breaks.now c.note_place_in-in-B.new.breaks (devices U A0 B0) (devices W A0 Y)) (sym there)
-    (inr (record { fell = n.fell; noted = n.noted; failing = n.failing; notes = then-noted [] falls failed (devices U A0 B0) (devices V A0 B0) (devices W A0 Y) (quiet-any U V A0 B0 A0 B0 false ring) later }))
-
--- ---- the rings
-
-no-number : (cards : Cards) (seat : Option Seat) (o : Option Card) → o ≡ card_in seat → ((card : Card) → o ≡ Some card → ⊥) → number_of_seat cards seat ≡ None
-no-number cards None o is never = refl
-no-number cards (Some s) o is never = absurd (never s.card is)
-
-none-given : (o : Option FullCardNumber) → ((number : FullCardNumber) → o ≡ Some number → ⊥) → o ≡ None
-none-given None never = refl
-none-given (Some number) never = absurd (never number refl)
-
-pub returns-in_default-clause-rings : goal.returns-in_default-clause-rings
-returns-in_default-clause-rings g c = λ tells.
-    let run = c.args.run.now in
-    let U = g.M.Medium.state c.args.unit.now in
-    let none = no-number run.keeper.cabin.cards (seat_in run.keeper.cabin.slots.seats c.args.slot) c.card.result c.card.ensures c.in_default.not-Some in
-    subst (λ (o : Option FullCardNumber). WritesPlace o c.args.entry.now false U U) (sym none) (rings-left U)
-
-pub returns-in_default-number_in-clause-rings : goal.returns-in_default-number_in-clause-rings
-returns-in_default-number_in-clause-rings g c = λ tells.
-    let run = c.args.run.now in
-    let U = g.M.Medium.state c.args.unit.now in
-    let none : number_of_seat run.keeper.cabin.cards (seat_in run.keeper.cabin.slots.seats c.args.slot) ≡ None = sym c.number_in.ensures ∙ none-given c.number_in.result c.in_default-number_in.not-Some in
-    subst (λ (o : Option FullCardNumber). WritesPlace o c.args.entry.now false U U) (sym none) (rings-left U)
-
 pub returns-in_err-note_place-clause-rings : goal.returns-in_err-note_place-clause-rings
 returns-in_err-note_place-clause-rings g c = λ tells.
     let run = c.args.run.now in
@@ -402,58 +506,8 @@ returns-in_err-note_place-clause-rings g c = λ tells.
     (subst (λ (o : Option FullCardNumber). WritesPlace o c.args.entry.now true U V) (sym told)
     (place-broken (unit_place_bytes number c.args.entry.now) U V V (g.met.M.Medium.coherent c.args.unit.now) (g.met.M.Medium.coherent c.note_place.new.unit) tells c.note_place.ensures.moments))
 
-pub returns-in-A-clause-rings : goal.returns-in-A-clause-rings
-returns-in-A-clause-rings g c = λ tells.
-    let run = c.args.run.now in
-    let U = g.M.Medium.state c.args.unit.now in
-    let V = g.M.Medium.state c.note_place.new.unit in
-    let W = g.M.Medium.state c.note_place_in.new.unit in
-    let number = c.in-Some-number_in.number in
-    let told : number_of_seat run.keeper.cabin.cards (seat_in run.keeper.cabin.slots.seats c.args.slot) ≡ Some number = cc in
-    let n = c.in_ok-note_place.ensures in
-    subst (λ (o : Option FullCardNumber). WritesPlace o c.args.entry.now (is_err c.note_place_in.result) U W) (sym told)
-    (place-then (unit_place_bytes number c.args.entry.now) U V W (g.met.M.Medium.coherent c.args.unit.now) (g.met.M.Medium.coherent c.note_place.new.unit) tells c.note_place.ensures.moments (is_err c.note_place_in.result) n.noted n.cause.works c.note_place_in.ensures.rings)
-
-pub returns-in-B-clause-rings : goal.returns-in-B-clause-rings
-returns-in-B-clause-rings g c = λ tells.
-    let run = c.args.run.now in
-    let U = g.M.Medium.state c.args.unit.now in
-    let V = g.M.Medium.state c.note_place.new.unit in
-    let W = g.M.Medium.state c.note_place_in-in-B.new.unit in
-    let number = c.in-Some-number_in.number in
-    let told : number_of_seat run.keeper.cabin.cards (seat_in run.keeper.cabin.slots.seats c.args.slot) ≡ Some number = cc in
-    let n = c.in_ok-note_place.ensures in
-    subst (λ (o : Option FullCardNumber). WritesPlace o c.args.entry.now (is_err c.note_place_in-in-B.result) U W) (sym told)
-    (place-then (unit_place_bytes number c.args.entry.now) U V W (g.met.M.Medium.coherent c.args.unit.now) (g.met.M.Medium.coherent c.note_place.new.unit) tells c.note_place.ensures.moments (is_err c.note_place_in-in-B.result) n.noted n.cause.works c.note_place_in-in-B.ensures.rings)
-
--- ---- what holds of the devices after any calls
-
-pub returns-in_default-clause-later : goal.returns-in_default-clause-later
-returns-in_default-clause-later g c = later-same (devices (g.M.Medium.state c.args.unit.now) (g.C.Chip.state c.args.card_a.now) (g.D.Chip.state c.args.card_b.now))
-
-pub returns-in_default-number_in-clause-later : goal.returns-in_default-number_in-clause-later
-returns-in_default-number_in-clause-later g c = later-same (devices (g.M.Medium.state c.args.unit.now) (g.C.Chip.state c.args.card_a.now) (g.D.Chip.state c.args.card_b.now))
-
 pub returns-in_err-note_place-clause-later : goal.returns-in_err-note_place-clause-later
 returns-in_err-note_place-clause-later g c = later-of-unit (g.M.Medium.state c.args.unit.now) (g.M.Medium.state c.note_place.new.unit) (g.C.Chip.state c.args.card_a.now) (g.D.Chip.state c.args.card_b.now) (state-by (g.M.Medium.state c.args.unit.now) (g.M.Medium.state c.note_place.new.unit) _ c.note_place.ensures.journal.later c.note_place.ensures.cause)
-
-pub returns-in-A-clause-later : goal.returns-in-A-clause-later
-returns-in-A-clause-later g c = later-then (devices (g.M.Medium.state c.args.unit.now) (g.C.Chip.state c.args.card_a.now) (g.D.Chip.state c.args.card_b.now)) (devices (g.M.Medium.state c.note_place.new.unit) (g.C.Chip.state c.args.card_a.now) (g.D.Chip.state c.args.card_b.now)) (devices (g.M.Medium.state c.note_place_in.new.unit) (g.C.Chip.state c.note_place_in.new.card) (g.D.Chip.state c.args.card_b.now)) (later-of-unit (g.M.Medium.state c.args.unit.now) (g.M.Medium.state c.note_place.new.unit) (g.C.Chip.state c.args.card_a.now) (g.D.Chip.state c.args.card_b.now) (state-by (g.M.Medium.state c.args.unit.now) (g.M.Medium.state c.note_place.new.unit) _ c.note_place.ensures.journal.later c.note_place.ensures.cause)) (later-of-a (g.M.Medium.state c.note_place.new.unit) (g.M.Medium.state c.note_place_in.new.unit) (g.C.Chip.state c.args.card_a.now) (g.C.Chip.state c.note_place_in.new.card) (g.D.Chip.state c.args.card_b.now) (state-by (g.M.Medium.state c.note_place.new.unit) (g.M.Medium.state c.note_place_in.new.unit) _ c.note_place_in.ensures.journal.later c.note_place_in.ensures.cause) (state-by (g.C.Chip.state c.args.card_a.now) (g.C.Chip.state c.note_place_in.new.card) c.note_place_in.ensures.noted.0 c.note_place_in.ensures.clock_card c.note_place_in.ensures.noted.3))
-
-pub returns-in-B-clause-later : goal.returns-in-B-clause-later
-returns-in-B-clause-later g c = later-then (devices (g.M.Medium.state c.args.unit.now) (g.C.Chip.state c.args.card_a.now) (g.D.Chip.state c.args.card_b.now)) (devices (g.M.Medium.state c.note_place.new.unit) (g.C.Chip.state c.args.card_a.now) (g.D.Chip.state c.args.card_b.now)) (devices (g.M.Medium.state c.note_place_in-in-B.new.unit) (g.C.Chip.state c.args.card_a.now) (g.D.Chip.state c.note_place_in-in-B.new.card)) (later-of-unit (g.M.Medium.state c.args.unit.now) (g.M.Medium.state c.note_place.new.unit) (g.C.Chip.state c.args.card_a.now) (g.D.Chip.state c.args.card_b.now) (state-by (g.M.Medium.state c.args.unit.now) (g.M.Medium.state c.note_place.new.unit) _ c.note_place.ensures.journal.later c.note_place.ensures.cause)) (later-of-b (g.M.Medium.state c.note_place.new.unit) (g.M.Medium.state c.note_place_in-in-B.new.unit) (g.C.Chip.state c.args.card_a.now) (g.D.Chip.state c.args.card_b.now) (g.D.Chip.state c.note_place_in-in-B.new.card) (state-by (g.M.Medium.state c.note_place.new.unit) (g.M.Medium.state c.note_place_in-in-B.new.unit) _ c.note_place_in-in-B.ensures.journal.later c.note_place_in-in-B.ensures.cause) (state-by (g.D.Chip.state c.args.card_b.now) (g.D.Chip.state c.note_place_in-in-B.new.card) c.note_place_in-in-B.ensures.noted.0 c.note_place_in-in-B.ensures.clock_card c.note_place_in-in-B.ensures.noted.3))
-
--- ---- how its events go on
-
-pub returns-in_default-clause-evented : goal.returns-in_default-clause-evented
-returns-in_default-clause-evented g c = λ late ending country region speed before is o done s now front rest are n allowed w events time.
-    let d : Devices = devices (g.M.Medium.state c.args.unit.now) (g.C.Chip.state c.args.card_a.now) (g.D.Chip.state c.args.card_b.now) in
-    subst (λ (l : Listed Break). EventedNow o done s w.within.b.run Acting (log_of (record before { breaks = l })) d) is events
-
-pub returns-in_default-number_in-clause-evented : goal.returns-in_default-number_in-clause-evented
-returns-in_default-number_in-clause-evented g c = λ late ending country region speed before is o done s now front rest are n allowed w events time.
-    let d : Devices = devices (g.M.Medium.state c.args.unit.now) (g.C.Chip.state c.args.card_a.now) (g.D.Chip.state c.args.card_b.now) in
-    subst (λ (l : Listed Break). EventedNow o done s w.within.b.run Acting (log_of (record before { breaks = l })) d) is events
 
 pub returns-in_err-note_place-clause-evented : goal.returns-in_err-note_place-clause-evented
 returns-in_err-note_place-clause-evented g c = λ late ending country region speed before is o done s now front rest are n allowed w events time.
@@ -474,120 +528,6 @@ returns-in_err-note_place-clause-evented g c = λ late ending country region spe
     subst (λ (q : Bool). EventsGoOn q o done s w.within.b.run (In begun) Acting (log_of out) (devices V A0 B0)) failed
     (subst (λ (b : Beginning). EventsGoOn true o done s b.run (In begun) Acting (log_of out) (devices V A0 B0)) w1.began
     (unit-evented o done s begun run out U V A0 B0 (g.met.M.Medium.coherent c.args.unit.now) c.note_place.ensures.journal lit.span lit.stands lit.next w1.goes rest left true c.in_err-note_place.ensures.cause (quiet-any U V A0 B0 A0 B0 true ring) first))
-
-pub returns-in-A-clause-evented : goal.returns-in-A-clause-evented
-returns-in-A-clause-evented g c = λ late ending country region speed before is o done s now front rest are n allowed w events time.
-    let run = c.args.run.now in
-    let e = c.note_place_in.ensures in
-    let k = e.noted in
-    let f = e.events in
-    let lit = c.requires.going in
-    let U = g.M.Medium.state c.args.unit.now in
-    let V = g.M.Medium.state c.note_place.new.unit in
-    let W = g.M.Medium.state c.note_place_in.new.unit in
-    let A0 = g.C.Chip.state c.args.card_a.now in
-    let B0 = g.D.Chip.state c.args.card_b.now in
-    let Y = g.C.Chip.state c.note_place_in.new.card in
-    let begun : ℕ = c.args.at.begun in
-    let out : Outcome = record before { breaks = c.args.breaks.now } in
-    let failed = is_err c.note_place_in.result in
-    let there : card_in (seat_in run.keeper.cabin.slots.seats c.args.slot) ≡ Some A = cc in
-    let told : number_of_seat run.keeper.cabin.cards (seat_in run.keeper.cabin.slots.seats c.args.slot) ≡ Some c.in-Some-number_in.number = cc in
-    let some = numbered-session run.keeper.cabin.cards (seat_in run.keeper.cabin.slots.seats c.args.slot) A c.in-Some-number_in.number there told in
-    let small : s.number < 2 ^ 32 = let low = c.requires.small in let same = now.number in omega (arith, low, same) in
-    let a : Action = Place c.args.slot ending country region in
-    let left = left-over front rest a s begun n are in
-    let ring = says-of U V (g.met.M.Medium.coherent c.args.unit.now) (IsAdding unit_place_ring (unit_place_bytes c.in-Some-number_in.number c.args.entry.now)) (adding-nothing (unit_place_bytes c.in-Some-number_in.number c.args.entry.now)) c.in_ok-note_place.ensures.moments in
-    let yet = subst (λ (l : Listed Break). NotFound (In begun) (other_slot c.args.slot) (log_of (record before { breaks = l })) s.number) is (none-yet o done s (length front) begun (values_of run before) (devices U A0 B0) w.within n (other_slot c.args.slot)).0 in
-    let follows = subst (λ (l : Listed Break). MayFollow (In begun) c.args.slot (log_of (record before { breaks = l })) s) is (none-yet o done s (length front) begun (values_of run before) (devices U A0 B0) w.within n c.args.slot).1 in
-    let w1 = place-first o done s c.args.slot ending country region begun speed run before c.args.breaks.now (devices U A0 B0) is now front rest are n allowed w in
-    let w2 = unit-recorded o done s begun run out U V A0 B0 (g.met.M.Medium.coherent c.args.unit.now) c.note_place.ensures.journal lit.span lit.stands lit.next w1.goes false c.in_ok-note_place.ensures.cause
-    (λ fine. place-more (unit_place_bytes c.in-Some-number_in.number c.args.entry.now) (g.M.Medium.state c.args.unit.now) (g.M.Medium.state c.note_place.new.unit) (g.met.M.Medium.coherent c.args.unit.now) c.note_place.ensures.moments) in
-    let first : EventedNow o done s w1.goes.within.b.run Acting (log_of out) (devices U A0 B0) = subst (λ (b : Beginning). EventedNow o done s b.run Acting (log_of out) (devices U A0 B0)) (sym w1.began)
-    (subst (λ (l : Listed Break). EventedNow o done s w.within.b.run Acting (log_of (record before { breaks = l })) (devices U A0 B0)) is events) in
-    let second : EventedNow o done s w2.goes.within.b.run Acting (log_of out) (devices V A0 B0) = subst (λ (b : Beginning). EventedNow o done s b.run Acting (log_of out) (devices V A0 B0)) (sym w2.began)
-    (unit-evented o done s begun run out U V A0 B0 (g.met.M.Medium.coherent c.args.unit.now) c.note_place.ensures.journal lit.span lit.stands lit.next w1.goes rest left false c.in_ok-note_place.ensures.cause (quiet-any U V A0 B0 A0 B0 false ring) first) in
-    let falls = fall_events k.0 c.args.at.second c.note_place_in.new.run in
-    let fell : f.fell ≡ k.0 = same-fell A c.args.slot c.args.at run c.note_place_in.new.run c.args.breaks.now c.note_place_in.new.breaks f.fell k.0 f.noted k.1 in
-    let notes : NotesEvents falls failed (devices V A0 B0) (devices W Y B0) = subst (λ (b : Bool). NotesEvents (fall_events b c.args.at.second c.note_place_in.new.run) failed (devices V A0 B0) (devices W Y B0)) fell
-    (noted-any (fall_events f.fell c.args.at.second c.note_place_in.new.run) failed (devices V A0 A0) (devices W Y Y) (devices V A0 B0) (devices W Y B0) refl refl f.notes) in
-    subst (λ (b : Beginning). EventsGoOn failed o done s b.run (In begun) Acting (log_of (record before { breaks = c.note_place_in.new.breaks })) (devices W Y B0)) (w2.began ∙ w1.began)
-    (some-evented A c.args.slot c.args.at run c.args.breaks.now V W A0 Y B0
-    (g.met.M.Medium.coherent c.note_place.new.unit) (g.met.C.Chip.coherent c.args.card_a.now) (g.met.C.Chip.coherent c.note_place_in.new.card) c.requires.held.card_a.size some e.value there c.requires.at late lit.span lit.stands lit.next lit.cabin e.moments e.journal
-    failed e.cause o done s before w2.goes (λ first. absurd (let zero_ : begun ≡ 0 = cc in omega (arith, zero_, n))) small yet follows rest left k.0 c.note_place_in.new.run c.note_place_in.new.breaks k.1 k.2 k.3 notes second)
-
-pub returns-in-B-clause-evented : goal.returns-in-B-clause-evented
-returns-in-B-clause-evented g c = λ late ending country region speed before is o done s now front rest are n allowed w events time.
-    let run = c.args.run.now in
-    let e = c.note_place_in-in-B.ensures in
-    let k = e.noted in
-    let f = e.events in
-    let lit = c.requires.going in
-    let U = g.M.Medium.state c.args.unit.now in
-    let V = g.M.Medium.state c.note_place.new.unit in
-    let W = g.M.Medium.state c.note_place_in-in-B.new.unit in
-    let A0 = g.C.Chip.state c.args.card_a.now in
-    let B0 = g.D.Chip.state c.args.card_b.now in
-    let Y = g.D.Chip.state c.note_place_in-in-B.new.card in
-    let begun : ℕ = c.args.at.begun in
-    let out : Outcome = record before { breaks = c.args.breaks.now } in
-    let failed = is_err c.note_place_in-in-B.result in
-    let there : card_in (seat_in run.keeper.cabin.slots.seats c.args.slot) ≡ Some B = cc in
-    let told : number_of_seat run.keeper.cabin.cards (seat_in run.keeper.cabin.slots.seats c.args.slot) ≡ Some c.in-Some-number_in.number = cc in
-    let some = numbered-session run.keeper.cabin.cards (seat_in run.keeper.cabin.slots.seats c.args.slot) B c.in-Some-number_in.number there told in
-    let small : s.number < 2 ^ 32 = let low = c.requires.small in let same = now.number in omega (arith, low, same) in
-    let a : Action = Place c.args.slot ending country region in
-    let left = left-over front rest a s begun n are in
-    let ring = says-of U V (g.met.M.Medium.coherent c.args.unit.now) (IsAdding unit_place_ring (unit_place_bytes c.in-Some-number_in.number c.args.entry.now)) (adding-nothing (unit_place_bytes c.in-Some-number_in.number c.args.entry.now)) c.in_ok-note_place.ensures.moments in
-    let yet = subst (λ (l : Listed Break). NotFound (In begun) (other_slot c.args.slot) (log_of (record before { breaks = l })) s.number) is (none-yet o done s (length front) begun (values_of run before) (devices U A0 B0) w.within n (other_slot c.args.slot)).0 in
-    let follows = subst (λ (l : Listed Break). MayFollow (In begun) c.args.slot (log_of (record before { breaks = l })) s) is (none-yet o done s (length front) begun (values_of run before) (devices U A0 B0) w.within n c.args.slot).1 in
-    let w1 = place-first o done s c.args.slot ending country region begun speed run before c.args.breaks.now (devices U A0 B0) is now front rest are n allowed w in
-    let w2 = unit-recorded o done s begun run out U V A0 B0 (g.met.M.Medium.coherent c.args.unit.now) c.note_place.ensures.journal lit.span lit.stands lit.next w1.goes false c.in_ok-note_place.ensures.cause
-    (λ fine. place-more (unit_place_bytes c.in-Some-number_in.number c.args.entry.now) (g.M.Medium.state c.args.unit.now) (g.M.Medium.state c.note_place.new.unit) (g.met.M.Medium.coherent c.args.unit.now) c.note_place.ensures.moments) in
-    let first : EventedNow o done s w1.goes.within.b.run Acting (log_of out) (devices U A0 B0) = subst (λ (b : Beginning). EventedNow o done s b.run Acting (log_of out) (devices U A0 B0)) (sym w1.began)
-    (subst (λ (l : Listed Break). EventedNow o done s w.within.b.run Acting (log_of (record before { breaks = l })) (devices U A0 B0)) is events) in
-    let second : EventedNow o done s w2.goes.within.b.run Acting (log_of out) (devices V A0 B0) = subst (λ (b : Beginning). EventedNow o done s b.run Acting (log_of out) (devices V A0 B0)) (sym w2.began)
-    (unit-evented o done s begun run out U V A0 B0 (g.met.M.Medium.coherent c.args.unit.now) c.note_place.ensures.journal lit.span lit.stands lit.next w1.goes rest left false c.in_ok-note_place.ensures.cause (quiet-any U V A0 B0 A0 B0 false ring) first) in
-    let falls = fall_events k.0 c.args.at.second c.note_place_in-in-B.new.run in
-    let fell : f.fell ≡ k.0 = same-fell B c.args.slot c.args.at run c.note_place_in-in-B.new.run c.args.breaks.now c.note_place_in-in-B.new.breaks f.fell k.0 f.noted k.1 in
-    let notes : NotesEvents falls failed (devices V A0 B0) (devices W A0 Y) = subst (λ (b : Bool). NotesEvents (fall_events b c.args.at.second c.note_place_in-in-B.new.run) failed (devices V A0 B0) (devices W A0 Y)) fell
-    (noted-any (fall_events f.fell c.args.at.second c.note_place_in-in-B.new.run) failed (devices V B0 B0) (devices W Y Y) (devices V A0 B0) (devices W A0 Y) refl refl f.notes) in
-    subst (λ (b : Beginning). EventsGoOn failed o done s b.run (In begun) Acting (log_of (record before { breaks = c.note_place_in-in-B.new.breaks })) (devices W A0 Y)) (w2.began ∙ w1.began)
-    (some-evented B c.args.slot c.args.at run c.args.breaks.now V W B0 Y A0
-    (g.met.M.Medium.coherent c.note_place.new.unit) (g.met.D.Chip.coherent c.args.card_b.now) (g.met.D.Chip.coherent c.note_place_in-in-B.new.card) c.requires.held.card_b.size some e.value there c.requires.at late lit.span lit.stands lit.next lit.cabin e.moments e.journal
-    failed e.cause o done s before w2.goes (λ first. absurd (let zero_ : begun ≡ 0 = cc in omega (arith, zero_, n))) small yet follows rest left k.0 c.note_place_in-in-B.new.run c.note_place_in-in-B.new.breaks k.1 k.2 k.3 notes second)
-
--- ---- how the rings go on
-
--- nobody is refused who has none to enter for
-no-entering : {T : Type 0} (cards : Cards) (seat : Option Seat) (there : IsThere cards seat) → number_of_seat cards seat ≡ None → T
-no-entering {T} cards seat there none = absurd (let clash : Some there.number ≡ None = sym there.numbered ∙ none in cc)
-
--- a card with a session was called alone
-some-left : (q : Option Accepted) (R : Accepted → List ℕ → List ℕ → Type 0) (X Y : State) → is_some q ≡ true → IfSome q (λ a. LeavesOnly X Y (R a)) → HasLeftMore X Y
-some-left None R X Y some h = absurd (cc)
-some-left (Some a) R X Y some h = h.keeps
-
--- what the call makes of the places of its card
-call-of : (fell failed : Bool) (card : Card) (old new : Run) (slot : Slot) (at : Moment) (breaks after : Listed Break) (a : Accepted) (entry : PlaceEntry) (X Y : State) → IsNotedOn card slot at old new breaks after fell → session_of old.keeper.cabin.cards card ≡ Some a
-    → PlaceOn (session_of old.keeper.cabin.cards card) (session_of new.keeper.cabin.cards card) false entry X Y → MayTakePlace (session_of old.keeper.cabin.cards card) entry X Y → PlaceCall fell failed a.session.application entry X Y
-call-of fell failed card old new slot at breaks after a entry X Y noted is on may =
-    call-made fell failed a (session_of new.keeper.cabin.cards card) entry X Y (λ stays. ap (λ (r : Run). session_of r.keeper.cabin.cards card) (subst (λ (b : Bool). new ≡ noted_run b card at.second old) stays noted.run) ∙ is)
-    (subst (λ (q : Option Accepted). PlaceOn q (session_of new.keeper.cabin.cards card) false entry X Y) is on) (subst (λ (q : Option Accepted). MayTakePlace q entry X Y) is may)
-
-pub returns-in_default-clause-ringed : goal.returns-in_default-clause-ringed
-returns-in_default-clause-ringed g c = λ ending country region now late speed before is o done s here front rest are n allowed w spans t rings time.
-    let cabin = c.args.run.now.keeper.cabin in
-    let lit = c.requires.going in
-    no-entering cabin.cards (seat_in cabin.slots.seats c.args.slot) (who-enters (ungiven_of lit.span) cabin lit.cabin c.args.slot speed ending country region allowed)
-    (no-number cabin.cards (seat_in cabin.slots.seats c.args.slot) c.card.result c.card.ensures c.in_default.not-Some)
-
-pub returns-in_default-number_in-clause-ringed : goal.returns-in_default-number_in-clause-ringed
-returns-in_default-number_in-clause-ringed g c = λ ending country region now late speed before is o done s here front rest are n allowed w spans t rings time.
-    let cabin = c.args.run.now.keeper.cabin in
-    let lit = c.requires.going in
-    no-entering cabin.cards (seat_in cabin.slots.seats c.args.slot) (who-enters (ungiven_of lit.span) cabin lit.cabin c.args.slot speed ending country region allowed)
-    (sym c.number_in.ensures ∙ none-given c.number_in.result c.in_default-number_in.not-Some)
 
 pub returns-in_err-note_place-clause-ringed : goal.returns-in_err-note_place-clause-ringed
 returns-in_err-note_place-clause-ringed g c =
@@ -613,122 +553,12 @@ returns-in_err-note_place-clause-ringed g c =
     (subst (λ (q : Bool). PlaceCall false q a.session.application c.args.entry.now B0 B0) failed (call-unbegun a.session.application c.args.entry.now B0)) card)
     (λ k apart. both-cards (λ k. (y : List ℕ) → (card_of (devices V A0 B0) k).may_leave y → (card_of (devices U A0 B0) k).may_leave y) (λ y left. left) (λ y left. left) k)
 
-pub returns-in-A-clause-ringed : goal.returns-in-A-clause-ringed
-returns-in-A-clause-ringed g c =
-    let run = c.args.run.now in
-    let lit = c.requires.going in
-    let number = c.in-Some-number_in.number in
-    let e = c.note_place_in.ensures in
-    let U = g.M.Medium.state c.args.unit.now in
-    let V = g.M.Medium.state c.note_place.new.unit in
-    let W = g.M.Medium.state c.note_place_in.new.unit in
-    let A0 = g.C.Chip.state c.args.card_a.now in
-    let B0 = g.D.Chip.state c.args.card_b.now in
-    let Y = g.C.Chip.state c.note_place_in.new.card in
-    let there : card_in (seat_in run.keeper.cabin.slots.seats c.args.slot) ≡ Some A = cc in
-    let told : number_of_seat run.keeper.cabin.cards (seat_in run.keeper.cabin.slots.seats c.args.slot) ≡ Some number = cc in
-    let some = numbered-session run.keeper.cabin.cards (seat_in run.keeper.cabin.slots.seats c.args.slot) A number there told in
-    place-goes c.args.slot c.args.entry.now c.args.at (is_err c.note_place_in.result) run c.note_place_in.new.run c.args.breaks.now c.note_place_in.new.breaks (devices U A0 B0) (devices W Y B0) A number e.noted.0 there told
-    some (ungiven_of lit.span) lit.cabin c.requires.at c.requires.small e.noted.1
-    (λ tells. subst (λ (o : Option FullCardNumber). WritesPlace o c.args.entry.now (is_err c.note_place_in.result) U W) told (returns-in-A-clause-rings g c tells))
-    (record {
-      unit = left-after U V W c.note_place.ensures.journal.keeps c.note_place.ensures.journal.later e.journal.keeps;
-      card_a = some-left (session_of run.keeper.cabin.cards A) (λ a. IsNote a.session.application) A0 Y some e.moments;
-      card_b = λ t x le at. at;
-    })
-    (λ a at_. call-of e.noted.0 (is_err c.note_place_in.result) A run c.note_place_in.new.run c.args.slot c.args.at c.args.breaks.now c.note_place_in.new.breaks a c.args.entry.now A0 Y e.noted.1 at_ e.on_card e.places)
-    (λ k apart. both-cards (λ k. same_card A k ≡ false → (y : List ℕ) → (card_of (devices W Y B0) k).may_leave y → (card_of (devices U A0 B0) k).may_leave y)
-    (λ (is : true ≡ false). absurd (let wrong : true ≡ false = is in cc)) (λ apart_ y left. left) k apart)
-
-pub returns-in-B-clause-ringed : goal.returns-in-B-clause-ringed
-returns-in-B-clause-ringed g c =
-    let run = c.args.run.now in
-    let lit = c.requires.going in
-    let number = c.in-Some-number_in.number in
-    let e = c.note_place_in-in-B.ensures in
-    let U = g.M.Medium.state c.args.unit.now in
-    let V = g.M.Medium.state c.note_place.new.unit in
-    let W = g.M.Medium.state c.note_place_in-in-B.new.unit in
-    let A0 = g.C.Chip.state c.args.card_a.now in
-    let B0 = g.D.Chip.state c.args.card_b.now in
-    let Y = g.D.Chip.state c.note_place_in-in-B.new.card in
-    let there : card_in (seat_in run.keeper.cabin.slots.seats c.args.slot) ≡ Some B = cc in
-    let told : number_of_seat run.keeper.cabin.cards (seat_in run.keeper.cabin.slots.seats c.args.slot) ≡ Some number = cc in
-    let some = numbered-session run.keeper.cabin.cards (seat_in run.keeper.cabin.slots.seats c.args.slot) B number there told in
-    place-goes c.args.slot c.args.entry.now c.args.at (is_err c.note_place_in-in-B.result) run c.note_place_in-in-B.new.run c.args.breaks.now c.note_place_in-in-B.new.breaks (devices U A0 B0) (devices W A0 Y) B number e.noted.0 there told
-    some (ungiven_of lit.span) lit.cabin c.requires.at c.requires.small e.noted.1
-    (λ tells. subst (λ (o : Option FullCardNumber). WritesPlace o c.args.entry.now (is_err c.note_place_in-in-B.result) U W) told (returns-in-B-clause-rings g c tells))
-    (record {
-      unit = left-after U V W c.note_place.ensures.journal.keeps c.note_place.ensures.journal.later e.journal.keeps;
-      card_a = λ t x le at. at;
-      card_b = some-left (session_of run.keeper.cabin.cards B) (λ a. IsNote a.session.application) B0 Y some e.moments;
-    })
-    (λ a at_. call-of e.noted.0 (is_err c.note_place_in-in-B.result) B run c.note_place_in-in-B.new.run c.args.slot c.args.at c.args.breaks.now c.note_place_in-in-B.new.breaks a c.args.entry.now B0 Y e.noted.1 at_ e.on_card e.places)
-    (λ k apart. both-cards (λ k. same_card B k ≡ false → (y : List ℕ) → (card_of (devices W A0 Y) k).may_leave y → (card_of (devices U A0 B0) k).may_leave y)
-    (λ apart_ y left. left) (λ (is : true ≡ false). absurd (let wrong : true ≡ false = is in cc)) k apart)
-
--- ---- the events that the cards show
-
-pub returns-in_default-clause-card_events : goal.returns-in_default-clause-card_events
-returns-in_default-clause-card_events g c =
-    let d = devices (g.M.Medium.state c.args.unit.now) (g.C.Chip.state c.args.card_a.now) (g.D.Chip.state c.args.card_b.now) in
-    λ card. on-none false (session_of c.args.run.now.keeper.cabin.cards card) (card_of d card)
-
-pub returns-in_default-number_in-clause-card_events : goal.returns-in_default-number_in-clause-card_events
-returns-in_default-number_in-clause-card_events g c =
-    let d = devices (g.M.Medium.state c.args.unit.now) (g.C.Chip.state c.args.card_a.now) (g.D.Chip.state c.args.card_b.now) in
-    λ card. on-none false (session_of c.args.run.now.keeper.cabin.cards card) (card_of d card)
-
 pub returns-in_err-note_place-clause-card_events : goal.returns-in_err-note_place-clause-card_events
 returns-in_err-note_place-clause-card_events g c =
     let run = c.args.run.now in
     both-cards (λ card. NotesOn false (session_of run.keeper.cabin.cards card) (session_of run.keeper.cabin.cards card) []
     (card_of (devices (g.M.Medium.state c.args.unit.now) (g.C.Chip.state c.args.card_a.now) (g.D.Chip.state c.args.card_b.now)) card) (card_of (devices (g.M.Medium.state c.note_place.new.unit) (g.C.Chip.state c.args.card_a.now) (g.D.Chip.state c.args.card_b.now)) card))
     (on-none false (session_of run.keeper.cabin.cards A) (g.C.Chip.state c.args.card_a.now)) (on-none false (session_of run.keeper.cabin.cards B) (g.D.Chip.state c.args.card_b.now))
-
-pub returns-in-A-clause-card_events : goal.returns-in-A-clause-card_events
-returns-in-A-clause-card_events g c =
-    let run = c.args.run.now in
-    let new : Run = c.note_place_in.new.run in
-    let n = c.note_place_in.ensures.noted in
-    let second : ℕ = c.args.at.second in
-    let is : new ≡ with_cabin (noted_cabin n.0 A second run) run = n.1.run ∙ noted-is n.0 A second run in
-    let known : new.keeper.cabin.cards.b ≡ run.keeper.cabin.cards.b = ap (λ (r : Run). r.keeper.cabin.cards.b) is ∙ noted-b n.0 second run in
-    let Y = g.D.Chip.state c.args.card_b.now in
-    both-cards (λ card. NotesOn false (session_of run.keeper.cabin.cards card) (session_of new.keeper.cabin.cards card) []
-    (card_of (devices (g.M.Medium.state c.args.unit.now) (g.C.Chip.state c.args.card_a.now) Y) card) (card_of (devices (g.M.Medium.state c.note_place_in.new.unit) (g.C.Chip.state c.note_place_in.new.card) Y) card))
-    c.note_place_in.ensures.card_events
-    (subst (λ (o : Option Accepted). NotesOn false (session_of run.keeper.cabin.cards B) o [] Y Y) (sym (ap (λ (k : Known). k.accepted) known)) (on-none false (session_of run.keeper.cabin.cards B) Y))
-
-pub returns-in-B-clause-card_events : goal.returns-in-B-clause-card_events
-returns-in-B-clause-card_events g c =
-    let run = c.args.run.now in
-    let new : Run = c.note_place_in-in-B.new.run in
-    let n = c.note_place_in-in-B.ensures.noted in
-    let second : ℕ = c.args.at.second in
-    let is : new ≡ with_cabin (noted_cabin n.0 B second run) run = n.1.run ∙ noted-is n.0 B second run in
-    let known : new.keeper.cabin.cards.a ≡ run.keeper.cabin.cards.a = ap (λ (r : Run). r.keeper.cabin.cards.a) is ∙ noted-a n.0 second run in
-    let X = g.C.Chip.state c.args.card_a.now in
-    both-cards (λ card. NotesOn false (session_of run.keeper.cabin.cards card) (session_of new.keeper.cabin.cards card) []
-    (card_of (devices (g.M.Medium.state c.args.unit.now) X (g.D.Chip.state c.args.card_b.now)) card) (card_of (devices (g.M.Medium.state c.note_place_in-in-B.new.unit) X (g.D.Chip.state c.note_place_in-in-B.new.card)) card))
-    (subst (λ (o : Option Accepted). NotesOn false (session_of run.keeper.cabin.cards A) o [] X X) (sym (ap (λ (k : Known). k.accepted) known)) (on-none false (session_of run.keeper.cabin.cards A) X))
-    c.note_place_in-in-B.ensures.card_events
-
--- ---- the cards go on
-
-pub returns-in_default-clause-cards : goal.returns-in_default-clause-cards
-returns-in_default-clause-cards g c = λ late ending country region speed before is o done s here front rest are n allowed vehicle w cards time.
-    let cabin = c.args.run.now.keeper.cabin in
-    let lit = c.requires.going in
-    no-entering cabin.cards (seat_in cabin.slots.seats c.args.slot) (who-enters (ungiven_of lit.span) cabin lit.cabin c.args.slot speed ending country region allowed)
-    (no-number cabin.cards (seat_in cabin.slots.seats c.args.slot) c.card.result c.card.ensures c.in_default.not-Some)
-
-pub returns-in_default-number_in-clause-cards : goal.returns-in_default-number_in-clause-cards
-returns-in_default-number_in-clause-cards g c = λ late ending country region speed before is o done s here front rest are n allowed vehicle w cards time.
-    let cabin = c.args.run.now.keeper.cabin in
-    let lit = c.requires.going in
-    no-entering cabin.cards (seat_in cabin.slots.seats c.args.slot) (who-enters (ungiven_of lit.span) cabin lit.cabin c.args.slot speed ending country region allowed)
-    (sym c.number_in.ensures ∙ none-given c.number_in.result c.in_default-number_in.not-Some)
 
 pub returns-in_err-note_place-clause-cards : goal.returns-in_err-note_place-clause-cards
 returns-in_err-note_place-clause-cards g c =
@@ -742,68 +572,6 @@ returns-in_err-note_place-clause-cards g c =
     place-cards c.args.slot c.args.at (is_err c.from_residual.result) false run run breaks breaks (devices U A0 B0) (devices V A0 B0) c.requires.at none (returns-in_err-note_place-clause-card_events g c)
     (record { unit = c.note_place.ensures.journal.keeps; card_a = λ t x le at. at; card_b = λ t x le at. at })
 
-pub returns-in-A-clause-cards : goal.returns-in-A-clause-cards
-returns-in-A-clause-cards g c =
-    let run = c.args.run.now in
-    let number = c.in-Some-number_in.number in
-    let e = c.note_place_in.ensures in
-    let U = g.M.Medium.state c.args.unit.now in
-    let V = g.M.Medium.state c.note_place.new.unit in
-    let W = g.M.Medium.state c.note_place_in.new.unit in
-    let A0 = g.C.Chip.state c.args.card_a.now in
-    let B0 = g.D.Chip.state c.args.card_b.now in
-    let Y = g.C.Chip.state c.note_place_in.new.card in
-    let there : card_in (seat_in run.keeper.cabin.slots.seats c.args.slot) ≡ Some A = cc in
-    let told : number_of_seat run.keeper.cabin.cards (seat_in run.keeper.cabin.slots.seats c.args.slot) ≡ Some number = cc in
-    let some = numbered-session run.keeper.cabin.cards (seat_in run.keeper.cabin.slots.seats c.args.slot) A number there told in
-    place-cards c.args.slot c.args.at (is_err c.note_place_in.result) e.noted.0 run c.note_place_in.new.run c.args.breaks.now c.note_place_in.new.breaks (devices U A0 B0) (devices W Y B0) c.requires.at e.noted.1.told (returns-in-A-clause-card_events g c)
-    (record {
-      unit = left-after U V W c.note_place.ensures.journal.keeps c.note_place.ensures.journal.later e.journal.keeps;
-      card_a = some-left (session_of run.keeper.cabin.cards A) (λ a. IsNote a.session.application) A0 Y some e.moments;
-      card_b = λ t x le at. at;
-    })
-
-pub returns-in-B-clause-cards : goal.returns-in-B-clause-cards
-returns-in-B-clause-cards g c =
-    let run = c.args.run.now in
-    let number = c.in-Some-number_in.number in
-    let e = c.note_place_in-in-B.ensures in
-    let U = g.M.Medium.state c.args.unit.now in
-    let V = g.M.Medium.state c.note_place.new.unit in
-    let W = g.M.Medium.state c.note_place_in-in-B.new.unit in
-    let A0 = g.C.Chip.state c.args.card_a.now in
-    let B0 = g.D.Chip.state c.args.card_b.now in
-    let Y = g.D.Chip.state c.note_place_in-in-B.new.card in
-    let there : card_in (seat_in run.keeper.cabin.slots.seats c.args.slot) ≡ Some B = cc in
-    let told : number_of_seat run.keeper.cabin.cards (seat_in run.keeper.cabin.slots.seats c.args.slot) ≡ Some number = cc in
-    let some = numbered-session run.keeper.cabin.cards (seat_in run.keeper.cabin.slots.seats c.args.slot) B number there told in
-    place-cards c.args.slot c.args.at (is_err c.note_place_in-in-B.result) e.noted.0 run c.note_place_in-in-B.new.run c.args.breaks.now c.note_place_in-in-B.new.breaks (devices U A0 B0) (devices W A0 Y) c.requires.at e.noted.1.told (returns-in-B-clause-card_events g c)
-    (record {
-      unit = left-after U V W c.note_place.ensures.journal.keeps c.note_place.ensures.journal.later e.journal.keeps;
-      card_a = λ t x le at. at;
-      card_b = some-left (session_of run.keeper.cabin.cards B) (λ a. IsNote a.session.application) B0 Y some e.moments;
-    })
-
--- ---- the place on the card
-
-none-in : (o : Option Card) → ((card : Card) → o ≡ Some card → ⊥) → o ≡ None
-none-in None never = refl
-none-in (Some card) never = absurd (never card refl)
-
-pub returns-in_default-clause-on_card : goal.returns-in_default-clause-on_card
-returns-in_default-clause-on_card g c = λ card there.
-    let none : card_in (seat_in c.args.run.now.keeper.cabin.slots.seats c.args.slot) ≡ None = sym c.card.ensures ∙ none-in c.card.result c.in_default.not-Some in
-    absurd (let wrong : None ≡ Some card = sym none ∙ there in cc)
-
-pub returns-in_default-number_in-clause-on_card : goal.returns-in_default-number_in-clause-on_card
-returns-in_default-number_in-clause-on_card g c = λ card there.
-    let run = c.args.run.now in
-    let cards = run.keeper.cabin.cards in
-    let d = devices (g.M.Medium.state c.args.unit.now) (g.C.Chip.state c.args.card_a.now) (g.D.Chip.state c.args.card_b.now) in
-    let unnamed : number_of_seat cards (seat_in run.keeper.cabin.slots.seats c.args.slot) ≡ None = sym c.number_in.ensures ∙ none-given c.number_in.result c.in_default-number_in.not-Some in
-    place-bare c.args.entry.now (card_of d card) (card_of d card) (session_of cards card) (session_of cards card) false
-    (seat-bare cards (seat_in run.keeper.cabin.slots.seats c.args.slot) card c.requires.going.ready.card_a.is_known c.requires.going.ready.card_b.is_known unnamed there)
-
 pub returns-in_err-note_place-clause-on_card : goal.returns-in_err-note_place-clause-on_card
 returns-in_err-note_place-clause-on_card g c = λ card there.
     let run = c.args.run.now in
@@ -813,41 +581,117 @@ returns-in_err-note_place-clause-on_card g c = λ card there.
     let failed : true ≡ is_err c.from_residual.result = search rules in
     subst (λ (b : Bool). PlaceOn s s b c.args.entry.now (card_of d card) (card_of e card)) failed (place-unit c.args.entry.now (card_of d card) (card_of e card) s s)
 
-pub returns-in-A-clause-on_card : goal.returns-in-A-clause-on_card
-returns-in-A-clause-on_card g c = λ card there.
-    let run = c.args.run.now in
-    let new : Run = c.note_place_in.new.run in
-    let seat : card_in (seat_in run.keeper.cabin.slots.seats c.args.slot) ≡ Some A = cc in
-    let is : A ≡ card = cc in
-    let d = devices (g.M.Medium.state c.args.unit.now) (g.C.Chip.state c.args.card_a.now) (g.D.Chip.state c.args.card_b.now) in
-    let e = devices (g.M.Medium.state c.note_place_in.new.unit) (g.C.Chip.state c.note_place_in.new.card) (g.D.Chip.state c.args.card_b.now) in
-    subst (λ (k : Card). PlaceOn (session_of run.keeper.cabin.cards k) (session_of new.keeper.cabin.cards k) (is_err c.note_place_in.result) c.args.entry.now (card_of d k) (card_of e k)) is
-    (place-any c.args.entry.now (g.C.Chip.state c.args.card_a.now) (g.C.Chip.state c.note_place_in.new.card) (session_of run.keeper.cabin.cards A) (session_of new.keeper.cabin.cards A) (is_err c.note_place_in.result) c.note_place_in.ensures.on_card)
-
-pub returns-in-B-clause-on_card : goal.returns-in-B-clause-on_card
-returns-in-B-clause-on_card g c = λ card there.
-    let run = c.args.run.now in
-    let new : Run = c.note_place_in-in-B.new.run in
-    let seat : card_in (seat_in run.keeper.cabin.slots.seats c.args.slot) ≡ Some B = cc in
-    let is : B ≡ card = cc in
-    let d = devices (g.M.Medium.state c.args.unit.now) (g.C.Chip.state c.args.card_a.now) (g.D.Chip.state c.args.card_b.now) in
-    let e = devices (g.M.Medium.state c.note_place_in-in-B.new.unit) (g.C.Chip.state c.args.card_a.now) (g.D.Chip.state c.note_place_in-in-B.new.card) in
-    subst (λ (k : Card). PlaceOn (session_of run.keeper.cabin.cards k) (session_of new.keeper.cabin.cards k) (is_err c.note_place_in-in-B.result) c.args.entry.now (card_of d k) (card_of e k)) is
-    (place-any c.args.entry.now (g.D.Chip.state c.args.card_b.now) (g.D.Chip.state c.note_place_in-in-B.new.card) (session_of run.keeper.cabin.cards B) (session_of new.keeper.cabin.cards B) (is_err c.note_place_in-in-B.result) c.note_place_in-in-B.ensures.on_card)
-
--- ---- where no tear of a failed call is told no card has broken down
-
-pub returns-in_default-clause-calm : goal.returns-in_default-clause-calm
-returns-in_default-clause-calm g c = calm-same (devices (g.M.Medium.state c.args.unit.now) (g.C.Chip.state c.args.card_a.now) (g.D.Chip.state c.args.card_b.now))
-
-pub returns-in_default-number_in-clause-calm : goal.returns-in_default-number_in-clause-calm
-returns-in_default-number_in-clause-calm g c = calm-same (devices (g.M.Medium.state c.args.unit.now) (g.C.Chip.state c.args.card_a.now) (g.D.Chip.state c.args.card_b.now))
-
 pub returns-in_err-note_place-clause-calm : goal.returns-in_err-note_place-clause-calm
 returns-in_err-note_place-clause-calm g c = calm-of-unit (g.M.Medium.state c.args.unit.now) (g.M.Medium.state c.note_place.new.unit) (g.C.Chip.state c.args.card_a.now) (g.D.Chip.state c.args.card_b.now)
 
+-- ---- card a, and card b
+
+pub returns-in-A-clause-held : goal.returns-in-A-clause-held
+returns-in-A-clause-held g c =
+    let e = c.note_place_in.ensures in
+    held-noted A c.args.slot c.args.at c.args.run.now c.note_place_in.new.run c.args.breaks.now c.note_place_in.new.breaks c.note_place_in.ensures.noted.0 c.note_place_in.ensures.noted.1 (g.M.Medium.state c.args.unit.now) (g.M.Medium.state c.note_place_in.new.unit) (g.C.Chip.state c.args.card_a.now) (g.C.Chip.state c.note_place_in.new.card) (g.D.Chip.state c.args.card_b.now) (g.C.Chip.card c.args.card_a.now) (g.C.Chip.card c.note_place_in.new.card) (g.D.Chip.card c.args.card_b.now) c.requires.at c.requires.held e.unit e.card e.size e.stands
+
+pub returns-in-A-clause-going : goal.returns-in-A-clause-going
+returns-in-A-clause-going g c =
+    let e = c.note_place_in.ensures in
+    on_ok c.note_place_in.result (λ well. going-noted A c.args.slot c.args.at c.args.run.now c.note_place_in.new.run c.args.breaks.now c.note_place_in.new.breaks c.note_place_in.ensures.noted.0 c.note_place_in.ensures.noted.1 (g.M.Medium.state c.args.unit.now) (g.M.Medium.state c.note_place_in.new.unit) (g.C.Chip.state c.args.card_a.now) (g.C.Chip.state c.note_place_in.new.card) (g.D.Chip.state c.args.card_b.now) (g.C.Chip.card c.args.card_a.now) (g.C.Chip.card c.note_place_in.new.card) (g.D.Chip.card c.args.card_b.now) c.requires.going (ok_gives c.note_place_in.result e.ready well) e.card (rows-then g (noted-first-a g c) (side-a g c) c.note_place_in.ensures well) e.stands)
+
+pub returns-in-A-clause-only : goal.returns-in-A-clause-only
+returns-in-A-clause-only g c = only-noted A c.args.slot c.args.at c.args.run.now c.note_place_in.new.run c.args.breaks.now c.note_place_in.new.breaks c.note_place_in.ensures.noted.0 c.note_place_in.ensures.noted.1
+
+pub returns-in-A-clause-room : goal.returns-in-A-clause-room
+returns-in-A-clause-room g c = room-noted A c.args.slot c.args.at c.args.run.now c.note_place_in.new.run c.args.breaks.now c.note_place_in.new.breaks c.note_place_in.ensures.noted.0 c.note_place_in.ensures.noted.1 (some g (noted-first-a g c) (side-a g c) c.note_place_in.ensures)
+
+pub returns-in-A-clause-more : goal.returns-in-A-clause-more
+returns-in-A-clause-more g c = more-noted A c.args.slot c.args.at c.args.run.now c.note_place_in.new.run c.args.breaks.now c.note_place_in.new.breaks c.note_place_in.ensures.noted.0 c.note_place_in.ensures.noted.1
+
+pub returns-in-A-clause-cause : goal.returns-in-A-clause-cause
+returns-in-A-clause-cause g c = cause_after c.in_ok-note_place.ensures.cause c.note_place_in.ensures.cause
+
+pub returns-in-A-clause-clock_a : goal.returns-in-A-clause-clock_a
+returns-in-A-clause-clock_a g c = c.note_place_in.ensures.clock_card
+
+pub returns-in-A-clause-events : goal.returns-in-A-clause-events
+returns-in-A-clause-events g c = events g (noted-first-a g c) (side-a g c) c.note_place_in.ensures
+
+pub returns-in-A-clause-rings : goal.returns-in-A-clause-rings
+returns-in-A-clause-rings g c = writes g (noted-first-a g c) (side-a g c) c.note_place_in.ensures
+
+pub returns-in-A-clause-later : goal.returns-in-A-clause-later
+returns-in-A-clause-later g c = later g (noted-first-a g c) (side-a g c) c.note_place_in.ensures
+
 pub returns-in-A-clause-calm : goal.returns-in-A-clause-calm
-returns-in-A-clause-calm g c = calm-then (devices (g.M.Medium.state c.args.unit.now) (g.C.Chip.state c.args.card_a.now) (g.D.Chip.state c.args.card_b.now)) (devices (g.M.Medium.state c.note_place.new.unit) (g.C.Chip.state c.args.card_a.now) (g.D.Chip.state c.args.card_b.now)) (devices (g.M.Medium.state c.note_place_in.new.unit) (g.C.Chip.state c.note_place_in.new.card) (g.D.Chip.state c.args.card_b.now)) (calm-of-unit (g.M.Medium.state c.args.unit.now) (g.M.Medium.state c.note_place.new.unit) (g.C.Chip.state c.args.card_a.now) (g.D.Chip.state c.args.card_b.now)) (calm-of-a (g.M.Medium.state c.note_place.new.unit) (g.M.Medium.state c.note_place_in.new.unit) (g.C.Chip.state c.args.card_a.now) (g.C.Chip.state c.note_place_in.new.card) (g.D.Chip.state c.args.card_b.now) (card-by c.note_place_in.ensures.noted.0 c.args.slot c.args.at (λ (fell : Bool). noted_breaks fell c.args.slot c.args.at) refl refl (ap (λ (l : Listed Break). l.items) c.note_place_in.ensures.noted.1.told) c.note_place_in.ensures.noted.3))
+returns-in-A-clause-calm g c = calm g (noted-first-a g c) (side-a g c) c.note_place_in.ensures
+
+pub returns-in-A-clause-card_events : goal.returns-in-A-clause-card_events
+returns-in-A-clause-card_events g c = card-events g (noted-first-a g c) (side-a g c) c.note_place_in.ensures
+
+pub returns-in-A-clause-cards : goal.returns-in-A-clause-cards
+returns-in-A-clause-cards g c = shown g (noted-first-a g c) (side-a g c) c.note_place_in.ensures
+
+pub returns-in-A-clause-ringed : goal.returns-in-A-clause-ringed
+returns-in-A-clause-ringed g c = ringed g (noted-first-a g c) (side-a g c) c.note_place_in.ensures
+
+pub returns-in-A-clause-on_card : goal.returns-in-A-clause-on_card
+returns-in-A-clause-on_card g c = on-card g (noted-first-a g c) (side-a g c) c.note_place_in.ensures
+
+pub returns-in-A-clause-recorded : goal.returns-in-A-clause-recorded
+returns-in-A-clause-recorded g c = λ late ending country region speed before is o done s now front rest are n allowed w time. recorded g (noted-first-a g c) (side-a g c) c.note_place_in.ensures late ending country region speed before is o done s now front rest are n allowed w
+
+pub returns-in-A-clause-evented : goal.returns-in-A-clause-evented
+returns-in-A-clause-evented g c = λ late ending country region speed before is o done s now front rest are n allowed w events time. evented g (noted-first-a g c) (side-a g c) c.note_place_in.ensures late ending country region speed before is o done s now front rest are n allowed w events
+
+pub returns-in-B-clause-held : goal.returns-in-B-clause-held
+returns-in-B-clause-held g c =
+    let e = c.note_place_in-in-B.ensures in
+    held-noted B c.args.slot c.args.at c.args.run.now c.note_place_in-in-B.new.run c.args.breaks.now c.note_place_in-in-B.new.breaks c.note_place_in-in-B.ensures.noted.0 c.note_place_in-in-B.ensures.noted.1 (g.M.Medium.state c.args.unit.now) (g.M.Medium.state c.note_place_in-in-B.new.unit) (g.D.Chip.state c.args.card_b.now) (g.D.Chip.state c.note_place_in-in-B.new.card) (g.C.Chip.state c.args.card_a.now) (g.D.Chip.card c.args.card_b.now) (g.D.Chip.card c.note_place_in-in-B.new.card) (g.C.Chip.card c.args.card_a.now) c.requires.at c.requires.held e.unit e.card e.size e.stands
+
+pub returns-in-B-clause-going : goal.returns-in-B-clause-going
+returns-in-B-clause-going g c =
+    let e = c.note_place_in-in-B.ensures in
+    on_ok c.note_place_in-in-B.result (λ well. going-noted B c.args.slot c.args.at c.args.run.now c.note_place_in-in-B.new.run c.args.breaks.now c.note_place_in-in-B.new.breaks c.note_place_in-in-B.ensures.noted.0 c.note_place_in-in-B.ensures.noted.1 (g.M.Medium.state c.args.unit.now) (g.M.Medium.state c.note_place_in-in-B.new.unit) (g.D.Chip.state c.args.card_b.now) (g.D.Chip.state c.note_place_in-in-B.new.card) (g.C.Chip.state c.args.card_a.now) (g.D.Chip.card c.args.card_b.now) (g.D.Chip.card c.note_place_in-in-B.new.card) (g.C.Chip.card c.args.card_a.now) c.requires.going (ok_gives c.note_place_in-in-B.result e.ready well) e.card (rows-then g (noted-first-b g c) (side-b g c) c.note_place_in-in-B.ensures well) e.stands)
+
+pub returns-in-B-clause-only : goal.returns-in-B-clause-only
+returns-in-B-clause-only g c = only-noted B c.args.slot c.args.at c.args.run.now c.note_place_in-in-B.new.run c.args.breaks.now c.note_place_in-in-B.new.breaks c.note_place_in-in-B.ensures.noted.0 c.note_place_in-in-B.ensures.noted.1
+
+pub returns-in-B-clause-room : goal.returns-in-B-clause-room
+returns-in-B-clause-room g c = room-noted B c.args.slot c.args.at c.args.run.now c.note_place_in-in-B.new.run c.args.breaks.now c.note_place_in-in-B.new.breaks c.note_place_in-in-B.ensures.noted.0 c.note_place_in-in-B.ensures.noted.1 (some g (noted-first-b g c) (side-b g c) c.note_place_in-in-B.ensures)
+
+pub returns-in-B-clause-more : goal.returns-in-B-clause-more
+returns-in-B-clause-more g c = more-noted B c.args.slot c.args.at c.args.run.now c.note_place_in-in-B.new.run c.args.breaks.now c.note_place_in-in-B.new.breaks c.note_place_in-in-B.ensures.noted.0 c.note_place_in-in-B.ensures.noted.1
+
+pub returns-in-B-clause-cause : goal.returns-in-B-clause-cause
+returns-in-B-clause-cause g c = cause_after c.in_ok-note_place.ensures.cause c.note_place_in-in-B.ensures.cause
+
+pub returns-in-B-clause-clock_b : goal.returns-in-B-clause-clock_b
+returns-in-B-clause-clock_b g c = c.note_place_in-in-B.ensures.clock_card
+
+pub returns-in-B-clause-events : goal.returns-in-B-clause-events
+returns-in-B-clause-events g c = events g (noted-first-b g c) (side-b g c) c.note_place_in-in-B.ensures
+
+pub returns-in-B-clause-rings : goal.returns-in-B-clause-rings
+returns-in-B-clause-rings g c = writes g (noted-first-b g c) (side-b g c) c.note_place_in-in-B.ensures
+
+pub returns-in-B-clause-later : goal.returns-in-B-clause-later
+returns-in-B-clause-later g c = later g (noted-first-b g c) (side-b g c) c.note_place_in-in-B.ensures
 
 pub returns-in-B-clause-calm : goal.returns-in-B-clause-calm
-returns-in-B-clause-calm g c = calm-then (devices (g.M.Medium.state c.args.unit.now) (g.C.Chip.state c.args.card_a.now) (g.D.Chip.state c.args.card_b.now)) (devices (g.M.Medium.state c.note_place.new.unit) (g.C.Chip.state c.args.card_a.now) (g.D.Chip.state c.args.card_b.now)) (devices (g.M.Medium.state c.note_place_in-in-B.new.unit) (g.C.Chip.state c.args.card_a.now) (g.D.Chip.state c.note_place_in-in-B.new.card)) (calm-of-unit (g.M.Medium.state c.args.unit.now) (g.M.Medium.state c.note_place.new.unit) (g.C.Chip.state c.args.card_a.now) (g.D.Chip.state c.args.card_b.now)) (calm-of-b (g.M.Medium.state c.note_place.new.unit) (g.M.Medium.state c.note_place_in-in-B.new.unit) (g.C.Chip.state c.args.card_a.now) (g.D.Chip.state c.args.card_b.now) (g.D.Chip.state c.note_place_in-in-B.new.card) (card-by c.note_place_in-in-B.ensures.noted.0 c.args.slot c.args.at (λ (fell : Bool). noted_breaks fell c.args.slot c.args.at) refl refl (ap (λ (l : Listed Break). l.items) c.note_place_in-in-B.ensures.noted.1.told) c.note_place_in-in-B.ensures.noted.3))
+returns-in-B-clause-calm g c = calm g (noted-first-b g c) (side-b g c) c.note_place_in-in-B.ensures
+
+pub returns-in-B-clause-card_events : goal.returns-in-B-clause-card_events
+returns-in-B-clause-card_events g c = card-events g (noted-first-b g c) (side-b g c) c.note_place_in-in-B.ensures
+
+pub returns-in-B-clause-cards : goal.returns-in-B-clause-cards
+returns-in-B-clause-cards g c = shown g (noted-first-b g c) (side-b g c) c.note_place_in-in-B.ensures
+
+pub returns-in-B-clause-ringed : goal.returns-in-B-clause-ringed
+returns-in-B-clause-ringed g c = ringed g (noted-first-b g c) (side-b g c) c.note_place_in-in-B.ensures
+
+pub returns-in-B-clause-on_card : goal.returns-in-B-clause-on_card
+returns-in-B-clause-on_card g c = on-card g (noted-first-b g c) (side-b g c) c.note_place_in-in-B.ensures
+
+pub returns-in-B-clause-recorded : goal.returns-in-B-clause-recorded
+returns-in-B-clause-recorded g c = λ late ending country region speed before is o done s now front rest are n allowed w time. recorded g (noted-first-b g c) (side-b g c) c.note_place_in-in-B.ensures late ending country region speed before is o done s now front rest are n allowed w
+
+pub returns-in-B-clause-evented : goal.returns-in-B-clause-evented
+returns-in-B-clause-evented g c = λ late ending country region speed before is o done s now front rest are n allowed w events time. evented g (noted-first-b g c) (side-b g c) c.note_place_in-in-B.ensures late ending country region speed before is o done s now front rest are n allowed w events

@@ -6,7 +6,7 @@ use Rattle.run_crew.specs.declared.cards.Known.{Known}
 use Rattle.run_crew.specs.declared.cards.Cards.{Cards}
 use Rattle.run_crew.specs.declared.cabin.Cabin.{Cabin}
 use Rattle.run_crew.specs.Cards.{known_of, session_of, with_session}
-use Rattle.run_crew.specs.Cabin.{Stands, crew_of}
+use Rattle.run_crew.specs.Cabin.{Stands, crew_of, torn_out}
 use Rattle.run_keeping.specs.declared.keeper.Keeper.{Keeper}
 use Rattle.run_keeping.specs.Keeping.{CardReady, HasItsRow, fault_of}
 use Rattle.run_keeping.proofs.Sessions.{number-set, row-set, torn-stands}
@@ -26,6 +26,10 @@ use Rattle.run_keeping.proofs.CardBooked.{session-set}
 use Rattle.run_acts.specs.CardWrites.{PlaceOn}
 use Rattle.run_acts.proofs.CardWrites.{place-well, place-fell, place-on}
 use Rattle.run_acts.proofs.CardPlaces.{may-take}
+use Rattle.run_acts.specs.Acting.{IsNotedOn}
+use Rattle.run_acts.specs.Power.{with_cabin}
+use Rattle.run_acts.proofs.placing.note_place_in.Given.{Over}
+use Rattle.run_acts.proofs.placing.note_place_in.Goals.{After-tear, After-set_session}
 use Rattle.run_acts.proofs.placing.note_place_in.Goals as goal
 
 pub note_place_on-requires-clause-port : goal.note_place_on-requires-clause-port
@@ -47,22 +51,47 @@ returns-in_default-take g c =
     let gone : session_of cards c.args.which ≡ None = sym c.take.ensures.taken ∙ none-there c.take.result c.in_default-take.not-Some in
     absurd (not-both (session_of cards c.args.which) c.requires.session gone)
 
--- ---- the call failed
+-- ---- the call failed, and the card was torn out
+
+module _ (g : Over) (c : After-tear g) where
+  sizes-fell : (known_of c.args.run.now.keeper.cabin.cards c.args.which).sizes ≡ Ok c.in-Ok.app
+  sizes-fell = cc
+
+  cabin-fell : c.tear.new.self.cabin ≡ torn_out c.args.which c.args.at.second c.args.run.now.keeper.cabin
+  cabin-fell = ap (λ (k : Keeper). k.cabin) c.tear.ensures.keeper ∙ torn-apart c.args.which c.args.at.second c.args.run.now.keeper.cabin c.take.new.self c.take.ensures.left
+
+  cause-bad : HasCause (g.C.Chip.state c.args.card.now) (g.C.Chip.state c.note_place_on.new.card) true
+  cause-bad = subst (λ (b : Bool). HasCause (g.C.Chip.state c.args.card.now) (g.C.Chip.state c.note_place_on.new.card) b) (sym c.is_err.ensures.value ∙ c.if-is_err.true) c.note_place_on.ensures.cause
+
+  noted-fell : IsNotedOn c.args.which c.args.slot c.args.at c.args.run.now (record c.args.run.now { keeper = c.tear.new.self }) c.args.breaks.now c.tear.new.breaks true
+  noted-fell = record { run = ap (λ (k : Keeper). record c.args.run.now { keeper = k }) (c.tear.ensures.keeper ∙ ap (λ (b : Cabin). record c.args.run.now.keeper { cabin = b }) (torn-apart c.args.which c.args.at.second c.args.run.now.keeper.cabin c.take.new.self c.take.ensures.left)); told = c.tear.ensures.told }
+
+-- ---- it is noted, and the session given back
+
+module _ (g : Over) (c : After-set_session g) where
+  sizes-back : (known_of c.args.run.now.keeper.cabin.cards c.args.which).sizes ≡ Ok c.in-Ok.app
+  sizes-back = cc
+
+  cards-back : c.set_session.new.self ≡ c.args.run.now.keeper.cabin.cards
+  cards-back = c.set_session.ensures ∙ ap (λ (q : Cards). with_session c.args.which (Some c.in-Some.accepted) q) c.take.ensures.left ∙ session-back c.args.which c.in-Some.accepted c.args.run.now.keeper.cabin.cards (sym c.in-Some.ensures.taken)
+
+  went-well : is_err c.note_place_on.result ≡ false
+  went-well = sym c.is_err.ensures.value ∙ c.if-is_err.false
+
+  cause-well : HasCause (g.C.Chip.state c.args.card.now) (g.C.Chip.state c.note_place_on.new.card) false
+  cause-well = subst (λ (b : Bool). HasCause (g.C.Chip.state c.args.card.now) (g.C.Chip.state c.note_place_on.new.card) b) went-well c.note_place_on.ensures.cause
+
+  noted-whole : IsNotedOn c.args.which c.args.slot c.args.at c.args.run.now (with_cabin (record c.args.run.now.keeper.cabin { cards = c.set_session.new.self }) c.args.run.now) c.args.breaks.now c.args.breaks.now false
+  noted-whole = record { run = ap (λ (q : Cards). with_cabin (record c.args.run.now.keeper.cabin { cards = q }) c.args.run.now) cards-back; told = no-lines c.args.breaks.now }
 
 pub returns-then-is_err-clause-noted : goal.returns-then-is_err-clause-noted
 returns-then-is_err-clause-noted g c =
     let run = c.args.run.now in
     let X = g.C.Chip.state c.args.card.now in
     let Y = g.C.Chip.state c.note_place_on.new.card in
-    let bad : is_err c.note_place_on.result ≡ true = sym c.is_err.ensures.value ∙ c.if-is_err.true in
-    let cause = subst (λ (b : Bool). HasCause X Y b) bad c.note_place_on.ensures.cause in
-    let keeper =
-    c.tear.ensures.keeper ∙ ap (λ (b : Cabin). record run.keeper { cabin = b }) (torn-apart c.args.which c.args.at.second run.keeper.cabin c.take.new.self c.take.ensures.left) in (
+    let cause = cause-bad g c in (
       true,
-      record {
-        run = ap (λ (k : Keeper). record run { keeper = k }) keeper;
-        told = c.tear.ensures.told;
-      },
+      noted-fell g c,
       fell-broken X Y (session-works c.args.which run.keeper.cabin.cards (g.C.Chip.card c.args.card.now) X c.requires.card c.requires.session) cause,
       cause,
     )
@@ -70,7 +99,7 @@ returns-then-is_err-clause-noted g c =
 pub returns-then-is_err-clause-moments : goal.returns-then-is_err-clause-moments
 returns-then-is_err-clause-moments g c =
     let cards = c.args.run.now.keeper.cabin.cards in
-    let is : (known_of cards c.args.which).sizes ≡ Ok c.in-Ok.app = cc in
+    let is = sizes-fell g c in
     noted-sizes c.args.which cards c.in-Ok.app (g.C.Chip.card c.args.card.now) (g.C.Chip.state c.args.card.now) (g.C.Chip.state c.note_place_on.new.card) c.requires.card is (weaken c.note_place_on.ensures.moments (λ x n told note. inr (c.args.entry.now, note)))
 
 pub returns-then-is_err-clause-rows : goal.returns-then-is_err-clause-rows
@@ -83,26 +112,17 @@ returns-then-is_err-clause-rows g c = λ card h.
 pub returns-then-is_err-clause-stands : goal.returns-then-is_err-clause-stands
 returns-then-is_err-clause-stands g c = λ from leaving h.
     let run = c.args.run.now in
-    let cabin =
-    ap (λ (k : Keeper). k.cabin) c.tear.ensures.keeper ∙ torn-apart c.args.which c.args.at.second run.keeper.cabin c.take.new.self c.take.ensures.left in
+    let cabin = cabin-fell g c in
     subst (λ (b : Cabin). Stands from leaving b) (sym cabin)
     (torn-stands run.keeper.cabin c.args.which c.args.at.second from leaving c.requires.minute h)
 
--- ---- it is noted
-
 pub returns-clause-noted : goal.returns-clause-noted
 returns-clause-noted g c =
-    let run = c.args.run.now in
     let X = g.C.Chip.state c.args.card.now in
     let Y = g.C.Chip.state c.note_place_on.new.card in
-    let well : is_err c.note_place_on.result ≡ false = sym c.is_err.ensures.value ∙ c.if-is_err.false in
-    let cause = subst (λ (b : Bool). HasCause X Y b) well c.note_place_on.ensures.cause in
-    let cards = c.set_session.ensures ∙ ap (λ (q : Cards). with_session c.args.which (Some c.in-Some.accepted) q) c.take.ensures.left ∙ session-back c.args.which c.in-Some.accepted run.keeper.cabin.cards (sym c.in-Some.ensures.taken) in (
+    let cause = cause-well g c in (
       false,
-      record {
-        run = ap (λ (q : Cards). record run { keeper = record run.keeper { cabin = record run.keeper.cabin { cards = q } } }) cards;
-        told = no-lines c.args.breaks.now;
-      },
+      noted-whole g c,
       well-broken X Y cause,
       cause,
     )
@@ -110,19 +130,18 @@ returns-clause-noted g c =
 pub returns-clause-moments : goal.returns-clause-moments
 returns-clause-moments g c =
     let cards = c.args.run.now.keeper.cabin.cards in
-    let is : (known_of cards c.args.which).sizes ≡ Ok c.in-Ok.app = cc in
+    let is = sizes-back g c in
     noted-sizes c.args.which cards c.in-Ok.app (g.C.Chip.card c.args.card.now) (g.C.Chip.state c.args.card.now) (g.C.Chip.state c.note_place_on.new.card) c.requires.card is (weaken c.note_place_on.ensures.moments (λ x n told note. inr (c.args.entry.now, note)))
 
 pub returns-clause-rows : goal.returns-clause-rows
 returns-clause-rows g c = λ card h.
-    let run = c.args.run.now in
-    let cards = c.set_session.ensures ∙ ap (λ (q : Cards). with_session c.args.which (Some c.in-Some.accepted) q) c.take.ensures.left ∙ session-back c.args.which c.in-Some.accepted run.keeper.cabin.cards (sym c.in-Some.ensures.taken) in
+    let cards = cards-back g c in
     subst (λ (q : Cards). HasItsRow q (g.M.Medium.state c.args.unit.now) card) (sym cards) h
 
 pub returns-clause-stands : goal.returns-clause-stands
 returns-clause-stands g c = λ from leaving h.
     let run = c.args.run.now in
-    let cards = c.set_session.ensures ∙ ap (λ (q : Cards). with_session c.args.which (Some c.in-Some.accepted) q) c.take.ensures.left ∙ session-back c.args.which c.in-Some.accepted run.keeper.cabin.cards (sym c.in-Some.ensures.taken) in
+    let cards = cards-back g c in
     subst (λ (q : Cards). Stands from leaving (record run.keeper.cabin { cards = q })) (sym cards) h
 
 pub returns-clause-card : goal.returns-clause-card
@@ -131,10 +150,9 @@ returns-clause-card g c =
     let next = g.C.Chip.card c.note_place_on.new.card in
     let X = g.C.Chip.state c.args.card.now in
     let Y = g.C.Chip.state c.note_place_on.new.card in
-    let well : is_err c.note_place_on.result ≡ false = sym c.is_err.ensures.value ∙ c.if-is_err.false in
-    let cause = subst (λ (b : Bool). HasCause X Y b) well c.note_place_on.ensures.cause in
-    let is : (known_of run.keeper.cabin.cards c.args.which).sizes ≡ Ok c.in-Ok.app = cc in
-    let cards = c.set_session.ensures ∙ ap (λ (q : Cards). with_session c.args.which (Some c.in-Some.accepted) q) c.take.ensures.left ∙ session-back c.args.which c.in-Some.accepted run.keeper.cabin.cards (sym c.in-Some.ensures.taken) in
+    let cause = cause-well g c in
+    let is = sizes-back g c in
+    let cards = cards-back g c in
     subst (λ (q : Cards). CardReady (known_of q c.args.which) next Y) (sym cards)
     (ready-again (known_of run.keeper.cabin.cards c.args.which) c.in-Ok.app (g.C.Chip.card c.args.card.now) next X Y c.requires.card is c.note_place_on.ensures.port cause.works)
 
@@ -142,20 +160,14 @@ returns-clause-card g c =
 
 pub returns-then-is_err-clause-events : goal.returns-then-is_err-clause-events
 returns-then-is_err-clause-events g c =
-    let run = c.args.run.now in
     let U = g.M.Medium.state c.args.unit.now in
     let V = g.M.Medium.state c.tear.new.unit in
     let X = g.C.Chip.state c.args.card.now in
     let Y = g.C.Chip.state c.note_place_on.new.card in
     let crew = crew_of c.tear.new.self.cabin in
-    let keeper =
-    c.tear.ensures.keeper ∙ ap (λ (b : Cabin). record run.keeper { cabin = b }) (torn-apart c.args.which c.args.at.second run.keeper.cabin c.take.new.self c.take.ensures.left) in
     record {
       fell = true;
-      noted = record {
-        run = ap (λ (k : Keeper). record run { keeper = k }) keeper;
-        told = c.tear.ensures.told;
-      };
+      noted = noted-fell g c;
       failing = λ _. refl;
       notes = one-noted U V X X Y Y (g.met.M.Medium.coherent c.args.unit.now) (g.met.M.Medium.coherent c.tear.new.unit) c.requires.ready.is_unit (entry_of CARD_FAULT c.args.at.second c.args.at.second crew crew) (is_err c.tear.result)
           (λ well. ok_gives c.tear.result c.tear.ensures.noted well) c.tear.ensures.moments c.tear.ensures.cause.works;
@@ -163,17 +175,12 @@ returns-then-is_err-clause-events g c =
 
 pub returns-clause-events : goal.returns-clause-events
 returns-clause-events g c =
-    let run = c.args.run.now in
     let X = g.C.Chip.state c.args.card.now in
     let Y = g.C.Chip.state c.note_place_on.new.card in
     let U = g.M.Medium.state c.args.unit.now in
-    let cards = c.set_session.ensures ∙ ap (λ (q : Cards). with_session c.args.which (Some c.in-Some.accepted) q) c.take.ensures.left ∙ session-back c.args.which c.in-Some.accepted run.keeper.cabin.cards (sym c.in-Some.ensures.taken) in
     record {
       fell = false;
-      noted = record {
-        run = ap (λ (q : Cards). record run { keeper = record run.keeper { cabin = record run.keeper.cabin { cards = q } } }) cards;
-        told = no-lines c.args.breaks.now;
-      };
+      noted = noted-whole g c;
       failing = λ bad. bad;
       notes = noted-any [] false (devices U X X) (devices U X X) (devices U X X) (devices U Y Y) refl refl (same-noted U X X);
     }
@@ -196,7 +203,7 @@ returns-then-is_err-clause-card_events g c =
     let cards = run.keeper.cabin.cards in
     let X = g.C.Chip.state c.args.card.now in
     let Y = g.C.Chip.state c.note_place_on.new.card in
-    let sizes : (known_of cards c.args.which).sizes ≡ Ok c.in-Ok.app = cc in
+    let sizes = sizes-fell g c in
     let after = session_of c.tear.new.self.cabin.cards c.args.which in
     on-session c.args.which cards c.in-Ok.app (g.C.Chip.card c.args.card.now) X Y after [] c.requires.card sizes c.requires.session
     (place-noted c.in-Ok.app c.args.entry.now (not (is_some after)) X Y (g.met.C.Chip.coherent c.args.card.now) c.note_place_on.ensures.moments)
@@ -207,8 +214,8 @@ returns-clause-card_events g c =
     let before = run.keeper.cabin.cards in
     let X = g.C.Chip.state c.args.card.now in
     let Y = g.C.Chip.state c.note_place_on.new.card in
-    let sizes : (known_of before c.args.which).sizes ≡ Ok c.in-Ok.app = cc in
-    let cards = c.set_session.ensures ∙ ap (λ (q : Cards). with_session c.args.which (Some c.in-Some.accepted) q) c.take.ensures.left ∙ session-back c.args.which c.in-Some.accepted run.keeper.cabin.cards (sym c.in-Some.ensures.taken) in
+    let sizes = sizes-back g c in
+    let cards = cards-back g c in
     subst (λ (q : Cards). NotesOn false (session_of before c.args.which) (session_of q c.args.which) [] X Y) (sym cards)
     (on-session c.args.which before c.in-Ok.app (g.C.Chip.card c.args.card.now) X Y (session_of before c.args.which) [] c.requires.card sizes c.requires.session
     (place-noted c.in-Ok.app c.args.entry.now (not (is_some (session_of before c.args.which))) X Y (g.met.C.Chip.coherent c.args.card.now) c.note_place_on.ensures.moments))
@@ -219,7 +226,7 @@ pub returns-then-is_err-clause-on_card : goal.returns-then-is_err-clause-on_card
 returns-then-is_err-clause-on_card g c =
     let run = c.args.run.now in
     let cards = run.keeper.cabin.cards in
-    let cabin = ap (λ (k : Keeper). k.cabin) c.tear.ensures.keeper ∙ torn-apart c.args.which c.args.at.second run.keeper.cabin c.take.new.self c.take.ensures.left in
+    let cabin = cabin-fell g c in
     let gone : session_of c.tear.new.self.cabin.cards c.args.which ≡ None = ap (λ (b : Cabin). session_of b.cards c.args.which) cabin ∙ session-set c.args.which None cards in
     place-fell c.args.entry.now (g.C.Chip.state c.args.card.now) (g.C.Chip.state c.note_place_on.new.card) (session_of cards c.args.which) (session_of c.tear.new.self.cabin.cards c.args.which) false gone
 
@@ -229,12 +236,11 @@ returns-clause-on_card g c =
     let before = run.keeper.cabin.cards in
     let X = g.C.Chip.state c.args.card.now in
     let Y = g.C.Chip.state c.note_place_on.new.card in
-    let sizes : (known_of before c.args.which).sizes ≡ Ok c.in-Ok.app = cc in
-    let well : is_err c.note_place_on.result ≡ false = sym c.is_err.ensures.value ∙ c.if-is_err.false in
-    let cause = subst (λ (b : Bool). HasCause X Y b) well c.note_place_on.ensures.cause in
+    let sizes = sizes-back g c in
+    let cause = cause-well g c in
     let works = session-works c.args.which before (g.C.Chip.card c.args.card.now) X c.requires.card c.requires.session in
-    let cards = c.set_session.ensures ∙ ap (λ (q : Cards). with_session c.args.which (Some c.in-Some.accepted) q) c.take.ensures.left ∙ session-back c.args.which c.in-Some.accepted run.keeper.cabin.cards (sym c.in-Some.ensures.taken) in
-    let has = place-well c.in-Ok.app c.args.entry.now X Y (g.met.C.Chip.coherent c.args.card.now) (g.met.C.Chip.coherent c.note_place_on.new.card) works cause.works c.note_place_on.ensures.moments (ok_gives c.note_place_on.result c.note_place_on.ensures.noted well) in
+    let cards = cards-back g c in
+    let has = place-well c.in-Ok.app c.args.entry.now X Y (g.met.C.Chip.coherent c.args.card.now) (g.met.C.Chip.coherent c.note_place_on.new.card) works cause.works c.note_place_on.ensures.moments (ok_gives c.note_place_on.result c.note_place_on.ensures.noted (went-well g c)) in
     subst (λ (q : Cards). PlaceOn (session_of before c.args.which) (session_of q c.args.which) false c.args.entry.now X Y) (sym cards)
     (place-on c.args.entry.now X Y c.args.which before c.in-Ok.app (g.C.Chip.card c.args.card.now) (session_of before c.args.which) c.requires.card sizes has)
 
@@ -243,11 +249,11 @@ returns-clause-on_card g c =
 pub returns-then-is_err-clause-places : goal.returns-then-is_err-clause-places
 returns-then-is_err-clause-places g c =
     let cards = c.args.run.now.keeper.cabin.cards in
-    let sizes : (known_of cards c.args.which).sizes ≡ Ok c.in-Ok.app = cc in
+    let sizes = sizes-fell g c in
     may-take c.args.which cards c.in-Ok.app c.args.entry.now (g.C.Chip.card c.args.card.now) (g.C.Chip.state c.args.card.now) (g.C.Chip.state c.note_place_on.new.card) (g.met.C.Chip.coherent c.args.card.now) c.requires.card sizes c.note_place_on.ensures.moments
 
 pub returns-clause-places : goal.returns-clause-places
 returns-clause-places g c =
     let cards = c.args.run.now.keeper.cabin.cards in
-    let sizes : (known_of cards c.args.which).sizes ≡ Ok c.in-Ok.app = cc in
+    let sizes = sizes-back g c in
     may-take c.args.which cards c.in-Ok.app c.args.entry.now (g.C.Chip.card c.args.card.now) (g.C.Chip.state c.args.card.now) (g.C.Chip.state c.note_place_on.new.card) (g.met.C.Chip.coherent c.args.card.now) c.requires.card sizes c.note_place_on.ensures.moments

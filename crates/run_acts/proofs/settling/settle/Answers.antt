@@ -1,4 +1,4 @@
-use Rattle.std.proofs.Common.{suc, ◌≡◌, ◌∙◌, ℕ, ◌-◌, ◌/◌, length, refl, ap, arith}
+use Rattle.std.proofs.Common.{suc, ◌≡◌, ◌∙◌, ℕ, ◌/◌, length, refl, ap, arith}
 use Rattle.std.specs.Prelude.{is_err}
 use Rattle.tach_media.proofs.Runs.{on_ok, ok_gives}
 use Rattle.minute_model.specs.Span.{ungiven_of, settled}
@@ -20,43 +20,71 @@ use Rattle.safety_model.specs.Safe.{Devices}
 use Rattle.run_rule.specs.Between.{devices}
 use Rattle.run_acts.proofs.CardStays.{timed-still}
 use Rattle.run_acts.proofs.CardPlaces.{timed-places}
+use Rattle.run_acts.proofs.Due.{Decides}
+use Rattle.run_acts.specs.Devices.{DevicesGoOn}
+use Rattle.run_acts.proofs.settling.settle.Given.{Over}
+use Rattle.run_acts.proofs.settling.settle.Goals.{After-as_slice, After-keep_all}
 use Rattle.run_acts.proofs.settling.settle.Goals as goal
+
+-- ---- what is decided
+
+module _ (g : Over) (c : After-as_slice g) where
+  decided : Decides (ungiven_of c.requires.going.1.span) (ungiven_of (settled c.requires.going.1.span)) c.args.run.now.keeper.journal.kept c.settle-decided.result.items
+  decided = let h = c.requires.going in settled-decides h.0 (c.args.run.now.next / 60) c.args.run.now h.1 c.settle-decided.result.items c.requires.small (c.settle-decided.ensures.given h.1.span h.1.stands)
 
 pub keep_all-requires-clause-due : goal.keep_all-requires-clause-due
 keep_all-requires-clause-due g c =
-    let h = c.requires.going in
-    rw c.as_slice.ensures.value (settled-decides h.0 (c.args.run.now.next / 60) c.args.run.now h.1 c.settle-decided.result.items c.requires.small (c.settle-decided.ensures.given h.1.span h.1.stands)).due
+    rw c.as_slice.ensures.value (decided g (goal.at.keep_all-requires-clause-due g c).After-as_slice).due
 
 pub keep_all-requires-clause-ended : goal.keep_all-requires-clause-ended
 keep_all-requires-clause-ended g c =
     let h = c.requires.going in
-    let d = settled-decides h.0 (c.args.run.now.next / 60) c.args.run.now h.1 c.settle-decided.result.items c.requires.small (c.settle-decided.ensures.given h.1.span h.1.stands) in
+    let d = decided g (goal.at.keep_all-requires-clause-ended g c).After-as_slice in
     let is = settled-ungiven h.0 (c.args.run.now.next / 60) c.args.run.now h.1 in
     rw c.as_slice.ensures.value (given-ended h.0 (c.args.run.now.next / 60) (ungiven_of (settled h.1.span)) c.args.run.now h.1 c.settle-decided.result.items d (omega (arith, is)))
 
 pub keep_all-requires-clause-rows : goal.keep_all-requires-clause-rows
 keep_all-requires-clause-rows g c =
     let h = c.requires.going in
-    let d = settled-decides h.0 (c.args.run.now.next / 60) c.args.run.now h.1 c.settle-decided.result.items c.requires.small (c.settle-decided.ensures.given h.1.span h.1.stands) in
+    let d = decided g (goal.at.keep_all-requires-clause-rows g c).After-as_slice in
     let is = settled-ungiven h.0 (c.args.run.now.next / 60) c.args.run.now h.1 in
     rw c.as_slice.ensures.value (given-rows h.0 (c.args.run.now.next / 60) (ungiven_of (settled h.1.span)) c.args.run.now h.1 c.settle-decided.result.items d (omega (arith, is)))
 
 pub keep_all-requires-clause-stands : goal.keep_all-requires-clause-stands
 keep_all-requires-clause-stands g c =
     let h = c.requires.going in
-    let d = settled-decides h.0 (c.args.run.now.next / 60) c.args.run.now h.1 c.settle-decided.result.items c.requires.small (c.settle-decided.ensures.given h.1.span h.1.stands) in
+    let d = decided g (goal.at.keep_all-requires-clause-stands g c).After-as_slice in
     (ungiven_of h.1.span, h.0, rw c.as_slice.ensures.value d.from, h.1.cabin)
 
 pub keep_all-requires-clause-marks : goal.keep_all-requires-clause-marks
 keep_all-requires-clause-marks g c =
     let h = c.requires.going in
-    let d = settled-decides h.0 (c.args.run.now.next / 60) c.args.run.now h.1 c.settle-decided.result.items c.requires.small (c.settle-decided.ensures.given h.1.span h.1.stands) in
+    let d = decided g (goal.at.keep_all-requires-clause-marks g c).After-as_slice in
     let is = settled-ungiven h.0 (c.args.run.now.next / 60) c.args.run.now h.1 in
     let count = d.count in
     let sum = owing-sum c.args.run.now.minutes h.1.span h.1.stands in
     let end = h.1.next in
     let room = c.requires.marks in
     rw c.as_slice.ensures.value (omega (arith, is, count, sum, end, room))
+
+-- ---- what is kept
+
+module _ (g : Over) (c : After-keep_all g) where
+  abbrev first : Devices
+  first = devices (g.M.Medium.state c.args.unit.now) (g.C.Chip.state c.args.card_a.now) (g.D.Chip.state c.args.card_b.now)
+
+  abbrev last : Devices
+  last = devices (g.M.Medium.state c.keep_all.new.unit) (g.C.Chip.state c.keep_all.new.card_a) (g.D.Chip.state c.keep_all.new.card_b)
+
+  went : DevicesGoOn (is_err c.keep_all.result) c.args.run.now.keeper.cabin.cards c.keep_all.new.self.cabin.cards first last
+  went = record {
+    cause = c.keep_all.ensures.cause;
+    keeps = c.keep_all.ensures.unit_keeps;
+    tells = c.keep_all.ensures.tells;
+    clock = c.keep_all.ensures.clock;
+    card_a = record { keeps = c.keep_all.ensures.a_keeps; clock = c.keep_all.ensures.clock_a; tells = c.keep_all.ensures.tells_a; more = c.keep_all.ensures.more_a; broken = c.keep_all.ensures.a_broken; rests = c.keep_all.ensures.rests.card_a; bare = λ none. same-left (g.C.Chip.state c.args.card_a.now) (g.C.Chip.state c.keep_all.new.card_a) (ap g.C.Chip.state (c.keep_all.ensures.a_bare none)) };
+    card_b = record { keeps = c.keep_all.ensures.b_keeps; clock = c.keep_all.ensures.clock_b; tells = c.keep_all.ensures.tells_b; more = c.keep_all.ensures.more_b; broken = c.keep_all.ensures.b_broken; rests = c.keep_all.ensures.rests.card_b; bare = λ none. same-left (g.D.Chip.state c.args.card_b.now) (g.D.Chip.state c.keep_all.new.card_b) (ap g.D.Chip.state (c.keep_all.ensures.b_bare none)) };
+  }
 
 pub returns-clause-settled : goal.returns-clause-settled
 returns-clause-settled g c = record {
@@ -86,7 +114,7 @@ pub returns-clause-held : goal.returns-clause-held
 returns-clause-held g c =
     let h = c.requires.going in
     let e = c.keep_all.ensures in
-    let d = settled-decides h.0 (c.args.run.now.next / 60) c.args.run.now h.1 c.settle-decided.result.items c.requires.small (c.settle-decided.ensures.given h.1.span h.1.stands) in
+    let d = decided g (goal.at.returns-clause-held g c).After-as_slice in
     let later = settled-later h.0 (c.args.run.now.next / 60) c.args.run.now h.1 in
     let next : ℕ = ungiven_of (settled h.1.span) in
     record {
@@ -117,7 +145,7 @@ returns-clause-takes g c =
     let h = c.requires.going in
     let e = c.keep_all.ensures in
     let old = c.args.run.now in
-    let d = settled-decides h.0 (old.next / 60) old h.1 c.settle-decided.result.items c.requires.small (c.settle-decided.ensures.given h.1.span h.1.stands) in
+    let d = decided g (goal.at.returns-clause-takes g c).After-as_slice in
     let at = settled-ungiven h.0 (old.next / 60) old h.1 in
     let count = d.count in
     let sum = owing-sum old.minutes h.1.span h.1.stands in
@@ -163,16 +191,9 @@ returns-clause-recorded g c =
       items,
       c.settle-decided.ensures.given,
       λ o done s n waits some here r time. settling-so old c.args.outcome.now c.settle-decided.new.self c.keep_all.new.self c.keep_all.new.marks c.keep_all.new.breaks c.args.at (is_err c.keep_all.result) items
-          (devices (g.M.Medium.state c.args.unit.now) (g.C.Chip.state c.args.card_a.now) (g.D.Chip.state c.args.card_b.now)) (devices (g.M.Medium.state c.keep_all.new.unit) (g.C.Chip.state c.keep_all.new.card_a) (g.D.Chip.state c.keep_all.new.card_b))
+          (first g c) (last g c)
           h.0 h.1 c.requires.small (c.settle-decided.ensures.settled h.1.span h.1.stands) (c.settle-decided.ensures.given h.1.span h.1.stands) k.same.1 b.0 b.1 b.2
-          (record {
-            cause = k.cause;
-            keeps = k.unit_keeps;
-            tells = k.tells;
-            clock = k.clock;
-            card_a = record { keeps = k.a_keeps; clock = k.clock_a; tells = k.tells_a; more = k.more_a; broken = k.a_broken; rests = k.rests.card_a; bare = λ none. same-left (g.C.Chip.state c.args.card_a.now) (g.C.Chip.state c.keep_all.new.card_a) (ap g.C.Chip.state (k.a_bare none)) };
-            card_b = record { keeps = k.b_keeps; clock = k.clock_b; tells = k.tells_b; more = k.more_b; broken = k.b_broken; rests = k.rests.card_b; bare = λ none. same-left (g.D.Chip.state c.args.card_b.now) (g.D.Chip.state c.keep_all.new.card_b) (ap g.D.Chip.state (k.b_bare none)) };
-          })
+          (went g c)
           o done s n waits some here r time (leaves-more U V leaves),
     )
 
@@ -184,22 +205,13 @@ returns-clause-cards g c =
     let k = c.keep_all.ensures in
     let old = c.args.run.now in
     let items = c.settle-decided.result.items in
-    let d : Devices = devices (g.M.Medium.state c.args.unit.now) (g.C.Chip.state c.args.card_a.now) (g.D.Chip.state c.args.card_b.now) in
-    let e : Devices = devices (g.M.Medium.state c.keep_all.new.unit) (g.C.Chip.state c.keep_all.new.card_a) (g.D.Chip.state c.keep_all.new.card_b) in
     let b = rw c.as_slice.ensures.value at k.booked in (
       items,
       c.settle-decided.ensures.given,
-      λ o done s n waits here r time. timed-still o r.origin d e
-          (booked old c.args.outcome.now c.settle-decided.new.self c.keep_all.new.self c.keep_all.new.marks c.keep_all.new.breaks c.args.at (is_err c.keep_all.result) items d e
+      λ o done s n waits here r time. timed-still o r.origin (first g c) (last g c)
+          (booked old c.args.outcome.now c.settle-decided.new.self c.keep_all.new.self c.keep_all.new.marks c.keep_all.new.breaks c.args.at (is_err c.keep_all.result) items (first g c) (last g c)
           h.0 h.1 c.requires.small (c.settle-decided.ensures.settled h.1.span h.1.stands) (c.settle-decided.ensures.given h.1.span h.1.stands) k.same.1 b.0 b.1 b.2
-          (record {
-            cause = k.cause;
-            keeps = k.unit_keeps;
-            tells = k.tells;
-            clock = k.clock;
-            card_a = record { keeps = k.a_keeps; clock = k.clock_a; tells = k.tells_a; more = k.more_a; broken = k.a_broken; rests = k.rests.card_a; bare = λ none. same-left (g.C.Chip.state c.args.card_a.now) (g.C.Chip.state c.keep_all.new.card_a) (ap g.C.Chip.state (k.a_bare none)) };
-            card_b = record { keeps = k.b_keeps; clock = k.clock_b; tells = k.tells_b; more = k.more_b; broken = k.b_broken; rests = k.rests.card_b; bare = λ none. same-left (g.D.Chip.state c.args.card_b.now) (g.D.Chip.state c.keep_all.new.card_b) (ap g.D.Chip.state (k.b_bare none)) };
-          })
+          (went g c)
           o done s (suc n) waits (omega arith) here r time).1,
     )
 
@@ -220,16 +232,9 @@ returns-clause-evented g c =
       items,
       c.settle-decided.ensures.given,
       λ o done s n waits here r untold evented time. settling-events old c.args.outcome.now c.settle-decided.new.self c.keep_all.new.self c.keep_all.new.marks c.keep_all.new.breaks c.args.at (is_err c.keep_all.result) items
-          (devices (g.M.Medium.state c.args.unit.now) (g.C.Chip.state c.args.card_a.now) (g.D.Chip.state c.args.card_b.now)) (devices (g.M.Medium.state c.keep_all.new.unit) (g.C.Chip.state c.keep_all.new.card_a) (g.D.Chip.state c.keep_all.new.card_b))
+          (first g c) (last g c)
           h.0 h.1 c.requires.small (c.settle-decided.ensures.settled h.1.span h.1.stands) (c.settle-decided.ensures.given h.1.span h.1.stands) k.same.1 b.0 b.1 b.2
-          (record {
-            cause = k.cause;
-            keeps = k.unit_keeps;
-            tells = k.tells;
-            clock = k.clock;
-            card_a = record { keeps = k.a_keeps; clock = k.clock_a; tells = k.tells_a; more = k.more_a; broken = k.a_broken; rests = k.rests.card_a; bare = λ none. same-left (g.C.Chip.state c.args.card_a.now) (g.C.Chip.state c.keep_all.new.card_a) (ap g.C.Chip.state (k.a_bare none)) };
-            card_b = record { keeps = k.b_keeps; clock = k.clock_b; tells = k.tells_b; more = k.more_b; broken = k.b_broken; rests = k.rests.card_b; bare = λ none. same-left (g.D.Chip.state c.args.card_b.now) (g.D.Chip.state c.keep_all.new.card_b) (ap g.D.Chip.state (k.b_bare none)) };
-          })
+          (went g c)
           (g.met.M.Medium.coherent c.args.unit.now) c.requires.held.is_unit b.3 o done s n waits here r time untold evented,
     )
 
@@ -249,22 +254,13 @@ returns-clause-places g c =
     let k = c.keep_all.ensures in
     let old = c.args.run.now in
     let items = c.settle-decided.result.items in
-    let d : Devices = devices (g.M.Medium.state c.args.unit.now) (g.C.Chip.state c.args.card_a.now) (g.D.Chip.state c.args.card_b.now) in
-    let e : Devices = devices (g.M.Medium.state c.keep_all.new.unit) (g.C.Chip.state c.keep_all.new.card_a) (g.D.Chip.state c.keep_all.new.card_b) in
     let b = rw c.as_slice.ensures.value at k.booked in (
       items,
       c.settle-decided.ensures.given,
-      λ o done s n waits here r time. timed-places o r.origin d e
-          (booked old c.args.outcome.now c.settle-decided.new.self c.keep_all.new.self c.keep_all.new.marks c.keep_all.new.breaks c.args.at (is_err c.keep_all.result) items d e
+      λ o done s n waits here r time. timed-places o r.origin (first g c) (last g c)
+          (booked old c.args.outcome.now c.settle-decided.new.self c.keep_all.new.self c.keep_all.new.marks c.keep_all.new.breaks c.args.at (is_err c.keep_all.result) items (first g c) (last g c)
           h.0 h.1 c.requires.small (c.settle-decided.ensures.settled h.1.span h.1.stands) (c.settle-decided.ensures.given h.1.span h.1.stands) k.same.1 b.0 b.1 b.2
-          (record {
-            cause = k.cause;
-            keeps = k.unit_keeps;
-            tells = k.tells;
-            clock = k.clock;
-            card_a = record { keeps = k.a_keeps; clock = k.clock_a; tells = k.tells_a; more = k.more_a; broken = k.a_broken; rests = k.rests.card_a; bare = λ none. same-left (g.C.Chip.state c.args.card_a.now) (g.C.Chip.state c.keep_all.new.card_a) (ap g.C.Chip.state (k.a_bare none)) };
-            card_b = record { keeps = k.b_keeps; clock = k.clock_b; tells = k.tells_b; more = k.more_b; broken = k.b_broken; rests = k.rests.card_b; bare = λ none. same-left (g.D.Chip.state c.args.card_b.now) (g.D.Chip.state c.keep_all.new.card_b) (ap g.D.Chip.state (k.b_bare none)) };
-          })
+          (went g c)
           o done s (suc n) waits (omega arith) here r time).1,
     )
 

@@ -22,7 +22,7 @@ use Rattle.run_keeping.proofs.Units.{has-row, row-beside}
 use Rattle.run_acts.proofs.Noted.{noted-ready, noted-row}
 use Rattle.run_keeping.proofs.CardDeeds.{closed-alone}
 use Rattle.run_acts.specs.Stays.{ClosesOnCard}
-use Rattle.run_acts.specs.Acting.{Fell, IsClosingOf, Bare, Closed}
+use Rattle.run_acts.specs.Acting.{Fell, IsClosingOf, Bare, Closed, IsClosed}
 use Rattle.run_acts.proofs.Cabins.{session-known, twice-ready}
 use Rattle.event_model.specs.declared.kinds.TheConstants.{CARD_FAULT}
 use Rattle.run_notes.specs.Entries.{entry_of}
@@ -39,6 +39,9 @@ use Rattle.run_acts.proofs.CardWrites.{closes-well}
 use Rattle.run_outcome.specs.Lines.{Listed}
 use Rattle.log_model.specs.declared.lines.Break.{Break}
 use Rattle.run_keeping.proofs.Calm.{card-beside, card-fell, card-rests}
+use Rattle.run_acts.specs.Power.{with_cabin}
+use Rattle.run_acts.proofs.withdrawing.close.Given.{Over}
+use Rattle.run_acts.proofs.withdrawing.close.Goals.{In_default, In_default-sizes, After-note_withdrawal, After-tear}
 use Rattle.run_acts.proofs.withdrawing.close.Goals as goal
 
 pub returns-in-Ok-leave-clause-ready : goal.returns-in-Ok-leave-clause-ready
@@ -73,29 +76,59 @@ returns-in-Err-clause-rows g c = λ card h.
     let U = g.M.Medium.state c.args.unit.now in
     c.tear.ensures.rows card (subst (λ (b : Cabin). HasItsRow b.cards U card) (sym c.close.ensures.kept) (row-beside c.args.which None c.args.run.now.keeper.cabin.cards U card h))
 
+-- ---- how its session was closed
+
+module _ (g : Over) (c : In_default g) where
+  none-had : session_of c.args.run.now.keeper.cabin.cards c.args.which ≡ None
+  none-had = sym c.close.ensures.session ∙ none-there c.close.result c.in_default.not-Some
+
+  closed-bare : IsClosed c.args.which c.args.slot c.args.at c.args.run.now (with_cabin c.close.new.self c.args.run.now) c.args.breaks.now c.args.breaks.now Bare
+  closed-bare = record {
+    is = subst (λ (o : Option Accepted). IsClosingOf o Bare) (sym none-had) tt;
+    run = ap (λ (b : Cabin). with_cabin b c.args.run.now) c.close.ensures.kept;
+    told = no-lines c.args.breaks.now;
+  }
+
+-- a card with a session has told its sizes
+module _ (g : Over) (c : In_default-sizes g) where
+  unsized : ⊥
+  unsized =
+      let cards = c.args.run.now.keeper.cabin.cards in
+      let some : session_of cards c.args.which ≡ Some c.in-Some.accepted = sym c.in-Some.ensures.session in
+      let gone = no-session c.args.which cards (g.C.Chip.card c.args.card.now) (g.C.Chip.state c.args.card.now) c.requires.card (λ app is. c.in_default-sizes.not-Ok app (ap (λ (q : Known). q.sizes) c.of.ensures ∙ is)) in
+      let bad : Some c.in-Some.accepted ≡ None = sym some ∙ gone in
+      cc
+
+module _ (g : Over) (c : After-note_withdrawal g) where
+  closed-well : IsClosed c.args.which c.args.slot c.args.at c.args.run.now (with_cabin c.close.new.self c.args.run.now) c.args.breaks.now c.args.breaks.now Closed
+  closed-well = record {
+    is = subst (λ (o : Option Accepted). IsClosingOf o Closed) c.in-Some.ensures.session tt;
+    run = ap (λ (b : Cabin). with_cabin b c.args.run.now) c.close.ensures.kept;
+    told = no-lines c.args.breaks.now;
+  }
+
+module _ (g : Over) (c : After-tear g) where
+  closed-fell : IsClosed c.args.which c.args.slot c.args.at c.args.run.now (record c.args.run.now { keeper = c.tear.new.self }) c.args.breaks.now c.tear.new.breaks Fell
+  closed-fell = record {
+    is = subst (λ (o : Option Accepted). IsClosingOf o Fell) c.in-Some.ensures.session tt;
+    run = ap (λ (k : Keeper). record c.args.run.now { keeper = k }) (c.tear.ensures.keeper ∙ ap (λ (b : Cabin). record c.args.run.now.keeper { cabin = torn_out c.args.which c.args.at.second b }) c.close.ensures.kept);
+    told = c.tear.ensures.told;
+  }
+
 -- it has no session
 pub returns-in_default-clause-closed : goal.returns-in_default-clause-closed
 returns-in_default-clause-closed g c =
     let run = c.args.run.now in
     let none : session_of run.keeper.cabin.cards c.args.which ≡ None = sym c.close.ensures.session ∙ none-there c.close.result c.in_default.not-Some in (
       Bare,
-      record {
-        is = subst (λ (o : Option Accepted). IsClosingOf o Bare) (sym none) tt;
-        run = ap (λ (b : Cabin). record run { keeper = record run.keeper { cabin = b } }) c.close.ensures.kept;
-        told = no-lines c.args.breaks.now;
-      },
+      closed-bare g c,
       none_broken (g.C.Chip.state c.args.card.now),
       λ is. absurd (cc),
     )
 
 -- a card with a session has told its sizes
 pub returns-in_default-sizes-clause-closed : goal.returns-in_default-sizes-clause-closed
-returns-in_default-sizes-clause-closed g c =
-    let cards = c.args.run.now.keeper.cabin.cards in
-    let some : session_of cards c.args.which ≡ Some c.in-Some.accepted = sym c.in-Some.ensures.session in
-    let gone = no-session c.args.which cards (g.C.Chip.card c.args.card.now) (g.C.Chip.state c.args.card.now) c.requires.card (λ app is. c.in_default-sizes.not-Ok app (ap (λ (q : Known). q.sizes) c.of.ensures ∙ is)) in
-    let bad : Some c.in-Some.accepted ≡ None = sym some ∙ gone in
-    absurd (cc)
+returns-in_default-sizes-clause-closed g c = absurd (unsized g c)
 
 -- it is closed
 pub returns-in-Ok-leave-clause-closed : goal.returns-in-Ok-leave-clause-closed
@@ -107,11 +140,7 @@ returns-in-Ok-leave-clause-closed g c =
     let none : 0 ≤ 0 + broken_by X.works false = omega arith in
     let some : session_of run.keeper.cabin.cards c.args.which ≡ Some c.in-Some.accepted = sym c.in-Some.ensures.session in (
       Closed,
-      record {
-        is = subst (λ (o : Option Accepted). IsClosingOf o Closed) (sym some) tt;
-        run = ap (λ (b : Cabin). record run { keeper = record run.keeper { cabin = b } }) c.close.ensures.kept;
-        told = no-lines c.args.breaks.now;
-      },
+      closed-well g c,
       fewer_broken none (call_broken false (none_broken X) c.in-Ok-leave.ensures.cause),
       λ is. subst (λ (o : Option Accepted). ClosesOnCard c.args.slot run.minutes o X Y) (sym some)
           (act, c.selected-selected.ensures, closed-alone c.in-Some.accepted.session act X Y (g.met.C.Chip.coherent c.leave.new.card) c.in-Ok-leave.ensures.cause.works c.leave.ensures.moments.tells c.in-Ok-leave.ensures.closed),
@@ -126,11 +155,7 @@ returns-in-Err-clause-closed g c =
     let works : X.works ≡ true = subst (λ (o : Option Accepted). IfSome o (λ a. X.works ≡ true)) (sym (session-known run.keeper.cabin.cards which) ∙ some) c.requires.card.works in
     let one : 1 ≤ 0 + broken_by X.works true = rw works (omega arith) in (
       Fell,
-      record {
-        is = subst (λ (o : Option Accepted). IsClosingOf o Fell) (sym some) tt;
-        run = ap (λ (k : Keeper). record run { keeper = k }) (c.tear.ensures.keeper ∙ ap (λ (b : Cabin). record run.keeper { cabin = torn_out which c.args.at.second b }) c.close.ensures.kept);
-        told = c.tear.ensures.told;
-      },
+      closed-fell g c,
       fewer_broken one (call_broken true (none_broken X) c.in-Err.ensures.cause),
       λ is. absurd (cc),
     )
@@ -166,71 +191,39 @@ returns-in-Err-clause-left g c =
 
 pub returns-in_default-clause-events : goal.returns-in_default-clause-events
 returns-in_default-clause-events g c =
-    let run = c.args.run.now in
     let U = g.M.Medium.state c.args.unit.now in
     let X = g.C.Chip.state c.args.card.now in
-    let none : session_of run.keeper.cabin.cards c.args.which ≡ None = sym c.close.ensures.session ∙ none-there c.close.result c.in_default.not-Some in
     record {
       closing = Bare;
-      closed = record {
-        is = subst (λ (o : Option Accepted). IsClosingOf o Bare) (sym none) tt;
-        run = ap (λ (b : Cabin). record run { keeper = record run.keeper { cabin = b } }) c.close.ensures.kept;
-        told = no-lines c.args.breaks.now;
-      };
+      closed = closed-bare g c;
       notes = same-noted U X X;
     }
 
 pub returns-in_default-sizes-clause-events : goal.returns-in_default-sizes-clause-events
-returns-in_default-sizes-clause-events g c =
-    let run = c.args.run.now in
-    let U = g.M.Medium.state c.args.unit.now in
-    let X = g.C.Chip.state c.args.card.now in
-    let some : session_of run.keeper.cabin.cards c.args.which ≡ Some c.in-Some.accepted = sym c.in-Some.ensures.session in
-    record {
-      closing = Closed;
-      closed = record {
-        is = subst (λ (o : Option Accepted). IsClosingOf o Closed) (sym some) tt;
-        run = ap (λ (b : Cabin). record run { keeper = record run.keeper { cabin = b } }) c.close.ensures.kept;
-        told = no-lines c.args.breaks.now;
-      };
-      notes = same-noted U X X;
-    }
+returns-in_default-sizes-clause-events g c = absurd (unsized g c)
 
 pub returns-in-Ok-leave-clause-events : goal.returns-in-Ok-leave-clause-events
 returns-in-Ok-leave-clause-events g c =
-    let run = c.args.run.now in
     let U = g.M.Medium.state c.args.unit.now in
     let V = g.M.Medium.state c.note_withdrawal.new.unit in
     let X = g.C.Chip.state c.args.card.now in
     let Y = g.C.Chip.state c.leave.new.card in
-    let some : session_of run.keeper.cabin.cards c.args.which ≡ Some c.in-Some.accepted = sym c.in-Some.ensures.session in
     record {
       closing = Closed;
-      closed = record {
-        is = subst (λ (o : Option Accepted). IsClosingOf o Closed) (sym some) tt;
-        run = ap (λ (b : Cabin). record run { keeper = record run.keeper { cabin = b } }) c.close.ensures.kept;
-        told = no-lines c.args.breaks.now;
-      };
+      closed = closed-well g c;
       notes = quiet-any U V X X Y Y (is_err c.note_withdrawal.result) c.note_withdrawal.ensures.quiet;
     }
 
 pub returns-in-Err-clause-events : goal.returns-in-Err-clause-events
 returns-in-Err-clause-events g c =
-    let run = c.args.run.now in
-    let which = c.args.which in
     let U = g.M.Medium.state c.args.unit.now in
     let V = g.M.Medium.state c.tear.new.unit in
     let X = g.C.Chip.state c.args.card.now in
     let Y = g.C.Chip.state c.leave.new.card in
     let crew = crew_of c.tear.new.self.cabin in
-    let some : session_of run.keeper.cabin.cards which ≡ Some c.in-Some.accepted = sym c.in-Some.ensures.session in
     record {
       closing = Fell;
-      closed = record {
-        is = subst (λ (o : Option Accepted). IsClosingOf o Fell) (sym some) tt;
-        run = ap (λ (k : Keeper). record run { keeper = k }) (c.tear.ensures.keeper ∙ ap (λ (b : Cabin). record run.keeper { cabin = torn_out which c.args.at.second b }) c.close.ensures.kept);
-        told = c.tear.ensures.told;
-      };
+      closed = closed-fell g c;
       notes = one-noted U V X X Y Y (g.met.M.Medium.coherent c.args.unit.now) (g.met.M.Medium.coherent c.tear.new.unit) c.requires.ready.is_unit (entry_of CARD_FAULT c.args.at.second c.args.at.second crew crew) (is_err c.tear.result)
           (λ well. ok_gives c.tear.result c.tear.ensures.noted well) c.tear.ensures.moments c.tear.ensures.cause.works;
     }
@@ -239,26 +232,15 @@ returns-in-Err-clause-events g c =
 
 pub returns-in_default-clause-rings : goal.returns-in_default-clause-rings
 returns-in_default-clause-rings g c = λ tells.
-    let run = c.args.run.now in
-    let none : session_of run.keeper.cabin.cards c.args.which ≡ None = sym c.close.ensures.session ∙ none-there c.close.result c.in_default.not-Some in
     record {
       closing = Bare;
-      closed = record {
-        is = subst (λ (o : Option Accepted). IsClosingOf o Bare) (sym none) tt;
-        run = ap (λ (b : Cabin). record run { keeper = record run.keeper { cabin = b } }) c.close.ensures.kept;
-        told = no-lines c.args.breaks.now;
-      };
+      closed = closed-bare g c;
       rings = rings-left (g.M.Medium.state c.args.unit.now);
     }
 
 -- a card with a session has told its sizes
 pub returns-in_default-sizes-clause-rings : goal.returns-in_default-sizes-clause-rings
-returns-in_default-sizes-clause-rings g c = λ tells.
-    let cards = c.args.run.now.keeper.cabin.cards in
-    let some : session_of cards c.args.which ≡ Some c.in-Some.accepted = sym c.in-Some.ensures.session in
-    let gone = no-session c.args.which cards (g.C.Chip.card c.args.card.now) (g.C.Chip.state c.args.card.now) c.requires.card (λ app is. c.in_default-sizes.not-Ok app (ap (λ (q : Known). q.sizes) c.of.ensures ∙ is)) in
-    let bad : Some c.in-Some.accepted ≡ None = sym some ∙ gone in
-    absurd (cc)
+returns-in_default-sizes-clause-rings g c = λ tells. absurd (unsized g c)
 
 pub returns-in-Ok-leave-clause-rings : goal.returns-in-Ok-leave-clause-rings
 returns-in-Ok-leave-clause-rings g c = λ tells.
@@ -269,26 +251,15 @@ returns-in-Ok-leave-clause-rings g c = λ tells.
     let some : session_of run.keeper.cabin.cards which ≡ Some c.in-Some.accepted = sym c.in-Some.ensures.session in
     record {
       closing = Closed;
-      closed = record {
-        is = subst (λ (o : Option Accepted). IsClosingOf o Closed) (sym some) tt;
-        run = ap (λ (b : Cabin). record run { keeper = record run.keeper { cabin = b } }) c.close.ensures.kept;
-        told = no-lines c.args.breaks.now;
-      };
+      closed = closed-well g c;
       rings = subst (λ (o : Option Accepted). ClosesRings Closed o c.args.at (is_err c.note_withdrawal.result) run U V) (sym some) (c.note_withdrawal.ensures.rings tells);
     }
 
 pub returns-in-Err-clause-rings : goal.returns-in-Err-clause-rings
 returns-in-Err-clause-rings g c = λ tells.
-    let run = c.args.run.now in
-    let which = c.args.which in
-    let some : session_of run.keeper.cabin.cards which ≡ Some c.in-Some.accepted = sym c.in-Some.ensures.session in
     record {
       closing = Fell;
-      closed = record {
-        is = subst (λ (o : Option Accepted). IsClosingOf o Fell) (sym some) tt;
-        run = ap (λ (k : Keeper). record run { keeper = k }) (c.tear.ensures.keeper ∙ ap (λ (b : Cabin). record run.keeper { cabin = torn_out which c.args.at.second b }) c.close.ensures.kept);
-        told = c.tear.ensures.told;
-      };
+      closed = closed-fell g c;
       rings = rings-moments (g.M.Medium.state c.args.unit.now) (g.M.Medium.state c.tear.new.unit) (IsNotingEvent CARD_FAULT (fault_of c.args.at.second (crew_of c.tear.new.self.cabin))) (g.met.M.Medium.coherent c.args.unit.now) c.tear.ensures.moments
           (λ x n moment. table-outside CARD_FAULT x n moment.outside);
     }
@@ -311,26 +282,16 @@ returns-in-Err-clause-later g c = state-by (g.C.Chip.state c.args.card.now) (g.C
 
 pub returns-in_default-clause-shut : goal.returns-in_default-clause-shut
 returns-in_default-clause-shut g c =
-    let run = c.args.run.now in
-    let none : session_of run.keeper.cabin.cards c.args.which ≡ None = sym c.close.ensures.session ∙ none-there c.close.result c.in_default.not-Some in
     record {
       closing = Bare;
-      closed = record {
-        is = subst (λ (o : Option Accepted). IsClosingOf o Bare) (sym none) tt;
-        run = ap (λ (b : Cabin). record run { keeper = record run.keeper { cabin = b } }) c.close.ensures.kept;
-        told = no-lines c.args.breaks.now;
-      };
+      closed = closed-bare g c;
       act = activity_of c.selected-selected.result;
       selected = c.selected-selected.ensures;
       closes = tt;
     }
 
 pub returns-in_default-sizes-clause-shut : goal.returns-in_default-sizes-clause-shut
-returns-in_default-sizes-clause-shut g c =
-    let cards = c.args.run.now.keeper.cabin.cards in
-    let some : session_of cards c.args.which ≡ Some c.in-Some.accepted = sym c.in-Some.ensures.session in
-    let gone = no-session c.args.which cards (g.C.Chip.card c.args.card.now) (g.C.Chip.state c.args.card.now) c.requires.card (λ app is. c.in_default-sizes.not-Ok app (ap (λ (q : Known). q.sizes) c.of.ensures ∙ is)) in
-    absurd (let wrong : None ≡ Some c.in-Some.accepted = sym gone ∙ some in cc)
+returns-in_default-sizes-clause-shut g c = absurd (unsized g c)
 
 pub returns-in-Ok-leave-clause-shut : goal.returns-in-Ok-leave-clause-shut
 returns-in-Ok-leave-clause-shut g c =
@@ -342,11 +303,7 @@ returns-in-Ok-leave-clause-shut g c =
     let act : Activity = activity_of c.selected-selected.result in
     record {
       closing = Closed;
-      closed = record {
-        is = subst (λ (o : Option Accepted). IsClosingOf o Closed) (sym some) tt;
-        run = ap (λ (b : Cabin). record run { keeper = record run.keeper { cabin = b } }) c.close.ensures.kept;
-        told = no-lines c.args.breaks.now;
-      };
+      closed = closed-well g c;
       act = act;
       selected = c.selected-selected.ensures;
       closes = subst (λ (o : Option Accepted). ClosesCard Closed o act X Y) (sym some)
@@ -355,15 +312,9 @@ returns-in-Ok-leave-clause-shut g c =
 
 pub returns-in-Err-clause-shut : goal.returns-in-Err-clause-shut
 returns-in-Err-clause-shut g c =
-    let run = c.args.run.now in
-    let some : session_of run.keeper.cabin.cards c.args.which ≡ Some c.in-Some.accepted = sym c.in-Some.ensures.session in
     record {
       closing = Fell;
-      closed = record {
-        is = subst (λ (o : Option Accepted). IsClosingOf o Fell) (sym some) tt;
-        run = ap (λ (k : Keeper). record run { keeper = k }) (c.tear.ensures.keeper ∙ ap (λ (b : Cabin). record run.keeper { cabin = torn_out c.args.which c.args.at.second b }) c.close.ensures.kept);
-        told = c.tear.ensures.told;
-      };
+      closed = closed-fell g c;
       act = activity_of c.selected-selected.result;
       selected = c.selected-selected.ensures;
       closes = tt;

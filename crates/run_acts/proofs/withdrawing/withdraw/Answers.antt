@@ -1,5 +1,5 @@
-use Rattle.std.proofs.Common.{rules, ◌≡◌, ◌∙◌, inl, inr, ℕ, ◌+◌, ◌-◌, ◌/◌, ◌≤◌, Bool, true, false, not, Option, Some, None, is_some, List, ◌++◌, All, length, refl, ap, sym, subst, arith, ◌^◌, ◌<◌}
-use Rattle.std.specs.Prelude.{is_err, suc, [], ◌∷◌, IfSome}
+use Rattle.std.proofs.Common.{rules, ◌≡◌, ◌∙◌, inl, inr, ℕ, ◌+◌, ◌/◌, ◌≤◌, Bool, true, false, not, Option, Some, None, is_some, List, ◌++◌, All, length, refl, ap, sym, subst, arith, ◌^◌, ◌<◌}
+use Rattle.std.specs.Prelude.{is_err, suc, [], ◌∷◌, IfSome, OnOk, Result}
 use Rattle.trace_model.specs.declared.Card.{Card}
 use Rattle.trace_model.specs.declared.Card.TheVariants.{A, B}
 use Rattle.tach_media.proofs.Runs.{on_ok, ok_gives, cause_after}
@@ -10,43 +10,43 @@ use Rattle.minute_rules.specs.Kept.{StandsFor}
 use Rattle.safety_model.specs.Safe.{Devices}
 use Rattle.run_rule.specs.Between.{devices}
 use Rattle.log_model.specs.declared.lines.Break.{Break}
-use Rattle.slot_machine.specs.Calls.{seat_in, card_in}
+use Rattle.slot_machine.specs.Calls.{seat_in, card_in, logged}
 use Rattle.run_crew.specs.declared.cabin.Cabin.{Cabin}
-use Rattle.run_crew.specs.Cards.{session_of}
+use Rattle.run_crew.specs.Cards.{session_of, known_of}
 use Rattle.run_crew.specs.Cabin.{Stands, with_slot_left}
 use Rattle.run_outcome.specs.Lines.{Listed}
 use Rattle.run_outcome.specs.declared.outcome.Outcome.{Outcome}
 use Rattle.run_keeping.specs.declared.keeper.Moment.{Moment}
-use Rattle.run_keeping.specs.Keeping.{HasLeftMore}
+use Rattle.run_keeping.specs.Keeping.{HasLeftMore, CardReady, HasItsRow, UnitReady, tears_of}
 use Rattle.run_keeping.specs.Minutes.{Told, Reach, IsReach}
 use Rattle.run_keeping.proofs.Counts.{lines-length}
 use Rattle.run_acts.specs.declared.run.Run.{Run}
 use Rattle.run_acts.specs.Power.{with_cabin}
 use Rattle.run_acts.specs.Going.{IsHeld, IsGoingOn, IsLit}
-use Rattle.run_acts.specs.Room.{waiting_of, falls_of}
+use Rattle.run_acts.specs.Room.{waiting_of, falls_of, Takes}
 use Rattle.run_acts.proofs.Torn.{tears-without}
 use Rattle.run_acts.specs.Behind.{BooksWithdrawn}
 use Rattle.run_acts.proofs.Withdrawn.{withdrawn-cut, withdrawn-closed, time-before}
-use Rattle.run_acts.specs.Acting.{Closing, told_of, IsSettled, IsWithdrawn, closed_cabin, closed_breaks, left_run, IsClosed}
+use Rattle.run_acts.specs.Acting.{Closing, told_of, IsSettled, IsWithdrawn, closed_cabin, closed_breaks, left_run, IsClosed, Closed, closed_falls}
 use Rattle.run_acts.proofs.Leaving.{left-going, left-held, left-falls, closed-past, closed-minute, closed-sessions, closed-falls, closed-a, closed-b}
 use Rattle.run_acts.proofs.Cabins.{cabin-only, cabin-going, cabin-held, ready-same, at-same}
 use Rattle.log_model.specs.Log.{In}
-use Rattle.run_acts.specs.Recording.{RunFails, GoesOnOrFails, log_of}
+use Rattle.run_acts.specs.Recording.{RunFails, GoesOnOrFails, log_of, IsNow, RunWithin}
 use Rattle.run_acts.specs.Settling.{RecordsSettling}
 use Rattle.run_acts.proofs.Asked.{withdraws-one}
 use Rattle.run_acts.proofs.WithdrawnRecorded.{acting_at, moment-is, settling-cut, closing-recorded, settled-evented, closing-evented, untorn-then, sat-there, settled-still, settled-places, closed-places, closed-still}
 use Rattle.run_ringed.specs.OnCards.{PlacesStay}
 use Rattle.run_acts.proofs.CardPlaces.{stay-then}
 use Rattle.run_acts.specs.Faults.{NotesSettling}
-use Rattle.run_acts.specs.Noting.{NotesWithdrawing, closed_events}
+use Rattle.run_acts.specs.Noting.{NotesWithdrawing, closed_events, NotesClosing}
 use Rattle.run_acts.proofs.NotedEvents.{same-noted, noted-any}
 use Rattle.run_acts.proofs.ActsNoted.{settles-these, withdrawal-cut, withdrawal-noted, closing-any, same-closing}
 use Rattle.run_rings.proofs.Same.{rings-left}
-use Rattle.run_acts.specs.Ringing.{WithdrawsSo, ClosesRings}
+use Rattle.run_acts.specs.Ringing.{WithdrawsSo, ClosesRings, ClosesSo}
 use Rattle.run_acts.proofs.Comings.{closes-more}
 use Rattle.run_acts.proofs.Ringing.{settling-leaves, closes-behind}
-use Rattle.run_keeping.proofs.Later.{state-by, later-same, later-then, later-of-a, later-of-b}
-use Rattle.tach_media.specs.Medium.{State, LeavesOnly, HasBroken}
+use Rattle.run_keeping.proofs.Later.{state-by, later-same, later-then}
+use Rattle.tach_media.specs.Medium.{State, LeavesOnly, HasBroken, HasCause}
 use Rattle.run_evented.specs.Noting.{Acting}
 use Rattle.run_acts.specs.NotedEvents.{NotesEvents}
 use Rattle.run_acts.specs.Evented.{EventsGoOn, EventsSettling}
@@ -56,20 +56,52 @@ use Rattle.card_session.specs.Sessions.{IsSession}
 use Rattle.card_session.specs.Cards.{IsCardClosing}
 use Rattle.message_model.specs.Records.{insertion_ring}
 use Rattle.run_crew.specs.declared.cards.Accepted.{Accepted}
-use Rattle.run_acts.specs.RunRinged.{RingsGoOn}
+use Rattle.run_acts.specs.RunRinged.{RingsGoOn, RingsWithin}
 use Rattle.run_acts.proofs.Settled.{settled-decides}
 use Rattle.run_acts.proofs.SettledRecorded.{same-ungiven}
-use Rattle.run_acts.proofs.RingedSecond.{left-after, more-left}
+use Rattle.run_acts.proofs.RingedSecond.{more-left}
 use Rattle.run_acts.proofs.RingedClosed.{settling-ringed, closing-ringed, gone-told}
-use Rattle.run_acts.specs.RunCards.{CardsSettling, PlacesSettling, StillShow}
+use Rattle.run_acts.specs.RunCards.{CardsSettling, PlacesSettling, StillShow, CardsGoOn, CardsIn}
 use Rattle.run_acts.proofs.CardStays.{shows-then}
 use Rattle.run_acts.proofs.CardActs.{TellsLines, settled-lines, closed-lines, quiet-goes}
-use Rattle.run_acts.specs.CardWrites.{ShutsBehind, WithdrawsShut}
+use Rattle.run_acts.specs.CardWrites.{ShutsBehind, WithdrawsShut, IsShut, ShutsSo}
 use Rattle.run_acts.proofs.CardWrites.{withdrawn-shut}
-use Rattle.run_keeping.proofs.Calm.{calm-of-a, calm-of-b, calm-same, calm-then}
+use Rattle.run_keeping.proofs.Calm.{calm-same, calm-then}
+use Rattle.trace_model.specs.declared.Action.{Action}
+use Rattle.run_keeping.specs.Later.{AreCalm, AreLater, IsCalm, IsLater}
+use Rattle.run_acts.specs.Devices.{AreLeftMore}
+use Rattle.run_keeping.specs.Decided.{BooksAll}
+use Rattle.card_layout.specs.declared.command.CardState.{CardState}
+use Rattle.run_acts.specs.Stays.{ClosesOnCard}
+use Rattle.run_evented.specs.SoFar.{EventedNow}
+use Rattle.tach_media.specs.declared.fault.Failed.{Failed}
+use Rattle.run_recorded.specs.Beside.{HaveLeftMore}
+use Rattle.run_keeping.specs.Books.{HaveTime}
+use Rattle.unit_model.specs.Image.{IsUnit}
+use Rattle.unit_notes.specs.Journal.{LeavesJournal}
+use Rattle.run_acts.proofs.OneCard.{OneCard, calm-by, keeps-by, later-by, unit-is, card-is, none-there}
+use Rattle.run_recorded.specs.Origin.{Origin}
+use Rattle.side_model.specs.Odometer.{SpanFrom}
+use Rattle.trace_model.specs.Trace.{TraceSecond}
+use Rattle.run_told.specs.Told.{arranged}
+use Rattle.log_model.specs.Slots.{refusal}
+use Rattle.run_rings.specs.Same.{LeavesRings}
+use Rattle.run_acts.proofs.withdrawing.withdraw.Given.{Over}
+use Rattle.run_acts.proofs.withdrawing.withdraw.Goals.{In_ok-settle, In_default, After-from_residual, After-close, After-close-in-B}
 use Rattle.run_acts.proofs.withdrawing.withdraw.Goals as goal
 
--- ---- it has left its slot
+-- ---- a card that has left its slot
+
+-- what is known of the run that it has left, by its cabin and its moment
+left-there : (P : Moment → Run → Type 0) (slot : Slot) (at here : Moment) (run : Run) (left : Cabin) → left ≡ with_slot_left slot at.second run.keeper.cabin → at ≡ here → P at (with_cabin left run) → P here (left_run slot here.second run)
+left-there P slot at here run left is moment h = subst (λ (m : Moment). P m (left_run slot m.second run)) moment (subst (λ (b : Cabin). P at (with_cabin b run)) is h)
+
+module _ {U A0 B0 : State} {chip_a chip_b : CardState} where
+  left-lit : (slot : Slot) (card : Card) (second : ℕ) (run : Run) (left : Cabin) → IsLit (run.next / 60) run U chip_a chip_b A0 B0 → left ≡ with_slot_left slot second run.keeper.cabin → ((from : ℕ) → Stands from None run.keeper.cabin → Stands from (Some card) left)
+      → IsGoingOn (Some card) (run.next / 60) (with_cabin left run) U chip_a chip_b A0 B0
+  left-lit slot card second run left lit is stands =
+      subst (λ (b : Cabin). IsGoingOn (Some card) (run.next / 60) (with_cabin b run) U chip_a chip_b A0 B0) (sym is)
+      (left-going slot card second run (run.next / 60) lit (λ from h. subst (λ (b : Cabin). Stands from (Some card) b) is (stands from h)))
 
 pub settle-requires-clause-held : goal.settle-requires-clause-held
 settle-requires-clause-held g c =
@@ -85,14 +117,44 @@ settle-requires-clause-held g c =
 
 pub settle-requires-clause-going : goal.settle-requires-clause-going
 settle-requires-clause-going g c =
-    let run = c.args.run.now in
-    let card = c.in-Some.card in
-    let second : ℕ = c.args.at.second in
-    let there : card_in (seat_in run.keeper.cabin.slots.seats c.args.slot) ≡ Some card = cc in (
-      Some card,
-      subst (λ (b : Cabin). IsGoingOn (Some card) (run.next / 60) (with_cabin b run) (g.M.Medium.state c.args.unit.now) (g.C.Chip.card c.args.card_a.now) (g.D.Chip.card c.args.card_b.now) (g.C.Chip.state c.args.card_a.now) (g.D.Chip.state c.args.card_b.now)) (sym c.leave.ensures.kept)
-          (left-going c.args.slot card second run (run.next / 60) c.requires.going (λ from h. subst (λ (b : Cabin). Stands from (Some card) b) c.leave.ensures.kept (c.leave.ensures.stands from card there h))),
-    )
+    let there : card_in (seat_in c.args.run.now.keeper.cabin.slots.seats c.args.slot) ≡ Some c.in-Some.card = cc in
+    (Some c.in-Some.card, left-lit c.args.slot c.in-Some.card c.args.at.second c.args.run.now c.leave.new.self c.requires.going c.leave.ensures.kept (λ from h. c.leave.ensures.stands from c.in-Some.card there h))
+
+-- ---- the minutes before are kept
+
+module _ (g : Over) (c : In_ok-settle g) where
+  abbrev first : Devices
+  first = devices (g.M.Medium.state c.args.unit.now) (g.C.Chip.state c.args.card_a.now) (g.D.Chip.state c.args.card_b.now)
+
+  abbrev settled_ : Devices
+  settled_ = devices (g.M.Medium.state c.settle.new.unit) (g.C.Chip.state c.settle.new.card_a) (g.D.Chip.state c.settle.new.card_b)
+
+  seat-of : (card : Card) → c.in-Some.card ≡ card → card_in (seat_in c.args.run.now.keeper.cabin.slots.seats c.args.slot) ≡ Some card
+  seat-of card is = cc
+
+  going-with : (card : Card) → c.in-Some.card ≡ card → IsGoingOn (Some card) (c.settle.new.run.next / 60) c.settle.new.run (g.M.Medium.state c.settle.new.unit) (g.C.Chip.card c.settle.new.card_a) (g.D.Chip.card c.settle.new.card_b) (g.C.Chip.state c.settle.new.card_a) (g.D.Chip.state c.settle.new.card_b)
+  going-with card is =
+      c.in_ok-settle.ensures.going (Some card)
+      (left-lit c.args.slot card c.args.at.second c.args.run.now c.leave.new.self c.requires.going c.leave.ensures.kept (λ from h. c.leave.ensures.stands from card (seat-of card is) h))
+
+  -- what left its slot can still fall out of it
+  falls-left : falls_of c.leave.new.self ≤ falls_of c.args.run.now.keeper.cabin
+  falls-left =
+      let left = ap falls_of c.leave.ensures.kept in
+      let less = left-falls c.args.slot c.args.at.second c.args.run.now.keeper.cabin in
+      omega (arith, left, less)
+
+  room-left : (card : Card) → length c.settle.new.outcome.breaks.items + tears_of (session_of c.settle.new.run.keeper.cabin.cards card) ≤ c.settle.new.outcome.breaks.room
+  room-left card =
+      let falls = falls-left in
+      let b = c.settle.ensures.takes.breaks in
+      let room = c.requires.breaks in
+      let same = c.settle.ensures.takes.rooms.1 in
+      let tears = tears-without card c.settle.new.run.keeper.cabin.cards in
+      omega (arith, b, falls, room, same, tears)
+
+  settled-first : IsSettled c.args.at false (left_run c.args.slot c.args.at.second c.args.run.now) c.settle.new.run c.args.outcome.now c.settle.new.outcome
+  settled-first = left-there (λ m run. IsSettled m false run c.settle.new.run c.args.outcome.now c.settle.new.outcome) c.args.slot c.args.at c.args.at c.args.run.now c.leave.new.self c.leave.ensures.kept refl c.in_ok-settle.ensures.settled
 
 pub returns-in_err-settle-clause-takes : goal.returns-in_err-settle-clause-takes
 returns-in_err-settle-clause-takes g c =
@@ -103,68 +165,540 @@ returns-in_err-settle-clause-takes g c =
     let b = t.breaks in
     record { rooms = t.rooms; marks = t.marks; breaks = omega (arith, b, left, less); finds = t.finds; refused = t.refused }
 
--- ---- card a
-
 pub close-requires-clause-ready : goal.close-requires-clause-ready
-close-requires-clause-ready g c =
-    let run = c.args.run.now in
-    let second : ℕ = c.args.at.second in
-    let there : card_in (seat_in run.keeper.cabin.slots.seats c.args.slot) ≡ Some A = cc in
-    let left = subst (λ (b : Cabin). IsGoingOn (Some A) (run.next / 60) (with_cabin b run) (g.M.Medium.state c.args.unit.now) (g.C.Chip.card c.args.card_a.now) (g.D.Chip.card c.args.card_b.now) (g.C.Chip.state c.args.card_a.now) (g.D.Chip.state c.args.card_b.now)) (sym c.leave.ensures.kept)
-    (left-going c.args.slot A second run (run.next / 60) c.requires.going (λ from h. subst (λ (b : Cabin). Stands from (Some A) b) c.leave.ensures.kept (c.leave.ensures.stands from A there h))) in
-    let going = c.in_ok-settle.ensures.going (Some A) left in
-    going.ready.unit_ready
+close-requires-clause-ready g c = (going-with g (goal.at.close-requires-clause-ready g c).In_ok-settle A c.in-A.is).ready.unit_ready
 
 pub close-requires-clause-card : goal.close-requires-clause-card
-close-requires-clause-card g c =
-    let run = c.args.run.now in
-    let second : ℕ = c.args.at.second in
-    let there : card_in (seat_in run.keeper.cabin.slots.seats c.args.slot) ≡ Some A = cc in
-    let left = subst (λ (b : Cabin). IsGoingOn (Some A) (run.next / 60) (with_cabin b run) (g.M.Medium.state c.args.unit.now) (g.C.Chip.card c.args.card_a.now) (g.D.Chip.card c.args.card_b.now) (g.C.Chip.state c.args.card_a.now) (g.D.Chip.state c.args.card_b.now)) (sym c.leave.ensures.kept)
-    (left-going c.args.slot A second run (run.next / 60) c.requires.going (λ from h. subst (λ (b : Cabin). Stands from (Some A) b) c.leave.ensures.kept (c.leave.ensures.stands from A there h))) in
-    let going = c.in_ok-settle.ensures.going (Some A) left in
-    going.ready.card_a
+close-requires-clause-card g c = (going-with g (goal.at.close-requires-clause-card g c).In_ok-settle A c.in-A.is).ready.card_a
 
 pub close-requires-clause-entry : goal.close-requires-clause-entry
-close-requires-clause-entry g c =
-    let run = c.args.run.now in
-    let second : ℕ = c.args.at.second in
-    let there : card_in (seat_in run.keeper.cabin.slots.seats c.args.slot) ≡ Some A = cc in
-    let left = subst (λ (b : Cabin). IsGoingOn (Some A) (run.next / 60) (with_cabin b run) (g.M.Medium.state c.args.unit.now) (g.C.Chip.card c.args.card_a.now) (g.D.Chip.card c.args.card_b.now) (g.C.Chip.state c.args.card_a.now) (g.D.Chip.state c.args.card_b.now)) (sym c.leave.ensures.kept)
-    (left-going c.args.slot A second run (run.next / 60) c.requires.going (λ from h. subst (λ (b : Cabin). Stands from (Some A) b) c.leave.ensures.kept (c.leave.ensures.stands from A there h))) in
-    let going = c.in_ok-settle.ensures.going (Some A) left in
-    going.entries A
+close-requires-clause-entry g c = (going-with g (goal.at.close-requires-clause-entry g c).In_ok-settle A c.in-A.is).entries A
 
 pub close-requires-clause-room : goal.close-requires-clause-room
-close-requires-clause-room g c =
+close-requires-clause-room g c = room-left g (goal.at.close-requires-clause-room g c).In_ok-settle A
+
+pub close-requires-in-B-clause-ready : goal.close-requires-in-B-clause-ready
+close-requires-in-B-clause-ready g c = (going-with g (goal.at.close-requires-in-B-clause-ready g c).In_ok-settle B c.in-B.is).ready.unit_ready
+
+pub close-requires-in-B-clause-card : goal.close-requires-in-B-clause-card
+close-requires-in-B-clause-card g c = (going-with g (goal.at.close-requires-in-B-clause-card g c).In_ok-settle B c.in-B.is).ready.card_b
+
+pub close-requires-in-B-clause-entry : goal.close-requires-in-B-clause-entry
+close-requires-in-B-clause-entry g c = (going-with g (goal.at.close-requires-in-B-clause-entry g c).In_ok-settle B c.in-B.is).entries B
+
+pub close-requires-in-B-clause-room : goal.close-requires-in-B-clause-room
+close-requires-in-B-clause-room g c = room-left g (goal.at.close-requires-in-B-clause-room g c).In_ok-settle B
+
+-- ---- and its session is closed
+
+-- what is known of the closing of a card
+abbrev Closes : {S : Type 0} (state : S → State) (chip : S → CardState) (which : Card) (slot : Slot) (at : Moment) (result : Result (Unit {0}) Failed) (old new : Run) (breaks after : Listed Break) (U V : State) (x y : S) → Type 0
+Closes state chip which slot at result old new breaks after U V x y = record {
+  closed : (closing : Closing) × IsClosed which slot at old new breaks after closing × HasBroken (state x) (state y) (closed_falls closing) × (closing ≡ Closed → ClosesOnCard slot old.minutes (session_of old.keeper.cabin.cards which) (state x) (state y));
+  events : NotesClosing which slot at (is_err result) old new breaks after (devices U (state x) (state x)) (devices V (state y) (state y));
+  journal : LeavesOnly U V LeavesJournal;
+  rings : is_some U.image ≡ true → ClosesSo which slot at (is_err result) old new breaks after U V;
+  left : IfSome (session_of old.keeper.cabin.cards which) (λ s. (act : Activity) × LeavesOnly (state x) (state y) (λ i n. IsSession s.session i → IsCardClosing s.session act i n));
+  shut : ShutsSo which slot at old new breaks after (state x) (state y);
+  bare : session_of old.keeper.cabin.cards which ≡ None → y ≡ x;
+  unit : IsUnit V;
+  ready : OnOk result (UnitReady new.keeper V);
+  rows : (card : Card) → HasItsRow old.keeper.cabin.cards U card → OnOk result (HasItsRow new.keeper.cabin.cards V card);
+  stands : (from : ℕ) → Stands from (Some which) old.keeper.cabin → Stands from None new.keeper.cabin;
+  card : CardReady (known_of new.keeper.cabin.cards which) (chip y) (state y);
+  size : (state y).size ≡ (state x).size;
+  more : (state x).breakdowns ≤ (state y).breakdowns;
+  clock_card : (state x).clock ≤ (state y).clock;
+  cause : HasCause U V (is_err result);
+  later : IsLater (state x) (state y);
+  calm : IsCalm breaks.items after.items (state x) (state y);
+}
+
+-- an entry is one of the ring
+entry-of : (n : ℕ) (q : Option Accepted) → IfSome q (λ x. (x.entry < insertion_ring.count) × (x.noted ≤ n)) → IfSome q (λ x. x.entry < insertion_ring.count)
+entry-of n None h = tt
+entry-of n (Some x) h = h.0
+
+-- a card whose session is closed was called alone, or not at all
+closing-left : {C : Type 0} (state : C → State) (x y : C) (q : Option Accepted) → IfSome q (λ s. (act : Activity) × LeavesOnly (state x) (state y) (λ i n. IsSession s.session i → IsCardClosing s.session act i n)) → (q ≡ None → y ≡ x) → HasLeftMore (state x) (state y)
+closing-left {C} state x y None h same = subst (λ (z : C). HasLeftMore (state x) (state z)) (sym (same refl)) (λ t c le at. at)
+closing-left {C} state x y (Some s) h same = h.1.keeps
+
+abbrev Booked : (slot : Slot) (at : Moment) (card : Card) (failed : Bool) (run new : Run) (before after : Outcome) (d e : Devices) (left : Cabin) → Type 0
+Booked slot at card failed run new before after d e left = (decided : List Minute) × (reach : Reach) × (closing : Option Closing) × (between : Told)
+    × ((span : Span) → StandsFor run.minutes span → decided_in (settled span) ≡ decided_in span ++ decided)
+    × IsReach decided at (not (is_some closing)) (told_of (with_cabin left run) before) between reach
+    × BooksWithdrawn card decided failed reach closing (told_of (with_cabin left run) before) (told_of new after) d e
+
+module _ (g : Over) (c : In_ok-settle g) (k : OneCard c.in-Some.card (g.C.Chip.state c.settle.new.card_a) (g.D.Chip.state c.settle.new.card_b)) (closes : Closes k.state k.chip k.which c.args.slot c.args.at k.result c.settle.new.run k.new c.settle.new.outcome.breaks k.breaks (g.M.Medium.state c.settle.new.unit) k.unit k.before k.after) where
+  abbrev first_ : Devices
+  first_ = first g c
+
+  abbrev between : Devices
+  between = arranged k.which (g.M.Medium.state c.settle.new.unit) (k.state k.before) k.beside
+
+  abbrev last : Devices
+  last = arranged k.which k.unit (k.state k.after) k.beside
+
+  abbrev told : Outcome
+  told = record c.settle.new.outcome { breaks = k.breaks }
+
+  seat : card_in (seat_in c.args.run.now.keeper.cabin.slots.seats c.args.slot) ≡ Some k.which
+  seat = seat-of g c k.which k.is
+
+  withdrawn : IsWithdrawn (card_in (seat_in c.args.run.now.keeper.cabin.slots.seats c.args.slot)) c.args.slot c.args.at (is_err k.result) c.args.run.now k.new c.args.outcome.now told
+  withdrawn =
+      let n = closes.closed in
+      subst (λ (q : Option Card). IsWithdrawn q c.args.slot c.args.at (is_err k.result) c.args.run.now k.new c.args.outcome.now told) (sym seat)
+      (inr (record { between = c.settle.new.run; told = c.settle.new.outcome; settled_first = settled-first g c; closing = n.0; closed = n.1; outcome = refl }))
+
+  only : k.new ≡ record c.args.run.now { minutes = k.new.minutes; keeper = k.new.keeper }
+  only = cabin-only c.args.run.now c.settle.new.run k.new (closed_cabin closes.closed.0 k.which c.args.at.second c.settle.new.run.keeper.cabin) c.settle.ensures.settled.only closes.closed.1.run
+
+  rest_ : told ≡ record c.args.outcome.now { marks = told.marks; breaks = told.breaks }
+  rest_ = ap (λ (o : Outcome). record o { breaks = k.breaks }) c.settle.ensures.settled.outcome
+
+  lines : length k.breaks.items ≡ length c.settle.new.outcome.breaks.items + length (closed_breaks closes.closed.0 c.args.slot c.args.at)
+  lines = ap (λ (l : Listed Break). length l.items) closes.closed.1.told ∙ lines-length (closed_breaks closes.closed.0 c.args.slot c.args.at) c.settle.new.outcome.breaks
+
+  takes : Takes 0 0 0 c.args.run.now k.new c.args.outcome.now told
+  takes =
+      let n = closes.closed in
+      let t = c.settle.ensures.takes in
+      let b = t.breaks in
+      let m = t.marks in
+      let left = falls-left g c in
+      let falls = closed-falls k.which c.args.at.second c.settle.new.run.keeper.cabin n.0 c.args.slot c.args.at n.1.is in
+      let same = ap (λ (r : Run). falls_of r.keeper.cabin) n.1.run in
+      let waits = ap waiting_of n.1.run in
+      let length_is = lines in
+      record {
+        rooms = (t.rooms.0, ap (λ (l : Listed Break). l.room) n.1.told ∙ t.rooms.1, t.rooms.2, t.rooms.3);
+        marks = omega (arith, m, waits);
+        breaks = omega (arith, b, left, falls, same, length_is);
+        finds = t.finds;
+        refused = t.refused;
+      }
+
+  more : length c.args.outcome.now.breaks.items ≤ length k.breaks.items
+  more = let told_more = c.settle.ensures.more in let length_is = lines in omega (arith, told_more, length_is)
+
+  later : AreLater first_ last
+  later =
+      later-then first_ between last (subst (λ (m : Devices). AreLater first_ m) (k.beside_it (g.M.Medium.state c.settle.new.unit)) c.settle.ensures.later)
+      (later-by k.which (g.M.Medium.state c.settle.new.unit) k.unit (k.state k.before) (k.state k.after) k.beside (state-by (g.M.Medium.state c.settle.new.unit) k.unit _ closes.journal.later closes.cause) closes.later)
+
+  calm : AreCalm c.args.outcome.now.breaks.items k.breaks.items first_ last
+  calm =
+      calm-then first_ between last (subst (λ (m : Devices). AreCalm c.args.outcome.now.breaks.items c.settle.new.outcome.breaks.items first_ m) (k.beside_it (g.M.Medium.state c.settle.new.unit)) c.settle.ensures.calm)
+      (calm-by k.which (g.M.Medium.state c.settle.new.unit) k.unit (k.state k.before) (k.state k.after) k.beside closes.calm)
+
+  -- which card it is that was there
+  same-card : (card : Card) → card_in (seat_in c.args.run.now.keeper.cabin.slots.seats c.args.slot) ≡ Some card → k.which ≡ card
+  same-card card there = let mine = seat in cc
+
+  books : BooksAll c.in_ok-settle.ensures.booked.0 false c.in_ok-settle.ensures.booked.1 (told_of (with_cabin c.leave.new.self c.args.run.now) c.args.outcome.now) (told_of c.settle.new.run c.settle.new.outcome) first_ between
+  books =
+      let b = c.in_ok-settle.ensures.booked in
+      subst (λ (m : Devices). BooksAll b.0 false b.1 (told_of (with_cabin c.leave.new.self c.args.run.now) c.args.outcome.now) (told_of c.settle.new.run c.settle.new.outcome) first_ m) (k.beside_it (g.M.Medium.state c.settle.new.unit)) b.4
+
+  booked : (card : Card) → card_in (seat_in c.args.run.now.keeper.cabin.slots.seats c.args.slot) ≡ Some card → Booked c.args.slot c.args.at card (is_err k.result) c.args.run.now k.new c.args.outcome.now told first_ last (with_slot_left c.args.slot c.args.at.second c.args.run.now.keeper.cabin)
+  booked card there =
+      let n = closes.closed in
+      let b = c.in_ok-settle.ensures.booked in
+      let v = told_of c.settle.new.run c.settle.new.outcome in
+      subst (λ (q : Card). Booked c.args.slot c.args.at q (is_err k.result) c.args.run.now k.new c.args.outcome.now told first_ last (with_slot_left c.args.slot c.args.at.second c.args.run.now.keeper.cabin)) (same-card card there)
+      (subst (λ (left : Cabin). Booked c.args.slot c.args.at k.which (is_err k.result) c.args.run.now k.new c.args.outcome.now told first_ last left) c.leave.ensures.kept (
+        b.0,
+        b.1,
+        Some n.0,
+        v,
+        b.2,
+        b.3,
+        withdrawn-closed k.state k.which c.args.at.second (g.M.Medium.state c.settle.new.unit) k.unit k.beside k.before k.after (g.met.M.Medium.coherent c.settle.new.unit) k.whole k.size closes.journal (is_err k.result) closes.cause.works n.0 b.0 c.args.at
+            (told_of (with_cabin c.leave.new.self c.args.run.now) c.args.outcome.now) v (told_of k.new told) first_ closes.left closes.bare n.1.is (ap (λ (r : Run). r.keeper.cabin.cards) n.1.run) refl b.1 b.3 books,
+      ))
+
+  shut : (card : Card) → card_in (seat_in c.args.run.now.keeper.cabin.slots.seats c.args.slot) ≡ Some card → WithdrawsShut card c.args.slot c.args.at (is_err k.result) c.args.run.now k.new c.args.outcome.now told first_ last
+  shut card there =
+      let n = closes.shut in
+      let b = c.in_ok-settle.ensures.booked in
+      subst (λ (q : Card). WithdrawsShut q c.args.slot c.args.at (is_err k.result) c.args.run.now k.new c.args.outcome.now told first_ last) (same-card card there)
+      (inr (subst (λ (left : Cabin). ShutsBehind k.which c.args.slot c.args.at (told_of (with_cabin left c.args.run.now) c.args.outcome.now) c.args.run.now k.new told first_ last) c.leave.ensures.kept (record {
+        decided = b.0;
+        given = b.2;
+        between = c.settle.new.run;
+        told = c.settle.new.outcome;
+        closing = n.closing;
+        closed = n.closed;
+        act = n.act;
+        selected = n.selected;
+        shut = λ how f w start t may gone stored time valid.
+            subst (λ (x : State). IsShut (session_of c.settle.new.run.keeper.cabin.cards k.which) n.act x) (card-is k.which k.unit (k.state k.after) k.beside)
+            (withdrawn-shut k.which (g.M.Medium.state c.settle.new.unit) k.unit (k.state k.before) (k.state k.after) k.beside closes.journal closes.clock_card n.closing b.0 c.args.at (told_of (with_cabin c.leave.new.self c.args.run.now) c.args.outcome.now) (told_of c.settle.new.run c.settle.new.outcome) first_ n.act n.closes b.1 b.3 books
+            how f w start t may gone stored time valid);
+      })))
+
+  events : NotesWithdrawing (card_in (seat_in c.args.run.now.keeper.cabin.slots.seats c.args.slot)) c.args.slot c.args.at (is_err k.result) c.args.run.now k.new c.args.outcome.now told first_ last
+  events =
+      let settling = left-there (λ m run. NotesSettling m false run c.settle.new.run c.args.outcome.now c.settle.new.outcome (g.M.Medium.state c.args.unit.now) (g.M.Medium.state c.settle.new.unit)) c.args.slot c.args.at c.args.at c.args.run.now c.leave.new.self c.leave.ensures.kept refl c.in_ok-settle.ensures.noted in
+      let these = settles-these c.args.at false (left_run c.args.slot c.args.at.second c.args.run.now) c.settle.new.run c.args.outcome.now c.settle.new.outcome (g.M.Medium.state c.args.unit.now) (g.M.Medium.state c.settle.new.unit) (g.C.Chip.state c.args.card_a.now) (g.D.Chip.state c.args.card_b.now) (g.C.Chip.state c.settle.new.card_a) (g.D.Chip.state c.settle.new.card_b) (g.met.M.Medium.coherent c.args.unit.now) c.requires.held.is_unit settling in
+      withdrawal-noted (card_in (seat_in c.args.run.now.keeper.cabin.slots.seats c.args.slot)) k.which seat c.args.slot c.args.at (is_err k.result) c.args.run.now c.settle.new.run k.new c.args.outcome.now c.settle.new.outcome k.breaks first_ between last these.0 these.1 (subst (λ (m : Devices). NotesEvents these.0 false first_ m) (k.beside_it (g.M.Medium.state c.settle.new.unit)) these.2)
+      (closing-any k.which c.args.slot c.args.at (is_err k.result) c.settle.new.run k.new c.settle.new.outcome.breaks k.breaks (devices (g.M.Medium.state c.settle.new.unit) (k.state k.before) (k.state k.before)) (devices k.unit (k.state k.after) (k.state k.after)) between last
+      (unit-is k.which (g.M.Medium.state c.settle.new.unit) (k.state k.before) k.beside) (unit-is k.which k.unit (k.state k.after) k.beside) closes.events)
+
+  leaves : LeavesRings (g.M.Medium.state c.args.unit.now) (g.M.Medium.state c.settle.new.unit)
+  leaves = settling-leaves c.args.at false (with_cabin c.leave.new.self c.args.run.now) c.settle.new.run c.args.outcome.now c.settle.new.outcome (g.M.Medium.state c.args.unit.now) (g.M.Medium.state c.settle.new.unit) c.in_ok-settle.ensures.noted
+
+  rings_ : is_some (g.M.Medium.state c.args.unit.now).image ≡ true → WithdrawsSo (card_in (seat_in c.args.run.now.keeper.cabin.slots.seats c.args.slot)) c.args.slot c.args.at (is_err k.result) c.args.run.now k.new c.args.outcome.now told (g.M.Medium.state c.args.unit.now) k.unit
+  rings_ tells =
+      let n = closes.rings (c.in_ok-settle.ensures.tells ∙ tells) in
+      subst (λ (q : Option Card). WithdrawsSo q c.args.slot c.args.at (is_err k.result) c.args.run.now k.new c.args.outcome.now told (g.M.Medium.state c.args.unit.now) k.unit) (sym seat)
+      (inr (record {
+        closed = record { between = c.settle.new.run; told = c.settle.new.outcome; settled_first = settled-first g c; closing = n.closing; closed = n.closed; outcome = refl };
+        rings = closes-behind n.closing (session_of c.settle.new.run.keeper.cabin.cards k.which) c.args.at (is_err k.result) c.settle.new.run (g.M.Medium.state c.args.unit.now) (g.M.Medium.state c.settle.new.unit) k.unit leaves n.rings;
+      }))
+
+  -- in a second of a trace, behind the actions before it
+  module _ (late : c.args.at.late ≡ false) (speed : ℕ) (o : Origin) (done : List TraceSecond) (s : TraceSecond) (now : IsNow s speed c.args.run.now) (front rest : List Action) (are : s.actions ≡ front ++ Withdraw c.args.slot ∷ rest) (n : c.args.at.begun ≡ suc (length front))
+      (allowed : refusal (logged c.args.run.now.keeper.cabin.slots.seats) speed (Withdraw c.args.slot) ≡ None) (w : RunWithin o done s (In (length front)) [] [] c.args.run.now c.args.outcome.now first_) (time : HaveTime last) where
+    moment : c.args.at ≡ acting_at s.number (suc (length front))
+    moment = moment-is c.args.at s.number (suc (length front)) (c.requires.at ∙ sym now.number) n late
+
+    small : s.number < 2 ^ 32
+    small = let low = c.requires.small in let same = now.number in omega (arith, low, same)
+
+    minutes : StandsFor c.settle.new.run.minutes (settled w.within.sp)
+    minutes = c.in_ok-settle.ensures.settled.minutes w.within.sp w.within.minutes
+
+    time-then : HaveTime between
+    time-then = time-before k.which (g.M.Medium.state c.settle.new.unit) k.unit (k.state k.before) (k.state k.after) k.beside closes.journal.later closes.clock_card time
+
+    records : RecordsSettling c.in_ok-settle.ensures.recorded.0 (acting_at s.number (suc (length front))) false (left_run c.args.slot s.number c.args.run.now) c.settle.new.run c.args.outcome.now c.settle.new.outcome first_ between
+    records = left-there (λ m run. RecordsSettling c.in_ok-settle.ensures.recorded.0 m false run c.settle.new.run c.args.outcome.now c.settle.new.outcome first_ between) c.args.slot c.args.at (acting_at s.number (suc (length front))) c.args.run.now c.leave.new.self c.leave.ensures.kept moment
+        (subst (λ (m : Devices). RecordsSettling c.in_ok-settle.ensures.recorded.0 c.args.at false (with_cabin c.leave.new.self c.args.run.now) c.settle.new.run c.args.outcome.now c.settle.new.outcome first_ m) (k.beside_it (g.M.Medium.state c.settle.new.unit)) c.in_ok-settle.ensures.recorded.2)
+
+    abbrev kept : IsSettled (acting_at s.number (suc (length front))) false (left_run c.args.slot s.number c.args.run.now) c.settle.new.run c.args.outcome.now c.settle.new.outcome
+    kept = left-there (λ m run. IsSettled m false run c.settle.new.run c.args.outcome.now c.settle.new.outcome) c.args.slot c.args.at (acting_at s.number (suc (length front))) c.args.run.now c.leave.new.self c.leave.ensures.kept moment c.in_ok-settle.ensures.settled
+
+    session-then : session_of c.leave.new.self.cards k.which ≡ session_of c.args.run.now.keeper.cabin.cards k.which
+    session-then = ap (λ (b : Cabin). session_of b.cards k.which) c.leave.ensures.kept
+
+    recorded : GoesOnOrFails (is_err k.result) o done s (In c.args.at.begun) [] k.new told last w.within.b
+    recorded =
+        let going = going-with g c k.which k.is in
+        let r = c.in_ok-settle.ensures.recorded in
+        let n_ = closes.closed in
+        let rung = closes.rings (c.settle.ensures.tells ∙ w.within.there.unit) in
+        subst (λ (q : ℕ). GoesOnOrFails (is_err k.result) o done s (In q) [] k.new told last w.within.b) (sym n)
+        (closing-recorded o done s front rest c.args.slot are speed now.speed_is k.which c.args.run.now c.settle.new.run c.args.outcome.now c.settle.new.outcome first_ w seat allowed (ungiven_of c.requires.going.span) c.requires.going.cabin minutes r.0 (r.1 w.within.sp w.within.minutes)
+        k.state (g.M.Medium.state c.settle.new.unit) k.unit k.beside k.before k.after (g.met.M.Medium.coherent c.settle.new.unit) k.whole k.size closes.left closes.bare closes.journal (is_err k.result) closes.cause going.span going.stands going.next
+        records time-then c.args.at c.in_ok-settle.ensures.settled.decided (told_of (with_cabin c.leave.new.self c.args.run.now) c.args.outcome.now) c.in_ok-settle.ensures.settled.kept session-then
+        (λ fine. closes-more rung.closing (session_of c.settle.new.run.keeper.cabin.cards k.which) c.args.at (is_err k.result) c.settle.new.run (g.M.Medium.state c.settle.new.unit) k.unit k.unit_whole closes.unit going.span going.stands rung.rings fine)
+        k.new k.breaks n_.0 n_.3 (subst (λ (m : Moment). IsClosed k.which c.args.slot m c.settle.new.run k.new c.settle.new.outcome.breaks k.breaks n_.0) moment n_.1) closes.calm n_.2)
+
+    evented : EventedNow o done s w.within.b.run Acting (log_of c.args.outcome.now) first_ → EventsGoOn (is_err k.result) o done s w.within.b.run (In c.args.at.begun) Acting (log_of told) last
+    evented before =
+        let going = going-with g c k.which k.is in
+        let second : c.args.at.second ≡ s.number = c.requires.at ∙ sym now.number in
+        let r = c.in_ok-settle.ensures.recorded in
+        let v = c.in_ok-settle.ensures.evented in
+        let n_ = closes.events in
+        let fell = closes.closed in
+        let settles =
+        left-there (λ m run. EventsSettling v.0 m false run c.settle.new.run c.args.outcome.now c.settle.new.outcome first_ between) c.args.slot c.args.at (acting_at s.number (suc (length front))) c.args.run.now c.leave.new.self c.leave.ensures.kept moment
+        (subst (λ (m : Devices). EventsSettling v.0 c.args.at false (with_cabin c.leave.new.self c.args.run.now) c.settle.new.run c.args.outcome.now c.settle.new.outcome first_ m) (k.beside_it (g.M.Medium.state c.settle.new.unit)) v.2) in
+        let told_then = settled-evented o done s front rest c.args.slot are speed now.speed_is k.which c.args.run.now c.settle.new.run c.args.outcome.now c.settle.new.outcome first_ w seat allowed (ungiven_of c.requires.going.span) c.requires.going.cabin minutes v.0 (v.1 w.within.sp w.within.minutes) false between settles before time-then in
+        let same = same-closing k.which c.args.slot c.args.at c.settle.new.run k.new c.settle.new.outcome.breaks k.breaks n_.closing fell.0 n_.closed fell.1 in
+        let notes =
+        noted-any (closed_events n_.closing c.args.at.second k.new) (is_err k.result) (devices (g.M.Medium.state c.settle.new.unit) (k.state k.before) (k.state k.before)) (devices k.unit (k.state k.after) (k.state k.after)) between last (unit-is k.which (g.M.Medium.state c.settle.new.unit) (k.state k.before) k.beside) (unit-is k.which k.unit (k.state k.after) k.beside) n_.notes in
+        subst (λ (q : ℕ). EventsGoOn (is_err k.result) o done s w.within.b.run (In q) Acting (log_of told) last) (sym n)
+        (closing-evented o done s front rest c.args.slot are speed now.speed_is k.which c.args.run.now c.settle.new.run c.args.outcome.now c.settle.new.outcome first_ w seat allowed (ungiven_of c.requires.going.span) c.requires.going.cabin minutes r.0 (r.1 w.within.sp w.within.minutes)
+        k.state (g.M.Medium.state c.settle.new.unit) k.unit k.beside k.before k.after (g.met.M.Medium.coherent c.settle.new.unit) k.whole k.size closes.left closes.bare closes.journal (is_err k.result) closes.cause going.span going.stands going.next
+        records time-then c.args.at c.in_ok-settle.ensures.settled.decided (told_of (with_cabin c.leave.new.self c.args.run.now) c.args.outcome.now) c.in_ok-settle.ensures.settled.kept session-then
+        small (ap (λ (x : Outcome). x.finds) c.in_ok-settle.ensures.settled.outcome) (ungiven_of going.span) going.cabin told_then
+        k.new k.breaks n_.closing (subst (λ (m : Moment). IsClosed k.which c.args.slot m c.settle.new.run k.new c.settle.new.outcome.breaks k.breaks n_.closing) moment n_.closed) closes.calm
+        (subst (λ (x : ℕ). HasBroken (k.state k.before) (k.state k.after) x) (sym same) fell.2) (subst (λ (u : ℕ). NotesEvents (closed_events n_.closing u k.new) (is_err k.result) between last) second notes))
+
+    left : HaveLeftMore o first_ last
+    left =
+        more-left o first_ last (w.within.powered.lit.unit.unit_holds [] []).later w.within.there.clocks
+        (keeps-by k.which first_ (g.M.Medium.state c.settle.new.unit) k.unit (k.state k.before) (k.state k.after) k.beside (subst (λ (m : Devices). AreLeftMore first_ m) (k.beside_it (g.M.Medium.state c.settle.new.unit)) c.settle.ensures.keeps) (subst (λ (m : Devices). AreLater first_ m) (k.beside_it (g.M.Medium.state c.settle.new.unit)) c.settle.ensures.later) closes.journal.keeps
+        (closing-left k.state k.before k.after (session_of c.settle.new.run.keeper.cabin.cards k.which) closes.left closes.bare))
+
+    places : PlacesStay o first_ last
+    places =
+        let r = c.in_ok-settle.ensures.recorded in
+        let v = c.in_ok-settle.ensures.places in
+        let settles =
+        left-there (λ m run. PlacesSettling v.0 m run c.settle.new.run c.args.outcome.now first_ between) c.args.slot c.args.at (acting_at s.number (suc (length front))) c.args.run.now c.leave.new.self c.leave.ensures.kept moment
+        (subst (λ (m : Devices). PlacesSettling v.0 c.args.at (with_cabin c.leave.new.self c.args.run.now) c.settle.new.run c.args.outcome.now first_ m) (k.beside_it (g.M.Medium.state c.settle.new.unit)) v.2) in
+        stay-then o first_ between last (settled-places o done s front rest c.args.slot are speed now.speed_is k.which c.args.run.now c.settle.new.run c.args.outcome.now c.settle.new.outcome first_ w seat allowed (ungiven_of c.requires.going.span) c.requires.going.cabin minutes v.0 (v.1 w.within.sp w.within.minutes) between settles time-then)
+        (closed-places o done s front rest c.args.slot are speed now.speed_is k.which c.args.run.now c.settle.new.run c.args.outcome.now c.settle.new.outcome first_ w seat allowed (ungiven_of c.requires.going.span) c.requires.going.cabin minutes r.0 (r.1 w.within.sp w.within.minutes) k.state (g.M.Medium.state c.settle.new.unit) k.unit k.beside k.before k.after k.whole k.size closes.left closes.bare records time-then)
+
+    shows : StillShow o first_ last
+    shows =
+        let r = c.in_ok-settle.ensures.recorded in
+        let v = c.in_ok-settle.ensures.cards in
+        let settles =
+        left-there (λ m run. CardsSettling v.0 m run c.settle.new.run c.args.outcome.now first_ between) c.args.slot c.args.at (acting_at s.number (suc (length front))) c.args.run.now c.leave.new.self c.leave.ensures.kept moment
+        (subst (λ (m : Devices). CardsSettling v.0 c.args.at (with_cabin c.leave.new.self c.args.run.now) c.settle.new.run c.args.outcome.now first_ m) (k.beside_it (g.M.Medium.state c.settle.new.unit)) v.2) in
+        shows-then o first_ between last (settled-still o done s front rest c.args.slot are speed now.speed_is k.which c.args.run.now c.settle.new.run c.args.outcome.now c.settle.new.outcome first_ w seat allowed (ungiven_of c.requires.going.span) c.requires.going.cabin minutes v.0 (v.1 w.within.sp w.within.minutes) between settles time-then)
+        (closed-still o done s front rest c.args.slot are speed now.speed_is k.which c.args.run.now c.settle.new.run c.args.outcome.now c.settle.new.outcome first_ w seat allowed (ungiven_of c.requires.going.span) c.requires.going.cabin minutes r.0 (r.1 w.within.sp w.within.minutes) k.state (g.M.Medium.state c.settle.new.unit) k.unit k.beside k.before k.after k.whole k.size closes.left closes.bare records time-then)
+
+    cards_ : CardsIn o done s w.within.b.run.log front (log_of c.args.outcome.now) first_ → CardsGoOn (is_err k.result) o done s w.within.b.run.log (front ++ Withdraw c.args.slot ∷ []) (log_of told) last
+    cards_ before =
+        let n_ = closes.closed in
+        let t : TellsLines (acting_at s.number (suc (length front))) c.args.outcome.now told = subst (λ (m : Moment). TellsLines m c.args.outcome.now told) moment
+        (closed-lines c.args.at c.args.outcome.now c.settle.new.outcome k.breaks n_.0 c.args.slot (settled-lines c.args.at false (with_cabin c.leave.new.self c.args.run.now) c.settle.new.run c.args.outcome.now c.settle.new.outcome c.in_ok-settle.ensures.settled) n_.1.told) in
+        quiet-goes o done s front rest (Withdraw c.args.slot) are c.args.run.now c.args.outcome.now first_ last w tt t.lines (log_of told) t.are t.tears left shows before (is_err k.result)
+
+    ringed : (spans : List SpanFrom) (t : Rattle.log_model.specs.Course.Told) → RingsWithin o done s w.within.b.run.log front c.args.run.now (log_of c.args.outcome.now) spans t first_ → RingsGoOn (is_err k.result) o done s w.within.b (front ++ Withdraw c.args.slot ∷ []) k.new (log_of told) spans t last
+    ringed spans t rings =
+        let lit = c.requires.going in
+        let r = c.in_ok-settle.ensures.recorded in
+        let n_ = closes.rings (c.settle.ensures.tells ∙ w.within.there.unit) in
+        let entries = entry-of c.args.run.now.noted (session_of c.args.run.now.keeper.cabin.cards k.which) (lit.entries k.which) in
+        let closed = subst (λ (m : Moment). IsClosed k.which c.args.slot m c.settle.new.run k.new c.settle.new.outcome.breaks k.breaks n_.closing) moment n_.closed in
+        let writes : ClosesRings n_.closing (session_of c.settle.new.run.keeper.cabin.cards k.which) (acting_at s.number (suc (length front))) (is_err k.result) c.settle.new.run (g.M.Medium.state c.args.unit.now) last.unit =
+        subst (λ (m : Moment). ClosesRings n_.closing (session_of c.settle.new.run.keeper.cabin.cards k.which) m (is_err k.result) c.settle.new.run (g.M.Medium.state c.args.unit.now) last.unit) moment
+        (subst (λ (x : State). ClosesRings n_.closing (session_of c.settle.new.run.keeper.cabin.cards k.which) c.args.at (is_err k.result) c.settle.new.run (g.M.Medium.state c.args.unit.now) x) (unit-is k.which k.unit (k.state k.after) k.beside)
+        (closes-behind n_.closing (session_of c.settle.new.run.keeper.cabin.cards k.which) c.args.at (is_err k.result) c.settle.new.run (g.M.Medium.state c.args.unit.now) (g.M.Medium.state c.settle.new.unit) k.unit leaves n_.rings)) in
+        let from_is : w.within.from ≡ ungiven_of lit.span = let to = w.within.until in let same = same-ungiven c.args.run.now.minutes w.within.sp lit.span w.within.minutes lit.stands in omega (arith, to, same) in
+        let later_ = (settled-decides None (c.args.run.now.next / 60) c.args.run.now lit kept.decided c.requires.small (kept.given lit.span lit.stands)).from in
+        closing-ringed o done s front rest c.args.slot are speed now.speed_is k.which c.args.run.now c.settle.new.run c.args.outcome.now c.settle.new.outcome first_ last w seat allowed false kept left places spans t rings (ungiven_of c.requires.going.span) c.requires.going.cabin small entries
+        k.new k.breaks n_.closing closed minutes
+        (λ had has. untorn-then o done s front rest c.args.slot are speed now.speed_is k.which c.args.run.now c.settle.new.run c.args.outcome.now c.settle.new.outcome first_ w seat allowed (ungiven_of c.requires.going.span) c.requires.going.cabin minutes r.0 (r.1 w.within.sp w.within.minutes) between records time-then had has)
+        (λ had none. gone-told o done s front rest c.args.slot are speed now.speed_is k.which c.args.run.now c.settle.new.run c.args.outcome.now c.settle.new.outcome first_ last w seat allowed false kept left places spans t rings (ungiven_of c.requires.going.span) c.requires.going.cabin small entries kept.kept w.within.from
+        (sat-there o done s front rest c.args.slot are speed now.speed_is k.which c.args.run.now c.settle.new.run c.args.outcome.now c.settle.new.outcome first_ w seat allowed (ungiven_of c.requires.going.span) c.requires.going.cabin minutes r.0 (r.1 w.within.sp w.within.minutes) had)
+        (subst (λ (low : ℕ). All (λ (m : Minute). low ≤ m.minute) kept.decided) (sym from_is) later_) had none)
+        (is_err k.result) writes
+
+module _ (g : Over) (c : After-close g) where
+  abbrev kept-a : In_ok-settle g
+  kept-a = (goal.at.returns-in-A-clause-cause g c).In_ok-settle
+
+  abbrev side-a : OneCard kept-a.in-Some.card (g.C.Chip.state c.settle.new.card_a) (g.D.Chip.state c.settle.new.card_b)
+  side-a = record {
+    which = A;
+    is = c.in-A.is;
+    S = _;
+    state = g.C.Chip.state;
+    chip = g.C.Chip.card;
+    before = c.settle.new.card_a;
+    after = c.close.new.card;
+    whole = g.met.C.Chip.coherent c.settle.new.card_a;
+    whole_after = g.met.C.Chip.coherent c.close.new.card;
+    size = c.settle.ensures.held.card_a.size;
+    beside = g.D.Chip.state c.settle.new.card_b;
+    beside_it = λ unit. refl;
+    unit = g.M.Medium.state c.close.new.unit;
+    unit_whole = g.met.M.Medium.coherent c.close.new.unit;
+    new = c.close.new.run;
+    breaks = c.close.new.breaks;
+    result = c.close.result;
+  }
+
+module _ (g : Over) (c : After-close-in-B g) where
+  abbrev kept-b : In_ok-settle g
+  kept-b = (goal.at.returns-in-B-clause-cause g c).In_ok-settle
+
+  abbrev side-b : OneCard kept-b.in-Some.card (g.C.Chip.state c.settle.new.card_a) (g.D.Chip.state c.settle.new.card_b)
+  side-b = record {
+    which = B;
+    is = c.in-B.is;
+    S = _;
+    state = g.D.Chip.state;
+    chip = g.D.Chip.card;
+    before = c.settle.new.card_b;
+    after = c.close-in-B.new.card;
+    whole = g.met.D.Chip.coherent c.settle.new.card_b;
+    whole_after = g.met.D.Chip.coherent c.close-in-B.new.card;
+    size = c.settle.ensures.held.card_b.size;
+    beside = g.C.Chip.state c.settle.new.card_a;
+    beside_it = λ unit. refl;
+    unit = g.M.Medium.state c.close-in-B.new.unit;
+    unit_whole = g.met.M.Medium.coherent c.close-in-B.new.unit;
+    new = c.close-in-B.new.run;
+    breaks = c.close-in-B.new.breaks;
+    result = c.close-in-B.result;
+  }
+
+-- ---- there is none in the slot
+
+module _ (g : Over) (c : In_default g) where
+  none-in : card_in (seat_in c.args.run.now.keeper.cabin.slots.seats c.args.slot) ≡ None
+  none-in = sym c.card.ensures ∙ none-there c.card.result c.in_default.not-Some
+
+pub returns-in_default-clause-recorded : goal.returns-in_default-clause-recorded
+returns-in_default-clause-recorded g c = λ late speed o done s now front rest are n allowed w time.
+    absurd (withdraws-one c.args.run.now.keeper.cabin.slots.seats c.args.slot speed allowed (none-in g c))
+
+pub returns-in_default-clause-evented : goal.returns-in_default-clause-evented
+returns-in_default-clause-evented g c = λ late speed o done s now front rest are n allowed w events time.
+    absurd (withdraws-one c.args.run.now.keeper.cabin.slots.seats c.args.slot speed allowed (none-in g c))
+
+pub returns-in_default-clause-ringed : goal.returns-in_default-clause-ringed
+returns-in_default-clause-ringed g c = λ late speed o done s now front rest are n allowed w spans t rings time.
+    absurd (withdraws-one c.args.run.now.keeper.cabin.slots.seats c.args.slot speed allowed (none-in g c))
+
+pub returns-in_default-clause-cards : goal.returns-in_default-clause-cards
+returns-in_default-clause-cards g c = λ late speed o done s now front rest are n allowed vehicle w cards time.
+    absurd (withdraws-one c.args.run.now.keeper.cabin.slots.seats c.args.slot speed allowed (none-in g c))
+
+pub returns-in_default-clause-events : goal.returns-in_default-clause-events
+returns-in_default-clause-events g c =
     let run = c.args.run.now in
-    let t = c.settle.ensures.takes in
-    let left_is : falls_of c.leave.new.self ≡ falls_of (with_slot_left c.args.slot c.args.at.second run.keeper.cabin) = ap falls_of c.leave.ensures.kept in
-    let less = left-falls c.args.slot c.args.at.second run.keeper.cabin in
-    let b = t.breaks in
-    let room = c.requires.breaks in
-    let same = t.rooms.1 in
-    let tears = tears-without A c.settle.new.run.keeper.cabin.cards in
-    omega (arith, b, left_is, less, room, same, tears)
+    let d = devices (g.M.Medium.state c.args.unit.now) (g.C.Chip.state c.args.card_a.now) (g.D.Chip.state c.args.card_b.now) in
+    subst (λ (q : Option Card). NotesWithdrawing q c.args.slot c.args.at false run run c.args.outcome.now c.args.outcome.now d d) (sym (none-in g c))
+    (refl, refl, refl, same-noted (g.M.Medium.state c.args.unit.now) (g.C.Chip.state c.args.card_a.now) (g.D.Chip.state c.args.card_b.now))
+
+pub returns-in_default-clause-rings : goal.returns-in_default-clause-rings
+returns-in_default-clause-rings g c = λ tells.
+    let run = c.args.run.now in
+    let U = g.M.Medium.state c.args.unit.now in
+    subst (λ (o : Option Card). WithdrawsSo o c.args.slot c.args.at false run run c.args.outcome.now c.args.outcome.now U U) (sym (none-in g c)) (rings-left U)
+
+pub returns-in_default-clause-shut : goal.returns-in_default-clause-shut
+returns-in_default-clause-shut g c = λ card there. absurd (let wrong : None ≡ Some card = sym (none-in g c) ∙ there in cc)
+
+pub returns-in_default-clause-later : goal.returns-in_default-clause-later
+returns-in_default-clause-later g c = later-same (devices (g.M.Medium.state c.args.unit.now) (g.C.Chip.state c.args.card_a.now) (g.D.Chip.state c.args.card_b.now))
+
+pub returns-in_default-clause-calm : goal.returns-in_default-clause-calm
+returns-in_default-clause-calm g c = calm-same (devices (g.M.Medium.state c.args.unit.now) (g.C.Chip.state c.args.card_a.now) (g.D.Chip.state c.args.card_b.now))
+
+-- ---- the keeping fails
+
+module _ (g : Over) (c : After-from_residual g) where
+  abbrev start : Devices
+  start = devices (g.M.Medium.state c.args.unit.now) (g.C.Chip.state c.args.card_a.now) (g.D.Chip.state c.args.card_b.now)
+
+  abbrev end : Devices
+  end = devices (g.M.Medium.state c.settle.new.unit) (g.C.Chip.state c.settle.new.card_a) (g.D.Chip.state c.settle.new.card_b)
+
+  seat-left : card_in (seat_in c.args.run.now.keeper.cabin.slots.seats c.args.slot) ≡ Some c.in-Some.card
+  seat-left = cc
+
+  failed : true ≡ is_err c.from_residual.result
+  failed = search rules
+
+  cut-first : IsSettled c.args.at true (left_run c.args.slot c.args.at.second c.args.run.now) c.settle.new.run c.args.outcome.now c.settle.new.outcome
+  cut-first = left-there (λ m run. IsSettled m true run c.settle.new.run c.args.outcome.now c.settle.new.outcome) c.args.slot c.args.at c.args.at c.args.run.now c.leave.new.self c.leave.ensures.kept refl c.in_err-settle.ensures.settled
+
+  -- in a second of a trace, behind the actions before it
+  module _ (late : c.args.at.late ≡ false) (speed : ℕ) (o : Origin) (done : List TraceSecond) (s : TraceSecond) (now : IsNow s speed c.args.run.now) (front rest : List Action) (are : s.actions ≡ front ++ Withdraw c.args.slot ∷ rest) (n : c.args.at.begun ≡ suc (length front))
+      (allowed : refusal (logged c.args.run.now.keeper.cabin.slots.seats) speed (Withdraw c.args.slot) ≡ None) (w : RunWithin o done s (In (length front)) [] [] c.args.run.now c.args.outcome.now start) (time : HaveTime end) where
+    at-moment : c.args.at ≡ acting_at s.number (suc (length front))
+    at-moment = moment-is c.args.at s.number (suc (length front)) (c.requires.at ∙ sym now.number) n late
+
+    cut-recorded : GoesOnOrFails (is_err c.from_residual.result) o done s (In c.args.at.begun) [] c.settle.new.run c.settle.new.outcome end w.within.b
+    cut-recorded =
+        let r = c.in_err-settle.ensures.recorded in
+        subst (λ (q : Bool). GoesOnOrFails q o done s (In c.args.at.begun) [] c.settle.new.run c.settle.new.outcome end w.within.b) failed
+        (subst (λ (q : ℕ). RunFails o done s (In q) c.settle.new.run c.settle.new.outcome end) (sym n)
+        (settling-cut o done s front rest c.args.slot are speed now.speed_is c.in-Some.card c.args.run.now c.settle.new.run c.args.outcome.now c.settle.new.outcome start w seat-left allowed (ungiven_of c.requires.going.span) c.requires.going.cabin (c.in_err-settle.ensures.settled.minutes w.within.sp w.within.minutes) r.0 (r.1 w.within.sp w.within.minutes) end
+        (left-there (λ m run. RecordsSettling r.0 m true run c.settle.new.run c.args.outcome.now c.settle.new.outcome start end) c.args.slot c.args.at (acting_at s.number (suc (length front))) c.args.run.now c.leave.new.self c.leave.ensures.kept at-moment r.2) time))
+
+    cut-evented : EventedNow o done s w.within.b.run Acting (log_of c.args.outcome.now) start → EventsGoOn (is_err c.from_residual.result) o done s w.within.b.run (In c.args.at.begun) Acting (log_of c.settle.new.outcome) end
+    cut-evented events_ =
+        let v = c.in_err-settle.ensures.evented in
+        subst (λ (q : Bool). EventsGoOn q o done s w.within.b.run (In c.args.at.begun) Acting (log_of c.settle.new.outcome) end) failed
+        (subst (λ (q : ℕ). EventsGoOn true o done s w.within.b.run (In q) Acting (log_of c.settle.new.outcome) end) (sym n)
+        (settled-evented o done s front rest c.args.slot are speed now.speed_is c.in-Some.card c.args.run.now c.settle.new.run c.args.outcome.now c.settle.new.outcome start w seat-left allowed (ungiven_of c.requires.going.span) c.requires.going.cabin (c.in_err-settle.ensures.settled.minutes w.within.sp w.within.minutes) v.0 (v.1 w.within.sp w.within.minutes) true end
+        (left-there (λ m run. EventsSettling v.0 m true run c.settle.new.run c.args.outcome.now c.settle.new.outcome start end) c.args.slot c.args.at (acting_at s.number (suc (length front))) c.args.run.now c.leave.new.self c.leave.ensures.kept at-moment v.2) events_ time))
+
+    cut-left : HaveLeftMore o start end
+    cut-left = more-left o start end (w.within.powered.lit.unit.unit_holds [] []).later w.within.there.clocks c.settle.ensures.keeps
+
+    cut-ringed : (spans : List SpanFrom) (t : Rattle.log_model.specs.Course.Told) → RingsWithin o done s w.within.b.run.log front c.args.run.now (log_of c.args.outcome.now) spans t start
+        → RingsGoOn (is_err c.from_residual.result) o done s w.within.b (front ++ Withdraw c.args.slot ∷ []) c.settle.new.run (log_of c.settle.new.outcome) spans t end
+    cut-ringed spans t rings =
+        let card : Card = c.in-Some.card in
+        let lit = c.requires.going in
+        let low : s.number < 2 ^ 32 = let most = c.requires.small in let same = now.number in omega (arith, most, same) in
+        let v = c.in_err-settle.ensures.places in
+        let stay = settled-places o done s front rest c.args.slot are speed now.speed_is c.in-Some.card c.args.run.now c.settle.new.run c.args.outcome.now c.settle.new.outcome start w seat-left allowed (ungiven_of c.requires.going.span) c.requires.going.cabin (c.in_err-settle.ensures.settled.minutes w.within.sp w.within.minutes) v.0 (v.1 w.within.sp w.within.minutes) end (left-there (λ m run. PlacesSettling v.0 m run c.settle.new.run c.args.outcome.now start end) c.args.slot c.args.at (acting_at s.number (suc (length front))) c.args.run.now c.leave.new.self c.leave.ensures.kept at-moment v.2) time in
+        subst (λ (q : Bool). RingsGoOn q o done s w.within.b (front ++ Withdraw c.args.slot ∷ []) c.settle.new.run (log_of c.settle.new.outcome) spans t end) failed
+        (settling-ringed o done s front rest c.args.slot are speed now.speed_is card c.args.run.now c.settle.new.run c.args.outcome.now c.settle.new.outcome start end w seat-left allowed true
+        (left-there (λ m run. IsSettled m true run c.settle.new.run c.args.outcome.now c.settle.new.outcome) c.args.slot c.args.at (acting_at s.number (suc (length front))) c.args.run.now c.leave.new.self c.leave.ensures.kept at-moment c.in_err-settle.ensures.settled)
+        cut-left stay spans t rings (ungiven_of lit.span) lit.cabin low (entry-of c.args.run.now.noted (session_of c.args.run.now.keeper.cabin.cards card) (lit.entries card))
+        (settling-leaves c.args.at true (with_cabin c.leave.new.self c.args.run.now) c.settle.new.run c.args.outcome.now c.settle.new.outcome (g.M.Medium.state c.args.unit.now) (g.M.Medium.state c.settle.new.unit) c.in_err-settle.ensures.noted))
+
+    cut-cards : CardsIn o done s w.within.b.run.log front (log_of c.args.outcome.now) start → CardsGoOn (is_err c.from_residual.result) o done s w.within.b.run.log (front ++ Withdraw c.args.slot ∷ []) (log_of c.settle.new.outcome) end
+    cut-cards cards =
+        let v = c.in_err-settle.ensures.cards in
+        let still = settled-still o done s front rest c.args.slot are speed now.speed_is c.in-Some.card c.args.run.now c.settle.new.run c.args.outcome.now c.settle.new.outcome start w seat-left allowed (ungiven_of c.requires.going.span) c.requires.going.cabin (c.in_err-settle.ensures.settled.minutes w.within.sp w.within.minutes) v.0 (v.1 w.within.sp w.within.minutes) end (left-there (λ m run. CardsSettling v.0 m run c.settle.new.run c.args.outcome.now start end) c.args.slot c.args.at (acting_at s.number (suc (length front))) c.args.run.now c.leave.new.self c.leave.ensures.kept at-moment v.2) time in
+        let t : TellsLines (acting_at s.number (suc (length front))) c.args.outcome.now c.settle.new.outcome = subst (λ (m : Moment). TellsLines m c.args.outcome.now c.settle.new.outcome) at-moment
+        (settled-lines c.args.at true (with_cabin c.leave.new.self c.args.run.now) c.settle.new.run c.args.outcome.now c.settle.new.outcome c.in_err-settle.ensures.settled) in
+        quiet-goes o done s front rest (Withdraw c.args.slot) are c.args.run.now c.args.outcome.now start end w tt t.lines (log_of c.settle.new.outcome) t.are t.tears cut-left still cards (is_err c.from_residual.result)
+
+pub returns-in_err-settle-clause-recorded : goal.returns-in_err-settle-clause-recorded
+returns-in_err-settle-clause-recorded g c = λ late speed o done s now front rest are n allowed w time. cut-recorded g c late speed o done s now front rest are n allowed w time
+
+pub returns-in_err-settle-clause-evented : goal.returns-in_err-settle-clause-evented
+returns-in_err-settle-clause-evented g c = λ late speed o done s now front rest are n allowed w events time. cut-evented g c late speed o done s now front rest are n allowed w time events
+
+pub returns-in_err-settle-clause-ringed : goal.returns-in_err-settle-clause-ringed
+returns-in_err-settle-clause-ringed g c = λ late speed o done s now front rest are n allowed w spans t rings time. cut-ringed g c late speed o done s now front rest are n allowed w time spans t rings
+
+pub returns-in_err-settle-clause-cards : goal.returns-in_err-settle-clause-cards
+returns-in_err-settle-clause-cards g c = λ late speed o done s now front rest are n allowed vehicle w cards time. cut-cards g c late speed o done s now front rest are n allowed w time cards
+
+pub returns-in_err-settle-clause-booked : goal.returns-in_err-settle-clause-booked
+returns-in_err-settle-clause-booked g c = λ card there.
+    let run = c.args.run.now in
+    let D = start g c in
+    let E = end g c in
+    let b = c.in_err-settle.ensures.booked in
+    subst (λ (q : Bool). Booked c.args.slot c.args.at card q run c.settle.new.run c.args.outcome.now c.settle.new.outcome D E (with_slot_left c.args.slot c.args.at.second run.keeper.cabin)) (failed g c)
+    (subst (λ (left : Cabin). Booked c.args.slot c.args.at card true run c.settle.new.run c.args.outcome.now c.settle.new.outcome D E left) c.leave.ensures.kept (
+      b.0,
+      b.1,
+      None,
+      told_of c.settle.new.run c.settle.new.outcome,
+      b.2,
+      b.3,
+      withdrawn-cut card b.0 c.args.at (told_of (with_cabin c.leave.new.self run) c.args.outcome.now) (told_of c.settle.new.run c.settle.new.outcome) D E b.1 b.3 b.4,
+    ))
+
+pub returns-in_err-settle-clause-events : goal.returns-in_err-settle-clause-events
+returns-in_err-settle-clause-events g c =
+    let settling = left-there (λ m run. NotesSettling m true run c.settle.new.run c.args.outcome.now c.settle.new.outcome (g.M.Medium.state c.args.unit.now) (g.M.Medium.state c.settle.new.unit)) c.args.slot c.args.at c.args.at c.args.run.now c.leave.new.self c.leave.ensures.kept refl c.in_err-settle.ensures.noted in
+    let these = settles-these c.args.at true (left_run c.args.slot c.args.at.second c.args.run.now) c.settle.new.run c.args.outcome.now c.settle.new.outcome (g.M.Medium.state c.args.unit.now) (g.M.Medium.state c.settle.new.unit) (g.C.Chip.state c.args.card_a.now) (g.D.Chip.state c.args.card_b.now) (g.C.Chip.state c.settle.new.card_a) (g.D.Chip.state c.settle.new.card_b) (g.met.M.Medium.coherent c.args.unit.now) c.requires.held.is_unit settling in
+    subst (λ (b : Bool). NotesWithdrawing (card_in (seat_in c.args.run.now.keeper.cabin.slots.seats c.args.slot)) c.args.slot c.args.at b c.args.run.now c.settle.new.run c.args.outcome.now c.settle.new.outcome (start g c) (end g c)) (failed g c)
+    (withdrawal-cut (card_in (seat_in c.args.run.now.keeper.cabin.slots.seats c.args.slot)) c.in-Some.card (seat-left g c) c.args.slot c.args.at c.args.run.now c.settle.new.run c.args.outcome.now c.settle.new.outcome (start g c) (end g c) these.0 these.1 these.2)
+
+pub returns-in_err-settle-clause-rings : goal.returns-in_err-settle-clause-rings
+returns-in_err-settle-clause-rings g c = λ tells.
+    subst (λ (o : Option Card). WithdrawsSo o c.args.slot c.args.at (is_err c.from_residual.result) c.args.run.now c.settle.new.run c.args.outcome.now c.settle.new.outcome (g.M.Medium.state c.args.unit.now) (g.M.Medium.state c.settle.new.unit)) (sym (seat-left g c))
+    (inl (sym (failed g c), cut-first g c, settling-leaves c.args.at true (with_cabin c.leave.new.self c.args.run.now) c.settle.new.run c.args.outcome.now c.settle.new.outcome (g.M.Medium.state c.args.unit.now) (g.M.Medium.state c.settle.new.unit) c.in_err-settle.ensures.noted))
+
+pub returns-in_err-settle-clause-shut : goal.returns-in_err-settle-clause-shut
+returns-in_err-settle-clause-shut g c = λ card there. inl (sym (failed g c), cut-first g c)
+
+pub returns-in_err-settle-clause-later : goal.returns-in_err-settle-clause-later
+returns-in_err-settle-clause-later g c = c.settle.ensures.later
+
+pub returns-in_err-settle-clause-calm : goal.returns-in_err-settle-clause-calm
+returns-in_err-settle-clause-calm g c = c.settle.ensures.calm
+
+-- ---- card a, and card b
 
 pub returns-in-A-clause-withdrawn : goal.returns-in-A-clause-withdrawn
-returns-in-A-clause-withdrawn g c =
-    let run = c.args.run.now in
-    let there : card_in (seat_in run.keeper.cabin.slots.seats c.args.slot) ≡ Some A = cc in
-    let n = c.close.ensures.closed in
-    let settled_first : IsSettled c.args.at false (left_run c.args.slot c.args.at.second run) c.settle.new.run c.args.outcome.now c.settle.new.outcome =
-    subst (λ (b : Cabin). IsSettled c.args.at false (with_cabin b run) c.settle.new.run c.args.outcome.now c.settle.new.outcome) c.leave.ensures.kept c.in_ok-settle.ensures.settled in
-    subst (λ (o : Option Card). IsWithdrawn o c.args.slot c.args.at (is_err c.close.result) run c.close.new.run c.args.outcome.now (record c.settle.new.outcome { breaks = c.close.new.breaks })) (sym there)
-    (inr (record { between = c.settle.new.run; told = c.settle.new.outcome; settled_first = settled_first; closing = n.0; closed = n.1; outcome = refl }))
+returns-in-A-clause-withdrawn g c = withdrawn g (kept-a g c) (side-a g c) c.close.ensures
+
+pub returns-in-A-clause-only : goal.returns-in-A-clause-only
+returns-in-A-clause-only g c = only g (kept-a g c) (side-a g c) c.close.ensures
+
+pub returns-in-A-clause-rest : goal.returns-in-A-clause-rest
+returns-in-A-clause-rest g c = rest_ g (kept-a g c) (side-a g c) c.close.ensures
 
 pub returns-in-A-clause-held : goal.returns-in-A-clause-held
 returns-in-A-clause-held g c =
     let run = c.args.run.now in
     let second : ℕ = c.args.at.second in
-    let there : card_in (seat_in run.keeper.cabin.slots.seats c.args.slot) ≡ Some A = cc in
-    let left = subst (λ (b : Cabin). IsGoingOn (Some A) (run.next / 60) (with_cabin b run) (g.M.Medium.state c.args.unit.now) (g.C.Chip.card c.args.card_a.now) (g.D.Chip.card c.args.card_b.now) (g.C.Chip.state c.args.card_a.now) (g.D.Chip.state c.args.card_b.now)) (sym c.leave.ensures.kept)
-    (left-going c.args.slot A second run (run.next / 60) c.requires.going (λ from h. subst (λ (b : Cabin). Stands from (Some A) b) c.leave.ensures.kept (c.leave.ensures.stands from A there h))) in
-    let going = c.in_ok-settle.ensures.going (Some A) left in
+    let going = going-with g (kept-a g c) A c.in-A.is in
     let between : Run = c.settle.new.run in
     let new : Run = c.close.new.run in
     let e = c.close.ensures in
@@ -185,10 +719,7 @@ pub returns-in-A-clause-going : goal.returns-in-A-clause-going
 returns-in-A-clause-going g c =
     let run = c.args.run.now in
     let second : ℕ = c.args.at.second in
-    let there : card_in (seat_in run.keeper.cabin.slots.seats c.args.slot) ≡ Some A = cc in
-    let left = subst (λ (b : Cabin). IsGoingOn (Some A) (run.next / 60) (with_cabin b run) (g.M.Medium.state c.args.unit.now) (g.C.Chip.card c.args.card_a.now) (g.D.Chip.card c.args.card_b.now) (g.C.Chip.state c.args.card_a.now) (g.D.Chip.state c.args.card_b.now)) (sym c.leave.ensures.kept)
-    (left-going c.args.slot A second run (run.next / 60) c.requires.going (λ from h. subst (λ (b : Cabin). Stands from (Some A) b) c.leave.ensures.kept (c.leave.ensures.stands from A there h))) in
-    let going = c.in_ok-settle.ensures.going (Some A) left in
+    let going = going-with g (kept-a g c) A c.in-A.is in
     let between : Run = c.settle.new.run in
     let new : Run = c.close.new.run in
     let e = c.close.ensures in
@@ -203,100 +734,58 @@ returns-in-A-clause-going g c =
     (closed-past A second between.keeper.cabin n.0) (e.stands (ungiven_of going.span) going.cabin) (closed-sessions A second between.keeper.cabin n.0)))
 
 pub returns-in-A-clause-takes : goal.returns-in-A-clause-takes
-returns-in-A-clause-takes g c =
-    let run = c.args.run.now in
-    let second : ℕ = c.args.at.second in
-    let t = c.settle.ensures.takes in
-    let left_is : falls_of c.leave.new.self ≡ falls_of (with_slot_left c.args.slot c.args.at.second run.keeper.cabin) = ap falls_of c.leave.ensures.kept in
-    let less = left-falls c.args.slot c.args.at.second run.keeper.cabin in
-    let b = t.breaks in
-    let between : Run = c.settle.new.run in
-    let new : Run = c.close.new.run in
-    let e = c.close.ensures in
-    let n = e.closed in
-    let cabin = closed_cabin n.0 A second between.keeper.cabin in
-    let is : new ≡ with_cabin cabin between = n.1.run in
-    let known : new.keeper.cabin.cards.b ≡ between.keeper.cabin.cards.b = ap (λ (r : Run). r.keeper.cabin.cards.b) is ∙ closed-b n.0 second between.keeper.cabin in
-    let next : new.next ≡ between.next = ap (λ (r : Run). r.next) is in
-    let falls = closed-falls A second between.keeper.cabin n.0 c.args.slot c.args.at n.1.is in
-    let same : falls_of new.keeper.cabin ≡ falls_of cabin = ap (λ (r : Run). falls_of r.keeper.cabin) is in
-    let waits : waiting_of new ≡ waiting_of between = ap waiting_of is in
-    let told = c.settle.new.outcome.breaks in
-    let length_is : length c.close.new.breaks.items ≡ length told.items + length (closed_breaks n.0 c.args.slot c.args.at) = ap (λ (l : Listed Break). length l.items) n.1.told ∙ lines-length (closed_breaks n.0 c.args.slot c.args.at) told in
-    let m = t.marks in
-    record {
-      rooms = (t.rooms.0, ap (λ (l : Listed Break). l.room) n.1.told ∙ t.rooms.1, t.rooms.2, t.rooms.3);
-      marks = omega (arith, m, waits);
-      breaks = omega (arith, b, left_is, less, falls, same, length_is);
-      finds = t.finds;
-      refused = t.refused;
-    }
+returns-in-A-clause-takes g c = takes g (kept-a g c) (side-a g c) c.close.ensures
+
+pub returns-in-A-clause-more : goal.returns-in-A-clause-more
+returns-in-A-clause-more g c = more g (kept-a g c) (side-a g c) c.close.ensures
 
 pub returns-in-A-clause-cause : goal.returns-in-A-clause-cause
 returns-in-A-clause-cause g c = cause_after c.in_ok-settle.ensures.cause c.close.ensures.cause
 
--- ---- card b
+pub returns-in-A-clause-booked : goal.returns-in-A-clause-booked
+returns-in-A-clause-booked g c = booked g (kept-a g c) (side-a g c) c.close.ensures
 
-pub close-requires-in-B-clause-ready : goal.close-requires-in-B-clause-ready
-close-requires-in-B-clause-ready g c =
-    let run = c.args.run.now in
-    let second : ℕ = c.args.at.second in
-    let there : card_in (seat_in run.keeper.cabin.slots.seats c.args.slot) ≡ Some B = cc in
-    let left = subst (λ (b : Cabin). IsGoingOn (Some B) (run.next / 60) (with_cabin b run) (g.M.Medium.state c.args.unit.now) (g.C.Chip.card c.args.card_a.now) (g.D.Chip.card c.args.card_b.now) (g.C.Chip.state c.args.card_a.now) (g.D.Chip.state c.args.card_b.now)) (sym c.leave.ensures.kept)
-    (left-going c.args.slot B second run (run.next / 60) c.requires.going (λ from h. subst (λ (b : Cabin). Stands from (Some B) b) c.leave.ensures.kept (c.leave.ensures.stands from B there h))) in
-    let going = c.in_ok-settle.ensures.going (Some B) left in
-    going.ready.unit_ready
+pub returns-in-A-clause-events : goal.returns-in-A-clause-events
+returns-in-A-clause-events g c = events g (kept-a g c) (side-a g c) c.close.ensures
 
-pub close-requires-in-B-clause-card : goal.close-requires-in-B-clause-card
-close-requires-in-B-clause-card g c =
-    let run = c.args.run.now in
-    let second : ℕ = c.args.at.second in
-    let there : card_in (seat_in run.keeper.cabin.slots.seats c.args.slot) ≡ Some B = cc in
-    let left = subst (λ (b : Cabin). IsGoingOn (Some B) (run.next / 60) (with_cabin b run) (g.M.Medium.state c.args.unit.now) (g.C.Chip.card c.args.card_a.now) (g.D.Chip.card c.args.card_b.now) (g.C.Chip.state c.args.card_a.now) (g.D.Chip.state c.args.card_b.now)) (sym c.leave.ensures.kept)
-    (left-going c.args.slot B second run (run.next / 60) c.requires.going (λ from h. subst (λ (b : Cabin). Stands from (Some B) b) c.leave.ensures.kept (c.leave.ensures.stands from B there h))) in
-    let going = c.in_ok-settle.ensures.going (Some B) left in
-    going.ready.card_b
+pub returns-in-A-clause-rings : goal.returns-in-A-clause-rings
+returns-in-A-clause-rings g c = rings_ g (kept-a g c) (side-a g c) c.close.ensures
 
-pub close-requires-in-B-clause-entry : goal.close-requires-in-B-clause-entry
-close-requires-in-B-clause-entry g c =
-    let run = c.args.run.now in
-    let second : ℕ = c.args.at.second in
-    let there : card_in (seat_in run.keeper.cabin.slots.seats c.args.slot) ≡ Some B = cc in
-    let left = subst (λ (b : Cabin). IsGoingOn (Some B) (run.next / 60) (with_cabin b run) (g.M.Medium.state c.args.unit.now) (g.C.Chip.card c.args.card_a.now) (g.D.Chip.card c.args.card_b.now) (g.C.Chip.state c.args.card_a.now) (g.D.Chip.state c.args.card_b.now)) (sym c.leave.ensures.kept)
-    (left-going c.args.slot B second run (run.next / 60) c.requires.going (λ from h. subst (λ (b : Cabin). Stands from (Some B) b) c.leave.ensures.kept (c.leave.ensures.stands from B there h))) in
-    let going = c.in_ok-settle.ensures.going (Some B) left in
-    going.entries B
+pub returns-in-A-clause-shut : goal.returns-in-A-clause-shut
+returns-in-A-clause-shut g c = shut g (kept-a g c) (side-a g c) c.close.ensures
 
-pub close-requires-in-B-clause-room : goal.close-requires-in-B-clause-room
-close-requires-in-B-clause-room g c =
-    let run = c.args.run.now in
-    let t = c.settle.ensures.takes in
-    let left_is : falls_of c.leave.new.self ≡ falls_of (with_slot_left c.args.slot c.args.at.second run.keeper.cabin) = ap falls_of c.leave.ensures.kept in
-    let less = left-falls c.args.slot c.args.at.second run.keeper.cabin in
-    let b = t.breaks in
-    let room = c.requires.breaks in
-    let same = t.rooms.1 in
-    let tears = tears-without B c.settle.new.run.keeper.cabin.cards in
-    omega (arith, b, left_is, less, room, same, tears)
+pub returns-in-A-clause-later : goal.returns-in-A-clause-later
+returns-in-A-clause-later g c = later g (kept-a g c) (side-a g c) c.close.ensures
+
+pub returns-in-A-clause-calm : goal.returns-in-A-clause-calm
+returns-in-A-clause-calm g c = calm g (kept-a g c) (side-a g c) c.close.ensures
+
+pub returns-in-A-clause-recorded : goal.returns-in-A-clause-recorded
+returns-in-A-clause-recorded g c = λ late speed o done s now front rest are n allowed w time. recorded g (kept-a g c) (side-a g c) c.close.ensures late speed o done s now front rest are n allowed w time
+
+pub returns-in-A-clause-evented : goal.returns-in-A-clause-evented
+returns-in-A-clause-evented g c = λ late speed o done s now front rest are n allowed w events time. evented g (kept-a g c) (side-a g c) c.close.ensures late speed o done s now front rest are n allowed w time events
+
+pub returns-in-A-clause-ringed : goal.returns-in-A-clause-ringed
+returns-in-A-clause-ringed g c = λ late speed o done s now front rest are n allowed w spans t rings time. ringed g (kept-a g c) (side-a g c) c.close.ensures late speed o done s now front rest are n allowed w time spans t rings
+
+pub returns-in-A-clause-cards : goal.returns-in-A-clause-cards
+returns-in-A-clause-cards g c = λ late speed o done s now front rest are n allowed vehicle w cards time. cards_ g (kept-a g c) (side-a g c) c.close.ensures late speed o done s now front rest are n allowed w time cards
 
 pub returns-in-B-clause-withdrawn : goal.returns-in-B-clause-withdrawn
-returns-in-B-clause-withdrawn g c =
-    let run = c.args.run.now in
-    let there : card_in (seat_in run.keeper.cabin.slots.seats c.args.slot) ≡ Some B = cc in
-    let n = c.close-in-B.ensures.closed in
-    let settled_first : IsSettled c.args.at false (left_run c.args.slot c.args.at.second run) c.settle.new.run c.args.outcome.now c.settle.new.outcome =
-    subst (λ (b : Cabin). IsSettled c.args.at false (with_cabin b run) c.settle.new.run c.args.outcome.now c.settle.new.outcome) c.leave.ensures.kept c.in_ok-settle.ensures.settled in
-    subst (λ (o : Option Card). IsWithdrawn o c.args.slot c.args.at (is_err c.close-in-B.result) run c.close-in-B.new.run c.args.outcome.now (record c.settle.new.outcome { breaks = c.close-in-B.new.breaks })) (sym there)
-    (inr (record { between = c.settle.new.run; told = c.settle.new.outcome; settled_first = settled_first; closing = n.0; closed = n.1; outcome = refl }))
+returns-in-B-clause-withdrawn g c = withdrawn g (kept-b g c) (side-b g c) c.close-in-B.ensures
+
+pub returns-in-B-clause-only : goal.returns-in-B-clause-only
+returns-in-B-clause-only g c = only g (kept-b g c) (side-b g c) c.close-in-B.ensures
+
+pub returns-in-B-clause-rest : goal.returns-in-B-clause-rest
+returns-in-B-clause-rest g c = rest_ g (kept-b g c) (side-b g c) c.close-in-B.ensures
 
 pub returns-in-B-clause-held : goal.returns-in-B-clause-held
 returns-in-B-clause-held g c =
     let run = c.args.run.now in
     let second : ℕ = c.args.at.second in
-    let there : card_in (seat_in run.keeper.cabin.slots.seats c.args.slot) ≡ Some B = cc in
-    let left = subst (λ (b : Cabin). IsGoingOn (Some B) (run.next / 60) (with_cabin b run) (g.M.Medium.state c.args.unit.now) (g.C.Chip.card c.args.card_a.now) (g.D.Chip.card c.args.card_b.now) (g.C.Chip.state c.args.card_a.now) (g.D.Chip.state c.args.card_b.now)) (sym c.leave.ensures.kept)
-    (left-going c.args.slot B second run (run.next / 60) c.requires.going (λ from h. subst (λ (b : Cabin). Stands from (Some B) b) c.leave.ensures.kept (c.leave.ensures.stands from B there h))) in
-    let going = c.in_ok-settle.ensures.going (Some B) left in
+    let going = going-with g (kept-b g c) B c.in-B.is in
     let between : Run = c.settle.new.run in
     let new : Run = c.close-in-B.new.run in
     let e = c.close-in-B.ensures in
@@ -317,10 +806,7 @@ pub returns-in-B-clause-going : goal.returns-in-B-clause-going
 returns-in-B-clause-going g c =
     let run = c.args.run.now in
     let second : ℕ = c.args.at.second in
-    let there : card_in (seat_in run.keeper.cabin.slots.seats c.args.slot) ≡ Some B = cc in
-    let left = subst (λ (b : Cabin). IsGoingOn (Some B) (run.next / 60) (with_cabin b run) (g.M.Medium.state c.args.unit.now) (g.C.Chip.card c.args.card_a.now) (g.D.Chip.card c.args.card_b.now) (g.C.Chip.state c.args.card_a.now) (g.D.Chip.state c.args.card_b.now)) (sym c.leave.ensures.kept)
-    (left-going c.args.slot B second run (run.next / 60) c.requires.going (λ from h. subst (λ (b : Cabin). Stands from (Some B) b) c.leave.ensures.kept (c.leave.ensures.stands from B there h))) in
-    let going = c.in_ok-settle.ensures.going (Some B) left in
+    let going = going-with g (kept-b g c) B c.in-B.is in
     let between : Run = c.settle.new.run in
     let new : Run = c.close-in-B.new.run in
     let e = c.close-in-B.ensures in
@@ -335,866 +821,40 @@ returns-in-B-clause-going g c =
     (closed-past B second between.keeper.cabin n.0) (e.stands (ungiven_of going.span) going.cabin) (closed-sessions B second between.keeper.cabin n.0)))
 
 pub returns-in-B-clause-takes : goal.returns-in-B-clause-takes
-returns-in-B-clause-takes g c =
-    let run = c.args.run.now in
-    let second : ℕ = c.args.at.second in
-    let t = c.settle.ensures.takes in
-    let left_is : falls_of c.leave.new.self ≡ falls_of (with_slot_left c.args.slot c.args.at.second run.keeper.cabin) = ap falls_of c.leave.ensures.kept in
-    let less = left-falls c.args.slot c.args.at.second run.keeper.cabin in
-    let b = t.breaks in
-    let between : Run = c.settle.new.run in
-    let new : Run = c.close-in-B.new.run in
-    let e = c.close-in-B.ensures in
-    let n = e.closed in
-    let cabin = closed_cabin n.0 B second between.keeper.cabin in
-    let is : new ≡ with_cabin cabin between = n.1.run in
-    let known : new.keeper.cabin.cards.a ≡ between.keeper.cabin.cards.a = ap (λ (r : Run). r.keeper.cabin.cards.a) is ∙ closed-a n.0 second between.keeper.cabin in
-    let next : new.next ≡ between.next = ap (λ (r : Run). r.next) is in
-    let falls = closed-falls B second between.keeper.cabin n.0 c.args.slot c.args.at n.1.is in
-    let same : falls_of new.keeper.cabin ≡ falls_of cabin = ap (λ (r : Run). falls_of r.keeper.cabin) is in
-    let waits : waiting_of new ≡ waiting_of between = ap waiting_of is in
-    let told = c.settle.new.outcome.breaks in
-    let length_is : length c.close-in-B.new.breaks.items ≡ length told.items + length (closed_breaks n.0 c.args.slot c.args.at) = ap (λ (l : Listed Break). length l.items) n.1.told ∙ lines-length (closed_breaks n.0 c.args.slot c.args.at) told in
-    let m = t.marks in
-    record {
-      rooms = (t.rooms.0, ap (λ (l : Listed Break). l.room) n.1.told ∙ t.rooms.1, t.rooms.2, t.rooms.3);
-      marks = omega (arith, m, waits);
-      breaks = omega (arith, b, left_is, less, falls, same, length_is);
-      finds = t.finds;
-      refused = t.refused;
-    }
+returns-in-B-clause-takes g c = takes g (kept-b g c) (side-b g c) c.close-in-B.ensures
+
+pub returns-in-B-clause-more : goal.returns-in-B-clause-more
+returns-in-B-clause-more g c = more g (kept-b g c) (side-b g c) c.close-in-B.ensures
 
 pub returns-in-B-clause-cause : goal.returns-in-B-clause-cause
 returns-in-B-clause-cause g c = cause_after c.in_ok-settle.ensures.cause c.close-in-B.ensures.cause
 
-pub returns-in-A-clause-only : goal.returns-in-A-clause-only
-returns-in-A-clause-only g c =
-    let n = c.close.ensures.closed in
-    cabin-only c.args.run.now c.settle.new.run c.close.new.run (closed_cabin n.0 A c.args.at.second c.settle.new.run.keeper.cabin) c.settle.ensures.settled.only n.1.run
-
-pub returns-in-A-clause-rest : goal.returns-in-A-clause-rest
-returns-in-A-clause-rest g c = ap (λ (o : Outcome). record o { breaks = c.close.new.breaks }) c.settle.ensures.settled.outcome
-
-pub returns-in-B-clause-only : goal.returns-in-B-clause-only
-returns-in-B-clause-only g c =
-    let n = c.close-in-B.ensures.closed in
-    cabin-only c.args.run.now c.settle.new.run c.close-in-B.new.run (closed_cabin n.0 B c.args.at.second c.settle.new.run.keeper.cabin) c.settle.ensures.settled.only n.1.run
-
-pub returns-in-B-clause-rest : goal.returns-in-B-clause-rest
-returns-in-B-clause-rest g c = ap (λ (o : Outcome). record o { breaks = c.close-in-B.new.breaks }) c.settle.ensures.settled.outcome
-
-pub returns-in-A-clause-more : goal.returns-in-A-clause-more
-returns-in-A-clause-more g c =
-    let n = c.close.ensures.closed in
-    let more = c.settle.ensures.more in
-    let told = c.settle.new.outcome.breaks in
-    let length_is : length c.close.new.breaks.items ≡ length told.items + length (closed_breaks n.0 c.args.slot c.args.at) = ap (λ (l : Listed Break). length l.items) n.1.told ∙ lines-length (closed_breaks n.0 c.args.slot c.args.at) told in
-    omega (arith, more, length_is)
-
-pub returns-in-B-clause-more : goal.returns-in-B-clause-more
-returns-in-B-clause-more g c =
-    let n = c.close-in-B.ensures.closed in
-    let more = c.settle.ensures.more in
-    let told = c.settle.new.outcome.breaks in
-    let length_is : length c.close-in-B.new.breaks.items ≡ length told.items + length (closed_breaks n.0 c.args.slot c.args.at) = ap (λ (l : Listed Break). length l.items) n.1.told ∙ lines-length (closed_breaks n.0 c.args.slot c.args.at) told in
-    omega (arith, more, length_is)
-
--- ---- of devices that tell their images
-
-abbrev Booked : (slot : Slot) (at : Moment) (card : Card) (failed : Bool) (run new : Run) (before after : Outcome) (d e : Devices) (left : Cabin) → Type 0
-Booked slot at card failed run new before after d e left = (decided : List Minute) × (reach : Reach) × (closing : Option Closing) × (between : Told)
-    × ((span : Span) → StandsFor run.minutes span → decided_in (settled span) ≡ decided_in span ++ decided)
-    × IsReach decided at (not (is_some closing)) (told_of (with_cabin left run) before) between reach
-    × BooksWithdrawn card decided failed reach closing (told_of (with_cabin left run) before) (told_of new after) d e
-
-pub returns-in_err-settle-clause-booked : goal.returns-in_err-settle-clause-booked
-returns-in_err-settle-clause-booked g c = λ card there.
-    let run = c.args.run.now in
-    let D = devices (g.M.Medium.state c.args.unit.now) (g.C.Chip.state c.args.card_a.now) (g.D.Chip.state c.args.card_b.now) in
-    let E = devices (g.M.Medium.state c.settle.new.unit) (g.C.Chip.state c.settle.new.card_a) (g.D.Chip.state c.settle.new.card_b) in
-    let failed : true ≡ is_err c.from_residual.result = search rules in
-    let b = c.in_err-settle.ensures.booked in
-    subst (λ (q : Bool). Booked c.args.slot c.args.at card q run c.settle.new.run c.args.outcome.now c.settle.new.outcome D E (with_slot_left c.args.slot c.args.at.second run.keeper.cabin)) failed
-    (subst (λ (left : Cabin). Booked c.args.slot c.args.at card true run c.settle.new.run c.args.outcome.now c.settle.new.outcome D E left) c.leave.ensures.kept (
-      b.0,
-      b.1,
-      None,
-      told_of c.settle.new.run c.settle.new.outcome,
-      b.2,
-      b.3,
-      withdrawn-cut card b.0 c.args.at (told_of (with_cabin c.leave.new.self run) c.args.outcome.now) (told_of c.settle.new.run c.settle.new.outcome) D E b.1 b.3 b.4,
-    ))
-
-pub returns-in-A-clause-booked : goal.returns-in-A-clause-booked
-returns-in-A-clause-booked g c = λ card there.
-    let run = c.args.run.now in
-    let seat : card_in (seat_in run.keeper.cabin.slots.seats c.args.slot) ≡ Some A = cc in
-    let is : A ≡ card = cc in
-    let U1 = g.M.Medium.state c.settle.new.unit in
-    let V = g.M.Medium.state c.close.new.unit in
-    let D = devices (g.M.Medium.state c.args.unit.now) (g.C.Chip.state c.args.card_a.now) (g.D.Chip.state c.args.card_b.now) in
-    let E = devices V (g.C.Chip.state c.close.new.card) (g.D.Chip.state c.settle.new.card_b) in
-    let n = c.close.ensures.closed in
-    let b = c.in_ok-settle.ensures.booked in
-    let t = told_of (with_cabin c.leave.new.self run) c.args.outcome.now in
-    let v = told_of c.settle.new.run c.settle.new.outcome in
-    let after : Outcome = record c.settle.new.outcome { breaks = c.close.new.breaks } in
-    subst (λ (k : Card). Booked c.args.slot c.args.at k (is_err c.close.result) run c.close.new.run c.args.outcome.now after D E (with_slot_left c.args.slot c.args.at.second run.keeper.cabin)) is
-    (subst (λ (left : Cabin). Booked c.args.slot c.args.at A (is_err c.close.result) run c.close.new.run c.args.outcome.now after D E left) c.leave.ensures.kept (
-      b.0,
-      b.1,
-      Some n.0,
-      v,
-      b.2,
-      b.3,
-      withdrawn-closed g.C.Chip.state A c.args.at.second U1 V (g.D.Chip.state c.settle.new.card_b) c.settle.new.card_a c.close.new.card (g.met.M.Medium.coherent c.settle.new.unit) (g.met.C.Chip.coherent c.settle.new.card_a) c.settle.ensures.held.card_a.size
-          c.close.ensures.journal (is_err c.close.result) c.close.ensures.cause.works n.0 b.0 c.args.at t v (told_of c.close.new.run after) D c.close.ensures.left c.close.ensures.bare n.1.is (ap (λ (r : Run). r.keeper.cabin.cards) n.1.run) refl b.1 b.3 b.4,
-    ))
-
 pub returns-in-B-clause-booked : goal.returns-in-B-clause-booked
-returns-in-B-clause-booked g c = λ card there.
-    let run = c.args.run.now in
-    let seat : card_in (seat_in run.keeper.cabin.slots.seats c.args.slot) ≡ Some B = cc in
-    let is : B ≡ card = cc in
-    let U1 = g.M.Medium.state c.settle.new.unit in
-    let V = g.M.Medium.state c.close-in-B.new.unit in
-    let D = devices (g.M.Medium.state c.args.unit.now) (g.C.Chip.state c.args.card_a.now) (g.D.Chip.state c.args.card_b.now) in
-    let E = devices V (g.C.Chip.state c.settle.new.card_a) (g.D.Chip.state c.close-in-B.new.card) in
-    let n = c.close-in-B.ensures.closed in
-    let b = c.in_ok-settle.ensures.booked in
-    let t = told_of (with_cabin c.leave.new.self run) c.args.outcome.now in
-    let v = told_of c.settle.new.run c.settle.new.outcome in
-    let after : Outcome = record c.settle.new.outcome { breaks = c.close-in-B.new.breaks } in
-    subst (λ (k : Card). Booked c.args.slot c.args.at k (is_err c.close-in-B.result) run c.close-in-B.new.run c.args.outcome.now after D E (with_slot_left c.args.slot c.args.at.second run.keeper.cabin)) is
-    (subst (λ (left : Cabin). Booked c.args.slot c.args.at B (is_err c.close-in-B.result) run c.close-in-B.new.run c.args.outcome.now after D E left) c.leave.ensures.kept (
-      b.0,
-      b.1,
-      Some n.0,
-      v,
-      b.2,
-      b.3,
-      withdrawn-closed g.D.Chip.state B c.args.at.second U1 V (g.C.Chip.state c.settle.new.card_a) c.settle.new.card_b c.close-in-B.new.card (g.met.M.Medium.coherent c.settle.new.unit) (g.met.D.Chip.coherent c.settle.new.card_b) c.settle.ensures.held.card_b.size
-          c.close-in-B.ensures.journal (is_err c.close-in-B.result) c.close-in-B.ensures.cause.works n.0 b.0 c.args.at t v (told_of c.close-in-B.new.run after) D c.close-in-B.ensures.left c.close-in-B.ensures.bare n.1.is (ap (λ (r : Run). r.keeper.cabin.cards) n.1.run) refl b.1 b.3 b.4,
-    ))
-
--- ---- what is recorded
-
-none-there : (o : Option Card) → ((card : Card) → o ≡ Some card → ⊥) → o ≡ None
-none-there None never = refl
-none-there (Some card) never = absurd (never card refl)
-
-pub returns-in_default-clause-recorded : goal.returns-in_default-clause-recorded
-returns-in_default-clause-recorded g c = λ late speed o done s now front rest are n allowed w time.
-    let seats = c.args.run.now.keeper.cabin.slots.seats in
-    let none : card_in (seat_in seats c.args.slot) ≡ None = sym c.card.ensures ∙ none-there c.card.result c.in_default.not-Some in
-    absurd (withdraws-one seats c.args.slot speed allowed none)
-
-here-settled : (decided : List Minute) (failed : Bool) (slot : Slot) (at here : Moment) (run between : Run) (before told : Outcome) (left : Cabin) (d e : Devices) → left ≡ with_slot_left slot at.second run.keeper.cabin → at ≡ here →
-    RecordsSettling decided at failed (with_cabin left run) between before told d e → RecordsSettling decided here failed (left_run slot here.second run) between before told d e
-here-settled decided failed slot at here run between before told left d e is moment records =
-    subst (λ (m : Moment). RecordsSettling decided m failed (left_run slot m.second run) between before told d e) moment
-    (subst (λ (b : Cabin). RecordsSettling decided at failed (with_cabin b run) between before told d e) is records)
-
-pub returns-in_err-settle-clause-recorded : goal.returns-in_err-settle-clause-recorded
-returns-in_err-settle-clause-recorded g c = λ late speed o done s now front rest are n allowed w time.
-    let run = c.args.run.now in
-    let there : card_in (seat_in run.keeper.cabin.slots.seats c.args.slot) ≡ Some c.in-Some.card = cc in
-    let D = devices (g.M.Medium.state c.args.unit.now) (g.C.Chip.state c.args.card_a.now) (g.D.Chip.state c.args.card_b.now) in
-    let E = devices (g.M.Medium.state c.settle.new.unit) (g.C.Chip.state c.settle.new.card_a) (g.D.Chip.state c.settle.new.card_b) in
-    let failed : true ≡ is_err c.from_residual.result = search rules in
-    let moment = moment-is c.args.at s.number (suc (length front)) (c.requires.at ∙ sym now.number) n late in
-    let r = c.in_err-settle.ensures.recorded in
-    subst (λ (q : Bool). GoesOnOrFails q o done s (In c.args.at.begun) [] c.settle.new.run c.settle.new.outcome E w.within.b) failed
-    (subst (λ (q : ℕ). RunFails o done s (In q) c.settle.new.run c.settle.new.outcome E) (sym n)
-    (settling-cut o done s front rest c.args.slot are speed now.speed_is c.in-Some.card run c.settle.new.run c.args.outcome.now c.settle.new.outcome D w there allowed (ungiven_of c.requires.going.span) c.requires.going.cabin (c.in_err-settle.ensures.settled.minutes w.within.sp w.within.minutes) r.0 (r.1 w.within.sp w.within.minutes) E
-    (here-settled r.0 true c.args.slot c.args.at (acting_at s.number (suc (length front))) run c.settle.new.run c.args.outcome.now c.settle.new.outcome c.leave.new.self D E c.leave.ensures.kept moment r.2) time))
-
-pub returns-in-A-clause-recorded : goal.returns-in-A-clause-recorded
-returns-in-A-clause-recorded g c = λ late speed o done s now front rest are n allowed w time.
-    let run = c.args.run.now in
-    let second : ℕ = c.args.at.second in
-    let there : card_in (seat_in run.keeper.cabin.slots.seats c.args.slot) ≡ Some A = cc in
-    let D = devices (g.M.Medium.state c.args.unit.now) (g.C.Chip.state c.args.card_a.now) (g.D.Chip.state c.args.card_b.now) in
-    let between : Run = c.settle.new.run in
-    let told : Outcome = c.settle.new.outcome in
-    let U1 = g.M.Medium.state c.settle.new.unit in
-    let V = g.M.Medium.state c.close.new.unit in
-    let X = g.C.Chip.state c.settle.new.card_a in
-    let Y = g.C.Chip.state c.close.new.card in
-    let Z = g.D.Chip.state c.settle.new.card_b in
-    let left_ = subst (λ (b : Cabin). IsGoingOn (Some A) (run.next / 60) (with_cabin b run) (g.M.Medium.state c.args.unit.now) (g.C.Chip.card c.args.card_a.now) (g.D.Chip.card c.args.card_b.now) (g.C.Chip.state c.args.card_a.now) (g.D.Chip.state c.args.card_b.now)) (sym c.leave.ensures.kept)
-    (left-going c.args.slot A second run (run.next / 60) c.requires.going (λ from h. subst (λ (b : Cabin). Stands from (Some A) b) c.leave.ensures.kept (c.leave.ensures.stands from A there h))) in
-    let going = c.in_ok-settle.ensures.going (Some A) left_ in
-    let moment = moment-is c.args.at s.number (suc (length front)) (c.requires.at ∙ sym now.number) n late in
-    let r = c.in_ok-settle.ensures.recorded in
-    let e = c.close.ensures in
-    let k = e.closed in
-    let rings = e.rings (c.settle.ensures.tells ∙ w.within.there.unit) in
-    let unit_later = e.journal.later in
-    subst (λ (q : ℕ). GoesOnOrFails (is_err c.close.result) o done s (In q) [] c.close.new.run (record told { breaks = c.close.new.breaks }) (devices V Y Z) w.within.b) (sym n)
-    (closing-recorded o done s front rest c.args.slot are speed now.speed_is A run between c.args.outcome.now told D w there allowed (ungiven_of c.requires.going.span) c.requires.going.cabin (c.in_ok-settle.ensures.settled.minutes w.within.sp w.within.minutes) r.0 (r.1 w.within.sp w.within.minutes)
-    g.C.Chip.state U1 V Z c.settle.new.card_a c.close.new.card (g.met.M.Medium.coherent c.settle.new.unit) (g.met.C.Chip.coherent c.settle.new.card_a) c.settle.ensures.held.card_a.size e.left e.bare e.journal (is_err c.close.result) e.cause going.span going.stands going.next
-    (here-settled r.0 false c.args.slot c.args.at (acting_at s.number (suc (length front))) run between c.args.outcome.now told c.leave.new.self D (devices U1 X Z) c.leave.ensures.kept moment r.2)
-    (time-before A U1 V X Y Z unit_later e.clock_card time) c.args.at c.in_ok-settle.ensures.settled.decided (told_of (with_cabin c.leave.new.self run) c.args.outcome.now) c.in_ok-settle.ensures.settled.kept (ap (λ (b : Cabin). session_of b.cards A) c.leave.ensures.kept)
-    (λ fine. closes-more rings.closing (session_of between.keeper.cabin.cards A) c.args.at (is_err c.close.result) between U1 V (g.met.M.Medium.coherent c.close.new.unit) e.unit going.span going.stands rings.rings fine)
-    c.close.new.run c.close.new.breaks k.0 k.3 (subst (λ (m : Moment). IsClosed A c.args.slot m between c.close.new.run told.breaks c.close.new.breaks k.0) moment k.1) e.calm k.2)
-
-pub returns-in-B-clause-recorded : goal.returns-in-B-clause-recorded
-returns-in-B-clause-recorded g c = λ late speed o done s now front rest are n allowed w time.
-    let run = c.args.run.now in
-    let second : ℕ = c.args.at.second in
-    let there : card_in (seat_in run.keeper.cabin.slots.seats c.args.slot) ≡ Some B = cc in
-    let D = devices (g.M.Medium.state c.args.unit.now) (g.C.Chip.state c.args.card_a.now) (g.D.Chip.state c.args.card_b.now) in
-    let between : Run = c.settle.new.run in
-    let told : Outcome = c.settle.new.outcome in
-    let U1 = g.M.Medium.state c.settle.new.unit in
-    let V = g.M.Medium.state c.close-in-B.new.unit in
-    let X = g.D.Chip.state c.settle.new.card_b in
-    let Y = g.D.Chip.state c.close-in-B.new.card in
-    let Z = g.C.Chip.state c.settle.new.card_a in
-    let left_ = subst (λ (b : Cabin). IsGoingOn (Some B) (run.next / 60) (with_cabin b run) (g.M.Medium.state c.args.unit.now) (g.C.Chip.card c.args.card_a.now) (g.D.Chip.card c.args.card_b.now) (g.C.Chip.state c.args.card_a.now) (g.D.Chip.state c.args.card_b.now)) (sym c.leave.ensures.kept)
-    (left-going c.args.slot B second run (run.next / 60) c.requires.going (λ from h. subst (λ (b : Cabin). Stands from (Some B) b) c.leave.ensures.kept (c.leave.ensures.stands from B there h))) in
-    let going = c.in_ok-settle.ensures.going (Some B) left_ in
-    let moment = moment-is c.args.at s.number (suc (length front)) (c.requires.at ∙ sym now.number) n late in
-    let r = c.in_ok-settle.ensures.recorded in
-    let e = c.close-in-B.ensures in
-    let k = e.closed in
-    let rings = e.rings (c.settle.ensures.tells ∙ w.within.there.unit) in
-    let unit_later = e.journal.later in
-    subst (λ (q : ℕ). GoesOnOrFails (is_err c.close-in-B.result) o done s (In q) [] c.close-in-B.new.run (record told { breaks = c.close-in-B.new.breaks }) (devices V Z Y) w.within.b) (sym n)
-    (closing-recorded o done s front rest c.args.slot are speed now.speed_is B run between c.args.outcome.now told D w there allowed (ungiven_of c.requires.going.span) c.requires.going.cabin (c.in_ok-settle.ensures.settled.minutes w.within.sp w.within.minutes) r.0 (r.1 w.within.sp w.within.minutes)
-    g.D.Chip.state U1 V Z c.settle.new.card_b c.close-in-B.new.card (g.met.M.Medium.coherent c.settle.new.unit) (g.met.D.Chip.coherent c.settle.new.card_b) c.settle.ensures.held.card_b.size e.left e.bare e.journal (is_err c.close-in-B.result) e.cause going.span going.stands going.next
-    (here-settled r.0 false c.args.slot c.args.at (acting_at s.number (suc (length front))) run between c.args.outcome.now told c.leave.new.self D (devices U1 Z X) c.leave.ensures.kept moment r.2)
-    (time-before B U1 V X Y Z unit_later e.clock_card time) c.args.at c.in_ok-settle.ensures.settled.decided (told_of (with_cabin c.leave.new.self run) c.args.outcome.now) c.in_ok-settle.ensures.settled.kept (ap (λ (b : Cabin). session_of b.cards B) c.leave.ensures.kept)
-    (λ fine. closes-more rings.closing (session_of between.keeper.cabin.cards B) c.args.at (is_err c.close-in-B.result) between U1 V (g.met.M.Medium.coherent c.close-in-B.new.unit) e.unit going.span going.stands rings.rings fine)
-    c.close-in-B.new.run c.close-in-B.new.breaks k.0 k.3 (subst (λ (m : Moment). IsClosed B c.args.slot m between c.close-in-B.new.run told.breaks c.close-in-B.new.breaks k.0) moment k.1) e.calm k.2)
-
--- ---- what is noted on the unit
-
-pub returns-in_default-clause-events : goal.returns-in_default-clause-events
-returns-in_default-clause-events g c =
-    let run = c.args.run.now in
-    let d = devices (g.M.Medium.state c.args.unit.now) (g.C.Chip.state c.args.card_a.now) (g.D.Chip.state c.args.card_b.now) in
-    let none : card_in (seat_in run.keeper.cabin.slots.seats c.args.slot) ≡ None = sym c.card.ensures ∙ none-there c.card.result c.in_default.not-Some in
-    subst (λ (q : Option Card). NotesWithdrawing q c.args.slot c.args.at false run run c.args.outcome.now c.args.outcome.now d d) (sym none)
-    (refl, refl, refl, same-noted (g.M.Medium.state c.args.unit.now) (g.C.Chip.state c.args.card_a.now) (g.D.Chip.state c.args.card_b.now))
-
-pub returns-in_err-settle-clause-events : goal.returns-in_err-settle-clause-events
-returns-in_err-settle-clause-events g c =
-    let run = c.args.run.now in
-    let there : card_in (seat_in run.keeper.cabin.slots.seats c.args.slot) ≡ Some c.in-Some.card = cc in
-    let between : Run = c.settle.new.run in
-    let told : Outcome = c.settle.new.outcome in
-    let U = g.M.Medium.state c.args.unit.now in
-    let V = g.M.Medium.state c.settle.new.unit in
-    let A0 = g.C.Chip.state c.args.card_a.now in
-    let B0 = g.D.Chip.state c.args.card_b.now in
-    let A1 = g.C.Chip.state c.settle.new.card_a in
-    let B1 = g.D.Chip.state c.settle.new.card_b in
-    let failed : true ≡ is_err c.from_residual.result = search rules in
-    let settling = subst (λ (b : Cabin). NotesSettling c.args.at true (with_cabin b run) between c.args.outcome.now told U V) c.leave.ensures.kept c.in_err-settle.ensures.noted in
-    let these = settles-these c.args.at true (left_run c.args.slot c.args.at.second run) between c.args.outcome.now told U V A0 B0 A1 B1 (g.met.M.Medium.coherent c.args.unit.now) c.requires.held.is_unit settling in
-    subst (λ (b : Bool). NotesWithdrawing (card_in (seat_in run.keeper.cabin.slots.seats c.args.slot)) c.args.slot c.args.at b run between c.args.outcome.now told (devices U A0 B0) (devices V A1 B1)) failed
-    (withdrawal-cut (card_in (seat_in run.keeper.cabin.slots.seats c.args.slot)) c.in-Some.card there c.args.slot c.args.at run between c.args.outcome.now told (devices U A0 B0) (devices V A1 B1) these.0 these.1 these.2)
-
-pub returns-in-A-clause-events : goal.returns-in-A-clause-events
-returns-in-A-clause-events g c =
-    let run = c.args.run.now in
-    let there : card_in (seat_in run.keeper.cabin.slots.seats c.args.slot) ≡ Some A = cc in
-    let between : Run = c.settle.new.run in
-    let told : Outcome = c.settle.new.outcome in
-    let U = g.M.Medium.state c.args.unit.now in
-    let V = g.M.Medium.state c.settle.new.unit in
-    let W = g.M.Medium.state c.close.new.unit in
-    let A0 = g.C.Chip.state c.args.card_a.now in
-    let B0 = g.D.Chip.state c.args.card_b.now in
-    let A1 = g.C.Chip.state c.settle.new.card_a in
-    let B1 = g.D.Chip.state c.settle.new.card_b in
-    let X1 = g.C.Chip.state c.settle.new.card_a in
-    let Y = g.C.Chip.state c.close.new.card in
-    let settling = subst (λ (b : Cabin). NotesSettling c.args.at false (with_cabin b run) between c.args.outcome.now told U V) c.leave.ensures.kept c.in_ok-settle.ensures.noted in
-    let these = settles-these c.args.at false (left_run c.args.slot c.args.at.second run) between c.args.outcome.now told U V A0 B0 A1 B1 (g.met.M.Medium.coherent c.args.unit.now) c.requires.held.is_unit settling in
-    let closes = closing-any A c.args.slot c.args.at (is_err c.close.result) between c.close.new.run told.breaks c.close.new.breaks (devices V X1 X1) (devices W Y Y) (devices V A1 B1) (devices W Y B1) refl refl c.close.ensures.events in
-    withdrawal-noted (card_in (seat_in run.keeper.cabin.slots.seats c.args.slot)) A there c.args.slot c.args.at (is_err c.close.result) run between c.close.new.run c.args.outcome.now told c.close.new.breaks (devices U A0 B0) (devices V A1 B1) (devices W Y B1) these.0 these.1 these.2 closes
+returns-in-B-clause-booked g c = booked g (kept-b g c) (side-b g c) c.close-in-B.ensures
 
 pub returns-in-B-clause-events : goal.returns-in-B-clause-events
-returns-in-B-clause-events g c =
-    let run = c.args.run.now in
-    let there : card_in (seat_in run.keeper.cabin.slots.seats c.args.slot) ≡ Some B = cc in
-    let between : Run = c.settle.new.run in
-    let told : Outcome = c.settle.new.outcome in
-    let U = g.M.Medium.state c.args.unit.now in
-    let V = g.M.Medium.state c.settle.new.unit in
-    let W = g.M.Medium.state c.close-in-B.new.unit in
-    let A0 = g.C.Chip.state c.args.card_a.now in
-    let B0 = g.D.Chip.state c.args.card_b.now in
-    let A1 = g.C.Chip.state c.settle.new.card_a in
-    let B1 = g.D.Chip.state c.settle.new.card_b in
-    let X1 = g.D.Chip.state c.settle.new.card_b in
-    let Y = g.D.Chip.state c.close-in-B.new.card in
-    let settling = subst (λ (b : Cabin). NotesSettling c.args.at false (with_cabin b run) between c.args.outcome.now told U V) c.leave.ensures.kept c.in_ok-settle.ensures.noted in
-    let these = settles-these c.args.at false (left_run c.args.slot c.args.at.second run) between c.args.outcome.now told U V A0 B0 A1 B1 (g.met.M.Medium.coherent c.args.unit.now) c.requires.held.is_unit settling in
-    let closes = closing-any B c.args.slot c.args.at (is_err c.close-in-B.result) between c.close-in-B.new.run told.breaks c.close-in-B.new.breaks (devices V X1 X1) (devices W Y Y) (devices V A1 B1) (devices W A1 Y) refl refl c.close-in-B.ensures.events in
-    withdrawal-noted (card_in (seat_in run.keeper.cabin.slots.seats c.args.slot)) B there c.args.slot c.args.at (is_err c.close-in-B.result) run between c.close-in-B.new.run c.args.outcome.now told c.close-in-B.new.breaks (devices U A0 B0) (devices V A1 B1) (devices W A1 Y) these.0 these.1 these.2 closes
-
--- ---- the rings
-
-none-sits : (o : Option Card) → ((card : Card) → o ≡ Some card → ⊥) → o ≡ None
-none-sits None never = refl
-none-sits (Some card) never = absurd (never card refl)
-
-pub returns-in_default-clause-rings : goal.returns-in_default-clause-rings
-returns-in_default-clause-rings g c = λ tells.
-    let run = c.args.run.now in
-    let U = g.M.Medium.state c.args.unit.now in
-    let none : card_in (seat_in run.keeper.cabin.slots.seats c.args.slot) ≡ None = sym c.card.ensures ∙ none-sits c.card.result c.in_default.not-Some in
-    subst (λ (o : Option Card). WithdrawsSo o c.args.slot c.args.at false run run c.args.outcome.now c.args.outcome.now U U) (sym none) (rings-left U)
-
-pub returns-in_err-settle-clause-rings : goal.returns-in_err-settle-clause-rings
-returns-in_err-settle-clause-rings g c = λ tells.
-    let run = c.args.run.now in
-    let U = g.M.Medium.state c.args.unit.now in
-    let V = g.M.Medium.state c.settle.new.unit in
-    let there : card_in (seat_in run.keeper.cabin.slots.seats c.args.slot) ≡ Some c.in-Some.card = cc in
-    let failed : true ≡ is_err c.from_residual.result = search rules in
-    let e = c.in_err-settle.ensures in
-    let settled_first : IsSettled c.args.at true (left_run c.args.slot c.args.at.second run) c.settle.new.run c.args.outcome.now c.settle.new.outcome =
-    subst (λ (b : Cabin). IsSettled c.args.at true (with_cabin b run) c.settle.new.run c.args.outcome.now c.settle.new.outcome) c.leave.ensures.kept e.settled in
-    let leaves = settling-leaves c.args.at true (with_cabin c.leave.new.self run) c.settle.new.run c.args.outcome.now c.settle.new.outcome U V e.noted in
-    subst (λ (o : Option Card). WithdrawsSo o c.args.slot c.args.at (is_err c.from_residual.result) run c.settle.new.run c.args.outcome.now c.settle.new.outcome U V) (sym there)
-    (inl (sym failed, settled_first, leaves))
-
-pub returns-in-A-clause-rings : goal.returns-in-A-clause-rings
-returns-in-A-clause-rings g c = λ tells.
-    let run = c.args.run.now in
-    let U = g.M.Medium.state c.args.unit.now in
-    let V = g.M.Medium.state c.settle.new.unit in
-    let W = g.M.Medium.state c.close.new.unit in
-    let there : card_in (seat_in run.keeper.cabin.slots.seats c.args.slot) ≡ Some A = cc in
-    let e = c.in_ok-settle.ensures in
-    let n = c.close.ensures.rings (e.tells ∙ tells) in
-    let settled_first : IsSettled c.args.at false (left_run c.args.slot c.args.at.second run) c.settle.new.run c.args.outcome.now c.settle.new.outcome =
-    subst (λ (b : Cabin). IsSettled c.args.at false (with_cabin b run) c.settle.new.run c.args.outcome.now c.settle.new.outcome) c.leave.ensures.kept e.settled in
-    let leaves = settling-leaves c.args.at false (with_cabin c.leave.new.self run) c.settle.new.run c.args.outcome.now c.settle.new.outcome U V e.noted in
-    subst (λ (o : Option Card). WithdrawsSo o c.args.slot c.args.at (is_err c.close.result) run c.close.new.run c.args.outcome.now (record c.settle.new.outcome { breaks = c.close.new.breaks }) U W) (sym there)
-    (inr (record {
-      closed = record { between = c.settle.new.run; told = c.settle.new.outcome; settled_first = settled_first; closing = n.closing; closed = n.closed; outcome = refl };
-      rings = closes-behind n.closing (session_of c.settle.new.run.keeper.cabin.cards A) c.args.at (is_err c.close.result) c.settle.new.run U V W leaves n.rings;
-    }))
+returns-in-B-clause-events g c = events g (kept-b g c) (side-b g c) c.close-in-B.ensures
 
 pub returns-in-B-clause-rings : goal.returns-in-B-clause-rings
-returns-in-B-clause-rings g c = λ tells.
-    let run = c.args.run.now in
-    let U = g.M.Medium.state c.args.unit.now in
-    let V = g.M.Medium.state c.settle.new.unit in
-    let W = g.M.Medium.state c.close-in-B.new.unit in
-    let there : card_in (seat_in run.keeper.cabin.slots.seats c.args.slot) ≡ Some B = cc in
-    let e = c.in_ok-settle.ensures in
-    let n = c.close-in-B.ensures.rings (e.tells ∙ tells) in
-    let settled_first : IsSettled c.args.at false (left_run c.args.slot c.args.at.second run) c.settle.new.run c.args.outcome.now c.settle.new.outcome =
-    subst (λ (b : Cabin). IsSettled c.args.at false (with_cabin b run) c.settle.new.run c.args.outcome.now c.settle.new.outcome) c.leave.ensures.kept e.settled in
-    let leaves = settling-leaves c.args.at false (with_cabin c.leave.new.self run) c.settle.new.run c.args.outcome.now c.settle.new.outcome U V e.noted in
-    subst (λ (o : Option Card). WithdrawsSo o c.args.slot c.args.at (is_err c.close-in-B.result) run c.close-in-B.new.run c.args.outcome.now (record c.settle.new.outcome { breaks = c.close-in-B.new.breaks }) U W) (sym there)
-    (inr (record {
-      closed = record { between = c.settle.new.run; told = c.settle.new.outcome; settled_first = settled_first; closing = n.closing; closed = n.closed; outcome = refl };
-      rings = closes-behind n.closing (session_of c.settle.new.run.keeper.cabin.cards B) c.args.at (is_err c.close-in-B.result) c.settle.new.run U V W leaves n.rings;
-    }))
-
--- ---- what holds of the devices after any calls
-
-pub returns-in_default-clause-later : goal.returns-in_default-clause-later
-returns-in_default-clause-later g c = later-same (devices (g.M.Medium.state c.args.unit.now) (g.C.Chip.state c.args.card_a.now) (g.D.Chip.state c.args.card_b.now))
-
-pub returns-in_err-settle-clause-later : goal.returns-in_err-settle-clause-later
-returns-in_err-settle-clause-later g c = c.settle.ensures.later
-
-pub returns-in-A-clause-later : goal.returns-in-A-clause-later
-returns-in-A-clause-later g c = later-then (devices (g.M.Medium.state c.args.unit.now) (g.C.Chip.state c.args.card_a.now) (g.D.Chip.state c.args.card_b.now)) (devices (g.M.Medium.state c.settle.new.unit) (g.C.Chip.state c.settle.new.card_a) (g.D.Chip.state c.settle.new.card_b)) (devices (g.M.Medium.state c.close.new.unit) (g.C.Chip.state c.close.new.card) (g.D.Chip.state c.settle.new.card_b)) c.settle.ensures.later (later-of-a (g.M.Medium.state c.settle.new.unit) (g.M.Medium.state c.close.new.unit) (g.C.Chip.state c.settle.new.card_a) (g.C.Chip.state c.close.new.card) (g.D.Chip.state c.settle.new.card_b) (state-by (g.M.Medium.state c.settle.new.unit) (g.M.Medium.state c.close.new.unit) _ c.close.ensures.journal.later c.close.ensures.cause) c.close.ensures.later)
-
-pub returns-in-B-clause-later : goal.returns-in-B-clause-later
-returns-in-B-clause-later g c = later-then (devices (g.M.Medium.state c.args.unit.now) (g.C.Chip.state c.args.card_a.now) (g.D.Chip.state c.args.card_b.now)) (devices (g.M.Medium.state c.settle.new.unit) (g.C.Chip.state c.settle.new.card_a) (g.D.Chip.state c.settle.new.card_b)) (devices (g.M.Medium.state c.close-in-B.new.unit) (g.C.Chip.state c.settle.new.card_a) (g.D.Chip.state c.close-in-B.new.card)) c.settle.ensures.later (later-of-b (g.M.Medium.state c.settle.new.unit) (g.M.Medium.state c.close-in-B.new.unit) (g.C.Chip.state c.settle.new.card_a) (g.D.Chip.state c.settle.new.card_b) (g.D.Chip.state c.close-in-B.new.card) (state-by (g.M.Medium.state c.settle.new.unit) (g.M.Medium.state c.close-in-B.new.unit) _ c.close-in-B.ensures.journal.later c.close-in-B.ensures.cause) c.close-in-B.ensures.later)
-
--- ---- how its events go on
-
-here-evented : (decided : List Minute) (failed : Bool) (slot : Slot) (at here : Moment) (run between : Run) (before told : Outcome) (left : Cabin) (d e : Devices) → left ≡ with_slot_left slot at.second run.keeper.cabin → at ≡ here →
-    EventsSettling decided at failed (with_cabin left run) between before told d e → EventsSettling decided here failed (left_run slot here.second run) between before told d e
-here-evented decided failed slot at here run between before told left d e is moment settles =
-    subst (λ (m : Moment). EventsSettling decided m failed (left_run slot m.second run) between before told d e) moment
-    (subst (λ (b : Cabin). EventsSettling decided at failed (with_cabin b run) between before told d e) is settles)
-
-pub returns-in_default-clause-evented : goal.returns-in_default-clause-evented
-returns-in_default-clause-evented g c = λ late speed o done s now front rest are n allowed w events time.
-    let seats = c.args.run.now.keeper.cabin.slots.seats in
-    let none : card_in (seat_in seats c.args.slot) ≡ None = sym c.card.ensures ∙ none-there c.card.result c.in_default.not-Some in
-    absurd (withdraws-one seats c.args.slot speed allowed none)
-
-pub returns-in_err-settle-clause-evented : goal.returns-in_err-settle-clause-evented
-returns-in_err-settle-clause-evented g c = λ late speed o done s now front rest are n allowed w events time.
-    let run = c.args.run.now in
-    let there : card_in (seat_in run.keeper.cabin.slots.seats c.args.slot) ≡ Some c.in-Some.card = cc in
-    let D = devices (g.M.Medium.state c.args.unit.now) (g.C.Chip.state c.args.card_a.now) (g.D.Chip.state c.args.card_b.now) in
-    let E = devices (g.M.Medium.state c.settle.new.unit) (g.C.Chip.state c.settle.new.card_a) (g.D.Chip.state c.settle.new.card_b) in
-    let failed : true ≡ is_err c.from_residual.result = search rules in
-    let moment = moment-is c.args.at s.number (suc (length front)) (c.requires.at ∙ sym now.number) n late in
-    let v = c.in_err-settle.ensures.evented in
-    subst (λ (q : Bool). EventsGoOn q o done s w.within.b.run (In c.args.at.begun) Acting (log_of c.settle.new.outcome) E) failed
-    (subst (λ (q : ℕ). EventsGoOn true o done s w.within.b.run (In q) Acting (log_of c.settle.new.outcome) E) (sym n)
-    (settled-evented o done s front rest c.args.slot are speed now.speed_is c.in-Some.card run c.settle.new.run c.args.outcome.now c.settle.new.outcome D w there allowed (ungiven_of c.requires.going.span) c.requires.going.cabin (c.in_err-settle.ensures.settled.minutes w.within.sp w.within.minutes) v.0 (v.1 w.within.sp w.within.minutes) true E
-    (here-evented v.0 true c.args.slot c.args.at (acting_at s.number (suc (length front))) run c.settle.new.run c.args.outcome.now c.settle.new.outcome c.leave.new.self D E c.leave.ensures.kept moment v.2) events time))
-
-pub returns-in-A-clause-evented : goal.returns-in-A-clause-evented
-returns-in-A-clause-evented g c = λ late speed o done s now front rest are n allowed w events time.
-    let run = c.args.run.now in
-    let there : card_in (seat_in run.keeper.cabin.slots.seats c.args.slot) ≡ Some A = cc in
-    let D = devices (g.M.Medium.state c.args.unit.now) (g.C.Chip.state c.args.card_a.now) (g.D.Chip.state c.args.card_b.now) in
-    let between : Run = c.settle.new.run in
-    let told : Outcome = c.settle.new.outcome in
-    let U1 = g.M.Medium.state c.settle.new.unit in
-    let V = g.M.Medium.state c.close.new.unit in
-    let A1 = g.C.Chip.state c.settle.new.card_a in
-    let B1 = g.D.Chip.state c.settle.new.card_b in
-    let X = g.C.Chip.state c.settle.new.card_a in
-    let Y = g.C.Chip.state c.close.new.card in
-    let Z = B1 in
-    let left_ = subst (λ (b : Cabin). IsGoingOn (Some A) (run.next / 60) (with_cabin b run) (g.M.Medium.state c.args.unit.now) (g.C.Chip.card c.args.card_a.now) (g.D.Chip.card c.args.card_b.now) (g.C.Chip.state c.args.card_a.now) (g.D.Chip.state c.args.card_b.now)) (sym c.leave.ensures.kept)
-    (left-going c.args.slot A c.args.at.second run (run.next / 60) c.requires.going (λ from h. subst (λ (b : Cabin). Stands from (Some A) b) c.leave.ensures.kept (c.leave.ensures.stands from A there h))) in
-    let going = c.in_ok-settle.ensures.going (Some A) left_ in
-    let moment = moment-is c.args.at s.number (suc (length front)) (c.requires.at ∙ sym now.number) n late in
-    let second : c.args.at.second ≡ s.number = c.requires.at ∙ sym now.number in
-    let small : s.number < 2 ^ 32 = let low = c.requires.small in let same = now.number in omega (arith, low, same) in
-    let r = c.in_ok-settle.ensures.recorded in
-    let v = c.in_ok-settle.ensures.evented in
-    let e = c.close.ensures in
-    let k = e.events in
-    let fell = e.closed in
-    let unit_later = e.journal.later in
-    let mid = time-before A U1 V X Y Z unit_later e.clock_card time in
-    let kept = settled-evented o done s front rest c.args.slot are speed now.speed_is A run between c.args.outcome.now told D w there allowed (ungiven_of c.requires.going.span) c.requires.going.cabin (c.in_ok-settle.ensures.settled.minutes w.within.sp w.within.minutes) v.0 (v.1 w.within.sp w.within.minutes) false (devices U1 A1 B1)
-    (here-evented v.0 false c.args.slot c.args.at (acting_at s.number (suc (length front))) run between c.args.outcome.now told c.leave.new.self D (devices U1 A1 B1) c.leave.ensures.kept moment v.2) events mid in
-    let same = same-closing A c.args.slot c.args.at between c.close.new.run told.breaks c.close.new.breaks k.closing fell.0 k.closed fell.1 in
-    let notes = noted-any (closed_events k.closing c.args.at.second c.close.new.run) (is_err c.close.result) (devices U1 X X) (devices V Y Y) (devices U1 A1 B1) (devices V Y B1) refl refl k.notes in
-    subst (λ (q : ℕ). EventsGoOn (is_err c.close.result) o done s w.within.b.run (In q) Acting (log_of (record told { breaks = c.close.new.breaks })) (devices V Y B1)) (sym n)
-    (closing-evented o done s front rest c.args.slot are speed now.speed_is A run between c.args.outcome.now told D w there allowed (ungiven_of c.requires.going.span) c.requires.going.cabin (c.in_ok-settle.ensures.settled.minutes w.within.sp w.within.minutes) r.0 (r.1 w.within.sp w.within.minutes)
-    g.C.Chip.state U1 V Z c.settle.new.card_a c.close.new.card (g.met.M.Medium.coherent c.settle.new.unit) (g.met.C.Chip.coherent c.settle.new.card_a) c.settle.ensures.held.card_a.size e.left e.bare e.journal (is_err c.close.result) e.cause going.span going.stands going.next
-    (here-settled r.0 false c.args.slot c.args.at (acting_at s.number (suc (length front))) run between c.args.outcome.now told c.leave.new.self D (devices U1 A1 B1) c.leave.ensures.kept moment r.2)
-    mid c.args.at c.in_ok-settle.ensures.settled.decided (told_of (with_cabin c.leave.new.self run) c.args.outcome.now) c.in_ok-settle.ensures.settled.kept (ap (λ (b : Cabin). session_of b.cards A) c.leave.ensures.kept)
-    small (ap (λ (x : Outcome). x.finds) c.in_ok-settle.ensures.settled.outcome) (ungiven_of going.span) going.cabin kept
-    c.close.new.run c.close.new.breaks k.closing (subst (λ (m : Moment). IsClosed A c.args.slot m between c.close.new.run told.breaks c.close.new.breaks k.closing) moment k.closed) e.calm
-    (subst (λ (x : ℕ). HasBroken X Y x) (sym same) fell.2) (subst (λ (u : ℕ). NotesEvents (closed_events k.closing u c.close.new.run) (is_err c.close.result) (devices U1 A1 B1) (devices V Y B1)) second notes))
-
-pub returns-in-B-clause-evented : goal.returns-in-B-clause-evented
-returns-in-B-clause-evented g c = λ late speed o done s now front rest are n allowed w events time.
-    let run = c.args.run.now in
-    let there : card_in (seat_in run.keeper.cabin.slots.seats c.args.slot) ≡ Some B = cc in
-    let D = devices (g.M.Medium.state c.args.unit.now) (g.C.Chip.state c.args.card_a.now) (g.D.Chip.state c.args.card_b.now) in
-    let between : Run = c.settle.new.run in
-    let told : Outcome = c.settle.new.outcome in
-    let U1 = g.M.Medium.state c.settle.new.unit in
-    let V = g.M.Medium.state c.close-in-B.new.unit in
-    let A1 = g.C.Chip.state c.settle.new.card_a in
-    let B1 = g.D.Chip.state c.settle.new.card_b in
-    let X = g.D.Chip.state c.settle.new.card_b in
-    let Y = g.D.Chip.state c.close-in-B.new.card in
-    let Z = A1 in
-    let left_ = subst (λ (b : Cabin). IsGoingOn (Some B) (run.next / 60) (with_cabin b run) (g.M.Medium.state c.args.unit.now) (g.C.Chip.card c.args.card_a.now) (g.D.Chip.card c.args.card_b.now) (g.C.Chip.state c.args.card_a.now) (g.D.Chip.state c.args.card_b.now)) (sym c.leave.ensures.kept)
-    (left-going c.args.slot B c.args.at.second run (run.next / 60) c.requires.going (λ from h. subst (λ (b : Cabin). Stands from (Some B) b) c.leave.ensures.kept (c.leave.ensures.stands from B there h))) in
-    let going = c.in_ok-settle.ensures.going (Some B) left_ in
-    let moment = moment-is c.args.at s.number (suc (length front)) (c.requires.at ∙ sym now.number) n late in
-    let second : c.args.at.second ≡ s.number = c.requires.at ∙ sym now.number in
-    let small : s.number < 2 ^ 32 = let low = c.requires.small in let same = now.number in omega (arith, low, same) in
-    let r = c.in_ok-settle.ensures.recorded in
-    let v = c.in_ok-settle.ensures.evented in
-    let e = c.close-in-B.ensures in
-    let k = e.events in
-    let fell = e.closed in
-    let unit_later = e.journal.later in
-    let mid = time-before B U1 V X Y Z unit_later e.clock_card time in
-    let kept = settled-evented o done s front rest c.args.slot are speed now.speed_is B run between c.args.outcome.now told D w there allowed (ungiven_of c.requires.going.span) c.requires.going.cabin (c.in_ok-settle.ensures.settled.minutes w.within.sp w.within.minutes) v.0 (v.1 w.within.sp w.within.minutes) false (devices U1 A1 B1)
-    (here-evented v.0 false c.args.slot c.args.at (acting_at s.number (suc (length front))) run between c.args.outcome.now told c.leave.new.self D (devices U1 A1 B1) c.leave.ensures.kept moment v.2) events mid in
-    let same = same-closing B c.args.slot c.args.at between c.close-in-B.new.run told.breaks c.close-in-B.new.breaks k.closing fell.0 k.closed fell.1 in
-    let notes = noted-any (closed_events k.closing c.args.at.second c.close-in-B.new.run) (is_err c.close-in-B.result) (devices U1 X X) (devices V Y Y) (devices U1 A1 B1) (devices V A1 Y) refl refl k.notes in
-    subst (λ (q : ℕ). EventsGoOn (is_err c.close-in-B.result) o done s w.within.b.run (In q) Acting (log_of (record told { breaks = c.close-in-B.new.breaks })) (devices V A1 Y)) (sym n)
-    (closing-evented o done s front rest c.args.slot are speed now.speed_is B run between c.args.outcome.now told D w there allowed (ungiven_of c.requires.going.span) c.requires.going.cabin (c.in_ok-settle.ensures.settled.minutes w.within.sp w.within.minutes) r.0 (r.1 w.within.sp w.within.minutes)
-    g.D.Chip.state U1 V Z c.settle.new.card_b c.close-in-B.new.card (g.met.M.Medium.coherent c.settle.new.unit) (g.met.D.Chip.coherent c.settle.new.card_b) c.settle.ensures.held.card_b.size e.left e.bare e.journal (is_err c.close-in-B.result) e.cause going.span going.stands going.next
-    (here-settled r.0 false c.args.slot c.args.at (acting_at s.number (suc (length front))) run between c.args.outcome.now told c.leave.new.self D (devices U1 A1 B1) c.leave.ensures.kept moment r.2)
-    mid c.args.at c.in_ok-settle.ensures.settled.decided (told_of (with_cabin c.leave.new.self run) c.args.outcome.now) c.in_ok-settle.ensures.settled.kept (ap (λ (b : Cabin). session_of b.cards B) c.leave.ensures.kept)
-    small (ap (λ (x : Outcome). x.finds) c.in_ok-settle.ensures.settled.outcome) (ungiven_of going.span) going.cabin kept
-    c.close-in-B.new.run c.close-in-B.new.breaks k.closing (subst (λ (m : Moment). IsClosed B c.args.slot m between c.close-in-B.new.run told.breaks c.close-in-B.new.breaks k.closing) moment k.closed) e.calm
-    (subst (λ (x : ℕ). HasBroken X Y x) (sym same) fell.2) (subst (λ (u : ℕ). NotesEvents (closed_events k.closing u c.close-in-B.new.run) (is_err c.close-in-B.result) (devices U1 A1 B1) (devices V A1 Y)) second notes))
-
--- ---- how the rings go on
-
-here-kept : (failed : Bool) (slot : Slot) (at here : Moment) (run between : Run) (before told : Outcome) (left : Cabin) → left ≡ with_slot_left slot at.second run.keeper.cabin → at ≡ here →
-    IsSettled at failed (with_cabin left run) between before told → IsSettled here failed (left_run slot here.second run) between before told
-here-kept failed slot at here run between before told left is moment settles =
-    subst (λ (m : Moment). IsSettled m failed (left_run slot m.second run) between before told) moment
-    (subst (λ (b : Cabin). IsSettled at failed (with_cabin b run) between before told) is settles)
-
--- an entry is one of the ring
-entry-of : (n : ℕ) (q : Option Accepted) → IfSome q (λ x. (x.entry < insertion_ring.count) × (x.noted ≤ n)) → IfSome q (λ x. x.entry < insertion_ring.count)
-entry-of n None h = tt
-entry-of n (Some x) h = h.0
-
--- a card whose session is closed was called alone, or not at all
-closing-left : {C : Type 0} (state : C → State) (x y : C) (q : Option Accepted) → IfSome q (λ s. (act : Activity) × LeavesOnly (state x) (state y) (λ i n. IsSession s.session i → IsCardClosing s.session act i n)) → (q ≡ None → y ≡ x) → HasLeftMore (state x) (state y)
-closing-left {C} state x y None h same = subst (λ (z : C). HasLeftMore (state x) (state z)) (sym (same refl)) (λ t c le at. at)
-closing-left {C} state x y (Some s) h same = h.1.keeps
-
-here-places : (decided : List Minute) (slot : Slot) (at here : Moment) (run between : Run) (before : Outcome) (left : Cabin) (d e : Devices) → left ≡ with_slot_left slot at.second run.keeper.cabin → at ≡ here →
-    PlacesSettling decided at (with_cabin left run) between before d e → PlacesSettling decided here (left_run slot here.second run) between before d e
-here-places decided slot at here run between before left d e is moment settles =
-    subst (λ (m : Moment). PlacesSettling decided m (left_run slot m.second run) between before d e) moment
-    (subst (λ (b : Cabin). PlacesSettling decided at (with_cabin b run) between before d e) is settles)
-
-pub returns-in_default-clause-ringed : goal.returns-in_default-clause-ringed
-returns-in_default-clause-ringed g c = λ late speed o done s now front rest are n allowed w spans t rings time.
-    let seats = c.args.run.now.keeper.cabin.slots.seats in
-    let none : card_in (seat_in seats c.args.slot) ≡ None = sym c.card.ensures ∙ none-there c.card.result c.in_default.not-Some in
-    absurd (withdraws-one seats c.args.slot speed allowed none)
-
-pub returns-in_err-settle-clause-ringed : goal.returns-in_err-settle-clause-ringed
-returns-in_err-settle-clause-ringed g c = λ late speed o done s now front rest are n allowed w spans t rings time.
-    let run = c.args.run.now in
-    let card : Card = c.in-Some.card in
-    let lit = c.requires.going in
-    let there : card_in (seat_in run.keeper.cabin.slots.seats c.args.slot) ≡ Some card = cc in
-    let U = g.M.Medium.state c.args.unit.now in
-    let V = g.M.Medium.state c.settle.new.unit in
-    let D = devices U (g.C.Chip.state c.args.card_a.now) (g.D.Chip.state c.args.card_b.now) in
-    let E = devices V (g.C.Chip.state c.settle.new.card_a) (g.D.Chip.state c.settle.new.card_b) in
-    let failed : true ≡ is_err c.from_residual.result = search rules in
-    let moment = moment-is c.args.at s.number (suc (length front)) (c.requires.at ∙ sym now.number) n late in
-    let small : s.number < 2 ^ 32 = let low = c.requires.small in let same = now.number in omega (arith, low, same) in
-    let kept = here-kept true c.args.slot c.args.at (acting_at s.number (suc (length front))) run c.settle.new.run c.args.outcome.now c.settle.new.outcome c.leave.new.self c.leave.ensures.kept moment c.in_err-settle.ensures.settled in
-    let v = c.in_err-settle.ensures.places in
-    let places : PlacesStay o D E =
-    settled-places o done s front rest c.args.slot are speed now.speed_is card run c.settle.new.run c.args.outcome.now c.settle.new.outcome D w there allowed (ungiven_of c.requires.going.span) c.requires.going.cabin (c.in_err-settle.ensures.settled.minutes w.within.sp w.within.minutes) v.0 (v.1 w.within.sp w.within.minutes) E
-    (here-places v.0 c.args.slot c.args.at (acting_at s.number (suc (length front))) run c.settle.new.run c.args.outcome.now c.leave.new.self D E c.leave.ensures.kept moment v.2) time in
-    subst (λ (q : Bool). RingsGoOn q o done s w.within.b (front ++ Withdraw c.args.slot ∷ []) c.settle.new.run (log_of c.settle.new.outcome) spans t E) failed
-    (settling-ringed o done s front rest c.args.slot are speed now.speed_is card run c.settle.new.run c.args.outcome.now c.settle.new.outcome D E w there allowed true kept
-    (more-left o D E (w.within.powered.lit.unit.unit_holds [] []).later w.within.there.clocks c.settle.ensures.keeps) places spans t rings (ungiven_of lit.span) lit.cabin small (entry-of run.noted (session_of run.keeper.cabin.cards card) (lit.entries card))
-    (settling-leaves c.args.at true (with_cabin c.leave.new.self run) c.settle.new.run c.args.outcome.now c.settle.new.outcome U V c.in_err-settle.ensures.noted))
-
-pub returns-in-A-clause-ringed : goal.returns-in-A-clause-ringed
-returns-in-A-clause-ringed g c = λ late speed o done s now front rest are n allowed w spans t rings time.
-    let run = c.args.run.now in
-    let lit = c.requires.going in
-    let there : card_in (seat_in run.keeper.cabin.slots.seats c.args.slot) ≡ Some A = cc in
-    let between : Run = c.settle.new.run in
-    let told : Outcome = c.settle.new.outcome in
-    let U = g.M.Medium.state c.args.unit.now in
-    let U1 = g.M.Medium.state c.settle.new.unit in
-    let V = g.M.Medium.state c.close.new.unit in
-    let A0 = g.C.Chip.state c.args.card_a.now in
-    let B0 = g.D.Chip.state c.args.card_b.now in
-    let A1 = g.C.Chip.state c.settle.new.card_a in
-    let B1 = g.D.Chip.state c.settle.new.card_b in
-    let X = A1 in
-    let Y = g.C.Chip.state c.close.new.card in
-    let D : Devices = devices U A0 B0 in
-    let E : Devices = devices V Y B1 in
-    let moment = moment-is c.args.at s.number (suc (length front)) (c.requires.at ∙ sym now.number) n late in
-    let second : c.args.at.second ≡ s.number = c.requires.at ∙ sym now.number in
-    let small : s.number < 2 ^ 32 = let low = c.requires.small in let same = now.number in omega (arith, low, same) in
-    let r = c.in_ok-settle.ensures.recorded in
-    let e = c.close.ensures in
-    let k = e.rings (c.settle.ensures.tells ∙ w.within.there.unit) in
-    let unit_later = e.journal.later in
-    let mid = time-before A U1 V X Y B1 unit_later e.clock_card time in
-    let minutes = c.in_ok-settle.ensures.settled.minutes w.within.sp w.within.minutes in
-    let kept = here-kept false c.args.slot c.args.at (acting_at s.number (suc (length front))) run between c.args.outcome.now told c.leave.new.self c.leave.ensures.kept moment c.in_ok-settle.ensures.settled in
-    let keeps = c.settle.ensures.keeps in
-    let left = more-left o D E (w.within.powered.lit.unit.unit_holds [] []).later w.within.there.clocks (record {
-      unit = left-after U U1 V keeps.unit c.settle.ensures.clock e.journal.keeps;
-      card_a = left-after A0 A1 Y keeps.card_a c.settle.ensures.clock_a (closing-left g.C.Chip.state c.settle.new.card_a c.close.new.card (session_of between.keeper.cabin.cards A) e.left e.bare);
-      card_b = keeps.card_b;
-    }) in
-    let leaves = settling-leaves c.args.at false (with_cabin c.leave.new.self run) between c.args.outcome.now told U U1 c.in_ok-settle.ensures.noted in
-    let closed : IsClosed A c.args.slot (acting_at s.number (suc (length front))) between c.close.new.run told.breaks c.close.new.breaks k.closing = subst (λ (m : Moment). IsClosed A c.args.slot m between c.close.new.run told.breaks c.close.new.breaks k.closing) moment k.closed in
-    let writes : ClosesRings k.closing (session_of between.keeper.cabin.cards A) (acting_at s.number (suc (length front))) (is_err c.close.result) between U V =
-    subst (λ (m : Moment). ClosesRings k.closing (session_of between.keeper.cabin.cards A) m (is_err c.close.result) between U V) moment
-    (closes-behind k.closing (session_of between.keeper.cabin.cards A) c.args.at (is_err c.close.result) between U U1 V leaves k.rings) in
-    let entries = entry-of run.noted (session_of run.keeper.cabin.cards A) (lit.entries A) in
-    let records = here-settled r.0 false c.args.slot c.args.at (acting_at s.number (suc (length front))) run between c.args.outcome.now told c.leave.new.self D (devices U1 A1 B1) c.leave.ensures.kept moment r.2 in
-    let v = c.in_ok-settle.ensures.places in
-    let M : Devices = devices U1 A1 B1 in
-    let first : PlacesStay o D M =
-    settled-places o done s front rest c.args.slot are speed now.speed_is A run between c.args.outcome.now told D w there allowed (ungiven_of c.requires.going.span) c.requires.going.cabin minutes v.0 (v.1 w.within.sp w.within.minutes) M
-    (here-places v.0 c.args.slot c.args.at (acting_at s.number (suc (length front))) run between c.args.outcome.now c.leave.new.self D M c.leave.ensures.kept moment v.2) mid in
-    let next : PlacesStay o M E =
-    closed-places o done s front rest c.args.slot are speed now.speed_is A run between c.args.outcome.now told D w there allowed (ungiven_of c.requires.going.span) c.requires.going.cabin minutes r.0 (r.1 w.within.sp w.within.minutes) g.C.Chip.state U1 V B1 c.settle.new.card_a c.close.new.card
-    (g.met.C.Chip.coherent c.settle.new.card_a) c.settle.ensures.held.card_a.size e.left e.bare records mid in
-    let places : PlacesStay o D E = stay-then o D M E first next in
-    let from_is : w.within.from ≡ ungiven_of lit.span = let to = w.within.until in let same = same-ungiven run.minutes w.within.sp lit.span w.within.minutes lit.stands in omega (arith, to, same) in
-    let later = (settled-decides None (run.next / 60) run lit kept.decided c.requires.small (kept.given lit.span lit.stands)).from in
-    closing-ringed o done s front rest c.args.slot are speed now.speed_is A run between c.args.outcome.now told D E w there allowed false kept left places spans t rings (ungiven_of lit.span) lit.cabin small entries
-    c.close.new.run c.close.new.breaks k.closing closed minutes
-    (λ had has. untorn-then o done s front rest c.args.slot are speed now.speed_is A run between c.args.outcome.now told D w there allowed (ungiven_of c.requires.going.span) c.requires.going.cabin minutes r.0 (r.1 w.within.sp w.within.minutes) (devices U1 A1 B1) records mid had has)
-    (λ had none. gone-told o done s front rest c.args.slot are speed now.speed_is A run between c.args.outcome.now told D E w there allowed false kept left places spans t rings (ungiven_of lit.span) lit.cabin small entries kept.kept w.within.from
-    (sat-there o done s front rest c.args.slot are speed now.speed_is A run between c.args.outcome.now told D w there allowed (ungiven_of c.requires.going.span) c.requires.going.cabin minutes r.0 (r.1 w.within.sp w.within.minutes) had)
-    (subst (λ (low : ℕ). All (λ (m : Minute). low ≤ m.minute) kept.decided) (sym from_is) later) had none)
-    (is_err c.close.result) writes
-
-pub returns-in-B-clause-ringed : goal.returns-in-B-clause-ringed
-returns-in-B-clause-ringed g c = λ late speed o done s now front rest are n allowed w spans t rings time.
-    let run = c.args.run.now in
-    let lit = c.requires.going in
-    let there : card_in (seat_in run.keeper.cabin.slots.seats c.args.slot) ≡ Some B = cc in
-    let between : Run = c.settle.new.run in
-    let told : Outcome = c.settle.new.outcome in
-    let U = g.M.Medium.state c.args.unit.now in
-    let U1 = g.M.Medium.state c.settle.new.unit in
-    let V = g.M.Medium.state c.close-in-B.new.unit in
-    let A0 = g.C.Chip.state c.args.card_a.now in
-    let B0 = g.D.Chip.state c.args.card_b.now in
-    let A1 = g.C.Chip.state c.settle.new.card_a in
-    let B1 = g.D.Chip.state c.settle.new.card_b in
-    let X = B1 in
-    let Y = g.D.Chip.state c.close-in-B.new.card in
-    let D : Devices = devices U A0 B0 in
-    let E : Devices = devices V A1 Y in
-    let moment = moment-is c.args.at s.number (suc (length front)) (c.requires.at ∙ sym now.number) n late in
-    let second : c.args.at.second ≡ s.number = c.requires.at ∙ sym now.number in
-    let small : s.number < 2 ^ 32 = let low = c.requires.small in let same = now.number in omega (arith, low, same) in
-    let r = c.in_ok-settle.ensures.recorded in
-    let e = c.close-in-B.ensures in
-    let k = e.rings (c.settle.ensures.tells ∙ w.within.there.unit) in
-    let unit_later = e.journal.later in
-    let mid = time-before B U1 V X Y A1 unit_later e.clock_card time in
-    let minutes = c.in_ok-settle.ensures.settled.minutes w.within.sp w.within.minutes in
-    let kept = here-kept false c.args.slot c.args.at (acting_at s.number (suc (length front))) run between c.args.outcome.now told c.leave.new.self c.leave.ensures.kept moment c.in_ok-settle.ensures.settled in
-    let keeps = c.settle.ensures.keeps in
-    let left = more-left o D E (w.within.powered.lit.unit.unit_holds [] []).later w.within.there.clocks (record {
-      unit = left-after U U1 V keeps.unit c.settle.ensures.clock e.journal.keeps;
-      card_a = keeps.card_a;
-      card_b = left-after B0 B1 Y keeps.card_b c.settle.ensures.clock_b (closing-left g.D.Chip.state c.settle.new.card_b c.close-in-B.new.card (session_of between.keeper.cabin.cards B) e.left e.bare);
-    }) in
-    let leaves = settling-leaves c.args.at false (with_cabin c.leave.new.self run) between c.args.outcome.now told U U1 c.in_ok-settle.ensures.noted in
-    let closed : IsClosed B c.args.slot (acting_at s.number (suc (length front))) between c.close-in-B.new.run told.breaks c.close-in-B.new.breaks k.closing = subst (λ (m : Moment). IsClosed B c.args.slot m between c.close-in-B.new.run told.breaks c.close-in-B.new.breaks k.closing) moment k.closed in
-    let writes : ClosesRings k.closing (session_of between.keeper.cabin.cards B) (acting_at s.number (suc (length front))) (is_err c.close-in-B.result) between U V =
-    subst (λ (m : Moment). ClosesRings k.closing (session_of between.keeper.cabin.cards B) m (is_err c.close-in-B.result) between U V) moment
-    (closes-behind k.closing (session_of between.keeper.cabin.cards B) c.args.at (is_err c.close-in-B.result) between U U1 V leaves k.rings) in
-    let entries = entry-of run.noted (session_of run.keeper.cabin.cards B) (lit.entries B) in
-    let records = here-settled r.0 false c.args.slot c.args.at (acting_at s.number (suc (length front))) run between c.args.outcome.now told c.leave.new.self D (devices U1 A1 B1) c.leave.ensures.kept moment r.2 in
-    let v = c.in_ok-settle.ensures.places in
-    let M : Devices = devices U1 A1 B1 in
-    let first : PlacesStay o D M =
-    settled-places o done s front rest c.args.slot are speed now.speed_is B run between c.args.outcome.now told D w there allowed (ungiven_of c.requires.going.span) c.requires.going.cabin minutes v.0 (v.1 w.within.sp w.within.minutes) M
-    (here-places v.0 c.args.slot c.args.at (acting_at s.number (suc (length front))) run between c.args.outcome.now c.leave.new.self D M c.leave.ensures.kept moment v.2) mid in
-    let next : PlacesStay o M E =
-    closed-places o done s front rest c.args.slot are speed now.speed_is B run between c.args.outcome.now told D w there allowed (ungiven_of c.requires.going.span) c.requires.going.cabin minutes r.0 (r.1 w.within.sp w.within.minutes) g.D.Chip.state U1 V A1 c.settle.new.card_b c.close-in-B.new.card
-    (g.met.D.Chip.coherent c.settle.new.card_b) c.settle.ensures.held.card_b.size e.left e.bare records mid in
-    let places : PlacesStay o D E = stay-then o D M E first next in
-    let from_is : w.within.from ≡ ungiven_of lit.span = let to = w.within.until in let same = same-ungiven run.minutes w.within.sp lit.span w.within.minutes lit.stands in omega (arith, to, same) in
-    let later = (settled-decides None (run.next / 60) run lit kept.decided c.requires.small (kept.given lit.span lit.stands)).from in
-    closing-ringed o done s front rest c.args.slot are speed now.speed_is B run between c.args.outcome.now told D E w there allowed false kept left places spans t rings (ungiven_of lit.span) lit.cabin small entries
-    c.close-in-B.new.run c.close-in-B.new.breaks k.closing closed minutes
-    (λ had has. untorn-then o done s front rest c.args.slot are speed now.speed_is B run between c.args.outcome.now told D w there allowed (ungiven_of c.requires.going.span) c.requires.going.cabin minutes r.0 (r.1 w.within.sp w.within.minutes) (devices U1 A1 B1) records mid had has)
-    (λ had none. gone-told o done s front rest c.args.slot are speed now.speed_is B run between c.args.outcome.now told D E w there allowed false kept left places spans t rings (ungiven_of lit.span) lit.cabin small entries kept.kept w.within.from
-    (sat-there o done s front rest c.args.slot are speed now.speed_is B run between c.args.outcome.now told D w there allowed (ungiven_of c.requires.going.span) c.requires.going.cabin minutes r.0 (r.1 w.within.sp w.within.minutes) had)
-    (subst (λ (low : ℕ). All (λ (m : Minute). low ≤ m.minute) kept.decided) (sym from_is) later) had none)
-    (is_err c.close-in-B.result) writes
-
--- ---- which events the cards show
-
-here-cards : (decided : List Minute) (slot : Slot) (at here : Moment) (run between : Run) (before : Outcome) (left : Cabin) (d e : Devices) → left ≡ with_slot_left slot at.second run.keeper.cabin → at ≡ here →
-    CardsSettling decided at (with_cabin left run) between before d e → CardsSettling decided here (left_run slot here.second run) between before d e
-here-cards decided slot at here run between before left d e is moment settles =
-    subst (λ (m : Moment). CardsSettling decided m (left_run slot m.second run) between before d e) moment
-    (subst (λ (b : Cabin). CardsSettling decided at (with_cabin b run) between before d e) is settles)
-
-pub returns-in_default-clause-cards : goal.returns-in_default-clause-cards
-returns-in_default-clause-cards g c = λ late speed o done s now front rest are n allowed vehicle w cards time.
-    let seats = c.args.run.now.keeper.cabin.slots.seats in
-    let none : card_in (seat_in seats c.args.slot) ≡ None = sym c.card.ensures ∙ none-there c.card.result c.in_default.not-Some in
-    absurd (withdraws-one seats c.args.slot speed allowed none)
-
-pub returns-in_err-settle-clause-cards : goal.returns-in_err-settle-clause-cards
-returns-in_err-settle-clause-cards g c = λ late speed o done s now front rest are n allowed vehicle w cards time.
-    let run = c.args.run.now in
-    let there : card_in (seat_in run.keeper.cabin.slots.seats c.args.slot) ≡ Some c.in-Some.card = cc in
-    let D : Devices = devices (g.M.Medium.state c.args.unit.now) (g.C.Chip.state c.args.card_a.now) (g.D.Chip.state c.args.card_b.now) in
-    let E : Devices = devices (g.M.Medium.state c.settle.new.unit) (g.C.Chip.state c.settle.new.card_a) (g.D.Chip.state c.settle.new.card_b) in
-    let moment = moment-is c.args.at s.number (suc (length front)) (c.requires.at ∙ sym now.number) n late in
-    let v = c.in_err-settle.ensures.cards in
-    let still : StillShow o D E =
-    settled-still o done s front rest c.args.slot are speed now.speed_is c.in-Some.card run c.settle.new.run c.args.outcome.now c.settle.new.outcome D w there allowed (ungiven_of c.requires.going.span) c.requires.going.cabin (c.in_err-settle.ensures.settled.minutes w.within.sp w.within.minutes) v.0 (v.1 w.within.sp w.within.minutes) E
-    (here-cards v.0 c.args.slot c.args.at (acting_at s.number (suc (length front))) run c.settle.new.run c.args.outcome.now c.leave.new.self D E c.leave.ensures.kept moment v.2) time in
-    let left = more-left o D E (w.within.powered.lit.unit.unit_holds [] []).later w.within.there.clocks c.settle.ensures.keeps in
-    let t : TellsLines (acting_at s.number (suc (length front))) c.args.outcome.now c.settle.new.outcome = subst (λ (m : Moment). TellsLines m c.args.outcome.now c.settle.new.outcome) moment
-    (settled-lines c.args.at true (with_cabin c.leave.new.self run) c.settle.new.run c.args.outcome.now c.settle.new.outcome c.in_err-settle.ensures.settled) in
-    quiet-goes o done s front rest (Withdraw c.args.slot) are run c.args.outcome.now D E w tt t.lines (log_of c.settle.new.outcome) t.are t.tears left still cards (is_err c.from_residual.result)
-
-pub returns-in-A-clause-cards : goal.returns-in-A-clause-cards
-returns-in-A-clause-cards g c = λ late speed o done s now front rest are n allowed vehicle w cards time.
-    let run = c.args.run.now in
-    let there : card_in (seat_in run.keeper.cabin.slots.seats c.args.slot) ≡ Some A = cc in
-    let U = g.M.Medium.state c.args.unit.now in
-    let A0 = g.C.Chip.state c.args.card_a.now in
-    let B0 = g.D.Chip.state c.args.card_b.now in
-    let D : Devices = devices U A0 B0 in
-    let between : Run = c.settle.new.run in
-    let told : Outcome = c.settle.new.outcome in
-    let U1 = g.M.Medium.state c.settle.new.unit in
-    let V = g.M.Medium.state c.close.new.unit in
-    let A1 = g.C.Chip.state c.settle.new.card_a in
-    let B1 = g.D.Chip.state c.settle.new.card_b in
-    let X = g.C.Chip.state c.settle.new.card_a in
-    let Y = g.C.Chip.state c.close.new.card in
-    let Z = B1 in
-    let M : Devices = devices U1 A1 B1 in
-    let E : Devices = devices V Y B1 in
-    let moment = moment-is c.args.at s.number (suc (length front)) (c.requires.at ∙ sym now.number) n late in
-    let r = c.in_ok-settle.ensures.recorded in
-    let v = c.in_ok-settle.ensures.cards in
-    let e = c.close.ensures in
-    let mid = time-before A U1 V X Y Z e.journal.later e.clock_card time in
-    let minutes = c.in_ok-settle.ensures.settled.minutes w.within.sp w.within.minutes in
-    let records = here-settled r.0 false c.args.slot c.args.at (acting_at s.number (suc (length front))) run between c.args.outcome.now told c.leave.new.self D M c.leave.ensures.kept moment r.2 in
-    let first : StillShow o D M =
-    settled-still o done s front rest c.args.slot are speed now.speed_is A run between c.args.outcome.now told D w there allowed (ungiven_of c.requires.going.span) c.requires.going.cabin minutes v.0 (v.1 w.within.sp w.within.minutes) M
-    (here-cards v.0 c.args.slot c.args.at (acting_at s.number (suc (length front))) run between c.args.outcome.now c.leave.new.self D M c.leave.ensures.kept moment v.2) mid in
-    let next : StillShow o M E =
-    closed-still o done s front rest c.args.slot are speed now.speed_is A run between c.args.outcome.now told D w there allowed (ungiven_of c.requires.going.span) c.requires.going.cabin minutes r.0 (r.1 w.within.sp w.within.minutes) g.C.Chip.state U1 V Z c.settle.new.card_a c.close.new.card
-    (g.met.C.Chip.coherent c.settle.new.card_a) c.settle.ensures.held.card_a.size e.left e.bare records mid in
-    let keeps = c.settle.ensures.keeps in
-    let left = more-left o D E (w.within.powered.lit.unit.unit_holds [] []).later w.within.there.clocks (record {
-      unit = left-after U U1 V keeps.unit c.settle.ensures.clock e.journal.keeps;
-      card_a = left-after A0 A1 Y keeps.card_a c.settle.ensures.clock_a (closing-left g.C.Chip.state c.settle.new.card_a c.close.new.card (session_of between.keeper.cabin.cards A) e.left e.bare);
-      card_b = keeps.card_b;
-    }) in
-    let k = e.closed in
-    let t : TellsLines (acting_at s.number (suc (length front))) c.args.outcome.now (record told { breaks = c.close.new.breaks }) = subst (λ (m : Moment). TellsLines m c.args.outcome.now (record told { breaks = c.close.new.breaks })) moment
-    (closed-lines c.args.at c.args.outcome.now told c.close.new.breaks k.0 c.args.slot (settled-lines c.args.at false (with_cabin c.leave.new.self run) between c.args.outcome.now told c.in_ok-settle.ensures.settled) k.1.told) in
-    quiet-goes o done s front rest (Withdraw c.args.slot) are run c.args.outcome.now D E w tt t.lines (log_of (record told { breaks = c.close.new.breaks })) t.are t.tears left (shows-then o D M E first next) cards (is_err c.close.result)
-
-pub returns-in-B-clause-cards : goal.returns-in-B-clause-cards
-returns-in-B-clause-cards g c = λ late speed o done s now front rest are n allowed vehicle w cards time.
-    let run = c.args.run.now in
-    let there : card_in (seat_in run.keeper.cabin.slots.seats c.args.slot) ≡ Some B = cc in
-    let U = g.M.Medium.state c.args.unit.now in
-    let A0 = g.C.Chip.state c.args.card_a.now in
-    let B0 = g.D.Chip.state c.args.card_b.now in
-    let D : Devices = devices U A0 B0 in
-    let between : Run = c.settle.new.run in
-    let told : Outcome = c.settle.new.outcome in
-    let U1 = g.M.Medium.state c.settle.new.unit in
-    let V = g.M.Medium.state c.close-in-B.new.unit in
-    let A1 = g.C.Chip.state c.settle.new.card_a in
-    let B1 = g.D.Chip.state c.settle.new.card_b in
-    let X = g.D.Chip.state c.settle.new.card_b in
-    let Y = g.D.Chip.state c.close-in-B.new.card in
-    let Z = A1 in
-    let M : Devices = devices U1 A1 B1 in
-    let E : Devices = devices V A1 Y in
-    let moment = moment-is c.args.at s.number (suc (length front)) (c.requires.at ∙ sym now.number) n late in
-    let r = c.in_ok-settle.ensures.recorded in
-    let v = c.in_ok-settle.ensures.cards in
-    let e = c.close-in-B.ensures in
-    let mid = time-before B U1 V X Y Z e.journal.later e.clock_card time in
-    let minutes = c.in_ok-settle.ensures.settled.minutes w.within.sp w.within.minutes in
-    let records = here-settled r.0 false c.args.slot c.args.at (acting_at s.number (suc (length front))) run between c.args.outcome.now told c.leave.new.self D M c.leave.ensures.kept moment r.2 in
-    let first : StillShow o D M =
-    settled-still o done s front rest c.args.slot are speed now.speed_is B run between c.args.outcome.now told D w there allowed (ungiven_of c.requires.going.span) c.requires.going.cabin minutes v.0 (v.1 w.within.sp w.within.minutes) M
-    (here-cards v.0 c.args.slot c.args.at (acting_at s.number (suc (length front))) run between c.args.outcome.now c.leave.new.self D M c.leave.ensures.kept moment v.2) mid in
-    let next : StillShow o M E =
-    closed-still o done s front rest c.args.slot are speed now.speed_is B run between c.args.outcome.now told D w there allowed (ungiven_of c.requires.going.span) c.requires.going.cabin minutes r.0 (r.1 w.within.sp w.within.minutes) g.D.Chip.state U1 V Z c.settle.new.card_b c.close-in-B.new.card
-    (g.met.D.Chip.coherent c.settle.new.card_b) c.settle.ensures.held.card_b.size e.left e.bare records mid in
-    let keeps = c.settle.ensures.keeps in
-    let left = more-left o D E (w.within.powered.lit.unit.unit_holds [] []).later w.within.there.clocks (record {
-      unit = left-after U U1 V keeps.unit c.settle.ensures.clock e.journal.keeps;
-      card_b = left-after B0 B1 Y keeps.card_b c.settle.ensures.clock_b (closing-left g.D.Chip.state c.settle.new.card_b c.close-in-B.new.card (session_of between.keeper.cabin.cards B) e.left e.bare);
-      card_a = keeps.card_a;
-    }) in
-    let k = e.closed in
-    let t : TellsLines (acting_at s.number (suc (length front))) c.args.outcome.now (record told { breaks = c.close-in-B.new.breaks }) = subst (λ (m : Moment). TellsLines m c.args.outcome.now (record told { breaks = c.close-in-B.new.breaks })) moment
-    (closed-lines c.args.at c.args.outcome.now told c.close-in-B.new.breaks k.0 c.args.slot (settled-lines c.args.at false (with_cabin c.leave.new.self run) between c.args.outcome.now told c.in_ok-settle.ensures.settled) k.1.told) in
-    quiet-goes o done s front rest (Withdraw c.args.slot) are run c.args.outcome.now D E w tt t.lines (log_of (record told { breaks = c.close-in-B.new.breaks })) t.are t.tears left (shows-then o D M E first next) cards (is_err c.close-in-B.result)
-
--- ---- the card is closed
-
-pub returns-in_default-clause-shut : goal.returns-in_default-clause-shut
-returns-in_default-clause-shut g c = λ card there.
-    let none : card_in (seat_in c.args.run.now.keeper.cabin.slots.seats c.args.slot) ≡ None = sym c.card.ensures ∙ none-there c.card.result c.in_default.not-Some in
-    absurd (let wrong : None ≡ Some card = sym none ∙ there in cc)
-
-pub returns-in_err-settle-clause-shut : goal.returns-in_err-settle-clause-shut
-returns-in_err-settle-clause-shut g c = λ card there.
-    let run = c.args.run.now in
-    let failed : true ≡ is_err c.from_residual.result = search rules in
-    inl (
-      sym failed,
-      subst (λ (b : Cabin). IsSettled c.args.at true (with_cabin b run) c.settle.new.run c.args.outcome.now c.settle.new.outcome) c.leave.ensures.kept c.in_err-settle.ensures.settled,
-    )
-
-pub returns-in-A-clause-shut : goal.returns-in-A-clause-shut
-returns-in-A-clause-shut g c = λ card there.
-    let run = c.args.run.now in
-    let seat : card_in (seat_in run.keeper.cabin.slots.seats c.args.slot) ≡ Some A = cc in
-    let is : A ≡ card = cc in
-    let U1 = g.M.Medium.state c.settle.new.unit in
-    let V = g.M.Medium.state c.close.new.unit in
-    let X = g.C.Chip.state c.settle.new.card_a in
-    let Y = g.C.Chip.state c.close.new.card in
-    let Z = g.D.Chip.state c.settle.new.card_b in
-    let D = devices (g.M.Medium.state c.args.unit.now) (g.C.Chip.state c.args.card_a.now) (g.D.Chip.state c.args.card_b.now) in
-    let E = devices V Y Z in
-    let e = c.close.ensures in
-    let n = e.shut in
-    let b = c.in_ok-settle.ensures.booked in
-    let after : Outcome = record c.settle.new.outcome { breaks = c.close.new.breaks } in
-    subst (λ (k : Card). WithdrawsShut k c.args.slot c.args.at (is_err c.close.result) run c.close.new.run c.args.outcome.now after D E) is
-    (inr (subst (λ (left : Cabin). ShutsBehind A c.args.slot c.args.at (told_of (with_cabin left run) c.args.outcome.now) run c.close.new.run after D E) c.leave.ensures.kept (record {
-      decided = b.0;
-      given = b.2;
-      between = c.settle.new.run;
-      told = c.settle.new.outcome;
-      closing = n.closing;
-      closed = n.closed;
-      act = n.act;
-      selected = n.selected;
-      shut = withdrawn-shut A U1 V X Y Z e.journal e.clock_card n.closing b.0 c.args.at (told_of (with_cabin c.leave.new.self run) c.args.outcome.now) (told_of c.settle.new.run c.settle.new.outcome) D n.act n.closes b.1 b.3 b.4;
-    })))
+returns-in-B-clause-rings g c = rings_ g (kept-b g c) (side-b g c) c.close-in-B.ensures
 
 pub returns-in-B-clause-shut : goal.returns-in-B-clause-shut
-returns-in-B-clause-shut g c = λ card there.
-    let run = c.args.run.now in
-    let seat : card_in (seat_in run.keeper.cabin.slots.seats c.args.slot) ≡ Some B = cc in
-    let is : B ≡ card = cc in
-    let U1 = g.M.Medium.state c.settle.new.unit in
-    let V = g.M.Medium.state c.close-in-B.new.unit in
-    let X = g.D.Chip.state c.settle.new.card_b in
-    let Y = g.D.Chip.state c.close-in-B.new.card in
-    let Z = g.C.Chip.state c.settle.new.card_a in
-    let D = devices (g.M.Medium.state c.args.unit.now) (g.C.Chip.state c.args.card_a.now) (g.D.Chip.state c.args.card_b.now) in
-    let E = devices V Z Y in
-    let e = c.close-in-B.ensures in
-    let n = e.shut in
-    let b = c.in_ok-settle.ensures.booked in
-    let after : Outcome = record c.settle.new.outcome { breaks = c.close-in-B.new.breaks } in
-    subst (λ (k : Card). WithdrawsShut k c.args.slot c.args.at (is_err c.close-in-B.result) run c.close-in-B.new.run c.args.outcome.now after D E) is
-    (inr (subst (λ (left : Cabin). ShutsBehind B c.args.slot c.args.at (told_of (with_cabin left run) c.args.outcome.now) run c.close-in-B.new.run after D E) c.leave.ensures.kept (record {
-      decided = b.0;
-      given = b.2;
-      between = c.settle.new.run;
-      told = c.settle.new.outcome;
-      closing = n.closing;
-      closed = n.closed;
-      act = n.act;
-      selected = n.selected;
-      shut = withdrawn-shut B U1 V X Y Z e.journal e.clock_card n.closing b.0 c.args.at (told_of (with_cabin c.leave.new.self run) c.args.outcome.now) (told_of c.settle.new.run c.settle.new.outcome) D n.act n.closes b.1 b.3 b.4;
-    })))
+returns-in-B-clause-shut g c = shut g (kept-b g c) (side-b g c) c.close-in-B.ensures
 
--- ---- where no tear of a failed call is told no card has broken down
-
-pub returns-in_default-clause-calm : goal.returns-in_default-clause-calm
-returns-in_default-clause-calm g c = calm-same (devices (g.M.Medium.state c.args.unit.now) (g.C.Chip.state c.args.card_a.now) (g.D.Chip.state c.args.card_b.now))
-
-pub returns-in_err-settle-clause-calm : goal.returns-in_err-settle-clause-calm
-returns-in_err-settle-clause-calm g c = c.settle.ensures.calm
-
-pub returns-in-A-clause-calm : goal.returns-in-A-clause-calm
-returns-in-A-clause-calm g c = calm-then (devices (g.M.Medium.state c.args.unit.now) (g.C.Chip.state c.args.card_a.now) (g.D.Chip.state c.args.card_b.now)) (devices (g.M.Medium.state c.settle.new.unit) (g.C.Chip.state c.settle.new.card_a) (g.D.Chip.state c.settle.new.card_b)) (devices (g.M.Medium.state c.close.new.unit) (g.C.Chip.state c.close.new.card) (g.D.Chip.state c.settle.new.card_b)) c.settle.ensures.calm (calm-of-a (g.M.Medium.state c.settle.new.unit) (g.M.Medium.state c.close.new.unit) (g.C.Chip.state c.settle.new.card_a) (g.C.Chip.state c.close.new.card) (g.D.Chip.state c.settle.new.card_b) c.close.ensures.calm)
+pub returns-in-B-clause-later : goal.returns-in-B-clause-later
+returns-in-B-clause-later g c = later g (kept-b g c) (side-b g c) c.close-in-B.ensures
 
 pub returns-in-B-clause-calm : goal.returns-in-B-clause-calm
-returns-in-B-clause-calm g c = calm-then (devices (g.M.Medium.state c.args.unit.now) (g.C.Chip.state c.args.card_a.now) (g.D.Chip.state c.args.card_b.now)) (devices (g.M.Medium.state c.settle.new.unit) (g.C.Chip.state c.settle.new.card_a) (g.D.Chip.state c.settle.new.card_b)) (devices (g.M.Medium.state c.close-in-B.new.unit) (g.C.Chip.state c.settle.new.card_a) (g.D.Chip.state c.close-in-B.new.card)) c.settle.ensures.calm (calm-of-b (g.M.Medium.state c.settle.new.unit) (g.M.Medium.state c.close-in-B.new.unit) (g.C.Chip.state c.settle.new.card_a) (g.D.Chip.state c.settle.new.card_b) (g.D.Chip.state c.close-in-B.new.card) c.close-in-B.ensures.calm)
+returns-in-B-clause-calm g c = calm g (kept-b g c) (side-b g c) c.close-in-B.ensures
+
+pub returns-in-B-clause-recorded : goal.returns-in-B-clause-recorded
+returns-in-B-clause-recorded g c = λ late speed o done s now front rest are n allowed w time. recorded g (kept-b g c) (side-b g c) c.close-in-B.ensures late speed o done s now front rest are n allowed w time
+
+pub returns-in-B-clause-evented : goal.returns-in-B-clause-evented
+returns-in-B-clause-evented g c = λ late speed o done s now front rest are n allowed w events time. evented g (kept-b g c) (side-b g c) c.close-in-B.ensures late speed o done s now front rest are n allowed w time events
+
+pub returns-in-B-clause-ringed : goal.returns-in-B-clause-ringed
+returns-in-B-clause-ringed g c = λ late speed o done s now front rest are n allowed w spans t rings time. ringed g (kept-b g c) (side-b g c) c.close-in-B.ensures late speed o done s now front rest are n allowed w time spans t rings
+
+pub returns-in-B-clause-cards : goal.returns-in-B-clause-cards
+returns-in-B-clause-cards g c = λ late speed o done s now front rest are n allowed vehicle w cards time. cards_ g (kept-b g c) (side-b g c) c.close-in-B.ensures late speed o done s now front rest are n allowed w time cards

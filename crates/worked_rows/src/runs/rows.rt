@@ -1,0 +1,336 @@
+//! Worked runs.
+ghost use Rattle.tach_media.specs.MemMedium.{memory_state};
+ghost use Rattle.unit_model.specs.Image.{IsUnit};
+
+use crate::devices::{M0, T0, told_by_card, unclosed_on, unit_bytes};
+use crate::runs::ran::Ran;
+use crate::runs::running::{Stops, calls_of, calls_with, new_devices, run};
+use activity_codec::Slot;
+use card_layout::Fid;
+use recorder_with_cards::{Break, Find, Refused, SlotFault, Verdict};
+use run_model::Device;
+use std::alloc::{AllocError, Global};
+use std::process::Abort;
+use std::rt::HostRuntime;
+use std::test::Fail;
+use tach_media::{Chip, Failed, Left, MemMedium, Stop};
+
+/// An hour of driving with a card.
+pub const DRIVE: &[u8] = b"start 1267401600\ninsert driver a\nrun 60 0\nrun 3540 50\n";
+
+/// It on new devices; whether the unit tells it then, and whether the card does.
+fn driven(alloc: Global) -> Result<(Ran, bool, bool), Fail> {
+    let mut d = new_devices(alloc, Stops::none(alloc))?;
+    let ran = d.run(alloc, DRIVE)?;
+    let by_unit = d.unit_tells(alloc, M0 + 57, &[0x0000u16, 0xA000, 0x1801, 0xA801])?;
+    let card = told_by_card(alloc, &mut d.card_a)?;
+    let by_card = card.last == M0 + 57 && card.words.as_slice() == [0x0000u16, 0x1801].as_slice();
+    Ok((ran, by_unit, by_card))
+}
+
+#[test]
+fn a_driver(rt: HostRuntime) -> Result<(), Fail> {
+    let alloc = rt.alloc();
+    let (ran, by_unit, by_card) = driven(alloc)?;
+    assert!(rt; ran.has(58, 58));
+    assert_eq!(rt; (ran.breaks, ran.refused), (0, 0));
+    assert!(rt; by_unit);
+    assert!(rt; by_card);
+    Ok(())
+}
+
+/// A run with a card of zeros, and how many writes there were on that.
+fn run_with_zeros(alloc: Global) -> Result<(Ran, u64), Fail> {
+    let mut d = new_devices(alloc, Stops::none(alloc))?;
+    d.take_zeros(alloc)?;
+    let ran = d.run(alloc, b"start 1267401600\ninsert driver a\nrun 240 0\n")?;
+    Ok((ran, d.card_a.clock()))
+}
+
+/// An image of zeros is no card: that is found, and nothing is written on it.
+#[test]
+fn a_card_of_zeros(rt: HostRuntime) -> Result<(), Fail> {
+    let alloc = rt.alloc();
+    let (ran, writes) = run_with_zeros(alloc)?;
+    let find = Find {
+        second: T0,
+        slot: Slot::Driver,
+        verdict: Verdict::NotValid {
+            fid: Fid::APPLICATION,
+            place: 0,
+        },
+        begun: 1,
+    };
+    assert!(rt; ran.is_recorded && ran.finds == 1);
+    assert_eq!(rt; ran.last_find, Some(find));
+    assert_eq!(rt; (ran.card_a, ran.card_b, writes), (0, 0, 0));
+    Ok(())
+}
+
+/// The calls of the second before T0 + 240 of a drive with a card, in which its first minute of driving is kept.
+const BEFORE: &[u8] = b"start 1267401600\ninsert driver a\nrun 60 0\nrun 179 50\n";
+
+const BEHIND: &[u8] = b"start 1267401600\ninsert driver a\nrun 60 0\nrun 180 50\n";
+
+/// A run on new devices that stop so, and whether the first card has these words then.
+fn run_tells(alloc: Global, text: &[u8], stops: Stops, words: &[u16]) -> Result<(Ran, bool), Fail> {
+    let mut d = new_devices(alloc, stops)?;
+    let ran = d.run(alloc, text)?;
+    Ok((ran, d.card_tells(alloc, words)?))
+}
+
+/// The card is stopped by this call of the keeping of a minute, and put in again: what it lacks is put on it. Only where it has the minute that is
+/// less.
+fn torn_once(
+    rt: &(impl Abort + AllocGlobal),
+    call: u64,
+    left: Left,
+    has_it: bool,
+) -> Result<(), Fail> {
+    let alloc = rt.alloc();
+    let text =
+        b"start 1267401600\ninsert driver a\nrun 60 0\nrun 300 50\ninsert driver a\nrun 60 0\n";
+    let stops = Stops::one(alloc, Device::CardA, Stop { call, left })?;
+    let (ran, is_told) = run_tells(alloc, text, stops, &[0x0000u16, 0x1801, 0x2003])?;
+    let tear = Break::Tear {
+        second: T0 + 239,
+        slot: Slot::Driver,
+        failed: true,
+        begun: 0,
+        late: true,
+    };
+    let (kept, put) = if has_it { (2, 1) } else { (3, 2) };
+    assert!(rt; ran.has(6, kept) && ran.breaks == 1);
+    assert_eq!(rt; ran.last_break, Some(tear));
+    assert_eq!(rt; ran.replayed(), Some(put));
+    assert!(rt; is_told);
+    Ok(())
+}
+
+/// Each call of the keeping of that minute. Only behind the last write the card has it.
+fn torn_in_keeping(rt: &(impl Abort + AllocGlobal), left: Left) -> Result<(), Fail> {
+    let alloc = rt.alloc();
+    let from = calls_of(alloc, BEFORE)?.card_a;
+    let to = calls_of(alloc, BEHIND)?.card_a;
+    assert!(rt; from < to);
+    for call in from..to {
+        torn_once(rt, call, left, left == Left::After && call == to - 1)?;
+    }
+    Ok(())
+}
+
+#[test]
+fn a_card_that_is_stopped_before_a_write(rt: HostRuntime) -> Result<(), Fail> {
+    torn_in_keeping(&rt, Left::Before)
+}
+
+#[test]
+fn a_card_that_is_stopped_behind_a_write(rt: HostRuntime) -> Result<(), Fail> {
+    torn_in_keeping(&rt, Left::After)
+}
+
+/// The words of the card where the minute of driving was kept before the power-on, and where it was not.
+const MINUTE: &[u16] = &[0x0000, 0x1801, 0x2002];
+
+const NO_MINUTE: &[u16] = &[0x0000, 0x2001];
+
+/// The unit is stopped behind this write of the keeping of a minute: the power-on finds the old mark, or the new one, and the entry that the card
+/// lacks then is put on it.
+fn cut_once(rt: &(impl Abort + AllocGlobal), call: u64, has_it: bool) -> Result<(), Fail> {
+    let alloc = rt.alloc();
+    let text = b"start 1267401600\ninsert driver a\nrun 60 0\nrun 300 50\n";
+    let left = Left::After;
+    let stops = Stops::one(alloc, Device::Unit, Stop { call, left })?;
+    let words = if has_it { MINUTE } else { NO_MINUTE };
+    let found = u8::from(has_it);
+    let (ran, is_told) = run_tells(alloc, text, stops, words)?;
+    let cut = Break::Cut {
+        second: T0 + 239,
+        kept: M0 + found as u32,
+        failed: true,
+        begun: 0,
+    };
+    assert!(rt; ran.has(1, 1 + found as usize) && ran.breaks == 1);
+    assert_eq!(rt; ran.last_break, Some(cut));
+    assert_eq!(rt; ran.replayed(), Some(found));
+    assert!(rt; is_told);
+    Ok(())
+}
+
+/// Behind the last write the unit has the new mark.
+#[test]
+fn a_unit_that_is_stopped_behind_a_write(rt: HostRuntime) -> Result<(), Fail> {
+    let alloc = rt.alloc();
+    let from = calls_of(alloc, BEFORE)?.unit;
+    let to = calls_of(alloc, BEHIND)?.unit;
+    assert!(rt; from < to);
+    for call in from..to {
+        cut_once(&rt, call, call == to - 1)?;
+    }
+    Ok(())
+}
+
+/// The drive up to the second in which the card is put in again, that second too, and a minute later once more.
+const UNTIL: &[u8] = b"start 1267401600\ninsert driver a\nrun 60 0\nrun 300 50\n";
+
+const AGAIN: &[u8] = b"start 1267401600\ninsert driver a\nrun 60 0\nrun 300 50\ninsert driver a\n";
+
+const ONCE_MORE: &[u8] =
+    b"start 1267401600\ninsert driver a\nrun 60 0\nrun 300 50\ninsert driver a\nrun 60 0\ninsert driver a\nrun 60 0\n";
+
+/// Two stops of the first card.
+fn two(alloc: Global, first: Stop, second: Stop) -> Result<Stops, AllocError> {
+    let mut stops = Stops::one(alloc, Device::CardA, first)?;
+    stops.card_a.push(second)?;
+    Ok(stops)
+}
+
+/// The run in which the card comes once more, whether the card has its entries then, and the type and the begin of the session that is noted on it as
+/// not closed.
+fn run_once_more(alloc: Global, stops: Stops) -> Result<(Ran, bool, [u8; 5]), Fail> {
+    let mut d = new_devices(alloc, stops)?;
+    let ran = d.run(alloc, ONCE_MORE)?;
+    let is_told = d.card_tells(alloc, &[0x0000u16, 0x1801, 0x2003])?;
+    Ok((ran, is_told, unclosed_on(&mut d.card_a)?))
+}
+
+/// The card that the first stop has torn out is put in again, and stopped by a call of that: put in once more it has the same entries, and the session
+/// that was not closed is noted on it.
+fn torn_twice(rt: &(impl Abort + AllocGlobal), first: Stop, second: Stop) -> Result<(), Fail> {
+    let alloc = rt.alloc();
+    let (ran, is_told, unclosed) = run_once_more(alloc, two(alloc, first, second)?)?;
+    let tear = Break::Tear {
+        second: T0 + 360,
+        slot: Slot::Driver,
+        failed: true,
+        begun: 1,
+        late: false,
+    };
+    assert!(rt; ran.is_recorded && ran.breaks == 2);
+    assert_eq!(rt; ran.last_break, Some(tear));
+    assert!(rt; is_told);
+    assert_eq!(rt; unclosed, *b"\x06\x4B\x8B\x03\x80");
+    Ok(())
+}
+
+/// Each call of its coming again.
+fn torn_again(rt: &(impl Abort + AllocGlobal), call: u64, left: Left) -> Result<(), Fail> {
+    let alloc = rt.alloc();
+    let first = Stop { call, left };
+    let from = calls_with(alloc, UNTIL, Stops::one(alloc, Device::CardA, first)?)?.card_a;
+    let to = calls_with(alloc, AGAIN, Stops::one(alloc, Device::CardA, first)?)?.card_a;
+    assert!(rt; from < to);
+    for call in from..to {
+        torn_twice(rt, first, Stop { call, left })?;
+    }
+    Ok(())
+}
+
+/// The same for each call of that keeping.
+fn torn_in_repair(rt: &(impl Abort + AllocGlobal), left: Left) -> Result<(), Fail> {
+    let alloc = rt.alloc();
+    let from = calls_of(alloc, BEFORE)?.card_a;
+    let to = calls_of(alloc, BEHIND)?.card_a;
+    assert!(rt; from < to);
+    for first in from..to {
+        torn_again(rt, first, left)?;
+    }
+    Ok(())
+}
+
+#[test]
+fn a_repair_that_is_stopped_before_a_write(rt: HostRuntime) -> Result<(), Fail> {
+    torn_in_repair(&rt, Left::Before)
+}
+
+#[test]
+fn a_repair_that_is_stopped_behind_a_write(rt: HostRuntime) -> Result<(), Fail> {
+    torn_in_repair(&rt, Left::After)
+}
+
+#[test]
+fn a_repair_that_is_stopped_within_a_write(rt: HostRuntime) -> Result<(), Fail> {
+    torn_in_repair(&rt, Left::Torn(0xFF))
+}
+
+/// The first place of a fault.
+const FIRST_FAULT: u32 = 2391674;
+
+/// What stands there of a unit: type, record purpose, begin and end; and both cards' numbers at both.
+fn fault_on(unit: &mut MemMedium) -> Result<([u8; 10], [u8; 72]), Failed>
+    requires { IsUnit (memory_state unit.old.log unit.old.counts) }
+{
+    let entry: [u8; 10] = unit_bytes(&mut *unit, FIRST_FAULT)?;
+    let numbers: [u8; 72] = unit_bytes(unit, FIRST_FAULT + 10)?;
+    Ok((entry, numbers))
+}
+
+/// The same behind a run that stops so.
+fn fault_noted(alloc: Global, stops: Stops) -> Result<([u8; 10], [u8; 72]), Fail> {
+    let mut d = new_devices(alloc, stops)?;
+    d.run_whole(alloc, BEHIND)?;
+    Ok(fault_on(&mut d.unit)?)
+}
+
+/// A card that a failed call tears out is a fault of that second, noted with no card's number: it is out by then.
+#[test]
+fn a_card_fault_is_noted(rt: HostRuntime) -> Result<(), Fail> {
+    let alloc = rt.alloc();
+    let call = calls_of(alloc, BEFORE)?.card_a;
+    let left = Left::Before;
+    let stops = Stops::one(alloc, Device::CardA, Stop { call, left })?;
+    let (entry, numbers) = fault_noted(alloc, stops)?;
+    assert_eq!(rt; entry, *b"\x40\x00\x4B\x8B\x04\x6F\x4B\x8B\x04\x6F");
+    assert_eq!(rt; numbers, [0; 72]);
+    Ok(())
+}
+
+/// A place for a slot that is empty, and a withdrawal in motion: each is refused with what stands in its way.
+#[test]
+fn what_is_refused(rt: HostRuntime) -> Result<(), Fail> {
+    let alloc = rt.alloc();
+    let text =
+        b"start 1267401600\ninsert driver a\nplace codriver begin 13 2\nrun 60 0\nwithdraw driver\nrun 60 60\n";
+    let ran = run(alloc, text, Stops::none(alloc))?;
+    let place = Refused {
+        second: T0,
+        fault: SlotFault::NoCard(Slot::CoDriver),
+    };
+    let withdrawal = Refused {
+        second: T0 + 60,
+        fault: SlotFault::Moving(60),
+    };
+    assert!(rt; ran.is_recorded && ran.refused == 2);
+    assert_eq!(rt; ran.first_refusal, Some(place));
+    assert_eq!(rt; ran.last_refusal, Some(withdrawal));
+    Ok(())
+}
+
+/// Ten minutes of a drive with one card, with two, and a minute more of each.
+const TEN: &[u8] = b"start 1267401600\ninsert driver a\nrun 600 50\n";
+
+const ELEVEN: &[u8] = b"start 1267401600\ninsert driver a\nrun 660 50\n";
+
+const TEN_OF_TWO: &[u8] = b"start 1267401600\ninsert driver a\ninsert codriver b\nrun 600 50\n";
+
+const ELEVEN_OF_TWO: &[u8] = b"start 1267401600\ninsert driver a\ninsert codriver b\nrun 660 50\n";
+
+/// How many calls the last minute takes: of the unit, and of each card.
+fn calls_between(alloc: Global, before: &[u8], behind: &[u8]) -> Result<(u64, u64, u64), Fail> {
+    let before = calls_of(alloc, before)?;
+    let behind = calls_of(alloc, behind)?;
+    Ok((
+        behind.unit.saturating_sub(before.unit),
+        behind.card_a.saturating_sub(before.card_a),
+        behind.card_b.saturating_sub(before.card_b),
+    ))
+}
+
+/// A minute takes three writes of the unit, three more for each card to which it is owed, and three of each card; nothing is read.
+#[test]
+fn a_minute_with_cards_takes_few_calls(rt: HostRuntime) -> Result<(), Fail> {
+    let alloc = rt.alloc();
+    assert_eq!(rt; calls_between(alloc, TEN, ELEVEN)?, (6, 3, 0));
+    assert_eq!(rt; calls_between(alloc, TEN_OF_TWO, ELEVEN_OF_TWO)?, (9, 3, 3));
+    Ok(())
+}
