@@ -1,8 +1,7 @@
 -- A card is put into a slot, and so the events of the cards go on: the minutes before note none, and what its judging brings it is noted.
-use Rattle.std.proofs.Common.{◌≡◌, ◌∙◌, ℕ, suc, ◌+◌, ◌≤◌, Bool, true, false, cond, not, ◌||◌, Option, Some, None, option_map, List, [], ◌∷◌, ◌++◌, length, map, refl, ap, sym, subst, arith, append-nil}
+use Rattle.std.proofs.Common.{◌≡◌, ◌∙◌, ℕ, suc, ◌+◌, Bool, true, false, cond, not, ◌||◌, Option, Some, None, option_map, List, [], ◌∷◌, ◌++◌, length, map, refl, ap, sym, subst, arith, append-nil}
 use Rattle.std.specs.Prelude.{◌==◌, ◌&&◌, flat_map, nat_lt}
 use Rattle.std.specs.List.{list_any}
-use Rattle.std.proofs.lemmas.Bool.Decides.{nat_tests}
 use Rattle.activity_codec.specs.declared.values.Slot.{Slot}
 use Rattle.activity_codec.specs.declared.values.Slot.TheVariants.{Driver, CoDriver}
 use Rattle.trace_model.specs.declared.Action.{Action}
@@ -19,7 +18,7 @@ use Rattle.event_model.specs.Events.{Seen, number_of}
 use Rattle.log_model.specs.declared.lines.Break.{Break}
 use Rattle.log_model.specs.declared.lines.SlotFault.{SlotFault}
 use Rattle.log_model.specs.declared.lines.Verdict.{Verdict}
-use Rattle.log_model.specs.Log.{RunLog, Phase, In, same_phase, cut_in, is_torn_in, found_in, is_accepting}
+use Rattle.log_model.specs.Log.{RunLog, Phase, In, cut_in, is_torn_in, found_in, is_accepting}
 use Rattle.log_model.specs.Slots.{Sitting, in_slot, refusal, same_card}
 use Rattle.log_model.specs.Course.{Course, Before, Moved, Visit, visits, leaves, with_slot, carried_out, answered, moved_by, slot_told, both_told, begins, acted, card_in, went}
 use Rattle.safety_model.specs.Safe.{Devices, card_of}
@@ -46,10 +45,10 @@ use Rattle.run_acts.proofs.CardCourse.{quiet-same, behind-more, behind-same}
 use Rattle.run_acts.proofs.CardSecond.{any-more, quiet-shown, put-shown}
 use Rattle.run_acts.proofs.CardShown.{FindsUses, FindsStill}
 use Rattle.run_acts.proofs.CardUses.{tears-none, lines-still}
-use Rattle.run_acts.proofs.RingedLines.{AreTears, TellsBeside, tears-beside}
-use Rattle.run_acts.proofs.RingedSecond.{tears-here_, cut-found, cut-torn, cut-failed}
-use Rattle.recorder_with_cards.specs.JudgedRings.{TellsHere}
+use Rattle.run_acts.proofs.RingedLines.{AreTears}
+use Rattle.run_acts.proofs.RingedSecond.{cut-found, cut-torn, cut-failed}
 use Rattle.recorder_with_cards.specs.JudgedCards.{NotesNone, IsJudgedOnCards}
+use Rattle.recorder_with_cards.proofs.SettledLines.{TellsOn, tears-on}
 use Rattle.recorder_with_cards.proofs.RingsHere.{here-then, here-more, goes-to, course-then, course-cut, is-cut}
 
 -- ---- a card that is put in, and falls as it is judged, is torn out
@@ -176,31 +175,8 @@ module _ (o : Origin) (done : List TraceSecond) (s : TraceSecond) (front rest : 
   uncut : cut_in (log_of before) s.number ≡ None
   uncut = w.within.moment.up_to.uncut
 
-  beside : TellsBeside (log_of before) (log_of told) s.number (In (suc (length front)))
-  beside = tears-beside (record { second = s.number; begun = suc (length front); late = false }) lines (log_of before) (log_of told) log_is tears
-
-  apart : (k : ℕ) → k ≤ length front → same_phase (In (suc (length front))) (In k) ≡ false
-  apart k le = grind (arith, nat_tests)
-
-  uncut-told : cut_in (log_of told) s.number ≡ None
-  uncut-told = beside.cut ∙ uncut
-
-  same-told : TellSameTo (log_of before) (log_of told) s.number (length front)
-  same-told = record {
-    begun = λ k lt. ap (λ (c : Option ℕ). begins c k) uncut;
-    begun_later = λ k lt. ap (λ (c : Option ℕ). begins c k) uncut-told;
-    torn = λ k x le. beside.torn (In k) x (apart k le);
-    found = λ k x le. beside.found (In k) x;
-  }
-
-  here-told : TellsHere (log_of before) (log_of told) s.number
-  here-told = record {
-    breaks = (lines, ap (λ (l : RunLog). l.breaks) log_is, tears-here_ s.number (suc (length front)) false lines tears);
-    finds = ([], ap (λ (l : RunLog). l.finds) log_is ∙ sym (append-nil before.finds.items), tt);
-  }
-
-  more-told : HasMoreBreaks (log_of before) (log_of told)
-  more-told = here-more (log_of before) (log_of told) s.number here-told
+  told-on : TellsOn (log_of before) (log_of told) s.number (length front)
+  told-on = tears-on (log_of before) (log_of told) s.number (length front) lines log_is tears uncut
 
   -- where no call failed no line was told
   quiet-lines : (c : Card) → FindsStill (log_of before) (log_of told) (uses_in o c (notes_now w.within.b.run.log done (log_of before) s)) (uses_in o c (notes_now w.within.b.run.log done (log_of told) s))
@@ -211,26 +187,26 @@ module _ (o : Origin) (done : List TraceSecond) (s : TraceSecond) (front rest : 
   -- the cards as this one is to be judged
   settled-on : CardsIn o done s w.within.b.run.log front (log_of told) e
   settled-on =
-      let same : course_behind (log_of told) was s front ≡ course_behind (log_of before) was s front = behind-same (log_of before) (log_of told) s was front same-told in
-      quiet-shown o done s w.within.b.run.log front front (log_of before) (log_of told) d e cards quiet-lines (failed-more (log_of before) (log_of told) more-told)
+      let same : course_behind (log_of told) was s front ≡ course_behind (log_of before) was s front = behind-same (log_of before) (log_of told) s was front told-on.same in
+      quiet-shown o done s w.within.b.run.log front front (log_of before) (log_of told) d e cards quiet-lines (failed-more (log_of before) (log_of told) told-on.more)
       (quiet-same (course_behind (log_of before) was s front) (course_behind (log_of told) was s front) (ap (λ (q : Course). q.found) same) (ap (λ (q : Course). q.entered) same) (ap (λ (q : Course). q.torn) same)) left still
 
   none-told : found_in (log_of told) s.number (In (suc (length front))) slot ≡ []
-  none-told = beside.found (In (suc (length front))) slot ∙ w.within.moment.up_to.found (In (suc (length front))) slot (omega arith)
+  none-told = told-on.beside.found (In (suc (length front))) slot ∙ w.within.moment.up_to.found (In (suc (length front))) slot (omega arith)
 
   longer : length front + 1 ≡ suc (length front)
   longer = omega arith
 
   -- ---- THE UNIT FAILED in the minutes before: nothing is found of it
   told-cut : IsCutIn w.within.b.run.log (log_of before) (with_cut (log_of told) s (front ++ Insert slot card ∷ [])) done s front (Insert slot card) rest
-  told-cut = is-cut (log_of before) (log_of told) s front rest (Insert slot card) are uncut more-told same-told uncut-told o done (In (length front)) [] None [] (values_of old before) d w.within here-told
+  told-cut = is-cut (log_of before) (log_of told) s front rest (Insert slot card) are uncut told-on.more told-on.same told-on.uncut o done (In (length front)) [] None [] (values_of old before) d w.within told-on.here
 
   pub unsettled-cards : CardsGoOn true o done s w.within.b.run.log (front ++ Insert slot card ∷ []) (log_of told) e
   unsettled-cards =
       let cut : RunLog = with_cut (log_of told) s (front ++ Insert slot card ∷ []) in
-      let found : found_in cut s.number (In (length front + 1)) slot ≡ [] = ap (λ (k : ℕ). found_in cut s.number (In k) slot) longer ∙ cut-found (log_of told) s.number (length (front ++ Insert slot card ∷ [])) uncut-told (In (suc (length front))) slot ∙ none-told in
+      let found : found_in cut s.number (In (length front + 1)) slot ≡ [] = ap (λ (k : ℕ). found_in cut s.number (In k) slot) longer ∙ cut-found (log_of told) s.number (length (front ++ Insert slot card ∷ [])) told-on.uncut (In (suc (length front))) slot ∙ none-told in
       put-shown o done s w.within.b.run.log front slot card (log_of before) cut d e cards (failed-more (log_of before) cut told-cut.goes.lines) told-cut.goes.same told-cut.goes.begun
-      (ap (λ (q : Course). refusal q.slots s.speed (Insert slot card)) (course-cut (log_of before) (log_of told) s front rest (Insert slot card) are uncut more-told same-told uncut-told was) ∙ allowed)
+      (ap (λ (q : Course). refusal q.slots s.speed (Insert slot card)) (course-cut (log_of before) (log_of told) s front rest (Insert slot card) are uncut told-on.more told-on.same told-on.uncut was) ∙ allowed)
       left (λ c valid other. still c valid) (λ c other none. no-cut (log_of told) s.number (length (front ++ Insert slot card ∷ [])) none)
       (λ c valid own entered.
       let x : Seen = seen_behind w.within.b.run.log done s (front ++ Insert slot card ∷ []) cut in
@@ -251,7 +227,7 @@ module _ (o : Origin) (done : List TraceSecond) (s : TraceSecond) (front rest : 
   -- ---- or the card is judged
   module _ (failed : Bool) (after : Outcome) (f : Devices) (j : IsJudgedOnCards failed o w.within.b.run.log done s (suc (length front)) slot card told after e f) where
     uncut-after : cut_in (log_of after) s.number ≡ None
-    uncut-after = j.cut ∙ uncut-told
+    uncut-after = j.cut ∙ told-on.uncut
 
     more-after : HasMoreBreaks (log_of told) (log_of after)
     more-after = here-more (log_of told) (log_of after) s.number j.here
@@ -260,10 +236,10 @@ module _ (o : Origin) (done : List TraceSecond) (s : TraceSecond) (front rest : 
     same-after = j.same (length front) refl
 
     goes : GoesOnTo (log_of told) (log_of after) s front
-    goes = goes-to (log_of told) (log_of after) s front rest (Insert slot card) are uncut-told more-after same-after uncut-after
+    goes = goes-to (log_of told) (log_of after) s front rest (Insert slot card) are told-on.uncut more-after same-after uncut-after
 
     told-course : course_in w.within.b done s (In (length front)) (log_of told) ≡ course_in w.within.b done s (In (length front)) (log_of before)
-    told-course = sym (behind-told (log_of told) same-told uncut-told) ∙ course-then (log_of before) (log_of told) s front rest (Insert slot card) are uncut more-told same-told uncut-told was
+    told-course = sym (behind-told (log_of told) told-on.same told-on.uncut) ∙ course-then (log_of before) (log_of told) s front rest (Insert slot card) are uncut told-on.more told-on.same told-on.uncut was
       where
         behind-told : (later : RunLog) → TellSameTo (log_of before) later s.number (length front) → cut_in later s.number ≡ None → course_behind later was s front ≡ course_in w.within.b done s (In (length front)) later
         behind-told later same none = course-then later later s front rest (Insert slot card) are none ([], sym (append-nil later.breaks)) (record { begun = same.begun_later; begun_later = same.begun_later; torn = λ k x le. refl; found = λ k x le. refl }) none was
@@ -301,14 +277,14 @@ module _ (o : Origin) (done : List TraceSecond) (s : TraceSecond) (front rest : 
 
     by : (b : Bool) → failed ≡ b → CardsGoOn b o done s w.within.b.run.log (front ++ Insert slot card ∷ []) (log_of after) f
     by false is = in-log (log_of after) more-after same-after goes.begun
-        (ap (λ (q : Course). refusal q.slots s.speed (Insert slot card)) (course-then (log_of told) (log_of after) s front rest (Insert slot card) are uncut-told more-after same-after uncut-after was) ∙ allowed-told)
+        (ap (λ (q : Course). refusal q.slots s.speed (Insert slot card)) (course-then (log_of told) (log_of after) s front rest (Insert slot card) are told-on.uncut more-after same-after uncut-after was) ∙ allowed-told)
         refl refl (λ none. refl) (λ fails. absurd (let clash : true ≡ false = sym fails ∙ is in cc))
     by true is =
         let cuts : IsCutIn w.within.b.run.log (log_of told) (with_cut (log_of after) s (front ++ Insert slot card ∷ [])) done s front (Insert slot card) rest =
-        is-cut (log_of told) (log_of after) s front rest (Insert slot card) are uncut-told more-after same-after uncut-after o done (In (length front)) [] None [] (values_of old before) d w.within
-        (here-then (log_of before) (log_of told) (log_of after) s.number here-told j.here) in
+        is-cut (log_of told) (log_of after) s front rest (Insert slot card) are told-on.uncut more-after same-after uncut-after o done (In (length front)) [] None [] (values_of old before) d w.within
+        (here-then (log_of before) (log_of told) (log_of after) s.number told-on.here j.here) in
         in-log (with_cut (log_of after) s (front ++ Insert slot card ∷ [])) cuts.goes.lines cuts.goes.same cuts.goes.begun
-        (ap (λ (q : Course). refusal q.slots s.speed (Insert slot card)) (course-cut (log_of told) (log_of after) s front rest (Insert slot card) are uncut-told more-after same-after uncut-after was) ∙ allowed-told)
+        (ap (λ (q : Course). refusal q.slots s.speed (Insert slot card)) (course-cut (log_of told) (log_of after) s front rest (Insert slot card) are told-on.uncut more-after same-after uncut-after was) ∙ allowed-told)
         (cut-found (log_of after) s.number (length (front ++ Insert slot card ∷ [])) uncut-after (In (suc (length front))) slot)
         (cut-torn (log_of after) s.number (length (front ++ Insert slot card ∷ [])) uncut-after (In (suc (length front))) slot)
         (λ none. no-cut (log_of after) s.number (length (front ++ Insert slot card ∷ [])) none)

@@ -1,7 +1,6 @@
 -- A card is put into a slot, and so the rings go on: the minutes before write no ring, and its insertion is noted where it is accepted.
-use Rattle.std.proofs.Common.{◌≡◌, ◌∙◌, ◌⊎◌, ⊎_elim, ℕ, suc, ◌+◌, ◌≤◌, Bool, true, false, Option, None, List, [], ◌∷◌, ◌++◌, length, map, refl, ap, sym, subst, arith, append-nil}
+use Rattle.std.proofs.Common.{◌≡◌, ◌∙◌, ⊎_elim, ℕ, suc, ◌+◌, ◌≤◌, Bool, true, false, None, List, [], ◌∷◌, ◌++◌, length, map, refl, ap, sym, subst, arith, append-nil}
 use Rattle.std.specs.Prelude.{filter}
-use Rattle.std.proofs.lemmas.Bool.Decides.{nat_tests}
 use Rattle.activity_codec.specs.declared.values.Slot.{Slot}
 use Rattle.trace_model.specs.declared.Action.{Action}
 use Rattle.trace_model.specs.declared.Action.TheVariants.{Insert}
@@ -10,7 +9,7 @@ use Rattle.trace_model.specs.Trace.{TraceSecond}
 use Rattle.minute_model.specs.Span.{travelled_of}
 use Rattle.log_model.specs.declared.lines.Break.{Break}
 use Rattle.log_model.specs.declared.lines.Verdict.{Verdict}
-use Rattle.log_model.specs.Log.{RunLog, In, same_phase, cut_in, found_in, is_accepting}
+use Rattle.log_model.specs.Log.{RunLog, In, cut_in, found_in, is_accepting}
 use Rattle.log_model.specs.Slots.{refusal}
 use Rattle.log_model.specs.Course.{Told, Before, Visit, begins, went}
 use Rattle.side_model.specs.Odometer.{SpanFrom, odometer_at}
@@ -33,18 +32,15 @@ use Rattle.run_within.specs.Within.{Beginning, course_in}
 use Rattle.run_acts.specs.declared.run.Run.{Run}
 use Rattle.run_acts.specs.Recording.{log_of, values_of, RunWithin}
 use Rattle.run_acts.specs.RunRinged.{seats_of, IsLastFrom, RingsWithin, with_cut, RingsGoOn}
-use Rattle.run_acts.proofs.RingedLines.{AreTears, TellsBeside, tears-beside}
-use Rattle.run_acts.proofs.RingedSecond.{odometer-here, tears-here_, cut-found, since-begun}
-use Rattle.recorder_with_cards.specs.JudgedRings.{TellsHere, JudgedInRings, IsJudgedInRings}
+use Rattle.run_acts.proofs.RingedLines.{AreTears}
+use Rattle.run_acts.proofs.RingedSecond.{odometer-here, cut-found, since-begun}
+use Rattle.recorder_with_cards.specs.JudgedRings.{JudgedInRings, IsJudgedInRings}
+use Rattle.recorder_with_cards.proofs.SettledLines.{TellsOn, tears-on}
 use Rattle.recorder_with_cards.proofs.RingsHere.{here-then, here-more, goes-to, course-then, course-cut, is-cut}
 
 -- nothing is noted of a card that is not accepted
 none-noted : (u : ℕ) (slot : Slot) (card : Card) (vs : List Verdict) → filter is_accepting vs ≡ [] → accepts_by u slot card vs ≡ []
 none-noted u slot card vs none = ap (λ (l : List Verdict). map (λ (v : Verdict). Accepts (record { second = u; slot = slot; card = card })) l) none
-
--- behind an action is no moment up to it
-behind-apart : (n k : ℕ) → k ≤ n → same_phase (In (suc n)) (In k) ≡ false
-behind-apart n k le = grind (arith, nat_tests)
 
 module _ (o : Origin) (done : List TraceSecond) (s : TraceSecond) (front rest : List Action) (slot : Slot) (card : Card) (are : s.actions ≡ front ++ Insert slot card ∷ rest) (old : Run) (before : Outcome) (d : Devices) (w : RunWithin o done s (In (length front)) [] [] old before d)
     (spans : List SpanFrom) (t : Told) (rings : RingsWithin o done s w.within.b.run.log front old (log_of before) spans t d) (allowed : refusal (course_in w.within.b done s (In (length front)) (log_of before)).slots s.speed (Insert slot card) ≡ None)
@@ -63,36 +59,12 @@ module _ (o : Origin) (done : List TraceSecond) (s : TraceSecond) (front rest : 
   uncut = w.within.moment.up_to.uncut
 
   -- ---- the minutes before
-
-  beside : TellsBeside (log_of before) (log_of told) s.number (In (suc (length front)))
-  beside = tears-beside (record { second = s.number; begun = suc (length front); late = false }) lines (log_of before) (log_of told) log_is tears
-
-  apart : (k : ℕ) → k ≤ length front → same_phase (In (suc (length front))) (In k) ≡ false
-  apart k le = behind-apart (length front) k le
-
-  uncut-told : cut_in (log_of told) s.number ≡ None
-  uncut-told = beside.cut ∙ uncut
-
-  same-told : TellSameTo (log_of before) (log_of told) s.number (length front)
-  same-told = record {
-    begun = λ k lt. ap (λ (c : Option ℕ). begins c k) uncut;
-    begun_later = λ k lt. ap (λ (c : Option ℕ). begins c k) uncut-told;
-    torn = λ k x le. beside.torn (In k) x (apart k le);
-    found = λ k x le. beside.found (In k) x;
-  }
-
-  here-told : TellsHere (log_of before) (log_of told) s.number
-  here-told = record {
-    breaks = (lines, ap (λ (l : RunLog). l.breaks) log_is, tears-here_ s.number (suc (length front)) false lines tears);
-    finds = ([], ap (λ (l : RunLog). l.finds) log_is ∙ sym (append-nil before.finds.items), tt);
-  }
-
-  more-told : HasMoreBreaks (log_of before) (log_of told)
-  more-told = here-more (log_of before) (log_of told) s.number here-told
+  told-on : TellsOn (log_of before) (log_of told) s.number (length front)
+  told-on = tears-on (log_of before) (log_of told) s.number (length front) lines log_is tears uncut
 
   -- the rings as the card is to be judged
   settled-in : RingedIn o done s w.within.b.run.log front (log_of told) spans old.keeper.odometer t (seats_of mid) e
-  settled-in = go-on-in d e o done s w.within.b.run.log front (log_of before) (log_of told) spans old.keeper.odometer t (seats_of old) (seats_of mid) rings.ringed more-told same-told leaves left places fewer
+  settled-in = go-on-in d e o done s w.within.b.run.log front (log_of before) (log_of told) spans old.keeper.odometer t (seats_of old) (seats_of mid) rings.ringed told-on.more told-on.same leaves left places fewer
 
   -- and so it is as the card is judged
   pub odometer-mid : (waits : List Visit) (x : RunWithin o done s (In (suc (length front))) waits [] mid told e) → x.within.b ≡ w.within.b → odometer_by mid.keeper.odometer (travelled_of x.within.sp) ≡ odometer_at s.number (with_second spans old.keeper.odometer t)
@@ -103,7 +75,7 @@ module _ (o : Origin) (done : List TraceSecond) (s : TraceSecond) (front rest : 
 
   -- no card was found in it yet
   none-told : found_in (log_of told) s.number (In (suc (length front))) slot ≡ []
-  none-told = beside.found (In (suc (length front))) slot ∙ w.within.moment.up_to.found (In (suc (length front))) slot (omega arith)
+  none-told = told-on.beside.found (In (suc (length front))) slot ∙ w.within.moment.up_to.found (In (suc (length front))) slot (omega arith)
 
   longer : length front + 1 ≡ suc (length front)
   longer = omega arith
@@ -125,21 +97,21 @@ module _ (o : Origin) (done : List TraceSecond) (s : TraceSecond) (front rest : 
 
   -- ---- THE UNIT FAILED in the minutes before
   told-cut : IsCutIn w.within.b.run.log (log_of before) (with_cut (log_of told) s (front ++ Insert slot card ∷ [])) done s front (Insert slot card) rest
-  told-cut = is-cut (log_of before) (log_of told) s front rest (Insert slot card) are uncut more-told same-told uncut-told o done (In (length front)) [] None [] (values_of old before) d w.within here-told
+  told-cut = is-cut (log_of before) (log_of told) s front rest (Insert slot card) are uncut told-on.more told-on.same told-on.uncut o done (In (length front)) [] None [] (values_of old before) d w.within told-on.here
 
   pub unsettled-ringed : RingsGoOn true o done s w.within.b (front ++ Insert slot card ∷ []) mid (log_of told) spans t e
   unsettled-ringed =
       let cut : RunLog = with_cut (log_of told) s (front ++ Insert slot card ∷ []) in
       record {
         counted = counted-told;
-        lines = since-begun o done s (In (length front)) [] None [] (values_of old before) d w.within (log_of told) more-told;
+        lines = since-begun o done s (In (length front)) [] None [] (values_of old before) d w.within (log_of told) told-on.more;
         behind = told-cut.behind;
         odometer = same_odometer ∙ w.odometer;
         ringed = subst (λ (b : ℕ). RingedBehind o (done ++ s ∷ []) cut (suc s.number) (spans_cut spans b cut done s) nobody e) (sym same_odometer)
             (action-cut d e o done s w.within.b.run.log (log_of before) cut front (Insert slot card) rest spans old.keeper.odometer t (seats_of old) rings.ringed told-cut
             (notes-none cut told-cut.goes.begun
-            (ap (λ c. refusal c.slots s.speed (Insert slot card)) (course-cut (log_of before) (log_of told) s front rest (Insert slot card) are uncut more-told same-told uncut-told was) ∙ allowed)
-            (ap (filter is_accepting) (cut-found_ (log_of told) uncut-told) ∙ ap (filter is_accepting) none-told)) leaves left places);
+            (ap (λ c. refusal c.slots s.speed (Insert slot card)) (course-cut (log_of before) (log_of told) s front rest (Insert slot card) are uncut told-on.more told-on.same told-on.uncut was) ∙ allowed)
+            (ap (filter is_accepting) (cut-found_ (log_of told) told-on.uncut) ∙ ap (filter is_accepting) none-told)) leaves left places);
       }
     where
       cut-found_ : (later : RunLog) → cut_in later s.number ≡ None → found_in (with_cut later s (front ++ Insert slot card ∷ [])) s.number (In (suc (length front))) slot ≡ found_in later s.number (In (suc (length front))) slot
@@ -148,7 +120,7 @@ module _ (o : Origin) (done : List TraceSecond) (s : TraceSecond) (front rest : 
   -- ---- or the card is judged
   module _ (failed : Bool) (new : Run) (after : Outcome) (f : Devices) (j : IsJudgedInRings failed (since_in o w.within.b.run.log done s) s (suc (length front)) slot card (with_second spans old.keeper.odometer t) mid new told after e f) where
     uncut-after : cut_in (log_of after) s.number ≡ None
-    uncut-after = j.cut ∙ uncut-told
+    uncut-after = j.cut ∙ told-on.uncut
 
     more-after : HasMoreBreaks (log_of told) (log_of after)
     more-after = here-more (log_of told) (log_of after) s.number j.here
@@ -157,10 +129,10 @@ module _ (o : Origin) (done : List TraceSecond) (s : TraceSecond) (front rest : 
     same-after = j.same (length front) refl
 
     goes : GoesOnTo (log_of told) (log_of after) s front
-    goes = goes-to (log_of told) (log_of after) s front rest (Insert slot card) are uncut-told more-after same-after uncut-after
+    goes = goes-to (log_of told) (log_of after) s front rest (Insert slot card) are told-on.uncut more-after same-after uncut-after
 
     told-course : (course_in w.within.b done s (In (length front)) (log_of told)) ≡ (course_in w.within.b done s (In (length front)) (log_of before))
-    told-course = sym (behind-told (log_of told) same-told uncut-told) ∙ course-then (log_of before) (log_of told) s front rest (Insert slot card) are uncut more-told same-told uncut-told was
+    told-course = sym (behind-told (log_of told) told-on.same told-on.uncut) ∙ course-then (log_of before) (log_of told) s front rest (Insert slot card) are uncut told-on.more told-on.same told-on.uncut was
       where
         behind-told : (later : RunLog) → TellSameTo (log_of before) later s.number (length front) → cut_in later s.number ≡ None → course_behind later was s front ≡ course_in w.within.b done s (In (length front)) later
         behind-told later same none = course-then later later s front rest (Insert slot card) are none ([], sym (append-nil later.breaks)) (record { begun = same.begun_later; begun_later = same.begun_later; torn = λ k x le. refl; found = λ k x le. refl }) none was
@@ -169,14 +141,14 @@ module _ (o : Origin) (done : List TraceSecond) (s : TraceSecond) (front rest : 
     fine = ap (λ c. refusal c.slots s.speed (Insert slot card)) told-course ∙ allowed
 
     fine-after : refusal (course_behind (log_of after) (went w.within.b.run.log done).before s front).slots s.speed (Insert slot card) ≡ None
-    fine-after = ap (λ c. refusal c.slots s.speed (Insert slot card)) (course-then (log_of told) (log_of after) s front rest (Insert slot card) are uncut-told more-after same-after uncut-after was) ∙ fine
+    fine-after = ap (λ c. refusal c.slots s.speed (Insert slot card)) (course-then (log_of told) (log_of after) s front rest (Insert slot card) are told-on.uncut more-after same-after uncut-after was) ∙ fine
 
     cuts : IsCutIn w.within.b.run.log (log_of told) (with_cut (log_of after) s (front ++ Insert slot card ∷ [])) done s front (Insert slot card) rest
-    cuts = is-cut (log_of told) (log_of after) s front rest (Insert slot card) are uncut-told more-after same-after uncut-after o done (In (length front)) [] None [] (values_of old before) d w.within
-        (here-then (log_of before) (log_of told) (log_of after) s.number here-told j.here)
+    cuts = is-cut (log_of told) (log_of after) s front rest (Insert slot card) are told-on.uncut more-after same-after uncut-after o done (In (length front)) [] None [] (values_of old before) d w.within
+        (here-then (log_of before) (log_of told) (log_of after) s.number told-on.here j.here)
 
     fine-cut : refusal (course_behind (with_cut (log_of after) s (front ++ Insert slot card ∷ [])) (went w.within.b.run.log done).before s front).slots s.speed (Insert slot card) ≡ None
-    fine-cut = ap (λ c. refusal c.slots s.speed (Insert slot card)) (course-cut (log_of told) (log_of after) s front rest (Insert slot card) are uncut-told more-after same-after uncut-after was) ∙ fine
+    fine-cut = ap (λ c. refusal c.slots s.speed (Insert slot card)) (course-cut (log_of told) (log_of after) s front rest (Insert slot card) are told-on.uncut more-after same-after uncut-after was) ∙ fine
 
     found-cut : found_in (with_cut (log_of after) s (front ++ Insert slot card ∷ [])) s.number (In (suc (length front))) slot ≡ found_in (log_of after) s.number (In (suc (length front))) slot
     found-cut = cut-found (log_of after) s.number (length (front ++ Insert slot card ∷ [])) uncut-after (In (suc (length front))) slot
@@ -196,7 +168,7 @@ module _ (o : Origin) (done : List TraceSecond) (s : TraceSecond) (front rest : 
         let cut : RunLog = with_cut (log_of after) s (front ++ Insert slot card ∷ []) in
         record {
           counted = j.counted;
-          lines = since-begun o done s (In (length front)) [] None [] (values_of old before) d w.within (log_of after) (here-more (log_of before) (log_of after) s.number (here-then (log_of before) (log_of told) (log_of after) s.number here-told j.here));
+          lines = since-begun o done s (In (length front)) [] None [] (values_of old before) d w.within (log_of after) (here-more (log_of before) (log_of after) s.number (here-then (log_of before) (log_of told) (log_of after) s.number told-on.here j.here));
           behind = cuts.behind;
           odometer = j.odometer ∙ same_odometer ∙ w.odometer;
           ringed = subst (λ (b : ℕ). RingedBehind o (done ++ s ∷ []) cut (suc s.number) (spans_cut spans b cut done s) nobody f) (sym (j.odometer ∙ same_odometer)) (⊎_elim

@@ -10,6 +10,7 @@ pub mod EnteredLines
 pub mod EnteredRinged
 pub mod EnteredPlaces
 pub mod RingsHere
+pub mod SettledLines
 pub mod InsertedRinged
 pub mod Spanned
 pub mod EnteredEvents

@@ -1,5 +1,5 @@
 -- Power comes with a second: what each call of that leaves of the events of the cards.
-use Rattle.std.proofs.Common.{◌≡◌, ◌∙◌, ℕ, ◌+◌, ◌<◌, Bool, true, false, not, Option, Some, None, List, [], ◌∷◌, ◌++◌, take, refl, ap, sym, subst, arith, append-nil}
+use Rattle.std.proofs.Common.{◌≡◌, ◌∙◌, ℕ, ◌<◌, Bool, true, false, not, Option, Some, None, List, [], ◌∷◌, ◌++◌, take, refl, ap, sym, subst, append-nil}
 use Rattle.std.specs.List.{AllByRecursion}
 use Rattle.activity_codec.specs.declared.values.Slot.{Slot}
 use Rattle.activity_codec.specs.declared.values.Slot.TheVariants.{Driver, CoDriver}
@@ -23,13 +23,10 @@ use Rattle.safety_model.specs.Safe.{Devices, card_of}
 use Rattle.run_course.specs.Followed.{Progress, Followed, Comes}
 use Rattle.run_course.specs.Seconds.{GoesOnBy}
 use Rattle.run_course.proofs.Logs.{all-before, found_log, same-found, kept-found}
-use Rattle.run_course.proofs.Steps.{went-same_}
-use Rattle.run_course.proofs.Told.{comes-power}
-use Rattle.run_moments.proofs.Reached.{TellsNothing, nothing-told}
 use Rattle.run_events.specs.Gaps.{AreKnownGaps}
 use Rattle.run_events.proofs.Later.{seen-same}
 use Rattle.run_evented.specs.Uses.{notes_in, uses_in}
-use Rattle.run_evented.proofs.Lines.{same-before, early-before}
+use Rattle.run_evented.proofs.Lines.{early-before}
 use Rattle.run_evented.proofs.Noted.{notes-alike}
 use Rattle.run_evented.proofs.Exact.{no-cut, found-none}
 use Rattle.run_outcome.specs.declared.outcome.Outcome.{Outcome}
@@ -37,7 +34,6 @@ use Rattle.run_keeping.specs.declared.keeper.Moment.{Moment}
 use Rattle.run_keeping.specs.Books.{HaveTime}
 use Rattle.run_recorded.specs.Origin.{Origin, rule_of, start_at, first_of}
 use Rattle.run_rule.specs.Between.{devices}
-use Rattle.run_ringed.specs.SoFar.{GoesBehind}
 use Rattle.run_ringed.proofs.SoFar.{failed-more, left-itself}
 use Rattle.run_ringed.proofs.Waking.{still-failed}
 use Rattle.run_within.specs.Recorded.{Values}
@@ -61,7 +57,7 @@ use Rattle.recorder_with_cards.specs.JudgedRings.{TellsHere}
 use Rattle.recorder_with_cards.specs.JudgedCards.{IsJudgedOnCards, CardsJudged, CardsAnew}
 use Rattle.recorder_with_cards.proofs.Resumed.{RunWaking, waiting_in, driver-next, codriver-next, codriver-began}
 use Rattle.recorder_with_cards.proofs.RingsHere.{here-then, here-cut, goes-by, goes-behind}
-use Rattle.recorder_with_cards.proofs.WokenRinged.{SatThere, sat-both, in-both, driver-first}
+use Rattle.recorder_with_cards.proofs.WokenRinged.{IsCutAtOnce, cut-at_once, SatThere, sat-both, in-both, driver-first}
 use Rattle.recorder_with_cards.proofs.WokenCards.{slot-cards, slot-cut, cut-waking}
 
 -- ---- calls of the unit leave the cards
@@ -103,32 +99,20 @@ module _ (o : Origin) (done : List TraceSecond) (s : TraceSecond) (p : Progress)
   abbrev cut : RunLog
   cut = with_cut p.log s []
 
-  power : has_power (went p.log done).before s ≡ true
-  power = comes-power (went p.log done).before s p.next comes number given
-
-  none : TellsNothing p.log s.number
-  none = nothing-told (rule_of o) (start_at o) o.from (first_of o) done p f s.number (omega (arith, number))
-
-  goes : GoesOnBy p (with_cut p.log s []) s
-  goes = record { number = number; given = given; breaks = (cut_at s.number true 0 ∷ [], refl, (number, tt)); finds = ([], sym (append-nil p.log.finds), tt) }
-
-  behind : GoesBehind p.log (with_cut p.log s []) done
-  behind = record {
-    same = same-before o done p f s (with_cut p.log s []) goes;
-    went_is = went-same_ (rule_of o) (start_at o) o.from (first_of o) done p f.order f.next f.unfound s (with_cut p.log s []) goes;
-  }
+  at_once : IsCutAtOnce done s p
+  at_once = cut-at_once o done s p f comes number given
 
   later : IsLater p.log (with_cut p.log s []) done s.number
-  later = record { behind = behind; more = cut_at s.number true 0 ∷ []; breaks = refl; here = (refl, tt); early = early-before o done p f s (with_cut p.log s []) goes; some = some }
+  later = record { behind = at_once.behind; more = cut_at s.number true 0 ∷ []; breaks = refl; here = (refl, tt); early = early-before o done p f s (with_cut p.log s []) at_once.goes; some = some }
 
   waking : CardsWaking o done s p.log (with_cut p.log s []) d
   waking =
-      waking-passed o done s p.log p.log (with_cut p.log s []) d d comes.running (λ slot is. cut-torn p.log s.number 0 none.cut (In 0) slot ∙ is) (failed-more p.log (with_cut p.log s []) (cut_at s.number true 0 ∷ [], refl)) (left-itself o d)
-      (waking-begins o done s p.log d h comes.running (λ slot. none.found (In 0) slot) power (λ k slot lt. none.found (In k) slot))
-      (found-same p.log (with_cut p.log s []) (went p.log done).before s comes.running (λ slot is. cut-torn p.log s.number 0 none.cut (In 0) slot ∙ is) (λ slot. cut-found p.log s.number 0 none.cut (In 0) slot)) (λ c failed. no-cut p.log s.number 0 failed) (shows-self o d)
+      waking-passed o done s p.log p.log (with_cut p.log s []) d d comes.running (λ slot is. cut-torn p.log s.number 0 at_once.none.cut (In 0) slot ∙ is) (failed-more p.log (with_cut p.log s []) (cut_at s.number true 0 ∷ [], refl)) (left-itself o d)
+      (waking-begins o done s p.log d h comes.running (λ slot. at_once.none.found (In 0) slot) at_once.power (λ k slot lt. at_once.none.found (In k) slot))
+      (found-same p.log (with_cut p.log s []) (went p.log done).before s comes.running (λ slot is. cut-torn p.log s.number 0 at_once.none.cut (In 0) slot ∙ is) (λ slot. cut-found p.log s.number 0 at_once.none.cut (In 0) slot)) (λ c failed. no-cut p.log s.number 0 failed) (shows-self o d)
 
   pub unpowered-cards : CardsBehind o (done ++ s ∷ []) (with_cut p.log s []) d
-  unpowered-cards = cut-waking o done s p.log (with_cut p.log s []) d later power comes.running (cut-is p.log s.number 0 none.cut) (cut-failed p.log s.number 0 none.cut) waking
+  unpowered-cards = cut-waking o done s p.log (with_cut p.log s []) d later at_once.power comes.running (cut-is p.log s.number 0 at_once.none.cut) (cut-failed p.log s.number 0 at_once.none.cut) waking
 
 -- ---- A SPAN BEGINS, and no card was looked at yet
 pub wakes-cards : (o : Origin) (done : List TraceSecond) (s : TraceSecond) (b : Beginning) (waits : List Visit) (run : Run) (out : Outcome) (d : Devices) → RunWaking o done s b waits both_slots run out d → log_of out ≡ b.run.log → CardsBehind o done (log_of out) d →

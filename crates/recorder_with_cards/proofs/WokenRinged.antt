@@ -145,6 +145,26 @@ second-is log before s power = record {
   starts = (let is : (second_told log before s).starts ≡ not before.running = rw power refl in is);
 }
 
+-- POWER COMES with a second, and is cut at once: it goes on so by the log then
+pub record IsCutAtOnce (done : List TraceSecond) (s : TraceSecond) (p : Progress) : Type 0 where
+  pub power : has_power (went p.log done).before s ≡ true
+  pub none : TellsNothing p.log s.number
+  pub goes : GoesOnBy p (with_cut p.log s []) s
+  pub behind : GoesBehind p.log (with_cut p.log s []) done
+
+pub cut-at_once : (o : Origin) (done : List TraceSecond) (s : TraceSecond) (p : Progress) → Followed (rule_of o) (start_at o) o.from (first_of o) done p → Comes (went p.log done).before p.next → s.number ≡ p.next → s.has_power ≡ true → IsCutAtOnce done s p
+cut-at_once o done s p f comes number given =
+    let goes : GoesOnBy p (with_cut p.log s []) s = record { number = number; given = given; breaks = (cut_at s.number true 0 ∷ [], refl, (number, tt)); finds = ([], sym (append-nil p.log.finds), tt) } in
+    record {
+      power = comes-power (went p.log done).before s p.next comes number given;
+      none = nothing-told (rule_of o) (start_at o) o.from (first_of o) done p f s.number (omega (arith, number));
+      goes = goes;
+      behind = record {
+        same = same-before o done p f s (with_cut p.log s []) goes;
+        went_is = went-same_ (rule_of o) (start_at o) o.from (first_of o) done p f.order f.next f.unfound s (with_cut p.log s []) goes;
+      };
+    }
+
 -- ---- THE UNIT FAILED before a span began: power comes with a second, and is cut at once
 module _ (o : Origin) (done : List TraceSecond) (s : TraceSecond) (p : Progress) (f : Followed (rule_of o) (start_at o) o.from (first_of o) done p) (comes : Comes (went p.log done).before p.next) (number : s.number ≡ p.next) (given : s.has_power ≡ true)
     (d : Devices) (spans : List SpanFrom) (seats : Card → Option Seating) (v : RingedBehind o done p.log s.number spans seats d) where
@@ -154,32 +174,20 @@ module _ (o : Origin) (done : List TraceSecond) (s : TraceSecond) (p : Progress)
   abbrev t : Told
   t = second_told p.log (went p.log done).before s
 
-  power : has_power (went p.log done).before s ≡ true
-  power = comes-power (went p.log done).before s p.next comes number given
-
-  none : TellsNothing p.log s.number
-  none = nothing-told (rule_of o) (start_at o) o.from (first_of o) done p f s.number (omega (arith, number))
-
-  goes : GoesOnBy p (with_cut p.log s []) s
-  goes = record { number = number; given = given; breaks = (cut_at s.number true 0 ∷ [], refl, (number, tt)); finds = ([], sym (append-nil p.log.finds), tt) }
-
-  behind : GoesBehind p.log (with_cut p.log s []) done
-  behind = record {
-    same = same-before o done p f s (with_cut p.log s []) goes;
-    went_is = went-same_ (rule_of o) (start_at o) o.from (first_of o) done p f.order f.next f.unfound s (with_cut p.log s []) goes;
-  }
+  at_once : IsCutAtOnce done s p
+  at_once = cut-at_once o done s p f comes number given
 
   pub unpowered-ringed : (base : ℕ) → RingedBehind o (done ++ s ∷ []) (with_cut p.log s []) (suc s.number) (spans_cut spans base (with_cut p.log s []) done s) nobody d
   unpowered-ringed base =
-      let began : RingedIn o done s p.log [] p.log spans base t nobody d = power-begins d o done s p.log spans base t seats nobody v comes.running (λ slot. none.found (In 0) slot) (second-is p.log (went p.log done).before s power) (λ c. inr refl) in
+      let began : RingedIn o done s p.log [] p.log spans base t nobody d = power-begins d o done s p.log spans base t seats nobody v comes.running (λ slot. at_once.none.found (In 0) slot) (second-is p.log (went p.log done).before s at_once.power) (λ c. inr refl) in
       let told : RingedIn o done s p.log [] (with_cut p.log s []) spans base t nobody d = go-on-in d d o done s p.log [] p.log (with_cut p.log s []) spans base t nobody nobody began (cut_at s.number true 0 ∷ [], refl)
       (record {
         begun = λ k lt. absurd (omega (arith, lt));
         begun_later = λ k lt. absurd (omega (arith, lt));
-        torn = λ k slot le. cut-torn p.log s.number 0 none.cut (In k) slot;
-        found = λ k slot le. cut-found p.log s.number 0 none.cut (In k) slot;
+        torn = λ k slot le. cut-torn p.log s.number 0 at_once.none.cut (In k) slot;
+        found = λ k slot le. cut-found p.log s.number 0 at_once.none.cut (In k) slot;
       }) (rings-left d.unit) (left-itself o d) (places-itself o d) (λ c. inl refl) in
-      cut-ends d o done s p.log (with_cut p.log s []) [] s.actions spans base t nobody nobody told behind power refl (cut-is p.log s.number 0 none.cut) (λ c. inl refl)
+      cut-ends d o done s p.log (with_cut p.log s []) [] s.actions spans base t nobody nobody told at_once.behind at_once.power refl (cut-is p.log s.number 0 at_once.none.cut) (λ c. inl refl)
 
 -- power may come with the next second
 pub comes-of : (supply : Supply) (before : Before) (next : ℕ) → MayPower supply next → IsSupplied supply before next → Comes before next
