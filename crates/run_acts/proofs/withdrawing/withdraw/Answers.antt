@@ -126,9 +126,6 @@ module _ (g : Over) (c : In_ok-settle g) where
   abbrev first : Devices
   first = devices (g.M.Medium.state c.args.unit.now) (g.C.Chip.state c.args.card_a.now) (g.D.Chip.state c.args.card_b.now)
 
-  abbrev settled_ : Devices
-  settled_ = devices (g.M.Medium.state c.settle.new.unit) (g.C.Chip.state c.settle.new.card_a) (g.D.Chip.state c.settle.new.card_b)
-
   seat-of : (card : Card) → c.in-Some.card ≡ card → card_in (seat_in c.args.run.now.keeper.cabin.slots.seats c.args.slot) ≡ Some card
   seat-of card is = cc
 
