@@ -34,7 +34,6 @@ pub mod Past
 pub mod Standing
 pub mod Due
 pub mod Kept
-pub mod Noted
 pub mod Torn
 pub mod Turned
 pub mod Room

@@ -8,7 +8,7 @@ use Rattle.card_layout.specs.declared.command.CardState.{CardState}
 use Rattle.run_crew.specs.declared.cards.Cards.{Cards}
 use Rattle.safety_model.specs.Safe.{Devices, card_of}
 use Rattle.tach_media.specs.declared.fault.Failed.{Failed}
-use Rattle.run_keeping.specs.Keeping.{HasLeftMore, CardReady, HasItsRow, UnitReady}
+use Rattle.run_keeping.specs.Keeping.{HasLeftMore, CardReady, HasItsRow, UnitReady, SessionsGoOn}
 use Rattle.tach_media.specs.Medium.{IsCoherent, State, HasCause}
 use Rattle.trace_model.specs.declared.Card.TheVariants.{A, B}
 use Rattle.run_crew.specs.declared.cards.Known.{Known}
@@ -27,8 +27,8 @@ use Rattle.run_acts.proofs.RingedSecond.{left-after}
 use Rattle.run_acts.proofs.Cabins.{noted-a, noted-b, noted_cabin, at-same, cabin-going, cabin-held, keeper-only, noted-falls, noted-is, noted-minute, noted-past, noted-sessions, ready-same}
 use Rattle.joint_rule.specs.Views.{other}
 use Rattle.log_model.specs.Slots.{same_card}
-use Rattle.run_acts.specs.Going.{IsHeld, IsLit}
-use Rattle.run_acts.specs.Acting.{IsNotedOn, noted_breaks}
+use Rattle.run_acts.specs.Going.{IsHeld, IsLit, IsGoingOn, StandSomehow}
+use Rattle.run_acts.specs.Acting.{IsNotedOn, noted_breaks, Closing, IsClosed, closed_cabin}
 use Rattle.unit_model.specs.Image.{IsUnit}
 use Rattle.run_keeping.specs.declared.keeper.Moment.{Moment}
 use Rattle.activity_codec.specs.declared.values.Slot.{Slot}
@@ -37,6 +37,8 @@ use Rattle.run_acts.specs.Room.{falls_of}
 use Rattle.run_keeping.proofs.Counts.{lines-length}
 use Rattle.minute_model.specs.Span.{ungiven_of}
 use Rattle.run_acts.specs.Power.{with_cabin}
+use Rattle.run_crew.specs.declared.cabin.Cabin.{Cabin}
+use Rattle.run_acts.proofs.Leaving.{closed-a, closed-b, closed-minute, closed-past, closed-sessions}
 
 -- a call on one card: how its device stood before and behind it, and what it did to unit, run and breaks
 pub record OneCard (card : Card) (a b : State) : Type 1 where
@@ -57,6 +59,50 @@ pub record OneCard (card : Card) (a b : State) : Type 1 where
   pub new : Run
   pub breaks : Listed Break
   pub result : Result (Unit {0}) Failed
+
+-- the call is on card a, or on card b
+module _ {S : Type 0} (state : S → State) (chip : S → CardState) (whole : (s : S) → IsCoherent (state s)) (before after : S) (size : LARGEST_IMAGE ≤ (state before).size) (beside unit : State) (unit_whole : IsCoherent unit) (new : Run) (breaks : Listed Break) (result : Result (Unit {0}) Failed) where
+  abbrev pub on_a : (card : Card) → card ≡ A → OneCard card (state before) beside
+  on_a card is = record {
+    which = A;
+    is = is;
+    S = S;
+    state = state;
+    chip = chip;
+    before = before;
+    after = after;
+    whole = whole before;
+    whole_after = whole after;
+    size = size;
+    beside = beside;
+    beside_it = λ unit_. refl;
+    unit = unit;
+    unit_whole = unit_whole;
+    new = new;
+    breaks = breaks;
+    result = result;
+  }
+
+  abbrev pub on_b : (card : Card) → card ≡ B → OneCard card beside (state before)
+  on_b card is = record {
+    which = B;
+    is = is;
+    S = S;
+    state = state;
+    chip = chip;
+    before = before;
+    after = after;
+    whole = whole before;
+    whole_after = whole after;
+    size = size;
+    beside = beside;
+    beside_it = λ unit_. refl;
+    unit = unit;
+    unit_whole = unit_whole;
+    new = new;
+    breaks = breaks;
+    result = result;
+  }
 
 -- ---- the three devices, whichever card it is
 
@@ -102,6 +148,10 @@ pub noted-beside : (card : Card) (fell : Bool) (second : ℕ) (run : Run) → kn
 noted-beside A fell second run = noted-b fell second run
 noted-beside B fell second run = noted-a fell second run
 
+closed-beside : (card : Card) (closing : Closing) (second : ℕ) (cabin : Cabin) → known_of (closed_cabin closing card second cabin).cards (other card) ≡ known_of cabin.cards (other card)
+closed-beside A closing second cabin = closed-b closing second cabin
+closed-beside B closing second cabin = closed-a closing second cabin
+
 -- ---- the run behind a note on it
 
 module _ (card : Card) (slot : Slot) (at : Moment) (run new : Run) (breaks after : Listed Break) (fell : Bool) (noted : IsNotedOn card slot at run new breaks after fell) where
@@ -146,35 +196,62 @@ abbrev pub of_b {ℓ} : {T : Type ℓ} → Card → (mine others : T) → T
 of_b A mine others = others
 of_b B mine others = mine
 
--- whatever failed, it is held
-pub held-noted : (card : Card) (slot : Slot) (at : Moment) (run new : Run) (breaks after : Listed Break) (fell : Bool) (noted : IsNotedOn card slot at run new breaks after fell) (U V X Y Z : State) (chip next chip_beside : CardState) →
-    at.second ≡ run.next → IsHeld (run.next / 60) run U (of_a card chip chip_beside) (of_b card chip chip_beside) (of_a card X Z) (of_b card X Z) → IsUnit V → CardReady (known_of new.keeper.cabin.cards card) next Y → Y.size ≡ X.size →
-    ((from : ℕ) (leaving : Option Card) → Stands from leaving run.keeper.cabin → Stands from leaving new.keeper.cabin) →
+-- WHATEVER FAILED, A RUN IS HELD whose cabin alone has changed, with what is known of this card
+pub held-by : (card : Card) (run new : Run) (cabin : Cabin) → new ≡ with_cabin cabin run → known_of new.keeper.cabin.cards (other card) ≡ known_of run.keeper.cabin.cards (other card) → cabin.slots.minute ≤ run.next / 60 → (U V X Y Z : State) (chip next chip_beside : CardState) →
+    IsHeld (run.next / 60) run U (of_a card chip chip_beside) (of_b card chip chip_beside) (of_a card X Z) (of_b card X Z) → IsUnit V → CardReady (known_of new.keeper.cabin.cards card) next Y → Y.size ≡ X.size → StandSomehow new.keeper.cabin →
     IsHeld (new.next / 60) new V (of_a card next chip_beside) (of_b card next chip_beside) (of_a card Y Z) (of_b card Y Z)
-held-noted A slot at run new breaks after fell noted U V X Y Z chip next chip_beside here held unit mine same stands =
-    let stand = held.stand in
-    subst (λ (m : ℕ). IsHeld (m / 60) new V next chip_beside Y Z) (sym (next-noted A slot at run new breaks after fell noted))
-    (cabin-held (run.next / 60) run new (noted_cabin fell A at.second run) (cabin-noted A slot at run new breaks after fell noted) held unit (minute-noted A slot at run new breaks after fell noted here held.minute)
-    (record { port = mine.port; size = let size = held.card_a.size in omega (arith, same, size) }) (at-same run.keeper.cabin.cards new.keeper.cabin.cards B (known-noted A slot at run new breaks after fell noted) held.card_b) (stand.0, stand.1, stands stand.0 stand.1 stand.2))
-held-noted B slot at run new breaks after fell noted U V X Y Z chip next chip_beside here held unit mine same stands =
-    let stand = held.stand in
-    subst (λ (m : ℕ). IsHeld (m / 60) new V chip_beside next Z Y) (sym (next-noted B slot at run new breaks after fell noted))
-    (cabin-held (run.next / 60) run new (noted_cabin fell B at.second run) (cabin-noted B slot at run new breaks after fell noted) held unit (minute-noted B slot at run new breaks after fell noted here held.minute)
-    (at-same run.keeper.cabin.cards new.keeper.cabin.cards A (known-noted B slot at run new breaks after fell noted) held.card_a) (record { port = mine.port; size = let size = held.card_b.size in omega (arith, same, size) }) (stand.0, stand.1, stands stand.0 stand.1 stand.2))
+held-by A run new cabin is known minute U V X Y Z chip next chip_beside held unit mine same stand =
+    subst (λ (m : ℕ). IsHeld (m / 60) new V next chip_beside Y Z) (sym (ap (λ (r : Run). r.next) is))
+    (cabin-held (run.next / 60) run new cabin is held unit minute (record { port = mine.port; size = let size = held.card_a.size in omega (arith, same, size) }) (at-same run.keeper.cabin.cards new.keeper.cabin.cards B known held.card_b) stand)
+held-by B run new cabin is known minute U V X Y Z chip next chip_beside held unit mine same stand =
+    subst (λ (m : ℕ). IsHeld (m / 60) new V chip_beside next Z Y) (sym (ap (λ (r : Run). r.next) is))
+    (cabin-held (run.next / 60) run new cabin is held unit minute (at-same run.keeper.cabin.cards new.keeper.cabin.cards A known held.card_a) (record { port = mine.port; size = let size = held.card_b.size in omega (arith, same, size) }) stand)
 
 -- and where nothing failed it goes on
-pub going-noted : (card : Card) (slot : Slot) (at : Moment) (run new : Run) (breaks after : Listed Break) (fell : Bool) (noted : IsNotedOn card slot at run new breaks after fell) (U V X Y Z : State) (chip next chip_beside : CardState) →
-    IsLit (run.next / 60) run U (of_a card chip chip_beside) (of_b card chip chip_beside) (of_a card X Z) (of_b card X Z) → UnitReady new.keeper V → CardReady (known_of new.keeper.cabin.cards card) next Y →
-    ((c : Card) → HasItsRow run.keeper.cabin.cards U c → HasItsRow new.keeper.cabin.cards V c) → ((from : ℕ) (leaving : Option Card) → Stands from leaving run.keeper.cabin → Stands from leaving new.keeper.cabin) →
-    IsLit (new.next / 60) new V (of_a card next chip_beside) (of_b card next chip_beside) (of_a card Y Z) (of_b card Y Z)
-going-noted A slot at run new breaks after fell noted U V X Y Z chip next chip_beside lit unit mine rows stands =
-    subst (λ (m : ℕ). IsLit (m / 60) new V next chip_beside Y Z) (sym (next-noted A slot at run new breaks after fell noted))
-    (cabin-going (run.next / 60) run new (noted_cabin fell A at.second run) (cabin-noted A slot at run new breaks after fell noted) None None lit unit mine (ready-same run.keeper.cabin.cards new.keeper.cabin.cards B (known-noted A slot at run new breaks after fell noted) lit.ready.card_b) rows
-    (noted-past A at.second run fell) (stands (ungiven_of lit.span) None lit.cabin) (noted-sessions A at.second run fell))
-going-noted B slot at run new breaks after fell noted U V X Y Z chip next chip_beside lit unit mine rows stands =
-    subst (λ (m : ℕ). IsLit (m / 60) new V chip_beside next Z Y) (sym (next-noted B slot at run new breaks after fell noted))
-    (cabin-going (run.next / 60) run new (noted_cabin fell B at.second run) (cabin-noted B slot at run new breaks after fell noted) None None lit unit (ready-same run.keeper.cabin.cards new.keeper.cabin.cards A (known-noted B slot at run new breaks after fell noted) lit.ready.card_a) mine rows
-    (noted-past B at.second run fell) (stands (ungiven_of lit.span) None lit.cabin) (noted-sessions B at.second run fell))
+pub going-by : (card : Card) (run new : Run) (cabin : Cabin) → new ≡ with_cabin cabin run → known_of new.keeper.cabin.cards (other card) ≡ known_of run.keeper.cabin.cards (other card) → (U V X Y Z : State) (chip next chip_beside : CardState) (leaving stays : Option Card) →
+    (lit : IsGoingOn leaving (run.next / 60) run U (of_a card chip chip_beside) (of_b card chip chip_beside) (of_a card X Z) (of_b card X Z)) → UnitReady new.keeper V → CardReady (known_of new.keeper.cabin.cards card) next Y →
+    ((c : Card) → HasItsRow run.keeper.cabin.cards U c → HasItsRow new.keeper.cabin.cards V c) → cabin.slots.past ≡ run.keeper.cabin.slots.past → Stands (ungiven_of lit.span) stays new.keeper.cabin → SessionsGoOn run.keeper.cabin.cards cabin.cards →
+    IsGoingOn stays (new.next / 60) new V (of_a card next chip_beside) (of_b card next chip_beside) (of_a card Y Z) (of_b card Y Z)
+going-by A run new cabin is known U V X Y Z chip next chip_beside leaving stays lit unit mine rows past stands sessions =
+    subst (λ (m : ℕ). IsGoingOn stays (m / 60) new V next chip_beside Y Z) (sym (ap (λ (r : Run). r.next) is))
+    (cabin-going (run.next / 60) run new cabin is leaving stays lit unit mine (ready-same run.keeper.cabin.cards new.keeper.cabin.cards B known lit.ready.card_b) rows past stands sessions)
+going-by B run new cabin is known U V X Y Z chip next chip_beside leaving stays lit unit mine rows past stands sessions =
+    subst (λ (m : ℕ). IsGoingOn stays (m / 60) new V chip_beside next Z Y) (sym (ap (λ (r : Run). r.next) is))
+    (cabin-going (run.next / 60) run new cabin is leaving stays lit unit (ready-same run.keeper.cabin.cards new.keeper.cabin.cards A known lit.ready.card_a) mine rows past stands sessions)
+
+-- so behind a note
+module _ (card : Card) (slot : Slot) (at : Moment) (run new : Run) (breaks after : Listed Break) (fell : Bool) (noted : IsNotedOn card slot at run new breaks after fell) (U V X Y Z : State) (chip next chip_beside : CardState) where
+  pub held-noted : at.second ≡ run.next → IsHeld (run.next / 60) run U (of_a card chip chip_beside) (of_b card chip chip_beside) (of_a card X Z) (of_b card X Z) → IsUnit V → CardReady (known_of new.keeper.cabin.cards card) next Y → Y.size ≡ X.size →
+      ((from : ℕ) (leaving : Option Card) → Stands from leaving run.keeper.cabin → Stands from leaving new.keeper.cabin) → IsHeld (new.next / 60) new V (of_a card next chip_beside) (of_b card next chip_beside) (of_a card Y Z) (of_b card Y Z)
+  held-noted here held unit mine same stands =
+      let stand = held.stand in
+      held-by card run new (noted_cabin fell card at.second run) (cabin-noted card slot at run new breaks after fell noted) (known-noted card slot at run new breaks after fell noted) (minute-noted card slot at run new breaks after fell noted here held.minute)
+      U V X Y Z chip next chip_beside held unit mine same (stand.0, stand.1, stands stand.0 stand.1 stand.2)
+
+  pub going-noted : IsLit (run.next / 60) run U (of_a card chip chip_beside) (of_b card chip chip_beside) (of_a card X Z) (of_b card X Z) → UnitReady new.keeper V → CardReady (known_of new.keeper.cabin.cards card) next Y →
+      ((c : Card) → HasItsRow run.keeper.cabin.cards U c → HasItsRow new.keeper.cabin.cards V c) → ((from : ℕ) (leaving : Option Card) → Stands from leaving run.keeper.cabin → Stands from leaving new.keeper.cabin) →
+      IsLit (new.next / 60) new V (of_a card next chip_beside) (of_b card next chip_beside) (of_a card Y Z) (of_b card Y Z)
+  going-noted lit unit mine rows stands =
+      going-by card run new (noted_cabin fell card at.second run) (cabin-noted card slot at run new breaks after fell noted) (known-noted card slot at run new breaks after fell noted) U V X Y Z chip next chip_beside None None lit unit mine rows
+      (noted-past card at.second run fell) (stands (ungiven_of lit.span) None lit.cabin) (noted-sessions card at.second run fell)
+
+-- and behind the closing of its session
+module _ (card : Card) (slot : Slot) (at : Moment) (run new : Run) (breaks after : Listed Break) (closing : Closing) (closed : IsClosed card slot at run new breaks after closing) (U V X Y Z : State) (chip next chip_beside : CardState) where
+  known-closed : known_of new.keeper.cabin.cards (other card) ≡ known_of run.keeper.cabin.cards (other card)
+  known-closed = ap (λ (r : Run). known_of r.keeper.cabin.cards (other card)) closed.run ∙ closed-beside card closing at.second run.keeper.cabin
+
+  pub held-closed : at.second ≡ run.next → IsHeld (run.next / 60) run U (of_a card chip chip_beside) (of_b card chip chip_beside) (of_a card X Z) (of_b card X Z) → IsUnit V → CardReady (known_of new.keeper.cabin.cards card) next Y → Y.size ≡ X.size → StandSomehow new.keeper.cabin →
+      IsHeld (new.next / 60) new V (of_a card next chip_beside) (of_b card next chip_beside) (of_a card Y Z) (of_b card Y Z)
+  held-closed here held unit mine same stand =
+      held-by card run new (closed_cabin closing card at.second run.keeper.cabin) closed.run known-closed (closed-minute card at.second run.keeper.cabin closing (run.next / 60) held.minute (omega (arith, here)))
+      U V X Y Z chip next chip_beside held unit mine same stand
+
+  pub going-closed : (g : IsGoingOn (Some card) (run.next / 60) run U (of_a card chip chip_beside) (of_b card chip chip_beside) (of_a card X Z) (of_b card X Z)) → UnitReady new.keeper V → CardReady (known_of new.keeper.cabin.cards card) next Y →
+      ((c : Card) → HasItsRow run.keeper.cabin.cards U c → HasItsRow new.keeper.cabin.cards V c) → Stands (ungiven_of g.span) None new.keeper.cabin →
+      IsLit (new.next / 60) new V (of_a card next chip_beside) (of_b card next chip_beside) (of_a card Y Z) (of_b card Y Z)
+  going-closed g unit mine rows stands =
+      going-by card run new (closed_cabin closing card at.second run.keeper.cabin) closed.run known-closed U V X Y Z chip next chip_beside (Some card) None g unit mine rows
+      (closed-past card at.second run.keeper.cabin closing) stands (closed-sessions card at.second run.keeper.cabin closing)
 
 -- ---- what it may not know
 

@@ -1,5 +1,6 @@
 pub mod Seats
 pub mod Notes
+pub mod Noted
 pub mod Accepted
 pub mod CardTables
 pub mod CardRows

@@ -32,7 +32,7 @@ use Rattle.safety_model.specs.Safe.{breakdowns_of}
 use Rattle.run_acts.specs.Recording.{log_of}
 use Rattle.run_acts.specs.ActsEvented.{IsFailing}
 use Rattle.run_acts.proofs.Kept.{moved-going}
-use Rattle.run_acts.proofs.Noted.{noted-ready, noted-row}
+use Rattle.run_entering.proofs.Noted.{noted-ready, noted-row}
 use Rattle.run_rings.specs.Same.{LeavesRings}
 use Rattle.run_rings.proofs.Same.{rings-left, rings-moments, rings-then, table-outside}
 use Rattle.run_keeping.proofs.Later.{state-by, later-same, later-then, later-of-unit}

@@ -29,7 +29,7 @@ use Rattle.run_acts.specs.CardNotes.{NotesOn, LeavesPlaces, on_seat, LeavePlaces
 use Rattle.run_acts.proofs.CardNotes.{both-cards, seat-is, seat-other, seat-none, on-seat, on-as, on-other, bare-seat}
 use Rattle.run_acts.proofs.CardPlaces.{places-self}
 use Rattle.run_keeping.proofs.Calm.{calm-same}
-use Rattle.run_acts.proofs.OneCard.{OneCard, unit-is, later-by, calm-by, known-noted, only-noted, more-noted, room-noted, calm-noted, held-noted, going-noted, none-there}
+use Rattle.run_acts.proofs.OneCard.{OneCard, unit-is, later-by, calm-by, known-noted, only-noted, more-noted, room-noted, calm-noted, held-noted, going-noted, none-there, on_a, on_b}
 use Rattle.run_keeping.specs.Later.{AreCalm, AreLater}
 use Rattle.run_keeping.specs.Keeping.{CardReady, HasItsRow, UnitReady}
 use Rattle.card_layout.specs.declared.command.CardState.{CardState}
@@ -156,50 +156,18 @@ module _ (g : Over) (c : After-note_on g) where
   there-a = (goal.at.returns-in-A-clause-cause g c).In-Some-number_in
 
   abbrev side-a : OneCard there-a.in-Some.card (g.C.Chip.state c.args.card_a.now) (g.D.Chip.state c.args.card_b.now)
-  side-a = record {
-    which = A;
-    is = c.in-A.is;
-    S = _;
-    state = g.C.Chip.state;
-    chip = g.C.Chip.card;
-    before = c.args.card_a.now;
-    after = c.note_on.new.card;
-    whole = g.met.C.Chip.coherent c.args.card_a.now;
-    whole_after = g.met.C.Chip.coherent c.note_on.new.card;
-    size = c.requires.held.card_a.size;
-    beside = g.D.Chip.state c.args.card_b.now;
-    beside_it = λ unit. refl;
-    unit = g.M.Medium.state c.note_on.new.unit;
-    unit_whole = g.met.M.Medium.coherent c.note_on.new.unit;
-    new = c.note_on.new.run;
-    breaks = c.note_on.new.breaks;
-    result = c.note_on.result;
-  }
+  side-a =
+      on_a g.C.Chip.state g.C.Chip.card g.met.C.Chip.coherent c.args.card_a.now c.note_on.new.card c.requires.held.card_a.size (g.D.Chip.state c.args.card_b.now) (g.M.Medium.state c.note_on.new.unit) (g.met.M.Medium.coherent c.note_on.new.unit) c.note_on.new.run c.note_on.new.breaks c.note_on.result
+      there-a.in-Some.card c.in-A.is
 
 module _ (g : Over) (c : After-note_on-in-B g) where
   abbrev there-b : In-Some-number_in g
   there-b = (goal.at.returns-in-B-clause-cause g c).In-Some-number_in
 
   abbrev side-b : OneCard there-b.in-Some.card (g.C.Chip.state c.args.card_a.now) (g.D.Chip.state c.args.card_b.now)
-  side-b = record {
-    which = B;
-    is = c.in-B.is;
-    S = _;
-    state = g.D.Chip.state;
-    chip = g.D.Chip.card;
-    before = c.args.card_b.now;
-    after = c.note_on-in-B.new.card;
-    whole = g.met.D.Chip.coherent c.args.card_b.now;
-    whole_after = g.met.D.Chip.coherent c.note_on-in-B.new.card;
-    size = c.requires.held.card_b.size;
-    beside = g.C.Chip.state c.args.card_a.now;
-    beside_it = λ unit. refl;
-    unit = g.M.Medium.state c.note_on-in-B.new.unit;
-    unit_whole = g.met.M.Medium.coherent c.note_on-in-B.new.unit;
-    new = c.note_on-in-B.new.run;
-    breaks = c.note_on-in-B.new.breaks;
-    result = c.note_on-in-B.result;
-  }
+  side-b =
+      on_b g.D.Chip.state g.D.Chip.card g.met.D.Chip.coherent c.args.card_b.now c.note_on-in-B.new.card c.requires.held.card_b.size (g.C.Chip.state c.args.card_a.now) (g.M.Medium.state c.note_on-in-B.new.unit) (g.met.M.Medium.coherent c.note_on-in-B.new.unit) c.note_on-in-B.new.run c.note_on-in-B.new.breaks c.note_on-in-B.result
+      there-b.in-Some.card c.in-B.is
 
 -- ---- card a, and card b
 

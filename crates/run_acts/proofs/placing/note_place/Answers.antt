@@ -9,7 +9,7 @@ use Rattle.log_model.specs.declared.lines.Break.{Break}
 use Rattle.run_outcome.specs.Lines.{Listed}
 use Rattle.run_keeping.specs.Keeping.{HasLeftMore, with_lines, CardReady, HasItsRow, UnitReady}
 use Rattle.run_acts.specs.declared.run.Run.{Run}
-use Rattle.run_acts.proofs.Noted.{noted-ready, noted-row}
+use Rattle.run_entering.proofs.Noted.{noted-ready, noted-row}
 use Rattle.run_acts.specs.Acting.{noted_run, IsNotedOn, falls_by}
 use Rattle.run_acts.proofs.Cabins.{numbered-session}
 use Rattle.std.specs.Prelude.{is_err, suc, IfSome, List, [], ◌∷◌, ◌++◌, OnOk, Result}
@@ -61,7 +61,7 @@ use Rattle.run_keeping.specs.declared.keeper.Moment.{Moment}
 use Rattle.run_acts.proofs.CardPlaces.{PlaceCall, call-unbegun, call-made}
 use Rattle.run_acts.proofs.CardWrites.{place-unit, place-bare, place-any, seat-bare}
 use Rattle.run_keeping.proofs.Calm.{calm-of-unit, calm-same, calm-then}
-use Rattle.run_acts.proofs.OneCard.{OneCard, unit-is, card-is, later-by, calm-by, keeps-by, apart-by, notes-by, known-noted, only-noted, more-noted, room-noted, calm-noted, held-noted, going-noted, none-there}
+use Rattle.run_acts.proofs.OneCard.{OneCard, unit-is, card-is, later-by, calm-by, keeps-by, apart-by, notes-by, known-noted, only-noted, more-noted, room-noted, calm-noted, held-noted, going-noted, none-there, on_a, on_b}
 use Rattle.run_keeping.specs.Later.{AreCalm, AreLater}
 use Rattle.run_acts.specs.Devices.{AreLeftMore}
 use Rattle.card_layout.specs.declared.command.CardState.{CardState}
@@ -298,50 +298,18 @@ module _ (g : Over) (c : After-note_place_in g) where
   noted-first-a = (goal.at.returns-in-A-clause-cause g c).In_ok-note_place
 
   abbrev side-a : OneCard noted-first-a.in-Some.card (g.C.Chip.state c.args.card_a.now) (g.D.Chip.state c.args.card_b.now)
-  side-a = record {
-    which = A;
-    is = c.in-A.is;
-    S = _;
-    state = g.C.Chip.state;
-    chip = g.C.Chip.card;
-    before = c.args.card_a.now;
-    after = c.note_place_in.new.card;
-    whole = g.met.C.Chip.coherent c.args.card_a.now;
-    whole_after = g.met.C.Chip.coherent c.note_place_in.new.card;
-    size = c.requires.held.card_a.size;
-    beside = g.D.Chip.state c.args.card_b.now;
-    beside_it = λ unit. refl;
-    unit = g.M.Medium.state c.note_place_in.new.unit;
-    unit_whole = g.met.M.Medium.coherent c.note_place_in.new.unit;
-    new = c.note_place_in.new.run;
-    breaks = c.note_place_in.new.breaks;
-    result = c.note_place_in.result;
-  }
+  side-a =
+      on_a g.C.Chip.state g.C.Chip.card g.met.C.Chip.coherent c.args.card_a.now c.note_place_in.new.card c.requires.held.card_a.size (g.D.Chip.state c.args.card_b.now) (g.M.Medium.state c.note_place_in.new.unit) (g.met.M.Medium.coherent c.note_place_in.new.unit) c.note_place_in.new.run c.note_place_in.new.breaks c.note_place_in.result
+      noted-first-a.in-Some.card c.in-A.is
 
 module _ (g : Over) (c : After-note_place_in-in-B g) where
   abbrev noted-first-b : In_ok-note_place g
   noted-first-b = (goal.at.returns-in-B-clause-cause g c).In_ok-note_place
 
   abbrev side-b : OneCard noted-first-b.in-Some.card (g.C.Chip.state c.args.card_a.now) (g.D.Chip.state c.args.card_b.now)
-  side-b = record {
-    which = B;
-    is = c.in-B.is;
-    S = _;
-    state = g.D.Chip.state;
-    chip = g.D.Chip.card;
-    before = c.args.card_b.now;
-    after = c.note_place_in-in-B.new.card;
-    whole = g.met.D.Chip.coherent c.args.card_b.now;
-    whole_after = g.met.D.Chip.coherent c.note_place_in-in-B.new.card;
-    size = c.requires.held.card_b.size;
-    beside = g.C.Chip.state c.args.card_a.now;
-    beside_it = λ unit. refl;
-    unit = g.M.Medium.state c.note_place_in-in-B.new.unit;
-    unit_whole = g.met.M.Medium.coherent c.note_place_in-in-B.new.unit;
-    new = c.note_place_in-in-B.new.run;
-    breaks = c.note_place_in-in-B.new.breaks;
-    result = c.note_place_in-in-B.result;
-  }
+  side-b =
+      on_b g.D.Chip.state g.D.Chip.card g.met.D.Chip.coherent c.args.card_b.now c.note_place_in-in-B.new.card c.requires.held.card_b.size (g.C.Chip.state c.args.card_a.now) (g.M.Medium.state c.note_place_in-in-B.new.unit) (g.met.M.Medium.coherent c.note_place_in-in-B.new.unit) c.note_place_in-in-B.new.run c.note_place_in-in-B.new.breaks c.note_place_in-in-B.result
+      noted-first-b.in-Some.card c.in-B.is
 
 -- ---- nobody is there to enter it for
 

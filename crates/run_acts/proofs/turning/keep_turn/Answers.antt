@@ -4,7 +4,7 @@ use Rattle.tach_media.proofs.Runs.{on_ok, cause_after}
 use Rattle.run_crew.specs.declared.cards.Crew.{Crew}
 use Rattle.run_notes.specs.Noting.{IsFed, IsWatched}
 use Rattle.run_acts.specs.declared.run.Run.{Run}
-use Rattle.run_acts.proofs.Noted.{noted-ready, noted-row}
+use Rattle.run_entering.proofs.Noted.{noted-ready, noted-row}
 use Rattle.run_rule.specs.Between.{devices}
 use Rattle.run_keeping.specs.Minutes.{Reach}
 use Rattle.run_acts.specs.Turning.{IsKeptInTurn, told_of}

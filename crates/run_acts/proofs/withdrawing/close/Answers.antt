@@ -19,7 +19,7 @@ use Rattle.run_keeping.specs.declared.keeper.Keeper.{Keeper}
 use Rattle.run_keeping.specs.Keeping.{CardReady, HasItsRow, fault_of}
 use Rattle.run_keeping.proofs.Sessions.{number-set, row-set}
 use Rattle.run_keeping.proofs.Units.{has-row, row-beside}
-use Rattle.run_acts.proofs.Noted.{noted-ready, noted-row}
+use Rattle.run_entering.proofs.Noted.{noted-ready, noted-row}
 use Rattle.run_keeping.proofs.CardDeeds.{closed-alone}
 use Rattle.run_acts.specs.Stays.{ClosesOnCard}
 use Rattle.run_acts.specs.Acting.{Fell, IsClosingOf, Bare, Closed, IsClosed}

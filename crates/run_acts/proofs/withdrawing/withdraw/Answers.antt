@@ -28,8 +28,8 @@ use Rattle.run_acts.proofs.Torn.{tears-without}
 use Rattle.run_acts.specs.Behind.{BooksWithdrawn}
 use Rattle.run_acts.proofs.Withdrawn.{withdrawn-cut, withdrawn-closed, time-before}
 use Rattle.run_acts.specs.Acting.{Closing, told_of, IsSettled, IsWithdrawn, closed_cabin, closed_breaks, left_run, IsClosed, Closed, closed_falls}
-use Rattle.run_acts.proofs.Leaving.{left-going, left-held, left-falls, closed-past, closed-minute, closed-sessions, closed-falls, closed-a, closed-b}
-use Rattle.run_acts.proofs.Cabins.{cabin-only, cabin-going, cabin-held, ready-same, at-same}
+use Rattle.run_acts.proofs.Leaving.{left-going, left-held, left-falls, closed-falls}
+use Rattle.run_acts.proofs.Cabins.{cabin-only}
 use Rattle.log_model.specs.Log.{In}
 use Rattle.run_acts.specs.Recording.{RunFails, GoesOnOrFails, log_of, IsNow, RunWithin}
 use Rattle.run_acts.specs.Settling.{RecordsSettling}
@@ -79,7 +79,7 @@ use Rattle.run_recorded.specs.Beside.{HaveLeftMore}
 use Rattle.run_keeping.specs.Books.{HaveTime}
 use Rattle.unit_model.specs.Image.{IsUnit}
 use Rattle.unit_notes.specs.Journal.{LeavesJournal}
-use Rattle.run_acts.proofs.OneCard.{OneCard, calm-by, keeps-by, later-by, unit-is, card-is, none-there}
+use Rattle.run_acts.proofs.OneCard.{OneCard, calm-by, keeps-by, later-by, unit-is, card-is, none-there, on_a, on_b, held-closed, going-closed}
 use Rattle.run_recorded.specs.Origin.{Origin}
 use Rattle.side_model.specs.Odometer.{SpanFrom}
 use Rattle.trace_model.specs.Trace.{TraceSecond}
@@ -126,9 +126,6 @@ module _ (g : Over) (c : In_ok-settle g) where
   abbrev first : Devices
   first = devices (g.M.Medium.state c.args.unit.now) (g.C.Chip.state c.args.card_a.now) (g.D.Chip.state c.args.card_b.now)
 
-  abbrev settled_ : Devices
-  settled_ = devices (g.M.Medium.state c.settle.new.unit) (g.C.Chip.state c.settle.new.card_a) (g.D.Chip.state c.settle.new.card_b)
-
   seat-of : (card : Card) → c.in-Some.card ≡ card → card_in (seat_in c.args.run.now.keeper.cabin.slots.seats c.args.slot) ≡ Some card
   seat-of card is = cc
 
@@ -136,6 +133,9 @@ module _ (g : Over) (c : In_ok-settle g) where
   going-with card is =
       c.in_ok-settle.ensures.going (Some card)
       (left-lit c.args.slot card c.args.at.second c.args.run.now c.leave.new.self c.requires.going c.leave.ensures.kept (λ from h. c.leave.ensures.stands from card (seat-of card is) h))
+
+  at-then : c.args.at.second ≡ c.settle.new.run.next
+  at-then = c.requires.at ∙ sym (ap (λ (r : Run). r.next) c.settle.ensures.settled.only)
 
   -- what left its slot can still fall out of it
   falls-left : falls_of c.leave.new.self ≤ falls_of c.args.run.now.keeper.cabin
@@ -479,50 +479,18 @@ module _ (g : Over) (c : After-close g) where
   kept-a = (goal.at.returns-in-A-clause-cause g c).In_ok-settle
 
   abbrev side-a : OneCard kept-a.in-Some.card (g.C.Chip.state c.settle.new.card_a) (g.D.Chip.state c.settle.new.card_b)
-  side-a = record {
-    which = A;
-    is = c.in-A.is;
-    S = _;
-    state = g.C.Chip.state;
-    chip = g.C.Chip.card;
-    before = c.settle.new.card_a;
-    after = c.close.new.card;
-    whole = g.met.C.Chip.coherent c.settle.new.card_a;
-    whole_after = g.met.C.Chip.coherent c.close.new.card;
-    size = c.settle.ensures.held.card_a.size;
-    beside = g.D.Chip.state c.settle.new.card_b;
-    beside_it = λ unit. refl;
-    unit = g.M.Medium.state c.close.new.unit;
-    unit_whole = g.met.M.Medium.coherent c.close.new.unit;
-    new = c.close.new.run;
-    breaks = c.close.new.breaks;
-    result = c.close.result;
-  }
+  side-a =
+      on_a g.C.Chip.state g.C.Chip.card g.met.C.Chip.coherent c.settle.new.card_a c.close.new.card c.settle.ensures.held.card_a.size (g.D.Chip.state c.settle.new.card_b) (g.M.Medium.state c.close.new.unit) (g.met.M.Medium.coherent c.close.new.unit) c.close.new.run c.close.new.breaks c.close.result
+      kept-a.in-Some.card c.in-A.is
 
 module _ (g : Over) (c : After-close-in-B g) where
   abbrev kept-b : In_ok-settle g
   kept-b = (goal.at.returns-in-B-clause-cause g c).In_ok-settle
 
   abbrev side-b : OneCard kept-b.in-Some.card (g.C.Chip.state c.settle.new.card_a) (g.D.Chip.state c.settle.new.card_b)
-  side-b = record {
-    which = B;
-    is = c.in-B.is;
-    S = _;
-    state = g.D.Chip.state;
-    chip = g.D.Chip.card;
-    before = c.settle.new.card_b;
-    after = c.close-in-B.new.card;
-    whole = g.met.D.Chip.coherent c.settle.new.card_b;
-    whole_after = g.met.D.Chip.coherent c.close-in-B.new.card;
-    size = c.settle.ensures.held.card_b.size;
-    beside = g.C.Chip.state c.settle.new.card_a;
-    beside_it = λ unit. refl;
-    unit = g.M.Medium.state c.close-in-B.new.unit;
-    unit_whole = g.met.M.Medium.coherent c.close-in-B.new.unit;
-    new = c.close-in-B.new.run;
-    breaks = c.close-in-B.new.breaks;
-    result = c.close-in-B.result;
-  }
+  side-b =
+      on_b g.D.Chip.state g.D.Chip.card g.met.D.Chip.coherent c.settle.new.card_b c.close-in-B.new.card c.settle.ensures.held.card_b.size (g.C.Chip.state c.settle.new.card_a) (g.M.Medium.state c.close-in-B.new.unit) (g.met.M.Medium.coherent c.close-in-B.new.unit) c.close-in-B.new.run c.close-in-B.new.breaks c.close-in-B.result
+      kept-b.in-Some.card c.in-B.is
 
 -- ---- there is none in the slot
 
@@ -696,42 +664,20 @@ returns-in-A-clause-rest g c = rest_ g (kept-a g c) (side-a g c) c.close.ensures
 
 pub returns-in-A-clause-held : goal.returns-in-A-clause-held
 returns-in-A-clause-held g c =
-    let run = c.args.run.now in
-    let second : ℕ = c.args.at.second in
-    let going = going-with g (kept-a g c) A c.in-A.is in
-    let between : Run = c.settle.new.run in
-    let new : Run = c.close.new.run in
     let e = c.close.ensures in
-    let n = e.closed in
-    let cabin = closed_cabin n.0 A second between.keeper.cabin in
-    let is : new ≡ with_cabin cabin between = n.1.run in
-    let known : new.keeper.cabin.cards.b ≡ between.keeper.cabin.cards.b = ap (λ (r : Run). r.keeper.cabin.cards.b) is ∙ closed-b n.0 second between.keeper.cabin in
-    let next : new.next ≡ between.next = ap (λ (r : Run). r.next) is in
-    let held = c.settle.ensures.held in
-    let here = c.requires.at in
-    let same : between.next ≡ run.next = ap (λ (r : Run). r.next) c.settle.ensures.settled.only in
-    let u = ungiven_of going.span in
-    subst (λ (m : ℕ). IsHeld (m / 60) new (g.M.Medium.state c.close.new.unit) (g.C.Chip.card c.close.new.card) (g.D.Chip.card c.settle.new.card_b) (g.C.Chip.state c.close.new.card) (g.D.Chip.state c.settle.new.card_b)) (sym next)
-    (cabin-held (between.next / 60) between new cabin is held e.unit (closed-minute A second between.keeper.cabin n.0 (between.next / 60) held.minute (omega (arith, here, same)))
-    (record { port = e.card.port; size = let same = e.size in let size = held.card_a.size in omega (arith, same, size) }) (at-same between.keeper.cabin.cards new.keeper.cabin.cards B known held.card_b) (u, None, e.stands u going.cabin))
+    let going = going-with g (kept-a g c) A c.in-A.is in
+    held-closed A c.args.slot c.args.at c.settle.new.run c.close.new.run c.settle.new.outcome.breaks c.close.new.breaks e.closed.0 e.closed.1 (g.M.Medium.state c.settle.new.unit) (g.M.Medium.state c.close.new.unit) (g.C.Chip.state c.settle.new.card_a) (g.C.Chip.state c.close.new.card) (g.D.Chip.state c.settle.new.card_b)
+    (g.C.Chip.card c.settle.new.card_a) (g.C.Chip.card c.close.new.card) (g.D.Chip.card c.settle.new.card_b)
+    (at-then g (kept-a g c)) c.settle.ensures.held e.unit e.card e.size (ungiven_of going.span, None, e.stands (ungiven_of going.span) going.cabin)
 
 pub returns-in-A-clause-going : goal.returns-in-A-clause-going
 returns-in-A-clause-going g c =
-    let run = c.args.run.now in
-    let second : ℕ = c.args.at.second in
-    let going = going-with g (kept-a g c) A c.in-A.is in
-    let between : Run = c.settle.new.run in
-    let new : Run = c.close.new.run in
     let e = c.close.ensures in
-    let n = e.closed in
-    let cabin = closed_cabin n.0 A second between.keeper.cabin in
-    let is : new ≡ with_cabin cabin between = n.1.run in
-    let known : new.keeper.cabin.cards.b ≡ between.keeper.cabin.cards.b = ap (λ (r : Run). r.keeper.cabin.cards.b) is ∙ closed-b n.0 second between.keeper.cabin in
-    let next : new.next ≡ between.next = ap (λ (r : Run). r.next) is in
+    let going = going-with g (kept-a g c) A c.in-A.is in
     on_ok c.close.result (λ well.
-    subst (λ (m : ℕ). IsLit (m / 60) new (g.M.Medium.state c.close.new.unit) (g.C.Chip.card c.close.new.card) (g.D.Chip.card c.settle.new.card_b) (g.C.Chip.state c.close.new.card) (g.D.Chip.state c.settle.new.card_b)) (sym next)
-    (cabin-going (between.next / 60) between new cabin is (Some A) None going (ok_gives c.close.result e.ready well) (e.card) (ready-same between.keeper.cabin.cards new.keeper.cabin.cards B known going.ready.card_b) (λ card h. ok_gives c.close.result (e.rows card h) well)
-    (closed-past A second between.keeper.cabin n.0) (e.stands (ungiven_of going.span) going.cabin) (closed-sessions A second between.keeper.cabin n.0)))
+    going-closed A c.args.slot c.args.at c.settle.new.run c.close.new.run c.settle.new.outcome.breaks c.close.new.breaks e.closed.0 e.closed.1 (g.M.Medium.state c.settle.new.unit) (g.M.Medium.state c.close.new.unit) (g.C.Chip.state c.settle.new.card_a) (g.C.Chip.state c.close.new.card) (g.D.Chip.state c.settle.new.card_b)
+    (g.C.Chip.card c.settle.new.card_a) (g.C.Chip.card c.close.new.card) (g.D.Chip.card c.settle.new.card_b)
+    going (ok_gives c.close.result e.ready well) e.card (λ card h. ok_gives c.close.result (e.rows card h) well) (e.stands (ungiven_of going.span) going.cabin))
 
 pub returns-in-A-clause-takes : goal.returns-in-A-clause-takes
 returns-in-A-clause-takes g c = takes g (kept-a g c) (side-a g c) c.close.ensures
@@ -783,42 +729,20 @@ returns-in-B-clause-rest g c = rest_ g (kept-b g c) (side-b g c) c.close-in-B.en
 
 pub returns-in-B-clause-held : goal.returns-in-B-clause-held
 returns-in-B-clause-held g c =
-    let run = c.args.run.now in
-    let second : ℕ = c.args.at.second in
-    let going = going-with g (kept-b g c) B c.in-B.is in
-    let between : Run = c.settle.new.run in
-    let new : Run = c.close-in-B.new.run in
     let e = c.close-in-B.ensures in
-    let n = e.closed in
-    let cabin = closed_cabin n.0 B second between.keeper.cabin in
-    let is : new ≡ with_cabin cabin between = n.1.run in
-    let known : new.keeper.cabin.cards.a ≡ between.keeper.cabin.cards.a = ap (λ (r : Run). r.keeper.cabin.cards.a) is ∙ closed-a n.0 second between.keeper.cabin in
-    let next : new.next ≡ between.next = ap (λ (r : Run). r.next) is in
-    let held = c.settle.ensures.held in
-    let here = c.requires.at in
-    let same : between.next ≡ run.next = ap (λ (r : Run). r.next) c.settle.ensures.settled.only in
-    let u = ungiven_of going.span in
-    subst (λ (m : ℕ). IsHeld (m / 60) new (g.M.Medium.state c.close-in-B.new.unit) (g.C.Chip.card c.settle.new.card_a) (g.D.Chip.card c.close-in-B.new.card) (g.C.Chip.state c.settle.new.card_a) (g.D.Chip.state c.close-in-B.new.card)) (sym next)
-    (cabin-held (between.next / 60) between new cabin is held e.unit (closed-minute B second between.keeper.cabin n.0 (between.next / 60) held.minute (omega (arith, here, same)))
-    (at-same between.keeper.cabin.cards new.keeper.cabin.cards A known held.card_a) (record { port = e.card.port; size = let same = e.size in let size = held.card_b.size in omega (arith, same, size) }) (u, None, e.stands u going.cabin))
+    let going = going-with g (kept-b g c) B c.in-B.is in
+    held-closed B c.args.slot c.args.at c.settle.new.run c.close-in-B.new.run c.settle.new.outcome.breaks c.close-in-B.new.breaks e.closed.0 e.closed.1 (g.M.Medium.state c.settle.new.unit) (g.M.Medium.state c.close-in-B.new.unit) (g.D.Chip.state c.settle.new.card_b) (g.D.Chip.state c.close-in-B.new.card) (g.C.Chip.state c.settle.new.card_a)
+    (g.D.Chip.card c.settle.new.card_b) (g.D.Chip.card c.close-in-B.new.card) (g.C.Chip.card c.settle.new.card_a)
+    (at-then g (kept-b g c)) c.settle.ensures.held e.unit e.card e.size (ungiven_of going.span, None, e.stands (ungiven_of going.span) going.cabin)
 
 pub returns-in-B-clause-going : goal.returns-in-B-clause-going
 returns-in-B-clause-going g c =
-    let run = c.args.run.now in
-    let second : ℕ = c.args.at.second in
-    let going = going-with g (kept-b g c) B c.in-B.is in
-    let between : Run = c.settle.new.run in
-    let new : Run = c.close-in-B.new.run in
     let e = c.close-in-B.ensures in
-    let n = e.closed in
-    let cabin = closed_cabin n.0 B second between.keeper.cabin in
-    let is : new ≡ with_cabin cabin between = n.1.run in
-    let known : new.keeper.cabin.cards.a ≡ between.keeper.cabin.cards.a = ap (λ (r : Run). r.keeper.cabin.cards.a) is ∙ closed-a n.0 second between.keeper.cabin in
-    let next : new.next ≡ between.next = ap (λ (r : Run). r.next) is in
+    let going = going-with g (kept-b g c) B c.in-B.is in
     on_ok c.close-in-B.result (λ well.
-    subst (λ (m : ℕ). IsLit (m / 60) new (g.M.Medium.state c.close-in-B.new.unit) (g.C.Chip.card c.settle.new.card_a) (g.D.Chip.card c.close-in-B.new.card) (g.C.Chip.state c.settle.new.card_a) (g.D.Chip.state c.close-in-B.new.card)) (sym next)
-    (cabin-going (between.next / 60) between new cabin is (Some B) None going (ok_gives c.close-in-B.result e.ready well) (ready-same between.keeper.cabin.cards new.keeper.cabin.cards A known going.ready.card_a) (e.card) (λ card h. ok_gives c.close-in-B.result (e.rows card h) well)
-    (closed-past B second between.keeper.cabin n.0) (e.stands (ungiven_of going.span) going.cabin) (closed-sessions B second between.keeper.cabin n.0)))
+    going-closed B c.args.slot c.args.at c.settle.new.run c.close-in-B.new.run c.settle.new.outcome.breaks c.close-in-B.new.breaks e.closed.0 e.closed.1 (g.M.Medium.state c.settle.new.unit) (g.M.Medium.state c.close-in-B.new.unit) (g.D.Chip.state c.settle.new.card_b) (g.D.Chip.state c.close-in-B.new.card) (g.C.Chip.state c.settle.new.card_a)
+    (g.D.Chip.card c.settle.new.card_b) (g.D.Chip.card c.close-in-B.new.card) (g.C.Chip.card c.settle.new.card_a)
+    going (ok_gives c.close-in-B.result e.ready well) e.card (λ card h. ok_gives c.close-in-B.result (e.rows card h) well) (e.stands (ungiven_of going.span) going.cabin))
 
 pub returns-in-B-clause-takes : goal.returns-in-B-clause-takes
 returns-in-B-clause-takes g c = takes g (kept-b g c) (side-b g c) c.close-in-B.ensures

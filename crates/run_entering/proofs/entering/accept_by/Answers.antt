@@ -1,10 +1,10 @@
-use Rattle.std.proofs.Common.{◌≡◌, ◌<◌, ◌^◌, ℕ, rules, arith, length, Option, None, Ok, List, IfSome, option_map, refl, sym, subst, ap, []}
+use Rattle.std.proofs.Common.{◌≡◌, ◌<◌, ◌^◌, ℕ, rules, arith, length, Option, None, Ok, List, IfSome, option_map, refl, sym, subst, ap, [], ◌≤◌}
 use Rattle.tacho_types.specs.CardNumber.{card_number_bytes}
 use Rattle.tacho_types.specs.declared.card_number.FullCardNumber.{FullCardNumber}
 use Rattle.owed_model.specs.Rows.{IsRowFor}
 use Rattle.joint_rule.specs.Views.{other}
 use Rattle.run_crew.specs.Cards.{known_of}
-use Rattle.std.specs.Prelude.{is_err, Err}
+use Rattle.std.specs.Prelude.{is_err, Err, Result}
 use Rattle.unit_memory.specs.declared.format.Identity.{Identity}
 use Rattle.device_steps.specs.declared.entering.Entered.{Entered}
 use Rattle.device_steps.specs.declared.entering.NotEntered.{NotEntered}
@@ -21,64 +21,56 @@ use Rattle.run_keeping.proofs.Calm.{card-rests, card-told, card-fell, card-first
 use Rattle.run_outcome.specs.Lines.{Listed}
 use Rattle.log_model.specs.declared.lines.Break.{Break}
 use Rattle.run_outcome.specs.declared.outcome.Outcome.{Outcome}
+use Rattle.card_layout.specs.Files.{image_size_of}
+use Rattle.run_entering.proofs.entering.accept_by.Given.{Over}
+use Rattle.run_entering.proofs.entering.accept_by.Goals.{After-enter}
 use Rattle.run_entering.proofs.entering.accept_by.Goals as goal
+
+-- ---- what the unit told of itself
+
+module _ (g : Over) (c : After-enter g) where
+  long : length c.args.keeper.now.memory.registration.0 ≡ 15
+  long = subst (λ (i : Identity). length i.registration.0 ≡ 15) c.identity.ensures c.enter.ensures.long
+
+  roomy : image_size_of c.args.app ≤ (g.C.Chip.state c.args.card.now).size
+  roomy = omega (arith, largest_image c.args.app c.requires.port.good, c.requires.port.size)
+
+  abbrev EntersBy : Identity → Result Entered NotEntered → Type 0
+  EntersBy i r = IsEntering c.args.app i.registration c.args.entering.odometer.0 c.args.entering.at.second (g.M.Medium.state c.args.unit.now) (g.M.Medium.state c.enter.new.unit) (g.C.Chip.state c.args.card.now) (g.C.Chip.state c.enter.new.card) r
+
+  abbrev EntersNow : Result Entered NotEntered → Type 0
+  EntersNow r = IsEntering c.args.app c.args.keeper.now.memory.registration c.args.entering.odometer.0 c.args.entering.at.second (g.M.Medium.state c.args.unit.now) (g.M.Medium.state c.enter.new.unit) (g.C.Chip.state c.args.card.now) (g.C.Chip.state c.enter.new.card) r
 
 pub returns-in-Ok-clause-ended : goal.returns-in-Ok-clause-ended
 returns-in-Ok-clause-ended g c =
-    let k = c.args.keeper.now in
-    let e = c.args.entering in
-    let U = g.M.Medium.state c.args.unit.now in
-    let V = g.M.Medium.state c.enter.new.unit in
-    let X = g.C.Chip.state c.args.card.now in
-    let M = g.C.Chip.state c.enter.new.card in
-    let Z = g.D.Chip.state c.args.others.now in
-    let long = subst (λ (i : Identity). length i.registration.0 ≡ 15) c.identity.ensures c.enter.ensures.long in
-    let enters : IsEntering c.args.app k.memory.registration e.odometer.0 e.at.second U V X M (Ok c.in-Ok.entered) =
-    subst (λ (i : Identity). IsEntering c.args.app i.registration e.odometer.0 e.at.second U V X M (Ok c.in-Ok.entered)) c.identity.ensures c.in-Ok.ensures.enters in
+    let p = (goal.at.returns-in-Ok-clause-ended g c).After-enter in
+    let enters : EntersNow g p (Ok c.in-Ok.entered) = subst (λ (i : Identity). EntersBy g p i (Ok c.in-Ok.entered)) c.identity.ensures c.in-Ok.ensures.enters in
     let t = c.take_in.ensures.ended in (
-      taken_as t.0 c.in-Ok.entered M.clock t.1,
-      judged-taken c.args.app e k c.args.noted.now c.args.outcome.now U V X M c.in-Ok.entered enters c.enter.ensures.leaves.later (is_err c.take_in.result) c.take_in.new.keeper c.take_in.new.noted c.take_in.new.outcome
+      taken_as t.0 c.in-Ok.entered (g.C.Chip.state c.enter.new.card).clock t.1,
+      judged-taken c.args.app c.args.entering c.args.keeper.now c.args.noted.now c.args.outcome.now (g.M.Medium.state c.args.unit.now) (g.M.Medium.state c.enter.new.unit) (g.C.Chip.state c.args.card.now) (g.C.Chip.state c.enter.new.card) c.in-Ok.entered enters c.enter.ensures.leaves.later (is_err c.take_in.result) c.take_in.new.keeper c.take_in.new.noted c.take_in.new.outcome
           (g.M.Medium.state c.take_in.new.unit) (g.C.Chip.state c.take_in.new.card) c.take_in.ensures.low c.take_in.ensures.sized t.0 t.1 t.2 t.3,
-      λ f w m out low. taken-known c.args.app e k U V X M Z (g.met.M.Medium.coherent c.args.unit.now) (g.met.M.Medium.coherent c.enter.new.unit) (g.met.C.Chip.coherent c.args.card.now) (g.met.C.Chip.coherent c.enter.new.card) c.requires.bare c.requires.sized (omega (arith, largest_image c.args.app c.requires.port.good, c.requires.port.size)) k.memory.registration long e.odometer.0 (omega (arith, c.requires.last)) (Ok c.in-Ok.entered) enters f w m out c.in-Ok.entered refl t.0 t.1 (is_err c.take_in.result) c.take_in.new.keeper (g.M.Medium.state c.take_in.new.unit) (g.C.Chip.state c.take_in.new.card) refl refl c.requires.second c.requires.works (enters.unit.cause refl).works (let later = t.3.later in omega (arith, later, low)) c.take_in.ensures.most t.4,
+      λ f w m out low. taken-known c.args.app c.args.entering c.args.keeper.now (g.M.Medium.state c.args.unit.now) (g.M.Medium.state c.enter.new.unit) (g.C.Chip.state c.args.card.now) (g.C.Chip.state c.enter.new.card) (g.D.Chip.state c.args.others.now) (g.met.M.Medium.coherent c.args.unit.now) (g.met.M.Medium.coherent c.enter.new.unit) (g.met.C.Chip.coherent c.args.card.now) (g.met.C.Chip.coherent c.enter.new.card) c.requires.bare c.requires.sized (roomy g p) c.args.keeper.now.memory.registration (long g p) c.args.entering.odometer.0 (omega (arith, c.requires.last)) (Ok c.in-Ok.entered) enters f w m out c.in-Ok.entered refl t.0 t.1 (is_err c.take_in.result) c.take_in.new.keeper (g.M.Medium.state c.take_in.new.unit) (g.C.Chip.state c.take_in.new.card) refl refl c.requires.second c.requires.works (enters.unit.cause refl).works (let later = t.3.later in omega (arith, later, low)) c.take_in.ensures.most t.4,
     )
 
 pub returns-in-Err-UnitFailed-clause-ended : goal.returns-in-Err-UnitFailed-clause-ended
 returns-in-Err-UnitFailed-clause-ended g c =
-    let k = c.args.keeper.now in
-    let e = c.args.entering in
-    let U = g.M.Medium.state c.args.unit.now in
-    let V = g.M.Medium.state c.enter.new.unit in
-    let X = g.C.Chip.state c.args.card.now in
-    let M = g.C.Chip.state c.enter.new.card in
-    let Z = g.D.Chip.state c.args.others.now in
-    let long = subst (λ (i : Identity). length i.registration.0 ≡ 15) c.identity.ensures c.enter.ensures.long in
+    let p = (goal.at.returns-in-Err-UnitFailed-clause-ended g c).After-enter in
     let is : c.in-Err-UnitFailed.field-0 ≡ UnitFailed = cc (c.in-Err-UnitFailed.field-0-is) in
-    let enters : IsEntering c.args.app k.memory.registration e.odometer.0 e.at.second U V X M (Err UnitFailed) =
-    subst (λ (i : Identity). IsEntering c.args.app i.registration e.odometer.0 e.at.second U V X M (Err UnitFailed)) c.identity.ensures
-    (subst (λ (f : NotEntered). IsEntering c.args.app c.identity.result.registration e.odometer.0 e.at.second U V X M (Err f)) is c.in-Err-UnitFailed.ensures.enters) in (
+    let enters : EntersNow g p (Err UnitFailed) = subst (λ (i : Identity). EntersBy g p i (Err UnitFailed)) c.identity.ensures (subst (λ (f : NotEntered). EntersBy g p c.identity.result (Err f)) is c.in-Err-UnitFailed.ensures.enters) in (
       Unasked,
-      judged-unasked c.args.app e k c.args.noted.now c.args.outcome.now U V X M enters,
-      λ f w m out low. unasked-known c.args.app e k U V X M Z (g.met.M.Medium.coherent c.args.unit.now) (g.met.M.Medium.coherent c.enter.new.unit) (g.met.C.Chip.coherent c.args.card.now) (g.met.C.Chip.coherent c.enter.new.card) c.requires.bare c.requires.sized (omega (arith, largest_image c.args.app c.requires.port.good, c.requires.port.size)) k.memory.registration long e.odometer.0 (omega (arith, c.requires.last)) (Err UnitFailed) enters f w m out (λ never. never),
+      judged-unasked c.args.app c.args.entering c.args.keeper.now c.args.noted.now c.args.outcome.now (g.M.Medium.state c.args.unit.now) (g.M.Medium.state c.enter.new.unit) (g.C.Chip.state c.args.card.now) (g.C.Chip.state c.enter.new.card) enters,
+      λ f w m out low. unasked-known c.args.app c.args.entering c.args.keeper.now (g.M.Medium.state c.args.unit.now) (g.M.Medium.state c.enter.new.unit) (g.C.Chip.state c.args.card.now) (g.C.Chip.state c.enter.new.card) (g.D.Chip.state c.args.others.now) (g.met.M.Medium.coherent c.args.unit.now) (g.met.M.Medium.coherent c.enter.new.unit) (g.met.C.Chip.coherent c.args.card.now) (g.met.C.Chip.coherent c.enter.new.card) c.requires.bare c.requires.sized (roomy g p) c.args.keeper.now.memory.registration (long g p) c.args.entering.odometer.0 (omega (arith, c.requires.last)) (Err UnitFailed) enters f w m out (λ never. never),
     )
 
 pub returns-in-Err-CardFailed-clause-ended : goal.returns-in-Err-CardFailed-clause-ended
 returns-in-Err-CardFailed-clause-ended g c =
-    let k = c.args.keeper.now in
-    let e = c.args.entering in
-    let U = g.M.Medium.state c.args.unit.now in
-    let V = g.M.Medium.state c.enter.new.unit in
-    let X = g.C.Chip.state c.args.card.now in
-    let M = g.C.Chip.state c.enter.new.card in
-    let Z = g.D.Chip.state c.args.others.now in
-    let long = subst (λ (i : Identity). length i.registration.0 ≡ 15) c.identity.ensures c.enter.ensures.long in
+    let p = (goal.at.returns-in-Err-CardFailed-clause-ended g c).After-enter in
     let is : c.in-Err-CardFailed.field-0 ≡ CardFailed = cc (c.in-Err-CardFailed.field-0-is) in
-    let enters : IsEntering c.args.app k.memory.registration e.odometer.0 e.at.second U V X M (Err CardFailed) =
-    subst (λ (i : Identity). IsEntering c.args.app i.registration e.odometer.0 e.at.second U V X M (Err CardFailed)) c.identity.ensures
-    (subst (λ (f : NotEntered). IsEntering c.args.app c.identity.result.registration e.odometer.0 e.at.second U V X M (Err f)) is c.in-Err-CardFailed.ensures.enters) in (
+    let enters : EntersNow g p (Err CardFailed) = subst (λ (i : Identity). EntersBy g p i (Err CardFailed)) c.identity.ensures (subst (λ (f : NotEntered). EntersBy g p c.identity.result (Err f)) is c.in-Err-CardFailed.ensures.enters) in (
       Fell,
-      judged-fell c.args.app e k c.args.noted.now c.args.outcome.now U V X M (is_err c.tear.result) c.tear.new.self c.tear.new.breaks (g.M.Medium.state c.tear.new.unit) c.requires.works enters c.tear.ensures.keeper c.tear.ensures.told
-          (fault-noted e k c.tear.new.self c.tear.result c.tear.ensures.keeper c.tear.ensures.noted c.tear.ensures.moments),
-      λ f w m out low. fell-known c.args.app e k U V X M Z (g.met.M.Medium.coherent c.args.unit.now) (g.met.M.Medium.coherent c.enter.new.unit) (g.met.C.Chip.coherent c.args.card.now) (g.met.C.Chip.coherent c.enter.new.card) c.requires.bare c.requires.sized (omega (arith, largest_image c.args.app c.requires.port.good, c.requires.port.size)) k.memory.registration long e.odometer.0 (omega (arith, c.requires.last)) (Err CardFailed) enters f w m out (is_err c.tear.result) (g.M.Medium.state c.tear.new.unit) (enters.unit.rests refl c.requires.ready.works).works c.tear.ensures.journal c.tear.ensures.cause c.tear.new.self c.tear.ensures.keeper,
+      judged-fell c.args.app c.args.entering c.args.keeper.now c.args.noted.now c.args.outcome.now (g.M.Medium.state c.args.unit.now) (g.M.Medium.state c.enter.new.unit) (g.C.Chip.state c.args.card.now) (g.C.Chip.state c.enter.new.card) (is_err c.tear.result) c.tear.new.self c.tear.new.breaks (g.M.Medium.state c.tear.new.unit) c.requires.works enters c.tear.ensures.keeper c.tear.ensures.told
+          (fault-noted c.args.entering c.args.keeper.now c.tear.new.self c.tear.result c.tear.ensures.keeper c.tear.ensures.noted c.tear.ensures.moments),
+      λ f w m out low. fell-known c.args.app c.args.entering c.args.keeper.now (g.M.Medium.state c.args.unit.now) (g.M.Medium.state c.enter.new.unit) (g.C.Chip.state c.args.card.now) (g.C.Chip.state c.enter.new.card) (g.D.Chip.state c.args.others.now) (g.met.M.Medium.coherent c.args.unit.now) (g.met.M.Medium.coherent c.enter.new.unit) (g.met.C.Chip.coherent c.args.card.now) (g.met.C.Chip.coherent c.enter.new.card) c.requires.bare c.requires.sized (roomy g p) c.args.keeper.now.memory.registration (long g p) c.args.entering.odometer.0 (omega (arith, c.requires.last)) (Err CardFailed) enters f w m out (is_err c.tear.result) (g.M.Medium.state c.tear.new.unit) (enters.unit.rests refl c.requires.ready.works).works c.tear.ensures.journal c.tear.ensures.cause c.tear.new.self c.tear.ensures.keeper,
     )
 
 pub returns-in-Err-CardFailed-clause-stands : goal.returns-in-Err-CardFailed-clause-stands
@@ -86,47 +78,29 @@ returns-in-Err-CardFailed-clause-stands g c = λ from le s. c.tear.ensures.stand
 
 pub returns-in-Err-NotValid-clause-ended : goal.returns-in-Err-NotValid-clause-ended
 returns-in-Err-NotValid-clause-ended g c =
-    let k = c.args.keeper.now in
-    let e = c.args.entering in
-    let U = g.M.Medium.state c.args.unit.now in
-    let V = g.M.Medium.state c.enter.new.unit in
-    let X = g.C.Chip.state c.args.card.now in
-    let M = g.C.Chip.state c.enter.new.card in
-    let Z = g.D.Chip.state c.args.others.now in
-    let long = subst (λ (i : Identity). length i.registration.0 ≡ 15) c.identity.ensures c.enter.ensures.long in
+    let p = (goal.at.returns-in-Err-NotValid-clause-ended g c).After-enter in
     let fid = c.in-Err-NotValid.fid in
     let place = c.in-Err-NotValid.place in
     let is : c.in-Err-NotValid.field-0 ≡ NotValid fid place = cc (c.in-Err-NotValid.field-0-is) in
-    let enters : IsEntering c.args.app k.memory.registration e.odometer.0 e.at.second U V X M (Err (NotValid fid place)) =
-    subst (λ (i : Identity). IsEntering c.args.app i.registration e.odometer.0 e.at.second U V X M (Err (NotValid fid place))) c.identity.ensures
-    (subst (λ (f : NotEntered). IsEntering c.args.app c.identity.result.registration e.odometer.0 e.at.second U V X M (Err f)) is c.in-Err-NotValid.ensures.enters) in
-    let told = unfit-told e c.args.outcome.now c.refuse.new.outcome _ fid _ place c.refuse.ensures.told (cc (c.in-Err-NotValid.fid-is)) (cc (c.in-Err-NotValid.place-is)) in (
+    let enters : EntersNow g p (Err (NotValid fid place)) = subst (λ (i : Identity). EntersBy g p i (Err (NotValid fid place))) c.identity.ensures (subst (λ (f : NotEntered). EntersBy g p c.identity.result (Err f)) is c.in-Err-NotValid.ensures.enters) in
+    let told = unfit-told c.args.entering c.args.outcome.now c.refuse.new.outcome _ fid _ place c.refuse.ensures.told (cc (c.in-Err-NotValid.fid-is)) (cc (c.in-Err-NotValid.place-is)) in (
       Unfit fid place,
-      judged-unfit c.args.app e k c.args.noted.now c.args.outcome.now U V X M (is_err c.refuse.result) fid place c.refuse.new.outcome (g.M.Medium.state c.refuse.new.unit) enters told c.refuse.ensures.notes,
-      λ f w m out low. unfit-known c.args.app e k U V X M Z (g.met.M.Medium.coherent c.args.unit.now) (g.met.M.Medium.coherent c.enter.new.unit) (g.met.C.Chip.coherent c.args.card.now) (g.met.C.Chip.coherent c.enter.new.card) c.requires.bare c.requires.sized (omega (arith, largest_image c.args.app c.requires.port.good, c.requires.port.size)) k.memory.registration long e.odometer.0 (omega (arith, c.requires.last)) (Err (NotValid fid place)) enters f w m out (is_err c.refuse.result) (g.M.Medium.state c.refuse.new.unit) (enters.unit.rests refl c.requires.ready.works).works c.refuse.ensures.journal c.refuse.ensures.cause fid place (λ never. never),
+      judged-unfit c.args.app c.args.entering c.args.keeper.now c.args.noted.now c.args.outcome.now (g.M.Medium.state c.args.unit.now) (g.M.Medium.state c.enter.new.unit) (g.C.Chip.state c.args.card.now) (g.C.Chip.state c.enter.new.card) (is_err c.refuse.result) fid place c.refuse.new.outcome (g.M.Medium.state c.refuse.new.unit) enters told c.refuse.ensures.notes,
+      λ f w m out low. unfit-known c.args.app c.args.entering c.args.keeper.now (g.M.Medium.state c.args.unit.now) (g.M.Medium.state c.enter.new.unit) (g.C.Chip.state c.args.card.now) (g.C.Chip.state c.enter.new.card) (g.D.Chip.state c.args.others.now) (g.met.M.Medium.coherent c.args.unit.now) (g.met.M.Medium.coherent c.enter.new.unit) (g.met.C.Chip.coherent c.args.card.now) (g.met.C.Chip.coherent c.enter.new.card) c.requires.bare c.requires.sized (roomy g p) c.args.keeper.now.memory.registration (long g p) c.args.entering.odometer.0 (omega (arith, c.requires.last)) (Err (NotValid fid place)) enters f w m out (is_err c.refuse.result) (g.M.Medium.state c.refuse.new.unit) (enters.unit.rests refl c.requires.ready.works).works c.refuse.ensures.journal c.refuse.ensures.cause fid place (λ never. never),
     )
 
 pub returns-in-Err-TimeOverlap-clause-ended : goal.returns-in-Err-TimeOverlap-clause-ended
 returns-in-Err-TimeOverlap-clause-ended g c =
-    let k = c.args.keeper.now in
-    let e = c.args.entering in
-    let U = g.M.Medium.state c.args.unit.now in
-    let V = g.M.Medium.state c.enter.new.unit in
-    let X = g.C.Chip.state c.args.card.now in
-    let M = g.C.Chip.state c.enter.new.card in
-    let Z = g.D.Chip.state c.args.others.now in
-    let long = subst (λ (i : Identity). length i.registration.0 ≡ 15) c.identity.ensures c.enter.ensures.long in
+    let p = (goal.at.returns-in-Err-TimeOverlap-clause-ended g c).After-enter in
     let stored = c.in-Err-TimeOverlap.stored in
     let now = c.in-Err-TimeOverlap.field-0-1 in
     let is : c.in-Err-TimeOverlap.field-0 ≡ TimeOverlap stored now = cc (c.in-Err-TimeOverlap.field-0-is) in
-    let enters : IsEntering c.args.app k.memory.registration e.odometer.0 e.at.second U V X M (Err (TimeOverlap stored now)) =
-    subst (λ (i : Identity). IsEntering c.args.app i.registration e.odometer.0 e.at.second U V X M (Err (TimeOverlap stored now))) c.identity.ensures
-    (subst (λ (f : NotEntered). IsEntering c.args.app c.identity.result.registration e.odometer.0 e.at.second U V X M (Err f)) is c.in-Err-TimeOverlap.ensures.enters) in
-    let told = ahead-told e c.args.outcome.now c.defer.new.outcome _ stored c.defer.ensures.told (cc (c.in-Err-TimeOverlap.stored-is)) in
-    let notes = ahead-noted e k.cabin _ stored c.defer.ensures.notes (cc (c.in-Err-TimeOverlap.stored-is)) in (
+    let enters : EntersNow g p (Err (TimeOverlap stored now)) = subst (λ (i : Identity). EntersBy g p i (Err (TimeOverlap stored now))) c.identity.ensures (subst (λ (f : NotEntered). EntersBy g p c.identity.result (Err f)) is c.in-Err-TimeOverlap.ensures.enters) in
+    let told = ahead-told c.args.entering c.args.outcome.now c.defer.new.outcome _ stored c.defer.ensures.told (cc (c.in-Err-TimeOverlap.stored-is)) in
+    let notes = ahead-noted c.args.entering c.args.keeper.now.cabin _ stored c.defer.ensures.notes (cc (c.in-Err-TimeOverlap.stored-is)) in (
       Ahead stored,
-      judged-ahead c.args.app e k c.args.noted.now c.args.outcome.now U V X M (is_err c.defer.result) stored now (subst (λ (n : ℕ). n < 2 ^ 32) (cc (c.in-Err-TimeOverlap.stored-is)) c.defer.ensures.low) c.defer.new.outcome (g.M.Medium.state c.defer.new.unit) enters told notes,
-      λ f w m out low. ahead-known c.args.app e k U V X M Z (g.met.M.Medium.coherent c.args.unit.now) (g.met.M.Medium.coherent c.enter.new.unit) (g.met.C.Chip.coherent c.args.card.now) (g.met.C.Chip.coherent c.enter.new.card) c.requires.bare c.requires.sized (omega (arith, largest_image c.args.app c.requires.port.good, c.requires.port.size)) k.memory.registration long e.odometer.0 (omega (arith, c.requires.last)) (Err (TimeOverlap stored now)) enters f w m out (is_err c.defer.result) (g.M.Medium.state c.defer.new.unit) (enters.unit.rests refl c.requires.ready.works).works c.defer.ensures.journal c.defer.ensures.cause stored (λ never. never),
+      judged-ahead c.args.app c.args.entering c.args.keeper.now c.args.noted.now c.args.outcome.now (g.M.Medium.state c.args.unit.now) (g.M.Medium.state c.enter.new.unit) (g.C.Chip.state c.args.card.now) (g.C.Chip.state c.enter.new.card) (is_err c.defer.result) stored now (subst (λ (n : ℕ). n < 2 ^ 32) (cc (c.in-Err-TimeOverlap.stored-is)) c.defer.ensures.low) c.defer.new.outcome (g.M.Medium.state c.defer.new.unit) enters told notes,
+      λ f w m out low. ahead-known c.args.app c.args.entering c.args.keeper.now (g.M.Medium.state c.args.unit.now) (g.M.Medium.state c.enter.new.unit) (g.C.Chip.state c.args.card.now) (g.C.Chip.state c.enter.new.card) (g.D.Chip.state c.args.others.now) (g.met.M.Medium.coherent c.args.unit.now) (g.met.M.Medium.coherent c.enter.new.unit) (g.met.C.Chip.coherent c.args.card.now) (g.met.C.Chip.coherent c.enter.new.card) c.requires.bare c.requires.sized (roomy g p) c.args.keeper.now.memory.registration (long g p) c.args.entering.odometer.0 (omega (arith, c.requires.last)) (Err (TimeOverlap stored now)) enters f w m out (is_err c.defer.result) (g.M.Medium.state c.defer.new.unit) (enters.unit.rests refl c.requires.ready.works).works c.defer.ensures.journal c.defer.ensures.cause stored (λ never. never),
     )
 
 -- ---- the clocks
