@@ -24,7 +24,7 @@ module _ (g : Over) (c : After-put_pieces g) where
 
   puts : PutsAll (g.M.Medium.state c.make_room-2.new.medium) (g.M.Medium.state c.put_pieces.new.medium) (is_err c.put_pieces.result) ((drop_pieces c.args.self.now c.self.inside.tail.used c.in_ok-once.once ++ drop_pieces c.args.self.now c.in_ok-once.once c.in_ok-twice.twice) ++ day_pieces c.args.self.now (take (8 + 2 * length c.args.words.now) c.body_of-bytes.result))
   puts = subst (λ (p : Pieces). PutsAll (g.M.Medium.state c.make_room-2.new.medium) (g.M.Medium.state c.put_pieces.new.medium) (is_err c.put_pieces.result) p.pieces)
-      (c.plan_day.ensures ∙ ap (λ (p : Pieces). more p (day_pieces c.args.self.now bytes)) (c.in_ok-twice.ensures.plan ∙ ap (λ (p : Pieces). more p (drop_pieces c.args.self.now c.in_ok-once.once c.in_ok-twice.twice)) (c.in_ok-once.ensures.plan ∙ ap (λ (p : Pieces). more p (drop_pieces c.args.self.now c.self.inside.tail.used c.in_ok-once.once)) c.writing-plan.ensures)))
+      (c.plan_day.ensures ∙ ap (λ (p : Pieces). more p (day_pieces c.args.self.now (take (8 + 2 * length c.args.words.now) c.body_of-bytes.result))) (c.in_ok-twice.ensures.plan ∙ ap (λ (p : Pieces). more p (drop_pieces c.args.self.now c.in_ok-once.once c.in_ok-twice.twice)) (c.in_ok-once.ensures.plan ∙ ap (λ (p : Pieces). more p (drop_pieces c.args.self.now c.self.inside.tail.used c.in_ok-once.once)) c.writing-plan.ensures)))
       c.put_pieces.ensures.puts
 
   puts-by : PutsBy (g.M.Medium.state c.args.medium.now) (g.M.Medium.state c.put_pieces.new.medium) (is_err c.put_pieces.result) 3 (5 + 2 * most_drops c.args.self.now.shape.size c.args.self.now.tail.used (12 + 2 * length c.args.words.now)) (beginning_pieces c.args.self.now c.args.date c.args.words.now)
