@@ -1,3 +1,4 @@
 pub mod WorkedMinutes
 pub mod WorkedRuns
+pub mod WordsOfDays
 mod Ports
