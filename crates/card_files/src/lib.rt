@@ -10,6 +10,3 @@ pub use application::{BadApplication, read_application};
 pub use card_layout::{Application, CardFile, Fid, Range};
 pub use new_card::{CardIdentity, blank_card};
 pub use table::{file_of, file_range, files, image_size};
-
-#[cfg(test)]
-mod tests;

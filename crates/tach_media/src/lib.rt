@@ -44,8 +44,3 @@ pub use std_streams::{StdSink, StdSource};
 pub use stop::Stop;
 pub use stream::{Sink, Source};
 pub use transfer::{TakeFault, put_all, take_all};
-
-#[cfg(test)]
-mod file_tests;
-#[cfg(test)]
-mod tests;

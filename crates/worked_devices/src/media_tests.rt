@@ -1,10 +1,13 @@
 ghost use Rattle.std.specs.Prelude.{◌≡◌, ◌≤◌, ◌+◌, ◌⊎◌, length, OnOk, option_map, is_err};
 ghost use Rattle.tach_media.specs.Medium.{IsPartlyWritten, LeavesOnly, HasCause, LiesInside, put};
 
-use super::*;
 use std::io;
 use std::io::{Cursor, ErrorKind, Read, Write};
 use std::test::Fail;
+use tach_media::{
+    AbsentMedium, Failed, Left, Medium, MemMedium, MemSink, MemSource, SliceMedium, StdSink,
+    StdSource, Stop, TakeFault, put_all, take_all,
+};
 
 /// A layer above, as an example: a value, and then the mark in front of it that says that it is there. A stop leaves the
 /// old mark with whatever stands behind it, or the mark and the value.

@@ -3,7 +3,7 @@ use Rattle.tach_media.specs.Medium.{IsPartlyWritten, put}
 use Rattle.tach_media.proofs.Images.{put_outside}
 use Rattle.tach_media.proofs.Ranges.{lies_part, lies_still}
 use Rattle.tach_media.proofs.Runs.{weaken, goes_by}
-use Rattle.tach_media.proofs.tests.put_marked.Goals as goal
+use Rattle.worked_devices.proofs.media_tests.put_marked.Goals as goal
 
 pub write_at-requires-clause-writable : goal.write_at-requires-clause-writable
 write_at-requires-clause-writable g c = lies_part _ c.args.place (4 + length c.args.value.now) _ _ (omega arith) (omega arith) c.requires.writable

@@ -1,4 +1,7 @@
-use super::*;
+use card_files::{
+    Application, BadApplication, CardIdentity, Fid, blank_card, file_range, image_size,
+    read_application,
+};
 use std::test::*;
 use tacho_types::{Name36, Nation};
 

@@ -1,8 +1,8 @@
-use super::*;
 use std::fs;
 use std::fs::File;
 use std::os::unix::fs::symlink;
 use std::test::Fail;
+use tach_media::{FileMedium, Medium};
 
 #[test]
 fn a_file_is_made_written_and_read(rt: HostRuntime) -> Result<(), Fail> {
