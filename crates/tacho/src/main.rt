@@ -27,6 +27,7 @@ use card_layout::LARGEST_IMAGE;
 use end::{Ended, Fault};
 use forms::{Form, form_of};
 use run_model::Device;
+use std::fs::File;
 use std::io::ErrorKind;
 use std::process::ExitCode;
 use std::{env, io, str};
@@ -79,8 +80,12 @@ fn file<'a>(
     FileMedium::without_waiting(rt, path, size)
 }
 
-/// The top call over the program's streams, and over the unit and the cards in the working folder's files.
+/// The top call over the program's streams, and over the unit and the cards in the working folder's files. A stream that is closed has left its number
+/// free: a folder takes it, which can be neither read nor written, so that no device's file gets it, over which then would be written what is printed.
 fn run(rt: &HostRuntime) -> Ended {
+    let _first = File::open(rt, "/");
+    let _second = File::open(rt, "/");
+    let _third = File::open(rt, "/");
     match words_of(rt) {
         Ok(words) => {
             let waits = waits(&words);
