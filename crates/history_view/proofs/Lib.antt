@@ -14,3 +14,6 @@ pub mod Telling
 pub mod UnitStates
 pub mod UnitFronts
 pub mod UnitDays
+pub mod Rising
+pub mod Ringed
+pub mod Leading

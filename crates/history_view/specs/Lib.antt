@@ -2,6 +2,8 @@ pub mod Faults
 pub mod CardFiles
 pub mod UnitFiles
 pub mod Histories
+pub mod Vehicles
+pub mod Fronts
 pub mod Deciding
 pub mod Reading
 pub mod Walking

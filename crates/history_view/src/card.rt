@@ -9,6 +9,7 @@ ghost use Rattle.card_layout.specs.declared.files.Application.{Application as Si
 ghost use Rattle.card_model.specs.Days.{Day};
 ghost use Rattle.card_model.specs.Walk.{days_of};
 ghost use Rattle.card_retention.specs.Entries.{day_entries, entries_up_to};
+ghost use Rattle.card_retention.specs.Retains.{Rise};
 ghost use Rattle.view_model.specs.Lines.{lines_of, same_card, day_of_minute};
 ghost use Rattle.view_model.specs.Text.{IsCardView};
 ghost use Rattle.view_text.specs.Entries.{entry_shown};
@@ -16,6 +17,7 @@ ghost use Rattle.history_view.specs.CardFiles.{last_entries, mark_of, are_vehicl
 ghost use Rattle.history_view.specs.Faults.{IfBadFile};
 ghost use Rattle.history_view.specs.Histories.{AreLines, minutes_on, entry_told};
 ghost use Rattle.history_view.specs.Reading.{AreParts, days_part, vehicles_part, vehicles_size};
+ghost use Rattle.history_view.specs.Vehicles.{ShowsCard};
 ghost use Rattle.history_view.specs.Walking.{IsDayAt};
 ghost use Rattle.history_view.specs.Showing.{ShowsCardFile, entries_told, entry_up_to, before_last};
 
@@ -23,6 +25,7 @@ use crate::ViewFault;
 use crate::entry::part;
 use crate::parts::{Parts, days_len, load_days, vehicles_len};
 use crate::string::{heads, words_of};
+use crate::vehicles::vehicles_in;
 use activity_codec::Change;
 use card_layout::Application;
 use card_records::{Vehicle, read_vehicle};
@@ -61,8 +64,18 @@ impl Model for CardHistory {
     ghost invariant = { λ h. AreLines same_card h.lines.items };
 }
 
+impl CardHistory {
+    /// The lines of its entries.
+    pub fn lines(&self) -> &[Line<CardShown>]
+        ensures lines { AreLines same_card result.now }
+        ensures entries { map entry_told (minutes_on result.now) ≡ self.now }
+    {
+        self.lines.as_slice()
+    }
+}
+
 /// The entries of a card file: the minutes in which the card was in a slot, up to the end mark (Appendix 7, 3.4; Appendix 1,
-/// CardDriverActivity; the end mark: profile).
+/// CardDriverActivity; the end mark: profile). Each is later than the one before it.
 ///
 /// # Errors
 ///
@@ -72,9 +85,39 @@ impl Model for CardHistory {
 pub fn read_card_file(alloc: Global, b: &[u8]) -> Result<CardHistory, ViewFault>
     requires { length b.now < 2 ^ 32 }
     ensures entries { IfOk result (λ h. ShowsCardFile None b.now h) }
+    ensures rise { IfOk result (λ h. Rise h) }
     ensures bad { IfErr result (λ fault. IfBadFile fault (λ place. IsBadCardFile place b.now)) }
 {
     read_days(alloc, b, None)
+}
+
+/// What a card file shows and tells.
+#[derive(Drop)]
+pub struct CardRead {
+    /// Its entries.
+    pub history: CardHistory,
+    /// Its vehicle entries, oldest first.
+    pub vehicles: Vec<Vehicle>,
+}
+
+/// The entries of a card file, and its vehicle entries. It refuses as `read_card_file` does.
+pub fn read_card(alloc: Global, b: &[u8]) -> Result<CardRead, ViewFault>
+    requires { length b.now < 2 ^ 32 }
+    ensures shown { IfOk result (λ card. ShowsCard b.now card.history card.vehicles.items) }
+    ensures rise { IfOk result (λ card. Rise card.history) }
+    ensures bad { IfErr result (λ fault. IfBadFile fault (λ place. IsBadCardFile place b.now)) }
+{
+    let parts = match Parts::read(b) {
+        Ok(parts) => parts,
+        Err(place) => return Err(ViewFault::BadFile(place)),
+    };
+    let value = part(b, parts.vehicles, vehicles_len(parts.app));
+    let vehicles = vehicles_in(alloc, parts.app, value)?;
+    let lines = card_lines(alloc, b, parts, None)?;
+    Ok(CardRead {
+        history: CardHistory { lines },
+        vehicles,
+    })
 }
 
 /// The entries of the newest `n` days of a card file's string, also of days behind the end mark and of days without an entry,
@@ -82,6 +125,7 @@ pub fn read_card_file(alloc: Global, b: &[u8]) -> Result<CardHistory, ViewFault>
 pub fn last_days(alloc: Global, b: &[u8], n: u32) -> Result<CardHistory, ViewFault>
     requires { length b.now < 2 ^ 32 }
     ensures entries { IfOk result (λ h. ShowsCardFile (Some n) b.now h) }
+    ensures rise { IfOk result (λ h. Rise h) }
     ensures bad { IfErr result (λ fault. IfBadFile fault (λ place. IsBadCardFile place b.now)) }
 {
     read_days(alloc, b, Some(n))
@@ -99,6 +143,7 @@ pub fn card_text(alloc: Global, h: &CardHistory) -> Result<Vec<u8>, Memory>
 fn read_days(alloc: Global, b: &[u8], last: Option<u32>) -> Result<CardHistory, ViewFault>
     requires { length b.now < 2 ^ 32 }
     ensures entries { IfOk result (λ h. ShowsCardFile last b.now h) }
+    ensures rise { IfOk result (λ h. Rise h) }
     ensures bad { IfErr result (λ fault. IfBadFile fault (λ place. IsBadCardFile place b.now)) }
 {
     let parts = match Parts::read(b) {
@@ -120,6 +165,7 @@ fn card_lines(
     requires parts { AreParts b.now parts }
     ensures lines { IfOk result (λ lines. AreLines same_card lines.items) }
     ensures entries { IfOk result (λ lines. map entry_told (minutes_on lines.items) ≡ entries_told last parts.app (days_part b.now parts) (vehicles_part b.now parts)) }
+    ensures rise { IfOk result (λ lines. Rise (map entry_told (minutes_on lines.items))) }
 {
     let file = part(b, parts.days, days_len(parts.app));
     let mark = end_mark(parts.app, part(b, parts.vehicles, vehicles_len(parts.app)));

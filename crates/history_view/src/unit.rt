@@ -51,6 +51,16 @@ impl Model for UnitHistory {
     ghost invariant = { λ h. AreLines same_unit h.lines.items };
 }
 
+impl UnitHistory {
+    /// The lines of its minutes.
+    pub fn lines(&self) -> &[Line<UnitShown>]
+        ensures lines { AreLines same_unit result.now }
+        ensures minutes { map minute_told (minutes_on result.now) ≡ self.now }
+    {
+        self.lines.as_slice()
+    }
+}
+
 /// The minutes of a unit file: for each message of a day, in order, all minutes of its day, or those up to the minute of the
 /// first overview's time where that lies in the day (Appendix 7, 2.2.6; the cut: profile).
 ///

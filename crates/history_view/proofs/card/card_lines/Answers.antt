@@ -6,6 +6,7 @@ use Rattle.card_model.specs.Image.{StringShape, Holds}
 use Rattle.card_model.specs.Walk.{days_of}
 use Rattle.card_image.specs.CardFile.{string_alone}
 use Rattle.card_retention.specs.Entries.{entries_up_to}
+use Rattle.card_retention.specs.Retains.{Rise}
 use Rattle.view_model.specs.Lines.{lines_of, same_card}
 use Rattle.view_text.specs.Entries.{entry_shown}
 use Rattle.view_text.specs.Exact.{card_exact}
@@ -14,11 +15,12 @@ use Rattle.cyclic_days.specs.declared.head.DayHead.{DayHead}
 use Rattle.view_model.specs.declared.CardShown.{CardShown}
 use Rattle.view_model.specs.declared.Viewed.{Viewed}
 use Rattle.history_view.specs.CardFiles.{mark_of}
-use Rattle.history_view.specs.Histories.{entry_told}
+use Rattle.history_view.specs.Histories.{entry_told, minutes_on}
 use Rattle.history_view.specs.Reading.{days_part, vehicles_part}
 use Rattle.history_view.specs.Showing.{before_last}
 use Rattle.history_view.proofs.Lines.{are_lines, minutes_back, entries_back}
 use Rattle.history_view.proofs.Entries.{entries_low, shown_low}
+use Rattle.history_view.proofs.Rising.{shown_rise}
 use Rattle.history_view.proofs.Telling.{day_step, told_all, shown_day, shown_count}
 use Rattle.history_view.proofs.Walks.{heads_count}
 use Rattle.history_view.proofs.card.card_lines.Goals as goal
@@ -85,3 +87,13 @@ returns-clause-entries c =
     ∙ ap (λ (l : List Day). entries_up_to c.end_mark-mark.result l) (take-length shown)
     ∙ told_all c.args.last c.args.parts.app (days_part c.args.b.now c.args.parts) (vehicles_part c.args.b.now c.args.parts) c.end_mark-mark.result c.first_of-from.result r x
     (c.end_mark-mark.ensures.mark ∙ ap (mark_of c.args.parts.app) v_is) r_is x_is (c.first_of-from.ensures.value ∙ ap (before_last c.args.last) number)
+
+pub returns-clause-rise : goal.returns-clause-rise
+returns-clause-rise c =
+    let days : List Day = days_of c.in-Some.string.shape c.part-file.result.now in
+    let shown : List Day = drop c.first_of-from.result (days_of c.in-Some.string.shape c.part-file.result.now) in
+    let es = entries_up_to c.end_mark-mark.result (take c.loop-head.head-index (drop c.first_of-from.result (days_of c.in-Some.string.shape c.part-file.result.now))) in
+    let entries : map entry_told (minutes_on c.loop-head.lines.items) ≡ entries_up_to c.end_mark-mark.result (take c.loop-head.head-index (drop c.first_of-from.result (days_of c.in-Some.string.shape c.part-file.result.now))) =
+    ap (λ (l : List (Viewed CardShown)). map entry_told l) (minutes_back same_card card_exact (map entry_shown es) c.loop-head.lines.items c.loop-head.invariant) ∙ entries_back es in
+    let held = holds_own c.in-Some.string.shape (length c.part-file.result.now - 4) c.part-file.result.now c.in-Some.ensures.some.0 c.in-Some.ensures.some.1.holds in
+    subst Rise (sym entries) (shown_rise c.end_mark-mark.result c.loop-head.head-index c.first_of-from.result (days_of c.in-Some.string.shape c.part-file.result.now) held.ordered)

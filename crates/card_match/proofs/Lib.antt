@@ -1,0 +1,11 @@
+pub mod Empty
+pub mod Lines
+pub mod Marking
+pub mod Telling
+pub mod Rising
+pub mod Beginning
+pub mod Counting
+pub mod Rows
+pub mod Few
+pub mod Sources
+pub mod Answering

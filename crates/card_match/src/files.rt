@@ -1,0 +1,147 @@
+//! A card file against a unit file.
+ghost use Rattle.std.specs.Prelude.{◌≡◌, ◌<◌, ◌≤◌, ◌^◌, Some, List, length, IfOk, IfErr};
+ghost use Rattle.message_model.specs.Messages.{Message, IsUnitFile};
+ghost use Rattle.history_view.specs.Fronts.{registration_in};
+ghost use Rattle.card_match.specs.Files.{is_of, use_of, uses_of, MatchesFiles, IsBadUnit, IsMatchFault, MatchesSource, IsBadSource};
+ghost use Rattle.card_match.specs.Faults.{IfBadSource};
+ghost use Rattle.card_match.specs.Text.{IsDated};
+
+use crate::cases::Use;
+use crate::entries::match_entries;
+use crate::verdict::Matched;
+use card_records::Vehicle;
+use history_view::{ViewFault, read_card, read_download, read_front};
+use std::alloc::{AllocError, Global};
+use tacho_types::Registration;
+
+/// Why two files were not matched.
+#[derive(Clone, Copy, Debug, PartialEq, Eq)]
+pub enum MatchFault {
+    /// The first bytes are no unit file, first at this place, or one without an overview, and this is its length.
+    BadUnitFile(u32),
+    /// The others are no card file, first at this place, or their length where a needed entry is missing.
+    BadCardFile(u32),
+    /// Out of memory.
+    Memory,
+}
+
+/// Matches the entries of a card file against the minutes of a unit file.
+pub fn match_files(alloc: Global, unit: &[u8], card: &[u8]) -> Result<Matched, MatchFault>
+    requires unit { length unit.now < 2 ^ 32 }
+    requires card { length card.now < 2 ^ 32 }
+    ensures matched { IfOk result (λ matched. MatchesFiles unit.now card.now matched) }
+    ensures dated { IfOk result IsDated }
+    ensures bad { IfErr result (IsMatchFault unit.now card.now) }
+{
+    let registration = match registration_of(unit) {
+        Ok(registration) => registration,
+        Err(place) => return Err(MatchFault::BadUnitFile(place)),
+    };
+    let minutes = match read_download(alloc, unit) {
+        Ok(minutes) => minutes,
+        Err(ViewFault::BadFile(place)) => return Err(MatchFault::BadUnitFile(place)),
+        Err(ViewFault::Memory) => return Err(MatchFault::Memory),
+    };
+    let read = match read_card(alloc, card) {
+        Ok(read) => read,
+        Err(ViewFault::BadFile(place)) => return Err(MatchFault::BadCardFile(place)),
+        Err(ViewFault::Memory) => return Err(MatchFault::Memory),
+    };
+    let uses = match uses_of(alloc, read.vehicles.as_slice(), registration) {
+        Ok(uses) => uses,
+        Err(_) => return Err(MatchFault::Memory),
+    };
+    match match_entries(
+        alloc,
+        uses.as_slice(),
+        minutes.lines(),
+        read.history.lines(),
+    ) {
+        Ok(matched) => Ok(matched),
+        Err(_) => Err(MatchFault::Memory),
+    }
+}
+
+/// The registration that the first overview of a unit file tells.
+fn registration_of(unit: &[u8]) -> Result<Registration, u32>
+    requires { length unit.now < 2 ^ 32 }
+    ensures told { IfOk result (λ r. (messages : List Message) × IsUnitFile messages unit.now × (registration_in messages ≡ Some r.0)) }
+    ensures bad { IfErr result (λ place. IsBadUnit place unit.now) }
+{
+    let front = match read_front(unit) {
+        Ok(front) => front,
+        Err(place) => return Err(place),
+    };
+    if front.end < unit.len() {
+        return Err(front.end as u32);
+    }
+    match front.registration {
+        Some(registration) => Ok(registration),
+        None => Err(unit.len() as u32),
+    }
+}
+
+/// The uses of the vehicle of this registration.
+fn uses_of(
+    alloc: Global,
+    vehicles: &[Vehicle],
+    registration: Registration,
+) -> Result<Vec<Use>, AllocError>
+    ensures { IfOk result (λ uses. uses.items ≡ uses_of registration.0 vehicles.now) }
+{
+    let mut uses = Vec::new(alloc);
+    for v in vehicles {
+        if is_of(v, registration) {
+            uses.push(use_of(v))?;
+        }
+    }
+    Ok(uses)
+}
+
+/// Whether a vehicle entry is one of this registration.
+fn is_of(v: &Vehicle, registration: Registration) -> bool
+    ensures { result ≡ is_of registration.0 v.now }
+{
+    v.registration.0 == registration.0
+}
+
+/// The minutes of a vehicle entry's use.
+fn use_of(v: &Vehicle) -> Use
+    ensures { result ≡ use_of v.now }
+{
+    Use {
+        first: v.first_use.0 / 60,
+        last: v.last_use.0 / 60,
+    }
+}
+
+/// Why a source was not matched.
+#[derive(Clone, Copy, Debug, PartialEq, Eq)]
+pub enum SourceFault {
+    /// The source is no unit file followed at once by a card file, first at this place.
+    BadFile(u32),
+    /// Out of memory.
+    Memory,
+}
+
+/// Matches a source: a unit file, whose messages go on as long as the next byte is 76, and behind it a card file.
+pub fn match_source(alloc: Global, b: &[u8]) -> Result<Matched, SourceFault>
+    requires { length b.now < 2 ^ 32 }
+    ensures matched { IfOk result (MatchesSource b.now) }
+    ensures dated { IfOk result IsDated }
+    ensures bad { IfErr result (λ fault. IfBadSource fault (λ place. IsBadSource place b.now)) }
+{
+    let front = match read_front(b) {
+        Ok(front) => front,
+        Err(place) => return Err(SourceFault::BadFile(place)),
+    };
+    let (unit, card) = b.split_at(front.end);
+    match match_files(alloc, unit, card) {
+        Ok(matched) => Ok(matched),
+        Err(MatchFault::BadUnitFile(place)) => Err(SourceFault::BadFile(place)),
+        Err(MatchFault::BadCardFile(place)) => {
+            Err(SourceFault::BadFile(front.end as u32 + place))
+        }
+        Err(MatchFault::Memory) => Err(SourceFault::Memory),
+    }
+}
