@@ -1,0 +1,5 @@
+pub mod Bringing
+pub mod Talking
+pub mod Whole
+pub mod Told
+pub mod Stepping

@@ -1,0 +1,6 @@
+pub mod Lists
+pub mod Arriving
+pub mod Leading
+pub mod Requests
+pub mod Spelling
+mod Rows
