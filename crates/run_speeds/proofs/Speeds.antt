@@ -1,0 +1,133 @@
+-- What a unit carries of the blocks of a run.
+use Rattle.std.proofs.Common.{◌≡◌, ◌⊎◌, inl, inr, ⊎_elim, ℕ, ◌+◌, ◌<◌, ◌≤◌, Bool, true, false, Option, Some, None, IfSome, is_some, List, [], ◌∷◌, ◌++◌, length, map, refl, sym, ◌∙◌, ap, subst, arith, append-nil, append_assoc}
+use Rattle.std.specs.List.{AllByRecursion}
+use Rattle.tach_media.specs.Medium.{State, IsCoherent, LeavesOnly}
+use Rattle.tach_media.proofs.Runs.{at_image, told_too}
+use Rattle.gated_ring.specs.Ring.{taken, with_head}
+use Rattle.gated_ring.specs.Change.{IsAdding, IsAdded}
+use Rattle.gated_ring.proofs.Elsewhere.{ring_elsewhere}
+use Rattle.side_model.specs.Rings.{Stand}
+use Rattle.run_rings.specs.Carried.{Carries}
+use Rattle.run_rings.proofs.Carried.{carries-none, carries-more, carries-maybe, carries-same}
+use Rattle.run_rings.proofs.Standing.{stand-one, stand-unsure}
+use Rattle.speed_model.specs.declared.block.Block.{Block}
+use Rattle.speed_model.specs.Blocks.{block_bytes}
+use Rattle.speed_model.specs.Stored.{speed_ring, HoldsNewest}
+use Rattle.speed_store.proofs.Held.{ring-shape, whole-head, newest-begins, newest-added}
+use Rattle.run_speeds.specs.Speeds.{IsBlock, HasSpeedRing, CarriesBlocks, CarriesSome, AreSure, HasSpeeds, HasSameSpeeds, LeavesSpeeds}
+
+all-front : (P : Block → Type 0) (xs ys : List Block) → AllByRecursion P (xs ++ ys) → AllByRecursion P xs
+all-front P [] ys all = tt
+all-front P (x ∷ xs) ys all = (all.0, all-front P xs ys all.1)
+
+all-last : (P : Block → Type 0) (xs : List Block) (y : Block) → AllByRecursion P (xs ++ y ∷ []) → P y
+all-last P [] y all = all.0
+all-last P (x ∷ xs) y all = all-last P xs y all.1
+
+newest-same : (start x c : List ℕ) (blocks : List Block) → HoldsNewest start x blocks → HasSameSpeeds x c → HoldsNewest start c blocks
+newest-same start x c blocks h same =
+    let is = ring_elsewhere speed_ring ring-shape x c same h.points in
+    record { points = subst (λ (n : ℕ). n < 1440) (sym is.0) h.points; dense = is.3 h.dense; newest = is.2 ∙ h.newest }
+
+module _ (is_sure : Block → Bool) (start : List ℕ) where
+  nothing-yet : HasSpeedRing start → (x : List ℕ) → x ≡ start → CarriesBlocks is_sure start [] x
+  nothing-yet ring x is = subst (CarriesBlocks is_sure start []) (sym is) (record { more = []; stand = refl; carries = carries-none speed_ring start ring.0 ring.1 })
+
+  pub speeds-begin : (began : ℕ) (unit : State) → HasSpeedRing start → began ≤ unit.clock → ((x : List ℕ) → unit.may_leave x → x ≡ start) → ((x : List ℕ) → unit.left_since began x → x ≡ start) → HasSpeeds is_sure start began [] unit
+  speeds-begin began unit ring later now since = record {
+    later = later;
+    since = λ x at. record { front = []; rest = []; are = refl; carries = nothing-yet ring x (since x at) };
+    now = λ x at. nothing-yet ring x (now x at);
+    newest = λ sure x at. subst (λ (y : List ℕ). HoldsNewest start y []) (sym (now x at)) (newest-begins start ring.0 ring.1);
+  }
+
+  -- ---- calls beside the ring
+
+  carried-same : (blocks : List Block) (x c : List ℕ) → CarriesBlocks is_sure start blocks x → HasSameSpeeds x c → CarriesBlocks is_sure start blocks c
+  carried-same blocks x c h same = record { more = h.more; stand = h.stand; carries = carries-same speed_ring start x h.more h.carries ring-shape c same }
+
+  whole : (blocks : List Block) (x : List ℕ) → CarriesBlocks is_sure start blocks x → CarriesSome is_sure start blocks x
+  whole blocks x h = record { front = blocks; rest = []; are = append-nil blocks; carries = h }
+
+  module _ (began : ℕ) (blocks : List Block) (old new : State) (h : HasSpeeds is_sure start began blocks old) where
+    pub speeds-on : LeavesSpeeds old new → HasSpeeds is_sure start began blocks new
+    speeds-on leaves = record {
+      later = let a = h.later in let b = leaves.later in omega (arith, a, b);
+      since = λ c at. ⊎_elim
+          (λ was. h.since c was)
+          (λ here. whole blocks c (carried-same blocks here.0 c (h.now here.0 here.1) here.2))
+          (leaves.since began c h.later at);
+      now = λ c at. let x = leaves.now c at in carried-same blocks x.0 c (h.now x.0 x.1) x.2;
+      newest = λ sure c at. let x = leaves.now c at in newest-same start x.0 c blocks (h.newest sure x.0 x.1) x.2;
+    }
+
+    -- ---- a block more
+
+    module _ (before : IsCoherent old) (b : Block) (sixty : length b.speeds ≡ 60) (run : LeavesOnly old new (IsAdding speed_ring (block_bytes b))) where
+      -- an entry more stands for it
+      with-entry : (x c : List ℕ) (o : CarriesBlocks is_sure start blocks x) → Carries speed_ring start c (o.more ++ with_head speed_ring x (taken speed_ring x) (block_bytes b) ∷ []) → CarriesBlocks is_sure start (blocks ++ b ∷ []) c
+      with-entry x c o carries = record {
+        more = o.more ++ block_bytes b ∷ [];
+        stand = stand-one is_sure IsBlock blocks o.more b (block_bytes b) o.stand refl;
+        carries = subst (λ (e : List ℕ). Carries speed_ring start c (o.more ++ e ∷ [])) (whole-head x (taken speed_ring x) b sixty) carries;
+      }
+
+      -- a moment of it carries the blocks before, or this one too
+      at-moment : (x c : List ℕ) → old.image ≡ Some x → IsAdding speed_ring (block_bytes b) x c → CarriesBlocks is_sure start blocks c ⊎ CarriesBlocks is_sure start (blocks ++ b ∷ []) c
+      at-moment x c told moment =
+          let o = h.now x (before.is_left x told) in
+          ⊎_elim
+          (λ same. inl (record { more = o.more; stand = o.stand; carries = same }))
+          (λ more. inr (with-entry x c o more))
+          (carries-maybe speed_ring start x o.more o.carries (block_bytes b) c moment)
+
+      some-more : (c : List ℕ) → CarriesSome is_sure start blocks c → CarriesSome is_sure start (blocks ++ b ∷ []) c
+      some-more c s = record { front = s.front; rest = s.rest ++ b ∷ []; are = sym (append_assoc s.front s.rest (b ∷ [])) ∙ ap (λ (l : List Block). l ++ b ∷ []) s.are; carries = s.carries }
+
+      since-more : (c : List ℕ) → new.left_since began c → CarriesSome is_sure start (blocks ++ b ∷ []) c
+      since-more c at = ⊎_elim
+          (λ was. some-more c (h.since c was))
+          (λ here. ⊎_elim (λ same. some-more c (whole blocks c same)) (λ more. whole (blocks ++ b ∷ []) c more) (at-moment here.0 c here.1 here.2))
+          (run.since began c h.later at)
+
+      later-more : began ≤ new.clock
+      later-more = let a = h.later in let c = run.later in omega (arith, a, c)
+
+      pub speeds-added : IsCoherent new → new.works ≡ true → is_some old.image ≡ true → IfSome old.image (λ x. IfSome new.image (IsAdded speed_ring (block_bytes b) x)) → HasSpeeds is_sure start began (blocks ++ b ∷ []) new
+      speeds-added after works tells done = record {
+        later = later-more;
+        since = since-more;
+        now = λ c at.
+            let x = was c at in
+            let o = h.now x.0 (before.is_left x.0 x.1) in
+            with-entry x.0 c o (carries-more speed_ring start x.0 o.more o.carries (block_bytes b) c (added c at x.0 x.1));
+        newest = λ sure c at.
+            let x = was c at in
+            newest-added start x.0 blocks (h.newest (all-front (λ (d : Block). is_sure d ≡ true) blocks (b ∷ []) sure) x.0 (before.is_left x.0 x.1)) b c sixty (added c at x.0 x.1);
+      }
+        where
+          is : (c : List ℕ) → new.may_leave c → new.image ≡ Some c
+          is c at = after.only c works at
+
+          was : (c : List ℕ) → new.may_leave c → (x : List ℕ) × (old.image ≡ Some x)
+          was c at = told_too new.image old.image c run.tells (is c at)
+
+          added : (c : List ℕ) → new.may_leave c → (x : List ℕ) → old.image ≡ Some x → IsAdded speed_ring (block_bytes b) x c
+          added c at x told = at_image (IsAdded speed_ring (block_bytes b) x) (is c at) (at_image (λ (x : List ℕ). IfSome new.image (IsAdded speed_ring (block_bytes b) x)) told done)
+
+      pub speeds-broken : is_sure b ≡ false → HasSpeeds is_sure start began (blocks ++ b ∷ []) new
+      speeds-broken unsure = record {
+        later = later-more;
+        since = since-more;
+        now = λ c at. ⊎_elim
+            (λ was. missing c (h.now c was))
+            (λ here. ⊎_elim (missing c) (λ more. more) (at-moment here.0 c here.1 here.2))
+            (run.now c at);
+        newest = λ sure c at. absurd (no (sym (all-last (λ (d : Block). is_sure d ≡ true) blocks b sure) ∙ unsure));
+      }
+        where
+          no : true ≡ false → ⊥
+          no e = cc
+
+          missing : (c : List ℕ) → CarriesBlocks is_sure start blocks c → CarriesBlocks is_sure start (blocks ++ b ∷ []) c
+          missing c o = record { more = o.more; stand = stand-unsure is_sure IsBlock blocks o.more b o.stand unsure; carries = o.carries }

@@ -1,0 +1,59 @@
+-- What a unit carries of the blocks of detailed speed of a run (profile): in each image that a stop might have left of it.
+use Rattle.std.specs.Prelude.{◌≡◌, ◌⊎◌, ℕ, ◌≤◌, Bool, true, List, ◌++◌}
+use Rattle.std.specs.List.{AllByRecursion}
+use Rattle.card_layout.specs.Images.{bytes_at}
+use Rattle.tach_media.specs.Medium.{State}
+use Rattle.gated_ring.specs.Ring.{PointsInside, IsDense, size_of}
+use Rattle.side_model.specs.Rings.{Stand}
+use Rattle.run_rings.specs.Carried.{Carries}
+use Rattle.speed_model.specs.declared.block.Block.{Block}
+use Rattle.speed_model.specs.Blocks.{block_bytes}
+use Rattle.speed_model.specs.Stored.{speed_ring, HoldsNewest}
+
+-- an entry is a block
+abbrev pub IsBlock : Block → List ℕ → Type 0
+IsBlock b e = e ≡ block_bytes b
+
+-- the ring of an image is dense, and its pointer an index
+abbrev pub HasSpeedRing : List ℕ → Type 0
+HasSpeedRing x = PointsInside speed_ring x × IsDense speed_ring x
+
+module _ (is_sure : Block → Bool) (start : List ℕ) where
+  -- AN IMAGE CARRIES THESE BLOCKS behind those of the start, but for some that are not sure; blocks are gone only at the old end of a ring
+  -- that is full, or lacks one
+  pub record CarriesBlocks (blocks : List Block) (x : List ℕ) : Type 0 where
+    pub more : List (List ℕ)
+    pub stand : Stand is_sure IsBlock blocks more
+    pub carries : Carries speed_ring start x more
+
+  -- or the first of them
+  pub record CarriesSome (blocks : List Block) (x : List ℕ) : Type 0 where
+    pub front : List Block
+    pub rest : List Block
+    pub are : front ++ rest ≡ blocks
+    pub carries : CarriesBlocks front x
+
+  -- each of these is sure
+  abbrev pub AreSure : List Block → Type 0
+  AreSure blocks = AllByRecursion (λ b. is_sure b ≡ true) blocks
+
+  -- A UNIT CARRIES THE BLOCKS OF A RUN so far: each image that a stop might have left since it began carries the first of them, each that it
+  -- may leave now all of them; and where each is sure, that is the newest 1440.
+  pub record HasSpeeds (began : ℕ) (blocks : List Block) (unit : State) : Type 0 where
+    pub later : began ≤ unit.clock
+    pub since : (x : List ℕ) → unit.left_since began x → CarriesSome blocks x
+    pub now : (x : List ℕ) → unit.may_leave x → CarriesBlocks blocks x
+    pub newest : AreSure blocks → (x : List ℕ) → unit.may_leave x → HoldsNewest start x blocks
+
+-- ---- all other calls
+
+-- the ring has the same bytes
+abbrev pub HasSameSpeeds : (x c : List ℕ) → Type 0
+HasSameSpeeds x c = bytes_at c speed_ring.base (size_of speed_ring) ≡ bytes_at x speed_ring.base (size_of speed_ring)
+
+-- CALLS LEAVE THE RING as it is, at each moment: each image that a stop may leave behind them, or might have left since an earlier time, was left
+-- before, or has the ring of one that might be left then
+pub record LeavesSpeeds (old new : State) : Type 0 where
+  pub later : old.clock ≤ new.clock
+  pub now : (c : List ℕ) → new.may_leave c → (x : List ℕ) × old.may_leave x × HasSameSpeeds x c
+  pub since : (t : ℕ) (c : List ℕ) → t ≤ old.clock → new.left_since t c → old.left_since t c ⊎ ((x : List ℕ) × old.may_leave x × HasSameSpeeds x c)

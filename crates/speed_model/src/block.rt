@@ -1,0 +1,14 @@
+//! A minute's speeds.
+
+/// A minute's speeds in km/h, second by second, and the number of its first second.
+#[derive(Clone, Copy, Debug, PartialEq, Eq)]
+pub struct Block {
+    pub time: u32,
+    pub speeds: [u8; 60],
+}
+
+/// The size of a block in bytes (Annex IB, Appendix 1, VuDetailedSpeedBlock).
+pub const BLOCK_SIZE: u32 = 64;
+
+/// How many blocks a unit has room for.
+pub const BLOCK_SLOTS: u32 = 1440;

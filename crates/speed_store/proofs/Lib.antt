@@ -1,0 +1,5 @@
+pub mod Counting
+pub mod Feeding
+pub mod Held
+mod WorkedWrites
+pub mod ZeroBytes

@@ -1,0 +1,35 @@
+-- What the speeds that are kept of a minute stand for.
+use Rattle.std.specs.Prelude.{◌≡◌, ℕ, ◌-◌, ◌/◌, ◌%◌, ◌<◌, ◌≤◌, ◌==◌, ◌&&◌, Option, Some, None, List, [], ◌∷◌, ◌++◌, length, if◌then◌else◌}
+use Rattle.std.specs.List.{AllByRecursion}
+use Rattle.event_model.specs.Spans.{SpeedSecond, InARow, numbers, speeds}
+use Rattle.speed_model.specs.declared.block.Block.{Block}
+use Rattle.speed_model.specs.Blocks.{minute_of, minutes_of, is_moving}
+
+-- these minutes, and one that goes on, if it has a second
+abbrev pub with_going : List (List SpeedSecond) → List SpeedSecond → List (List SpeedSecond)
+with_going over [] = over
+with_going over (s ∷ going) = over ++ (s ∷ going) ∷ []
+
+-- seconds of a minute before this one
+abbrev pub IsEarlier : (minute : ℕ) → List SpeedSecond → Type 0
+IsEarlier minute [] = Unit {0}
+IsEarlier minute (s ∷ seconds) = minute_of s < minute
+
+-- THE SPEEDS THAT ARE KEPT stand for these seconds of a span, behind which this one comes next: they are those of its minute
+pub record StandsFor (kept : List ℕ) (seconds : List SpeedSecond) (next : ℕ) : Type 0 where
+  pub over : List (List SpeedSecond)
+  pub going : List SpeedSecond
+  pub minutes_are : minutes_of seconds ≡ with_going over going
+  pub earlier : AllByRecursion (IsEarlier (next / 60)) over
+  pub here : AllByRecursion (λ (s : SpeedSecond). minute_of s ≡ next / 60) going
+  pub row : InARow (next - length going) (numbers going)
+  pub few : length going ≤ next % 60
+  pub kept_are : speeds going ≡ kept
+
+-- this second follows those before
+abbrev pub Follows : (kept : List ℕ) → (next : ℕ) → Type 0
+Follows kept next = (seconds : List SpeedSecond) × StandsFor kept seconds next
+
+-- the block of a minute that began at this second and of which these speeds are kept: where they are all, and one is moving
+abbrev pub block_in : (time : ℕ) → (kept : List ℕ) → Option Block
+block_in time kept = if length kept == 60 && is_moving kept then Some (record { time = time; speeds = kept }) else None

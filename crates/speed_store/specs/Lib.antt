@@ -1,0 +1,4 @@
+pub mod Feeding
+pub mod Faults
+pub mod Stores
+pub mod Zeros
