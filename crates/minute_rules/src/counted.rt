@@ -43,6 +43,16 @@ impl Counted {
         }
     }
 
+    /// The open seconds get this activity, where there are any.
+    pub fn close(&mut self, act: Activity)
+        requires { self.old.driver.going_seconds + self.old.open_seconds ≤ 2 ^ 32 - 1 }
+        ensures { self.new ≡ closed act self.old }
+    {
+        if self.open_seconds > 0 {
+            *self = self.closed(act);
+        }
+    }
+
     /// So many more of the driver's seconds.
     pub fn with_driver(self, act: Activity, seconds: u32) -> Self
         requires { self.driver.going_seconds + seconds ≤ 2 ^ 32 - 1 }
@@ -136,7 +146,7 @@ pub fn close_all<L: Ledger>(minutes: &mut [Counted], act: Activity, steps: &mut 
     ensures cost { steps.new ≡ steps.old + length minutes.old }
 {
     for i in 0..minutes.len() {
-        minutes[i] = minutes[i].closed(act);
+        minutes[i].close(act);
         steps.tick();
     }
 }

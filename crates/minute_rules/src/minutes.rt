@@ -192,7 +192,7 @@ impl Minutes {
         ensures cost { steps.new ≤ steps.old + 5 }
     {
         close_all(self.past.as_mut_slice(), act, steps);
-        self.here = self.here.closed(act);
+        self.here.close(act);
     }
 
     /// The first rest or availability within 120 seconds of the stop counts from the stop on.

@@ -21,8 +21,8 @@ first-left : (front back whole : List Counted) (i : ℕ) → whole ≡ front ++ 
 first-left front [] whole i is long lt = absurd (omega (arith, lt, ap length is, length-append front [], long))
 first-left front (c ∷ rest) whole i is long lt = (c, rest, refl)
 
-pub closed-requires : goal.closed-requires
-closed-requires g c =
+pub close-requires : goal.close-requires
+close-requires g c =
     let v = c.loop-i.invariant in
     let front = v.0 in
     let f = first-left v.0 v.1 c.args.minutes.now c.loop-i.i v.2 v.3 c.loop-i-test.true in
@@ -40,10 +40,10 @@ loop-i-preserved g c =
     let here : c.loop-i.minutes ≡ map (closed c.args.act) front ++ f.0 ∷ f.1 = v.4 ∙ ap (λ (ys : List Counted). map (closed c.args.act) front ++ ys) f.2 in
     let long : length (map (closed c.args.act) front) ≡ c.loop-i.i = length-map front (closed c.args.act) ∙ v.3 in
     let at : slice_index_or c.loop-i.minutes c.loop-i.i no_second ≡ f.0 = ap (λ (ys : List Counted). slice_index_or ys c.loop-i.i no_second) here ∙ at-seam (map (closed c.args.act) front) f.1 f.0 no_second c.loop-i.i long in
-    let set : slice_set c.loop-i.minutes c.loop-i.i c.closed.result ≡ map (closed c.args.act) (front ++ f.0 ∷ []) ++ f.1 =
-    ap (λ (ys : List Counted). slice_set ys c.loop-i.i c.closed.result) here
-    ∙ set-seam (map (closed c.args.act) front) f.1 f.0 c.closed.result c.loop-i.i long
-    ∙ ap (λ (x : Counted). map (closed c.args.act) front ++ x ∷ f.1) (c.closed.ensures ∙ ap (closed c.args.act) at)
+    let set : slice_set c.loop-i.minutes c.loop-i.i c.close.new.self ≡ map (closed c.args.act) (front ++ f.0 ∷ []) ++ f.1 =
+    ap (λ (ys : List Counted). slice_set ys c.loop-i.i c.close.new.self) here
+    ∙ set-seam (map (closed c.args.act) front) f.1 f.0 c.close.new.self c.loop-i.i long
+    ∙ ap (λ (x : Counted). map (closed c.args.act) front ++ x ∷ f.1) (c.close.ensures ∙ ap (closed c.args.act) at)
     ∙ sym (append_assoc (map (closed c.args.act) front) (closed c.args.act f.0 ∷ []) f.1)
     ∙ ap (λ (ys : List Counted). ys ++ f.1) (sym (map-append (closed c.args.act) front (f.0 ∷ []))) in
     (front ++ f.0 ∷ [], f.1, v.2 ∙ ap (λ (ys : List Counted). front ++ ys) f.2 ∙ sym (append_assoc front (f.0 ∷ []) f.1), length-append front (f.0 ∷ []) ∙ ap (λ (k : ℕ). k + 1) v.3, set, omega (arith, c.tick.ensures, v.5))
