@@ -1,4 +1,4 @@
-ghost use Rattle.std.specs.Prelude.{◌≡◌, ◌≢◌, ℕ, List, length, ◌+◌, ◌-◌, ◌*◌, ◌/◌, ◌<◌, ◌≤◌, min, IfOk, IfSome, is_err};
+ghost use Rattle.std.specs.Prelude.{◌≡◌, ◌≢◌, ℕ, List, length, ◌+◌, ◌-◌, ◌*◌, ◌/◌, ◌<◌, ◌≤◌, min, IfOk, IfSome, Some, is_err};
 ghost use Rattle.unit_model.specs.declared.layout.TheConstants.{DAY_SLOTS, DAY_WORD_LIMIT, DAY_WORDS, HIGHEST_ODOMETER, IMAGE_SIZE};
 ghost use Rattle.tach_media.specs.Medium.{Reads};
 ghost use Rattle.gated_ring.specs.Ring.{number_at};
@@ -136,8 +136,8 @@ impl Journal {
         self.older_day(unit, nth, date)
     }
 
-    // The earlier day of a date.
-    fn find_older<M: Medium>(&self, unit: &mut M, date: u32) -> Result<Option<UnitDay>, Failed>
+    // The earlier day of a date, looked for from the oldest on.
+    fn scan_older<M: Medium>(&self, unit: &mut M, date: u32) -> Result<Option<UnitDay>, Failed>
         requires unit { (M.state unit.old).size ≡ IMAGE_SIZE }
         requires some { 0 < self.now.day_count }
         requires other { date ≢ 86400 * (self.now.kept / 1440) }
@@ -156,6 +156,55 @@ impl Journal {
             }
         }
         Ok(None)
+    }
+
+    // How many days lie before an earlier one, if each day since is recorded, as mostly is.
+    fn likely_nth(&self, date: u32) -> u32
+        ensures few { result ≤ DAY_SLOTS }
+        ensures shape { IsNotes self.now }
+    {
+        let since = self.last_date().saturating_sub(date) / DAY_SECONDS;
+        self.notes.day_count.saturating_sub(since + 1)
+    }
+
+    // The earlier day of a date where it stands if each day since is recorded.
+    fn likely_day<M: Medium>(&self, unit: &mut M, date: u32) -> Result<Option<UnitDay>, Failed>
+        requires unit { (M.state unit.old).size ≡ IMAGE_SIZE }
+        ensures found { IfOk result (λ found. IfSome found (λ day. IfSome (M.state unit.old).image (λ x. AreRight self.now x → IsOfDate x date (Some day)))) }
+        ensures place { IfOk result (λ found. IfSome found (λ day. IsSlotPlace day.place)) }
+        ensures date { IfOk result (λ found. IfSome found (λ day. day.date.0 ≡ date)) }
+        ensures words { IfOk result (λ found. IfSome found (λ day. day.words ≤ DAY_WORD_LIMIT)) }
+        ensures odometer { IfOk result (λ found. IfSome found (λ day. day.odometer.0 ≤ HIGHEST_ODOMETER)) }
+        ensures reads { ReadsIfAny (M.state unit.old) (M.state unit.new) (is_err result) }
+    {
+        let nth = self.likely_nth(date);
+        if nth + 1 >= self.notes.day_count {
+            return Ok(None);
+        }
+        let place = slot_place(self.index_at(nth));
+        if read_number(unit, place, 4)? != date {
+            return Ok(None);
+        }
+        let day = self.older_day(unit, nth, date)?;
+        Ok(Some(day))
+    }
+
+    // The earlier day of a date.
+    fn find_older<M: Medium>(&self, unit: &mut M, date: u32) -> Result<Option<UnitDay>, Failed>
+        requires unit { (M.state unit.old).size ≡ IMAGE_SIZE }
+        requires some { 0 < self.now.day_count }
+        requires other { date ≢ 86400 * (self.now.kept / 1440) }
+        ensures found { IfOk result (λ found. IfSome (M.state unit.old).image (λ x. AreRight self.now x → IsOfDate x date found)) }
+        ensures place { IfOk result (λ found. IfSome found (λ day. IsSlotPlace day.place)) }
+        ensures date { IfOk result (λ found. IfSome found (λ day. day.date.0 ≡ date)) }
+        ensures words { IfOk result (λ found. IfSome found (λ day. day.words ≤ DAY_WORD_LIMIT)) }
+        ensures odometer { IfOk result (λ found. IfSome found (λ day. day.odometer.0 ≤ HIGHEST_ODOMETER)) }
+        ensures reads { ReadsIfAny (M.state unit.old) (M.state unit.new) (is_err result) }
+    {
+        match self.likely_day(unit, date)? {
+            Some(day) => Ok(Some(day)),
+            None => self.scan_older(unit, date),
+        }
     }
 
     /// The recorded day that begins at this time, in seconds since 1970-01-01 00:00 GMT; `None` exactly where none does

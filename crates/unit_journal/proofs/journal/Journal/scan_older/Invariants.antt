@@ -2,7 +2,7 @@ use Rattle.std.proofs.Common.{ℕ, ◌<◌, ◌≢◌, false}
 use Rattle.std.specs.Prelude.{IfSome}
 use Rattle.unit_model.specs.Image.{slot_date}
 use Rattle.unit_journal.specs.Reading.{nth_index, ReadsIfAny}
-use Rattle.unit_journal.proofs.journal.Journal.find_older.Given as goal
+use Rattle.unit_journal.proofs.journal.Journal.scan_older.Given as goal
 
 abbrev pub invariant-loop-nth : goal.invariant-loop-nth
 invariant-loop-nth g l =

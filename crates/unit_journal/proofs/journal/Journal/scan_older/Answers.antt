@@ -7,7 +7,7 @@ use Rattle.unit_journal.specs.Image.{Notes, IsNotes}
 use Rattle.unit_journal.specs.Reading.{AreRight, IsRecordedDay, nth_index}
 use Rattle.unit_journal.proofs.IfAny.{read_same}
 use Rattle.unit_journal.proofs.Shown.{shown, no_older_date}
-use Rattle.unit_journal.proofs.journal.Journal.find_older.Goals as goal
+use Rattle.unit_journal.proofs.journal.Journal.scan_older.Goals as goal
 
 pub returns-clause-found : goal.returns-clause-found
 returns-clause-found g c =
