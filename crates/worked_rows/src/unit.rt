@@ -8,7 +8,6 @@ ghost use Rattle.unit_model.specs.Image.{IsUnit};
 #[cfg(test)]
 mod formats;
 mod full;
-pub mod image;
 mod keeping;
 #[cfg(test)]
 mod owed_tests;
@@ -16,7 +15,6 @@ mod owed_tests;
 mod stop_tests;
 mod stops;
 
-use crate::media::{Room, unit_with};
 use crate::unit::keeping::KEPT;
 use crate::unit::stops::{show_mends, show_stops};
 use std::alloc::Global;
@@ -24,6 +22,7 @@ use std::io::{self, Print, Write};
 use tach_media::{FileMedium, Left, Medium, MemMedium, Memory, Stop};
 use unit_journal::{Journal, UnitFault};
 use unit_model::layout::IMAGE_SIZE;
+use worked_media::{Room, image, unit_with};
 
 /// Four bytes that the small unit is given at a place, as a number.
 const ROWS: [(u32, u32); 45] = [

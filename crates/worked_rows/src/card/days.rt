@@ -1,7 +1,6 @@
 ghost use Rattle.std.specs.Prelude.{◌≡◌, ◌≤◌, IfOk, length};
 
 use crate::card::images::{TWO_DAYS, full_string};
-use crate::devices::{T0, one_stop};
 use card_layout::Range;
 use cyclic_days::{DayHead, Days, DaysFault, Tail};
 use std::alloc::Global;
@@ -9,6 +8,7 @@ use std::process::Abort;
 use std::test::Fail;
 use tach_media::{Left, Medium, MemMedium, Memory};
 use tacho_types::{Distance, TimeReal};
+use worked_media::{T0, one_stop};
 
 const TORN: Left = Left::Torn(0x55);
 

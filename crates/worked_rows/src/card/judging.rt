@@ -5,8 +5,6 @@ ghost use Rattle.card_layout.specs.Files.{image_size_of};
 ghost use Rattle.card_judge.specs.Judged.{TellsSizes};
 
 use crate::card::images::{CURRENT_USE, DAYS, VEHICLES};
-use crate::devices::{IDENTITY, M0, NUMBER_A, SMALLEST, T0, card_number, one_stop};
-use crate::unit::image::put;
 use card_files::{blank_card, image_size, read_application};
 use card_judge::{CardLook, InsertFault, Judged, judge, look};
 use card_layout::{Application, Fid};
@@ -16,6 +14,8 @@ use std::process::Abort;
 use std::test::Fail;
 use tach_media::{Left, MemMedium, Memory, SliceMedium};
 use tacho_types::{Odometer, Registration, TimeReal};
+use worked_media::image::put;
+use worked_media::{IDENTITY, M0, NUMBER_A, SMALLEST, T0, card_number, one_stop};
 
 /// Where the string of days begins in its image, behind its two pointers, and the file of places.
 const STRING: usize = DAYS + 4;

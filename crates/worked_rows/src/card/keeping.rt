@@ -7,7 +7,6 @@ ghost use Rattle.card_session.specs.Inserting.{AreOwed};
 ghost use Rattle.card_session.specs.declared.words.TheConstants.{LATEST_MINUTE};
 
 use crate::card::counted::Counted;
-use crate::media::{Room, card_with};
 use activity_codec::{Activity, Entry, Owed, Slot};
 use card_commands::{Port, PortFault, SimCard, read_sizes};
 use card_judge::{InsertFault, Judged, judge};
@@ -18,6 +17,7 @@ use cyclic_days::Days;
 use std::alloc::Global;
 use tach_media::{Chip, Failed, MemMedium, Memory};
 use tacho_types::{Odometer, Registration, TimeReal};
+use worked_media::{Room, card_with};
 
 /// 2010-03-01 01:00, work in the driver's slot.
 const MARCH: Kept = Kept {

@@ -10,10 +10,6 @@ ghost use Rattle.unit_journal.specs.Image.{Agrees};
 ghost use Rattle.owed_model.specs.Rows.{IsRowAt};
 
 use crate::card::keeping::Stopped;
-use crate::devices::{
-    DAYS, M0, NUMBER_A, T0, UNCLOSED, Untold, VEHICLES, bytes, new_card, new_unit, unit_tells,
-};
-use crate::media::Room;
 use activity_codec::{Activity, Entry, Pick, Slot};
 use card_commands::read_sizes;
 use card_layout::{Application, LARGEST_IMAGE};
@@ -26,6 +22,9 @@ use tach_media::{Chip, Medium, MemMedium};
 use tacho_types::{FullCardNumber, Nation, Odometer, Registration, TimeReal};
 use trace_model::Card;
 use unit_journal::{Journal, KeptMinute, State};
+use worked_media::{
+    DAYS, M0, NUMBER_A, Room, T0, UNCLOSED, Untold, VEHICLES, bytes, new_card, new_unit, unit_tells,
+};
 
 /// Where the current use of the largest card stands.
 const CURRENT_USE: u32 = 24026;

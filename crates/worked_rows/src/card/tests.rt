@@ -7,8 +7,6 @@ ghost use Rattle.tach_media.specs.Medium.{LiesInside};
 
 use crate::card::images::{blank, full, largest, most_days, two_days};
 use crate::card::keeping::{Figures, Stopped, VEHICLE, card, insertion, new_day, word};
-use crate::devices::T0;
-use crate::media::{Room, card_with};
 use activity_codec::{Activity, Entry, Owed, Slot};
 use card_commands::Port;
 use card_files::file_range;
@@ -20,6 +18,7 @@ use std::process::Abort;
 use std::test::Fail;
 use tach_media::{Chip, Medium};
 use tacho_types::TimeReal;
+use worked_media::{Room, T0, card_with};
 
 // The room of a card's log.
 const ROOM: Room = Room {

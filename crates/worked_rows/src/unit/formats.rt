@@ -3,8 +3,6 @@ ghost use Rattle.std.specs.Prelude.{IfOk};
 ghost use Rattle.tach_media.specs.MemMedium.{memory_state};
 ghost use Rattle.unit_model.specs.Image.{IsUnit};
 
-use crate::devices::{image_of, one_stop};
-use crate::media::{Room, unit_with};
 use std::alloc::Global;
 use std::process::Abort;
 use std::rt::HostRuntime;
@@ -13,6 +11,7 @@ use tach_media::{Failed, Left, MemMedium, Memory, Stop};
 use tacho_types::Registration;
 use unit_memory::{Identity, format_unit};
 use unit_model::layout::IMAGE_SIZE;
+use worked_media::{Room, image_of, one_stop, unit_with};
 
 /// The vehicle.
 const VEHICLE: Identity = Identity {

@@ -1,5 +1,5 @@
-use crate::unit::image::{DAY, empty, put_head, put_word};
 use std::alloc::{AllocError, Global};
+use worked_media::image::{DAY, empty, put_head, put_word};
 
 /// A unit of 366 days, each with a word for both slots at each minute; the newest is 2010-03-01, and stands at index 100.
 pub fn full(alloc: Global) -> Result<Vec<u8>, AllocError> {

@@ -4,7 +4,6 @@ ghost use Rattle.std.specs.Prelude.{OnOk, IfSome};
 ghost use Rattle.unit_model.specs.Image.{IsUnit};
 ghost use Rattle.unit_journal.specs.Image.{Agrees};
 
-use crate::devices::card_number;
 use crate::unit::keeping::open;
 use crate::unit::stop_tests::{FIRST, one_day, unit};
 use activity_codec::{Activity, Entry, Slot};
@@ -14,6 +13,7 @@ use std::test::Fail;
 use tach_media::{Failed, Left, Medium};
 use tacho_types::FullCardNumber;
 use unit_journal::Journal;
+use worked_media::card_number;
 
 const LEFT: [Left; 3] = [Left::Before, Left::After, Left::Torn(0xFF)];
 

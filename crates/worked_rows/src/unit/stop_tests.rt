@@ -4,9 +4,6 @@ ghost use Rattle.tach_media.specs.MemMedium.{memory_state};
 ghost use Rattle.unit_model.specs.Image.{IsUnit};
 ghost use Rattle.unit_journal.specs.Reading.{IsSlotPlace};
 
-use crate::devices::one_stop;
-use crate::media::{Room, unit_with};
-use crate::unit::image::{DAY, empty, put, put_head, put_word};
 use activity_codec::Activity;
 use std::alloc::{AllocError, Global};
 use std::process::Abort;
@@ -15,6 +12,8 @@ use tach_media::{Left, Medium, MemMedium, Memory};
 use tacho_types::{DAYS, Odometer};
 use unit_journal::{Journal, KeptMinute, State, UnitDay};
 use unit_model::layout::IMAGE_SIZE;
+use worked_media::image::{DAY, empty, put, put_head, put_word};
+use worked_media::{Room, one_stop, unit_with};
 
 /// 00:00 of 2010-02-27, as the number of its minute.
 pub const FIRST: u32 = 14667 * 1440;

@@ -3,11 +3,12 @@ ghost use Rattle.tach_media.specs.MemMedium.{memory_state};
 ghost use Rattle.unit_model.specs.Image.{IsUnit};
 
 use crate::unit::keeping::{keep_all, open, show_days};
-use crate::unit::{image, unit};
+use crate::unit::unit;
 use std::alloc::Global;
 use std::io::{self, Print};
 use tach_media::{Left, Medium, MemMedium, Memory, Stop, read_number};
 use unit_journal::{Journal, KeptMinute};
+use worked_media::image;
 
 const LEFT: [Left; 3] = [Left::Before, Left::After, Left::Torn(0x55)];
 

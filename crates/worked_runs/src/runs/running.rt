@@ -3,17 +3,17 @@ ghost use Rattle.std.specs.Prelude.{IfOk, OnOk};
 ghost use Rattle.tach_media.specs.MemMedium.{memory_state};
 ghost use Rattle.unit_model.specs.Image.{IsUnit};
 
-use crate::devices::{
-    NUMBER_A, NUMBER_B, Recorded, T0, card_of_zeros, card_tells, image_of, new_card, new_unit,
-    record, unit_tells,
-};
-use crate::media::{Room, unit_with};
+use crate::recording::{Recorded, record};
 use crate::runs::ran::Ran;
 use card_commands::SimCard;
 use run_model::Device;
 use std::alloc::{AllocError, Global};
 use std::test::Fail;
 use tach_media::{MemMedium, Memory, Stop};
+use worked_media::{
+    NUMBER_A, NUMBER_B, Room, T0, card_of_zeros, card_tells, image_of, new_card, new_unit,
+    unit_tells, unit_with,
+};
 
 /// The room of each device's log.
 const ROOM: Room = Room {

@@ -4,7 +4,7 @@ ghost use Rattle.card_layout.specs.declared.files.TheConstants.{LARGEST_IMAGE};
 ghost use Rattle.unit_model.specs.Image.{IsUnit};
 ghost use Rattle.unit_model.specs.declared.layout.TheConstants.{IMAGE_SIZE};
 
-use crate::devices::Untold;
+use crate::fault::Untold;
 use card_commands::Port;
 use card_layout::LARGEST_IMAGE;
 use std::alloc::Global;

@@ -3,9 +3,9 @@ ghost use Rattle.std.specs.Prelude.{◌≤◌, ◌+◌};
 ghost use Rattle.unit_model.specs.declared.layout.TheConstants.{IMAGE_SIZE};
 
 use crate::alone::running::{ROOM, run_alone};
-use crate::devices::{new_unit, unit_bytes};
 use std::alloc::Global;
 use std::test::Fail;
+use worked_media::{new_unit, unit_bytes};
 
 /// The first place of driving without a card.
 const FIRST_BARE: u32 = 2388044;

@@ -1,12 +1,12 @@
 //! A trace recorded on a unit and two cards.
 ghost use Rattle.unit_model.specs.Image.{IsUnit};
 
-use crate::devices::trace_of;
 use card_layout::LARGEST_IMAGE;
 use recorder_with_cards::{Lines, Outcome, RunFault, run_trace};
 use std::alloc::Global;
 use std::test::Fail;
 use tach_media::{Chip, Medium};
+use worked_media::trace_of;
 
 /// How a run ended, and what it has told.
 #[derive(Drop)]

@@ -4,9 +4,9 @@ ghost use Rattle.tach_media.specs.MemMedium.{memory_state};
 ghost use Rattle.card_layout.specs.declared.files.TheConstants.{LARGEST_IMAGE};
 ghost use Rattle.unit_model.specs.Image.{IsUnit};
 
-use crate::devices::Untold;
+use crate::fault::Untold;
+use crate::image::{empty, put};
 use crate::media::{Room, card_with, unit_with};
-use crate::unit::image::{empty, put};
 use card_commands::SimCard;
 use card_files::{CardIdentity, blank_card};
 use card_layout::{Application, LARGEST, LARGEST_IMAGE};

@@ -1,5 +1,5 @@
 //! What a run with cards tells, as numbers.
-use crate::devices::{Recorded, line_at, line_at_end};
+use crate::recording::{Recorded, line_at, line_at_end};
 use recorder_with_cards::{Break, Find, Lines, Mark, Refused, Verdict};
 use run_model::Device;
 

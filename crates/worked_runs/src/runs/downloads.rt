@@ -1,6 +1,4 @@
 //! Downloads of units that have recorded: as many calls as the loader's frames alone ask for.
-use crate::devices::NO_ROOM;
-use crate::media::unit_with;
 use crate::runs::rows::DRIVE;
 use crate::runs::running::{Stops, new_devices};
 use link_frames::{End, write_frame};
@@ -11,6 +9,7 @@ use std::rt::HostRuntime;
 use std::test::Fail;
 use tach_media::{MemSink, MemSource};
 use unit_download::{Passed, Wire, download};
+use worked_media::{NO_ROOM, unit_with};
 
 /// A day with two drivers, who exchange their slots.
 const DAY: &[u8] = b"start 1267426800

@@ -1,12 +1,12 @@
 //! A trace recorded on a unit, and what the run tells.
 ghost use Rattle.unit_model.specs.Image.{IsUnit};
 
-use crate::devices::{NO_ROOM, Recorded, card_of_zeros, line_at, line_at_end, record};
-use crate::media::Room;
+use crate::recording::{Recorded, line_at, line_at_end, record};
 use recorder_with_cards::{Break, Lines, Mark, Outcome, Refused, RunFault};
 use std::alloc::Global;
 use std::test::Fail;
 use tach_media::Medium;
+use worked_media::{NO_ROOM, Room, card_of_zeros};
 
 /// The room of a unit's log.
 pub const ROOM: Room = Room {

@@ -2,7 +2,7 @@
 ghost use Rattle.std.specs.Prelude.{IfOk};
 ghost use Rattle.trace_text.specs.Trace.{IsWellFormed};
 
-use crate::devices::Untold;
+use crate::fault::Untold;
 use std::alloc::Global;
 use tach_media::MemSource;
 use trace_text::{Form, Trace, read_trace};

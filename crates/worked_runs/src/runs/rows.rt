@@ -2,7 +2,6 @@
 ghost use Rattle.tach_media.specs.MemMedium.{memory_state};
 ghost use Rattle.unit_model.specs.Image.{IsUnit};
 
-use crate::devices::{M0, T0, told_by_card, unclosed_on, unit_bytes};
 use crate::runs::ran::Ran;
 use crate::runs::running::{Stops, calls_of, calls_with, new_devices, run};
 use activity_codec::Slot;
@@ -14,6 +13,7 @@ use std::process::Abort;
 use std::rt::HostRuntime;
 use std::test::Fail;
 use tach_media::{Chip, Failed, Left, MemMedium, Stop};
+use worked_media::{M0, T0, told_by_card, unclosed_on, unit_bytes};
 
 /// An hour of driving with a card.
 pub const DRIVE: &[u8] = b"start 1267401600\ninsert driver a\nrun 60 0\nrun 3540 50\n";

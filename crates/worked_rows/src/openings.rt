@@ -1,10 +1,5 @@
 //! Openings over a unit and two cards in memory. None of them writes.
 use crate::card::images::VEHICLES;
-use crate::devices::{
-    NO_ROOM, NUMBER_A, NUMBER_B, SMALLEST, T0, card_image, card_number, new_image, one_stop,
-};
-use crate::media::{card_with, unit_with};
-use crate::unit::image::put;
 use card_commands::SimCard;
 use card_layout::LARGEST_IMAGE;
 use run_crew::Known;
@@ -15,6 +10,11 @@ use std::test::Fail;
 use tach_media::{AbsentChip, Chip, Left, Medium, MemMedium, Memory, Stop};
 use tacho_types::FullCardNumber;
 use unit_model::layout::IMAGE_SIZE;
+use worked_media::image::put;
+use worked_media::{
+    NO_ROOM, NUMBER_A, NUMBER_B, SMALLEST, T0, card_image, card_number, card_with, new_image,
+    one_stop, unit_with,
+};
 
 /// What is told of a card: the length of its string of days, or the first bad field of its sizes; and its number.
 #[derive(Clone, Copy, Debug, PartialEq, Eq)]

@@ -1,16 +1,20 @@
-//! What the tests are made with: units and cards, traces that are recorded on them, and what they hold then, read again.
+//! What tests and programs are made with: units and cards in memory whose calls stop, the images of units, and what a unit and a card hold of a day,
+//! read again.
+#![tactic(auto)]
+
 mod fault;
+pub mod image;
+mod media;
 mod reading;
-mod recording;
 mod traces;
 mod units;
 
 pub use fault::Untold;
+pub use media::{Room, card_with, unit_with};
 pub use reading::{
     DAYS, Held, State, Told, UNCLOSED, VEHICLES, bytes, card_tells, held_by_unit, told_by_card,
     told_by_unit, unclosed_on, unit_bytes, unit_tells,
 };
-pub use recording::{Recorded, line_at, line_at_end, record};
 pub use traces::trace_of;
 pub use units::{
     IDENTITY, M0, NO_ROOM, NUMBER_A, NUMBER_B, SMALLEST, T0, card_image, card_number,

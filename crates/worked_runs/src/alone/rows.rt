@@ -1,7 +1,5 @@
 //! Runs on a unit.
 use crate::alone::running::{ROOM, Ran, run_alone};
-use crate::devices::{M0, T0, held_by_unit, new_unit, one_stop, stops, unit_tells};
-use crate::media::Room;
 use recorder_with_cards::{Break, Refused, RunFault, SlotFault};
 use run_model::Device;
 use std::alloc::Global;
@@ -9,6 +7,7 @@ use std::process::Abort;
 use std::rt::HostRuntime;
 use std::test::Fail;
 use tach_media::{Left, Medium, MemMedium, Stop};
+use worked_media::{M0, Room, T0, held_by_unit, new_unit, one_stop, stops, unit_tells};
 
 /// A run on a new unit whose calls stop so, and how many calls and writes of the unit it takes.
 #[derive(Clone, Copy)]

@@ -4,7 +4,7 @@
 ghost use Rattle.tach_media.specs.MemMedium.{memory_state};
 ghost use Rattle.unit_model.specs.Image.{IsUnit};
 
-use crate::devices::{M0, Recorded, T0, Told, stops, told_by_card, told_by_unit};
+use crate::recording::Recorded;
 use crate::runs::ran::Ran;
 use crate::runs::running::{Devices, Stops, calls_of, new_devices};
 use recorder_with_cards::{Mark, Outcome};
@@ -14,6 +14,7 @@ use std::process::Abort;
 use std::rt::HostRuntime;
 use std::test::Fail;
 use tach_media::{Left, Stop};
+use worked_media::{M0, T0, Told, stops, told_by_card, told_by_unit};
 
 /// The minutes of both runs lie in the first so many of the day.
 const MINUTES: u16 = 130;

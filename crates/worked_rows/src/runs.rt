@@ -1,7 +1,0 @@
-//! Openings and runs on a unit and two cards, and what passes where a unit is downloaded behind one. Their calls are stopped before, after and torn.
-mod downloads;
-mod openings;
-mod ran;
-mod rows;
-mod running;
-mod table;

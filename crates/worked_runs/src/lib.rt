@@ -1,0 +1,9 @@
+//! Tests of runs on a unit alone and with cards, and of downloads behind them, whose calls are stopped. No other crate stands on it.
+#![tactic(auto)]
+
+#[cfg(test)]
+mod alone;
+#[cfg(test)]
+mod recording;
+#[cfg(test)]
+mod runs;
