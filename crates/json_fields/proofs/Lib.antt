@@ -1,0 +1,3 @@
+mod Records
+pub mod Telling
+pub mod Rows
