@@ -10,3 +10,4 @@ pub mod Heard
 pub mod Taking
 pub mod ServingLines
 pub mod LinesFaults
+pub mod Asked

@@ -19,7 +19,8 @@ use Rattle.transfer_session.specs.Told.{SessionView, Knows, fresh}
 use Rattle.unit_messages.proofs.Calls.{no_call, any_then}
 use Rattle.link_service.specs.declared.line.Spelling.TheVariants.{Bytes}
 use Rattle.link_service.specs.Lines.{listening, IsAnswered}
-use Rattle.link_service.specs.Served.{StopsWithin, IsServed}
+use Rattle.link_service.specs.Served.{StopsWithin, IsServed, answers_to}
+use Rattle.std.specs.Io.KnownBytes.{Appends}
 use Rattle.link_service.specs.declared.fault.ServeFault.{ServeFault}
 use Rattle.link_service.specs.declared.fault.ServeFault.TheVariants.{ReadFault}
 use Rattle.link_service.specs.declared.line.Line.{Line}
@@ -40,10 +41,10 @@ pub record IsServing (turn left : ℕ) (before unread : Option (List ℕ)) (line
   pub reads : ReadsIfAny old new false
 
 -- whatever the unit, a session that has found nothing knows it
-fresh_knows : (state : LinkState) (x : List ℕ) → Knows (fresh state) x
+pub fresh_knows : (state : LinkState) (x : List ℕ) → Knows (fresh state) x
 fresh_knows state x = record { decodes = λ is. absurd (cc); notes = tt; outlines = tt }
 
-pub serving_none : (before held : Option (List ℕ)) (line : Line) (s : State) → line.scanner ≡ listening [] → line.session ≡ fresh Idle → IsServing 0 MOST before before line s s held held
+unfoldable pub serving_none : (before held : Option (List ℕ)) (line : Line) (s : State) → line.scanner ≡ listening [] → line.session ≡ fresh Idle → IsServing 0 MOST before before line s s held held
 serving_none before held line s scanner session = record {
   came = [];
   turns = omega arith;
@@ -56,7 +57,7 @@ serving_none before held line s scanner session = record {
 }
 
 -- what is heard in the next bytes, by what is kept of those before
-next_heard : (scan : Scan) (came bytes : List ℕ) → scan ≡ listening (kept_after side.Unit [] came)
+pub next_heard : (scan : Scan) (came bytes : List ℕ) → scan ≡ listening (kept_after side.Unit [] came)
     → heard_in side.Unit [] came ++ heard_in side.Unit scan.kept bytes ≡ heard_in side.Unit [] (came ++ bytes)
 next_heard scan came bytes is =
     ap (λ (s : Scan). heard_in side.Unit [] came ++ heard_in side.Unit s.kept bytes) is ∙ sym (heard_append side.Unit [] came bytes)
@@ -69,7 +70,7 @@ pub still_known : {turn left : ℕ} {a b : Option (List ℕ)} {line : Line} {old
 still_known {turn} {left} {a} {b} {line} {old} {mid} {h} {k} s = carried (Knows line.session) (sym (read_same s.reads)) s.knows
 
 -- the next bytes are answered
-pub serving_on : {turn left : ℕ} {a b : Option (List ℕ)} {line : Line} {old mid : State} {h k : Option (List ℕ)} (c : Option (List ℕ)) (next : Line) (new : State) (l : Option (List ℕ)) (bytes : List ℕ) (n : ℕ)
+unfoldable pub serving_on : {turn left : ℕ} {a b : Option (List ℕ)} {line : Line} {old mid : State} {h k : Option (List ℕ)} (c : Option (List ℕ)) (next : Line) (new : State) (l : Option (List ℕ)) (bytes : List ℕ) (n : ℕ)
     → IsServing turn left a b line old mid h k → length bytes ≡ n → 0 < n → length bytes ≤ left → Consumes b c bytes
     → next.scanner ≡ listening (kept_after side.Unit line.scanner.kept bytes)
     → IfSome mid.image (λ x. IsAnswered Bytes (content_sent x) line.session.state (heard_in side.Unit line.scanner.kept bytes) next.session.state k l)
@@ -124,3 +125,10 @@ pub serving_broken : (T : Type 0) {turn left : ℕ} {a b : Option (List ℕ)} {l
     → IsServing turn left a b line old mid h k → Keeps b c → IfSome old.image (λ x. IsServed {T = T} (Err ReadFault) (content_sent x) a c h k)
 serving_broken T {turn} {left} {a} {b} {line} {old} {mid} {h} {k} c s keeps =
     one_told old.image _ s.answered (λ x f. record { came = s.came; consumed = Consumes-kept a b c s.came s.consumed keeps; sends = (omega (arith, s.count), f.sent) })
+
+-- all that came was answered
+abbrev pub Answered : (image came : List ℕ) → (held sunk : Option (List ℕ)) → Type 0
+Answered x came held sunk = Appends held sunk (answers_to (content_sent x) came)
+
+pub serving_answered : {turn left : ℕ} {a b : Option (List ℕ)} {line : Line} {old mid : State} {h k : Option (List ℕ)} (s : IsServing turn left a b line old mid h k) → IfSome old.image (λ x. Answered x s.came h k)
+serving_answered {turn} {left} {a} {b} {line} {old} {mid} {h} {k} s = one_told old.image _ s.answered (λ x f. f.sent)

@@ -48,10 +48,10 @@ pub record IsServingLines (turn left : ℕ) (before unread : Option (List ℕ)) 
   pub reads : ReadsIfAny old new false
 
 -- whatever the unit, a session that has found nothing knows it
-fresh_knows : (state : LinkState) (x : List ℕ) → Knows (fresh state) x
+pub fresh_knows : (state : LinkState) (x : List ℕ) → Knows (fresh state) x
 fresh_knows state x = record { decodes = λ is. absurd (cc); notes = tt; outlines = tt }
 
-pub lines_none : (before held : Option (List ℕ)) (lines : Lines) (s : State) → lines.line.scanner ≡ listening [] → lines.line.session ≡ fresh Idle → lines.text.items ≡ [] → lines.whole ≡ 0
+unfoldable pub lines_none : (before held : Option (List ℕ)) (lines : Lines) (s : State) → lines.line.scanner ≡ listening [] → lines.line.session ≡ fresh Idle → lines.text.items ≡ [] → lines.whole ≡ 0
     → IsServingLines 0 MOST before before lines s s held held
 lines_none before held lines s scanner session text whole = record {
   came = [];
@@ -76,19 +76,19 @@ pub lines_one : {turn left : ℕ} {a b : Option (List ℕ)} {lines : Lines} {old
 lines_one {turn} {left} {a} {b} {lines} {old} {mid} {h} {k} s = last_is_one 10 s.came s.heard.ended lines.text.items s.heard.stands
 
 -- the image before reads
-heard_before : {all rest : List (List ℕ)} {whole : ℕ} {kept : List ℕ} {state : LinkState} {text : List ℕ} {reached : ℕ} {scan : Scan} {after : LinkState} {o p h k : Option (List ℕ)} → p ≡ o
+pub heard_before : {all rest : List (List ℕ)} {whole : ℕ} {kept : List ℕ} {state : LinkState} {text : List ℕ} {reached : ℕ} {scan : Scan} {after : LinkState} {o p h k : Option (List ℕ)} → p ≡ o
     → AreHeard all rest whole kept state text reached scan after p h k → AreHeard all rest whole kept state text reached scan after o h k
 heard_before {all} {rest} {whole} {kept} {state} {text} {reached} {scan} {after} {o} {p} {h} {k} same a = subst (λ (q : Option (List ℕ)). AreHeard all rest whole kept state text reached scan after q h k) same a
 
 -- lines up to the end of the next text
-heard_next : {turn left : ℕ} {a b : Option (List ℕ)} {lines : Lines} {old mid : State} {h k : Option (List ℕ)} (next : Lines) (l : Option (List ℕ)) (part : List ℕ) (s : IsServingLines turn left a b lines old mid h k)
+pub heard_next : {turn left : ℕ} {a b : Option (List ℕ)} {lines : Lines} {old mid : State} {h k : Option (List ℕ)} (next : Lines) (l : Option (List ℕ)) (part : List ℕ) (s : IsServingLines turn left a b lines old mid h k)
     → AreHeard (pieces 10 (lines.text.items ++ part)) [] lines.whole lines.line.scanner.kept lines.line.session.state next.text.items next.whole next.line.scanner next.line.session.state mid.image k l
     → AreHeard (pieces 10 (s.came ++ part)) [] 0 [] Idle next.text.items next.whole next.line.scanner next.line.session.state old.image h l
 heard_next {turn} {left} {a} {b} {lines} {old} {mid} {h} {k} next l part s heard =
     heard_then s.came part next.text.items next.whole next.line.scanner next.line.session.state l s.heard (heard_before (read_same s.reads) heard)
 
 -- the next text is heard
-pub lines_on : {turn left : ℕ} {a b : Option (List ℕ)} {lines : Lines} {old mid : State} {h k : Option (List ℕ)} (c : Option (List ℕ)) (next : Lines) (new : State) (l : Option (List ℕ)) (bytes part : List ℕ) (n : ℕ)
+unfoldable pub lines_on : {turn left : ℕ} {a b : Option (List ℕ)} {lines : Lines} {old mid : State} {h k : Option (List ℕ)} (c : Option (List ℕ)) (next : Lines) (new : State) (l : Option (List ℕ)) (bytes part : List ℕ) (n : ℕ)
     → IsServingLines turn left a b lines old mid h k → part ≡ bytes → length bytes ≡ n → 0 < n → n ≤ left → Consumes b c bytes
     → AreHeard (pieces 10 (lines.text.items ++ part)) [] lines.whole lines.line.scanner.kept lines.line.session.state next.text.items next.whole next.line.scanner next.line.session.state mid.image k l
     → next.whole ≤ lines.whole + length part → IfSome mid.image (Knows next.line.session) → ReadsIfAny mid new false → IsServingLines (turn + 1) (left - n) a c next old new h l
@@ -293,3 +293,10 @@ part_is taken count left block is =
 pub part_all : (taken count left : ℕ) (block : List ℕ) → taken ≡ min count left → count ≤ left → take taken block ≡ take count block
 part_all taken count left block is few =
     let least : taken ≡ count = omega (arith, is, few) in ap (λ (n : ℕ). take n block) least
+
+-- all lines that have ended were answered
+abbrev pub Answered : (image came : List ℕ) → (held sunk : Option (List ℕ)) → Type 0
+Answered x came held sunk = WholeAnswered (content_sent x) came held sunk
+
+pub lines_answered : {turn left : ℕ} {a b : Option (List ℕ)} {lines : Lines} {old mid : State} {h k : Option (List ℕ)} (s : IsServingLines turn left a b lines old mid h k) → IfSome old.image (λ x. Answered x s.came h k)
+lines_answered {turn} {left} {a} {b} {lines} {old} {mid} {h} {k} s = one_told old.image _ s.heard.answered (λ x f. whole_answered (content_sent x) s.heard f)

@@ -6,10 +6,12 @@
 mod fault;
 mod line;
 mod lines;
+mod peer;
 mod service;
 
 pub use fault::{LinesFault, ServeFault};
 pub use lines::serve_lines;
+pub use peer::Peer;
 pub use service::{MOST, serve};
 
 #[cfg(test)]

@@ -10,14 +10,16 @@ ghost use Rattle.unit_journal.specs.Reading.{ReadsIfAny};
 ghost use Rattle.transfer_session.specs.Told.{Knows, fresh};
 ghost use Rattle.link_service.specs.declared.fault.LinesFault.TheVariants.{Memory};
 ghost use Rattle.link_service.specs.Lines.{listening};
-ghost use Rattle.link_service.specs.ServedLines.{AreServed, have_failed, AreCaused, AreHeard, IsHeard, StopsAt, StopsAmong};
+ghost use Rattle.link_service.specs.ServedLines.{AreServed, have_failed, AreCaused, AreHeard, IsHeard, StopsAt, StopsAmong, WholeAnswered};
+ghost use Rattle.link_service.specs.Asked.{AnswersInTime};
 
 use crate::fault::{LinesFault, ServeFault};
 use crate::line::{Line, Spelling};
+use crate::peer::Peer;
 use crate::service::MOST;
 use hex_lines::{LineFault, read_line};
 use std::alloc::Global;
-use tach_media::{Medium, Sink, Source};
+use tach_media::{Medium, Sink};
 use text_fields::first_piece;
 
 /// A unit on the link that hears lines: what has come of the next one, and how many were whole.
@@ -132,7 +134,7 @@ impl Lines {
 ///
 /// `BadLine` after the answers to the lines before it, judged at its end; `Memory` after the answers to some of them; the others as
 /// of a service of bytes, with the answers to the whole lines that came.
-pub fn serve_lines<S: Source, K: Sink, U: Medium>(
+pub fn serve_lines<S: Peer<K>, K: Sink, U: Medium>(
     alloc: Global,
     source: &mut S,
     sink: &mut K,
@@ -141,6 +143,9 @@ pub fn serve_lines<S: Source, K: Sink, U: Medium>(
     requires unit { (U.state unit.old).size ≡ IMAGE_SIZE }
     ensures served { IfSome (U.state unit.old).image (λ x.
         AreServed result (content_sent x) (S.left source.old) (S.left source.new) (K.held sink.old) (K.held sink.new)) }
+    // Before each read all lines that had ended were answered.
+    ensures in_time { IfSome (U.state unit.old).image (λ x.
+        AnswersInTime (WholeAnswered (content_sent x)) (S.left source.old) (S.left source.new) (K.held sink.old) (S.asked source.old) (S.asked source.new)) }
     // At the end nothing of the source is left.
     ensures end { OnOk result (IsAtEnd (S.left source.new)) }
     // The source or the sink failed, or the unit's image has that bad place.
@@ -152,7 +157,7 @@ pub fn serve_lines<S: Source, K: Sink, U: Medium>(
     let mut left = MOST as usize;
     let mut block = [0u8; 4096];
     for _turn in 0..MOST as u64 + 1 {
-        let Ok(count) = source.read(&mut block) else {
+        let Ok(count) = source.read_after(&mut block, sink) else {
             return Err(LinesFault::Ended(ServeFault::ReadFault));
         };
         if count == 0 {

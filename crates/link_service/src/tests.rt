@@ -1,9 +1,9 @@
 ghost use Rattle.std.specs.declared.option.Option.TheVariants.{None as Untold};
 
-use crate::{ServeFault, serve};
+use crate::{Peer, ServeFault, serve};
 use std::alloc::{AllocError, Global};
 use std::test::*;
-use tach_media::{AbsentMedium, Failed, MemSink, MemSource, Source};
+use tach_media::{AbsentMedium, Failed, MemSink, MemSource, Sink, Source};
 use unit_model::layout::IMAGE_SIZE;
 
 /// From the start of communication to its end, with a request before the upload, an unknown service, one that is too short, a wrong
@@ -44,6 +44,60 @@ impl Source for Pieces {
         self.at = self.at.saturating_add(count);
         Ok(count)
     }
+}
+
+impl<K: Sink> Peer<K> for Pieces {
+    ghost asked = { λ _. Untold };
+
+    fn read_after(&mut self, buf: &mut [u8], _sink: &K) -> Result<usize, Failed> {
+        self.read(buf)
+    }
+}
+
+/// A loader that sends its next byte only where the sink holds the answers to those before it: after so many bytes, so many.
+#[derive(Drop)]
+struct Loader {
+    at: usize,
+}
+
+impl Source for Loader {
+    ghost left = { λ _. Untold };
+
+    ghost faults = { λ _. 0 };
+
+    fn read(&mut self, buf: &mut [u8]) -> Result<usize, Failed> {
+        let rest = &HEARD[self.at.min(HEARD.len())..];
+        let count = rest.len().min(buf.len()).min(1);
+        buf[..count].copy_from_slice(&rest[..count]);
+        self.at = self.at.saturating_add(count);
+        Ok(count)
+    }
+}
+
+/// After which of the bytes an answer is due, and how many bytes the answers have then.
+const DUE: [(usize, usize); 3] = [(5, 8), (12, 16), (19, 23)];
+
+impl Peer<MemSink> for Loader {
+    ghost asked = { λ _. Untold };
+
+    fn read_after(&mut self, buf: &mut [u8], sink: &MemSink) -> Result<usize, Failed> {
+        for (came, answered) in DUE {
+            if self.at >= came && sink.held().len() < answered {
+                return Ok(0);
+            }
+        }
+        self.read(buf)
+    }
+}
+
+#[test]
+fn a_loader_that_waits_is_answered(rt: HostRuntime) -> Result<(), Fail> {
+    let mut unit = AbsentMedium::new(IMAGE_SIZE);
+    let mut source = Loader { at: 0 };
+    let mut sink = MemSink::new(Vec::with_capacity(rt.alloc(), 100)?, Vec::new(rt.alloc()));
+    assert_eq!(rt; serve(&mut source, &mut sink, &mut unit), Ok(()));
+    assert_eq!(rt; sink.held(), &ANSWERED[..]);
+    Ok(())
 }
 
 /// These bytes, in a vector with the room for them alone.
