@@ -15,6 +15,3 @@ pub use judge::{Judged, judge_image};
 pub use memory::UnitMemory;
 pub use walk::{Density, Walk};
 pub use words::{Scan, scan_day};
-
-#[cfg(test)]
-mod tests;
