@@ -1,7 +1,8 @@
 -- Words and what they ask for, computed.
 use Rattle.std.specs.Prelude.{◌≡◌, Some, None, [], ◌∷◌, ◌++◌, codes, replicate, refl}
 use Rattle.trace_model.specs.declared.Card.TheVariants.{B}
-use Rattle.tacho.specs.declared.forms.Form.TheVariants.{Minutes, Serve, ServeHex, Download, View, Help, Version}
+use Rattle.tacho.specs.declared.forms.Form.TheVariants.{Minutes, Serve, ServeHex, Download, Read, Help, Version}
+use Rattle.tacho.specs.declared.forms.Reading.TheVariants.{View, Match}
 use Rattle.tacho.specs.declared.forms.TheConstants.{PLATE}
 use Rattle.tacho.specs.Texts.{word_in, number_in}
 use Rattle.trace_model.specs.Names.{card_named}
@@ -43,9 +44,13 @@ download-row : form_of (codes "download" ∷ []) ≡ Some Download
 unfolding form_of
 download-row = refl
 
-view-row : form_of (codes "view" ∷ []) ≡ Some (View None)
+view-row : form_of (codes "view" ∷ []) ≡ Some (Read (View None))
 unfolding form_of
 view-row = refl
+
+match-row : form_of (codes "match" ∷ []) ≡ Some (Read Match)
+unfolding form_of
+match-row = refl
 
 not-last-row : form_of (codes "view" ∷ codes "first" ∷ codes "1" ∷ []) ≡ None
 unfolding form_of

@@ -6,7 +6,8 @@ use Rattle.tacho_types.specs.declared.texts.Registration.{Registration}
 use Rattle.card_files.specs.declared.new_card.CardIdentity.{CardIdentity}
 use Rattle.unit_memory.specs.declared.format.Identity.{Identity}
 use Rattle.tacho.specs.declared.forms.Form.{Form}
-use Rattle.tacho.specs.declared.forms.Form.TheVariants.{Minutes, Record, FormatCard, FormatUnit, Serve, ServeHex, Download, View, CardFile, Demo, Help, Version}
+use Rattle.tacho.specs.declared.forms.Form.TheVariants.{Minutes, Record, FormatCard, FormatUnit, Serve, ServeHex, Download, Read, CardFile, Demo, Help, Version}
+use Rattle.tacho.specs.declared.forms.Reading.TheVariants.{View, Match}
 use Rattle.tacho.specs.declared.forms.TheConstants.{CARD_NUMBER, NAME, PLATE, VIN, NATION_MOST, LIMIT_LEAST, LIMIT_MOST, LAST_LEAST, LAST_MOST, SEED_MOST}
 use Rattle.tacho_types.specs.Texts.{padded_text}
 use Rattle.tacho.specs.Texts.{word_in, number_in}
@@ -46,16 +47,17 @@ unit_in nation plate vin limit = do
   limit ← number_in LIMIT_LEAST LIMIT_MOST limit
   Some (record { vin = vin; registration = registration; limit = limit })
 
--- `minutes`, `record`, `serve`, `download` and `view`; `help`, also `--help`, and `--version`
+-- `minutes`, `record`, `serve`, `download`, `view` and `match`; `help`, also `--help`, and `--version`
 abbrev pub form_of_one : List ℕ → Option Form
 form_of_one word =
     if bytes_eq word (codes "minutes") then Some Minutes
     else (if bytes_eq word (codes "record") then Some Record
     else (if bytes_eq word (codes "serve") then Some Serve
     else (if bytes_eq word (codes "download") then Some Download
-    else (if bytes_eq word (codes "view") then Some (View None)
+    else (if bytes_eq word (codes "view") then Some (Read (View None))
+    else (if bytes_eq word (codes "match") then Some (Read Match)
     else (if bytes_eq word (codes "help") || bytes_eq word (codes "--help") then Some Help
-    else (if bytes_eq word (codes "--version") then Some Version else None))))))
+    else (if bytes_eq word (codes "--version") then Some Version else None)))))))
 
 -- `a` and `b`
 abbrev pub file_of : (letter : List ℕ) → Option Form
@@ -102,7 +104,7 @@ form_of_six command what first second third fourth =
 abbrev pub last_form : List ℕ → Option Form
 last_form count = do
   days ← number_in LAST_LEAST LAST_MOST count
-  Some (View (Some days))
+  Some (Read (View (Some days)))
 
 abbrev pub view_of : (which count : List ℕ) → Option Form
 view_of which count = if bytes_eq which (codes "last") then last_form count else None

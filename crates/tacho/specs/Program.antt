@@ -1,5 +1,5 @@
 -- THE PROGRAM: how its one call ends, and what it leaves untouched (profile). What each form promises stands in the form's own
--- file: Minutes, Recorded, Serving, Downloading, View, CardFile, Formatting, Demo, Help.
+-- file: Minutes, Recorded, Serving, Downloading, Read, CardFile, Formatting, Demo, Help.
 use Rattle.std.specs.Prelude.{◌≡◌, ◌↔◌, ◌≤◌, List, [], Option, Some, None, IfSome}
 use Rattle.tach_media.specs.Medium.{State, Rose}
 use Rattle.trace_model.specs.declared.Card.TheVariants.{A, B}
@@ -12,7 +12,7 @@ use Rattle.tacho.specs.declared.end.Ended.{Ended}
 use Rattle.run_outcome.specs.declared.outcome.Outcome.{Outcome}
 use Rattle.unit_download.specs.declared.wire.Passed.{Passed}
 use Rattle.tacho.specs.declared.forms.Form.{Form}
-use Rattle.tacho.specs.declared.forms.Form.TheVariants.{Minutes, Record, FormatCard, FormatUnit, Serve, ServeHex, Download, View, CardFile, Demo, Help, Version}
+use Rattle.tacho.specs.declared.forms.Form.TheVariants.{Minutes, Record, FormatCard, FormatUnit, Serve, ServeHex, Download, Read, CardFile, Demo, Help, Version}
 use Rattle.tacho.specs.End.{status_of, IsBeforeDevices}
 use Rattle.tacho.specs.Outside.{Outside, memory_of}
 use Rattle.tacho.specs.Minutes.{EndsMinutes}
@@ -20,7 +20,7 @@ use Rattle.tacho.specs.Outcomes.{IsEmpty}
 use Rattle.tacho.specs.Recorded.{EndsRecord}
 use Rattle.tacho.specs.Serving.{EndsServe, EndsServeHex}
 use Rattle.tacho.specs.Downloading.{EndsDownload}
-use Rattle.tacho.specs.View.{EndsView}
+use Rattle.tacho.specs.Read.{Prints, IsBad, EndsReading}
 use Rattle.tacho.specs.Formatting.{IsCard, EndsIssue, EndsMaking}
 use Rattle.tacho.specs.CardFile.{EndsCard}
 use Rattle.tacho.specs.Demo.{EndsDemo}
@@ -42,7 +42,7 @@ EndsForm (FormatUnit identity) old new ended = EndsMaking identity old.unit new.
 EndsForm Serve old new ended = EndsServe old new ended.fault
 EndsForm ServeHex old new ended = EndsServeHex old new ended.fault
 EndsForm Download old new ended = EndsDownload old new ended.wire ended.fault
-EndsForm (View last) old new ended = EndsView last old new ended.fault
+EndsForm (Read reading) old new ended = EndsReading (Prints reading) (IsBad reading) old new ended.fault
 EndsForm (CardFile A) old new ended = EndsCard CardA old.card_a new.card_a old.sink new.sink ended.fault
 EndsForm (CardFile B) old new ended = EndsCard CardB old.card_b new.card_b old.sink new.sink ended.fault
 EndsForm (Demo seed) old new ended = EndsDemo seed old new ended.outcome ended.fault
@@ -71,7 +71,7 @@ LeavesOthers (Some (FormatUnit identity)) source unit card_a card_b = source × 
 LeavesOthers (Some Serve) source unit card_a card_b = card_a × card_b
 LeavesOthers (Some ServeHex) source unit card_a card_b = card_a × card_b
 LeavesOthers (Some Download) source unit card_a card_b = source × card_a × card_b
-LeavesOthers (Some (View last)) source unit card_a card_b = unit × card_a × card_b
+LeavesOthers (Some (Read reading)) source unit card_a card_b = unit × card_a × card_b
 LeavesOthers (Some (CardFile A)) source unit card_a card_b = source × unit × card_b
 LeavesOthers (Some (CardFile B)) source unit card_a card_b = source × unit × card_a
 LeavesOthers (Some (Demo seed)) source unit card_a card_b = source

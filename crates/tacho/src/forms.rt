@@ -59,8 +59,8 @@ pub enum Form {
     ServeHex,
     /// `download`: the unit's file is written.
     Download,
-    /// `view`: a unit file or a card file is printed; `view last N`: its last so many days, from 1 to 366.
-    View { last: Option<u32> },
+    /// What a file tells is printed: it is read to its end first.
+    Read { reading: Reading },
     /// `card a` and `card b`: the card's file is written.
     CardFile { card: Card },
     /// `demo X`: a demonstration is recorded that is drawn from this number, from 0 to 2147483647.
@@ -69,6 +69,15 @@ pub enum Form {
     Help,
     /// `--version`: the version is printed, and that of the toolchain.
     Version,
+}
+
+/// What is told of a file.
+#[derive(Clone, Copy, Debug, PartialEq, Eq)]
+pub enum Reading {
+    /// `view`: the days of a unit file or a card file; `view last N`: its last so many, from 1 to 366.
+    View { last: Option<u32> },
+    /// `match`: whether the entries of a card file stand in a unit file.
+    Match,
 }
 
 /// What the words ask for, if they are in a form that is known. The test takes no memory.
@@ -107,7 +116,14 @@ fn form_of_one(word: &str) -> Option<Form>
         return Some(Form::Download);
     }
     if is_text(word, "view") {
-        return Some(Form::View { last: None });
+        return Some(Form::Read {
+            reading: Reading::View { last: None },
+        });
+    }
+    if is_text(word, "match") {
+        return Some(Form::Read {
+            reading: Reading::Match,
+        });
     }
     if is_text(word, "help") || is_text(word, "--help") {
         return Some(Form::Help);
@@ -172,7 +188,9 @@ fn view_of(which: &str, count: &str) -> Option<Form>
         let Some(days) = number(count, LAST_LEAST, LAST_MOST) else {
             return None;
         };
-        return Some(Form::View { last: Some(days) });
+        return Some(Form::Read {
+            reading: Reading::View { last: Some(days) },
+        });
     }
     None
 }

@@ -1,0 +1,11 @@
+-- What the command `match` prints of a source.
+use Rattle.std.specs.Prelude.{ℕ, List}
+use Rattle.card_match.specs.declared.verdict.Matched.{Matched}
+use Rattle.card_match.specs.Files.{MatchesSource}
+use Rattle.card_match.specs.Text.{IsMatchText}
+
+-- the text of the answer to a match of the unit file and the card file that the bytes are
+pub record PrintsMatch (bytes out : List ℕ) : Type 0 where
+  pub matched : Matched
+  pub matches : MatchesSource bytes matched
+  pub text : IsMatchText matched out
