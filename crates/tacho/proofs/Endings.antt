@@ -6,6 +6,7 @@ use Rattle.tach_media.specs.Medium.{Rose}
 use Rattle.tach_media.specs.Streams.{AppendsFront}
 use Rattle.run_model.specs.declared.Device.{Device}
 use Rattle.trace_text.specs.declared.trace.Form.TheVariants.{Minutes as FormOfMinutes}
+use Rattle.minute_model.specs.declared.Rule.{Rule}
 use Rattle.trace_model.specs.declared.Item.{Item}
 use Rattle.trace_text.specs.Judged.{IsTraceText, IsBadText, IsLongText}
 use Rattle.tacho.specs.declared.end.Fault.{Fault}
@@ -23,8 +24,8 @@ use Rattle.tacho.specs.Outcomes.{IsEmpty}
 use Rattle.tacho.specs.Program.{Ends, EndsForm, IsUnrecorded, IsUnpassed}
 use Rattle.tacho.proofs.EndLaws.{prints-end, wanted-end, judges-trace}
 
-pub ends-minutes : {T : Type 0} (old new : Outside) (r : Result T Fault)
-    → ((text : List ℕ) → old.source.left ≡ Some text → OnOk r ((out : List ℕ) × PrintsMinutes text out × Appends old.sink.held new.sink.held out))
+pub ends-minutes : {T : Type 0} (rule : Rule) (old new : Outside) (r : Result T Fault)
+    → ((text : List ℕ) → old.source.left ≡ Some text → OnOk r ((out : List ℕ) × PrintsMinutes rule text out × Appends old.sink.held new.sink.held out))
     → OnOk r (IsAtEnd new.source.left)
     → ((text : List ℕ) (n : ℕ) → old.source.left ≡ Some text → r ≡ Err (BadTrace n) → IsBadText FormOfMinutes text n)
     → ((text : List ℕ) (n : ℕ) → old.source.left ≡ Some text → r ≡ Err (TooLong n) → IsLongText FormOfMinutes text n)
@@ -33,10 +34,10 @@ pub ends-minutes : {T : Type 0} (old new : Outside) (r : Result T Fault)
     → ((text : List ℕ) (start : ℕ) (items : List Item) → old.source.left ≡ Some text → IsTraceText FormOfMinutes text start items → IfErr r IsUnprinted)
     → ((text : List ℕ) (n : ℕ) → old.source.left ≡ Some text → IsBadText FormOfMinutes text n → IsErrAnd r (λ fault. (fault ≡ BadTrace n) ⊎ IsUnread fault))
     → ((text : List ℕ) (n : ℕ) → old.source.left ≡ Some text → IsLongText FormOfMinutes text n → IsErrAnd r (λ fault. (fault ≡ TooLong n) ⊎ IsUnread fault))
-    → ((text : List ℕ) → old.source.left ≡ Some text → r ≡ Err WriteFault → (out : List ℕ) × PrintsMinutes text out × AppendsFront old.sink.held new.sink.held out)
+    → ((text : List ℕ) → old.source.left ≡ Some text → r ≡ Err WriteFault → (out : List ℕ) × PrintsMinutes rule text out × AppendsFront old.sink.held new.sink.held out)
     → IfErr r (λ fault. (fault ≡ Done → ⊥) × IsMinutesEnd fault)
-    → EndsMinutes old new (end_of r)
-ends-minutes old new (Ok u) printed read bad long read_fault write_fault prints finds_bad finds_long front other = record {
+    → EndsMinutes rule old new (end_of r)
+ends-minutes rule old new (Ok u) printed read bad long read_fault write_fault prints finds_bad finds_long front other = record {
   ends = tt;
   printed = λ text told is. printed text told;
   read = λ is. read;
@@ -44,7 +45,7 @@ ends-minutes old new (Ok u) printed read bad long read_fault write_fault prints 
   prints = λ text start items told is no_read no_write. inl refl;
   front = λ text told is. absurd (cc);
 }
-ends-minutes old new (Err fault) printed read bad long read_fault write_fault prints finds_bad finds_long front other = record {
+ends-minutes rule old new (Err fault) printed read bad long read_fault write_fault prints finds_bad finds_long front other = record {
   ends = other.1;
   printed = λ text told is. absurd (other.0 is);
   read = λ is. absurd (other.0 is);
@@ -135,15 +136,15 @@ streams-end form old new outcome (Err fault) ends none none_passed no_usage no_m
   };
 }
 
-pub minutes-ends : {T : Type 0} (old new : Outside) (r : Result T Fault)
-    → EndsMinutes old new (end_of r)
+pub minutes-ends : {T : Type 0} (rule : Rule) (old new : Outside) (r : Result T Fault)
+    → EndsMinutes rule old new (end_of r)
     → (r ≡ Err ReadFault → Rose old.source.faults new.source.faults)
     → (r ≡ Err WriteFault → Rose old.sink.faults new.sink.faults)
     → (old.source.faults ≤ new.source.faults) × (old.sink.faults ≤ new.sink.faults)
     → (outcome : Outcome) → IsEmpty outcome
-    → Ends (Some Minutes) old new (ended_by outcome (end_of r))
-minutes-ends old new r ends read_fault write_fault counts outcome none =
-    streams-end Minutes old new outcome r ends none refl (λ is. subst IsMinutesEnd is ends.ends) (λ device is. subst IsMinutesEnd is ends.ends) read_fault write_fault counts
+    → Ends (Some (Minutes rule)) old new (ended_by outcome (end_of r))
+minutes-ends rule old new r ends read_fault write_fault counts outcome none =
+    streams-end (Minutes rule) old new outcome r ends none refl (λ is. subst IsMinutesEnd is ends.ends) (λ device is. subst IsMinutesEnd is ends.ends) read_fault write_fault counts
 
 pub reading-ends : {T : Type 0} (reading : Reading) (old new : Outside) (r : Result T Fault)
     → EndsReading (Prints reading) (IsBad reading) old new (end_of r)

@@ -34,7 +34,7 @@ pub record AreDevices (unit card_a card_b : State) : Type 0 where
 
 -- what each form does, by its own record
 abbrev pub EndsForm : Form → (old new : Outside) → Ended → Type 0
-EndsForm Minutes old new ended = EndsMinutes old new ended.fault
+EndsForm (Minutes rule) old new ended = EndsMinutes rule old new ended.fault
 EndsForm Record old new ended = EndsRecord old new ended.outcome ended.fault
 EndsForm (FormatCard A identity) old new ended = EndsIssue CardA identity old.card_a new.card_a old.sink new.sink ended.fault
 EndsForm (FormatCard B identity) old new ended = EndsIssue CardB identity old.card_b new.card_b old.sink new.sink ended.fault
@@ -63,7 +63,7 @@ IsUnpassed asked wire = wire ≡ []
 -- What a form leaves as it was: all but the sink and what it names. Each argument says that one of them is as it was.
 abbrev pub LeavesOthers : Option Form → (source unit card_a card_b : Type 0) → Type 0
 LeavesOthers None source unit card_a card_b = source × unit × card_a × card_b
-LeavesOthers (Some Minutes) source unit card_a card_b = unit × card_a × card_b
+LeavesOthers (Some (Minutes rule)) source unit card_a card_b = unit × card_a × card_b
 LeavesOthers (Some Record) source unit card_a card_b = Unit {0}
 LeavesOthers (Some (FormatCard A identity)) source unit card_a card_b = source × unit × card_b
 LeavesOthers (Some (FormatCard B identity)) source unit card_a card_b = source × unit × card_a

@@ -8,7 +8,7 @@ ghost use Rattle.tacho.specs.Read.{most_bytes, Prints, IsBad, IsUnshown, IsReadi
 
 use crate::end::Fault;
 use crate::forms::Reading;
-use crate::match_command::match_answer;
+use crate::match_command::{match_all_answer, match_answer};
 use crate::view_command::file_view;
 use std::alloc::Global;
 use tach_media::{Sink, Source, TakeFault, put_all, take_all};
@@ -64,5 +64,6 @@ fn reading_text(alloc: Global, reading: Reading, b: &[u8]) -> Result<Vec<u8>, Fa
     match reading {
         Reading::View { last } => file_view(alloc, last, b),
         Reading::Match => match_answer(alloc, b),
+        Reading::MatchAll => match_all_answer(alloc, b),
     }
 }

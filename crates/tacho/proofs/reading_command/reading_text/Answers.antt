@@ -11,3 +11,9 @@ returns-in-Match-clause-text c = rw c.in-Match.is c.match_answer.ensures.text
 
 pub returns-in-Match-clause-err : goal.returns-in-Match-clause-err
 returns-in-Match-clause-err c = rw c.in-Match.is c.match_answer.ensures.err
+
+pub returns-in-MatchAll-clause-text : goal.returns-in-MatchAll-clause-text
+returns-in-MatchAll-clause-text c = rw c.in-MatchAll.is c.match_all_answer.ensures.text
+
+pub returns-in-MatchAll-clause-err : goal.returns-in-MatchAll-clause-err
+returns-in-MatchAll-clause-err c = rw c.in-MatchAll.is c.match_all_answer.ensures.err

@@ -10,8 +10,8 @@ pub returns-in-Minutes-clause-ends : goal.returns-in-Minutes-clause-ends
 returns-in-Minutes-clause-ends g c =
     let e = c.print_minutes.ensures in
     rw (c.in-Minutes.is, c.after.ensures)
-    (minutes-ends _ _ c.print_minutes.result
-    (ends-minutes _ _ c.print_minutes.result e.printed e.read e.bad_trace e.too_long e.read_fault e.write_fault e.prints e.finds_bad_trace e.finds_too_long e.front e.other)
+    (minutes-ends c.in-Minutes.rule _ _ c.print_minutes.result
+    (ends-minutes c.in-Minutes.rule _ _ c.print_minutes.result e.printed e.read e.bad_trace e.too_long e.read_fault e.write_fault e.prints e.finds_bad_trace e.finds_too_long e.front e.other)
     e.read_fault e.write_fault e.counts c.nothing-nothing.result c.nothing-nothing.ensures)
 
 pub returns-in-Serve-clause-ends : goal.returns-in-Serve-clause-ends
