@@ -11,7 +11,7 @@ use Rattle.gated_ring.specs.Change.{IsShortened, IsExtended}
 use Rattle.gated_ring.proofs.Listing.{staying_there}
 use Rattle.gated_ring.proofs.Orders as orders
 use Rattle.gated_ring.proofs.Orders.{rest, rest_each, order_first, order_last, each_append, each_weaker, each_filter, range_each, filter_same, map_same}
-use Rattle.unit_model.specs.declared.layout.TheConstants.{DAYS, DAY_SLOTS, DAY_SLOT_SIZE, DAY_WORDS, HIGHEST_ODOMETER, INSERTIONS, INSERTION_SLOTS, LAST_MINUTE, OVER_COUNT, PLACES, PLACE_SLOTS}
+use Rattle.unit_model.specs.declared.layout.TheConstants.{DAYS, DAY_SLOTS, DAY_SLOT_SIZE, DAY_WORDS, HIGHEST_ODOMETER, INSERTIONS, INSERTION_SLOTS, LAST_MINUTE, OVER_COUNT, PLACES, PLACE_SLOTS, RULE_BYTE}
 use Rattle.unit_model.specs.Days.{word_minute, day_of, Each}
 use Rattle.unit_model.specs.Image.{last_kept, odometer_at, day_ring, slot_place, indices, slot_date, slot_odometer, slot_count, slot_words}
 use Rattle.unit_model.specs.Decoding.{check, cell_place, slot_checks, slot_day, day_checks, has_day, is_last_good, are_dense, is_filled_on, indices_before, is_date_good, word_checks}
@@ -320,7 +320,7 @@ module _ (x c : List ℕ) (known : pointer day_ring x < DAY_SLOTS) (others : (j 
       let q_below : q < DAY_SLOTS = ⊎_elim (λ at. omega (arith, at, known)) (λ at. omega (arith, at, t_below)) which in
       let turned_c : (is_there day_ring c t ≡ false) ⊎ (q ≡ t) = ⊎_elim (λ shut. inl (is ∙ shut)) (λ moved. inr moved) turned in
       record {
-        front = front_by x c (number_before DAYS.place DAYS.size 0 4 x c same (omega arith)) (number_before DAYS.place DAYS.size OVER_COUNT.place OVER_COUNT.size x c same (omega arith)) low far today good.front;
+        front = front_by x c (number_before DAYS.place DAYS.size 0 4 x c same (omega arith), number_before DAYS.place DAYS.size RULE_BYTE.place RULE_BYTE.size x c same (omega arith)) (number_before DAYS.place DAYS.size OVER_COUNT.place OVER_COUNT.size x c same (omega arith)) low far today good.front;
         cells = λ n below. (λ i. number_before DAYS.place DAYS.size (cell_place n) 4 x c same (omega (arith, below)) i == 0 || nat_lt (word_minute (number_before DAYS.place DAYS.size (cell_place n + 4) 2 x c same (omega (arith, below)) i)) 1440) ∙ good.cells n below;
         point = and_join (nat_lt q DAY_SLOTS) (are_dense (map (is_there day_ring c) (order day_ring (next day_ring q))) && is_last_good c q (indices c)) (lt_true q DAY_SLOTS q_below)
             (and_join (are_dense (map (is_there day_ring c) (order day_ring (next day_ring q)))) (is_last_good c q (indices c)) (added_dense b is turned dense) last);

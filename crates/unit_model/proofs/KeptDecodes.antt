@@ -8,7 +8,7 @@ use Rattle.std.specs.Int.{to_be_bytes, w32}
 use Rattle.tach_media.specs.Medium.{SameOutside, IsPartlyWritten}
 use Rattle.tach_media.proofs.Images.{put_outside, outside_wider}
 use Rattle.gated_ring.specs.Ring.{number_at, pointer, is_there, entry_at, next, order}
-use Rattle.unit_model.specs.declared.layout.TheConstants.{DAYS, DAY_COUNT, DAY_SLOTS, DAY_SLOT_SIZE, DAY_WORDS, DAY_WORD_LIMIT, FIRST_OVER, HIGHEST_ODOMETER, IMAGE_SIZE, INSERTIONS, INSERTION_SLOTS, LAST_KEPT, LAST_MINUTE, ODOMETER, OVER_COUNT, PLACES, PLACE_SLOTS}
+use Rattle.unit_model.specs.declared.layout.TheConstants.{DAYS, DAY_COUNT, DAY_SLOTS, DAY_SLOT_SIZE, DAY_WORDS, DAY_WORD_LIMIT, FIRST_OVER, HIGHEST_ODOMETER, IMAGE_SIZE, INSERTIONS, INSERTION_SLOTS, LAST_KEPT, LAST_MINUTE, ODOMETER, OVER_COUNT, PLACES, PLACE_SLOTS, RULE_BYTE}
 use Rattle.unit_model.specs.Days.{word_minute, Each}
 use Rattle.unit_model.specs.Image.{last_kept, odometer_at, day_ring, slot_place, indices, slot_date, slot_count, slot_words, words_at}
 use Rattle.unit_model.specs.Decoding.{check, cell_place, slot_checks, day_checks, has_day, is_pointer_good, is_last_good, are_dense, indices_before, is_date_good, word_checks, Decodes}
@@ -143,7 +143,7 @@ module _ (x c : List ℕ) (same : SameOutside LAST_KEPT.place 8 x c) (later : la
 
   pub front_good : IsGood x → IsGood c
   front_good good = record {
-    front = front_by x c (number_before LAST_KEPT.place 8 0 4 x c same (omega arith)) (behind OVER_COUNT.place OVER_COUNT.size (omega arith)) kept odometer today good.front;
+    front = front_by x c (number_before LAST_KEPT.place 8 0 4 x c same (omega arith), number_before LAST_KEPT.place 8 RULE_BYTE.place RULE_BYTE.size x c same (omega arith)) (behind OVER_COUNT.place OVER_COUNT.size (omega arith)) kept odometer today good.front;
     cells = λ n below. (λ t. behind (cell_place n) 4 (omega arith) t == 0 || nat_lt (word_minute (behind (cell_place n + 4) 2 (omega arith) t)) 1440) ∙ good.cells n below;
     point = front_point good.point;
     slots = λ j less. slot_by x c j (front_but.there j) (front_day j) (good.slots j less);
