@@ -2,6 +2,7 @@
 //! minute, and a withdrawal closes its session. A session is a value that knows no card; each call is lent one.
 #![tactic(auto)]
 
+mod by_hand;
 mod insert;
 mod laws;
 mod session;

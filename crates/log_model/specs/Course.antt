@@ -7,7 +7,7 @@ use Rattle.activity_codec.specs.declared.values.Pick.{Pick}
 use Rattle.activity_codec.specs.Activity.{same_slot}
 use Rattle.trace_model.specs.declared.Card.{Card}
 use Rattle.trace_model.specs.declared.Action.{Action}
-use Rattle.trace_model.specs.declared.Action.TheVariants.{Select, Insert, Withdraw, Tear, Place}
+use Rattle.trace_model.specs.declared.Action.TheVariants.{Select, Insert, Withdraw, Tear, Place, Manual}
 use Rattle.trace_model.specs.Trace.{TraceSecond}
 use Rattle.minute_model.specs.Second.{Second}
 use Rattle.log_model.specs.declared.lines.SlotFault.{SlotFault}
@@ -65,6 +65,7 @@ carried_out n (Insert slot card) c = record c {
 carried_out n (Withdraw slot) c = record (leaves slot c) { settled = true }
 carried_out n (Tear slot) c = record (leaves slot c) { pulled = c.pulled ++ visits (In (n + 1)) slot c.slots }
 carried_out n (Place slot ending country region) c = c
+carried_out n (Manual slot pick minute) c = c
 
 -- an action is carried out or refused
 abbrev pub answered : ℕ → Option SlotFault → Action → Course → Course
@@ -89,6 +90,7 @@ moved_by n None (Withdraw s) slots =
     record { enters = λ slot. false; leaving = λ slot. if same_slot s slot then visits (In (n + 1)) slot slots else [] }
 moved_by n None (Tear s) slots = unmoved false
 moved_by n None (Place s ending country region) slots = unmoved false
+moved_by n None (Manual s pick minute) slots = unmoved false
 
 -- what the log tells of a slot at a moment: what was found of its card where one entered, and then whether it, or one that was
 -- taken out, was torn
@@ -120,6 +122,7 @@ is_settling (Insert slot card) = true
 is_settling (Withdraw slot) = true
 is_settling (Tear slot) = false
 is_settling (Place slot ending country region) = false
+is_settling (Manual slot pick minute) = false
 
 -- one action more, with n before it; one that a cut came before counts as a settling alone
 abbrev pub acted : RunLog → TraceSecond → ℕ → Action → Course → Course

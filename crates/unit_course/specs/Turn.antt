@@ -4,7 +4,7 @@ use Rattle.std.specs.List.{AllByRecursion}
 use Rattle.activity_codec.specs.declared.values.Slot.{Slot}
 use Rattle.activity_codec.specs.declared.values.Pick.{Pick}
 use Rattle.trace_model.specs.declared.Action.{Action}
-use Rattle.trace_model.specs.declared.Action.TheVariants.{Select, Insert, Withdraw, Tear, Place}
+use Rattle.trace_model.specs.declared.Action.TheVariants.{Select, Insert, Withdraw, Tear, Place, Manual}
 use Rattle.minute_model.specs.declared.Rule.{Rule}
 use Rattle.minute_model.specs.Span.{Span, begin}
 use Rattle.log_model.specs.declared.lines.SlotFault.{SlotFault}
@@ -20,6 +20,7 @@ IsSelection (Insert slot card) = ⊥
 IsSelection (Withdraw slot) = ⊥
 IsSelection (Tear slot) = ⊥
 IsSelection (Place slot ending country region) = ⊥
+IsSelection (Manual slot pick minute) = ⊥
 
 -- no card in a slot
 abbrev pub empty_slots : Slots
