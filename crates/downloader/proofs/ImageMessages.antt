@@ -11,7 +11,7 @@ use Rattle.unit_model.specs.declared.layout.TheConstants.{VERSION, VIN, REGISTRA
 use Rattle.unit_model.specs.Days.{StoredDay, Each}
 use Rattle.unit_model.specs.Image.{number_of, last_kept, odometer_at, recorded_indices}
 use Rattle.unit_model.specs.Decoding.{front_checks, ring_checks, has_day}
-use Rattle.unit_model.proofs.Checks.{passes, and_split, le_of, good_of}
+use Rattle.unit_model.proofs.Checks.{passes, and_split, good_of, front_split}
 use Rattle.link_model.specs.declared.request.Request.{Request}
 use Rattle.link_model.specs.declared.request.Request.TheVariants.{Overview as AskOverview, Day as AskDay, Events as AskEvents, Speed as AskSpeed, Technical as AskTechnical}
 use Rattle.message_model.specs.Records.{insertion_ring, unit_place_ring}
@@ -36,14 +36,7 @@ pointers x all =
     (below_of a 2048 first.0, below_of b 255 next.0)
 
 few_over : (x : List ℕ) → list_all passes (front_checks x) ≡ true → number_of x OVER_COUNT ≤ 255
-few_over x all =
-    let k = last_kept x in
-    let good = nat_le k 71582788 && (k == 0 || has_day x (k / 1440)) in
-    let overs : Bool = nat_le (number_of x OVER_COUNT) 255 && true in
-    let rest : Bool = nat_le (odometer_at x) 9999999 && overs in
-    let behind = and_split good rest (and_split (number_of x VERSION == 1) (good && rest) all).1 in
-    let last = and_split (nat_le (odometer_at x) 9999999) overs behind.1 in
-    le_of (number_of x OVER_COUNT) 255 (and_split (nat_le (number_of x OVER_COUNT) 255) true last.1).0
+few_over x all = (front_split x all).overs
 
 some_member : (m : Message) (ms : List Message) → 0 < length (m ∷ ms)
 some_member m ms = omega arith

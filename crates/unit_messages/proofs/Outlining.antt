@@ -6,7 +6,7 @@ use Rattle.unit_model.specs.declared.layout.TheConstants.{VERSION, OVER_COUNT}
 use Rattle.unit_model.specs.Days.{StoredDay}
 use Rattle.unit_model.specs.Image.{number_of as number_in, last_kept, recorded_indices, slot_date, slot_place, words_at, odometer_at}
 use Rattle.unit_model.specs.Decoding.{Decodes, is_kept_good}
-use Rattle.unit_model.proofs.Checks.{good_of, le_of, and_split}
+use Rattle.unit_model.proofs.Checks.{good_of, and_split, front_split}
 use Rattle.unit_model.proofs.WholeDays.{decoded_of}
 use Rattle.unit_journal.specs.declared.notes.Notes.{Notes}
 use Rattle.unit_journal.specs.Image.{IsNotes}
@@ -36,12 +36,7 @@ pointers_inside x decodes =
 
 -- and there are at most 255 over speedings
 pub overs_few : (x : List ℕ) → Decodes x → number_in x OVER_COUNT ≤ 255
-overs_few x decodes =
-    let overs : Bool = nat_le (number_in x OVER_COUNT) 255 && true in
-    let odometer : Bool = nat_le (odometer_at x) 9999999 in
-    let front = (good_of x decodes).front in
-    let third = and_split odometer overs (and_split (is_kept_good x) (odometer && overs) (and_split (number_in x VERSION == 1) (is_kept_good x && (odometer && overs)) front).1).1 in
-    le_of (number_in x OVER_COUNT) 255 (and_split (nat_le (number_in x OVER_COUNT) 255) true third.1).0
+overs_few x decodes = (front_split x (good_of x decodes).front).overs
 
 -- of a date that no recorded day has there is no message
 pub none_sent : (x : List ℕ) (date : ℕ) → Decodes x → All (λ i. slot_date x i ≢ date) (recorded_indices x) → message_of x (AskDay date) ≡ None

@@ -15,7 +15,7 @@ use Rattle.event_model.specs.declared.kinds.TheConstants.{OVER_SPEEDING}
 use Rattle.message_model.specs.Records.{insertion_ring, unit_place_ring}
 use Rattle.side_model.specs.Tables.{table_of}
 use Rattle.unit_model.specs.Days.{word_minute}
-use Rattle.unit_model.specs.Decoding.{Decodes, cell_place}
+use Rattle.unit_model.specs.Decoding.{Decodes, is_version_good, is_rule_good, cell_place}
 use Rattle.unit_journal.specs.Beside.{SameJournal}
 use Rattle.unit_journal.proofs.Beside.{decodes_beside, passes_beside}
 use Rattle.unit_notes.specs.Journal.{KeepsJournal}
@@ -111,6 +111,9 @@ part_of p w q n x c inside same = sym (part_in c p w q n inside) ∙ ap (λ (l :
 version_inside : 0 + 4 ≤ 572
 version_inside = omega arith
 
+rule_inside : 561 + 1 ≤ 572
+rule_inside = omega arith
+
 overs_low : 576 + 4 ≤ 2115044
 overs_low = omega arith
 
@@ -188,12 +191,19 @@ module _ (x c : List ℕ) (same : KeepsJournal x c) where
   cell_high : (n : ℕ) → n < 32 → (580 ≤ cell_place n) × (cell_place n + 6 ≤ 2115044)
   cell_high n below = (omega arith, omega (arith, below))
 
+  version_stays : number_at c 0 4 ≡ number_at x 0 4
+  version_stays = ap (big_number 4) (part_of 0 572 0 4 x c version_inside same.front)
+
+  rule_stays : number_at c 561 1 ≡ number_at x 561 1
+  rule_stays = ap (big_number 1) (part_of 0 572 561 1 x c rule_inside same.front)
+
   still_decodes : number_at c 576 4 ≤ 255 → number_at c 2115044 4 < 2048 → number_at c 2379240 4 < 255 → Decodes x → Decodes c
   still_decodes overs insertions places decodes =
       let was = passes_beside x decodes in
       decodes_beside x c same_journal
       (record {
-        version = ap (big_number 4) (part_of 0 572 0 4 x c version_inside same.front) ∙ was.version;
+        version = ap is_version_good version_stays ∙ was.version;
+        rule = (λ t. is_rule_good (version_stays t) (rule_stays t)) ∙ was.rule;
         overs = overs;
         cells = λ n below.
             let p : ℕ = cell_place n in
