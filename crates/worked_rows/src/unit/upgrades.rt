@@ -12,7 +12,7 @@ use worked_media::image::put;
 use worked_media::{Room, Untold, new_image, one_stop, unit_with};
 
 /// How many reads an upgrade of a new unit makes before it writes.
-const READS: u64 = 439;
+const READS: u64 = 444;
 
 /// Room for its two writes.
 const ROOM: Room = Room {
