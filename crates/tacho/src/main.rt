@@ -13,6 +13,7 @@ mod download_command;
 mod end;
 mod format_command;
 mod forms;
+mod help_command;
 mod minutes;
 mod minutes_command;
 mod outcome_text;
