@@ -11,6 +11,7 @@ use Rattle.unit_model.specs.Image.{last_kept, odometer_at}
 use Rattle.unit_model.specs.Decoding.{Check, checks, first_failing, first_bad_place, Decodes}
 use Rattle.unit_course.specs.Followed.{Supply, MayPower}
 use Rattle.unit_course.specs.Followed.{Lit as IsLit, Due as IsDue, Lost as IsLost}
+use Rattle.safety_model.specs.Unit.{issued_bytes}
 use Rattle.unit_rule.proofs.Moves.{shown-last}
 use Rattle.unit_rule.proofs.Travelling.{travelled-read}
 use Rattle.safety_model.specs.Safe.{Devices, breakdowns_of}
@@ -94,6 +95,10 @@ module _ (o : Origin) (done : List TraceSecond) (supply : Supply) (v : Values) (
   -- each image that the unit may have decodes
   pub unit-decodes : IsCoherent d.unit → (x : List ℕ) → d.unit.may_leave x → Decodes x
   unit-decodes whole x there = off.powerless.carried.unit.decodes x (whole.counts_now o.found.unit.began x began there)
+
+  -- and has what the unit was issued with
+  pub unit-issued : IsCoherent d.unit → (x : List ℕ) → d.unit.may_leave x → issued_bytes x ≡ o.found.unit.issued
+  unit-issued whole x there = off.powerless.carried.unit.issued x (whole.counts_now o.found.unit.began x began there)
 
   -- and its last-kept minute is before that of the next second
   pub kept-early : (x : List ℕ) → d.unit.may_leave x → last_kept x < v.next / 60

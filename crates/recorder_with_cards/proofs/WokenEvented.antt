@@ -271,8 +271,8 @@ module _ (o : Origin) (origin : IsOrigin o) (done : List TraceSecond) (s : Trace
       (listed crew ∙ ap (λ (spans : List (List Seen)). interruption_of k spans s.number crew) (q-none o done s supply v d e r may number given k evented quiet left followed none)) notes here-now
 
 -- the limit is that of the unit, and the span that began is watched by it
-pub begun-watched : (o : Origin) (old mid new : Run) (journal : Notes) → IsSpanBegun old mid journal → old.keeper.memory.limit ≡ limit_in o → new.watch ≡ mid.watch → IsWatching o [] new.watch
-begun-watched o old mid new journal begun limit same =
+pub begun-watched : (o : Origin) (rule : Rule) (old mid new : Run) (journal : Notes) → IsSpanBegun rule old mid journal → old.keeper.memory.limit ≡ limit_in o → new.watch ≡ mid.watch → IsWatching o [] new.watch
+begun-watched o rule old mid new journal begun limit same =
     subst (IsWatching o []) (sym same) (record { stands = begun.watch; limit = begun.limit.0 ∙ limit; low = tt; valid = tt })
 
 -- behind the note of the interruption
