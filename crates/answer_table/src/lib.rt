@@ -16,6 +16,3 @@ pub use sending::{MOST, Reply, begun, place_of, sent_on};
 pub use standing::Standing;
 pub use step::Step;
 pub use table::step_of;
-
-#[cfg(test)]
-mod tests;

@@ -16,6 +16,3 @@ pub use loading::{PortFault, read_sizes};
 pub use port::Port;
 pub use sim_card::SimCard;
 pub use tach_media::Answer;
-
-#[cfg(test)]
-mod tests;

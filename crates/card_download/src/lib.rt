@@ -10,6 +10,3 @@ mod laws;
 pub use card::write_card_file;
 pub use fault::CardFileFault;
 pub use laws::{a_card_file_is_in_the_grammar, a_view_shows_the_card};
-
-#[cfg(test)]
-mod tests;

@@ -15,6 +15,3 @@ pub use current_use::{CurrentUse, read_current_use, write_current_use};
 pub use events::{has_event, note_event};
 pub use rings::{note_place, places, vehicles};
 pub use vehicle::{Vehicle, read_vehicle, write_vehicle};
-
-#[cfg(test)]
-mod tests;

@@ -25,6 +25,3 @@ pub use laws::{
 };
 pub use session::{CardSession, Kept};
 pub use words::LATEST_MINUTE;
-
-#[cfg(test)]
-mod tests;

@@ -100,6 +100,13 @@ impl CardSession {
         }
     }
 
+    /// The sizes of the card.
+    pub fn application(&self) -> &Application
+        ensures { result.now ≡ self.now.application }
+    {
+        &self.application
+    }
+
     /// The newest minute of the card: the later of its end mark and of its newest word's minute.
     pub fn newest_minute(&self) -> u32
         ensures { result ≡ self.now.minute }

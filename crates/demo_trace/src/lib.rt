@@ -7,6 +7,3 @@ mod trace;
 
 pub use laws::a_demonstration_has_its_seconds;
 pub use trace::{DAY_SECONDS, DAYS, FIRST_SECOND, PARTS, demo_trace};
-
-#[cfg(test)]
-mod tests;

@@ -14,6 +14,3 @@ pub use fault::LoadFault;
 pub use laws::{
     a_finished_download_is_the_units_file, a_frame_is_taken_in_one_way, a_units_image_can_be_loaded,
 };
-
-#[cfg(test)]
-mod tests;

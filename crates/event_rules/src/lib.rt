@@ -11,6 +11,3 @@ pub use event_model::{Held, Over, Purpose, Span};
 pub use laws::a_run_is_its_seconds;
 pub use places::{day_place, place_for, purpose_of, similar_after};
 pub use speeding::Overspeed;
-
-#[cfg(test)]
-mod tests;

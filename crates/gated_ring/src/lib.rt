@@ -8,6 +8,3 @@ mod room;
 pub use fault::RingFault;
 pub use ring::Ring;
 pub use room::Room;
-
-#[cfg(test)]
-mod tests;

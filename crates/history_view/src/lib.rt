@@ -18,6 +18,3 @@ pub use fault::ViewFault;
 pub use front::{FrontRead, read_front};
 pub use laws::{a_card_file_does_not_fail, a_unit_file_does_not_fail};
 pub use unit::{UnitHistory, last_messages, read_download, unit_text};
-
-#[cfg(test)]
-mod tests;

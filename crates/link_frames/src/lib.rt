@@ -11,6 +11,3 @@ pub use frame::{Frame, Seen};
 pub use link_model::End;
 pub use scanner::Scanner;
 pub use writing::write_frame;
-
-#[cfg(test)]
-mod tests;

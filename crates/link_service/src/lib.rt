@@ -13,6 +13,3 @@ pub use fault::{LinesFault, ServeFault};
 pub use lines::serve_lines;
 pub use peer::Peer;
 pub use service::{MOST, serve};
-
-#[cfg(test)]
-mod tests;

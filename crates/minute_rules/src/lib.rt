@@ -8,6 +8,3 @@ mod tally;
 
 pub use minute_model::{Minute, Rule};
 pub use minutes::{Decided, Minutes};
-
-#[cfg(test)]
-mod tests;

@@ -12,6 +12,3 @@ pub use laws::{
 pub use log_model::SlotFault;
 pub use seats::{Ended, Lefts, Present, Seat};
 pub use slots::Slots;
-
-#[cfg(test)]
-mod tests;

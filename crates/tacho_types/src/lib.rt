@@ -21,6 +21,3 @@ pub use texts::{
     Name36, Registration, read_name, read_registration, write_name, write_padded,
     write_registration,
 };
-
-#[cfg(test)]
-mod tests;

@@ -6,6 +6,3 @@ mod numbers;
 
 pub use fields::{first_piece, four_fields, is_word, one_field, three_fields, two_fields};
 pub use numbers::{byte, number, number_between};
-
-#[cfg(test)]
-mod tests;

@@ -9,6 +9,3 @@ mod trace;
 pub use read::read_trace;
 pub use trace::{Form, Items, Trace, TraceFault};
 pub use trace_model::{Action, Card, Item};
-
-#[cfg(test)]
-mod tests;

@@ -12,6 +12,3 @@ pub use fault::DownloadFault;
 pub use loading::{download, exchange_all};
 pub use tape::{Tape, Unlisted};
 pub use wire::{Passed, Wire};
-
-#[cfg(test)]
-mod tests;

@@ -16,6 +16,3 @@ pub use judge::{Judged, judge_image};
 pub use memory::{UnitFacts, UnitMemory};
 pub use walk::{Density, Walk};
 pub use words::{Scan, scan_day};
-
-#[cfg(test)]
-mod tests;

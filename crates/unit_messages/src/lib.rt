@@ -15,6 +15,3 @@ pub use link_model::Request;
 pub use outline::{Outline, find_outline};
 pub use reading::{BadMessage, MessageRead, OverviewRead, day_words, overview, read_message};
 pub use sending::{MessageFault, PieceFault, message, piece};
-
-#[cfg(test)]
-mod tests;

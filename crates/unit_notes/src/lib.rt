@@ -27,6 +27,3 @@ pub use retention::{
     the_events_that_are_to_be_kept_are_held_after_a_run,
 };
 pub use unit_event::UnitEvent;
-
-#[cfg(test)]
-mod tests;

@@ -11,6 +11,3 @@ pub use lines::add_minute;
 pub use shown::Shown;
 pub use text::lines_text;
 pub use views::{card_text, unit_text};
-
-#[cfg(test)]
-mod tests;

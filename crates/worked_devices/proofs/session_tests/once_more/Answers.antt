@@ -1,0 +1,5 @@
+use Rattle.std.proofs.Common.{arith}
+use Rattle.worked_devices.proofs.session_tests.once_more.Goals as goal
+
+pub inserted-requires-clause-owed : goal.inserted-requires-clause-owed
+inserted-requires-clause-owed c = c.four_more-owed.ensures 1267437900 (omega arith)

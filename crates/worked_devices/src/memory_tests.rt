@@ -1,0 +1,113 @@
+ghost use Rattle.std.specs.Prelude.{◌≤◌, ◌+◌, ◌≡◌, IfOk, vec_len};
+ghost use Rattle.tach_media.specs.MemMedium.{memory_state};
+ghost use Rattle.unit_model.specs.Image.{IsUnit};
+
+use std::alloc::{AllocError, Global};
+use std::process::Abort;
+use std::test::Fail;
+use tach_media::{Failed, Medium, MemMedium, Memory};
+use tacho_types::Registration;
+use unit_memory::{Identity, UnitFault, UnitMemory, format_unit};
+use unit_model::layout::IMAGE_SIZE;
+
+const IDENTITY: Identity = Identity {
+    vin: *b"TACHODEMO00000001",
+    registration: Registration(*b"\x0D\x01DEMO         "),
+    limit: 90,
+};
+
+/// So many zeros.
+fn zeros(alloc: Global, count: usize) -> Result<Vec<u8>, AllocError>
+    ensures { IfOk result (λ bytes. vec_len bytes ≡ count) }
+{
+    Ok(vec![in alloc; 0u8; count]?)
+}
+
+/// A unit in memory, each byte of which is 0.
+fn blank(alloc: Global) -> Result<MemMedium, Memory>
+    ensures { IfOk result (λ unit. IsUnit (memory_state unit.log unit.counts)) }
+{
+    let image = zeros(alloc, IMAGE_SIZE as usize)?;
+    MemMedium::new(alloc, image, 700, IMAGE_SIZE + 256, Vec::new(alloc))
+}
+
+/// What loading finds: an identity, or the place of the first field that fails.
+fn found<M: Medium>(unit: &mut M) -> Result<Result<Identity, u32>, Failed>
+    requires { IsUnit (M.state unit.old) }
+    ensures { IsUnit (M.state unit.new) }
+{
+    match UnitMemory::load(unit) {
+        Ok(memory) => Ok(Ok(memory.identity())),
+        Err(UnitFault::BadUnit(place)) => Ok(Err(place)),
+        Err(UnitFault::Failed) => Err(Failed),
+    }
+}
+
+/// What loading finds while these bytes stand at a place, where zeros stood and stand again.
+fn found_with<M: Medium>(
+    unit: &mut M,
+    place: u32,
+    bytes: [u8; 6],
+) -> Result<Result<Identity, u32>, Failed>
+    requires unit { IsUnit (M.state unit.old) }
+    requires inside { place + 6 ≤ 2485808 }
+    ensures { IsUnit (M.state unit.new) }
+{
+    unit.write_at(place, &bytes)?;
+    let answer = found(unit)?;
+    unit.write_at(place, &[0; 6])?;
+    Ok(answer)
+}
+
+/// What loading finds of a new unit, and with one field of it changed.
+fn new_unit<M: Medium>(rt: &impl Abort, unit: &mut M) -> Result<(), Failed>
+    requires { IsUnit (M.state unit.old) }
+{
+    assert_eq!(rt; found(unit)?, Err(0));
+    format_unit(unit, &IDENTITY)?;
+    assert_eq!(rt; found(unit)?, Ok(IDENTITY));
+    // the last-kept minute past the last second, and one whose day is not there
+    assert_eq!(rt;
+        found_with(unit, 564, [0x04, 0x44, 0x44, 0x45, 0, 0])?,
+        Err(564)
+    );
+    assert_eq!(rt; found_with(unit, 564, [0, 0, 0x05, 0xA0, 0, 0])?, Err(564));
+    // 10000000 kilometres, 256 over speedings
+    assert_eq!(rt;
+        found_with(unit, 568, [0, 0x98, 0x96, 0x80, 0, 0])?,
+        Err(568)
+    );
+    assert_eq!(rt; found_with(unit, 576, [0, 0, 1, 0, 0, 0])?, Err(576));
+    // a cell with a word at 1440, and with one at 1439
+    assert_eq!(rt; found_with(unit, 648, [0, 0, 0, 1, 0x05, 0xA0])?, Err(652));
+    assert_eq!(rt;
+        found_with(unit, 648, [0, 0, 0, 1, 0x05, 0x9F])?,
+        Ok(IDENTITY)
+    );
+    // a day that is no day, and one without words
+    assert_eq!(rt; found_with(unit, 1028, [0, 0, 0, 1, 0, 0])?, Err(1028));
+    assert_eq!(rt;
+        found_with(unit, 1028, [0, 1, 0x51, 0x80, 0, 0])?,
+        Err(1036)
+    );
+    // each pointer at its count
+    assert_eq!(rt; found_with(unit, 1024, [0, 0, 1, 0x6E, 0, 0])?, Err(1024));
+    assert_eq!(rt;
+        found_with(unit, 2115044, [0, 0, 8, 0, 0, 0])?,
+        Err(2115044)
+    );
+    assert_eq!(rt;
+        found_with(unit, 2379240, [0, 0, 0, 0xFF, 0, 0])?,
+        Err(2379240)
+    );
+    // all is as it was
+    assert_eq!(rt; found(unit)?, Ok(IDENTITY));
+    Ok(())
+}
+
+#[test]
+fn a_new_unit_is_loaded(rt: HostRuntime) -> Result<(), Fail> {
+    let mut unit = blank(rt.alloc())?;
+    assert!(rt; new_unit(&rt, &mut unit).is_ok());
+    Ok(())
+}
