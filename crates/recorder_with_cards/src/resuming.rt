@@ -112,16 +112,19 @@ fn power_on<M: Medium, C: Chip, D: Chip>(
     ensures broke { BreaksDown outcome.old.breaks.items outcome.new.breaks.items (M.state unit.old) (M.state unit.new) }
 {
     match open_unit(unit) {
-        Ok(opened) => found(
-            run,
-            opened.journal,
-            opened.memory.rule(),
-            speed,
-            unit,
-            card_a,
-            card_b,
-            outcome,
-        ),
+        Ok(opened) => {
+            let rule = opened.memory.rule();
+            found(
+                run,
+                opened.journal,
+                rule,
+                speed,
+                unit,
+                card_a,
+                card_b,
+                outcome,
+            )
+        }
         Err(UnitFault::BadUnit(place)) => Err(RunFault::BadUnit(place)),
         Err(UnitFault::Failed) => {
             run.cut(run.next, true, 0, &mut outcome.breaks);

@@ -15,6 +15,7 @@ use crate::forms::{Form, form_of};
 use crate::minutes_command::print_minutes;
 use crate::record_command::record;
 use crate::serve_command::{lines_end, service_end};
+use crate::upgrade_command::upgrade_unit;
 use crate::view_command::print_view;
 use crate::words::Words;
 use card_download::write_card_file;
@@ -39,7 +40,8 @@ use unit_download::{Wire, download};
 /// `demo X` makes the unit and card a new, records a demonstration on the unit and the cards, downloads the unit, and writes seven lines of
 /// counts to the sink.
 /// `format a` and `format b` issue the card anew, of the largest sizes, `format unit` makes the unit new; they write
-/// `formatted` to the sink. No other device is used than the form's.
+/// `formatted` to the sink. `upgrade` gives the unit version 2 with the amended rule of minutes, and writes `upgraded`, or `already 2`
+/// where the unit had it. No other device is used than the form's.
 pub fn tacho<S: Source, K: Sink, U: Medium, C: Chip>(
     alloc: Global,
     words: &Words,
@@ -99,6 +101,7 @@ fn perform<S: Source, K: Sink, U: Medium, C: Chip>(
             nothing,
             make_unit(&identity, unit, sink),
         ),
+        Form::Upgrade => Ended::after(alloc, nothing, upgrade_unit(unit, sink)),
         Form::Serve => Ended::of(alloc, nothing, service_end(serve(source, sink, unit))),
         Form::ServeHex => {
             Ended::of(

@@ -31,7 +31,7 @@ use Rattle.acts_rule.specs.RunRinged.{seats_of, with_cut, InSecondRinged, RunRin
 use Rattle.acts_rule.specs.RunCards.{CardsBehind}
 use Rattle.recorder_rule.proofs.WokenRinged.{places-beside, read-leaves, comes-of, unpowered-ringed, cut-ringed}
 use Rattle.recorder_rule.proofs.CutOff.{cut-as}
-use Rattle.recorder_rule.proofs.Read.{may-of, read-on, left-on, unit-tells, unit-decodes, not-bad, image-of, at-image}
+use Rattle.recorder_rule.proofs.Read.{may-of, rule-known, read-on, left-on, unit-tells, unit-decodes, not-bad, image-of, at-image}
 use Rattle.run_state.specs.declared.run.Run.{Run}
 use Rattle.run_state.specs.Going.{IsAt}
 use Rattle.acts_rule.proofs.Standing.{cut-at}
@@ -209,6 +209,11 @@ returns-in-Err-Failed-clause-going g c =
     subst (λ (r : Run). IsAt (r.next / 60) r (g.M.Medium.state c.open_unit.new.unit) (g.C.Chip.card c.args.card_a.now) (g.D.Chip.card c.args.card_b.now) (g.C.Chip.state c.args.card_a.now) (g.D.Chip.state c.args.card_b.now)) (sym c.cut.ensures.run)
     (cut-at old (old.next / 60) (old.next / 60) old.next c.requires.going.low c.requires.going.small
     (record { is_unit = c.open_unit.ensures.unit h.is_unit; odometer = h.odometer; minute = h.minute; card_a = h.card_a; card_b = h.card_b; stand = h.stand }) h.minute (omega arith))
+
+-- ---- BY THE UNIT'S RULE
+
+pub found-requires-clause-rule : goal.found-requires-clause-rule
+found-requires-clause-rule g c = rule-known (g.M.Medium.state c.open_unit.new.unit).image c.in-Ok.opened.memory c.rule-rule.result c.in-Ok.ensures.facts c.rule-rule.ensures
 
 -- ---- WHAT IS RECORDED
 
