@@ -12,7 +12,8 @@ use tach_media::{Failed, Medium, read_number};
 use unit_model::layout::{
     CELL_WORD, CELLS, DAY_MINUTES, DAY_SECONDS, DAY_SLOTS, DAYS, HIGHEST_ODOMETER, INSERTION_SLOTS,
     INSERTIONS, LAST_KEPT, LAST_MINUTE, MOST_OVERS, ODOMETER, OVER_COUNT, OWED_ROWS, PLACE_SLOTS,
-    PLACES, PLAIN_VERSION, RULE_BYTE, RULED_VERSION, VERSION, WORD_MINUTES, cell_place,
+    PLACES, PLAIN_VERSION, RULE_BYTE, RULED_VERSION, SPEED_SLOTS, SPEEDS, VERSION, WORD_MINUTES,
+    cell_place,
 };
 
 /// What judging an image tells: the place of the first field that fails, the last-kept minute, the pointer of the days, and
@@ -99,7 +100,7 @@ fn cell_passes(minute: u32, word: u32) -> bool
     minute == 0 || word % WORD_MINUTES < DAY_MINUTES
 }
 
-// The pointers of insertions and places.
+// The pointers of insertions, places and detailed speed.
 fn bad_ring<M: Medium>(unit: &mut M) -> Result<Option<u32>, Failed>
     requires unit { (M.state unit.old).size ≡ IMAGE_SIZE }
     ensures found { IfOk result (λ found. IfSome (M.state unit.old).image (λ x. found ≡ first_failing (ring_checks x))) }
@@ -107,17 +108,21 @@ fn bad_ring<M: Medium>(unit: &mut M) -> Result<Option<u32>, Failed>
 {
     let insertion = read_number(unit, INSERTIONS.place, 4)?;
     let place = read_number(unit, PLACES.place, 4)?;
-    Ok(ring_place(insertion, place))
+    let speed = read_number(unit, SPEEDS.place, 4)?;
+    Ok(ring_place(insertion, place, speed))
 }
 
-fn ring_place(insertion: u32, place: u32) -> Option<u32>
-    ensures { result ≡ first_failing (rings_of insertion place) }
+fn ring_place(insertion: u32, place: u32, speed: u32) -> Option<u32>
+    ensures { result ≡ first_failing (rings_of insertion place speed) }
 {
     if insertion >= INSERTION_SLOTS {
         return Some(INSERTIONS.place);
     }
     if place >= PLACE_SLOTS {
         return Some(PLACES.place);
+    }
+    if speed >= SPEED_SLOTS {
+        return Some(SPEEDS.place);
     }
     None
 }

@@ -1,11 +1,12 @@
 -- An image decodes where each of its parts does.
 use Rattle.std.proofs.Common.{◌≡◌, ⊎_elim, ℕ, zero, suc, ◌+◌, ◌/◌, ◌<◌, ◌≤◌, Bool, true, false, List, ◌∷◌, ◌++◌, map, refl, sym, ◌∙◌, ap, arith}
-use Rattle.std.specs.Prelude.{◌==◌, ◌&&◌, ◌||◌, nat_le, flat_map}
+use Rattle.std.specs.Prelude.{◌==◌, ◌&&◌, ◌||◌, nat_le, nat_lt, flat_map}
 use Rattle.std.specs.List.{list_all, range_with_len}
 use Rattle.std.proofs.lemmas.Bool.{cases_lt}
 use Rattle.std.proofs.lemmas.Bool.Decides.{nat_tests}
 use Rattle.std.proofs.lemmas.List.Folds.{list_all-append}
-use Rattle.unit_model.specs.declared.layout.TheConstants.{DAYS, DAY_SLOTS, HIGHEST_ODOMETER, LAST_MINUTE, MOST_OVERS, OVER_COUNT, RULE_BYTE, VERSION}
+use Rattle.gated_ring.specs.Ring.{number_at}
+use Rattle.unit_model.specs.declared.layout.TheConstants.{DAYS, DAY_SLOTS, HIGHEST_ODOMETER, INSERTIONS, INSERTION_SLOTS, LAST_MINUTE, MOST_OVERS, OVER_COUNT, PLACES, PLACE_SLOTS, RULE_BYTE, SPEEDS, SPEED_SLOTS, VERSION}
 use Rattle.unit_model.specs.Image.{number_of, last_kept, odometer_at}
 use Rattle.unit_model.specs.Decoding.{Check, check, is_version_good, is_rule_good, front_checks, cell_check, cell_checks, ring_checks, slot_checks, is_pointer_good, has_day, checks, Decodes}
 
@@ -193,6 +194,55 @@ front_kept x all = (front_split x all).kept
 
 pub front_odometer : (x : List ℕ) → list_all passes (front_checks x) ≡ true → odometer_at x ≤ HIGHEST_ODOMETER
 front_odometer x all = (front_split x all).odometer
+
+-- the pointers of the rings that pass
+pub record RingsPass (x : List ℕ) : Type 0 where
+  pub insertions : number_at x INSERTIONS.place 4 < INSERTION_SLOTS
+  pub places : number_at x PLACES.place 4 < PLACE_SLOTS
+  pub speeds : number_at x SPEEDS.place 4 < SPEED_SLOTS
+
+lt_true : (a b : ℕ) → a < b → nat_lt a b ≡ true
+lt_true a b is = grind (arith, nat_tests)
+
+lt_of : (a b : ℕ) → nat_lt a b ≡ true → a < b
+lt_of a b is = grind (arith, nat_tests)
+
+module _ (x : List ℕ) where
+  abbrev insertions_are : Bool
+  insertions_are = nat_lt (number_at x INSERTIONS.place 4) INSERTION_SLOTS
+
+  abbrev places_are : Bool
+  places_are = nat_lt (number_at x PLACES.place 4) PLACE_SLOTS
+
+  abbrev speeds_are : Bool
+  speeds_are = nat_lt (number_at x SPEEDS.place 4) SPEED_SLOTS
+
+  pub rings_split : list_all passes (ring_checks x) ≡ true → RingsPass x
+  rings_split all =
+      let insertions = and_split insertions_are (places_are && (speeds_are && true)) all in
+      let places = and_split places_are (speeds_are && true) insertions.1 in
+      record {
+        insertions = lt_of (number_at x INSERTIONS.place 4) INSERTION_SLOTS insertions.0;
+        places = lt_of (number_at x PLACES.place 4) PLACE_SLOTS places.0;
+        speeds = lt_of (number_at x SPEEDS.place 4) SPEED_SLOTS (and_split speeds_are true places.1).0;
+      }
+
+  pub rings_join : RingsPass x → list_all passes (ring_checks x) ≡ true
+  rings_join ok =
+      and_join insertions_are (places_are && (speeds_are && true)) (lt_true (number_at x INSERTIONS.place 4) INSERTION_SLOTS ok.insertions)
+      (and_join places_are (speeds_are && true) (lt_true (number_at x PLACES.place 4) PLACE_SLOTS ok.places)
+      (and_join speeds_are true (lt_true (number_at x SPEEDS.place 4) SPEED_SLOTS ok.speeds) refl))
+
+-- the pointers of the rings, where none of them has changed
+pub rings_still : (x c : List ℕ) → number_at c INSERTIONS.place 4 ≡ number_at x INSERTIONS.place 4 → number_at c PLACES.place 4 ≡ number_at x PLACES.place 4
+    → number_at c SPEEDS.place 4 ≡ number_at x SPEEDS.place 4 → list_all passes (ring_checks x) ≡ true → list_all passes (ring_checks c) ≡ true
+rings_still x c insertions places speeds all =
+    let ok = rings_split x all in
+    rings_join c (record {
+      insertions = omega (arith, insertions, ok.insertions);
+      places = omega (arith, places, ok.places);
+      speeds = omega (arith, speeds, ok.speeds);
+    })
 
 -- what decodes still does where its parts do
 pub still : (x c : List ℕ) → (IsGood x → IsGood c) → Decodes x → Decodes c

@@ -11,14 +11,14 @@ use Rattle.tach_media.proofs.Images.{outside_wider}
 use Rattle.gated_ring.specs.Ring.{number_at, pointer, is_there, next, order}
 use Rattle.gated_ring.proofs.Orders as orders
 use Rattle.gated_ring.proofs.Orders.{rest, rest_others, order_last, each_append, each_weaker, each_filter, range_each, filter_same, map_same}
-use Rattle.unit_model.specs.declared.layout.TheConstants.{DAYS, DAY_COUNT, DAY_SLOTS, DAY_SLOT_SIZE, DAY_WORDS, DAY_WORD_LIMIT, HIGHEST_ODOMETER, INSERTIONS, INSERTION_SLOTS, LAST_KEPT, ODOMETER, OVER_COUNT, OWED, PLACES, PLACE_SLOTS, RULE_BYTE, SPARE_ROWS}
+use Rattle.unit_model.specs.declared.layout.TheConstants.{DAYS, DAY_COUNT, DAY_SLOTS, DAY_SLOT_SIZE, DAY_WORDS, DAY_WORD_LIMIT, HIGHEST_ODOMETER, INSERTIONS, LAST_KEPT, ODOMETER, OVER_COUNT, OWED, PLACES, RULE_BYTE, SPARE_ROWS, SPEEDS}
 use Rattle.unit_model.specs.Days.{slot_bit, word_minute, Each}
 use Rattle.unit_model.specs.Image.{last_kept, odometer_at, day_ring, slot_place, indices, slot_date, slot_odometer, slot_count, slot_words, words_at}
 use Rattle.unit_model.specs.Decoding.{check, cell_place, cell_minute, cell_word, cell_check, slot_checks, slot_day, has_day, is_pointer_good, is_last_good, are_dense, indices_before, is_date_good, is_filled_on, is_word_good, is_first_good, day_checks, word_checks}
 use Rattle.unit_model.proofs.Words.{words_split}
 use Rattle.unit_model.proofs.Numbers.{number_before, number_after, words_before, words_after}
 use Rattle.unit_model.proofs.Slots.{SameButOne, in_front, in_slot}
-use Rattle.unit_model.proofs.Checks.{passes, le_true, le_of, and_split, and_join, IsGood, front_still}
+use Rattle.unit_model.proofs.Checks.{passes, le_true, le_of, and_split, and_join, IsGood, front_still, rings_still}
 
 -- images with the same last-kept minute, pointer and dates
 pub record SameDates (x c : List ℕ) : Type 0 where
@@ -91,7 +91,7 @@ module _ (x c : List ℕ) (same : SameOutside OWED.place OWED.size x c) (cells :
     slots = λ i below.
         let p : ℕ = slot_place i in
         ap (list_all passes) (slot_same x c i (but.there i) (date_good x c dates i) (behind (p + 4) 4 (omega arith)) (behind (p + 8) 2 (omega arith)) (words_after OWED.place OWED.size (p + 16) (slot_count x i) x c same (omega arith))) ∙ good.slots i below;
-    rings = (λ t. list_all passes (check INSERTIONS.place (nat_lt (behind INSERTIONS.place 4 (omega arith) t) INSERTION_SLOTS) ∷ check PLACES.place (nat_lt (behind PLACES.place 4 (omega arith) t) PLACE_SLOTS) ∷ [])) ∙ good.rings;
+    rings = rings_still x c (behind INSERTIONS.place 4 (omega arith)) (behind PLACES.place 4 (omega arith)) (behind SPEEDS.place 4 (omega arith)) good.rings;
   }
 
 -- writes in the owed rows that leave the words of cells, and empty cells or leave them
@@ -174,7 +174,7 @@ module _ (x c : List ℕ) (same : SameOutside (slot_place 0) (DAYS.size - 4) x c
     cells = λ n below. out_cell n below ∙ good.cells n below;
     point = point;
     slots = slots;
-    rings = (λ t. list_all passes (check INSERTIONS.place (nat_lt (out_behind INSERTIONS.place 4 (omega arith) t) INSERTION_SLOTS) ∷ check PLACES.place (nat_lt (out_behind PLACES.place 4 (omega arith) t) PLACE_SLOTS) ∷ [])) ∙ good.rings;
+    rings = rings_still x c (out_behind INSERTIONS.place 4 (omega arith)) (out_behind PLACES.place 4 (omega arith)) (out_behind SPEEDS.place 4 (omega arith)) good.rings;
   }
 
 -- words in front of others are as good without these

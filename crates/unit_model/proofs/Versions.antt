@@ -7,15 +7,15 @@ use Rattle.tach_media.specs.Medium.{SameOutside, bytes_at}
 use Rattle.tach_media.proofs.Images.{part_before, part_after, part_put, put_outside, outside_wider, outside_then}
 use Rattle.gated_ring.specs.Ring.{Shape, number_at, pointer, is_there, place_of, gate_of, entry_at, next, order, ring_list, indices as ring_indices}
 use Rattle.minute_model.specs.declared.Rule.TheVariants.{Original, Amended}
-use Rattle.unit_model.specs.declared.layout.TheConstants.{DAY_SLOT_SIZE, IMAGE_SIZE, INSERTIONS, INSERTION_SLOTS, LAST_KEPT, ODOMETER, OVER_COUNT, OWED, PLACES, PLACE_SLOTS, RULE_BYTE, SPARE, VERSION, VIN}
+use Rattle.unit_model.specs.declared.layout.TheConstants.{DAY_SLOT_SIZE, IMAGE_SIZE, INSERTIONS, LAST_KEPT, ODOMETER, OVER_COUNT, OWED, PLACES, RULE_BYTE, SPARE, SPEEDS, VERSION, VIN}
 use Rattle.unit_model.specs.Days.{days_shown, word_minute}
 use Rattle.unit_model.specs.Image.{number_of, last_kept, odometer_at, slot_place, unit_day, unit_days, recorded, slot_count}
-use Rattle.unit_model.specs.Decoding.{Decodes, check, cell_place, is_version_good, is_rule_good}
+use Rattle.unit_model.specs.Decoding.{Decodes, cell_place, is_version_good, is_rule_good}
 use Rattle.unit_model.specs.Versions.{version_of, rule_byte_by, rule_by, rule_of, ruled, upgraded, IsSameButRule}
 use Rattle.unit_model.proofs.Numbers.{number_same, number_after, number_before, words_after, part_in}
 use Rattle.unit_model.proofs.Slots.{SameButOne, day_at, in_front, same_indices, all_days}
 use Rattle.unit_model.proofs.Recorded.{recorded_is}
-use Rattle.unit_model.proofs.Checks.{passes, IsGood, good_of, good_decodes, front_split, front_join}
+use Rattle.unit_model.proofs.Checks.{passes, IsGood, good_of, good_decodes, front_split, front_join, rings_still}
 use Rattle.unit_model.proofs.StillDecodes.{SameDates, same_day, same_point, date_good, slot_same}
 
 -- images that are the same behind the rule byte
@@ -83,7 +83,7 @@ module _ (x c : List ℕ) (same : SameOutside VERSION.place SPARE.place x c) whe
         slots = λ i below.
             let p : ℕ = slot_place i in
             ap (list_all passes) (slot_same x c i (but.there i) (date_good x c dates i) (behind (p + 4) 4 (omega arith)) (behind (p + 8) 2 (omega arith)) (words_after VERSION.place SPARE.place (p + 16) (slot_count x i) x c same (omega arith))) ∙ good.slots i below;
-        rings = (λ t. list_all passes (check INSERTIONS.place (nat_lt (behind INSERTIONS.place 4 (omega arith) t) INSERTION_SLOTS) ∷ check PLACES.place (nat_lt (behind PLACES.place 4 (omega arith) t) PLACE_SLOTS) ∷ [])) ∙ good.rings;
+        rings = rings_still x c (behind INSERTIONS.place 4 (omega arith)) (behind PLACES.place 4 (omega arith)) (behind SPEEDS.place 4 (omega arith)) good.rings;
       }
 
 -- an image of version 1 that is upgraded

@@ -2,7 +2,7 @@
 use Rattle.std.specs.Prelude.{ℕ, ◌+◌, ◌-◌, ◌*◌, ◌/◌, ◌%◌, Bool, true, false, not, ◌&&◌, ◌||◌, ◌==◌, Option, Some, None, List, [], ◌∷◌, ◌++◌, length, map, filter, nat_le, nat_lt, if◌then◌else◌, flat_map, IsTrue}
 use Rattle.std.specs.List.{range_with_len, list_all, list_any}
 use Rattle.gated_ring.specs.Ring.{number_at, pointer, is_there, next, order}
-use Rattle.unit_model.specs.declared.layout.TheConstants.{VERSION, RULE_BYTE, PLAIN_VERSION, RULED_VERSION, LAST_KEPT, ODOMETER, OVER_COUNT, OWED, OWED_ROWS, OWED_ROW_SIZE, CELLS, CELL_SIZE, ROW_CELLS, CELL_MINUTE, CELL_WORD, DAYS, DAY_SLOTS, DAY_ODOMETER, DAY_COUNT, DAY_WORDS, DAY_WORD_LIMIT, INSERTIONS, INSERTION_SLOTS, PLACES, PLACE_SLOTS, MOST_OVERS, LAST_MINUTE, HIGHEST_ODOMETER}
+use Rattle.unit_model.specs.declared.layout.TheConstants.{VERSION, RULE_BYTE, PLAIN_VERSION, RULED_VERSION, LAST_KEPT, ODOMETER, OVER_COUNT, OWED, OWED_ROWS, OWED_ROW_SIZE, CELLS, CELL_SIZE, ROW_CELLS, CELL_MINUTE, CELL_WORD, DAYS, DAY_SLOTS, DAY_ODOMETER, DAY_COUNT, DAY_WORDS, DAY_WORD_LIMIT, INSERTIONS, INSERTION_SLOTS, PLACES, PLACE_SLOTS, SPEEDS, SPEED_SLOTS, MOST_OVERS, LAST_MINUTE, HIGHEST_ODOMETER}
 use Rattle.unit_model.specs.Days.{slot_bit, word_minute}
 use Rattle.unit_model.specs.Image.{number_of, last_kept, odometer_at, day_ring, slot_place, indices, slot_date, slot_odometer, slot_count, slot_words}
 
@@ -126,9 +126,13 @@ day_checks image i =
 abbrev pub slot_checks : List ℕ → ℕ → List Check
 slot_checks image i = if is_there day_ring image i then day_checks image i else []
 
--- the pointers of insertions and places
+-- the pointers of insertions, places and detailed speed
 abbrev pub ring_checks : List ℕ → List Check
-ring_checks image = check INSERTIONS.place (nat_lt (number_at image INSERTIONS.place 4) INSERTION_SLOTS) ∷ check PLACES.place (nat_lt (number_at image PLACES.place 4) PLACE_SLOTS) ∷ []
+ring_checks image =
+    check INSERTIONS.place (nat_lt (number_at image INSERTIONS.place 4) INSERTION_SLOTS)
+    ∷ check PLACES.place (nat_lt (number_at image PLACES.place 4) PLACE_SLOTS)
+    ∷ check SPEEDS.place (nat_lt (number_at image SPEEDS.place 4) SPEED_SLOTS)
+    ∷ []
 
 -- all fields that are judged, in order of places
 unfoldable pub checks : List ℕ → List Check

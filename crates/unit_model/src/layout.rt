@@ -1,5 +1,5 @@
 //! The layout of a unit's image, versions 1 and 2 (profile): each field with its place and its size in bytes. A number stands with
-//! its highest byte first. Days, insertions and places begin with a pointer of four bytes.
+//! its highest byte first. Days, insertions and places begin with a pointer of four bytes, and so does the detailed speed.
 ghost use Rattle.std.specs.Prelude.{◌≡◌, ◌≤◌, ◌<◌};
 ghost use Rattle.unit_model.specs.Image.{slot_place};
 ghost use Rattle.unit_model.specs.Decoding.{cell_place};
@@ -133,7 +133,7 @@ pub const SPARE_FAULTS: Field = Field {
     place: 2_393_642,
     size: 2,
 };
-/// A pointer and 1440 blocks of 64 bytes; zeros.
+/// The detailed speed: a pointer and 1440 blocks of 64 bytes. Nothing is written there yet.
 pub const SPEEDS: Field = Field {
     place: 2_393_644,
     size: 92_164,
@@ -144,6 +144,9 @@ pub const INSERTION_SLOTS: u32 = 2048;
 
 /// How many places there is room for.
 pub const PLACE_SLOTS: u32 = 255;
+
+/// How many blocks of detailed speed there is room for.
+pub const SPEED_SLOTS: u32 = 1440;
 /// The version of an image without a rule byte.
 pub const PLAIN_VERSION: u32 = 1;
 /// The version of an image with a rule byte.
