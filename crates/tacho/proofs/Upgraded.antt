@@ -1,5 +1,5 @@
 -- How `upgrade` ends, by what its calls answered.
-use Rattle.std.proofs.Common.{◌≡◌, ◌≤◌, ◌<◌, inl, inr, refl, sym, ap, subst, ℕ, Bool, true, false, [], Some}
+use Rattle.std.proofs.Common.{◌≡◌, ◌≤◌, inl, inr, refl, sym, ap, subst, ℕ, Bool, true, false, Some}
 use Rattle.std.specs.Prelude.{Result, Ok, Err, OnOk, IfErr, IfSome}
 use Rattle.std.specs.Io.KnownBytes.{Appends}
 use Rattle.tach_media.specs.Medium.{State, LeavesOnly, HasCause, Rose}
