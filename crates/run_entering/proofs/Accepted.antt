@@ -13,7 +13,7 @@ use Rattle.event_model.specs.declared.kinds.TheConstants.{INSERTION_WHILE_DRIVIN
 use Rattle.card_records.specs.declared.card_event.CardEvent.{CardEvent}
 use Rattle.card_records.specs.Noting as card
 use Rattle.unit_notes.specs.declared.unit_event.UnitEvent.{UnitEvent}
-use Rattle.unit_memory.specs.declared.memory.UnitFacts.{UnitFacts}
+use Rattle.unit_memory.specs.declared.format.Identity.{Identity}
 use Rattle.run_crew.specs.declared.cards.Crew.{Crew}
 use Rattle.run_notes.specs.Entries.{entry_of, card_entry}
 use Rattle.device_steps.specs.declared.entering.Entered.{Entered}
@@ -56,10 +56,10 @@ maybe-cut done moment false cut run = run
 
 -- ---- that the vehicle moves
 
-pub event-is : (event : CardEvent) (told : UnitEvent) (known : UnitFacts) (identity : UnitFacts) (e : Entering) (crew : Crew) → event ≡ card_entry told known.registration
+pub event-is : (event : CardEvent) (told : UnitEvent) (known : Identity) (identity : Identity) (e : Entering) (crew : Crew) → event ≡ card_entry told known.registration
     → told ≡ entry_of INSERTION_WHILE_DRIVING e.at.second e.at.second crew crew → known ≡ identity → event ≡ moving_event identity.registration e
 event-is event told known identity e crew one two three =
-    one ∙ ap (λ (u : UnitEvent). card_entry u known.registration) two ∙ ap (λ (i : UnitFacts). card_entry (entry_of INSERTION_WHILE_DRIVING e.at.second e.at.second crew crew) i.registration) three
+    one ∙ ap (λ (u : UnitEvent). card_entry u known.registration) two ∙ ap (λ (i : Identity). card_entry (entry_of INSERTION_WHILE_DRIVING e.at.second e.at.second crew crew) i.registration) three
 
 module _ (app : Application) (e : Entering) (k : Keeper) (breaks : Listed Break) (U V X : State) where
   -- the unit failed

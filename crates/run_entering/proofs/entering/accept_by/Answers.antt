@@ -5,7 +5,7 @@ use Rattle.owed_model.specs.Rows.{IsRowFor}
 use Rattle.joint_rule.specs.Views.{other}
 use Rattle.run_crew.specs.Cards.{known_of}
 use Rattle.std.specs.Prelude.{is_err, Err, Result}
-use Rattle.unit_memory.specs.declared.memory.UnitFacts.{UnitFacts}
+use Rattle.unit_memory.specs.declared.format.Identity.{Identity}
 use Rattle.device_steps.specs.declared.entering.Entered.{Entered}
 use Rattle.device_steps.specs.declared.entering.NotEntered.{NotEntered}
 use Rattle.device_steps.specs.declared.entering.NotEntered.TheVariants.{UnitFailed, CardFailed, NotValid, TimeOverlap}
@@ -30,12 +30,12 @@ use Rattle.run_entering.proofs.entering.accept_by.Goals as goal
 
 module _ (g : Over) (c : After-enter g) where
   long : length c.args.keeper.now.memory.registration.0 ≡ 15
-  long = subst (λ (i : UnitFacts). length i.registration.0 ≡ 15) c.identity.ensures c.enter.ensures.long
+  long = subst (λ (i : Identity). length i.registration.0 ≡ 15) c.identity.ensures c.enter.ensures.long
 
   roomy : image_size_of c.args.app ≤ (g.C.Chip.state c.args.card.now).size
   roomy = omega (arith, largest_image c.args.app c.requires.port.good, c.requires.port.size)
 
-  abbrev EntersBy : UnitFacts → Result Entered NotEntered → Type 0
+  abbrev EntersBy : Identity → Result Entered NotEntered → Type 0
   EntersBy i r = IsEntering c.args.app i.registration c.args.entering.odometer.0 c.args.entering.at.second (g.M.Medium.state c.args.unit.now) (g.M.Medium.state c.enter.new.unit) (g.C.Chip.state c.args.card.now) (g.C.Chip.state c.enter.new.card) r
 
   abbrev EntersNow : Result Entered NotEntered → Type 0
@@ -44,7 +44,7 @@ module _ (g : Over) (c : After-enter g) where
 pub returns-in-Ok-clause-ended : goal.returns-in-Ok-clause-ended
 returns-in-Ok-clause-ended g c =
     let p = (goal.at.returns-in-Ok-clause-ended g c).After-enter in
-    let enters : EntersNow g p (Ok c.in-Ok.entered) = subst (λ (i : UnitFacts). EntersBy g p i (Ok c.in-Ok.entered)) c.identity.ensures c.in-Ok.ensures.enters in
+    let enters : EntersNow g p (Ok c.in-Ok.entered) = subst (λ (i : Identity). EntersBy g p i (Ok c.in-Ok.entered)) c.identity.ensures c.in-Ok.ensures.enters in
     let t = c.take_in.ensures.ended in (
       taken_as t.0 c.in-Ok.entered (g.C.Chip.state c.enter.new.card).clock t.1,
       judged-taken c.args.app c.args.entering c.args.keeper.now c.args.noted.now c.args.outcome.now (g.M.Medium.state c.args.unit.now) (g.M.Medium.state c.enter.new.unit) (g.C.Chip.state c.args.card.now) (g.C.Chip.state c.enter.new.card) c.in-Ok.entered enters c.enter.ensures.leaves.later (is_err c.take_in.result) c.take_in.new.keeper c.take_in.new.noted c.take_in.new.outcome
@@ -56,7 +56,7 @@ pub returns-in-Err-UnitFailed-clause-ended : goal.returns-in-Err-UnitFailed-clau
 returns-in-Err-UnitFailed-clause-ended g c =
     let p = (goal.at.returns-in-Err-UnitFailed-clause-ended g c).After-enter in
     let is : c.in-Err-UnitFailed.field-0 ≡ UnitFailed = cc (c.in-Err-UnitFailed.field-0-is) in
-    let enters : EntersNow g p (Err UnitFailed) = subst (λ (i : UnitFacts). EntersBy g p i (Err UnitFailed)) c.identity.ensures (subst (λ (f : NotEntered). EntersBy g p c.identity.result (Err f)) is c.in-Err-UnitFailed.ensures.enters) in (
+    let enters : EntersNow g p (Err UnitFailed) = subst (λ (i : Identity). EntersBy g p i (Err UnitFailed)) c.identity.ensures (subst (λ (f : NotEntered). EntersBy g p c.identity.result (Err f)) is c.in-Err-UnitFailed.ensures.enters) in (
       Unasked,
       judged-unasked c.args.app c.args.entering c.args.keeper.now c.args.noted.now c.args.outcome.now (g.M.Medium.state c.args.unit.now) (g.M.Medium.state c.enter.new.unit) (g.C.Chip.state c.args.card.now) (g.C.Chip.state c.enter.new.card) enters,
       λ f w m out low. unasked-known c.args.app c.args.entering c.args.keeper.now (g.M.Medium.state c.args.unit.now) (g.M.Medium.state c.enter.new.unit) (g.C.Chip.state c.args.card.now) (g.C.Chip.state c.enter.new.card) (g.D.Chip.state c.args.others.now) (g.met.M.Medium.coherent c.args.unit.now) (g.met.M.Medium.coherent c.enter.new.unit) (g.met.C.Chip.coherent c.args.card.now) (g.met.C.Chip.coherent c.enter.new.card) c.requires.bare c.requires.sized (roomy g p) c.args.keeper.now.memory.registration (long g p) c.args.entering.odometer.0 (omega (arith, c.requires.last)) (Err UnitFailed) enters f w m out (λ never. never),
@@ -66,7 +66,7 @@ pub returns-in-Err-CardFailed-clause-ended : goal.returns-in-Err-CardFailed-clau
 returns-in-Err-CardFailed-clause-ended g c =
     let p = (goal.at.returns-in-Err-CardFailed-clause-ended g c).After-enter in
     let is : c.in-Err-CardFailed.field-0 ≡ CardFailed = cc (c.in-Err-CardFailed.field-0-is) in
-    let enters : EntersNow g p (Err CardFailed) = subst (λ (i : UnitFacts). EntersBy g p i (Err CardFailed)) c.identity.ensures (subst (λ (f : NotEntered). EntersBy g p c.identity.result (Err f)) is c.in-Err-CardFailed.ensures.enters) in (
+    let enters : EntersNow g p (Err CardFailed) = subst (λ (i : Identity). EntersBy g p i (Err CardFailed)) c.identity.ensures (subst (λ (f : NotEntered). EntersBy g p c.identity.result (Err f)) is c.in-Err-CardFailed.ensures.enters) in (
       Fell,
       judged-fell c.args.app c.args.entering c.args.keeper.now c.args.noted.now c.args.outcome.now (g.M.Medium.state c.args.unit.now) (g.M.Medium.state c.enter.new.unit) (g.C.Chip.state c.args.card.now) (g.C.Chip.state c.enter.new.card) (is_err c.tear.result) c.tear.new.self c.tear.new.breaks (g.M.Medium.state c.tear.new.unit) c.requires.works enters c.tear.ensures.keeper c.tear.ensures.told
           (fault-noted c.args.entering c.args.keeper.now c.tear.new.self c.tear.result c.tear.ensures.keeper c.tear.ensures.noted c.tear.ensures.moments),
@@ -82,7 +82,7 @@ returns-in-Err-NotValid-clause-ended g c =
     let fid = c.in-Err-NotValid.fid in
     let place = c.in-Err-NotValid.place in
     let is : c.in-Err-NotValid.field-0 ≡ NotValid fid place = cc (c.in-Err-NotValid.field-0-is) in
-    let enters : EntersNow g p (Err (NotValid fid place)) = subst (λ (i : UnitFacts). EntersBy g p i (Err (NotValid fid place))) c.identity.ensures (subst (λ (f : NotEntered). EntersBy g p c.identity.result (Err f)) is c.in-Err-NotValid.ensures.enters) in
+    let enters : EntersNow g p (Err (NotValid fid place)) = subst (λ (i : Identity). EntersBy g p i (Err (NotValid fid place))) c.identity.ensures (subst (λ (f : NotEntered). EntersBy g p c.identity.result (Err f)) is c.in-Err-NotValid.ensures.enters) in
     let told = unfit-told c.args.entering c.args.outcome.now c.refuse.new.outcome _ fid _ place c.refuse.ensures.told (cc (c.in-Err-NotValid.fid-is)) (cc (c.in-Err-NotValid.place-is)) in (
       Unfit fid place,
       judged-unfit c.args.app c.args.entering c.args.keeper.now c.args.noted.now c.args.outcome.now (g.M.Medium.state c.args.unit.now) (g.M.Medium.state c.enter.new.unit) (g.C.Chip.state c.args.card.now) (g.C.Chip.state c.enter.new.card) (is_err c.refuse.result) fid place c.refuse.new.outcome (g.M.Medium.state c.refuse.new.unit) enters told c.refuse.ensures.notes,
@@ -95,7 +95,7 @@ returns-in-Err-TimeOverlap-clause-ended g c =
     let stored = c.in-Err-TimeOverlap.stored in
     let now = c.in-Err-TimeOverlap.field-0-1 in
     let is : c.in-Err-TimeOverlap.field-0 ≡ TimeOverlap stored now = cc (c.in-Err-TimeOverlap.field-0-is) in
-    let enters : EntersNow g p (Err (TimeOverlap stored now)) = subst (λ (i : UnitFacts). EntersBy g p i (Err (TimeOverlap stored now))) c.identity.ensures (subst (λ (f : NotEntered). EntersBy g p c.identity.result (Err f)) is c.in-Err-TimeOverlap.ensures.enters) in
+    let enters : EntersNow g p (Err (TimeOverlap stored now)) = subst (λ (i : Identity). EntersBy g p i (Err (TimeOverlap stored now))) c.identity.ensures (subst (λ (f : NotEntered). EntersBy g p c.identity.result (Err f)) is c.in-Err-TimeOverlap.ensures.enters) in
     let told = ahead-told c.args.entering c.args.outcome.now c.defer.new.outcome _ stored c.defer.ensures.told (cc (c.in-Err-TimeOverlap.stored-is)) in
     let notes = ahead-noted c.args.entering c.args.keeper.now.cabin _ stored c.defer.ensures.notes (cc (c.in-Err-TimeOverlap.stored-is)) in (
       Ahead stored,
