@@ -1,5 +1,5 @@
--- Images in which nothing has changed that a journal reads or writes: version and vehicle, last-kept minute and odometer, owed rows
--- and days; nor the spare bytes behind the faults. The two numbers of over speedings between them may differ.
+-- Images in which nothing has changed that a journal reads or writes: version, rule byte and vehicle, last-kept minute and odometer,
+-- owed rows and days; nor the spare bytes behind the faults. The two numbers of over speedings between them may differ.
 use Rattle.std.specs.Prelude.{◌≡◌, ℕ, ◌-◌, List, length}
 use Rattle.card_layout.specs.Images.{bytes_at}
 use Rattle.unit_model.specs.declared.layout.TheConstants.{FIRST_OVER, SPARE_COUNTS, INSERTIONS, SPARE_FAULTS}
