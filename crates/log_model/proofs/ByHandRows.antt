@@ -57,10 +57,10 @@ begun : stopped_by (Some 21123720) 21123600 21123720 0 21123719 ≡ Some (Begun 
 begun = refl
 
 -- without a card in the slot, or in motion, the slots refuse
-no_card : refusals_of (went accepted (seconds_of 1267423200 (Act (Insert Driver A) ∷ Act (Manual CoDriver Rest 300) ∷ Run 1 0 ∷ []))).told ≡ (1267423200, NoCard CoDriver) ∷ []
+no_card : refusals_of (went accepted (seconds_of 1267423200 (Act (Insert Driver A) ∷ Act (Manual CoDriver Rest 300) ∷ Run 1 0 ∷ []))).told ≡ (1267423200, 2, NoCard CoDriver) ∷ []
 unfolding went seconds_of cut_in is_torn_in found_in
 no_card = refl
 
-in_motion : refusals_of (went accepted (seconds_of 1267423200 (Act (Insert Driver A) ∷ Act (Manual Driver Rest 300) ∷ Run 1 60 ∷ []))).told ≡ (1267423200, Moving 60) ∷ []
+in_motion : refusals_of (went accepted (seconds_of 1267423200 (Act (Insert Driver A) ∷ Act (Manual Driver Rest 300) ∷ Run 1 60 ∷ []))).told ≡ (1267423200, 2, Moving 60) ∷ []
 unfolding went seconds_of cut_in is_torn_in found_in
 in_motion = refl

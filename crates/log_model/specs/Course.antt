@@ -23,8 +23,8 @@ pub record Visit : Type 0 where
   pub card : Card
 
 -- a second as far as it has gone: its selections, the cards that left or lost power, those that a `tear` line pulled and those
--- that a failed call tore out, those that entered and what was found of them, the refusals, whether there was a settling, and
--- the slots now
+-- that a failed call tore out, those that entered and what was found of them, the refusals, each with the number of actions that
+-- had begun, the refused one included, whether there was a settling, and the slots now
 pub record Course : Type 0 where
   pub picks : List (Slot × Pick)
   pub left : List Card
@@ -32,7 +32,7 @@ pub record Course : Type 0 where
   pub torn : List Visit
   pub entered : List Visit
   pub found : List (Visit × Verdict)
-  pub refused : List SlotFault
+  pub refused : List (ℕ × SlotFault)
   pub settled : Bool
   pub slots : Slots
 
@@ -70,7 +70,7 @@ carried_out n (Manual slot pick minute) c = c
 -- an action is carried out or refused
 abbrev pub answered : ℕ → Option SlotFault → Action → Course → Course
 answered n None a c = carried_out n a c
-answered n (Some r) a c = record c { refused = c.refused ++ r ∷ [] }
+answered n (Some r) a c = record c { refused = c.refused ++ (n + 1, r) ∷ [] }
 
 -- the slots that a card enters at a moment, and the cards that are taken out of them
 pub record Moved : Type 0 where
@@ -170,7 +170,12 @@ lit_course log s starts slots =
     (both_told log s.number Keeping
     (unmoved false) (all_acted log s 0 s.actions (both_told log s.number (In 0) (unmoved starts) (fresh starts slots))))
 
--- a second without power: each action is refused
+-- without power each of these actions is refused, with so many before them
+abbrev pub without_power : ℕ → List Action → List (ℕ × SlotFault)
+without_power n [] = []
+without_power n (a ∷ actions) = (n + 1, NoPower) ∷ without_power (n + 1) actions
+
+-- a second without power
 abbrev pub dark_course : TraceSecond → Slots → Course
 dark_course s slots = record {
   picks = [];
@@ -179,7 +184,7 @@ dark_course s slots = record {
   torn = [];
   entered = [];
   found = [];
-  refused = map (λ a. NoPower) s.actions;
+  refused = without_power 0 s.actions;
   settled = false;
   slots = slots;
 }

@@ -94,12 +94,12 @@ notes-none o d = λ c there. (c, there, λ log now. nothing-more (number_in o) l
 
 -- it is refused
 pub refused-now : (o : Origin) (done : List TraceSecond) (s : TraceSecond) (speed : ℕ) (run : Run) (before : Outcome) (d : Devices) → IsNow s speed run → (front : List Action) (a : Action) (rest : List Action) → s.actions ≡ front ++ a ∷ rest →
-    (h : WithinEvented o done s (In (length front)) [] [] Acting run before d) → (fault : SlotFault) → refusal (logged run.keeper.cabin.slots.seats) speed a ≡ Some fault → (after : Outcome) → after ≡ record before { refused = with_lines (record { second = run.next; fault = fault } ∷ []) before.refused } →
+    (h : WithinEvented o done s (In (length front)) [] [] Acting run before d) → (fault : SlotFault) → refusal (logged run.keeper.cabin.slots.seats) speed a ≡ Some fault → (after : Outcome) → after ≡ record before { refused = with_lines (record { second = run.next; fault = fault; begun = suc (length front) } ∷ []) before.refused } →
     EventedNow o done s h.within.within.b.run Acting (log_of after) d
 refused-now o done s speed run before d now front a rest are h fault is after told =
     let w = h.within in
     let p : Progress = w.within.b.run in
-    let line : Refused = record { second = run.next; fault = fault } in
+    let line : Refused = record { second = run.next; fault = fault; begun = suc (length front) } in
     let adds = refusal-adds d o done p w.within.b.span s (begins-now o w.origin done s (In (length front)) (values_of run before) d w.within) (In (length front)) (log_of before)
     (reaches-of p (went p.log done).before s (In (length front)) (log_of before) [] w.within.b.broken (breakdowns_of d) w.within.moment) line in
     let then_ = call-notes d d o done s p Acting Acting (log_of before) (and_refused (log_of before) line) [] h.evented adds (notes-none o d) (still-images o d) in

@@ -7,7 +7,7 @@ use Rattle.slot_machine.specs.Calls.{seat_in, card_in}
 use Rattle.unit_journal.specs.declared.notes.Notes.{Notes}
 use Rattle.trace_model.specs.declared.Card.{Card}
 use Rattle.trace_model.specs.declared.Action.{Action}
-use Rattle.trace_model.specs.declared.Action.TheVariants.{Select, Insert, Withdraw, Tear, Place}
+use Rattle.trace_model.specs.declared.Action.TheVariants.{Select, Insert, Withdraw, Tear, Place, Manual}
 use Rattle.unit_notes.specs.declared.unit_event.UnitEvent.{UnitEvent}
 use Rattle.safety_model.specs.Safe.{Devices}
 use Rattle.run_keeping.specs.declared.keeper.Moment.{Moment}
@@ -153,10 +153,11 @@ pub record NotesInserting (slot : Slot) (card : Card) (at : Moment) (speed : ℕ
 
 -- ---- an action
 
--- AN ACTION IS CARRIED OUT, and so it is noted: of a selection, and of a card that is pulled out, nothing.
+-- AN ACTION IS CARRIED OUT, and so it is noted: of a selection, of a card that is pulled out and of an entry by hand, nothing.
 abbrev pub NotesDone : Action → Moment → (speed : ℕ) → (failed : Bool) → (old new : Run) → (before after : Outcome) → (d later : Devices) → Type 0
 NotesDone (Select slot pick) at speed failed old new before after d later = NotesEvents [] failed d later
 NotesDone (Insert slot card) at speed failed old new before after d later = NotesInserting slot card at speed failed old new before after d later
 NotesDone (Withdraw slot) at speed failed old new before after d later = NotesWithdrawing (card_in (seat_in old.keeper.cabin.slots.seats slot)) slot at failed old new before after d later
 NotesDone (Tear slot) at speed failed old new before after d later = NotesEvents [] failed d later
 NotesDone (Place slot ending country region) at speed failed old new before after d later = NotesPlace (card_in (seat_in old.keeper.cabin.slots.seats slot)) slot at failed old new before.breaks after.breaks d later
+NotesDone (Manual slot pick minute) at speed failed old new before after d later = NotesEvents [] failed d later

@@ -116,14 +116,15 @@ impl Run {
         odometer_after(self.keeper.odometer, self.minutes.travelled())
     }
 
-    /// An action of the next second is refused.
-    pub fn refuse(&self, fault: SlotFault, refused: &mut Lines<Refused>)
+    /// An action of the next second is refused, with which so many of its actions have begun.
+    pub fn refuse(&self, begun: u32, fault: SlotFault, refused: &mut Lines<Refused>)
         requires { length refused.old.items < refused.old.room }
-        ensures { refused.new ≡ with_lines (record { second = self.now.next; fault = fault } ∷ []) refused.old }
+        ensures { refused.new ≡ with_lines (record { second = self.now.next; fault = fault; begun = begun } ∷ []) refused.old }
     {
         refused.add(Refused {
             second: self.next,
             fault,
+            begun,
         });
     }
 

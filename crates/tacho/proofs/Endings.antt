@@ -1,4 +1,4 @@
--- How `minutes` and `view` end, by what they answer.
+-- How `minutes`, `view`, `help` and `--version` end, by what they answer.
 use Rattle.std.proofs.Common.{◌≡◌, ◌≤◌, ◌<◌, ◌⊎◌, inl, inr, refl, ℕ, List, [], length, Option, ap, subst, arith}
 use Rattle.std.specs.Prelude.{Result, Ok, Err, Some, OnOk, IfErr, IsErrAnd}
 use Rattle.std.specs.Io.KnownBytes.{Appends, IsAtEnd}
@@ -11,11 +11,12 @@ use Rattle.trace_text.specs.Judged.{IsTraceText, IsBadText, IsLongText}
 use Rattle.tacho.specs.declared.end.Fault.{Fault}
 use Rattle.tacho.specs.declared.end.Fault.TheVariants.{Done, Usage, BadTrace, TooLong, ReadFault, WriteFault, MediumFault, Memory, BadFile}
 use Rattle.tacho.specs.declared.forms.Form.{Form}
-use Rattle.tacho.specs.declared.forms.Form.TheVariants.{Minutes, View}
+use Rattle.tacho.specs.declared.forms.Form.TheVariants.{Minutes, View, Help, Version}
 use Rattle.tacho.specs.End.{end_of, ended_by, IsUnread, IsUnprinted}
 use Rattle.tacho.specs.Outside.{Outside}
 use Rattle.tacho.specs.Minutes.{PrintsMinutes, IsMinutesEnd, EndsMinutes}
 use Rattle.tacho.specs.View.{PrintsFile, IsBadFile, IsViewEnd, EndsView, most_bytes}
+use Rattle.tacho.specs.Help.{help_text, version_text, IsTextEnd, EndsText}
 use Rattle.run_outcome.specs.declared.outcome.Outcome.{Outcome}
 use Rattle.tacho.specs.Outcomes.{IsEmpty}
 use Rattle.tacho.specs.Program.{Ends, EndsForm, IsUnrecorded, IsUnpassed}
@@ -152,3 +153,27 @@ pub view-ends : {T : Type 0} (last : Option ℕ) (old new : Outside) (r : Result
     → Ends (Some (View last)) old new (ended_by outcome (end_of r))
 view-ends last old new r ends read_fault write_fault counts outcome none =
     streams-end (View last) old new outcome r ends none refl (λ is. subst IsViewEnd is ends.ends) (λ device is. subst IsViewEnd is ends.ends) read_fault write_fault counts
+
+pub help-ends : {T : Type 0} (old new : Outside) (r : Result T Fault)
+    → EndsText help_text old.sink new.sink (end_of r)
+    → old.source.faults ≤ new.source.faults → old.sink.faults ≤ new.sink.faults
+    → (outcome : Outcome) → IsEmpty outcome
+    → Ends (Some Help) old new (ended_by outcome (end_of r))
+help-ends old new r ends reads writes outcome none =
+    streams-end Help old new outcome r ends none refl (λ is. subst IsTextEnd is ends.ends) (λ device is. subst IsTextEnd is ends.ends)
+    (λ is. absurd (subst IsTextEnd (ap end_of is) ends.ends)) (λ is. ends.write_fault (ap end_of is)) (reads, writes)
+
+pub version-ends : {T : Type 0} (old new : Outside) (r : Result T Fault)
+    → EndsText version_text old.sink new.sink (end_of r)
+    → old.source.faults ≤ new.source.faults → old.sink.faults ≤ new.sink.faults
+    → (outcome : Outcome) → IsEmpty outcome
+    → Ends (Some Version) old new (ended_by outcome (end_of r))
+version-ends old new r ends reads writes outcome none =
+    streams-end Version old new outcome r ends none refl (λ is. subst IsTextEnd is ends.ends) (λ device is. subst IsTextEnd is ends.ends)
+    (λ is. absurd (subst IsTextEnd (ap end_of is) ends.ends)) (λ is. ends.write_fault (ap end_of is)) (reads, writes)
+
+-- a text was printed, or the sink failed
+pub no-other-end : (fault : Fault) → IsTextEnd fault → (fault ≡ Done → ⊥) → (fault ≡ WriteFault → ⊥) → ⊥
+no-other-end Done ends done wrote = done refl
+no-other-end WriteFault ends done wrote = wrote refl
+no-other-end _ ends done wrote = ends

@@ -1,7 +1,7 @@
 -- Words and what they ask for, computed.
 use Rattle.std.specs.Prelude.{◌≡◌, Some, None, [], ◌∷◌, ◌++◌, codes, replicate, refl}
 use Rattle.trace_model.specs.declared.Card.TheVariants.{B}
-use Rattle.tacho.specs.declared.forms.Form.TheVariants.{Minutes, Upgrade, Serve, ServeHex, Download, View}
+use Rattle.tacho.specs.declared.forms.Form.TheVariants.{Minutes, Upgrade, Serve, ServeHex, Download, View, Help, Version}
 use Rattle.tacho.specs.declared.forms.TheConstants.{PLATE}
 use Rattle.tacho.specs.Texts.{word_in, number_in}
 use Rattle.trace_model.specs.Names.{card_named}
@@ -26,6 +26,18 @@ serve-row = refl
 hex-row : form_of (codes "serve" ∷ codes "--hex" ∷ []) ≡ Some ServeHex
 unfolding form_of
 hex-row = refl
+
+help-row : form_of (codes "help" ∷ []) ≡ Some Help
+unfolding form_of
+help-row = refl
+
+help-dash-row : form_of (codes "--help" ∷ []) ≡ Some Help
+unfolding form_of
+help-dash-row = refl
+
+version-row : form_of (codes "--version" ∷ []) ≡ Some Version
+unfolding form_of
+version-row = refl
 
 other-dash-row : form_of (codes "serve" ∷ codes "-hex" ∷ []) ≡ None
 unfolding form_of

@@ -2,7 +2,7 @@
 use Rattle.std.specs.Prelude.{◌≡◌, ◌⊎◌, ℕ, Bool, true, false, IsTrue, List, [], is_some}
 use Rattle.std.specs.List.{AllByRecursion}
 use Rattle.trace_model.specs.declared.Card.{Card}
-use Rattle.trace_model.specs.declared.Action.TheVariants.{Select, Insert, Withdraw, Tear, Place}
+use Rattle.trace_model.specs.declared.Action.TheVariants.{Select, Insert, Withdraw, Tear, Place, Manual}
 use Rattle.trace_model.specs.declared.Item.{Item}
 use Rattle.trace_model.specs.declared.Item.TheVariants.{Run, Off, Act}
 use Rattle.trace_model.specs.Trace.{seconds_of}
@@ -51,6 +51,7 @@ needs_no_card (Act (Insert slot card)) = false
 needs_no_card (Act (Withdraw slot)) = false
 needs_no_card (Act (Tear slot)) = false
 needs_no_card (Act (Place slot ending country region)) = false
+needs_no_card (Act (Manual slot pick minute)) = false
 
 -- a trace for the unit alone: none of its lines is a card's
 abbrev pub IsForUnit : List Item → Type 0

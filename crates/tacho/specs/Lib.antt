@@ -19,4 +19,5 @@ pub mod Downloading
 pub mod View
 pub mod CardFile
 pub mod Demo
+pub mod Help
 pub mod Program

@@ -1,5 +1,5 @@
 -- THE PROGRAM: how its one call ends, and what it leaves untouched (profile). What each form promises stands in the form's own
--- file: Minutes, Recorded, Serving, Downloading, View, CardFile, Formatting, Upgrading, Demo.
+-- file: Minutes, Recorded, Serving, Downloading, View, CardFile, Formatting, Upgrading, Demo, Help.
 use Rattle.std.specs.Prelude.{◌≡◌, ◌↔◌, ◌≤◌, List, [], Option, Some, None, IfSome}
 use Rattle.tach_media.specs.Medium.{State, Rose}
 use Rattle.trace_model.specs.declared.Card.TheVariants.{A, B}
@@ -12,7 +12,7 @@ use Rattle.tacho.specs.declared.end.Ended.{Ended}
 use Rattle.run_outcome.specs.declared.outcome.Outcome.{Outcome}
 use Rattle.unit_download.specs.declared.wire.Passed.{Passed}
 use Rattle.tacho.specs.declared.forms.Form.{Form}
-use Rattle.tacho.specs.declared.forms.Form.TheVariants.{Minutes, Record, FormatCard, FormatUnit, Upgrade, Serve, ServeHex, Download, View, CardFile, Demo}
+use Rattle.tacho.specs.declared.forms.Form.TheVariants.{Minutes, Record, FormatCard, FormatUnit, Upgrade, Serve, ServeHex, Download, View, CardFile, Demo, Help, Version}
 use Rattle.tacho.specs.End.{status_of, IsBeforeDevices}
 use Rattle.tacho.specs.Outside.{Outside, memory_of}
 use Rattle.tacho.specs.Minutes.{EndsMinutes}
@@ -25,6 +25,7 @@ use Rattle.tacho.specs.Formatting.{IsCard, EndsIssue, EndsMaking}
 use Rattle.tacho.specs.Upgrading.{EndsUpgrade}
 use Rattle.tacho.specs.CardFile.{EndsCard}
 use Rattle.tacho.specs.Demo.{EndsDemo}
+use Rattle.tacho.specs.Help.{help_text, version_text, EndsText}
 
 -- the devices have the sizes of a unit and of cards
 pub record AreDevices (unit card_a card_b : State) : Type 0 where
@@ -47,6 +48,8 @@ EndsForm (View last) old new ended = EndsView last old new ended.fault
 EndsForm (CardFile A) old new ended = EndsCard CardA old.card_a new.card_a old.sink new.sink ended.fault
 EndsForm (CardFile B) old new ended = EndsCard CardB old.card_b new.card_b old.sink new.sink ended.fault
 EndsForm (Demo seed) old new ended = EndsDemo seed old new ended.outcome ended.fault
+EndsForm Help old new ended = EndsText help_text old.sink new.sink ended.fault
+EndsForm Version old new ended = EndsText version_text old.sink new.sink ended.fault
 
 -- but for `record` and `demo` there is no outcome
 abbrev pub IsUnrecorded : Option Form → Outcome → Type 0
@@ -75,6 +78,8 @@ LeavesOthers (Some (View last)) source unit card_a card_b = unit × card_a × ca
 LeavesOthers (Some (CardFile A)) source unit card_a card_b = source × unit × card_b
 LeavesOthers (Some (CardFile B)) source unit card_a card_b = source × unit × card_a
 LeavesOthers (Some (Demo seed)) source unit card_a card_b = source
+LeavesOthers (Some Help) source unit card_a card_b = source × unit × card_a × card_b
+LeavesOthers (Some Version) source unit card_a card_b = source × unit × card_a × card_b
 
 -- a stream or a device that is told to have failed has failed, and no count of a stream falls
 pub record HasCauses (old new : Outside) (fault : Fault) : Type 0 where
@@ -94,8 +99,8 @@ pub record Ends (asked : Option Form) (old new : Outside) (ended : Ended) : Type
   pub unpassed : IsUnpassed asked ended.wire
   pub causes : HasCauses old new ended.fault
 
--- what reads all of its source before it uses a device or prints: each form but `serve`, `serve --hex`, `download`, `card a` and
--- `card b`, which write as they read, and `demo`, which reads none
+-- what reads all of its source before it uses a device or prints, if it reads any: each form but `serve`, `serve --hex`, `download`,
+-- `card a` and `card b`, which write as they read, and `demo`, which reads none
 abbrev pub ReadsFirst : Option Form → Type 0
 ReadsFirst (Some Serve) = ⊥
 ReadsFirst (Some ServeHex) = ⊥

@@ -67,6 +67,10 @@ pub enum Form {
     CardFile { card: Card },
     /// `demo X`: a demonstration is recorded that is drawn from this number, from 0 to 2147483647.
     Demo { seed: u32 },
+    /// `help` and `--help`: the forms are printed, a line each.
+    Help,
+    /// `--version`: the version is printed, and that of the toolchain.
+    Version,
 }
 
 /// What the words ask for, if they are in a form that is known. The test takes no memory.
@@ -88,7 +92,7 @@ pub fn form_of(words: &Words) -> Option<Form>
     form_of_six(command, what, first, second, third, fourth)
 }
 
-/// The form of one word.
+/// The form of one word. `--help` and `--version` are the only such that begin with `-`.
 fn form_of_one(word: &str) -> Option<Form>
     ensures { result ≡ form_of_one word.now }
 {
@@ -110,10 +114,16 @@ fn form_of_one(word: &str) -> Option<Form>
     if is_text(word, "upgrade") {
         return Some(Form::Upgrade);
     }
+    if is_text(word, "help") || is_text(word, "--help") {
+        return Some(Form::Help);
+    }
+    if is_text(word, "--version") {
+        return Some(Form::Version);
+    }
     None
 }
 
-/// The form of two words. The second is the only one that may begin with `-`.
+/// The form of two words. The second may begin with `-`.
 fn form_of_two(command: &str, option: &str) -> Option<Form>
     ensures { result ≡ form_of_two command.now option.now }
 {

@@ -12,6 +12,7 @@ use crate::download_command::download_end;
 use crate::end::{Ended, Fault};
 use crate::format_command::{format_card, make_unit};
 use crate::forms::{Form, form_of};
+use crate::help_command::{print_help, print_version};
 use crate::minutes_command::print_minutes;
 use crate::record_command::record;
 use crate::serve_command::{lines_end, service_end};
@@ -42,6 +43,7 @@ use unit_download::{Wire, download};
 /// `format a` and `format b` issue the card anew, of the largest sizes, `format unit` makes the unit new; they write
 /// `formatted` to the sink. `upgrade` gives the unit version 2 with the amended rule of minutes, and writes `upgraded`, or `already 2`
 /// where the unit had it. No other device is used than the form's.
+/// `help` and `--help` write the forms to the sink, a line each, and `--version` the version.
 pub fn tacho<S: Source, K: Sink, U: Medium, C: Chip>(
     alloc: Global,
     words: &Words,
@@ -118,6 +120,8 @@ fn perform<S: Source, K: Sink, U: Medium, C: Chip>(
         Form::View { last } => Ended::after(alloc, nothing, print_view(alloc, last, source, sink)),
         Form::CardFile { card } => perform_card(alloc, card, source, sink, unit, card_a, card_b),
         Form::Demo { seed } => perform_demo(alloc, seed, source, sink, unit, card_a, card_b),
+        Form::Help => Ended::after(alloc, nothing, print_help(sink)),
+        Form::Version => Ended::after(alloc, nothing, print_version(sink)),
     }
 }
 

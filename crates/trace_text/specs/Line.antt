@@ -31,7 +31,7 @@ item_fields (Act (Place slot ending country region)) =
 item_fields (Act (Manual slot pick minute)) = codes "manual" ∷ slot_name slot ∷ pick_name pick ∷ decimal minute ∷ []
 
 -- the lines that a form knows behind `start`: the form of minutes `run` and `select`, that of the unit alone `off` too, and the
--- whole form all
+-- whole form all but `manual`, which no form knows: so it is a bad line in each trace
 abbrev pub knows : Form → Item → Bool
 knows Minutes (Run seconds speed) = true
 knows Minutes (Off seconds) = false
@@ -49,7 +49,14 @@ knows UnitAlone (Act (Withdraw slot)) = false
 knows UnitAlone (Act (Tear slot)) = false
 knows UnitAlone (Act (Place slot ending country region)) = false
 knows UnitAlone (Act (Manual slot pick minute)) = false
-knows Whole item = true
+knows Whole (Run seconds speed) = true
+knows Whole (Off seconds) = true
+knows Whole (Act (Select slot pick)) = true
+knows Whole (Act (Insert slot card)) = true
+knows Whole (Act (Withdraw slot)) = true
+knows Whole (Act (Tear slot)) = true
+knows Whole (Act (Place slot ending country region)) = true
+knows Whole (Act (Manual slot pick minute)) = false
 
 -- the seconds that a trace may begin with
 abbrev pub IsFirstSecond : ℕ → Type 0

@@ -1,5 +1,5 @@
 use std::test::*;
-use text_fields::{byte, four_fields, number, number_between, one_field, two_fields};
+use text_fields::{byte, four_fields, number, number_between, one_field, three_fields, two_fields};
 
 #[test]
 fn numbers_are_read(rt: HostRuntime) {

@@ -36,7 +36,7 @@ const PUT_IN: Item = Item::Run {
 #[test]
 fn each_kind_of_line_is_read(rt: HostRuntime) -> Result<(), Fail> {
     let text =
-        b"# a day\n\nstart 1267401600\nrun 3600 50\nselect codriver available\ninsert driver a\nwithdraw codriver\noff 60\ntear driver\nplace driver end 0 255\nmanual codriver work 1439";
+        b"# a day\n\nstart 1267401600\nrun 3600 50\nselect codriver available\ninsert driver a\nwithdraw codriver\noff 60\ntear driver\nplace driver end 0 255";
     let trace = match read(&rt, text, Form::Whole)? {
         Ok(trace) => trace,
         Err(fault) => return Err(Fail::from(fault)),
@@ -66,16 +66,11 @@ fn each_kind_of_line_is_read(rt: HostRuntime) -> Result<(), Fail> {
             country: 0,
             region: 255,
         }),
-        Item::Act(Action::Manual {
-            slot: Slot::CoDriver,
-            pick: Pick::Work,
-            minute: 1439,
-        }),
         PUT_IN,
     ];
     assert_eq!(rt; trace.start, 1267401600);
-    assert_eq!(rt; trace.items.len(), 10);
-    for i in 0..10 {
+    assert_eq!(rt; trace.items.len(), 9);
+    for i in 0..9 {
         assert_eq!(rt; *trace.items.get(i), items[i]);
     }
     Ok(())
@@ -83,7 +78,7 @@ fn each_kind_of_line_is_read(rt: HostRuntime) -> Result<(), Fail> {
 
 #[test]
 fn lines_that_are_none(rt: HostRuntime) -> Result<(), Fail> {
-    let bad: [&[u8]; 42] = [
+    let bad: [&[u8]; 43] = [
         b"start 86399",
         b"start 4294880896",
         b"start 086400",
@@ -115,6 +110,7 @@ fn lines_that_are_none(rt: HostRuntime) -> Result<(), Fail> {
         b"place driver begin 1",
         b"place driver begin 256 0",
         b"place driver begin 0 256",
+        b"manual driver work 300",
         b"manual driver work",
         b"manual driver work 1440",
         b"manual driver drive 300",

@@ -229,6 +229,7 @@ fn an_action_without_power_is_refused(rt: HostRuntime) -> Result<(), Fail> {
     let refused = Refused {
         second: T0 + 30,
         fault: SlotFault::NoPower,
+        begun: 2,
     };
     assert!(rt; ran.ended.is_ok() && ran.marks == 2 && ran.refused == 2);
     assert_eq!(rt; ran.refusal, Some(refused));

@@ -331,10 +331,12 @@ fn what_is_refused(rt: HostRuntime) -> Result<(), Fail> {
     let place = Refused {
         second: T0,
         fault: SlotFault::NoCard(Slot::CoDriver),
+        begun: 2,
     };
     let withdrawal = Refused {
         second: T0 + 60,
         fault: SlotFault::Moving(60),
+        begun: 1,
     };
     assert!(rt; ran.is_recorded && ran.refused == 2);
     assert_eq!(rt; ran.first_refusal, Some(place));

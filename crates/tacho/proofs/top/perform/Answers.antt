@@ -1,5 +1,5 @@
 use Rattle.std.proofs.Common.{refl, arith}
-use Rattle.tacho.proofs.Endings.{ends-minutes, minutes-ends, ends-view, view-ends}
+use Rattle.tacho.proofs.Endings.{ends-minutes, minutes-ends, ends-view, view-ends, help-ends, version-ends, no-other-end}
 use Rattle.tacho.proofs.Services.{serve-ends}
 use Rattle.tacho.proofs.LineServices.{serve-hex-ends}
 use Rattle.tacho.proofs.Downloads.{download-ends}
@@ -59,3 +59,31 @@ pub returns-in-Upgrade-clause-spares : goal.returns-in-Upgrade-clause-spares
 returns-in-Upgrade-clause-spares g c =
     let e = c.upgrade_unit.ensures in
     rw (c.in-Upgrade.is, c.after-in-Upgrade.ensures) (upgrade-spares c.upgrade_unit.result e.ends refl refl refl e.nothing)
+
+pub returns-in-Help-clause-ends : goal.returns-in-Help-clause-ends
+returns-in-Help-clause-ends g c =
+    rw (c.in-Help.is, c.after-in-Help.ensures)
+    (help-ends _ _ c.print_help.result c.print_help.ensures.ends (omega arith) c.print_help.ensures.counts c.nothing-nothing.result c.nothing-nothing.ensures)
+
+pub returns-in-Help-clause-spares : goal.returns-in-Help-clause-spares
+returns-in-Help-clause-spares g c = rw (c.in-Help.is, c.after-in-Help.ensures) (record {
+  others = (refl, refl, refl, refl);
+  cards = λ is. absurd (cc);
+  before = λ first is. (refl, refl, refl);
+  nothing = λ first done wrote. absurd (no-other-end _ c.print_help.ensures.ends.ends done wrote);
+  unprinted = λ none. absurd none;
+})
+
+pub returns-in-Version-clause-ends : goal.returns-in-Version-clause-ends
+returns-in-Version-clause-ends g c =
+    rw (c.in-Version.is, c.after-in-Version.ensures)
+    (version-ends _ _ c.print_version.result c.print_version.ensures.ends (omega arith) c.print_version.ensures.counts c.nothing-nothing.result c.nothing-nothing.ensures)
+
+pub returns-in-Version-clause-spares : goal.returns-in-Version-clause-spares
+returns-in-Version-clause-spares g c = rw (c.in-Version.is, c.after-in-Version.ensures) (record {
+  others = (refl, refl, refl, refl);
+  cards = λ is. absurd (cc);
+  before = λ first is. (refl, refl, refl);
+  nothing = λ first done wrote. absurd (no-other-end _ c.print_version.ensures.ends.ends done wrote);
+  unprinted = λ none. absurd none;
+})
