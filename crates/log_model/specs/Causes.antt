@@ -72,9 +72,12 @@ visit_places u vs = map (λ v. (u, v.phase, v.slot)) vs
 abbrev pub in_the_slot : Slot → List (ℕ × Phase × Slot) → List (ℕ × Phase × Slot)
 in_the_slot slot places = filter (λ p. same_slot p.2 slot) places
 
--- the refusals of a second, each with the number of actions that had begun
+-- a refusal of a second, with the number of actions that had begun, and all of these
+abbrev pub refusal_at : ℕ → ℕ × SlotFault → ℕ × ℕ × SlotFault
+refusal_at u r = (u, r.0, r.1)
+
 abbrev pub refusals_at : ℕ → List (ℕ × SlotFault) → List (ℕ × ℕ × SlotFault)
-refusals_at u refused = map (λ r. (u, r.0, r.1)) refused
+refusals_at u refused = map (refusal_at u) refused
 
 -- the refusals that the seconds tell
 abbrev pub refusals_of : List Told → List (ℕ × ℕ × SlotFault)

@@ -17,7 +17,7 @@ use Rattle.slot_machine.specs.Calls.{seat_in, card_in, logged}
 use Rattle.unit_course.specs.Lines.{cut_at}
 use Rattle.unit_course.specs.Followed.{Lost as IsLost}
 use Rattle.safety_model.specs.Safe.{Devices, breakdowns_of}
-use Rattle.unit_memory.specs.declared.format.Identity.{Identity}
+use Rattle.unit_memory.specs.declared.memory.UnitFacts.{UnitFacts}
 use Rattle.run_notes.specs.declared.watch.Watch.{Watch}
 use Rattle.run_events.proofs.Shows.{nothing-more}
 use Rattle.run_moments.specs.Reached.{course_at, moved_at, Reaches, IsTearAt}
@@ -63,7 +63,7 @@ module _ (o : Origin) (done : List TraceSecond) (s : TraceSecond) (run : Run) (o
 
 pub watches-on : (o : Origin) (span : List Seen) (run new : Run) → StaysWatched run new → RunWatches o span run → RunWatches o span new
 watches-on o span run new same h = record {
-  limit = ap (λ (m : Identity). m.limit) same.memory ∙ h.limit;
+  limit = ap (λ (m : UnitFacts). m.limit) same.memory ∙ h.limit;
   watched = subst (λ (w : Watch). IsWatching o span w) (sym same.watch) h.watched;
 }
 
@@ -82,7 +82,7 @@ evented-cuts o done s n begun run mid new before told after d e now h cut fails 
       evented = subst (λ (l : RunLog). Evented o (done ++ s ∷ []) l new.unfound (suc new.next) IsLost e) log
           (subst (λ (k : ℕ). Evented o (done ++ s ∷ []) (and_break (log_of told) (cut_at s.number true begun)) new.unfound (suc k) IsLost e) second
           (subst (λ (k : ℕ). Evented o (done ++ s ∷ []) (and_break (log_of told) (cut_at s.number true begun)) k (suc w.b.run.next) IsLost e) first fails));
-      limit = ap (λ (r : Run). r.keeper.memory.limit) is ∙ ap (λ (m : Identity). m.limit) same.memory ∙ h.watches.limit;
+      limit = ap (λ (r : Run). r.keeper.memory.limit) is ∙ ap (λ (m : UnitFacts). m.limit) same.memory ∙ h.watches.limit;
     }
 
 -- no device was called

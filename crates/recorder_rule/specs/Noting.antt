@@ -21,6 +21,7 @@ use Rattle.run_state.specs.declared.run.Run.{Run}
 use Rattle.unit_course.specs.Lines.{found_from}
 use Rattle.run_outcome.specs.Lines.{cut_at}
 use Rattle.run_keeping.specs.Keeping.{with_lines}
+use Rattle.minute_model.specs.declared.Rule.{Rule}
 use Rattle.run_state.specs.Power.{IsSpanBegun, cut_run}
 use Rattle.acts_rule.specs.Acting.{now_moment}
 use Rattle.acts_rule.specs.Noting.{GapReach, AreGapEvents, NotesPlace, SettlesThese, NotesWithdrawing}
@@ -86,7 +87,7 @@ pub data WakeReach : Type 0 where
 
 -- a span began
 abbrev pub HasBegunSpan : (old mid : Run) → Type 0
-HasBegunSpan old mid = (journal : Notes) × IsSpanBegun old mid journal
+HasBegunSpan old mid = (rule : Rule) × (journal : Notes) × IsSpanBegun rule old mid journal
 
 -- THE EVENTS AND FAULTS of it
 abbrev pub AreWakingEvents : WakeReach → (kept speed : ℕ) → (failed : Bool) → (old new : Run) → (before after : Outcome) → List UnitEvent → Type 0

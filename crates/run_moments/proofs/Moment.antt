@@ -24,7 +24,7 @@ use Rattle.log_model.specs.declared.lines.SlotFault.TheVariants.{Empty}
 use Rattle.log_model.specs.declared.lines.Verdict.{Verdict}
 use Rattle.log_model.specs.Log.{RunLog, Phase, In, Keeping, same_phase, tears_here, is_torn_in, found_in}
 use Rattle.log_model.specs.Slots.{Slots, Sitting, in_slot, other_slot, refusal}
-use Rattle.log_model.specs.Causes.{device_of, is_cut, second_of, tears, places, visit_places, in_the_slot, has_failed, refusals_at, refusal_told, RoseBy, IsBegun, IsAtPowerOn}
+use Rattle.log_model.specs.Causes.{device_of, is_cut, second_of, tears, places, visit_places, in_the_slot, has_failed, refusal_at, refusals_at, refusal_told, RoseBy, IsBegun, IsAtPowerOn}
 use Rattle.log_model.specs.Course.{Course, Visit, Before, Moved, visits, card_in, slot_told, both_told, moved_by, unmoved, answered, carried_out, fresh, went}
 use Rattle.unit_course.specs.Lines.{log_of}
 use Rattle.unit_course.specs.Turn.{begins_with}
@@ -211,7 +211,7 @@ refused-more p s n log mid now c fault h =
       refused = h.refused ++ r ∷ [];
       refused_are = ap (λ (rs : List Refused). rs ++ r ∷ []) h.refused_are ∙ append_assoc p.log.refused h.refused (r ∷ []);
       refusals = map-append refusal_told h.refused (r ∷ []) ∙ ap (λ (xs : List (ℕ × ℕ × SlotFault)). xs ++ (s.number, suc n, fault) ∷ []) h.refusals
-          ∙ sym (map-append (λ (f : ℕ × SlotFault). (s.number, f.0, f.1)) c.refused ((suc n, fault) ∷ []));
+          ∙ sym (map-append (refusal_at s.number) c.refused ((suc n, fault) ∷ []));
       uncut = h.uncut;
       unit = h.unit;
       tear_lines = h.tear_lines;

@@ -1,7 +1,7 @@
 -- Words and what they ask for, computed.
 use Rattle.std.specs.Prelude.{◌≡◌, Some, None, [], ◌∷◌, ◌++◌, codes, replicate, refl}
 use Rattle.trace_model.specs.declared.Card.TheVariants.{B}
-use Rattle.tacho.specs.declared.forms.Form.TheVariants.{Minutes, Serve, ServeHex, Download, View, Help, Version}
+use Rattle.tacho.specs.declared.forms.Form.TheVariants.{Minutes, Upgrade, Serve, ServeHex, Download, View, Help, Version}
 use Rattle.tacho.specs.declared.forms.TheConstants.{PLATE}
 use Rattle.tacho.specs.Texts.{word_in, number_in}
 use Rattle.trace_model.specs.Names.{card_named}
@@ -14,6 +14,10 @@ minutes-row = refl
 misspelled-row : form_of (codes "minute" ∷ []) ≡ None
 unfolding form_of
 misspelled-row = refl
+
+upgrade-row : form_of (codes "upgrade" ∷ []) ≡ Some Upgrade
+unfolding form_of
+upgrade-row = refl
 
 serve-row : form_of (codes "serve" ∷ []) ≡ Some Serve
 unfolding form_of

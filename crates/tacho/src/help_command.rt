@@ -18,6 +18,7 @@ tacho view < FILE                        print the minutes of a unit's file, or 
 tacho view last N < FILE                 print its last N days (1 to 366)
 tacho format unit N PLATE VIN LIMIT      make a new unit in unit.img: what it held is lost
 tacho format a|b N NUMBER SURNAME FIRST  make a new card in card-a.img or card-b.img, likewise
+tacho upgrade                            give the unit the amended rule of minutes, for good
 tacho demo X                             record forty days drawn from X on a new unit and card a
 tacho help, tacho --help                 print these lines
 tacho --version                          print the version, and that of the toolchain

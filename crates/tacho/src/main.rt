@@ -20,6 +20,7 @@ mod outcome_text;
 mod record_command;
 mod serve_command;
 mod top;
+mod upgrade_command;
 mod view_command;
 mod words;
 

@@ -24,8 +24,9 @@ impl Form {
         ensures { result ≡ knows self item }
     {
         match (self, item) {
+            (Form::Whole, Item::Run { .. } | Item::Off { .. }) => true,
             (Form::Whole, Item::Act(Action::Manual { .. })) => false,
-            (Form::Whole, _) => true,
+            (Form::Whole, Item::Act(_)) => true,
             (Form::Minutes, Item::Run { .. } | Item::Act(Action::Select { .. })) => true,
             (Form::Minutes, Item::Off { .. } | Item::Act(_)) => false,
             (Form::UnitAlone, Item::Run { .. } | Item::Off { .. }) => true,
