@@ -9,7 +9,7 @@ use Rattle.minute_model.specs.Minute.{decided}
 use Rattle.minute_model.specs.Span.{Span, begin, end_of, fed_many, picked, AreSettled, AreNumbered}
 use Rattle.minute_model.proofs.Counted.{decided-ended}
 use Rattle.minute_model.proofs.Spans.{fed_many-numbered}
-use Rattle.trace_model.specs.declared.Action.TheVariants.{Select, Insert, Withdraw, Tear, Place}
+use Rattle.trace_model.specs.declared.Action.TheVariants.{Select, Insert, Withdraw, Tear, Place, Manual}
 use Rattle.trace_model.specs.declared.Item.{Item}
 use Rattle.trace_model.specs.declared.Item.TheVariants.{Run, Off, Act}
 use Rattle.trace_text.specs.declared.trace.Form.TheVariants.{Minutes}
@@ -39,6 +39,7 @@ fed_items-numbered span (Act (Insert slot card) ∷ items) numbered = fed_items-
 fed_items-numbered span (Act (Withdraw slot) ∷ items) numbered = fed_items-numbered span items numbered
 fed_items-numbered span (Act (Tear slot) ∷ items) numbered = fed_items-numbered span items numbered
 fed_items-numbered span (Act (Place slot ending country region) ∷ items) numbered = fed_items-numbered span items numbered
+fed_items-numbered span (Act (Manual slot pick minute) ∷ items) numbered = fed_items-numbered span items numbered
 
 -- minutes that have ended before a second are on days that a time can name
 shown-below : (end : ℕ) (minutes : List Minute) → end ≤ 4294880896 → AllByRecursion (λ (m : Minute). 60 * m.minute + 60 ≤ end) minutes → AllByRecursion (λ (v : Viewed UnitShown). day_of_minute v.minute < DAYS) (map without_card minutes)

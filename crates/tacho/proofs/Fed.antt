@@ -11,7 +11,7 @@ use Rattle.minute_model.specs.Minute.{decided}
 use Rattle.minute_model.specs.Span.{Span, begin, end_of, fed, fed_many, picked, decided_in}
 use Rattle.minute_model.proofs.Spans.{end-fed, fed_many-first, fed_many-end, fed_many-rule, fed_many-settlings}
 use Rattle.trace_model.specs.declared.Action.{Action}
-use Rattle.trace_model.specs.declared.Action.TheVariants.{Select, Insert, Withdraw, Tear, Place}
+use Rattle.trace_model.specs.declared.Action.TheVariants.{Select, Insert, Withdraw, Tear, Place, Manual}
 use Rattle.trace_model.specs.Trace.{TraceSecond, driven, seconds_from, seconds_of, item_seconds, total_seconds}
 use Rattle.run_model.specs.Span.{picks_of, span_of, trace_span}
 use Rattle.run_model.proofs.LeftToRight.{picks_of-more, span_of-append}
@@ -64,6 +64,7 @@ fed_items-seconds span waiting (Act (Insert slot card) ∷ items) all is = absur
 fed_items-seconds span waiting (Act (Withdraw slot) ∷ items) all is = absurd (untrue all.0.0)
 fed_items-seconds span waiting (Act (Tear slot) ∷ items) all is = absurd (untrue all.0.0)
 fed_items-seconds span waiting (Act (Place slot ending country region) ∷ items) all is = absurd (untrue all.0.0)
+fed_items-seconds span waiting (Act (Manual slot pick minute) ∷ items) all is = absurd (untrue all.0.0)
 
 -- what feeding leaves as it was
 pub fed_items-rule : (span : Span) (items : List Item) → (fed_items span items).rule ≡ span.rule
@@ -75,6 +76,7 @@ fed_items-rule span (Act (Insert slot card) ∷ items) = fed_items-rule span ite
 fed_items-rule span (Act (Withdraw slot) ∷ items) = fed_items-rule span items
 fed_items-rule span (Act (Tear slot) ∷ items) = fed_items-rule span items
 fed_items-rule span (Act (Place slot ending country region) ∷ items) = fed_items-rule span items
+fed_items-rule span (Act (Manual slot pick minute) ∷ items) = fed_items-rule span items
 
 pub fed_items-settlings : (span : Span) (items : List Item) → (fed_items span items).settlings ≡ span.settlings
 fed_items-settlings span [] = refl
@@ -85,6 +87,7 @@ fed_items-settlings span (Act (Insert slot card) ∷ items) = fed_items-settling
 fed_items-settlings span (Act (Withdraw slot) ∷ items) = fed_items-settlings span items
 fed_items-settlings span (Act (Tear slot) ∷ items) = fed_items-settlings span items
 fed_items-settlings span (Act (Place slot ending country region) ∷ items) = fed_items-settlings span items
+fed_items-settlings span (Act (Manual slot pick minute) ∷ items) = fed_items-settlings span items
 
 -- the seconds of a fed span are those of the trace
 pub fed-span : (rule : Rule) (start : ℕ) (items : List Item) → AllByRecursion (IsKnown Minutes) items → (fed_items (begin rule start) items).seconds ≡ trace_span start items
@@ -136,6 +139,7 @@ fed_items-end span (Act (Insert slot card) ∷ items) all = absurd (untrue all.0
 fed_items-end span (Act (Withdraw slot) ∷ items) all = absurd (untrue all.0.0)
 fed_items-end span (Act (Tear slot) ∷ items) all = absurd (untrue all.0.0)
 fed_items-end span (Act (Place slot ending country region) ∷ items) all = absurd (untrue all.0.0)
+fed_items-end span (Act (Manual slot pick minute) ∷ items) all = absurd (untrue all.0.0)
 
 -- with no second no minute is decided
 pub decided-begin : (rule : Rule) (start : ℕ) → decided_in (begin rule start) ≡ []

@@ -2,7 +2,7 @@
 use Rattle.std.specs.Prelude.{◌≡◌, Some, None, [], ◌∷◌, ◌++◌, codes, replicate, refl}
 use Rattle.minute_model.specs.declared.Rule.TheVariants.{Original, Amended}
 use Rattle.trace_model.specs.declared.Card.TheVariants.{B}
-use Rattle.tacho.specs.declared.forms.Form.TheVariants.{Minutes, Serve, ServeHex, Download, Read, Help, Version}
+use Rattle.tacho.specs.declared.forms.Form.TheVariants.{Minutes, Upgrade, Serve, ServeHex, Download, Read, Help, Version}
 use Rattle.tacho.specs.declared.forms.Reading.TheVariants.{View, Match, MatchAll}
 use Rattle.tacho.specs.declared.forms.TheConstants.{PLATE}
 use Rattle.tacho.specs.Texts.{word_in, number_in}
@@ -24,6 +24,10 @@ other-year-row = refl
 misspelled-row : form_of (codes "minute" ∷ []) ≡ None
 unfolding form_of
 misspelled-row = refl
+
+upgrade-row : form_of (codes "upgrade" ∷ []) ≡ Some Upgrade
+unfolding form_of
+upgrade-row = refl
 
 serve-row : form_of (codes "serve" ∷ []) ≡ Some Serve
 unfolding form_of

@@ -7,7 +7,7 @@ use Rattle.tacho_types.specs.declared.texts.Registration.{Registration}
 use Rattle.card_files.specs.declared.new_card.CardIdentity.{CardIdentity}
 use Rattle.unit_memory.specs.declared.format.Identity.{Identity}
 use Rattle.tacho.specs.declared.forms.Form.{Form}
-use Rattle.tacho.specs.declared.forms.Form.TheVariants.{Minutes, Record, FormatCard, FormatUnit, Serve, ServeHex, Download, Read, CardFile, Demo, Help, Version}
+use Rattle.tacho.specs.declared.forms.Form.TheVariants.{Minutes, Record, FormatCard, FormatUnit, Upgrade, Serve, ServeHex, Download, Read, CardFile, Demo, Help, Version}
 use Rattle.tacho.specs.declared.forms.Reading.TheVariants.{View, Match, MatchAll}
 use Rattle.tacho.specs.declared.forms.TheConstants.{CARD_NUMBER, NAME, PLATE, VIN, NATION_MOST, LIMIT_LEAST, LIMIT_MOST, LAST_LEAST, LAST_MOST, SEED_MOST}
 use Rattle.tacho_types.specs.Texts.{padded_text}
@@ -48,7 +48,7 @@ unit_in nation plate vin limit = do
   limit ← number_in LIMIT_LEAST LIMIT_MOST limit
   Some (record { vin = vin; registration = registration; limit = limit })
 
--- `minutes`, `record`, `serve`, `download`, `view` and `match`; `help`, also `--help`, and `--version`
+-- `minutes`, `record`, `serve`, `download`, `view`, `match` and `upgrade`; `help`, also `--help`, and `--version`
 abbrev pub form_of_one : List ℕ → Option Form
 form_of_one word =
     if bytes_eq word (codes "minutes") then Some (Minutes Original)
@@ -57,6 +57,7 @@ form_of_one word =
     else (if bytes_eq word (codes "download") then Some Download
     else (if bytes_eq word (codes "view") then Some (Read (View None))
     else (if bytes_eq word (codes "match") then Some (Read Match)
+    else (if bytes_eq word (codes "upgrade") then Some Upgrade
     else (if bytes_eq word (codes "help") || bytes_eq word (codes "--help") then Some Help
     else (if bytes_eq word (codes "--version") then Some Version else None)))))))
 

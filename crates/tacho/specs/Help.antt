@@ -28,6 +28,7 @@ help_text = as_lines (
     codes "tacho match all < FILES                  print each difference, and the counts" ∷
     codes "tacho format unit N PLATE VIN LIMIT      make a new unit in unit.img: what it held is lost" ∷
     codes "tacho format a|b N NUMBER SURNAME FIRST  make a new card in card-a.img or card-b.img, likewise" ∷
+    codes "tacho upgrade                            give the unit the amended rule of minutes, for good" ∷
     codes "tacho demo X                             record forty days drawn from X on a new unit and card a" ∷
     codes "tacho help, tacho --help                 print these lines" ∷
     codes "tacho --version                          print the version, and that of the toolchain" ∷

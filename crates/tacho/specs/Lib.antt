@@ -13,6 +13,7 @@ pub mod UnitRecorded
 pub mod CardsRecorded
 pub mod Recorded
 pub mod Formatting
+pub mod Upgrading
 pub mod Serving
 pub mod Downloading
 pub mod View

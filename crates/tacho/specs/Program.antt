@@ -1,5 +1,5 @@
 -- THE PROGRAM: how its one call ends, and what it leaves untouched (profile). What each form promises stands in the form's own
--- file: Minutes, Recorded, Serving, Downloading, Read, CardFile, Formatting, Demo, Help.
+-- file: Minutes, Recorded, Serving, Downloading, Read, CardFile, Formatting, Upgrading, Demo, Help.
 use Rattle.std.specs.Prelude.{◌≡◌, ◌↔◌, ◌≤◌, List, [], Option, Some, None, IfSome}
 use Rattle.tach_media.specs.Medium.{State, Rose}
 use Rattle.trace_model.specs.declared.Card.TheVariants.{A, B}
@@ -12,7 +12,7 @@ use Rattle.tacho.specs.declared.end.Ended.{Ended}
 use Rattle.run_outcome.specs.declared.outcome.Outcome.{Outcome}
 use Rattle.unit_download.specs.declared.wire.Passed.{Passed}
 use Rattle.tacho.specs.declared.forms.Form.{Form}
-use Rattle.tacho.specs.declared.forms.Form.TheVariants.{Minutes, Record, FormatCard, FormatUnit, Serve, ServeHex, Download, Read, CardFile, Demo, Help, Version}
+use Rattle.tacho.specs.declared.forms.Form.TheVariants.{Minutes, Record, FormatCard, FormatUnit, Upgrade, Serve, ServeHex, Download, Read, CardFile, Demo, Help, Version}
 use Rattle.tacho.specs.End.{status_of, IsBeforeDevices}
 use Rattle.tacho.specs.Outside.{Outside, memory_of}
 use Rattle.tacho.specs.Minutes.{EndsMinutes}
@@ -22,6 +22,7 @@ use Rattle.tacho.specs.Serving.{EndsServe, EndsServeHex}
 use Rattle.tacho.specs.Downloading.{EndsDownload}
 use Rattle.tacho.specs.Read.{Prints, IsBad, EndsReading}
 use Rattle.tacho.specs.Formatting.{IsCard, EndsIssue, EndsMaking}
+use Rattle.tacho.specs.Upgrading.{EndsUpgrade}
 use Rattle.tacho.specs.CardFile.{EndsCard}
 use Rattle.tacho.specs.Demo.{EndsDemo}
 use Rattle.tacho.specs.Help.{help_text, version_text, EndsText}
@@ -39,6 +40,7 @@ EndsForm Record old new ended = EndsRecord old new ended.outcome ended.fault
 EndsForm (FormatCard A identity) old new ended = EndsIssue CardA identity old.card_a new.card_a old.sink new.sink ended.fault
 EndsForm (FormatCard B identity) old new ended = EndsIssue CardB identity old.card_b new.card_b old.sink new.sink ended.fault
 EndsForm (FormatUnit identity) old new ended = EndsMaking identity old.unit new.unit old.sink new.sink ended.fault
+EndsForm Upgrade old new ended = EndsUpgrade old.unit new.unit old.sink new.sink ended.fault
 EndsForm Serve old new ended = EndsServe old new ended.fault
 EndsForm ServeHex old new ended = EndsServeHex old new ended.fault
 EndsForm Download old new ended = EndsDownload old new ended.wire ended.fault
@@ -68,6 +70,7 @@ LeavesOthers (Some Record) source unit card_a card_b = Unit {0}
 LeavesOthers (Some (FormatCard A identity)) source unit card_a card_b = source × unit × card_b
 LeavesOthers (Some (FormatCard B identity)) source unit card_a card_b = source × unit × card_a
 LeavesOthers (Some (FormatUnit identity)) source unit card_a card_b = source × card_a × card_b
+LeavesOthers (Some Upgrade) source unit card_a card_b = source × card_a × card_b
 LeavesOthers (Some Serve) source unit card_a card_b = card_a × card_b
 LeavesOthers (Some ServeHex) source unit card_a card_b = card_a × card_b
 LeavesOthers (Some Download) source unit card_a card_b = source × card_a × card_b

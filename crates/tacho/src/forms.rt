@@ -54,6 +54,8 @@ pub enum Form {
     FormatCard { card: Card, identity: CardIdentity },
     /// `format unit N PLATE VIN LIMIT`: the unit is made new, of this identity.
     FormatUnit { identity: Identity },
+    /// `upgrade`: the unit gets version 2 with the amended rule of minutes.
+    Upgrade,
     /// `serve`: the unit answers the frames among the bytes of the source.
     Serve,
     /// `serve --hex`: the same of lines of hexadecimal digits, each answer as a line.
@@ -129,6 +131,9 @@ fn form_of_one(word: &str) -> Option<Form>
         return Some(Form::Read {
             reading: Reading::Match,
         });
+    }
+    if is_text(word, "upgrade") {
+        return Some(Form::Upgrade);
     }
     if is_text(word, "help") || is_text(word, "--help") {
         return Some(Form::Help);

@@ -21,6 +21,7 @@ tacho match < FILES                      say whether a card's file, behind a uni
 tacho match all < FILES                  print each difference, and the counts
 tacho format unit N PLATE VIN LIMIT      make a new unit in unit.img: what it held is lost
 tacho format a|b N NUMBER SURNAME FIRST  make a new card in card-a.img or card-b.img, likewise
+tacho upgrade                            give the unit the amended rule of minutes, for good
 tacho demo X                             record forty days drawn from X on a new unit and card a
 tacho help, tacho --help                 print these lines
 tacho --version                          print the version, and that of the toolchain

@@ -18,6 +18,7 @@ use crate::minutes_command::print_minutes;
 use crate::reading_command::print_reading;
 use crate::record_command::record;
 use crate::serve_command::{lines_end, service_end};
+use crate::upgrade_command::upgrade_unit;
 use crate::words::Words;
 use card_download::write_card_file;
 use card_files::CardIdentity;
@@ -44,7 +45,8 @@ use unit_download::{Wire, download};
 /// `demo X` makes the unit and card a new, records a demonstration on the unit and the cards, downloads the unit, and writes seven lines of
 /// counts to the sink.
 /// `format a` and `format b` issue the card anew, of the largest sizes, `format unit` makes the unit new; they write
-/// `formatted` to the sink. No other device is used than the form's.
+/// `formatted` to the sink. `upgrade` gives the unit version 2 with the amended rule of minutes, and writes `upgraded`, or `already 2`
+/// where the unit had it. No other device is used than the form's.
 /// `help` and `--help` write the forms to the sink, a line each, and `--version` the version.
 pub fn tacho<S: Peer<K>, K: Sink, U: Medium, C: Chip>(
     alloc: Global,
@@ -117,6 +119,7 @@ fn perform<S: Peer<K>, K: Sink, U: Medium, C: Chip>(
             nothing,
             make_unit(&identity, unit, sink),
         ),
+        Form::Upgrade => Ended::after(alloc, nothing, upgrade_unit(unit, sink)),
         Form::Serve => Ended::of(alloc, nothing, service_end(serve(source, sink, unit))),
         Form::ServeHex => {
             Ended::of(

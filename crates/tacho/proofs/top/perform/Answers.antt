@@ -4,6 +4,7 @@ use Rattle.tacho.proofs.Endings.{ends-minutes, minutes-ends, ends-reading, readi
 use Rattle.tacho.proofs.Services.{serve-ends}
 use Rattle.tacho.proofs.LineServices.{serve-hex-ends}
 use Rattle.tacho.proofs.Downloads.{download-ends}
+use Rattle.tacho.proofs.Upgraded.{upgrade-ends, upgrade-spares}
 use Rattle.tacho.proofs.top.perform.Goals as goal
 
 pub returns-in-Minutes-clause-ends : goal.returns-in-Minutes-clause-ends
@@ -54,6 +55,17 @@ returns-in-Download-clause-ends g c =
 
 pub returns-in-Download-clause-spares : goal.returns-in-Download-clause-spares
 returns-in-Download-clause-spares g c = rw c.in-Download.is (record { others = (refl, refl, refl); cards = λ is. absurd (cc); before = λ none. absurd none; nothing = λ none. absurd none; unprinted = λ none. absurd none })
+
+pub returns-in-Upgrade-clause-ends : goal.returns-in-Upgrade-clause-ends
+returns-in-Upgrade-clause-ends g c =
+    let e = c.upgrade_unit.ensures in
+    rw (c.in-Upgrade.is, c.after-in-Upgrade.ensures)
+    (upgrade-ends _ _ c.nothing-nothing.result c.upgrade_unit.result e.ends c.nothing-nothing.ensures (omega arith) e.counts)
+
+pub returns-in-Upgrade-clause-spares : goal.returns-in-Upgrade-clause-spares
+returns-in-Upgrade-clause-spares g c =
+    let e = c.upgrade_unit.ensures in
+    rw (c.in-Upgrade.is, c.after-in-Upgrade.ensures) (upgrade-spares c.upgrade_unit.result e.ends refl refl refl e.nothing)
 
 pub returns-in-Help-clause-ends : goal.returns-in-Help-clause-ends
 returns-in-Help-clause-ends g c =
