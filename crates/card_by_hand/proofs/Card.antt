@@ -12,7 +12,7 @@ use Rattle.card_model.proofs.Trims.{are_trimmed}
 use Rattle.card_retention.specs.Expected.{Counted, is_newest}
 use Rattle.card_retention.specs.Shown.{Bound, Rests, Lives, sizes, is_open}
 use Rattle.card_image.specs.Fields.{card_days, end_mark}
-use Rattle.hand_model.specs.declared.entry.Manual.{Manual}
+use Rattle.activity_codec.specs.declared.entries.Manual.{Manual}
 use Rattle.hand_model.specs.Manual.{manual_word}
 use Rattle.hand_model.specs.Counted.{with_by_hand}
 use Rattle.hand_model.proofs.Words.{minute_is, absent_is}

@@ -15,7 +15,7 @@ use Rattle.card_model.proofs.Retention.{remain_fitting, remain_some}
 use Rattle.card_retention.specs.Expected.{is_newest}
 use Rattle.card_retention.specs.Shown.{sizes, is_open}
 use Rattle.card_retention.proofs.Entering.{date_newest}
-use Rattle.hand_model.specs.declared.entry.Manual.{Manual}
+use Rattle.activity_codec.specs.declared.entries.Manual.{Manual}
 use Rattle.hand_model.specs.Manual.{manual_word, is_by_hand, tells_by_hand}
 use Rattle.hand_model.specs.ByHand.{words_by_hand, by_hand_up_to}
 use Rattle.hand_model.proofs.Words.{by_hand_is, minute_is, tells_it}

@@ -10,7 +10,7 @@ use Rattle.card_retention.specs.Shown.{is_open, sizes}
 use Rattle.card_retention.specs.Entries.{newest_minute, newest_word}
 use Rattle.card_image.specs.Fields.{card_days, end_mark, last_use, session_time}
 use Rattle.card_image.specs.View.{card_view}
-use Rattle.hand_model.specs.declared.entry.Manual.{Manual}
+use Rattle.activity_codec.specs.declared.entries.Manual.{Manual}
 use Rattle.card_session.specs.Vehicles.{Vehicles, last_use_in}
 use Rattle.card_session.specs.Books.{mark_of, Book, with_entry}
 use Rattle.card_session.specs.Sessions.{book_of}

@@ -7,7 +7,7 @@ use Rattle.card_model.specs.Days.{Day, len_of}
 use Rattle.card_model.specs.Changes.{trimmed}
 use Rattle.card_session.specs.Books.{gap_closed, entered_days}
 use Rattle.card_session.specs.ByHand.{with_word_at}
-use Rattle.hand_model.specs.declared.entry.Manual.{Manual}
+use Rattle.activity_codec.specs.declared.entries.Manual.{Manual}
 use Rattle.hand_model.specs.Manual.{manual_word}
 
 -- 2010-03-01: work from 05:00 on by hand, and rest in the slot from 06:00 on

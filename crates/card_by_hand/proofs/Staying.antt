@@ -18,7 +18,7 @@ use Rattle.card_retention.proofs.Listing.{Lists}
 use Rattle.card_retention.proofs.Stops.{are_left}
 use Rattle.card_image.specs.Fields.{card_days, end_mark, session_time}
 use Rattle.card_image.specs.Judging.{IsValid}
-use Rattle.hand_model.specs.declared.entry.Manual.{Manual}
+use Rattle.activity_codec.specs.declared.entries.Manual.{Manual}
 use Rattle.hand_model.specs.Manual.{manual_word}
 use Rattle.hand_model.proofs.Words.{minute_is}
 use Rattle.card_session.specs.Vehicles.{Vehicles, last_use_in}

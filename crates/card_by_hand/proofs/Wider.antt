@@ -8,7 +8,7 @@ use Rattle.card_retention.specs.Expected.{WordDay, Counted, size_all, more, is_n
 use Rattle.card_retention.specs.Shown.{Covers, IsFull, AllBefore, AllFrom}
 use Rattle.card_retention.specs.Retains.{CardRetains, is_day}
 use Rattle.card_retention.proofs.Entering.{newest_more}
-use Rattle.hand_model.specs.declared.entry.Manual.{Manual}
+use Rattle.activity_codec.specs.declared.entries.Manual.{Manual}
 use Rattle.hand_model.specs.Counted.{with_by_hand, on_day, and_by_hand}
 use Rattle.card_by_hand.specs.Wider.{Wider, with_hands, AreOnDay}
 

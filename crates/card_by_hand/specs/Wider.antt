@@ -1,7 +1,7 @@
 -- Expected days with more words, and what entries by hand make of them.
 use Rattle.std.specs.Prelude.{◌≡◌, ℕ, ◌/◌, ◌<◌, ◌≤◌, List, [], ◌∷◌}
 use Rattle.card_retention.specs.Expected.{WordDay, Counted}
-use Rattle.hand_model.specs.declared.entry.Manual.{Manual}
+use Rattle.activity_codec.specs.declared.entries.Manual.{Manual}
 use Rattle.hand_model.specs.Counted.{with_by_hand}
 
 -- the same days, each with at least its words

@@ -11,7 +11,7 @@ ghost use Rattle.card_retention.specs.Retains.{CardRetains};
 ghost use Rattle.card_retention.specs.Shown.{Bound, AllUpTo, sizes, is_open};
 ghost use Rattle.card_image.specs.Fields.{file_bytes, card_days, card_number, end_mark, session_time};
 ghost use Rattle.card_image.specs.Judging.{IsValid};
-ghost use Rattle.hand_model.specs.declared.entry.Manual.{Manual};
+ghost use Rattle.activity_codec.specs.declared.entries.Manual.{Manual};
 ghost use Rattle.hand_model.specs.Counted.{with_by_hand, and_by_hand};
 ghost use Rattle.card_session.specs.Sessions.{Session, IsSession};
 ghost use Rattle.card_session.specs.Cards.{IsCardKeeping};

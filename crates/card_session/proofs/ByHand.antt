@@ -20,7 +20,7 @@ use Rattle.card_retention.specs.Shown.{sizes, EndsAbsent}
 use Rattle.card_retention.specs.Entries.{EndsBy, newest_word}
 use Rattle.card_retention.proofs.Entering.{date_newest, last_append, on_append}
 use Rattle.card_image.specs.Fields.{day_string, vehicle_ring}
-use Rattle.hand_model.specs.declared.entry.Manual.{Manual}
+use Rattle.activity_codec.specs.declared.entries.Manual.{Manual}
 use Rattle.hand_model.specs.Manual.{manual_word}
 use Rattle.hand_model.proofs.Words.{minute_is, absent_is}
 use Rattle.card_session.specs.Vehicles.{Vehicles}

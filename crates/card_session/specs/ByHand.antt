@@ -5,7 +5,7 @@ use Rattle.card_model.specs.Changes.{Remain, IsNext, date_of, fitting, new_day}
 use Rattle.card_retention.specs.Expected.{is_newest}
 use Rattle.card_retention.specs.Shown.{sizes}
 use Rattle.card_retention.specs.Entries.{newest_word}
-use Rattle.hand_model.specs.declared.entry.Manual.{Manual}
+use Rattle.activity_codec.specs.declared.entries.Manual.{Manual}
 use Rattle.hand_model.specs.Manual.{manual_word}
 use Rattle.card_session.specs.Vehicles.{Vehicles}
 use Rattle.card_session.specs.Books.{Book, with_change, bare_word}

@@ -5,7 +5,7 @@ use Rattle.activity_codec.specs.declared.values.Slot.TheVariants.{Driver, CoDriv
 use Rattle.card_model.specs.Days.{Day}
 use Rattle.card_retention.specs.Entries.{entries_up_to}
 use Rattle.card_retention.specs.Expected.{WordDay}
-use Rattle.hand_model.specs.declared.entry.Manual.{Manual}
+use Rattle.activity_codec.specs.declared.entries.Manual.{Manual}
 use Rattle.hand_model.specs.Manual.{manual_word}
 use Rattle.hand_model.specs.ByHand.{words_by_hand, by_hand_up_to}
 use Rattle.hand_model.specs.Counted.{and_by_hand}

@@ -9,7 +9,7 @@ use Rattle.activity_codec.specs.Words.{activity_number, change_of, word_of, word
 use Rattle.activity_codec.proofs.WordLemmas.{change_of-word_of}
 use Rattle.card_model.specs.Changes.{date_of}
 use Rattle.card_retention.specs.Entries.{told_by}
-use Rattle.hand_model.specs.declared.entry.Manual.{Manual}
+use Rattle.activity_codec.specs.declared.entries.Manual.{Manual}
 use Rattle.hand_model.specs.Manual.{manual_word, is_by_hand, tells_by_hand}
 
 act_few : (a : Activity) → activity_number a < 4

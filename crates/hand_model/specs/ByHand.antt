@@ -4,7 +4,7 @@ use Rattle.activity_codec.specs.Words.{word_minute}
 use Rattle.card_layout.specs.declared.files.Application.{Application}
 use Rattle.card_model.specs.Days.{Day}
 use Rattle.card_image.specs.Fields.{card_days, end_mark}
-use Rattle.hand_model.specs.declared.entry.Manual.{Manual}
+use Rattle.activity_codec.specs.declared.entries.Manual.{Manual}
 use Rattle.hand_model.specs.Manual.{is_by_hand, tells_by_hand}
 
 -- of the words of a day with this date, in seconds

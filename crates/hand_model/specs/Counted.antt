@@ -1,7 +1,7 @@
 -- The words of a card's days with entries by hand: each counts as one word of its day.
 use Rattle.std.specs.Prelude.{ℕ, ◌+◌, ◌/◌, None, List, [], ◌∷◌, ◌++◌, nat_eq, if◌then◌else◌}
 use Rattle.card_retention.specs.Expected.{WordDay, Counted, more, is_newest, closes, first_words}
-use Rattle.hand_model.specs.declared.entry.Manual.{Manual}
+use Rattle.activity_codec.specs.declared.entries.Manual.{Manual}
 
 -- one entry by hand more, behind the closing word of the entry that came last: a word more on its day, or its day
 abbrev pub with_by_hand : (covered : ℕ) → Counted → (minute : ℕ) → Counted

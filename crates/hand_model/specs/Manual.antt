@@ -1,7 +1,7 @@
 -- The word of an entry by hand, and the entry that a word tells (Appendix 1, ActivityChangeInfo: not inserted, known).
 use Rattle.std.specs.Prelude.{ℕ, ◌+◌, ◌/◌, ◌%◌, Bool, true, ◌&&◌}
 use Rattle.activity_codec.specs.Words.{word_of, word_slot, word_crew, word_absent, word_act, word_minute}
-use Rattle.hand_model.specs.declared.entry.Manual.{Manual}
+use Rattle.activity_codec.specs.declared.entries.Manual.{Manual}
 
 -- the word of an entry by hand
 abbrev pub manual_word : Manual → ℕ

@@ -1,18 +1,9 @@
-//! One entry by hand, and its word.
+//! The word of an entry by hand.
 ghost use Rattle.std.specs.Prelude.{◌≡◌, ◌+◌, ◌/◌, ◌<◌, ◌≤◌, ◌^◌, Option, Some, None, true, if◌then◌else◌};
 ghost use Rattle.activity_codec.specs.Words.{word_minute};
 ghost use Rattle.hand_model.specs.Manual.{manual_word, is_by_hand, tells_by_hand};
 
-use activity_codec::{Activity, Change, DAY_MINUTES, Slot, decode_change, encode_change};
-
-/// What a driver began without the card, entered by hand for a slot.
-#[derive(Clone, Copy, Debug, Default, PartialEq, Eq)]
-pub struct Manual {
-    /// The minute in which it began: seconds since 1970-01-01 00:00 GMT, divided by 60.
-    pub minute: u32,
-    pub slot: Slot,
-    pub act: Activity,
-}
+use activity_codec::{Change, DAY_MINUTES, Manual, decode_change, encode_change};
 
 /// The word of an entry by hand: not inserted, known.
 pub fn manual_word(entry: &Manual) -> u16

@@ -3,7 +3,7 @@ ghost use Rattle.std.specs.Prelude.{◌≡◌, ◌≤◌, ◌<◌, ℕ, List, []
 ghost use Rattle.std.specs.Result.{result_err};
 ghost use Rattle.hand_model.specs.Holding.{stopped_by, last_minute};
 
-use crate::entry::Manual;
+use activity_codec::Manual;
 use arrayvec::ArrayVec;
 use std::marker::Model;
 

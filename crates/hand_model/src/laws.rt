@@ -2,7 +2,7 @@ ghost use Rattle.std.specs.Prelude.{◌≡◌, ◌<◌, ℕ, true, None, Some};
 ghost use Rattle.activity_codec.specs.Words.{word_absent, word_minute};
 ghost use Rattle.card_model.specs.Changes.{date_of};
 ghost use Rattle.card_retention.specs.Entries.{told_by};
-ghost use Rattle.hand_model.specs.declared.entry.Manual.{Manual};
+ghost use Rattle.activity_codec.specs.declared.entries.Manual.{Manual};
 ghost use Rattle.hand_model.specs.Manual.{manual_word, is_by_hand, tells_by_hand};
 
 /// The word of an entry by hand is one of its minute, and tells it.

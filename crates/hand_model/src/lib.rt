@@ -6,6 +6,6 @@ mod entry;
 mod held;
 mod laws;
 
-pub use entry::{Manual, manual_word, told_by_hand};
+pub use entry::{manual_word, told_by_hand};
 pub use held::{EnterFault, Held, MOST};
 pub use laws::{a_word_by_hand_is_no_entry, a_word_by_hand_tells_its_entry};
